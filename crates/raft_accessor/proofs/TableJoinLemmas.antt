@@ -12,13 +12,14 @@ use Rattle.raft_table.specs.MarkJoins.{end_at_reach}
 use Rattle.raft_table.specs.MarkedJoins.{IsFaultUnder, IsMarkFault, IsRunOver}
 use Rattle.raft_table.specs.Marks.{Mark, entries_within, is_refused_over, table_over, there_if, table_over_older}
 use Rattle.raft_table.specs.Steps.{table_of}
-use Rattle.raft_table.specs.Table.{Table, empty_table, live_of, IsRecounted}
+use Rattle.raft_table.specs.Table.{Table, empty_table, live_of, with_table_deleted, IsRecounted}
 use Rattle.raft_table.proofs.MarkTables.{applied_none}
 use Rattle.raft_table.proofs.RegionLemmas.{applied_own}
 use Rattle.raft_table.proofs.TableLemmas.{live_of_empty}
 use Rattle.raft_accessor.specs.Accessor.{table_in, live_in}
 use Rattle.std.proofs.lemmas.Bool.{false≢true}
-use Rattle.raft_accessor.proofs.MapLemmas.{get_gone, with_same}
+use Rattle.raft_accessor.proofs.LiveLemmas.{none_deleted}
+use Rattle.raft_accessor.proofs.MapLemmas.{get_gone, none_some, with_same}
 use Rattle.raft_accessor.specs.TableJoins.{IsPut, IsTableJoined}
 
 pub put_joined : (queue : LogQueue) (m : Mark) (newer : Table) (old : Tables) (id : ℕ) (counts : Counts) (r : Result ℕ Error) (new : Tables) (after : Counts) → IsPut queue m newer counts r (table_in old id) (table_in new id)
@@ -29,9 +30,10 @@ put_joined queue m newer old id counts (Ok end) new after p there one recounted 
   fault = λ run. tt;
   few = p.few;
   one = one;
+  deleted = λ c n. absurd (none_some (sym n));
   recounted = recounted;
 }
-put_joined queue m newer old id counts (Err e) new after p there one recounted = record { ok = λ run. tt; answer = tt; fault = p.fault; few = tt; one = one; recounted = recounted }
+put_joined queue m newer old id counts (Err e) new after p there one recounted = record { ok = λ run. tt; answer = tt; fault = p.fault; few = tt; one = one; deleted = λ c n. tt; recounted = recounted }
 
 -- the same told of a call
 pub put_by : (queue : LogQueue) (m : Mark) (newer : Table) (old : Tables) (id : ℕ) (counts : Counts) (r : Result ℕ Error) (new : Tables) (after : Counts) (t n : Table) (k : Counts) → t ≡ table_in old id → n ≡ table_in new id → k ≡ counts → IsPut queue m newer k r t n
@@ -42,7 +44,7 @@ put_by queue m newer old id counts r new after t n k e f g p =
 -- there was no memory for a table
 pub not_joined : (queue : LogQueue) (m : Mark) (newer : Option Table) (old : Tables) (id : ℕ) (counts : Counts) (r : Result ℕ Error) (new : Tables) (after : Counts) → r ≡ Err errors.Memory → new ≡ with_table old id (finite.get new id) → IsRecounted (table_in old id) (table_in new id) counts after
     → IsTableJoined queue m newer old id counts r new after
-not_joined queue m newer old id counts r new after e one recounted = subst (λ r. IsTableJoined queue m newer old id counts r new after) (sym e) record { ok = λ run. tt; answer = tt; fault = λ run. tt; few = tt; one = one; recounted = recounted }
+not_joined queue m newer old id counts r new after e one recounted = subst (λ r. IsTableJoined queue m newer old id counts r new after) (sym e) record { ok = λ run. tt; answer = tt; fault = λ run. tt; few = tt; one = one; deleted = λ c n. tt; recounted = recounted }
 
 -- ---- a newer mark whose region has no table
 
@@ -61,6 +63,7 @@ nothing_joined queue m old id counts e = record {
   fault = λ run. tt;
   few = λ q. omega arith;
   one = sym (with_same old id);
+  deleted = λ c n. sym (ap (λ o. with_table_deleted (table_of id o) counts) e ∙ none_deleted id counts);
   recounted = λ q. refl;
 }
 
@@ -75,6 +78,7 @@ empty_joined queue m old id counts t r new after e live p = record {
     | Err x ↦ λ f. tt
   ] p.few;
   one = p.one;
+  deleted = λ c n. absurd (false≢true (sym live ∙ c));
   recounted = p.recounted;
 }
   where
@@ -87,8 +91,8 @@ empty_joined queue m old id counts t r new after e live p = record {
 
 -- the older one goes
 pub cleaned_joined : (queue : LogQueue) (m : Mark) (old : Tables) (id : ℕ) (counts : Counts) (t : Table) (end : ℕ) (new : Tables) (after : Counts) → finite.get old id ≡ Some t → m.cleaned ≡ true → is_refused_over queue m t.entries ≡ false → end ≡ end_at_reach m t → new ≡ finite.remove old id
-    → IsRecounted (table_in old id) (empty_table id) counts after → IsTableJoined queue m None old id counts (Ok end) new after
-cleaned_joined queue m old id counts t end new after e cleaned accepted answer gone recounted =
+    → after ≡ with_table_deleted (table_in old id) counts → IsRecounted (table_in old id) (empty_table id) counts after → IsTableJoined queue m None old id counts (Ok end) new after
+cleaned_joined queue m old id counts t end new after e cleaned accepted answer gone deleted recounted =
     let none : finite.get new id ≡ None = ap (λ n. finite.get n id) gone ∙ get_gone old id in
     record {
       ok = λ run. subst (λ o. table_over_older queue id m None o ≡ Some (finite.get new id)) (sym e) (rw (accepted, cleaned) (ap Some (sym none)));
@@ -96,12 +100,13 @@ cleaned_joined queue m old id counts t end new after e cleaned accepted answer g
       fault = λ run. tt;
       few = λ q. omega (arith, ap (λ o. live_of q (table_of id o)) none, live_of_empty q id);
       one = gone ∙ ap (with_table old id) (sym none);
+      deleted = λ c n. deleted;
       recounted = subst (λ u. IsRecounted (table_in old id) u counts after) (sym (ap (table_of id) none)) recounted;
     }
 
 -- or the meeting is refused
 pub mark_refused : (queue : LogQueue) (m : Mark) (old : Tables) (id : ℕ) (counts : Counts) (t : Table) (x : Error) → finite.get old id ≡ Some t → IsMarkFault (is_refused_over queue m t.entries) x → IsTableJoined queue m None old id counts (Err x) old counts
-mark_refused queue m old id counts t x e f = record { ok = λ run. tt; answer = tt; fault = λ run. go x f; few = tt; one = sym (with_same old id); recounted = λ q. refl }
+mark_refused queue m old id counts t x e f = record { ok = λ run. tt; answer = tt; fault = λ run. go x f; few = tt; one = sym (with_same old id); deleted = λ c n. tt; recounted = λ q. refl }
   where
     go : (x : Error) → IsMarkFault (is_refused_over queue m t.entries) x → IsFaultUnder queue counts m (empty_table id) (table_in old id) x
     go (errors.Corruption text) f = ap (λ (u : Table). is_refused_over queue m u.entries) (there_now old id t e) ∙ f
@@ -117,5 +122,6 @@ joined_elsewhere queue m newer old older id counts before r new next after e k f
   fault = λ run. subst (λ c. IfErr r (IsFaultUnder queue c m (table_of id newer) (table_in older id))) (sym k) (subst (λ o. IfErr r (IsFaultUnder queue counts m (table_of id newer) (table_of id o))) (sym e) (p.fault (subst (λ o. IsRunOver queue m (table_of id newer) (table_of id o)) e run)));
   few = subst (λ o. OnOk r ((q : LogQueue) → live_of q (table_in next id) ≤ live_of q (table_of id o) + live_in q newer)) (sym e) (subst (λ n. OnOk r ((q : LogQueue) → live_of q (table_of id n) ≤ live_of q (table_in old id) + live_in q newer)) (sym f) p.few);
   one = one;
+  deleted = λ c n. subst (λ x. OnOk r (after ≡ with_table_deleted (table_in older id) x)) (sym k) (subst (λ o. OnOk r (after ≡ with_table_deleted (table_of id o) counts)) (sym e) (p.deleted c n));
   recounted = subst (λ c. IsRecounted (table_in older id) (table_in next id) c after) (sym k) (subst (λ o. IsRecounted (table_of id o) (table_in next id) counts after) (sym e) (subst (λ n. IsRecounted (table_in old id) (table_of id n) counts after) (sym f) p.recounted));
 }

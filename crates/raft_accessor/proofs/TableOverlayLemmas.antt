@@ -12,12 +12,13 @@ use Rattle.raft_table.specs.Counts.{Counts}
 use Rattle.raft_table.specs.Marks.{Mark}
 use Rattle.raft_table.specs.Overlay.{kept_if, overlay_under, IsOverlayFault}
 use Rattle.raft_table.specs.Steps.{table_of}
-use Rattle.raft_table.specs.Table.{Table, empty_table, live_of, IsRecounted}
+use Rattle.raft_table.specs.Table.{Table, empty_table, live_of, with_table_deleted, IsRecounted}
 use Rattle.raft_table.proofs.TableLemmas.{live_of_empty}
 use Rattle.std.proofs.lemmas.Bool.{false≢true}
 use Rattle.raft_accessor.specs.Accessor.{table_in, live_in}
 use Rattle.raft_accessor.specs.TableOverlays.{IsRunOverlaid, IsPutOver, IsTableOverlaid}
-use Rattle.raft_accessor.proofs.MapLemmas.{get_gone, with_same}
+use Rattle.raft_accessor.proofs.LiveLemmas.{none_deleted}
+use Rattle.raft_accessor.proofs.MapLemmas.{get_gone, none_some, with_same}
 
 -- ---- an appended table
 
@@ -36,9 +37,10 @@ put_overlaid m appended old id counts (Ok x) new after p there one recounted = r
   fault = tt;
   few = p.few;
   one = one;
+  deleted = λ c n. absurd (none_some (sym n));
   recounted = recounted;
 }
-put_overlaid m appended old id counts (Err e) new after p there one recounted = record { ok = λ run. tt; fault = p.fault; few = tt; one = one; recounted = recounted }
+put_overlaid m appended old id counts (Err e) new after p there one recounted = record { ok = λ run. tt; fault = p.fault; few = tt; one = one; deleted = λ c n. tt; recounted = recounted }
 
 -- the same told of a call
 pub put_by : (m : Mark) (appended : Table) (old : Tables) (id : ℕ) (counts : Counts) (r : Result Unit Error) (new : Tables) (after : Counts) (t n : Table) (k : Counts) → t ≡ table_in old id → n ≡ table_in new id → k ≡ counts → IsPutOver m appended k r t n
@@ -49,19 +51,20 @@ put_by m appended old id counts r new after t n k e f g p =
 -- there was no memory for a table
 pub not_put : (m : Mark) (appended : Option Table) (old : Tables) (id : ℕ) (counts : Counts) (r : Result Unit Error) (new : Tables) (after : Counts) → r ≡ Err errors.Memory → new ≡ with_table old id (finite.get new id) → IsRecounted (table_in old id) (table_in new id) counts after
     → IsTableOverlaid m appended old id counts r new after
-not_put m appended old id counts r new after e one recounted = subst (λ r. IsTableOverlaid m appended old id counts r new after) (sym e) record { ok = λ run. tt; fault = tt; few = tt; one = one; recounted = recounted }
+not_put m appended old id counts r new after e one recounted = subst (λ r. IsTableOverlaid m appended old id counts r new after) (sym e) record { ok = λ run. tt; fault = tt; few = tt; one = one; deleted = λ c n. tt; recounted = recounted }
 
 -- ---- no appended table
 
 -- the region was cleaned: the rewritten table goes
-pub cleaned_dropped : (m : Mark) (old : Tables) (id : ℕ) (counts : Counts) (new : Tables) (after : Counts) → m.cleaned ≡ true → new ≡ finite.remove old id → IsRecounted (table_in old id) (empty_table id) counts after → IsTableOverlaid m None old id counts (Ok tt) new after
-cleaned_dropped m old id counts new after cleaned gone recounted =
+pub cleaned_dropped : (m : Mark) (old : Tables) (id : ℕ) (counts : Counts) (new : Tables) (after : Counts) → m.cleaned ≡ true → new ≡ finite.remove old id → after ≡ with_table_deleted (table_in old id) counts → IsRecounted (table_in old id) (empty_table id) counts after → IsTableOverlaid m None old id counts (Ok tt) new after
+cleaned_dropped m old id counts new after cleaned gone deleted recounted =
     let none : finite.get new id ≡ None = ap (λ n. finite.get n id) gone ∙ get_gone old id in
     record {
       ok = λ run. none ∙ sym (ap (λ b. kept_if (cond b false (false || is_some (finite.get old id))) (overlay_under m (empty_table id) (table_in old id))) cleaned);
       fault = tt;
       few = λ q. omega (arith, ap (λ o. live_of q (table_of id o)) none, live_of_empty q id);
       one = gone ∙ ap (with_table old id) (sym none);
+      deleted = λ c n. deleted;
       recounted = subst (λ u. IsRecounted (table_in old id) u counts after) (sym (ap (table_of id) none)) recounted;
     }
 
@@ -72,6 +75,7 @@ nothing_dropped m old id counts e = record {
   fault = tt;
   few = λ q. omega arith;
   one = sym (with_same old id);
+  deleted = λ c n. sym (ap (λ o. with_table_deleted (table_of id o) counts) e ∙ none_deleted id counts);
   recounted = λ q. refl;
 }
   where
@@ -97,6 +101,7 @@ empty_put m old id counts t r new after e live p = record {
     | Err x ↦ λ f. tt
   ] p.few;
   one = p.one;
+  deleted = λ c n. absurd (false≢true (sym live ∙ c));
   recounted = p.recounted;
 }
   where
@@ -115,5 +120,6 @@ overlaid_elsewhere m appended old older id counts before r new next after e k f 
   fault = subst (λ c. IfErr r (IsOverlayFault c (table_of id appended))) (sym k) p.fault;
   few = subst (λ o. OnOk r ((q : LogQueue) → live_of q (table_in next id) ≤ live_of q (table_of id o) + live_in q appended)) (sym e) (subst (λ n. OnOk r ((q : LogQueue) → live_of q (table_of id n) ≤ live_of q (table_in old id) + live_in q appended)) (sym f) p.few);
   one = one;
+  deleted = λ c n. subst (λ x. OnOk r (after ≡ with_table_deleted (table_in older id) x)) (sym k) (subst (λ o. OnOk r (after ≡ with_table_deleted (table_of id o) counts)) (sym e) (p.deleted c n));
   recounted = subst (λ c. IsRecounted (table_in older id) (table_in next id) c after) (sym k) (subst (λ o. IsRecounted (table_of id o) (table_in next id) counts after) (sym e) (subst (λ n. IsRecounted (table_in old id) (table_of id n) counts after) (sym f) p.recounted));
 }

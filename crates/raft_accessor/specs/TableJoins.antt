@@ -1,5 +1,5 @@
 -- Tables of all regions joined with those of a newer neighbor, each under its region mark.
-use Rattle.std.specs.Prelude.{◌≡◌, ℕ, ◌+◌, ◌<◌, ◌≤◌, Option, Some, Result, IfOk, IfErr}
+use Rattle.std.specs.Prelude.{◌≡◌, ℕ, ◌+◌, ◌<◌, ◌≤◌, true, Option, Some, None, Result, IfOk, IfErr}
 use Rattle.std.specs.FinMap as finite
 use Rattle.std.specs.Result.{OnOk}
 use Rattle.raft_base.specs.declared.errors.Error.{Error}
@@ -12,7 +12,7 @@ use Rattle.raft_table.specs.MarkedJoins.{IsFaultUnder, IsRunOver}
 use Rattle.raft_table.specs.Marks.{Mark, table_over, table_over_older}
 use Rattle.raft_table.specs.Queues.{other}
 use Rattle.raft_table.specs.Steps.{table_of}
-use Rattle.raft_table.specs.Table.{Table, live_of, IsRecounted}
+use Rattle.raft_table.specs.Table.{Table, live_of, with_table_deleted, IsRecounted}
 use Rattle.raft_accessor.specs.Accessor.{table_in, live_in, live_in_all}
 
 -- why tables of a queue are refused: they have a record of the other queue, or want of memory
@@ -28,11 +28,12 @@ pub record IsPut (queue : LogQueue) (m : Mark) (newer : Table) (counts : Counts)
   pub fault : IsRunOver queue m newer old → IfErr r (IsFaultUnder queue counts m newer old)
   pub few : OnOk r ((q : LogQueue) → live_of q new ≤ live_of q old + live_of q newer)
 
--- a newer table of a region, or its absence, was put over the older one under the newer region mark, and no other table was changed, also where that was refused; the answer is the end of the older entries that the region mark's first run came behind
+-- a newer table of a region, or its absence, was put over the older one under the newer region mark, and no other table was changed, also where that was refused; the answer is the end of the older entries that the region mark's first run came behind. Where the region was cleaned and has no newer table, the older one's records are deleted from the counts
 pub record IsTableJoined (queue : LogQueue) (m : Mark) (newer : Option Table) (old : Tables) (id : ℕ) (counts : Counts) (r : Result ℕ Error) (new : Tables) (after : Counts) : Type 0 where
   pub ok : IsRunOver queue m (table_of id newer) (table_in old id) → OnOk r (table_over_older queue id m newer (finite.get old id) ≡ Some (finite.get new id))
   pub answer : IfOk r (λ end. end ≡ end_at_reach m (table_in old id))
   pub fault : IsRunOver queue m (table_of id newer) (table_in old id) → IfErr r (IsFaultUnder queue counts m (table_of id newer) (table_in old id))
   pub few : OnOk r ((q : LogQueue) → live_of q (table_in new id) ≤ live_of q (table_in old id) + live_in q newer)
   pub one : new ≡ with_table old id (finite.get new id)
+  pub deleted : m.cleaned ≡ true → newer ≡ None → OnOk r (after ≡ with_table_deleted (table_in old id) counts)
   pub recounted : IsRecounted (table_in old id) (table_in new id) counts after

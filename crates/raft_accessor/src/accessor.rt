@@ -184,16 +184,16 @@ impl MemTableAccessor {
     pub fn apply_rewrite_atomic_group(
         &mut self,
         id: u64,
-        first_seq: FileSeq,
-        last_seq: FileSeq,
+        start: FileSeq,
+        end: FileSeq,
     ) -> Result<()>
-        requires { first_seq ≤ last_seq }
+        requires { start ≤ end }
         ensures changed { IsTableChanged (Some (record (table_in self.old.tables id)
-            { atomic_group = Some (first_seq, last_seq) }))
+            { atomic_group = Some (start, end) }))
             (λ e. ⊥) id result self.old self.new }
         ensures counts { self.new.counts ≡ self.old.counts }
     {
-        self.slots[slot_of(id)].apply_rewrite_atomic_group(id, first_seq, last_seq, &mut self.stats)
+        self.slots[slot_of(id)].apply_rewrite_atomic_group(id, start, end, &mut self.stats)
     }
 
     /// Puts a table under its region's id and counts its records. The table that stood there is

@@ -215,14 +215,14 @@ impl RegionTables {
     pub fn apply_rewrite_atomic_group(
         &mut self,
         id: u64,
-        first_seq: FileSeq,
-        last_seq: FileSeq,
+        start: FileSeq,
+        end: FileSeq,
         stats: &mut GlobalStats,
     ) -> Result<()>
-        requires seqs { first_seq ≤ last_seq }
+        requires seqs { start ≤ end }
         requires counted { IsCounted (table_in self.old id) stats.old }
         ensures outcome { BecomesOutcome
-            (Some (record (table_in self.old id) { atomic_group = Some (first_seq, last_seq) }))
+            (Some (record (table_in self.old id) { atomic_group = Some (start, end) }))
             (λ e. ⊥) self.old id stats.old result self.new stats.new }
         ensures counts { stats.new ≡ stats.old }
     {
@@ -230,7 +230,7 @@ impl RegionTables {
             id,
             stats,
             move |table: &mut MemTable, _: &mut GlobalStats| {
-                table.apply_rewrite_atomic_group(first_seq, last_seq);
+                table.apply_rewrite_atomic_group(start, end);
                 Ok(())
             },
         )

@@ -73,7 +73,7 @@ pub kept_at_most : (q : LogQueue) (c : Context) (h : List Event) (m : Tables) (l
 kept_at_most q c h m l ex u is = record {
   entries = omega (arith, ap (total (λ (t : Table). length t.entries)) same);
   keys = omega (arith, ap (total (λ (t : Table). finite.len t.keys)) same);
-  regions_and_groups = omega (arith, ap finite.len ex.stands.groups, number);
+  marks = omega (arith, ap finite.len ex.stands.groups, number);
   deleted_keys = deleted;
   cleaned = omega (arith, ap length (ex.stands.stands q u).cleaned);
   waiting_items = omega (arith, ap waiting_steps ex.stands.groups);

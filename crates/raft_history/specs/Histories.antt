@@ -27,12 +27,12 @@ records_of (Put key value file) = 1
 records_of (Del key) = 1
 records_of _ = 0
 
--- how many entries and key values steps name together
+-- how many entries and key values steps name together, each Del counted as one
 abbrev pub records_in : List RegionStep → ℕ
 records_in [] = 0
 records_in (s ∷ steps) = records_of s.step + records_in steps
 
--- the batches of a history name fewer than 2^63 entries and key values together
+-- the batches of a history name fewer than 2^63 entries and key values together, each Del counted as a key value
 pub record IsSmall (h : List Event) : Type 0 where
   pub few : records_in (flat_map (λ e. steps_of_items e.items) h) < 2 ^ 63
 

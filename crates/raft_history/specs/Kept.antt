@@ -16,11 +16,11 @@ use Rattle.raft_history.specs.Records.{total}
 use Rattle.raft_history.specs.RegionSteps.{RegionStep, Tables}
 use Rattle.raft_history.specs.WaitingGroups.{groups_in, waiting_steps}
 
--- six numbers: entries and key values in tables; regions with a region mark and groups with a group marker; deleted keys; cleaned regions; items that wait
+-- six numbers: entries and key values in tables; marks, that is, regions with a region mark and groups with a group marker; deleted keys; cleaned regions; items that wait
 pub record Kept : Type 0 where
   pub entries : ℕ
   pub keys : ℕ
-  pub regions_and_groups : ℕ
+  pub marks : ℕ
   pub deleted_keys : ℕ
   pub cleaned : ℕ
   pub waiting_items : ℕ
@@ -30,7 +30,7 @@ abbrev pub kept_of : Context → Kept
 kept_of c = record {
   entries = total (λ (t : Table). length t.entries) c.regions.tables;
   keys = total (λ (t : Table). finite.len t.keys) c.regions.tables;
-  regions_and_groups = finite.len c.regions.marks + finite.len c.groups;
+  marks = finite.len c.regions.marks + finite.len c.groups;
   deleted_keys = total (λ (m : Mark). finset.len m.deleted) c.regions.marks;
   cleaned = length c.cleaned;
   waiting_items = waiting_steps c.groups;
@@ -49,7 +49,7 @@ abbrev pub kept_by : LogQueue → List Event → Tables → Kept
 kept_by queue h tables = record {
   entries = total (λ (t : Table). length t.entries) tables;
   keys = total (λ (t : Table). finite.len t.keys) tables;
-  regions_and_groups = finite.len (deleted_in (batches h)) + finite.len (groups_in (batches h));
+  marks = finite.len (deleted_in (batches h)) + finite.len (groups_in (batches h));
   deleted_keys = total finset.len (deleted_in (batches h));
   cleaned = length (cleaned_in queue h);
   waiting_items = waiting_steps (groups_in (batches h));
@@ -59,7 +59,7 @@ kept_by queue h tables = record {
 pub record IsAtMost (a b : Kept) : Type 0 where
   pub entries : a.entries ≤ b.entries
   pub keys : a.keys ≤ b.keys
-  pub regions_and_groups : a.regions_and_groups ≤ b.regions_and_groups
+  pub marks : a.marks ≤ b.marks
   pub deleted_keys : a.deleted_keys ≤ b.deleted_keys
   pub cleaned : a.cleaned ≤ b.cleaned
   pub waiting_items : a.waiting_items ≤ b.waiting_items

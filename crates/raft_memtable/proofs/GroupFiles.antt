@@ -8,6 +8,7 @@ use Rattle.raft_base.specs.declared.errors.Error.{Error}
 use Rattle.raft_base.specs.declared.errors.Error.TheVariants as errors
 use Rattle.raft_base.specs.declared.pipe_log.LogQueue.{LogQueue}
 use Rattle.raft_base.specs.declared.pipe_log.LogQueue.TheVariants.{Append, Rewrite}
+use Rattle.raft_table.specs.Counts.{Counts}
 use Rattle.raft_table.specs.MarkJoins.{joined_mark, end_at_reach, fresh, mark_of}
 use Rattle.raft_table.specs.Steps.{AtomicGroup, table_of}
 use Rattle.raft_table.specs.Table.{Table}
@@ -16,11 +17,12 @@ use Rattle.std.proofs.lemmas.Bool.{eqb-true}
 use Rattle.raft_history.specs.Histories.{records_in}
 use Rattle.raft_history.specs.MarkedRegions.{Marks, MarkedRegions, MarkedRegion, region_in, with_region, regions_after, named_regions, on_each, region_steps_of_whole}
 use Rattle.raft_history.specs.WaitingGroup.{WholeGroup}
-use Rattle.raft_history.specs.RegionSteps.{RegionStep, Tables, names}
+use Rattle.raft_history.specs.RegionSteps.{RegionStep, Tables, names, with_table}
 use Rattle.raft_history.proofs.MapLemmas.{IsOther, by_region, eqb_self}
 use Rattle.raft_history.proofs.StepListLemmas.{names_none, names_cons}
 use Rattle.raft_memtable.specs.MarkedTables.{regions_in, AreStepsOfQueue, IsStepsFault, one_step, AreStepsTaken}
 use Rattle.raft_accessor.specs.Accessor.{live_in_all}
+use Rattle.raft_memtable.specs.StepCounts.{counts_after_step, AreCountsAfterSteps}
 use Rattle.raft_memtable.specs.declared.marked_tables.MarkedTables.{MarkedTables}
 use Rattle.raft_accessor.proofs.MapLemmas.{same, get_own, get_other, none_some}
 use Rattle.raft_memtable.proofs.TakenLemmas.{after-append, records-append, taken_more, other_in}
@@ -152,10 +154,32 @@ whole_of_queue q w ids h = go w.steps h
     go [] h = files_of_queue q w.first_seq w.last_seq ids
     go (s ∷ steps) h = (h.0, go steps h.1)
 
+-- the files change no counts
+filed_counts : (q : LogQueue) (first_seq last_seq : ℕ) (ids : List ℕ) (tables : Tables) (k n : Counts) → AreCountsAfterSteps q tables (on_each ids (AtomicGroup first_seq last_seq)) k n → n ≡ k
+filed_counts q first_seq last_seq [] tables k n h = h
+filed_counts q first_seq last_seq (id ∷ ids) tables k n h =
+    let t = filed_table first_seq last_seq id (finite.get tables id) in
+    filed_counts q first_seq last_seq ids (with_table tables id t) k n (h t refl)
+
+counts_filed : (q : LogQueue) (first_seq last_seq : ℕ) (ids : List ℕ) (tables : Tables) (k n : Counts) → n ≡ k → AreCountsAfterSteps q tables (on_each ids (AtomicGroup first_seq last_seq)) k n
+counts_filed q first_seq last_seq [] tables k n e = e
+counts_filed q first_seq last_seq (id ∷ ids) tables k n e = λ t u. counts_filed q first_seq last_seq ids (with_table tables id t) k n e
+
+counts_behind : (q : LogQueue) (first_seq last_seq : ℕ) (steps : List RegionStep) (xs ys : List ℕ) (tables : Tables) (k n : Counts) → AreCountsAfterSteps q tables (steps ++ on_each xs (AtomicGroup first_seq last_seq)) k n → AreCountsAfterSteps q tables (steps ++ on_each ys (AtomicGroup first_seq last_seq)) k n
+counts_behind q first_seq last_seq [] xs ys tables k n h = counts_filed q first_seq last_seq ys tables k n (filed_counts q first_seq last_seq xs tables k n h)
+counts_behind q first_seq last_seq (s ∷ steps) xs ys tables k n h = λ t u.
+    counts_behind q first_seq last_seq steps xs ys (with_table tables s.region t) (counts_after_step q (table_of s.region (finite.get tables s.region)) s.step k) n (h t u)
+
 -- what is told of the group, by what was taken in
 module _ (w : WholeGroup) (ids : List ℕ) (a b : MarkedTables) (r : Result Unit Error) (h : (n : ℕ) → has n ids ≡ names n w.steps) (t : AreStepsTaken Rewrite (w.steps ++ on_each ids (AtomicGroup w.first_seq w.last_seq)) r a b) where
   pub whole_ok : OnOk r (regions_after Rewrite (regions_in a) (region_steps_of_whole w) ≡ Some (regions_in b))
   whole_ok = elim r as (λ r. OnOk r (regions_after Rewrite (regions_in a) (w.steps ++ on_each ids (AtomicGroup w.first_seq w.last_seq)) ≡ Some (regions_in b)) → OnOk r (regions_after Rewrite (regions_in a) (region_steps_of_whole w) ≡ Some (regions_in b))) [ Ok u ↦ λ e. sym (whole_same Rewrite w ids (regions_in a) h) ∙ e | Err x ↦ λ e. tt ] t.ok
+
+  pub whole_counts : OnOk r (AreCountsAfterSteps Rewrite a.accessor.tables (region_steps_of_whole w) a.accessor.counts b.accessor.counts)
+  whole_counts = elim r as (λ r. OnOk r (AreCountsAfterSteps Rewrite a.accessor.tables (w.steps ++ on_each ids (AtomicGroup w.first_seq w.last_seq)) a.accessor.counts b.accessor.counts) → OnOk r (AreCountsAfterSteps Rewrite a.accessor.tables (region_steps_of_whole w) a.accessor.counts b.accessor.counts)) [
+    | Ok u ↦ λ k. counts_behind Rewrite w.first_seq w.last_seq w.steps ids (named_regions w.steps) a.accessor.tables a.accessor.counts b.accessor.counts k
+    | Err x ↦ λ k. tt
+  ] t.counts
 
   same_fault : (e : Error) → IsStepsFault Rewrite (regions_in a) (w.steps ++ on_each ids (AtomicGroup w.first_seq w.last_seq)) e → IsStepsFault Rewrite (regions_in a) (region_steps_of_whole w) e
   same_fault (errors.Corruption text) f = sym (whole_same Rewrite w ids (regions_in a) h) ∙ f

@@ -21,6 +21,7 @@ use Rattle.raft_history.specs.WaitingGroups.{held_steps, waiting_steps}
 use Rattle.raft_history.proofs.ContextLaws.{exact_reading}
 use Rattle.raft_history.proofs.RegionLaws.{overlay_by_steps}
 use Rattle.raft_history.proofs.TotalLemmas.{total-none}
+use Rattle.raft_table.specs.Counts.{Counts}
 use Rattle.raft_table.specs.Marks.{Mark}
 use Rattle.raft_memtable.specs.KeptShown.{kept_shown}
 use Rattle.raft_memtable.specs.declared.kept.Kept.{Kept}
@@ -37,13 +38,13 @@ too_many c d errors.Memory queues h = tt
 too_many c d _ queues h = absurd h
 
 -- what was refused of states that read on is why the contexts are refused
-pub append_fault : (s t : ContextStage) (c d : Context) (e : Error) → IsMergeAppendFault (reading_on c) (reading_on d) e → IsMergeAppendFault (record { stage = s; context = c }) (record { stage = t; context = d }) e
-append_fault s t c d (errors.InvalidArgument text) h = h
-append_fault s t c d errors.Full h = h
-append_fault s t c d errors.Failed (inl h) = absurd (h refl)
-append_fault s t c d errors.Failed (inr h) = absurd (h refl)
-append_fault s t c d errors.Memory h = tt
-append_fault s t c d _ h = absurd h
+pub append_fault : (s t : ContextStage) (c d : Context) (k l : Counts) (e : Error) → IsMergeAppendFault (reading_on c) (reading_on d) e → IsMergeAppendFault (record { stage = s; context = c; counts = k }) (record { stage = t; context = d; counts = l }) e
+append_fault s t c d k l (errors.InvalidArgument text) h = h
+append_fault s t c d k l errors.Full h = h
+append_fault s t c d k l errors.Failed (inl h) = absurd (h refl)
+append_fault s t c d k l errors.Failed (inr h) = absurd (h refl)
+append_fault s t c d k l errors.Memory h = tt
+append_fault s t c d k l _ h = absurd h
 
 -- ---- what both queues give
 
@@ -77,9 +78,9 @@ nothing_in {X} = no_length (finite.entries (finite.empty {K = ℕ} {X = X} {R = 
     no_length [] e = refl
     no_length (x ∷ es) e = absurd (omega (arith, e))
 
-pub nothing_kept : (c : RecoverContext) (h g : List Event) (k : Kept) → kept_shown k ≡ kept_of c.context → IsOfBothExactly c h g → (k.regions_and_groups ≡ 0) × (k.deleted_keys ≡ 0) × (k.waiting_items ≡ 0)
+pub nothing_kept : (c : RecoverContext) (h g : List Event) (k : Kept) → kept_shown k ≡ kept_of c.context → IsOfBothExactly c h g → (k.marks ≡ 0) × (k.deleted_keys ≡ 0) × (k.waiting_items ≡ 0)
 nothing_kept c h g k e b = (
-  omega (arith, ap (λ (n : numbers.Kept). n.regions_and_groups) e, ap finite.len b.no_marks, ap finite.len b.no_groups, finite.len-empty nat_cmp Mark, finite.len-empty nat_cmp WaitingGroup),
+  omega (arith, ap (λ (n : numbers.Kept). n.marks) e, ap finite.len b.no_marks, ap finite.len b.no_groups, finite.len-empty nat_cmp Mark, finite.len-empty nat_cmp WaitingGroup),
   ap (λ (n : numbers.Kept). n.deleted_keys) e ∙ ap (total (λ (m : Mark). finset.len m.deleted)) b.no_marks ∙ total-none (λ (m : Mark). finset.len m.deleted),
   ap (λ (n : numbers.Kept). n.waiting_items) e ∙ ap waiting_steps b.no_groups ∙ ap (λ (es : List (ℕ × WaitingGroup)). length (flat_map (λ e. held_steps e.1) es)) nothing_in,
 )

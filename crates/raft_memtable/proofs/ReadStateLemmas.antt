@@ -13,6 +13,7 @@ use Rattle.raft_base.specs.declared.pipe_log.LogQueue.{LogQueue}
 use Rattle.raft_base.specs.declared.pipe_log.LogQueue.TheVariants.{Append, Rewrite}
 use Rattle.raft_records.specs.Item.{Item}
 use Rattle.raft_records.specs.declared.atomic_group.AtomicGroupStatus.{AtomicGroupStatus}
+use Rattle.raft_table.specs.Counts.{Counts}
 use Rattle.raft_table.specs.MarkJoins.{fresh}
 use Rattle.raft_table.specs.Queues.{other}
 use Rattle.raft_table.specs.Steps.{after}
@@ -40,7 +41,8 @@ use Rattle.raft_accessor.specs.Accessor.{live_in_all}
 use Rattle.raft_memtable.specs.BatchChecks.{marker_found}
 use Rattle.raft_memtable.specs.MarkedTables.{AreStepsOfQueue, IsStepsFault}
 use Rattle.raft_memtable.specs.ReadStates.{AreAlone, AreOfSteps, IsOfHistory, CanTakeEffect, CanTakeEffectIfAny}
-use Rattle.raft_memtable.specs.RecoverContext.{reading_on, MayFollow, records_held, IsBatchFault, AreNeighbors, IsNeighborFault}
+use Rattle.raft_memtable.specs.RecoverContext.{reading_on, MayFollow, records_held, IsBatchFault, AreNeighbors, IsNeighborFault, IsBatchCounted}
+use Rattle.raft_memtable.specs.StepCounts.{AreCountsAfterSteps}
 use Rattle.raft_memtable.specs.RegionJoins.{IsJoinFault}
 use Rattle.raft_accessor.proofs.LiveLemmas.{live-none}
 use Rattle.raft_memtable.proofs.LiveSteps.{live-le-all}
@@ -192,6 +194,16 @@ group_fault c e id s r n m errors.Full f =
     (n, subst (λ m. 2 ^ 64 ≤ live_in_all e.file.queue c.regions.tables + records_in (completed_steps c.groups (batch_of e) m)) (sym found.1) (subst (λ q. 2 ^ 64 ≤ live_in_all q c.regions.tables + records_in (completed_steps c.groups (batch_of e) (Some (record { group = id; status = s })))) (sym found.0) f))
 group_fault c e id s r n m errors.Memory f = tt
 group_fault c e id s r n m _ f = absurd f
+
+-- what is counted of a batch
+pub lone_counted : (c : Context) (e : Event) (k l : Counts) → marker_found e.file.queue e.items ≡ None → AreCountsAfterSteps e.file.queue c.regions.tables (steps_of_items e.items) k l → IsBatchCounted e c k l
+lone_counted c e k l m h = subst (λ m. AreCountsAfterSteps e.file.queue c.regions.tables (completed_steps c.groups (batch_of e) m) k l) (sym (found_none e.file.queue e.items m)) h
+
+pub group_counted : (c : Context) (e : Event) (id : ℕ) (s : AtomicGroupStatus) (k l : Counts) → marker_found e.file.queue e.items ≡ Some (id, s)
+    → AreCountsAfterSteps Rewrite c.regions.tables (region_steps_or (whole_group (known_of c.groups id) (one_marker s (steps_of_items e.items) e.file.seq))) k l → IsBatchCounted e c k l
+group_counted c e id s k l m h =
+    let found = found_some e.file.queue e.items id s m in
+    subst (λ m. AreCountsAfterSteps e.file.queue c.regions.tables (completed_steps c.groups (batch_of e) m) k l) (sym found.1) (subst (λ q. AreCountsAfterSteps q c.regions.tables (completed_steps c.groups (batch_of e) (Some (record { group = id; status = s }))) k l) (sym found.0) h)
 
 -- what a batch with a marker makes whole may be taken in
 pub group_takes : (c : Context) (e : Event) (id : ℕ) (s : AtomicGroupStatus) → IsOfHistory c → MayFollow c e → marker_found e.file.queue e.items ≡ Some (id, s)

@@ -4,6 +4,7 @@ use Rattle.std.specs.Prelude.{IfOk, IfErr, OnOk}
 use Rattle.raft_base.specs.declared.errors.Error.{Error}
 use Rattle.raft_base.specs.declared.errors.Error.TheVariants as errors
 use Rattle.raft_base.specs.declared.pipe_log.LogQueue.{LogQueue}
+use Rattle.raft_table.specs.Counts.{Counts}
 use Rattle.std.proofs.lemmas.Bool.{false≢true}
 use Rattle.raft_history.specs.Batches.{Event, batches}
 use Rattle.raft_history.specs.Contexts.{Context, new_context, Suits, files_of, follows, StandsFor, IsExactFor}
@@ -42,8 +43,8 @@ if_ok (Err e) f p = p
 pub new_read : IsOfHistory new_context
 new_read = record { history = []; stands = new_exact.stands; alone = tt; steps = tt }
 
-pub new_reads_as : (c : Context) → c ≡ new_context → HasReadExactly (record { stage = Reading; context = c }) []
-new_reads_as c e = record { stage = refl; exact = subst (λ c. IsExactFor c []) (sym e) new_exact }
+pub new_reads_as : (c : Context) (k : Counts) → c ≡ new_context → HasReadExactly (record { stage = Reading; context = c; counts = k }) []
+new_reads_as c k e = record { stage = refl; exact = subst (λ c. IsExactFor c []) (sym e) new_exact }
 
 -- ---- one more batch
 
@@ -68,12 +69,12 @@ replay_unsound c h e small r errors.Memory k f sound = k refl
 replay_unsound c h e small r _ k f sound = f
 
 -- what a context says of the batch that it reads on with
-pub batch_fault : (s : ContextStage) (c : Context) (e : Event) (x : Error) → IsBatchFault (reading_on c) e x → IsBatchFault (record { stage = s; context = c }) e x
-batch_fault s c e (errors.Corruption text) f = f
-batch_fault s c e errors.Full f = f
-batch_fault s c e errors.Failed f = absurd (f refl)
-batch_fault s c e errors.Memory f = f
-batch_fault s c e _ f = absurd f
+pub batch_fault : (s : ContextStage) (c : Context) (k : Counts) (e : Event) (x : Error) → IsBatchFault (reading_on c) e x → IsBatchFault (record { stage = s; context = c; counts = k }) e x
+batch_fault s c k e (errors.Corruption text) f = f
+batch_fault s c k e errors.Full f = f
+batch_fault s c k e errors.Failed f = absurd (f refl)
+batch_fault s c k e errors.Memory f = f
+batch_fault s c k e _ f = absurd f
 
 -- ---- two neighbors
 
@@ -114,14 +115,14 @@ merge_unsound q c d h g small o a b errors.Memory k f sound = k refl
 merge_unsound q c d h g small o a b _ k f sound = f
 
 -- what a context says of the neighbor that it reads on with
-pub neighbor_fault : (q : LogQueue) (s t : ContextStage) (c d : Context) (x : Error) → IsNeighborFault q (reading_on c) (reading_on d) x → IsNeighborFault q (record { stage = s; context = c }) (record { stage = t; context = d }) x
-neighbor_fault q s t c d (errors.InvalidArgument text) f = f
-neighbor_fault q s t c d (errors.Corruption text) f = f
-neighbor_fault q s t c d errors.Full f = f
-neighbor_fault q s t c d errors.Failed (inl f) = absurd (f refl)
-neighbor_fault q s t c d errors.Failed (inr f) = absurd (f refl)
-neighbor_fault q s t c d errors.Memory f = f
-neighbor_fault q s t c d _ f = absurd f
+pub neighbor_fault : (q : LogQueue) (s t : ContextStage) (c d : Context) (k l : Counts) (x : Error) → IsNeighborFault q (reading_on c) (reading_on d) x → IsNeighborFault q (record { stage = s; context = c; counts = k }) (record { stage = t; context = d; counts = l }) x
+neighbor_fault q s t c d k l (errors.InvalidArgument text) f = f
+neighbor_fault q s t c d k l (errors.Corruption text) f = f
+neighbor_fault q s t c d k l errors.Full f = f
+neighbor_fault q s t c d k l errors.Failed (inl f) = absurd (f refl)
+neighbor_fault q s t c d k l errors.Failed (inr f) = absurd (f refl)
+neighbor_fault q s t c d k l errors.Memory f = f
+neighbor_fault q s t c d k l _ f = absurd f
 
 -- ---- what was read
 

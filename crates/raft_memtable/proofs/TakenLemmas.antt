@@ -13,7 +13,7 @@ use Rattle.raft_base.specs.declared.entry_index.EntryIndex.{EntryIndex}
 use Rattle.raft_base.specs.Runs.{end_of}
 use Rattle.raft_records.specs.declared.log_item.LogItem.{LogItem}
 use Rattle.raft_records.specs.Item.{item_of, entries}
-use Rattle.raft_table.specs.Counts.{live}
+use Rattle.raft_table.specs.Counts.{Counts, live}
 use Rattle.raft_table.specs.TableEntries.{IsRunIn}
 use Rattle.raft_table.specs.MarkJoins.{joined_mark, joined_at, end_at_reach, fresh, mark_of}
 use Rattle.raft_table.specs.Marks.{Mark}
@@ -29,6 +29,7 @@ use Rattle.raft_history.specs.RegionSteps.{RegionStep, Tables, with_table, steps
 use Rattle.raft_accessor.specs.Accessor.{Accessor, table_in, live_in_all, AreCountsOf}
 use Rattle.raft_memtable.specs.MarkedTables.{regions_in, AreStepsOfQueue, IsStepsFault, one_step, first_index, AreStepsTaken}
 use Rattle.raft_memtable.specs.RegionMarks.{mark_in}
+use Rattle.raft_memtable.specs.StepCounts.{counts_after_step, AreCountsAfterSteps}
 use Rattle.raft_accessor.specs.Updates.{IsReplayFault}
 use Rattle.raft_accessor.specs.Writes.{Replaying, IsWriteFault}
 use Rattle.raft_memtable.specs.declared.marked_tables.MarkedTables.{MarkedTables}
@@ -81,11 +82,20 @@ fault-front q rs xs ys errors.Full f = omega (arith, f, records-append xs ys)
 fault-front q rs xs ys errors.Memory f = tt
 fault-front q rs xs ys _ f = absurd f
 
+-- counts behind counts
+pub counts-append : (q : LogQueue) (rs new : MarkedRegions) (xs ys : List RegionStep) (k l n : Counts) → regions_after q rs xs ≡ Some new → AreCountsAfterSteps q rs.tables xs k l → AreCountsAfterSteps q new.tables ys l n → AreCountsAfterSteps q rs.tables (xs ++ ys) k n
+counts-append q rs new [] ys k l n e f g =
+    subst (λ (x : MarkedRegions). AreCountsAfterSteps q x.tables ys k n) (sym (some_is e)) (subst (λ c. AreCountsAfterSteps q new.tables ys c n) f g)
+counts-append q rs new (s ∷ xs) ys k l n e f g = λ t u.
+    let x : MarkedRegion = record { mark = joined_mark q s.region (region_in rs s.region).mark (finite.get rs.tables s.region) (mark_of s.step); table = t } in
+    let more : regions_after q (with_region rs s.region x) xs ≡ Some new = sym (ap (λ (o : Option (Option Table)). option_and_then (λ x. regions_after q (with_region rs s.region x) xs) (option_map (λ t. record { mark = joined_mark q s.region (region_in rs s.region).mark (finite.get rs.tables s.region) (mark_of s.step); table = t }) o)) u) ∙ e in
+    counts-append q (with_region rs s.region x) new xs ys (counts_after_step q (table_of s.region (finite.get rs.tables s.region)) s.step k) l n more (f t u) g
+
 pub taken_none : (q : LogQueue) (a : MarkedTables) → AreStepsTaken q [] (Ok tt) a a
-taken_none q a = record { ok = refl; cleaned = sym (ap (λ l. a.accessor.cleaned ++ l) (listed-nil q) ∙ append-nil a.accessor.cleaned); fault = tt }
+taken_none q a = record { ok = refl; cleaned = sym (ap (λ l. a.accessor.cleaned ++ l) (listed-nil q) ∙ append-nil a.accessor.cleaned); counts = refl; fault = tt }
 
 pub taken_memory : (q : LogQueue) (steps : List RegionStep) (a b : MarkedTables) (e : Error) → e ≡ errors.Memory → AreStepsTaken q steps (Err e) a b
-taken_memory q steps a b e is = record { ok = tt; cleaned = tt; fault = subst (IsStepsFault q (regions_in a) steps) (sym is) tt }
+taken_memory q steps a b e is = record { ok = tt; cleaned = tt; counts = tt; fault = subst (IsStepsFault q (regions_in a) steps) (sym is) tt }
 
 -- steps behind some that are taken in
 pub taken_more : (q : LogQueue) (xs ys : List RegionStep) (a b c : MarkedTables) (r : Result Unit Error) → AreStepsOfQueue q xs → AreStepsTaken q xs (Ok tt) a b → AreStepsTaken q ys r b c → AreStepsTaken q (xs ++ ys) r a c
@@ -97,12 +107,16 @@ taken_more q xs ys a b c r h s t =
         | Ok u ↦ λ e. e ∙ ap (λ l. l ++ cleaned_by_steps q ys) s.cleaned ∙ append_assoc a.accessor.cleaned (cleaned_by_steps q xs) (cleaned_by_steps q ys) ∙ ap (λ l. a.accessor.cleaned ++ l) (sym (listed-append q xs ys))
         | Err x ↦ λ e. tt
       ] t.cleaned;
+      counts = elim r as (λ r. OnOk r (AreCountsAfterSteps q b.accessor.tables ys b.accessor.counts c.accessor.counts) → OnOk r (AreCountsAfterSteps q a.accessor.tables (xs ++ ys) a.accessor.counts c.accessor.counts)) [
+        | Ok u ↦ λ k. counts-append q (regions_in a) (regions_in b) xs ys a.accessor.counts b.accessor.counts c.accessor.counts s.ok s.counts k
+        | Err x ↦ λ k. tt
+      ] t.counts;
       fault = elim r as (λ r. IfErr r (IsStepsFault q (regions_in b) ys) → IfErr r (IsStepsFault q (regions_in a) (xs ++ ys))) [ Ok u ↦ λ f. tt | Err x ↦ λ f. fault-behind q (regions_in a) (regions_in b) xs ys x h s.ok f ] t.fault;
     }
 
 -- where some are refused, so are they with more behind them
 pub taken_refused : (q : LogQueue) (xs ys : List RegionStep) (a b : MarkedTables) (e : Error) → AreStepsTaken q xs (Err e) a b → AreStepsTaken q (xs ++ ys) (Err e) a b
-taken_refused q xs ys a b e s = record { ok = tt; cleaned = tt; fault = fault-front q (regions_in a) xs ys e s.fault }
+taken_refused q xs ys a b e s = record { ok = tt; cleaned = tt; counts = tt; fault = fault-front q (regions_in a) xs ys e s.fault }
 
 -- ---- one step
 
@@ -115,16 +129,17 @@ module _ (q : LogQueue) (id : ℕ) (s : Step) (a b : MarkedTables) where
 
   -- by what the marks answer
   pub step_taken : (r : Result Unit Error) (t : Option Table) → after_step q (table_of id (finite.get a.accessor.tables id)) s ≡ Some t → b.accessor.tables ≡ with_table a.accessor.tables id t
-      → b.accessor.cleaned ≡ a.accessor.cleaned ++ cleaned_by_steps q (one_step id s) → OnOk r (b.marks ≡ finite.insert a.marks id (joined_mark q id (mark_in a.marks id) (finite.get a.accessor.tables id) (mark_of s))) → IfErr r (λ e. e ≡ errors.Memory) → AreStepsTaken q (one_step id s) r a b
-  step_taken (Ok u) t e k l m n = record {
+      → b.accessor.cleaned ≡ a.accessor.cleaned ++ cleaned_by_steps q (one_step id s) → b.accessor.counts ≡ counts_after_step q (table_of id (finite.get a.accessor.tables id)) s a.accessor.counts → OnOk r (b.marks ≡ finite.insert a.marks id (joined_mark q id (mark_in a.marks id) (finite.get a.accessor.tables id) (mark_of s))) → IfErr r (λ e. e ≡ errors.Memory) → AreStepsTaken q (one_step id s) r a b
+  step_taken (Ok u) t e k l c m n = record {
     ok = ap (λ o. option_and_then (λ x. regions_after q (with_region (regions_in a) id x) []) (option_map put o)) e ∙ ap Some (ap (λ ts. made ts (finite.insert a.marks id (put t).mark)) (sym k) ∙ ap (made b.accessor.tables) (sym m));
     cleaned = l;
+    counts = λ t u. c;
     fault = tt;
   }
-  step_taken (Err x) t e k l m n = taken_memory q (one_step id s) a b x n
+  step_taken (Err x) t e k l c m n = taken_memory q (one_step id s) a b x n
 
   pub step_refused : (e : Error) → IsStepsFault q (regions_in a) (one_step id s) e → AreStepsTaken q (one_step id s) (Err e) a b
-  step_refused e f = record { ok = tt; cleaned = tt; fault = f }
+  step_refused e f = record { ok = tt; cleaned = tt; counts = tt; fault = f }
 
   pub no_step : after_step q (table_of id (finite.get a.accessor.tables id)) s ≡ None → regions_after q (regions_in a) (one_step id s) ≡ None
   no_step none = ap (λ o. option_and_then (λ x. regions_after q (with_region (regions_in a) id x) []) (option_map put o)) none
@@ -136,10 +151,10 @@ module _ (q : LogQueue) (id : ℕ) (s : Step) (a : MarkedTables) (mid : Accessor
   none_cleaned Rewrite e = refl
 
   pub changed_taken : (r : Result Unit Error) (outcome : Option Table) → after_step q (table_of id (finite.get a.accessor.tables id)) s ≡ option_map (λ t. Some t) outcome → outcome ≡ Some (table_in mid.tables id) → mid.tables ≡ finite.insert a.accessor.tables id (table_in mid.tables id)
-      → mid.cleaned ≡ a.accessor.cleaned → cleaned_by id s ≡ [] → OnOk r (marks ≡ finite.insert a.marks id (joined_mark q id (mark_in a.marks id) (finite.get a.accessor.tables id) (mark_of s))) → IfErr r (λ e. e ≡ errors.Memory) → AreStepsTaken q (one_step id s) r a (record { accessor = mid; marks = marks })
-  changed_taken r outcome e k t l n m f =
+      → mid.cleaned ≡ a.accessor.cleaned → mid.counts ≡ counts_after_step q (table_of id (finite.get a.accessor.tables id)) s a.accessor.counts → cleaned_by id s ≡ [] → OnOk r (marks ≡ finite.insert a.marks id (joined_mark q id (mark_in a.marks id) (finite.get a.accessor.tables id) (mark_of s))) → IfErr r (λ e. e ≡ errors.Memory) → AreStepsTaken q (one_step id s) r a (record { accessor = mid; marks = marks })
+  changed_taken r outcome e k t l c n m f =
       step_taken q id s a (record { accessor = mid; marks = marks }) r (Some (table_in mid.tables id)) (e ∙ ap (option_map (λ t. Some t)) k) t
-      (l ∙ sym (ap (λ l. a.accessor.cleaned ++ l) (none_cleaned q n) ∙ append-nil a.accessor.cleaned)) m f
+      (l ∙ sym (ap (λ l. a.accessor.cleaned ++ l) (none_cleaned q n) ∙ append-nil a.accessor.cleaned)) c m f
 
 -- ---- refusals of one step
 
@@ -205,10 +220,10 @@ cleaned_list : (q : LogQueue) (id : ℕ) (old : List ℕ) → cond (is_same Appe
 cleaned_list Append id old = refl
 cleaned_list Rewrite id old = sym (append-nil old)
 
-pub clean_taken : (q : LogQueue) (id : ℕ) (a : MarkedTables) (mid : Accessor) (marks : Marks) (r : Result Unit Error) (b : Bool) → b ≡ is_same Append q → mid.tables ≡ finite.remove a.accessor.tables id → mid.cleaned ≡ cond b (a.accessor.cleaned ++ id ∷ []) a.accessor.cleaned
+pub clean_taken : (q : LogQueue) (id : ℕ) (a : MarkedTables) (mid : Accessor) (marks : Marks) (r : Result Unit Error) (b : Bool) → b ≡ is_same Append q → mid.tables ≡ finite.remove a.accessor.tables id → mid.cleaned ≡ cond b (a.accessor.cleaned ++ id ∷ []) a.accessor.cleaned → mid.counts ≡ counts_after_step q (table_in a.accessor.tables id) Clean a.accessor.counts
     → OnOk r (marks ≡ finite.insert a.marks id (joined_mark q id (mark_in a.marks id) (finite.get a.accessor.tables id) (mark_of Clean))) → IfErr r (λ e. e ≡ errors.Memory) → AreStepsTaken q (one_step id Clean) r a (record { accessor = mid; marks = marks })
-clean_taken q id a mid marks r b e t l m f =
-    step_taken q id Clean a (record { accessor = mid; marks = marks }) r None refl t (l ∙ ap (λ b. cond b (a.accessor.cleaned ++ id ∷ []) a.accessor.cleaned) e ∙ cleaned_list q id a.accessor.cleaned) m f
+clean_taken q id a mid marks r b e t l c m f =
+    step_taken q id Clean a (record { accessor = mid; marks = marks }) r None refl t (l ∙ ap (λ b. cond b (a.accessor.cleaned ++ id ∷ []) a.accessor.cleaned) e ∙ cleaned_list q id a.accessor.cleaned) c m f
 
 -- ---- items, one after another
 

@@ -9,7 +9,7 @@ use Rattle.raft_memtable.specs.declared.context_stage.ContextStage.TheVariants.{
 
 -- the program's six numbers as a plain value
 abbrev pub kept_shown : Kept → numbers.Kept
-kept_shown k = record { entries = k.entries; keys = k.keys; regions_and_groups = k.regions_and_groups; deleted_keys = k.deleted_keys; cleaned = k.cleaned; waiting_items = k.waiting_items }
+kept_shown k = record { entries = k.entries; keys = k.keys; marks = k.marks; deleted_keys = k.deleted_keys; cleaned = k.cleaned; waiting_items = k.waiting_items }
 
 -- a call was refused before, or want of memory
 abbrev pub IsKeptFault : ContextStage → Error → Type 0

@@ -12,6 +12,7 @@ use Rattle.raft_history.specs.RegionSteps.{RegionStep, cleaned_by_steps}
 use Rattle.raft_table.specs.Queues.{other}
 use Rattle.raft_table.specs.Steps.{Step}
 use Rattle.raft_accessor.specs.Accessor.{live_in_all}
+use Rattle.raft_memtable.specs.StepCounts.{AreCountsAfterSteps}
 use Rattle.raft_memtable.specs.declared.marked_tables.MarkedTables.{MarkedTables}
 
 -- the region marks and the tables, without the counts
@@ -43,4 +44,5 @@ IsStepsFault queue rs steps _ = ⊥
 pub record AreStepsTaken (queue : LogQueue) (steps : List RegionStep) (r : Result Unit Error) (old new : MarkedTables) : Type 0 where
   pub ok : OnOk r (regions_after queue (regions_in old) steps ≡ Some (regions_in new))
   pub cleaned : OnOk r (new.accessor.cleaned ≡ old.accessor.cleaned ++ cleaned_by_steps queue steps)
+  pub counts : OnOk r (AreCountsAfterSteps queue old.accessor.tables steps old.accessor.counts new.accessor.counts)
   pub fault : IfErr r (IsStepsFault queue (regions_in old) steps)

@@ -8,17 +8,20 @@ use Rattle.raft_history.specs.Contexts.{Context, new_context, Suits, files_of, f
 use Rattle.raft_history.specs.Histories.{AreInFile, HaveStatus, records_in}
 use Rattle.raft_history.specs.Records.{all_records, waiting_records}
 use Rattle.raft_accessor.specs.Accessor.{live_in_all}
+use Rattle.raft_table.specs.Counts.{Counts}
+use Rattle.raft_memtable.specs.StepCounts.{no_counts, AreCountsAfterSteps}
 use Rattle.raft_memtable.specs.declared.context_stage.ContextStage.{ContextStage}
 use Rattle.raft_memtable.specs.declared.context_stage.ContextStage.TheVariants.{Reading, Overlaid, Failed}
 
--- what a context holds, and whether it reads on
+-- what a context holds, whether it reads on, and what it has counted
 pub record RecoverContext : Type 0 where
   pub stage : ContextStage
   pub context : Context
+  pub counts : Counts
 
--- a context that reads on and holds this
+-- a context that reads on and holds this, with nothing counted
 abbrev pub reading_on : Context → RecoverContext
-reading_on c = record { stage = Reading; context = c }
+reading_on c = record { stage = Reading; context = c; counts = no_counts }
 
 -- a context that has read nothing
 abbrev pub blank_context : RecoverContext
@@ -59,6 +62,10 @@ pub record IsBatchTaken (e : Event) (old new : RecoverContext) : Type 0 where
   pub next : MayFollow old.context e
   pub taken : taken_in old.context e ≡ Some new.context
   pub after : new.stage ≡ Reading
+
+-- the steps that take effect with the batch are counted
+abbrev pub IsBatchCounted : Event → Context → Counts → Counts → Type 0
+IsBatchCounted e c old new = AreCountsAfterSteps e.file.queue c.regions.tables (completed_steps c.groups (batch_of e) (batch_of e).marker) old new
 
 -- why a batch is refused, by the error: it may not come next, or a step that takes effect with it is refused; the live records and those of these steps are 2^64 or more; the context doesn't read on; or want of memory
 abbrev pub IsBatchFault : RecoverContext → Event → Error → Type 0

@@ -4,12 +4,13 @@ use Rattle.std.specs.Coded.{Coded, code_by, coded×, coded_list, coded_option, c
 use Rattle.std.specs.FinMap as finite
 use Rattle.raft_base.specs.contracts.pipe_log.LogQueue as queue
 use Rattle.raft_base.specs.declared.pipe_log.LogQueue.{LogQueue}
+use Rattle.raft_table.specs.Counts.{Counts}
 use Rattle.raft_table.specs.MarkCode.{mark_code}
 use Rattle.raft_history.specs.Contexts.{Context, FileRange}
 use Rattle.raft_history.specs.MarkedRegions.{MarkedRegions, Marks}
 use Rattle.raft_history.specs.RegionSteps.{Tables}
 use Rattle.raft_history.specs.WaitingGroups.{WaitingGroups}
-use Rattle.raft_accessor.specs.AccessorCode.{tables_code}
+use Rattle.raft_accessor.specs.AccessorCode.{tables_code, counts_code}
 use Rattle.raft_memtable.specs.RecoverContext.{RecoverContext}
 use Rattle.raft_memtable.specs.WaitingGroupsCode.{groups_code}
 use Rattle.raft_memtable.specs.contracts.context_stage.ContextStage as stage
@@ -29,6 +30,6 @@ context_code =
     code_by ((MarkedRegions × WaitingGroups) × (List ℕ × Option FileRange)) (coded× (coded× regions_code groups_code) (coded× (coded_list coded_ℕ) (coded_option range_code)))
     (λ c. ((c.regions, c.groups), (c.cleaned, c.files))) (λ p. record { regions = p.0.0; groups = p.0.1; cleaned = p.1.0; files = p.1.1 }) (λ _. refl)
 
--- the stage and what is held
+-- the stage, what is held, and what was counted
 abbrev pub recover_context_code : Coded RecoverContext
-recover_context_code = code_by (ContextStage × Context) (coded× stage.the_row.coded context_code) (λ c. (c.stage, c.context)) (λ p. record { stage = p.0; context = p.1 }) (λ _. refl)
+recover_context_code = code_by (ContextStage × (Context × Counts)) (coded× stage.the_row.coded (coded× context_code counts_code)) (λ c. (c.stage, (c.context, c.counts))) (λ p. record { stage = p.0; context = p.1.0; counts = p.1.1 }) (λ _. refl)

@@ -5,9 +5,9 @@ use Rattle.raft_memtable.specs.declared.context_stage.ContextStage.TheVariants.{
 use Rattle.raft_memtable.specs.ReadStates.{context_in, IsOfHistory}
 use Rattle.raft_memtable.specs.RecoverContext.{RecoverContext}
 
--- the stage, and what was read
+-- the stage, what was read, and what was counted
 abbrev pub recover_context_shown : Inside → RecoverContext
-recover_context_shown a = record { stage = a.stage; context = context_in a.state }
+recover_context_shown a = record { stage = a.stage; context = context_in a.state; counts = a.state.regions.accessor.counts }
 
 -- a context that reads on holds what some history gives
 pub record IsContextKept (a : Inside) : Type 0 where

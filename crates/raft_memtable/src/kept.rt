@@ -8,8 +8,8 @@ pub struct Kept {
     pub entries: u128,
     /// Key values in all tables.
     pub keys: u128,
-    /// Regions that have a region mark, and groups that have a group marker.
-    pub regions_and_groups: u128,
+    /// How many regions have a region mark, and how many groups have a group marker, together.
+    pub marks: u128,
     /// Keys in the region marks that were deleted.
     pub deleted_keys: u128,
     /// Regions in the list of those that were cleaned.

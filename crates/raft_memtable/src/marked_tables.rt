@@ -11,6 +11,7 @@ ghost use Rattle.raft_table.specs.Steps.{Run, Compact, Truncate, Put, Del, Atomi
 ghost use Rattle.raft_accessor.specs.Accessor.{live_in_all};
 ghost use Rattle.raft_accessor.specs.ItemWrites.{pair_change};
 ghost use Rattle.raft_memtable.specs.MarkedTables.{regions_in, AreStepsOfQueue, IsStepsFault, one_step, first_index, AreStepsTaken};
+ghost use Rattle.raft_memtable.specs.StepCounts.{no_counts, AreCountsAfterSteps};
 ghost use Rattle.raft_memtable.specs.WaitingShown.{whole_shown};
 
 mod join;
@@ -39,6 +40,7 @@ impl MarkedTables {
     pub(crate) fn new(alloc: Global) -> Result<MarkedTables>
         ensures regions { IfOk result (λ tables. regions_in tables ≡ no_regions) }
         ensures cleaned { IfOk result (λ tables. tables.accessor.cleaned ≡ []) }
+        ensures counts { IfOk result (λ tables. tables.accessor.counts ≡ no_counts) }
         ensures memory { IfErr result (λ e. e ≡ Error.Memory) }
     {
         Ok(MarkedTables {
@@ -62,6 +64,8 @@ impl MarkedTables {
             ≡ Some (regions_in self.new)) }
         ensures cleaned { OnOk result (self.new.accessor.cleaned
             ≡ self.old.accessor.cleaned ++ cleaned_by_steps file.queue (steps_of_items items)) }
+        ensures counts { OnOk result (AreCountsAfterSteps file.queue self.old.accessor.tables
+            (steps_of_items items) self.old.accessor.counts self.new.accessor.counts) }
         ensures fault { IfErr result (IsStepsFault file.queue (regions_in self.old)
             (steps_of_items items)) }
         ensures other { OnOk result
@@ -85,6 +89,9 @@ impl MarkedTables {
             (regions_after Rewrite (regions_in self.old) (region_steps_of_whole (whole_shown whole))
             ≡ Some (regions_in self.new)) }
         ensures cleaned { OnOk result (self.new.accessor.cleaned ≡ self.old.accessor.cleaned) }
+        ensures counts { OnOk result (AreCountsAfterSteps Rewrite self.old.accessor.tables
+            (region_steps_of_whole (whole_shown whole)) self.old.accessor.counts
+            self.new.accessor.counts) }
         ensures fault { IfErr result (IsStepsFault Rewrite (regions_in self.old)
             (region_steps_of_whole (whole_shown whole))) }
         ensures other { OnOk result (live_in_all Append self.new.accessor.tables

@@ -13,7 +13,8 @@ ghost use Rattle.raft_memtable.specs.BatchChecks.{marker_found};
 ghost use Rattle.raft_memtable.specs.KeptShown.{kept_shown};
 ghost use Rattle.raft_memtable.specs.MarkedTables.{regions_in, IsStepsFault};
 ghost use Rattle.raft_memtable.specs.ReadStates.{context_in, IsOfHistory, CanTakeEffect, CanTakeEffectIfAny};
-ghost use Rattle.raft_memtable.specs.RecoverContext.{reading_on, MayFollow, IsBatchFault, AreNeighbors, IsNeighborFault};
+ghost use Rattle.raft_memtable.specs.RecoverContext.{reading_on, MayFollow, IsBatchCounted, IsBatchFault, AreNeighbors, IsNeighborFault};
+ghost use Rattle.raft_memtable.specs.StepCounts.{no_counts, AreCountsAfterSteps};
 ghost use Rattle.raft_memtable.specs.WaitingShown.{whole_shown};
 
 mod overlay;
@@ -46,6 +47,7 @@ impl ReadState {
     /// `Memory`.
     pub(crate) fn new(alloc: Global) -> Result<ReadState>
         ensures ok { IfOk result (λ state. context_in state ≡ new_context) }
+        ensures counts { IfOk result (λ state. state.regions.accessor.counts ≡ no_counts) }
         ensures memory { IfErr result (λ e. e ≡ Error.Memory) }
     {
         Ok(ReadState {
@@ -62,6 +64,8 @@ impl ReadState {
         ensures next { OnOk result (MayFollow (context_in self.old) (event batch file)) }
         ensures taken { OnOk result (taken_in (context_in self.old) (event batch file)
             ≡ Some (context_in self.new)) }
+        ensures counts { OnOk result (IsBatchCounted (event batch file) (context_in self.old)
+            self.old.regions.accessor.counts self.new.regions.accessor.counts) }
         ensures history { OnOk result (IsOfHistory (context_in self.new)) }
         ensures fault { IfErr result (IsBatchFault (reading_on (context_in self.old))
             (event batch file)) }
@@ -95,6 +99,8 @@ impl ReadState {
         requires without_marker { marker_found file.queue batch ≡ None }
         ensures taken { OnOk result (taken_in (context_in self.old) (event batch file)
             ≡ Some (context_in self.new)) }
+        ensures counts { OnOk result (IsBatchCounted (event batch file) (context_in self.old)
+            self.old.regions.accessor.counts self.new.regions.accessor.counts) }
         ensures history { OnOk result (IsOfHistory (context_in self.new)) }
         ensures fault { IfErr result (IsBatchFault (reading_on (context_in self.old))
             (event batch file)) }
@@ -117,6 +123,8 @@ impl ReadState {
         requires with_marker { marker_found file.queue batch ≡ Some (id, status) }
         ensures taken { OnOk result (taken_in (context_in self.old) (event batch file)
             ≡ Some (context_in self.new)) }
+        ensures counts { OnOk result (IsBatchCounted (event batch file) (context_in self.old)
+            self.old.regions.accessor.counts self.new.regions.accessor.counts) }
         ensures history { OnOk result (IsOfHistory (context_in self.new)) }
         ensures fault { IfErr result (IsBatchFault (reading_on (context_in self.old))
             (event batch file)) }
@@ -155,7 +163,7 @@ impl ReadState {
         Ok(Kept {
             entries: accessor.entries_count()?,
             keys: accessor.key_count()?,
-            regions_and_groups: marks.len() as u128 + self.groups.len() as u128,
+            marks: marks.len() as u128 + self.groups.len() as u128,
             deleted_keys: marks.deleted_keys(),
             cleaned: accessor.cleaned_regions().len() as u128,
             waiting_items: self.groups.waiting_items(),
@@ -215,6 +223,9 @@ fn take_whole(regions: &mut MarkedTables, whole: Option<WholeGroup>) -> Result<(
         (region_steps_or (option_map whole_shown whole))
         ≡ Some (regions_in regions.new)) }
     ensures cleaned { OnOk result (regions.new.accessor.cleaned ≡ regions.old.accessor.cleaned) }
+    ensures counts { OnOk result (AreCountsAfterSteps Rewrite regions.old.accessor.tables
+        (region_steps_or (option_map whole_shown whole)) regions.old.accessor.counts
+        regions.new.accessor.counts) }
     ensures fault { IfErr result (IsStepsFault Rewrite (regions_in regions.old)
         (region_steps_or (option_map whole_shown whole))) }
     ensures other { OnOk result (live_in_all Append regions.new.accessor.tables

@@ -14,7 +14,7 @@ ghost use Rattle.raft_history.specs.ReplayMachine.{event};
 ghost use Rattle.raft_accessor.specs.Accessor.{AreCountsOf};
 ghost use Rattle.raft_memtable.specs.KeptShown.{kept_shown, IsKeptFault};
 ghost use Rattle.raft_memtable.specs.OverlaidContext.{IsOverlaidWith, IsOfBothExactly, IsMergeAppendFault};
-ghost use Rattle.raft_memtable.specs.RecoverContext.{blank_context, HasRead, HasReadExactly, IsBatchTaken, IsBatchFault, IsMergedWith, IsNeighborFault, refused_stage};
+ghost use Rattle.raft_memtable.specs.RecoverContext.{blank_context, HasRead, HasReadExactly, IsBatchTaken, IsBatchCounted, IsBatchFault, IsMergedWith, IsNeighborFault, refused_stage};
 ghost use Rattle.raft_memtable.specs.declared.context_stage.ContextStage.TheVariants.{Reading, Overlaid, Failed};
 
 use crate::context_stage::ContextStage;
@@ -81,6 +81,8 @@ impl MemTableRecoverContext {
     /// than 2^64 - 1; `Memory`.
     pub fn replay(&mut self, batch: LogItemBatch, file_id: FileId) -> Result<()>
         ensures ok { OnOk result (IsBatchTaken (event batch file_id) self.old self.new) }
+        ensures counts { OnOk result (IsBatchCounted (event batch file_id) self.old.context
+            self.old.counts self.new.counts) }
         ensures fault { IfErr result (IsBatchFault self.old (event batch file_id)) }
         ensures err { OnErr result (self.new.stage ≡ refused_stage self.old.stage) }
         ensures unchanged { self.old.stage ≢ Reading → self.new ≡ self.old }
@@ -195,7 +197,7 @@ impl MemTableRecoverContext {
             → IfOk result (λ kept. IsAtMost (kept_shown kept) (kept_by queue h tables)) }
         ensures overlaid { (rewrite append : List Event) → IsOfBothExactly self.now rewrite append
             → IfOk result
-            (λ kept. (kept.regions_and_groups ≡ 0) × (kept.deleted_keys ≡ 0)
+            (λ kept. (kept.marks ≡ 0) × (kept.deleted_keys ≡ 0)
             × (kept.waiting_items ≡ 0)) }
         ensures accepted { OnOk result (self.now.stage ≢ Failed) }
         ensures failed { self.now.stage ≡ Failed → IfErr result (λ e. e ≡ Error.Failed) }
@@ -217,6 +219,7 @@ impl MemTableRecoverContext {
         ensures cleaned { IfOk result (λ accessor. accessor.cleaned ≡ self.context.cleaned) }
         ensures exact_counts { IfOk result (λ accessor. AreCountsOf accessor.tables
             accessor.counts) }
+        ensures counts { IfOk result (λ accessor. accessor.counts ≡ self.counts) }
         ensures reading { (queue : LogQueue) (h : List Event) → HasReadExactly self h
             → Suits queue self.context.files
             → IfOk result (λ accessor. IsOneReading queue h accessor.tables accessor.cleaned) }

@@ -46,7 +46,7 @@ impl MessageExt for Lines {
 
 /// What a batch says of region 1.
 #[derive(Clone, Copy)]
-enum Word {
+pub(crate) enum Word {
     /// Entries from the first index to below the second.
     Run(u64, u64),
     Compact(u64),
@@ -108,7 +108,11 @@ fn replay(
 }
 
 /// A context of these words on region 1.
-fn read(alloc: Global, queue: LogQueue, words: &[Word]) -> Result<MemTableRecoverContext> {
+pub(crate) fn read(
+    alloc: Global,
+    queue: LogQueue,
+    words: &[Word],
+) -> Result<MemTableRecoverContext> {
     let mut context = MemTableRecoverContext::new(alloc)?;
     replay(alloc, &mut context, queue, 1, words)?;
     Ok(context)

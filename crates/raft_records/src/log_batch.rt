@@ -190,14 +190,14 @@ impl LogBatch {
     /// # Errors
     ///
     /// `Memory`. The batch is then as it was.
-    pub fn add_command(&mut self, region_id: u64, command: Command) -> Result<()>
+    pub fn add_command(&mut self, region: u64, command: Command) -> Result<()>
         requires { self.old.stage ≡ populating }
         ensures ok { OnOk result (self.new
-            ≡ record self.old { items = self.old.items ++ command_item region_id command ∷ [] }) }
+            ≡ record self.old { items = self.old.items ++ command_item region command ∷ [] }) }
         ensures err { OnErr result (self.new ≡ self.old) }
         ensures memory { IfErr result (λ e. e ≡ Error.Memory) }
     {
-        self.item_batch.add_command(region_id, command)
+        self.item_batch.add_command(region, command)
     }
 
     /// Makes the bytes of an open batch, to which nothing is added from then on, and answers how many
@@ -325,15 +325,15 @@ impl LogBatch {
     /// # Errors
     ///
     /// `Memory`. The batch is then as it was.
-    pub fn delete(&mut self, region_id: u64, key: Vec<u8>) -> Result<()>
+    pub fn delete(&mut self, region: u64, key: Vec<u8>) -> Result<()>
         requires { self.old.stage ≡ populating }
         ensures ok { OnOk result (self.new ≡ record self.old {
-          items = self.old.items ++ pair_item region_id Del key.items None ∷ [];
+          items = self.old.items ++ pair_item region Del key.items None ∷ [];
         }) }
         ensures err { OnErr result (self.new ≡ self.old) }
         ensures memory { IfErr result (λ e. e ≡ Error.Memory) }
     {
-        self.item_batch.delete(region_id, key)
+        self.item_batch.delete(region, key)
     }
 
     /// Adds a value of a region's key to an open batch.
@@ -341,17 +341,17 @@ impl LogBatch {
     /// # Errors
     ///
     /// `InvalidArgument` for the key of the group markers, `Memory`. The batch is then as it was.
-    pub fn put(&mut self, region_id: u64, key: Vec<u8>, value: Vec<u8>) -> Result<()>
+    pub fn put(&mut self, region: u64, key: Vec<u8>, value: Vec<u8>) -> Result<()>
         requires { self.old.stage ≡ populating }
         ensures ok { OnOk result (self.new ≡ record self.old {
-          items = self.old.items ++ pair_item region_id Put key.items (Some value.items) ∷ [];
+          items = self.old.items ++ pair_item region Put key.items (Some value.items) ∷ [];
         }) }
         ensures accepted { OnOk result (key.items ≢ reserved_key) }
         ensures err { OnErr result (self.new ≡ self.old) }
         ensures fault { IfErr result (IsKeyRefusal key.items) }
     {
         refuse_reserved(&key)?;
-        self.put_unchecked(region_id, key, value)
+        self.put_unchecked(region, key, value)
     }
 
     /// Adds a message as the value of a region's key to an open batch.
@@ -360,41 +360,31 @@ impl LogBatch {
     ///
     /// `InvalidArgument` for the key of the group markers, `Message` where the message refuses to write
     /// itself, `Memory`. The batch is then as it was.
-    pub fn put_message<S: Message>(
-        &mut self,
-        region_id: u64,
-        key: Vec<u8>,
-        message: &S,
-    ) -> Result<()>
+    pub fn put_message<S: Message>(&mut self, region: u64, key: Vec<u8>, message: &S) -> Result<()>
         requires { self.old.stage ≡ populating }
         ensures ok { OnOk result (self.new ≡ record self.old {
           items = self.old.items
-              ++ pair_item region_id Put key.items (Some (S.bytes_of message.now)) ∷ [];
+              ++ pair_item region Put key.items (Some (S.bytes_of message.now)) ∷ [];
         }) }
         ensures accepted { OnOk result (key.items ≢ reserved_key) }
         ensures err { OnErr result (self.new ≡ self.old) }
         ensures fault { IfErr result (IsMessageRefusal (S.refuses message.now) key.items) }
     {
         refuse_reserved(&key)?;
-        self.item_batch.put_message(region_id, key, message)
+        self.item_batch.put_message(region, key, message)
     }
 
     /// Adds a value of a region's key to an open batch, whatever the key. On `Err` the batch is as it
     /// was.
-    pub(crate) fn put_unchecked(
-        &mut self,
-        region_id: u64,
-        key: Vec<u8>,
-        value: Vec<u8>,
-    ) -> Result<()>
+    pub(crate) fn put_unchecked(&mut self, region: u64, key: Vec<u8>, value: Vec<u8>) -> Result<()>
         requires { self.old.stage ≡ populating }
         ensures ok { OnOk result (self.new ≡ record self.old {
-          items = self.old.items ++ pair_item region_id Put key.items (Some value.items) ∷ [];
+          items = self.old.items ++ pair_item region Put key.items (Some value.items) ∷ [];
         }) }
         ensures err { OnErr result (self.new ≡ self.old) }
         ensures memory { IfErr result (λ e. e ≡ Error.Memory) }
     {
-        self.item_batch.put(region_id, key, value)
+        self.item_batch.put(region, key, value)
     }
 }
 
@@ -452,8 +442,8 @@ impl ReactiveBytes for LogBatch {
         !self.is_open()
     }
 
-    fn as_bytes(&mut self, context: &LogFileContext) -> &[u8] {
-        self.prepare_write(context);
+    fn as_bytes(&mut self, ctx: &LogFileContext) -> &[u8] {
+        self.prepare_write(ctx);
         self.encoded_bytes()
     }
 }

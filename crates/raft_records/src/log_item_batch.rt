@@ -178,20 +178,20 @@ impl LogItemBatch {
     /// `Memory`. The batch is then as it was.
     pub fn add_entry_indexes(
         &mut self,
-        region_id: u64,
+        region: u64,
         mut entry_indexes: Vec<EntryIndex>,
     ) -> Result<()>
         requires consecutive { IsConsecutive entry_indexes.items }
         requires room { entry_bytes_of self.old + entry_lengths entry_indexes.items < 2 ^ 32 }
         ensures ok { OnOk result (self.new ≡ self.old
-            ++ entries_item region_id
+            ++ entries_item region
             (with_offsets_from (entry_bytes_of self.old) entry_indexes.items) ∷ []) }
         ensures err { OnErr result (self.new ≡ self.old) }
         ensures memory { IfErr result (λ e. e ≡ Error.Memory) }
     {
         let start = self.entries_size();
         let end = set_offsets(&mut entry_indexes, start);
-        self.add(LogItem::new_entry_indexes(region_id, entry_indexes), end)
+        self.add(LogItem::new_entry_indexes(region, entry_indexes), end)
     }
 
     /// Adds a command on a region's log.
@@ -199,13 +199,13 @@ impl LogItemBatch {
     /// # Errors
     ///
     /// `Memory`. The batch is then as it was.
-    pub fn add_command(&mut self, region_id: u64, command: Command) -> Result<()>
-        ensures ok { OnOk result (self.new ≡ self.old ++ command_item region_id command ∷ []) }
+    pub fn add_command(&mut self, region: u64, command: Command) -> Result<()>
+        ensures ok { OnOk result (self.new ≡ self.old ++ command_item region command ∷ []) }
         ensures err { OnErr result (self.new ≡ self.old) }
         ensures memory { IfErr result (λ e. e ≡ Error.Memory) }
     {
         let entries_size = self.entries_size;
-        self.add(LogItem::new_command(region_id, command), entries_size)
+        self.add(LogItem::new_command(region, command), entries_size)
     }
 
     /// Adds the removal of a region's key.
@@ -213,15 +213,15 @@ impl LogItemBatch {
     /// # Errors
     ///
     /// `Memory`. The batch is then as it was.
-    pub fn delete(&mut self, region_id: u64, key: Vec<u8>) -> Result<()>
+    pub fn delete(&mut self, region: u64, key: Vec<u8>) -> Result<()>
         ensures ok { OnOk result (self.new
-            ≡ self.old ++ pair_item region_id Del key.items None ∷ []) }
+            ≡ self.old ++ pair_item region Del key.items None ∷ []) }
         ensures err { OnErr result (self.new ≡ self.old) }
         ensures memory { IfErr result (λ e. e ≡ Error.Memory) }
     {
         let entries_size = self.entries_size();
         self.add(
-            LogItem::new_kv(region_id, OpType::Del, key, None),
+            LogItem::new_kv(region, OpType::Del, key, None),
             entries_size,
         )
     }
@@ -231,15 +231,15 @@ impl LogItemBatch {
     /// # Errors
     ///
     /// `Memory`. The batch is then as it was.
-    pub fn put(&mut self, region_id: u64, key: Vec<u8>, value: Vec<u8>) -> Result<()>
+    pub fn put(&mut self, region: u64, key: Vec<u8>, value: Vec<u8>) -> Result<()>
         ensures ok { OnOk result (self.new ≡ self.old
-            ++ pair_item region_id Put key.items (Some value.items) ∷ []) }
+            ++ pair_item region Put key.items (Some value.items) ∷ []) }
         ensures err { OnErr result (self.new ≡ self.old) }
         ensures memory { IfErr result (λ e. e ≡ Error.Memory) }
     {
         let entries_size = self.entries_size();
         self.add(
-            LogItem::new_kv(region_id, OpType::Put, key, Some(value)),
+            LogItem::new_kv(region, OpType::Put, key, Some(value)),
             entries_size,
         )
     }
@@ -249,20 +249,15 @@ impl LogItemBatch {
     /// # Errors
     ///
     /// `Message` where the message refuses to write itself, `Memory`. The batch is then as it was.
-    pub fn put_message<S: Message>(
-        &mut self,
-        region_id: u64,
-        key: Vec<u8>,
-        message: &S,
-    ) -> Result<()>
+    pub fn put_message<S: Message>(&mut self, region: u64, key: Vec<u8>, message: &S) -> Result<()>
         ensures ok { OnOk result (self.new ≡ self.old
-            ++ pair_item region_id Put key.items (Some (S.bytes_of message.now)) ∷ []) }
+            ++ pair_item region Put key.items (Some (S.bytes_of message.now)) ∷ []) }
         ensures err { OnErr result (self.new ≡ self.old) }
         ensures fault { IfErr result (IsMemoryOrMessage (S.refuses message.now)) }
     {
         let mut value = Vec::new(*self.items.allocator());
         message.write_to_vec(&mut value)?;
-        self.put(region_id, key, value)
+        self.put(region, key, value)
     }
 
     /// Moves the items of `rhs` behind those of the batch; their entries' bytes stand behind the

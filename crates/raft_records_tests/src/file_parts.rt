@@ -122,14 +122,19 @@ fn has_block(part: &FilePart) -> Result<bool> {
     Ok(place(part)? == Some(handle))
 }
 
-/// Whether the first batch knows the file that it was decoded in, until an item is added.
+/// Whether the first batch and its clone know the file that it was decoded in, until an item is added.
 fn knows_its_file(part: &FilePart) -> Result<bool> {
     let Some((mut batch, _)) = next_batch(part, 0)? else {
         return Ok(false);
     };
+    let copy = batch.clone()?;
     let decoded_in = batch.decoded_in();
     batch.add_command(1, Command::Clean)?;
-    Ok(decoded_in == Some(file()) && batch.decoded_in().is_none())
+    Ok(
+        decoded_in == Some(file())
+            && copy.decoded_in() == Some(file())
+            && batch.decoded_in().is_none(),
+    )
 }
 
 #[test]

@@ -139,9 +139,9 @@ fn kept_again(found: &mut Found, context: &MemTableRecoverContext) -> Result<()>
     }
     let kept = answer?;
     let alloc = found.alloc;
-    let (entries, keys, regions_and_groups) = (kept.entries, kept.keys, kept.regions_and_groups);
+    let (entries, keys, marks) = (kept.entries, kept.keys, kept.marks);
     let (deleted, cleaned, waiting) = (kept.deleted_keys, kept.cleaned, kept.waiting_items);
     found.line(format!(in alloc;
-        "entries {entries} keys {keys} regions_and_groups {regions_and_groups} deleted {deleted} cleaned {cleaned} waiting {waiting}"
+        "entries {entries} keys {keys} marks {marks} deleted {deleted} cleaned {cleaned} waiting {waiting}"
     )?.as_str())
 }

@@ -215,10 +215,10 @@ impl SharedAccessor {
         &self,
         rt: &R,
         id: u64,
-        first_seq: FileSeq,
-        last_seq: FileSeq,
+        start: FileSeq,
+        end: FileSeq,
     ) -> Result<()>
-        requires { first_seq ≤ last_seq }
+        requires { start ≤ end }
         ensures { IfErr result IsLockFault }
     {
         let number = slot_of(id);
@@ -226,7 +226,7 @@ impl SharedAccessor {
         if slot.number() != number {
             return Err(Error::Failed);
         }
-        slot.apply_rewrite_atomic_group(id, first_seq, last_seq)
+        slot.apply_rewrite_atomic_group(id, start, end)
     }
 
     /// Writes new items of the append queue to the tables, in order.
@@ -255,9 +255,9 @@ impl SharedAccessor {
         Ok(())
     }
 
-    /// Writes items that were rewritten to the file of number `seq` of the rewrite queue to the
-    /// tables, in order: with a gate the places that move are those in append files at or below it,
-    /// without one those that are rewritten already.
+    /// Writes items that were rewritten to the file of number `new_file` of the rewrite queue to the
+    /// tables, in order. `watermark` is the gate: with one, the places that move are those in append files
+    /// at or below it, without one those that are rewritten already.
     ///
     /// # Errors
     ///
@@ -267,20 +267,20 @@ impl SharedAccessor {
         &self,
         rt: &R,
         items: I,
-        gate: Option<FileSeq>,
-        seq: FileSeq,
+        watermark: Option<FileSeq>,
+        new_file: FileSeq,
     ) -> Result<()>
         requires { (it : I.IntoIter) → I.into_iter_gives items it
             → I.IntoIter.can_next it × IsFinite (I.IntoIter.remaining it) }
         ensures ok { OnOk result ((it : I.IntoIter) × (xs : List LogItem)
             × I.into_iter_gives items it × Drains I.IntoIter.next_gives it xs
-            × AllByRecursion (MayBeWritten (Rewriting gate seq)) (map item_of xs)) }
+            × AllByRecursion (MayBeWritten (Rewriting watermark new_file)) (map item_of xs)) }
         ensures refused { IfErr result (λ e. (it : I.IntoIter) × (xs : List LogItem)
             × (u : I.IntoIter) × I.into_iter_gives items it × Yields I.IntoIter.next_gives it xs u
-            × IsLastRefused (Rewriting gate seq) (map item_of xs) e) }
+            × IsLastRefused (Rewriting watermark new_file) (map item_of xs) e) }
     {
         for item in items {
-            self.rewrite_item(rt, item, gate, seq)?;
+            self.rewrite_item(rt, item, watermark, new_file)?;
         }
         Ok(())
     }
@@ -331,7 +331,7 @@ impl SharedAccessor {
         answer
     }
 
-    /// The ids of the tables at which `wanted` answers true, in no set order.
+    /// The ids of the tables at which `f` answers true, in no set order.
     ///
     /// # Errors
     ///
@@ -339,18 +339,18 @@ impl SharedAccessor {
     pub fn collect<F: FnMut(&MemTable) -> bool, R: Wait>(
         &self,
         rt: &R,
-        mut wanted: F,
+        mut f: F,
     ) -> Result<Vec<u64>>
     where
         F: Drop,
         requires { (state : F) (x : _) → F.pre state x }
         ensures ok { IfOk result (λ ids. (ts : List Table) × (last : F)
-            × FoldsTo (KeepsId F.FnMut) (wanted, []) ts (last, ids.items)) }
+            × FoldsTo (KeepsId F.FnMut) (f, []) ts (last, ids.items)) }
         ensures memory { IfErr result (λ e. e ≡ Error.Memory) }
     {
         let mut ids = Vec::new(self.alloc);
         for slot in &self.slots {
-            slot.read(rt).push_ids(&mut wanted, &mut ids)?;
+            slot.read(rt).push_ids(&mut f, &mut ids)?;
         }
         Ok(ids)
     }

@@ -184,20 +184,20 @@ impl Slot {
     pub fn apply_rewrite_atomic_group(
         &mut self,
         id: u64,
-        first_seq: FileSeq,
-        last_seq: FileSeq,
+        start: FileSeq,
+        end: FileSeq,
     ) -> Result<()>
         requires slot { slot_of id ≡ self.old.number }
-        requires seqs { first_seq ≤ last_seq }
+        requires seqs { start ≤ end }
         ensures changed { IsTableChanged (Some (record (table_in self.old.content.tables id)
-            { atomic_group = Some (first_seq, last_seq) }))
+            { atomic_group = Some (start, end) }))
             (λ e. ⊥)
             id result self.old.content self.new.content }
         ensures counts { self.new.content.counts ≡ self.old.content.counts }
         ensures number { self.new.number ≡ self.old.number }
     {
         self.tables
-            .apply_rewrite_atomic_group(id, first_seq, last_seq, &mut self.stats)
+            .apply_rewrite_atomic_group(id, start, end, &mut self.stats)
     }
 
     /// Puts a table under its region's id and counts its records. The table that stood there is taken
@@ -271,9 +271,9 @@ impl Slot {
             .append_item(item, &mut self.stats, &mut self.cleaned)
     }
 
-    /// Writes an item that was rewritten to the file of number `seq` of the rewrite queue to its
-    /// region's table: with a gate the places that move are those in append files at or below it,
-    /// without one those that are rewritten already.
+    /// Writes an item that was rewritten to the file of number `new_file` of the rewrite queue to its
+    /// region's table. `watermark` is the gate: with one, the places that move are those in append files
+    /// at or below it, without one those that are rewritten already.
     ///
     /// # Errors
     ///
@@ -281,15 +281,16 @@ impl Slot {
     pub fn apply_rewrite_write(
         &mut self,
         item: LogItem,
-        gate: Option<FileSeq>,
-        seq: FileSeq,
+        watermark: Option<FileSeq>,
+        new_file: FileSeq,
     ) -> Result<()>
         requires { slot_of item.raft_group_id ≡ self.old.number }
-        ensures written { IsWritten (Rewriting gate seq) (item_of item) result self.old.content
+        ensures written { IsWritten (Rewriting watermark new_file) (item_of item) result self.old.content
             self.new.content }
         ensures number { self.new.number ≡ self.old.number }
     {
-        self.tables.rewrite_item(item, gate, seq, &mut self.stats)
+        self.tables
+            .rewrite_item(item, watermark, new_file, &mut self.stats)
     }
 
     /// Moves the cleaned regions into an open batch as a `Clean` for each, in order. The list is then

@@ -1,5 +1,5 @@
 -- What walks over the stored pairs find, as contracts see it.
-use Rattle.std.proofs.Common.{◌≡◌, ℕ, Bool, ◌+◌, ◌<◌, true, false, cond, List, reverse, [], ◌∷◌, length, filter, map, Option, refl, sym, ap, ◌∙◌, arith, inl, inr}
+use Rattle.std.proofs.Common.{◌≡◌, ℕ, Bool, ◌+◌, ◌<◌, true, false, cond, List, reverse, [], ◌∷◌, ◌++◌, append_assoc, length, filter, map, Option, refl, sym, ap, ◌∙◌, arith, inl, inr}
 use Rattle.std.specs.declared.alloc.Global.{Global}
 use Rattle.std.specs.declared.vec.Vec.{Vec}
 use Rattle.std.specs.Ordering.{nat_cmp}
@@ -95,6 +95,24 @@ entries-empty = no_length _ (sym (finite.len-entries _) ∙ finite.len-empty (sl
 -- no pairs put over some leave these
 pub pairs_over-empty : (newer older : Keys) → newer ≡ finite.empty → pairs_over newer older ≡ older
 pairs_over-empty newer older e = ap (with_pairs older) (ap finite.entries e ∙ entries-empty)
+
+-- the first of the newer pairs are put over the older ones, and the rest is left
+pub record IsFrontPut (newer older keys left : Keys) : Type 0 where
+  pub front : List (List ℕ × Stored)
+  pub split : finite.entries newer ≡ front ++ finite.entries left
+  pub put : keys ≡ with_pairs older front
+
+with_one_more : (keys : Keys) (es : List (List ℕ × Stored)) (e : List ℕ × Stored) → with_pairs keys (es ++ e ∷ []) ≡ finite.insert (with_pairs keys es) e.0 e.1
+with_one_more keys [] e = refl
+with_one_more keys (x ∷ es) e = with_one_more (finite.insert keys x.0 x.1) es e
+
+-- one more is put
+pub one_more_put : (newer older keys left new rest : Keys) (e : List ℕ × Stored) → IsFrontPut newer older keys left → finite.entries left ≡ e ∷ finite.entries rest → new ≡ finite.insert keys e.0 e.1 → IsFrontPut newer older new rest
+one_more_put newer older keys left new rest e p first put = record {
+  front = p.front ++ e ∷ [];
+  split = p.split ∙ ap (λ l. p.front ++ l) first ∙ sym (append_assoc p.front (e ∷ []) (finite.entries rest));
+  put = put ∙ ap (λ k. finite.insert k e.0 e.1) p.put ∙ sym (with_one_more older p.front e);
+}
 
 pub len-first : (keys rest : Keys) (e : List ℕ × Stored) → finite.entries keys ≡ e ∷ finite.entries rest → finite.len rest < finite.len keys
 len-first keys rest e first = omega (arith, finite.len-entries keys, finite.len-entries rest, ap length first)

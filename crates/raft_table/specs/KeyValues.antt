@@ -1,5 +1,5 @@
 -- The key values of one region.
-use Rattle.std.specs.Prelude.{ℕ, Bool, ◌&&◌, List, [], ◌∷◌, Option, Some, None, length, filter, map, nat_le, min, option_map}
+use Rattle.std.specs.Prelude.{◌≡◌, ℕ, Bool, ◌&&◌, List, [], ◌∷◌, ◌++◌, Option, Some, None, length, filter, map, nat_le, min, option_map}
 use Rattle.std.specs.declared.alloc.Global.{Global}
 use Rattle.std.specs.declared.vec.Vec.{Vec}
 use Rattle.std.specs.Ordering.{nat_cmp}
@@ -85,3 +85,10 @@ with_pairs keys (e ∷ es) = with_pairs (finite.insert keys e.0 e.1) es
 -- the newer pairs put over the older ones
 abbrev pub pairs_over : Keys → Keys → Keys
 pairs_over newer older = with_pairs older (finite.entries newer)
+
+-- a merge of pairs that found no memory: the first of the newer pairs are put over the older ones, one is lost, and the rest is left
+pub record ArePartlyOver (newer older keys left : Keys) : Type 0 where
+  pub front : List (List ℕ × Stored)
+  pub lost : List ℕ × Stored
+  pub split : finite.entries newer ≡ front ++ lost ∷ finite.entries left
+  pub put : keys ≡ with_pairs older front

@@ -320,7 +320,7 @@ impl MemTable {
         self.entries.truncate_from(index, stats)
     }
 
-    /// Puts a key with its value, which were written to `file`, in place of the pair that the key
+    /// Puts a key with its value, which were written to `file_id`, in place of the pair that the key
     /// had.
     ///
     /// # Errors
@@ -331,27 +331,29 @@ impl MemTable {
         &mut self,
         key: Vec<u8>,
         value: Vec<u8>,
-        file: FileId,
+        file_id: FileId,
         stats: &mut GlobalStats,
     ) -> Result<()>
         requires { IsCounted self.old stats.old }
-        ensures ok { OnOk result (self.new ≡ with_pair self.old key.items value.items file) }
+        ensures ok { OnOk result (self.new ≡ with_pair self.old key.items value.items file_id) }
         ensures counts { OnOk result (stats.new
-            ≡ with_added file.queue 1
+            ≡ with_added file_id.queue 1
             (with_pair_deleted (file_at self.old.keys key.items) stats.old)) }
-        ensures fault { IfErr result (IsTablePutFault file.queue stats.old
+        ensures fault { IfErr result (IsTablePutFault file_id.queue stats.old
             (file_at self.old.keys key.items)) }
         ensures err { OnErr result ((self.new ≡ self.old) × (stats.new ≡ stats.old)) }
         ensures recounted { IsRecounted self.old self.new stats.old stats.new }
         ensures region { self.new.region_id ≡ self.old.region_id }
     {
-        if stats.live_entries(file.queue) == usize::MAX && !self.has_pair_in(&key, file.queue) {
+        if stats.live_entries(file_id.queue) == usize::MAX
+            && !self.has_pair_in(&key, file_id.queue)
+        {
             return Err(Error::Full);
         }
-        if let Some(replaced) = self.keys.insert(key, value, file)? {
+        if let Some(replaced) = self.keys.insert(key, value, file_id)? {
             stats.delete(replaced.queue, 1);
         }
-        stats.add(file.queue, 1)
+        stats.add(file_id.queue, 1)
     }
 
     /// Deletes a key and its value.
@@ -442,12 +444,12 @@ impl MemTable {
     /// from its Begin on, as long as the table needs one up to its End. The table remembers one group:
     /// none may begin that leaves records of the region in an older one, whose Begin would no longer be
     /// kept.
-    pub fn apply_rewrite_atomic_group(&mut self, first_seq: FileSeq, last_seq: FileSeq)
-        requires { first_seq ≤ last_seq }
-        ensures group { self.new ≡ record self.old { atomic_group = Some (first_seq, last_seq) } }
+    pub fn apply_rewrite_atomic_group(&mut self, start: FileSeq, end: FileSeq)
+        requires { start ≤ end }
+        ensures group { self.new ≡ record self.old { atomic_group = Some (start, end) } }
         ensures region { self.new.region_id ≡ self.old.region_id }
     {
-        self.atomic_group = Some((first_seq, last_seq));
+        self.atomic_group = Some((start, end));
     }
 }
 

@@ -104,9 +104,9 @@ impl MemTableAccessor {
         Ok(())
     }
 
-    /// Writes items that were rewritten to the file of number `seq` of the rewrite queue to the
-    /// tables, in order: with a gate the places that move are those in append files at or below it,
-    /// without one those that are rewritten already.
+    /// Writes items that were rewritten to the file of number `new_file` of the rewrite queue to the
+    /// tables, in order. `watermark` is the gate: with one, the places that move are those in append files
+    /// at or below it, without one those that are rewritten already.
     ///
     /// # Errors
     ///
@@ -115,20 +115,20 @@ impl MemTableAccessor {
     pub fn apply_rewrite_writes<I: IntoIterator<Item = LogItem>>(
         &mut self,
         items: I,
-        gate: Option<FileSeq>,
-        seq: FileSeq,
+        watermark: Option<FileSeq>,
+        new_file: FileSeq,
     ) -> Result<()>
         requires { (it : I.IntoIter) → I.into_iter_gives items it
             → I.IntoIter.can_next it × IsFinite (I.IntoIter.remaining it) }
         ensures ok { OnOk result ((it : I.IntoIter) × (xs : List LogItem)
             × I.into_iter_gives items it × Drains I.IntoIter.next_gives it xs
-            × AreWritten (Rewriting gate seq) (map item_of xs) self.old self.new) }
+            × AreWritten (Rewriting watermark new_file) (map item_of xs) self.old self.new) }
         ensures refused { IfErr result (λ e. (it : I.IntoIter) × (xs : List LogItem)
             × (u : I.IntoIter) × I.into_iter_gives items it × Yields I.IntoIter.next_gives it xs u
-            × AreItemsRefused (Rewriting gate seq) (map item_of xs) self.old self.new e) }
+            × AreItemsRefused (Rewriting watermark new_file) (map item_of xs) self.old self.new e) }
     {
         for item in items {
-            self.rewrite_item(item, gate, seq)?;
+            self.rewrite_item(item, watermark, new_file)?;
         }
         Ok(())
     }

@@ -102,7 +102,7 @@ fn has_kept(context: &MemTableRecoverContext) -> Result<bool> {
     let stays = Kept {
         entries: 10,
         keys: 1,
-        regions_and_groups: 0,
+        marks: 0,
         deleted_keys: 0,
         cleaned: 0,
         waiting_items: 0,

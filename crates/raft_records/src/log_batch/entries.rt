@@ -30,9 +30,9 @@ impl LogBatch {
     /// would pass 2^31 - 1, `Message` where a message refuses to write itself, `Memory`. Memory is
     /// asked for before the indexes are tested, so `Memory` may also come for indexes with gaps. The
     /// batch is then as it was.
-    pub fn add_entries<M: MessageExt>(&mut self, region_id: u64, entries: &[M::Entry]) -> Result<()>
+    pub fn add_entries<M: MessageExt>(&mut self, region: u64, entries: &[M::Entry]) -> Result<()>
         requires { self.old.stage ≡ populating }
-        ensures ok { OnOk result (self.new ≡ with_entries_added self.old region_id
+        ensures ok { OnOk result (self.new ≡ with_entries_added self.old region
             (map (λ e. entry_with_index (M.index_of e)) entries.now)
             (map M.Entry.bytes_of entries.now)) }
         ensures consecutive { OnOk result (IsConsecutive
@@ -51,12 +51,7 @@ impl LogBatch {
         }
         reserve_header(&mut self.buf)?;
         let start = self.buf.len();
-        if let Err(e) = write_messages::<M>(
-            &mut self.buf,
-            &mut self.item_batch,
-            region_id,
-            entries,
-        ) {
+        if let Err(e) = write_messages::<M>(&mut self.buf, &mut self.item_batch, region, entries) {
             self.buf.truncate(start);
             return Err(e);
         }
@@ -72,14 +67,14 @@ impl LogBatch {
     /// `Full` where the batch's entry bytes would pass 2^31 - 1, `Memory`. The batch is then as it was.
     pub fn add_raw_entries(
         &mut self,
-        region_id: u64,
+        region: u64,
         entry_indexes: Vec<EntryIndex>,
         entries: Vec<Vec<u8>>,
     ) -> Result<()>
         requires open { self.old.stage ≡ populating }
         requires counts { length entry_indexes.items ≡ length entries.items }
         requires consecutive { IsConsecutive entry_indexes.items }
-        ensures ok { OnOk result (self.new ≡ with_entries_added self.old region_id
+        ensures ok { OnOk result (self.new ≡ with_entries_added self.old region
             entry_indexes.items (map (λ e. e.items) entries.items)) }
         ensures accepted { OnOk result (entry_indexes.items ≢ [] →
             length self.old.entry_bytes + length (concat (map (λ e. e.items) entries.items))
@@ -98,7 +93,7 @@ impl LogBatch {
         if let Err(e) = write_strings(
             &mut self.buf,
             &mut self.item_batch,
-            region_id,
+            region,
             entry_indexes,
             entries.as_slice(),
         ) {
@@ -147,7 +142,7 @@ impl LogBatch {
 fn write_strings(
     buf: &mut Vec<u8>,
     item_batch: &mut LogItemBatch,
-    region_id: u64,
+    region: u64,
     mut entry_indexes: Vec<EntryIndex>,
     entries: &[Vec<u8>],
 ) -> Result<()>
@@ -158,7 +153,7 @@ fn write_strings(
     ensures bytes { OnOk result (buf.new.items
         ≡ buf.old.items ++ concat (map (λ e. e.items) entries.now)) }
     ensures items { OnOk result (item_batch.new ≡ item_batch.old
-        ++ entries_item region_id (with_offsets_from (entry_bytes_of item_batch.old)
+        ++ entries_item region (with_offsets_from (entry_bytes_of item_batch.old)
         (with_lengths entry_indexes.items (map (λ e. e.items) entries.now))) ∷ []) }
     ensures accepted { OnOk result (length buf.new.items < 16 + 2 ^ 31) }
     ensures err { OnErr result (item_batch.new ≡ item_batch.old) }
@@ -168,7 +163,7 @@ fn write_strings(
         ≤ entry_bytes_of item_batch.old + length (concat (map (λ e. e.items) entries.now)))) }
 {
     append_strings(buf, &mut entry_indexes, entries)?;
-    item_batch.add_entry_indexes(region_id, entry_indexes)
+    item_batch.add_entry_indexes(region, entry_indexes)
 }
 
 /// Appends the bytes of entries, and sets their lengths. `Full` where an open batch's buffer may not
@@ -204,7 +199,7 @@ fn append_strings(
 fn write_messages<M: MessageExt>(
     buf: &mut Vec<u8>,
     item_batch: &mut LogItemBatch,
-    region_id: u64,
+    region: u64,
     entries: &[M::Entry],
 ) -> Result<()>
     requires whole { length buf.old.items ≡ 16 + entry_bytes_of item_batch.old }
@@ -212,7 +207,7 @@ fn write_messages<M: MessageExt>(
     ensures bytes { OnOk result
         (buf.new.items ≡ buf.old.items ++ concat (map M.Entry.bytes_of entries.now)) }
     ensures items { OnOk result (item_batch.new ≡ item_batch.old
-        ++ entries_item region_id (with_offsets_from (entry_bytes_of item_batch.old)
+        ++ entries_item region (with_offsets_from (entry_bytes_of item_batch.old)
         (with_lengths (map (λ e. entry_with_index (M.index_of e)) entries.now)
         (map M.Entry.bytes_of entries.now))) ∷ []) }
     ensures consecutive { OnOk result (IsConsecutive
@@ -232,7 +227,7 @@ fn write_messages<M: MessageExt>(
         ));
     }
     append_messages::<M>(buf, &mut entry_indexes, entries)?;
-    item_batch.add_entry_indexes(region_id, entry_indexes)
+    item_batch.add_entry_indexes(region, entry_indexes)
 }
 
 /// Entries with the indexes of messages, in their order, without lengths.

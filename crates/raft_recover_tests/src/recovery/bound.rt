@@ -313,7 +313,7 @@ pub(crate) fn bound_of(alloc: Global, batches: &[Written]) -> Result<Kept> {
     Ok(Kept {
         entries: reading.entries.len() as u128,
         keys: reading.keys.len() as u128,
-        regions_and_groups: reading.regions.len() as u128 + groups.len() as u128,
+        marks: reading.regions.len() as u128 + groups.len() as u128,
         deleted_keys: reading.deleted.len() as u128,
         cleaned: reading.cleaned,
         waiting_items,

@@ -40,7 +40,7 @@ const ORDERS: [Order; 3] = [Order::FromLeft, Order::FromRight, Order::ByHalves];
 fn is_within(kept: Kept, bound: Kept) -> bool {
     kept.entries == bound.entries
         && kept.keys == bound.keys
-        && kept.regions_and_groups <= bound.regions_and_groups
+        && kept.marks <= bound.marks
         && kept.deleted_keys <= bound.deleted_keys
         && kept.cleaned == bound.cleaned
         && kept.waiting_items <= bound.waiting_items
@@ -353,7 +353,7 @@ type Row = (LogQueue, (FileSeq, &'static str), usize, Kept);
 const NOTHING: Kept = Kept {
     entries: 0,
     keys: 0,
-    regions_and_groups: 0,
+    marks: 0,
     deleted_keys: 0,
     cleaned: 0,
     waiting_items: 0,
@@ -366,7 +366,7 @@ static ROWS: [Row; 3] = [
         100_000,
         Kept {
             keys: 1,
-            regions_and_groups: 1,
+            marks: 1,
             ..NOTHING
         },
     ),
@@ -380,7 +380,7 @@ static ROWS: [Row; 3] = [
         1,
         Kept {
             keys: 1,
-            regions_and_groups: 1,
+            marks: 1,
             deleted_keys: 2,
             ..NOTHING
         },
@@ -394,7 +394,7 @@ static ROWS: [Row; 3] = [
         ),
         1,
         Kept {
-            regions_and_groups: 1,
+            marks: 1,
             waiting_items: 2,
             ..NOTHING
         },
@@ -434,7 +434,7 @@ fn holds_no_more(alloc: Global, row: &Row) -> Result<bool> {
 
 fn holds_within(context: &MemTableRecoverContext, bound: Kept) -> Result<bool> {
     let kept = context.kept()?;
-    Ok(kept.regions_and_groups == bound.regions_and_groups && is_within(kept, bound))
+    Ok(kept.marks == bound.marks && is_within(kept, bound))
 }
 
 fn merge(

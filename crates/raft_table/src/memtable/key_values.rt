@@ -6,7 +6,7 @@ ghost use Rattle.std.specs.Fn.{CalledAtTwo};
 ghost use Rattle.std.specs.FinMap as finite;
 ghost use Rattle.raft_base.specs.declared.pipe_log.LogQueue.{LogQueue};
 ghost use Rattle.raft_table.specs.Scan.{VisitsUntilFalse, pairs_between};
-ghost use Rattle.raft_table.specs.KeyValues.{Keys, pair_count, file_weight, value_at, file_at, with_moved, seqs_in, least, lesser, is_up_to, pairs_up_to, pairs_shown, pairs_over};
+ghost use Rattle.raft_table.specs.KeyValues.{Keys, pair_count, file_weight, value_at, file_at, with_moved, seqs_in, least, lesser, is_up_to, pairs_up_to, pairs_shown, pairs_over, ArePartlyOver};
 
 mod scan;
 
@@ -234,11 +234,12 @@ impl KeyValues {
     ///
     /// # Errors
     ///
-    /// Where there is no memory for all of them. Some of them have then been put, and the others
-    /// are left in `rhs`, but for one that may be lost.
+    /// Where there is no memory for all of them. The first of them, in the order of their keys, have then
+    /// been put, one is lost, and the others are left in `rhs`.
     pub fn absorb(&mut self, rhs: &mut KeyValues) -> AllocResult<()>
         ensures ok { OnOk result (self.new ≡ pairs_over rhs.old self.old) }
         ensures emptied { OnOk result (rhs.new ≡ finite.empty) }
+        ensures err { OnErr result (ArePartlyOver rhs.old self.old self.new rhs.new) }
         ensures bounded { (queue : LogQueue)
             → pair_count queue self.new ≤ pair_count queue self.old + pair_count queue rhs.old }
     {

@@ -11,8 +11,8 @@ pub loop-item-preserved : goal.loop-item-preserved
 loop-item-preserved g c =
     let at = c.loop-item in
     let x = c.in-Some.item in
-    subst (λ xs. AreWritten (Rewriting c.args.gate c.args.seq) xs c.args.self.now c.rewrite_item.new.self) (sym (map-append item_of at.yielded (x ∷ [])))
-    (written_append (Rewriting c.args.gate c.args.seq) (map item_of at.yielded) (item_of x ∷ []) c.args.self.now at.self c.rewrite_item.new.self at.invariant c.in_ok-rewrite_item.ensures.ok)
+    subst (λ xs. AreWritten (Rewriting c.args.watermark c.args.new_file) xs c.args.self.now c.rewrite_item.new.self) (sym (map-append item_of at.yielded (x ∷ [])))
+    (written_append (Rewriting c.args.watermark c.args.new_file) (map item_of at.yielded) (item_of x ∷ []) c.args.self.now at.self c.rewrite_item.new.self at.invariant c.in_ok-rewrite_item.ensures.ok)
 
 pub returns-in_err-rewrite_item-clause-refused : goal.returns-in_err-rewrite_item-clause-refused
 returns-in_err-rewrite_item-clause-refused g c =
@@ -26,5 +26,5 @@ returns-in_err-rewrite_item-clause-refused g c =
       c.next.new.self,
       it.ensures.into_iter_gives,
       Yields-more g.I.IntoIter.Iterator.next_gives it.result at.yielded at.item-iterator x c.next.new.self at.yielded_by c.in-Some.ensures.steps,
-      refused_last (Rewriting c.args.gate c.args.seq) (map item_of at.yielded) (item_of x) (map item_of (at.yielded ++ x ∷ [])) c.args.self.now at.self c.rewrite_item.new.self _ (map-append item_of at.yielded (x ∷ [])) at.invariant c.in_err-rewrite_item.ensures.err c.in_err-rewrite_item.ensures.cleaned c.in_err-rewrite_item.ensures.counts_err c.in_err-rewrite_item.ensures.fault,
+      refused_last (Rewriting c.args.watermark c.args.new_file) (map item_of at.yielded) (item_of x) (map item_of (at.yielded ++ x ∷ [])) c.args.self.now at.self c.rewrite_item.new.self _ (map-append item_of at.yielded (x ∷ [])) at.invariant c.in_err-rewrite_item.ensures.err c.in_err-rewrite_item.ensures.cleaned c.in_err-rewrite_item.ensures.counts_err c.in_err-rewrite_item.ensures.fault,
     )

@@ -8,7 +8,7 @@ use Rattle.raft_accessor.proofs.region_tables.RegionTables.drop_rewritten.Goals 
 
 pub returns-then-is_cleaned : goal.returns-then-is_cleaned
 returns-then-is_cleaned c =
-    cleaned_dropped c.args.mark.now c.args.self.now c.args.id c.args.stats.now c.remove.new.self c.remove.new.stats (sym c.is_cleaned.ensures ∙ c.if-is_cleaned.true) c.remove.ensures.after c.remove.ensures.recounted
+    cleaned_dropped c.args.mark.now c.args.self.now c.args.id c.args.stats.now c.remove.new.self c.remove.new.stats (sym c.is_cleaned.ensures ∙ c.if-is_cleaned.true) c.remove.ensures.after c.remove.ensures.counts c.remove.ensures.recounted
 
 pub returns-then-is_none : goal.returns-then-is_none
 returns-then-is_none c =

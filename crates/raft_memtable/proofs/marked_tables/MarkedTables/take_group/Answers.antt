@@ -6,7 +6,7 @@ use Rattle.raft_history.specs.MarkedRegions.{on_each}
 use Rattle.raft_history.specs.RegionSteps.{RegionStep}
 use Rattle.raft_memtable.specs.MarkedTables.{AreStepsTaken}
 use Rattle.raft_memtable.specs.WaitingShown.{whole_shown}
-use Rattle.raft_memtable.proofs.GroupFiles.{whole_ok, whole_fault, whole_other}
+use Rattle.raft_memtable.proofs.GroupFiles.{whole_ok, whole_counts, whole_fault, whole_other}
 use Rattle.raft_memtable.proofs.TakenLemmas.{taken_more, taken_refused}
 use Rattle.raft_memtable.proofs.marked_tables.MarkedTables.take_group.Goals as goal
 
@@ -28,6 +28,9 @@ returns-clause-ok c = whole_ok (whole_shown c.args.whole) c.in_ok-regions.region
 
 pub returns-clause-fault : goal.returns-clause-fault
 returns-clause-fault c = whole_fault (whole_shown c.args.whole) c.in_ok-regions.regions.items c.args.self.now c.take_seqs.new.self c.take_seqs.result c.in_ok-regions.ensures (taken c)
+
+pub returns-clause-counts : goal.returns-clause-counts
+returns-clause-counts c = whole_counts (whole_shown c.args.whole) c.in_ok-regions.regions.items c.args.self.now c.take_seqs.new.self c.take_seqs.result c.in_ok-regions.ensures (taken c)
 
 pub returns-clause-other : goal.returns-clause-other
 returns-clause-other c = whole_other (whole_shown c.args.whole) c.in_ok-regions.regions.items c.args.self.now c.take_seqs.new.self c.take_seqs.result c.in_ok-regions.ensures (taken c) c.requires.steps

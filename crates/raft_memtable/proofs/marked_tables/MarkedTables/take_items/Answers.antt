@@ -14,5 +14,8 @@ taken c = subst (λ l. AreStepsTaken c.args.file.queue (steps_of_items l) c.take
 pub returns-clause-fault : goal.returns-clause-fault
 returns-clause-fault c = (taken c).fault
 
+pub returns-clause-counts : goal.returns-clause-counts
+returns-clause-counts c = (taken c).counts
+
 pub returns-clause-other : goal.returns-clause-other
 returns-clause-other c = other_in c.args.file.queue (steps_of_items c.args.items) c.args.self.now c.take_each.new.self c.take_each.result (items_in_queue c.args.file.queue c.args.file c.args.items refl c.requires) (taken c).ok

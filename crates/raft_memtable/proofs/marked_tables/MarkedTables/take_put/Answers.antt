@@ -17,5 +17,5 @@ pub returns : goal.returns
 returns c =
     let step = Put c.args.key.items c.args.value.items c.args.file in
     changed_taken c.args.queue c.args.id step c.args.self.now c.put.new.self c.mark.new.self (Ok tt) (Some (with_pair (table_in c.args.self.now.accessor.tables c.args.id) c.args.key.items c.args.value.items c.args.file)) refl
-    c.in_ok-put.ensures.changed.ok c.in_ok-put.ensures.changed.others c.put.ensures.changed.cleaned refl
+    c.in_ok-put.ensures.changed.ok c.in_ok-put.ensures.changed.others c.put.ensures.changed.cleaned c.in_ok-put.ensures.counts refl
     (fresh_marked c.args.queue c.args.id step (finite.get c.args.self.now.accessor.tables c.args.id) c.args.self.now.marks c.mark.new.self (Ok tt) refl c.in_ok-mark.ensures.ok) tt

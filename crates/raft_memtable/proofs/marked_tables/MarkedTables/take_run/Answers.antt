@@ -17,12 +17,12 @@ pub returns-in_ok-add_run-in-Some : goal.returns-in_ok-add_run-in-Some
 returns-in_ok-add_run-in-Some c =
     let own = finite.get c.args.self.now.accessor.tables c.args.id in
     changed_taken c.args.queue c.args.id (Run c.args.run.items) c.args.self.now c.replay_run.new.self c.add_run.new.self (Ok tt) (after_replay c.args.queue (table_in c.args.self.now.accessor.tables c.args.id) c.args.run.items) (run_step c.args.queue c.args.id own c.args.run.items)
-    c.in_ok-end.ensures.changed.ok c.in_ok-end.ensures.changed.others c.replay_run.ensures.changed.cleaned refl
+    c.in_ok-end.ensures.changed.ok c.in_ok-end.ensures.changed.others c.replay_run.ensures.changed.cleaned c.in_ok-end.ensures.counts refl
     (run_marked c.args.queue c.args.id c.args.run.items c.in-Some.start c.in_ok-end.end own c.args.self.now.marks c.add_run.new.self (Ok tt) (ap first_index (sym c.deref.ensures.value) ∙ sym c.in-Some.ensures) c.in_ok-end.ensures.end c.in_ok-add_run-in-Some.ensures.ok) tt
 
 pub returns-in_ok-mark-in-None : goal.returns-in_ok-mark-in-None
 returns-in_ok-mark-in-None c =
     let own = finite.get c.args.self.now.accessor.tables c.args.id in
     changed_taken c.args.queue c.args.id (Run c.args.run.items) c.args.self.now c.replay_run.new.self c.mark.new.self (Ok tt) (after_replay c.args.queue (table_in c.args.self.now.accessor.tables c.args.id) c.args.run.items) (run_step c.args.queue c.args.id own c.args.run.items)
-    c.in_ok-end.ensures.changed.ok c.in_ok-end.ensures.changed.others c.replay_run.ensures.changed.cleaned refl
+    c.in_ok-end.ensures.changed.ok c.in_ok-end.ensures.changed.others c.replay_run.ensures.changed.cleaned c.in_ok-end.ensures.counts refl
     (fresh_marked c.args.queue c.args.id (Run c.args.run.items) own c.args.self.now.marks c.mark.new.self (Ok tt) (no_run c.args.run.items (ap first_index (sym c.deref.ensures.value) ∙ sym c.in-None.ensures)) c.in_ok-mark-in-None.ensures.ok) tt

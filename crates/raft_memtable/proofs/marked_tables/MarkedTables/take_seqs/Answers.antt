@@ -20,7 +20,7 @@ loop-id-preserved c = λ r d t.
     c.loop-id.invariant r d (subst (λ l. AreStepsTaken Rewrite (on_each l step) r old d) (sym one)
     (file_more Rewrite c.args.first_seq c.args.last_seq id (drop (c.loop-id.id-index + 1) c.args.regions.now) old (record { accessor = c.apply_rewrite_atomic_group.new.self; marks = c.mark.new.self }) d r
     (changed_taken Rewrite id step old c.apply_rewrite_atomic_group.new.self c.mark.new.self (Ok tt) (Some (record (table_in old.accessor.tables id) { atomic_group = Some (c.args.first_seq, c.args.last_seq) })) refl
-    c.in_ok-apply_rewrite_atomic_group.ensures.changed.ok c.in_ok-apply_rewrite_atomic_group.ensures.changed.others c.apply_rewrite_atomic_group.ensures.changed.cleaned refl
+    c.in_ok-apply_rewrite_atomic_group.ensures.changed.ok c.in_ok-apply_rewrite_atomic_group.ensures.changed.others c.apply_rewrite_atomic_group.ensures.changed.cleaned c.apply_rewrite_atomic_group.ensures.counts refl
     (fresh_marked Rewrite id step (finite.get old.accessor.tables id) old.marks c.mark.new.self (Ok tt) refl c.in_ok-mark.ensures.ok) tt) t))
 
 pub returns : goal.returns

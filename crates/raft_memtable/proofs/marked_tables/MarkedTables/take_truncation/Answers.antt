@@ -8,4 +8,4 @@ use Rattle.raft_memtable.proofs.marked_tables.MarkedTables.take_truncation.Goals
 pub returns : goal.returns
 returns c =
     changed_taken c.args.queue c.args.id (Truncate c.args.index) c.args.self.now c.truncate.new.self c.add_truncation.new.self (Ok tt) (Some (record (table_in c.args.self.now.accessor.tables c.args.id) { entries = below c.args.index (table_in c.args.self.now.accessor.tables c.args.id).entries })) refl
-    c.in_ok-truncate.ensures.changed.ok c.in_ok-truncate.ensures.changed.others c.truncate.ensures.changed.cleaned refl (c.in_ok-add_truncation.ensures.ok c.args.queue _) tt
+    c.in_ok-truncate.ensures.changed.ok c.in_ok-truncate.ensures.changed.others c.truncate.ensures.changed.cleaned c.in_ok-truncate.ensures.counts refl (c.in_ok-add_truncation.ensures.ok c.args.queue _) tt

@@ -13,7 +13,8 @@ use Rattle.raft_accessor.specs.Accessor.{live_in_all}
 use Rattle.raft_memtable.specs.FileRanges.{ranges_shown}
 use Rattle.raft_memtable.specs.MarkedTables.{regions_in, IsStepsFault}
 use Rattle.raft_memtable.specs.ReadStates.{context_in, CanTakeEffectIfAny}
-use Rattle.raft_memtable.proofs.ReadStateLemmas.{some_range, found_some, read_more, group_taken, group_fault, group_takes}
+use Rattle.raft_memtable.specs.StepCounts.{AreCountsAfterSteps}
+use Rattle.raft_memtable.proofs.ReadStateLemmas.{some_range, found_some, read_more, group_taken, group_counted, group_fault, group_takes}
 use Rattle.raft_memtable.proofs.read_state.ReadState.take_group_batch.Goals as goal
 
 pub take_whole-requires : goal.take_whole-requires
@@ -29,6 +30,13 @@ returns-in_err-take_whole-clause-fault c =
     let p = err_from_is_err_and c.from_residual-in_err-take_whole.result c.from_residual-in_err-take_whole.ensures.1 in
     rw (p.1, p.2) (group_fault (context_in c.args.self.now) (event c.args.batch c.args.file) c.args.id c.args.status c.requires.history c.requires.next c.requires.with_marker _
     (subst (λ o. IsStepsFault Rewrite (regions_in c.args.self.now.regions) (region_steps_or o) c.in_err-take_whole.field-0.0) whole c.in_err-take_whole.ensures.fault))
+
+pub returns-clause-counts : goal.returns-clause-counts
+returns-clause-counts c =
+    let steps = c.of_items-items.ensures ∙ ap steps_of_items c.into_items.ensures in
+    let whole = c.in_ok-whole.ensures.whole ∙ ap (λ is. whole_group (known_of c.args.self.now.groups c.args.id) (one_marker c.args.status is c.args.file.seq)) steps in
+    group_counted (context_in c.args.self.now) (event c.args.batch c.args.file) c.args.id c.args.status _ _ c.requires.with_marker
+    (subst (λ o. AreCountsAfterSteps Rewrite c.args.self.now.regions.accessor.tables (region_steps_or o) c.args.self.now.regions.accessor.counts c.take_whole.new.regions.accessor.counts) whole c.in_ok-take_whole.ensures.counts)
 
 pub returns-clause-history : goal.returns-clause-history
 returns-clause-history c =

@@ -29,7 +29,7 @@ invariant_of-self-in_default c =
     let es = c.args.entry_indexes.items in
     let strings = map (λ e. e.items) c.args.entries.items in
     let counts = c.requires.counts ∙ sym (length-map c.args.entries.items (λ e. e.items)) in
-    let held = added_held (stage_of c.self.inside.state) c.self.inside.item_batch c.write_strings.new.item_batch c.args.region_id es strings c.self.inside.buf.items c.reserve_header.new.buf.items c.write_strings.new.buf.items open_stage c.self.invariant c.in_ok-reserve_header.ensures.ok c.reserve_header.ensures.same counts (rw c.as_slice.ensures.value at c.in_default.ensures.items) (rw c.as_slice.ensures.value at c.in_default.ensures.bytes) c.in_default.ensures.accepted in
+    let held = added_held (stage_of c.self.inside.state) c.self.inside.item_batch c.write_strings.new.item_batch c.args.region es strings c.self.inside.buf.items c.reserve_header.new.buf.items c.write_strings.new.buf.items open_stage c.self.invariant c.in_ok-reserve_header.ensures.ok c.reserve_header.ensures.same counts (rw c.as_slice.ensures.value at c.in_default.ensures.items) (rw c.as_slice.ensures.value at c.in_default.ensures.bytes) c.in_default.ensures.accepted in
     held.0
 
 pub returns-clause-ok : goal.returns-clause-ok
@@ -38,6 +38,6 @@ returns-clause-ok c =
     let es = c.args.entry_indexes.items in
     let strings = map (λ e. e.items) c.args.entries.items in
     let counts = c.requires.counts ∙ sym (length-map c.args.entries.items (λ e. e.items)) in
-    let held = added_held (stage_of c.self.inside.state) c.self.inside.item_batch c.write_strings.new.item_batch c.args.region_id es strings c.self.inside.buf.items c.reserve_header.new.buf.items c.write_strings.new.buf.items open_stage c.self.invariant c.in_ok-reserve_header.ensures.ok c.reserve_header.ensures.same counts (rw c.as_slice.ensures.value at c.in_default.ensures.items) (rw c.as_slice.ensures.value at c.in_default.ensures.bytes) c.in_default.ensures.accepted in
+    let held = added_held (stage_of c.self.inside.state) c.self.inside.item_batch c.write_strings.new.item_batch c.args.region es strings c.self.inside.buf.items c.reserve_header.new.buf.items c.write_strings.new.buf.items open_stage c.self.invariant c.in_ok-reserve_header.ensures.ok c.reserve_header.ensures.same counts (rw c.as_slice.ensures.value at c.in_default.ensures.items) (rw c.as_slice.ensures.value at c.in_default.ensures.bytes) c.in_default.ensures.accepted in
     let some : c.args.entry_indexes.items ≢ [] = search rules in
-    added_view c.args.self.now (stage_of c.self.inside.state) c.self.inside.item_batch c.write_strings.new.item_batch c.args.region_id es strings (entry_bytes_in c.self.inside.item_batch c.self.inside.buf.items) (entry_bytes_in c.write_strings.new.item_batch c.write_strings.new.buf.items) c.self.view_is c.self.invariant.whole some (rw c.as_slice.ensures.value at c.in_default.ensures.items) held.1
+    added_view c.args.self.now (stage_of c.self.inside.state) c.self.inside.item_batch c.write_strings.new.item_batch c.args.region es strings (entry_bytes_in c.self.inside.item_batch c.self.inside.buf.items) (entry_bytes_in c.write_strings.new.item_batch c.write_strings.new.buf.items) c.self.view_is c.self.invariant.whole some (rw c.as_slice.ensures.value at c.in_default.ensures.items) held.1

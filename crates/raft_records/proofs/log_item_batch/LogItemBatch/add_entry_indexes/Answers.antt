@@ -6,8 +6,8 @@ use Rattle.raft_records.proofs.LayLemmas.{laid_fits, end_of_laid}
 use Rattle.raft_records.proofs.log_item_batch.LogItemBatch.add_entry_indexes.Goals as goal
 
 -- the item that is added
-made : (c : goal.After-new_entry_indexes) → item_of c.new_entry_indexes.result ≡ entries_item c.args.region_id (with_offsets_from (entry_bytes_of c.args.self.now) c.args.entry_indexes.items)
-made c = c.new_entry_indexes.ensures ∙ ap (entries_item c.args.region_id) (c.set_offsets-end.ensures.offsets ∙ ap (λ s. with_offsets_from s c.args.entry_indexes.items) c.entries_size-start.ensures)
+made : (c : goal.After-new_entry_indexes) → item_of c.new_entry_indexes.result ≡ entries_item c.args.region (with_offsets_from (entry_bytes_of c.args.self.now) c.args.entry_indexes.items)
+made c = c.new_entry_indexes.ensures ∙ ap (entries_item c.args.region) (c.set_offsets-end.ensures.offsets ∙ ap (λ s. with_offsets_from s c.args.entry_indexes.items) c.entries_size-start.ensures)
 
 pub add-requires-clause-fits : goal.add-requires-clause-fits
 add-requires-clause-fits c =

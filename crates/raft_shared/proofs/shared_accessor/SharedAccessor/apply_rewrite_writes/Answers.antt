@@ -13,8 +13,8 @@ pub loop-item-preserved : goal.loop-item-preserved
 loop-item-preserved g c =
     let at = c.loop-item in
     let x = c.in-Some.item in
-    subst (AllByRecursion (MayBeWritten (Rewriting c.args.gate c.args.seq))) (sym (map-append item_of at.yielded (x ∷ [])))
-    (all_and_one (Rewriting c.args.gate c.args.seq) (map item_of at.yielded) (item_of x) at.invariant c.in_ok-rewrite_item.ensures.ok)
+    subst (AllByRecursion (MayBeWritten (Rewriting c.args.watermark c.args.new_file))) (sym (map-append item_of at.yielded (x ∷ [])))
+    (all_and_one (Rewriting c.args.watermark c.args.new_file) (map item_of at.yielded) (item_of x) at.invariant c.in_ok-rewrite_item.ensures.ok)
 
 pub returns-in_err-rewrite_item-clause-refused : goal.returns-in_err-rewrite_item-clause-refused
 returns-in_err-rewrite_item-clause-refused g c =

@@ -6,4 +6,4 @@ use Rattle.raft_accessor.specs.Writes.{Rewriting}
 use Rattle.raft_shared.proofs.shared_accessor.SharedAccessor.apply_rewrite_writes.Given as goal
 
 abbrev pub invariant-loop-item : goal.invariant-loop-item
-invariant-loop-item g l = AllByRecursion (MayBeWritten (Rewriting l.fn.gate l.fn.seq)) (map item_of l.yielded)
+invariant-loop-item g l = AllByRecursion (MayBeWritten (Rewriting l.fn.watermark l.fn.new_file)) (map item_of l.yielded)

@@ -16,4 +16,4 @@ pub invariant_of-self : goal.invariant_of-self
 invariant_of-self c = kept-with c.self.inside (after c) c.args.id c.self.invariant (c.requires.slot ∙ sym (ap (λ (s : SlotContent). s.number) c.self.view_is)) refl c.apply_rewrite_atomic_group.ensures.outcome.one c.apply_rewrite_atomic_group.ensures.outcome.recounted c.self.invariant.cleaned
 
 pub returns-clause-changed : goal.returns-clause-changed
-returns-clause-changed c = rw (← c.self.view_is) (slot-changed (Some (record (table_in c.self.inside.tables c.args.id) { atomic_group = Some (c.args.first_seq, c.args.last_seq) })) (λ e. ⊥) c.self.inside (after c) c.args.id c.apply_rewrite_atomic_group.result c.apply_rewrite_atomic_group.ensures.outcome refl)
+returns-clause-changed c = rw (← c.self.view_is) (slot-changed (Some (record (table_in c.self.inside.tables c.args.id) { atomic_group = Some (c.args.start, c.args.end) })) (λ e. ⊥) c.self.inside (after c) c.args.id c.apply_rewrite_atomic_group.result c.apply_rewrite_atomic_group.ensures.outcome refl)

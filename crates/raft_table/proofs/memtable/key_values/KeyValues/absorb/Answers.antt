@@ -1,11 +1,19 @@
 use Rattle.std.proofs.Common.{arith, sym, ap, ◌∙◌}
-use Rattle.raft_table.specs.KeyValues.{pairs_over, pair_count}
+use Rattle.raft_table.specs.KeyValues.{pairs_over, with_pairs, pair_count}
 use Rattle.raft_table.proofs.UnderLemmas.{whole_keys}
-use Rattle.raft_table.proofs.KeyValueReads.{pairs_over-empty, len-first}
+use Rattle.raft_table.proofs.KeyValueReads.{pairs_over-empty, len-first, pair_count-first, one_more_put}
 use Rattle.raft_table.proofs.memtable.key_values.KeyValues.absorb.Goals as goal
 
 pub loop-key-smaller : goal.loop-key-smaller
 loop-key-smaller c = len-first c.loop-key.rhs c.take_first.new.self _ c.in-Some.ensures.first
+
+pub loop-key-preserved : goal.loop-key-preserved
+loop-key-preserved c =
+    let first = c.in-Some.ensures.first in (
+      ap (pairs_over c.take_first.new.self) c.in_ok-insert.ensures.ok ∙ sym (ap (with_pairs c.loop-key.self) first) ∙ c.loop-key.invariant.0,
+      λ q. omega (arith, c.loop-key.invariant.1 q, c.in_ok-insert.ensures.counts q, pair_count-first q c.loop-key.rhs c.take_first.new.self _ _ first),
+      one_more_put _ _ c.loop-key.self c.loop-key.rhs c.insert.new.self c.take_first.new.self _ c.loop-key.invariant.2 first c.in_ok-insert.ensures.ok,
+    )
 
 pub returns-clause-ok : goal.returns-clause-ok
 returns-clause-ok c = sym (pairs_over-empty c.loop-key.rhs c.loop-key.self c.in_default.ensures.none) ∙ c.loop-key.invariant.0

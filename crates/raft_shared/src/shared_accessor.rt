@@ -1,6 +1,7 @@
 //! The tables of all regions, shared by threads.
 
-ghost use Rattle.std.specs.Prelude.{◌≡◌, ◌⊎◌, ◌≤◌, ◌<◌, List, [], map, Some, IsTrue, OnOk, IfOk, IfErr, IfSome};
+ghost use Rattle.std.specs.Prelude.{◌≡◌, ◌⊎◌, ◌≤◌, ◌<◌, List, [], ◌++◌, map, Some, IsTrue, OnOk, IfOk, IfErr, IfSome};
+ghost use Rattle.std.specs.FinMap as finite;
 ghost use Rattle.std.specs.List.{AllByRecursion, FoldsTo};
 ghost use Rattle.std.specs.Fn.{FnOnceReturnsAt};
 ghost use Rattle.std.specs.Iterator.{Drains, Yields, IsFinite};
@@ -9,7 +10,7 @@ ghost use Rattle.raft_records.specs.Item.{item_of};
 ghost use Rattle.raft_records.specs.LogBatch.{populating};
 ghost use Rattle.raft_table.specs.declared.memtable.change.TableChange.{TableChange};
 ghost use Rattle.raft_table.specs.Table.{Table};
-ghost use Rattle.raft_accessor.specs.Accessor.{slot_of, table_in};
+ghost use Rattle.raft_accessor.specs.Accessor.{slot_of, table_in, AreCountsOf};
 ghost use Rattle.raft_shared.specs.Slot.{IsSlotTable};
 ghost use Rattle.raft_accessor.specs.Walks.{KeepsId, Makes};
 ghost use Rattle.raft_shared.specs.SharedCalls.{IsChangeAnswer, IsChangeRefusal, IsLockFault, IsNumberOf, IsRefusalOf, HasCleans, MayBeWritten, IsSharedItemFault, IsLastRefused};
@@ -68,6 +69,26 @@ impl SharedAccessor {
             }
         }
         Ok(shared)
+    }
+
+    /// Returns the tables, the counts and the cleaned regions in one accessor, as [`SharedAccessor::from_core`]
+    /// had them. The cleaned regions are in order within each slot.
+    ///
+    /// # Errors
+    ///
+    /// `Memory`, and `Full` where more than 2^64 - 1 records of all slots together are live in a queue; `Failed`
+    /// where a slot has another number, which never happens. The tables are then gone.
+    pub fn into_core(self) -> Result<MemTableAccessor>
+        ensures exact_counts { IfOk result (λ core. AreCountsOf core.tables core.counts) }
+        ensures fault { IfErr result (λ e. IsLockFault e ⊎ (e ≡ Error.Full)) }
+    {
+        let mut shared = self;
+        let mut core = MemTableAccessor::new(shared.alloc)?;
+        for slot in &mut shared.slots {
+            move_slot(slot.get_mut(), shared.alloc, &mut core)?;
+        }
+        core.counts_are_exact();
+        Ok(core)
     }
 
     /// What `f` answers at the region's table, which it sees under the lock for reading; `None` where
@@ -422,6 +443,52 @@ impl SharedAccessor {
         }
         slot.apply_rewrite_write(item, gate, seq)
     }
+}
+
+/// Moves the tables of a slot, and the regions of it that were cleaned, behind those of an accessor.
+///
+/// # Errors
+///
+/// Those of [`SharedAccessor::into_core`].
+fn move_slot(slot: &mut Slot, alloc: Global, core: &mut MemTableAccessor) -> Result<()>
+    ensures cleaned { OnOk result
+        (core.new.cleaned ≡ core.old.cleaned ++ slot.old.content.cleaned) }
+    ensures fault { IfErr result (λ e. IsLockFault e ⊎ (e ≡ Error.Full)) }
+{
+    list_cleaned(slot.cleaned_regions(), core)?;
+    let mut ids = Vec::new(alloc);
+    slot.push_ids(&mut |_: &MemTable| -> bool { true }, &mut ids)?;
+    for id in &ids {
+        move_table(slot, *id, core)?;
+    }
+    Ok(())
+}
+
+/// Lists regions as cleaned that have no tables yet.
+fn list_cleaned(ids: &[u64], core: &mut MemTableAccessor) -> Result<()>
+    ensures ok { OnOk result (core.new.cleaned ≡ core.old.cleaned ++ ids.now) }
+    ensures memory { IfErr result (λ e. e ≡ Error.Memory) }
+{
+    for id in ids {
+        core.remove(*id, true)?;
+    }
+    Ok(())
+}
+
+/// Moves a table of a slot, if there is one, to an accessor.
+fn move_table(slot: &mut Slot, id: u64, core: &mut MemTableAccessor) -> Result<()>
+    ensures tables { OnOk result ((t : Table) → finite.get slot.old.content.tables id ≡ Some t
+        → core.new.tables ≡ finite.insert core.old.tables id t) }
+    ensures cleaned { core.new.cleaned ≡ core.old.cleaned }
+    ensures fault { IfErr result (λ e. IsLockFault e ⊎ (e ≡ Error.Full)) }
+{
+    if slot.number() != slot_of(id) {
+        return Err(Error::Failed);
+    }
+    if let Some(table) = slot.remove(id, false)? {
+        core.insert(id, table)?;
+    }
+    Ok(())
 }
 
 /// What `f` answers at a region's table, if there is one.

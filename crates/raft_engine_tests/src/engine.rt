@@ -4,9 +4,11 @@ ghost use Rattle.std.specs.Prelude.{◌≡◌};
 ghost use Rattle.raft_records.specs.LogBatch.{populating};
 
 use crate::batches::{Part, REGION, batch_of};
-use raft_base::{FileBlockHandle, FileId, FileSeq, LogFileContext, LogQueue, Version};
+use raft_base::{EntryIndex, FileBlockHandle, FileId, FileSeq, LogFileContext, LogQueue, Version};
 use raft_memtable::{MemTable, MemTableAccessor, MemTableRecoverContext};
-use raft_records::{FilePart, LogBatch, Result};
+use raft_records::{
+    Error, FilePart, LogBatch, Result, entries_block_in, entry_bytes, readable_front,
+};
 use raft_recover::replay_segment;
 use std::alloc::Global;
 
@@ -71,7 +73,8 @@ impl Engine {
                 self.tables.apply_rewrite_writes(batch.drain(), None, seq)
             }
             Step::ApplyGroup(first, last) => {
-                self.tables.apply_rewrite_atomic_group(REGION, first.min(last), last)
+                self.tables
+                    .apply_rewrite_atomic_group(REGION, first.min(last), last)
             }
             Step::Purge(queue, last) => {
                 self.purge(queue, last);
@@ -122,6 +125,51 @@ impl Engine {
         });
     }
 
+    /// Writes a batch to an append file and to the tables, if they would take it.
+    pub fn write_tested(&mut self, seq: FileSeq, parts: &'static [Part]) -> Result<()> {
+        let batch = batch_of(self.alloc, parts)?;
+        self.tables.check_append_writes(batch.items())?;
+        self.take(&Step::Append(seq, parts))
+    }
+
+    /// Takes the last byte of the last file away.
+    pub fn tear(&mut self) {
+        if let Some(file) = self.files.last_mut() {
+            let _ = file.bytes.pop();
+        }
+    }
+
+    /// Changes the first entry byte of the last file, which is behind the header of its first batch.
+    pub fn flip(&mut self) {
+        if let Some(file) = self.files.last_mut() {
+            if let Some(byte) = file.bytes.get_mut(16) {
+                *byte ^= 1;
+            }
+        }
+    }
+
+    /// Cuts the last file where its readable batches end.
+    pub fn cut_tail(&mut self) -> Result<()> {
+        if let Some(file) = self.files.last_mut() {
+            let (end, _) = readable_front(&part_of(file)?);
+            file.bytes.truncate(end);
+        }
+        Ok(())
+    }
+
+    /// Reads the first entry of the table out of its file.
+    pub fn first_entry(&self) -> Result<Vec<u8>> {
+        let (Some(table), Some(file)) = (self.tables.get(REGION), self.files.last()) else {
+            return Err(Error::EntryNotFound);
+        };
+        let mut entries: Vec<EntryIndex> = Vec::new(self.alloc);
+        table.fetch_entries_to(1, 2, None, &mut entries)?;
+        let entry = entries.first().ok_or(Error::EntryNotFound)?;
+        let part = part_of(file)?;
+        let block = entries_block_in(&part, entry.entries.ok_or(Error::EntryNotFound)?)?;
+        Ok(Vec::from_slice(self.alloc, entry_bytes(self.alloc, block, entry)?)?)
+    }
+
     /// What the tables hold.
     pub fn kept(&self) -> Result<String> {
         text_of(self.alloc, self.tables.get(REGION))
@@ -138,13 +186,18 @@ impl Engine {
         let mut segment = Vec::new(self.alloc);
         for file in &self.files {
             if file.id.queue == queue {
-                segment.push(FilePart::new(file.id, Version::V2, 0, file.bytes.clone()?)?)?;
+                segment.push(part_of(file)?)?;
             }
         }
         let mut context = MemTableRecoverContext::new(self.alloc)?;
         replay_segment(&mut context, &segment)?;
         Ok(context)
     }
+}
+
+/// The bytes of a file.
+fn part_of(file: &LogFile) -> Result<FilePart> {
+    FilePart::new(file.id, Version::V2, 0, file.bytes.clone()?)
 }
 
 /// The entries of a table as `[first,end)`, and the value of `k` as `k=value`.

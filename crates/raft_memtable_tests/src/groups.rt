@@ -21,7 +21,7 @@ fn file(seq: u64) -> FileId {
 }
 
 /// Adds the group marker of a group with this status.
-fn add_marker(
+pub(crate) fn add_marker(
     alloc: Global,
     group: u64,
     status: AtomicGroupStatus,

@@ -8,6 +8,8 @@ mod files;
 #[cfg(test)]
 mod groups;
 #[cfg(test)]
+mod large;
+#[cfg(test)]
 mod markers;
 #[cfg(test)]
 mod overlays;

@@ -6,8 +6,11 @@ ghost use Rattle.raft_records.specs.LogBatch.{populating};
 mod refused;
 
 use crate::files::{file_of, replay_file};
+use crate::groups::part_of;
 use raft_memtable::{Error, FileId, LogQueue, MemTableAccessor, MemTableRecoverContext, Result};
-use raft_records::{Command, FilePart, LogBatch, Message, MessageError, MessageExt};
+use raft_records::{
+    AtomicGroupStatus, Command, FilePart, LogBatch, Message, MessageError, MessageExt,
+};
 use std::alloc::Global;
 
 /// An entry of one byte.
@@ -113,8 +116,18 @@ pub(crate) fn read(
     queue: LogQueue,
     words: &[Word],
 ) -> Result<MemTableRecoverContext> {
+    read_region(alloc, queue, 1, words)
+}
+
+/// A context of these words on a region.
+fn read_region(
+    alloc: Global,
+    queue: LogQueue,
+    region: u64,
+    words: &[Word],
+) -> Result<MemTableRecoverContext> {
     let mut context = MemTableRecoverContext::new(alloc)?;
-    replay(alloc, &mut context, queue, 1, words)?;
+    replay(alloc, &mut context, queue, region, words)?;
     Ok(context)
 }
 
@@ -130,6 +143,8 @@ struct Shape {
     append: usize,
     rewrite: usize,
     cleaned: usize,
+    /// Whether the other regions are as the rewrite queue leaves them.
+    beside: bool,
 }
 
 /// No table and no record.
@@ -141,6 +156,7 @@ const NONE: Shape = Shape {
     append: 0,
     rewrite: 0,
     cleaned: 0,
+    beside: true,
 };
 
 /// What both queues say of region 1, and what it has.
@@ -345,7 +361,18 @@ static ROWS: [Row; 18] = [
     },
 ];
 
-/// What region 1 has.
+/// What the rewrite queue alone says of region 2.
+const BESIDE: Word = Run(3, 6);
+
+/// Whether region 2 has its entries, and region 3 no table, whose group doesn't end.
+fn are_beside(accessor: &MemTableAccessor) -> bool {
+    let table = accessor.get(2);
+    let first = table.and_then(|table| table.first_index());
+    let last = table.and_then(|table| table.last_index());
+    (first, last) == (Some(3), Some(5)) && accessor.get(3).is_none()
+}
+
+/// What region 1 has. The three entries of region 2 aren't counted.
 fn shape_of(accessor: &MemTableAccessor) -> Shape {
     let table = accessor.get(1);
     Shape {
@@ -354,13 +381,26 @@ fn shape_of(accessor: &MemTableAccessor) -> Shape {
         last: table.and_then(|table| table.last_index()),
         key: table.is_some_and(|table| table.get(b"k").is_some()),
         append: accessor.stats().live_entries(LogQueue::Append),
-        rewrite: accessor.stats().live_entries(LogQueue::Rewrite),
+        rewrite: accessor
+            .stats()
+            .live_entries(LogQueue::Rewrite)
+            .wrapping_sub(3),
         cleaned: accessor.cleaned_regions().len(),
+        beside: are_beside(accessor),
     }
 }
 
 fn rows() -> &'static [Row] {
     &ROWS
+}
+
+/// A context of the rewrite queue: region 2, a group of region 3 that waits, and these words on region 1.
+fn rewritten_beside(alloc: Global, words: &[Word]) -> Result<MemTableRecoverContext> {
+    let mut context = read_region(alloc, LogQueue::Rewrite, 2, &[BESIDE])?;
+    let begun = part_of(alloc, 9, 3, AtomicGroupStatus::Begin, b"k1", 1)?;
+    replay_file(&mut context, &begun)?;
+    replay(alloc, &mut context, LogQueue::Rewrite, 1, words)?;
+    Ok(context)
 }
 
 /// The context of words of the rewrite queue that took in that of words of the append queue.
@@ -369,7 +409,7 @@ fn overlaid(
     rewritten: &[Word],
     appended: &[Word],
 ) -> Result<MemTableRecoverContext> {
-    let mut context = read(alloc, LogQueue::Rewrite, rewritten)?;
+    let mut context = rewritten_beside(alloc, rewritten)?;
     context.merge_append_context(read(alloc, LogQueue::Append, appended)?)?;
     Ok(context)
 }

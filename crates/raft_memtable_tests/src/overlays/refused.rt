@@ -97,10 +97,10 @@ fn overlaid_twice(alloc: Global) -> Result<bool> {
     )
 }
 
-/// Whether a context holds ten entries and a key.
+/// Whether a context holds ten entries, those of the region beside and a key, and no item of the group that waited.
 fn has_kept(context: &MemTableRecoverContext) -> Result<bool> {
     let stays = Kept {
-        entries: 10,
+        entries: 13,
         keys: 1,
         marks: 0,
         deleted_keys: 0,

@@ -10,6 +10,8 @@ mod counts;
 #[cfg(test)]
 mod key_values;
 #[cfg(test)]
+mod large;
+#[cfg(test)]
 mod lists;
 #[cfg(test)]
 mod queries;

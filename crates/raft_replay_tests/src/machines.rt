@@ -11,11 +11,11 @@ use lists::{List, Lists};
 use raft_base::{Error, Factory, FileId, LogQueue, Result, Version};
 use raft_records::FilePart;
 use raft_recover::{
-    OpenGate, Plan, Segment, Tickets, merge_pieces, piece_count, replay_scheduled, replay_segment,
+    Gate, Plan, Segment, Tickets, merge_pieces, piece_count, replay_scheduled, replay_segment,
     replay_segments,
 };
 use std::alloc::Global;
-use std::sync::atomic::Ordering;
+use std::sync::atomic::{AtomicU64, Ordering};
 use std::thread::Threads;
 use std::time::Clock;
 
@@ -245,19 +245,47 @@ fn schedules_give_one_reading(rt: HostRuntime) {
     assert!(rt; matches!(all, Ok(true)));
 }
 
-/// Twenty segments read by so many workers.
+/// Writes down which segments it was told, and how many.
+#[derive(Drop)]
+struct ToldGate {
+    /// The bits of the segments below 64, and of those above.
+    low: AtomicU64,
+    high: AtomicU64,
+    count: AtomicU64,
+}
+
+impl Gate for ToldGate {
+    fn pass(&self, segment: usize) {
+        let bit = 1u64 << (segment % 64);
+        match segment / 64 {
+            0 => self.low.fetch_or(bit, Ordering::SeqCst),
+            1 => self.high.fetch_or(bit, Ordering::SeqCst),
+            _ => 0,
+        };
+        self.count.fetch_add(1, Ordering::SeqCst);
+    }
+}
+
+impl ToldGate {
+    /// Whether it was told the segments from 0 to 99, each once.
+    fn was_told_hundred(&self) -> bool {
+        self.low.load(Ordering::SeqCst) == u64::MAX
+            && self.high.load(Ordering::SeqCst) == (1 << 36) - 1
+            && self.count.load(Ordering::SeqCst) == 100
+    }
+}
+
+/// Whether a hundred segments are read by so many workers, who tell the gate each of them once.
 fn by_workers<R: Threads + Sync>(rt: &R, alloc: Global, workers: usize) -> Result<bool> {
-    let twenty = segments(alloc, 20)?;
-    let list = replay_segments(
-        rt,
-        alloc,
-        &Lists,
-        twenty.as_slice(),
-        LogQueue::Append,
-        workers,
-        &OpenGate,
-    )?;
-    Ok(has_all(&list, 20))
+    let hundred = segments(alloc, 100)?;
+    let gate = ToldGate {
+        low: AtomicU64::new(0),
+        high: AtomicU64::new(0),
+        count: AtomicU64::new(0),
+    };
+    let queue = LogQueue::Append;
+    let list = replay_segments(rt, alloc, &Lists, hundred.as_slice(), queue, workers, &gate)?;
+    Ok(has_all(&list, 100) && gate.was_told_hundred())
 }
 
 #[test]

@@ -34,20 +34,21 @@ fn bytes_of(alloc: Global, batches: usize, behind: usize) -> Result<Vec<u8>> {
     Ok(bytes)
 }
 
-/// Whether a part from 100 on is cut so, each of its parts at the offset behind the one before.
+/// Whether a part of a version from 100 on is cut so, each of its parts at the offset behind the one before.
 fn is_cut(
     alloc: Global,
+    version: Version,
     batches: usize,
     behind: usize,
     count: usize,
     lengths: &[usize],
 ) -> Result<bool> {
     let bytes = bytes_of(alloc, batches, behind)?;
-    let part = FilePart::new(FileId::new(LogQueue::Append, 1), Version::V1, 100, bytes)?;
+    let part = FilePart::new(FileId::new(LogQueue::Append, 1), version, 100, bytes)?;
     let parts = cut_part(alloc, part, count)?;
     let mut offset = 100u64;
     for (part, length) in parts.iter().zip(lengths) {
-        if part.offset() != offset || part.bytes().len() != *length {
+        if part.version() != version || part.offset() != offset || part.bytes().len() != *length {
             return Ok(false);
         }
         offset = offset.wrapping_add(*length as u64);
@@ -57,11 +58,13 @@ fn is_cut(
 
 #[test]
 fn parts_are_cut_between_batches(rt: HostRuntime) {
-    for (batches, behind, count, lengths) in cuts() {
-        let mut cut = is_cut(rt.alloc(), *batches, *behind, *count, *lengths);
-        if matches!(cut, Err(Error::Memory)) {
-            cut = is_cut(rt.alloc(), *batches, *behind, *count, *lengths);
+    for &version in &[Version::V1, Version::V2] {
+        for (batches, behind, count, lengths) in cuts() {
+            let mut cut = is_cut(rt.alloc(), version, *batches, *behind, *count, *lengths);
+            if matches!(cut, Err(Error::Memory)) {
+                cut = is_cut(rt.alloc(), version, *batches, *behind, *count, *lengths);
+            }
+            assert!(rt; matches!(cut, Ok(true)), "{batches} {behind} {count}");
         }
-        assert!(rt; matches!(cut, Ok(true)), "{batches} {behind} {count}");
     }
 }

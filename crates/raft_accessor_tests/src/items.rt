@@ -199,31 +199,32 @@ fn appended(alloc: Global, region: u64) -> Result<MemTableAccessor> {
     Ok(accessor)
 }
 
-fn clean_regions(alloc: Global, accessor: &mut MemTableAccessor) -> Result<()> {
+/// An item that cleans a region, for each of three.
+fn cleans(alloc: Global) -> Result<Vec<LogItem>> {
     let mut items = Vec::new(alloc);
     for &region in &[3, 5, 3] {
         items.push(LogItem::new_command(region, Command::Clean))?;
     }
-    accessor.replay_append_writes(items)
+    Ok(items)
 }
 
-/// The cleaned regions that are handed out.
-fn taken(alloc: Global, accessor: &mut MemTableAccessor) -> Result<Vec<u64>> {
+/// The items that are handed out for cleaned regions.
+fn taken(alloc: Global, accessor: &mut MemTableAccessor) -> Result<Vec<LogItem>> {
     let mut logs = accessor.take_cleaned_region_logs()?;
-    let mut regions = Vec::new(alloc);
+    let mut items = Vec::new(alloc);
     for item in logs.drain() {
-        regions.push(item.raft_group_id)?;
+        items.push(item)?;
     }
-    Ok(regions)
+    Ok(items)
 }
 
 /// Cleaned regions are listed as often as they are cleaned, in order, and handed out once.
 fn clean(alloc: Global) -> Result<bool> {
     let mut accessor = appended(alloc, 5)?;
-    clean_regions(alloc, &mut accessor)?;
+    accessor.replay_append_writes(cleans(alloc)?)?;
     Ok(
         accessor.cleaned_regions() == [3, 5, 3].as_slice()
-            && taken(alloc, &mut accessor)?.as_slice() == [3, 5, 3].as_slice()
+            && taken(alloc, &mut accessor)?.as_slice() == cleans(alloc)?.as_slice()
             && taken(alloc, &mut accessor)?.is_empty()
             && accessor.is_empty()
             && live(&accessor) == (0, 0),

@@ -31,6 +31,15 @@ enum Status {
 const USAGE: &str = "\
 usage: raftlog batch <queue> <seq> <version>
        raftlog recover <queue> <version> <workers> <seq>=<path>..
+
+batch prints the items of an item batch, which it reads from standard input
+recover prints the tables that log files give
+
+<queue>    append or rewrite: to which of the two the files belong
+<seq>      the number of a file; files are given by rising numbers
+<version>  1 or 2: the format version of the files
+<workers>  1 to 256: how many threads read the files at most
+<path>     where a file is
 ";
 
 /// Does what the words of a command line ask for, and answers the status to end with: 0 where it is

@@ -3,8 +3,11 @@
 use raft_memtable::{
     EntryIndex, Error, FileBlockHandle, FileId, LogQueue, MemTableAccessor, Result, TableChange,
 };
+use raft_recover::print_recovered;
 use raft_recover::recovered::recovered_text;
 use std::alloc::Global;
+use std::io;
+use std::io::{ErrorKind, Write};
 use std::process::Abort;
 
 const LINES: &str = "\
@@ -71,4 +74,82 @@ fn tables_stand_by_region(rt: HostRuntime) -> Result<()> {
         Err(Error::Memory) => print_tables(&rt, rt.alloc()),
         printed => printed,
     }
+}
+
+/// A writer that is interrupted before each write, takes a few bytes at a time, and fails behind so many writes.
+#[derive(Drop)]
+struct Halting {
+    written: Vec<u8>,
+    writes: usize,
+    fails_behind: usize,
+    is_interrupted: bool,
+}
+
+impl Write for Halting {
+    fn write(&mut self, buf: &[u8]) -> io::Result<usize> {
+        self.is_interrupted = !self.is_interrupted;
+        if self.is_interrupted {
+            return Err(io::Error::from(ErrorKind::Interrupted));
+        }
+        if self.writes == self.fails_behind {
+            return Err(io::Error::from(ErrorKind::BrokenPipe));
+        }
+        let (taken, _) = buf.split_at(buf.len().min(7));
+        self.written.extend_from_slice(taken)?;
+        self.writes = self.writes.saturating_add(1);
+        Ok(taken.len())
+    }
+
+    fn flush(&mut self) -> io::Result<()> {
+        Ok(())
+    }
+}
+
+/// What is written of the lines, by how many writes, and whether the writer's failure behind so many is handed on.
+fn printed(
+    alloc: Global,
+    accessor: &MemTableAccessor,
+    fails_behind: usize,
+) -> Result<(Halting, bool)> {
+    let mut writer = Halting {
+        written: Vec::with_capacity(alloc, LINES.len())?,
+        writes: 0,
+        fails_behind,
+        is_interrupted: false,
+    };
+    match print_recovered(alloc, accessor, &mut writer) {
+        Ok(()) => Ok((writer, false)),
+        Err(Error::Io(error)) => Ok((writer, error.kind() == ErrorKind::BrokenPipe)),
+        Err(error) => Err(error),
+    }
+}
+
+/// Whether the lines are written by so many writes, and where one of them fails those before it have a front of them.
+fn is_handed_on(alloc: Global, accessor: &MemTableAccessor) -> Result<bool> {
+    let count = LINES.len().div_ceil(7);
+    for fails_behind in 0..=count {
+        let (writer, is_refused) = printed(alloc, accessor, fails_behind)?;
+        let front = LINES.as_bytes().get(..writer.written.len());
+        if is_refused != (fails_behind < count)
+            || writer.writes != fails_behind
+            || front != Some(writer.written.as_slice())
+            || (writer.written.len() == LINES.len()) != (fails_behind == count)
+        {
+            return Ok(false);
+        }
+    }
+    Ok(true)
+}
+
+fn fail_writers(alloc: Global) -> Result<bool> {
+    is_handed_on(alloc, &tables(alloc)?)
+}
+
+#[test]
+fn each_failing_write_is_handed_on(rt: HostRuntime) {
+    let mut all = fail_writers(rt.alloc());
+    if matches!(all, Err(Error::Memory)) {
+        all = fail_writers(rt.alloc());
+    }
+    assert!(rt; matches!(all, Ok(true)));
 }

@@ -1,25 +1,28 @@
 //! Whole recoveries: files in, lines out, on any number of workers and however the files are cut.
 
+mod batches;
 mod bound;
 mod histories;
 mod kept;
+mod owed;
 mod rows;
 mod schedules;
 mod shared;
 mod truncations;
 
-use histories::{APPENDED, APPENDED_LINES, HOLE, REWRITTEN, REWRITTEN_LINES};
+use histories::{APPENDED, HOLE, History, TRUNCATED_OWED, TRUNCATION, histories};
+use owed::Owed;
 use raft_base::{Error, FileId, FileSeq, LogQueue, Result, Version};
-use raft_memtable::{MemTableAccessor, MemTableRecoverContext};
+use raft_memtable::MemTableRecoverContext;
 use raft_records::{FilePart, LogItemBatch};
-use raft_recover::recovered::recovered_text;
+use raft_recover::files::file_segments;
 use raft_recover::recovery::recover_segments;
 use raft_recover::shares::equal_shares;
 use raft_recover::{Segment, recover, recover_bytes};
 use rows::{Row, rows};
 use std::alloc::Global;
 use std::thread::Threads;
-use truncations::{TRUNCATED_LINES, TRUNCATION, truncations};
+use truncations::truncations;
 
 /// The bytes that digits in base 16 spell.
 fn bytes_of(alloc: Global, digits: &str) -> Result<Vec<u8>> {
@@ -34,8 +37,35 @@ fn files_of(alloc: Global, row: &Row) -> Result<Vec<(FileSeq, Vec<u8>)>> {
     Ok(files)
 }
 
-/// Whether the files of a row have its lines.
+/// Whether the files of a row, a segment each, have what it owes, read by so many workers.
 fn holds<R: Threads + Sync>(rt: &R, alloc: Global, row: &Row, workers: usize) -> Result<bool> {
+    let segments = file_segments(row.queue, row.version, files_of(alloc, row)?)?;
+    have(
+        rt,
+        alloc,
+        row.queue,
+        segments.as_slice(),
+        workers,
+        row.owed(),
+    )
+}
+
+/// Where an allocation is refused the row runs again, and has to find memory.
+#[test]
+fn files_have_their_tables(rt: HostRuntime) {
+    for row in rows() {
+        for &workers in &[1, 2, 256] {
+            let mut held = holds(&rt, rt.alloc(), row, workers);
+            if matches!(held, Err(Error::Memory)) {
+                held = holds(&rt, rt.alloc(), row, workers);
+            }
+            assert!(rt; matches!(held, Ok(true)));
+        }
+    }
+}
+
+/// Whether the lines of a row are printed of its files. Files as small as these are one share, which one worker reads.
+fn prints<R: Threads + Sync>(rt: &R, alloc: Global, row: &Row, workers: usize) -> Result<bool> {
     let files = files_of(alloc, row)?;
     let mut out = Vec::with_capacity(alloc, 512)?;
     let done = recover_bytes(rt, alloc, row.queue, row.version, workers, files, &mut out);
@@ -53,20 +83,31 @@ fn holds<R: Threads + Sync>(rt: &R, alloc: Global, row: &Row, workers: usize) ->
 #[test]
 fn files_have_their_lines(rt: HostRuntime) {
     for row in rows() {
-        for &workers in &[1, 2, 4, 8, 256] {
-            let mut held = holds(&rt, rt.alloc(), row, workers);
+        for &workers in &[1, 256] {
+            let mut held = prints(&rt, rt.alloc(), row, workers);
             if matches!(held, Err(Error::Memory)) {
-                held = holds(&rt, rt.alloc(), row, workers);
+                held = prints(&rt, rt.alloc(), row, workers);
             }
             assert!(rt; matches!(held, Ok(true)));
         }
     }
 }
 
-/// A history as segments of one batch a part, cut behind the batches whose bits are set.
+/// A history of version 1 as segments of one batch a part, cut behind the batches whose bits are set.
 fn cut(
     alloc: Global,
     queue: LogQueue,
+    batches: &[(FileSeq, &str)],
+    cuts: u64,
+) -> Result<Vec<Segment>> {
+    cut_in(alloc, queue, Version::V1, batches, cuts)
+}
+
+/// The same of files of a version.
+fn cut_in(
+    alloc: Global,
+    queue: LogQueue,
+    version: Version,
     batches: &[(FileSeq, &str)],
     cuts: u64,
 ) -> Result<Vec<Segment>> {
@@ -76,7 +117,8 @@ fn cut(
         if *seq != file {
             (file, offset) = (*seq, 0);
         }
-        let part = part_of(alloc, FileId::new(queue, file), offset, digits)?;
+        let bytes = signed(alloc, version, file, digits)?;
+        let part = FilePart::new(FileId::new(queue, file), version, offset, bytes)?;
         offset = offset.saturating_add(part.bytes().len() as u64);
         push_part(alloc, &mut segments, part, left % 2 == 1)?;
         left /= 2;
@@ -84,9 +126,17 @@ fn cut(
     Ok(segments)
 }
 
-/// The part of a file that digits in base 16 spell.
-fn part_of(alloc: Global, file: FileId, offset: u64, digits: &str) -> Result<FilePart> {
-    FilePart::new(file, Version::V1, offset, bytes_of(alloc, digits)?)
+/// The bytes of a batch in a file of a version, whose number is below 256: digits in base 16 spell it in version 1, and
+/// in version 2 the number is in its checksum.
+fn signed(alloc: Global, version: Version, seq: FileSeq, digits: &str) -> Result<Vec<u8>> {
+    let mut bytes = bytes_of(alloc, digits)?;
+    let checksum = bytes.len().saturating_sub(4);
+    if version == Version::V2
+        && let Some(byte) = bytes.get_mut(checksum)
+    {
+        *byte ^= (seq % 256) as u8;
+    }
+    Ok(bytes)
 }
 
 /// Puts a part into the last segment, and where it is cut behind that begins another.
@@ -114,79 +164,132 @@ fn cuttings(batches: usize) -> u64 {
     cuttings
 }
 
-/// Whether a history has these lines at each cutting, on one to four workers; where there are none, whether it
-/// is refused.
+/// In which versions a history is read, and by how many workers.
+const READINGS: [(Version, usize); 5] = [
+    (Version::V1, 1),
+    (Version::V1, 2),
+    (Version::V1, 3),
+    (Version::V1, 4),
+    (Version::V2, 256),
+];
+
+/// Whether a history has what is owed at each cutting; where nothing is owed, whether it is refused.
 fn at_each_cutting<R: Threads + Sync>(
     rt: &R,
     alloc: Global,
     queue: LogQueue,
     batches: &[(FileSeq, &str)],
-    lines: Option<&str>,
+    owed: Option<Owed>,
 ) -> Result<bool> {
     for cuts in 0..cuttings(batches.len()) {
-        let segments = cut(alloc, queue, batches, cuts)?;
-        if !by_workers(rt, alloc, queue, segments.as_slice(), lines)? {
-            return Ok(false);
+        for &(version, workers) in &READINGS {
+            let segments = cut_in(alloc, queue, version, batches, cuts)?;
+            if !both_have(rt, alloc, queue, segments.as_slice(), workers, owed)? {
+                return Ok(false);
+            }
         }
     }
     Ok(true)
 }
 
-/// Whether segments have these lines, or are refused, on one to four workers: read as they are, and as equal shares.
-fn by_workers<R: Threads + Sync>(
-    rt: &R,
-    alloc: Global,
-    queue: LogQueue,
-    segments: &[Segment],
-    lines: Option<&str>,
-) -> Result<bool> {
-    for workers in 1..5 {
-        let shares = equal_shares(alloc, segments, workers, 1)?;
-        if !have_lines(rt, alloc, queue, segments, workers, lines)?
-            || !have_lines(rt, alloc, queue, shares.as_slice(), workers, lines)?
-        {
-            return Ok(false);
-        }
-    }
-    Ok(true)
-}
-
-/// Whether segments have these lines, or are refused, on so many workers.
-fn have_lines<R: Threads + Sync>(
+/// Whether segments have what is owed, or are refused, on so many workers: read as they are, and as equal shares.
+fn both_have<R: Threads + Sync>(
     rt: &R,
     alloc: Global,
     queue: LogQueue,
     segments: &[Segment],
     workers: usize,
-    lines: Option<&str>,
+    owed: Option<Owed>,
 ) -> Result<bool> {
-    match recover_segments(rt, alloc, segments, queue, workers) {
-        Ok(tables) => {
-            let text = recovered_text(alloc, &tables)?;
-            Ok(lines.is_some_and(|lines| text.as_str() == lines))
-        }
-        Err(Error::Corruption(_)) => Ok(lines.is_none()),
-        Err(error) => Err(error),
+    let shares = equal_shares(alloc, segments, workers.max(1), 1)?;
+    Ok(
+        have(rt, alloc, queue, segments, workers, owed)?
+            && have(rt, alloc, queue, shares.as_slice(), workers, owed)?,
+    )
+}
+
+/// Whether segments have what is owed, or are refused, on so many workers.
+fn have<R: Threads + Sync>(
+    rt: &R,
+    alloc: Global,
+    queue: LogQueue,
+    segments: &[Segment],
+    workers: usize,
+    owed: Option<Owed>,
+) -> Result<bool> {
+    match (recover_segments(rt, alloc, segments, queue, workers), owed) {
+        (Ok(tables), Some(owed)) => owed.is_met(alloc, queue, &tables),
+        (Ok(_), None) => Ok(false),
+        (Err(Error::Corruption(_)), owed) => Ok(owed.is_none()),
+        (Err(error), _) => Err(error),
     }
 }
 
 #[test]
 fn no_cut_shows(rt: HostRuntime) {
-    for &(queue, batches, lines) in &[
-        (LogQueue::Append, &APPENDED, APPENDED_LINES),
-        (LogQueue::Rewrite, &REWRITTEN, REWRITTEN_LINES),
-    ] {
-        let mut all = at_each_cutting(&rt, rt.alloc(), queue, batches.as_slice(), Some(lines));
+    for &(queue, batches, owed) in histories() {
+        let mut all = at_each_cutting(&rt, rt.alloc(), queue, batches, Some(owed));
         if matches!(all, Err(Error::Memory)) {
-            all = at_each_cutting(&rt, rt.alloc(), queue, batches.as_slice(), Some(lines));
+            all = at_each_cutting(&rt, rt.alloc(), queue, batches, Some(owed));
         }
         assert!(rt; matches!(all, Ok(true)));
     }
 }
 
-/// Whether a row's batches have its lines, or are refused, at each cutting.
+/// The files of a history in a version, each with all its batches.
+fn whole_files(
+    alloc: Global,
+    version: Version,
+    batches: &[(FileSeq, &str)],
+) -> Result<Vec<(FileSeq, Vec<u8>)>> {
+    let mut files: Vec<(FileSeq, Vec<u8>)> = Vec::new(alloc);
+    let mut last = None;
+    for (seq, digits) in batches {
+        if last != Some(*seq) {
+            files.push((*seq, Vec::new(alloc)))?;
+            last = Some(*seq);
+        }
+        let mut batch = signed(alloc, version, *seq, digits)?;
+        if let Some(file) = files.last_mut() {
+            file.1.append(&mut batch)?;
+        }
+    }
+    Ok(files)
+}
+
+/// Whether the files of a history, cut into up to so many shares, have what is owed, read by as many workers.
+fn have_in_shares<R: Threads + Sync>(
+    rt: &R,
+    alloc: Global,
+    version: Version,
+    history: &History,
+    count: usize,
+) -> Result<bool> {
+    let (queue, batches, owed) = *history;
+    let files = file_segments(queue, version, whole_files(alloc, version, batches)?)?;
+    let shares = equal_shares(alloc, files.as_slice(), count.max(1), 1)?;
+    have(rt, alloc, queue, shares.as_slice(), count, Some(owed))
+}
+
+/// Shares of up to 256, of which there are no more than batches: parts of both versions are cut inside a file.
+#[test]
+fn no_share_shows(rt: HostRuntime) {
+    for history in histories() {
+        for &version in &[Version::V1, Version::V2] {
+            for &count in &[1, 2, 3, 5, 8, 256] {
+                let mut held = have_in_shares(&rt, rt.alloc(), version, history, count);
+                if matches!(held, Err(Error::Memory)) {
+                    held = have_in_shares(&rt, rt.alloc(), version, history, count);
+                }
+                assert!(rt; matches!(held, Ok(true)), "{count} shares");
+            }
+        }
+    }
+}
+
+/// Whether a row's batches have what it owes, or are refused, at each cutting.
 fn row_at_each_cutting<R: Threads + Sync>(rt: &R, alloc: Global, row: &Row) -> Result<bool> {
-    at_each_cutting(rt, alloc, row.queue, row.files, row.lines)
+    at_each_cutting(rt, alloc, row.queue, row.files, row.owed())
 }
 
 #[test]
@@ -200,68 +303,27 @@ fn no_cut_of_truncations_shows(rt: HostRuntime) {
     }
 }
 
-/// The number of the file of an entry of region 1.
-fn seq_of_entry(tables: &MemTableAccessor, index: u64) -> Option<FileSeq> {
-    let entry = tables.get(1)?.get_entry(index)?;
-    Some(entry.entries?.id.seq)
+/// Whether the appended batches with one more behind them have what is owed, or are refused, at each cutting.
+fn longer_at_each_cutting<R: Threads + Sync>(
+    rt: &R,
+    alloc: Global,
+    last: (FileSeq, &'static str),
+    owed: Option<Owed>,
+) -> Result<bool> {
+    let mut batches = Vec::from_slice(alloc, APPENDED.as_slice())?;
+    batches.push(last)?;
+    at_each_cutting(rt, alloc, LogQueue::Append, batches.as_slice(), owed)
 }
 
-/// Whether, at each cutting of the first row, the entries below the truncation lie in its first file and those
-/// of the run behind it in its last.
-fn are_placed<R: Threads + Sync>(rt: &R, alloc: Global) -> Result<bool> {
-    let Some(row) = truncations().first() else {
-        return Ok(false);
-    };
-    for cuts in 0..cuttings(row.files.len()) {
-        let segments = cut(alloc, row.queue, row.files, cuts)?;
-        let tables = recover(rt, alloc, segments.as_slice(), row.queue, 2)?;
-        if (seq_of_entry(&tables, 14), seq_of_entry(&tables, 15)) != (Some(1), Some(3)) {
-            return Ok(false);
+#[test]
+fn no_cut_shows_in_front_of_one_more_batch(rt: HostRuntime) {
+    for &(last, owed) in &[(TRUNCATION, Some(TRUNCATED_OWED)), (HOLE, None)] {
+        let mut all = longer_at_each_cutting(&rt, rt.alloc(), last, owed);
+        if matches!(all, Err(Error::Memory)) {
+            all = longer_at_each_cutting(&rt, rt.alloc(), last, owed);
         }
+        assert!(rt; matches!(all, Ok(true)));
     }
-    Ok(true)
-}
-
-#[test]
-fn a_run_behind_a_truncation_has_its_places(rt: HostRuntime) {
-    let mut placed = are_placed(&rt, rt.alloc());
-    if matches!(placed, Err(Error::Memory)) {
-        placed = are_placed(&rt, rt.alloc());
-    }
-    assert!(rt; matches!(placed, Ok(true)));
-}
-
-/// Whether the appended batches with a truncation behind them have their lines at each cutting.
-fn truncated_at_each_cutting<R: Threads + Sync>(rt: &R, alloc: Global) -> Result<bool> {
-    let mut batches = Vec::from_slice(alloc, APPENDED.as_slice())?;
-    batches.push(TRUNCATION)?;
-    let lines = Some(TRUNCATED_LINES);
-    at_each_cutting(rt, alloc, LogQueue::Append, batches.as_slice(), lines)
-}
-
-#[test]
-fn no_cut_shows_in_front_of_a_truncation(rt: HostRuntime) {
-    let mut all = truncated_at_each_cutting(&rt, rt.alloc());
-    if matches!(all, Err(Error::Memory)) {
-        all = truncated_at_each_cutting(&rt, rt.alloc());
-    }
-    assert!(rt; matches!(all, Ok(true)));
-}
-
-/// Whether the appended batches with a hole behind them are refused at each cutting.
-fn refused_at_each_cutting<R: Threads + Sync>(rt: &R, alloc: Global) -> Result<bool> {
-    let mut batches = Vec::from_slice(alloc, APPENDED.as_slice())?;
-    batches.push(HOLE)?;
-    at_each_cutting(rt, alloc, LogQueue::Append, batches.as_slice(), None)
-}
-
-#[test]
-fn no_cut_hides_a_hole(rt: HostRuntime) {
-    let mut all = refused_at_each_cutting(&rt, rt.alloc());
-    if matches!(all, Err(Error::Memory)) {
-        all = refused_at_each_cutting(&rt, rt.alloc());
-    }
-    assert!(rt; matches!(all, Ok(true)));
 }
 
 /// How a call is refused, if it is.

@@ -157,7 +157,7 @@ fn answer_of<S: Files + AllocGlobal + Threads + Sync, R: Read>(
     words: &[String],
     input: &mut R,
 ) -> Option<Answer> {
-    let mut err = Vec::with_capacity(rt.alloc(), 256).ok()?;
+    let mut err = Vec::with_capacity(rt.alloc(), 1024).ok()?;
     let mut out = Vec::new(rt.alloc());
     let status = run(rt, words, input, &mut out, &mut err);
     Some(Answer { status, out, err })
@@ -252,7 +252,7 @@ fn is_torn<S: Files + AllocGlobal + Threads + Sync>(rt: &S, words: &[String]) ->
 
 /// Whether words that can't be read for such an error end a run so.
 fn ends_without_words(alloc: Global, kind: ErrorKind, status: u8, err: &str) -> Result<bool> {
-    let mut said = Vec::with_capacity(alloc, 256)?;
+    let mut said = Vec::with_capacity(alloc, 1024)?;
     let ended = run_without_words(&io::Error::from(kind), &mut said);
     Ok(ended == status && said.as_slice().starts_with(err.as_bytes()))
 }
@@ -287,10 +287,12 @@ const CLEAN: &str = "00000000000018000000000000000010010102015a800bdd";
 
 const BOTH_LINES: &str = "7 entries 10..12 keys 0 append 12 rewrite -\ncleaned 1\nlive 2 0\n";
 
-/// The words for one file, and for two, of which the second has a `=` in its path.
-const ONE: &str = "recover append 1 4 012=two_entries.log";
+/// The words for one file, for another with a `=` in its path, and for both.
+const ONE: &str = "recover append 1 1 12=two_entries.log";
 
-const BOTH: &str = "recover append 1 2 12=two_entries.log 13=clean=1.log";
+const CLEANED: &str = "recover append 1 1 12=clean=1.log";
+
+const BOTH: &str = "recover append 1 2 012=two_entries.log 13=clean=1.log";
 
 /// What is answered where one file holds the first bytes of the two entries' batch, and another the other batch.
 fn run_on_files<S: Files + AllocGlobal + Threads + Sync>(
@@ -354,6 +356,7 @@ fn files(rt: HostRuntime) {
         (ONE, 0, 0, "cleaned -\nlive 0 0\n", ""),
         (ONE, 33, 1, "", CORRUPTION),
         (ONE, 34, 0, TWO_LINES, ""),
+        (CLEANED, 34, 0, "cleaned 1\nlive 0 0\n", ""),
         (BOTH, 34, 0, BOTH_LINES, ""),
     ] {
         let mut answer = run_on_files(&rt, line, length);

@@ -47,13 +47,22 @@ fn files_of(alloc: Global, count: u64) -> Result<Vec<(FileSeq, Vec<u8>)>> {
     Ok(files)
 }
 
-/// How many bytes are in each share of so many files.
-fn share_bytes(alloc: Global, files: u64, count: usize, least: usize) -> Result<Vec<usize>> {
-    let segments = file_segments(LogQueue::Append, Version::V1, files_of(alloc, files)?)?;
+/// How many bytes are in each share of so many files of a version.
+fn share_bytes(
+    alloc: Global,
+    version: Version,
+    files: u64,
+    count: usize,
+    least: usize,
+) -> Result<Vec<usize>> {
+    let segments = file_segments(LogQueue::Append, version, files_of(alloc, files)?)?;
     let mut all = Vec::new(alloc);
     for share in equal_shares(alloc, segments.as_slice(), count.max(1), least.max(1))? {
         let mut bytes = 0usize;
         for part in &share {
+            if part.version() != version {
+                return Err(Error::Failed);
+            }
             bytes = bytes.saturating_add(part.bytes().len());
         }
         all.push(bytes)?;
@@ -71,8 +80,10 @@ fn shares_are_of_one_length(rt: HostRuntime) -> Result<()> {
 
 fn all_shares(rt: &impl Abort, alloc: Global) -> Result<()> {
     for &(files, count, least, bytes) in rows() {
-        let shares = share_bytes(alloc, files, count, least)?;
-        assert!(rt; shares.as_slice() == bytes, "{files} {count} {least}");
+        for &version in &[Version::V1, Version::V2] {
+            let shares = share_bytes(alloc, version, files, count, least)?;
+            assert!(rt; shares.as_slice() == bytes, "{files} {count} {least}");
+        }
     }
     Ok(())
 }

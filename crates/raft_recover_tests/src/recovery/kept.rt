@@ -1,10 +1,12 @@
 //! What contexts hold: those of histories at every cutting, however they are merged, and some others.
 
+use super::batches::{PUT_K, RUN_10_20, RUN_40_45};
 use super::bound::{Written, bound_of};
-use super::histories::{APPENDED, APPENDED_LINES, REWRITTEN, REWRITTEN_LINES};
+use super::histories::{APPENDED, HOLE, REWRITTEN, TRUNCATED_OWED, TRUNCATION, histories};
+use super::owed::Owed;
 use super::rows::{self, BESIDE};
-use super::truncations::{TRUNCATED_LINES, TRUNCATION, truncations};
-use super::{bytes_of, cuttings, recovered_text};
+use super::truncations::truncations;
+use super::{Refusal, bytes_of, cuttings, refusal_of};
 use raft_base::{Error, FileId, FileSeq, LogQueue, Result, Version};
 use raft_memtable::{Kept, MemTableRecoverContext};
 use raft_records::{FilePart, next_batch};
@@ -47,7 +49,7 @@ fn is_within(kept: Kept, bound: Kept) -> bool {
 }
 
 impl History {
-    /// The batches of files that digits in base 16 spell.
+    /// The batches of files, which digits in base 16 spell: those with the same number are parts of one file.
     fn read(
         alloc: Global,
         queue: LogQueue,
@@ -59,9 +61,15 @@ impl History {
             queue,
             batches: Vec::new(alloc),
         };
+        let (mut file, mut offset) = (0u64, 0u64);
         for (seq, digits) in files {
-            let file = FileId::new(queue, *seq);
-            history.push_file(&FilePart::new(file, version, 0, bytes_of(alloc, digits)?)?)?;
+            if *seq != file {
+                (file, offset) = (*seq, 0);
+            }
+            let bytes = bytes_of(alloc, digits)?;
+            let end = offset.saturating_add(bytes.len() as u64);
+            history.push_file(&FilePart::new(FileId::new(queue, file), version, offset, bytes)?)?;
+            offset = end;
         }
         Ok(history)
     }
@@ -185,8 +193,8 @@ impl History {
         self.from_left(pieces)
     }
 
-    /// Whether a piece is the whole history, and its tables have these lines.
-    fn has_lines(&self, whole: Option<Piece>, lines: &str) -> Result<bool> {
+    /// Whether a piece is the whole history, and its tables have what is owed.
+    fn has(&self, whole: Option<Piece>, owed: Owed) -> Result<bool> {
         let Some(whole) = whole else {
             return Ok(false);
         };
@@ -194,7 +202,7 @@ impl History {
             return Ok(false);
         }
         let tables = whole.context.finish()?;
-        Ok(recovered_text(self.alloc, &tables)?.as_str() == lines)
+        owed.is_met(self.alloc, self.queue, &tables)
     }
 
     /// The history, cut behind the batches whose bits are set and merged in this order.
@@ -207,21 +215,21 @@ impl History {
         }
     }
 
-    /// Whether the history, cut and merged so, has these lines; where there are none, whether it is refused there.
-    fn holds(&self, cuts: u64, order: Order, lines: Option<&str>) -> Result<bool> {
-        match (self.whole(cuts, order), lines) {
-            (Ok(whole), Some(lines)) => self.has_lines(whole, lines),
+    /// Whether the history, cut and merged so, has what is owed; where nothing is, whether it is refused there.
+    fn holds(&self, cuts: u64, order: Order, owed: Option<Owed>) -> Result<bool> {
+        match (self.whole(cuts, order), owed) {
+            (Ok(whole), Some(owed)) => self.has(whole, owed),
             (Ok(_), None) => Ok(false),
             (Err(Error::Corruption(_)), None) => Ok(true),
             (Err(error), _) => Err(error),
         }
     }
 
-    /// Whether the history has these lines, or is refused, at each cutting, merged in each order.
-    fn at_each_cutting(&self, lines: Option<&str>) -> Result<bool> {
+    /// Whether the history has what is owed, or is refused, at each cutting, merged in each order.
+    fn at_each_cutting(&self, owed: Option<Owed>) -> Result<bool> {
         for cuts in 0..cuttings(self.batches.len()) {
             for &order in &ORDERS {
-                if !self.holds(cuts, order, lines)? {
+                if !self.holds(cuts, order, owed)? {
                     return Ok(false);
                 }
             }
@@ -245,25 +253,25 @@ impl History {
     }
 }
 
-/// Whether all contexts on the way hold little, and the merged ones have these lines; where there are none, whether
+/// Whether all contexts on the way hold little, and the merged ones have what is owed; where nothing is, whether
 /// the files can't be read or, at each cutting, a replay or a merge is refused.
 fn all_hold_little(
     alloc: Global,
     queue: LogQueue,
     version: Version,
     files: &[(FileSeq, &str)],
-    lines: Option<&str>,
+    owed: Option<Owed>,
 ) -> Result<bool> {
     match History::read(alloc, queue, version, files) {
-        Ok(history) => history.at_each_cutting(lines),
-        Err(Error::Corruption(_)) => Ok(lines.is_none()),
+        Ok(history) => history.at_each_cutting(owed),
+        Err(Error::Corruption(_)) => Ok(owed.is_none()),
         Err(error) => Err(error),
     }
 }
 
-/// Whether all contexts of a row's files hold little, and the merged ones have its lines.
+/// Whether all contexts of a row's files hold little, and the merged ones have what it owes.
 fn row_holds_little(alloc: Global, row: &rows::Row) -> Result<bool> {
-    all_hold_little(alloc, row.queue, row.version, row.files, row.lines)
+    all_hold_little(alloc, row.queue, row.version, row.files, row.owed())
 }
 
 #[test]
@@ -275,19 +283,42 @@ fn merged_truncations_hold_little(rt: HostRuntime) {
         }
         assert!(rt; matches!(all, Ok(true)));
     }
-    let mut all = truncated_holds_little(rt.alloc());
+}
+
+/// Whether all contexts of the appended batches with one more behind them hold little, and the merged ones have what is
+/// owed, or are refused.
+fn longer_holds_little(
+    alloc: Global,
+    last: (FileSeq, &'static str),
+    owed: Option<Owed>,
+) -> Result<bool> {
+    let mut batches = Vec::from_slice(alloc, APPENDED.as_slice())?;
+    batches.push(last)?;
+    all_hold_little(
+        alloc,
+        LogQueue::Append,
+        Version::V1,
+        batches.as_slice(),
+        owed,
+    )
+}
+
+#[test]
+fn merged_contexts_before_a_truncation_hold_little(rt: HostRuntime) {
+    let mut all = longer_holds_little(rt.alloc(), TRUNCATION, Some(TRUNCATED_OWED));
     if matches!(all, Err(Error::Memory)) {
-        all = truncated_holds_little(rt.alloc());
+        all = longer_holds_little(rt.alloc(), TRUNCATION, Some(TRUNCATED_OWED));
     }
     assert!(rt; matches!(all, Ok(true)));
 }
 
-/// Whether all contexts of the appended batches with a truncation behind them hold little.
-fn truncated_holds_little(alloc: Global) -> Result<bool> {
-    let mut batches = Vec::from_slice(alloc, APPENDED.as_slice())?;
-    batches.push(TRUNCATION)?;
-    let queue = LogQueue::Append;
-    batches_hold_little(alloc, queue, batches.as_slice(), TRUNCATED_LINES)
+#[test]
+fn no_merge_hides_a_hole(rt: HostRuntime) {
+    let mut all = longer_holds_little(rt.alloc(), HOLE, None);
+    if matches!(all, Err(Error::Memory)) {
+        all = longer_holds_little(rt.alloc(), HOLE, None);
+    }
+    assert!(rt; matches!(all, Ok(true)));
 }
 
 #[test]
@@ -317,35 +348,16 @@ fn merged_groups_hold_little(rt: HostRuntime) {
     }
 }
 
-/// Whether all contexts of batches hold little, and the merged ones have these lines.
-fn batches_hold_little(
-    alloc: Global,
-    queue: LogQueue,
-    batches: &[(FileSeq, &str)],
-    lines: &str,
-) -> Result<bool> {
-    all_hold_little(alloc, queue, Version::V1, batches, Some(lines))
-}
-
 #[test]
 fn merged_contexts_hold_little(rt: HostRuntime) {
-    for &(queue, batches, lines) in &[
-        (LogQueue::Append, &APPENDED, APPENDED_LINES),
-        (LogQueue::Rewrite, &REWRITTEN, REWRITTEN_LINES),
-    ] {
-        let mut all = batches_hold_little(rt.alloc(), queue, batches.as_slice(), lines);
+    for &(queue, batches, owed) in histories() {
+        let mut all = all_hold_little(rt.alloc(), queue, Version::V1, batches, Some(owed));
         if matches!(all, Err(Error::Memory)) {
-            all = batches_hold_little(rt.alloc(), queue, batches.as_slice(), lines);
+            all = all_hold_little(rt.alloc(), queue, Version::V1, batches, Some(owed));
         }
         assert!(rt; matches!(all, Ok(true)));
     }
 }
-
-/// A put of one key in region 1.
-const PUT: (FileSeq, &str) = (
-    1,
-    "0000000000001c00000000000000001001010301016b0176b12948e8",
-);
 
 /// A batch, how often it is replayed, and what the context then holds.
 type Row = (LogQueue, (FileSeq, &'static str), usize, Kept);
@@ -362,7 +374,7 @@ const NOTHING: Kept = Kept {
 static ROWS: [Row; 3] = [
     (
         LogQueue::Append,
-        PUT,
+        (1, PUT_K),
         100_000,
         Kept {
             keys: 1,
@@ -457,16 +469,7 @@ fn contexts_hold_little(rt: HostRuntime) {
 }
 
 /// A run of region 1, and one that leaves a hole behind it.
-const WITH_A_HOLE: [(FileSeq, &str); 2] = [
-    (
-        1,
-        "0000000000003100000000000000001e787878787878787878787747df8e0101010a0a0102030405060708090a146f83e0",
-    ),
-    (
-        2,
-        "0000000000002b000000000000000019787878787878e7d1420201010528010203040501020228507a47d0",
-    ),
-];
+const WITH_A_HOLE: [(FileSeq, &str); 2] = [(1, RUN_10_20), (2, RUN_40_45)];
 
 /// The context of a history's first batch, if it refuses that of the second.
 fn with_refused_neighbor(history: &History) -> Result<Option<MemTableRecoverContext>> {
@@ -479,14 +482,25 @@ fn with_refused_neighbor(history: &History) -> Result<Option<MemTableRecoverCont
     }
 }
 
+/// Whether a context's merge with another, and its taking in of another, are refused as `Failed`.
+fn are_merges_failed(alloc: Global, context: &mut MemTableRecoverContext) -> Result<bool> {
+    let merged = context.merge(MemTableRecoverContext::new(alloc)?, LogQueue::Append);
+    let overlaid = context.merge_append_context(MemTableRecoverContext::new(alloc)?);
+    Ok(
+        refusal_of(merged)? == Some(Refusal::Failed)
+            && refusal_of(overlaid)? == Some(Refusal::Failed),
+    )
+}
+
 /// Whether a context that refused its neighbor answers `Failed` from then on.
 fn stays_failed(alloc: Global) -> Result<bool> {
     let history = History::read(alloc, LogQueue::Append, Version::V1, &WITH_A_HOLE)?;
-    let Some(context) = with_refused_neighbor(&history)? else {
+    let Some(mut context) = with_refused_neighbor(&history)? else {
         return Ok(false);
     };
+    let failed = are_merges_failed(alloc, &mut context)?;
     let held = matches!(context.kept(), Err(Error::Failed));
-    Ok(held && matches!(context.finish(), Err(Error::Failed)))
+    Ok(failed && held && matches!(context.finish(), Err(Error::Failed)))
 }
 
 #[test]

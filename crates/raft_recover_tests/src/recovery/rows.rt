@@ -1,5 +1,10 @@
 //! Files as bytes, and the lines that are owed for them.
 
+use super::batches::{
+    CLEAN, COMPACT_18, COMPACT_20, COMPACT_40, DELETE_K, PUT_K, RUN_0_2, RUN_10_20, RUN_10_30,
+    RUN_15_18, RUN_20_25, RUN_35_40, RUN_40_45,
+};
+use super::owed::{Owed, lines_alone};
 use raft_base::{LogQueue, Version};
 
 /// Files of a queue, each with its number and its bytes in base 16, and the lines of their tables; none where they are
@@ -9,6 +14,16 @@ pub(crate) struct Row {
     pub(crate) version: Version,
     pub(crate) files: &'static [(u64, &'static str)],
     pub(crate) lines: Option<&'static str>,
+}
+
+impl Row {
+    /// What is owed, if the files aren't refused.
+    pub(crate) fn owed(&self) -> Option<Owed> {
+        match self.lines {
+            Some(lines) => Some(lines_alone(lines)),
+            None => None,
+        }
+    }
 }
 
 /// Two runs of region 1, a file without batches, a compaction that drops the first run's front, and a key of region 2.
@@ -29,7 +44,18 @@ pub(crate) const FIVE: [(u64, &str); 5] = [
     ),
 ];
 
-pub(crate) const FIVE_LINES: &str = "\
+/// The runs' blocks begin behind the headers of their batches.
+pub(crate) const FIVE_OWED: Owed = Owed {
+    lines: FIVE_LINES,
+    places: &[
+        (1, 3, 1, 16, 7, 2),
+        (1, 4, 2, 16, 6, 0),
+        (1, 5, 2, 16, 6, 1),
+    ],
+    pairs: &[(2, b"k", Some(b"v"))],
+};
+
+const FIVE_LINES: &str = "\
 1 entries 3..6 keys 0 append 1 rewrite -
 2 entries - keys 1 append 4 rewrite -
 cleaned -
@@ -125,7 +151,7 @@ live 2 0
     Row {
         queue: LogQueue::Append,
         version: Version::V1,
-        files: &[(12, "00000000000018000000000000000010010102015a800bdd")],
+        files: &[(12, CLEAN)],
         lines: Some(
             "\
 cleaned 1
@@ -161,16 +187,7 @@ live 0 0
     Row {
         queue: LogQueue::Append,
         version: Version::V1,
-        files: &[
-            (
-                1,
-                "0000000000003100000000000000001e787878787878787878787747df8e0101010a0a0102030405060708090a146f83e0",
-            ),
-            (
-                2,
-                "000000000000270000000000000000177878780aea9b1c020101030f01020301020212c9b2a78f",
-            ),
-        ],
+        files: &[(1, RUN_10_20), (2, RUN_15_18), (2, COMPACT_18)],
         lines: Some(
             "\
 1 entries - keys 0 append - rewrite -
@@ -183,16 +200,7 @@ live 0 0
     Row {
         queue: LogQueue::Append,
         version: Version::V1,
-        files: &[
-            (
-                1,
-                "0000000000003100000000000000001e787878787878787878787747df8e0101010a0a0102030405060708090a146f83e0",
-            ),
-            (
-                2,
-                "0000000000002b000000000000000019787878787878e7d1420201020214010105280102030405ebb06e94",
-            ),
-        ],
+        files: &[(1, RUN_10_20), (2, COMPACT_20), (2, RUN_40_45)],
         lines: Some(
             "\
 1 entries 40..45 keys 0 append 2 rewrite -
@@ -205,48 +213,21 @@ live 5 0
     Row {
         queue: LogQueue::Append,
         version: Version::V1,
-        files: &[
-            (
-                1,
-                "0000000000003100000000000000001e787878787878787878787747df8e0101010a0a0102030405060708090a146f83e0",
-            ),
-            (
-                2,
-                "0000000000002b000000000000000019787878787878e7d1420201010528010203040501020228507a47d0",
-            ),
-        ],
+        files: &[(1, RUN_10_20), (2, RUN_40_45), (2, COMPACT_40)],
         lines: None,
     },
     // A hole, cleaned afterwards.
     Row {
         queue: LogQueue::Append,
         version: Version::V1,
-        files: &[
-            (
-                1,
-                "0000000000003100000000000000001e787878787878787878787747df8e0101010a0a0102030405060708090a146f83e0",
-            ),
-            (
-                2,
-                "0000000000002a000000000000000019787878787878e7d1420201010528010203040501020151860fb1",
-            ),
-        ],
+        files: &[(1, RUN_10_20), (2, RUN_40_45), (2, CLEAN)],
         lines: None,
     },
     // Rewritten entries: a gap drops what is older, and a lower start what is newer.
     Row {
         queue: LogQueue::Rewrite,
         version: Version::V1,
-        files: &[
-            (
-                1,
-                "0000000000004500000000000000002878787878787878787878787878787878787878784742ad27010101140a0102030405060708090a0b0c0d0e0f10111213144d842e3a",
-            ),
-            (
-                2,
-                "0000000000003500000000000000001e787878787878787878787747df8e0201010523010203040501010514060708090ac7b0a9c5",
-            ),
-        ],
+        files: &[(1, RUN_10_30), (2, RUN_35_40), (2, RUN_20_25)],
         lines: Some(
             "\
 1 entries 20..25 keys 0 append - rewrite 2
@@ -259,16 +240,7 @@ live 0 5
     Row {
         queue: LogQueue::Rewrite,
         version: Version::V1,
-        files: &[
-            (
-                1,
-                "0000000000004500000000000000002878787878787878787878787878787878787878784742ad27010101140a0102030405060708090a0b0c0d0e0f10111213144d842e3a",
-            ),
-            (
-                2,
-                "0000000000003500000000000000001e787878787878787878787747df8e0201010514010203040501010528060708090adad9b7e1",
-            ),
-        ],
+        files: &[(1, RUN_10_30), (2, RUN_20_25), (2, RUN_40_45)],
         lines: Some(
             "\
 1 entries 40..45 keys 0 append - rewrite 2
@@ -281,16 +253,7 @@ live 0 5
     Row {
         queue: LogQueue::Append,
         version: Version::V1,
-        files: &[
-            (
-                1,
-                "0000000000001c00000000000000001001010301016b0176b12948e8",
-            ),
-            (
-                2,
-                "0000000000002100000000000000001002010302016b010301016b01767257a0b2",
-            ),
-        ],
+        files: &[(1, PUT_K), (2, DELETE_K), (2, PUT_K)],
         lines: Some(
             "\
 1 entries - keys 1 append 2 rewrite -
@@ -299,17 +262,11 @@ live 1 0
 ",
         ),
     },
-    // A region that is cleaned.
+    // A region that is cleaned, and nothing in the file behind.
     Row {
         queue: LogQueue::Append,
         version: Version::V1,
-        files: &[
-            (
-                1,
-                "0000000000002400000000000000001678780f18e1f80201010201010201020102b7f7b3",
-            ),
-            (2, ""),
-        ],
+        files: &[(1, RUN_0_2), (1, CLEAN), (2, "")],
         lines: Some(
             "\
 cleaned 1
@@ -454,16 +411,7 @@ live 1 0
     Row {
         queue: LogQueue::Append,
         version: Version::V1,
-        files: &[
-            (
-                5,
-                "0000000000001c00000000000000001001010301016b0176b12948e8",
-            ),
-            (
-                4,
-                "0000000000001c00000000000000001001010301016b0176b12948e8",
-            ),
-        ],
+        files: &[(5, PUT_K), (4, PUT_K)],
         lines: None,
     },
 ];

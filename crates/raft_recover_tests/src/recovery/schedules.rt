@@ -1,13 +1,14 @@
 //! Contexts of segments that workers draw by a schedule, merged as plans say.
 
 use super::cut;
-use super::histories::{APPENDED, APPENDED_LINES};
-use super::rows::{BEGUN_AGAIN, BESIDE, FIVE, FIVE_LINES, GROUP};
+use super::histories::{APPENDED, APPENDED_OWED};
+use super::owed::{Owed, Pair, have_pairs};
+use super::rows::{BEGUN_AGAIN, BESIDE, FIVE, FIVE_OWED, GROUP};
 use raft_base::{Error, FileSeq, LogQueue, Result};
 use raft_memtable::{MemTable, MemTableAccessor, MemTableRecoverContextFactory};
-use raft_recover::recovered::recovered_text;
-use raft_recover::{Plan, replay_scheduled};
+use raft_recover::{OpenGate, Plan, Segment, replay_scheduled, replay_segments};
 use std::alloc::Global;
+use std::thread::Threads;
 
 /// The plan of two plans.
 fn join(alloc: Global, left: Plan, right: Plan) -> Result<Plan> {
@@ -71,15 +72,15 @@ fn scheduled(
     replay_scheduled(alloc, &factory, segments.as_slice(), queue, 2, draws, plan)?.finish()
 }
 
-/// Histories of five segments each, and their lines.
-static FIVES: [(History, &str); 2] = [
+/// Histories of five segments each, and what is owed for them.
+static FIVES: [(History, Owed); 2] = [
     (
         History {
             queue: LogQueue::Append,
             batches: &APPENDED,
             cuts: 0b0101101,
         },
-        APPENDED_LINES,
+        APPENDED_OWED,
     ),
     (
         History {
@@ -87,25 +88,25 @@ static FIVES: [(History, &str); 2] = [
             batches: &FIVE,
             cuts: 0b1111,
         },
-        FIVE_LINES,
+        FIVE_OWED,
     ),
 ];
 
-fn fives() -> &'static [(History, &'static str)] {
+fn fives() -> &'static [(History, Owed)] {
     &FIVES
 }
 
-/// Whether five segments, drawn as four pieces and merged in this order, have the lines of one reading.
-fn have_lines(alloc: Global, history: History, lines: &str, order: Order) -> Result<bool> {
+/// Whether five segments, drawn as four pieces and merged in this order, have what one reading gives.
+fn have(alloc: Global, history: History, owed: Owed, order: Order) -> Result<bool> {
     let plan = plan_of(alloc, 4, order)?;
     let tables = scheduled(alloc, history, &[0, 1, 1, 0, 1], &plan)?;
-    Ok(recovered_text(alloc, &tables)?.as_str() == lines)
+    owed.is_met(alloc, history.queue, &tables)
 }
 
 /// Whether they have in each order.
-fn give_one_reading(alloc: Global, history: History, lines: &str) -> Result<bool> {
+fn give_one_reading(alloc: Global, history: History, owed: Owed) -> Result<bool> {
     for &order in &[ByHalves, FromRight, FromLeft] {
-        if !have_lines(alloc, history, lines, order)? {
+        if !have(alloc, history, owed, order)? {
             return Ok(false);
         }
     }
@@ -114,12 +115,53 @@ fn give_one_reading(alloc: Global, history: History, lines: &str) -> Result<bool
 
 #[test]
 fn plans_give_one_reading(rt: HostRuntime) {
-    for &(history, lines) in fives() {
-        let mut all = give_one_reading(rt.alloc(), history, lines);
+    for &(history, owed) in fives() {
+        let mut all = give_one_reading(rt.alloc(), history, owed);
         if matches!(all, Err(Error::Memory)) {
-            all = give_one_reading(rt.alloc(), history, lines);
+            all = give_one_reading(rt.alloc(), history, owed);
         }
         assert!(rt; matches!(all, Ok(true)));
+    }
+}
+
+/// The tables of segments of the append queue that so many workers replay.
+fn worked<R: Threads + Sync>(
+    rt: &R,
+    alloc: Global,
+    segments: &[Segment],
+    workers: usize,
+) -> Result<MemTableAccessor> {
+    let factory = MemTableRecoverContextFactory::new();
+    let queue = LogQueue::Append;
+    replay_segments(rt, alloc, &factory, segments, queue, workers, &OpenGate)?.finish()
+}
+
+/// Whether so many workers give what is owed for five segments, and no tables for none.
+fn are_worked<R: Threads + Sync>(
+    rt: &R,
+    alloc: Global,
+    history: History,
+    owed: Owed,
+    workers: usize,
+) -> Result<bool> {
+    let segments = cut(alloc, history.queue, history.batches, history.cuts)?;
+    let tables = worked(rt, alloc, segments.as_slice(), workers)?;
+    Ok(
+        owed.is_met(alloc, LogQueue::Append, &tables)?
+            && worked(rt, alloc, &[], workers)?.is_empty(),
+    )
+}
+
+#[test]
+fn workers_give_one_reading(rt: HostRuntime) {
+    for &(history, owed) in fives() {
+        for &workers in &[1, 2, 256] {
+            let mut all = are_worked(&rt, rt.alloc(), history, owed, workers);
+            if matches!(all, Err(Error::Memory)) {
+                all = are_worked(&rt, rt.alloc(), history, owed, workers);
+            }
+            assert!(rt; matches!(all, Ok(true)), "{workers} workers");
+        }
     }
 }
 
@@ -139,16 +181,31 @@ fn schedules() -> &'static [([usize; 3], usize, Order)] {
 /// A region, the files of its last group, and its least file of the rewrite queue.
 type Grouped = (u64, Option<(FileSeq, FileSeq)>, Option<FileSeq>);
 
-/// Batches of the rewrite queue, cut behind the first and the second, and what each table has of groups.
-type SpanRow = (&'static [(FileSeq, &'static str)], &'static [Grouped]);
+/// Batches of the rewrite queue, cut behind the first and the second, what each table has of groups, and the values of
+/// keys.
+type SpanRow = (
+    &'static [(FileSeq, &'static str)],
+    &'static [Grouped],
+    &'static [Pair],
+);
 
 static SPANS: [SpanRow; 3] = [
     (
         &GROUP,
         &[(5, Some((1, 3)), Some(1)), (6, Some((1, 3)), Some(1))],
+        &[(6, b"k", Some(b"v"))],
     ),
-    (&BEGUN_AGAIN, &[(5, Some((2, 3)), Some(2))]),
-    (&BESIDE, &[(6, Some((1, 2)), Some(1)), (7, None, Some(2))]),
+    (&BEGUN_AGAIN, &[(5, Some((2, 3)), Some(2))], &[]),
+    (
+        &BESIDE,
+        &[(6, Some((1, 2)), Some(1)), (7, None, Some(2))],
+        &[
+            (6, b"a", Some(b"v")),
+            (6, b"b", Some(b"v")),
+            (6, b"c", None),
+            (7, b"x", Some(b"v")),
+        ],
+    ),
 ];
 
 fn spans() -> &'static [SpanRow] {
@@ -173,9 +230,9 @@ fn groups_of(alloc: Global, tables: &MemTableAccessor) -> Result<Vec<Grouped>> {
     Ok(groups)
 }
 
-/// Whether a row's tables have their groups, however the three segments are drawn and merged.
+/// Whether a row's tables have their groups and values, however the three segments are drawn and merged.
 fn have_groups(alloc: Global, row: &SpanRow) -> Result<bool> {
-    let (batches, groups) = *row;
+    let (batches, groups, pairs) = *row;
     let history = History {
         queue: LogQueue::Rewrite,
         batches,
@@ -184,7 +241,7 @@ fn have_groups(alloc: Global, row: &SpanRow) -> Result<bool> {
     for (draws, pieces, order) in schedules() {
         let plan = plan_of(alloc, *pieces, *order)?;
         let tables = scheduled(alloc, history, draws, &plan)?;
-        if groups_of(alloc, &tables)?.as_slice() != groups {
+        if groups_of(alloc, &tables)?.as_slice() != groups || !have_pairs(&tables, pairs) {
             return Ok(false);
         }
     }

@@ -1,48 +1,19 @@
 //! Files with truncations, each of one batch, and the lines that are owed for them.
 
-mod batches;
-
-use super::rows::Row;
-use batches::{
+use super::batches::{
     CLEAN, COMPACT_1, COMPACT_2, COMPACT_3, COMPACT_20, GROUP_BEGIN_1_10, GROUP_BEGIN_TRUNCATE_4,
     GROUP_END, GROUP_END_4_6, GROUP_MIDDLE_TRUNCATE_4, RUN_0_1, RUN_0_2, RUN_1_2, RUN_1_10_OF_5,
-    RUN_2_3, RUN_3_4, RUN_10_20, RUN_15_18, RUN_18_20, RUN_20_30, RUN_25_30, TRUNCATE_0,
-    TRUNCATE_1, TRUNCATE_2, TRUNCATE_2_OF_5, TRUNCATE_5, TRUNCATE_15, TRUNCATE_20,
+    RUN_2_3, RUN_3_4, RUN_10_20, RUN_18_20, RUN_20_30, RUN_25_30, TRUNCATE_0, TRUNCATE_1,
+    TRUNCATE_2, TRUNCATE_2_OF_5, TRUNCATE_5, TRUNCATE_15, TRUNCATE_20,
 };
+use super::rows::Row;
 use raft_base::{LogQueue, Version};
-
-/// A truncation of region 1 to 9, to be put behind the appended batches.
-pub(crate) const TRUNCATION: (u64, &str) = (
-    5,
-    "000000000000190000000000000000100101020309c1868b12",
-);
-
-/// What is owed then.
-pub(crate) const TRUNCATED_LINES: &str = "\
-1 entries 3..9 keys 0 append 1 rewrite -
-2 entries 50..52 keys 0 append 4 rewrite -
-3 entries - keys 1 append 5 rewrite -
-cleaned 2
-live 9 0
-";
 
 pub(crate) fn truncations() -> &'static [Row] {
     &ROWS
 }
 
-static ROWS: [Row; 24] = [
-    Row {
-        queue: LogQueue::Append,
-        version: Version::V1,
-        files: &[(1, RUN_10_20), (2, TRUNCATE_15), (3, RUN_15_18)],
-        lines: Some(
-            "\
-1 entries 10..18 keys 0 append 1 rewrite -
-cleaned -
-live 8 0
-",
-        ),
-    },
+static ROWS: [Row; 23] = [
     Row {
         queue: LogQueue::Append,
         version: Version::V1,

@@ -47,7 +47,27 @@ pub(crate) static REWRITTEN: History = History {
     ],
 };
 
-static HISTORIES: [History; 11] = [
+/// Two runs, a segment without batches, a compaction of the first region and a key of a second one.
+const FIVE_BATCHES: &[Batch] = &[
+    (1, &[Step::Run(1, 1, 4)]),
+    (2, &[Step::Run(1, 4, 6)]),
+    (0, &[]),
+    (3, &[Step::Compact(1, 3)]),
+    (4, &[Step::Put(2, b"k", b"v")]),
+];
+
+pub(crate) static FIVE: History = History {
+    queue: LogQueue::Append,
+    batches: FIVE_BATCHES,
+};
+
+/// No segment.
+pub(crate) static NONE: History = History {
+    queue: LogQueue::Append,
+    batches: &[],
+};
+
+static HISTORIES: [History; 13] = [
     History {
         queue: LogQueue::Append,
         batches: &[
@@ -98,6 +118,22 @@ static HISTORIES: [History; 11] = [
     History {
         queue: LogQueue::Rewrite,
         batches: &[
+            (1, &[Step::Marker(9, Begin), Step::Run(5, 1, 4)]),
+            (2, &[Step::Marker(9, Middle), Step::Put(6, b"k", b"v")]),
+        ],
+    },
+    History {
+        queue: LogQueue::Rewrite,
+        batches: &[
+            (1, &[Step::Marker(9, Begin), Step::Put(5, b"a", b"v")]),
+            (2, &[Step::Marker(9, End), Step::Put(5, b"b", b"v")]),
+            (3, &[Step::Marker(9, Middle), Step::Put(5, b"c", b"v")]),
+            (4, &[Step::Marker(9, End), Step::Put(5, b"d", b"v")]),
+        ],
+    },
+    History {
+        queue: LogQueue::Rewrite,
+        batches: &[
             (1, &[Step::Marker(9, Begin), Step::Put(6, b"a", b"v")]),
             (2, &[Step::Put(7, b"x", b"v")]),
             (2, &[Step::Marker(9, End), Step::Put(6, b"b", b"v")]),
@@ -106,13 +142,7 @@ static HISTORIES: [History; 11] = [
     },
     History {
         queue: LogQueue::Append,
-        batches: &[
-            (1, &[Step::Run(1, 1, 4)]),
-            (2, &[Step::Run(1, 4, 6)]),
-            (0, &[]),
-            (3, &[Step::Compact(1, 3)]),
-            (4, &[Step::Put(2, b"k", b"v")]),
-        ],
+        batches: FIVE_BATCHES,
     },
     History {
         queue: LogQueue::Append,

@@ -28,8 +28,12 @@ fn behind(len: usize) -> &'static [u8] {
 }
 
 fn part(alloc: Global, len: usize) -> Result<FilePart> {
+    part_in(alloc, Version::V1, len)
+}
+
+fn part_in(alloc: Global, version: Version, len: usize) -> Result<FilePart> {
     let bytes = Vec::from_slice(alloc, front(len))?;
-    FilePart::new(FileId::new(LogQueue::Append, 12), Version::V1, 0, bytes)
+    FilePart::new(FileId::new(LogQueue::Append, 12), version, 0, bytes)
 }
 
 /// The batches of a part: what both have, and where the second is cut short.
@@ -118,15 +122,26 @@ fn block(alloc: Global, bytes: &[u8], len: usize) -> Result<Vec<u8>> {
     LogBatch::decode_entries_block(alloc, bytes, place, CompressionType::None)
 }
 
-/// A part is cut at its second batch, cloned, and cut in as many parts as it has batches.
+/// A part of each version is cut at its second batch, cloned, and cut in as many parts as it has batches.
 pub(crate) fn cuts(found: &mut Found) -> Result<()> {
-    let mut front = part(found.alloc, 58)?;
+    for &version in &[Version::V1, Version::V2] {
+        cut(found, version)?;
+    }
+    Ok(())
+}
+
+fn cut(found: &mut Found, version: Version) -> Result<()> {
+    let alloc = found.alloc;
+    let mut front = part_in(alloc, version, 58)?;
     let rest = split_again(found, &mut front)?;
     let clone = rest.clone()?;
-    let parts = cut_part(found.alloc, part(found.alloc, 58)?, 8)?;
-    let alloc = found.alloc;
-    let (offset, len) = (clone.offset(), clone.bytes().len());
-    found.line(format!(in alloc; "rest at {offset} of {len}, parts {}", parts.len())?.as_str())
+    let parts = cut_part(alloc, part_in(alloc, version, 58)?, 8)?;
+    let (version, offset, len) = (clone.version(), clone.offset(), clone.bytes().len());
+    found.line(format!(in alloc;
+        "version {version} rest at {offset} of {len}, parts {}",
+        parts.len()
+    )?
+    .as_str())
 }
 
 /// Cuts a part; where there is no memory it has to be as it was.

@@ -1,7 +1,7 @@
 //! Recoveries of segments by several workers, of given draws, and of pieces.
 
 use crate::found::{Found, is_refused};
-use crate::histories::{APPENDED, History, REWRITTEN, batch_segments};
+use crate::histories::{APPENDED, FIVE, History, NONE, REWRITTEN, batch_segments};
 use crate::writes::print;
 use raft_memtable::{
     Error, LogQueue, MemTableAccessor, MemTableRecoverContext, MemTableRecoverContextFactory,
@@ -22,9 +22,14 @@ use std::thread::Threads;
 enum How {
     Shares(usize),
     Workers(usize),
-    Draws,
+    Draws(&'static [usize]),
     Pieces,
 }
+
+/// How two workers draw eight segments, and five, of which they make four pieces.
+const EIGHT_DRAWS: &[usize] = &[0, 0, 1, 1, 0, 1];
+
+const FIVE_DRAWS: &[usize] = &[0, 1, 1, 0, 1];
 
 /// The tables of both histories, however they are recovered.
 pub(crate) fn shares<R: Threads + Sync>(rt: &R, found: &mut Found) -> Result<()> {
@@ -36,12 +41,23 @@ pub(crate) fn shares<R: Threads + Sync>(rt: &R, found: &mut Found) -> Result<()>
 
 pub(crate) fn draws<R: Threads + Sync>(rt: &R, found: &mut Found) -> Result<()> {
     recover_both(rt, found, How::Workers(1))?;
-    recover_both(rt, found, How::Draws)
+    recover_both(rt, found, How::Draws(EIGHT_DRAWS))?;
+    let pieces = piece_count(FIVE.batches.len(), FIVE_DRAWS);
+    let alloc = found.alloc;
+    found.line(format!(in alloc; "{pieces} pieces")?.as_str())?;
+    recover_again(rt, found, &FIVE, How::Draws(FIVE_DRAWS))?;
+    recover_again(rt, found, &NONE, How::Workers(1))?;
+    for &workers in &[1, 0, 257] {
+        recover_again(rt, found, &FIVE, How::Workers(workers))?;
+    }
+    Ok(())
 }
 
 pub(crate) fn workers<R: Threads + Sync>(rt: &R, found: &mut Found) -> Result<()> {
     recover_both(rt, found, How::Workers(2))?;
-    recover_both(rt, found, How::Workers(4))
+    recover_both(rt, found, How::Workers(4))?;
+    recover_again(rt, found, &FIVE, How::Workers(2))?;
+    recover_again(rt, found, &FIVE, How::Workers(256))
 }
 
 pub(crate) fn pieces<R: Threads + Sync>(rt: &R, found: &mut Found) -> Result<()> {
@@ -53,7 +69,7 @@ fn recover_both<R: Threads + Sync>(rt: &R, found: &mut Found, how: How) -> Resul
     recover_again(rt, found, &REWRITTEN, how)
 }
 
-/// Recovers a history; where there is no memory its segments have to be as they were.
+/// Recovers a history, or says why not; where there is no memory its segments have to be as they were.
 fn recover_again<R: Threads + Sync>(
     rt: &R,
     found: &mut Found,
@@ -68,8 +84,10 @@ fn recover_again<R: Threads + Sync>(
         answer = tables_of(rt, found.alloc, segments.as_slice(), history.queue, how);
         answer = found.again(answer);
     }
-    let tables = answer?;
-    print(found, &tables)
+    match answer {
+        Ok(tables) => print(found, &tables),
+        Err(error) => found.refused(error),
+    }
 }
 
 /// The bytes of segments in one number.
@@ -103,26 +121,26 @@ fn tables_of<R: Threads + Sync>(
         How::Workers(workers) => {
             replay_segments(rt, alloc, &factory, segments, queue, workers, &OpenGate)?
         }
-        How::Draws => scheduled(alloc, segments, queue)?,
+        How::Draws(draws) => scheduled(alloc, segments, queue, draws)?,
         How::Pieces => of_pieces(rt, alloc, segments, queue)?,
     };
     context.finish()
 }
 
-/// Eight segments that two workers draw in turns of two, merged by halves.
+/// Segments that two workers draw so, merged by halves.
 fn scheduled(
     alloc: Global,
     segments: &[Segment],
     queue: LogQueue,
+    draws: &[usize],
 ) -> Result<MemTableRecoverContext> {
-    let draws = [0, 0, 1, 1, 0, 1];
-    let count = piece_count(segments.len(), &draws);
+    let count = piece_count(segments.len(), draws);
     if count == 0 {
         return Err(Error::Failed);
     }
     let plan = Plan::halves(alloc, count)?;
     let factory = MemTableRecoverContextFactory::new();
-    replay_scheduled(alloc, &factory, segments, queue, 2, &draws, &plan)
+    replay_scheduled(alloc, &factory, segments, queue, 2, draws, &plan)
 }
 
 /// A piece for each segment, merged by halves.
@@ -171,7 +189,10 @@ fn open_and_close(alloc: Global) -> Result<usize> {
 pub(crate) fn prints<R: Threads + Sync>(rt: &R, found: &mut Found) -> Result<()> {
     print_bytes(found, b"\x01\x01\x02\x01\x5a\x80\x0b\xdd")?;
     print_bytes(found, b"\x01\x07\x01\x02\x0a\x02\x03\xa7\xb3\xdf\x17")?;
-    print_file(rt, found)
+    for &bytes in &FILES {
+        print_file(rt, found, bytes)?;
+    }
+    Ok(())
 }
 
 /// Whether a call found no memory, or its reader or writer.
@@ -207,24 +228,39 @@ fn print_bytes(found: &mut Found, bytes: &[u8]) -> Result<()> {
     Ok(())
 }
 
-const FILE: &[u8] = b"\
-\x00\x00\x00\x00\x00\x00\x22\x00\x00\x00\x00\x00\x00\x00\x00\x17abc\xc2\x41\x24\x35\
-\x01\x07\x01\x02\x0a\x02\x03\xa7\xb3\xdf\x17";
+/// A file with two entries of region 7, one in which region 1 is cleaned, and the first without its last byte.
+const FILES: [&[u8]; 3] = [
+    b"\x00\x00\x00\x00\x00\x00\x22\x00\x00\x00\x00\x00\x00\x00\x00\x17abc\xc2\x41\x24\x35\x01\x07\x01\x02\x0a\x02\x03\xa7\xb3\xdf\x17",
+    b"\x00\x00\x00\x00\x00\x00\x18\x00\x00\x00\x00\x00\x00\x00\x00\x10\x01\x01\x02\x01\x5a\x80\x0b\xdd",
+    b"\x00\x00\x00\x00\x00\x00\x22\x00\x00\x00\x00\x00\x00\x00\x00\x17abc\xc2\x41\x24\x35\x01\x07\x01\x02\x0a\x02\x03\xa7\xb3\xdf",
+];
 
-fn print_file<R: Threads + Sync>(rt: &R, found: &mut Found) -> Result<()> {
+fn print_file<R: Threads + Sync>(rt: &R, found: &mut Found, bytes: &[u8]) -> Result<()> {
     let mut out = Vec::new(found.alloc);
-    let mut answer = print_file_to(rt, found.alloc, &mut out);
+    let mut answer = print_file_to(rt, found.alloc, bytes, &mut out);
     if found_none(&answer) {
         found.look(out.is_empty());
-        answer = print_file_to(rt, found.alloc, &mut out);
+        answer = print_file_to(rt, found.alloc, bytes, &mut out);
     }
-    again(found, answer)?;
-    found.lines.extend_from_slice(out.as_slice())?;
-    Ok(())
+    match again(found, answer) {
+        Ok(()) => {
+            found.lines.extend_from_slice(out.as_slice())?;
+            Ok(())
+        }
+        Err(error) => {
+            found.look(out.is_empty() || found.is_in_vain);
+            found.refused(error)
+        }
+    }
 }
 
-fn print_file_to<R: Threads + Sync>(rt: &R, alloc: Global, out: &mut Vec<u8>) -> Result<()> {
-    let bytes = Vec::from_slice(alloc, FILE)?;
+fn print_file_to<R: Threads + Sync>(
+    rt: &R,
+    alloc: Global,
+    bytes: &[u8],
+    out: &mut Vec<u8>,
+) -> Result<()> {
+    let bytes = Vec::from_slice(alloc, bytes)?;
     let files = vec![in alloc; (12, bytes)]?;
     recover_bytes(rt, alloc, LogQueue::Append, Version::V1, 1, files, out)
 }

@@ -6,4 +6,4 @@ pub returns-in-Ok-clause-exact : goal.returns-in-Ok-clause-exact
 returns-in-Ok-clause-exact c = rw (← c.self.view_is, ← c.append.view_is) (λ h g a b. of_both _ _ _ h g (record { rewrite_before = a.stage; append_before = b.stage; queues = c.in-Ok.ensures.queues; tables = c.in-Ok.ensures.tables; overlaid = c.in-Ok.ensures.overlaid; after = refl }) a b)
 
 pub returns-in-Err-clause-fault : goal.returns-in-Err-clause-fault
-returns-in-Err-clause-fault c = rw (← c.self.view_is, ← c.append.view_is) (append_fault _ _ _ _ _ _ _ c.in-Err.ensures.fault)
+returns-in-Err-clause-fault c = rw (← c.self.view_is, ← c.append.view_is) (append_fault _ _ _ _ c.self.inside.state.regions.accessor.counts c.append.inside.state.regions.accessor.counts _ c.in-Err.ensures.fault)

@@ -232,7 +232,10 @@ fn fronts_end_at_damage(rt: &impl Abort, alloc: Global) -> Result<()> {
     ] {
         let part = part(alloc, BATCHES.get(..len).unwrap_or(&[]))?;
         let (readable, error) = readable_front(&part);
-        assert!(rt; readable == front && is_reason(error, reason)?, "{len} bytes");
+        assert!(rt;
+            readable == front && is_reason(error, reason)?,
+            "{len} bytes"
+        );
     }
     Ok(())
 }

@@ -136,68 +136,86 @@ fn last_key() -> [u8; 8] {
     (LONG - 1).to_be_bytes()
 }
 
-/// Whether a stretch of many items waits, and takes effect whole when the group ends.
-fn stretch_takes_effect(alloc: Global) -> Result<bool> {
-    let begun = changes(
-        alloc,
-        FileId::new(LogQueue::Rewrite, 1),
-        Some(Begin),
-        LONG,
-        true,
-        Put(1),
-    )?;
-    let ended = changes(
-        alloc,
-        FileId::new(LogQueue::Rewrite, 2),
-        Some(End),
-        0,
-        true,
-        Put(1),
-    )?;
-    let mut context = read(alloc, &begun)?;
-    let waiting = context.kept()?.waiting_items;
-    context.merge(read(alloc, &ended)?, LogQueue::Rewrite)?;
+/// What the contexts of two parts hold, the older one and both merged, and the tables then.
+#[derive(Drop)]
+struct Merged {
+    older: Kept,
+    both: Kept,
+    accessor: MemTableAccessor,
+}
+
+fn merge_parts(
+    alloc: Global,
+    queue: LogQueue,
+    older: &FilePart,
+    newer: &FilePart,
+) -> Result<Merged> {
+    let mut context = read(alloc, older)?;
+    let older = context.kept()?;
+    context.merge(read(alloc, newer)?, queue)?;
+    let both = context.kept()?;
     let accessor = context.finish()?;
-    let has_last = match accessor.get(5) {
+    Ok(Merged {
+        older,
+        both,
+        accessor,
+    })
+}
+
+/// A file of the rewrite queue.
+fn file(seq: u64) -> FileId {
+    FileId::new(LogQueue::Rewrite, seq)
+}
+
+/// Whether region 5 has the first and the last of the keys that a group puts.
+fn has_ends(accessor: &MemTableAccessor) -> bool {
+    match accessor.get(5) {
         Some(table) => table.get(&last_key()).is_some() && table.get(b"").is_some(),
         None => false,
-    };
-    Ok(has_last && counts(&accessor) == (1, LONG as usize) && waiting == u128::from(LONG))
+    }
 }
+
+/// Whether a stretch of many items waits, and takes effect whole when the group ends.
+fn stretch_takes_effect(alloc: Global) -> Result<bool> {
+    let begun = changes(alloc, file(1), Some(Begin), LONG, true, Put(1))?;
+    let ended = changes(alloc, file(2), Some(End), 0, true, Put(1))?;
+    let merged = merge_parts(alloc, LogQueue::Rewrite, &begun, &ended)?;
+    Ok(
+        merged.older.waiting_items == u128::from(LONG)
+            && merged.both.waiting_items == 0
+            && counts(&merged.accessor) == (1, LONG as usize)
+            && has_ends(&merged.accessor),
+    )
+}
+
+/// A file of the append queue.
+const APPENDED: FileId = FileId {
+    queue: LogQueue::Append,
+    seq: 1,
+};
 
 /// Whether an older context's keys, one for each region, are merged with those of a newer one, of half as many regions.
 fn regions_are_merged(alloc: Global) -> Result<bool> {
-    let file = FileId::new(LogQueue::Append, 1);
-    let older = changes(alloc, file, None, REGIONS, false, Put(1))?;
-    let newer = changes(alloc, file, None, REGIONS / 2, false, Put(1 << 10))?;
-    let mut context = read(alloc, &older)?;
-    context.merge(read(alloc, &newer)?, LogQueue::Append)?;
-    let regions = context.kept()?.regions_and_groups;
-    let accessor = context.finish()?;
-    Ok(counts(&accessor) == (REGIONS, REGIONS as usize) && regions == u128::from(REGIONS))
+    let older = changes(alloc, APPENDED, None, REGIONS, false, Put(1))?;
+    let newer = changes(alloc, APPENDED, None, REGIONS / 2, false, Put(1 << 10))?;
+    let merged = merge_parts(alloc, LogQueue::Append, &older, &newer)?;
+    Ok(counts(&merged.accessor) == (REGIONS, REGIONS as usize) && merged.both.keys == 600)
 }
 
 /// Whether a context that deletes keys of region 5, the empty one too, deletes those of an older one, of which the last
 /// stays, and may hold each of them.
 fn deletions_are_merged(alloc: Global) -> Result<bool> {
-    let file = FileId::new(LogQueue::Append, 1);
-    let older = changes(alloc, file, None, DELETED + 1, true, Put(1 << 16))?;
-    let newer = changes(alloc, file, None, DELETED, true, Delete)?;
-    let mut context = read(alloc, &older)?;
-    let deleted = read(alloc, &newer)?;
-    let alone = deleted.kept()?;
-    context.merge(deleted, LogQueue::Append)?;
-    let merged = context.kept()?;
-    let accessor = context.finish()?;
+    let older = changes(alloc, APPENDED, None, DELETED + 1, true, Put(1 << 16))?;
+    let newer = changes(alloc, APPENDED, None, DELETED, true, Delete)?;
+    let merged = merge_parts(alloc, LogQueue::Append, &older, &newer)?;
     Ok(
-        is_of_deleted(alone, 0)
-            && is_of_deleted(merged, 1)
-            && has_long_value(&accessor, DELETED)
-            && counts(&accessor) == (1, 1),
+        is_of_deleted(merged.both, 1)
+            && has_long_value(&merged.accessor, DELETED)
+            && counts(&merged.accessor) == (1, 1),
     )
 }
 
-/// Whether so many keys and at most those that are deleted are held.
+/// Whether so many keys, and at most those that were deleted, are held.
 fn is_of_deleted(kept: Kept, keys: u128) -> bool {
     kept.keys == keys && kept.deleted_keys <= u128::from(DELETED)
 }

@@ -2,6 +2,7 @@ pub mod AgreeLaws
 pub mod ContextLaws
 pub mod CutLemmas
 pub mod DifferLemmas
+pub mod EachStepLemmas
 pub mod EffectFileLemmas
 pub mod EffectLemmas
 pub mod FileOrderLemmas
@@ -28,6 +29,8 @@ pub mod ReadRunLemmas
 pub mod ReadingLemmas
 pub mod RecordLemmas
 pub mod RegionLaws
+pub mod RewrittenHistories
+pub mod RewrittenLemmas
 pub mod ShiftLemmas
 pub mod SoundLemmas
 pub mod StepListLemmas

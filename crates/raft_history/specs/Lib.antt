@@ -8,6 +8,7 @@ pub mod Stretches
 pub mod LeastFiles
 pub mod GoingOn
 pub mod BothQueues
+pub mod RewrittenRecords
 pub mod ReplayMachine
 -- what contexts hold of histories, which recovery's promise doesn't name
 pub mod MarkedRegions

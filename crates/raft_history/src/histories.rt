@@ -15,6 +15,7 @@ ghost use Rattle.raft_history.specs.Batches.{Event};
 ghost use Rattle.raft_history.specs.BothQueues.{IsReadingOfBoth};
 ghost use Rattle.raft_history.specs.GoingOn.{PlacedItemsAreInFile, ReadingGoesOn, SoundHistoryGoesOn};
 ghost use Rattle.raft_history.specs.LeastFiles.{AreLeastFiles, HasNoneBelow};
+ghost use Rattle.raft_history.specs.RewrittenRecords.{AreRewrittenFrom, HaveSameRecords};
 ghost use Rattle.raft_history.specs.Histories.{IsSmall, Sound, IsSoundIn, Apart, AreInFile, IsOfQueue, IsOneReading};
 
 /// What holds of two histories, one behind the other, holds of each.
@@ -82,6 +83,20 @@ pub fn least_files_of_both_are_least()
         → IsSoundIn Rewrite rewrite → Apart rewrite → IsSoundIn Append append
         → IsReadingOfBoth rewrite append tables cleaned → (r : ℕ) (q : LogQueue)
         → HasNoneBelow q (table_of r (finite.get tables r)) }
+{}
+
+/// Where the append queue has all its batches, and each record of the rewrite queue is one that it had at some
+/// time, both queues together give what the append queue gives alone: the same entries and key values, places and
+/// files too, and the same cleaned regions. Nothing is said of atomic groups: a region that the append queue
+/// didn't clean has that of the rewrite queue.
+pub fn rewritten_records_add_nothing()
+    ensures records { (rewrite append : List Event) (tables appended : Tables)
+        (cleaned own_cleaned : List ℕ) → IsSoundIn Append append → AreRewrittenFrom append rewrite
+        → IsReadingOfBoth rewrite append tables cleaned
+        → IsOneReading Append append appended own_cleaned → HaveSameRecords tables appended }
+    ensures cleaned { (rewrite append : List Event) (tables appended : Tables)
+        (cleaned own_cleaned : List ℕ) → IsReadingOfBoth rewrite append tables cleaned
+        → IsOneReading Append append appended own_cleaned → cleaned ≡ own_cleaned }
 {}
 
 /// What `next_batch` answers is as histories ask it of a batch of that file, so a test of it refuses

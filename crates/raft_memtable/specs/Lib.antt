@@ -55,6 +55,7 @@ pub use Rattle.raft_history.specs.MarkedRegions
 pub use Rattle.raft_history.specs.Records
 pub use Rattle.raft_history.specs.RegionSteps
 pub use Rattle.raft_history.specs.ReplayMachine
+pub use Rattle.raft_history.specs.RewrittenRecords
 pub use Rattle.raft_history.specs.Stretches
 pub use Rattle.raft_history.specs.WaitingGroup
 pub use Rattle.raft_history.specs.WaitingGroups

@@ -1,5 +1,7 @@
 pub mod CoverLemmas
+pub mod CutBatchLemmas
 pub mod CutPartLemmas
+pub mod FewRecordLemmas
 pub mod MachineOrderLemmas
 pub mod LiningLemmas
 pub mod MergeLemmas
@@ -7,4 +9,5 @@ pub mod MidwayLemmas
 pub mod SegmentLemmas
 pub mod WalkLemmas
 pub mod Words
+pub mod WrittenPartLemmas
 pub mod WorkedLemmas

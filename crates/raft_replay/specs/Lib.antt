@@ -9,3 +9,4 @@ pub mod Schedules
 pub mod Segments
 pub mod Stops
 pub mod WorkedWords
+pub mod WrittenParts

@@ -1,9 +1,10 @@
 //! Parts of files, cut between batches, so that several workers read one file.
 
-ghost use Rattle.std.specs.Prelude.{◌≡◌, ◌<◌, ◌≤◌, ℕ, All, IfOk, IfErr, IfSome, length};
-ghost use Rattle.raft_records.specs.FilePart.{HasHeader};
-ghost use Rattle.raft_replay.specs.Cuts.{BatchesMeet};
-ghost use Rattle.raft_replay.specs.Segments.{AreCutFrom};
+ghost use Rattle.std.specs.Prelude.{◌≡◌, ◌<◌, ◌≤◌, ℕ, List, [], ◌∷◌, All, IfOk, IfErr, IfSome, length};
+ghost use Rattle.raft_records.specs.FilePart.{HasHeader, Part};
+ghost use Rattle.raft_history.specs.Batches.{Event};
+ghost use Rattle.raft_replay.specs.Cuts.{BatchesMeet, bytes_before, rest_of};
+ghost use Rattle.raft_replay.specs.Segments.{AreCutFrom, HoldsFrom};
 
 use raft_base::{Error, Result};
 use raft_records::{FilePart, LogBatch};
@@ -64,3 +65,11 @@ fn batch_length(alloc: Global, bytes: &[u8]) -> Option<usize>
     let (_, _, len) = LogBatch::decode_header(alloc, &mut rest).ok()?;
     if len <= bytes.len() { Some(len) } else { None }
 }
+
+/// A part may be cut wherever a batch ends: if its bytes before an offset are batches that can be read, the same is
+/// read of the part and of the two pieces.
+pub fn parts_are_cut_where_batches_end()
+    ensures { (part : Part) (at : ℕ) (first : List Event) → at ≤ length part.bytes
+        → HoldsFrom (bytes_before part at) 0 first
+        → AreCutFrom part (bytes_before part at ∷ rest_of part at ∷ []) }
+{}

@@ -10,10 +10,13 @@ pub mod scheduled;
 pub mod segment;
 pub mod workers;
 
-pub use cutting::cut_part;
+pub use cutting::{cut_part, parts_are_cut_where_batches_end};
 pub use gate::{Gate, OpenGate};
 pub use pieces::merge_pieces;
 pub use plan::Plan;
 pub use scheduled::{piece_count, replay_scheduled};
-pub use segment::{Segment, replay_bytes, replay_segment, segments_read_as_one_history};
+pub use segment::{
+    Segment, replay_bytes, replay_segment, segments_hold_few_records, segments_read_as_one_history,
+    written_batches_are_held,
+};
 pub use workers::{MAX_WORKERS, SEGMENT_LIMIT, replay_segments};

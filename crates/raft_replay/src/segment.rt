@@ -4,9 +4,11 @@ ghost use Rattle.std.specs.Prelude.{◌≡◌, ◌≢◌, ◌+◌, ◌^◌, ◌<
 ghost use Rattle.std.specs.Global.{Global};
 ghost use Rattle.raft_records.specs.FilePart.{Part, part_of};
 ghost use Rattle.raft_history.specs.Batches.{Event};
+ghost use Rattle.raft_history.specs.Histories.{IsSmall};
 ghost use Rattle.raft_replay.specs.Replays.{HasReplayed, CannotFollow};
 ghost use Rattle.raft_replay.specs.Segments.{HoldsFrom, EachHolds, SegmentsHold};
 ghost use Rattle.raft_replay.specs.Stops.{queue_text, IsPlaced, StopsIn};
+ghost use Rattle.raft_replay.specs.WrittenParts.{bytes_of_segments, WrittenBatchIsHeld};
 
 use raft_base::{Error, FileId, LogFileContext, LogQueue, Result};
 use raft_history::ReplayMachine;
@@ -123,4 +125,18 @@ fn queue_name(queue: LogQueue) -> &'static str
 pub fn segments_read_as_one_history()
     ensures { (segments : List (Vec Part Global)) (g h : List Event)
         → SegmentsHold segments g → SegmentsHold segments h → g ≡ h }
+{}
+
+/// Where the bytes of a written batch come after those of a part of its file, at the place that they were written to,
+/// the part then holds that batch, with its places, after those that it held. What is asked of the items holds of
+/// every batch, as its `is_read_again` tells.
+pub fn written_batches_are_held()
+    ensures { WrittenBatchIsHeld }
+{}
+
+/// Batches name no more entries and key values than they have bytes: so segments of fewer than 2^63 bytes together
+/// hold a small history.
+pub fn segments_hold_few_records()
+    ensures { (segments : List (Vec Part Global)) (h : List Event)
+        → SegmentsHold segments h → bytes_of_segments segments < 2 ^ 63 → IsSmall h }
 {}

@@ -1,0 +1,44 @@
+-- A part that is cut where a batch ends.
+use Rattle.std.proofs.Common.{◌≡◌, ℕ, ◌<◌, ◌≤◌, List, [], ◌∷◌, ◌++◌, length, drop, refl, sym, ap, ◌∙◌, subst, arith}
+use Rattle.std.proofs.lemmas.List.{length-take-le, take-append-drop}
+use Rattle.raft_records.specs.FilePart.{Part, IsBatchAt}
+use Rattle.raft_records.specs.Item.{Item}
+use Rattle.raft_history.specs.Batches.{Event}
+use Rattle.raft_replay.specs.Cuts.{bytes_before, rest_of, BatchesMeet}
+use Rattle.raft_replay.specs.Segments.{HoldsFrom, AreCutFrom}
+use Rattle.raft_replay.specs.WrittenParts.{with_bytes}
+use Rattle.raft_replay.proofs.CutPartLemmas.{cut_in_two}
+use Rattle.raft_replay.proofs.SegmentLemmas.{batch_unique, batch_inside}
+use Rattle.raft_replay.proofs.WrittenPartLemmas.{longer_stands}
+
+module _ (part : Part) (at : ℕ) (inside : at ≤ length part.bytes) where
+  abbrev front : Part
+  front = bytes_before part at
+
+  whole : with_bytes front (drop at part.bytes) ≡ part
+  whole = ap (λ (l : List ℕ). record part { bytes = l }) (take-append-drop at part.bytes)
+
+  in_whole : (i next : ℕ) (items : List Item) → IsBatchAt front i items next → IsBatchAt part i items next
+  in_whole i next items b = subst (λ (p : Part). IsBatchAt p i items next) whole (longer_stands front (drop at part.bytes) i next items b)
+
+  -- what stands before the byte is read first, and the rest from there on
+  left : (i : ℕ) (first h : List Event) → HoldsFrom front i first → HoldsFrom part i h → (rest : List Event) × (h ≡ first ++ rest) × HoldsFrom part at rest
+  left i [] h ends held = (h, refl, subst (λ (n : ℕ). HoldsFrom part n h) (ends ∙ length-take-le at part.bytes inside) held)
+  left i (e ∷ first) [] f ends =
+      let b = batch_inside front i e.items f.1.0 f.1.1 in
+      let n = length-take-le at part.bytes inside in
+      absurd (omega (arith, b.0, b.1, n, ends, inside))
+  left i (e ∷ first) (g ∷ h) f held =
+      let one = batch_unique part i g.items e.items held.1.0 f.1.0 held.1.1 (in_whole i f.1.0 e.items f.1.1) in
+      let r = left f.1.0 first h f.1.2 (subst (λ (n : ℕ). HoldsFrom part n h) one.1 held.1.2) in
+      let file : g.file ≡ e.file = held.0 ∙ sym f.0 in
+      let same : g ≡ e = λ j. record { items = one.0 j; file = file j } in
+      (r.0, ap (λ (l : List Event). g ∷ l) r.1 ∙ ap (λ (x : Event). x ∷ (first ++ r.0)) same, r.2)
+
+  meets : (first : List Event) → HoldsFrom front 0 first → BatchesMeet part at
+  meets first held h all =
+      let r = left 0 first h held all in
+      record { first = first; rest = r.0; first_held = held; rest_held = r.2; split = r.1 }
+
+  pub cut_where_batches_end : (first : List Event) → HoldsFrom front 0 first → AreCutFrom part (front ∷ rest_of part at ∷ [])
+  cut_where_batches_end first held = cut_in_two part at inside (meets first held)

@@ -11,8 +11,7 @@ use Rattle.raft_history.specs.Batches.{Event}
 use Rattle.raft_replay.specs.Segments.{SegmentsHold, SegmentsAreOf}
 use Rattle.raft_replay.proofs.Words.{PartsHold, PartsAreOf}
 use Rattle.raft_replay.proofs.CutPartLemmas.{uncut}
-use Rattle.raft_recover.specs.Files.{whole_file, segment_shown, FilesHold}
-use Rattle.raft_recover.specs.AskedRequests.{file_shown}
+use Rattle.raft_recover.specs.Files.{whole_file, segment_shown, FilesHold, file_shown}
 
 module _ (queue : LogQueue) (version : Version) where
   abbrev pub whole : ℕ × Vec ℕ Global → Part

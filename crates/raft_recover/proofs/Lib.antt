@@ -1,3 +1,4 @@
+pub mod FewFileLemmas
 pub mod FileLemmas
 pub mod OrderLemmas
 pub mod RecoveryLemmas

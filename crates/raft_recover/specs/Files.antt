@@ -1,5 +1,5 @@
 -- Whole files of a queue, the batches in them, and their tables as text.
-use Rattle.std.specs.Prelude.{ℕ, List, Option, Vec}
+use Rattle.std.specs.Prelude.{ℕ, ◌+◌, List, [], ◌∷◌, length, Option, Vec}
 use Rattle.std.specs.Global.{Global}
 use Rattle.raft_base.specs.declared.errors.Error.{Error}
 use Rattle.raft_base.specs.declared.pipe_log.LogQueue.{LogQueue}
@@ -13,6 +13,15 @@ use Rattle.raft_replay.specs.Segments.{HoldsFrom, EachHolds}
 use Rattle.raft_recover.specs.Recovery.{IsRecovered}
 use Rattle.raft_recover.specs.Requests.{NumberedBytes}
 use Rattle.raft_recover.specs.TableLines.{PrintsTables, PrintsFrontOfTables}
+
+-- a file by its bytes
+abbrev pub file_shown : ℕ × Vec ℕ Global → NumberedBytes
+file_shown file = (file.0, file.1.items)
+
+-- how many bytes files have together
+abbrev pub bytes_of_files : List NumberedBytes → ℕ
+bytes_of_files [] = 0
+bytes_of_files (file ∷ files) = length file.1 + bytes_of_files files
 
 -- all of a file's bytes
 abbrev pub whole_file : LogQueue → Version → NumberedBytes → Part

@@ -10,9 +10,11 @@ pub use Rattle.raft_shared.specs.SharedCalls
 pub use Rattle.raft_shared.specs.Slot
 pub use Rattle.raft_tickets.specs.Draws
 pub use Rattle.raft_tickets.specs.Weights
+pub use Rattle.raft_replay.specs.Cuts
 pub use Rattle.raft_replay.specs.PieceMerges
 pub use Rattle.raft_replay.specs.Plans
 pub use Rattle.raft_replay.specs.Replays
 pub use Rattle.raft_replay.specs.Schedules
 pub use Rattle.raft_replay.specs.Segments
+pub use Rattle.raft_replay.specs.WrittenParts
 pub use Rattle.raft_replay.specs.declared.plan.Plan

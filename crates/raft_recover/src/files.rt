@@ -1,10 +1,13 @@
 //! Files as segments.
 
-ghost use Rattle.std.specs.Prelude.{◌≡◌, ◌↔◌, ◌<◌, List, IfOk, IfErr, length, map};
+ghost use Rattle.std.specs.Prelude.{◌≡◌, ◌↔◌, ◌<◌, ◌^◌, List, IfOk, IfErr, length, map};
+ghost use Rattle.raft_base.specs.declared.pipe_log.LogQueue.{LogQueue};
+ghost use Rattle.raft_base.specs.declared.pipe_log.Version.{Version};
 ghost use Rattle.raft_history.specs.Batches.{Event};
+ghost use Rattle.raft_history.specs.Histories.{IsSmall};
 ghost use Rattle.raft_replay.specs.Segments.{SegmentsHold, SegmentsAreOf};
-ghost use Rattle.raft_recover.specs.Files.{FilesHold};
-ghost use Rattle.raft_recover.specs.AskedRequests.{file_shown};
+ghost use Rattle.raft_recover.specs.Files.{FilesHold, bytes_of_files, file_shown};
+ghost use Rattle.raft_recover.specs.Requests.{NumberedBytes};
 
 use raft_base::{Error, FileId, FileSeq, LogQueue, Result, Version};
 use raft_records::FilePart;
@@ -34,3 +37,10 @@ pub fn file_segments(
     }
     Ok(segments)
 }
+
+/// Batches name no more entries and key values than they have bytes: so files of fewer than 2^63 bytes together hold
+/// a small history. This is a law: it computes nothing.
+pub fn files_hold_few_records()
+    ensures { (queue : LogQueue) (version : Version) (files : List NumberedBytes) (h : List Event)
+        → FilesHold queue version files h → bytes_of_files files < 2 ^ 63 → IsSmall h }
+{}

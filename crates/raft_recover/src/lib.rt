@@ -8,6 +8,7 @@ pub mod recovery;
 pub mod request;
 pub mod shares;
 
+pub use files::{file_segments, files_hold_few_records};
 pub use program::{command_words, run, run_without_words};
 pub use raft_accessor::MemTableAccessor;
 pub use raft_base::{
@@ -17,9 +18,10 @@ pub use raft_history::ReplayMachine;
 pub use raft_memtable::{MemTableRecoverContext, MemTableRecoverContextFactory};
 pub use raft_records::{FilePart, LogBatch, LogItem};
 pub use raft_replay::{
-    Gate, MAX_WORKERS, OpenGate, Plan, Segment, cut_part, gate, merge_pieces, piece_count, pieces,
-    plan, replay_scheduled, replay_segment, replay_segments, scheduled, segment,
-    segments_read_as_one_history, workers,
+    Gate, MAX_WORKERS, OpenGate, Plan, Segment, cut_part, gate, merge_pieces,
+    parts_are_cut_where_batches_end, piece_count, pieces, plan, replay_scheduled, replay_segment,
+    replay_segments, scheduled, segment, segments_hold_few_records, segments_read_as_one_history,
+    workers, written_batches_are_held,
 };
 pub use raft_shared::{SharedAccessor, Slot, shared_accessor, slot};
 pub use raft_table::{GlobalStats, MemTable, TableChange};

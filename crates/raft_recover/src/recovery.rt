@@ -4,9 +4,8 @@ ghost use Rattle.std.specs.Prelude.{◌≢◌, ◌⊎◌, ◌^◌, ◌<◌, ◌�
 ghost use Rattle.std.specs.Io.KnownBytes.{Keeps};
 ghost use Rattle.raft_base.specs.Errors.{IsInvalidArgument};
 ghost use Rattle.raft_replay.specs.Segments.{SegmentsHold, CannotBeRead, MayReplay};
-ghost use Rattle.raft_recover.specs.Files.{FilesCannotBeRead, IsPrintFailure, PrintsRecovered};
+ghost use Rattle.raft_recover.specs.Files.{FilesCannotBeRead, IsPrintFailure, PrintsRecovered, file_shown};
 ghost use Rattle.raft_recover.specs.Recovery.{IsRecovered};
-ghost use Rattle.raft_recover.specs.AskedRequests.{file_shown};
 
 use crate::files::file_segments;
 use crate::recovered::print_recovered;

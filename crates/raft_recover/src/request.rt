@@ -6,7 +6,8 @@ ghost use Rattle.raft_base.specs.declared.pipe_log.LogFileContext.{LogFileContex
 ghost use Rattle.raft_base.specs.declared.pipe_log.LogQueue.{LogQueue};
 ghost use Rattle.raft_base.specs.declared.pipe_log.Version.{Version};
 ghost use Rattle.raft_recover.specs.Requests.{queue_word, version_word, IsNumberWord, NamesContext, NamesPath, IsPathWord, ArePathsNamed, AreFilesOf, IsFilesFault, AskedRecovery, AsksBatch, AsksRecovery, AsksNothing};
-ghost use Rattle.raft_recover.specs.AskedRequests.{IsAsked, asks_for, path_shown, file_shown};
+ghost use Rattle.raft_recover.specs.AskedRequests.{IsAsked, asks_for, path_shown};
+ghost use Rattle.raft_recover.specs.Files.{file_shown};
 
 use raft_base::{Error, FileId, FileSeq, LogFileContext, LogQueue, Result, Version};
 use std::alloc::Global;

@@ -1,0 +1,23 @@
+-- Files hold no more records than they have bytes.
+use Rattle.std.proofs.Common.{◌≡◌, ℕ, ◌<◌, ◌≤◌, ◌^◌, List, [], ◌∷◌, ap, ◌∙◌, arith}
+use Rattle.raft_base.specs.declared.pipe_log.LogQueue.{LogQueue}
+use Rattle.raft_base.specs.declared.pipe_log.Version.{Version}
+use Rattle.raft_history.specs.Batches.{Event}
+use Rattle.raft_history.specs.Histories.{IsSmall}
+use Rattle.raft_history.proofs.StretchOfHistory.{size-append}
+use Rattle.raft_history.proofs.Words.{records_in_history}
+use Rattle.raft_replay.proofs.FewRecordLemmas.{part_few}
+use Rattle.raft_recover.specs.Files.{FilesHold, bytes_of_files, whole_file}
+use Rattle.raft_recover.specs.Requests.{NumberedBytes}
+
+module _ (queue : LogQueue) (version : Version) where
+  files_few : (files : List NumberedBytes) (h : List Event) → FilesHold queue version files h → records_in_history h ≤ bytes_of_files files
+  files_few [] h held = let n : records_in_history h ≡ 0 = ap records_in_history held in omega (arith, n)
+  files_few (file ∷ files) h held =
+      let a = part_few (whole_file queue version file) 0 held.first held.first_held in
+      let b = files_few files held.rest held.rest_held in
+      let s = ap records_in_history held.split ∙ size-append held.first held.rest in
+      omega (arith, a, b, s)
+
+  pub small_files : (files : List NumberedBytes) (h : List Event) → FilesHold queue version files h → bytes_of_files files < 2 ^ 63 → IsSmall h
+  small_files files h held few = let a = files_few files h held in record { few = omega (arith, a, few) }

@@ -1,17 +1,24 @@
 -- What a context that has replayed all segments gives, and files as segments.
-use Rattle.std.proofs.Common.{◌≡◌, ◌≢◌, ◌⊎◌, ◌↔◌, ◌<◌, ◌^◌, inl, inr, ℕ, length, List, [], ◌∷◌, Option, Result, Ok, Err, IfOk, IfErr, OnOk, Vec, sym, subst}
+use Rattle.std.proofs.Common.{◌≡◌, ◌≢◌, ◌⊎◌, ◌↔◌, ◌<◌, ◌^◌, inl, inr, ℕ, true, false, ltb, length, List, [], ◌∷◌, Option, Result, Ok, Err, IfOk, IfErr, OnOk, Vec, refl, sym, subst, ◌∙◌, arith}
+use Rattle.std.specs.Prelude.{flat_map}
+use Rattle.std.proofs.lemmas.Bool.Decides.{nat_tests}
 use Rattle.std.specs.Global.{Global}
 use Rattle.raft_base.specs.declared.errors.Error.{Error}
 use Rattle.raft_base.specs.declared.errors.Error.TheVariants as errors
 use Rattle.raft_base.specs.declared.pipe_log.LogQueue.{LogQueue}
+use Rattle.raft_base.specs.declared.pipe_log.LogQueue.TheVariants.{Append, Rewrite}
 use Rattle.raft_base.specs.declared.pipe_log.Version.{Version}
 use Rattle.raft_records.specs.FilePart.{Part}
 use Rattle.raft_records.specs.Lines.{IsIoError}
 use Rattle.raft_history.specs.Batches.{Event}
 use Rattle.raft_history.specs.Contexts.{Suits, files_of}
-use Rattle.raft_history.specs.Histories.{IsSmall, IsOneReading, IsOfQueue}
+use Rattle.raft_history.specs.BothQueues.{IsReadingOfBoth}
+use Rattle.raft_history.specs.Histories.{IsSmall, IsSoundIn, IsOneReading, IsOfQueue, records_in}
+use Rattle.raft_history.specs.RegionSteps.{steps_of_items}
+use Rattle.raft_history.proofs.SoundLemmas.{append_apart}
 use Rattle.raft_accessor.specs.Accessor.{Accessor, AreCountsOf}
 use Rattle.raft_base.specs.Errors.{IsInvalidArgument}
+use Rattle.raft_memtable.specs.OverlaidContext.{IsOfBothExactly}
 use Rattle.raft_memtable.specs.RecoverContext.{RecoverContext, HasRead, HasReadExactly}
 use Rattle.raft_memtable.specs.declared.context_stage.ContextStage.{ContextStage}
 use Rattle.raft_memtable.specs.declared.context_stage.ContextStage.TheVariants as stages
@@ -20,8 +27,9 @@ use Rattle.raft_replay.specs.Segments.{SegmentsHold, CannotBeRead, SegmentsAreOf
 use Rattle.raft_replay.proofs.MachineOrderLemmas.{segments_read_of_queue}
 use Rattle.raft_replay.proofs.SegmentLemmas.{segments_unique}
 use Rattle.raft_recover.specs.Files.{FilesHold, FilesCannotBeRead, IsPrintFailure, PrintsRecovered}
-use Rattle.raft_recover.specs.Recovery.{IsRecovered}
+use Rattle.raft_recover.specs.Recovery.{AreBothRecovered, IsRecovered}
 use Rattle.raft_recover.specs.Requests.{NumberedBytes}
+use Rattle.raft_recover.specs.Shares.{IsReplayedOrRefused}
 use Rattle.raft_recover.specs.TableLines.{PrintsTables, PrintsFrontOfTables}
 
 -- ---- the context of all segments
@@ -66,29 +74,28 @@ module _ (queue : LogQueue) (segments : List (Vec Part Global)) (of_queue : Segm
 
 module _ (queue : LogQueue) (segments shares : List (Vec Part Global)) (same : (h : List Event) → SegmentsHold segments h ↔ SegmentsHold shares h)
     (of_queue : (q : LogQueue) → SegmentsAreOf q segments ↔ SegmentsAreOf q shares) where
-  pub shares_recovered : (r : Result Accessor Error) → IfOk r (IsRecovered queue (SegmentsHold shares)) → IfOk r (IsRecovered queue (SegmentsHold segments))
-  shares_recovered (Ok a) r = record {
+  pub shares_replayed : (r : Result RecoverContext Error) → IfOk r (IsReplayed HasRead HasReadExactly shares) → IfOk r (IsReplayed HasRead HasReadExactly segments)
+  shares_replayed (Ok m) r = record {
     history = r.history;
     held = (same r.history).1 r.held;
-    sound = r.sound;
-    one_reading = r.one_reading;
-    exact_counts = r.exact_counts;
+    stands = r.stands;
+    exact = r.exact;
   }
-  shares_recovered (Err e) r = tt
+  shares_replayed (Err e) r = tt
 
   module _ (workers : ℕ) (few : length segments < 2 ^ 62) (few_shares : length shares < 2 ^ 62) where
-    pub shares_accepted : (r : Result Accessor Error) → OnOk r (MayReplay queue workers shares) → OnOk r (MayReplay queue workers segments)
+    pub shares_accepted : (r : Result RecoverContext Error) → OnOk r (MayReplay queue workers shares) → OnOk r (MayReplay queue workers segments)
     shares_accepted (Ok a) p = (p.0, p.1, few, (of_queue queue).1 p.3)
     shares_accepted (Err e) p = tt
 
-    pub shares_refused : (r : Result Accessor Error) → (MayReplay queue workers shares → IfErr r (λ e. e ≢ errors.Memory → CannotBeRead shares))
+    pub shares_refused : (r : Result RecoverContext Error) → (MayReplay queue workers shares → IfErr r (λ e. e ≢ errors.Memory → (⊥ → ⊥) → CannotBeRead shares))
         → MayReplay queue workers segments → IfErr r (λ e. e ≢ errors.Memory → CannotBeRead segments)
     shares_refused (Ok a) refused good = tt
     shares_refused (Err e) refused good = λ not_memory. record {
-      unsound = λ h held. (refused (good.0, good.1, few_shares, (of_queue queue).0 good.3) not_memory).unsound h ((same h).0 held);
+      unsound = λ h held. (refused (good.0, good.1, few_shares, (of_queue queue).0 good.3) not_memory (λ none. none)).unsound h ((same h).0 held);
     }
 
-    pub shares_at_fault : (r : Result Accessor Error) → ((MayReplay queue workers shares → ⊥) → IfErr r (λ e. e ≢ errors.Memory → IsInvalidArgument e))
+    pub shares_at_fault : (r : Result RecoverContext Error) → ((MayReplay queue workers shares → ⊥) → IfErr r (λ e. e ≢ errors.Memory → IsInvalidArgument e))
         → (MayReplay queue workers segments → ⊥) → IfErr r (λ e. e ≢ errors.Memory → IsInvalidArgument e)
     shares_at_fault r fault bad = fault (λ good. bad (good.0, good.1, few, (of_queue queue).1 good.3))
 
@@ -134,3 +141,60 @@ module _ (queue : LogQueue) (version : Version) (ss : List (Vec Part Global)) (f
           → IfErr printed (λ e. IsIoError e → PrintsFrontOfTables a old new) → IfErr printed (λ e. e ≢ errors.Memory → FilesCannotBeRead queue version files ⊎ IsPrintFailure queue version files old new e)
       print_failed (Ok x) fault front = tt
       print_failed (Err e) fault front = λ not_memory. inr (failed_by e fault front not_memory)
+
+-- ---- the contexts of both queues
+
+-- a reading, or its refusal
+pub replayed_or_refused : (segments : List (Vec Part Global)) (r : Result RecoverContext Error) → IfOk r (IsReplayed HasRead HasReadExactly segments) → IfErr r (λ e. e ≢ errors.Memory → CannotBeRead segments) → IsReplayedOrRefused segments r
+replayed_or_refused segments (Ok m) replayed refused = replayed
+replayed_or_refused segments (Err e) replayed refused = refused
+
+-- segments that hold no small history can't be read
+few_or_unread : (segments : List (Vec Part Global)) (h : List Event) → SegmentsHold segments h → IsSmall h ⊎ CannotBeRead segments
+few_or_unread segments h held = elim (ltb (records_in (flat_map (λ (e : Event). steps_of_items e.items) h)) (2 ^ 63)) as (λ b. ltb (records_in (flat_map (λ (e : Event). steps_of_items e.items) h)) (2 ^ 63) ≡ b → IsSmall h ⊎ CannotBeRead segments) [
+  | true ↦ λ t. inl (record { few = grind (arith, nat_tests) })
+  | false ↦ λ t. inr (record { unsound = λ g other small sound. not_few h (subst IsSmall (segments_unique segments g h other held) small) t })
+] refl
+  where
+    not_few : (h : List Event) → IsSmall h → ltb (records_in (flat_map (λ (e : Event). steps_of_items e.items) h)) (2 ^ 63) ≡ false → ⊥
+    not_few h small t = let k = small.few in grind (arith, nat_tests)
+
+module _ (rewrite append : List (Vec Part Global)) (rewrite_of : SegmentsAreOf Rewrite rewrite) (append_of : SegmentsAreOf Append append) (old appended : RecoverContext)
+    (older : IsReplayed HasRead HasReadExactly rewrite old) (newer : IsReplayed HasRead HasReadExactly append appended) where
+  pub both_merged : (r : Result Unit Error)
+      → ((h k : List Event) → IsSmall h → IsSmall k → IsOfQueue Rewrite h → IsOfQueue Append k → HasRead old h → HasRead appended k → IfErr r (λ e. e ≡ errors.Memory))
+      → IfErr r (λ e. e ≢ errors.Memory → CannotBeRead rewrite ⊎ CannotBeRead append)
+  both_merged (Ok u) memory = tt
+  both_merged (Err e) memory = λ not_memory. elim (few_or_unread rewrite older.history older.held) [
+    | inr cannot ↦ inl cannot
+    | inl small ↦ elim (few_or_unread append newer.history newer.held) [
+      | inr cannot ↦ inr cannot
+      | inl few ↦ absurd (not_memory (memory older.history newer.history small few (segments_read_of_queue Rewrite rewrite rewrite_of older.history older.held) (segments_read_of_queue Append append append_of newer.history newer.held) (older.stands small) (newer.stands few)))
+    ]
+  ]
+
+  rewrite_sound : IsSmall older.history → IsSoundIn Rewrite older.history
+  rewrite_sound small = ((older.stands small).stands.stands Rewrite (suited Rewrite rewrite rewrite_of old older small)).sound
+
+  append_sound : IsSmall newer.history → IsSoundIn Append newer.history
+  append_sound small = ((newer.stands small).stands.stands Append (suited Append append append_of appended newer small)).sound
+
+  pub both_recovered : (new : RecoverContext) → ((h k : List Event) → HasReadExactly old h → HasReadExactly appended k → IsOfBothExactly new h k)
+      → (r : Result Accessor Error) → ((h k : List Event) → IsOfBothExactly new h k → IfOk r (λ a. IsReadingOfBoth h k a.tables a.cleaned))
+      → IfOk r (λ a. AreCountsOf a.tables a.counts) → IfOk r (AreBothRecovered (SegmentsHold rewrite) (SegmentsHold append))
+  both_recovered new merged (Ok a) reads counted = record {
+    rewrite = older.history;
+    append = newer.history;
+    rewrite_held = older.held;
+    append_held = newer.held;
+    rewrite_sound = rewrite_sound;
+    append_sound = append_sound;
+    reading = λ small few apart. reads older.history newer.history (merged older.history newer.history (older.exact small apart) (newer.exact few (record { each = append_apart 0 newer.history (append_sound few).files })));
+    exact_counts = counted;
+  }
+  both_recovered new merged (Err e) reads counted = tt
+
+-- a context that has taken in the other queue hands out its tables
+pub both_finished : {A : Type 0} (new : RecoverContext) (r : Result A Error) (P : Error → Type 0) → new.stage ≡ stages.Overlaid → IfErr r (λ e. (e ≡ errors.Failed) × (new.stage ≡ stages.Failed)) → IfErr r P
+both_finished new (Ok a) P overlaid failed = tt
+both_finished new (Err e) P overlaid failed = absurd (subst is_failed (sym failed.1 ∙ overlaid) tt)

@@ -27,4 +27,4 @@ pub use raft_shared::{SharedAccessor, Slot, shared_accessor, slot};
 pub use raft_table::{GlobalStats, MemTable, TableChange};
 pub use raft_tickets::{TicketSeat, Tickets, ticket_seat, tickets};
 pub use recovered::print_recovered;
-pub use recovery::{recover, recover_bytes, recover_segments};
+pub use recovery::{recover, recover_both, recover_bytes, recover_segments};

@@ -3,20 +3,24 @@
 ghost use Rattle.std.specs.Prelude.{◌≢◌, ◌⊎◌, ◌^◌, ◌<◌, ◌≤◌, length, IfOk, IfErr, OnOk, map};
 ghost use Rattle.std.specs.Io.KnownBytes.{Keeps};
 ghost use Rattle.raft_base.specs.Errors.{IsInvalidArgument};
+ghost use Rattle.raft_base.specs.declared.pipe_log.LogQueue.TheVariants.{Append, Rewrite};
+ghost use Rattle.raft_memtable.specs.RecoverContext.{HasRead, HasReadExactly};
+ghost use Rattle.raft_replay.specs.Replays.{IsReplayed};
 ghost use Rattle.raft_replay.specs.Segments.{SegmentsHold, CannotBeRead, MayReplay};
 ghost use Rattle.raft_recover.specs.Files.{FilesCannotBeRead, IsPrintFailure, PrintsRecovered, file_shown};
-ghost use Rattle.raft_recover.specs.Recovery.{IsRecovered};
+ghost use Rattle.raft_recover.specs.Recovery.{AreBothRecovered, IsRecovered, MayReplayBoth};
+ghost use Rattle.raft_recover.specs.Shares.{IsReplayedOrRefused};
 
 use crate::files::file_segments;
 use crate::recovered::print_recovered;
-use crate::shares::equal_shares;
+use crate::shares::{bytes_of, equal_shares};
 use raft_accessor::MemTableAccessor;
 use raft_base::{Error, FileSeq, LogQueue, Result, Version};
-use raft_memtable::MemTableRecoverContextFactory;
-use raft_replay::{MAX_WORKERS, OpenGate, SEGMENT_LIMIT, Segment, replay_segments};
+use raft_memtable::{MemTableRecoverContext, MemTableRecoverContextFactory};
+use raft_replay::{MAX_WORKERS, OpenGate, SEGMENT_LIMIT, Segment, are_accepted, replay_segments};
 use std::alloc::Global;
 use std::io::Write;
-use std::thread::Threads;
+use std::thread::{Threads, join};
 
 /// About how many bytes a share has at least: for fewer a further piece costs more than its worker saves.
 const LEAST_SHARE: usize = 1 << 20;
@@ -51,12 +55,118 @@ pub fn recover<R: Threads + Sync>(
     ensures fault { ¬ (MayReplay queue workers segments.entry.now)
         → IfErr result (λ e. e ≢ Error.Memory → IsInvalidArgument e) }
 {
+    replayed(rt, alloc, segments, queue, workers)?.finish()
+}
+
+/// The tables of both queues: those of the append queue over those of the rewrite queue, as
+/// [`MemTableRecoverContext::merge_append_context`] puts them. The segments of each queue are read as by
+/// [`recover`]. With two workers or more both queues are read at once, and the workers are shared out by bytes.
+///
+/// What is proved of it: an `Ok` has what one reading of each queue's batches in order gives, put over each
+/// other, and an `Err` other than `Memory` comes only where one of the two readings is refused. Premises: those
+/// of [`recover`] for each queue.
+///
+/// # Errors
+///
+/// `InvalidArgument` for another number of workers, for a part of another queue and for 2^62 segments of a queue
+/// and more; then those of [`recover`] for either queue, and `Full` where both hold more than 2^64 - 1 records.
+pub fn recover_both<R: Threads + Sync>(
+    rt: &R,
+    alloc: Global,
+    rewrite: &[Segment],
+    append: &[Segment],
+    workers: usize,
+) -> Result<MemTableAccessor>
+    ensures ok { IfOk result (AreBothRecovered (SegmentsHold rewrite.entry.now)
+        (SegmentsHold append.entry.now)) }
+    ensures accepted { OnOk result (MayReplayBoth workers rewrite.entry.now append.entry.now) }
+    ensures refused { MayReplayBoth workers rewrite.entry.now append.entry.now
+        → IfErr result (λ e. e ≢ Error.Memory
+        → CannotBeRead rewrite.entry.now ⊎ CannotBeRead append.entry.now) }
+    ensures fault { ¬ (MayReplayBoth workers rewrite.entry.now append.entry.now)
+        → IfErr result (λ e. e ≢ Error.Memory → IsInvalidArgument e) }
+{
+    if !are_accepted(rewrite, LogQueue::Rewrite, workers)
+        || !are_accepted(append, LogQueue::Append, workers)
+    {
+        return Err(Error::invalid_argument(
+            alloc,
+            "a number of workers but 1 to 256, 2^62 segments or more, or parts of another queue",
+        ));
+    }
+    let (mut both, appended) = both_replayed(rt, alloc, rewrite, append, workers)?;
+    both.merge_append_context(appended)?;
+    both.finish()
+}
+
+/// The contexts of the rewrite queue and of the append queue. Two workers or more read both queues at once.
+fn both_replayed<R: Threads + Sync>(
+    rt: &R,
+    alloc: Global,
+    rewrite: &[Segment],
+    append: &[Segment],
+    workers: usize,
+) -> Result<(MemTableRecoverContext, MemTableRecoverContext)>
+    requires { MayReplayBoth workers rewrite.now append.now }
+    ensures rewritten { IfOk result
+        (λ both. IsReplayed HasRead HasReadExactly rewrite.entry.now both.0) }
+    ensures appended { IfOk result
+        (λ both. IsReplayed HasRead HasReadExactly append.entry.now both.1) }
+    ensures refused { IfErr result (λ e. e ≢ Error.Memory
+        → CannotBeRead rewrite.entry.now ⊎ CannotBeRead append.entry.now) }
+{
+    if workers == 1 {
+        let both = replayed(rt, alloc, rewrite, LogQueue::Rewrite, 1)?;
+        let appended = replayed(rt, alloc, append, LogQueue::Append, 1)?;
+        return Ok((both, appended));
+    }
+    let rewriters = part_of_workers(workers, bytes_of(rewrite), bytes_of(append));
+    let appenders = workers - rewriters;
+    let read_rewrite = || -> Result<MemTableRecoverContext>
+        requires { MayReplay Rewrite rewriters rewrite.now }
+        ensures { IsReplayedOrRefused rewrite.now result }
+    { replayed(rt, alloc, rewrite, LogQueue::Rewrite, rewriters) };
+    let read_append = || -> Result<MemTableRecoverContext>
+        requires { MayReplay Append appenders append.now }
+        ensures { IsReplayedOrRefused append.now result }
+    { replayed(rt, alloc, append, LogQueue::Append, appenders) };
+    let (both, appended) = join(rt, read_rewrite, read_append);
+    Ok((both?, appended?))
+}
+
+/// How many of the workers read the first of two queues: as many as its part of all bytes, but one at least and
+/// not all of them.
+fn part_of_workers(workers: usize, first: usize, second: usize) -> usize
+    requires { 2 ≤ workers }
+    ensures { (0 < result) × (result < workers) }
+{
+    let all = first as u128 + second as u128;
+    let part = workers as u128 * first as u128 / all.max(1);
+    (part as usize).clamp(1, workers - 1)
+}
+
+/// The context of a queue's segments, divided as [`recover`] says.
+fn replayed<R: Threads + Sync>(
+    rt: &R,
+    alloc: Global,
+    segments: &[Segment],
+    queue: LogQueue,
+    workers: usize,
+) -> Result<MemTableRecoverContext>
+    ensures ok { IfOk result (IsReplayed HasRead HasReadExactly segments.entry.now) }
+    ensures accepted { OnOk result (MayReplay queue workers segments.entry.now) }
+    ensures refused { MayReplay queue workers segments.entry.now
+        → IfErr result (λ e. e ≢ Error.Memory → CannotBeRead segments.entry.now) }
+    ensures fault { ¬ (MayReplay queue workers segments.entry.now)
+        → IfErr result (λ e. e ≢ Error.Memory → IsInvalidArgument e) }
+{
     if segments.len() >= SEGMENT_LIMIT {
         return Err(Error::invalid_argument(alloc, "2^62 segments or more"));
     }
     let count = workers.clamp(1, MAX_WORKERS);
     let shares = equal_shares(alloc, segments, count, LEAST_SHARE)?;
-    recover_segments(rt, alloc, shares.as_slice(), queue, workers)
+    let factory = MemTableRecoverContextFactory::new();
+    replay_segments(rt, alloc, &factory, shares.as_slice(), queue, workers, &OpenGate)
 }
 
 /// The tables as [`recover`] gives them, but the segments are read as they are: each worker takes the next one that is

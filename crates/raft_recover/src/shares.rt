@@ -41,7 +41,7 @@ pub fn equal_shares(
 }
 
 /// How many bytes all parts hold, capped at 2^64 - 1.
-fn bytes_of(segments: &[Segment]) -> usize {
+pub(crate) fn bytes_of(segments: &[Segment]) -> usize {
     let mut bytes = 0usize;
     for segment in segments {
         for part in segment {

@@ -1,6 +1,7 @@
 //! Whole recoveries: files in, lines out, on any number of workers and however the files are cut.
 
 mod batches;
+mod both;
 mod bound;
 mod histories;
 mod kept;

@@ -72,7 +72,7 @@ pub fn replay_segments<M: ReplayMachine, F: Factory<M>, G: Gate, R: Threads + Sy
 
 /// Whether so many workers may replay these segments: 1 to 256 workers, fewer than 2^62 segments, and every part of the
 /// queue.
-fn are_accepted(segments: &[Segment], queue: LogQueue, workers: usize) -> bool
+pub fn are_accepted(segments: &[Segment], queue: LogQueue, workers: usize) -> bool
     ensures { IsTrue result ↔ MayReplay queue workers segments.now }
 {
     if workers == 0 || workers > MAX_WORKERS || segments.len() >= SEGMENT_LIMIT {

@@ -1,6 +1,6 @@
 //! The tables of the regions of one slot.
 
-ghost use Rattle.std.specs.Prelude.{◌≡◌, ◌≤◌, ◌<◌, ◌^◌, ◌+◌, ◌⊎◌, ◌↔◌, List, [], ◌∷◌, ◌++◌, map, IsPermutation, IsTrue, OnOk, OnErr, IfOk, IfErr, IfSome, Some, option_map, if◌then◌else◌};
+ghost use Rattle.std.specs.Prelude.{◌≡◌, ◌≢◌, ◌≤◌, ◌<◌, ◌^◌, ◌+◌, ◌⊎◌, ◌↔◌, List, [], ◌∷◌, ◌++◌, map, IsPermutation, IsTrue, OnOk, OnErr, IfOk, IfErr, IfSome, Some, option_map, if◌then◌else◌};
 ghost use Rattle.std.specs.FinMap as finite;
 ghost use Rattle.std.specs.List.{FoldsTo};
 ghost use Rattle.raft_base.specs.declared.pipe_log.LogQueue.{LogQueue};
@@ -11,6 +11,7 @@ ghost use Rattle.raft_table.specs.Change.{after_change, AreCountsAfter, IsAllowe
 ghost use Rattle.raft_table.specs.Table.{Table, with_table_added, with_table_deleted, live_of};
 ghost use Rattle.raft_accessor.specs.Accessor.{slot_of, table_in, live_in_all};
 ghost use Rattle.raft_accessor.specs.AccessorCalls.{IsTableChanged, IsWritten};
+ghost use Rattle.raft_accessor.specs.AppendChecks.{AreAcceptedOncePlaced, AreRefusedOncePlaced, IsAppendCheckFault};
 ghost use Rattle.raft_shared.specs.Slot.{IsSlotTable, HoldsOwnTables};
 ghost use Rattle.raft_accessor.specs.Walks.{KeepsId, Makes};
 ghost use Rattle.raft_accessor.specs.Writes.{Appending, Rewriting};
@@ -254,6 +255,23 @@ impl Slot {
             self.list(id)?;
         }
         Ok(self.take(id))
+    }
+
+    /// Tests whether [`apply_append_write`](Slot::apply_append_write) would accept these items, one after another,
+    /// once their entries have a place and their key values a file in the append queue. It changes nothing.
+    ///
+    /// # Errors
+    ///
+    /// `Corruption` where it would refuse an item: the text names the region, the index and the reason. `Memory`.
+    pub fn check_append_writes(&self, items: &[LogItem]) -> Result<()>
+        ensures ok { OnOk result (AreAcceptedOncePlaced self.now.content.tables
+            (map item_of items.now)) }
+        ensures refused { IfErr result (λ e. e ≢ Error.Memory
+            → AreRefusedOncePlaced self.now.content.tables (map item_of items.now)) }
+        ensures fault { IfErr result (IsAppendCheckFault self.now.content.tables
+            (map item_of items.now)) }
+    {
+        self.tables.check_append_items(items)
     }
 
     /// Writes a new item of the append queue to its region's table.

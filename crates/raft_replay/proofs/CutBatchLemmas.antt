@@ -8,7 +8,8 @@ use Rattle.raft_replay.specs.Cuts.{bytes_before, rest_of, BatchesMeet}
 use Rattle.raft_replay.specs.Segments.{HoldsFrom, AreCutFrom}
 use Rattle.raft_replay.specs.WrittenParts.{with_bytes}
 use Rattle.raft_replay.proofs.CutPartLemmas.{cut_in_two}
-use Rattle.raft_replay.proofs.SegmentLemmas.{batch_unique, batch_inside}
+use Rattle.raft_records.proofs.PartLemmas.{batch_inside}
+use Rattle.raft_replay.proofs.SegmentLemmas.{batch_unique}
 use Rattle.raft_replay.proofs.WrittenPartLemmas.{longer_stands}
 
 module _ (part : Part) (at : ℕ) (inside : at ≤ length part.bytes) where

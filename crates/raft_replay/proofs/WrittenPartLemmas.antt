@@ -12,7 +12,7 @@ use Rattle.raft_records.proofs.PartLemmas.{written_stands}
 use Rattle.raft_history.specs.Batches.{Event}
 use Rattle.raft_replay.specs.Segments.{HoldsFrom}
 use Rattle.raft_replay.specs.WrittenParts.{with_bytes, written_event, WrittenBatchIsHeld}
-use Rattle.raft_replay.proofs.SegmentLemmas.{batch_inside}
+use Rattle.raft_records.proofs.PartLemmas.{batch_inside}
 
 -- a batch stands in the longer part too
 pub longer_stands : (part : Part) (more : List ℕ) (at next : ℕ) (items : List Item) → IsBatchAt part at items next → IsBatchAt (with_bytes part more) at items next

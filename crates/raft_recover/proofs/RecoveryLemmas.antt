@@ -13,8 +13,10 @@ use Rattle.raft_records.specs.Lines.{IsIoError}
 use Rattle.raft_history.specs.Batches.{Event}
 use Rattle.raft_history.specs.Contexts.{Suits, files_of}
 use Rattle.raft_history.specs.BothQueues.{IsReadingOfBoth}
-use Rattle.raft_history.specs.Histories.{IsSmall, IsSoundIn, IsOneReading, IsOfQueue, records_in}
-use Rattle.raft_history.specs.RegionSteps.{steps_of_items}
+use Rattle.raft_history.specs.Histories.{Apart, IsSmall, IsSoundIn, IsOneReading, IsOfQueue, records_in}
+use Rattle.raft_history.specs.RegionSteps.{Tables, steps_of_items}
+use Rattle.raft_history.specs.RewrittenRecords.{AreRewrittenFrom, HaveSameRecords}
+use Rattle.raft_history.proofs.RewrittenHistories.{both_same}
 use Rattle.raft_history.proofs.SoundLemmas.{append_apart}
 use Rattle.raft_accessor.specs.Accessor.{Accessor, AreCountsOf}
 use Rattle.raft_base.specs.Errors.{IsInvalidArgument}
@@ -198,3 +200,14 @@ module _ (rewrite append : List (Vec Part Global)) (rewrite_of : SegmentsAreOf R
 pub both_finished : {A : Type 0} (new : RecoverContext) (r : Result A Error) (P : Error → Type 0) → new.stage ≡ stages.Overlaid → IfErr r (λ e. (e ≡ errors.Failed) × (new.stage ≡ stages.Failed)) → IfErr r P
 both_finished new (Ok a) P overlaid failed = tt
 both_finished new (Err e) P overlaid failed = absurd (subst is_failed (sym failed.1 ∙ overlaid) tt)
+
+-- with a whole append queue both give its records alone
+pub both_whole : (rewrite append : List (Vec Part Global)) (r : Result Accessor Error) → IfOk r (AreBothRecovered (SegmentsHold rewrite) (SegmentsHold append)) → (h k : List Event) (tables : Tables) (cleaned : List ℕ) → SegmentsHold rewrite h → SegmentsHold append k → IsSmall h → IsSmall k → Apart h
+    → AreRewrittenFrom k h → IsOneReading Append k tables cleaned → IfOk r (λ a. HaveSameRecords a.tables tables × (a.cleaned ≡ cleaned))
+both_whole rewrite append (Ok a) both h k tables cleaned rewrite_held append_held small few apart from one =
+    let h_same = segments_unique rewrite both.rewrite h both.rewrite_held rewrite_held in
+    let k_same = segments_unique append both.append k both.append_held append_held in
+    let reading = subst (λ l. IsReadingOfBoth l k a.tables a.cleaned) h_same (subst (λ l. IsReadingOfBoth both.rewrite l a.tables a.cleaned) k_same (both.reading (subst IsSmall (sym h_same) small) (subst IsSmall (sym k_same) few) (subst Apart (sym h_same) apart))) in
+    let sound = subst (IsSoundIn Append) k_same (both.append_sound (subst IsSmall (sym k_same) few)) in
+    (both_same k sound h a.tables tables a.cleaned cleaned from reading one, reading.append_read.regions_cleaned ∙ sym one.regions_cleaned)
+both_whole rewrite append (Err e) both h k tables cleaned rewrite_held append_held small few apart from one = tt

@@ -1,9 +1,14 @@
 //! From the bytes of files to the tables of all regions.
 
-ghost use Rattle.std.specs.Prelude.{◌≢◌, ◌⊎◌, ◌^◌, ◌<◌, ◌≤◌, length, IfOk, IfErr, OnOk, map};
+ghost use Rattle.std.specs.Prelude.{◌≡◌, ◌≢◌, ℕ, ◌⊎◌, ◌^◌, ◌<◌, ◌≤◌, length, IfOk, IfErr, OnOk, OnErr, List, map};
 ghost use Rattle.std.specs.Io.KnownBytes.{Keeps};
+ghost use Rattle.std.specs.Thread.{IsSync};
 ghost use Rattle.raft_base.specs.Errors.{IsInvalidArgument};
 ghost use Rattle.raft_base.specs.declared.pipe_log.LogQueue.TheVariants.{Append, Rewrite};
+ghost use Rattle.raft_history.specs.Batches.{Event};
+ghost use Rattle.raft_history.specs.Histories.{Apart, IsOneReading, IsSmall};
+ghost use Rattle.raft_history.specs.RegionSteps.{Tables};
+ghost use Rattle.raft_history.specs.RewrittenRecords.{AreRewrittenFrom, HaveSameRecords};
 ghost use Rattle.raft_memtable.specs.RecoverContext.{HasRead, HasReadExactly};
 ghost use Rattle.raft_replay.specs.Replays.{IsReplayed};
 ghost use Rattle.raft_replay.specs.Segments.{SegmentsHold, CannotBeRead, MayReplay};
@@ -55,7 +60,8 @@ pub fn recover<R: Threads + Sync>(
     ensures fault { ¬ (MayReplay queue workers segments.entry.now)
         → IfErr result (λ e. e ≢ Error.Memory → IsInvalidArgument e) }
 {
-    replayed(rt, alloc, segments, queue, workers)?.finish()
+    let context = replayed(rt, alloc, segments, queue, workers)?;
+    context.finish()
 }
 
 /// The tables of both queues: those of the append queue over those of the rewrite queue, as
@@ -63,8 +69,9 @@ pub fn recover<R: Threads + Sync>(
 /// [`recover`]. With two workers or more both queues are read at once, and the workers are shared out by bytes.
 ///
 /// What is proved of it: an `Ok` has what one reading of each queue's batches in order gives, put over each
-/// other, and an `Err` other than `Memory` comes only where one of the two readings is refused. Premises: those
-/// of [`recover`] for each queue.
+/// other, and an `Err` other than `Memory` comes only where one of the two readings is refused. Where the append
+/// queue still has all its batches, and each rewritten record is one that it had, the records are those that the
+/// append queue gives alone (clause `whole`). Premises: those of [`recover`] for each queue.
 ///
 /// # Errors
 ///
@@ -85,18 +92,41 @@ pub fn recover_both<R: Threads + Sync>(
         → CannotBeRead rewrite.entry.now ⊎ CannotBeRead append.entry.now) }
     ensures fault { ¬ (MayReplayBoth workers rewrite.entry.now append.entry.now)
         → IfErr result (λ e. e ≢ Error.Memory → IsInvalidArgument e) }
+    ensures whole { (h k : List Event) (tables : Tables) (cleaned : List ℕ)
+        → SegmentsHold rewrite.entry.now h → SegmentsHold append.entry.now k → IsSmall h → IsSmall k
+        → Apart h → AreRewrittenFrom k h → IsOneReading Append k tables cleaned
+        → IfOk result (λ accessor. HaveSameRecords accessor.tables tables
+        × (accessor.cleaned ≡ cleaned)) }
 {
-    if !are_accepted(rewrite, LogQueue::Rewrite, workers)
-        || !are_accepted(append, LogQueue::Append, workers)
-    {
-        return Err(Error::invalid_argument(
-            alloc,
-            "a number of workers but 1 to 256, 2^62 segments or more, or parts of another queue",
-        ));
-    }
+    check_segments(alloc, rewrite, LogQueue::Rewrite, workers)?;
+    check_segments(alloc, append, LogQueue::Append, workers)?;
     let (mut both, appended) = both_replayed(rt, alloc, rewrite, append, workers)?;
     both.merge_append_context(appended)?;
     both.finish()
+}
+
+/// Tests whether so many workers may replay the segments of a queue.
+///
+/// # Errors
+///
+/// `InvalidArgument` where they may not, `Memory` for the text.
+fn check_segments(
+    alloc: Global,
+    segments: &[Segment],
+    queue: LogQueue,
+    workers: usize,
+) -> Result<()>
+    ensures ok { OnOk result (MayReplay queue workers segments.entry.now) }
+    ensures err { OnErr result (¬ (MayReplay queue workers segments.entry.now)) }
+    ensures fault { IfErr result (λ e. e ≢ Error.Memory → IsInvalidArgument e) }
+{
+    if are_accepted(segments, queue, workers) {
+        return Ok(());
+    }
+    Err(Error::invalid_argument(
+        alloc,
+        "another number of workers than 1 to 256, 2^62 segments or more, or a part of another queue",
+    ))
 }
 
 /// The contexts of the rewrite queue and of the append queue. Two workers or more read both queues at once.
@@ -116,22 +146,24 @@ fn both_replayed<R: Threads + Sync>(
         → CannotBeRead rewrite.entry.now ⊎ CannotBeRead append.entry.now) }
 {
     if workers == 1 {
-        let both = replayed(rt, alloc, rewrite, LogQueue::Rewrite, 1)?;
-        let appended = replayed(rt, alloc, append, LogQueue::Append, 1)?;
+        let both = replayed(rt, alloc, rewrite, LogQueue::Rewrite, workers)?;
+        let appended = replayed(rt, alloc, append, LogQueue::Append, workers)?;
         return Ok((both, appended));
     }
     let rewriters = part_of_workers(workers, bytes_of(rewrite), bytes_of(append));
     let appenders = workers - rewriters;
     let read_rewrite = || -> Result<MemTableRecoverContext>
-        requires { MayReplay Rewrite rewriters rewrite.now }
+        requires { IsSync R.row × MayReplay Rewrite rewriters rewrite.now }
         ensures { IsReplayedOrRefused rewrite.now result }
     { replayed(rt, alloc, rewrite, LogQueue::Rewrite, rewriters) };
     let read_append = || -> Result<MemTableRecoverContext>
-        requires { MayReplay Append appenders append.now }
+        requires { IsSync R.row × MayReplay Append appenders append.now }
         ensures { IsReplayedOrRefused append.now result }
     { replayed(rt, alloc, append, LogQueue::Append, appenders) };
-    let (both, appended) = join(rt, read_rewrite, read_append);
-    Ok((both?, appended?))
+    let (rewritten, appended) = join(rt, read_rewrite, read_append);
+    let both = rewritten?;
+    let appended = appended?;
+    Ok((both, appended))
 }
 
 /// How many of the workers read the first of two queues: as many as its part of all bytes, but one at least and
@@ -140,9 +172,8 @@ fn part_of_workers(workers: usize, first: usize, second: usize) -> usize
     requires { 2 ≤ workers }
     ensures { (0 < result) × (result < workers) }
 {
-    let all = first as u128 + second as u128;
-    let part = workers as u128 * first as u128 / all.max(1);
-    (part as usize).clamp(1, workers - 1)
+    let each = (first.saturating_add(second) / workers).max(1);
+    (first / each).clamp(1, workers - 1)
 }
 
 /// The context of a queue's segments, divided as [`recover`] says.

@@ -4,3 +4,5 @@ pub mod OrderLemmas
 pub mod RecoveryLemmas
 pub mod RequestLemmas
 pub mod ShareLemmas
+pub mod ScanLemmas
+pub mod ScanRequestLemmas

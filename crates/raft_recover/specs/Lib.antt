@@ -3,6 +3,9 @@ pub mod Recovery
 pub mod AskedRequests
 pub mod Requests
 pub mod Programs
+pub mod ScanRequests
+pub mod ScanWords
+pub mod Scans
 pub mod TableLines
 pub mod Shares
 pub use Rattle.raft_base.specs.Runs
@@ -16,5 +19,6 @@ pub use Rattle.raft_replay.specs.Plans
 pub use Rattle.raft_replay.specs.Replays
 pub use Rattle.raft_replay.specs.Schedules
 pub use Rattle.raft_replay.specs.Segments
+pub use Rattle.raft_replay.specs.Stops
 pub use Rattle.raft_replay.specs.WrittenParts
 pub use Rattle.raft_replay.specs.declared.plan.Plan

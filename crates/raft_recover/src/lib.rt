@@ -6,6 +6,8 @@ pub mod program;
 pub mod recovered;
 pub mod recovery;
 pub mod request;
+pub mod scan;
+pub mod scan_program;
 pub mod shares;
 
 pub use files::{file_segments, files_hold_few_records};
@@ -19,12 +21,14 @@ pub use raft_memtable::{MemTableRecoverContext, MemTableRecoverContextFactory};
 pub use raft_records::{FilePart, LogBatch, LogItem};
 pub use raft_replay::{
     Gate, MAX_WORKERS, OpenGate, Plan, Segment, cut_part, gate, merge_pieces,
-    parts_are_cut_where_batches_end, piece_count, pieces, plan, replay_scheduled, replay_segment,
-    replay_segments, scheduled, segment, segments_hold_few_records, segments_read_as_one_history,
-    workers, written_batches_are_held,
+    parts_are_cut_where_batches_end, piece_count, pieces, plan, replay_bytes, replay_scheduled,
+    replay_segment, replay_segments, scheduled, segment, segments_hold_few_records,
+    segments_read_as_one_history, workers, written_batches_are_held,
 };
 pub use raft_shared::{SharedAccessor, Slot, shared_accessor, slot};
 pub use raft_table::{GlobalStats, MemTable, TableChange};
 pub use raft_tickets::{TicketSeat, Tickets, ticket_seat, tickets};
 pub use recovered::print_recovered;
 pub use recovery::{recover, recover_both, recover_bytes, recover_segments};
+pub use scan::append_scan;
+pub use scan_program::{run_scan, scan_without_words};

@@ -161,7 +161,7 @@ fn print_files<S: Files + AllocGlobal + Threads + Sync, W: Write>(
 }
 
 /// The word for a refusal.
-fn refusal(error: &Error) -> &'static str
+pub(crate) fn refusal(error: &Error) -> &'static str
     ensures { result.now ≡ refusal_word error.now }
 {
     match error {

@@ -45,7 +45,9 @@ const LEAST_SHARE: usize = 1 << 20;
 ///
 /// `InvalidArgument` for another number of workers, for a part of another queue and for 2^62 segments and more,
 /// then whatever a reading answers: `Corruption`, `Codec`, or `Io` for an item that ends before its type, where
-/// a part isn't a sequence of readable batches or the batches in order can't be read. `Memory`.
+/// a part isn't a sequence of readable batches or the batches in order can't be read. `Memory`. The text of a
+/// `Corruption` that a batch is refused with begins with its place, as [`replay_segment`](raft_replay::replay_segment)
+/// says; where only a merge shows that a run leaves a hole, it names the region and the indexes.
 pub fn recover<R: Threads + Sync>(
     rt: &R,
     alloc: Global,

@@ -126,7 +126,10 @@ fn recovery_request<'a>(alloc: Global, words: &'a [String]) -> Result<Option<Rec
 /// # Errors
 ///
 /// `Memory`, and only where each names one.
-fn paths_named<'a>(alloc: Global, words: &'a [String]) -> Result<Option<Vec<(FileSeq, &'a str)>>>
+pub(crate) fn paths_named<'a>(
+    alloc: Global,
+    words: &'a [String],
+) -> Result<Option<Vec<(FileSeq, &'a str)>>>
     ensures named { IfOk result (λ r. IfSome r (λ paths.
         ArePathsNamed (map string_bytes words.now) (map path_shown paths.items))) }
     ensures refused { IfOk result (λ r. IfNone r
@@ -191,7 +194,7 @@ pub fn read_files<R: Files + AllocGlobal>(
 }
 
 /// The queue that a word names.
-fn queue_named(word: &str) -> Option<LogQueue>
+pub(crate) fn queue_named(word: &str) -> Option<LogQueue>
     ensures named { IfSome result (λ queue. word.now ≡ queue_word queue) }
     ensures refused { IfNone result ((queue : LogQueue) → word.now ≡ queue_word queue → ⊥) }
 {
@@ -203,7 +206,7 @@ fn queue_named(word: &str) -> Option<LogQueue>
 }
 
 /// The version that a word names.
-fn version_named(word: &str) -> Option<Version>
+pub(crate) fn version_named(word: &str) -> Option<Version>
     ensures named { IfSome result (λ version. word.now ≡ version_word version) }
     ensures refused { IfNone result ((version : Version) → word.now ≡ version_word version → ⊥) }
 {

@@ -6,6 +6,7 @@ mod bound;
 mod histories;
 mod kept;
 mod owed;
+mod refusals;
 mod rows;
 mod schedules;
 mod shared;

@@ -1,12 +1,13 @@
-//! Truncations of the tables of one slot.
+//! Truncations of the tables of one slot, and tables of all slots that come back from sharing.
 
 ghost use Rattle.std.specs.Prelude.{◌≡◌};
 
 use super::run;
+use super::seen::see_core;
 use crate::items::{Fault, answered};
-use raft_memtable::{Error, FileId, LogQueue, Result, TableChange, slot_of};
+use raft_memtable::{Error, FileId, LogQueue, MemTableAccessor, Result, TableChange, slot_of};
 use raft_records::{Command, LogItem};
-use raft_recover::Slot;
+use raft_recover::{SharedAccessor, Slot};
 use std::alloc::Global;
 
 /// A truncation of region 1.
@@ -53,4 +54,55 @@ fn slots_truncate(rt: HostRuntime) {
         truncated = truncate(rt.alloc());
     }
     assert!(rt; matches!(truncated, Ok(true)));
+}
+
+/// How many regions have tables in the test below.
+const REGIONS: u64 = 2_048;
+
+/// Tables of many regions, of which every fifth is empty, and as many cleaned regions as a third of them.
+fn many_tables(alloc: Global) -> Result<MemTableAccessor> {
+    let mut core = MemTableAccessor::new(alloc)?;
+    for region in 0..REGIONS {
+        if region % 5 == 0 {
+            core.get_or_insert(region)?;
+        } else {
+            let appended = run(
+                alloc,
+                region,
+                region + 2,
+                FileId::new(LogQueue::Append, region),
+            )?;
+            core.change(region, TableChange::Append(appended))?;
+        }
+        if region % 3 == 0 {
+            core.remove(region + REGIONS, true)?;
+        }
+    }
+    Ok(core)
+}
+
+/// Whether each of the 128 slots has the table of a region.
+fn are_all_filled() -> bool {
+    let mut filled = [false; 128];
+    for region in 0..REGIONS {
+        filled[slot_of(region)] = true;
+    }
+    filled.iter().all(|slot| *slot)
+}
+
+/// Whether tables that were shared come back as they were.
+fn come_back(alloc: Global) -> Result<bool> {
+    let shared = SharedAccessor::from_core(alloc, many_tables(alloc)?)?;
+    let mut core = shared.into_core()?;
+    let mut expected = many_tables(alloc)?;
+    Ok(see_core(alloc, &mut core)? == see_core(alloc, &mut expected)?)
+}
+
+#[test]
+fn shared_tables_come_back(rt: HostRuntime) {
+    let mut came_back = come_back(rt.alloc());
+    if matches!(came_back, Err(Error::Memory)) {
+        came_back = come_back(rt.alloc());
+    }
+    assert!(rt; are_all_filled() && matches!(came_back, Ok(true)));
 }

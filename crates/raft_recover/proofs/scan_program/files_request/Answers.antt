@@ -1,0 +1,50 @@
+use Rattle.std.proofs.Common.{◌≡◌, ◌∷◌, List, ℕ, map, string_bytes, length, ◌-◌, take, drop, subst, refl}
+use Rattle.std.proofs.lemmas.Result.{err_from_is_err_and}
+use Rattle.raft_recover.specs.Requests.{ArePathsNamed}
+use Rattle.raft_recover.specs.ScanRequests.{AskedScan, NamesFiles}
+use Rattle.raft_recover.proofs.RequestLemmas.{files_of_words, each_names}
+use Rattle.raft_recover.proofs.ScanRequestLemmas.{two_and_more, two_texts, same_behind_two}
+use Rattle.raft_recover.proofs.scan_program.files_request.Goals.{In-Some-version_named}
+use Rattle.raft_recover.proofs.scan_program.files_request.Goals.at as at
+use Rattle.raft_recover.proofs.scan_program.files_request.Goals as goal
+
+-- the words behind the first two
+abbrev pub rest : (c : In-Some-version_named) → List (List ℕ)
+rest c = map string_bytes (take (length c.args.words.now - 2) (drop 2 c.args.words.now))
+
+words : (c : In-Some-version_named) → map string_bytes c.args.words.now ≡ c.as_str.result.now ∷ c.as_str-2.result.now ∷ rest c
+words c =
+    let items = two_and_more c.args.words.now c.queue-item.result c.version-item.result c.in-len2-up.len_at_least c.queue-item.is c.version-item.is in
+    two_texts string_bytes c.args.words.now _ c.queue-item.result c.version-item.result _ _ items c.as_str.ensures.value c.as_str-2.ensures.value
+
+-- the files that the words name, where those behind the first two name these paths
+abbrev pub scan_of : (c : In-Some-version_named) → List (ℕ × List ℕ) → AskedScan
+scan_of c paths = record { past_damage = c.args.past_damage; queue = c.in-Some.queue; version = c.in-Some-version_named.version; paths = paths }
+
+named : (c : In-Some-version_named) (paths : List (ℕ × List ℕ)) → ArePathsNamed (rest c) paths → NamesFiles (map string_bytes c.args.words.now) (scan_of c paths)
+named c paths names = record {
+  queue = c.as_str.result.now;
+  version = c.as_str-2.result.now;
+  path_words = rest c;
+  form = words c;
+  queue_named = c.in-Some.ensures.named;
+  version_named = c.in-Some-version_named.ensures.named;
+  paths_named = names;
+}
+
+pub returns-clause-asked : goal.returns-clause-asked
+returns-clause-asked c = (refl, named (at.returns-clause-asked c).In-Some-version_named _ (rw c.in-Some-2.is at c.in_ok-paths.ensures.named))
+
+pub returns-in_default-2-clause-refused : goal.returns-in_default-2-clause-refused
+returns-in_default-2-clause-refused c =
+    let before = (at.returns-in_default-2-clause-refused c).In-Some-version_named in
+    let none = rw c.in_default-2.is at c.in_ok-paths.ensures.refused in
+    λ scan files. none (each_names (rest before) scan.paths (subst (λ ws. ArePathsNamed ws scan.paths)
+    (same_behind_two (map string_bytes c.args.words.now) (rest before) files.path_words _ _ _ _ (words before) files.form) files.paths_named))
+
+pub returns-in_err-paths-clause-memory : goal.returns-in_err-paths-clause-memory
+returns-in_err-paths-clause-memory c =
+    let p = err_from_is_err_and c.from_residual.result c.from_residual.ensures.1 in
+    let before = (at.returns-in_err-paths-clause-memory c).In-Some-version_named in
+    let files = files_of_words (rest before) c.in_err-paths.ensures.memory.1 in
+    rw (p.1, p.2) (c.in_err-paths.ensures.memory.0, scan_of before files.0, refl, named before files.0 files.1)

@@ -1,0 +1,218 @@
+//! What the program `raft_scan` does, over any writers.
+
+ghost use Rattle.std.specs.Prelude.{◌≡◌, ◌≢◌, ◌≤◌, ◌↔◌, ◌⊎◌, ◌++◌, true, false, List, ℕ, IfOk, IfErr, OnErr, IfSome, IfNone, map, string_bytes};
+ghost use Rattle.std.specs.Io.KnownBytes.{Keeps};
+ghost use Rattle.std.specs.IoError.{error_kind};
+ghost use Rattle.raft_recover.specs.AskedRequests.{file_shown};
+ghost use Rattle.raft_recover.specs.ScanRequests.{AskedScan, NamesFiles, AsksScan, AsksNoScan, AreScanned, IsScanPrinted, IsScanFrontPrinted};
+ghost use Rattle.raft_recover.specs.ScanWords.{scan_asked};
+
+use crate::program::refusal;
+use crate::request::{paths_named, queue_named, read_files, version_named};
+use crate::scan::{append_scan, both};
+use raft_base::{Error, FileId, FileSeq, LogQueue, Result, Version};
+use raft_records::{FilePart, write_whole};
+use std::alloc::Global;
+use std::io;
+use std::io::{ErrorKind, Write};
+use std::rt::Files;
+
+/// How a run of `raft_scan` ends.
+#[derive(Clone, Copy, PartialEq, Eq, Debug)]
+enum Status {
+    /// All can be read.
+    Undamaged = 0,
+    /// Something can't be read.
+    Damaged = 1,
+    /// The words ask for no scan.
+    Misused = 2,
+}
+
+/// The word in front by which a scan goes on past a batch that can't be read.
+const PAST_DAMAGE: &str = "--past-damage";
+
+/// What is printed where the words ask for no scan.
+const USAGE: &str = "usage: raft_scan [--past-damage] <queue> <version> <seq>=<path>..\n";
+
+/// What the words say that ask for a scan of files of a queue.
+#[derive(Drop)]
+pub struct ScanWords<'a> {
+    /// Whether the scan goes on past a batch that can't be read.
+    pub past_damage: bool,
+    pub queue: LogQueue,
+    pub version: Version,
+    /// The number and the path of each file.
+    pub paths: Vec<(FileSeq, &'a str)>,
+}
+
+/// Prints what scans of the files find that the words of a command line name, and returns the status to end with: 0
+/// where all can be read, 1 where something can't, 2 where the words ask for no scan. A refusal and a hint at the
+/// words are a line on `err`; where that can't be written, the status is the same.
+pub fn run_scan<S: Files + AllocGlobal, W: Write, E: Write>(
+    rt: &S,
+    words: &[String],
+    out: &mut W,
+    err: &mut E,
+) -> u8
+    ensures known { result ≤ 2 }
+    ensures undamaged { result ≡ 0 → IsScanPrinted true (map string_bytes words.now)
+        (W.contents out.old) (W.contents out.new) }
+    ensures damaged { result ≡ 1 → Keeps (W.contents out.old) (W.contents out.new)
+        ⊎ IsScanFrontPrinted (map string_bytes words.now) (W.contents out.old) (W.contents out.new)
+        ⊎ IsScanPrinted false (map string_bytes words.now)
+        (W.contents out.old) (W.contents out.new) }
+    ensures misused { (result ≡ 2) ↔ AsksNoScan (map string_bytes words.now) }
+    ensures untouched { result ≡ 2 → Keeps (W.contents out.old) (W.contents out.new) }
+{
+    let scan = match scan_request(rt.alloc(), words) {
+        Ok(Some(scan)) => scan,
+        Ok(None) => return misused(err),
+        Err(memory) => return refused(refusal(&memory), err),
+    };
+    match print_scan(rt, scan, out) {
+        Ok(true) => Status::Undamaged as u8,
+        Ok(false) => Status::Damaged as u8,
+        Err(error) => refused(refusal(&error), err),
+    }
+}
+
+/// Says on `err` why the words of a command line aren't there, and returns the status to end with: 1 for want
+/// of memory, 2 for a word that isn't UTF-8, with a hint at the words.
+pub fn scan_without_words<E: Write>(error: &io::Error, err: &mut E) -> u8
+    ensures memory { error_kind error.now ≡ ErrorKind.OutOfMemory → result ≡ 1 }
+    ensures misused { error_kind error.now ≢ ErrorKind.OutOfMemory → result ≡ 2 }
+{
+    if error.kind() == ErrorKind::OutOfMemory {
+        return refused(refusal(&Error::Memory), err);
+    }
+    misused(err)
+}
+
+/// Hints at the words that are understood, and returns the status to end with.
+fn misused<E: Write>(err: &mut E) -> u8
+    ensures { result ≡ 2 }
+{
+    let _ = err.write_all(USAGE.as_bytes());
+    Status::Misused as u8
+}
+
+/// Prints the word of a refusal, and returns the status to end with.
+fn refused<E: Write>(word: &str, err: &mut E) -> u8
+    ensures { result ≡ 1 }
+{
+    let _ = writeln!(err, "raft_scan: refused: {word}");
+    Status::Damaged as u8
+}
+
+/// The scan that the words ask for, if they ask for one.
+///
+/// # Errors
+///
+/// `Memory`, and only where they ask for one.
+fn scan_request<'a>(alloc: Global, words: &'a [String]) -> Result<Option<ScanWords<'a>>>
+    ensures asked { IfOk result (λ r. IfSome r (λ scan.
+        AsksScan (map string_bytes words.now) (scan_asked scan))) }
+    ensures refused { IfOk result (λ r. IfNone r (AsksNoScan (map string_bytes words.now))) }
+    ensures memory { IfErr result
+        (λ e. (e ≡ Error.Memory) × (AsksNoScan (map string_bytes words.now) → ⊥)) }
+{
+    let [first, rest @ ..] = words else {
+        return Ok(None);
+    };
+    if first.as_str() == PAST_DAMAGE {
+        return files_request(alloc, true, rest);
+    }
+    files_request(alloc, false, words)
+}
+
+/// The scan of the files that the words name, behind what may stand in front.
+///
+/// # Errors
+///
+/// `Memory`, and only where they name files.
+fn files_request<'a>(
+    alloc: Global,
+    past_damage: bool,
+    words: &'a [String],
+) -> Result<Option<ScanWords<'a>>>
+    ensures asked { IfOk result (λ r. IfSome r (λ scan. (scan.past_damage ≡ past_damage)
+        × NamesFiles (map string_bytes words.now) (scan_asked scan))) }
+    ensures refused { IfOk result (λ r. IfNone r
+        ((scan : AskedScan) → NamesFiles (map string_bytes words.now) scan → ⊥)) }
+    ensures memory { IfErr result (λ e. (e ≡ Error.Memory)
+        × (scan : AskedScan) × (scan.past_damage ≡ past_damage)
+        × NamesFiles (map string_bytes words.now) scan) }
+{
+    let [queue, version, path_words @ ..] = words else {
+        return Ok(None);
+    };
+    let Some(queue) = queue_named(queue.as_str()) else {
+        return Ok(None);
+    };
+    let Some(version) = version_named(version.as_str()) else {
+        return Ok(None);
+    };
+    let Some(paths) = paths_named(alloc, path_words)? else {
+        return Ok(None);
+    };
+    Ok(Some(ScanWords {
+        past_damage,
+        queue,
+        version,
+        paths,
+    }))
+}
+
+/// Reads files and prints what scans of them find. Returns whether all can be read.
+fn print_scan<S: Files + AllocGlobal, W: Write>(
+    rt: &S,
+    scan: ScanWords<'_>,
+    out: &mut W,
+) -> Result<bool>
+    ensures done { (words : List (List ℕ)) → AsksScan words (scan_asked scan.entry)
+        → IfOk result
+        (λ undamaged. IsScanPrinted undamaged words (W.contents out.old) (W.contents out.new)) }
+    ensures silent { (words : List (List ℕ)) → AsksScan words (scan_asked scan.entry)
+        → OnErr result (Keeps (W.contents out.old) (W.contents out.new)
+        ⊎ IsScanFrontPrinted words (W.contents out.old) (W.contents out.new)) }
+{
+    let files = read_files(rt, scan.paths.as_slice())?;
+    let mut text = String::new(rt.alloc());
+    let undamaged = append_scans(
+        rt.alloc(),
+        scan.queue,
+        scan.version,
+        scan.past_damage,
+        files,
+        &mut text,
+    )?;
+    write_whole(out, text.as_bytes())?;
+    Ok(undamaged)
+}
+
+/// Appends what scans of files of a queue find, one after the other, and returns whether all can be read.
+///
+/// # Errors
+///
+/// `Memory`. Some lines may then be appended.
+pub fn append_scans(
+    alloc: Global,
+    queue: LogQueue,
+    version: Version,
+    past_damage: bool,
+    files: Vec<(FileSeq, Vec<u8>)>,
+    text: &mut String,
+) -> Result<bool>
+    ensures ok { IfOk result (λ undamaged. (lines : List ℕ)
+        × (string_bytes text.new ≡ string_bytes text.old ++ lines)
+        × AreScanned past_damage queue version (map file_shown files.items) undamaged lines) }
+    ensures memory { IfErr result (λ e. e ≡ Error.Memory) }
+{
+    let mut all_undamaged = true;
+    for (seq, bytes) in files {
+        let part = FilePart::new(FileId::new(queue, seq), version, 0, bytes)?;
+        let undamaged = append_scan(alloc, &part, past_damage, text)?;
+        all_undamaged = both(all_undamaged, undamaged);
+    }
+    Ok(all_undamaged)
+}

@@ -1,0 +1,139 @@
+//! Texts of refusals: where reading stopped, and why.
+
+use crate::recovery::histories::{APPENDED, HOLE};
+use crate::recovery::{cut, cuttings};
+use raft_base::{Error, FileSeq, LogQueue, Result};
+use raft_recover::recovery::recover_segments;
+use std::alloc::Global;
+use std::thread::Threads;
+
+/// What is said of a batch that lacks its last byte, of each of the appended ones.
+static CUT_SHORT: [&str; 8] = [
+    "append file 1, offset 0: a log batch of 44 bytes is cut short",
+    "append file 1, offset 44: a log batch of 37 bytes is cut short",
+    "append file 2, offset 0: a log batch of 30 bytes is cut short",
+    "append file 2, offset 30: a log batch of 31 bytes is cut short",
+    "append file 3, offset 0: a log batch of 42 bytes is cut short",
+    "append file 3, offset 42: a log batch of 24 bytes is cut short",
+    "append file 4, offset 0: a log batch of 33 bytes is cut short",
+    "append file 5, offset 0: a log batch of 40 bytes is cut short",
+];
+
+/// What is said of the hole behind the appended batches, behind its place where one reading finds it.
+const HOLE_TEXT: &str =
+    "region 1: a run from index 12 on leaves a hole behind the entries, which end before index 10";
+
+const PLACED_HOLE: &str =
+    "append file 5, offset 40: region 1: a run from index 12 on leaves a hole behind the entries, which end before index 10";
+
+/// What is said where batches of the append queue are refused as corruption or as an argument, read as those of this
+/// queue by so many workers; nothing where they are read.
+fn refusal<R: Threads + Sync>(
+    rt: &R,
+    alloc: Global,
+    batches: &[(FileSeq, &str)],
+    cuts: u64,
+    queue: LogQueue,
+    workers: usize,
+) -> Result<String> {
+    let segments = cut(alloc, LogQueue::Append, batches, cuts)?;
+    match recover_segments(rt, alloc, segments.as_slice(), queue, workers) {
+        Ok(_tables) => Ok(String::new(alloc)),
+        Err(Error::Corruption(text)) => Ok(text),
+        Err(Error::InvalidArgument(text)) => Ok(text),
+        Err(error) => Err(error),
+    }
+}
+
+/// The appended batches, of which this one lacks its last byte.
+fn cut_short(alloc: Global, number: usize) -> Result<Vec<(FileSeq, &'static str)>> {
+    let mut batches = Vec::from_slice(alloc, APPENDED.as_slice())?;
+    if let Some((_, digits)) = batches.get_mut(number) {
+        *digits = digits.get(..digits.len().saturating_sub(2)).unwrap_or("");
+    }
+    Ok(batches)
+}
+
+fn cut_short_texts() -> &'static [&'static str] {
+    &CUT_SHORT
+}
+
+/// Whether the place of a batch that is cut short is told, in one segment and in one for each batch.
+fn is_told<R: Threads + Sync>(rt: &R, alloc: Global, number: usize, text: &str) -> Result<bool> {
+    let batches = cut_short(alloc, number)?;
+    let batches = batches.as_slice();
+    let one = refusal(rt, alloc, batches, 0, LogQueue::Append, 1)?;
+    let many = refusal(rt, alloc, batches, u64::MAX, LogQueue::Append, 4)?;
+    Ok(one.as_str() == text && many.as_str() == text)
+}
+
+#[test]
+fn refusals_name_file_and_offset(rt: HostRuntime) {
+    for (number, text) in cut_short_texts().iter().enumerate() {
+        let mut told = is_told(&rt, rt.alloc(), number, text);
+        if matches!(told, Err(Error::Memory)) {
+            told = is_told(&rt, rt.alloc(), number, text);
+        }
+        assert!(rt; matches!(told, Ok(true)), "batch {number}");
+    }
+}
+
+/// Whether a hole is told in one wording at each cutting, by one to four workers.
+fn is_hole_told<R: Threads + Sync>(rt: &R, alloc: Global) -> Result<bool> {
+    let mut batches = Vec::from_slice(alloc, APPENDED.as_slice())?;
+    batches.push(HOLE)?;
+    let batches = batches.as_slice();
+    for cuts in 0..cuttings(batches.len()) {
+        let workers = 1 + (cuts % 4) as usize;
+        let text = refusal(rt, alloc, batches, cuts, LogQueue::Append, workers)?;
+        if text.as_str() != PLACED_HOLE && text.as_str() != HOLE_TEXT {
+            return Ok(false);
+        }
+    }
+    let one = refusal(rt, alloc, batches, 0, LogQueue::Append, 1)?;
+    Ok(one.as_str() == PLACED_HOLE)
+}
+
+#[test]
+fn holes_are_told_in_one_wording(rt: HostRuntime) {
+    let mut told = is_hole_told(&rt, rt.alloc());
+    if matches!(told, Err(Error::Memory)) {
+        told = is_hole_told(&rt, rt.alloc());
+    }
+    assert!(rt; matches!(told, Ok(true)));
+}
+
+/// Whether so many workers on a queue are refused with this text.
+fn is_argument_told<R: Threads + Sync>(
+    rt: &R,
+    alloc: Global,
+    queue: LogQueue,
+    workers: usize,
+    text: &str,
+) -> Result<bool> {
+    let told = refusal(rt, alloc, APPENDED.as_slice(), 1, queue, workers)?;
+    Ok(told.as_str() == text)
+}
+
+#[test]
+fn arguments_are_told(rt: HostRuntime) {
+    for &(queue, workers, text) in &[
+        (
+            LogQueue::Append,
+            0,
+            "another number of workers than 1 to 256",
+        ),
+        (
+            LogQueue::Append,
+            257,
+            "another number of workers than 1 to 256",
+        ),
+        (LogQueue::Rewrite, 1, "a part of another queue"),
+    ] {
+        let mut told = is_argument_told(&rt, rt.alloc(), queue, workers, text);
+        if matches!(told, Err(Error::Memory)) {
+            told = is_argument_told(&rt, rt.alloc(), queue, workers, text);
+        }
+        assert!(rt; matches!(told, Ok(true)), "{text}");
+    }
+}

@@ -6,8 +6,9 @@ mod crash;
 mod dice;
 mod history;
 
-use crate::crashes::crash::Crashes;
-use crate::crashes::history::History;
+use crate::crashes::crash::{CRASHED, Crashes};
+use crate::crashes::history::{FOLDER, History};
+use crate::folder_pipe::clear;
 use crate::store::Host;
 use raft_base::Result;
 
@@ -30,6 +31,8 @@ pub(crate) fn try_all<R: Host>(rt: &R, seed: u64, count: u64, by_bytes: u64) -> 
             }
         }
     }
+    clear(rt, FOLDER)?;
+    clear(rt, CRASHED)?;
     println!(rt; "{count} histories from seed {seed} on, {by_bytes} at each byte:")?;
     println!(rt;
         "{} recoveries, {} different",

@@ -119,6 +119,12 @@ impl<'a, R: Disk> FolderPipe<'a, R> {
     }
 }
 
+/// Removes a folder with all its files, if there is one.
+pub(crate) fn clear<R: Disk>(rt: &R, folder: &str) -> Result<()> {
+    fs::create_dir_all(rt, folder)?;
+    Ok(fs::remove_dir_all(rt, folder)?)
+}
+
 /// The path of a file in a folder.
 pub(crate) fn path_of(alloc: Global, folder: &str, id: FileId) -> Result<String> {
     let extension = extension_of(id.queue);

@@ -4,7 +4,6 @@
 //! crashes in `COUNT` random histories, and in the first `BY_BYTES` of them at each byte.
 #![tactic(auto)]
 
-mod both;
 mod contents;
 mod crashes;
 mod folder_pipe;

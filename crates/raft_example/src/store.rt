@@ -5,13 +5,13 @@ ghost use Rattle.raft_records.specs.LogBatch.{populating};
 
 mod rewriting;
 
-use crate::both::recover_both;
 use crate::folder_pipe::{Disk, FolderPipe};
 use crate::logs::{Logs, push_commands};
 use crate::proposal::Proposal;
 use raft_base::{EntryIndex, Error, FileBlockHandle, FileSeq, LogQueue, PipeLog, Result};
 use raft_memtable::{MemTable, MemTableAccessor};
 use raft_records::{LogBatch, LogItem, entry_bytes};
+use raft_recover::recover_both;
 use std::alloc::Global;
 use std::thread::Threads;
 

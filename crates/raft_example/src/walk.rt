@@ -7,12 +7,12 @@ mod damage;
 mod sharing;
 
 use crate::contents::Contents;
+use crate::folder_pipe::clear;
 use crate::proposal::{Proposal, Proposals};
 use crate::store::{Host, Store};
 use raft_base::{LogQueue, PipeLog, Result};
 use raft_records::{Command, LogBatch};
 use std::alloc::Global;
-use std::fs;
 use std::sync::Wait;
 
 /// Where the store's files are.
@@ -26,8 +26,7 @@ const WORKERS: usize = 4;
 
 /// Goes through what a store does. The folder is removed at the end.
 pub(crate) fn walk<R: Host + Wait>(rt: &R) -> Result<()> {
-    fs::create_dir_all(rt, FOLDER)?;
-    fs::remove_dir_all(rt, FOLDER)?;
+    clear(rt, FOLDER)?;
     let mut store = open(rt)?;
     write(rt, &mut store)?;
     let mut store = restart(rt, store)?;
@@ -41,7 +40,7 @@ pub(crate) fn walk<R: Host + Wait>(rt: &R) -> Result<()> {
     let store = restart(rt, store)?;
     damage::damage(rt, store)?;
     sharing::look_up(rt, open(rt)?.into_tables())?;
-    Ok(fs::remove_dir_all(rt, FOLDER)?)
+    clear(rt, FOLDER)
 }
 
 /// Opens the folder.

@@ -1,7 +1,7 @@
 //! Folders as a crash leaves them.
 
 use crate::contents::Contents;
-use crate::folder_pipe::{FolderPipe, path_of};
+use crate::folder_pipe::{FolderPipe, clear, path_of};
 use crate::logs::{Logs, batches_of};
 use crate::store::{Host, Store};
 use raft_base::{FileId, LogQueue, Result};
@@ -12,7 +12,7 @@ use std::alloc::Global;
 use std::fs;
 
 /// The folder that holds what a crash leaves.
-const CRASHED: &str = "crashed";
+pub(crate) const CRASHED: &str = "crashed";
 
 /// The least bytes of a file before a new one is begun.
 pub(crate) const FILE_SIZE: u64 = 200;
@@ -107,8 +107,7 @@ impl<'a, R: Host> Crashes<'a, R> {
 
     /// Makes the folder that holds these files alone.
     fn restore(&self, files: &Snapshot) -> Result<()> {
-        fs::create_dir_all(self.rt, CRASHED)?;
-        fs::remove_dir_all(self.rt, CRASHED)?;
+        clear(self.rt, CRASHED)?;
         fs::create_dir_all(self.rt, CRASHED)?;
         for file in &files.files {
             self.write(file.id(), file.bytes())?;

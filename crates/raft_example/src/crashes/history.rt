@@ -7,13 +7,13 @@ use crate::contents::Contents;
 use crate::crashes::change::Change;
 use crate::crashes::crash::{Crashes, FILE_SIZE, Snapshot};
 use crate::crashes::dice::Dice;
+use crate::folder_pipe::clear;
 use crate::store::{Host, Store};
 use raft_base::{LogQueue, Result};
 use raft_records::LogBatch;
-use std::fs;
 
 /// The folder of a history.
-const FOLDER: &str = "history";
+pub(crate) const FOLDER: &str = "history";
 
 /// What a store does in a step: its files grow, or some of them are deleted.
 #[derive(Clone, Copy)]
@@ -39,8 +39,7 @@ pub(crate) struct History<'a, R: Host> {
 impl<'a, R: Host> History<'a, R> {
     /// A store in an empty folder.
     pub(crate) fn begin(rt: &'a R, seed: u64) -> Result<History<'a, R>> {
-        fs::create_dir_all(rt, FOLDER)?;
-        fs::remove_dir_all(rt, FOLDER)?;
+        clear(rt, FOLDER)?;
         Ok(History {
             rt,
             store: Store::open(rt, FOLDER, FILE_SIZE, 1)?,

@@ -2,7 +2,7 @@
 SHELL := /bin/bash
 RT ?= rt
 export RT
-.PHONY: believe believe-check bench compare crashes cuttings demo demo-recover edits example hostile raftlog refused-memory stack test wrong-bodies
+.PHONY: believe believe-check bench calls compare crashes cuttings demo demo-recover edits example hostile raftlog refused-memory stack test wrong-bodies
 
 # Runs `raftlog` on an item batch, which says that the records of region 1 go. Nothing is proved.
 demo:
@@ -58,6 +58,10 @@ believe:
 # Fails where docs/BELIEVE.md isn't what the definitions say.
 believe-check:
 	@tools/believe.py --check
+
+# Writes docs/CALLS.md, the page of all calls. The full check fails where it isn't what the sources say.
+calls:
+	@tools/calls.py
 
 # Times checksums, numbers, batches, tables and those that threads share, and as `make bench LOG='append 2 1 1=a.log ..'`, with
 # the words of `raftlog recover`, the recovery of files and the merging of their contexts.

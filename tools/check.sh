@@ -1,7 +1,7 @@
 #!/usr/bin/env bash
 # The full check: `rt ci`, then what it can't look at: words that aren't UTF-8, the frames of `raftlog` on the stack, and runs
-# with little stack, and, where there is a C compiler, some rows with memory refused; first of all whether docs/BELIEVE.md is what
-# the definitions say. The last line is that of `rt ci`, 'N passed, M failed'.
+# with little stack, and, where there is a C compiler, some rows with memory refused; first of all whether docs/BELIEVE.md and
+# docs/CALLS.md are what the definitions and the sources say. The last line is that of `rt ci`, 'N passed, M failed'.
 set -euo pipefail
 cd "$(dirname "$0")/.."
 program=crates/raftlog/out/raftlog
@@ -10,6 +10,7 @@ room=$(mktemp -d)
 trap 'rm -rf "$room"' EXIT
 
 tools/believe.py --check
+tools/calls.py --check
 "${RT:-rt}" ci | tee "$room/proved"
 
 status=0

@@ -1,0 +1,166 @@
+#!/usr/bin/env python3
+"""The page of all calls: what the four crates that users import from have, each with its signature and its first sentence.
+
+    calls.py            writes docs/CALLS.md
+    calls.py --check    fails where that page isn't what the sources say now
+
+A name is listed once, under the first of the four crates that has it. Laws, which compute nothing, are left out: docs/DEFINITIONS.md
+has them.
+"""
+
+import itertools
+import re
+import sys
+from pathlib import Path
+
+TOP = Path(__file__).resolve().parent.parent
+PAGE = TOP / "docs/CALLS.md"
+USERS_CRATES = ("raft_base", "raft_records", "raft_memtable", "raft_recover")
+
+HEAD = re.compile(r"^( *)pub (?:final )?(?:const |unsafe )*(fn|struct|enum|trait|const|type) (\w+)", re.M)
+METHOD = re.compile(r"^    (?:pub )?(?:final )?fn (\w+)", re.M)
+IMPL = re.compile(r"^impl(?:<[^{}]*?>)? (\w+)(?:<[^{}]*?>)? \{$", re.M)
+USE = re.compile(r"^pub use ([^;]+);", re.M | re.S)
+MODULE = re.compile(r"^pub mod (\w+);", re.M)
+CLAUSE = re.compile(r"\n\s*(?:requires|ensures|ghost)\b|\s*\n?\s*\{|;")
+ENDS_BLOCK = re.compile(r"^\}", re.M)
+
+
+def doc_above(text, start):
+    """The first sentence of the doc comment above a place."""
+    lines = []
+    for line in reversed(text[:start].rstrip("\n").split("\n")):
+        if line.strip().startswith("///"):
+            lines.insert(0, line.strip().removeprefix("///").strip())
+        elif not line.strip().startswith("#["):
+            break
+    paragraph = " ".join(itertools.takewhile(bool, lines))
+    sentence = re.match(r"(.*?\.)(?: [A-Z`\[]|$)", paragraph)
+    return re.sub(r"\[(`[^`]+`)\](?:\([^)]*\))?", r"\1", sentence.group(1) if sentence else paragraph)
+
+
+def signature(text, start):
+    """A function's signature without its contract, on one line."""
+    depth, at = 0, text.index("fn ", start)
+    begun = at
+    while True:
+        char = text[at]
+        if char in "([":
+            depth += 1
+        elif char in ")]":
+            depth -= 1
+        elif depth == 0 and CLAUSE.match(text, at):
+            break
+        at += 1
+    found = " ".join(text[begun:at].split())
+    found = re.sub(r",? where .*", "", found)
+    found = found.replace("( ", "(").replace(", )", ")")
+    return found.replace("<, ", "<")
+
+
+def reexports(text):
+    """The pairs of path and name that `pub use` lines hand on."""
+    for use in USE.findall(text):
+        path, _, names = " ".join(use.split()).partition("{")
+        if names:
+            for name in names.rstrip("} ").split(","):
+                if name.strip():
+                    yield path.rstrip(":"), name.strip()
+        else:
+            path, _, name = path.rpartition("::")
+            yield path, name
+
+
+class Crate:
+    """A crate's public names: what each is, by its name."""
+
+    def __init__(self, name):
+        self.name = name
+        self.folder = TOP / "crates" / name / "src"
+        self.lib = (self.folder / "lib.rt").read_text(encoding="utf-8")
+        self.files = [path.read_text(encoding="utf-8") for path in sorted(self.folder.rglob("*.rt"))]
+
+    def names(self, crates, text=None):
+        """The names that users can import from the crate, or from a module with this text, each with the crate that defines it."""
+        text = self.lib if text is None else text
+        for path, name in reexports(text):
+            home = crates.get(path.split("::")[0], self)
+            yield home, name
+            yield from home.names(crates, home.module(name))
+        for module in MODULE.findall(text):
+            yield from self.names(crates, self.module(module))
+        for head in HEAD.finditer(text):
+            if not head.group(1):
+                yield self, head.group(3)
+
+    def module(self, name):
+        """The text of a module of the crate; nothing where it has no module of this name."""
+        path = self.folder / f"{name}.rt"
+        return path.read_text(encoding="utf-8") if path.exists() else ""
+
+    def item(self, name):
+        """The lines for a name that the crate defines, or none."""
+        for text in self.files:
+            for head in HEAD.finditer(text):
+                if head.group(3) == name and not head.group(1):
+                    return list(self.lines_of(text, head))
+        return []
+
+    def lines_of(self, text, head):
+        kind, name = head.group(2), head.group(3)
+        what = doc_above(text, head.start())
+        if kind == "fn":
+            if not is_law(text, head.start()):
+                yield f"- `{signature(text, head.start())}`: {what}"
+            return
+        yield f"- **`{name}`** ({kind}): {what}"
+        if kind == "trait":
+            yield from self.methods(text[head.start():ENDS_BLOCK.search(text, head.start()).start()], METHOD)
+        for other in self.files:
+            for impl in IMPL.finditer(other):
+                if impl.group(1) == name:
+                    yield from self.methods(other[impl.start():ENDS_BLOCK.search(other, impl.start()).start()], HEAD)
+
+    def methods(self, text, pattern):
+        for method in pattern.finditer(text):
+            if not is_law(text, method.start()):
+                yield f"  - `{signature(text, method.start())}`: {doc_above(text, method.start())}"
+
+
+def is_law(text, start):
+    """Whether a function's body is empty: then its contract is a law."""
+    body = re.compile(r"^( *)\{\}?$|\{\}$|^( *)\{$", re.M).search(text, start)
+    return bool(body) and body.group(0).strip() == "{}"
+
+
+def page():
+    """The text of the page."""
+    crates = {path.name: Crate(path.name) for path in (TOP / "crates").iterdir() if (path / "src/lib.rt").exists()}
+    listed, lines = set(), [
+        "# All calls", "",
+        "What the four crates that users import from have, each with its signature and its first sentence. `make calls` writes this page from the",
+        "sources. What exactly a call does is said by its contract, which stands with it in `crates/`.", "",
+    ]
+    for user in USERS_CRATES:
+        lines += [f"## `{user}`", ""]
+        for home, name in crates[user].names(crates):
+            found = home.item(name) if name not in listed else []
+            if found:
+                listed.add(name)
+                lines += found
+        lines.append("")
+    return "\n".join(lines)
+
+
+def main():
+    made = page()
+    if "--check" in sys.argv[1:]:
+        if not PAGE.exists() or PAGE.read_text(encoding="utf-8") != made:
+            sys.exit("docs/CALLS.md isn't what the sources say: run `make calls`")
+    else:
+        PAGE.write_text(made, encoding="utf-8")
+    print(f"docs/CALLS.md: {made.count(chr(10) + '- ') + made.count(chr(10) + '  - ')} items")
+
+
+if __name__ == "__main__":
+    main()

@@ -156,11 +156,11 @@ fn both_replayed<R: Threads + Sync>(
     let appenders = workers - rewriters;
     let read_rewrite = || -> Result<MemTableRecoverContext>
         requires { IsSync R.row × MayReplay Rewrite rewriters rewrite.now }
-        ensures { IsReplayedOrRefused rewrite.now result }
+        ensures { IsReplayedOrRefused rewrite.entry.now result }
     { replayed(rt, alloc, rewrite, LogQueue::Rewrite, rewriters) };
     let read_append = || -> Result<MemTableRecoverContext>
         requires { IsSync R.row × MayReplay Append appenders append.now }
-        ensures { IsReplayedOrRefused append.now result }
+        ensures { IsReplayedOrRefused append.entry.now result }
     { replayed(rt, alloc, append, LogQueue::Append, appenders) };
     let (rewritten, appended) = join(rt, read_rewrite, read_append);
     let both = rewritten?;

@@ -199,7 +199,15 @@ fn replayed<R: Threads + Sync>(
     let count = workers.clamp(1, MAX_WORKERS);
     let shares = equal_shares(alloc, segments, count, LEAST_SHARE)?;
     let factory = MemTableRecoverContextFactory::new();
-    replay_segments(rt, alloc, &factory, shares.as_slice(), queue, workers, &OpenGate)
+    replay_segments(
+        rt,
+        alloc,
+        &factory,
+        shares.as_slice(),
+        queue,
+        workers,
+        &OpenGate,
+    )
 }
 
 /// The tables as [`recover`] gives them, but the segments are read as they are: each worker takes the next one that is

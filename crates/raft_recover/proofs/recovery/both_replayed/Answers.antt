@@ -1,8 +1,7 @@
-use Rattle.std.proofs.Common.{◌≢◌, ◌⊎◌, inr}
+use Rattle.std.proofs.Common.{inr}
 use Rattle.std.proofs.lemmas.Result.{err_from_is_err_and}
 use Rattle.raft_recover.proofs.recovery.both_replayed.Goals as goal
 
--- the append queue can't be read
 pub returns-in_err-appended-clause-refused : goal.returns-in_err-appended-clause-refused
 returns-in_err-appended-clause-refused g c =
     let p = err_from_is_err_and c.from_residual-in_err-appended.result c.from_residual-in_err-appended.ensures.1 in

@@ -1,8 +1,20 @@
-use Rattle.raft_recover.proofs.RecoveryLemmas.{both_finished, both_merged, both_recovered, both_whole}
+use Rattle.std.proofs.Common.{Err}
+use Rattle.std.proofs.lemmas.Result.{err_from_is_err_and}
+use Rattle.raft_recover.proofs.RecoveryLemmas.{both_merged, both_recovered, both_whole}
 use Rattle.raft_recover.proofs.recovery.recover_both.Goals as goal
 
 pub returns-clause-ok : goal.returns-clause-ok
-returns-clause-ok g c = ?
+returns-clause-ok g c =
+    both_recovered c.args.rewrite.now c.args.append.now c.in_ok-check_segments.ensures.ok.3 c.in_ok-check_segments-2.ensures.ok.3 c.in_ok-both.both c.in_ok-both.appended c.in_ok-both.ensures.rewritten c.in_ok-both.ensures.appended
+    c.merge_append_context.new.self c.in_ok-merge_append_context.ensures.exact c.finish.result c.finish.ensures.overlaid c.finish.ensures.exact_counts
 
 pub returns-clause-whole : goal.returns-clause-whole
-returns-clause-whole g c = ?
+returns-clause-whole g c =
+    both_whole c.args.rewrite.now c.args.append.now c.finish.result
+    (both_recovered c.args.rewrite.now c.args.append.now c.in_ok-check_segments.ensures.ok.3 c.in_ok-check_segments-2.ensures.ok.3 c.in_ok-both.both c.in_ok-both.appended c.in_ok-both.ensures.rewritten c.in_ok-both.ensures.appended
+    c.merge_append_context.new.self c.in_ok-merge_append_context.ensures.exact c.finish.result c.finish.ensures.overlaid c.finish.ensures.exact_counts)
+
+pub returns-in_err-merge_append_context-clause-refused : goal.returns-in_err-merge_append_context-clause-refused
+returns-in_err-merge_append_context-clause-refused g c good =
+    let p = err_from_is_err_and c.from_residual-in_err-merge_append_context.result c.from_residual-in_err-merge_append_context.ensures.1 in
+    rw (p.1, p.2) (both_merged c.args.rewrite.now c.args.append.now good.0.3 good.1.3 c.in_ok-both.both c.in_ok-both.appended c.in_ok-both.ensures.rewritten c.in_ok-both.ensures.appended (Err c.in_err-merge_append_context.field-0.0) c.in_err-merge_append_context.ensures.memory)

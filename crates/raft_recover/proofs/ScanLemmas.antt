@@ -1,5 +1,5 @@
 -- What a scan has found so far, and how it goes on.
-use Rattle.std.proofs.Common.{◌≡◌, ℕ, ◌+◌, ◌-◌, ◌<◌, ◌≤◌, Bool, true, false, ◌&&◌, List, [], ◌∷◌, ◌++◌, length, drop, Option, Some, None, MatchOption, refl, sym, ap, ◌∙◌, subst, append_assoc, append-nil, arith}
+use Rattle.std.proofs.Common.{◌≡◌, ℕ, ◌+◌, ◌<◌, ◌≤◌, Bool, true, false, ◌&&◌, List, [], ◌∷◌, ◌++◌, length, drop, Option, Some, None, MatchOption, refl, sym, ap, ◌∙◌, subst, append_assoc, append-nil, arith}
 use Rattle.std.proofs.lemmas.List.{length-drop}
 use Rattle.raft_records.specs.FilePart.{Part, IsBatchAt, HasHeader}
 use Rattle.raft_records.specs.Item.{Item}
@@ -7,7 +7,7 @@ use Rattle.raft_records.proofs.FrameLemmas.{header_one}
 use Rattle.raft_records.proofs.PartLemmas.{batch_inside}
 use Rattle.raft_base.specs.declared.compression_type.CompressionType.{CompressionType}
 use Rattle.raft_replay.proofs.CutPartLemmas.{header_ends}
-use Rattle.raft_recover.specs.Scans.{block_place, IsBlockState, IsHeaderLength, IsBatchFound, IsFound, EndsWithin, next_after, is_undamaged, are_undamaged, finding_line, end_line, IsScannedFrom, IsScanned}
+use Rattle.raft_recover.specs.Scans.{block_place, IsBlockState, IsBatchFound, IsFound, EndsWithin, next_after, is_undamaged, are_undamaged, finding_line, end_line, IsScannedFrom, IsScanned}
 use Rattle.raft_recover.specs.declared.scan.BlockState.{BlockState}
 use Rattle.raft_recover.specs.declared.scan.Finding.{Finding}
 use Rattle.raft_recover.specs.declared.scan.Finding.TheVariants.{Batch, Damage}

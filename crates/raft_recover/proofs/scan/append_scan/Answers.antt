@@ -1,4 +1,4 @@
-use Rattle.std.proofs.Common.{◌≡◌, ℕ, ◌-◌, ◌^◌, ◌&&◌, Bool, length, string_bytes, sym, ap, ◌∙◌, subst, arith}
+use Rattle.std.proofs.Common.{◌-◌, ◌^◌, ◌&&◌, Bool, length, string_bytes, sym, ap, ◌∙◌, subst, arith}
 use Rattle.raft_recover.proofs.ScanLemmas.{IsScanning, begun, one_found, stopped, ended, found_ends, ends_within_more}
 use Rattle.raft_recover.proofs.scan.append_scan.Goals.{In-Some}
 use Rattle.raft_recover.proofs.scan.append_scan.Goals.at as at

@@ -1,4 +1,4 @@
-use Rattle.std.proofs.Common.{◌≡◌, ◌∙◌, map, length, ap, sym}
+use Rattle.std.proofs.Common.{◌∙◌, length, ap, sym}
 use Rattle.std.proofs.lemmas.List.{length-map}
 use Rattle.raft_records.specs.Item.{item_of}
 use Rattle.raft_recover.proofs.ScanLemmas.{batch_header, header_room, batch_is_found}

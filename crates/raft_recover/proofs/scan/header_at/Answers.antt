@@ -1,4 +1,4 @@
-use Rattle.std.proofs.Common.{◌≡◌, drop, ap, ◌∙◌, subst}
+use Rattle.std.proofs.Common.{drop, ap, ◌∙◌, subst}
 use Rattle.raft_base.specs.Reading.{HasNoFront}
 use Rattle.raft_records.specs.Header.{IsHeader}
 use Rattle.raft_recover.proofs.scan.header_at.Goals as goal

@@ -1,4 +1,4 @@
-use Rattle.std.proofs.Common.{◌≡◌, ◌++◌, ℕ, List, map, string_bytes, ap, ◌∙◌, subst, inr}
+use Rattle.std.proofs.Common.{◌++◌, ℕ, List, map, ap, ◌∙◌, subst, inr}
 use Rattle.std.proofs.lemmas.Result.{err_from_is_err_and}
 use Rattle.std.specs.Io.KnownBytes.{Appends}
 use Rattle.raft_records.specs.Lines.{AppendsFront}

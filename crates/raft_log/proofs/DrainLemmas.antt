@@ -1,0 +1,43 @@
+-- The items that a loop takes of a batch that was drained.
+use Rattle.std.proofs.Common.{◌≡◌, List, [], ◌∷◌, ◌++◌, length, map, None, Result, Ok, Err, OnOk, IfErr, refl, sym, ap, ◌∙◌, subst}
+use Rattle.std.proofs.lemmas.Iterator.{items_from_drains}
+use Rattle.std.proofs.lemmas.Iterator.Adapters.{YieldsList-from_vec}
+use Rattle.std.proofs.lemmas.List.{map-id, length-map}
+use Rattle.std.specs.Global.{Global}
+use Rattle.std.specs.Iterator.{Yields, Drains}
+use Rattle.std.specs.Vec.Iter.{into_iter_items, into_iter_len, into_iter_steps}
+use Rattle.std.specs.declared.vec.IntoIter.{IntoIter}
+use Rattle.raft_base.specs.declared.errors.Error.{Error}
+use Rattle.raft_records.specs.declared.log_item.LogItem.{LogItem}
+use Rattle.raft_records.specs.Item.{Item, item_of}
+use Rattle.raft_memtable.specs.Accessor.{Accessor}
+use Rattle.raft_memtable.specs.Writes.{Writing, AreWritten, AreItemsRefused}
+use Rattle.raft_log.specs.WrittenBatch.{AreSomeWritten}
+
+-- all items, in order
+pub drained : {X Z : Type 0} (s : IntoIter X Z) (xs : List X) → into_iter_len s ≡ length (into_iter_items s) → Drains into_iter_steps s xs → xs ≡ into_iter_items s
+drained s xs len d = sym (map-id xs) ∙ items_from_drains xs (d.1.0, d.1.1, λ _. (d.0, d.1.2)) (YieldsList-from_vec (into_iter_items s) refl len)
+
+-- a loop over the items of a batch that was drained writes them all
+pub apply_so : {R E : Type 0} (r : Result R E) (w : Writing) (s : IntoIter LogItem Global) (items : List Item) (old new : Accessor) → map item_of (into_iter_items s) ≡ items → into_iter_len s ≡ length items
+    → OnOk r ((it : IntoIter LogItem Global) × (xs : List LogItem) × (it ≡ s) × Drains into_iter_steps it xs × AreWritten w (map item_of xs) old new) → OnOk r (AreWritten w items old new)
+apply_so (Ok x) w s items old new e len p =
+    let as_long : into_iter_len s ≡ length (into_iter_items s) = len ∙ ap length (sym e) ∙ length-map (into_iter_items s) item_of in
+    let all : p.1 ≡ into_iter_items s = drained s p.1 as_long (subst (λ (it : IntoIter LogItem Global). Drains into_iter_steps it p.1) p.2 p.3) in
+    subst (λ (l : List Item). AreWritten w l old new) (ap (map item_of) all ∙ e) p.4
+apply_so (Err x) w s items old new e len p = tt
+
+-- some items were written: all, or those before the refused one
+pub some_so : {R : Type 0} (r : Result R Error) (w : Writing) (s : IntoIter LogItem Global) (old new : Accessor)
+    → OnOk r ((it : IntoIter LogItem Global) × (xs : List LogItem) × (it ≡ s) × Drains into_iter_steps it xs × AreWritten w (map item_of xs) old new)
+    → IfErr r (λ e. (it : IntoIter LogItem Global) × (xs : List LogItem) × (u : IntoIter LogItem Global) × (it ≡ s) × Yields into_iter_steps it xs u × AreItemsRefused w (map item_of xs) old new e)
+    → AreSomeWritten w old new
+some_so (Ok x) w s old new done refused = (map item_of done.1, done.4)
+some_so (Err e) w s old new done refused = (refused.5.front, refused.5.written)
+
+-- ---- the items that are refused
+
+-- what was taken, and what is left
+parted : {X Z : Type 0} (s u : IntoIter X Z) (xs : List X) → Yields into_iter_steps s xs u → into_iter_items s ≡ xs ++ into_iter_items u
+parted s u [] y = ap into_iter_items y
+parted s u (x ∷ xs) y = y.1.0 ∙ ap (λ l. x ∷ l) (parted y.0 u xs y.2)

@@ -1,0 +1,4 @@
+pub mod DrainLemmas
+pub mod LogLemmas
+pub mod NumberLemmas
+pub mod RecoveredLemmas

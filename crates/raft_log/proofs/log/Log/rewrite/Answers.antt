@@ -1,0 +1,11 @@
+use Rattle.std.proofs.Common.{◌++◌, ◌∷◌, [], List, map}
+use Rattle.raft_recover.specs.Files.{file_shown}
+use Rattle.raft_recover.specs.Requests.{NumberedBytes}
+use Rattle.raft_log.proofs.LogLemmas.{moved_on}
+use Rattle.raft_log.proofs.log.Log.rewrite.Goals as goal
+
+pub invariant_of-self : goal.invariant_of-self
+invariant_of-self c = λ k few.
+    let a = c.self.inside in
+    let files : List NumberedBytes = map file_shown a.closed.items ++ (a.seq, a.bytes.items) ∷ [] in
+    moved_on c.rewriting_changes_places_alone.ensures.rewritten a.version files c.args.gate c.args.seq a.accessor c.rewrite.new.accessor a.intact a.complete a.unmoved c.rewrite.ensures.some (c.self.invariant k few)

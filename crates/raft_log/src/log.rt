@@ -1,0 +1,422 @@
+//! A log of the append queue, as an engine keeps it.
+
+ghost use Rattle.std.specs.Prelude.{◌≡◌, ◌≢◌, ◌⊎◌, ◌↔◌, ℕ, ◌≤◌, ◌<◌, ◌^◌, List, [], ◌∷◌, ◌++◌, map, true, false, length, IfOk, IfErr, OnOk, OnErr, IsTrue};
+ghost use Rattle.raft_base.specs.declared.pipe_log.LogQueue.TheVariants.{Append};
+ghost use Rattle.raft_base.specs.Errors.{IsInvalidArgument};
+ghost use Rattle.raft_records.specs.Item.{command_item};
+ghost use Rattle.raft_records.specs.declared.command.Command.TheVariants.{Clean};
+ghost use Rattle.raft_records.specs.LogBatch.{populating, empty_batch};
+ghost use Rattle.raft_memtable.specs.Writes.{Appending, Rewriting, AreWritten};
+ghost use Rattle.raft_recover.specs.Files.{FilesCannotBeRead, bytes_of_files, file_shown};
+ghost use Rattle.raft_recover.specs.Segments.{MayReplay, SegmentsAreOf};
+ghost use Rattle.raft_log.specs.KeptLog.{NumbersRise, last_number};
+ghost use Rattle.raft_log.specs.RoundTrip.{AreCutFromFiles, IsOpened, IsRecoveredAs, MayOpen};
+ghost use Rattle.raft_log.specs.WrittenBatch.{AreSomeWritten, IsOneMore, IsPlaced, IsPutAfter};
+
+use raft_memtable::MemTableAccessor;
+use raft_memtable::histories::{
+    histories_of_the_append_queue_are_apart, placed_items_are_in_their_file, readings_agree,
+    readings_go_on,
+};
+use raft_memtable::reading::{
+    appended_items_are_read_as_steps, items_are_read_as_steps, rewriting_changes_places_alone,
+};
+use raft_records::{
+    Error, FileBlockHandle, FileId, FileSeq, LogBatch, LogFileContext, LogQueue, Result, Version,
+};
+use raft_recover::{
+    Segment, file_segments, files_hold_few_records, recover, segments_read_as_one_history,
+    written_batches_are_held,
+};
+use std::alloc::Global;
+use std::marker::Model;
+use std::mem;
+use std::thread::Threads;
+
+/// The files of the append queue with their bytes, and the tables of all batches that were written to them.
+///
+/// While the log is intact, what [`Log::recover`] gives of its files are these tables: what was written is what is
+/// recovered.
+#[derive(Drop)]
+pub struct Log {
+    version: Version,
+    /// The files that are written no more, oldest first.
+    closed: Vec<(FileSeq, Vec<u8>)>,
+    /// The number of the file that is written to.
+    seq: FileSeq,
+    /// The bytes of that file.
+    bytes: Vec<u8>,
+    accessor: MemTableAccessor,
+    /// Whether every batch whose bytes were written was applied to the tables.
+    intact: bool,
+    /// Whether no cleaned regions were handed out.
+    complete: bool,
+    /// Whether no rewriting was applied.
+    unmoved: bool,
+}
+
+impl Model for Log {
+    ghost use Rattle.raft_log.specs.KeptLog.{KeptLog};
+    ghost use Rattle.raft_log.specs.KeptLogCode.{log_code};
+
+    ghost Value = { KeptLog };
+
+    ghost coded = { log_code };
+
+    ghost use Rattle.raft_log.specs.KeptLogView.{log_shown, IsKept};
+
+    ghost view = { log_shown };
+
+    ghost invariant = { IsKept };
+}
+
+impl Log {
+    /// Makes a log whose first file has no bytes yet.
+    ///
+    /// # Errors
+    ///
+    /// `Memory`.
+    pub fn new(alloc: Global, version: Version, seq: FileSeq) -> Result<Log>
+        ensures version { IfOk result (λ log. log.version ≡ version) }
+        ensures files { IfOk result (λ log. log.files ≡ (seq, []) ∷ []) }
+        ensures intact { IfOk result (λ log. log.intact ≡ true) }
+        ensures complete { IfOk result (λ log. log.complete ≡ true) }
+        ensures unmoved { IfOk result (λ log. log.unmoved ≡ true) }
+        ensures memory { IfErr result (λ e. e ≡ Error.Memory) }
+    {
+        rewriting_changes_places_alone();
+        let closed = Vec::new(alloc);
+        let bytes = Vec::new(alloc);
+        let accessor = MemTableAccessor::new(alloc)?;
+        Ok(Log {
+            version,
+            closed,
+            seq,
+            bytes,
+            accessor,
+            intact: true,
+            complete: true,
+            unmoved: true,
+        })
+    }
+
+    /// Opens the files of the append queue, oldest first, with the tables that [`recover`] gives of them on 1 to 256
+    /// workers. It goes on in the last file, and asks that there is one: without files, begin with [`Log::new`].
+    ///
+    /// # Errors
+    ///
+    /// `InvalidArgument` for 2^62 files and more, for a file number below that of the file before it, and for another
+    /// number of workers. Otherwise what [`recover`] returns: the files can't be read then; or `Memory`.
+    pub fn open<R: Threads + Sync>(
+        rt: &R,
+        alloc: Global,
+        version: Version,
+        files: Vec<(FileSeq, Vec<u8>)>,
+        workers: usize,
+    ) -> Result<Log>
+        requires { 0 < length files.items }
+        ensures ok { IfOk result (IsOpened version (map file_shown files.items)) }
+        ensures accepted { OnOk result (MayOpen workers (map file_shown files.items)) }
+        ensures refused { MayOpen workers (map file_shown files.items)
+            → IfErr result (λ e. e ≢ Error.Memory
+            → FilesCannotBeRead Append version (map file_shown files.items)) }
+        ensures fault { ¬ (MayOpen workers (map file_shown files.items))
+            → IfErr result (λ e. e ≢ Error.Memory → IsInvalidArgument e) }
+    {
+        histories_of_the_append_queue_are_apart();
+        files_hold_few_records();
+        rewriting_changes_places_alone();
+        if !numbers_rise(&files) {
+            return Err(Error::invalid_argument(alloc, "a file number is below the one before it"));
+        }
+        let segments = file_segments(LogQueue::Append, version, copies(&files)?)?;
+        let accessor = recover(rt, alloc, segments.as_slice(), LogQueue::Append, workers)?;
+        let mut closed = files;
+        let Some((seq, bytes)) = closed.pop() else {
+            unreachable!()
+        };
+        Ok(Log {
+            version,
+            closed,
+            seq,
+            bytes,
+            accessor,
+            intact: true,
+            complete: true,
+            unmoved: true,
+        })
+    }
+
+    /// Returns the tables, the cleaned regions that weren't handed out, and the live counts.
+    pub fn accessor(&self) -> &MemTableAccessor
+        ensures { result.now ≡ self.now.accessor }
+    {
+        &self.accessor
+    }
+
+    /// Returns the number of the last file.
+    pub fn last_seq(&self) -> FileSeq
+        ensures { result ≡ last_number 0 self.now.files }
+    {
+        self.seq
+    }
+
+    /// Tests whether every batch whose bytes were written was applied to the tables.
+    pub fn is_intact(&self) -> bool
+        ensures { IsTrue result ↔ (self.now.intact ≡ true) }
+    {
+        self.intact
+    }
+
+    /// Writes a batch: its bytes after those of the last file, and its items with their places to the tables. The
+    /// batch is empty then. A batch without items changes nothing.
+    ///
+    /// # Errors
+    ///
+    /// `Failed` where the log isn't intact. `Full`, `Memory`, and what the tables refuse: the log is then as it
+    /// was, or it isn't intact any more.
+    pub fn write(&mut self, batch: &mut LogBatch) -> Result<()>
+        requires { batch.old.stage ≡ populating }
+        ensures ok { OnOk result ((batch.old.items ≡ []) × (self.new ≡ self.old)
+            ⊎ IsOneMore batch.old self.old self.new) }
+        ensures accepted { OnOk result (self.old.intact ≡ true) }
+        ensures intact { OnOk result (self.new.intact ≡ true) }
+        ensures err { OnErr result ((self.new ≡ self.old) ⊎ (self.new.intact ≡ false)) }
+    {
+        appended_items_are_read_as_steps();
+        items_are_read_as_steps();
+        rewriting_changes_places_alone();
+        readings_go_on();
+        if !self.intact {
+            return Err(Error::Failed);
+        }
+        if batch.is_empty() {
+            return Ok(());
+        }
+        let file = LogFileContext::new(FileId::new(LogQueue::Append, self.seq), self.version);
+        put_after(&file, &mut self.bytes, batch)?;
+        match apply(&mut self.accessor, batch) {
+            Ok(()) => Ok(()),
+            Err(e) => {
+                self.intact = false;
+                Err(e)
+            }
+        }
+    }
+
+    /// Gives the items of a batch that was written to the file `seq` of the rewrite queue their places there, as
+    /// [`MemTableAccessor::apply_rewrite_writes`] does. The batch is empty then.
+    ///
+    /// # Errors
+    ///
+    /// Those of that call; the items before the refused one are written. The log is as intact as it was.
+    pub fn rewrite(
+        &mut self,
+        batch: &mut LogBatch,
+        gate: Option<FileSeq>,
+        seq: FileSeq,
+    ) -> Result<()>
+        ensures ok { OnOk result (AreWritten (Rewriting gate seq) batch.old.items self.old.accessor
+            self.new.accessor) }
+        ensures some { AreSomeWritten (Rewriting gate seq) self.old.accessor self.new.accessor }
+        ensures others { self.new ≡ record self.old
+            { accessor = self.new.accessor; unmoved = false } }
+    {
+        rewriting_changes_places_alone();
+        self.unmoved = false;
+        rewrite(&mut self.accessor, batch, gate, seq)
+    }
+
+    /// Goes on in a new file. It asks that its number is not below that of the last one ([`Log::last_seq`]).
+    ///
+    /// # Errors
+    ///
+    /// `Memory`. The log is then as it was.
+    pub fn rotate(&mut self, seq: FileSeq) -> Result<()>
+        requires { last_number 0 self.old.files ≤ seq }
+        ensures ok { OnOk result (self.new ≡ record self.old
+            { files = self.old.files ++ (seq, []) ∷ [] }) }
+        ensures err { OnErr result (self.new ≡ self.old) }
+        ensures memory { IfErr result (λ e. e ≡ Error.Memory) }
+    {
+        self.closed.reserve(1)?;
+        let next = Vec::new(*self.closed.allocator());
+        let bytes = mem::replace(&mut self.bytes, next);
+        self.closed.push_reserved((self.seq, bytes));
+        self.seq = seq;
+        Ok(())
+    }
+
+    /// Hands out the cleaned regions as a batch with a `Clean` for each, in order. They are then listed no more.
+    ///
+    /// # Errors
+    ///
+    /// `Memory`. The log is then as it was.
+    pub fn take_cleaned_region_logs(&mut self) -> Result<LogBatch>
+        ensures logs { IfOk result (λ logs. logs ≡ record empty_batch
+            { items = map (λ id. command_item id Clean) self.old.accessor.cleaned }) }
+        ensures ok { OnOk result (self.new ≡ record self.old {
+          accessor = record self.old.accessor { cleaned = [] };
+          complete = false;
+        }) }
+        ensures err { OnErr result (self.new ≡ self.old) }
+        ensures memory { IfErr result (λ e. e ≡ Error.Memory) }
+    {
+        let logs = self.accessor.take_cleaned_region_logs()?;
+        self.complete = false;
+        Ok(logs)
+    }
+
+    /// Returns the files as segments, each of one part: the same is read of them as of the files.
+    ///
+    /// # Errors
+    ///
+    /// `Memory`.
+    pub fn segments(&self) -> Result<Vec<Segment>>
+        ensures cut { IfOk result (λ segments. AreCutFromFiles self.now segments.items) }
+        ensures of_queue { IfOk result (λ segments. SegmentsAreOf Append segments.items) }
+        ensures count { IfOk result (λ segments. length segments.items ≡ length self.now.files) }
+        ensures memory { IfErr result (λ e. e ≡ Error.Memory) }
+    {
+        let mut files = copies(&self.closed)?;
+        let bytes = Vec::from_slice(*self.bytes.allocator(), &self.bytes)?;
+        files.push((self.seq, bytes))?;
+        file_segments(LogQueue::Append, self.version, files)
+    }
+
+    /// Recovers what a restart has: what [`recover`] gives of these segments, which are cut from the files in
+    /// whatever way, on 1 to 256 workers. These are the tables, live counts and cleaned regions that an intact log
+    /// keeps, but for places that rewritings moved and for the regions that were handed out.
+    ///
+    /// # Errors
+    ///
+    /// Of an intact log whose files have fewer than 2^63 bytes only `Memory`, where the segments and the number of
+    /// workers are such as [`recover`] asks.
+    pub fn recover<R: Threads + Sync>(
+        &self,
+        rt: &R,
+        alloc: Global,
+        segments: &[Segment],
+        workers: usize,
+    ) -> Result<MemTableAccessor>
+        ensures same { self.now.intact ≡ true → bytes_of_files self.now.files < 2 ^ 63
+            → AreCutFromFiles self.now segments.entry.now
+            → IfOk result (IsRecoveredAs self.now) }
+        ensures refused { self.now.intact ≡ true → bytes_of_files self.now.files < 2 ^ 63
+            → AreCutFromFiles self.now segments.entry.now
+            → MayReplay Append workers segments.entry.now → IfErr result (λ e. e ≡ Error.Memory) }
+    {
+        histories_of_the_append_queue_are_apart();
+        segments_read_as_one_history();
+        files_hold_few_records();
+        readings_agree();
+        self.accessor.counts_are_exact();
+        let _ = self.intact;
+        recover(rt, alloc, segments, LogQueue::Append, workers)
+    }
+
+    /// Recovers what a restart has of the whole files, on 1 to 256 workers.
+    ///
+    /// # Errors
+    ///
+    /// Of an intact log of fewer than 2^63 bytes in fewer than 2^62 files only `Memory`.
+    pub fn recover_files<R: Threads + Sync>(
+        &self,
+        rt: &R,
+        alloc: Global,
+        workers: usize,
+    ) -> Result<MemTableAccessor>
+        ensures same { self.now.intact ≡ true → bytes_of_files self.now.files < 2 ^ 63
+            → IfOk result (IsRecoveredAs self.now) }
+        ensures refused { self.now.intact ≡ true → bytes_of_files self.now.files < 2 ^ 63
+            → 0 < workers → workers ≤ 256 → length self.now.files < 2 ^ 62
+            → IfErr result (λ e. e ≡ Error.Memory) }
+    {
+        let segments = self.segments()?;
+        self.recover(rt, alloc, segments.as_slice(), workers)
+    }
+}
+
+/// Tests whether file numbers never go down.
+fn numbers_rise(files: &Vec<(FileSeq, Vec<u8>)>) -> bool
+    ensures { IsTrue result ↔ NumbersRise 0 (map file_shown files.now.items) }
+{
+    let mut last = 0;
+    for (seq, _) in files {
+        if *seq < last {
+            return false;
+        }
+        last = *seq;
+    }
+    true
+}
+
+/// Puts a batch after the bytes of a file, and gives its items their places there.
+///
+/// # Errors
+///
+/// `Full`, `Memory`. The bytes are then as they were.
+fn put_after(file: &LogFileContext, bytes: &mut Vec<u8>, batch: &mut LogBatch) -> Result<()>
+    requires populating { batch.old.stage ≡ populating }
+    requires some { batch.old.items ≢ [] }
+    ensures put { OnOk result (IsPutAfter file.now batch.new.items bytes.old.items
+        bytes.new.items) }
+    ensures placed { OnOk result (IsPlaced file.now.id batch.old batch.new) }
+    ensures err { OnErr result (bytes.new.items ≡ bytes.old.items) }
+{
+    placed_items_are_in_their_file();
+    written_batches_are_held();
+    let offset = bytes.len() as u64;
+    if offset > u64::MAX - 16 {
+        return Err(Error::Full);
+    }
+    let len = batch.finish_populate()?;
+    batch.prepare_write(file);
+    batch.is_read_again();
+    bytes.extend_from_slice(batch.encoded_bytes())?;
+    batch.finish_write(FileBlockHandle {
+        id: file.id,
+        offset,
+        len,
+    });
+    Ok(())
+}
+
+/// Writes the items of a batch to the tables, which empties it.
+fn apply(accessor: &mut MemTableAccessor, batch: &mut LogBatch) -> Result<()>
+    ensures { OnOk result (AreWritten Appending batch.old.items accessor.old accessor.new) }
+{
+    accessor.apply_append_writes(batch.drain())
+}
+
+/// Gives the items of a batch their places in the file of the rewrite queue, which empties it.
+fn rewrite(
+    accessor: &mut MemTableAccessor,
+    batch: &mut LogBatch,
+    gate: Option<FileSeq>,
+    seq: FileSeq,
+) -> Result<()>
+    ensures ok { OnOk result (AreWritten (Rewriting gate seq) batch.old.items accessor.old
+        accessor.new) }
+    ensures some { AreSomeWritten (Rewriting gate seq) accessor.old accessor.new }
+{
+    accessor.apply_rewrite_writes(batch.drain(), gate, seq)
+}
+
+/// Copies files.
+///
+/// # Errors
+///
+/// `Memory`.
+fn copies(files: &Vec<(FileSeq, Vec<u8>)>) -> Result<Vec<(FileSeq, Vec<u8>)>>
+    ensures ok { IfOk result (λ copies. map file_shown copies.items
+        ≡ map file_shown files.now.items) }
+    ensures memory { IfErr result (λ e. e ≡ Error.Memory) }
+{
+    let alloc = *files.allocator();
+    let mut copies = Vec::new(alloc);
+    for (seq, bytes) in files {
+        copies.push((*seq, Vec::from_slice(alloc, bytes)?))?;
+    }
+    Ok(copies)
+}

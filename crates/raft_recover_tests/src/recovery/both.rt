@@ -48,7 +48,13 @@ static ROWS: [Row; 4] = [
 ];
 
 /// The batch of one entry of region 1 with so many bytes, behind the bytes of the file.
-fn append_entry(alloc: Global, file: FileId, index: u64, len: usize, bytes: &mut Vec<u8>) -> Result<()> {
+fn append_entry(
+    alloc: Global,
+    file: FileId,
+    index: u64,
+    len: usize,
+    bytes: &mut Vec<u8>,
+) -> Result<()> {
     let entry = EntryIndex {
         index,
         entries: None,
@@ -66,7 +72,12 @@ fn append_entry(alloc: Global, file: FileId, index: u64, len: usize, bytes: &mut
 }
 
 /// One file of the queue, with a batch for each entry of the runs, which have so many bytes.
-fn segments_of(alloc: Global, queue: LogQueue, runs: &[(u64, u64)], len: usize) -> Result<Vec<Segment>> {
+fn segments_of(
+    alloc: Global,
+    queue: LogQueue,
+    runs: &[(u64, u64)],
+    len: usize,
+) -> Result<Vec<Segment>> {
     let file = FileId::new(queue, 3);
     let mut bytes = Vec::new(alloc);
     for &(start, end) in runs {
@@ -111,7 +122,14 @@ fn rows() -> &'static [Row] {
 #[test]
 fn both_queues_have_their_tables(rt: HostRuntime) {
     for row in rows() {
-        for &(len, workers) in &[(1, 1), (1, 2), (1, 4), (1 << 18, 1), (1 << 18, 2), (1 << 18, 4)] {
+        for &(len, workers) in &[
+            (1, 1),
+            (1, 2),
+            (1, 4),
+            (1 << 18, 1),
+            (1 << 18, 2),
+            (1 << 18, 4),
+        ] {
             let mut held = holds(&rt, rt.alloc(), row, len, workers);
             if matches!(held, Err(Error::Memory)) {
                 held = holds(&rt, rt.alloc(), row, len, workers);
@@ -152,6 +170,9 @@ fn other_workers_and_queues_are_refused(rt: HostRuntime) {
         if matches!(answer, Err(Error::Memory)) {
             answer = are_refused(&rt, rt.alloc(), queues, workers);
         }
-        assert!(rt; answer.is_ok_and(|answer| answer == refused), "{workers} workers");
+        assert!(rt;
+            answer.is_ok_and(|answer| answer == refused),
+            "{workers} workers"
+        );
     }
 }

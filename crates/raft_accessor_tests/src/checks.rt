@@ -10,7 +10,9 @@ use std::alloc::Global;
 enum Item {
     /// Entries of these indexes.
     Run(u64, &'static [u64]),
-    Command(u64, Command),
+    Compact(u64, u64),
+    Truncate(u64, u64),
+    Clean(u64),
     /// A key that is put without a value.
     Put(u64, &'static [u8]),
     Delete(u64),
@@ -33,11 +35,11 @@ static ROWS: [(&[Item], &str); 12] = [
     ),
     (
         &[
-            Item::Command(1, Command::Compact { index: 30 }),
+            Item::Compact(1, 30),
             Item::Run(1, &[40]),
-            Item::Command(1, Command::Clean),
+            Item::Clean(1),
             Item::Run(1, &[3, 4]),
-            Item::Command(1, Command::Truncate { index: 3 }),
+            Item::Truncate(1, 3),
             Item::Run(1, &[8]),
         ],
         "",
@@ -56,17 +58,11 @@ static ROWS: [(&[Item], &str); 12] = [
         "region 1: a run from index 17 on leaves a hole behind the entries, which end at 16",
     ),
     (
-        &[
-            Item::Command(1, Command::Truncate { index: 12 }),
-            Item::Run(1, &[13]),
-        ],
+        &[Item::Truncate(1, 12), Item::Run(1, &[13])],
         "region 1: a run from index 13 on leaves a hole behind the entries, which end at 12",
     ),
     (
-        &[
-            Item::Command(1, Command::Compact { index: 15 }),
-            Item::Run(1, &[14]),
-        ],
+        &[Item::Compact(1, 15), Item::Run(1, &[14])],
         "region 1: a run from index 14 on begins in front of the first entry 15",
     ),
     (
@@ -74,11 +70,7 @@ static ROWS: [(&[Item], &str); 12] = [
         "region 2: a run from index 4 on begins in front of the first entry 5",
     ),
     (
-        &[
-            Item::Command(1, Command::Clean),
-            Item::Run(1, &[3, 4]),
-            Item::Run(1, &[6]),
-        ],
+        &[Item::Clean(1), Item::Run(1, &[3, 4]), Item::Run(1, &[6])],
         "region 1: a run from index 6 on leaves a hole behind the entries, which end at 5",
     ),
     (
@@ -105,10 +97,12 @@ fn run(alloc: Global, indexes: &[u64]) -> Result<Vec<EntryIndex>> {
     Ok(run)
 }
 
-fn item(alloc: Global, item: Item) -> Result<LogItem> {
+fn log_item(alloc: Global, item: Item) -> Result<LogItem> {
     Ok(match item {
         Item::Run(region, indexes) => LogItem::new_entry_indexes(region, run(alloc, indexes)?),
-        Item::Command(region, command) => LogItem::new_command(region, command),
+        Item::Compact(region, index) => LogItem::new_command(region, Command::Compact { index }),
+        Item::Truncate(region, index) => LogItem::new_command(region, Command::Truncate { index }),
+        Item::Clean(region) => LogItem::new_command(region, Command::Clean),
         Item::Put(region, key) => {
             LogItem::new_kv(region, OpType::Put, Vec::from_slice(alloc, key)?, None)
         }
@@ -127,7 +121,7 @@ fn item(alloc: Global, item: Item) -> Result<LogItem> {
 fn is_checked(alloc: Global, tables: &MemTableAccessor, row: &[Item], text: &str) -> Result<bool> {
     let mut items = Vec::new(alloc);
     for &one in row {
-        items.push(item(alloc, one)?)?;
+        items.push(log_item(alloc, one)?)?;
     }
     match tables.check_append_writes(&items) {
         Ok(()) => Ok(text.is_empty()),

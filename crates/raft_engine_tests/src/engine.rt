@@ -151,7 +151,10 @@ impl Engine {
     /// Cuts the last file where its readable batches end.
     pub fn cut_tail(&mut self) -> Result<()> {
         if let Some(file) = self.files.last_mut() {
-            let (end, _) = readable_front(&part_of(file)?);
+            let (end, stopped) = readable_front(&part_of(file)?);
+            if matches!(stopped, Some(Error::Memory)) {
+                return Err(Error::Memory);
+            }
             file.bytes.truncate(end);
         }
         Ok(())

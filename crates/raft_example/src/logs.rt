@@ -1,7 +1,7 @@
 //! The batches that the log files of a folder hold.
 
 use crate::folder_pipe::{Disk, FolderPipe};
-use raft_base::{LogQueue, Result};
+use raft_base::{Error, LogQueue, Result};
 use raft_records::{
     AtomicGroupStatus, Command, FilePart, LogItem, LogItemBatch, LogItemContent, OpType,
     next_batch, readable_front,
@@ -67,7 +67,8 @@ pub(crate) fn push_commands(commands: &mut Vec<LogItem>, items: &[LogItem]) -> R
     Ok(())
 }
 
-/// The files of a queue without a torn tail.
+/// The files of a queue without a torn tail, which is cut off on the disk too. Where there was no memory to read
+/// on, nothing is cut.
 fn segments_of<R: Disk>(
     alloc: Global,
     pipe: &FolderPipe<'_, R>,
@@ -75,7 +76,10 @@ fn segments_of<R: Disk>(
 ) -> Result<Vec<Segment>> {
     let mut files = pipe.files(queue)?;
     if let Some(last) = files.last_mut() {
-        let (end, _) = readable_front(last);
+        let (end, stopped) = readable_front(last);
+        if matches!(stopped, Some(Error::Memory)) {
+            return Err(Error::Memory);
+        }
         let torn = last.split_off(end)?;
         if !torn.bytes().is_empty() {
             pipe.cut(torn.id(), torn.offset())?;

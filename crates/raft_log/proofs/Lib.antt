@@ -2,3 +2,4 @@ pub mod DrainLemmas
 pub mod LogLemmas
 pub mod NumberLemmas
 pub mod RecoveredLemmas
+pub mod RoomLemmas

@@ -16,7 +16,7 @@ use Rattle.raft_recover.specs.Files.{FilesHold, FilesCannotBeRead, bytes_of_file
 use Rattle.raft_recover.specs.Recovery.{IsRecovered}
 use Rattle.raft_recover.specs.Requests.{NumberedBytes}
 use Rattle.raft_recover.specs.Segments.{SegmentsHold, CannotBeRead}
-use Rattle.raft_log.specs.KeptLog.{KeptLog, IsReadBack, NumbersRise, last_number}
+use Rattle.raft_log.specs.KeptLog.{KeptLog, IsReadBack, NumbersRise}
 use Rattle.raft_log.specs.RoundTrip.{AreCutFromFiles, IsRecoveredAs}
 use Rattle.raft_log.proofs.NumberLemmas.{files_last}
 

@@ -30,6 +30,10 @@ pub record IsOneMore (batch : Batch) (old new : KeptLog) : Type 0 where
   pub applied : AreWritten Appending event.items old.accessor new.accessor
   pub others : new ≡ record old { files = new.files; accessor = new.accessor }
 
+-- there is no memory, or no room for more bytes or more live records
+abbrev pub LacksRoom : Error → Type 0
+LacksRoom e = (e ≡ errors.Memory) ⊎ (e ≡ errors.Full)
+
 -- some items were written so, and nothing else
 abbrev pub AreSomeWritten : Writing → Accessor → Accessor → Type 0
 AreSomeWritten w old new = (items : List Item) × AreWritten w items old new

@@ -6,14 +6,16 @@ ghost use Rattle.raft_base.specs.Errors.{IsInvalidArgument};
 ghost use Rattle.raft_records.specs.Item.{command_item};
 ghost use Rattle.raft_records.specs.declared.command.Command.TheVariants.{Clean};
 ghost use Rattle.raft_records.specs.LogBatch.{populating, empty_batch};
+ghost use Rattle.raft_memtable.specs.AppendChecks.{AreAccepted, AreAcceptedOncePlaced, AreRefusedOncePlaced};
 ghost use Rattle.raft_memtable.specs.Writes.{Appending, Rewriting, AreWritten};
 ghost use Rattle.raft_recover.specs.Files.{FilesCannotBeRead, bytes_of_files, file_shown};
 ghost use Rattle.raft_recover.specs.Segments.{MayReplay, SegmentsAreOf};
 ghost use Rattle.raft_log.specs.KeptLog.{NumbersRise, last_number};
 ghost use Rattle.raft_log.specs.RoundTrip.{AreCutFromFiles, IsOpened, IsRecoveredAs, MayOpen};
-ghost use Rattle.raft_log.specs.WrittenBatch.{AreSomeWritten, IsOneMore, IsPlaced, IsPutAfter};
+ghost use Rattle.raft_log.specs.WrittenBatch.{AreSomeWritten, IsOneMore, IsPlaced, IsPutAfter, LacksRoom};
 
 use raft_memtable::MemTableAccessor;
+use raft_memtable::accessor::accepted_items_lack_room_alone;
 use raft_memtable::histories::{
     histories_of_the_append_queue_are_apart, placed_items_are_in_their_file, readings_agree,
     readings_go_on,
@@ -169,19 +171,27 @@ impl Log {
     }
 
     /// Writes a batch: its bytes after those of the last file, and its items with their places to the tables. The
-    /// batch is empty then. A batch without items changes nothing.
+    /// batch is empty then. A batch without items changes nothing. No byte of a batch is written that the tables
+    /// would refuse ([`MemTableAccessor::check_append_writes`]).
     ///
     /// # Errors
     ///
-    /// `Failed` where the log isn't intact. `Full`, `Memory`, and what the tables refuse: the log is then as it
-    /// was, or it isn't intact any more.
+    /// `Failed` where the log isn't intact; `Corruption` where the tables would refuse an item, which the text names.
+    /// The log is then as it was. `Memory`, `Full`: the log is as it was, or, if the bytes stand in the file already,
+    /// not intact any more.
     pub fn write(&mut self, batch: &mut LogBatch) -> Result<()>
         requires { batch.old.stage ≡ populating }
         ensures ok { OnOk result ((batch.old.items ≡ []) × (self.new ≡ self.old)
             ⊎ IsOneMore batch.old self.old self.new) }
         ensures accepted { OnOk result (self.old.intact ≡ true) }
         ensures intact { OnOk result (self.new.intact ≡ true) }
-        ensures err { OnErr result ((self.new ≡ self.old) ⊎ (self.new.intact ≡ false)) }
+        ensures err { IfErr result (λ e. (self.new ≡ self.old)
+            ⊎ (LacksRoom e × (self.new.intact ≡ false))) }
+        ensures refused { self.old.intact ≡ true
+            → AreAcceptedOncePlaced self.old.accessor.tables batch.old.items
+            → IfErr result LacksRoom }
+        ensures tested { OnOk result
+            (AreAcceptedOncePlaced self.old.accessor.tables batch.old.items) }
     {
         appended_items_are_read_as_steps();
         items_are_read_as_steps();
@@ -193,6 +203,7 @@ impl Log {
         if batch.is_empty() {
             return Ok(());
         }
+        self.accessor.check_append_writes(batch.items())?;
         let file = LogFileContext::new(FileId::new(LogQueue::Append, self.seq), self.version);
         put_after(&file, &mut self.bytes, batch)?;
         match apply(&mut self.accessor, batch) {
@@ -363,6 +374,7 @@ fn put_after(file: &LogFileContext, bytes: &mut Vec<u8>, batch: &mut LogBatch) -
         bytes.new.items) }
     ensures placed { OnOk result (IsPlaced file.now.id batch.old batch.new) }
     ensures err { OnErr result (bytes.new.items ≡ bytes.old.items) }
+    ensures fault { IfErr result LacksRoom }
 {
     placed_items_are_in_their_file();
     written_batches_are_held();
@@ -384,8 +396,10 @@ fn put_after(file: &LogFileContext, bytes: &mut Vec<u8>, batch: &mut LogBatch) -
 
 /// Writes the items of a batch to the tables, which empties it.
 fn apply(accessor: &mut MemTableAccessor, batch: &mut LogBatch) -> Result<()>
-    ensures { OnOk result (AreWritten Appending batch.old.items accessor.old accessor.new) }
+    ensures ok { OnOk result (AreWritten Appending batch.old.items accessor.old accessor.new) }
+    ensures refused { AreAccepted accessor.old.tables batch.old.items → IfErr result LacksRoom }
 {
+    accepted_items_lack_room_alone();
     accessor.apply_append_writes(batch.drain())
 }
 

@@ -180,7 +180,8 @@ fn put_all(batch: &mut LogBatch, region: u64, pairs: Vec<(Vec<u8>, Vec<u8>)>) ->
     requires { batch.old.stage ≡ populating }
     ensures { OnOk result (batch.new.stage ≡ populating) }
 {
-    for (key, value) in pairs {
+    for pair in pairs {
+        let (key, value) = pair;
         batch.put(region, key, value)?;
     }
     Ok(())

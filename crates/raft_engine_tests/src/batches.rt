@@ -76,7 +76,7 @@ fn add(alloc: Global, batch: &mut LogBatch, part: Part) -> Result<()>
 {
     match part {
         Part::Entries(first, end) => {
-            batch.add_entries::<Entries>(REGION, entries(alloc, first, end)?.as_slice())
+            batch.add_entries::<Entries>(REGION, entries_from(alloc, first, end)?.as_slice())
         }
         Part::Put(value) => {
             let value = Vec::from_slice(alloc, value.as_bytes())?;
@@ -91,7 +91,7 @@ fn add(alloc: Global, batch: &mut LogBatch, part: Part) -> Result<()>
     }
 }
 
-fn entries(alloc: Global, first: u64, end: u64) -> Result<Vec<Entry>> {
+fn entries_from(alloc: Global, first: u64, end: u64) -> Result<Vec<Entry>> {
     let mut entries = Vec::new(alloc);
     for index in first..end {
         entries.push(Entry { index })?;

@@ -1,0 +1,5 @@
+//! Tests of `raft_log`.
+#![tactic(auto)]
+
+#[cfg(test)]
+mod round_trip;

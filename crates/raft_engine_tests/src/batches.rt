@@ -1,6 +1,6 @@
 //! What the batches of the histories say.
 
-ghost use Rattle.std.specs.Prelude.{◌≡◌, OnOk};
+ghost use Rattle.std.specs.Prelude.{◌≡◌, IfOk, OnOk};
 ghost use Rattle.raft_records.specs.LogBatch.{populating};
 
 use raft_base::{Message, MessageError, MessageExt};
@@ -34,6 +34,8 @@ struct Entry {
 }
 
 impl Message for Entry {
+    ghost use Rattle.std.specs.Prelude.{[], ◌∷◌};
+
     ghost bytes_of = { λ entry. 120 ∷ [] };
 
     ghost refuses = { λ entry code. ⊥ };

@@ -2,6 +2,7 @@
 
 use raft_base::{
     CompressionType, EntryIndex, Error, FileId, LogFileContext, LogQueue, Result, Version,
+    is_consecutive,
 };
 use raft_memtable::MemTableAccessor;
 use raft_records::{FilePart, LogBatch};
@@ -64,7 +65,12 @@ fn append_entry(
     };
     let text = vec![in alloc; b'e'; len]?;
     let mut batch = LogBatch::default(alloc);
-    batch.add_raw_entries(1, vec![in alloc; entry]?, vec![in alloc; text]?)?;
+    let indexes = vec![in alloc; entry]?;
+    let texts = vec![in alloc; text]?;
+    if indexes.len() != texts.len() || !is_consecutive(&indexes) {
+        return Err(Error::Failed);
+    }
+    batch.add_raw_entries(1, indexes, texts)?;
     batch.finish_populate()?;
     batch.prepare_write(&LogFileContext::new(file, Version::V2));
     bytes.extend_from_slice(batch.encoded_bytes())?;
@@ -93,7 +99,7 @@ fn segments_of(
 /// The first index of region 1, and the last plus one.
 fn entries_of(tables: &MemTableAccessor) -> Option<(u64, u64)> {
     let table = tables.get(1)?;
-    Some((table.first_index()?, table.last_index()? + 1))
+    Some((table.first_index()?, table.last_index()?.saturating_add(1)))
 }
 
 /// Whether a row's files, whose entries have so many bytes, give what the row says.

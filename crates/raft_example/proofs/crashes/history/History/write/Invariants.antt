@@ -3,4 +3,4 @@ use Rattle.raft_records.specs.LogBatch.{populating}
 use Rattle.raft_example.proofs.crashes.history.History.write.Given as goal
 
 abbrev pub invariant-loop : goal.invariant-loop
-invariant-loop l = l.batch.stage ≡ populating
+invariant-loop g l = l.batch.stage ≡ populating

@@ -1,5 +1,5 @@
 use Rattle.std.proofs.Common.{◌-◌, ◌≤◌, length}
-use Rattle.raft_example.proofs.logs.batches_of.Given as goal
+use Rattle.raft_example.proofs.replay.Given as goal
 
 abbrev pub invariant-loop-batch : goal.invariant-loop-batch
 invariant-loop-batch l = l.at ≤ length l.part.bytes

@@ -33,12 +33,12 @@ IsMovedPair (Some k) (Some s) = (k.value ≡ s.value) × ((k.file ≡ s.file) �
 IsMovedPair None (Some s) = ⊥
 IsMovedPair (Some k) None = ⊥
 
--- a kept table has the entries and the key values of the one that is read, but for their places and files
+-- a kept table has the entries and the key values of the one that is read, but for their places and files; its atomic group may be any
 pub record IsMovedTable (kept t : Table) : Type 0 where
   pub entries : AreMovedEntries kept.entries t.entries
   pub pairs : (key : List ℕ) → IsMovedPair (finite.get kept.keys key) (finite.get t.keys key)
 
--- each region's kept table is the one that is read, but for places and files; where none is kept none is read
+-- each region's kept table has the entries and key values of the one that is read, but for places and files, and nothing is said of atomic groups; where none is kept none is read, and where none is read a kept one has no records
 pub record AreMovedTables (kept tables : Tables) : Type 0 where
   pub each : (r : ℕ) → IsMovedTable (table_of r (finite.get kept r)) (table_of r (finite.get tables r))
   pub present : (r : ℕ) → finite.get kept r ≡ None → finite.get tables r ≡ None

@@ -72,8 +72,8 @@ bench:
 	@crates/raft_bench/out/raft_bench crc32 varint batches memtable blocks shared
 	@test -z "$(LOG)" || { crates/raft_bench/out/raft_bench recover $(LOG) && crates/raft_bench/out/raft_bench merge recover $(LOG); }
 
-# Runs `raftlog recover` over a folder of cases, as `make compare CASES=folder WORKERS=1,2,4,8`, and counts those that it
-# answers otherwise than they say. `make raftlog` builds it first. With `PROGRAM=crates/raft_cuttings/out/raft_cuttings` each case,
+# Runs `raftlog recover` over a folder of cases, as `make compare CASES=folder WORKERS=1,2,4,8`, and counts those of which it
+# prints something else than they say. `make raftlog` builds it first. With `PROGRAM=crates/raft_cuttings/out/raft_cuttings` each case,
 # of up to 16 batches, is read at every cutting; `make cuttings` builds that.
 WORKERS ?= 1
 PROGRAM ?= crates/raftlog/out/raftlog

@@ -76,7 +76,7 @@ done
 
 name=$(basename "${malloc:-$(getconf GNU_LIBC_VERSION 2>/dev/null || echo glibc)}")
 echo "$(date -u +%F), $(awk -F ': ' '/^model name/ { print $2; exit }' /proc/cpuinfo), $(nproc) processors, load" \
-    "$before before and $(load) behind; malloc of $name; rounds: $rounds; commit $(git -C "$here" rev-parse --short HEAD)."
+    "$before before and $(load) after; malloc of $name; rounds: $rounds; commit $(git -C "$here" rev-parse --short HEAD)."
 echo
 echo "| log | workers | here: best, median | raft-engine: best, median | ratio of the best | of the medians |"
 echo "|---|---|---|---|---|---|"

@@ -114,7 +114,7 @@ impl Extent {
         let end = self.end;
         if 0 < end && end < start {
             return Err(Error::Corruption(format!(in alloc;
-                "region {id}: a run from index {start} on leaves a hole behind the entries, which end at {end}"
+                "region {id}: a run from index {start} on leaves a hole behind the entries, which end before index {end}"
             )?));
         }
         Ok(Extent {

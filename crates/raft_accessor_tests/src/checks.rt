@@ -47,7 +47,7 @@ static ROWS: [(&[Item], &str); 12] = [
     (&[Item::Put(3, b"__\x01")], ""),
     (
         &[Item::Run(1, &[21])],
-        "region 1: a run from index 21 on leaves a hole behind the entries, which end at 20",
+        "region 1: a run from index 21 on leaves a hole behind the entries, which end before index 20",
     ),
     (
         &[Item::Run(1, &[9, 10])],
@@ -55,11 +55,11 @@ static ROWS: [(&[Item], &str); 12] = [
     ),
     (
         &[Item::Run(1, &[15]), Item::Run(1, &[17])],
-        "region 1: a run from index 17 on leaves a hole behind the entries, which end at 16",
+        "region 1: a run from index 17 on leaves a hole behind the entries, which end before index 16",
     ),
     (
         &[Item::Truncate(1, 12), Item::Run(1, &[13])],
-        "region 1: a run from index 13 on leaves a hole behind the entries, which end at 12",
+        "region 1: a run from index 13 on leaves a hole behind the entries, which end before index 12",
     ),
     (
         &[Item::Compact(1, 15), Item::Run(1, &[14])],
@@ -71,7 +71,7 @@ static ROWS: [(&[Item], &str); 12] = [
     ),
     (
         &[Item::Clean(1), Item::Run(1, &[3, 4]), Item::Run(1, &[6])],
-        "region 1: a run from index 6 on leaves a hole behind the entries, which end at 5",
+        "region 1: a run from index 6 on leaves a hole behind the entries, which end before index 5",
     ),
     (
         &[Item::Run(2, &[5, 7])],

@@ -106,7 +106,7 @@ IsPairCheckFault p (errors.Corruption text) = (is_reserved p.key ≡ false) × (
 IsPairCheckFault p errors.Memory = Unit {0}
 IsPairCheckFault p _ = ⊥
 
--- at these tables those that are left are accepted where all are in front of all
+-- some of the items were tested and accepted, and these are left: there are tables, of which this is known, that accept those that are left exactly if the tables in front of all items accept all of them
 pub record AreChecked (extents : List (ℕ × Extent)) (before : Tables) (items left : List Item) (place : FileBlockHandle) (compression : CompressionType) : Type 0 where
   pub now : Tables
   pub known : AreKnown extents before now

@@ -3,9 +3,11 @@
 mod batches;
 mod both;
 mod bound;
+mod failed;
 mod histories;
 mod kept;
 mod owed;
+mod pieces;
 mod refusals;
 mod rows;
 mod schedules;
@@ -15,8 +17,7 @@ mod truncations;
 use histories::{APPENDED, HOLE, History, TRUNCATED_OWED, TRUNCATION, histories};
 use owed::Owed;
 use raft_base::{Error, FileId, FileSeq, LogQueue, Result, Version};
-use raft_memtable::MemTableRecoverContext;
-use raft_records::{FilePart, LogItemBatch};
+use raft_records::FilePart;
 use raft_recover::files::file_segments;
 use raft_recover::recovery::recover_segments;
 use raft_recover::shares::equal_shares;
@@ -326,59 +327,6 @@ fn no_cut_shows_in_front_of_one_more_batch(rt: HostRuntime) {
         }
         assert!(rt; matches!(all, Ok(true)));
     }
-}
-
-/// How a call is refused, if it is.
-#[derive(Clone, Copy, PartialEq, Eq)]
-enum Refusal {
-    Corruption,
-    Failed,
-    Other,
-}
-
-/// What comes of a call, if it isn't refused for want of memory.
-fn refusal_of(called: Result<()>) -> Result<Option<Refusal>> {
-    match called {
-        Ok(()) => Ok(None),
-        Err(Error::Corruption(_)) => Ok(Some(Refusal::Corruption)),
-        Err(Error::Failed) => Ok(Some(Refusal::Failed)),
-        Err(Error::Memory) => Err(Error::Memory),
-        Err(_) => Ok(Some(Refusal::Other)),
-    }
-}
-
-/// How the replay of an empty batch of a file is refused.
-fn replay(
-    alloc: Global,
-    context: &mut MemTableRecoverContext,
-    seq: FileSeq,
-) -> Result<Option<Refusal>> {
-    let file = FileId::new(LogQueue::Append, seq);
-    refusal_of(context.replay(LogItemBatch::default(alloc), file))
-}
-
-/// Whether a context that refused a file below the last one answers `Failed` from then on.
-fn stays_failed(alloc: Global) -> Result<bool> {
-    let mut context = MemTableRecoverContext::new(alloc)?;
-    for &(seq, refusal) in &[
-        (5, None),
-        (4, Some(Refusal::Corruption)),
-        (6, Some(Refusal::Failed)),
-    ] {
-        if replay(alloc, &mut context, seq)? != refusal {
-            return Ok(false);
-        }
-    }
-    Ok(matches!(context.finish(), Err(Error::Failed)))
-}
-
-#[test]
-fn refused_contexts_stay_failed(rt: HostRuntime) {
-    let mut failed = stays_failed(rt.alloc());
-    if matches!(failed, Err(Error::Memory)) {
-        failed = stays_failed(rt.alloc());
-    }
-    assert!(rt; matches!(failed, Ok(true)));
 }
 
 /// Segments of empty parts, each of the queue that stands in its place.

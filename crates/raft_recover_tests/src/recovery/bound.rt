@@ -319,3 +319,13 @@ pub(crate) fn bound_of(alloc: Global, batches: &[Written]) -> Result<Kept> {
         waiting_items,
     })
 }
+
+/// Whether a context holds the entries and key values of one reading, and otherwise no more than it may.
+pub(crate) fn is_within(kept: Kept, bound: Kept) -> bool {
+    kept.entries == bound.entries
+        && kept.keys == bound.keys
+        && kept.marks <= bound.marks
+        && kept.deleted_keys <= bound.deleted_keys
+        && kept.cleaned == bound.cleaned
+        && kept.waiting_items <= bound.waiting_items
+}

@@ -1,0 +1,105 @@
+//! Contexts that refused a batch or a neighbor: they serve no further call.
+
+use super::batches::{RUN_10_20, RUN_40_45};
+use super::pieces::History;
+use raft_base::{Error, FileId, FileSeq, LogQueue, Result, Version};
+use raft_memtable::MemTableRecoverContext;
+use raft_records::LogItemBatch;
+use std::alloc::Global;
+
+/// How a call is refused, if it is.
+#[derive(Clone, Copy, PartialEq, Eq)]
+enum Refusal {
+    Corruption,
+    Failed,
+    Other,
+}
+
+/// What comes of a call, if it isn't refused for want of memory.
+fn refusal_of(called: Result<()>) -> Result<Option<Refusal>> {
+    match called {
+        Ok(()) => Ok(None),
+        Err(Error::Corruption(_)) => Ok(Some(Refusal::Corruption)),
+        Err(Error::Failed) => Ok(Some(Refusal::Failed)),
+        Err(Error::Memory) => Err(Error::Memory),
+        Err(_) => Ok(Some(Refusal::Other)),
+    }
+}
+
+/// How the replay of an empty batch of a file is refused.
+fn replay(
+    alloc: Global,
+    context: &mut MemTableRecoverContext,
+    seq: FileSeq,
+) -> Result<Option<Refusal>> {
+    let file = FileId::new(LogQueue::Append, seq);
+    refusal_of(context.replay(LogItemBatch::default(alloc), file))
+}
+
+/// Whether a context that refused a file below the last one answers `Failed` from then on.
+fn refused_batch_stays_failed(alloc: Global) -> Result<bool> {
+    let mut context = MemTableRecoverContext::new(alloc)?;
+    for &(seq, refusal) in &[
+        (5, None),
+        (4, Some(Refusal::Corruption)),
+        (6, Some(Refusal::Failed)),
+    ] {
+        if replay(alloc, &mut context, seq)? != refusal {
+            return Ok(false);
+        }
+    }
+    Ok(matches!(context.finish(), Err(Error::Failed)))
+}
+
+#[test]
+fn refused_contexts_stay_failed(rt: HostRuntime) {
+    let mut failed = refused_batch_stays_failed(rt.alloc());
+    if matches!(failed, Err(Error::Memory)) {
+        failed = refused_batch_stays_failed(rt.alloc());
+    }
+    assert!(rt; matches!(failed, Ok(true)));
+}
+
+/// A run of region 1, and one that leaves a hole behind it.
+const WITH_A_HOLE: [(FileSeq, &str); 2] = [(1, RUN_10_20), (2, RUN_40_45)];
+
+/// The context of a history's first batch, if it refuses that of the second.
+fn with_refused_neighbor(history: &History) -> Result<Option<MemTableRecoverContext>> {
+    let mut context = history.replayed(0, 1)?.context;
+    let newer = history.replayed(1, 2)?.context;
+    match context.merge(newer, LogQueue::Append) {
+        Err(Error::Corruption(_)) => Ok(Some(context)),
+        Err(error) => Err(error),
+        Ok(()) => Ok(None),
+    }
+}
+
+/// Whether a context's merge with another, and its taking in of another, are refused as `Failed`.
+fn are_merges_failed(alloc: Global, context: &mut MemTableRecoverContext) -> Result<bool> {
+    let merged = context.merge(MemTableRecoverContext::new(alloc)?, LogQueue::Append);
+    let overlaid = context.merge_append_context(MemTableRecoverContext::new(alloc)?);
+    Ok(
+        refusal_of(merged)? == Some(Refusal::Failed)
+            && refusal_of(overlaid)? == Some(Refusal::Failed),
+    )
+}
+
+/// Whether a context that refused its neighbor answers `Failed` from then on.
+fn refused_neighbor_stays_failed(alloc: Global) -> Result<bool> {
+    let history = History::read(alloc, LogQueue::Append, Version::V1, &WITH_A_HOLE)?;
+    let Some(mut context) = with_refused_neighbor(&history)? else {
+        return Ok(false);
+    };
+    let failed = are_merges_failed(alloc, &mut context)?;
+    let held = matches!(context.kept(), Err(Error::Failed));
+    Ok(failed && held && matches!(context.finish(), Err(Error::Failed)))
+}
+
+#[test]
+fn refused_merges_stay_failed(rt: HostRuntime) {
+    let mut failed = refused_neighbor_stays_failed(rt.alloc());
+    if matches!(failed, Err(Error::Memory)) {
+        failed = refused_neighbor_stays_failed(rt.alloc());
+    }
+    assert!(rt; matches!(failed, Ok(true)));
+}

@@ -4,58 +4,75 @@ use raft_base::{
     CompressionType, EntryIndex, Error, FileId, LogFileContext, LogQueue, Result, Version,
     is_consecutive,
 };
-use raft_memtable::MemTableAccessor;
-use raft_records::{FilePart, LogBatch};
+use raft_records::{Command, FilePart, LogBatch};
+use raft_recover::recovered::recovered_text;
 use raft_recover::{Segment, recover_both};
 use std::alloc::Global;
 use std::thread::Threads;
 
-/// Runs of region 1, each from an index to below another, in both queues, and what both give together.
-struct Row {
-    rewritten: &'static [(u64, u64)],
-    appended: &'static [(u64, u64)],
-    entries: (u64, u64),
-    /// How many records are live in the append queue and in the rewrite queue.
-    live: (usize, usize),
+/// What is written to a queue.
+#[derive(Clone, Copy)]
+enum Record {
+    /// Entries of region 1 from an index to below another, a batch each.
+    Run(u64, u64),
+    /// A value of a key of region 1.
+    Put,
+    /// The same key is deleted.
+    Delete,
+    /// Region 1 is compacted at an index.
+    Compact(u64),
+    /// A region is cleaned.
+    Clean(u64),
 }
 
-static ROWS: [Row; 4] = [
+use Record::{Clean, Compact, Delete, Put, Run};
+
+/// What is written to both queues, and the lines of what both give together.
+struct Row {
+    rewritten: &'static [Record],
+    appended: &'static [Record],
+    lines: &'static str,
+}
+
+static ROWS: [Row; 6] = [
     // The appended entries join the rewritten ones where they begin.
     Row {
-        rewritten: &[(10, 20)],
-        appended: &[(30, 40), (20, 25)],
-        entries: (10, 25),
-        live: (5, 10),
+        rewritten: &[Run(10, 20)],
+        appended: &[Run(30, 40), Run(20, 25)],
+        lines: "1 entries 10..25 keys 0 append 3 rewrite 3\ncleaned -\nlive 5 10\n",
     },
     // They would leave a hole behind them.
     Row {
-        rewritten: &[(10, 15)],
-        appended: &[(20, 30)],
-        entries: (20, 30),
-        live: (10, 0),
+        rewritten: &[Run(10, 15)],
+        appended: &[Run(20, 30)],
+        lines: "1 entries 20..30 keys 0 append 3 rewrite -\ncleaned -\nlive 10 0\n",
     },
     Row {
-        rewritten: &[(10, 20)],
+        rewritten: &[Run(10, 20)],
         appended: &[],
-        entries: (10, 20),
-        live: (0, 10),
+        lines: "1 entries 10..20 keys 0 append - rewrite 3\ncleaned -\nlive 0 10\n",
     },
     Row {
         rewritten: &[],
-        appended: &[(5, 9)],
-        entries: (5, 9),
-        live: (4, 0),
+        appended: &[Run(5, 9)],
+        lines: "1 entries 5..9 keys 0 append 3 rewrite -\ncleaned -\nlive 4 0\n",
+    },
+    // The append queue still has all that was rewritten: it gives the records alone.
+    Row {
+        rewritten: &[Run(12, 15), Put],
+        appended: &[Run(10, 20), Put, Clean(2)],
+        lines: "1 entries 10..20 keys 1 append 3 rewrite -\ncleaned 2\nlive 11 0\n",
+    },
+    // It does so too where it took away what was rewritten.
+    Row {
+        rewritten: &[Run(5, 9), Put],
+        appended: &[Run(5, 12), Put, Compact(9), Delete, Clean(2)],
+        lines: "1 entries 9..12 keys 0 append 3 rewrite -\ncleaned 2\nlive 3 0\n",
     },
 ];
 
-/// The batch of one entry of region 1 with so many bytes, behind the bytes of the file.
-fn append_entry(
-    alloc: Global,
-    file: FileId,
-    index: u64,
-    len: usize,
-    bytes: &mut Vec<u8>,
-) -> Result<()> {
+/// A batch of one entry of region 1 with so many bytes.
+fn entry(alloc: Global, index: u64, len: usize) -> Result<LogBatch> {
     let entry = EntryIndex {
         index,
         entries: None,
@@ -71,35 +88,79 @@ fn append_entry(
         return Err(Error::Failed);
     }
     batch.add_raw_entries(1, indexes, texts)?;
+    Ok(batch)
+}
+
+/// A batch that puts a key of region 1.
+fn put(alloc: Global) -> Result<LogBatch> {
+    let mut batch = LogBatch::default(alloc);
+    let key = Vec::from_slice(alloc, b"k".as_slice())?;
+    batch.put(1, key, Vec::from_slice(alloc, b"v".as_slice())?)?;
+    Ok(batch)
+}
+
+/// A batch that deletes that key.
+fn deletion(alloc: Global) -> Result<LogBatch> {
+    let mut batch = LogBatch::default(alloc);
+    batch.delete(1, Vec::from_slice(alloc, b"k".as_slice())?)?;
+    Ok(batch)
+}
+
+/// A batch of a command.
+fn command(alloc: Global, region: u64, command: Command) -> Result<LogBatch> {
+    let mut batch = LogBatch::default(alloc);
+    batch.add_command(region, command)?;
+    Ok(batch)
+}
+
+/// Puts a batch behind the bytes of the file.
+fn append_batch(file: FileId, mut batch: LogBatch, bytes: &mut Vec<u8>) -> Result<()> {
+    if !batch.is_open() {
+        return Err(Error::Failed);
+    }
     batch.finish_populate()?;
     batch.prepare_write(&LogFileContext::new(file, Version::V2));
     bytes.extend_from_slice(batch.encoded_bytes())?;
     Ok(())
 }
 
-/// One file of the queue, with a batch for each entry of the runs, which have so many bytes.
+/// Puts the batches of a record behind the bytes of the file. Entries have so many bytes.
+fn append_record(
+    alloc: Global,
+    file: FileId,
+    record: Record,
+    len: usize,
+    bytes: &mut Vec<u8>,
+) -> Result<()> {
+    match record {
+        Run(start, end) => {
+            for index in start..end {
+                append_batch(file, entry(alloc, index, len)?, bytes)?;
+            }
+            Ok(())
+        }
+        Put => append_batch(file, put(alloc)?, bytes),
+        Delete => append_batch(file, deletion(alloc)?, bytes),
+        Compact(index) => append_batch(file, command(alloc, 1, Command::Compact { index })?, bytes),
+        Clean(region) => append_batch(file, command(alloc, region, Command::Clean)?, bytes),
+    }
+}
+
+/// One file of the queue with the batches of the records, whose entries have so many bytes.
 fn segments_of(
     alloc: Global,
     queue: LogQueue,
-    runs: &[(u64, u64)],
+    records: &[Record],
     len: usize,
 ) -> Result<Vec<Segment>> {
     let file = FileId::new(queue, 3);
     let mut bytes = Vec::new(alloc);
-    for &(start, end) in runs {
-        for index in start..end {
-            append_entry(alloc, file, index, len, &mut bytes)?;
-        }
+    for &record in records {
+        append_record(alloc, file, record, len, &mut bytes)?;
     }
     let part = FilePart::new(file, Version::V2, 0, bytes)?;
     let segment = vec![in alloc; part]?;
     Ok(vec![in alloc; segment]?)
-}
-
-/// The first index of region 1, and the last plus one.
-fn entries_of(tables: &MemTableAccessor) -> Option<(u64, u64)> {
-    let table = tables.get(1)?;
-    Some((table.first_index()?, table.last_index()?.saturating_add(1)))
 }
 
 /// Whether a row's files, whose entries have so many bytes, give what the row says.
@@ -113,11 +174,7 @@ fn holds<R: Threads + Sync>(
     let rewrite = segments_of(alloc, LogQueue::Rewrite, row.rewritten, len)?;
     let append = segments_of(alloc, LogQueue::Append, row.appended, len)?;
     let tables = recover_both(rt, alloc, rewrite.as_slice(), append.as_slice(), workers)?;
-    let live = (
-        tables.stats().live_entries(LogQueue::Append),
-        tables.stats().live_entries(LogQueue::Rewrite),
-    );
-    Ok(entries_of(&tables) == Some(row.entries) && live == row.live)
+    Ok(recovered_text(alloc, &tables)?.as_str() == row.lines)
 }
 
 fn rows() -> &'static [Row] {
@@ -152,8 +209,8 @@ fn are_refused<R: Threads + Sync>(
     queues: (LogQueue, LogQueue),
     workers: usize,
 ) -> Result<bool> {
-    let rewrite = segments_of(alloc, queues.0, &[(10, 20)], 1)?;
-    let append = segments_of(alloc, queues.1, &[(20, 30)], 1)?;
+    let rewrite = segments_of(alloc, queues.0, &[Run(10, 20)], 1)?;
+    let append = segments_of(alloc, queues.1, &[Run(20, 30)], 1)?;
     match recover_both(rt, alloc, rewrite.as_slice(), append.as_slice(), workers) {
         Ok(tables) => Ok(tables.is_empty()),
         Err(Error::InvalidArgument(_)) => Ok(true),

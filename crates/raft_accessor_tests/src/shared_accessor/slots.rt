@@ -1,4 +1,4 @@
-//! Truncations of the tables of one slot, and tables of all slots that come back from sharing.
+//! Truncations of the tables of one slot, its test of new items, and tables of all slots that come back from sharing.
 
 ghost use Rattle.std.specs.Prelude.{◌≡◌};
 
@@ -54,6 +54,48 @@ fn slots_truncate(rt: HostRuntime) {
         truncated = truncate(rt.alloc());
     }
     assert!(rt; matches!(truncated, Ok(true)));
+}
+
+/// What is said of a run that leaves a hole, and of one that begins in front of the first entry.
+const HOLE: &str =
+    "region 1: a run from index 21 on leaves a hole behind the entries, which end before index 20";
+
+const BEFORE: &str = "region 1: a run from index 9 on begins in front of the first entry 10";
+
+/// Why a slot would refuse two entries of region 1 from an index on; nothing where it would accept them.
+fn refusal(alloc: Global, slot: &Slot, start: u64) -> Result<String> {
+    let entries = run(alloc, start, start + 2, FileId::new(LogQueue::Append, 1))?;
+    let items = vec![in alloc; LogItem::new_entry_indexes(1, entries)]?;
+    match slot.check_append_writes(&items) {
+        Ok(()) => Ok(String::new(alloc)),
+        Err(Error::Corruption(text)) => Ok(text),
+        Err(error) => Err(error),
+    }
+}
+
+/// A slot tests runs behind the entries from 10 on and below 20, which stay as they are.
+fn test_runs(alloc: Global) -> Result<bool> {
+    let mut slot = Slot::new(alloc, slot_of(1));
+    let appended = run(alloc, 10, 20, FileId::new(LogQueue::Append, 1))?;
+    slot.change(1, TableChange::Append(appended))?;
+    let behind = refusal(alloc, &slot, 20)?;
+    let apart = refusal(alloc, &slot, 21)?;
+    let before = refusal(alloc, &slot, 9)?;
+    Ok(
+        behind.is_empty()
+            && apart.as_str() == HOLE
+            && before.as_str() == BEFORE
+            && (last(&slot), live(&slot)) == (Some(19), (10, 0)),
+    )
+}
+
+#[test]
+fn slots_test_new_items(rt: HostRuntime) {
+    let mut tested = test_runs(rt.alloc());
+    if matches!(tested, Err(Error::Memory)) {
+        tested = test_runs(rt.alloc());
+    }
+    assert!(rt; matches!(tested, Ok(true)));
 }
 
 /// How many regions have tables in the test below.

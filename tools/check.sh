@@ -1,10 +1,12 @@
 #!/usr/bin/env bash
-# The full check: `rt ci`, then what it can't look at: words that aren't UTF-8, the frames of `raftlog` on the stack, and runs
-# with little stack, and, where there is a C compiler, some rows with memory refused; first of all whether docs/BELIEVE.md and
-# docs/CALLS.md are what the definitions and the sources say. The last line is that of `rt ci`, 'N passed, M failed'.
+# The full check: `rt ci`, then what it can't look at: words that aren't UTF-8, a scan of a sound file, the frames of `raftlog` on
+# the stack, and runs with little stack, and, where there is a C compiler, some rows with memory refused; first of all whether
+# docs/BELIEVE.md and docs/CALLS.md are what the definitions and the sources say. The last line is that of `rt ci`,
+# 'N passed, M failed'.
 set -euo pipefail
 cd "$(dirname "$0")/.."
 program=crates/raftlog/out/raftlog
+scan=crates/raft_scan/out/raft_scan
 frame_limit=16384
 room=$(mktemp -d)
 trap 'rm -rf "$room"' EXIT
@@ -17,6 +19,13 @@ status=0
 "$program" recover append 1 1 $'1=\xff' > "$room/out" 2> "$room/err" || status=$?
 if [ "$status" != 2 ] || [ -s "$room/out" ] || ! grep -q '^usage: raftlog ' "$room/err"; then
   echo "a word that isn't UTF-8: status $status, and not the usage alone"
+  exit 1
+fi
+status=0
+"$scan" append 2 4=crates/raft_scan/data/sound > "$room/out" 2> "$room/err" || status=$?
+grep '^append file 4 ' crates/raft_scan/stdout > "$room/wanted"
+if [ "$status" != 0 ] || [ -s "$room/err" ] || ! cmp -s "$room/out" "$room/wanted"; then
+  echo "a scan of a sound file: status $status, and not its lines alone"
   exit 1
 fi
 tools/frames.py "$program" --show 3 --limit "$frame_limit"

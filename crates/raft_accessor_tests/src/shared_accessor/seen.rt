@@ -202,12 +202,9 @@ fn full_in<R: Wait>(rt: &R, shared: &SharedAccessor) -> Result<Vec<u64>> {
 
 /// What shared tables show. Their cleaned regions are taken.
 pub(super) fn see_shared<R: Wait>(rt: &R, alloc: Global, shared: &SharedAccessor) -> Result<Seen> {
-    let tables = shapes_in(rt, alloc, shared)?;
-    let mut cleaned = taken(rt, alloc, shared)?;
-    cleaned.sort()?;
-    Ok(Seen {
+    let mut seen = Seen {
         found: shape_in(rt, shared, REGION),
-        tables,
+        tables: shapes_in(rt, alloc, shared)?,
         walked: shared.fold(rt, 0u64, |walked, _: &MemTable| walked.wrapping_add(1)),
         read: shared.fold(rt, 0u64, |sum, table: &MemTable| {
             sum.wrapping_add(read(table))
@@ -218,6 +215,10 @@ pub(super) fn see_shared<R: Wait>(rt: &R, alloc: Global, shared: &SharedAccessor
             shared.live_entries(rt, LogQueue::Rewrite),
         ),
         is_empty: shared.is_empty(rt),
-        cleaned,
-    })
+        cleaned: Vec::new(alloc),
+    };
+    // The last of the calls: each of the others sees the slots with their cleaned regions.
+    seen.cleaned = taken(rt, alloc, shared)?;
+    seen.cleaned.sort()?;
+    Ok(seen)
 }

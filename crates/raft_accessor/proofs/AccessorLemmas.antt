@@ -7,9 +7,11 @@ use Rattle.std.specs.Result.{OnOk, OnErr, IfOk, IfErr}
 use Rattle.raft_base.specs.declared.errors.Error.{Error}
 use Rattle.raft_base.specs.declared.errors.Error.TheVariants.{Memory}
 use Rattle.raft_records.specs.Item.{Item}
-use Rattle.raft_history.specs.RegionSteps.{Tables, with_table}
+use Rattle.raft_base.specs.declared.pipe_log.LogQueue.{LogQueue}
+use Rattle.raft_history.specs.RegionSteps.{Tables, with_table, cleaned_by_steps}
 use Rattle.raft_table.specs.Counts.{Counts, live}
-use Rattle.raft_table.specs.Steps.{table_of}
+use Rattle.raft_table.specs.Steps.{Step, table_of, after_step}
+use Rattle.raft_table.specs.TakenSteps.{IsUnmixed, counts_after_step, IsStepFault}
 use Rattle.raft_table.specs.Table.{Table, IsRecounted}
 use Rattle.raft_accessor.specs.declared.accessor.MemTableAccessor.TheInside.{Inside}
 use Rattle.raft_accessor.specs.Accessor.{Accessor, slot_of, table_in, live_in_all}
@@ -17,6 +19,7 @@ use Rattle.raft_accessor.specs.AccessorCalls.{IsTableChanged, IsWritten}
 use Rattle.raft_accessor.specs.AccessorView.{together, accessor_shown, IsAccessorKept}
 use Rattle.raft_accessor.specs.ItemWrites.{IsItemWritten}
 use Rattle.raft_accessor.specs.Merges.{IsMergedAt, IsTableMerged}
+use Rattle.raft_accessor.specs.TableSteps.{IsStepTaken}
 use Rattle.raft_accessor.specs.Updates.{BecomesOutcome}
 use Rattle.raft_accessor.specs.Writes.{Writing, queue_of, after_content, counts_after_content, after_items, AreCountsAfterItems, listed_by, listed_by_items, IsFor, MixesQueues, NoneMixesQueues, IsWriteFault, AreWritten, AreItemsRefused}
 use Rattle.raft_accessor.proofs.MapLemmas.{with_own, with_same, some_is}
@@ -88,6 +91,26 @@ module _ (a b : Inside) (id i : ℕ) (d slot : Tables) (after : Counts) (kept : 
           counts_err = elim res as (λ res. OnErr res (after ≡ a.stats) → OnErr res (b.stats ≡ r.counts)) [ Ok x ↦ λ e. tt | Err x ↦ λ e. h.stats ∙ e ∙ ap (λ (x : Accessor). x.counts) is ] t.counts_err;
           fault = subst (λ c. IfErr res (λ e. (e ≡ Memory) ⊎ IsFault (table_in r.tables id) c e)) (ap (λ (x : Accessor). x.counts) is) (subst (λ u. IfErr res (λ e. (e ≡ Memory) ⊎ IsFault u a.stats e)) old t.fault);
           cleaned = l ∙ ap (λ (x : Accessor). x.cleaned) is;
+        }
+
+    -- a step on a region's table
+    pub step-in : (q : LogQueue) (s : Step) (res : Result Unit Error) → IsStepTaken q id s d a.stats a.cleaned.items res slot after b.cleaned.items → IsStepTaken q id s r.tables r.counts r.cleaned res (together b.slots.items) b.stats b.cleaned.items
+    step-in q s res t =
+        let old : table_in d id ≡ table_in r.tables id = sym (ap (table_of id) was) in
+        let list : a.cleaned.items ≡ r.cleaned = ap (λ (x : Accessor). x.cleaned) is in
+        let counts : a.stats ≡ r.counts = ap (λ (x : Accessor). x.counts) is in
+        record {
+          ok = subst (λ t. OnOk res (after_step q t s ≡ Some (finite.get (together b.slots.items) id))) old (subst (λ o. OnOk res (after_step q (table_in d id) s ≡ Some o)) (sym now) t.ok);
+          accepted = subst (λ t. OnOk res (IsUnmixed q t s)) old t.accepted;
+          counts_ok = counted_ok-in (λ t k. counts_after_step q t s k) res t.counts_ok;
+          cleaned = subst (λ l. OnOk res (b.cleaned.items ≡ l ++ cleaned_by_steps q (record { region = id; step = s } ∷ []))) list t.cleaned;
+          err = elim res as (λ res. OnErr res (slot ≡ d) → OnErr res (together b.slots.items ≡ r.tables)) [ Ok x ↦ λ e. tt | Err x ↦ λ e. unchanged e ] t.err;
+          counts_err = elim res as (λ res. OnErr res (after ≡ a.stats) → OnErr res (b.stats ≡ r.counts)) [ Ok x ↦ λ e. tt | Err x ↦ λ e. h.stats ∙ e ∙ counts ] t.counts_err;
+          cleaned_err = subst (λ l. OnErr res (b.cleaned.items ≡ l)) list t.cleaned_err;
+          fault = subst (λ c. IfErr res (λ e. (e ≡ Memory) ⊎ IsStepFault q (table_in r.tables id) c s e)) counts (subst (λ u. IfErr res (λ e. (e ≡ Memory) ⊎ IsStepFault q u a.stats s e)) old t.fault);
+          one = tables-are ∙ ap (with_table r.tables id) (sym now);
+          recounted = subst (λ c. IsRecounted (table_in r.tables id) (table_in (together b.slots.items) id) c b.stats) counts (subst (λ c. IsRecounted (table_in r.tables id) (table_in (together b.slots.items) id) a.stats c) (sym h.stats)
+              (subst (λ u. IsRecounted u (table_in (together b.slots.items) id) a.stats after) old (subst (λ u. IsRecounted (table_in d id) u a.stats after) (sym (ap (table_of id) now)) h.recounted)));
         }
 
     -- a merge of a table

@@ -8,6 +8,7 @@ mod MergeLemmas
 mod OrderLemmas
 pub mod RegionTablesLemmas
 mod SlotLemmas
+pub mod StepLemmas
 mod TableJoinLemmas
 mod TableOverlayLemmas
 pub mod TotalSums

@@ -24,18 +24,15 @@ use Rattle.raft_table.proofs.RunCounts.{append_full, replay_full}
 use Rattle.raft_accessor.specs.Accessor.{table_in}
 use Rattle.raft_accessor.specs.ItemWrites.{IsItemWritten, pair_change}
 use Rattle.raft_base.specs.Corruption.{IsCorruption}
-use Rattle.raft_accessor.specs.Updates.{BecomesOutcome, IsReplayFault}
+use Rattle.raft_table.specs.TakenSteps.{IsReplayFault}
+use Rattle.raft_accessor.specs.Updates.{BecomesOutcome}
 use Rattle.raft_accessor.specs.Writes.{Writing, Appending, Replaying, queue_of, after_content, counts_after_content, counts_after_change, after_rewrite_put, with_change, lists, listed_by, cleaned_by_content, IsFor, MixesQueues, IsWriteFault}
 use Rattle.raft_accessor.proofs.MapLemmas.{get_gone, one_same}
 
--- new items meet no records of the other queue, and those that are read again only where there are some
+-- new items meet no records of the other queue
 pub none_met : {R : Type 0} (r : Result R Error) → OnOk r (⊥ → ⊥)
 none_met (Ok x) = λ m. m
 none_met (Err e) = tt
-
-pub never_met : {R : Type 0} (n : ℕ) (r : Result R Error) → OnOk r (n ≡ 0) → OnOk r (0 < n → ⊥)
-never_met n (Ok x) z = λ m. omega (arith, z, m)
-never_met n (Err e) z = tt
 
 -- what is done to the table is what the content asks for, and no region is listed
 pub written_by : (w : Writing) (item : Item) (outcome : Option Table) (IsFault : Error → Type 0) (old : Tables) (counts : Counts) (list : List ℕ) (r : Result Unit Error) (new : Tables) (after : Counts) → BecomesOutcome outcome IsFault old item.raft_group_id counts r new after
@@ -143,26 +140,6 @@ change_step w id o p e = ap (λ b. cond b (Some o) (option_map Some (with_change
 -- only a Clean is listed
 pub none_listed : (w : Writing) (item : Item) → cleaned_by_content item.raft_group_id item.content ≡ [] → listed_by w item ≡ []
 none_listed w item e = elim (lists w) as (λ b. cond b (cleaned_by_content item.raft_group_id item.content) [] ≡ []) [ true ↦ e | false ↦ refl ]
-
--- ---- a Clean
-
-pub cleaned_by : (q : LogQueue) (id : ℕ) (old : Tables) (counts : Counts) (list : List ℕ) (new : Tables) (after : Counts) (listed : List ℕ) → new ≡ finite.remove old id → after ≡ with_table_deleted (table_in old id) counts → IsRecounted (table_in old id) (empty_table id) counts after
-    → listed ≡ list ++ listed_by (Replaying q) (command_item id commands.Clean) → IsItemWritten (Replaying q) (command_item id commands.Clean) old counts list (Ok tt) new after listed
-cleaned_by q id old counts list new after listed e k r l =
-    let gone : finite.get new id ≡ None = ap (λ m. finite.get m id) e ∙ get_gone old id in
-    record {
-      asked = tt;
-      accepted = λ m. m;
-      ok = ap Some (sym gone);
-      counts_ok = k;
-      cleaned = l;
-      err = tt;
-      counts_err = tt;
-      cleaned_err = tt;
-      fault = tt;
-      one = e ∙ ap (with_table old id) (sym gone);
-      recounted = subst (λ t. IsRecounted (table_in old id) t counts after) (ap (table_of id) (sym gone)) r;
-    }
 
 -- ---- new commands and changes of keys are as those that are read again
 

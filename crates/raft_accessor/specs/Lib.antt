@@ -9,6 +9,7 @@ pub mod Merges
 pub mod RegionTablesView
 pub mod TableJoins
 pub mod TableOverlays
+pub mod TableSteps
 pub mod Updates
 pub mod Walks
 pub mod Writes

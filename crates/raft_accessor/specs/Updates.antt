@@ -1,18 +1,13 @@
 -- Changes of one table by a call that is handed in.
-use Rattle.std.specs.Prelude.{◌≡◌, ◌⊎◌, ◌<◌, ℕ, List, Option, Some, Result, Err, IfErr}
+use Rattle.std.specs.Prelude.{◌≡◌, ◌⊎◌, ℕ, Option, Some, Result, Err, IfErr}
 use Rattle.std.specs.FinMap as finite
 use Rattle.std.specs.Fn.{Once}
 use Rattle.std.specs.Borrow.{MutBor}
 use Rattle.std.specs.Result.{OnOk, OnErr}
 use Rattle.raft_base.specs.declared.errors.Error.{Error}
 use Rattle.raft_base.specs.declared.errors.Error.TheVariants.{Memory}
-use Rattle.raft_base.specs.declared.errors.Error.TheVariants as errors
-use Rattle.raft_base.specs.declared.pipe_log.LogQueue.{LogQueue}
-use Rattle.raft_base.specs.declared.entry_index.EntryIndex.{EntryIndex}
 use Rattle.raft_table.specs.Counts.{Counts}
-use Rattle.raft_table.specs.Queues.{other}
-use Rattle.raft_table.specs.Start.{entries_after_replay, IsTableRunFault}
-use Rattle.raft_table.specs.Table.{Table, live_of, IsRecounted}
+use Rattle.raft_table.specs.Table.{Table, IsRecounted}
 use Rattle.raft_history.specs.RegionSteps.{Tables, with_table}
 use Rattle.raft_accessor.specs.Accessor.{table_in}
 
@@ -61,9 +56,3 @@ pub record BecomesOutcome {R : Type 0} (outcome : Option Table) (IsFault : Error
   pub fault : IfErr r (λ e. (e ≡ Memory) ⊎ IsFault e)
   pub one : new ≡ with_table old id (finite.get new id)
   pub recounted : IsRecounted (table_in old id) (table_in new id) counts after
-
--- why a run that is read again is refused: its table has records of the other queue, or by the start rule
-abbrev pub IsReplayFault : LogQueue → List EntryIndex → Table → Counts → Error → Type 0
-IsReplayFault queue run t counts (errors.InvalidArgument text) = 0 < live_of (other queue) t
-IsReplayFault queue run t counts errors.Memory = Unit {0}
-IsReplayFault queue run t counts e = IsTableRunFault queue counts t.entries (entries_after_replay queue t.entries run) e

@@ -1,19 +1,18 @@
 //! Log items written to the tables of their regions.
 
-ghost use Rattle.std.specs.Prelude.{◌≡◌, ◌≢◌, ℕ, List, map, Option, MatchBool, OnOk, IfErr};
-ghost use Rattle.raft_base.specs.declared.pipe_log.LogQueue.TheVariants.{Append, Rewrite};
-ghost use Rattle.raft_records.specs.Item.{item_of, entries_item, command_item, pair_of};
-ghost use Rattle.raft_records.specs.declared.command.Command.TheVariants.{Clean};
+ghost use Rattle.std.specs.Prelude.{◌≢◌, ℕ, List, map, Option, OnOk, IfErr};
+ghost use Rattle.raft_records.specs.Item.{item_of, content_of, entries_item, command_item, pair, pair_of};
 ghost use Rattle.raft_table.specs.Counts.{Counts};
-ghost use Rattle.raft_table.specs.Table.{IsCounted};
+ghost use Rattle.raft_table.specs.Table.{Table, IsCounted};
 ghost use Rattle.raft_accessor.specs.Accessor.{table_in};
 ghost use Rattle.raft_accessor.specs.AppendChecks.{AreAcceptedOncePlaced, AreRefusedOncePlaced, IsAppendCheckFault};
-ghost use Rattle.raft_accessor.specs.ItemWrites.{IsItemWritten, pair_change};
-ghost use Rattle.raft_accessor.specs.Writes.{Appending, Replaying, Rewriting};
+ghost use Rattle.raft_accessor.specs.ItemWrites.{IsItemWritten, IsReplayed, pair_change};
+ghost use Rattle.raft_accessor.specs.Writes.{Appending, Replaying, Rewriting, IsWriteFault};
 
 use crate::append_check::AppendCheck;
 use crate::region_tables::RegionTables;
-use raft_base::{EntryIndex, Error, FileId, FileSeq, LogQueue, Result};
+use raft_base::{EntryIndex, Error, FileSeq, LogQueue, Result};
+use raft_history::RegionStep;
 use raft_records::{Command, KeyValue, LogItem, LogItemContent, OpType, is_reserved};
 use raft_table::{GlobalStats, MemTable, is_run};
 
@@ -57,22 +56,35 @@ impl RegionTables {
             self.old stats.old cleaned.old.items result self.new stats.new cleaned.new.items }
     {
         let LogItem {
-            raft_group_id: id,
+            raft_group_id,
             content,
         } = item;
         match content {
-            LogItemContent::EntryIndexes(entries) => self.append_entries(id, entries.0, stats),
-            LogItemContent::Command(command) => {
-                self.replay_command(LogQueue::Append, id, command, stats, cleaned)
+            LogItemContent::EntryIndexes(entries) => {
+                self.append_entries(raft_group_id, entries.0, stats)
             }
-            LogItemContent::Kv(kv) => self.replay_pair(LogQueue::Append, id, kv, stats),
+            LogItemContent::Command(command) => {
+                let content = LogItemContent::Command(command);
+                let item = LogItem {
+                    raft_group_id,
+                    content,
+                };
+                self.replay_item(LogQueue::Append, item, stats, cleaned)
+            }
+            LogItemContent::Kv(kv) => {
+                let content = LogItemContent::Kv(kv);
+                let item = LogItem {
+                    raft_group_id,
+                    content,
+                };
+                self.replay_item(LogQueue::Append, item, stats, cleaned)
+            }
         }
     }
 
-    /// Writes an item of `queue` that is read again to its region's table. In the append queue it
-    /// lists the region where the item cleans it. Recovery takes items in beside their region marks, by
-    /// `MarkedTables::take_item` of `raft_memtable`; the law that both read items alike is
-    /// `items_are_read_as_steps` there.
+    /// Writes an item of `queue` that is read again to its region's table, by its step. In the append queue
+    /// it lists the region where the item cleans it. Recovery takes the same steps beside the region marks,
+    /// by `MarkedTables::take_step` of `raft_memtable`.
     ///
     /// # Errors
     ///
@@ -91,18 +103,10 @@ impl RegionTables {
         ensures { IsItemWritten (Replaying queue) (item_of item)
             self.old stats.old cleaned.old.items result self.new stats.new cleaned.new.items }
     {
-        let LogItem {
-            raft_group_id: id,
-            content,
-        } = item;
-        match content {
-            LogItemContent::EntryIndexes(entries) => {
-                self.replay_entries(queue, id, entries.0, stats)
-            }
-            LogItemContent::Command(command) => {
-                self.replay_command(queue, id, command, stats, cleaned)
-            }
-            LogItemContent::Kv(kv) => self.replay_pair(queue, id, kv, stats),
+        self.check_replayed(queue, &item)?;
+        match RegionStep::of_item(item) {
+            Some(step) => self.take_step(queue, step.region, step.step, stats, cleaned),
+            None => Ok(()),
         }
     }
 
@@ -160,29 +164,6 @@ impl RegionTables {
         self.append_run(id, run, stats)
     }
 
-    /// Puts entries that are read again.
-    fn replay_entries(
-        &mut self,
-        queue: LogQueue,
-        id: u64,
-        run: Vec<EntryIndex>,
-        stats: &mut GlobalStats,
-    ) -> Result<()>
-        requires { IsCounted (table_in self.old id) stats.old }
-        ensures { (list : List ℕ)
-            → IsItemWritten (Replaying queue) (entries_item id run.items)
-            self.old stats.old list result self.new stats.new list }
-    {
-        if !is_run(&run, queue) {
-            return Err(Error::corruption(
-                self.allocator(),
-                "indexes don't rise by one, or a place is in the other queue",
-            ));
-        }
-        self.replay_run(queue, id, run, stats)?;
-        Ok(())
-    }
-
     /// Gives entries their rewritten places.
     fn rewrite_entries(
         &mut self,
@@ -223,90 +204,51 @@ impl RegionTables {
         }
     }
 
-    /// Obeys a command.
-    fn replay_command(
-        &mut self,
-        queue: LogQueue,
-        id: u64,
-        command: Command,
-        stats: &mut GlobalStats,
-        cleaned: &mut Vec<u64>,
-    ) -> Result<()>
-        requires { IsCounted (table_in self.old id) stats.old }
-        ensures { IsItemWritten (Replaying queue) (command_item id command)
-            self.old stats.old cleaned.old.items result self.new stats.new cleaned.new.items }
+    /// Refuses an item that is not as a replay of `queue` asks for it: entries that are no run of `queue`, and
+    /// a put without a value, or without a file of `queue`. A change of the reserved key passes.
+    fn check_replayed(&self, queue: LogQueue, item: &LogItem) -> Result<()>
+        ensures ok { OnOk result (IsReplayed queue (content_of item.now.content)) }
+        ensures fault { (id : ℕ) (o : Option Table) (live : ℕ) → IfErr result
+            (IsWriteFault (Replaying queue) id o live (content_of item.now.content)) }
     {
-        match command {
-            Command::Clean => self.clean(queue, id, stats, cleaned),
-            Command::Compact { index } => self.compact(id, index, stats),
-            Command::Truncate { index } => self.truncate(id, index, stats),
+        match &item.content {
+            LogItemContent::EntryIndexes(entries) => {
+                if is_run(&entries.0, queue) {
+                    return Ok(());
+                }
+                Err(Error::corruption(
+                    self.allocator(),
+                    "indexes don't rise by one, or a place is in the other queue",
+                ))
+            }
+            LogItemContent::Command(_) => Ok(()),
+            LogItemContent::Kv(kv) => self.check_replayed_pair(queue, kv),
         }
     }
 
-    /// Takes a region's table away, and lists the region in the append queue.
-    fn clean(
-        &mut self,
-        queue: LogQueue,
-        id: u64,
-        stats: &mut GlobalStats,
-        cleaned: &mut Vec<u64>,
-    ) -> Result<()>
-        requires { IsCounted (table_in self.old id) stats.old }
-        ensures { IsItemWritten (Replaying queue) (command_item id Clean)
-            self.old stats.old cleaned.old.items result self.new stats.new cleaned.new.items }
-    {
-        match queue {
-            LogQueue::Append => {
-                cleaned.push(id)?;
-                self.remove(id, stats);
-                Ok(())
-            }
-            LogQueue::Rewrite => {
-                self.remove(id, stats);
-                Ok(())
-            }
-        }
-    }
-
-    /// Puts or deletes a key, unless it is reserved.
-    fn replay_pair(
-        &mut self,
-        queue: LogQueue,
-        id: u64,
-        kv: KeyValue,
-        stats: &mut GlobalStats,
-    ) -> Result<()>
-        requires { IsCounted (table_in self.old id) stats.old }
-        ensures { (list : List ℕ)
-            → IsItemWritten (Replaying queue) (pair_change id (pair_of kv))
-            self.old stats.old list result self.new stats.new list }
+    /// Refuses a put without a value, or without a file of `queue`, unless its key is reserved.
+    fn check_replayed_pair(&self, queue: LogQueue, kv: &KeyValue) -> Result<()>
+        ensures ok { OnOk result (IsReplayed queue (pair (pair_of kv.now))) }
+        ensures fault { (id : ℕ) (o : Option Table) (live : ℕ) → IfErr result
+            (IsWriteFault (Replaying queue) id o live (pair (pair_of kv.now))) }
     {
         if is_reserved(&kv.key) {
             return Ok(());
         }
-        let KeyValue {
-            op_type,
-            key,
-            value,
-            file_id,
-        } = kv;
-        match op_type {
-            OpType::Put => {
-                let Some(value) = value else {
-                    return Err(Error::corruption(self.allocator(), "a key is put without value"));
-                };
-                let Some(file) = file_id else {
-                    return Err(Error::corruption(self.allocator(), "a key is put without file"));
-                };
-                if !is_in(file, queue) {
-                    return Err(Error::corruption(
-                        self.allocator(),
-                        "a key is put in the other queue",
-                    ));
-                }
-                self.put(id, key, value, file, stats)
+        match (kv.op_type, &kv.value, kv.file_id) {
+            (OpType::Del, _, _) => Ok(()),
+            (OpType::Put, None, _) => {
+                Err(Error::corruption(self.allocator(), "a key is put without value"))
             }
-            OpType::Del => self.delete(id, &key, stats),
+            (OpType::Put, Some(_), None) => {
+                Err(Error::corruption(self.allocator(), "a key is put without file"))
+            }
+            (OpType::Put, Some(_), Some(file)) => {
+                if file.queue == queue {
+                    return Ok(());
+                }
+                Err(Error::corruption(self.allocator(), "a key is put in the other queue"))
+            }
         }
     }
 
@@ -340,11 +282,4 @@ impl RegionTables {
             OpType::Del => Err(Error::corruption(self.allocator(), "a deletion is rewritten")),
         }
     }
-}
-
-/// Whether a file is in `queue`.
-fn is_in(file: FileId, queue: LogQueue) -> bool
-    ensures { MatchBool result (file.queue ≡ queue) (file.queue ≡ queue → ⊥) }
-{
-    file.queue == queue
 }

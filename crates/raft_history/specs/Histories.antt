@@ -11,9 +11,9 @@ use Rattle.raft_records.specs.declared.key_value.OpType.TheVariants as operation
 use Rattle.raft_records.specs.Group.{is_reserved, marker_byte}
 use Rattle.raft_records.specs.Item.{Item, Content, entries, command, pair}
 use Rattle.raft_records.specs.DecodedIn.{IsPlaceInFile}
-use Rattle.raft_table.specs.TableEntries.{IsRunIn}
 use Rattle.raft_table.specs.Steps.{Step, Run, Put, Del, after}
 use Rattle.raft_table.specs.Table.{Table}
+pub use Rattle.raft_table.specs.TakenSteps.{IsStepOfQueue}
 use Rattle.raft_history.specs.Batches.{Event, batches}
 use Rattle.raft_history.specs.Effects.{effects, steps_of, EachApart}
 use Rattle.raft_history.specs.RegionSteps.{RegionStep, Tables, steps_of_items, cleaned_by_steps}
@@ -96,14 +96,6 @@ AreOfQueue queue (e ∷ h) = (e.file.queue ≡ queue) × AreOfQueue queue h
 -- every batch is of this queue, as one fact
 pub record IsOfQueue (queue : LogQueue) (h : List Event) : Type 0 where
   pub each : AreOfQueue queue h
-
--- ---- what replays ask for
-
--- a step as a replay into a table of this queue asks for it
-abbrev pub IsStepOfQueue : LogQueue → Step → Type 0
-IsStepOfQueue queue (Run run) = IsRunIn queue run
-IsStepOfQueue queue (Put key value file) = file.queue ≡ queue
-IsStepOfQueue queue _ = Unit {0}
 
 -- ---- one reading
 

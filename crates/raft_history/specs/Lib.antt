@@ -1,5 +1,6 @@
 -- what steps, effects and histories are: what the promise of recovery rests on
 pub mod RegionSteps
+pub mod RegionStepShown
 pub mod Batches
 pub mod Effects
 pub mod Histories

@@ -6,7 +6,9 @@ pub mod contexts;
 pub mod effects;
 pub mod histories;
 pub mod read_runs;
+pub mod region_step;
 pub mod regions;
 pub mod replay_machine;
 
+pub use region_step::RegionStep;
 pub use replay_machine::ReplayMachine;

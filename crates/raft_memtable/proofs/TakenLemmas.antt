@@ -11,10 +11,10 @@ use Rattle.raft_base.specs.declared.pipe_log.LogQueue.{LogQueue}
 use Rattle.raft_base.specs.declared.pipe_log.LogQueue.TheVariants.{Append, Rewrite}
 use Rattle.raft_base.specs.declared.entry_index.EntryIndex.{EntryIndex}
 use Rattle.raft_base.specs.Runs.{end_of}
-use Rattle.raft_records.specs.declared.log_item.LogItem.{LogItem}
-use Rattle.raft_records.specs.Item.{item_of, entries}
+use Rattle.raft_records.specs.Item.{entries}
 use Rattle.raft_table.specs.Counts.{Counts, live}
 use Rattle.raft_table.specs.TableEntries.{IsRunIn}
+use Rattle.raft_table.specs.KeyValues.{file_at}
 use Rattle.raft_table.specs.MarkJoins.{joined_mark, joined_at, end_at_reach, fresh, mark_of}
 use Rattle.raft_table.specs.Marks.{Mark}
 use Rattle.raft_table.specs.Queues.{other, count_in, is_same}
@@ -23,20 +23,20 @@ use Rattle.raft_table.specs.Table.{Table, after_replay, IsTablePutFault}
 use Rattle.raft_table.proofs.MarkExact.{joined_fresh}
 use Rattle.raft_table.proofs.MarkWords.{within-whole}
 use Rattle.raft_table.proofs.TableLemmas.{count_in_own}
-use Rattle.raft_history.specs.Histories.{records_in}
+use Rattle.raft_history.specs.Histories.{IsStepOfQueue, records_in}
 use Rattle.raft_history.specs.MarkedRegions.{Marks, MarkedRegions, MarkedRegion, region_in, with_region, stepped_region, regions_after}
 use Rattle.raft_history.specs.RegionSteps.{RegionStep, Tables, with_table, steps_of_items, cleaned_by, cleaned_by_steps}
 use Rattle.raft_accessor.specs.Accessor.{Accessor, table_in, live_in_all, AreCountsOf}
 use Rattle.raft_memtable.specs.MarkedTables.{regions_in, AreStepsOfQueue, IsStepsFault, one_step, first_index, AreStepsTaken}
 use Rattle.raft_memtable.specs.RegionMarks.{mark_in}
 use Rattle.raft_memtable.specs.StepCounts.{counts_after_step, AreCountsAfterSteps}
-use Rattle.raft_accessor.specs.Updates.{IsReplayFault}
+use Rattle.raft_table.specs.TakenSteps.{IsStepFault}
+use Rattle.raft_accessor.specs.TableSteps.{IsStepTaken}
 use Rattle.raft_accessor.specs.Writes.{Replaying, IsWriteFault}
 use Rattle.raft_memtable.specs.declared.marked_tables.MarkedTables.{MarkedTables}
 use Rattle.raft_accessor.proofs.LiveLemmas.{table_live-le}
 use Rattle.raft_accessor.proofs.MapLemmas.{some_is, none_some}
 use Rattle.raft_memtable.proofs.LiveSteps.{steps_live}
-use Rattle.raft_memtable.proofs.WaitingItemLemmas.{steps_both}
 use Rattle.raft_accessor.proofs.WriteLemmas.{replay_fault}
 
 -- ---- steps behind steps
@@ -175,12 +175,27 @@ put_by q id key value file replaced a errors.Full is f = omega (arith, f.0, is)
 put_by q id key value file replaced a errors.Memory is f = tt
 put_by q id key value file replaced a _ is f = absurd f
 
+fault_by : (q : LogQueue) (id : ℕ) (s : Step) (a b : MarkedTables) (e : Error) → IsStepOfQueue q s → AreCountsOf a.accessor.tables a.accessor.counts → IsStepFault q (table_in a.accessor.tables id) a.accessor.counts s e → IsStepsFault q (regions_in a) (one_step id s) e
+fault_by q id (Run run) a b e h counted f = run_by q id run a b (live q a.accessor.counts) e h (counted q) (replay_fault q id (finite.get a.accessor.tables id) run a.accessor.counts e f)
+fault_by q id (Put key value file) a b e h counted f = put_by q id key value file (file_at (table_in a.accessor.tables id).keys key) a e (counted q) (subst (λ q. IsTablePutFault q a.accessor.counts (file_at (table_in a.accessor.tables id).keys key) e) h f)
+fault_by q id _ a b e h counted f = absurd f
+
+-- a step that the accessor takes or refuses, behind its region mark
+pub by_accessor : (q : LogQueue) (id : ℕ) (s : Step) (a b : MarkedTables) (r : Result Unit Error) → IsStepOfQueue q s → AreCountsOf a.accessor.tables a.accessor.counts → b.marks ≡ finite.insert a.marks id (joined_mark q id (mark_in a.marks id) (finite.get a.accessor.tables id) (mark_of s))
+    → IsStepTaken q id s a.accessor.tables a.accessor.counts a.accessor.cleaned r b.accessor.tables b.accessor.counts b.accessor.cleaned → AreStepsTaken q (one_step id s) r a b
+by_accessor q id s a b (Ok u) h counted m k = step_taken q id s a b (Ok u) (finite.get b.accessor.tables id) k.ok k.one k.cleaned k.counts_ok m tt
+by_accessor q id s a b (Err x) h counted m k = elim k.fault [ inl is ↦ taken_memory q (one_step id s) a b x is | inr f ↦ step_refused q id s a b x (fault_by q id s a b x h counted f) ]
+
 -- ---- marks of one step
 
--- a step that marks nothing marks the region all the same
-pub fresh_marked : (q : LogQueue) (id : ℕ) (s : Step) (o : Option Table) (old new : Marks) (r : Result Unit Error) → mark_of s ≡ fresh → OnOk r (new ≡ finite.insert old id (mark_in old id)) → OnOk r (new ≡ finite.insert old id (joined_mark q id (mark_in old id) o (mark_of s)))
-fresh_marked q id s o old new (Ok u) e h = h ∙ ap (finite.insert old id) (sym (ap (λ n. joined_at q (end_at_reach n (table_of id o)) (mark_in old id) n) e ∙ joined_fresh q (end_at_reach fresh (table_of id o)) (mark_in old id)))
-fresh_marked q id s o old new (Err x) e h = tt
+-- where the entries end in front of a run
+pub end_met : (q : LogQueue) (id : ℕ) (m : Mark) (own : Option Table) (run : List EntryIndex) (end : ℕ) → end ≡ end_of (table_of id own).entries → joined_at q end m (mark_of (Run run)) ≡ joined_mark q id m own (mark_of (Run run))
+end_met q id m own [] end e = ap (λ x. joined_at q x m fresh) (e ∙ ap end_of (sym (within-whole (table_of id own).entries)))
+end_met q id m own (x ∷ run) end e = ap (λ y. joined_at q y m (mark_of (Run (x ∷ run)))) (e ∙ ap end_of (sym (within-whole (table_of id own).entries)))
+
+pub no_end : (id : ℕ) (o : Option Table) → None ≡ o → 0 ≡ end_of (table_of id o).entries
+unfolding end_of
+no_end id o e = ap (λ o. end_of (table_of id o).entries) e
 
 pub run_mark : (q : LogQueue) (id : ℕ) (run : List EntryIndex) (start end : ℕ) (o : Option Table) (m : Mark) → first_index run ≡ Some start → end ≡ end_of (table_of id o).entries → joined_at q end m (record fresh { reach = Some start; cut = Some start }) ≡ joined_mark q id m o (mark_of (Run run))
 run_mark q id [] start end o m e k = absurd (none_some e)
@@ -197,33 +212,8 @@ pub first_of : (run : List EntryIndex) (x : EntryIndex) → 0 < length run → x
 first_of [] x l e = absurd (omega (arith, l))
 first_of (y ∷ run) x l e = ap (λ (z : EntryIndex). Some z.index) (sym e)
 
-pub no_run : (run : List EntryIndex) → first_index run ≡ None → mark_of (Run run) ≡ fresh
-no_run [] e = refl
-no_run (x ∷ run) e = absurd (none_some (sym e))
-
 pub run_step : (q : LogQueue) (id : ℕ) (o : Option Table) (run : List EntryIndex) → after_step q (table_of id o) (Run run) ≡ option_map (λ t. Some t) (after_replay q (table_of id o) run)
 run_step q id o run = refl
-
--- ---- steps that are refused
-
-pub run_taken : (q : LogQueue) (id : ℕ) (run : List EntryIndex) (a b : MarkedTables) (e : Error) → IsRunIn q run → AreCountsOf a.accessor.tables a.accessor.counts → (e ≡ errors.Memory) ⊎ IsReplayFault q run (table_in a.accessor.tables id) a.accessor.counts e → AreStepsTaken q (one_step id (Run run)) (Err e) a b
-run_taken q id run a b e h counted (inl is) = taken_memory q (one_step id (Run run)) a b e is
-run_taken q id run a b e h counted (inr f) = step_refused q id (Run run) a b e (run_by q id run a b (live q a.accessor.counts) e h (counted q) (replay_fault q id (finite.get a.accessor.tables id) run a.accessor.counts e f))
-
-pub put_taken : (q : LogQueue) (id : ℕ) (key value : List ℕ) (file : FileId) (replaced : Option FileId) (a b : MarkedTables) (e : Error) → file.queue ≡ q → AreCountsOf a.accessor.tables a.accessor.counts → (e ≡ errors.Memory) ⊎ IsTablePutFault file.queue a.accessor.counts replaced e → AreStepsTaken q (one_step id (Put key value file)) (Err e) a b
-put_taken q id key value file replaced a b e h counted (inl is) = taken_memory q (one_step id (Put key value file)) a b e is
-put_taken q id key value file replaced a b e h counted (inr f) = step_refused q id (Put key value file) a b e (put_by q id key value file replaced a e (counted q) (subst (λ q. IsTablePutFault q a.accessor.counts replaced e) h f))
-
--- ---- a region that is cleaned
-
-cleaned_list : (q : LogQueue) (id : ℕ) (old : List ℕ) → cond (is_same Append q) (old ++ id ∷ []) old ≡ old ++ cleaned_by_steps q (one_step id Clean)
-cleaned_list Append id old = refl
-cleaned_list Rewrite id old = sym (append-nil old)
-
-pub clean_taken : (q : LogQueue) (id : ℕ) (a : MarkedTables) (mid : Accessor) (marks : Marks) (r : Result Unit Error) (b : Bool) → b ≡ is_same Append q → mid.tables ≡ finite.remove a.accessor.tables id → mid.cleaned ≡ cond b (a.accessor.cleaned ++ id ∷ []) a.accessor.cleaned → mid.counts ≡ counts_after_step q (table_in a.accessor.tables id) Clean a.accessor.counts
-    → OnOk r (marks ≡ finite.insert a.marks id (joined_mark q id (mark_in a.marks id) (finite.get a.accessor.tables id) (mark_of Clean))) → IfErr r (λ e. e ≡ errors.Memory) → AreStepsTaken q (one_step id Clean) r a (record { accessor = mid; marks = marks })
-clean_taken q id a mid marks r b e t l c m f =
-    step_taken q id Clean a (record { accessor = mid; marks = marks }) r None refl t (l ∙ ap (λ b. cond b (a.accessor.cleaned ++ id ∷ []) a.accessor.cleaned) e ∙ cleaned_list q id a.accessor.cleaned) c m f
 
 -- ---- items, one after another
 
@@ -236,9 +226,6 @@ not_tried q steps a b c r taken e h t =
     let k : b ≡ a = rw e at h in
     subst (λ x. AreStepsTaken q steps r x c) k t
 
-split_items : (q : LogQueue) (x : LogItem) (xs ys : List LogItem) → ys ≡ x ∷ xs → steps_of_items (map item_of ys) ≡ steps_of_items (item_of x ∷ []) ++ steps_of_items (map item_of xs)
-split_items q x xs ys e = ap (λ l. steps_of_items (map item_of l)) e ∙ steps_both (x ∷ []) xs
-
 of_queue_front : (q : LogQueue) (xs ys : List RegionStep) → AreStepsOfQueue q (xs ++ ys) → AreStepsOfQueue q xs
 of_queue_front q [] ys h = tt
 of_queue_front q (x ∷ xs) ys h = (h.0, of_queue_front q xs ys h.1)
@@ -247,23 +234,18 @@ of_queue_back : (q : LogQueue) (xs ys : List RegionStep) → AreStepsOfQueue q (
 of_queue_back q [] ys h = h
 of_queue_back q (x ∷ xs) ys h = of_queue_back q xs ys h.1
 
-pub first_of_queue : (q : LogQueue) (x : LogItem) (xs ys : List LogItem) → ys ≡ x ∷ xs → AreStepsOfQueue q (steps_of_items (map item_of ys)) → AreStepsOfQueue q (steps_of_items (item_of x ∷ []))
-first_of_queue q x xs ys e h = of_queue_front q (steps_of_items (item_of x ∷ [])) (steps_of_items (map item_of xs)) (subst (AreStepsOfQueue q) (split_items q x xs ys e) h)
+pub rest_of_queue : (q : LogQueue) (one rest all : List RegionStep) → all ≡ one ++ rest → AreStepsOfQueue q all → AreStepsOfQueue q rest
+rest_of_queue q one rest all e h = of_queue_back q one rest (subst (AreStepsOfQueue q) e h)
 
-pub rest_of_queue : (q : LogQueue) (x : LogItem) (xs ys : List LogItem) → ys ≡ x ∷ xs → AreStepsOfQueue q (steps_of_items (map item_of ys)) → AreStepsOfQueue q (steps_of_items (map item_of xs))
-rest_of_queue q x xs ys e h = of_queue_back q (steps_of_items (item_of x ∷ [])) (steps_of_items (map item_of xs)) (subst (AreStepsOfQueue q) (split_items q x xs ys e) h)
+pub each_more : (q : LogQueue) (one rest all : List RegionStep) (a b c : MarkedTables) (r : Result Unit Error) → all ≡ one ++ rest → AreStepsOfQueue q all → AreStepsTaken q one (Ok tt) a b → AreStepsTaken q rest r b c → AreStepsTaken q all r a c
+each_more q one rest all a b c r e h s t = subst (λ l. AreStepsTaken q l r a c) (sym e) (taken_more q one rest a b c r (of_queue_front q one rest (subst (AreStepsOfQueue q) e h)) s t)
 
-pub each_more : (q : LogQueue) (x : LogItem) (xs ys : List LogItem) (a b c : MarkedTables) (r : Result Unit Error) → ys ≡ x ∷ xs → AreStepsOfQueue q (steps_of_items (map item_of ys)) → AreStepsTaken q (steps_of_items (item_of x ∷ [])) (Ok tt) a b → AreStepsTaken q (steps_of_items (map item_of xs)) r b c
-    → AreStepsTaken q (steps_of_items (map item_of ys)) r a c
-each_more q x xs ys a b c r e h s t =
-    subst (λ l. AreStepsTaken q l r a c) (sym (split_items q x xs ys e)) (taken_more q (steps_of_items (item_of x ∷ [])) (steps_of_items (map item_of xs)) a b c r (first_of_queue q x xs ys e h) s t)
+pub each_refused : (q : LogQueue) (one rest all : List RegionStep) (a b : MarkedTables) (e : Error) → all ≡ one ++ rest → AreStepsTaken q one (Err e) a b → AreStepsTaken q all (Err e) a b
+each_refused q one rest all a b e is s = subst (λ l. AreStepsTaken q l (Err e) a b) (sym is) (taken_refused q one rest a b e s)
 
-pub each_refused : (q : LogQueue) (x : LogItem) (xs ys : List LogItem) (a b : MarkedTables) (e : Error) → ys ≡ x ∷ xs → AreStepsTaken q (steps_of_items (item_of x ∷ [])) (Err e) a b → AreStepsTaken q (steps_of_items (map item_of ys)) (Err e) a b
-each_refused q x xs ys a b e is s = subst (λ l. AreStepsTaken q l (Err e) a b) (sym (split_items q x xs ys is)) (taken_refused q (steps_of_items (item_of x ∷ [])) (steps_of_items (map item_of xs)) a b e s)
-
-pub no_items : (q : LogQueue) (items : List LogItem) (a : MarkedTables) → length items ≡ 0 → AreStepsTaken q (steps_of_items (map item_of items)) (Ok tt) a a
-no_items q [] a e = taken_none q a
-no_items q (x ∷ items) a e = absurd (omega (arith, e))
+pub no_items : {X : Type 0} (q : LogQueue) (steps_in : List X → List RegionStep) (xs : List X) (a : MarkedTables) → steps_in [] ≡ [] → length xs ≡ 0 → AreStepsTaken q (steps_in xs) (Ok tt) a a
+no_items q steps_in [] a none e = subst (λ l. AreStepsTaken q l (Ok tt) a a) (sym none) (taken_none q a)
+no_items q steps_in (x ∷ xs) a none e = absurd (omega (arith, e))
 
 -- ---- what is told of all steps
 

@@ -1,35 +1,16 @@
--- Items that change a table, and their steps.
-use Rattle.std.proofs.Common.{◌≡◌, ℕ, suc, ◌≤◌, Bool, true, false, cond, eqb, ◌||◌, List, [], ◌∷◌, ◌++◌, length, map, Option, Some, None, refl, sym, ap, ◌∙◌, arith}
-use Rattle.std.specs.Prelude.{filter, is_some}
+-- Steps of items, one after another.
+use Rattle.std.proofs.Common.{◌≡◌, ℕ, Bool, true, false, eqb, ◌||◌, List, [], ◌∷◌, ◌++◌, map, Option, Some, None, refl, sym, ap, ◌∙◌}
+use Rattle.std.specs.Option.{option_map}
 use Rattle.std.specs.List.{list_any}
-use Rattle.std.proofs.lemmas.List.{length-append, map-append}
 use Rattle.raft_records.specs.declared.log_item.LogItem.{LogItem}
 use Rattle.raft_records.specs.Item.{Item, item_of, content_of}
 use Rattle.raft_table.specs.Steps.{Step}
-use Rattle.raft_history.specs.RegionSteps.{content_step, steps_of_items, names}
+use Rattle.raft_history.specs.declared.region_step.RegionStep as code
+use Rattle.raft_history.specs.RegionStepShown.{region_step_shown, item_step}
+use Rattle.raft_history.specs.RegionSteps.{RegionStep, content_step, steps_of_items, names}
 use Rattle.raft_history.proofs.Words.{with_step}
 use Rattle.raft_history.proofs.StepListLemmas.{names_none, names_cons}
-use Rattle.raft_memtable.specs.WaitingItems.{has_step}
-
--- the steps of items, by which of them have one
-pub steps_kept : (items : List LogItem) → steps_of_items (map item_of (filter has_step items)) ≡ steps_of_items (map item_of items)
-steps_kept [] = refl
-steps_kept (i ∷ items) = go (content_step (content_of i.content)) refl (steps_kept items)
-  where
-    go : (o : Option Step) → content_step (content_of i.content) ≡ o → steps_of_items (map item_of (filter has_step items)) ≡ steps_of_items (map item_of items)
-        → steps_of_items (map item_of (cond (is_some o) (i ∷ filter has_step items) (filter has_step items))) ≡ with_step i.raft_group_id o (steps_of_items (map item_of items))
-    go None e ih = ih
-    go (Some s) e ih = ap (λ o. with_step i.raft_group_id o (steps_of_items (map item_of (filter has_step items)))) e ∙ ap (λ l. record { region = i.raft_group_id; step = s } ∷ l) ih
-
--- each of those has one
-pub length_kept : (items : List LogItem) → length (steps_of_items (map item_of (filter has_step items))) ≡ length (filter has_step items)
-length_kept [] = refl
-length_kept (i ∷ items) = go (content_step (content_of i.content)) refl (length_kept items)
-  where
-    go : (o : Option Step) → content_step (content_of i.content) ≡ o → length (steps_of_items (map item_of (filter has_step items))) ≡ length (filter has_step items)
-        → length (steps_of_items (map item_of (cond (is_some o) (i ∷ filter has_step items) (filter has_step items)))) ≡ length (cond (is_some o) (i ∷ filter has_step items) (filter has_step items))
-    go None e ih = ih
-    go (Some s) e ih = ap (λ o. length (with_step i.raft_group_id o (steps_of_items (map item_of (filter has_step items))))) e ∙ ap suc ih
+use Rattle.raft_accessor.proofs.MapLemmas.{none_some, some_is}
 
 items-append : (xs ys : List Item) → steps_of_items (xs ++ ys) ≡ steps_of_items xs ++ steps_of_items ys
 items-append [] ys = refl
@@ -39,36 +20,34 @@ items-append (x ∷ xs) ys = go (content_step x.content) (items-append xs ys)
     go None ih = ih
     go (Some s) ih = ap (λ l. record { region = x.raft_group_id; step = s } ∷ l) ih
 
--- items behind items
-pub steps_both : (xs ys : List LogItem) → steps_of_items (map item_of (xs ++ ys)) ≡ steps_of_items (map item_of xs) ++ steps_of_items (map item_of ys)
-steps_both xs ys = ap steps_of_items (map-append item_of xs ys) ∙ items-append (map item_of xs) (map item_of ys)
+-- the first item's steps are in front
+pub split_items : (x : LogItem) (xs ys : List LogItem) → ys ≡ x ∷ xs → steps_of_items (map item_of ys) ≡ steps_of_items (item_of x ∷ []) ++ steps_of_items (map item_of xs)
+split_items x xs ys e = ap (λ l. steps_of_items (map item_of l)) e ∙ items-append (item_of x ∷ []) (map item_of xs)
 
-pub lengths_both : (xs ys : List LogItem) → length (steps_of_items (map item_of xs)) ≡ length xs → length (steps_of_items (map item_of ys)) ≡ length ys → length (steps_of_items (map item_of (xs ++ ys))) ≡ length (xs ++ ys)
-lengths_both xs ys h k = omega (arith, ap length (steps_both xs ys), length-append (steps_of_items (map item_of xs)) (steps_of_items (map item_of ys)), length-append xs ys, h, k)
-
--- ---- the regions that items name
-
--- whether items are of a region
-abbrev pub are_on : ℕ → List LogItem → Bool
-are_on r items = list_any (λ (i : LogItem). eqb r i.raft_group_id) items
-
-steps_fewer : (items : List LogItem) → length (steps_of_items (map item_of items)) ≤ length items
-steps_fewer [] = omega arith
-steps_fewer (i ∷ items) = go (content_step (content_of i.content)) (steps_fewer items)
+-- the step of one item
+pub step_of : (x : LogItem) (s : RegionStep) → Some s ≡ item_step (item_of x) → steps_of_items (item_of x ∷ []) ≡ s ∷ []
+step_of x s e = go (content_step (content_of x.content)) e
   where
-    go : (o : Option Step) → length (steps_of_items (map item_of items)) ≤ length items → length (with_step i.raft_group_id o (steps_of_items (map item_of items))) ≤ length (i ∷ items)
-    go None ih = omega (arith, ih)
-    go (Some s) ih = omega (arith, ih)
+    go : (o : Option Step) → Some s ≡ option_map (λ s. record { region = x.raft_group_id; step = s }) o → with_step x.raft_group_id o [] ≡ s ∷ []
+    go None e = absurd (none_some (sym e))
+    go (Some t) e = ap (λ r. r ∷ []) (sym (some_is e))
 
--- where each item has a step, they name the regions of the items
-pub items_named : (r : ℕ) (items : List LogItem) → length (steps_of_items (map item_of items)) ≡ length items → are_on r items ≡ names r (steps_of_items (map item_of items))
-items_named r [] h = sym (names_none r)
-items_named r (i ∷ items) h = go (content_step (content_of i.content)) h (items_named r items)
+pub no_step_of : (x : LogItem) → None ≡ item_step (item_of x) → steps_of_items (item_of x ∷ []) ≡ []
+no_step_of x e = go (content_step (content_of x.content)) e
   where
-    go : (o : Option Step) → length (with_step i.raft_group_id o (steps_of_items (map item_of items))) ≡ length (i ∷ items) → (length (steps_of_items (map item_of items)) ≡ length items → are_on r items ≡ names r (steps_of_items (map item_of items)))
-        → (eqb r i.raft_group_id || are_on r items) ≡ names r (with_step i.raft_group_id o (steps_of_items (map item_of items)))
-    go None h ih = absurd (omega (arith, h, steps_fewer items))
-    go (Some s) h ih = ap (λ b. eqb r i.raft_group_id || b) (ih (omega (arith, h))) ∙ sym (names_cons r (record { region = i.raft_group_id; step = s }) (steps_of_items (map item_of items)))
+    go : (o : Option Step) → None ≡ option_map {U = RegionStep} (λ s. record { region = x.raft_group_id; step = s }) o → with_step x.raft_group_id o [] ≡ []
+    go None e = refl
+    go (Some t) e = absurd (none_some e)
+
+-- ---- the regions that steps name
+
+-- whether steps are on a region
+abbrev pub are_on : ℕ → List code.RegionStep → Bool
+are_on r steps = list_any (λ (s : code.RegionStep). eqb r s.region) steps
+
+pub steps_named : (r : ℕ) (steps : List code.RegionStep) → are_on r steps ≡ names r (map region_step_shown steps)
+steps_named r [] = sym (names_none r)
+steps_named r (s ∷ steps) = ap (λ b. eqb r s.region || b) (steps_named r steps) ∙ sym (names_cons r (region_step_shown s) (map region_step_shown steps))
 
 pub or_none : (x : Bool) → (x || false) ≡ x
 or_none true = refl

@@ -1,6 +1,5 @@
 pub mod WaitingGroupsCode
 pub mod WaitingGroupsView
-pub mod WaitingItems
 pub mod WaitingItemsView
 pub mod WaitingShown
 pub mod StepCounts
@@ -38,9 +37,11 @@ pub use Rattle.raft_table.specs.Rewriting
 pub use Rattle.raft_table.specs.Scan
 pub use Rattle.raft_table.specs.Stands
 pub use Rattle.raft_table.specs.Start
+pub use Rattle.raft_table.specs.StepShown
 pub use Rattle.raft_table.specs.Steps
 pub use Rattle.raft_table.specs.Table
 pub use Rattle.raft_table.specs.TableEntries
+pub use Rattle.raft_table.specs.TakenSteps
 pub use Rattle.raft_table.specs.Untruncated
 pub use Rattle.raft_history.specs.Batches
 pub use Rattle.raft_history.specs.BothQueues
@@ -53,6 +54,7 @@ pub use Rattle.raft_history.specs.Kept
 pub use Rattle.raft_history.specs.LeastFiles
 pub use Rattle.raft_history.specs.MarkedRegions
 pub use Rattle.raft_history.specs.Records
+pub use Rattle.raft_history.specs.RegionStepShown
 pub use Rattle.raft_history.specs.RegionSteps
 pub use Rattle.raft_history.specs.ReplayMachine
 pub use Rattle.raft_history.specs.RewrittenRecords
@@ -67,8 +69,10 @@ pub use Rattle.raft_accessor.specs.ItemWrites
 pub use Rattle.raft_accessor.specs.Merges
 pub use Rattle.raft_accessor.specs.TableJoins
 pub use Rattle.raft_accessor.specs.TableOverlays
+pub use Rattle.raft_accessor.specs.TableSteps
 pub use Rattle.raft_accessor.specs.Updates
 pub use Rattle.raft_accessor.specs.Walks
 pub use Rattle.raft_accessor.specs.Writes
 pub use Rattle.raft_table.specs.declared.memtable.block.Block
 pub use Rattle.raft_table.specs.declared.memtable.change.TableChange
+pub use Rattle.raft_table.specs.declared.step.Step

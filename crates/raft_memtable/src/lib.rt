@@ -23,11 +23,13 @@ pub use raft_base::{
     AllocResult, EntryIndex, Error, Factory, FileBlockHandle, FileId, FileSeq, LogQueue, Result,
 };
 pub use raft_history::{
-    ReplayMachine, contexts, effects, histories, read_runs, regions, replay_machine,
+    RegionStep, ReplayMachine, contexts, effects, histories, read_runs, region_step, regions,
+    replay_machine,
 };
 pub use raft_records::{LogBatch, LogItem, LogItemBatch};
 pub use raft_table::{
-    Block, DeletedKeys, GlobalStats, Mark, MemTable, TableChange, global_stats, is_run, memtable,
+    Block, DeletedKeys, GlobalStats, Mark, MemTable, Step, TableChange, global_stats, is_run,
+    memtable, step,
 };
 pub use recover_context::{MemTableRecoverContext, MemTableRecoverContextFactory};
 pub use region_marks::RegionMarks;

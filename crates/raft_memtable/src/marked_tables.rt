@@ -1,16 +1,22 @@
 //! The tables of all regions beside their region marks.
 
-ghost use Rattle.std.specs.Prelude.{◌≡◌, ◌≤◌, ◌++◌, [], ◌∷◌, map, Ok, OnOk, IfOk, IfErr, MatchBool, Some, None};
+ghost use Rattle.std.specs.Prelude.{◌≡◌, ◌≤◌, ◌++◌, [], ◌∷◌, map, Ok, OnOk, IfOk, IfErr, MatchBool, Some};
+ghost use Rattle.std.specs.FinMap as finite;
+ghost use Rattle.raft_base.specs.Runs.{end_of};
+ghost use Rattle.raft_base.specs.declared.pipe_log.LogQueue.{LogQueue};
 ghost use Rattle.raft_base.specs.declared.pipe_log.LogQueue.TheVariants.{Append, Rewrite};
-ghost use Rattle.raft_records.specs.Item.{item_of, pair_of};
-ghost use Rattle.raft_history.specs.Histories.{AreInFile};
+ghost use Rattle.raft_records.specs.Item.{item_of};
+ghost use Rattle.raft_history.specs.Histories.{AreInFile, IsStepOfQueue};
 ghost use Rattle.raft_history.specs.MarkedRegions.{no_regions, regions_after, on_each, region_steps_of_whole};
+ghost use Rattle.raft_history.specs.RegionStepShown.{region_step_shown};
 ghost use Rattle.raft_history.specs.RegionSteps.{steps_of_items, cleaned_by_steps};
-ghost use Rattle.raft_table.specs.Queues.{other, is_same};
-ghost use Rattle.raft_table.specs.Steps.{Run, Compact, Truncate, Put, Del, AtomicGroup, Clean};
-ghost use Rattle.raft_accessor.specs.Accessor.{live_in_all};
-ghost use Rattle.raft_accessor.specs.ItemWrites.{pair_change};
-ghost use Rattle.raft_memtable.specs.MarkedTables.{regions_in, AreStepsOfQueue, IsStepsFault, one_step, first_index, AreStepsTaken};
+ghost use Rattle.raft_table.specs.MarkJoins.{joined_at, joined_mark, mark_of};
+ghost use Rattle.raft_table.specs.Marks.{Mark};
+ghost use Rattle.raft_table.specs.Queues.{other};
+ghost use Rattle.raft_table.specs.StepShown.{step_shown};
+ghost use Rattle.raft_table.specs.Steps.{AtomicGroup};
+ghost use Rattle.raft_accessor.specs.Accessor.{live_in_all, table_in};
+ghost use Rattle.raft_memtable.specs.MarkedTables.{regions_in, AreStepsOfQueue, IsStepsFault, one_step, AreStepsTaken};
 ghost use Rattle.raft_memtable.specs.StepCounts.{no_counts, AreCountsAfterSteps};
 ghost use Rattle.raft_memtable.specs.WaitingShown.{whole_shown};
 
@@ -20,8 +26,10 @@ mod overlay;
 use crate::region_marks::RegionMarks;
 use crate::waiting_group::WholeGroup;
 use raft_accessor::MemTableAccessor;
-use raft_base::{AllocResult, EntryIndex, Error, FileId, FileSeq, LogQueue, Result};
-use raft_records::{Command, KeyValue, LogItem, LogItemBatch, LogItemContent, OpType, is_reserved};
+use raft_base::{AllocResult, Error, FileId, FileSeq, LogQueue, Result};
+use raft_history::RegionStep;
+use raft_records::{LogItem, LogItemBatch, LogItemContent};
+use raft_table::Step;
 use std::alloc::Global;
 
 /// The tables of all regions, and the region mark of each region that a step named.
@@ -75,13 +83,13 @@ impl MarkedTables {
         self.take_each(file.queue, items.into_items())
     }
 
-    /// Takes in the items of a group of the rewrite queue that is whole, in order, and then the numbers
+    /// Takes in the steps of a group of the rewrite queue that is whole, in order, and then the numbers
     /// of its files for each region that they name.
     ///
     /// # Errors
     ///
     /// Those of [`MarkedTables::take_items`] in the rewrite queue, whose start rule refuses nothing.
-    /// Some items are then taken in.
+    /// Some steps are then taken in.
     pub(crate) fn take_group(&mut self, whole: WholeGroup) -> Result<()>
         requires steps { AreStepsOfQueue Rewrite (whole_shown whole).steps }
         requires seqs { (whole_shown whole).first_seq ≤ (whole_shown whole).last_seq }
@@ -103,7 +111,7 @@ impl MarkedTables {
             last_seq,
         } = whole;
         let regions = items.regions()?;
-        self.take_each(LogQueue::Rewrite, items.into_items())?;
+        self.take_steps(LogQueue::Rewrite, items.into_steps())?;
         self.take_seqs(&regions, first_seq, last_seq)
     }
 
@@ -149,141 +157,72 @@ impl MarkedTables {
 
     /// Takes in the files of a group for each of these regions.
     fn take_seqs(&mut self, regions: &[u64], first_seq: FileSeq, last_seq: FileSeq) -> Result<()>
-        requires { first_seq ≤ last_seq }
         ensures { AreStepsTaken Rewrite (on_each regions.now (AtomicGroup first_seq last_seq))
             result self.old self.new }
     {
         for id in regions {
-            self.accessor
-                .apply_rewrite_atomic_group(*id, first_seq, last_seq)?;
-            self.marks.mark(*id)?;
+            let step = Step::AtomicGroup {
+                first_seq,
+                last_seq,
+            };
+            self.take_step(LogQueue::Rewrite, *id, step)?;
         }
         Ok(())
     }
 
-    /// Takes in an item: its step on the table and on the region mark. `RegionTables::replay_item` does the
-    /// same without a region mark; the law that both read items alike is
-    /// [`items_are_read_as_steps`](crate::reading::items_are_read_as_steps).
+    /// Takes in the step of an item, if it has one.
     fn take_item(&mut self, queue: LogQueue, item: LogItem) -> Result<()>
         requires { AreStepsOfQueue queue (steps_of_items (item_of item ∷ [])) }
         ensures { AreStepsTaken queue (steps_of_items (item_of item ∷ [])) result self.old
             self.new }
     {
-        let LogItem {
-            raft_group_id: id,
-            content,
-        } = item;
-        match content {
-            LogItemContent::EntryIndexes(entries) => self.take_run(queue, id, entries.0),
-            LogItemContent::Command(Command::Compact { index }) => {
-                self.take_compaction(queue, id, index)
-            }
-            LogItemContent::Command(Command::Truncate { index }) => {
-                self.take_truncation(queue, id, index)
-            }
-            LogItemContent::Command(Command::Clean) => self.take_clean(queue, id),
-            LogItemContent::Kv(kv) => self.take_pair(queue, id, kv),
+        match RegionStep::of_item(item) {
+            Some(step) => self.take_step(queue, step.region, step.step),
+            None => Ok(()),
         }
     }
 
-    /// Takes in a run.
-    fn take_run(&mut self, queue: LogQueue, id: u64, run: Vec<EntryIndex>) -> Result<()>
-        requires { AreStepsOfQueue queue (one_step id (Run run.items)) }
-        ensures { AreStepsTaken queue (one_step id (Run run.items)) result self.old self.new }
+    /// Takes in steps, in order.
+    fn take_steps(&mut self, queue: LogQueue, steps: Vec<RegionStep>) -> Result<()>
+        requires { AreStepsOfQueue queue (map region_step_shown steps.items) }
+        ensures { AreStepsTaken queue (map region_step_shown steps.items) result self.old self.new }
     {
-        let start = first_index_of(&run);
-        let end = self.accessor.replay_run(queue, id, run)?;
-        match start {
-            Some(start) => Ok(self.marks.add_run(id, queue, end, start)?),
-            None => Ok(self.marks.mark(id)?),
+        for step in steps {
+            self.take_step(queue, step.region, step.step)?;
+        }
+        Ok(())
+    }
+
+    /// Takes in a step: into the region mark, and then into the table.
+    fn take_step(&mut self, queue: LogQueue, id: u64, step: Step) -> Result<()>
+        requires { IsStepOfQueue queue (step_shown step) }
+        ensures { AreStepsTaken queue (one_step id (step_shown step)) result self.old self.new }
+    {
+        let end = self.end_before(id, &step);
+        self.marks.add_step(id, queue, end, &step)?;
+        self.accessor.take_step(queue, id, step)
+    }
+
+    /// Where the entries of a region end in front of a run. No other step asks for it.
+    fn end_before(&self, id: u64, step: &Step) -> u64
+        ensures { (queue : LogQueue) (m : Mark)
+            → joined_at queue result m (mark_of (step_shown step.now))
+            ≡ joined_mark queue id m (finite.get self.now.accessor.tables id)
+            (mark_of (step_shown step.now)) }
+    {
+        match step {
+            Step::Run(_) => self.end_of(id),
+            _ => 0,
         }
     }
 
-    /// Takes in a compaction.
-    fn take_compaction(&mut self, queue: LogQueue, id: u64, index: u64) -> Result<()>
-        ensures { AreStepsTaken queue (one_step id (Compact index)) result self.old self.new }
+    /// The greatest index of a region plus one, or 0.
+    fn end_of(&self, id: u64) -> u64
+        ensures { result ≡ end_of (table_in self.now.accessor.tables id).entries }
     {
-        self.accessor.compact(id, index)?;
-        Ok(self.marks.add_compaction(id, index)?)
-    }
-
-    /// Takes in a truncation.
-    fn take_truncation(&mut self, queue: LogQueue, id: u64, index: u64) -> Result<()>
-        ensures { AreStepsTaken queue (one_step id (Truncate index)) result self.old self.new }
-    {
-        self.accessor.truncate(id, index)?;
-        Ok(self.marks.add_truncation(id, index)?)
-    }
-
-    /// Takes in the clean of a region, which is listed in the append queue.
-    fn take_clean(&mut self, queue: LogQueue, id: u64) -> Result<()>
-        ensures { AreStepsTaken queue (one_step id Clean) result self.old self.new }
-    {
-        self.accessor.remove(id, is_append(queue))?;
-        Ok(self.marks.add_clean(id)?)
-    }
-
-    /// Takes in the change of a key, unless it is reserved or a put without a value or a file.
-    fn take_pair(&mut self, queue: LogQueue, id: u64, kv: KeyValue) -> Result<()>
-        requires { AreStepsOfQueue queue (steps_of_items (pair_change id (pair_of kv) ∷ [])) }
-        ensures { AreStepsTaken queue (steps_of_items (pair_change id (pair_of kv) ∷ [])) result
-            self.old self.new }
-    {
-        if is_reserved(&kv.key) {
-            return Ok(());
-        }
-        let KeyValue {
-            op_type,
-            key,
-            value,
-            file_id,
-        } = kv;
-        match (op_type, value, file_id) {
-            (OpType::Put, Some(value), Some(file)) => self.take_put(queue, id, key, value, file),
-            (OpType::Put, _, _) => Ok(()),
-            (OpType::Del, _, _) => self.take_delete(queue, id, key),
+        match self.accessor.get(id) {
+            Some(table) => table.end(),
+            None => 0,
         }
     }
-
-    /// Takes in a key that is put.
-    fn take_put(
-        &mut self,
-        queue: LogQueue,
-        id: u64,
-        key: Vec<u8>,
-        value: Vec<u8>,
-        file: FileId,
-    ) -> Result<()>
-        requires { file.queue ≡ queue }
-        ensures { AreStepsTaken queue (one_step id (Put key.items value.items file)) result self.old
-            self.new }
-    {
-        self.accessor.put(id, key, value, file)?;
-        Ok(self.marks.mark(id)?)
-    }
-
-    /// Takes in a key that is deleted.
-    fn take_delete(&mut self, queue: LogQueue, id: u64, key: Vec<u8>) -> Result<()>
-        ensures { AreStepsTaken queue (one_step id (Del key.items)) result self.old self.new }
-    {
-        self.accessor.delete(id, &key)?;
-        Ok(self.marks.add_deleted(id, key)?)
-    }
-}
-
-/// The first index of a run, if it has one.
-fn first_index_of(run: &[EntryIndex]) -> Option<u64>
-    ensures { result ≡ first_index run.now }
-{
-    match run.first() {
-        Some(first) => Some(first.index),
-        None => None,
-    }
-}
-
-/// Whether a queue is the append queue, whose cleaned regions are listed.
-fn is_append(queue: LogQueue) -> bool
-    ensures { result ≡ is_same Append queue }
-{
-    queue == LogQueue::Append
 }

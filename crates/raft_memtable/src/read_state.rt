@@ -129,7 +129,7 @@ impl ReadState {
         ensures fault { IfErr result (IsBatchFault (reading_on (context_in self.old))
             (event batch file)) }
     {
-        let items = WaitingItems::of_items(batch.into_items());
+        let items = WaitingItems::of_items(batch.into_items())?;
         let whole = self.groups.take_in(id, status, items, file.seq)?;
         take_whole(&mut self.regions, whole)?;
         self.files = FileRange::joined(self.files, Some(FileRange::of(file)));

@@ -8,11 +8,11 @@ ghost use Rattle.std.specs.Map.{keys_of};
 ghost use Rattle.raft_history.specs.Records.{total};
 ghost use Rattle.raft_table.specs.Marks.{Mark};
 ghost use Rattle.raft_table.specs.MarkJoins.{fresh, mark_of, joined_at};
-ghost use Rattle.raft_table.specs.Steps.{Compact, Truncate, Del, Clean};
+ghost use Rattle.raft_table.specs.StepShown.{step_shown};
 ghost use Rattle.raft_memtable.specs.RegionMarks.{mark_in, MayChangeMark, IsMarkUpdated};
 
 use raft_base::{AllocResult, LogQueue};
-use raft_table::Mark;
+use raft_table::{Mark, Step};
 use std::alloc::Global;
 use std::collections::HashMap;
 use std::collections::hash_map::IntoIter;
@@ -69,18 +69,6 @@ impl RegionMarks {
         count
     }
 
-    /// Gives a region that has no region mark the region mark of no step.
-    ///
-    /// # Errors
-    ///
-    /// `AllocError`. The region marks are then as they were.
-    pub fn mark(&mut self, id: u64) -> AllocResult<()>
-        ensures ok { OnOk result (self.new ≡ finite.insert self.old id (mark_in self.old id)) }
-        ensures err { OnErr result (self.new ≡ self.old) }
-    {
-        self.update(id, |_: &mut Mark| Ok(()))
-    }
-
     /// Joins the region mark of a run that starts at `start` to the region mark of a region, where the region's
     /// own entries end at `end`.
     ///
@@ -99,73 +87,19 @@ impl RegionMarks {
         })
     }
 
-    /// Joins the region mark of a compaction to the region mark of a region.
+    /// Joins the region mark of a step to the region mark of a region. Where the step is a run, the region's own
+    /// entries in front of it end at `end`. A deleted key is copied.
     ///
     /// # Errors
     ///
     /// `AllocError`. The region marks are then as they were.
-    pub fn add_compaction(&mut self, id: u64, index: u64) -> AllocResult<()>
-        ensures ok { (queue : LogQueue) (end : ℕ)
-            → OnOk result (self.new
+    pub fn add_step(&mut self, id: u64, queue: LogQueue, end: u64, step: &Step) -> AllocResult<()>
+        ensures ok { OnOk result (self.new
             ≡ finite.insert self.old id
-            (joined_at queue end (mark_in self.old id) (mark_of (Compact index)))) }
+            (joined_at queue end (mark_in self.old id) (mark_of (step_shown step.now)))) }
         ensures err { OnErr result (self.new ≡ self.old) }
     {
-        self.update(id, move |mark: &mut Mark| {
-            mark.add_compaction(index);
-            Ok(())
-        })
-    }
-
-    /// Joins the region mark of a truncation to the region mark of a region.
-    ///
-    /// # Errors
-    ///
-    /// `AllocError`. The region marks are then as they were.
-    pub fn add_truncation(&mut self, id: u64, index: u64) -> AllocResult<()>
-        ensures ok { (queue : LogQueue) (end : ℕ)
-            → OnOk result (self.new
-            ≡ finite.insert self.old id
-            (joined_at queue end (mark_in self.old id) (mark_of (Truncate index)))) }
-        ensures err { OnErr result (self.new ≡ self.old) }
-    {
-        self.update(id, move |mark: &mut Mark| {
-            mark.add_truncation(index);
-            Ok(())
-        })
-    }
-
-    /// Joins the region mark of a deleted key to the region mark of a region.
-    ///
-    /// # Errors
-    ///
-    /// `AllocError`. The region marks are then as they were.
-    pub fn add_deleted(&mut self, id: u64, key: Vec<u8>) -> AllocResult<()>
-        ensures ok { (queue : LogQueue) (end : ℕ)
-            → OnOk result (self.new
-            ≡ finite.insert self.old id
-            (joined_at queue end (mark_in self.old id) (mark_of (Del key.items)))) }
-        ensures err { OnErr result (self.new ≡ self.old) }
-    {
-        self.update(id, move |mark: &mut Mark| mark.add_deleted(key))
-    }
-
-    /// Joins the region mark of a clean to the region mark of a region.
-    ///
-    /// # Errors
-    ///
-    /// `AllocError`. The region marks are then as they were.
-    pub fn add_clean(&mut self, id: u64) -> AllocResult<()>
-        ensures ok { (queue : LogQueue) (end : ℕ)
-            → OnOk result (self.new
-            ≡ finite.insert self.old id
-            (joined_at queue end (mark_in self.old id) (mark_of Clean))) }
-        ensures err { OnErr result (self.new ≡ self.old) }
-    {
-        self.update(id, |mark: &mut Mark| {
-            mark.add_clean();
-            Ok(())
-        })
+        self.update(id, move |mark: &mut Mark| mark.add_step(queue, end, step))
     }
 
     /// Joins the region mark of newer steps to the region mark of a region, whose first run comes behind own

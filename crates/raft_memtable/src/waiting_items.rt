@@ -1,21 +1,22 @@
-//! Items of groups that are not whole yet.
+//! Steps of groups that are not whole yet.
 
-ghost use Rattle.std.specs.Prelude.{◌≡◌, ◌++◌, ℕ, ◌==◌, [], ◌∷◌, length, map, is_some, IsTrue, OnOk, IfOk};
+ghost use Rattle.std.specs.Prelude.{◌≡◌, ◌++◌, ℕ, ◌==◌, [], ◌∷◌, length, map, IsTrue, OnOk, IfOk};
 ghost use Rattle.std.specs.List.{list_any};
-ghost use Rattle.raft_records.specs.Item.{item_of, pair, pair_of};
-ghost use Rattle.raft_history.specs.RegionSteps.{content_step, steps_of_items, names};
-ghost use Rattle.raft_memtable.specs.WaitingItems.{has_step};
+ghost use Rattle.raft_records.specs.Item.{item_of};
+ghost use Rattle.raft_history.specs.RegionStepShown.{region_step_shown};
+ghost use Rattle.raft_history.specs.RegionSteps.{steps_of_items, names};
 
 use raft_base::AllocResult;
-use raft_records::{KeyValue, LogItem, LogItemContent, OpType, is_reserved};
+use raft_history::RegionStep;
+use raft_records::LogItem;
 use std::alloc::Global;
 use std::marker::Model;
 
-/// Items that wait for the end of their group. Each of them changes a table: the others, as the
-/// group's own group markers, are dropped when they come in.
+/// The steps of items that wait for the end of their group. An item without a step, as the group's own
+/// group marker, is dropped when it comes in.
 #[derive(Debug, Drop)]
 pub struct WaitingItems {
-    items: Vec<LogItem>,
+    steps: Vec<RegionStep>,
 }
 
 impl Model for WaitingItems {
@@ -24,11 +25,9 @@ impl Model for WaitingItems {
 
     ghost Value = { List RegionStep };
 
-    ghost use Rattle.raft_memtable.specs.WaitingItemsView.{steps_shown, EachHasStep};
+    ghost use Rattle.raft_memtable.specs.WaitingItemsView.{steps_shown};
 
     ghost view = { steps_shown };
-
-    ghost invariant = { EachHasStep };
 }
 
 impl WaitingItems {
@@ -37,26 +36,35 @@ impl WaitingItems {
         ensures { result ≡ [] }
     {
         WaitingItems {
-            items: Vec::new(alloc),
+            steps: Vec::new(alloc),
         }
     }
 
-    /// The items that change a table, in order.
-    pub fn of_items(mut items: Vec<LogItem>) -> WaitingItems
-        ensures { result ≡ steps_of_items (map item_of items.items) }
+    /// The steps of items, in order.
+    ///
+    /// # Errors
+    ///
+    /// Where there is no memory for them.
+    pub fn of_items(items: Vec<LogItem>) -> AllocResult<WaitingItems>
+        ensures { IfOk result (λ waiting. waiting ≡ steps_of_items (map item_of items.items)) }
     {
-        items.retain(|item| has_step(item));
-        WaitingItems { items }
+        let mut steps = Vec::with_capacity(*items.allocator(), items.len())?;
+        for item in items {
+            if let Some(step) = RegionStep::of_item(item) {
+                steps.push(step)?;
+            }
+        }
+        Ok(WaitingItems { steps })
     }
 
-    /// How many items there are.
+    /// How many steps there are.
     pub fn len(&self) -> usize
         ensures { result ≡ length self.now }
     {
-        self.items.len()
+        self.steps.len()
     }
 
-    /// Moves the items of `more` behind these.
+    /// Moves the steps of `more` behind these.
     ///
     /// # Errors
     ///
@@ -64,12 +72,12 @@ impl WaitingItems {
     pub fn append(&mut self, more: WaitingItems) -> AllocResult<()>
         ensures { OnOk result (self.new ≡ self.old ++ more) }
     {
-        let mut more = more.items;
-        self.items.append(&mut more)?;
+        let mut more = more.steps;
+        self.steps.append(&mut more)?;
         Ok(())
     }
 
-    /// The regions that the items change, in order; one may stand there twice.
+    /// The regions that the steps change, in order; one may stand there twice.
     ///
     /// # Errors
     ///
@@ -78,9 +86,9 @@ impl WaitingItems {
         ensures { IfOk result
             (λ ids. (r : ℕ) → list_any (λ id. r == id) ids.items ≡ names r self.now) }
     {
-        let mut ids: Vec<u64> = Vec::new(*self.items.allocator());
-        for item in &self.items {
-            let id = item.raft_group_id;
+        let mut ids: Vec<u64> = Vec::new(*self.steps.allocator());
+        for step in &self.steps {
+            let id = step.region;
             if !is_last(&ids, id) {
                 ids.push(id)?;
             }
@@ -88,11 +96,11 @@ impl WaitingItems {
         Ok(ids)
     }
 
-    /// The items, in order.
-    pub fn into_items(self) -> Vec<LogItem>
-        ensures { steps_of_items (map item_of result.items) ≡ self }
+    /// The steps, in order.
+    pub fn into_steps(self) -> Vec<RegionStep>
+        ensures { map region_step_shown result.items ≡ self }
     {
-        self.items
+        self.steps
     }
 }
 
@@ -104,29 +112,5 @@ fn is_last(ids: &[u64], id: u64) -> bool
     match ids.last() {
         Some(last) => *last == id,
         None => false,
-    }
-}
-
-/// Whether an item changes a table: it isn't of the reserved key, and if it is a `Put`, it has a value
-/// and a file.
-fn has_step(item: &LogItem) -> bool
-    ensures { result ≡ has_step item.now }
-{
-    match &item.content {
-        LogItemContent::EntryIndexes(_) | LogItemContent::Command(_) => true,
-        LogItemContent::Kv(kv) => changes_key(kv),
-    }
-}
-
-/// Whether a change of a key changes a table.
-fn changes_key(kv: &KeyValue) -> bool
-    ensures { result ≡ is_some (content_step (pair (pair_of kv.now))) }
-{
-    if is_reserved(kv.key.as_slice()) {
-        return false;
-    }
-    match kv.op_type {
-        OpType::Put => kv.value.is_some() && kv.file_id.is_some(),
-        OpType::Del => true,
     }
 }

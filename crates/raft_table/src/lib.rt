@@ -3,6 +3,8 @@
 
 pub mod global_stats;
 pub mod memtable;
+pub mod step;
 
 pub use global_stats::GlobalStats;
 pub use memtable::{Block, DeletedKeys, Mark, MemTable, TableChange, is_run, other_queue};
+pub use step::Step;

@@ -26,6 +26,7 @@ mod laws;
 mod mark;
 mod merge;
 mod queries;
+mod steps;
 mod table_laws;
 mod under;
 

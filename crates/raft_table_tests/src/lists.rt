@@ -6,7 +6,8 @@ ghost use Rattle.raft_memtable.specs.TableEntries.{IsRunIn};
 
 use crate::store::LogStore;
 use raft_memtable::{
-    EntryIndex, Error, FileBlockHandle, FileId, FileSeq, LogQueue, Mark, MemTable, Result, is_run,
+    EntryIndex, Error, FileBlockHandle, FileId, FileSeq, LogQueue, Mark, MemTable, Result, Step,
+    is_run,
 };
 use std::alloc::Global;
 
@@ -208,8 +209,14 @@ fn join_under(
     run: Run,
 ) -> Result<()> {
     let mut mark = Mark::new(alloc);
-    mark.add_compaction(bounds.floor);
-    mark.add_truncation(bounds.cut);
+    mark.add_step(
+        queue,
+        0,
+        &Step::Compact {
+            index: bounds.floor,
+        },
+    )?;
+    mark.add_step(queue, 0, &Step::Truncate { index: bounds.cut })?;
     mark.add_run(queue, 0, run.first);
     store.join_under(queue, &mut table_of(alloc, queue, run)?, &mark)
 }

@@ -2,16 +2,19 @@
 
 ghost use Rattle.std.specs.Prelude.{◌≡◌, ℕ, ◌<◌, ◌||◌, OnOk, OnErr, Some, None};
 ghost use Rattle.raft_base.specs.declared.pipe_log.LogQueue.TheVariants.{Append, Rewrite};
+ghost use Rattle.std.specs.FinSet as finset;
 ghost use Rattle.raft_table.specs.Marks.{misses};
 ghost use Rattle.raft_table.specs.MarkJoins.{fresh, is_settled, mark_of, end_at_reach, joined_at, joined_barred, joined_deleted, joined_floor, is_detached, narrowed_bars};
 ghost use Rattle.raft_table.specs.MarkBounds.{with_bounds};
 ghost use Rattle.raft_table.specs.KeyValues.{lesser};
 ghost use Rattle.raft_base.specs.declared.pipe_log.LogQueue.{LogQueue};
-ghost use Rattle.raft_table.specs.Steps.{Compact, Truncate, Del, Clean};
+ghost use Rattle.raft_table.specs.Steps.{Run};
+ghost use Rattle.raft_table.specs.StepShown.{step_shown};
 
 use crate::memtable::bounds::{capped, lesser};
 use crate::memtable::deleted_keys::DeletedKeys;
-use raft_base::{AllocResult, LogQueue};
+use crate::step::Step;
+use raft_base::{AllocResult, EntryIndex, LogQueue};
 use std::alloc::Global;
 use std::marker::Model;
 use std::mem;
@@ -59,6 +62,45 @@ const NO_BOUNDS: Bounds = Bounds {
     floor: 0,
     cut: None,
 };
+
+impl Bounds {
+    /// The bounds of a step.
+    fn of_step(step: &Step) -> Bounds
+        ensures { with_bounds result ≡ record (mark_of (step_shown step.now))
+            { deleted = finset.empty } }
+    {
+        match step {
+            Step::Run(run) => Bounds::of_run(run),
+            Step::Compact { index } => Bounds {
+                floor: *index,
+                ..NO_BOUNDS
+            },
+            Step::Truncate { index } => Bounds {
+                cut: Some(*index),
+                ..NO_BOUNDS
+            },
+            Step::Clean => Bounds {
+                cleaned: true,
+                ..NO_BOUNDS
+            },
+            Step::Put { .. } | Step::Del { .. } | Step::AtomicGroup { .. } => NO_BOUNDS,
+        }
+    }
+
+    /// The bounds of a run.
+    fn of_run(run: &[EntryIndex]) -> Bounds
+        ensures { with_bounds result ≡ mark_of (Run run.now) }
+    {
+        match run.first() {
+            Some(first) => Bounds {
+                reach: Some(first.index),
+                cut: Some(first.index),
+                ..NO_BOUNDS
+            },
+            None => NO_BOUNDS,
+        }
+    }
+}
 
 impl Model for Mark {
     ghost use Rattle.raft_table.specs.Marks.{Mark};
@@ -190,59 +232,45 @@ impl Mark {
         self.join_bounds(queue, end, run);
     }
 
-    /// Joins the region mark of a compaction.
-    pub fn add_compaction(&mut self, index: u64)
-        ensures { (queue : LogQueue) (end : ℕ) →
-            self.new ≡ joined_at queue end self.old (mark_of (Compact index)) }
-    {
-        let compaction = Bounds {
-            floor: index,
-            ..NO_BOUNDS
-        };
-        self.join_bounds(LogQueue::Append, 0, compaction);
-    }
-
-    /// Joins the region mark of a truncation.
-    pub fn add_truncation(&mut self, index: u64)
-        ensures { (queue : LogQueue) (end : ℕ) →
-            self.new ≡ joined_at queue end self.old (mark_of (Truncate index)) }
-    {
-        let truncation = Bounds {
-            cut: Some(index),
-            ..NO_BOUNDS
-        };
-        self.join_bounds(LogQueue::Append, 0, truncation);
-    }
-
-    /// Joins the region mark of a deleted key.
+    /// Joins the region mark of a step. Where the step is a run, the own entries in front of it end at `end`.
+    /// A deleted key is copied.
     ///
     /// # Errors
     ///
-    /// Where there is no memory for the key. The region mark is then as it was.
-    pub fn add_deleted(&mut self, key: Vec<u8>) -> AllocResult<()>
-        ensures ok { OnOk result ((queue : LogQueue) (end : ℕ)
-            → self.new ≡ joined_at queue end self.old (mark_of (Del key.items))) }
+    /// Where there is no memory for a deleted key. The region mark is then as it was.
+    #[tactic(auto, using(crate::proofs::StepMarkLemmas::bounds_joined))]
+    pub fn add_step(&mut self, queue: LogQueue, end: u64, step: &Step) -> AllocResult<()>
+        ensures ok { OnOk result (self.new
+            ≡ joined_at queue end self.old (mark_of (step_shown step.now))) }
         ensures err { OnErr result (self.new ≡ self.old) }
     {
         if self.is_settled() {
             return Ok(());
         }
-        self.deleted.insert(key)?;
-        self.join_bounds(LogQueue::Append, 0, NO_BOUNDS);
+        self.delete_keys(step)?;
+        self.join_bounds(queue, end, Bounds::of_step(step));
         Ok(())
     }
 
-    /// Joins the region mark of a clean.
-    pub fn add_clean(&mut self)
-        ensures { (queue : LogQueue) (end : ℕ) →
-            self.new ≡ joined_at queue end self.old (mark_of Clean) }
+    /// Adds the key that a step deletes. A clean deletes all, so that none has to be kept.
+    #[tactic(auto, using(crate::proofs::MarkExact::union_empty, crate::proofs::MarkExact::union_one))]
+    fn delete_keys(&mut self, step: &Step) -> AllocResult<()>
+        ensures ok { OnOk result (self.new ≡ record self.old
+            { deleted = joined_deleted self.old (mark_of (step_shown step.now)) }) }
+        ensures err { OnErr result (self.new ≡ self.old) }
     {
-        if self.is_settled() {
-            return;
+        match step {
+            Step::Del { key } => self.deleted.insert(Vec::from_slice(*key.allocator(), key)?),
+            Step::Clean => {
+                self.deleted.clear();
+                Ok(())
+            }
+            Step::Run(_)
+            | Step::Compact { .. }
+            | Step::Truncate { .. }
+            | Step::Put { .. }
+            | Step::AtomicGroup { .. } => Ok(()),
         }
-        self.join_bounds(LogQueue::Append, 0, NO_BOUNDS);
-        self.cleaned = true;
-        self.deleted.clear();
     }
 
     /// Whether newer steps change nothing: the region was cleaned (or no steps give such a region mark).

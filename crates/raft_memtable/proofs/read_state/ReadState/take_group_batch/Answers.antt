@@ -19,13 +19,13 @@ use Rattle.raft_memtable.proofs.read_state.ReadState.take_group_batch.Goals as g
 
 pub take_whole-requires : goal.take_whole-requires
 take_whole-requires c =
-    let steps = c.of_items-items.ensures ∙ ap steps_of_items c.into_items.ensures in
+    let steps = c.in_ok-items.ensures ∙ ap steps_of_items c.into_items.ensures in
     let whole = c.in_ok-whole.ensures.whole ∙ ap (λ is. whole_group (known_of c.args.self.now.groups c.args.id) (one_marker c.args.status is c.args.file.seq)) steps in
     subst CanTakeEffectIfAny (sym whole) (group_takes (context_in c.args.self.now) (event c.args.batch c.args.file) c.args.id c.args.status c.requires.history c.requires.next c.requires.with_marker)
 
 pub returns-in_err-take_whole-clause-fault : goal.returns-in_err-take_whole-clause-fault
 returns-in_err-take_whole-clause-fault c =
-    let steps = c.of_items-items.ensures ∙ ap steps_of_items c.into_items.ensures in
+    let steps = c.in_ok-items.ensures ∙ ap steps_of_items c.into_items.ensures in
     let whole = c.in_ok-whole.ensures.whole ∙ ap (λ is. whole_group (known_of c.args.self.now.groups c.args.id) (one_marker c.args.status is c.args.file.seq)) steps in
     let p = err_from_is_err_and c.from_residual-in_err-take_whole.result c.from_residual-in_err-take_whole.ensures.1 in
     rw (p.1, p.2) (group_fault (context_in c.args.self.now) (event c.args.batch c.args.file) c.args.id c.args.status c.requires.history c.requires.next c.requires.with_marker _
@@ -33,14 +33,14 @@ returns-in_err-take_whole-clause-fault c =
 
 pub returns-clause-counts : goal.returns-clause-counts
 returns-clause-counts c =
-    let steps = c.of_items-items.ensures ∙ ap steps_of_items c.into_items.ensures in
+    let steps = c.in_ok-items.ensures ∙ ap steps_of_items c.into_items.ensures in
     let whole = c.in_ok-whole.ensures.whole ∙ ap (λ is. whole_group (known_of c.args.self.now.groups c.args.id) (one_marker c.args.status is c.args.file.seq)) steps in
     group_counted (context_in c.args.self.now) (event c.args.batch c.args.file) c.args.id c.args.status _ _ c.requires.with_marker
     (subst (λ o. AreCountsAfterSteps Rewrite c.args.self.now.regions.accessor.tables (region_steps_or o) c.args.self.now.regions.accessor.counts c.take_whole.new.regions.accessor.counts) whole c.in_ok-take_whole.ensures.counts)
 
 pub returns-clause-history : goal.returns-clause-history
 returns-clause-history c =
-    let steps = c.of_items-items.ensures ∙ ap steps_of_items c.into_items.ensures in
+    let steps = c.in_ok-items.ensures ∙ ap steps_of_items c.into_items.ensures in
     let whole = c.in_ok-whole.ensures.whole ∙ ap (λ is. whole_group (known_of c.args.self.now.groups c.args.id) (one_marker c.args.status is c.args.file.seq)) steps in
     read_more (context_in c.args.self.now) _ (event c.args.batch c.args.file) c.requires.history c.requires.next
     (group_taken (context_in c.args.self.now) _ (event c.args.batch c.args.file) c.args.id c.args.status c.requires.with_marker

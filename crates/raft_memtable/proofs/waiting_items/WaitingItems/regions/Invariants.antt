@@ -3,5 +3,5 @@ use Rattle.std.specs.List.{list_any}
 use Rattle.raft_memtable.proofs.WaitingItemLemmas.{are_on}
 use Rattle.raft_memtable.proofs.waiting_items.WaitingItems.regions.Given as goal
 
-abbrev pub invariant-loop-item : goal.invariant-loop-item
-invariant-loop-item l = (r : ℕ) → (list_any (λ i. r == i) l.ids.items || are_on r (drop l.item-index l.item-items)) ≡ are_on r l.item-items
+abbrev pub invariant-loop-step : goal.invariant-loop-step
+invariant-loop-step l = (r : ℕ) → (list_any (λ i. r == i) l.ids.items || are_on r (drop l.step-index l.step-items)) ≡ are_on r l.step-items

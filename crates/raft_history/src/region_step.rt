@@ -1,0 +1,70 @@
+//! Steps on regions, and the step of an item.
+
+ghost use Rattle.std.specs.Prelude.{◌≡◌, option_map};
+ghost use Rattle.raft_records.specs.Item.{pair, item_of, content_of, pair_of};
+ghost use Rattle.raft_table.specs.StepShown.{step_shown};
+ghost use Rattle.raft_history.specs.RegionSteps.{content_step, command_step};
+ghost use Rattle.raft_history.specs.RegionStepShown.{region_step_shown, item_step};
+
+use raft_records::{Command, KeyValue, LogItem, LogItemContent, OpType, is_reserved};
+use raft_table::Step;
+
+/// A step, and the region whose table it changes.
+#[derive(Debug, Drop)]
+pub struct RegionStep {
+    pub region: u64,
+    pub step: Step,
+}
+
+impl RegionStep {
+    /// Returns the step of an item. A change of the reserved key has none, nor has a put without a value or
+    /// a file.
+    pub fn of_item(item: LogItem) -> Option<RegionStep>
+        ensures { option_map region_step_shown result ≡ item_step (item_of item) }
+    {
+        let step = content_step(item.content)?;
+        Some(RegionStep {
+            region: item.raft_group_id,
+            step,
+        })
+    }
+}
+
+/// The step of a content.
+fn content_step(content: LogItemContent) -> Option<Step>
+    ensures { option_map step_shown result ≡ content_step (content_of content) }
+{
+    match content {
+        LogItemContent::EntryIndexes(entries) => Some(Step::Run(entries.0)),
+        LogItemContent::Command(command) => Some(command_step(command)),
+        LogItemContent::Kv(kv) => pair_step(kv),
+    }
+}
+
+/// The step of a command.
+fn command_step(command: Command) -> Step
+    ensures { step_shown result ≡ command_step command }
+{
+    match command {
+        Command::Clean => Step::Clean,
+        Command::Compact { index } => Step::Compact { index },
+        Command::Truncate { index } => Step::Truncate { index },
+    }
+}
+
+/// The step of a change of a key.
+fn pair_step(kv: KeyValue) -> Option<Step>
+    ensures { option_map step_shown result ≡ content_step (pair (pair_of kv)) }
+{
+    if is_reserved(&kv.key) {
+        return None;
+    }
+    match kv.op_type {
+        OpType::Put => Some(Step::Put {
+            key: kv.key,
+            value: kv.value?,
+            file_id: kv.file_id?,
+        }),
+        OpType::Del => Some(Step::Del { key: kv.key }),
+    }
+}

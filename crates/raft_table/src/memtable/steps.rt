@@ -1,0 +1,109 @@
+//! Steps on a table.
+
+ghost use Rattle.std.specs.Prelude.{◌≡◌, OnOk, OnErr, IfErr, Some};
+ghost use Rattle.raft_base.specs.declared.pipe_log.LogQueue.TheVariants.{Append, Rewrite};
+ghost use Rattle.raft_table.specs.Queues.{other};
+ghost use Rattle.raft_table.specs.Start.{counts_with_run};
+ghost use Rattle.raft_table.specs.StepShown.{step_shown};
+ghost use Rattle.raft_table.specs.Steps.{after_step};
+ghost use Rattle.raft_table.specs.Table.{after_replay, live_of, IsCounted, IsRecounted};
+ghost use Rattle.raft_table.specs.TableEntries.{IsRunIn};
+ghost use Rattle.raft_table.specs.TakenSteps.{IsStepOfQueue, LeavesTable, IsUnmixed, counts_after_step, IsReplayFault, IsStepFault};
+
+use crate::global_stats::GlobalStats;
+use crate::memtable::MemTable;
+use crate::step::Step;
+use raft_base::{EntryIndex, Error, LogQueue, Result};
+
+impl MemTable {
+    /// Does a step that is read again, any but a [`Step::Clean`], which leaves no table.
+    ///
+    /// # Errors
+    ///
+    /// For a run those of [`MemTable::replay_append`] or [`MemTable::replay_rewrite`], and
+    /// `InvalidArgument` where the table has records of the other queue; for a put those of
+    /// [`MemTable::put`]. The table and the counts are then as they were.
+    pub fn take_step(&mut self, queue: LogQueue, step: Step, stats: &mut GlobalStats) -> Result<()>
+        requires of_queue { IsStepOfQueue queue (step_shown step) }
+        requires stays { LeavesTable (step_shown step) }
+        requires counted { IsCounted self.old stats.old }
+        ensures ok { OnOk result (after_step queue self.old (step_shown step)
+            ≡ Some (Some self.new)) }
+        ensures accepted { OnOk result (IsUnmixed queue self.old (step_shown step)) }
+        ensures counts { OnOk result (stats.new
+            ≡ counts_after_step queue self.old (step_shown step) stats.old) }
+        ensures fault { IfErr result (IsStepFault queue self.old stats.old (step_shown step)) }
+        ensures err { OnErr result ((self.new ≡ self.old) × (stats.new ≡ stats.old)) }
+        ensures recounted { IsRecounted self.old self.new stats.old stats.new }
+        ensures region { self.new.region_id ≡ self.old.region_id }
+    {
+        match step {
+            Step::Run(run) => self.replay(queue, run, stats),
+            Step::Compact { index } => {
+                self.compact_to(index, stats);
+                Ok(())
+            }
+            Step::Truncate { index } => {
+                self.truncate_from(index, stats);
+                Ok(())
+            }
+            Step::Put {
+                key,
+                value,
+                file_id,
+            } => self.put(key, value, file_id, stats),
+            Step::Del { key } => {
+                self.delete(&key, stats);
+                Ok(())
+            }
+            Step::AtomicGroup {
+                first_seq,
+                last_seq,
+            } => {
+                self.atomic_group = Some((first_seq, last_seq));
+                Ok(())
+            }
+            Step::Clean => unreachable!(),
+        }
+    }
+
+    /// Puts a run of `queue` that is read again, where the table has no record of the other queue.
+    fn replay(
+        &mut self,
+        queue: LogQueue,
+        run: Vec<EntryIndex>,
+        stats: &mut GlobalStats,
+    ) -> Result<()>
+        requires run { IsRunIn queue run.items }
+        requires counted { IsCounted self.old stats.old }
+        ensures ok { OnOk result (after_replay queue self.old run.items ≡ Some self.new) }
+        ensures accepted { OnOk result (live_of (other queue) self.old ≡ 0) }
+        ensures counts { OnOk result
+            (stats.new ≡ counts_with_run queue self.old.entries run.items stats.old) }
+        ensures err { OnErr result ((self.new ≡ self.old) × (stats.new ≡ stats.old)) }
+        ensures fault { IfErr result (IsReplayFault queue run.items self.old stats.old) }
+        ensures region { self.new.region_id ≡ self.old.region_id }
+        ensures recounted { IsRecounted self.old self.new stats.old stats.new }
+    {
+        match queue {
+            LogQueue::Append => {
+                if self.records(LogQueue::Rewrite) > 0 {
+                    return Err(Error::invalid_argument(
+                        self.entries.allocator(),
+                        "the table has rewritten records",
+                    ));
+                }
+                self.replay_append(run, stats)
+            }
+            LogQueue::Rewrite => {
+                if self.records(LogQueue::Append) > 0 {
+                    return Err(Error::invalid_argument(
+                        self.entries.allocator(),
+                        "the table has appended records",
+                    ));
+                }
+                self.replay_rewrite(run, stats)
+            }
+        }
+    }
+}

@@ -1,6 +1,6 @@
 //! Runs that become entries, and entries behind or between others.
 
-ghost use Rattle.std.specs.Prelude.{◌≡◌, ◌≢◌, ◌+◌, ◌≤◌, ◌<◌, ℕ, [], ◌++◌, length, take, drop, slice_index_or, Some, MatchBool, OnOk, OnErr, OnSome, IfOk, IfSome};
+ghost use Rattle.std.specs.Prelude.{◌≡◌, ◌≢◌, ◌+◌, ◌≤◌, ◌<◌, ℕ, [], ◌++◌, length, take, drop, slice_index_or, Some, MatchBool, OnOk, OnErr, IfOk};
 ghost use Rattle.raft_base.specs.declared.pipe_log.LogQueue.TheVariants.{Rewrite};
 ghost use Rattle.raft_base.specs.declared.entry_index.EntryIndex.{EntryIndex};
 ghost use Rattle.raft_table.specs.Blocks.{entries_of_block};
@@ -78,10 +78,10 @@ impl Entries {
         let first = run[0];
         if let Some(handle) = first.entries
             && keep == self.len
+            && count_of(&handle, run, 0) == run.len()
         {
-            if let Some(spans) = spans_within(alloc, &handle, run)? {
-                return self.push(first.index, handle, spans);
-            }
+            let spans = spans_of(alloc, run)?;
+            return self.push(first.index, handle, spans);
         }
         let mut entries = Entries::from_run(alloc, run)?;
         self.put_run(keep, &mut entries)
@@ -220,25 +220,4 @@ fn spans_of(alloc: Global, run: &[EntryIndex]) -> AllocResult<VecDeque<(u32, u32
         spans.push_reserved((entry.entry_offset, entry.entry_len));
     }
     Ok(VecDeque::from_vec(spans))
-}
-
-/// The spans of the entries of a run, if they all have this place.
-fn spans_within(
-    alloc: Global,
-    handle: &FileBlockHandle,
-    run: &[EntryIndex],
-) -> AllocResult<Option<VecDeque<(u32, u32)>>>
-    ensures spans { IfOk result (λ within. IfSome within
-        (λ spans. spans.items ≡ spans_of run.now)) }
-    ensures all { IfOk result (λ within. OnSome within ((j : ℕ) (d : EntryIndex) →
-        j < length run.now → (slice_index_or run.now j d).entries ≡ Some handle.now)) }
-{
-    let mut spans = Vec::with_capacity(alloc, run.len())?;
-    for entry in run {
-        if !has_place(entry, handle) {
-            return Ok(None);
-        }
-        spans.push_reserved((entry.entry_offset, entry.entry_len));
-    }
-    Ok(Some(VecDeque::from_vec(spans)))
 }

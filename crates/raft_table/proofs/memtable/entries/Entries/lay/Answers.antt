@@ -38,15 +38,13 @@ laid keep es run h ss d k s l q a =
 pub push-requires-clause-table_entries : goal.push-requires-clause-table_entries
 push-requires-clause-table_entries c =
     let l : c.self.inside.len ≡ length c.args.self.now = sym (rw (← c.self.view_is) (kept_facts c.self.invariant).length) in
-    let q : c.in-Some-2.spans.items ≡ spans_of c.args.run.now = rw c.in-Some-2.is at c.in_ok-spans.ensures.spans in
-    let all : (j : ℕ) (x : EntryIndex) → j < length c.args.run.now → (get_or c.args.run.now j x).entries ≡ Some c.in-Some.handle = rw c.in-Some-2.is at c.in_ok-spans.ensures.all in
-    let e = laid c.args.keep c.args.self.now c.args.run.now c.in-Some.handle c.in-Some-2.spans.items _ (omega arith) c.requires.table_entries c.requires.run q (λ j x z k. all j x (omega (arith, k))) in
+    let n = c.if-count_of-run.true in
+    let e = laid c.args.keep c.args.self.now c.args.run.now c.in-Some.handle c.in_ok-spans.spans.items _ (omega arith) c.requires.table_entries c.requires.run c.in_ok-spans.ensures.ok (λ j x z k. c.count_of.ensures.all j x z (omega (arith, k))) in
     subst AreTableEntries e c.requires.table_entries
 
-pub returns-in-Some-2-clause-ok : goal.returns-in-Some-2-clause-ok
-returns-in-Some-2-clause-ok c =
+pub returns-clause-ok : goal.returns-clause-ok
+returns-clause-ok c =
     let l : c.self.inside.len ≡ length c.args.self.now = sym (rw (← c.self.view_is) (kept_facts c.self.invariant).length) in
-    let q : c.in-Some-2.spans.items ≡ spans_of c.args.run.now = rw c.in-Some-2.is at c.in_ok-spans.ensures.spans in
-    let all : (j : ℕ) (x : EntryIndex) → j < length c.args.run.now → (get_or c.args.run.now j x).entries ≡ Some c.in-Some.handle = rw c.in-Some-2.is at c.in_ok-spans.ensures.all in
-    let e = laid c.args.keep c.args.self.now c.args.run.now c.in-Some.handle c.in-Some-2.spans.items _ (omega arith) c.requires.table_entries c.requires.run q (λ j x z k. all j x (omega (arith, k))) in
+    let n = c.if-count_of-run.true in
+    let e = laid c.args.keep c.args.self.now c.args.run.now c.in-Some.handle c.in_ok-spans.spans.items _ (omega arith) c.requires.table_entries c.requires.run c.in_ok-spans.ensures.ok (λ j x z k. c.count_of.ensures.all j x z (omega (arith, k))) in
     on_ok_weaker c.push.result (λ w. w ∙ sym e) c.push.ensures.ok

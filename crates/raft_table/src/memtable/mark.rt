@@ -1,6 +1,6 @@
 //! Region marks of regions, and tables merged under them.
 
-ghost use Rattle.std.specs.Prelude.{◌≡◌, ℕ, ◌<◌, ◌||◌, OnOk, OnErr, Some, None};
+ghost use Rattle.std.specs.Prelude.{◌≡◌, ℕ, ◌<◌, ◌||◌, MatchBool, OnOk, OnErr, Some, None};
 ghost use Rattle.raft_base.specs.declared.pipe_log.LogQueue.TheVariants.{Append, Rewrite};
 ghost use Rattle.std.specs.FinSet as finset;
 ghost use Rattle.raft_table.specs.Marks.{misses};
@@ -132,6 +132,17 @@ impl Mark {
         }
     }
 
+    /// The region mark of a run that starts at `start`.
+    pub fn of_run(alloc: Global, start: u64) -> Mark
+        ensures { result ≡ record fresh { reach = Some start; cut = Some start } }
+    {
+        Mark {
+            reach: Some(start),
+            cut: Some(start),
+            ..Mark::new(alloc)
+        }
+    }
+
     /// Whether the region was cleaned.
     pub fn is_cleaned(&self) -> bool
         ensures { result ≡ self.now.cleaned }
@@ -224,6 +235,9 @@ impl Mark {
         ensures { self.new
             ≡ joined_at queue end self.old (record fresh { reach = Some start; cut = Some start }) }
     {
+        if self.covers(end, start) {
+            return;
+        }
         let run = Bounds {
             reach: Some(start),
             cut: Some(start),
@@ -271,6 +285,24 @@ impl Mark {
             | Step::Put { .. }
             | Step::AtomicGroup { .. } => Ok(()),
         }
+    }
+
+    /// Whether a run that starts at `start`, where the own entries end at `end`, changes nothing: it begins
+    /// among them or right behind them, and not below the cut.
+    fn covers(&self, end: u64, start: u64) -> bool
+        ensures { MatchBool result ((queue : LogQueue) → joined_at queue end self.now
+            (record fresh { reach = Some start; cut = Some start }) ≡ self.now) (Unit {0}) }
+    {
+        let (Some(_), Some(cut)) = (self.reach, self.cut) else {
+            return false;
+        };
+        if start < cut {
+            return false;
+        }
+        if end < start {
+            return false;
+        }
+        0 < end
     }
 
     /// Whether newer steps change nothing: the region was cleaned (or no steps give such a region mark).

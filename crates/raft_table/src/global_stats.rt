@@ -119,7 +119,7 @@ impl GlobalStats {
             × (2 ^ 64 ≤ live q self.old + live_of q table.now))) }
         ensures err { OnErr result (self.new ≡ self.old) }
     {
-        if !self.has_room(table, LogQueue::Append) || !self.has_room(table, LogQueue::Rewrite) {
+        if !self.has_room(table) {
             return Err(Error::Full);
         }
         self.add_records(table, LogQueue::Append);
@@ -137,8 +137,17 @@ impl GlobalStats {
         self.delete_records(table, LogQueue::Rewrite);
     }
 
+    /// Whether all records of a table can be counted beside those that are live.
+    pub fn has_room(&self, table: &MemTable) -> bool
+        ensures { MatchBool result
+            ((q : LogQueue) → live q self.now + live_of q table.now < 2 ^ 64)
+            ((q : LogQueue) × (2 ^ 64 ≤ live q self.now + live_of q table.now)) }
+    {
+        self.has_room_in(table, LogQueue::Append) && self.has_room_in(table, LogQueue::Rewrite)
+    }
+
     /// Whether the records of a table in `queue` can be counted beside those that are live there.
-    pub fn has_room(&self, table: &MemTable, queue: LogQueue) -> bool
+    fn has_room_in(&self, table: &MemTable, queue: LogQueue) -> bool
         ensures { MatchBool result (live queue self.now + live_of queue table.now < 2 ^ 64)
             (2 ^ 64 ≤ live queue self.now + live_of queue table.now) }
     {

@@ -238,6 +238,7 @@ impl MemTable {
     /// Puts a run of `queue` as [`MemTable::replay_append`] and [`MemTable::replay_rewrite`] do, and
     /// answers whether it did. It does not where those refuse, nor where the table has records of the
     /// other queue. The table and the counts are then as they were.
+    #[doc(hidden)]
     pub fn try_replay(
         &mut self,
         queue: LogQueue,

@@ -255,10 +255,11 @@ impl LogStore {
     pub fn replay(&mut self, queue: LogQueue, run: Vec<EntryIndex>) -> Result<()>
         requires { IsRunIn queue run.items }
     {
-        if queue == LogQueue::Rewrite && self.table.records(LogQueue::Append) > 0 {
-            return Err(Error::Failed);
+        match queue {
+            LogQueue::Append => self.table.replay_append(run, &mut self.stats),
+            LogQueue::Rewrite if self.table.records(LogQueue::Append) > 0 => Err(Error::Failed),
+            LogQueue::Rewrite => self.table.replay_rewrite(run, &mut self.stats),
         }
-        self.table.replay_into(queue, run, &mut self.stats)
     }
 
     /// Tries a run that is replayed, once more where it isn't put, as for want of memory. Answers whether it was put.
@@ -335,7 +336,9 @@ impl LogStore {
         {
             return Err(Error::Failed);
         }
-        self.table.join_under(queue, newer, mark, &mut self.stats)
+        self.table
+            .join_under(queue, newer, mark, &mut self.stats)?;
+        Ok(())
     }
 
     pub fn shape(&self) -> Shape {

@@ -3,7 +3,6 @@
 ghost use Rattle.std.specs.Prelude.{◌≡◌, IfSome, Some};
 ghost use Rattle.raft_base.specs.declared.pipe_log.LogQueue.{LogQueue};
 ghost use Rattle.raft_base.specs.declared.pipe_log.LogQueue.TheVariants.{Append, Rewrite};
-ghost use Rattle.raft_table.specs.MarkJoins.{end_at_reach};
 ghost use Rattle.raft_table.specs.Queues.{other};
 ghost use Rattle.raft_table.specs.Table.{live_of, IsCounted, IsRecounted};
 ghost use Rattle.raft_accessor.specs.Accessor.{table_in, live_in};
@@ -69,7 +68,10 @@ impl RegionTables {
                     table.new }
                 ensures region { table.new.region_id ≡ table.old.region_id }
                 ensures recounted { IsRecounted table.old table.new stats.old stats.new }
-            { join_under(queue, table, newer, mark, stats) },
+            {
+                let mut newer = newer;
+                table.join_under(queue, &mut newer, mark, stats)
+            },
         )
     }
 
@@ -92,31 +94,9 @@ impl RegionTables {
         if !mark.is_cleaned() {
             return self.put_newer(queue, id, MemTable::new(self.alloc, id), mark, stats);
         }
-        table.check_newer_mark(queue, mark)?;
         let end = table.end_at_reach(mark);
+        table.check_newer_mark(queue, mark, end)?;
         self.remove(id, stats);
         Ok(end)
     }
-}
-
-/// Puts a newer table over an older one. The answer is the end of the older entries that the region
-/// mark's first run came behind.
-fn join_under(
-    queue: LogQueue,
-    table: &mut MemTable,
-    mut newer: MemTable,
-    mark: &Mark,
-    stats: &mut GlobalStats,
-) -> Result<u64>
-    requires region { table.old.region_id ≡ newer.region_id }
-    requires own { live_of (other queue) newer ≡ 0 }
-    requires older { queue ≡ Rewrite → live_of Append table.old ≡ 0 }
-    requires counted { IsCounted table.old stats.old }
-    ensures put { IsPut queue mark.now newer stats.old result table.old table.new }
-    ensures region { table.new.region_id ≡ table.old.region_id }
-    ensures recounted { IsRecounted table.old table.new stats.old stats.new }
-{
-    let end = table.end_at_reach(mark);
-    table.join_under(queue, &mut newer, mark, stats)?;
-    Ok(end)
 }

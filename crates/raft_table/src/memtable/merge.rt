@@ -52,6 +52,9 @@ impl MemTable {
                 "tables of two queues are no neighbors",
             ));
         };
+        if !stats.has_room(rhs) {
+            return Err(Error::Full);
+        }
         self.merge_by_rule(queue, rhs, queue, stats)?;
         self.take_atomic_group(rhs);
         Ok(())
@@ -89,6 +92,9 @@ impl MemTable {
                 "only an appended table without atomic group merges into a rewritten one",
             ));
         };
+        if !stats.has_room(rhs) {
+            return Err(Error::Full);
+        }
         self.merge_by_rule(rule, rhs, LogQueue::Append, stats)
     }
 
@@ -118,8 +124,8 @@ impl MemTable {
         Some(LogQueue::Rewrite)
     }
 
-    /// Moves the entries and pairs of `rhs`, which are in one queue, into this table: its run by a
-    /// start rule, its pairs over the own ones.
+    /// Moves the entries and pairs of `rhs`, which are in one queue and can be counted, into this table:
+    /// its run by a start rule, its pairs over the own ones.
     pub(super) fn merge_by_rule(
         &mut self,
         rule: LogQueue,
@@ -130,6 +136,7 @@ impl MemTable {
         requires alone { live_of (other queue) rhs.old ≡ 0 }
         requires rewritten { queue ≡ Rewrite → live_of Append self.old ≡ 0 }
         requires counted { IsCounted self.old stats.old }
+        requires room { (q : LogQueue) → live q stats.old + live_of q rhs.old < 2 ^ 64 }
         ensures ok { OnOk result (after_merge rule self.old rhs.old ≡ Some self.new) }
         ensures emptied { OnOk result (rhs.new ≡ record rhs.old
             { entries = []; keys = finite.empty }) }
@@ -142,9 +149,6 @@ impl MemTable {
         ensures regions { (self.new.region_id ≡ self.old.region_id) ×
             (rhs.new.region_id ≡ rhs.old.region_id) }
     {
-        if !stats.has_room(rhs, LogQueue::Append) || !stats.has_room(rhs, LogQueue::Rewrite) {
-            return Err(Error::Full);
-        }
         self.entries
             .absorb(self.region_id, rule, &mut rhs.entries, queue, stats)?;
         absorb_keys(&mut self.keys, &mut rhs.keys, stats)

@@ -1,13 +1,11 @@
 //! Joins of two tables of one region under the newer one's region mark.
 
-ghost use Rattle.std.specs.Prelude.{◌≡◌, ◌≢◌, ℕ, ◌+◌, ◌≤◌, false, [], if◌then◌else◌, MatchBool, OnOk, OnErr, IfErr, Some, None, ◌^◌};
+ghost use Rattle.std.specs.Prelude.{◌≡◌, ◌≢◌, ℕ, ◌+◌, ◌≤◌, false, [], if◌then◌else◌, MatchBool, OnOk, OnErr, IfOk, IfErr, Some, None, ◌^◌};
 ghost use Rattle.std.specs.FinMap as finite;
 ghost use Rattle.raft_base.specs.declared.pipe_log.LogQueue.{LogQueue};
-ghost use Rattle.raft_base.specs.declared.entry_index.EntryIndex.{EntryIndex};
 ghost use Rattle.raft_base.specs.Corruption.{IsCorruption};
 ghost use Rattle.raft_base.specs.Runs.{IsRun, end_of};
 ghost use Rattle.raft_table.specs.Counts.{live};
-ghost use Rattle.raft_table.specs.TableEntries.{IsRunIn};
 ghost use Rattle.raft_table.specs.Holes.{hole_text, hole_text_above};
 ghost use Rattle.raft_table.specs.KeySets.{without};
 ghost use Rattle.raft_table.specs.KeyValues.{pair_count};
@@ -17,8 +15,7 @@ ghost use Rattle.raft_table.specs.MarkJoins.{end_at_reach};
 ghost use Rattle.raft_table.specs.Merge.{newer_atomic_group};
 ghost use Rattle.raft_table.specs.Overlay.{is_unjoined, overlay_under, IsOverlayFault};
 ghost use Rattle.raft_table.specs.Queues.{other};
-ghost use Rattle.raft_table.specs.Start.{entries_after_replay, IsTableRunFault};
-ghost use Rattle.raft_table.specs.Table.{empty_table, after_replay, live_of, IsCounted, IsRecounted};
+ghost use Rattle.raft_table.specs.Table.{empty_table, live_of, IsCounted, IsRecounted};
 ghost use Rattle.raft_base.specs.declared.pipe_log.LogQueue.TheVariants.{Append, Rewrite};
 
 use crate::global_stats::GlobalStats;
@@ -26,11 +23,12 @@ use crate::memtable::MemTable;
 use crate::memtable::deleted_keys::DeletedKeys;
 use crate::memtable::hole::{hole_error, hole_error_above};
 use crate::memtable::mark::Mark;
-use raft_base::{EntryIndex, Error, LogQueue, Result};
+use raft_base::{Error, LogQueue, Result};
 use std::mem;
 
 impl MemTable {
     /// The end of the entries that the first run of a newer region mark came behind.
+    #[doc(hidden)]
     pub fn end_at_reach(&self, mark: &Mark) -> u64
         ensures { result ≡ end_at_reach mark.now self.now }
     {
@@ -40,7 +38,8 @@ impl MemTable {
 
     /// Puts the newer table `rhs` of the same region, which the counts don't hold, over this one as
     /// its region mark says, where the entries that this makes are a run, as they are where region mark and table
-    /// stand for steps. `rhs` is left empty.
+    /// stand for steps. `rhs` is left empty. Returns the end of the older entries that the region mark's
+    /// first run came behind.
     ///
     /// # Errors
     ///
@@ -48,19 +47,21 @@ impl MemTable {
     /// the older entries, `Full` where the live count of a queue and the
     /// records of `rhs` there would pass 2^64 - 1. Both tables and the counts are then as they were;
     /// after `Memory` the counts still agree with this table.
+    #[doc(hidden)]
     pub fn join_under(
         &mut self,
         queue: LogQueue,
         rhs: &mut MemTable,
         mark: &Mark,
         stats: &mut GlobalStats,
-    ) -> Result<()>
+    ) -> Result<u64>
         requires region { self.old.region_id ≡ rhs.old.region_id }
         requires own { live_of (other queue) rhs.old ≡ 0 }
         requires older { queue ≡ Rewrite → live_of Append self.old ≡ 0 }
         requires counted { IsCounted self.old stats.old }
         ensures ok { IsRunOver queue mark.now rhs.old self.old
             → OnOk result (table_over queue mark.now rhs.old self.old ≡ Some self.new) }
+        ensures end { IfOk result (λ end. end ≡ end_at_reach mark.now self.old) }
         ensures fault { IsRunOver queue mark.now rhs.old self.old
             → IfErr result (IsFaultUnder queue stats.old mark.now rhs.old self.old) }
         ensures err { IsRunOver queue mark.now rhs.old self.old →
@@ -73,17 +74,19 @@ impl MemTable {
         ensures regions { (self.new.region_id ≡ self.old.region_id) ×
             (rhs.new.region_id ≡ rhs.old.region_id) }
     {
+        let end = self.end_at_reach(mark);
         if self.is_blank() {
-            return self.take_whole(rhs, stats);
+            self.take_whole(rhs, stats)?;
+            return Ok(end);
         }
-        if !stats.has_room(rhs, LogQueue::Append) || !stats.has_room(rhs, LogQueue::Rewrite) {
+        if !stats.has_room(rhs) {
             return Err(Error::Full);
         }
-        self.check_newer_mark(queue, mark)?;
-        self.drop_older(self.is_missed(mark), mark, stats);
+        self.check_newer_mark(queue, mark, end)?;
+        self.drop_older(mark.misses(end), mark, stats);
         self.merge_by_rule(queue, rhs, queue, stats)?;
         self.take_atomic_group(rhs);
-        Ok(())
+        Ok(end)
     }
 
     /// Puts an appended table `rhs` of the same region, which the counts don't hold, over this
@@ -95,6 +98,7 @@ impl MemTable {
     /// `Full` where the live count of a queue and the records of `rhs` there would pass 2^64 - 1.
     /// Both tables and the counts are then as they were; after `Memory` the counts still agree with
     /// this table.
+    #[doc(hidden)]
     pub fn overlay(
         &mut self,
         rhs: &mut MemTable,
@@ -116,7 +120,7 @@ impl MemTable {
         ensures regions { (self.new.region_id ≡ self.old.region_id) ×
             (rhs.new.region_id ≡ rhs.old.region_id) }
     {
-        if !stats.has_room(rhs, LogQueue::Append) || !stats.has_room(rhs, LogQueue::Rewrite) {
+        if !stats.has_room(rhs) {
             return Err(Error::Full);
         }
         self.drop_older(self.is_unjoined(rhs, mark), mark, stats);
@@ -197,61 +201,36 @@ impl MemTable {
         self.entries.end()
     }
 
-    /// `replay_append` or `replay_rewrite`, by the queue.
-    pub fn replay_into(
-        &mut self,
-        queue: LogQueue,
-        run: Vec<EntryIndex>,
-        stats: &mut GlobalStats,
-    ) -> Result<()>
-        requires run { IsRunIn queue run.items }
-        requires older { queue ≡ Rewrite → live_of Append self.old ≡ 0 }
-        requires counted { IsCounted self.old stats.old }
-        ensures ok { OnOk result (after_replay queue self.old run.items ≡ Some self.new) }
-        ensures fault { IfErr result
-            (IsTableRunFault queue stats.old self.old.entries
-            (entries_after_replay queue self.old.entries run.items)) }
-        ensures recounted { IsRecounted self.old self.new stats.old stats.new }
-        ensures region { self.new.region_id ≡ self.old.region_id }
-    {
-        match queue {
-            LogQueue::Append => self.replay_append(run, stats),
-            LogQueue::Rewrite => self.replay_rewrite(run, stats),
-        }
-    }
-
-    /// Whether the first run of a newer region mark leaves a hole behind the entries that it meets.
-    fn is_missed(&self, mark: &Mark) -> bool
-        ensures { result ≡ is_missed mark.now self.now.entries }
-    {
-        mark.misses(self.end_at_reach(mark))
-    }
-
-    /// Refuses a newer region mark whose steps are refused over these entries.
+    /// Refuses a newer region mark whose steps are refused over these entries, and whose first run came
+    /// behind those that end at `end`.
     ///
     /// # Errors
     ///
     /// `Corruption`, or `Memory` where its text finds none.
-    pub fn check_newer_mark(&self, queue: LogQueue, mark: &Mark) -> Result<()>
+    #[doc(hidden)]
+    pub fn check_newer_mark(&self, queue: LogQueue, mark: &Mark, end: u64) -> Result<()>
+        requires { end ≡ end_at_reach mark.now self.now }
         ensures ok { OnOk result (is_refused_over queue mark.now self.now.entries ≡ false) }
         ensures fault { IfErr result (IsMarkFault
             (is_refused_over queue mark.now self.now.entries)) }
     {
         match queue {
             LogQueue::Append => {
-                self.check_first_run(mark)?;
+                self.check_first_run(mark, end)?;
                 self.check_barred(mark)
             }
             LogQueue::Rewrite => Ok(()),
         }
     }
 
-    /// Refuses a newer region mark whose first run leaves a hole behind the entries that it meets.
+    /// Refuses a newer region mark whose first run leaves a hole behind the entries that it meets, which
+    /// end at `end`.
     ///
     /// # Errors
     ///
     /// `Corruption`, or `Memory` where its text finds none.
-    fn check_first_run(&self, mark: &Mark) -> Result<()>
+    fn check_first_run(&self, mark: &Mark, end: u64) -> Result<()>
+        requires { end ≡ end_at_reach mark.now self.now }
         ensures ok { OnOk result (is_missed mark.now self.now.entries ≡ false) }
         ensures fault { IfErr result (IsMarkFault (is_missed mark.now self.now.entries)) }
         ensures text { IfErr result (λ e. (start : ℕ) × (mark.now.reach ≡ Some start)
@@ -260,7 +239,6 @@ impl MemTable {
         let Some(start) = mark.reach() else {
             return Ok(());
         };
-        let end = self.end_at_reach(mark);
         if !mark.misses(end) {
             return Ok(());
         }

@@ -1,56 +1,43 @@
 use Rattle.std.proofs.Common.{arith, refl, sym, ap, ◌+◌, ◌<◌, ◌^◌, ◌∙◌, Some}
 use Rattle.std.proofs.lemmas.Result.{err_from_is_err_and}
 use Rattle.raft_base.specs.declared.pipe_log.LogQueue.{LogQueue}
-use Rattle.raft_base.specs.declared.pipe_log.LogQueue.TheVariants.{Append, Rewrite}
 use Rattle.raft_table.specs.Counts.{live}
 use Rattle.raft_table.specs.MarkedJoins.{left_by}
 use Rattle.raft_table.specs.Merge.{after_merge, newer_atomic_group}
 use Rattle.raft_table.specs.Table.{Table, live_of}
-use Rattle.raft_table.proofs.PlaceLemmas.{each_queue}
 use Rattle.raft_table.proofs.MarkEntries.{same_some}
 use Rattle.raft_table.proofs.MergeLemmas.{joined_uncleaned}
 use Rattle.raft_table.proofs.UnderLemmas.{over_left, join_memory}
-use Rattle.std.specs.declared.result.Result.{Result}
-use Rattle.std.specs.declared.result.Result.TheVariants.{Ok, Err}
-use Rattle.std.specs.Result.{IfErr, OnErr}
-use Rattle.std.proofs.lemmas.Result.{IfErr-weaker}
-use Rattle.raft_table.specs.Marks.{table_over}
-use Rattle.raft_table.proofs.GoneLemmas.{on_ok}
+use Rattle.raft_table.specs.Marks.{misses, table_over}
 use Rattle.raft_table.proofs.MarkTables.{own_alone}
 use Rattle.raft_table.proofs.memtable.MemTable.join_under.Goals as goal
 
 pub returns-then-is_blank-clause-ok : goal.returns-then-is_blank-clause-ok
 returns-then-is_blank-clause-ok c = λ run.
-    on_ok c.take_whole.result
-    (λ w.
     ap (table_over c.args.queue c.args.mark.now c.args.rhs.now) c.if-is_blank.ensures
     ∙ own_alone c.args.queue c.args.self.now.region_id c.args.mark.now c.args.rhs.now (sym c.requires.region)
-    ∙ ap (λ (t : Table). Some t) (sym w))
-    c.take_whole.ensures.ok
-
-pub returns-then-is_blank-clause-fault : goal.returns-then-is_blank-clause-fault
-returns-then-is_blank-clause-fault c = λ run. IfErr-weaker c.take_whole.result _ _ (λ e w. rw w.0 w.1) c.take_whole.ensures.fault
-
--- what stays after every error
-stays : {T E : Type 0} (A : Type 0) (P : E → Type 0) (r : Result T E) → OnErr r A → IfErr r (λ e. P e → A)
-stays A P (Ok x) h = h
-stays A P (Err e) h = λ _. h
-
-pub returns-then-is_blank-clause-err : goal.returns-then-is_blank-clause-err
-returns-then-is_blank-clause-err c = λ run. stays _ _ c.take_whole.result c.take_whole.ensures.err
+    ∙ ap (λ (t : Table). Some t) (sym c.in_ok-take_whole.ensures.ok)
 
 pub returns-then-is_blank-clause-few : goal.returns-then-is_blank-clause-few
-returns-then-is_blank-clause-few c = on_ok c.take_whole.result (λ w q. omega (arith, ap (live_of q) w)) c.take_whole.ensures.ok
+returns-then-is_blank-clause-few c = λ q. omega (arith, ap (live_of q) c.in_ok-take_whole.ensures.ok)
+
+pub returns-in_err-take_whole-clause-fault : goal.returns-in_err-take_whole-clause-fault
+returns-in_err-take_whole-clause-fault c = λ run.
+    let p = err_from_is_err_and c.from_residual.result c.from_residual.ensures.1 in
+    rw (p.1, p.2, c.in_err-take_whole.ensures.fault.0) c.in_err-take_whole.ensures.fault.1
+
+pub returns-in_err-take_whole-clause-err : goal.returns-in_err-take_whole-clause-err
+returns-in_err-take_whole-clause-err c = λ run.
+    let p = err_from_is_err_and c.from_residual.result c.from_residual.ensures.1 in
+    rw (p.1, p.2) (λ n. c.in_err-take_whole.ensures.err)
 
 pub returns-in_err-merge_by_rule-clause-fault : goal.returns-in_err-merge_by_rule-clause-fault
 returns-in_err-merge_by_rule-clause-fault c = λ run.
     let p = err_from_is_err_and c.from_residual-in_err-merge_by_rule.result c.from_residual-in_err-merge_by_rule.ensures.1 in
     let ok = c.in_ok-check_newer_mark.ensures.ok in
-    let left = c.drop_older.ensures.left ∙ ap (λ g. left_by g c.args.mark.now c.args.self.now) c.is_missed.ensures in
+    let left = c.drop_older.ensures.left ∙ ap (λ g. left_by g c.args.mark.now c.args.self.now) (c.misses.ensures ∙ ap (misses c.args.mark.now.reach) c.end_at_reach-end.ensures) in
     let over = over_left c.args.queue c.args.mark.now c.args.rhs.now c.args.self.now ok run in
-    let room : (q : LogQueue) → live q c.drop_older.new.stats + live_of q c.args.rhs.now < 2 ^ 64 = each_queue _
-    (omega (arith, c.if-not-has_room.ensures, c.drop_older.ensures.fewer Append, c.drop_older.ensures.recounted Append))
-    (omega (arith, c.if-not-has_room-2.ensures, c.drop_older.ensures.fewer Rewrite, c.drop_older.ensures.recounted Rewrite)) in
+    let room : (q : LogQueue) → live q c.drop_older.new.stats + live_of q c.args.rhs.now < 2 ^ 64 = λ q. omega (arith, c.if-not-has_room.ensures q, c.drop_older.ensures.fewer q, c.drop_older.ensures.recounted q) in
     let memory = join_memory c.args.queue c.drop_older.new.stats c.drop_older.new.self c.args.rhs.now _ _ c.in_err-merge_by_rule.ensures.fault (ap (λ (t : Table). after_merge c.args.queue t c.args.rhs.now) left ∙ over.0) room in
     rw (p.1, p.2, memory) tt
 
@@ -58,18 +45,16 @@ pub returns-in_err-merge_by_rule-clause-err : goal.returns-in_err-merge_by_rule-
 returns-in_err-merge_by_rule-clause-err c = λ run.
     let p = err_from_is_err_and c.from_residual-in_err-merge_by_rule.result c.from_residual-in_err-merge_by_rule.ensures.1 in
     let ok = c.in_ok-check_newer_mark.ensures.ok in
-    let left = c.drop_older.ensures.left ∙ ap (λ g. left_by g c.args.mark.now c.args.self.now) c.is_missed.ensures in
+    let left = c.drop_older.ensures.left ∙ ap (λ g. left_by g c.args.mark.now c.args.self.now) (c.misses.ensures ∙ ap (misses c.args.mark.now.reach) c.end_at_reach-end.ensures) in
     let over = over_left c.args.queue c.args.mark.now c.args.rhs.now c.args.self.now ok run in
-    let room : (q : LogQueue) → live q c.drop_older.new.stats + live_of q c.args.rhs.now < 2 ^ 64 = each_queue _
-    (omega (arith, c.if-not-has_room.ensures, c.drop_older.ensures.fewer Append, c.drop_older.ensures.recounted Append))
-    (omega (arith, c.if-not-has_room-2.ensures, c.drop_older.ensures.fewer Rewrite, c.drop_older.ensures.recounted Rewrite)) in
+    let room : (q : LogQueue) → live q c.drop_older.new.stats + live_of q c.args.rhs.now < 2 ^ 64 = λ q. omega (arith, c.if-not-has_room.ensures q, c.drop_older.ensures.fewer q, c.drop_older.ensures.recounted q) in
     let memory = join_memory c.args.queue c.drop_older.new.stats c.drop_older.new.self c.args.rhs.now _ _ c.in_err-merge_by_rule.ensures.fault (ap (λ (t : Table). after_merge c.args.queue t c.args.rhs.now) left ∙ over.0) room in
     rw (p.1, p.2, memory) (λ n. absurd (n refl))
 
 pub returns-clause-ok : goal.returns-clause-ok
 returns-clause-ok c = λ run.
     let ok = c.in_ok-check_newer_mark.ensures.ok in
-    let left = c.drop_older.ensures.left ∙ ap (λ g. left_by g c.args.mark.now c.args.self.now) c.is_missed.ensures in
+    let left = c.drop_older.ensures.left ∙ ap (λ g. left_by g c.args.mark.now c.args.self.now) (c.misses.ensures ∙ ap (misses c.args.mark.now.reach) c.end_at_reach-end.ensures) in
     let over = over_left c.args.queue c.args.mark.now c.args.rhs.now c.args.self.now ok run in
     let joined = same_some _ _ (sym over.0 ∙ ap (λ (t : Table). after_merge c.args.queue t c.args.rhs.now) (sym left) ∙ c.in_ok-merge_by_rule.ensures.ok) in
     let atomic_group = ap (λ (t : Table). t.atomic_group) c.in_ok-merge_by_rule.ensures.emptied in

@@ -15,8 +15,8 @@ absorb_keys-requires-clause-room c =
     let es = c.self.inside.entries in
     let rs = c.rhs.inside.entries in
     let mid = c.absorb.new.self in
-    let a = rw (← c.rhs.view_is) at c.if-not-has_room.ensures in
-    let b = rw (← c.rhs.view_is) at c.if-not-has_room-2.ensures in
+    let a = rw (← c.rhs.view_is) at c.requires.room Append in
+    let b = rw (← c.rhs.view_is) at c.requires.room Rewrite in
     each_queue _
     (omega (arith, a, joined_bound c.args.rule Append es rs mid c.in_ok-absorb.ensures.ok, c.in_ok-absorb.ensures.recounted Append))
     (omega (arith, b, joined_bound c.args.rule Rewrite es rs mid c.in_ok-absorb.ensures.ok, c.in_ok-absorb.ensures.recounted Rewrite))

@@ -1,8 +1,8 @@
 -- Items that are read again, written by their steps.
-use Rattle.std.proofs.Common.{◌≡◌, ◌⊎◌, ◌<◌, ℕ, Bool, true, false, cond, List, [], ◌∷◌, ◌++◌, append-nil, Option, Some, None, Result, Ok, Err, refl, sym, ap, subst, ◌∙◌, inl, inr, arith}
+use Rattle.std.proofs.Common.{◌≡◌, ◌⊎◌, ℕ, Bool, true, false, cond, List, [], ◌∷◌, ◌++◌, Option, Some, None, Result, Ok, Err, refl, sym, ap, subst, ◌∙◌, inl, inr, arith}
 use Rattle.std.specs.FinMap as finite
 use Rattle.std.specs.Option.{option_map}
-use Rattle.std.specs.Result.{OnOk, OnErr, IfErr}
+use Rattle.std.specs.Result.{OnOk, IfErr}
 use Rattle.std.proofs.lemmas.Bool.{false≢true}
 use Rattle.raft_base.specs.declared.errors.Error.{Error}
 use Rattle.raft_base.specs.declared.errors.Error.TheVariants as errors
@@ -24,7 +24,7 @@ use Rattle.raft_table.specs.TakenSteps.{IsUnmixed, counts_after_step, IsStepFaul
 use Rattle.raft_accessor.specs.Accessor.{table_in}
 use Rattle.raft_accessor.specs.ItemWrites.{IsItemWritten, IsReplayed, IsPairReplayed}
 use Rattle.raft_accessor.specs.TableSteps.{IsStepTaken}
-use Rattle.raft_accessor.specs.Writes.{Replaying, queue_of, after_content, counts_after_content, counts_after_change, listed_by, IsFor, MixesQueues, IsWriteFault}
+use Rattle.raft_accessor.specs.Writes.{Replaying, after_content, counts_after_content, counts_after_change, listed_by, IsFor, MixesQueues, IsWriteFault}
 use Rattle.raft_accessor.proofs.MapLemmas.{get_gone, none_some, one_same, some_is}
 use Rattle.raft_accessor.proofs.WriteLemmas.{replay_fault, skipped_by, none_listed, reserved_step, reserved_counts, change_step}
 

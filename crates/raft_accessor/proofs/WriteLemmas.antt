@@ -1,5 +1,5 @@
 -- One item written to its region's table.
-use Rattle.std.proofs.Common.{◌≡◌, ◌⊎◌, ◌<◌, ℕ, true, false, cond, arith, List, [], ◌++◌, append-nil, Option, Some, None, Result, Ok, Err, refl, sym, ap, subst, ◌∙◌, inl, inr}
+use Rattle.std.proofs.Common.{◌≡◌, ◌⊎◌, ℕ, true, false, cond, List, [], ◌++◌, append-nil, Option, Some, None, Result, Ok, Err, refl, sym, ap, subst, ◌∙◌, inl, inr}
 use Rattle.std.specs.FinMap as finite
 use Rattle.std.specs.Option.{option_map, is_some}
 use Rattle.std.specs.declared.alloc.Global.{Global}
@@ -11,23 +11,22 @@ use Rattle.raft_base.specs.declared.errors.Error.TheVariants as errors
 use Rattle.raft_base.specs.declared.pipe_log.LogQueue.{LogQueue}
 use Rattle.raft_base.specs.declared.pipe_log.LogQueue.TheVariants.{Append}
 use Rattle.raft_base.specs.declared.entry_index.EntryIndex.{EntryIndex}
-use Rattle.raft_records.specs.declared.command.Command.TheVariants as commands
 use Rattle.raft_records.specs.Group.{is_reserved}
-use Rattle.raft_records.specs.Item.{Item, Content, Pair, entries, pair, command_item}
-use Rattle.raft_history.specs.RegionSteps.{Tables, with_table}
+use Rattle.raft_records.specs.Item.{Item, Content, Pair, entries, pair}
+use Rattle.raft_history.specs.RegionSteps.{Tables}
 use Rattle.raft_table.specs.Counts.{Counts, live}
 use Rattle.raft_table.specs.KeyValues.{file_at}
 use Rattle.raft_table.specs.Start.{entries_after_append, entries_after_replay, IsTableRunFault}
 use Rattle.raft_table.specs.Steps.{table_of}
-use Rattle.raft_table.specs.Table.{Table, empty_table, with_table_deleted, IsRecounted}
+use Rattle.raft_table.specs.Table.{Table}
 use Rattle.raft_table.proofs.RunCounts.{append_full, replay_full}
 use Rattle.raft_accessor.specs.Accessor.{table_in}
-use Rattle.raft_accessor.specs.ItemWrites.{IsItemWritten, pair_change}
+use Rattle.raft_accessor.specs.ItemWrites.{IsItemWritten}
 use Rattle.raft_base.specs.Corruption.{IsCorruption}
 use Rattle.raft_table.specs.TakenSteps.{IsReplayFault}
 use Rattle.raft_accessor.specs.Updates.{BecomesOutcome}
 use Rattle.raft_accessor.specs.Writes.{Writing, Appending, Replaying, queue_of, after_content, counts_after_content, counts_after_change, after_rewrite_put, with_change, lists, listed_by, cleaned_by_content, IsFor, MixesQueues, IsWriteFault}
-use Rattle.raft_accessor.proofs.MapLemmas.{get_gone, one_same}
+use Rattle.raft_accessor.proofs.MapLemmas.{one_same}
 
 -- new items meet no records of the other queue
 pub none_met : {R : Type 0} (r : Result R Error) → OnOk r (⊥ → ⊥)
@@ -140,26 +139,3 @@ change_step w id o p e = ap (λ b. cond b (Some o) (option_map Some (with_change
 -- only a Clean is listed
 pub none_listed : (w : Writing) (item : Item) → cleaned_by_content item.raft_group_id item.content ≡ [] → listed_by w item ≡ []
 none_listed w item e = elim (lists w) as (λ b. cond b (cleaned_by_content item.raft_group_id item.content) [] ≡ []) [ true ↦ e | false ↦ refl ]
-
--- ---- new commands and changes of keys are as those that are read again
-
-pair_as_new : (id : ℕ) (o : Option Table) (live : ℕ) (p : Pair) (e : Error) → IsWriteFault (Replaying Append) id o live (pair p) e → IsWriteFault Appending id o live (pair p) e
-pair_as_new id o live p (errors.Corruption text) h = h
-pair_as_new id o live p errors.Full h = h
-pair_as_new id o live p errors.Memory h = tt
-pair_as_new id o live p e h = absurd h
-
-pub new_pair : (id : ℕ) (p : Pair) (old : Tables) (counts : Counts) (list : List ℕ) (r : Result Unit Error) (new : Tables) (after : Counts) (listed : List ℕ) → IsItemWritten (Replaying Append) (pair_change id p) old counts list r new after listed → IsItemWritten Appending (pair_change id p) old counts list r new after listed
-new_pair id p old counts list r new after listed h = record {
-  asked = h.asked;
-  accepted = elim r as (λ r. OnOk r (⊥ → ⊥)) [ Ok a ↦ λ m. m | Err x ↦ tt ];
-  ok = h.ok;
-  counts_ok = h.counts_ok;
-  cleaned = h.cleaned;
-  err = h.err;
-  counts_err = h.counts_err;
-  cleaned_err = h.cleaned_err;
-  fault = elim r as (λ r. IfErr r (IsWriteFault (Replaying Append) id (finite.get old id) (live Append counts) (pair p)) → IfErr r (IsWriteFault Appending id (finite.get old id) (live Append counts) (pair p))) [ Ok a ↦ λ f. tt | Err x ↦ λ f. pair_as_new id (finite.get old id) (live Append counts) p x f ] h.fault;
-  one = h.one;
-  recounted = h.recounted;
-}

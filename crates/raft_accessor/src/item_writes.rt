@@ -63,21 +63,12 @@ impl RegionTables {
             LogItemContent::EntryIndexes(entries) => {
                 self.append_entries(raft_group_id, entries.0, stats)
             }
-            LogItemContent::Command(command) => {
-                let content = LogItemContent::Command(command);
-                let item = LogItem {
+            content => {
+                let other = LogItem {
                     raft_group_id,
                     content,
                 };
-                self.replay_item(LogQueue::Append, item, stats, cleaned)
-            }
-            LogItemContent::Kv(kv) => {
-                let content = LogItemContent::Kv(kv);
-                let item = LogItem {
-                    raft_group_id,
-                    content,
-                };
-                self.replay_item(LogQueue::Append, item, stats, cleaned)
+                self.replay_item(LogQueue::Append, other, stats, cleaned)
             }
         }
     }

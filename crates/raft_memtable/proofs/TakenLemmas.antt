@@ -1,5 +1,5 @@
 -- Steps taken into the marks and tables of all regions, one after another.
-use Rattle.std.proofs.Common.{◌≡◌, ◌⊎◌, ℕ, ◌+◌, ◌≤◌, ◌<◌, get_or, List, [], ◌∷◌, ◌++◌, length, Bool, true, false, cond, MatchBool, append-nil, append_assoc, map, Option, Some, None, Result, Ok, Err, refl, sym, ap, subst, ◌∙◌, inl, inr, arith}
+use Rattle.std.proofs.Common.{◌≡◌, ℕ, ◌+◌, ◌≤◌, ◌<◌, get_or, List, [], ◌∷◌, ◌++◌, length, Bool, true, false, MatchBool, append-nil, append_assoc, Option, Some, None, Result, Ok, Err, refl, sym, ap, subst, ◌∙◌, inl, inr, arith}
 use Rattle.std.specs.FinMap as finite
 use Rattle.std.specs.Option.{option_map, option_and_then}
 use Rattle.std.specs.Result.{OnOk, IfErr}
@@ -15,17 +15,16 @@ use Rattle.raft_records.specs.Item.{entries}
 use Rattle.raft_table.specs.Counts.{Counts, live}
 use Rattle.raft_table.specs.TableEntries.{IsRunIn}
 use Rattle.raft_table.specs.KeyValues.{file_at}
-use Rattle.raft_table.specs.MarkJoins.{joined_mark, joined_at, end_at_reach, fresh, mark_of}
+use Rattle.raft_table.specs.MarkJoins.{joined_mark, joined_at, fresh, mark_of}
 use Rattle.raft_table.specs.Marks.{Mark}
-use Rattle.raft_table.specs.Queues.{other, count_in, is_same}
-use Rattle.raft_table.specs.Steps.{Step, Run, Put, Clean, table_of, after_step}
+use Rattle.raft_table.specs.Queues.{other, count_in}
+use Rattle.raft_table.specs.Steps.{Step, Run, Put, table_of, after_step}
 use Rattle.raft_table.specs.Table.{Table, after_replay, IsTablePutFault}
-use Rattle.raft_table.proofs.MarkExact.{joined_fresh}
 use Rattle.raft_table.proofs.MarkWords.{within-whole}
 use Rattle.raft_table.proofs.TableLemmas.{count_in_own}
 use Rattle.raft_history.specs.Histories.{IsStepOfQueue, records_in}
 use Rattle.raft_history.specs.MarkedRegions.{Marks, MarkedRegions, MarkedRegion, region_in, with_region, stepped_region, regions_after}
-use Rattle.raft_history.specs.RegionSteps.{RegionStep, Tables, with_table, steps_of_items, cleaned_by, cleaned_by_steps}
+use Rattle.raft_history.specs.RegionSteps.{RegionStep, Tables, with_table, cleaned_by, cleaned_by_steps}
 use Rattle.raft_accessor.specs.Accessor.{Accessor, table_in, live_in_all, AreCountsOf}
 use Rattle.raft_memtable.specs.MarkedTables.{regions_in, AreStepsOfQueue, IsStepsFault, one_step, first_index, AreStepsTaken}
 use Rattle.raft_memtable.specs.RegionMarks.{mark_in}

@@ -1,6 +1,6 @@
 //! The region marks of some regions.
 
-ghost use Rattle.std.specs.Prelude.{◌≡◌, ℕ, nat_eq, OnOk, OnErr, Ok, Err, Some};
+ghost use Rattle.std.specs.Prelude.{◌≡◌, nat_eq, OnOk, OnErr, Ok, Err, Some};
 ghost use Rattle.std.specs.FinMap as finite;
 ghost use Rattle.std.specs.FinSet as finset;
 ghost use Rattle.std.specs.List.{IsDistinct};

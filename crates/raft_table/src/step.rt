@@ -47,12 +47,7 @@ impl Step {
     {
         match self {
             Step::Clean => true,
-            Step::Run(_)
-            | Step::Compact { .. }
-            | Step::Truncate { .. }
-            | Step::Put { .. }
-            | Step::Del { .. }
-            | Step::AtomicGroup { .. } => false,
+            _ => false,
         }
     }
 }

@@ -1,6 +1,10 @@
 //! Region marks of regions, and tables merged under them.
 
+<<<<<<< ours
 ghost use Rattle.std.specs.Prelude.{◌≡◌, ℕ, ◌<◌, ◌||◌, MatchBool, OnOk, OnErr, Some, None};
+=======
+ghost use Rattle.std.specs.Prelude.{◌≡◌, ◌<◌, ◌||◌, OnOk, OnErr, Some, None};
+>>>>>>> theirs
 ghost use Rattle.raft_base.specs.declared.pipe_log.LogQueue.TheVariants.{Append, Rewrite};
 ghost use Rattle.std.specs.FinSet as finset;
 ghost use Rattle.raft_table.specs.Marks.{misses};
@@ -279,11 +283,7 @@ impl Mark {
                 self.deleted.clear();
                 Ok(())
             }
-            Step::Run(_)
-            | Step::Compact { .. }
-            | Step::Truncate { .. }
-            | Step::Put { .. }
-            | Step::AtomicGroup { .. } => Ok(()),
+            _ => Ok(()),
         }
     }
 

@@ -9,7 +9,9 @@ use Rattle.std.specs.FinMap as finite
 use Rattle.std.specs.FinMap.{find}
 use Rattle.std.specs.declared.alloc.AllocError.{AllocError}
 use Rattle.raft_history.specs.MarkedRegions.{Marks}
-use Rattle.raft_table.specs.MarkJoins.{fresh}
+use Rattle.raft_base.specs.declared.pipe_log.LogQueue.{LogQueue}
+use Rattle.raft_table.specs.MarkJoins.{fresh, joined_at}
+use Rattle.raft_table.proofs.StepMarkLemmas.{run_added}
 use Rattle.raft_table.specs.Marks.{Mark}
 use Rattle.raft_memtable.specs.declared.region_marks.RegionMarks.TheInside.{Inside}
 use Rattle.raft_memtable.specs.RegionMarks.{mark_in, MarkChange, ChangesMark, IsMarkUpdated}
@@ -45,6 +47,10 @@ there a m k o x is v e = get-shown a m k is ∙ sym v ∙ ap option_copied_mut e
 
 pub absent : (a : Inside) (m : Marks) (k : ℕ) (o : Option (MutBor Mark)) → marks_shown a ≡ m → option_copied_mut o ≡ lookup (nat_eq k) a.marks.entries → o ≡ None → finite.get m k ≡ None
 absent a m k o is v e = get-shown a m k is ∙ sym v ∙ ap option_copied_mut e
+
+-- the region mark of a run alone is that of no step joined with it
+pub first_run : (q : LogQueue) (end start : ℕ) → let n : Mark = record fresh { reach = Some start; cut = Some start } in joined_at q end fresh n ≡ n
+first_run q end start = sym (run_added q end start fresh)
 
 -- ---- a mark changed by a call
 

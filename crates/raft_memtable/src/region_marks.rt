@@ -13,7 +13,7 @@ ghost use Rattle.raft_memtable.specs.RegionMarks.{mark_in, MayChangeMark, IsMark
 
 use raft_base::{AllocResult, LogQueue};
 use raft_table::{Mark, Step};
-use std::alloc::Global;
+use std::alloc::{AllocError, Global};
 use std::collections::HashMap;
 use std::collections::hash_map::IntoIter;
 use std::marker::Model;
@@ -81,10 +81,14 @@ impl RegionMarks {
             (record fresh { reach = Some start; cut = Some start }))) }
         ensures err { OnErr result (self.new ≡ self.old) }
     {
-        self.update(id, move |mark: &mut Mark| {
+        if let Some(mark) = self.marks.get_mut(&id) {
             mark.add_run(queue, end, start);
-            Ok(())
-        })
+            return Ok(());
+        }
+        match self.marks.insert(id, Mark::of_run(self.alloc, start)) {
+            Ok(_) => Ok(()),
+            Err(_) => Err(AllocError),
+        }
     }
 
     /// Joins the region mark of a step to the region mark of a region. Where the step is a run, the region's own
@@ -148,12 +152,11 @@ impl RegionMarks {
         if let Some(mark) = self.marks.get_mut(&id) {
             return change(mark);
         }
-        self.marks.reserve(1)?;
         let mut mark = Mark::new(self.alloc);
         change(&mut mark)?;
         match self.marks.insert(id, mark) {
             Ok(_) => Ok(()),
-            Err(_) => unreachable!(),
+            Err(_) => Err(AllocError),
         }
     }
 }

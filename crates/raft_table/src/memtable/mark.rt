@@ -1,10 +1,6 @@
 //! Region marks of regions, and tables merged under them.
 
-<<<<<<< ours
-ghost use Rattle.std.specs.Prelude.{◌≡◌, ℕ, ◌<◌, ◌||◌, MatchBool, OnOk, OnErr, Some, None};
-=======
-ghost use Rattle.std.specs.Prelude.{◌≡◌, ◌<◌, ◌||◌, OnOk, OnErr, Some, None};
->>>>>>> theirs
+ghost use Rattle.std.specs.Prelude.{◌≡◌, ◌<◌, ◌||◌, MatchBool, OnOk, OnErr, Some, None};
 ghost use Rattle.raft_base.specs.declared.pipe_log.LogQueue.TheVariants.{Append, Rewrite};
 ghost use Rattle.std.specs.FinSet as finset;
 ghost use Rattle.raft_table.specs.Marks.{misses};

@@ -30,31 +30,23 @@ returns-in-Some g c =
 
 -- ---- the mark is made
 
-pub returns-in_err-reserve : goal.returns-in_err-reserve
-returns-in_err-reserve g c =
-    let p = err_from_is_err_and c.from_residual.result c.from_residual.ensures.1 in
-    rw (p.1, p.2) (refused g.F.FnOnce c.args.change c.args.self.now c.args.id _ _ (shown-same c.self.inside (record c.self.inside { marks = c.reserve.new.self }) c.args.self.now c.self.view_is (λ q. c.reserve.ensures.entries.2 q ∙ ap (λ m. lookup (nat_eq q) m.entries) c.get_mut.follows.holds-at-none)))
-
 pub change-requires-2 : goal.change-requires-2
 change-requires-2 g c = c.requires.pre _ (c.new-mark.ensures ∙ sym (mark_of_none c.args.self.now c.args.id (absent c.self.inside c.args.self.now c.args.id _ c.self.view_is c.get_mut.ensures.value c.in_default.is)))
 
 pub returns-in_err-change : goal.returns-in_err-change
 returns-in_err-change g c =
-    let p = err_from_is_err_and c.from_residual-in_err-change.result c.from_residual-in_err-change.ensures.1 in
-    rw (p.1, p.2) (refused g.F.FnOnce c.args.change c.args.self.now c.args.id _ _ (shown-same c.self.inside (record c.self.inside { marks = c.reserve.new.self }) c.args.self.now c.self.view_is (λ q. c.reserve.ensures.entries.2 q ∙ ap (λ m. lookup (nat_eq q) m.entries) c.get_mut.follows.holds-at-none)))
+    let p = err_from_is_err_and c.from_residual.result c.from_residual.ensures.1 in
+    rw (p.1, p.2) (refused g.F.FnOnce c.args.change c.args.self.now c.args.id _ _ (shown-same c.self.inside (record c.self.inside { marks = c.get_mut.follows.lender-at-none }) c.args.self.now c.self.view_is (λ q. ap (λ m. lookup (nat_eq q) m.entries) c.get_mut.follows.holds-at-none)))
 
-made-by : (g : given.Over) (c : goal.Joined-this g) → ChangesMark g.F.FnOnce c.args.change (mark_in c.args.self.now c.args.id) (Ok c.in_ok-change.field-0) c.change-2.new.arg2
-made-by g c =
+pub returns-in-Ok : goal.returns-in-Ok
+returns-in-Ok g c =
     let none : finite.get c.args.self.now c.args.id ≡ None = absent c.self.inside c.args.self.now c.args.id _ c.self.view_is c.get_mut.ensures.value c.in_default.is in
-    subst (λ r. ChangesMark g.F.FnOnce c.args.change (mark_in c.args.self.now c.args.id) r c.change-2.new.arg2) c.in_ok-change.was (record { mark = _; shows = c.new-mark.ensures ∙ sym (mark_of_none c.args.self.now c.args.id none); left = _; met = c.change-2.ensures; leaves = refl })
-
-abbrev reserved : (g : given.Over) → goal.Joined-this g → Inside
-reserved g c = record c.self.inside { marks = c.reserve.new.self }
-
-abbrev with_made : (g : given.Over) → goal.Joined-this g → Inside
-with_made g c = record c.self.inside { marks = c.insert.new.self }
+    let gave : ChangesMark g.F.FnOnce c.args.change (mark_in c.args.self.now c.args.id) (Ok c.in_ok-change.field-0) c.change-2.new.arg2 =
+    subst (λ r. ChangesMark g.F.FnOnce c.args.change (mark_in c.args.self.now c.args.id) r c.change-2.new.arg2) c.in_ok-change.was (record { mark = _; shows = c.new-mark.ensures ∙ sym (mark_of_none c.args.self.now c.args.id none); left = _; met = c.change-2.ensures; leaves = refl }) in
+    let before : Inside = record c.self.inside { marks = c.get_mut.follows.lender-at-none } in
+    made g.F.FnOnce c.args.change c.args.self.now c.args.id c.in_ok-change.field-0 c.change-2.new.arg2 _ gave
+    (shown-with before (record c.self.inside { marks = c.insert.new.self }) c.args.self.now c.args.id c.change-2.new.arg2 (shown-same c.self.inside before c.args.self.now c.self.view_is (λ q. ap (λ m. lookup (nat_eq q) m.entries) c.get_mut.follows.holds-at-none)) c.in-Ok.ensures.updates.0)
 
 pub returns : goal.returns
 returns g c =
-    made g.F.FnOnce c.args.change c.args.self.now c.args.id c.in_ok-change.field-0 c.change-2.new.arg2 _ (made-by g c)
-    (shown-with (reserved g c) (with_made g c) c.args.self.now c.args.id c.change-2.new.arg2 (shown-same c.self.inside (reserved g c) c.args.self.now c.self.view_is (λ q. c.reserve.ensures.entries.2 q ∙ ap (λ m. lookup (nat_eq q) m.entries) c.get_mut.follows.holds-at-none)) c.in-Ok.ensures.updates.0)
+    refused g.F.FnOnce c.args.change c.args.self.now c.args.id _ _ (shown-same c.self.inside (record c.self.inside { marks = c.insert.new.self }) c.args.self.now c.self.view_is (λ q. ap (lookup (nat_eq q)) c.in-Err.ensures.err ∙ ap (λ m. lookup (nat_eq q) m.entries) c.get_mut.follows.holds-at-none))

@@ -1,25 +1,17 @@
 -- Tables of all regions joined with those of a newer neighbor, each under its region mark.
-use Rattle.std.specs.Prelude.{◌≡◌, ℕ, ◌+◌, ◌<◌, ◌≤◌, true, Option, Some, None, Result, IfOk, IfErr}
+use Rattle.std.specs.Prelude.{◌≡◌, ℕ, ◌+◌, ◌≤◌, true, Option, Some, None, Result, IfOk, IfErr}
 use Rattle.std.specs.FinMap as finite
 use Rattle.std.specs.Result.{OnOk}
 use Rattle.raft_base.specs.declared.errors.Error.{Error}
-use Rattle.raft_base.specs.declared.errors.Error.TheVariants as errors
 use Rattle.raft_base.specs.declared.pipe_log.LogQueue.{LogQueue}
 use Rattle.raft_history.specs.RegionSteps.{Tables, with_table}
 use Rattle.raft_table.specs.Counts.{Counts}
 use Rattle.raft_table.specs.MarkJoins.{end_at_reach}
 use Rattle.raft_table.specs.MarkedJoins.{IsFaultUnder, IsRunOver}
 use Rattle.raft_table.specs.Marks.{Mark, table_over, table_over_older}
-use Rattle.raft_table.specs.Queues.{other}
 use Rattle.raft_table.specs.Steps.{table_of}
 use Rattle.raft_table.specs.Table.{Table, live_of, with_table_deleted, IsRecounted}
-use Rattle.raft_accessor.specs.Accessor.{table_in, live_in, live_in_all}
-
--- why tables of a queue are refused: they have a record of the other queue, or want of memory
-abbrev pub IsMixFault : LogQueue → Tables → Error → Type 0
-IsMixFault queue tables (errors.InvalidArgument text) = 0 < live_in_all (other queue) tables
-IsMixFault queue tables errors.Memory = Unit {0}
-IsMixFault queue tables _ = ⊥
+use Rattle.raft_accessor.specs.Accessor.{table_in, live_in}
 
 -- a newer table was put over an older one of its region under the newer region mark; the answer is the end of the older entries that the region mark's first run came behind
 pub record IsPut (queue : LogQueue) (m : Mark) (newer : Table) (counts : Counts) (r : Result ℕ Error) (old new : Table) : Type 0 where

@@ -318,8 +318,6 @@ join_fault q c d middle m x h = go x (h (middle_steps q c d middle m) (steps_of_
   where
     go : (x : Error) → IsJoinFault q middle d.regions x → IsNeighborFault q (reading_on c) (reading_on d) x
     go (errors.Corruption text) f = ((m.neighbors.older, m.neighbors.newer), inr (inr (middle, sym (either_queue q c d m.newer m.neighbors) ∙ m.taken, f)))
-    go (errors.InvalidArgument text) (inl f) = absurd (omega (arith, f, middle_alone q c d middle m))
-    go (errors.InvalidArgument text) (inr f) = absurd (omega (arith, f, alone_of q d m.newer m.neighbors.newer))
     go errors.Full f = (m.neighbors, omega (arith, f, middle_records q c d middle m))
     go errors.Memory f = tt
     go _ f = absurd f

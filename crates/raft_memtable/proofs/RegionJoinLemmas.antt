@@ -29,7 +29,6 @@ use Rattle.raft_history.specs.RegionSteps.{Tables, with_table}
 use Rattle.raft_history.proofs.JoinLemmas.{each_joined, each_refused, each_marked}
 use Rattle.raft_accessor.specs.Accessor.{table_in, live_in, live_in_all, AreCountsOf}
 use Rattle.raft_memtable.specs.RegionMarks.{mark_in}
-use Rattle.raft_accessor.specs.TableJoins.{IsMixFault}
 use Rattle.raft_memtable.specs.RegionJoins.{AreRunsOver, IsJoinFault}
 use Rattle.raft_accessor.proofs.LiveLemmas.{live_of_all, live-all, live-remove, live-with, live-table_of}
 use Rattle.raft_accessor.proofs.MapLemmas.{none_some, by_id, eq_self, self_same, get_own, get_left, with_other}
@@ -208,17 +207,6 @@ fault_some queue newer first marks all (errors.Corruption text) is once f = refu
 fault_some queue newer first marks all errors.Full is once f = f
 fault_some queue newer first marks all errors.Memory is once f = tt
 fault_some queue newer first marks all _ is once f = absurd f
-
--- one side has records of the other queue
-pub mixed_older : (queue : LogQueue) (older newer : MarkedRegions) (e : Error) → IsMixFault queue older.tables e → IsJoinFault queue older newer e
-mixed_older queue older newer (errors.InvalidArgument text) f = inl f
-mixed_older queue older newer errors.Memory f = tt
-mixed_older queue older newer _ f = absurd f
-
-pub mixed_newer : (queue : LogQueue) (older newer : MarkedRegions) (e : Error) → IsMixFault queue newer.tables e → IsJoinFault queue older newer e
-mixed_newer queue older newer (errors.InvalidArgument text) f = inr f
-mixed_newer queue older newer errors.Memory f = tt
-mixed_newer queue older newer _ f = absurd f
 
 -- ---- one region
 

@@ -1,5 +1,5 @@
 -- Regions joined with those of a newer neighbor, each under its region mark.
-use Rattle.std.specs.Prelude.{◌≡◌, ◌⊎◌, ℕ, ◌+◌, ◌<◌, ◌≤◌, ◌^◌, Some}
+use Rattle.std.specs.Prelude.{◌≡◌, ℕ, ◌+◌, ◌≤◌, ◌^◌, Some}
 use Rattle.std.specs.FinMap as finite
 use Rattle.raft_base.specs.declared.errors.Error.{Error}
 use Rattle.raft_base.specs.declared.errors.Error.TheVariants as errors
@@ -10,16 +10,14 @@ use Rattle.raft_history.specs.Records.{all_records}
 use Rattle.raft_history.specs.RegionSteps.{Tables}
 use Rattle.raft_table.specs.MarkedJoins.{IsRunOver}
 use Rattle.raft_table.specs.Marks.{Mark}
-use Rattle.raft_table.specs.Queues.{other}
-use Rattle.raft_accessor.specs.Accessor.{table_in, live_in_all}
+use Rattle.raft_accessor.specs.Accessor.{table_in}
 
 -- what each of these region marks makes of its region's entries over the older ones is a run, as it is where the region marks and the tables stand for steps
 abbrev pub AreRunsOver : LogQueue → Marks → Tables → Tables → Type 0
 AreRunsOver queue marks newer older = (r : ℕ) (m : Mark) → finite.get marks r ≡ Some m → IsRunOver queue m (table_in newer r) (table_in older r)
 
--- why the regions of two neighbors are not joined: either has a record of the other queue, some region's join is refused, the records would be 2^64 or more, or want of memory
+-- why the regions of two neighbors are not joined: some region's join is refused, the records would be 2^64 or more, or want of memory
 abbrev pub IsJoinFault : LogQueue → MarkedRegions → MarkedRegions → Error → Type 0
-IsJoinFault queue older newer (errors.InvalidArgument text) = (0 < live_in_all (other queue) older.tables) ⊎ (0 < live_in_all (other queue) newer.tables)
 IsJoinFault queue older newer (errors.Corruption text) = IsJoinRefused queue older newer
 IsJoinFault queue older newer errors.Full = 2 ^ 64 ≤ all_records older.tables + all_records newer.tables
 IsJoinFault queue older newer errors.Memory = Unit {0}

@@ -4,11 +4,11 @@ ghost use Rattle.std.specs.Prelude.{◌≡◌, ◌<◌, ◌++◌, IfErr, IfSome,
 ghost use Rattle.raft_base.specs.declared.pipe_log.LogQueue.TheVariants.{Append, Rewrite};
 ghost use Rattle.raft_table.specs.Queues.{other};
 ghost use Rattle.raft_accessor.specs.Accessor.{live_in, live_in_all, AreCountsOf};
-ghost use Rattle.raft_accessor.specs.TableJoins.{IsMixFault, IsTableJoined};
+ghost use Rattle.raft_accessor.specs.TableJoins.{IsTableJoined};
 
 use crate::accessor::{MemTableAccessor, slot_of};
 use raft_base::{Error, LogQueue, Result};
-use raft_table::{Mark, MemTable, other_queue};
+use raft_table::{Mark, MemTable};
 
 impl MemTableAccessor {
     /// Puts a newer neighbor's table of a region, or its absence, over the older one, as the newer region mark
@@ -17,6 +17,7 @@ impl MemTableAccessor {
     /// # Errors
     ///
     /// Those of [`MemTable::join_under`].
+    #[doc(hidden)]
     pub fn join_table(
         &mut self,
         queue: LogQueue,
@@ -35,29 +36,12 @@ impl MemTableAccessor {
         self.slots[slot_of(id)].join_table(queue, id, newer, mark, &mut self.stats)
     }
 
-    /// Refuses tables that have records of the other queue.
-    ///
-    /// # Errors
-    ///
-    /// `InvalidArgument`, and `Memory` for its text.
-    pub fn check_alone(&self, queue: LogQueue) -> Result<()>
-        ensures ok { OnOk result (live_in_all (other queue) self.now.tables ≡ 0) }
-        ensures fault { IfErr result (IsMixFault queue self.now.tables) }
-    {
-        if self.stats.live_entries(other_queue(queue)) > 0 {
-            return Err(Error::invalid_argument(
-                *self.cleaned.allocator(),
-                "the tables have records of the other queue",
-            ));
-        }
-        Ok(())
-    }
-
     /// Lists the cleaned regions of another accessor behind the own ones.
     ///
     /// # Errors
     ///
     /// `Memory`. The lists are then as they were.
+    #[doc(hidden)]
     pub fn append_cleaned(&mut self, rhs: &mut MemTableAccessor) -> Result<()>
         ensures ok { OnOk result (self.new.cleaned ≡ self.old.cleaned ++ rhs.old.cleaned) }
         ensures tables { self.new.tables ≡ self.old.tables }

@@ -23,10 +23,12 @@ impl MarkedTables {
     ///
     /// # Errors
     ///
-    /// `InvalidArgument` where either has records of the other queue, `Corruption` where, in the append queue,
-    /// a newer run of a region leaves a hole behind the older entries, `Full` where
-    /// more than 2^64 - 1 records would be live, `Memory`. Some regions are then joined.
+    /// `Corruption` where, in the append queue, a newer run of a region leaves a hole behind the older
+    /// entries, `Full` where more than 2^64 - 1 records would be live, `Memory`. Some regions are then
+    /// joined.
     pub(crate) fn join(&mut self, queue: LogQueue, newer: MarkedTables) -> Result<()>
+        requires older { live_in_all (other queue) self.old.accessor.tables ≡ 0 }
+        requires newer { live_in_all (other queue) newer.accessor.tables ≡ 0 }
         ensures ok { StandForSteps queue (regions_in self.old)
             → StandForSteps queue (regions_in newer)
             → OnOk result
@@ -42,8 +44,6 @@ impl MarkedTables {
             mut accessor,
             marks,
         } = newer;
-        self.accessor.check_alone(queue)?;
-        accessor.check_alone(queue)?;
         self.join_regions(queue, marks, &mut accessor)?;
         self.accessor.append_cleaned(&mut accessor)
     }

@@ -3,22 +3,12 @@ use Rattle.std.proofs.lemmas.Result.{err_from_is_err_and}
 use Rattle.raft_history.specs.Joins.{AreJoined}
 use Rattle.raft_history.specs.RegionSteps.{Tables}
 use Rattle.raft_memtable.specs.MarkedTables.{regions_in}
-use Rattle.raft_memtable.proofs.RegionJoinLemmas.{stand_runs, mixed_older, mixed_newer, on_ok}
+use Rattle.raft_memtable.proofs.RegionJoinLemmas.{stand_runs, on_ok}
 use Rattle.raft_memtable.proofs.marked_tables.MarkedTables.join.Goals as goal
-
-pub returns-in_err-check_alone-clause-fault : goal.returns-in_err-check_alone-clause-fault
-returns-in_err-check_alone-clause-fault c =
-    let p = err_from_is_err_and c.from_residual.result c.from_residual.ensures.1 in
-    λ older newer. rw (p.1, p.2) (mixed_older c.args.queue (regions_in c.args.self.now) (regions_in c.args.newer) _ c.in_err-check_alone.ensures.fault)
-
-pub returns-in_err-check_alone-2-clause-fault : goal.returns-in_err-check_alone-2-clause-fault
-returns-in_err-check_alone-2-clause-fault c =
-    let p = err_from_is_err_and c.from_residual-in_err-check_alone-2.result c.from_residual-in_err-check_alone-2.ensures.1 in
-    λ older newer. rw (p.1, p.2) (mixed_newer c.args.queue (regions_in c.args.self.now) (regions_in c.args.newer) _ c.in_err-check_alone-2.ensures.fault)
 
 pub returns-in_err-join_regions-clause-fault : goal.returns-in_err-join_regions-clause-fault
 returns-in_err-join_regions-clause-fault c =
-    let p = err_from_is_err_and c.from_residual-in_err-join_regions.result c.from_residual-in_err-join_regions.ensures.1 in
+    let p = err_from_is_err_and c.from_residual.result c.from_residual.ensures.1 in
     λ older newer. rw (p.1, p.2) (c.in_err-join_regions.ensures.fault (stand_runs c.args.queue (regions_in c.args.self.now) (regions_in c.args.newer) older newer))
 
 pub returns-clause-ok : goal.returns-clause-ok

@@ -5,7 +5,7 @@ use Rattle.raft_base.specs.declared.pipe_log.LogQueue.TheVariants.{Rewrite}
 use Rattle.raft_history.specs.MarkedRegions.{regions_after, region_steps_of_wholes}
 use Rattle.raft_memtable.specs.MarkedTables.{regions_in, IsStepsFault}
 use Rattle.raft_memtable.specs.ReadStates.{context_in, CanTakeEffect}
-use Rattle.raft_memtable.proofs.ReadStateLemmas.{merge_takes, wholes_fault, IsMiddle, join_fault, join_merged, join_read, merged_by}
+use Rattle.raft_memtable.proofs.ReadStateLemmas.{alone_of, merge_takes, wholes_fault, IsMiddle, middle_alone, join_fault, join_merged, join_read, merged_by}
 use Rattle.raft_memtable.proofs.read_state.ReadState.join.Goals as goal
 
 pub take_wholes-requires : goal.take_wholes-requires
@@ -18,6 +18,18 @@ returns-in_err-take_wholes-clause-fault c =
     rw (p.1, p.2) (wholes_fault c.args.queue (context_in c.args.self.now) (context_in c.args.newer) c.requires.older c.requires.newer c.requires.neighbors
     (subst (λ ws. ws ≢ []) whole c.in_err-take_wholes.ensures.none) _
     (subst (λ ws. IsStepsFault Rewrite (regions_in c.args.self.now.regions) (region_steps_of_wholes ws) c.in_err-take_wholes.field-0.0) whole c.in_err-take_wholes.ensures.fault))
+
+pub join-requires-2-clause-older : goal.join-requires-2-clause-older
+join-requires-2-clause-older c = middle_alone c.args.queue (context_in c.args.self.now) (context_in c.args.newer) (regions_in c.take_wholes.new.regions) record {
+  older = c.requires.older;
+  newer = c.requires.newer;
+  neighbors = c.requires.neighbors;
+  taken = subst (λ ws. regions_after Rewrite (regions_in c.args.self.now.regions) (region_steps_of_wholes ws) ≡ Some (regions_in c.take_wholes.new.regions)) c.in_ok-wholes.ensures.wholes c.in_ok-take_wholes.ensures.taken;
+  few = c.in_ok-take_wholes.ensures.other;
+}
+
+pub join-requires-2-clause-newer : goal.join-requires-2-clause-newer
+join-requires-2-clause-newer c = alone_of c.args.queue (context_in c.args.newer) c.requires.newer c.requires.neighbors.newer
 
 taken_at : (c : goal.After-from_residual-in_err-join) → IsMiddle c.args.queue (context_in c.args.self.now) (context_in c.args.newer) (regions_in c.take_wholes.new.regions)
 taken_at c = record {

@@ -1,5 +1,5 @@
 -- Numbers of the values of a map, added in any order.
-use Rattle.std.proofs.Common.{◌≡◌, ◌+◌, ℕ, cond, false, nat_eq, List, [], ◌∷◌, length, map, Some, None, IsPermutation, refl, sym, ap, ◌∙◌, arith}
+use Rattle.std.proofs.Common.{◌≡◌, ◌+◌, ℕ, cond, false, nat_eq, List, [], ◌∷◌, ◌++◌, length, map, Some, None, IsPermutation, refl, sym, ap, ◌∙◌, arith}
 use Rattle.std.specs.Ordering.{nat_cmp}
 use Rattle.std.specs.Cmp.{nat_cmp_total}
 use Rattle.std.specs.List.{AllByRecursion, IsDistinct, sum_by}
@@ -10,6 +10,10 @@ use Rattle.std.proofs.lemmas.List.Sums.{sum_by-cons}
 use Rattle.std.proofs.lemmas.List.Sorted.{sum_by-IsPermutation}
 use Rattle.raft_history.specs.Records.{total_of, total}
 use Rattle.raft_history.proofs.TotalLemmas.{found, total-insert, total-none, total-ones}
+use Rattle.raft_base.specs.declared.pipe_log.LogQueue.{LogQueue}
+use Rattle.raft_table.specs.Table.{live_of}
+use Rattle.raft_history.specs.RegionSteps.{Tables}
+use Rattle.raft_accessor.specs.Accessor.{live_in_all}
 use Rattle.raft_accessor.proofs.RegionTablesLemmas.{same_test}
 
 module _ {X : Type 0} (f : X → ℕ) where
@@ -31,6 +35,10 @@ module _ {X : Type 0} (f : X → ℕ) where
   added-entries : (es : List (ℕ × X)) → total_of f es ≡ added (map (λ e. e.1) es)
   added-entries [] = refl
   added-entries (e ∷ es) = ap (λ n. f e.1 + n) (added-entries es)
+
+  pub added-append : (xs ys : List X) → added (xs ++ ys) ≡ added xs + added ys
+  added-append [] ys = omega arith
+  added-append (x ∷ xs) ys = omega (arith, added-append xs ys)
 
   pub total-values : (m : finite.FinMap nat_cmp X) → total f m ≡ added (finite.values m)
   unfolding total
@@ -55,3 +63,8 @@ length-values (e ∷ es) = omega (arith, length-values es)
 -- how many keys the map of some entries has
 pub len-from : {X : Type 0} (es : List (ℕ × X)) → IsDistinct nat_eq (keys_of es) → finite.len (finite.from_entries {R = nat_cmp} es) ≡ length es
 len-from {X} es once = sym (total-ones (finite.from_entries {R = nat_cmp} es)) ∙ total-from (λ (x : X). 1) es once ∙ ones (map (λ e. e.1) es) ∙ length-values es
+
+-- what all tables have live in a queue
+pub live-added : (q : LogQueue) (m : Tables) → live_in_all q m ≡ added (live_of q) (finite.values m)
+unfolding live_in_all
+live-added q m = added-sum (live_of q) (finite.values m)

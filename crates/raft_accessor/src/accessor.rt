@@ -356,6 +356,7 @@ impl MemTableAccessor {
     }
 
     /// Takes a region's table away, and its records off the counts.
+    #[doc(hidden)]
     pub fn take(&mut self, id: u64) -> Option<MemTable>
         ensures tables { self.new.tables ≡ finite.remove self.old.tables id }
         ensures removed { result ≡ finite.get self.old.tables id }

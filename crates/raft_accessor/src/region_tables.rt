@@ -1,11 +1,13 @@
 //! The tables of some regions.
 
-ghost use Rattle.std.specs.Prelude.{◌≡◌, ◌≢◌, ◌≤◌, ◌<◌, ◌^◌, ◌+◌, ◌↔◌, ◌⊎◌, ℕ, nat_eq, List, ◌++◌, map, IsPermutation, IsTrue, OnOk, OnErr, OnSome, IfOk, IfErr, IfSome, Some, None, ok_or, option_map};
+ghost use Rattle.std.specs.Prelude.{◌≡◌, ◌≢◌, ◌≤◌, ◌<◌, ◌^◌, ◌+◌, ◌↔◌, ◌⊎◌, ℕ, nat_eq, List, ◌++◌, map, length, IsPermutation, IsTrue, OnOk, OnErr, OnSome, IfOk, IfErr, IfSome, Some, None, ok_or, option_map};
 ghost use Rattle.std.specs.FinMap as finite;
 ghost use Rattle.std.specs.List.{IsDistinct, FoldsTo};
 ghost use Rattle.std.specs.Map.{keys_of, lookup};
 ghost use Rattle.raft_base.specs.declared.pipe_log.LogQueue.{LogQueue};
+ghost use Rattle.raft_base.specs.declared.pipe_log.LogQueue.TheVariants.{Append, Rewrite};
 ghost use Rattle.raft_base.specs.Runs.{end_of};
+ghost use Rattle.raft_history.specs.Records.{total};
 ghost use Rattle.raft_history.specs.RegionSteps.{Tables, with_table};
 ghost use Rattle.raft_table.specs.Change.{after_change, AreCountsAfter, IsAllowed, IsAnswer, IsChangeFault};
 ghost use Rattle.raft_table.specs.Counts.{live};
@@ -14,7 +16,7 @@ ghost use Rattle.raft_table.specs.Start.{counts_with_run};
 ghost use Rattle.raft_table.specs.Steps.{table_of};
 ghost use Rattle.raft_table.specs.Table.{Table, after_replay, empty_table, live_of, with_table_added, with_table_deleted, IsCounted, IsRecounted};
 ghost use Rattle.raft_table.specs.TableEntries.{IsRunIn};
-ghost use Rattle.raft_accessor.specs.Accessor.{table_in};
+ghost use Rattle.raft_accessor.specs.Accessor.{table_in, live_in_all};
 ghost use Rattle.raft_accessor.specs.Merges.{with_newer, with_appended, IsNewerFault, IsAppendedFault, MayAlter, IsAltered, IsTableMerged};
 ghost use Rattle.raft_accessor.specs.Updates.{MayChange, IsUpdated, BecomesOutcome};
 ghost use Rattle.raft_accessor.specs.Walks.{KeepsId, Makes};
@@ -95,6 +97,20 @@ impl RegionTables {
             tables.push(table)?;
         }
         Ok(())
+    }
+
+    /// How many entries all tables have together. The other records are key values.
+    pub(crate) fn entries_count(&self) -> u128
+        ensures entries { result ≡ total (λ (t : Table). length t.entries) self.now }
+        ensures others { result + total (λ (t : Table). finite.len t.keys) self.now
+            ≡ live_in_all Append self.now + live_in_all Rewrite self.now }
+    {
+        let mut count = 0;
+        for table in self.tables.values() {
+            table.holds_one_run();
+            count += table.entries_count() as u128;
+        }
+        count
     }
 
     /// What `f` makes of `init` and each table, in no set order.

@@ -155,19 +155,19 @@ impl ReadState {
     }
 
     /// What it holds, in numbers.
-    pub(crate) fn kept(&self) -> Result<Kept>
-        ensures ok { IfOk result (λ kept. kept_shown kept ≡ kept_of (context_in self.now)) }
-        ensures memory { IfErr result (λ e. e ≡ Error.Memory) }
+    pub(crate) fn kept(&self) -> Kept
+        ensures { kept_shown result ≡ kept_of (context_in self.now) }
     {
         let MarkedTables { accessor, marks } = &self.regions;
-        Ok(Kept {
-            entries: accessor.entries_count()?,
-            keys: accessor.key_count()?,
+        let (entries, keys) = accessor.totals();
+        Kept {
+            entries,
+            keys,
             marks: marks.len() as u128 + self.groups.len() as u128,
             deleted_keys: marks.deleted_keys(),
             cleaned: accessor.cleaned_regions().len() as u128,
             waiting_items: self.groups.waiting_items(),
-        })
+        }
     }
 
     /// Whether what was read of newer batches may be taken in.

@@ -12,7 +12,7 @@ ghost use Rattle.raft_history.specs.Kept.{kept_of, kept_by, IsAtMost};
 ghost use Rattle.raft_history.specs.RegionSteps.{Tables};
 ghost use Rattle.raft_history.specs.ReplayMachine.{event};
 ghost use Rattle.raft_accessor.specs.Accessor.{AreCountsOf};
-ghost use Rattle.raft_memtable.specs.KeptShown.{kept_shown, IsKeptFault};
+ghost use Rattle.raft_memtable.specs.KeptShown.{kept_shown};
 ghost use Rattle.raft_memtable.specs.OverlaidContext.{IsOverlaidWith, IsOfBothExactly, IsMergeAppendFault};
 ghost use Rattle.raft_memtable.specs.RecoverContext.{blank_context, HasRead, HasReadExactly, IsBatchTaken, IsBatchCounted, IsBatchFault, IsMergedWith, IsNeighborFault, refused_stage};
 ghost use Rattle.raft_memtable.specs.declared.context_stage.ContextStage.TheVariants.{Reading, Overlaid, Failed};
@@ -188,7 +188,7 @@ impl MemTableRecoverContext {
     ///
     /// # Errors
     ///
-    /// `Failed` after a refusal, `Memory`.
+    /// `Failed` after a refusal.
     pub fn kept(&self) -> Result<Kept>
         ensures ok { IfOk result (λ kept. kept_shown kept ≡ kept_of self.now.context) }
         ensures little { (queue : LogQueue) (h : List Event) (tables : Tables) (cleaned : List ℕ)
@@ -200,13 +200,12 @@ impl MemTableRecoverContext {
             (λ kept. (kept.marks ≡ 0) × (kept.deleted_keys ≡ 0)
             × (kept.waiting_items ≡ 0)) }
         ensures accepted { OnOk result (self.now.stage ≢ Failed) }
-        ensures failed { self.now.stage ≡ Failed → IfErr result (λ e. e ≡ Error.Failed) }
-        ensures fault { IfErr result (IsKeptFault self.now.stage) }
+        ensures failed { IfErr result (λ e. (e ≡ Error.Failed) × (self.now.stage ≡ Failed)) }
     {
         if self.stage == ContextStage::Failed {
             return Err(Error::Failed);
         }
-        self.state.kept()
+        Ok(self.state.kept())
     }
 
     /// The tables of all regions, with their counts and the regions that were cleaned.

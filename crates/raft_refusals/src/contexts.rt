@@ -1,6 +1,6 @@
 //! Contexts that read batches, are merged and put over one another.
 
-use crate::found::{Found, is_refused};
+use crate::found::Found;
 use crate::histories::{APPENDED, Batch, REWRITTEN, batch_segments, histories, overlays, part_of};
 use crate::steps::Step;
 use crate::writes::print;
@@ -108,18 +108,18 @@ fn appended_context(found: &mut Found, batches: &[Batch]) -> Result<MemTableReco
     merged(found, LogQueue::Append, segments.as_slice())
 }
 
-/// What a context holds after 20 batches that put one key, and after groups that aren't whole; where there is
-/// no memory to count it, it is counted again.
+/// What a context holds after 20 batches that put one key, and after groups that aren't whole. It is counted
+/// without memory.
 pub(crate) fn kept(found: &mut Found) -> Result<()> {
     let mut context = MemTableRecoverContext::new(found.alloc)?;
     for seq in 1..21u64 {
         let part = put_part(found.alloc, seq)?;
         replay(found, &mut context, &part)?;
     }
-    kept_again(found, &context)?;
+    print_kept(found, &context)?;
     let segments = batch_segments(found.alloc, LogQueue::Rewrite, REWRITTEN.batches)?;
     let context = merged(found, LogQueue::Rewrite, segments.as_slice())?;
-    kept_again(found, &context)
+    print_kept(found, &context)
 }
 
 fn put_part(alloc: Global, seq: u64) -> Result<FilePart> {
@@ -131,13 +131,8 @@ fn put_part(alloc: Global, seq: u64) -> Result<FilePart> {
     )
 }
 
-fn kept_again(found: &mut Found, context: &MemTableRecoverContext) -> Result<()> {
-    let mut answer = context.kept();
-    if is_refused(&answer) {
-        answer = context.kept();
-        answer = found.again(answer);
-    }
-    let kept = answer?;
+fn print_kept(found: &mut Found, context: &MemTableRecoverContext) -> Result<()> {
+    let kept = context.kept()?;
     let alloc = found.alloc;
     let (entries, keys, marks) = (kept.entries, kept.keys, kept.marks);
     let (deleted, cleaned, waiting) = (kept.deleted_keys, kept.cleaned, kept.waiting_items);

@@ -16,6 +16,7 @@ impl MemTableAccessor {
     /// # Errors
     ///
     /// Those of [`MemTable::overlay`].
+    #[doc(hidden)]
     pub fn overlay_table(&mut self, id: u64, appended: Option<MemTable>, mark: &Mark) -> Result<()>
         requires region { IfSome appended (λ t. t.region_id ≡ id) }
         requires own { live_in Rewrite appended ≡ 0 }
@@ -28,6 +29,7 @@ impl MemTableAccessor {
     }
 
     /// Lists the cleaned regions of another accessor in the place of the own ones.
+    #[doc(hidden)]
     pub fn take_cleaned(&mut self, appended: MemTableAccessor)
         ensures tables { self.new.tables ≡ self.old.tables }
         ensures cleaned { self.new.cleaned ≡ appended.cleaned }

@@ -1,0 +1,22 @@
+use Rattle.std.proofs.Common.{◌≡◌, ◌≤◌, ◌<◌, ◌+◌, ◌^◌, List, length, map, drop}
+use Rattle.std.specs.FinMap as finite
+use Rattle.raft_base.specs.declared.pipe_log.LogQueue.TheVariants.{Append, Rewrite}
+use Rattle.raft_table.specs.Table.{Table, live_of}
+use Rattle.raft_history.specs.RegionSteps.{Tables}
+use Rattle.raft_accessor.specs.AccessorView.{slot_entries}
+use Rattle.raft_accessor.proofs.TotalSums.{added}
+use Rattle.raft_accessor.proofs.accessor.MemTableAccessor.totals.Given as goal
+
+-- the tables of some slots
+abbrev pub tables_of : List Tables → List Table
+tables_of slots = map (λ e. e.1) (slot_entries slots)
+
+abbrev pub invariant-loop-slot : goal.invariant-loop-slot
+invariant-loop-slot l =
+    let all = tables_of l.slot-items in
+    let rest = tables_of (drop l.slot-index l.slot-items) in
+    (l.entries + added (λ (t : Table). length t.entries) rest ≡ added (λ (t : Table). length t.entries) all)
+    × (l.entries + added (λ (t : Table). finite.len t.keys) all + added (live_of Append) rest + added (live_of Rewrite) rest
+    ≡ added (λ (t : Table). finite.len t.keys) rest + added (live_of Append) all + added (live_of Rewrite) all)
+    × (added (λ (t : Table). finite.len t.keys) rest ≤ added (λ (t : Table). finite.len t.keys) all)
+    × (added (live_of Append) all + added (live_of Rewrite) all ≡ l.records)

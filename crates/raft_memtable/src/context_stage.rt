@@ -1,5 +1,9 @@
 //! Whether a context reads on.
 
+ghost use Rattle.std.specs.Prelude.{◌≡◌, ◌≢◌, OnOk, IfErr};
+
+use raft_base::{Error, Result};
+
 /// Whether a context reads on.
 #[derive(Clone, Copy, PartialEq, Eq, Debug)]
 pub enum ContextStage {
@@ -9,4 +13,23 @@ pub enum ContextStage {
     Overlaid,
     /// A call was refused.
     Failed,
+}
+
+impl ContextStage {
+    /// Begins a call on a context that reads on: until the call has succeeded, the context is failed.
+    ///
+    /// # Errors
+    ///
+    /// `Failed` where it doesn't read on. It then stays as it is.
+    pub(crate) fn begin(&mut self) -> Result<()>
+        ensures ok { OnOk result ((self.old ≡ ContextStage.Reading) × (self.new ≡ ContextStage.Failed)) }
+        ensures err { IfErr result (λ e. (e ≡ Error.Failed) × (self.old ≢ ContextStage.Reading)
+            × (self.new ≡ self.old)) }
+    {
+        if *self != ContextStage::Reading {
+            return Err(Error::Failed);
+        }
+        *self = ContextStage::Failed;
+        Ok(())
+    }
 }

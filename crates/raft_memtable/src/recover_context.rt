@@ -88,16 +88,10 @@ impl MemTableRecoverContext {
         ensures unchanged { self.old.stage ≢ Reading → self.new ≡ self.old }
         ensures failed { self.old.stage ≢ Reading → IfErr result (λ e. e ≡ Error.Failed) }
     {
-        if self.stage != ContextStage::Reading {
-            return Err(Error::Failed);
-        }
-        match self.state.replay(batch, file_id) {
-            Ok(()) => Ok(()),
-            Err(e) => {
-                self.stage = ContextStage::Failed;
-                Err(e)
-            }
-        }
+        self.stage.begin()?;
+        self.state.replay(batch, file_id)?;
+        self.stage = ContextStage::Reading;
+        Ok(())
     }
 
     /// Takes in the context of the batches that follow, all of this queue. Groups that become whole
@@ -117,21 +111,12 @@ impl MemTableRecoverContext {
         ensures failed { (self.old.stage ≢ Reading) ⊎ (rhs.stage ≢ Reading)
             → IfErr result (λ e. e ≡ Error.Failed) }
     {
-        if self.stage != ContextStage::Reading {
-            return Err(Error::Failed);
-        }
-        let MemTableRecoverContext { state, stage } = rhs;
-        if stage != ContextStage::Reading {
-            self.stage = ContextStage::Failed;
-            return Err(Error::Failed);
-        }
-        match self.state.merge(state, queue) {
-            Ok(()) => Ok(()),
-            Err(e) => {
-                self.stage = ContextStage::Failed;
-                Err(e)
-            }
-        }
+        self.stage.begin()?;
+        let MemTableRecoverContext { state, mut stage } = rhs;
+        stage.begin()?;
+        self.state.merge(state, queue)?;
+        self.stage = ContextStage::Reading;
+        Ok(())
     }
 
     /// Takes in the context of the append queue; this one is that of the rewrite queue. A region that the
@@ -163,24 +148,12 @@ impl MemTableRecoverContext {
         ensures failed { (self.old.stage ≢ Reading) ⊎ (append.stage ≢ Reading)
             → IfErr result (λ e. e ≡ Error.Failed) }
     {
-        if self.stage != ContextStage::Reading {
-            return Err(Error::Failed);
-        }
-        let MemTableRecoverContext { state, stage } = append;
-        if stage != ContextStage::Reading {
-            self.stage = ContextStage::Failed;
-            return Err(Error::Failed);
-        }
-        match self.state.overlay(state) {
-            Ok(()) => {
-                self.stage = ContextStage::Overlaid;
-                Ok(())
-            }
-            Err(e) => {
-                self.stage = ContextStage::Failed;
-                Err(e)
-            }
-        }
+        self.stage.begin()?;
+        let MemTableRecoverContext { state, mut stage } = append;
+        stage.begin()?;
+        self.state.overlay(state)?;
+        self.stage = ContextStage::Overlaid;
+        Ok(())
     }
 
     /// How much the context holds. Where it stands for a history exactly, that is no more than one

@@ -5,7 +5,7 @@
     calls.py --check    fails where that page isn't what the sources say now
 
 A name is listed once, under the first of the four crates that has it. Laws, which compute nothing, are left out: docs/DEFINITIONS.md
-has them.
+has them. So are calls under `#[doc(hidden)]`, which are public for other crates of this repository alone.
 """
 
 import itertools
@@ -123,7 +123,7 @@ class Crate:
 
     def methods(self, text, pattern):
         for method in pattern.finditer(text):
-            if not is_law(text, method.start()):
+            if not is_law(text, method.start()) and not is_hidden(text, method.start()):
                 yield f"  - `{signature(text, method.start())}`: {doc_above(text, method.start())}"
 
 
@@ -131,6 +131,12 @@ def is_law(text, start):
     """Whether a function's body is empty: then its contract is a law."""
     body = re.compile(r"^( *)\{\}?$|\{\}$|^( *)\{$", re.M).search(text, start)
     return bool(body) and body.group(0).strip() == "{}"
+
+
+def is_hidden(text, start):
+    """Whether the line above a place, or one of the attributes above it, hides it from readers."""
+    lines = (line.strip() for line in reversed(text[:start].rstrip("\n").split("\n")))
+    return "#[doc(hidden)]" in itertools.takewhile(lambda line: line.startswith("#["), lines)
 
 
 def page():

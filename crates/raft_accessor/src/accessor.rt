@@ -27,7 +27,8 @@ use std::alloc::{AllocError, Global};
 use std::marker::Model;
 pub use writes::accepted_items_lack_room_alone;
 
-/// The number of the slot that holds a region's table: the low 7 bits of the hash of the region's id.
+/// Returns the number of the slot that holds a region's table: the low 7 bits of the hash of the
+/// region's id.
 #[tactic(auto, unfolding(crate::specs::Accessor::slot_of))]
 pub fn slot_of(id: u64) -> usize
     ensures value { result ≡ slot_of id }
@@ -66,7 +67,7 @@ impl MemTableAccessor {
     ghost use denote.Follow.{follows_so};
     ghost use Rattle.raft_accessor.specs.contracts.accessor.MemTableAccessor.{the_row};
 
-    /// No tables.
+    /// Makes one without tables.
     ///
     /// # Errors
     ///
@@ -85,21 +86,21 @@ impl MemTableAccessor {
         })
     }
 
-    /// How many records of all tables are live in each queue.
+    /// Returns how many records of all tables are live in each queue.
     pub fn stats(&self) -> &GlobalStats
         ensures { result.now ≡ self.now.counts }
     {
         &self.stats
     }
 
-    /// The live counts are those of the tables. This is a law: it computes nothing.
+    /// States that the live counts are those of the tables. This is a law: it computes nothing.
     pub fn counts_are_exact(&self)
         ensures { AreCountsOf self.now.tables self.now.counts }
     {
         let _ = &self.stats;
     }
 
-    /// The table of a region.
+    /// Returns the table of a region.
     pub fn get(&self, id: u64) -> Option<&MemTable>
         ensures value { option_map (λ t. t.now) result ≡ finite.get self.now.tables id }
         ensures own { IfSome result (λ t. t.now.region_id ≡ id) }
@@ -107,7 +108,7 @@ impl MemTableAccessor {
         self.slots[slot_of(id)].get(id)
     }
 
-    /// The table of a region, an empty one that is made where there is none.
+    /// Returns the table of a region, an empty one that is made where there is none.
     ///
     /// # Errors
     ///
@@ -131,7 +132,7 @@ impl MemTableAccessor {
         }
     }
 
-    /// The table of a region that has one.
+    /// Returns the table of a region that has one.
     fn made(&self, id: u64) -> &MemTable
         requires { IsTrue (is_some (finite.get self.now.tables id)) }
         ensures { result.now ≡ table_in self.now.tables id }
@@ -290,7 +291,7 @@ impl MemTableAccessor {
         Ok(())
     }
 
-    /// Whether there are no tables.
+    /// Tests whether there are no tables.
     pub fn is_empty(&self) -> bool
         ensures { IsTrue result ↔ (self.now.tables ≡ finite.empty) }
     {
@@ -302,7 +303,8 @@ impl MemTableAccessor {
         true
     }
 
-    /// What `f` makes of `init` and each table, in no set order: it is called at each table once.
+    /// Returns what `f` makes of `init` and each table, in no set order: it is called at each table
+    /// once.
     pub fn fold<B: Drop, F: FnMut(B, &MemTable) -> B>(&self, init: B, mut f: F) -> B
     where
         F: Drop,
@@ -317,7 +319,7 @@ impl MemTableAccessor {
         answer
     }
 
-    /// All tables, in no set order.
+    /// Returns all tables, in no set order.
     ///
     /// # Errors
     ///
@@ -334,7 +336,8 @@ impl MemTableAccessor {
         Ok(tables)
     }
 
-    /// The tables for which `f` answers true; it is called at each table once, in no set order.
+    /// Returns the tables for which `f` returns true; it is called at each table once, in no set
+    /// order.
     ///
     /// # Errors
     ///
@@ -437,7 +440,7 @@ impl MemTableAccessor {
     }
 }
 
-/// 128 slots without tables.
+/// Makes 128 slots without tables.
 ///
 /// # Errors
 ///

@@ -23,14 +23,14 @@ pub(crate) struct Extent {
 }
 
 impl Extent {
-    /// No entries.
+    /// Makes one without entries.
     fn of_none() -> Extent
         ensures { IsExtentOf result [] }
     {
         Extent { first: 0, end: 0 }
     }
 
-    /// Where the entries of a table begin and end.
+    /// Returns where the entries of a table begin and end.
     fn of_table(table: Option<&MemTable>) -> Extent
         ensures { (id : ℕ) → IsExtentOf result
             (table_of id (option_map (λ t. t.now) table.entry)).entries }
@@ -48,7 +48,7 @@ impl Extent {
         }
     }
 
-    /// Without the entries below an index.
+    /// Returns it without the entries below an index.
     fn compacted(self, index: u64) -> Extent
         ensures { (es : List EntryIndex) → IsExtentOf self es → IsExtentOf result (from index es) }
     {
@@ -61,7 +61,7 @@ impl Extent {
         }
     }
 
-    /// Without the entries from an index on.
+    /// Returns it without the entries from an index on.
     fn truncated(self, index: u64) -> Extent
         ensures { (es : List EntryIndex) → IsExtentOf self es → IsExtentOf result (below index es) }
     {
@@ -74,7 +74,7 @@ impl Extent {
         }
     }
 
-    /// After a command.
+    /// Returns it after a command.
     fn commanded(self, command: &Command) -> Extent
         ensures { (es : List EntryIndex) → IsExtentOf self es
             → IsExtentOf result (commanded command.now es) }
@@ -86,7 +86,7 @@ impl Extent {
         }
     }
 
-    /// With a new run of a region.
+    /// Returns it with a new run of a region.
     ///
     /// # Errors
     ///
@@ -133,7 +133,7 @@ pub(crate) struct AppendCheck {
 }
 
 impl AppendCheck {
-    /// In front of all items.
+    /// Makes the test that stands before all items.
     pub(crate) fn new(alloc: Global) -> AppendCheck
         ensures { result.extents.entries ≡ [] }
     {
@@ -170,7 +170,7 @@ impl AppendCheck {
         }
     }
 
-    /// Where the entries of a region begin and end.
+    /// Returns where the entries of a region begin and end.
     fn extent(&self, id: u64, table: Option<&MemTable>) -> Extent
         ensures { (before now : Tables)
             → AreBefore self.now.extents.entries id (option_map (λ t. t.now) table.entry) before now

@@ -57,7 +57,7 @@ impl Model for RegionTables {
 }
 
 impl RegionTables {
-    /// No tables.
+    /// Makes one without tables.
     pub fn new(alloc: Global) -> RegionTables
         ensures { result ≡ finite.empty }
     {
@@ -67,19 +67,19 @@ impl RegionTables {
         }
     }
 
-    /// The allocator that the tables were made with.
+    /// Returns the allocator that the tables were made with.
     pub(crate) fn allocator(&self) -> Global {
         self.alloc
     }
 
-    /// Whether there are no tables.
+    /// Tests whether there are no tables.
     pub fn is_empty(&self) -> bool
         ensures { IsTrue result ↔ (self.now ≡ finite.empty) }
     {
         self.tables.is_empty()
     }
 
-    /// The table of a region.
+    /// Returns the table of a region.
     pub fn get(&self, id: u64) -> Option<&MemTable>
         ensures value { option_map (λ t. t.now) result ≡ finite.get self.now id }
         ensures own { IfSome result (λ t. t.now.region_id ≡ id) }
@@ -99,7 +99,7 @@ impl RegionTables {
         Ok(())
     }
 
-    /// How many entries all tables have together. The other records are key values.
+    /// Returns how many entries all tables have together. The other records are key values.
     pub(crate) fn entries_count(&self) -> u128
         ensures entries { result ≡ total (λ (t : Table). length t.entries) self.now }
         ensures others { result + total (λ (t : Table). finite.len t.keys) self.now
@@ -113,7 +113,7 @@ impl RegionTables {
         count
     }
 
-    /// What `f` makes of `init` and each table, in no set order.
+    /// Returns what `f` makes of `init` and each table, in no set order.
     pub fn fold<B: Drop, F: FnMut(B, &MemTable) -> B>(&self, init: B, f: &mut F) -> B
         requires { (state : F) (x : _) (t : _) → F.pre state x t }
         ensures { (ts : List Table) × IsPermutation ts (finite.values self.now)
@@ -126,7 +126,7 @@ impl RegionTables {
         answer
     }
 
-    /// Pushes the ids of the tables at which `wanted` answers true, in no set order.
+    /// Pushes the ids of the tables at which `wanted` returns true, in no set order.
     ///
     /// # Errors
     ///
@@ -150,7 +150,7 @@ impl RegionTables {
         Ok(())
     }
 
-    /// Each table stands under its own region's id. This is a law: it computes nothing.
+    /// States that each table stands under its own region's id. This is a law: it computes nothing.
     pub fn tables_are_own(&self)
         ensures { (id : ℕ) (t : Table) → finite.get self.now id ≡ Some t → t.region_id ≡ id }
     {
@@ -195,8 +195,8 @@ impl RegionTables {
         )
     }
 
-    /// Puts a run that is read again where its region has a table that takes it, and answers where the
-    /// entries of the table ended before. Where nothing is answered, tables and counts are as they were.
+    /// Puts a run that is read again where its region has a table that takes it, and returns where the
+    /// entries of the table ended before. Where nothing is returned, tables and counts are as they were.
     pub(crate) fn try_replay_run(
         &mut self,
         queue: LogQueue,
@@ -307,7 +307,7 @@ impl RegionTables {
         removed
     }
 
-    /// The tables, each with its region, in no set order.
+    /// Returns the tables, each with its region, in no set order.
     pub(crate) fn into_entries(self) -> IntoIter<u64, MemTable>
         ensures entries { finite.from_entries result ≡ self }
         ensures once { IsDistinct nat_eq (keys_of result) }

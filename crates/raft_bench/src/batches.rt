@@ -80,12 +80,12 @@ pub(crate) fn time(rt: &HostRuntime) -> Result<()> {
     Ok(())
 }
 
-/// The context of the batches.
+/// Returns the context of the batches.
 fn context() -> LogFileContext {
     LogFileContext::new(FileId::new(LogQueue::Append, 12), Version::V2)
 }
 
-/// Times how the bytes of batches are made and signed, and answers them.
+/// Times how the bytes of batches are made and signed, and returns them.
 fn time_writing(rt: &HostRuntime, shape: Shape) -> Result<Vec<Vec<u8>>> {
     let messages = messages(rt.alloc(), shape.entries)?;
     let (mut best, mut encoded) = write(rt, shape, messages.as_slice())?;
@@ -98,7 +98,7 @@ fn time_writing(rt: &HostRuntime, shape: Shape) -> Result<Vec<Vec<u8>>> {
     Ok(encoded)
 }
 
-/// How long it takes to make and sign the bytes of batches, and these bytes.
+/// Returns how long it takes to make and sign the bytes of batches, and these bytes.
 fn write(rt: &HostRuntime, shape: Shape, messages: &[Entry]) -> Result<(u64, Vec<Vec<u8>>)> {
     let mut batches = fill(rt.alloc(), shape, messages)?;
     let start = Instant::now(rt)?;
@@ -141,7 +141,7 @@ fn time_reading(rt: &HostRuntime, encoded: &[Vec<u8>]) -> Result<()> {
     Ok(())
 }
 
-/// The entries that each region of a batch brings.
+/// Returns the entries that each region of a batch brings.
 fn messages(alloc: Global, count: u64) -> Result<Vec<Entry>> {
     let mut noise = Noise::new();
     let mut messages = Vec::new(alloc);
@@ -155,7 +155,7 @@ fn messages(alloc: Global, count: u64) -> Result<Vec<Entry>> {
     Ok(messages)
 }
 
-/// Open batches of this shape.
+/// Makes open batches of this shape.
 fn fill(alloc: Global, shape: Shape, messages: &[Entry]) -> Result<Vec<LogBatch>> {
     let mut batches = Vec::new(alloc);
     for _ in 0..shape.batches {
@@ -205,7 +205,7 @@ fn seal(batches: &mut Vec<LogBatch>) -> Result<()> {
     Ok(())
 }
 
-/// The bytes of sealed batches.
+/// Returns the bytes of sealed batches.
 fn bytes_of(alloc: Global, batches: &[LogBatch]) -> Result<Vec<Vec<u8>>> {
     let mut encoded = Vec::new(alloc);
     for batch in batches {
@@ -216,7 +216,7 @@ fn bytes_of(alloc: Global, batches: &[LogBatch]) -> Result<Vec<Vec<u8>>> {
     Ok(encoded)
 }
 
-/// How many bytes these are together.
+/// Returns how many bytes these are together.
 fn length(encoded: &[Vec<u8>]) -> usize {
     let mut length = 0usize;
     for bytes in encoded {
@@ -225,7 +225,7 @@ fn length(encoded: &[Vec<u8>]) -> usize {
     length
 }
 
-/// How many items are read of the batches, and how many bytes their item batches have.
+/// Returns how many items are read of the batches, and how many bytes their item batches have.
 fn decode(alloc: Global, encoded: &[Vec<u8>]) -> Result<(usize, usize)> {
     let context = context();
     let (mut items, mut bytes) = (0usize, 0usize);

@@ -49,7 +49,8 @@ fn runs_of(alloc: Global, regions: u64, len: u64) -> AllocResult<Vec<Vec<EntryIn
     Ok(runs)
 }
 
-/// How many bytes the room of a region's blocks, of their first indexes and of their spans has.
+/// Returns how many bytes the room of a region's blocks, of their first indexes and of their spans
+/// has.
 fn kept_bytes(region: &Region) -> usize {
     let blocks = region.blocks();
     let each = size_of::<Block>() + size_of::<u64>();
@@ -80,7 +81,8 @@ fn time_appends(rt: &HostRuntime, len: u64) -> io::Result<()> {
     print_each(rt, "append", best, "entry", entries)
 }
 
-/// How long it takes to append all runs to regions without records, and how many bytes are kept then.
+/// Returns how long it takes to append all runs to regions without records, and how many bytes are
+/// kept then.
 fn append(rt: &HostRuntime, len: u64) -> io::Result<(u64, usize)> {
     let mut regions = empty_regions(rt.alloc())?;
     let runs = runs_of(rt.alloc(), REGIONS, len)?;
@@ -94,7 +96,7 @@ fn append(rt: &HostRuntime, len: u64) -> io::Result<(u64, usize)> {
     Ok((taken, bytes))
 }
 
-/// A table of many blocks, from an index on.
+/// Returns a table of many blocks, from an index on.
 fn long(alloc: Global, first: u64) -> AllocResult<Region> {
     let mut region = Region::new(alloc, 1);
     let mut next = first;
@@ -152,7 +154,7 @@ fn steps(alloc: Global) -> AllocResult<Vec<Vec<EntryIndex>>> {
     Ok(runs)
 }
 
-/// How long it takes to rewrite a table of many blocks.
+/// Returns how long it takes to rewrite a table of many blocks.
 fn rewrite(rt: &HostRuntime) -> io::Result<u64> {
     let mut region = long(rt.alloc(), 1)?;
     let runs = steps(rt.alloc())?;
@@ -175,7 +177,7 @@ fn time_rewrite(rt: &HostRuntime) -> io::Result<()> {
     )
 }
 
-/// Tables of many blocks, from an index on.
+/// Makes tables of many blocks, from an index on.
 fn long_tables(alloc: Global, first: u64) -> AllocResult<Vec<Region>> {
     let mut regions = Vec::new(alloc);
     for _ in 0..PAIRS {

@@ -28,7 +28,7 @@ fn time_size(rt: &HostRuntime, bytes: &[u8], size: usize) -> Result<()> {
     Ok(())
 }
 
-/// The checksums of chunks of `size` bytes, together.
+/// Returns the checksums of chunks of `size` bytes, together.
 fn checksums(bytes: &[u8], size: usize) -> u32 {
     let mut all = 0;
     for chunk in bytes.chunks_exact(size.max(1)) {

@@ -39,7 +39,7 @@ fn main(rt: HostRuntime) -> io::Result<()> {
     }
 }
 
-/// The words behind the program's name.
+/// Returns the words after the program's name.
 fn words_of(rt: &HostRuntime) -> io::Result<Vec<String>> {
     let mut words = Vec::new(rt.alloc());
     for word in env::args(rt)?.skip(1) {

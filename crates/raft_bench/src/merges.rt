@@ -65,7 +65,7 @@ fn time_files<R: Files + AllocGlobal + Clock>(
     Ok(Some(least))
 }
 
-/// How long one reading and merging takes, if there are four contexts.
+/// Returns how long one reading and merging takes, if there are four contexts.
 fn time_run<R: AllocGlobal + Clock>(
     rt: &R,
     segments: &[Segment],
@@ -99,7 +99,7 @@ fn time_merging<R: Clock>(
     Ok(Some(nanoseconds_since(rt, &start)?))
 }
 
-/// A context for each quarter of the segments.
+/// Returns a context for each quarter of the segments.
 fn read_quarters(alloc: Global, segments: &[Segment]) -> Result<Vec<MemTableRecoverContext>> {
     let quarter = segments.len().div_ceil(CONTEXTS).max(1);
     let mut contexts = Vec::new(alloc);
@@ -109,7 +109,7 @@ fn read_quarters(alloc: Global, segments: &[Segment]) -> Result<Vec<MemTableReco
     Ok(contexts)
 }
 
-/// A context of these segments.
+/// Returns a context of these segments.
 fn read(alloc: Global, segments: &[Segment]) -> Result<MemTableRecoverContext> {
     let mut context = MemTableRecoverContext::new(alloc)?;
     for segment in segments {
@@ -118,7 +118,7 @@ fn read(alloc: Global, segments: &[Segment]) -> Result<MemTableRecoverContext> {
     Ok(context)
 }
 
-/// Four contexts as one, if there are four.
+/// Merges four contexts, if there are four.
 fn merge_by_halves(
     contexts: Vec<MemTableRecoverContext>,
     queue: LogQueue,
@@ -129,7 +129,7 @@ fn merge_by_halves(
     merge_both(older, newer, queue)
 }
 
-/// The next two contexts as one, if there are two.
+/// Merges the next two contexts, if there are two.
 fn merge_next(
     rest: &mut IntoIter<MemTableRecoverContext>,
     queue: LogQueue,
@@ -138,7 +138,7 @@ fn merge_next(
     merge_both(older, rest.next(), queue)
 }
 
-/// Two contexts as one, if there are two.
+/// Merges two contexts, if there are two.
 fn merge_both(
     older: Option<MemTableRecoverContext>,
     newer: Option<MemTableRecoverContext>,

@@ -32,7 +32,7 @@ fn time_length(rt: &HostRuntime, bits: u32, numbers: &[u64]) -> Result<()> {
     Ok(())
 }
 
-/// How long it takes to write and to read the numbers, and their sum.
+/// Returns how long it takes to write and to read the numbers, and their sum.
 fn write_and_read(
     rt: &HostRuntime,
     numbers: &[u64],
@@ -60,7 +60,7 @@ fn write(bytes: &mut Vec<u8>, numbers: &[u64]) {
     }
 }
 
-/// The sum of the numbers, held in 64 bits.
+/// Returns the sum of the numbers, held in 64 bits.
 fn read(bytes: BytesSlice<'_>) -> u64 {
     let mut rest = bytes;
     let mut sum = 0u64;

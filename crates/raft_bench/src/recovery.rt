@@ -59,7 +59,7 @@ fn time_files<R: Threads + Files + AllocGlobal + Clock + Sync>(
     })
 }
 
-/// How long a recovery takes, and how many regions have a table then.
+/// Returns how long a recovery takes, and how many regions have a table then.
 fn time_run<R: Threads + AllocGlobal + Clock + Sync>(
     rt: &R,
     segments: &[Segment],
@@ -94,7 +94,7 @@ pub(crate) fn print(rt: &HostRuntime, timed: Option<Timed>) -> io::Result<()> {
     )
 }
 
-/// Nanoseconds as milliseconds and tenths.
+/// Writes nanoseconds as milliseconds and tenths.
 pub(crate) fn milliseconds(nanoseconds: u64) -> (u64, u64) {
     (nanoseconds / 1_000_000, nanoseconds / 100_000 % 10)
 }

@@ -34,7 +34,7 @@ pub(crate) fn time<R: Threads + Wait + Clock + Print + Sync>(rt: &R, alloc: Glob
     time_looks(rt, alloc)
 }
 
-/// How long some threads take at best to append to all regions, each to its share of them.
+/// Returns how long some threads take at best to append to all regions, each to its share of them.
 fn appended<R: Threads + Wait + Clock + Sync>(rt: &R, alloc: Global, threads: u64) -> Result<u64> {
     let mut best = u64::MAX;
     for _ in 0..TIMES {
@@ -77,7 +77,7 @@ fn append_share<R: Wait>(
     Ok(())
 }
 
-/// Regions without a pattern.
+/// Picks regions without a pattern.
 fn picks(alloc: Global) -> AllocResult<Vec<u64>> {
     let mut noise = Noise::new();
     let mut picks = Vec::with_capacity(alloc, LOOKUPS as usize)?;
@@ -87,7 +87,7 @@ fn picks(alloc: Global) -> AllocResult<Vec<u64>> {
     Ok(picks)
 }
 
-/// An accessor in which each region has a run.
+/// Returns an accessor in which each region has a run.
 fn full(alloc: Global) -> Result<MemTableAccessor> {
     let mut core = MemTableAccessor::new(alloc)?;
     for region in 0..REGIONS {
@@ -97,12 +97,12 @@ fn full(alloc: Global) -> Result<MemTableAccessor> {
     Ok(core)
 }
 
-/// The same tables, shared.
+/// Returns the same tables, shared.
 fn full_shared(alloc: Global) -> Result<SharedAccessor> {
     SharedAccessor::from_core(alloc, full(alloc)?)
 }
 
-/// The last indexes of regions, added up.
+/// Returns the last indexes of regions, added up.
 fn last_of_all(core: &MemTableAccessor, picks: &[u64]) -> u64 {
     let mut sum = 0u64;
     for region in picks {
@@ -113,7 +113,7 @@ fn last_of_all(core: &MemTableAccessor, picks: &[u64]) -> u64 {
     sum
 }
 
-/// The last indexes of regions in shared tables, added up.
+/// Returns the last indexes of regions in shared tables, added up.
 fn shared_last_of_all<R: Wait>(rt: &R, shared: &SharedAccessor, picks: &[u64]) -> u64 {
     let mut sum = 0u64;
     for region in picks {

@@ -119,7 +119,7 @@ pub(crate) fn print_each(
     println!(rt; "{name}: {whole}.{tenths} ns a {unit}")
 }
 
-/// The entries from `first` on, in one block of a file.
+/// Returns the entries from `first` on, in one block of a file.
 pub(crate) fn run(
     alloc: Global,
     first: u64,
@@ -143,7 +143,7 @@ pub(crate) fn run(
     Ok(run)
 }
 
-/// Regions without records.
+/// Makes regions without records.
 pub(crate) fn empty_regions(alloc: Global) -> AllocResult<Vec<Region>> {
     let mut regions = Vec::new(alloc);
     for id in 0..REGIONS {
@@ -163,7 +163,7 @@ fn runs(alloc: Global) -> AllocResult<Vec<Vec<EntryIndex>>> {
     Ok(runs)
 }
 
-/// Appends each run to the region whose turn it is. Answers how many were accepted.
+/// Appends each run to the region whose turn it is. Returns how many were accepted.
 pub(crate) fn append_all(regions: &mut Vec<Region>, runs: Vec<Vec<EntryIndex>>) -> u64 {
     let mut turn = 0;
     let mut accepted = 0u64;
@@ -181,7 +181,7 @@ pub(crate) fn append_all(regions: &mut Vec<Region>, runs: Vec<Vec<EntryIndex>>) 
     accepted
 }
 
-/// Regions with all their entries.
+/// Makes regions with all their entries.
 fn full_regions(alloc: Global) -> AllocResult<Vec<Region>> {
     let mut regions = empty_regions(alloc)?;
     append_all(&mut regions, runs(alloc)?);
@@ -206,7 +206,7 @@ fn time_append(rt: &HostRuntime) -> io::Result<()> {
     )
 }
 
-/// Compacts all regions to an index. Answers how many entries were dropped.
+/// Compacts all regions to an index. Returns how many entries were dropped.
 fn compact_each(regions: &mut Vec<Region>, index: u64) -> u64 {
     let mut dropped = 0u64;
     for region in regions.iter_mut() {
@@ -215,7 +215,7 @@ fn compact_each(regions: &mut Vec<Region>, index: u64) -> u64 {
     dropped
 }
 
-/// Compacts all regions step by step. Answers how many entries were dropped.
+/// Compacts all regions step by step. Returns how many entries were dropped.
 fn compact_all(regions: &mut Vec<Region>) -> u64 {
     let mut dropped = 0u64;
     for step in 1..=ENTRIES / STEP {
@@ -242,7 +242,8 @@ fn time_compact_to(rt: &HostRuntime) -> io::Result<()> {
     )
 }
 
-/// Places in regions without a pattern: a region's place, and an index with so many entries behind it.
+/// Picks places in regions without a pattern: a region's place, and an index with so many entries
+/// after it.
 fn picks(
     alloc: Global,
     noise: &mut Noise,
@@ -258,7 +259,7 @@ fn picks(
     Ok(picks)
 }
 
-/// How many of these entries there are.
+/// Returns how many of these entries there are.
 pub(crate) fn found(regions: &[Region], picks: &[(usize, u64)]) -> u64 {
     let mut count = 0u64;
     for (region, index) in picks {
@@ -271,7 +272,7 @@ pub(crate) fn found(regions: &[Region], picks: &[(usize, u64)]) -> u64 {
     count
 }
 
-/// How many entries fetches from these places on give.
+/// Returns how many entries fetches from these places on give.
 fn fetched(regions: &[Region], picks: &[(usize, u64)], entries: &mut Vec<EntryIndex>) -> u64 {
     let mut count = 0u64;
     for (region, index) in picks {
@@ -340,7 +341,7 @@ fn rewrite_all(regions: &mut Vec<Region>, runs: Vec<Vec<EntryIndex>>) {
     }
 }
 
-/// All entries of each region.
+/// Returns all entries of each region.
 fn whole_runs(alloc: Global) -> AllocResult<Vec<Vec<EntryIndex>>> {
     let mut runs = Vec::new(alloc);
     for _ in 0..REGIONS {
@@ -367,7 +368,7 @@ fn time_rewrite(rt: &HostRuntime) -> io::Result<()> {
     )
 }
 
-/// Keys of 8 bytes with values of 32.
+/// Makes keys of 8 bytes with values of 32.
 fn pairs(alloc: Global) -> AllocResult<Vec<Pair>> {
     let mut noise = Noise::new();
     let mut pairs = Vec::new(alloc);
@@ -394,7 +395,8 @@ fn delete_all(region: &mut Region, pairs: &[Pair]) {
     }
 }
 
-/// How long it takes to put all pairs into a table, to put them once more, and to delete them.
+/// Returns how long it takes to put all pairs into a table, to put them once more, and to delete
+/// them.
 fn change_keys(rt: &HostRuntime) -> io::Result<(u64, u64, u64)> {
     let mut region = Region::new(rt.alloc(), 1);
     let new = put_pairs(rt, &mut region)?;
@@ -435,7 +437,7 @@ fn time_puts(rt: &HostRuntime) -> io::Result<()> {
     print_each(rt, "delete", best_delete, "call", KEYS as u64)
 }
 
-/// How many bytes the values of these keys have.
+/// Returns how many bytes the values of these keys have.
 fn value_bytes(table: &MemTable, pairs: &[Pair]) -> usize {
     let mut bytes = 0usize;
     for (key, _) in pairs {
@@ -444,7 +446,7 @@ fn value_bytes(table: &MemTable, pairs: &[Pair]) -> usize {
     bytes
 }
 
-/// How many bytes the keys and values of a table have.
+/// Returns how many bytes the keys and values of a table have.
 fn scanned_bytes(table: &MemTable) -> usize {
     let mut bytes = 0usize;
     let scanned = table.scan(None, None, false, |key, value| {

@@ -52,7 +52,7 @@ static WAYS: [Way; 7] = [
     Way::Workers(4),
 ];
 
-/// What all cuttings give of the files that words name, if they ask for a recovery.
+/// Returns what all cuttings give of the files that words name, if they ask for a recovery.
 pub(crate) fn of_words<R: Threads + Files + AllocGlobal + Sync>(
     rt: &R,
     words: &[String],
@@ -87,7 +87,7 @@ fn of_files<R: Threads + Files + AllocGlobal + Sync>(
     Ok(Found::Same(whole))
 }
 
-/// A way that gives something else at this cutting, if there is one.
+/// Returns a way that gives something else at this cutting, if there is one.
 fn other_way<R: Threads + AllocGlobal + Sync>(
     rt: &R,
     batches: &[FilePart],
@@ -103,7 +103,7 @@ fn other_way<R: Threads + AllocGlobal + Sync>(
     Ok(None)
 }
 
-/// Whether two answers are the same.
+/// Tests whether two results are the same.
 fn is_same(left: &Answer, right: &Answer) -> bool {
     match (left, right) {
         (Answer::Lines(left), Answer::Lines(right)) => left.as_slice() == right.as_slice(),
@@ -112,7 +112,7 @@ fn is_same(left: &Answer, right: &Answer) -> bool {
     }
 }
 
-/// What the batches give at this cutting, read and merged in this way.
+/// Returns what the batches give at this cutting, read and merged in this way.
 fn read_cut<R: Threads + AllocGlobal + Sync>(
     rt: &R,
     batches: &[FilePart],
@@ -134,7 +134,7 @@ fn read_cut<R: Threads + AllocGlobal + Sync>(
     }
 }
 
-/// The tables of segments that are read one by one and merged by a plan.
+/// Returns the tables of segments that are read one by one and merged by a plan.
 fn merged<R: Threads + AllocGlobal + Sync>(
     rt: &R,
     segments: &[Segment],
@@ -146,7 +146,7 @@ fn merged<R: Threads + AllocGlobal + Sync>(
     merge_pieces(rt, pieces, &plan, queue)?.finish()
 }
 
-/// A context for each segment.
+/// Returns a context for each segment.
 fn read_each(alloc: Global, segments: &[Segment]) -> Result<Vec<MemTableRecoverContext>> {
     let mut pieces = Vec::new(alloc);
     for segment in segments {
@@ -155,14 +155,14 @@ fn read_each(alloc: Global, segments: &[Segment]) -> Result<Vec<MemTableRecoverC
     Ok(pieces)
 }
 
-/// A context of a segment.
+/// Returns a context of a segment.
 fn read(alloc: Global, segment: &Segment) -> Result<MemTableRecoverContext> {
     let mut context = MemTableRecoverContext::new(alloc)?;
     replay_segment(&mut context, segment)?;
     Ok(context)
 }
 
-/// The plan that merges so many pieces in this way.
+/// Returns the plan that merges so many pieces in this way.
 fn plan_of(alloc: Global, count: usize, way: Way) -> Result<Plan> {
     let mut plan = Plan::One;
     match way {
@@ -182,7 +182,8 @@ fn plan_of(alloc: Global, count: usize, way: Way) -> Result<Plan> {
     }
 }
 
-/// The batches as segments: one ends behind batch `n` where bit `n` of the number is set, and one at the end.
+/// Returns the batches as segments: one ends behind batch `n` where bit `n` of the number is set, and one at
+/// the end.
 fn cut(alloc: Global, batches: &[FilePart], cutting: u64) -> Result<Vec<Segment>> {
     let mut segments = Vec::new(alloc);
     let mut segment = Vec::new(alloc);
@@ -198,7 +199,7 @@ fn cut(alloc: Global, batches: &[FilePart], cutting: u64) -> Result<Vec<Segment>
     Ok(segments)
 }
 
-/// A part for each batch of the segments, and for each empty file.
+/// Returns a part for each batch of the segments, and for each empty file.
 fn batches_of(alloc: Global, segments: Vec<Segment>) -> Result<Vec<FilePart>> {
     let mut batches = Vec::new(alloc);
     for segment in segments {
@@ -212,7 +213,7 @@ fn batches_of(alloc: Global, segments: Vec<Segment>) -> Result<Vec<FilePart>> {
     Ok(batches)
 }
 
-/// The lines of tables.
+/// Returns the lines of tables.
 fn lines_of(alloc: Global, tables: &MemTableAccessor) -> Result<Vec<u8>> {
     let mut lines = Vec::new(alloc);
     print_recovered(alloc, tables, &mut lines)?;

@@ -28,7 +28,7 @@ fn main(rt: HostRuntime) -> ExitCode {
     ExitCode::from(status_of(&rt, found))
 }
 
-/// Prints what was found, and answers the status to end with.
+/// Prints what was found, and returns the status to end with.
 fn status_of(rt: &HostRuntime, found: Result<Option<Found>>) -> u8 {
     match found {
         Ok(Some(Found::Same(answer))) => print(rt, answer),
@@ -38,7 +38,7 @@ fn status_of(rt: &HostRuntime, found: Result<Option<Found>>) -> u8 {
     }
 }
 
-/// Prints the lines of an answer.
+/// Prints the lines of a result.
 fn print(rt: &HostRuntime, answer: Answer) -> u8 {
     let Answer::Lines(lines) = answer else {
         return REFUSED;

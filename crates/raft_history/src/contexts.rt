@@ -13,13 +13,14 @@ ghost use Rattle.raft_history.specs.MarkedRegions.{MarkedRegions, region_steps_o
 ghost use Rattle.raft_history.specs.Contexts.{Context, StandsFor, IsExactFor, Suits, files_of, follows, new_context, merged_context, taken_in, merged_with, AreMerged, AreRegionsRefused};
 ghost use Rattle.raft_history.specs.Kept.{kept_of, kept_by, IsAtMost};
 
-/// A new context stands exactly for the empty history.
+/// States that a new context stands exactly for the empty history.
 pub fn new_contexts_stand_exactly()
     ensures { IsExactFor new_context [] }
 {}
 
-/// A context that stands for a history stands for it and one batch more after taking the batch in,
-/// exactly if it did before. The batch is refused only where no sound history goes on with it.
+/// States that a context that stands for a history stands for it and one batch more after taking
+/// the batch in, exactly if it did before. The batch is refused only where no sound history goes on
+/// with it.
 pub fn batches_are_taken_in()
     ensures stands { (c d : Context) (h : List Event) (e : Event) → Suits e.file.queue c.files
         → follows c.files (files_of (e ∷ [])) ≡ true → AreInFile e.file e.items
@@ -38,9 +39,9 @@ pub fn batches_are_taken_in()
         × AreInFile e.file e.items × HaveStatus e.file.queue e.items }
 {}
 
-/// Contexts of two neighboring histories, merged, stand for both, one behind the other; exactly, if
-/// both did and the effects of that history are apart. They are refused only where it isn't sound,
-/// in the rewrite queue by its files alone.
+/// States that contexts of two neighboring histories, merged, stand for both, one behind the other;
+/// exactly, if both did and the effects of that history are apart. They are refused only where it
+/// isn't sound, in the rewrite queue by its files alone.
 pub fn merges_stand_for_both()
     ensures stands { (q : LogQueue) (c d e : Context) (h k : List Event) → Suits q c.files
         → Suits q d.files → StandsFor c h → StandsFor d k → merged_context q c d ≡ Some e
@@ -55,7 +56,7 @@ pub fn merges_stand_for_both()
         → merged_context Rewrite c d ≡ None → ⊥ }
 {}
 
-/// The same, said of the merged regions one by one, in no order: they may be joined into the older
+/// States the same of the merged regions one by one, in no order: they may be joined into the older
 /// context or the newer one.
 pub fn regions_merge_one_by_one()
     ensures stands { (q : LogQueue) (c d : Context) (h k : List Event) (regions : MarkedRegions)
@@ -75,8 +76,8 @@ pub fn regions_merge_one_by_one()
     ensures rewrite { (c d : Context) → AreRegionsRefused Rewrite c d → ⊥ }
 {}
 
-/// The merge that takes one region after another is that of the regions one by one, and is refused where
-/// that is: so what is said of either holds of both.
+/// States that the merge that takes one region after another is that of the regions one by one, and is
+/// refused where that is: so what is said of either holds of both.
 pub fn merges_go_region_by_region()
     ensures same { (q : LogQueue) (c d e : Context) → (merged_context q c d ≡ Some e)
         ↔ ((follows c.files d.files ≡ true) × AreMerged q c d e.regions
@@ -85,36 +86,37 @@ pub fn merges_go_region_by_region()
         ↔ ((follows c.files d.files ≡ false) ⊎ AreRegionsRefused q c d) }
 {}
 
-/// An exact context has what one reading of its history gives.
+/// States that an exact context has what one reading of its history gives.
 pub fn exact_contexts_are_one_reading()
     ensures { (q : LogQueue) (c : Context) (h : List Event) → IsExactFor c h → Suits q c.files
         → IsOneReading q h c.regions.tables c.cleaned }
 {}
 
-/// An exact context holds at most what its history may hold, number by number.
+/// States that an exact context holds at most what its history may hold, number by number.
 pub fn exact_contexts_keep_little()
     ensures { (q : LogQueue) (c : Context) (h : List Event) (tables : Tables) (cleaned : List ℕ)
         → IsExactFor c h → Suits q c.files → IsOneReading q h tables cleaned
         → IsAtMost (kept_of c) (kept_by q h tables) }
 {}
 
-/// Contexts that are exact for one history hold the same: so merges of exact contexts are associative
-/// in meaning.
+/// States that contexts that are exact for one history hold the same: so merges of exact contexts are
+/// associative in meaning.
 pub fn exact_contexts_agree()
     ensures { (c d : Context) (h : List Event) → IsExactFor c h → IsExactFor d h
         → (c.regions.tables ≡ d.regions.tables) × (c.groups ≡ d.groups) × (c.cleaned ≡ d.cleaned)
         × (c.files ≡ d.files) }
 {}
 
-/// What waits after two neighbors were joined, and what became whole between them, is no more than
-/// waited in both.
+/// States that what waits after two neighbors were joined, and what became whole between them, is
+/// no more than waited in both.
 pub fn waiting_records_stay_few()
     ensures { (older newer : WaitingGroups)
         → waiting_records (joined_groups older newer) + records_in_wholes (whole_groups older newer)
         ≤ waiting_records older + waiting_records newer }
 {}
 
-/// The steps that become whole between two histories of a queue are such as replays into it ask for.
+/// States that the steps that become whole between two histories of a queue are such as replays into
+/// it ask for.
 pub fn wholes_are_of_the_queue()
     ensures { (q : LogQueue) (h k : List Event)
         → FilesFrom q 0 h → AllByRecursion (λ (e : Event). AreInFile e.file e.items) h

@@ -9,15 +9,15 @@ ghost use Rattle.raft_history.specs.Effects.{Effect, EachApart, effects, steps_o
 ghost use Rattle.raft_history.specs.Stretches.{AreEffects};
 ghost use Rattle.raft_history.specs.WaitingGroups.{groups_in, joined_groups, whole_groups, groups_after, steps_by_batch, names_by_batch, known_of, steps_of_wholes};
 
-/// The effects of a history are the batches without a group marker and the stretches of each group's
-/// group markers, in the order of their last batches.
+/// States that the effects of a history are the batches without a group marker and the stretches of
+/// each group's group markers, in the order of their last batches.
 pub fn effects_are_stretches()
     ensures are { (h : List BatchSteps) → AreEffects h (effects h) }
     ensures alone { (h : List BatchSteps) (es : List Effect) → AreEffects h es → es ≡ effects h }
 {}
 
-/// What is known of the groups of two neighboring histories tells what is known of both, one
-/// behind the other.
+/// States that what is known of the groups of two neighboring histories tells what is known of
+/// both, one behind the other.
 pub fn groups_join()
     ensures joined { (h k : List BatchSteps)
         → groups_in (h ++ k) ≡ joined_groups (groups_in h) (groups_in k) }
@@ -26,8 +26,8 @@ pub fn groups_join()
     ensures each { (g : ℕ) (h : List BatchSteps) → known_of (groups_in h) g ≡ group_in g h }
 {}
 
-/// The steps on a region of two histories, one behind the other: those of the older, of the groups
-/// that become whole between them, and of the newer.
+/// States which steps two histories, one after the other, have on a region: those of the older, of
+/// the groups that become whole between them, and of the newer.
 pub fn steps_join()
     ensures across { (r : ℕ) (h k : List BatchSteps) → EachApart (effects (h ++ k))
         → steps_of r (h ++ k)
@@ -37,8 +37,8 @@ pub fn steps_join()
         → steps_of r (h ++ b ∷ []) ≡ steps_of r h ++ steps_by_batch r (groups_in h) b b.marker }
 {}
 
-/// Groups that become whole between two histories name different regions, where the effects of both,
-/// one behind the other, are apart.
+/// States that groups that become whole between two histories name different regions, where the
+/// effects of both, one behind the other, are apart.
 pub fn wholes_name_different_regions()
     ensures { (h k : List BatchSteps) → EachApart (effects (h ++ k)) → (g l : ℕ) → g ≢ l
         → (w v : WholeGroup) → whole_group (group_in g h) (group_in g k) ≡ Some w
@@ -46,8 +46,8 @@ pub fn wholes_name_different_regions()
         → names r v.steps ≡ true → ⊥ }
 {}
 
-/// Where no batch has a group marker, as in the append queue, each batch is an effect, and the effects are
-/// apart.
+/// States that where no batch has a group marker, as in the append queue, each batch is an effect, and the
+/// effects are apart.
 pub fn batches_without_markers_are_effects()
     ensures apart { (h : List BatchSteps) → AllByRecursion (λ b. b.marker ≡ None) h
         → EachApart (effects h) }
@@ -55,9 +55,9 @@ pub fn batches_without_markers_are_effects()
         → steps_of r h ≡ flat_map (λ b. steps_on r b.steps) h }
 {}
 
-/// A region has steps in the effects exactly where one of them names it; and the regions that two
-/// histories name, one behind the other, are those of the older, of the groups that become whole
-/// between them, and of the newer.
+/// States that a region has steps in the effects exactly where one of them names it; and the
+/// regions that two histories name, one behind the other, are those of the older, of the groups
+/// that become whole between them, and of the newer.
 pub fn named_regions_have_steps()
     ensures steps { (r : ℕ) (h : List BatchSteps) → (is_named r h ≡ false) ↔ (steps_of r h ≡ []) }
     ensures across { (r : ℕ) (h k : List BatchSteps) → EachApart (effects (h ++ k))
@@ -69,7 +69,8 @@ pub fn named_regions_have_steps()
         → is_named r (h ++ b ∷ []) ≡ (is_named r h || names_by_batch r (groups_in h) b b.marker) }
 {}
 
-/// A group that is not whole changes nothing: without its batches every region has the same steps.
+/// States that a group that never becomes whole changes nothing: without its batches every region
+/// has the same steps.
 pub fn incomplete_groups_change_nothing()
     ensures { (g : ℕ) (h : List BatchSteps) → EndsNoEffect g h → (r : ℕ)
         → steps_of r (without_group g h) ≡ steps_of r h }

@@ -7,8 +7,8 @@ ghost use Rattle.raft_records.specs.DecodedIn.{IsDecodedIn};
 ghost use Rattle.raft_records.specs.Item.{entries};
 ghost use Rattle.raft_table.specs.TableEntries.{IsRunIn};
 
-/// The entries of an item that was read from a file are a run of the file's queue, as tables ask for:
-/// nobody tests it again.
+/// States that the entries of an item that was read from a file are a run of the file's queue, as
+/// tables ask for: nobody tests it again.
 pub fn read_entries_are_runs()
     ensures { (file : FileId) (es : List EntryIndex) → IsDecodedIn file (entries es)
         → IsRunIn file.queue es }

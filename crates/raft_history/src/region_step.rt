@@ -30,7 +30,7 @@ impl RegionStep {
     }
 }
 
-/// The step of a content.
+/// Returns the step of a content.
 fn content_step(content: LogItemContent) -> Option<Step>
     ensures { option_map step_shown result ≡ content_step (content_of content) }
 {
@@ -41,7 +41,7 @@ fn content_step(content: LogItemContent) -> Option<Step>
     }
 }
 
-/// The step of a command.
+/// Returns the step of a command.
 fn command_step(command: Command) -> Step
     ensures { step_shown result ≡ command_step command }
 {
@@ -52,7 +52,7 @@ fn command_step(command: Command) -> Step
     }
 }
 
-/// The step of a change of a key.
+/// Returns the step of a change of a key.
 fn pair_step(kv: KeyValue) -> Option<Step>
     ensures { option_map step_shown result ≡ content_step (pair (pair_of kv)) }
 {

@@ -18,7 +18,7 @@ ghost use Rattle.raft_history.specs.MarkedRegions.{MarkedRegions, no_regions, re
 ghost use Rattle.raft_history.specs.RegionSteps.{RegionStep, steps_of_items};
 ghost use Rattle.raft_history.specs.WaitingGroup.{WholeGroup};
 
-/// That region marks and tables stand for some steps is kept by further steps and by joins.
+/// States that further steps and joins keep what region marks and tables stand for.
 pub fn regions_stand_for_steps()
     ensures none { (q : LogQueue) → StandForSteps q no_regions }
     ensures steps { (q : LogQueue) (rs new : MarkedRegions) (steps : List RegionStep)
@@ -38,8 +38,8 @@ pub fn regions_stand_for_steps()
         → StandForSteps q rs }
 {}
 
-/// Over a rewritten table an exact region mark and table of the append queue give the overlay by its steps, for
-/// the regions that these name; the others keep their rewritten tables.
+/// States that over a rewritten table an exact region mark and table of the append queue give the overlay by
+/// its steps, for the regions that these name; the others keep their rewritten tables.
 pub fn overlays_are_by_steps()
     ensures { (r : ℕ) (rs : MarkedRegions) (bs : List BatchSteps) (rewritten : Option Table)
         → AreExact Append rs bs

@@ -15,7 +15,8 @@ use raft_records::{
 };
 use std::alloc::Global;
 
-/// The group marker of a batch that was written to the file, if it has one and the queue knows groups.
+/// Returns the group marker of a batch that was written to the file, if it has one and the queue knows
+/// groups.
 ///
 /// # Errors
 ///
@@ -45,8 +46,8 @@ pub(crate) fn check_batch(
     }
 }
 
-/// Whether the batch says that it was decoded for this file: then its items may stand there. `false` says
-/// nothing of them.
+/// Tests whether the batch says that it was decoded for this file: then its items may stand there.
+/// `false` says nothing of them.
 fn knows_file(batch: &LogItemBatch, file: FileId) -> bool
     ensures { IsTrue result → AreInFile file batch.now }
 {
@@ -56,7 +57,7 @@ fn knows_file(batch: &LogItemBatch, file: FileId) -> bool
     }
 }
 
-/// The same as [`check_batch`] of the items of a batch of the rewrite queue.
+/// Does what [`check_batch`] does, of the items of a batch of the rewrite queue.
 fn check_rewrite_batch(
     alloc: Global,
     items: &[LogItem],
@@ -81,7 +82,7 @@ fn check_rewrite_batch(
     Ok(marker)
 }
 
-/// Whether all items may stand in a batch of the file.
+/// Tests whether all items may stand in a batch of the file.
 fn are_in_file(items: &[LogItem], file: FileId) -> bool
     ensures { MatchBool result (AreInFile file (map item_of items.now))
         (AreInFile file (map item_of items.now) → ⊥) }
@@ -89,7 +90,7 @@ fn are_in_file(items: &[LogItem], file: FileId) -> bool
     items.iter().all(|item| is_in_file(item, file))
 }
 
-/// Whether an item may stand in a batch of the file.
+/// Tests whether an item may stand in a batch of the file.
 fn is_in_file(item: &LogItem, file: FileId) -> bool
     ensures { MatchBool result (IsInFile file (content_of item.now.content))
         (IsInFile file (content_of item.now.content) → ⊥) }
@@ -101,7 +102,7 @@ fn is_in_file(item: &LogItem, file: FileId) -> bool
     }
 }
 
-/// Whether a change of a key may stand in a batch of the file.
+/// Tests whether a change of a key may stand in a batch of the file.
 fn is_pair_in(kv: &KeyValue, file: FileId) -> bool
     ensures { MatchBool result (IsInFile file (pair (pair_of kv.now)))
         (IsInFile file (pair (pair_of kv.now)) → ⊥) }
@@ -118,7 +119,7 @@ fn is_pair_in(kv: &KeyValue, file: FileId) -> bool
     }
 }
 
-/// Whether entries are consecutive, and all their places are in the file.
+/// Tests whether entries are consecutive, and all their places are in the file.
 fn is_run_in_file(entries: &[EntryIndex], file: FileId) -> bool
     ensures { MatchBool result (IsInFile file (entries_of entries.now))
         (IsInFile file (entries_of entries.now) → ⊥) }
@@ -126,7 +127,7 @@ fn is_run_in_file(entries: &[EntryIndex], file: FileId) -> bool
     is_consecutive(entries) && entries.iter().all(|entry| is_place_in_file(entry, file))
 }
 
-/// Whether an entry's place is in the file.
+/// Tests whether an entry's place is in the file.
 fn is_place_in_file(entry: &EntryIndex, file: FileId) -> bool
     ensures { MatchBool result (IsPlaceInFile file entry.now.entries)
         (IsPlaceInFile file entry.now.entries → ⊥) }

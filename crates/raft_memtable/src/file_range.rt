@@ -15,7 +15,7 @@ pub(crate) struct FileRange {
 }
 
 impl FileRange {
-    /// The files of one batch.
+    /// Returns the files of one batch.
     pub(crate) fn of(file: FileId) -> FileRange
         ensures { range_shown result
             ≡ record { queue = file.queue; first_seq = file.seq; last_seq = file.seq } }
@@ -27,7 +27,7 @@ impl FileRange {
         }
     }
 
-    /// Whether the files, if there are any, are of the queue.
+    /// Tests whether the files, if there are any, are of the queue.
     pub(crate) fn suits(files: Option<FileRange>, queue: LogQueue) -> bool
         ensures { IsTrue result ↔ Suits queue (ranges_shown files) }
     {
@@ -37,7 +37,8 @@ impl FileRange {
         }
     }
 
-    /// Whether the newer files may come behind the older ones: the first isn't below the last.
+    /// Tests whether the newer files may come behind the older ones: the first isn't below the
+    /// last.
     pub(crate) fn follows(older: Option<FileRange>, newer: Option<FileRange>) -> bool
         ensures { result ≡ follows (ranges_shown older) (ranges_shown newer) }
     {
@@ -47,7 +48,7 @@ impl FileRange {
         }
     }
 
-    /// The files of two neighbors.
+    /// Returns the files of two neighbors.
     pub(crate) fn joined(older: Option<FileRange>, newer: Option<FileRange>) -> Option<FileRange>
         ensures { ranges_shown result ≡ joined_files (ranges_shown older) (ranges_shown newer) }
     {

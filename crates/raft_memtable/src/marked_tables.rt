@@ -40,7 +40,7 @@ pub(crate) struct MarkedTables {
 }
 
 impl MarkedTables {
-    /// No tables and no region marks.
+    /// Makes one without tables and region marks.
     ///
     /// # Errors
     ///
@@ -129,7 +129,7 @@ impl MarkedTables {
         Ok(())
     }
 
-    /// Takes in an item that is a run, where its region has a table that takes it, and answers whether it
+    /// Takes in an item that is a run, where its region has a table that takes it, and returns whether it
     /// did. Where it did not, nothing has changed.
     ///
     /// # Errors
@@ -203,7 +203,7 @@ impl MarkedTables {
         self.accessor.take_step(queue, id, step)
     }
 
-    /// Where the entries of a region end in front of a run. No other step asks for it.
+    /// Returns where the entries of a region end in front of a run. No other step asks for it.
     fn end_before(&self, id: u64, step: &Step) -> u64
         ensures { (queue : LogQueue) (m : Mark)
             → joined_at queue result m (mark_of (step_shown step.now))
@@ -216,7 +216,7 @@ impl MarkedTables {
         }
     }
 
-    /// The greatest index of a region plus one, or 0.
+    /// Returns the greatest index of a region plus one, or 0.
     fn end_of(&self, id: u64) -> u64
         ensures { result ≡ end_of (table_in self.now.accessor.tables id).entries }
     {

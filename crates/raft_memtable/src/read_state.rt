@@ -40,7 +40,7 @@ pub(crate) struct ReadState {
 }
 
 impl ReadState {
-    /// Nothing was read.
+    /// Makes the state in which nothing was read.
     ///
     /// # Errors
     ///
@@ -76,7 +76,7 @@ impl ReadState {
         }
     }
 
-    /// The group marker of a batch that may come next, if it has one.
+    /// Returns the group marker of a batch that may come next, if it has one.
     fn check(&self, batch: &LogItemBatch, file: FileId) -> Result<Option<(u64, AtomicGroupStatus)>>
         ensures next { OnOk result (MayFollow (context_in self.now) (event batch.now file)) }
         ensures marker { IfOk result (λ marker. marker ≡ marker_found file.queue batch.now) }
@@ -154,7 +154,7 @@ impl ReadState {
         self.join(newer, queue)
     }
 
-    /// What it holds, in numbers.
+    /// Counts what it holds.
     pub(crate) fn kept(&self) -> Kept
         ensures { kept_shown result ≡ kept_of (context_in self.now) }
     {
@@ -170,7 +170,7 @@ impl ReadState {
         }
     }
 
-    /// Whether what was read of newer batches may be taken in.
+    /// Tests whether what was read of newer batches may be taken in.
     fn check_neighbor(&self, newer: &ReadState, queue: LogQueue) -> Result<()>
         ensures ok { OnOk result (AreNeighbors queue (context_in self.now)
             (context_in newer.now)) }

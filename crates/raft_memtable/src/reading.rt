@@ -10,8 +10,8 @@ ghost use Rattle.raft_accessor.specs.Writes.{Replaying, listed_by_items};
 ghost use Rattle.raft_memtable.specs.MovedPlaces.{AppendedItemsFollow, AreMovedTables, AreRuns, ReadItemsLeaveRuns, ReadingLeavesRuns, RewritingMovesPlaces};
 ghost use Rattle.raft_memtable.specs.ReadItems.{AppendedItemsAreListed, AppendedItemsAreRead, ItemsAreRead};
 
-/// Items that are read again leave the tables that their steps leave in a history, and list the
-/// regions that these clean. This is a law: it computes nothing.
+/// States that items that are read again leave the tables that their steps leave in a history, and
+/// list the regions that these clean. This is a law: it computes nothing.
 #[tactic(auto, using(crate::proofs::ReadingLemmas::items_read, crate::proofs::ReadingLemmas::items_listed))]
 pub fn items_are_read_as_steps()
     ensures tables { ItemsAreRead }
@@ -20,17 +20,17 @@ pub fn items_are_read_as_steps()
         ≡ cleaned_by_steps Append (steps_of_items items) }
 {}
 
-/// New items that the append queue accepts leave the tables that their steps leave in a history, and list the
-/// regions that these clean: so what was written is what is read.
+/// States that new items that the append queue accepts leave the tables that their steps leave in a history,
+/// and list the regions that these clean: so what was written is what is read.
 pub fn appended_items_are_read_as_steps()
     ensures tables { AppendedItemsAreRead }
     ensures cleaned { AppendedItemsAreListed }
 {}
 
-/// Rewritings change places alone. Kept tables, some of whose places were rewritten, have the indexes, keys and
-/// values of those that reading the append queue gives; each place and file that is another is in the rewrite queue.
-/// That stays so when items are appended to the kept tables and read again into the others, and when items are
-/// rewritten, whatever they are and whatever the gate. Tables that are read have runs.
+/// States that rewritings change places alone. Kept tables, some of whose places were rewritten, have the indexes,
+/// keys and values of those that reading the append queue gives; each place and file that is another is in the
+/// rewrite queue. That stays so when items are appended to the kept tables and read again into the others, and when
+/// items are rewritten, whatever they are and whatever the gate. Tables that are read have runs.
 pub fn rewriting_changes_places_alone()
     ensures appended { AppendedItemsFollow }
     ensures rewritten { RewritingMovesPlaces }

@@ -51,7 +51,7 @@ impl Model for MemTableRecoverContext {
 }
 
 impl MemTableRecoverContext {
-    /// A context that has read nothing.
+    /// Makes a context that has read nothing.
     ///
     /// # Errors
     ///
@@ -126,7 +126,7 @@ impl MemTableRecoverContext {
     /// has entries and these don't begin at the cut, or the rewritten ones don't reach it. Key values stay that
     /// the append queue neither puts nor deletes. Nothing stays where the append queue cleaned the region. The
     /// other regions keep their rewritten tables, and the cleaned regions are those of the append queue. Groups
-    /// that are not whole are dropped. The context then answers `kept` and `finish` alone.
+    /// that are not whole are dropped. Only `kept` and `finish` can then be called.
     ///
     /// # Errors
     ///
@@ -156,8 +156,8 @@ impl MemTableRecoverContext {
         Ok(())
     }
 
-    /// How much the context holds. Where it stands for a history exactly, that is no more than one
-    /// reading of the history has, its groups that are not whole, and the keys that it deletes.
+    /// Counts what the context holds. Where it stands for a history exactly, that is no more than
+    /// one reading of the history has, its groups that are not whole, and the keys that it deletes.
     ///
     /// # Errors
     ///
@@ -181,7 +181,7 @@ impl MemTableRecoverContext {
         Ok(self.state.kept())
     }
 
-    /// The tables of all regions, with their counts and the regions that were cleaned.
+    /// Returns the tables of all regions, with their counts and the regions that were cleaned.
     ///
     /// # Errors
     ///
@@ -234,7 +234,7 @@ impl ReplayMachine for MemTableRecoverContext {
 pub struct MemTableRecoverContextFactory;
 
 impl MemTableRecoverContextFactory {
-    /// A factory.
+    /// Makes a factory.
     pub fn new() -> MemTableRecoverContextFactory {
         MemTableRecoverContextFactory
     }

@@ -41,7 +41,7 @@ impl Model for RegionMarks {
 }
 
 impl RegionMarks {
-    /// No region marks.
+    /// Makes one without region marks.
     pub fn new(alloc: Global) -> RegionMarks
         ensures { result ≡ finite.empty }
     {
@@ -51,14 +51,14 @@ impl RegionMarks {
         }
     }
 
-    /// How many regions have a region mark.
+    /// Returns how many regions have a region mark.
     pub fn len(&self) -> usize
         ensures { result ≡ finite.len self.now }
     {
         self.marks.len()
     }
 
-    /// How many deleted keys all region marks hold together.
+    /// Returns how many deleted keys all region marks hold together.
     pub fn deleted_keys(&self) -> u128
         ensures { result ≡ total (λ (m : Mark). finset.len m.deleted) self.now }
     {
@@ -129,7 +129,7 @@ impl RegionMarks {
         })
     }
 
-    /// The region marks, each with its region, in no set order.
+    /// Returns the region marks, each with its region, in no set order.
     pub(crate) fn into_entries(self) -> IntoIter<u64, Mark>
         ensures entries { finite.from_entries result ≡ self }
         ensures once { IsDistinct nat_eq (keys_of result) }

@@ -45,7 +45,7 @@ pub struct WholeGroup {
 }
 
 impl GroupFront {
-    /// How many items there are.
+    /// Returns how many items there are.
     fn len(&self) -> usize
         ensures { result ≡ length (front_steps (front_shown self.now)) }
     {
@@ -56,7 +56,7 @@ impl GroupFront {
         }
     }
 
-    /// The front with items that stand before it.
+    /// Returns the front with items that stand before it.
     fn led_by(self, mut items: WaitingItems) -> AllocResult<GroupFront>
         ensures { IfOk result (λ r. front_shown r ≡ led_by items (front_shown self)) }
     {
@@ -75,7 +75,7 @@ impl GroupFront {
 }
 
 impl WaitingGroup {
-    /// What is known of a group without a group marker.
+    /// Returns what is known of a group without a group marker.
     pub fn without_marker(alloc: Global) -> WaitingGroup
         ensures { group_shown result ≡ without_marker }
     {
@@ -85,7 +85,7 @@ impl WaitingGroup {
         }
     }
 
-    /// What is known of a group from one batch with its group marker.
+    /// Returns what is known of a group from one batch with its group marker.
     pub fn one_marker(status: AtomicGroupStatus, items: WaitingItems, seq: FileSeq) -> WaitingGroup
         ensures { group_shown result ≡ one_marker status items seq }
     {
@@ -108,7 +108,7 @@ impl WaitingGroup {
         }
     }
 
-    /// How many items wait.
+    /// Returns how many items wait.
     pub fn len(&self) -> u128
         ensures items { result ≡ length (held_steps (group_shown self.now)) }
         ensures bound { result < 2 ^ 65 }
@@ -120,7 +120,7 @@ impl WaitingGroup {
         self.front.len() as u128 + behind as u128
     }
 
-    /// What is known of the group from this history and a newer one behind it, and the
+    /// Returns what is known of the group from this history and a newer one behind it, and the
     /// group, if the two make it whole.
     ///
     /// # Errors
@@ -153,7 +153,7 @@ impl WaitingGroup {
     }
 }
 
-/// A stretch, if one is open, with more items.
+/// Returns a stretch, if one is open, with more items.
 fn going_on(stretch: Option<OpenStretch>, items: WaitingItems) -> AllocResult<Option<OpenStretch>>
     ensures { IfOk result (λ r. stretch_shown r ≡ carried_stretch (stretch_shown stretch) items) }
 {
@@ -166,7 +166,7 @@ fn going_on(stretch: Option<OpenStretch>, items: WaitingItems) -> AllocResult<Op
     }
 }
 
-/// The group that an `End` makes whole, if a stretch is open.
+/// Returns the group that an `End` makes whole, if a stretch is open.
 fn ended(
     stretch: Option<OpenStretch>,
     items: WaitingItems,

@@ -43,7 +43,7 @@ impl Model for WaitingGroups {
 }
 
 impl WaitingGroups {
-    /// No group has a group marker.
+    /// Makes one in which no group has a group marker.
     pub fn new(alloc: Global) -> WaitingGroups
         ensures { result ≡ finite.empty }
     {
@@ -53,14 +53,14 @@ impl WaitingGroups {
         }
     }
 
-    /// How many groups have a group marker.
+    /// Returns how many groups have a group marker.
     pub fn len(&self) -> usize
         ensures { result ≡ finite.len self.now }
     {
         self.groups.len()
     }
 
-    /// How many items wait.
+    /// Returns how many items wait.
     pub fn waiting_items(&self) -> u128
         ensures { result ≡ waiting_steps self.now }
     {
@@ -72,7 +72,7 @@ impl WaitingGroups {
     }
 
     /// Takes in one more batch, in the file of number `seq`, with a group marker of the group `id`.
-    /// Answers the group if the batch makes it whole.
+    /// Returns the group if the batch makes it whole.
     ///
     /// # Errors
     ///
@@ -98,8 +98,8 @@ impl WaitingGroups {
         self.join_one(id, WaitingGroup::one_marker(status, items, seq))
     }
 
-    /// Joins what is known of the groups of a newer history. Answers the groups that the
-    /// two make whole.
+    /// Joins what is known of the groups of a newer history. Returns the groups that the two make
+    /// whole.
     ///
     /// # Errors
     ///
@@ -144,7 +144,7 @@ impl WaitingGroups {
         Ok(whole)
     }
 
-    /// The first group, and what is known of it, leaves.
+    /// Takes the first group away, with what is known of it.
     fn take_first(&mut self) -> Option<(u64, WaitingGroup)>
         ensures first { IfSome result (λ p. finite.entries self.old
             ≡ (p.0, group_shown p.1) ∷ finite.entries self.new) }

@@ -31,7 +31,7 @@ impl Model for WaitingItems {
 }
 
 impl WaitingItems {
-    /// No items.
+    /// Makes one without items.
     pub fn new(alloc: Global) -> WaitingItems
         ensures { result ≡ [] }
     {
@@ -40,7 +40,7 @@ impl WaitingItems {
         }
     }
 
-    /// The steps of items, in order.
+    /// Returns the steps of items, in order.
     ///
     /// # Errors
     ///
@@ -57,7 +57,7 @@ impl WaitingItems {
         Ok(WaitingItems { steps })
     }
 
-    /// How many steps there are.
+    /// Returns how many steps there are.
     pub fn len(&self) -> usize
         ensures { result ≡ length self.now }
     {
@@ -77,7 +77,7 @@ impl WaitingItems {
         Ok(())
     }
 
-    /// The regions that the steps change, in order; one may stand there twice.
+    /// Returns the regions that the steps change, in order; one may stand there twice.
     ///
     /// # Errors
     ///
@@ -96,7 +96,7 @@ impl WaitingItems {
         Ok(ids)
     }
 
-    /// The steps, in order.
+    /// Returns the steps, in order.
     pub fn into_steps(self) -> Vec<RegionStep>
         ensures { map region_step_shown result.items ≡ self }
     {
@@ -104,7 +104,7 @@ impl WaitingItems {
     }
 }
 
-/// Whether a region is the last of these.
+/// Tests whether a region is the last of these.
 fn is_last(ids: &[u64], id: u64) -> bool
     ensures { (r : ℕ) → IsTrue result → list_any (λ i. r == i) (ids.now ++ id ∷ []) ≡ list_any
         (λ i. r == i) ids.now }

@@ -13,7 +13,7 @@ use raft_base::{Error, FileId, FileSeq, LogQueue, Result, Version};
 use raft_records::FilePart;
 use raft_replay::Segment;
 
-/// Files of a queue as segments: each file is one, of one part. What is read of them is what is read of the files.
+/// Makes a segment of each file of a queue, of one part. What is read of them is what is read of the files.
 ///
 /// # Errors
 ///
@@ -38,8 +38,8 @@ pub fn file_segments(
     Ok(segments)
 }
 
-/// Batches name no more entries and key values than they have bytes: so files of fewer than 2^63 bytes together hold
-/// a small history. This is a law: it computes nothing.
+/// States that batches name no more entries and key values than they have bytes: so files of fewer than 2^63 bytes
+/// together hold a small history. This is a law: it computes nothing.
 pub fn files_hold_few_records()
     ensures { (queue : LogQueue) (version : Version) (files : List NumberedBytes) (h : List Event)
         → FilesHold queue version files h → bytes_of_files files < 2 ^ 63 → IsSmall h }

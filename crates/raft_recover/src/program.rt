@@ -42,7 +42,7 @@ recover prints the tables that log files give
 <path>     where a file is
 ";
 
-/// Does what the words of a command line ask for, and answers the status to end with: 0 where it is
+/// Does what the words of a command line ask for, and returns the status to end with: 0 where it is
 /// done, 1 where it is refused, 2 where the words ask for nothing. A refusal and a hint at the words
 /// are a line on `err`; where that can't be written, the status is the same.
 pub fn run<S: Files + AllocGlobal + Threads + Sync, R: Read, W: Write, E: Write>(
@@ -74,7 +74,7 @@ pub fn run<S: Files + AllocGlobal + Threads + Sync, R: Read, W: Write, E: Write>
     }
 }
 
-/// The words of the command line behind the program's name.
+/// Returns the words of the command line after the program's name.
 ///
 /// # Errors
 ///
@@ -87,7 +87,7 @@ pub fn command_words<S: Env + AllocGlobal>(rt: &S) -> io::Result<Vec<String>> {
     Ok(words)
 }
 
-/// Says on `err` why the words of a command line aren't there, and answers the status to end with: 1 for want
+/// Says on `err` why the words of a command line aren't there, and returns the status to end with: 1 for want
 /// of memory, which is refused as any other, and 2 for a word that isn't UTF-8, with a hint at the words.
 pub fn run_without_words<E: Write>(error: &io::Error, err: &mut E) -> u8
     ensures memory { error_kind error.now ≡ ErrorKind.OutOfMemory → result ≡ 1 }
@@ -99,7 +99,7 @@ pub fn run_without_words<E: Write>(error: &io::Error, err: &mut E) -> u8
     misused(err)
 }
 
-/// Hints at the words that are understood, and answers the status to end with.
+/// Hints at the words that are understood, and returns the status to end with.
 fn misused<E: Write>(err: &mut E) -> u8
     ensures { result ≡ 2 }
 {
@@ -107,7 +107,7 @@ fn misused<E: Write>(err: &mut E) -> u8
     Status::Misused as u8
 }
 
-/// Prints the word of a refusal, and answers the status to end with.
+/// Prints the word of a refusal, and returns the status to end with.
 fn refused<E: Write>(word: &str, err: &mut E) -> u8
     ensures { result ≡ 1 }
 {
@@ -160,7 +160,7 @@ fn print_files<S: Files + AllocGlobal + Threads + Sync, W: Write>(
     )
 }
 
-/// The word for a refusal.
+/// Returns the word for a refusal.
 pub(crate) fn refusal(error: &Error) -> &'static str
     ensures { result.now ≡ refusal_word error.now }
 {

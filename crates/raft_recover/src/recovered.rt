@@ -37,7 +37,7 @@ pub fn print_recovered<W: Write>(
     write_whole(writer, text.as_bytes())
 }
 
-/// The text of the tables of all regions: the lines of [`print_recovered`].
+/// Returns the text of the tables of all regions: the lines of [`print_recovered`].
 ///
 /// # Errors
 ///

@@ -30,10 +30,10 @@ use std::thread::{Threads, join};
 /// About how many bytes a share has at least: for fewer a further piece costs more than its worker saves.
 const LEAST_SHARE: usize = 1 << 20;
 
-/// The tables of all regions, their cleaned regions and live counts: those of reading the batches of all
-/// segments, of one queue, in order. They are read by 1 to 256 workers. However the batches are divided into
-/// segments, it makes at most one share for each worker, all of about the same number of bytes; each worker
-/// takes the next share that is left (see [`equal_shares`]).
+/// Recovers the tables of all regions, their cleaned regions and live counts: those of reading the batches of all
+/// segments, of one queue, in order. They are read by 1 to 256 workers. However the batches are divided into segments,
+/// it makes at most one share for each worker, all of about the same number of bytes; each worker takes the next share
+/// that is left (see [`equal_shares`]).
 ///
 /// What is proved of it: for every list of segments of the queue, for every number of workers and whatever
 /// their turns, an `Ok` has what one reading of all batches in order gives, and an `Err` other than `Memory`
@@ -43,11 +43,11 @@ const LEAST_SHARE: usize = 1 << 20;
 ///
 /// # Errors
 ///
-/// `InvalidArgument` for another number of workers, for a part of another queue and for 2^62 segments and more,
-/// then whatever a reading answers: `Corruption`, `Codec`, or `Io` for an item that ends before its type, where
-/// a part isn't a sequence of readable batches or the batches in order can't be read. `Memory`. The text of a
-/// `Corruption` that a batch is refused with begins with its place, as [`replay_segment`](raft_replay::replay_segment)
-/// says; where only a merge shows that a run leaves a hole, it names the region and the indexes.
+/// `InvalidArgument` for another number of workers, for a part of another queue and for 2^62 segments and more, then
+/// whatever a reading returns: `Corruption`, `Codec`, or `Io` for an item that ends before its type, where a part
+/// isn't a sequence of readable batches or the batches in order can't be read. `Memory`. The text of a `Corruption`
+/// that a batch is refused with begins with its place, as [`replay_segment`](raft_replay::replay_segment) says; where
+/// only a merge shows that a run leaves a hole, it names the region and the indexes.
 pub fn recover<R: Threads + Sync>(
     rt: &R,
     alloc: Global,
@@ -66,7 +66,7 @@ pub fn recover<R: Threads + Sync>(
     context.finish()
 }
 
-/// The tables of both queues: those of the append queue over those of the rewrite queue, as
+/// Recovers the tables of both queues: those of the append queue over those of the rewrite queue, as
 /// [`MemTableRecoverContext::merge_append_context`] puts them. The segments of each queue are read as by
 /// [`recover`]. With two workers or more both queues are read at once, and the workers are shared out by bytes.
 ///
@@ -131,7 +131,8 @@ fn check_segments(
     ))
 }
 
-/// The contexts of the rewrite queue and of the append queue. Two workers or more read both queues at once.
+/// Returns the contexts of the rewrite queue and of the append queue. Two workers or more read both queues
+/// at once.
 fn both_replayed<R: Threads + Sync>(
     rt: &R,
     alloc: Global,
@@ -168,8 +169,8 @@ fn both_replayed<R: Threads + Sync>(
     Ok((both, appended))
 }
 
-/// How many of the workers read the first of two queues: as many as its part of all bytes, but one at least and
-/// not all of them.
+/// Returns how many of the workers read the first of two queues: as many as its part of all bytes, but one at
+/// least and not all of them.
 fn part_of_workers(workers: usize, first: usize, second: usize) -> usize
     requires { 2 ≤ workers }
     ensures { (0 < result) × (result < workers) }
@@ -178,7 +179,7 @@ fn part_of_workers(workers: usize, first: usize, second: usize) -> usize
     (first / each).clamp(1, workers - 1)
 }
 
-/// The context of a queue's segments, divided as [`recover`] says.
+/// Returns the context of a queue's segments, divided as [`recover`] says.
 fn replayed<R: Threads + Sync>(
     rt: &R,
     alloc: Global,
@@ -210,7 +211,7 @@ fn replayed<R: Threads + Sync>(
     )
 }
 
-/// The tables as [`recover`] gives them, but the segments are read as they are: each worker takes the next one that is
+/// Recovers the tables as [`recover`] does, but reads the segments as they are: each worker takes the next one that is
 /// left.
 ///
 /// # Errors

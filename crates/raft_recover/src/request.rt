@@ -34,7 +34,7 @@ pub struct RecoverWords<'a> {
 }
 
 impl<'a> Request<'a> {
-    /// What the words ask for, if it is something that the program does.
+    /// Returns what the words ask for, if it is something that the program does.
     ///
     /// # Errors
     ///
@@ -55,7 +55,7 @@ impl<'a> Request<'a> {
     }
 }
 
-/// The file whose item batch the words ask for.
+/// Returns the file whose item batch the words ask for.
 fn batch_request(words: &[String]) -> Option<LogFileContext>
     ensures asked { IfSome result (AsksBatch (map string_bytes words.now)) }
     ensures refused { IfNone result
@@ -70,7 +70,7 @@ fn batch_request(words: &[String]) -> Option<LogFileContext>
     context_named(queue.as_str(), seq.as_str(), version.as_str())
 }
 
-/// The file, with its version, that a queue, a number and a version name.
+/// Returns the file, with its version, that a queue, a number and a version name.
 fn context_named(queue: &str, seq: &str, version: &str) -> Option<LogFileContext>
     ensures named { IfSome result (NamesContext queue.now seq.now version.now) }
     ensures refused { IfNone result
@@ -82,7 +82,7 @@ fn context_named(queue: &str, seq: &str, version: &str) -> Option<LogFileContext
     Some(LogFileContext::new(FileId::new(queue, seq), version))
 }
 
-/// The recovery that the words ask for.
+/// Returns the recovery that the words ask for.
 ///
 /// # Errors
 ///
@@ -121,7 +121,7 @@ fn recovery_request<'a>(alloc: Global, words: &'a [String]) -> Result<Option<Rec
     }))
 }
 
-/// The number and the path of the file that each word names, if each names one.
+/// Returns the number and the path of the file that each word names, if each names one.
 ///
 /// # Errors
 ///
@@ -147,7 +147,7 @@ pub(crate) fn paths_named<'a>(
     Ok(Some(paths?))
 }
 
-/// The paths so far and one more, if there was memory for those and is for this one.
+/// Returns the paths so far and one more, if there was memory for those and is for this one.
 fn with_path<'a>(
     paths: Result<Vec<(FileSeq, &'a str)>>,
     path: (FileSeq, &'a str),
@@ -164,7 +164,7 @@ fn with_path<'a>(
     Ok(paths)
 }
 
-/// The number and the path of a file, on both sides of a word's first `=`.
+/// Returns the number and the path of a file, on both sides of a word's first `=`.
 pub fn path_named(word: &str) -> Option<(FileSeq, &str)>
     ensures named { IfSome result (λ file. NamesPath word.now file.0 file.1.now) }
     ensures refused { IfNone result (IsPathWord word.now → ⊥) }
@@ -193,7 +193,7 @@ pub fn read_files<R: Files + AllocGlobal>(
     Ok(files)
 }
 
-/// The queue that a word names.
+/// Returns the queue that a word names.
 pub(crate) fn queue_named(word: &str) -> Option<LogQueue>
     ensures named { IfSome result (λ queue. word.now ≡ queue_word queue) }
     ensures refused { IfNone result ((queue : LogQueue) → word.now ≡ queue_word queue → ⊥) }
@@ -205,7 +205,7 @@ pub(crate) fn queue_named(word: &str) -> Option<LogQueue>
     }
 }
 
-/// The version that a word names.
+/// Returns the version that a word names.
 pub(crate) fn version_named(word: &str) -> Option<Version>
     ensures named { IfSome result (λ version. word.now ≡ version_word version) }
     ensures refused { IfNone result ((version : Version) → word.now ≡ version_word version → ⊥) }
@@ -217,7 +217,7 @@ pub(crate) fn version_named(word: &str) -> Option<Version>
     }
 }
 
-/// The number that decimal digits without a sign spell, if it is below 2^64.
+/// Returns the number that decimal digits without a sign spell, if it is below 2^64.
 fn number_named(word: &str) -> Option<u64>
     ensures named { IfSome result (IsNumberWord word.now) }
     ensures refused { IfNone result ((n : ℕ) → IsNumberWord word.now n → ⊥) }

@@ -43,7 +43,7 @@ pub enum Finding {
 }
 
 impl Finding {
-    /// Whether it is a batch whose entry block can be read, if it has one.
+    /// Tests whether it is a batch whose entry block can be read, if it has one.
     fn is_undamaged(&self) -> bool
         ensures { result ≡ is_undamaged self.now }
     {
@@ -56,7 +56,7 @@ impl Finding {
         }
     }
 
-    /// Where a scan goes on that found this at a byte, if it does.
+    /// Returns where a scan goes on that found this at a byte, if it does.
     fn next_after(&self, at: usize, past_damage: bool) -> Option<usize>
         requires { EndsWithin (2 ^ 64 - 1) at self.now }
         ensures { result ≡ next_after past_damage at self.now }
@@ -108,14 +108,14 @@ pub fn append_scan(
     Ok(undamaged)
 }
 
-/// Whether both hold.
+/// Tests whether both hold.
 pub(crate) fn both(first: bool, second: bool) -> bool
     ensures { result ≡ first && second }
 {
     first && second
 }
 
-/// What stands at a byte of a part.
+/// Returns what stands at a byte of a part.
 ///
 /// # Errors
 ///
@@ -132,7 +132,7 @@ fn found_at(alloc: Global, part: &FilePart, at: usize) -> Result<Finding>
     }
 }
 
-/// What is found where this batch stands.
+/// Returns what is found where this batch stands.
 fn batch_found(
     alloc: Global,
     part: &FilePart,
@@ -153,7 +153,7 @@ fn batch_found(
     }
 }
 
-/// What is found where no batch can be read.
+/// Returns what is found where no batch can be read.
 ///
 /// # Errors
 ///
@@ -177,7 +177,8 @@ fn damage_found(alloc: Global, part: &FilePart, at: usize, reason: Error) -> Res
     }
 }
 
-/// Where the items of the batch begin whose header stands at a byte of a part, and how long it is.
+/// Returns where the items of the batch begin whose header stands at a byte of a part, and how long
+/// it is.
 fn header_at(alloc: Global, part: &FilePart, at: usize) -> Option<(usize, usize)>
     requires { at ≤ length part.now.bytes }
     ensures some { IfSome result (λ header. HasHeader (drop at part.now.bytes) header.0 header.1) }
@@ -191,7 +192,8 @@ fn header_at(alloc: Global, part: &FilePart, at: usize) -> Option<(usize, usize)
     None
 }
 
-/// The length that the header at a byte of a part says, if the part has so many bytes from there on.
+/// Returns the length that the header at a byte of a part says, if the part has so many bytes from
+/// there on.
 fn trusted_length(alloc: Global, part: &FilePart, at: usize) -> Option<usize>
     requires { at ≤ length part.now.bytes }
     ensures { IsHeaderLength (drop at part.now.bytes) result }
@@ -204,8 +206,8 @@ fn trusted_length(alloc: Global, part: &FilePart, at: usize) -> Option<usize>
     }
 }
 
-/// Whether the batch at a byte of a part, whose items begin so many bytes further on, has an entry block that ends in
-/// its checksum.
+/// Returns whether the batch at a byte of a part, whose items begin so many bytes further on, has an entry block that
+/// ends in its checksum.
 fn block_state(part: &FilePart, at: usize, items_at: usize) -> BlockState
     requires header { 16 ≤ items_at }
     requires inside { at + items_at ≤ length part.now.bytes }
@@ -270,7 +272,7 @@ fn append_place(part: &FilePart, at: usize, text: &mut String) -> AllocResult<()
     write!(text, "{queue} file {} offset {offset}", id.seq)
 }
 
-/// The word for a queue.
+/// Returns the word for a queue.
 fn queue_name(queue: LogQueue) -> &'static str
     ensures { result.now ≡ queue_word queue }
 {
@@ -280,7 +282,7 @@ fn queue_name(queue: LogQueue) -> &'static str
     }
 }
 
-/// The word for an entry block.
+/// Returns the word for an entry block.
 fn block_word(block: BlockState) -> &'static str
     ensures { result.now ≡ block_word block }
 {
@@ -291,7 +293,7 @@ fn block_word(block: BlockState) -> &'static str
     }
 }
 
-/// Why no batch can be read.
+/// Says why no batch can be read.
 fn reason_text(reason: &Error) -> &str
     ensures { result.now ≡ reason_text reason.now }
 {

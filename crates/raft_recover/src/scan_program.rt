@@ -104,7 +104,7 @@ fn refused<E: Write>(word: &str, err: &mut E) -> u8
     Status::Damaged as u8
 }
 
-/// The scan that the words ask for, if they ask for one.
+/// Returns the scan that the words ask for, if they ask for one.
 ///
 /// # Errors
 ///
@@ -125,7 +125,7 @@ fn scan_request<'a>(alloc: Global, words: &'a [String]) -> Result<Option<ScanWor
     files_request(alloc, false, words)
 }
 
-/// The scan of the files that the words name, behind what may stand in front.
+/// Returns the scan of the files that the words name, behind what may stand in front.
 ///
 /// # Errors
 ///

@@ -15,9 +15,10 @@ use std::mem;
 /// How many parts a part is cut into for each share that it fills, so that shares end near where they should.
 const PARTS_PER_SHARE: usize = 4;
 
-/// The parts of segments as `count` segments at most, the shares, of about one length each, and of `least`
-/// bytes or more where there are as many: neighboring parts are put together, and a part that is longer than a
-/// share is cut between batches. What is read of the shares is what is read of the segments. No byte is copied.
+/// Divides the parts of segments into `count` segments at most, the shares, of about one length each, and of
+/// `least` bytes or more where there are as many: neighboring parts are put together, and a part that is longer
+/// than a share is cut between batches. What is read of the shares is what is read of the segments. No byte is
+/// copied.
 ///
 /// # Errors
 ///
@@ -40,7 +41,7 @@ pub fn equal_shares(
     shares_of(short_parts(alloc, segments, share)?, share, count)
 }
 
-/// How many bytes all parts hold, capped at 2^64 - 1.
+/// Returns how many bytes all parts hold, capped at 2^64 - 1.
 pub(crate) fn bytes_of(segments: &[Segment]) -> usize {
     let mut bytes = 0usize;
     for segment in segments {
@@ -51,7 +52,7 @@ pub(crate) fn bytes_of(segments: &[Segment]) -> usize {
     bytes
 }
 
-/// The parts of all segments, those that are long for a share cut.
+/// Gathers the parts of all segments, those that are long for a share cut.
 fn short_parts(alloc: Global, segments: &[Segment], share: usize) -> Result<Vec<FilePart>>
     requires { 0 < share }
     ensures alike { IfOk result (λ parts. AreAlike (parts_within segments.entry.now) parts.items) }
@@ -64,7 +65,7 @@ fn short_parts(alloc: Global, segments: &[Segment], share: usize) -> Result<Vec<
     Ok(parts)
 }
 
-/// The parts of a segment behind those before it, those that are long for a share cut.
+/// Appends the parts of a segment, those that are long for a share cut.
 fn append_short(
     alloc: Global,
     segment: &Segment,
@@ -84,7 +85,8 @@ fn append_short(
     Ok(())
 }
 
-/// Parts as segments of about `share` bytes each, `count` at most: a part goes to the share in which its middle lies.
+/// Divides parts into segments of about `share` bytes each, `count` at most: a part goes to the share in which its
+/// middle lies.
 fn shares_of(parts: Vec<FilePart>, share: usize, count: usize) -> Result<Vec<Segment>>
     requires { (0 < share) × (0 < count) }
     ensures same { IfOk result (λ shares. parts_within shares.items ≡ parts.items) }

@@ -76,7 +76,7 @@ fn rows() -> &'static [BatchRow] {
     &BATCHES
 }
 
-/// The approximate size of each row's batch, its length and its bytes.
+/// Returns the approximate size of each row's batch, its length and its bytes.
 pub(crate) fn encode(found: &mut Found) -> Result<()> {
     for row in rows() {
         let file = LogFileContext::new(FileId::new(LogQueue::Append, row.seq), row.version);
@@ -132,7 +132,7 @@ fn finish(batch: &mut LogBatch) -> Result<usize> {
     batch.finish_populate()
 }
 
-/// Two batches with entries are put together; where there is no memory both have to be as they were.
+/// Puts two batches with entries together; where there is no memory both have to be as they were.
 pub(crate) fn merge(found: &mut Found) -> Result<()> {
     let mut batch = batch_of(found.alloc, &[Step::Run(7, 1, 3), Step::Clean(2)])?;
     let mut behind = batch_of(
@@ -164,7 +164,7 @@ fn merge_open(batch: &mut LogBatch, behind: &mut LogBatch) -> Result<()> {
     batch.merge(behind)
 }
 
-/// The three group markers of a group, each on a batch of its own.
+/// Returns the three group markers of a group, each on a batch of its own.
 pub(crate) fn group(found: &mut Found) -> Result<()> {
     let mut builder = AtomicGroupBuilder::with_id(9);
     for _ in 0..3 {

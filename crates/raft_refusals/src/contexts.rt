@@ -9,7 +9,7 @@ use raft_records::{FilePart, next_batch};
 use raft_recover::Segment;
 use std::alloc::Global;
 
-/// What each history gives, or why it is refused, with a context for each batch.
+/// Returns what each history gives, or why it is refused, with a context for each batch.
 pub(crate) fn merge(found: &mut Found) -> Result<()> {
     for history in histories() {
         merge_row(found, history.queue, history.batches)?;
@@ -17,7 +17,7 @@ pub(crate) fn merge(found: &mut Found) -> Result<()> {
     Ok(())
 }
 
-/// The same of two longer histories.
+/// Returns the same of two longer histories.
 pub(crate) fn merge_many(found: &mut Found) -> Result<()> {
     merge_row(found, LogQueue::Append, APPENDED.batches)?;
     merge_row(found, LogQueue::Rewrite, REWRITTEN.batches)
@@ -40,7 +40,7 @@ fn print_context(found: &mut Found, answer: Result<MemTableRecoverContext>) -> R
     }
 }
 
-/// The contexts of segments, merged from the first on.
+/// Merges the contexts of segments from the first on.
 fn merged(
     found: &mut Found,
     queue: LogQueue,
@@ -56,7 +56,7 @@ fn merged(
     Ok(context)
 }
 
-/// A context of a segment.
+/// Returns a context of a segment.
 fn read(found: &mut Found, segment: &Segment) -> Result<MemTableRecoverContext> {
     let mut context = MemTableRecoverContext::new(found.alloc)?;
     for part in segment {
@@ -74,7 +74,7 @@ fn replay(found: &mut Found, context: &mut MemTableRecoverContext, part: &FilePa
     answer
 }
 
-/// After a refusal a context has to answer `Failed` from then on.
+/// Tests that a context returns `Failed` after a refusal.
 fn failed(found: &mut Found, context: &mut MemTableRecoverContext, answer: &Result<()>) {
     if answer.is_ok() {
         return;
@@ -85,7 +85,7 @@ fn failed(found: &mut Found, context: &mut MemTableRecoverContext, answer: &Resu
     found.look(matches!(again, Err(Error::Failed)) && matches!(kept, Err(Error::Failed)));
 }
 
-/// What the append queue's context over the rewrite queue's gives.
+/// Returns what the append queue's context over the rewrite queue's gives.
 pub(crate) fn overlay(found: &mut Found) -> Result<()> {
     for (rewritten, appended) in overlays() {
         overlay_row(found, rewritten, appended)?;
@@ -108,8 +108,8 @@ fn appended_context(found: &mut Found, batches: &[Batch]) -> Result<MemTableReco
     merged(found, LogQueue::Append, segments.as_slice())
 }
 
-/// What a context holds after 20 batches that put one key, and after groups that aren't whole. It is counted
-/// without memory.
+/// Returns what a context holds after 20 batches that put one key, and after groups that aren't whole. It is
+/// counted without memory.
 pub(crate) fn kept(found: &mut Found) -> Result<()> {
     let mut context = MemTableRecoverContext::new(found.alloc)?;
     for seq in 1..21u64 {

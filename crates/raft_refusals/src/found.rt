@@ -57,7 +57,7 @@ impl Found {
         self.line(refusal_word(&error))
     }
 
-    /// Hands on the answer of a call that was made again.
+    /// Hands on the result of a call that was made again.
     pub(crate) fn again<T>(&mut self, answer: Result<T>) -> Result<T>
         ensures { result ≡ answer }
     {
@@ -68,12 +68,12 @@ impl Found {
     }
 }
 
-/// Whether a call found no memory.
+/// Tests whether a call found no memory.
 pub(crate) fn is_refused<T>(answer: &Result<T>) -> bool {
     matches!(answer, Err(Error::Memory))
 }
 
-/// The word for an answer.
+/// Returns the word for a result.
 pub(crate) fn word<T>(answer: &Result<T>) -> &'static str {
     match answer {
         Ok(_) => "ok",

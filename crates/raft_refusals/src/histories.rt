@@ -212,7 +212,7 @@ pub(crate) fn overlays() -> &'static [Overlay] {
     &OVERLAYS
 }
 
-/// The batches as segments of one part each.
+/// Returns the batches as segments of one part each.
 pub(crate) fn batch_segments(
     alloc: Global,
     queue: LogQueue,
@@ -231,7 +231,7 @@ pub(crate) fn batch_segments(
     Ok(segments)
 }
 
-/// A part of a file, which is a batch of these steps.
+/// Returns a part of a file, which is a batch of these steps.
 pub(crate) fn part_of(
     alloc: Global,
     file: FileId,

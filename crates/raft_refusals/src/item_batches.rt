@@ -36,7 +36,7 @@ fn changes() -> &'static [Change] {
     &CHANGES
 }
 
-/// The bytes of a batch without items, and of one of several; then what is read of bytes.
+/// Returns the bytes of a batch without items, and of one of several; then what is read of bytes.
 pub(crate) fn encode(found: &mut Found) -> Result<()> {
     let mut batch = LogItemBatch::default(found.alloc);
     encode_again(found, &mut batch)?;
@@ -116,7 +116,7 @@ fn bytes() -> &'static [Bytes] {
     &BATCHES
 }
 
-/// How many items bytes are, or why they are refused.
+/// Returns how many items bytes are, or why they are refused.
 pub(crate) fn decode(found: &mut Found) -> Result<()> {
     for row in bytes() {
         decode_again(found, row)?;

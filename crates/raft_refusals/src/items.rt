@@ -44,7 +44,8 @@ fn items() -> &'static [&'static [u8]] {
     &ITEMS
 }
 
-/// Commands, key values, entries and items: why they are refused, or their bytes, written again.
+/// Reads commands, key values, entries and items: shows why they are refused, or their bytes,
+/// written again.
 pub(crate) fn read(found: &mut Found) -> Result<()> {
     for bytes in commands() {
         command(found, bytes)?;
@@ -78,7 +79,7 @@ fn written(found: &mut Found, bytes: &Vec<u8>, answer: Result<()>) -> Result<()>
     found.bytes(bytes.as_slice())
 }
 
-/// Whether a vector has the byte that it began with, and no more.
+/// Tests whether a vector has the byte that it began with, and no more.
 fn is_left(bytes: &Vec<u8>) -> bool {
     bytes.as_slice() == [b'!'].as_slice()
 }

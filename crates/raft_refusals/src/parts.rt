@@ -15,13 +15,13 @@ const BYTES: &[u8] = b"\
 \x00\x00\x00\x00\x00\x00\x18\x00\x00\x00\x00\x00\x00\x00\x00\x10\
 \x01\x01\x02\x01\x5a\x80\x0b\xdd";
 
-/// So many of the bytes, from the first on.
+/// Returns so many of the bytes, from the first on.
 fn front(len: usize) -> &'static [u8] {
     let (front, _) = BYTES.split_at(len.min(BYTES.len()));
     front
 }
 
-/// The bytes behind so many.
+/// Returns the bytes behind so many.
 fn behind(len: usize) -> &'static [u8] {
     let (_, behind) = BYTES.split_at(len.min(BYTES.len()));
     behind
@@ -36,7 +36,7 @@ fn part_in(alloc: Global, version: Version, len: usize) -> Result<FilePart> {
     FilePart::new(FileId::new(LogQueue::Append, 12), version, 0, bytes)
 }
 
-/// The batches of a part: what both have, and where the second is cut short.
+/// Returns the batches of a part: what both have, and where the second is cut short.
 pub(crate) fn next(found: &mut Found) -> Result<()> {
     let whole = part(found.alloc, 58)?;
     for &at in &[0, 34, 58] {
@@ -62,7 +62,7 @@ fn next_again(found: &mut Found, part: &FilePart, at: usize) -> Result<()> {
     }
 }
 
-/// How many items a batch has, and where it ends.
+/// Returns how many items a batch has, and where it ends.
 fn batch_at(part: &FilePart, at: usize) -> Result<Option<(usize, usize)>> {
     if at > part.bytes().len() {
         return Ok(None);
@@ -73,7 +73,7 @@ fn batch_at(part: &FilePart, at: usize) -> Result<Option<(usize, usize)>> {
     }
 }
 
-/// The header and the entry bytes of the first batch, and why shorter ones are refused.
+/// Returns the header and the entry bytes of the first batch, and why shorter ones are refused.
 pub(crate) fn blocks(found: &mut Found) -> Result<()> {
     for &len in &[58, 15, 0] {
         header_again(found, front(len))?;
@@ -122,7 +122,8 @@ fn block(alloc: Global, bytes: &[u8], len: usize) -> Result<Vec<u8>> {
     LogBatch::decode_entries_block(alloc, bytes, place, CompressionType::None)
 }
 
-/// A part of each version is cut at its second batch, cloned, and cut in as many parts as it has batches.
+/// Cuts a part of each version at its second batch, clones it, and cuts it in as many parts as it has
+/// batches.
 pub(crate) fn cuts(found: &mut Found) -> Result<()> {
     for &version in &[Version::V1, Version::V2] {
         cut(found, version)?;

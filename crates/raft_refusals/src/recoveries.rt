@@ -31,7 +31,7 @@ const EIGHT_DRAWS: &[usize] = &[0, 0, 1, 1, 0, 1];
 
 const FIVE_DRAWS: &[usize] = &[0, 1, 1, 0, 1];
 
-/// The tables of both histories, however they are recovered.
+/// Returns the tables of both histories, however they are recovered.
 pub(crate) fn shares<R: Threads + Sync>(rt: &R, found: &mut Found) -> Result<()> {
     for &workers in &[1, 2, 4] {
         recover_both(rt, found, How::Shares(workers))?;
@@ -90,7 +90,7 @@ fn recover_again<R: Threads + Sync>(
     }
 }
 
-/// The bytes of segments in one number.
+/// Returns the bytes of segments in one number.
 fn number(segments: &[Segment]) -> u64 {
     let mut all = segments.len() as u64;
     for segment in segments {
@@ -127,7 +127,7 @@ fn tables_of<R: Threads + Sync>(
     context.finish()
 }
 
-/// Segments that two workers draw so, merged by halves.
+/// Merges segments that two workers draw so by halves.
 fn scheduled(
     alloc: Global,
     segments: &[Segment],
@@ -143,7 +143,7 @@ fn scheduled(
     replay_scheduled(alloc, &factory, segments, queue, 2, draws, &plan)
 }
 
-/// A piece for each segment, merged by halves.
+/// Returns a piece for each segment, merged by halves.
 fn of_pieces<R: Threads + Sync>(
     rt: &R,
     alloc: Global,
@@ -168,7 +168,7 @@ fn read(alloc: Global, segments: &[Segment]) -> Result<Vec<MemTableRecoverContex
     Ok(pieces)
 }
 
-/// Tickets for three numbers and two seats, which are closed again.
+/// Makes tickets for three numbers and two seats, which are closed again.
 pub(crate) fn tickets(found: &mut Found) -> Result<()> {
     let mut answer = open_and_close(found.alloc);
     if is_refused(&answer) {
@@ -185,7 +185,7 @@ fn open_and_close(alloc: Global) -> Result<usize> {
     Ok(tickets.close(seats))
 }
 
-/// Item batches that are printed, and files whose tables are.
+/// Prints item batches, and the tables of files.
 pub(crate) fn prints<R: Threads + Sync>(rt: &R, found: &mut Found) -> Result<()> {
     print_bytes(found, b"\x01\x01\x02\x01\x5a\x80\x0b\xdd")?;
     print_bytes(found, b"\x01\x07\x01\x02\x0a\x02\x03\xa7\xb3\xdf\x17")?;
@@ -195,7 +195,7 @@ pub(crate) fn prints<R: Threads + Sync>(rt: &R, found: &mut Found) -> Result<()>
     Ok(())
 }
 
-/// Whether a call found no memory, or its reader or writer.
+/// Tests whether a call found no memory, or its reader or writer.
 fn found_none(answer: &Result<()>) -> bool {
     match answer {
         Err(Error::Memory) => true,
@@ -204,7 +204,7 @@ fn found_none(answer: &Result<()>) -> bool {
     }
 }
 
-/// Hands on a second answer, want of memory in a reader or a writer as `Memory`.
+/// Hands on a second result, want of memory in a reader or a writer as `Memory`.
 fn again(found: &mut Found, answer: Result<()>) -> Result<()> {
     if found_none(&answer) {
         found.is_in_vain = true;

@@ -30,7 +30,7 @@ pub(crate) fn see(tables: &MemTableAccessor) -> Seen {
     }
 }
 
-/// Regions in order, in one number.
+/// Shows regions in order, in one number.
 pub(crate) fn of_regions(regions: &[u64]) -> u64 {
     let mut all = regions.len() as u64;
     for region in regions {
@@ -39,7 +39,7 @@ pub(crate) fn of_regions(regions: &[u64]) -> u64 {
     all
 }
 
-/// A number behind others.
+/// Returns a number behind others.
 fn with(all: u64, number: u64) -> u64 {
     (all ^ number)
         .wrapping_mul(0x9e37_79b9_7f4a_7c15)
@@ -66,8 +66,8 @@ fn with_entry(all: u64, entry: EntryIndex) -> u64 {
     )
 }
 
-/// A table in one number: its entries with their places, its keys with their values, and its group. What has none of
-/// these is 0.
+/// Returns a table in one number: its entries with their places, its keys with their values, and its group. What has
+/// none of these is 0.
 pub(crate) fn number(table: &MemTable) -> u64 {
     let group = match table.atomic_group() {
         Some((start, end)) => with(with(1, start), end),
@@ -93,7 +93,7 @@ fn with_entries(group: u64, table: &MemTable) -> u64 {
     all
 }
 
-/// The files of the keys are seen as the least of each queue.
+/// Shows the files of the keys as the least of each queue.
 fn with_pairs(before: u64, table: &MemTable) -> u64 {
     if table.key_count() == 0 {
         return before;
@@ -109,7 +109,8 @@ fn with_pairs(before: u64, table: &MemTable) -> u64 {
     all
 }
 
-/// Whether the live counts are those of the tables, and each table is one run with the rewritten entries in front.
+/// Tests whether the live counts are those of the tables, and each table is one run with the rewritten entries in
+/// front.
 pub(crate) fn are_sound(tables: &MemTableAccessor) -> bool {
     let append = tables.fold(0u128, |sum, table: &MemTable| {
         sum.wrapping_add(table.records(LogQueue::Append))
@@ -136,7 +137,7 @@ fn is_sound(table: &MemTable) -> bool {
     true
 }
 
-/// Whether an entry has its index and lies in the queue that it is to lie in.
+/// Tests whether an entry has its index and lies in the queue that it is to lie in.
 fn is_placed(entry: Option<EntryIndex>, index: u64, is_rewritten: bool) -> bool {
     let Some(entry) = entry else {
         return false;

@@ -47,7 +47,7 @@ fn shared_tables(alloc: Global) -> Result<SharedAccessor> {
     SharedAccessor::from_core(alloc, tables_of(alloc, &FIRST)?)
 }
 
-/// Items, changes and calls, and what is live after each.
+/// Makes calls with items and changes, and shows what is live after each.
 pub(crate) fn call_all<R: Wait>(rt: &R, found: &mut Found) -> Result<()> {
     let shared = shared_tables(found.alloc)?;
     for item in &ITEMS {
@@ -173,7 +173,8 @@ fn call_at<R: Wait>(rt: &R, alloc: Global, shared: &SharedAccessor, call: Call) 
     }
 }
 
-/// Tables with cleaned regions in the slots 0, 92, 112 and 127, in slot 112 the same one twice.
+/// Makes tables with cleaned regions in the slots 0, 92, 112 and 127, in slot 112 the same one
+/// twice.
 fn cleaned_tables<R: Wait>(rt: &R, alloc: Global) -> Result<SharedAccessor> {
     let shared = shared_tables(alloc)?;
     for &region in &[105, 69, 3] {
@@ -182,8 +183,8 @@ fn cleaned_tables<R: Wait>(rt: &R, alloc: Global) -> Result<SharedAccessor> {
     Ok(shared)
 }
 
-/// The cleaned regions are taken into a batch, a second time where there was no memory: none is lost then, and none
-/// is there more often than it was listed.
+/// Takes the cleaned regions into a batch, a second time where there was no memory: none is lost then, and none is
+/// there more often than it was listed.
 pub(crate) fn take<R: Wait>(rt: &R, found: &mut Found) -> Result<()> {
     let shared = cleaned_tables(rt, found.alloc)?;
     let mut logs = LogBatch::default(found.alloc);
@@ -203,7 +204,8 @@ fn take_into<R: Wait>(rt: &R, shared: &SharedAccessor, logs: &mut LogBatch) -> R
     shared.take_cleaned_region_logs(rt, logs)
 }
 
-/// A slot whose region is cleaned twice: list and batch have to be as they were where there is no memory.
+/// Returns a slot whose region is cleaned twice: list and batch have to be as they were where there is no
+/// memory.
 pub(crate) fn slot(found: &mut Found) -> Result<()> {
     let mut slot = Slot::new(found.alloc, slot_of(3));
     list(&mut slot)?;

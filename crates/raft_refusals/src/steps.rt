@@ -139,7 +139,7 @@ fn add_marker(
     }
 }
 
-/// A batch of these steps.
+/// Returns a batch of these steps.
 pub(crate) fn batch_of(alloc: Global, steps: &[Step]) -> Result<LogBatch> {
     let mut batch = LogBatch::default(alloc);
     for step in steps {
@@ -148,7 +148,7 @@ pub(crate) fn batch_of(alloc: Global, steps: &[Step]) -> Result<LogBatch> {
     Ok(batch)
 }
 
-/// A batch of these steps, made into bytes and signed for a file of version 1 as its first.
+/// Returns a batch of these steps, made into bytes and signed for a file of version 1 as its first.
 pub(crate) fn sealed(alloc: Global, file: FileId, steps: &[Step]) -> Result<LogBatch> {
     let mut batch = batch_of(alloc, steps)?;
     if !batch.is_open() {
@@ -159,7 +159,7 @@ pub(crate) fn sealed(alloc: Global, file: FileId, steps: &[Step]) -> Result<LogB
     Ok(batch)
 }
 
-/// A batch of one step that was written to a file.
+/// Returns a batch of one step that was written to a file.
 pub(crate) fn written(alloc: Global, file: FileId, step: Step) -> Result<LogBatch> {
     let mut batch = sealed(alloc, file, &[step])?;
     if !batch.is_sealed() {

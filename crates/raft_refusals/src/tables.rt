@@ -77,7 +77,7 @@ fn rows() -> &'static [&'static [Change]] {
     &ROWS
 }
 
-/// What each change answers, and what the table has then.
+/// Returns what each change returns, and what the table has then.
 pub(crate) fn change_all(found: &mut Found) -> Result<()> {
     for row in rows() {
         change_row(found, row)?;
@@ -110,9 +110,9 @@ fn change_again(found: &mut Found, tables: &mut MemTableAccessor, change: Change
     print_answer(found, &answer, tables)
 }
 
-/// The word or the number of an answer, the first index and the one behind the last, how many blocks there are,
-/// the live number of the append queue, those of the rewrite queue that were written and deleted, and the least
-/// files, 0 for none.
+/// Returns the word or the number of a result, the first index and the one behind the last, how many blocks
+/// there are, the live number of the append queue, those of the rewrite queue that were written and deleted,
+/// and the least files, 0 for none.
 fn print_answer(found: &mut Found, answer: &Result<u64>, tables: &MemTableAccessor) -> Result<()> {
     let alloc = found.alloc;
     let (is, number) = match answer {
@@ -176,7 +176,7 @@ fn put(alloc: Global, key: &[u8], file_id: FileId) -> Result<TableChange> {
     })
 }
 
-/// Entries of a byte from `start` to below `end`, in one block of a file.
+/// Makes entries of a byte from `start` to below `end`, in one block of a file.
 fn run(alloc: Global, start: u64, end: u64, id: FileId) -> Result<Vec<EntryIndex>> {
     let mut run = Vec::new(alloc);
     for index in start..end {
@@ -249,7 +249,7 @@ fn lengths() -> &'static [(&'static [u32], Fetch)] {
     &LENGTHS
 }
 
-/// A table with entries of these lengths.
+/// Returns a table with entries of these lengths.
 fn table_of_lengths(alloc: Global, lengths: &[u32]) -> Result<MemTableAccessor> {
     let mut tables = MemTableAccessor::new(alloc)?;
     let end = 10u64.saturating_add(lengths.len() as u64);
@@ -261,7 +261,7 @@ fn table_of_lengths(alloc: Global, lengths: &[u32]) -> Result<MemTableAccessor> 
     Ok(tables)
 }
 
-/// How many entries are fetched, and the first and the last of them; how many keys.
+/// Returns how many entries are fetched, and the first and the last of them; how many keys.
 pub(crate) fn fetch_all(found: &mut Found) -> Result<()> {
     let tables = fetched_table(found.alloc)?;
     let Some(table) = tables.get(REGION) else {

@@ -67,7 +67,7 @@ fn rows() -> &'static [&'static [WriteRow]] {
     &WRITES
 }
 
-/// What each writing answers, and the tables behind the last.
+/// Returns what each writing returns, and the tables behind the last.
 pub(crate) fn write_all(found: &mut Found) -> Result<()> {
     for row in rows() {
         let mut tables = MemTableAccessor::new(found.alloc)?;
@@ -114,7 +114,7 @@ pub(crate) fn print(found: &mut Found, tables: &MemTableAccessor) -> Result<()> 
     found.line(text.as_str())
 }
 
-/// Tables with these items.
+/// Makes tables with these items.
 pub(crate) fn tables_of(alloc: Global, rows: &[WriteRow]) -> Result<MemTableAccessor> {
     let mut tables = MemTableAccessor::new(alloc)?;
     for row in rows {
@@ -123,7 +123,7 @@ pub(crate) fn tables_of(alloc: Global, rows: &[WriteRow]) -> Result<MemTableAcce
     Ok(tables)
 }
 
-/// The cleaned regions are taken as a batch; where there is no memory list and tables have to be as they were.
+/// Takes the cleaned regions as a batch; where there is no memory list and tables have to be as they were.
 pub(crate) fn take(found: &mut Found) -> Result<()> {
     let [_, cleaned, _] = &WRITES;
     let mut tables = tables_of(found.alloc, cleaned)?;
@@ -269,7 +269,7 @@ fn merges() -> &'static [MergeRow] {
     &MERGES
 }
 
-/// What each merge answers, and the tables then.
+/// Returns what each merge returns, and the tables then.
 pub(crate) fn merge(found: &mut Found) -> Result<()> {
     for row in merges() {
         merge_row(found, row)?;

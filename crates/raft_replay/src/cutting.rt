@@ -40,8 +40,8 @@ pub fn cut_part(alloc: Global, part: FilePart, count: usize) -> Result<Vec<FileP
     Ok(parts)
 }
 
-/// Where a batch ends, the first at `least` or behind it, if headers lead there from the front on and more
-/// bytes follow.
+/// Returns where a batch ends, the first at `least` or behind it, if headers lead there from the front on
+/// and more bytes follow.
 fn batch_end(alloc: Global, part: &FilePart, least: usize) -> Option<usize>
     ensures inside { IfSome result (λ at. at < length part.now.bytes) }
     ensures met { IfSome result (BatchesMeet part.now) }
@@ -55,7 +55,7 @@ fn batch_end(alloc: Global, part: &FilePart, least: usize) -> Option<usize>
     if at < bytes.len() { Some(at) } else { None }
 }
 
-/// How long the batch in front is, if it has a header and is whole.
+/// Returns how long the batch in front is, if it has a header and is whole.
 fn batch_length(alloc: Global, bytes: &[u8]) -> Option<usize>
     ensures header { IfSome result (λ len. (offset : ℕ) × HasHeader bytes.now offset len) }
     ensures some { IfSome result (λ len. 0 < len) }
@@ -66,8 +66,8 @@ fn batch_length(alloc: Global, bytes: &[u8]) -> Option<usize>
     if len <= bytes.len() { Some(len) } else { None }
 }
 
-/// A part may be cut wherever a batch ends: if its bytes before an offset are batches that can be read, the same is
-/// read of the part and of the two pieces.
+/// States that a part may be cut wherever a batch ends: if its bytes before an offset are batches that can be read,
+/// the same is read of the part and of the two pieces.
 pub fn parts_are_cut_where_batches_end()
     ensures { (part : Part) (at : ℕ) (first : List Event) → at ≤ length part.bytes
         → HoldsFrom (bytes_before part at) 0 first

@@ -3,7 +3,7 @@
 /// Called by a worker with the number of each segment that it drew, before it replays it: for whoever wants to slow
 /// recovery down, or to watch it.
 pub trait Gate: Send + Sync {
-    /// The worker goes on once this returns.
+    /// Holds the worker up until it returns.
     fn pass(&self, segment: usize);
 }
 

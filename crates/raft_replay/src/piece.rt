@@ -23,7 +23,8 @@ pub(crate) struct Piece<M> {
 impl<M: ReplayMachine> Piece<M> {
     ghost use Rattle.raft_replay.specs.Covers.{IsPieceOf, CoverOnce, covers, cover_count};
 
-    /// The piece that goes on with this segment: the last one where it ends there, else a new one.
+    /// Returns the piece that goes on with this segment: the last one where it ends there, else a
+    /// new one.
     pub(crate) fn at<F: Factory<M>>(
         alloc: Global,
         factory: &F,
@@ -51,7 +52,7 @@ impl<M: ReplayMachine> Piece<M> {
         Piece::begin(alloc, factory, number)
     }
 
-    /// A piece of no segments.
+    /// Makes a piece of no segments.
     fn begin<F: Factory<M>>(alloc: Global, factory: &F, from: usize) -> Result<Piece<M>>
         requires { (m : M) → F.gives factory.now m → M.stands_exactly m [] }
         ensures empty { IfOk result (λ p. (p.from ≡ from) × (p.count ≡ 0)) }
@@ -68,7 +69,7 @@ impl<M: ReplayMachine> Piece<M> {
         })
     }
 
-    /// The piece with one segment more.
+    /// Returns the piece with one segment more.
     pub(crate) fn with_next(self, segments: &[Segment]) -> Result<Piece<M>>
         requires inside { self.from + self.count < length segments.now }
         requires piece { IsPieceOf M.stands_exactly segments.now self }
@@ -89,7 +90,7 @@ impl<M: ReplayMachine> Piece<M> {
         })
     }
 
-    /// The machines of pieces, in the order of what they have replayed.
+    /// Returns the machines of pieces, in the order of what they have replayed.
     pub(crate) fn line_up(alloc: Global, mut pieces: Vec<Piece<M>>) -> Result<Vec<M>>
         ensures ok { (segments : List (Vec Part Global))
             → All (IsPieceOf M.stands_exactly segments) pieces.items
@@ -101,7 +102,7 @@ impl<M: ReplayMachine> Piece<M> {
         Piece::machines(alloc, pieces)
     }
 
-    /// The machines of the pieces.
+    /// Returns the machines of the pieces.
     fn machines(alloc: Global, pieces: Vec<Piece<M>>) -> Result<Vec<M>>
         ensures ok { IfOk result (λ v. v.items ≡ map (λ p. p.machine.value) pieces.items) }
         ensures fault { IfErr result (λ e. e ≡ Error.Memory) }

@@ -42,7 +42,7 @@ pub(crate) const MAX_LEVELS: usize = 64;
 ///
 /// # Errors
 ///
-/// `InvalidArgument` where the plan is of another number of pieces, then whatever a merge of two neighbors answers, and
+/// `InvalidArgument` where the plan is of another number of pieces, then whatever a merge of two neighbors returns, and
 /// `Memory`.
 pub fn merge_pieces<M: ReplayMachine, R: Threads + Sync>(
     rt: &R,
@@ -66,7 +66,7 @@ pub fn merge_pieces<M: ReplayMachine, R: Threads + Sync>(
     merge_at_once(rt, pieces, plan, queue, MAX_LEVELS)
 }
 
-/// Whether the plan is of these pieces.
+/// Tests whether the plan is of these pieces.
 fn fits<M: ReplayMachine>(pieces: &Vec<M>, plan: &Plan) -> bool
     ensures { IsTrue result ↔ (leaves plan.now ≡ vec_len pieces.now) }
 {
@@ -82,7 +82,7 @@ pub(crate) enum Waiting<'a, M> {
     Merged(M),
 }
 
-/// The pieces are merged one after another, on the caller's thread. What waits stands in a list on the heap, so that no
+/// Merges the pieces one after another, on the caller's thread. What waits stands in a list on the heap, so that no
 /// stack is needed, however deep the plan is.
 pub(crate) fn merge_in_turn<M: ReplayMachine>(
     mut pieces: Vec<M>,
@@ -98,7 +98,8 @@ pub(crate) fn merge_in_turn<M: ReplayMachine>(
     merge_waiting(oldest, waiting, pieces, queue)
 }
 
-/// The oldest piece of a plan; the plans behind it wait. Of the pieces that are left the oldest stands last.
+/// Takes the oldest piece of a plan; the plans after it wait. Of the pieces that are left the oldest stands
+/// last.
 fn oldest_of<'a, M: ReplayMachine>(
     mut plan: &'a Plan,
     waiting: &mut Vec<Waiting<'a, M>>,
@@ -175,8 +176,8 @@ fn merge_next<'a, M: ReplayMachine>(
     }
 }
 
-/// As `merge_in_turn`, but through so many levels of the plan the pieces of both plans of a join are merged at
-/// once, where both have some to merge.
+/// Merges as `merge_in_turn` does, but through so many levels of the plan the pieces of both plans of a join
+/// are merged at once, where both have some to merge.
 pub(crate) fn merge_at_once<M: ReplayMachine, R: Threads + Sync>(
     rt: &R,
     pieces: Vec<M>,
@@ -208,12 +209,12 @@ pub(crate) fn merge_at_once<M: ReplayMachine, R: Threads + Sync>(
     }
 }
 
-/// Whether the plan has pieces to merge.
+/// Tests whether the plan has pieces to merge.
 fn is_join(plan: &Plan) -> bool {
     matches!(plan, Plan::Join(_, _))
 }
 
-/// What both calls answer, which are made at once or one after the other.
+/// Makes both calls, at once or one after the other, and returns what they return.
 fn both<R: Threads, F: FnOnce() -> A + Send, G: FnOnce() -> B, A: Send, B>(
     rt: &R,
     at_once: bool,
@@ -231,7 +232,7 @@ fn both<R: Threads, F: FnOnce() -> A + Send, G: FnOnce() -> B, A: Send, B>(
     (one, second())
 }
 
-/// The pieces of the first plan, and those of the second.
+/// Divides the pieces into those of the first plan and those of the second.
 #[tactic(auto, using(crate::proofs::MergeLemmas::leaves_positive))]
 fn divide<M: ReplayMachine>(
     mut pieces: Vec<M>,
@@ -249,7 +250,7 @@ fn divide<M: ReplayMachine>(
     Ok((pieces, rest))
 }
 
-/// Two merged neighbors merged, or the first refusal of either.
+/// Merges two merged neighbors, or returns the first refusal of either.
 fn merge_both<M: ReplayMachine>(older: Result<M>, newer: Result<M>, queue: LogQueue) -> Result<M>
     ensures { (xs ys zs : List M) → zs ≡ xs ++ ys
         → Merges M.stands_for M.stands_exactly queue xs older

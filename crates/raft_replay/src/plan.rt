@@ -32,9 +32,9 @@ impl Drop for Plan {
 }
 
 impl Plan {
-    /// How many pieces the plan merges, capped at 2^64 - 1. Plans that are still to be counted stand in a list
-    /// on the heap, so that no stack is needed, however deep the plan is; only where the list can't grow is one
-    /// of them counted by a call.
+    /// Returns how many pieces the plan merges, capped at 2^64 - 1. Plans that are still to be counted stand in
+    /// a list on the heap, so that no stack is needed, however deep the plan is; only where the list can't grow
+    /// is one of them counted by a call.
     #[tactic(auto, using(crate::proofs::MergeLemmas::leaves_positive))]
     pub fn leaves(&self) -> usize
         ensures { result ≡ min (leaves self.now) (2 ^ 64 - 1) }
@@ -65,9 +65,9 @@ impl Plan {
         }
     }
 
-    /// What is left of the join of this plan, which stood in the box, and another one: where this plan is one
-    /// piece, that is let go; where it is a join, that is turned behind its own first plan, and its box is used
-    /// again.
+    /// Returns what is left of the join of this plan, which stood in the box, and another one: where this plan
+    /// is one piece, that is let go; where it is a join, that is turned behind its own first plan, and its box
+    /// is used again.
     fn let_go_before(self, mut room: Box<Plan>, right: Box<Plan>) -> Plan
         requires { room.value ≡ Plan.One }
         ensures { heft result < 2 * heft self + heft right.value + 1 }
@@ -91,7 +91,7 @@ impl Plan {
         let Plan::One = self else { unreachable!() };
     }
 
-    /// The plan of this many pieces by halves.
+    /// Makes the plan of this many pieces by halves.
     ///
     /// # Errors
     ///

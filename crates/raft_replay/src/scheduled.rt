@@ -59,7 +59,7 @@ pub fn replay_scheduled<M: ReplayMachine, F: Factory<M>>(
     merge_in_turn(machines, plan, queue)
 }
 
-/// The number of pieces that this many segments make if `draws` names who draws next.
+/// Returns the number of pieces that this many segments make if `draws` names who draws next.
 pub fn piece_count(segments: usize, draws: &[usize]) -> usize
     ensures { result ≡ pieces_in segments draws.now }
 {
@@ -73,21 +73,21 @@ pub fn piece_count(segments: usize, draws: &[usize]) -> usize
     pieces
 }
 
-/// Whether another worker draws this segment than the one before it.
+/// Tests whether another worker draws this segment than the one before it.
 fn switches(draws: &[usize], n: usize) -> bool
     ensures { result ≡ switches draws.now n }
 {
     n > 0 && drawer(draws, n) != drawer(draws, n - 1)
 }
 
-/// Who draws the segment.
+/// Returns who draws the segment.
 fn drawer(draws: &[usize], n: usize) -> usize
     ensures { result ≡ slice_index draws.now n }
 {
     if n < draws.len() { draws[n] } else { 0 }
 }
 
-/// Whether the arguments fit one another.
+/// Tests whether the arguments fit one another.
 fn is_schedule(
     segments: &[Segment],
     queue: LogQueue,
@@ -123,14 +123,14 @@ fn schedule_fault(
     "a plan of another number of pieces"
 }
 
-/// Whether each of the workers is one of so many.
+/// Tests whether each of the workers is one of so many.
 fn are_known(draws: &[usize], workers: usize) -> bool
     ensures { IsTrue result ↔ EachIndex draws.now (λ n. slice_index draws.now n < workers) }
 {
     draws.iter().all(|worker| *worker < workers)
 }
 
-/// Whether the plan is of the pieces that so many segments make, if there are any.
+/// Tests whether the plan is of the pieces that so many segments make, if there are any.
 fn fits_pieces(plan: &Plan, segments: usize, draws: &[usize]) -> bool
     requires { segments + 1 < 2 ^ 64 }
     ensures { IsTrue result ↔ (0 < segments → leaves plan.now ≡ pieces_in segments draws.now) }
@@ -138,14 +138,14 @@ fn fits_pieces(plan: &Plan, segments: usize, draws: &[usize]) -> bool
     segments == 0 || plan.leaves() == piece_count(segments, draws)
 }
 
-/// Whether every part of every segment is of the queue.
+/// Tests whether every part of every segment is of the queue.
 pub(crate) fn segments_are_of(segments: &[Segment], queue: LogQueue) -> bool
     ensures { IsTrue result ↔ SegmentsAreOf queue segments.now }
 {
     segments.iter().all(|segment| parts_are_of(segment, queue))
 }
 
-/// Whether every part is of the queue.
+/// Tests whether every part is of the queue.
 fn parts_are_of(parts: &Vec<FilePart>, queue: LogQueue) -> bool
     ensures { IsTrue result ↔ All (λ part. part.id.queue ≡ queue) parts.now.items }
 {
@@ -176,8 +176,8 @@ fn replay_in_order<M: ReplayMachine, F: Factory<M>>(
     Ok(current)
 }
 
-/// The machine that goes on: the current one, or a new one where another worker draws, behind which the current one is
-/// in line.
+/// Returns the machine that goes on: the current one, or a new one where another worker draws, behind which the
+/// current one is in line.
 fn next_machine<M: ReplayMachine, F: Factory<M>>(
     alloc: Global,
     factory: &F,

@@ -94,7 +94,8 @@ pub fn replay_bytes<M: ReplayMachine>(
     }
 }
 
-/// The refusal of a batch: a `Corruption` with the file and the offset in it in front of its text.
+/// Returns the refusal of a batch: a `Corruption` with the file and the offset in it in front of
+/// its text.
 fn placed(alloc: Global, error: Error, id: FileId, offset: u64) -> Error
     ensures placed { IsPlaced id offset result }
     ensures memory { result ≢ Error.Memory → error ≢ Error.Memory }
@@ -111,7 +112,7 @@ fn placed(alloc: Global, error: Error, id: FileId, offset: u64) -> Error
     }
 }
 
-/// The name of a queue in texts.
+/// Returns the name of a queue in texts.
 fn queue_name(queue: LogQueue) -> &'static str
     ensures { result.now ≡ queue_text queue }
 {
@@ -121,21 +122,21 @@ fn queue_name(queue: LogQueue) -> &'static str
     }
 }
 
-/// The parts of segments read as one history at most.
+/// States that the parts of segments read as one history at most.
 pub fn segments_read_as_one_history()
     ensures { (segments : List (Vec Part Global)) (g h : List Event)
         → SegmentsHold segments g → SegmentsHold segments h → g ≡ h }
 {}
 
-/// Where the bytes of a written batch come after those of a part of its file, at the place that they were written to,
-/// the part then holds that batch, with its places, after those that it held. What is asked of the items holds of
-/// every batch, as its `is_read_again` tells.
+/// States that where the bytes of a written batch come after those of a part of its file, at the place that they were
+/// written to, the part then holds that batch, with its places, after those that it held. What is asked of the items
+/// holds of every batch, as its `is_read_again` tells.
 pub fn written_batches_are_held()
     ensures { WrittenBatchIsHeld }
 {}
 
-/// Batches name no more entries and key values than they have bytes: so segments of fewer than 2^63 bytes together
-/// hold a small history.
+/// States that batches name no more entries and key values than they have bytes: so segments of fewer than 2^63
+/// bytes together hold a small history.
 pub fn segments_hold_few_records()
     ensures { (segments : List (Vec Part Global)) (h : List Event)
         → SegmentsHold segments h → bytes_of_segments segments < 2 ^ 63 → IsSmall h }

@@ -27,12 +27,12 @@ pub const MAX_WORKERS: usize = 256;
 /// Segments must be fewer: workers draw their numbers from tickets, which are as many.
 pub const SEGMENT_LIMIT: usize = 1 << 62;
 
-/// Replays all segments by 1 to 256 workers, each of whom draws the next segment that is left, and merges the
-/// pieces by halves. No more workers are started than there are segments, and one for which no thread can be
-/// started is replaced by the caller. Each change of drawer makes a piece, and all pieces are held until the
-/// last segment is replayed: so hand in few segments, one to four for each worker, of about one size. The
-/// answer is the same however the batches are divided into segments, and whatever the workers' turns: the
-/// machine stands for all batches in order, exactly where effects are apart.
+/// Replays all segments by 1 to 256 workers, each of whom draws the next segment that is left, and merges the pieces
+/// by halves. No more workers are started than there are segments, and one for which no thread can be started is
+/// replaced by the caller. Each change of drawer makes a piece, and all pieces are held until the last segment is
+/// replayed: so hand in few segments, one to four for each worker, of about one size. The result is the same however
+/// the batches are divided into segments, and whatever the workers' turns: the machine stands for all batches in
+/// order, exactly where effects are apart.
 ///
 /// # Errors
 ///
@@ -70,8 +70,8 @@ pub fn replay_segments<M: ReplayMachine, F: Factory<M>, G: Gate, R: Threads + Sy
     merge_at_once(rt, machines, &plan, queue, MAX_LEVELS)
 }
 
-/// Whether so many workers may replay these segments: 1 to 256 workers, fewer than 2^62 segments, and every part of the
-/// queue.
+/// Tests whether so many workers may replay these segments: 1 to 256 workers, fewer than 2^62 segments, and every part
+/// of the queue.
 pub fn are_accepted(segments: &[Segment], queue: LogQueue, workers: usize) -> bool
     ensures { IsTrue result ↔ MayReplay queue workers segments.now }
 {
@@ -97,8 +97,8 @@ pub(crate) fn argument_fault(
     "2^62 segments or more"
 }
 
-/// The pieces that the workers make: each segment is in one of them. No more workers are started than there are
-/// segments.
+/// Returns the pieces that the workers make: each segment is in one of them. No more workers are started than
+/// there are segments.
 fn drawn_pieces<M: ReplayMachine, F: Factory<M>, G: Gate, R: Threads + Sync>(
     rt: &R,
     alloc: Global,
@@ -126,7 +126,7 @@ fn drawn_pieces<M: ReplayMachine, F: Factory<M>, G: Gate, R: Threads + Sync>(
     Ok(pieces)
 }
 
-/// The seats and the pieces of all workers, or the refusal of one.
+/// Returns the seats and the pieces of all workers, or the refusal of one.
 fn gather<M: ReplayMachine>(
     alloc: Global,
     worked: Vec<Worked<M>>,
@@ -154,7 +154,7 @@ struct Worked<M: ReplayMachine> {
     pieces: Result<Vec<Piece<M>>>,
 }
 
-/// Each seat's worker at once; each gives its seat back.
+/// Runs the workers of all seats at once; each gives its seat back.
 fn run_workers<M: ReplayMachine, F: Factory<M>, G: Gate, R: Threads + Sync>(
     rt: &R,
     alloc: Global,

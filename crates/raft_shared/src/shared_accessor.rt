@@ -34,7 +34,7 @@ pub struct SharedAccessor {
 }
 
 impl SharedAccessor {
-    /// No tables.
+    /// Makes one without tables.
     pub fn new(alloc: Global) -> SharedAccessor {
         SharedAccessor {
             slots: std::array::from_fn(
@@ -46,7 +46,7 @@ impl SharedAccessor {
         }
     }
 
-    /// The tables, the counts and the cleaned regions of an accessor.
+    /// Shares the tables, the counts and the cleaned regions of an accessor.
     ///
     /// # Errors
     ///
@@ -91,8 +91,8 @@ impl SharedAccessor {
         Ok(core)
     }
 
-    /// What `f` answers at the region's table, which it sees under the lock for reading; `None` where
-    /// the region has no table.
+    /// Calls `f` at the region's table, under the lock for reading, and returns what `f` returns;
+    /// `None` where the region has no table.
     pub fn with_table<X: Drop, F: FnOnce(&MemTable) -> X, R: Wait>(
         &self,
         rt: &R,
@@ -113,8 +113,8 @@ impl SharedAccessor {
         answer_of(&slot, id, f)
     }
 
-    /// Does to a region's table the change that `f` answers for it, all under the lock for writing.
-    /// `f` sees an empty table where there is none, and the table is then made. The number is how many
+    /// Does to a region's table the change that `f` returns for it, all under the lock for writing. `f`
+    /// sees an empty table where there is none, and the table is then made. The number is how many
     /// entries a compaction or a truncation drops, else 0.
     ///
     /// # Errors
@@ -322,7 +322,7 @@ impl SharedAccessor {
         Ok(())
     }
 
-    /// Whether there are no tables.
+    /// Tests whether there are no tables.
     pub fn is_empty<R: Wait>(&self, rt: &R) -> bool {
         for slot in &self.slots {
             if !slot.read(rt).is_empty() {
@@ -332,7 +332,7 @@ impl SharedAccessor {
         true
     }
 
-    /// What `f` makes of `init` and each table, one after another in no set order.
+    /// Returns what `f` makes of `init` and each table, one after another in no set order.
     pub fn fold<B: Drop, F: FnMut(B, &MemTable) -> B, R: Wait>(
         &self,
         rt: &R,
@@ -352,7 +352,7 @@ impl SharedAccessor {
         answer
     }
 
-    /// The ids of the tables at which `f` answers true, in no set order.
+    /// Returns the ids of the tables at which `f` returns true, in no set order.
     ///
     /// # Errors
     ///
@@ -376,7 +376,7 @@ impl SharedAccessor {
         Ok(ids)
     }
 
-    /// How many records of all tables are live in a queue.
+    /// Returns how many records of all tables are live in a queue.
     pub fn live_entries<R: Wait>(&self, rt: &R, queue: LogQueue) -> u128 {
         let mut live: u128 = 0;
         for slot in &self.slots {
@@ -491,7 +491,7 @@ fn move_table(slot: &mut Slot, id: u64, core: &mut MemTableAccessor) -> Result<(
     Ok(())
 }
 
-/// What `f` answers at a region's table, if there is one.
+/// Returns what `f` returns at a region's table, if there is one.
 fn answer_of<X: Drop, F: FnOnce(&MemTable) -> X>(slot: &Slot, id: u64, f: F) -> Option<X>
 where
     F: Drop,
@@ -504,7 +504,7 @@ where
     Some(f(table))
 }
 
-/// Does to a region's table the change that `f` answers for it, or for an empty one in its place.
+/// Does to a region's table the change that `f` returns for it, or for an empty one in its place.
 fn change_by<F: FnOnce(&MemTable) -> TableChange>(
     slot: &mut Slot,
     alloc: Global,
@@ -522,7 +522,7 @@ where
     slot.change(id, change)
 }
 
-/// What `f` answers at a region's table, or at an empty one in its place.
+/// Returns what `f` returns at a region's table, or at an empty one in its place.
 fn answer_at<F: FnOnce(&MemTable) -> TableChange>(
     slot: &Slot,
     alloc: Global,

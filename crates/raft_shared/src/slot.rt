@@ -50,7 +50,7 @@ impl Model for Slot {
 }
 
 impl Slot {
-    /// The slot of this number, without tables. It takes no memory.
+    /// Makes the slot of this number, without tables. It takes no memory.
     pub fn new(alloc: Global, number: usize) -> Slot
         requires { number < 128 }
         ensures number { result.number ≡ number }
@@ -66,14 +66,14 @@ impl Slot {
         }
     }
 
-    /// The number of the slot.
+    /// Returns the number of the slot.
     pub fn number(&self) -> usize
         ensures { result ≡ self.now.number }
     {
         self.number
     }
 
-    /// The table of a region.
+    /// Returns the table of a region.
     pub fn table(&self, id: u64) -> Option<&MemTable>
         ensures value { option_map (λ t. t.now) result ≡ finite.get self.now.content.tables id }
         ensures allowed { IfSome result (λ t. IsSlotTable self.now.number id t.now) }
@@ -81,14 +81,14 @@ impl Slot {
         self.tables.get(id)
     }
 
-    /// Whether the slot has no tables.
+    /// Tests whether the slot has no tables.
     pub fn is_empty(&self) -> bool
         ensures { IsTrue result ↔ (self.now.content.tables ≡ finite.empty) }
     {
         self.tables.is_empty()
     }
 
-    /// What `f` makes of `init` and each table of the slot, in no set order.
+    /// Returns what `f` makes of `init` and each table of the slot, in no set order.
     pub fn fold<B: Drop, F: FnMut(B, &MemTable) -> B>(&self, init: B, f: &mut F) -> B
         requires { (state : F) (x : _) (t : _) → F.pre state x t }
         ensures { (ts : List Table) × IsPermutation ts (finite.values self.now.content.tables)
@@ -97,7 +97,7 @@ impl Slot {
         self.tables.fold(init, f)
     }
 
-    /// Pushes the ids of the slot's tables at which `wanted` answers true, in no set order.
+    /// Pushes the ids of the slot's tables at which `wanted` returns true, in no set order.
     ///
     /// # Errors
     ///
@@ -117,22 +117,22 @@ impl Slot {
         self.tables.push_ids(wanted, ids)
     }
 
-    /// How many records of the slot's tables are live in each queue.
+    /// Returns how many records of the slot's tables are live in each queue.
     pub fn stats(&self) -> &GlobalStats
         ensures { result.now ≡ self.now.content.counts }
     {
         &self.stats
     }
 
-    /// The regions of the slot that were cleaned, in order.
+    /// Returns the regions of the slot that were cleaned, in order.
     pub fn cleaned_regions(&self) -> &[u64]
         ensures { result.now ≡ self.now.content.cleaned }
     {
         self.cleaned.as_slice()
     }
 
-    /// What every slot keeps: its tables stand under their own ids, which are of the slot as the
-    /// cleaned regions are, and are counted exactly. This is a law: it computes nothing.
+    /// States what every slot keeps: its tables stand under their own ids, which are of the slot as
+    /// the cleaned regions are, and are counted exactly. This is a law: it computes nothing.
     pub fn holds_own_tables(&self)
         ensures { HoldsOwnTables self.now }
     {

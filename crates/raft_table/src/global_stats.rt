@@ -84,7 +84,7 @@ impl GlobalStats {
         Ok(())
     }
 
-    /// Whether `count` more records can be live in `queue`.
+    /// Tests whether `count` more records can be live in `queue`.
     pub fn can_add(&self, queue: LogQueue, count: usize) -> bool
         ensures { MatchBool result (live queue self.now + count < 2 ^ 64)
             (2 ^ 64 ≤ live queue self.now + count) }
@@ -137,7 +137,7 @@ impl GlobalStats {
         self.delete_records(table, LogQueue::Rewrite);
     }
 
-    /// Whether all records of a table can be counted beside those that are live.
+    /// Tests whether all records of a table can be counted beside those that are live.
     pub fn has_room(&self, table: &MemTable) -> bool
         ensures { MatchBool result
             ((q : LogQueue) → live q self.now + live_of q table.now < 2 ^ 64)
@@ -146,7 +146,8 @@ impl GlobalStats {
         self.has_room_in(table, LogQueue::Append) && self.has_room_in(table, LogQueue::Rewrite)
     }
 
-    /// Whether the records of a table in `queue` can be counted beside those that are live there.
+    /// Tests whether the records of a table in `queue` can be counted beside those that are live
+    /// there.
     fn has_room_in(&self, table: &MemTable, queue: LogQueue) -> bool
         ensures { MatchBool result (live queue self.now + live_of queue table.now < 2 ^ 64)
             (2 ^ 64 ≤ live queue self.now + live_of queue table.now) }
@@ -179,7 +180,7 @@ impl GlobalStats {
         self.delete(queue, count as usize);
     }
 
-    /// How many records are live in `queue`.
+    /// Returns how many records are live in `queue`.
     pub fn live_entries(&self, queue: LogQueue) -> usize
         ensures { result ≡ live queue self.now }
     {
@@ -189,14 +190,15 @@ impl GlobalStats {
         }
     }
 
-    /// How many records were written to the rewrite queue, those that were deleted again included.
+    /// Returns how many records were written to the rewrite queue, those that were deleted again
+    /// included.
     pub fn rewrite_entries(&self) -> usize
         ensures { result ≡ self.now.written }
     {
         self.rewrite_entries
     }
 
-    /// How many of the records that were written to the rewrite queue were deleted again.
+    /// Returns how many of the records that were written to the rewrite queue were deleted again.
     pub fn deleted_rewrite_entries(&self) -> usize
         ensures { result ≡ self.now.deleted }
     {
@@ -213,7 +215,7 @@ impl GlobalStats {
     }
 }
 
-/// The sum, or `Full` where it would pass 2^64 - 1.
+/// Returns the sum, or `Full` where it would pass 2^64 - 1.
 fn sum(a: usize, b: usize) -> Result<usize>
     ensures ok { IfOk result (λ s. s ≡ a + b) }
     ensures accepted { a + b < 2 ^ 64 → IsOk result }

@@ -74,7 +74,7 @@ impl Model for MemTable {
 }
 
 impl MemTable {
-    /// The table of the region `region_id`, without records.
+    /// Makes the table of the region `region_id`, without records.
     pub fn new(alloc: Global, region_id: u64) -> MemTable
         ensures empty { result ≡ empty_table region_id }
         ensures counted { (counts : Counts) → IsCounted result counts }
@@ -87,29 +87,29 @@ impl MemTable {
         }
     }
 
-    /// A table's entries are one run without gaps, each has a place, and the rewritten ones stand in
-    /// front of the appended ones. This is a law: it computes nothing.
+    /// States that a table's entries are one run without gaps, each has a place, and the rewritten
+    /// ones stand in front of the appended ones. This is a law: it computes nothing.
     pub fn holds_one_run(&self)
         ensures { AreTableEntries self.now.entries }
     {
         self.entries.holds_one_run();
     }
 
-    /// The region's id.
+    /// Returns the region's id.
     pub fn region_id(&self) -> u64
         ensures { result ≡ self.now.region_id }
     {
         self.region_id
     }
 
-    /// How many entries are rewritten.
+    /// Returns how many entries are rewritten.
     pub fn rewrite_count(&self) -> usize
         ensures { result ≡ entry_count Rewrite self.now.entries }
     {
         self.entries.rewrite_count()
     }
 
-    /// The least index.
+    /// Returns the least index.
     pub fn first_index(&self) -> Option<u64>
         ensures { MatchOption result (self.now.entries ≡ [])
             (λ i. (self.now.entries ≢ []) × (i ≡ start_of self.now.entries)) }
@@ -117,7 +117,7 @@ impl MemTable {
         self.entries.first_index()
     }
 
-    /// The greatest index.
+    /// Returns the greatest index.
     pub fn last_index(&self) -> Option<u64>
         ensures { MatchOption result (self.now.entries ≡ [])
             (λ i. i + 1 ≡ end_of self.now.entries) }
@@ -125,8 +125,8 @@ impl MemTable {
         self.entries.last_index()
     }
 
-    /// The blocks in which the entries are kept, in order: each has entries, and neighbors have
-    /// different places.
+    /// Returns the blocks in which the entries are kept, in order: each has entries, and neighbors
+    /// have different places.
     pub fn blocks(&self) -> &VecDeque<Block>
         ensures entries { entries_in_blocks (start_of self.now.entries)
             (blocks_shown result.now.items) ≡ self.now.entries }
@@ -136,28 +136,28 @@ impl MemTable {
         self.entries.blocks()
     }
 
-    /// The first and the last file of the region's atomic group, if one was applied.
+    /// Returns the first and the last file of the region's atomic group, if one was applied.
     pub fn atomic_group(&self) -> Option<(FileSeq, FileSeq)>
         ensures { result ≡ self.now.atomic_group }
     {
         self.atomic_group
     }
 
-    /// How many entries and key values have their place or file in `queue`.
+    /// Returns how many entries and key values have their place or file in `queue`.
     pub fn records(&self, queue: LogQueue) -> u128
         ensures { result ≡ live_of queue self.now }
     {
         self.entries.count_in(queue) as u128 + self.keys.count_in(queue) as u128
     }
 
-    /// The entry with this index.
+    /// Returns the entry with this index.
     pub fn get_entry(&self, index: u64) -> Option<EntryIndex>
         ensures { result ≡ entry_at index self.now.entries }
     {
         self.entries.get(index)
     }
 
-    /// The value of `key`.
+    /// Returns the value of `key`.
     pub fn get(&self, key: &[u8]) -> Option<&[u8]>
         ensures { option_map (λ v. v.now) result ≡ value_at self.now.keys key.now }
     {
@@ -236,7 +236,7 @@ impl MemTable {
     }
 
     /// Puts a run of `queue` as [`MemTable::replay_append`] and [`MemTable::replay_rewrite`] do, and
-    /// answers whether it did. It does not where those refuse, nor where the table has records of the
+    /// returns whether it did. It does not where those refuse, nor where the table has records of the
     /// other queue. The table and the counts are then as they were.
     #[doc(hidden)]
     pub fn try_replay(
@@ -295,7 +295,7 @@ impl MemTable {
         self.entries.rewrite(&run, gate, stats)
     }
 
-    /// Drops the entries below an index, and answers how many those were.
+    /// Drops the entries below an index, and returns how many those were.
     pub fn compact_to(&mut self, index: u64, stats: &mut GlobalStats) -> u64
         requires { IsCounted self.old stats.old }
         ensures compacted { self.new ≡ record self.old { entries = from index self.old.entries } }
@@ -307,7 +307,7 @@ impl MemTable {
         self.entries.compact_to(index, stats)
     }
 
-    /// Drops the entries at or above an index, and answers how many those were.
+    /// Drops the entries at or above an index, and returns how many those were.
     ///
     /// Entries that stand in the rewrite queue stay in its files. Where the append file with the
     /// truncation is purged before the rewrite queue has the same command, a recovery gives them back.
@@ -428,7 +428,7 @@ impl MemTable {
         }
     }
 
-    /// Whether a key has a pair in `queue`.
+    /// Tests whether a key has a pair in `queue`.
     fn has_pair_in(&self, key: &[u8], queue: LogQueue) -> bool
         ensures { MatchBool result (file_weight queue (file_at self.now.keys key.now)
             ≡ 1) (file_weight queue (file_at self.now.keys key.now) ≡ 0) }
@@ -455,7 +455,7 @@ impl MemTable {
     }
 }
 
-/// The other queue.
+/// Returns the other queue.
 pub fn other_queue(queue: LogQueue) -> LogQueue
     ensures { result ≡ other queue }
 {

@@ -11,7 +11,7 @@ use raft_records::{Command, LogBatch};
 use std::alloc::Global;
 
 impl MemTableAccessor {
-    /// The regions that were cleaned, in order.
+    /// Returns the regions that were cleaned, in order.
     pub fn cleaned_regions(&self) -> &[u64]
         ensures { result.now ≡ self.now.cleaned }
     {
@@ -48,7 +48,7 @@ impl MemTableAccessor {
     }
 }
 
-/// A batch with a `Clean` for each region, in order.
+/// Makes a batch with a `Clean` for each region, in order.
 ///
 /// # Errors
 ///

@@ -12,7 +12,7 @@ use raft_table::{Mark, MemTable};
 
 impl MemTableAccessor {
     /// Puts a newer neighbor's table of a region, or its absence, over the older one, as the newer region mark
-    /// says. The answer is where the older entries end that the region mark's first run comes behind.
+    /// says. Returns where the older entries end that the region mark's first run comes after.
     ///
     /// # Errors
     ///

@@ -35,8 +35,8 @@ impl MemTableAccessor {
         self.slots[slot_of(id)].take_step(queue, id, step, &mut self.stats, &mut self.cleaned)
     }
 
-    /// Puts a run that is read again where its region has a table that takes it, and answers where the
-    /// entries of the table ended before. Nothing is answered where there is no table, nor where
+    /// Puts a run that is read again where its region has a table that takes it, and returns where the
+    /// entries of the table ended before. Nothing is returned where there is no table, nor where
     /// [`MemTableAccessor::take_step`] refuses it, as for want of memory. All tables are then as they were.
     pub fn try_replay_run(&mut self, queue: LogQueue, id: u64, run: &[EntryIndex]) -> Option<u64>
         requires run { IsRunIn queue run.now }

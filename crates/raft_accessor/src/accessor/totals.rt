@@ -9,8 +9,8 @@ use crate::accessor::MemTableAccessor;
 use raft_base::LogQueue;
 
 impl MemTableAccessor {
-    /// How many entries all tables have together, and how many keys with a value, which are the other
-    /// records.
+    /// Returns how many entries all tables have together, and how many keys with a value, which are
+    /// the other records.
     pub fn totals(&self) -> (u128, u128)
         ensures entries { result.0 ≡ total (λ (t : Table). length t.entries) self.now.tables }
         ensures keys { result.1 ≡ total (λ (t : Table). finite.len t.keys) self.now.tables }

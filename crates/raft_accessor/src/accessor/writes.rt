@@ -158,8 +158,8 @@ impl MemTableAccessor {
     }
 }
 
-/// Items that are accepted are refused only for want of memory or of room in the counts, whichever of them is refused.
-/// This is a law: it computes nothing.
+/// States that items that are accepted are refused only for want of memory or of room in the counts, whichever of them
+/// is refused. This is a law: it computes nothing.
 pub fn accepted_items_lack_room_alone()
     ensures { (items rest : List Item) (old new : Accessor) (e : Error)
         → AreAccepted old.tables (items ++ rest) → AreItemsRefused Appending items old new e

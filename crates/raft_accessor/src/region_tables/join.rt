@@ -14,7 +14,7 @@ use raft_table::{GlobalStats, Mark, MemTable};
 
 impl RegionTables {
     /// Puts a newer neighbor's table of a region, or its absence, over the older one, as the newer region mark
-    /// says. The answer is the end of the older entries that the region mark's first run came behind.
+    /// says. Returns the end of the older entries that the region mark's first run came after.
     ///
     /// # Errors
     ///

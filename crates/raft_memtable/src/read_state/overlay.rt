@@ -31,7 +31,7 @@ impl ReadState {
         self.put_append(append)
     }
 
-    /// Whether this was read of the rewrite queue, and the other of the append queue.
+    /// Tests whether this was read of the rewrite queue, and the other of the append queue.
     fn check_append(&self, append: &ReadState) -> Result<()>
         ensures queues { OnOk result (AreOfBothQueues (context_in self.now)
             (context_in append.now)) }

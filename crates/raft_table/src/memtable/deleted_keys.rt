@@ -34,7 +34,7 @@ impl Model for DeletedKeys {
 }
 
 impl DeletedKeys {
-    /// No keys.
+    /// Makes one without keys.
     pub fn new(alloc: Global) -> DeletedKeys
         ensures { result ≡ finset.empty }
     {
@@ -43,7 +43,7 @@ impl DeletedKeys {
         }
     }
 
-    /// How many keys there are.
+    /// Returns how many keys there are.
     pub fn len(&self) -> usize
         ensures { result ≡ finset.len self.now }
     {

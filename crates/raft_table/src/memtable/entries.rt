@@ -73,7 +73,7 @@ impl Model for Entries {
 }
 
 impl Entries {
-    /// No entries.
+    /// Makes one without entries.
     pub fn new(alloc: Global) -> Entries
         ensures { result ≡ [] }
     {
@@ -86,15 +86,15 @@ impl Entries {
         }
     }
 
-    /// The entries are one run without gaps, each has a place, and the rewritten ones stand in front
-    /// of the appended ones. This is a law: it computes nothing.
+    /// States that the entries are one run without gaps, each has a place, and the rewritten ones
+    /// stand in front of the appended ones. This is a law: it computes nothing.
     pub fn holds_one_run(&self)
         ensures { AreTableEntries self.now }
     {
         let _ = &self.blocks;
     }
 
-    /// The blocks that are kept.
+    /// Returns the blocks that are kept.
     pub fn blocks(&self) -> &VecDeque<Block>
         ensures entries { entries_in_blocks (start_of self.now) (blocks_shown result.now.items)
             ≡ self.now }
@@ -104,7 +104,7 @@ impl Entries {
         &self.blocks
     }
 
-    /// The least index.
+    /// Returns the least index.
     pub fn first_index(&self) -> Option<u64>
         ensures { MatchOption result (self.now ≡ []) (λ i. (self.now ≢ []) ×
             (i ≡ start_of self.now)) }
@@ -115,7 +115,7 @@ impl Entries {
         Some(self.first)
     }
 
-    /// The greatest index.
+    /// Returns the greatest index.
     pub fn last_index(&self) -> Option<u64>
         ensures { MatchOption result (self.now ≡ []) (λ i. i + 1 ≡ end_of self.now) }
     {
@@ -125,14 +125,14 @@ impl Entries {
         Some(self.first + (self.len - 1) as u64)
     }
 
-    /// How many there are.
+    /// Returns how many there are.
     pub fn len(&self) -> usize
         ensures { result ≡ length self.now }
     {
         self.len
     }
 
-    /// How many of them are in `queue`.
+    /// Returns how many of them are in `queue`.
     pub fn count_in(&self, queue: LogQueue) -> usize
         ensures { result ≡ entry_count queue self.now }
     {
@@ -142,19 +142,19 @@ impl Entries {
         }
     }
 
-    /// The allocator that the entries were made with.
+    /// Returns the allocator that the entries were made with.
     pub(crate) fn allocator(&self) -> Global {
         *self.blocks.allocator()
     }
 
-    /// How many of them are rewritten.
+    /// Returns how many of them are rewritten.
     pub fn rewrite_count(&self) -> usize
         ensures { result ≡ entry_count Rewrite self.now }
     {
         self.rewritten
     }
 
-    /// The entry with this index.
+    /// Returns the entry with this index.
     pub fn get(&self, index: u64) -> Option<EntryIndex>
         ensures { result ≡ entry_at index self.now }
     {

@@ -6,8 +6,8 @@ ghost use Rattle.raft_table.specs.Holes.{hole_text, hole_text_above};
 use raft_base::Error;
 use std::alloc::Global;
 
-/// `Corruption` for a run of a region from `start` on, which leaves a hole behind entries that end before the
-/// index `end`; `Memory` where its text finds none.
+/// Makes the `Corruption` for a run of a region from `start` on, which leaves a hole after entries that end
+/// before the index `end`; `Memory` where its text finds none.
 pub fn hole_error(alloc: Global, region_id: u64, start: u64, end: u64) -> Error
     ensures { IsCorruption (hole_text region_id start end) result }
 {
@@ -19,7 +19,7 @@ pub fn hole_error(alloc: Global, region_id: u64, start: u64, end: u64) -> Error
     }
 }
 
-/// What [`hole_error`] is of a run that starts above the index `below`, where no more is known.
+/// Makes the [`hole_error`] of a run that starts above the index `below`, where no more is known.
 pub fn hole_error_above(alloc: Global, region_id: u64, below: u64, end: u64) -> Error
     ensures { IsCorruption (hole_text_above region_id below end) result }
 {

@@ -50,7 +50,7 @@ impl Model for KeyValues {
 }
 
 impl KeyValues {
-    /// No pairs.
+    /// Makes one without pairs.
     pub fn new(alloc: Global) -> KeyValues
         ensures { result ≡ finite.empty }
     {
@@ -61,14 +61,14 @@ impl KeyValues {
         }
     }
 
-    /// How many pairs there are.
+    /// Returns how many pairs there are.
     pub fn len(&self) -> usize
         ensures { result ≡ finite.len self.now }
     {
         self.pairs.len()
     }
 
-    /// Whether there are no pairs.
+    /// Tests whether there are no pairs.
     pub fn is_empty(&self) -> bool
         ensures { IsTrue result ↔ (self.now ≡ finite.empty) }
     {
@@ -83,7 +83,7 @@ impl KeyValues {
         self.rewritten = 0;
     }
 
-    /// How many pairs have their file in `queue`.
+    /// Returns how many pairs have their file in `queue`.
     pub fn count_in(&self, queue: LogQueue) -> usize
         ensures { result ≡ pair_count queue self.now }
     {
@@ -93,7 +93,7 @@ impl KeyValues {
         }
     }
 
-    /// The value of `key`.
+    /// Returns the value of `key`.
     pub fn get(&self, key: &[u8]) -> Option<&[u8]>
         ensures { option_map (λ v. v.now) result ≡ value_at self.now key.now }
     {
@@ -103,7 +103,7 @@ impl KeyValues {
         }
     }
 
-    /// The file that the pair of `key` was written to.
+    /// Returns the file that the pair of `key` was written to.
     pub fn file_of(&self, key: &[u8]) -> Option<FileId>
         ensures { result ≡ file_at self.now key.now }
     {
@@ -113,7 +113,7 @@ impl KeyValues {
         }
     }
 
-    /// Puts a key with its value, which were written to `file`. Answers the file of the pair that
+    /// Puts a key with its value, which were written to `file`. Returns the file of the pair that
     /// it replaces.
     ///
     /// # Errors
@@ -139,7 +139,7 @@ impl KeyValues {
         Ok(replaced)
     }
 
-    /// Takes the pair of `key` away, and answers its file.
+    /// Takes the pair of `key` away, and returns its file.
     pub fn remove(&mut self, key: &[u8]) -> Option<FileId>
         ensures after { self.new ≡ finite.remove self.old key.now }
         ensures removed { result ≡ file_at self.old key.now }
@@ -151,7 +151,7 @@ impl KeyValues {
         Some(removed.file)
     }
 
-    /// Moves the pair of `key`, if there is one, to `file`. Answers the file that it was in.
+    /// Moves the pair of `key`, if there is one, to `file`. Returns the file that it was in.
     pub fn set_file(&mut self, key: &[u8], file: FileId) -> Option<FileId>
         ensures after { self.new ≡ with_moved self.old key.now file }
         ensures moved { result ≡ file_at self.old key.now }
@@ -167,7 +167,7 @@ impl KeyValues {
         Some(left)
     }
 
-    /// The least number among the files of the pairs in `queue`.
+    /// Returns the least number among the files of the pairs in `queue`.
     pub fn least_seq_in(&self, queue: LogQueue) -> Option<FileSeq>
         ensures { result ≡ least (seqs_in queue self.now) }
     {
@@ -204,7 +204,7 @@ impl KeyValues {
         pushed
     }
 
-    /// As [`MemTable::scan`](crate::MemTable::scan).
+    /// Does what [`MemTable::scan`](crate::MemTable::scan) does.
     pub fn scan<F: FnMut(&[u8], &[u8]) -> bool>(
         &self,
         start: Option<&[u8]>,
@@ -288,14 +288,14 @@ fn push_fetched(
     Ok(())
 }
 
-/// The same bytes once more.
+/// Copies the bytes.
 fn copied(bytes: &Vec<u8>) -> AllocResult<Vec<u8>>
     ensures { IfOk result (λ copy. copy.items ≡ bytes.now.items) }
 {
     bytes.clone()
 }
 
-/// Whether a file is in `queue`, and at or below the gate, if there is one.
+/// Tests whether a file is in `queue`, and at or below the gate, if there is one.
 fn is_up_to(file: FileId, queue: LogQueue, gate: Option<FileSeq>) -> bool
     ensures { result ≡ is_up_to queue gate file }
 {
@@ -306,14 +306,14 @@ fn is_up_to(file: FileId, queue: LogQueue, gate: Option<FileSeq>) -> bool
         }
 }
 
-/// The file that a pair was in.
+/// Returns the file that a pair was in.
 fn file_in(pair: Option<StoredValue>) -> Option<FileId>
     ensures { result ≡ option_map (λ s. s.file) pair }
 {
     pair.map(|pair| pair.file)
 }
 
-/// What a pair of that file counts in the rewrite queue.
+/// Returns what a pair of that file counts in the rewrite queue.
 fn rewritten(file: Option<FileId>) -> usize
     ensures { result ≡ file_weight LogQueue.Rewrite file }
 {

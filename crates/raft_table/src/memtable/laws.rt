@@ -18,8 +18,8 @@ ghost use Rattle.raft_table.specs.Steps.{Step, IsStep, AreSteps, IsTableOf, tabl
 ghost use Rattle.raft_table.specs.Table.{Table};
 ghost use Rattle.raft_table.specs.Start.{entries_after_append, entries_after_replay, leaves_hole};
 
-/// What stands at an index, after each change of a table's entries but a rewriting: where a run is
-/// accepted, the old entries below its first index and its own from there on, but for a hole in the
+/// States what stands at an index, after each change of a table's entries but a rewriting: where a run
+/// is accepted, the old entries below its first index and its own from there on, but for a hole in the
 /// rewrite queue, where it stands alone; after a compaction the old entries from its index on; after a
 /// truncation those below its index.
 pub fn entries_stand_by_index()
@@ -40,10 +40,10 @@ pub fn entries_stand_by_index()
         → entry_at i (below index es) ≡ (if nat_lt i index then entry_at i es else None) }
 {}
 
-/// In the append queue the entry at an index is that of the last of a region's steps that speaks of the index:
-/// a run that starts at or below it, a compaction above it, a truncation at or below it, or a clean. In both
-/// queues the value and the file of a key are those of the last step that speaks of the key: a `Put` or a `Del`
-/// of it, or a clean.
+/// States that in the append queue the entry at an index is that of the last of a region's steps that speaks of
+/// the index: a run that starts at or below it, a compaction above it, a truncation at or below it, or a clean.
+/// In both queues the value and the file of a key are those of the last step that speaks of the key: a `Put` or
+/// a `Del` of it, or a clean.
 pub fn last_words_stand()
     ensures entries { (id i : ℕ) (t : Option Table) (ss : List Step) → AreSteps ss →
         after Append id None ss ≡ Some t → entry_at i (table_of id t).entries ≡ last_entry i ss }
@@ -51,9 +51,9 @@ pub fn last_words_stand()
         → after q id None ss ≡ Some t → finite.get (table_of id t).keys key ≡ last_pair key ss }
 {}
 
-/// A region mark and an own table stand for the steps on a region: those of one step for it; those of two
-/// neighbors, joined, for the steps of both, or one reading refuses where the join does; and the own
-/// table is what one reading of the steps gives.
+/// States that a region mark and an own table stand for the steps on a region: those of one step for it;
+/// those of two neighbors, joined, for the steps of both, or one reading refuses where the join does; and
+/// the own table is what one reading of the steps gives.
 pub fn marks_stand_for_steps()
     ensures one { (q : LogQueue) (id : ℕ) (s : Step) → IsStep s →
         Stands q id (mark_of s) (own_of id s) (s ∷ []) }
@@ -73,8 +73,8 @@ pub fn marks_stand_for_steps()
         → finset.len m.deleted ≤ finset.len (deleted_of finset.empty ss) }
 {}
 
-/// In the append queue a region mark that stands for steps holds what an overlay reads of them, so the
-/// overlay by the region mark is that by the steps, and its entries are a run.
+/// States that in the append queue a region mark that stands for steps holds what an overlay reads of
+/// them, so the overlay by the region mark is that by the steps, and its entries are a run.
 pub fn overlays_by_marks()
     ensures one { (s : Step) → IsExactMark (mark_of s) (s ∷ []) }
     ensures joins { (id : ℕ) (m n : Mark) (t : Option Table) (ss rs : List Step) →
@@ -87,8 +87,8 @@ pub fn overlays_by_marks()
         → IsRun (overlay_under m (table_of id a) r).entries }
 {}
 
-/// Where nothing truncates or cleans, the rewritten entries below the least start of a run stay exactly
-/// where they reach it: the appended ones begin there, or no rewritten one stays.
+/// States that where nothing truncates or cleans, the rewritten entries below the least start of a run
+/// stay exactly where they reach it: the appended ones begin there, or no rewritten one stays.
 pub fn overlays_reach_without_truncations()
     ensures { (id : ℕ) (ss : List Step) (appended : Option Table) (es : List EntryIndex) →
         AreSteps ss

@@ -64,7 +64,7 @@ const NO_BOUNDS: Bounds = Bounds {
 };
 
 impl Bounds {
-    /// The bounds of a step.
+    /// Returns the bounds of a step.
     fn of_step(step: &Step) -> Bounds
         ensures { with_bounds result ≡ record (mark_of (step_shown step.now))
             { deleted = finset.empty } }
@@ -87,7 +87,7 @@ impl Bounds {
         }
     }
 
-    /// The bounds of a run.
+    /// Returns the bounds of a run.
     fn of_run(run: &[EntryIndex]) -> Bounds
         ensures { with_bounds result ≡ mark_of (Run run.now) }
     {
@@ -116,7 +116,7 @@ impl Model for Mark {
 }
 
 impl Mark {
-    /// The region mark of no step.
+    /// Makes the region mark of no step.
     pub fn new(alloc: Global) -> Mark
         ensures { result ≡ fresh }
     {
@@ -132,7 +132,7 @@ impl Mark {
         }
     }
 
-    /// The region mark of a run that starts at `start`.
+    /// Returns the region mark of a run that starts at `start`.
     pub fn of_run(alloc: Global, start: u64) -> Mark
         ensures { result ≡ record fresh { reach = Some start; cut = Some start } }
     {
@@ -143,64 +143,65 @@ impl Mark {
         }
     }
 
-    /// Whether the region was cleaned.
+    /// Tests whether the region was cleaned.
     pub fn is_cleaned(&self) -> bool
         ensures { result ≡ self.now.cleaned }
     {
         self.cleaned
     }
 
-    /// The greatest compaction before the first run.
+    /// Returns the greatest compaction before the first run.
     pub fn reach_floor(&self) -> u64
         ensures { result ≡ self.now.reach_floor }
     {
         self.reach_floor
     }
 
-    /// The least truncation before the first run; none without a run, or without such a truncation.
+    /// Returns the least truncation before the first run; none without a run, or without such a
+    /// truncation.
     pub fn reach_cut(&self) -> Option<u64>
         ensures { result ≡ self.now.reach_cut }
     {
         self.reach_cut
     }
 
-    /// Where no older entry may stand, if anywhere: from the first of these indexes on and below the
-    /// second. Over one the steps are refused, in the append queue alone.
+    /// Returns where no older entry may stand, if anywhere: from the first of these indexes on and
+    /// below the second. Over one the steps are refused, in the append queue alone.
     pub fn barred(&self) -> Option<(u64, u64)>
         ensures { result ≡ self.now.barred }
     {
         self.barred
     }
 
-    /// The start of the first run, if there was one.
+    /// Returns the start of the first run, if there was one.
     pub fn reach(&self) -> Option<u64>
         ensures { result ≡ self.now.reach }
     {
         self.reach
     }
 
-    /// Where older entries begin that stay.
+    /// Returns where older entries begin that stay.
     pub fn floor(&self) -> u64
         ensures { result ≡ self.now.floor }
     {
         self.floor
     }
 
-    /// The index that the older entries stay below, if a run or a truncation came.
+    /// Returns the index that the older entries stay below, if a run or a truncation came.
     pub fn cut(&self) -> Option<u64>
         ensures { result ≡ self.now.cut }
     {
         self.cut
     }
 
-    /// The deleted keys.
+    /// Returns the deleted keys.
     pub fn deleted(&self) -> &DeletedKeys
         ensures { result.now ≡ self.now.deleted }
     {
         &self.deleted
     }
 
-    /// Whether the first run leaves a hole behind entries that end at `end`.
+    /// Tests whether the first run leaves a hole behind entries that end at `end`.
     pub fn misses(&self, end: u64) -> bool
         ensures { result ≡ misses self.now.reach end }
     {
@@ -283,8 +284,8 @@ impl Mark {
         }
     }
 
-    /// Whether a run that starts at `start`, where the own entries end at `end`, changes nothing: it begins
-    /// among them or right behind them, and not below the cut.
+    /// Tests whether a run that starts at `start`, where the own entries end at `end`, changes nothing: it
+    /// begins among them or right behind them, and not below the cut.
     fn covers(&self, end: u64, start: u64) -> bool
         ensures { MatchBool result ((queue : LogQueue) → joined_at queue end self.now
             (record fresh { reach = Some start; cut = Some start }) ≡ self.now) (Unit {0}) }
@@ -301,14 +302,15 @@ impl Mark {
         0 < end
     }
 
-    /// Whether newer steps change nothing: the region was cleaned (or no steps give such a region mark).
+    /// Tests whether newer steps change nothing: the region was cleaned (or no steps give such a region
+    /// mark).
     fn is_settled(&self) -> bool
         ensures { result ≡ is_settled self.now }
     {
         self.cleaned || self.reach.is_some() && self.cut.is_none()
     }
 
-    /// All but the deleted keys.
+    /// Returns all but the deleted keys.
     fn bounds(&self) -> Bounds
         ensures { result ≡ record {
           cleaned = self.now.cleaned;
@@ -380,7 +382,7 @@ impl Mark {
     }
 }
 
-/// Whether a first run leaves a hole behind entries that end at `end`.
+/// Tests whether a first run leaves a hole behind entries that end at `end`.
 fn misses(reach: Option<u64>, end: u64) -> bool
     ensures { result ≡ misses reach end }
 {
@@ -390,7 +392,7 @@ fn misses(reach: Option<u64>, end: u64) -> bool
     }
 }
 
-/// Barred indexes of a newer region mark, among the entries that an older region mark leaves.
+/// Narrows barred indexes of a newer region mark to the entries that an older region mark leaves.
 fn narrowed(floor: u64, cut: Option<u64>, barred: Option<(u64, u64)>) -> Option<(u64, u64)>
     ensures { result ≡ narrowed_bars floor cut barred }
 {
@@ -398,8 +400,8 @@ fn narrowed(floor: u64, cut: Option<u64>, barred: Option<(u64, u64)>) -> Option<
     Some((floor.max(from), capped(below, cut)))
 }
 
-/// Whether a newer first run is detached: it comes behind no entry of the older table, whose entries it
-/// meets end at `end`, and starts above the bound below which still older ones stay.
+/// Tests whether a newer first run is detached: it comes behind no entry of the older table, whose
+/// entries it meets end at `end`, and starts above the bound below which still older ones stay.
 fn is_detached(reach: Option<u64>, end: u64, bound: u64) -> bool
     ensures { result ≡ is_detached reach end bound }
 {
@@ -409,15 +411,15 @@ fn is_detached(reach: Option<u64>, end: u64, bound: u64) -> bool
     }
 }
 
-/// Whether a newer first run leaves no older entry below the cut in the rewrite queue.
+/// Tests whether a newer first run leaves no older entry below the cut in the rewrite queue.
 fn drops_below(reach: Option<u64>, end: u64, bound: u64) -> bool
     ensures { result ≡ is_detached reach end bound || misses reach end }
 {
     is_detached(reach, end, bound) || misses(reach, end)
 }
 
-/// The barred indexes of two region marks: the older one's, else those that a newer first run which is detached
-/// would come behind, else the newer one's.
+/// Returns the barred indexes of two region marks: the older one's, else those that a newer first run which is
+/// detached would come behind, else the newer one's.
 fn joined_barred(
     queue: LogQueue,
     detached: bool,
@@ -433,7 +435,7 @@ fn joined_barred(
     }
 }
 
-/// Where older entries begin that stay behind a run with this cut.
+/// Returns where older entries begin that stay behind a run with this cut.
 fn joined_floor(queue: LogQueue, dropped: bool, floor: u64, cut: u64) -> u64
     ensures { result ≡ joined_floor queue dropped floor cut }
 {

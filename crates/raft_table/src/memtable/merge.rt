@@ -98,7 +98,7 @@ impl MemTable {
         self.merge_by_rule(rule, rhs, LogQueue::Append, stats)
     }
 
-    /// The one queue of the records of two tables, if there is one.
+    /// Returns the one queue of the records of two tables, if there is one.
     fn joint_queue(&self, rhs: &MemTable) -> Option<LogQueue>
         ensures { result ≡ joint_queue self.now rhs.now }
     {
@@ -111,7 +111,7 @@ impl MemTable {
         Some(LogQueue::Append)
     }
 
-    /// The start rule by which an append table joins this one, if it may.
+    /// Returns the start rule by which an append table joins this one, if it may.
     fn append_rule(&self, rhs: &MemTable) -> Option<LogQueue>
         ensures { result ≡ append_rule self.now rhs.now }
     {

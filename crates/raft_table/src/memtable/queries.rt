@@ -1,4 +1,4 @@
-//! What a table answers of its records.
+//! What a table returns of its records.
 
 ghost use Rattle.std.specs.Prelude.{◌≡◌, ◌+◌, ◌-◌, ◌<◌, ◌++◌, length, IsOk, OnOk, OnErr, IfErr, Some, None};
 ghost use Rattle.std.specs.Fn.{CalledAtTwo};
@@ -17,21 +17,21 @@ use crate::memtable::bounds::lesser;
 use raft_base::{EntryIndex, Error, FileId, FileSeq, LogQueue, Result};
 
 impl MemTable {
-    /// How many blocks the entries are kept in.
+    /// Returns how many blocks the entries are kept in.
     pub fn block_count(&self) -> usize
         ensures { result ≡ block_count self.now.entries }
     {
         self.entries.block_count()
     }
 
-    /// How many entries there are.
+    /// Returns how many entries there are.
     pub fn entries_count(&self) -> usize
         ensures { result ≡ length self.now.entries }
     {
         self.entries.len()
     }
 
-    /// How many keys have a value.
+    /// Returns how many keys have a value.
     pub fn key_count(&self) -> usize
         ensures { result ≡ finite.len self.now.keys }
     {
@@ -122,8 +122,8 @@ impl MemTable {
     }
 
     /// Calls `f` at the keys from `start` on and below `end` with their values, in the order of the
-    /// keys or, where `reverse`, from the last one back, until it answers false. A bound that is
-    /// `None` leaves its side open; where `start` is above `end` nothing is visited. It is always `Ok`.
+    /// keys or, where `reverse`, from the last one back, until it returns false. A bound that is `None`
+    /// leaves its side open; where `start` is above `end` nothing is visited. It is always `Ok`.
     pub fn scan<F: FnMut(&[u8], &[u8]) -> bool>(
         &self,
         start: Option<&[u8]>,
@@ -141,9 +141,9 @@ impl MemTable {
         Ok(())
     }
 
-    /// The least of the file of the first entry in `queue` and the files of the pairs in it. In the
-    /// rewrite queue one at or below the last file of the region's atomic group is lowered to at
-    /// most the group's first.
+    /// Returns the least of the file of the first entry in `queue` and the files of the pairs in it.
+    /// In the rewrite queue one at or below the last file of the region's atomic group is lowered to
+    /// at most the group's first.
     ///
     /// No record of a recovered table is in a file below it. In a table that is kept, that holds
     /// where the files of the entries in the queue don't fall from one index to the next. They fall
@@ -162,8 +162,8 @@ impl MemTable {
         }
     }
 
-    /// Whether there are `count` entries, and the file number of the last of them is at or below
-    /// the gate's, whatever its queue.
+    /// Tests whether there are `count` entries, and the file number of the last of them is at or
+    /// below the gate's, whatever its queue.
     pub fn has_at_least_some_entries_before(&self, gate: FileId, count: usize) -> bool
         requires { 0 < count }
         ensures { result
@@ -176,7 +176,8 @@ impl MemTable {
     }
 }
 
-/// A file number, lowered to at most the first one of an atomic group where it is at or below the group's last one.
+/// Returns a file number, lowered to at most the first one of an atomic group where it is at or below the group's
+/// last one.
 fn lowered(atomic_group: Option<(FileSeq, FileSeq)>, seq: Option<FileSeq>) -> Option<FileSeq>
     ensures { result ≡ at_most_group_seq atomic_group seq }
 {

@@ -22,8 +22,8 @@ ghost use Rattle.raft_table.specs.Start.{entries_after_append, entries_after_rep
 
 use raft_base::Error;
 
-/// A run is refused as `Full` only where the live count of its queue and the run's length together
-/// pass 2^64 - 1.
+/// States that a run is refused as `Full` only where the live count of its queue and the run's
+/// length together pass 2^64 - 1.
 #[tactic(auto, using(crate::proofs::RunCounts::append_full, crate::proofs::RunCounts::replay_full))]
 pub fn full_runs_pass_the_limit()
     ensures append { (q : LogQueue) (counts : Counts) (es run : List EntryIndex)
@@ -34,8 +34,8 @@ pub fn full_runs_pass_the_limit()
         → 2 ^ 64 ≤ live q counts + length run }
 {}
 
-/// A table has as many entries as its end is above its first index, and in both queues together as
-/// many records as entries and key values.
+/// States that a table has as many entries as its end is above its first index, and in both queues
+/// together as many records as entries and key values.
 #[tactic(auto, using(crate::proofs::SizeLemmas::length_by_ends, crate::proofs::SizeLemmas::entries_of_both, crate::proofs::SizeLemmas::records_of_both))]
 pub fn tables_add_up()
     ensures length { (es : List EntryIndex) → AreTableEntries es → 0 < length es →
@@ -46,9 +46,9 @@ pub fn tables_add_up()
         → live_of Append t + live_of Rewrite t ≡ length t.entries + finite.len t.keys }
 {}
 
-/// A range that is found has every index from its begin to below its end once, in order. Without a
-/// limit a fetch answers all of it. With one it answers the first entry, and then as many as have
-/// lengths of at most the limit together, but for entries in front without bytes.
+/// States that a range that is found has every index from its begin to below its end once, in
+/// order. Without a limit a fetch returns all of it. With one it returns the first entry, and then
+/// as many as have lengths of at most the limit together, but for entries in front without bytes.
 #[tactic(auto, using(crate::proofs::SizeLemmas::between_by_index, crate::proofs::SizeLemmas::found_is_whole, crate::proofs::SizeLemmas::unlimited_is_all, crate::proofs::SizeLemmas::first_is_fetched, crate::proofs::SizeLemmas::limit_is_kept, crate::proofs::SizeLemmas::one_limit_count))]
 pub fn fetches_answer_ranges()
     ensures between { (begin end i : ℕ) (es : List EntryIndex)
@@ -68,8 +68,8 @@ pub fn fetches_answer_ranges()
         → IsLimitCount limit es n → m ≡ n }
 {}
 
-/// A scan visits exactly the pairs whose key is at or above the first bound and below the second, in
-/// the order of the keys, or in the reversed order.
+/// States that a scan visits exactly the pairs whose key is at or above the first bound and below
+/// the second, in the order of the keys, or in the reversed order.
 #[tactic(auto, using(crate::proofs::VisitLemmas::visited_are_pairs, crate::proofs::VisitLemmas::pairs_are_visited, crate::proofs::VisitLemmas::visits_rise))]
 pub fn scans_visit_pairs()
     ensures visited { (start end : Option (List ℕ)) (keys : Keys) →
@@ -85,8 +85,8 @@ pub fn scans_visit_pairs()
         → pairs_between start end true keys ≡ reverse (pairs_between start end false keys) }
 {}
 
-/// What stands at an index after a rewriting: the run's places from the first shared index on, as
-/// many as move, and the old ones elsewhere.
+/// States what stands at an index after a rewriting: the run's places from the first shared index
+/// on, as many as move, and the old ones elsewhere.
 #[tactic(auto, using(crate::proofs::MovedLemmas::unmoved))]
 pub fn rewriting_stands_by_index()
     ensures moved { (gate : Option ℕ) (run es after met : List EntryIndex) (e : EntryIndex) (i : ℕ)
@@ -99,15 +99,15 @@ pub fn rewriting_stands_by_index()
         → entries_after_rewrite gate run es ≡ Some es }
 {}
 
-/// The least of some numbers is one of them, and none of them is below it.
+/// States that the least of some numbers is one of them, and none of them is below it.
 pub fn least_is_lowest()
     ensures none { (ns : List ℕ) → least ns ≡ None → ns ≡ [] }
     ensures found { (ns : List ℕ) (n : ℕ) → least ns ≡ Some n → Contains ns n }
     ensures lowest { (ns : List ℕ) (n : ℕ) → least ns ≡ Some n → All (λ m. n ≤ m) ns }
 {}
 
-/// Of two sets of pairs put over one another, a key has what the newer ones hold there or, where
-/// they hold nothing, what the older ones do.
+/// States that of two sets of pairs put over one another, a key has what the newer ones hold there
+/// or, where they hold nothing, what the older ones do.
 pub fn newer_pairs_win()
     ensures { (newer older : Keys) (key : List ℕ)
         → finite.get (pairs_over newer older) key

@@ -27,7 +27,7 @@ use raft_base::{Error, LogQueue, Result};
 use std::mem;
 
 impl MemTable {
-    /// The end of the entries that the first run of a newer region mark came behind.
+    /// Returns the end of the entries that the first run of a newer region mark came behind.
     #[doc(hidden)]
     pub fn end_at_reach(&self, mark: &Mark) -> u64
         ensures { result ≡ end_at_reach mark.now self.now }
@@ -129,7 +129,7 @@ impl MemTable {
         Ok(())
     }
 
-    /// Whether there are no records and no atomic group.
+    /// Tests whether there are no records and no atomic group.
     fn is_blank(&self) -> bool
         ensures { MatchBool result (self.now ≡ empty_table self.now.region_id) (Unit {0}) }
     {
@@ -159,7 +159,8 @@ impl MemTable {
         Ok(())
     }
 
-    /// Whether there are entries in an appended table that don't join these at the region mark's cut.
+    /// Tests whether there are entries in an appended table that don't join these at the region
+    /// mark's cut.
     fn is_unjoined(&self, rhs: &MemTable, mark: &Mark) -> bool
         ensures { result ≡ is_unjoined mark.now.cut (end_of self.now.entries) rhs.now.entries }
     {
@@ -194,7 +195,7 @@ impl MemTable {
         }
     }
 
-    /// The greatest index plus one, 0 without entries.
+    /// Returns the greatest index plus one, 0 without entries.
     pub fn end(&self) -> u64
         ensures { result ≡ end_of self.now.entries }
     {

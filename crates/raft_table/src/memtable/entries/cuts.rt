@@ -17,7 +17,7 @@ use raft_base::LogQueue;
 use std::collections::VecDeque;
 
 impl Entries {
-    /// Drops the entries below an index, and answers how many those were.
+    /// Drops the entries below an index, and returns how many those were.
     pub fn compact_to(&mut self, index: u64, stats: &mut GlobalStats) -> u64
         requires { AreCounted self.old stats.old }
         ensures entries { self.new ≡ from index self.old }
@@ -39,7 +39,7 @@ impl Entries {
         count as u64
     }
 
-    /// Drops the entries at or above an index, and answers how many those were.
+    /// Drops the entries at or above an index, and returns how many those were.
     pub fn truncate_from(&mut self, index: u64, stats: &mut GlobalStats) -> u64
         requires { AreCounted self.old stats.old }
         ensures entries { self.new ≡ below index self.old }
@@ -72,7 +72,7 @@ impl Entries {
         self.truncate_from(cut, stats);
     }
 
-    /// The greatest index plus one, 0 without entries.
+    /// Returns the greatest index plus one, 0 without entries.
     pub fn end(&self) -> u64
         ensures { result ≡ end_of self.now }
     {
@@ -83,8 +83,8 @@ impl Entries {
         }
     }
 
-    /// The end of the entries from an index on, and below a bound, if there is one: the greatest
-    /// index plus one, 0 where there are none.
+    /// Returns the end of the entries from an index on, and below a bound, if there is one: the
+    /// greatest index plus one, 0 where there are none.
     pub fn end_within(&self, index: u64, cut: Option<u64>) -> u64
         ensures { result ≡ end_of (entries_within index cut self.now) }
     {

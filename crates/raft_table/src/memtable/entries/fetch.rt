@@ -13,7 +13,7 @@ use crate::memtable::entries::walks::{count_from, movable_from, push_entries};
 use raft_base::{EntryIndex, Error, FileSeq, LogQueue, Result};
 
 impl Entries {
-    /// What [`MemTable::fetch_entries_to`](crate::MemTable::fetch_entries_to) answers of the entries.
+    /// Does what [`MemTable::fetch_entries_to`](crate::MemTable::fetch_entries_to) does.
     pub fn fetch_to(
         &self,
         begin: u64,
@@ -65,7 +65,7 @@ impl Entries {
         self.extend(vec, start, start + count)
     }
 
-    /// The file number of the entry behind the first `at` ones.
+    /// Returns the file number of the entry behind the first `at` ones.
     pub fn seq_at(&self, at: usize) -> Option<FileSeq>
         ensures { result ≡ entry_seq (slice_get self.now at) }
     {
@@ -76,7 +76,7 @@ impl Entries {
         Some(self.blocks[nth].handle.id.seq)
     }
 
-    /// The file number of the first entry in `queue`.
+    /// Returns the file number of the first entry in `queue`.
     pub fn first_entry_seq_in(&self, queue: LogQueue) -> Option<FileSeq>
         ensures { result ≡ first_entry_seq queue self.now }
     {
@@ -87,15 +87,15 @@ impl Entries {
         }
     }
 
-    /// How many blocks there are.
+    /// Returns how many blocks there are.
     pub fn block_count(&self) -> usize
         ensures { result ≡ block_count self.now }
     {
         self.blocks.len()
     }
 
-    /// How many entries behind the first `at`, among the first `end`, may move, up to the first
-    /// that may not.
+    /// Returns how many entries behind the first `at`, among the first `end`, may move, up to the
+    /// first that may not.
     pub(super) fn movable(&self, at: usize, end: usize, gate: Option<FileSeq>) -> usize
         requires order { at ≤ end }
         requires within { end ≤ length self.now }
@@ -108,8 +108,8 @@ impl Entries {
         movable_from(&self.blocks, spot, at, end, gate)
     }
 
-    /// How many entries behind the first `start`, among the first `end`, a limit on the total of
-    /// their lengths lets through.
+    /// Returns how many entries behind the first `start`, among the first `end`, a limit on the
+    /// total of their lengths lets through.
     fn count_within(&self, start: usize, end: usize, limit: Option<usize>) -> usize
         requires order { start ≤ end }
         requires within { end ≤ length self.now }

@@ -19,7 +19,7 @@ use std::collections::VecDeque;
 use std::mem::swap;
 
 impl Entries {
-    /// The entries of a run.
+    /// Returns the entries of a run.
     pub(super) fn from_run(alloc: Global, run: &[EntryIndex]) -> AllocResult<Entries>
         requires { AreTableEntries run.now }
         ensures ok { IfOk result (λ entries. entries ≡ run.now) }
@@ -165,14 +165,15 @@ impl Entries {
     }
 }
 
-/// The first index of so many entries from `first` on, with others from `index` on behind them.
+/// Returns the first index of so many entries from `first` on, with others from `index` on behind
+/// them.
 fn first_of(len: usize, first: u64, index: u64) -> u64
     ensures { (len ≡ 0 → result ≡ index) × (0 < len → result ≡ first) }
 {
     if len == 0 { index } else { first }
 }
 
-/// How many of so many entries in `queue` are rewritten.
+/// Returns how many of so many entries in `queue` are rewritten.
 fn rewritten_in(queue: LogQueue, count: usize) -> usize
     ensures { result ≡ count_in Rewrite queue count }
 {
@@ -182,8 +183,8 @@ fn rewritten_in(queue: LogQueue, count: usize) -> usize
     }
 }
 
-/// How many entries of a run, behind the first `at` ones, have this place, up to the first that has
-/// another or none.
+/// Returns how many entries of a run, behind the first `at` ones, have this place, up to the first
+/// that has another or none.
 fn count_of(handle: &FileBlockHandle, run: &[EntryIndex], at: usize) -> usize
     requires { at ≤ length run.now }
     ensures within { at + result ≤ length run.now }
@@ -200,7 +201,7 @@ fn count_of(handle: &FileBlockHandle, run: &[EntryIndex], at: usize) -> usize
     run.len() - at
 }
 
-/// Whether an entry has this place.
+/// Tests whether an entry has this place.
 fn has_place(entry: &EntryIndex, handle: &FileBlockHandle) -> bool
     ensures { MatchBool result (entry.now.entries ≡ Some handle.now)
         (entry.now.entries ≢ Some handle.now) }
@@ -211,7 +212,7 @@ fn has_place(entry: &EntryIndex, handle: &FileBlockHandle) -> bool
     }
 }
 
-/// The spans of entries.
+/// Returns the spans of entries.
 fn spans_of(alloc: Global, run: &[EntryIndex]) -> AllocResult<VecDeque<(u32, u32)>>
     ensures ok { IfOk result (λ spans. spans.items ≡ spans_of run.now) }
 {

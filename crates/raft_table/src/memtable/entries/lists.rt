@@ -12,7 +12,7 @@ use std::alloc::Global;
 use std::collections::VecDeque;
 use std::mem::swap;
 
-/// How many starts are at or below an index.
+/// Returns how many starts are at or below an index.
 fn count_at_or_below(starts: &VecDeque<u64>, index: u64) -> usize
     requires { IsNonDecreasingBy (λ (y : ℕ). y) starts.now.items }
     ensures bound { result ≤ length starts.now.items }
@@ -23,9 +23,9 @@ fn count_at_or_below(starts: &VecDeque<u64>, index: u64) -> usize
     starts.partition_point(|start: &u64| -> bool { *start <= index })
 }
 
-/// Behind how many blocks, and behind how many entries of the next one, the entry with an index
-/// stands, among `len` entries from the index `first` on. A block is guessed, as if all were of one
-/// length; where that isn't the one, they are searched.
+/// Returns the block and the offset in it of the entry with an index, among `len` entries from the
+/// index `first` on. A block is guessed, as if all were of one length; where that isn't the one,
+/// they are searched.
 pub(super) fn find(starts: &VecDeque<u64>, first: u64, len: usize, index: u64) -> (usize, usize)
     requires { IsIndexOf starts.now.items index }
     ensures { (i : ℕ) (bs : List BlockSpans) → starts.now.items ≡ starts_of i bs → i ≤ index →
@@ -40,7 +40,8 @@ pub(super) fn find(starts: &VecDeque<u64>, first: u64, len: usize, index: u64) -
     search(starts, index)
 }
 
-/// What `find` answers, without a guess: the last block is looked at, and then all are searched.
+/// Returns what `find` returns, without a guess: the last block is looked at, and then all are
+/// searched.
 pub(super) fn search(starts: &VecDeque<u64>, index: u64) -> (usize, usize)
     requires { IsIndexOf starts.now.items index }
     ensures { (i : ℕ) (bs : List BlockSpans) → starts.now.items ≡ starts_of i bs → i ≤ index →
@@ -56,15 +57,15 @@ pub(super) fn search(starts: &VecDeque<u64>, index: u64) -> (usize, usize)
     (nth, (index - start) as usize)
 }
 
-/// Behind how many of `count` blocks of one length an index stands, if they have `len` entries from
+/// Guesses in which of `count` blocks of one length an index is, if they have `len` entries from
 /// the index `first` on. Wrong numbers make a wrong guess, and no fault.
 fn guess(first: u64, len: usize, count: usize, index: u64) -> usize {
     let behind = index.wrapping_sub(first);
     (behind.wrapping_mul(count as u64) / (len as u64).max(1)) as usize
 }
 
-/// Behind how many blocks the first so many entries end, and behind how many of the last of those.
-/// `first` is the index of the first of all.
+/// Returns the block in which the first so many entries end, and the offset in it. `first` is the
+/// index of the first of all.
 pub(super) fn spot_behind(starts: &VecDeque<u64>, first: u64, kept: usize) -> (usize, usize)
     requires bounded { first + kept < 2 ^ 64 }
     requires within { 0 < kept → IsIndexOf starts.now.items (first + (kept - 1)) }
@@ -80,7 +81,7 @@ pub(super) fn spot_behind(starts: &VecDeque<u64>, first: u64, kept: usize) -> (u
     (nth + 1, last + 1)
 }
 
-/// The spans behind the first `dropped`.
+/// Returns the spans behind the first `dropped`.
 pub(super) fn spans_behind(
     alloc: Global,
     spans: &VecDeque<(u32, u32)>,
@@ -96,7 +97,7 @@ pub(super) fn spans_behind(
     Ok(behind)
 }
 
-/// Whether two places are one.
+/// Tests whether two places are one.
 pub(super) fn is_same(a: &FileBlockHandle, b: &FileBlockHandle) -> bool
     ensures { MatchBool result (a.now ≡ b.now) (a.now ≢ b.now) }
 {

@@ -16,7 +16,7 @@ use crate::memtable::entries::{Entries, Overlap};
 use raft_base::{AllocResult, EntryIndex, Error, FileSeq, LogQueue, Result};
 
 impl Entries {
-    /// What [`MemTable::rewrite`](crate::MemTable::rewrite) does to the entries.
+    /// Does what [`MemTable::rewrite`](crate::MemTable::rewrite) does to the entries.
     pub fn rewrite(
         &mut self,
         run: &[EntryIndex],
@@ -50,7 +50,7 @@ impl Entries {
         self.move_places(overlap.at, places, gate, run.len(), stats)
     }
 
-    /// Where a run of `len` indexes from `start` on overlaps the entries, if it does.
+    /// Returns where a run of `len` indexes from `start` on overlaps the entries, if it does.
     fn overlap(&self, start: u64, len: usize) -> Option<Overlap>
         requires { start + len < 2 ^ 64 }
         ensures meets { MatchOption result
@@ -75,7 +75,7 @@ impl Entries {
         })
     }
 
-    /// Whether so many entries below a run are no place for it.
+    /// Tests whether so many entries below a run are no place for it.
     fn is_misplaced(&self, at: usize, gate: Option<FileSeq>) -> bool
         ensures { result ≡ is_misplaced gate at (entry_count Rewrite self.now) }
     {

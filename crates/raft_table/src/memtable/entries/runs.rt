@@ -19,7 +19,8 @@ use crate::memtable::hole::hole_error;
 use raft_base::{AllocResult, EntryIndex, Error, LogQueue, Result};
 
 impl Entries {
-    /// What [`MemTable::append`](crate::MemTable::append) does to the entries, those of this region.
+    /// Does what [`MemTable::append`](crate::MemTable::append) does to the entries, those of this
+    /// region.
     pub fn append(
         &mut self,
         region_id: u64,
@@ -87,8 +88,8 @@ impl Entries {
         self.put_behind(keep, rhs, queue, stats)
     }
 
-    /// What the replays of [`MemTable`](crate::MemTable) do to the entries, those of this region, with a
-    /// run of `queue`.
+    /// Does what the replays of [`MemTable`](crate::MemTable) do to the entries, those of this region,
+    /// with a run of `queue`.
     pub fn replay_run(
         &mut self,
         region_id: u64,
@@ -116,7 +117,7 @@ impl Entries {
         self.put_run_behind(keep, run, queue, stats)
     }
 
-    /// Does what [`Entries::replay_run`] does where nothing hinders it, and answers whether it did.
+    /// Does what [`Entries::replay_run`] does where nothing hinders it, and returns whether it did.
     /// Where it did not, the entries and the counts are as they were.
     pub fn try_replay_run(
         &mut self,
@@ -148,15 +149,17 @@ impl Entries {
         }
     }
 
-    /// Why a run of the region, from `start` on, is refused that leaves a hole behind the last entry.
+    /// Says why a run of the region, from `start` on, is refused that leaves a hole after the last
+    /// entry.
     fn hole_error(&self, region_id: u64, start: u64) -> Error
         ensures { IsCorruption (hole_text region_id start (end_of self.now)) result }
     {
         hole_error(self.allocator(), region_id, start, self.end())
     }
 
-    /// How many entries, from the first on, stay under a run from `index` on that is read again, by
-    /// the start rule of the replays into `rule`. Nothing is answered where that refuses the run.
+    /// Returns how many entries, from the first on, stay under a run from `index` on that is read
+    /// again, by the start rule of the replays into `rule`. Nothing is returned where that refuses
+    /// the run.
     fn kept_under(&self, rule: LogQueue, index: u64) -> Option<usize>
         ensures kept { MatchOption result (IsStart self.now index Start.BehindHole ×
             (rule ≡ Append)) (IsKeptUnder rule self.now index) }
@@ -231,7 +234,8 @@ impl Entries {
         Ok(self.exchange_run(keep, run, queue, stats)?)
     }
 
-    /// Whether the entries of a run of `queue` can be live in place of those behind the first `keep`.
+    /// Tests whether the entries of a run of `queue` can be live in place of those behind the first
+    /// `keep`.
     fn has_room_behind(
         &self,
         keep: usize,
@@ -278,7 +282,7 @@ impl Entries {
         Ok(())
     }
 
-    /// How many of the entries behind the first `keep` are rewritten, and how many are not.
+    /// Returns how many of the entries behind the first `keep` are rewritten, and how many are not.
     pub(super) fn count_behind(&self, keep: usize) -> (usize, usize)
         requires { keep ≤ length self.now }
         ensures rewritten { result.0 ≡ entry_count Rewrite (drop keep self.now) }
@@ -289,7 +293,7 @@ impl Entries {
         (rewritten, self.len - keep - rewritten)
     }
 
-    /// Where a run that starts at `index` meets the entries.
+    /// Returns where a run that starts at `index` meets the entries.
     fn start(&self, index: u64) -> Start
         ensures meets { IsStart self.now index result }
         ensures table_entries { AreTableEntries self.now }
@@ -308,7 +312,8 @@ impl Entries {
     }
 }
 
-/// Whether so many records of `queue` can be live in place of those that are gone from either queue.
+/// Tests whether so many records of `queue` can be live in place of those that are gone from either
+/// queue.
 fn has_room(
     stats: &GlobalStats,
     rewritten: usize,

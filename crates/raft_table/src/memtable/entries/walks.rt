@@ -160,8 +160,8 @@ fn set_span(entry: &mut EntryIndex, span: (u32, u32))
     entry.entry_len = span.1;
 }
 
-/// How many entries behind the first `start`, among the first `end`, may move, up to the first that
-/// may not. The first of them stands at `spot`.
+/// Returns how many entries behind the first `start`, among the first `end`, may move, up to the
+/// first that may not. The first of them stands at `spot`.
 pub(super) fn movable_from(
     blocks: &VecDeque<Block>,
     spot: (usize, usize),
@@ -191,7 +191,7 @@ pub(super) fn movable_from(
     end - start
 }
 
-/// Whether the entries of a place may move.
+/// Tests whether the entries of a place may move.
 #[tactic(auto, unfolding(crate::specs::TableEntries::is_placed_in, crate::specs::Rewriting::is_placed_before))]
 fn is_movable(handle: &FileBlockHandle, gate: Option<FileSeq>) -> bool
     ensures { (e : EntryIndex) → e.entries ≡ Some handle.now → result ≡ may_move gate e }
@@ -202,8 +202,8 @@ fn is_movable(handle: &FileBlockHandle, gate: Option<FileSeq>) -> bool
     }
 }
 
-/// How many entries behind the first `start`, among the first `end`, a limit on the total of their
-/// lengths lets through. The first of them stands at `spot`.
+/// Returns how many entries behind the first `start`, among the first `end`, a limit on the total
+/// of their lengths lets through. The first of them stands at `spot`.
 pub(super) fn count_from(
     blocks: &VecDeque<Block>,
     mut spot: (usize, usize),
@@ -231,7 +231,8 @@ pub(super) fn count_from(
     end - start
 }
 
-/// The spot of the next entry: behind the last one in its block, or first in the next block.
+/// Returns the spot of the next entry: behind the last one in its block, or first in the next
+/// block.
 fn next(block: &Block, spot: (usize, usize)) -> (usize, usize)
     requires within { spot.0 + 1 < 2 ^ 64 }
     requires inside { spot.1 < length block.now.spans.items }

@@ -10,7 +10,7 @@ use std::alloc::{AllocError, Global};
 use std::collections::BTreeMap;
 use std::collections::btree_map::Range;
 
-/// A bound as a key to seek or, where that finds no memory, as a test of each pair.
+/// Returns a bound as a key to seek or, where that finds no memory, as a test of each pair.
 pub(super) fn divided(alloc: Global, bound: Option<&[u8]>) -> (Option<Vec<u8>>, Option<&[u8]>)
     ensures { IsDivided (option_copied bound.entry) (option_map (λ k. k.items) result.0)
         (option_copied result.1) }
@@ -24,7 +24,7 @@ pub(super) fn divided(alloc: Global, bound: Option<&[u8]>) -> (Option<Vec<u8>>, 
     }
 }
 
-/// The pairs from one key on and below the other.
+/// Returns the pairs from one key on and below the other.
 pub(super) fn sought<'a>(
     pairs: &'a BTreeMap<Vec<u8>, StoredValue>,
     start: &Option<Vec<u8>>,
@@ -45,7 +45,7 @@ pub(super) fn sought<'a>(
     }
 }
 
-/// Whether `start` isn't above `end`.
+/// Tests whether `start` isn't above `end`.
 pub(super) fn is_forward(start: Option<&[u8]>, end: Option<&[u8]>) -> bool
     ensures { result ≡ is_forward (option_copied start.entry) (option_copied end.entry) }
 {
@@ -55,7 +55,7 @@ pub(super) fn is_forward(start: Option<&[u8]>, end: Option<&[u8]>) -> bool
     }
 }
 
-/// Calls `f` at the pairs between the bounds in turn, until it answers false.
+/// Calls `f` at the pairs between the bounds in turn, until it returns false.
 pub(super) fn visit<F: FnMut(&[u8], &[u8]) -> bool>(
     mut pairs: Range<'_, Vec<u8>, StoredValue>,
     start: Option<&[u8]>,
@@ -75,7 +75,7 @@ pub(super) fn visit<F: FnMut(&[u8], &[u8]) -> bool>(
     }
 }
 
-/// Calls `f` at the pairs between the bounds from the last one back, until it answers false.
+/// Calls `f` at the pairs between the bounds from the last one back, until it returns false.
 pub(super) fn visit_back<F: FnMut(&[u8], &[u8]) -> bool>(
     mut pairs: Range<'_, Vec<u8>, StoredValue>,
     start: Option<&[u8]>,
@@ -95,14 +95,14 @@ pub(super) fn visit_back<F: FnMut(&[u8], &[u8]) -> bool>(
     }
 }
 
-/// Whether a key is at or above `start` and below `end`, where these are there.
+/// Tests whether a key is at or above `start` and below `end`, where these are there.
 fn is_between(key: &[u8], start: Option<&[u8]>, end: Option<&[u8]>) -> bool
     ensures { result ≡ is_between (option_copied start.entry) (option_copied end.entry) key.now }
 {
     is_from(key, start) && is_below(key, end)
 }
 
-/// Whether a key is at or above `start`, if it is there.
+/// Tests whether a key is at or above `start`, if it is there.
 fn is_from(key: &[u8], start: Option<&[u8]>) -> bool
     ensures { result ≡ is_from (option_copied start.entry) key.now }
 {
@@ -112,7 +112,7 @@ fn is_from(key: &[u8], start: Option<&[u8]>) -> bool
     }
 }
 
-/// Whether a key is below `end`, if it is there.
+/// Tests whether a key is below `end`, if it is there.
 fn is_below(key: &[u8], end: Option<&[u8]>) -> bool
     ensures { result ≡ is_below (option_copied end.entry) key.now }
 {

@@ -52,8 +52,22 @@ overflow_add-entries c =
     let rest = tables_of (drop (c.loop-slot.slot-index + 1) c.deref-slot-items.result.now) in
     let more = drop-step c.deref-slot-items.result.now c.loop-slot.slot-index _ slot refl (omega (arith, c.loop-slot-test.true)) c.slot-item.is in
     let keys = λ (t : Table). finite.len t.keys in
-    omega (arith, c.loop-slot.invariant.1, c.loop-slot.invariant.2, c.loop-slot.invariant.3, ap (added keys) more, added-append keys (finite.values slot) rest, ap (added (live_of Append)) more, added-append (live_of Append) (finite.values slot) rest, ap (added (live_of Rewrite)) more, added-append (live_of Rewrite) (finite.values slot) rest,
-    c.entries_count-entries.ensures.others, total-values keys slot, live-added Append slot, live-added Rewrite slot)
+    omega (
+      arith,
+      c.loop-slot.invariant.1,
+      c.loop-slot.invariant.2,
+      c.loop-slot.invariant.3,
+      ap (added keys) more,
+      added-append keys (finite.values slot) rest,
+      ap (added (live_of Append)) more,
+      added-append (live_of Append) (finite.values slot) rest,
+      ap (added (live_of Rewrite)) more,
+      added-append (live_of Rewrite) (finite.values slot) rest,
+      c.entries_count-entries.ensures.others,
+      total-values keys slot,
+      live-added Append slot,
+      live-added Rewrite slot,
+    )
 
 pub returns-clause-entries : goal.returns-clause-entries
 returns-clause-entries c =
@@ -71,5 +85,14 @@ returns-clause-keys c =
     let are = subst (AreSlots 0) (sym c.deref-slot-items.ensures.value) c.self.invariant.slots in
     let m : together slots ≡ c.args.self.now.tables = ap together c.deref-slot-items.ensures.value ∙ ap (λ (x : Accessor). x.tables) c.self.view_is in
     let keys = λ (t : Table). finite.len t.keys in
-    omega (arith, c.loop-slot.invariant.1, c.loop-slot.invariant.3, ap (λ es. added keys (map (λ e. e.1) es)) none, ap (λ es. added (live_of Append) (map (λ e. e.1) es)) none, ap (λ es. added (live_of Rewrite) (map (λ e. e.1) es)) none,
-    added-permuted keys (tables_of slots) (finite.values (together slots)) (together-permuted slots are), total-values keys (together slots), ap (total keys) m)
+    omega (
+      arith,
+      c.loop-slot.invariant.1,
+      c.loop-slot.invariant.3,
+      ap (λ es. added keys (map (λ e. e.1) es)) none,
+      ap (λ es. added (live_of Append) (map (λ e. e.1) es)) none,
+      ap (λ es. added (live_of Rewrite) (map (λ e. e.1) es)) none,
+      added-permuted keys (tables_of slots) (finite.values (together slots)) (together-permuted slots are),
+      total-values keys (together slots),
+      ap (total keys) m,
+    )

@@ -5,6 +5,7 @@ ghost use Rattle.std.specs.FinMap as finite;
 ghost use Rattle.std.specs.List.{AllByRecursion, FoldsTo};
 ghost use Rattle.std.specs.Fn.{FnOnceReturnsAt};
 ghost use Rattle.std.specs.Iterator.{Drains, Yields, IsFinite};
+ghost use Rattle.std.specs.Sync.RwLock.{write_guard_value};
 ghost use Rattle.raft_records.specs.declared.log_item.LogItem.{LogItem};
 ghost use Rattle.raft_records.specs.Item.{item_of};
 ghost use Rattle.raft_records.specs.LogBatch.{populating};
@@ -22,7 +23,7 @@ use raft_base::{Error, FileSeq, LogQueue, Result};
 use raft_records::{LogBatch, LogItem};
 use raft_table::{MemTable, TableChange};
 use std::alloc::Global;
-use std::sync::{RwLock, Wait};
+use std::sync::{RwLock, RwLockWriteGuard, Wait};
 
 /// The tables of all regions in 128 slots, each under a lock of its own. A call holds one lock at a
 /// time, and each item is one hold of it; a walk over all slots goes slot by slot, so that it sees
@@ -133,12 +134,7 @@ impl SharedAccessor {
         ensures number { IfOk result (IsChangeAnswer F.FnOnce f id) }
         ensures fault { IfErr result (IsChangeRefusal F.FnOnce f id) }
     {
-        let number = slot_of(id);
-        let mut slot = self.slots[number].write(rt);
-        if slot.number() != number {
-            return Err(Error::Failed);
-        }
-        change_by(&mut slot, self.alloc, id, f)
+        change_by(&mut *self.lock(rt, id)?, self.alloc, id, f)
     }
 
     /// Does what a change says to a region's table, which is made where there is none. The number is
@@ -171,12 +167,7 @@ impl SharedAccessor {
     pub fn get_or_insert<R: Wait>(&self, rt: &R, id: u64) -> Result<()>
         ensures { IfErr result IsLockFault }
     {
-        let number = slot_of(id);
-        let mut slot = self.slots[number].write(rt);
-        if slot.number() != number {
-            return Err(Error::Failed);
-        }
-        slot.get_or_insert(id)
+        self.lock(rt, id)?.get_or_insert(id)
     }
 
     /// Puts a table under its region's id and counts its records. The table that stood there is handed
@@ -191,12 +182,7 @@ impl SharedAccessor {
         ensures handed_back { IfOk result (λ t. IfSome t (IsSlotTable (slot_of id) id)) }
         ensures fault { IfErr result (λ e. IsLockFault e ⊎ (e ≡ Error.Full)) }
     {
-        let number = slot_of(id);
-        let mut slot = self.slots[number].write(rt);
-        if slot.number() != number {
-            return Err(Error::Failed);
-        }
-        slot.insert(id, table)
+        self.lock(rt, id)?.insert(id, table)
     }
 
     /// Takes a region's table away, and lists the region where that is asked for, also where it has
@@ -216,12 +202,7 @@ impl SharedAccessor {
         ensures fault { IfErr result
             (λ e. ((e ≡ Error.Memory) × IsTrue record_tombstone) ⊎ (e ≡ Error.Failed)) }
     {
-        let number = slot_of(id);
-        let mut slot = self.slots[number].write(rt);
-        if slot.number() != number {
-            return Err(Error::Failed);
-        }
-        slot.remove(id, record_tombstone)
+        self.lock(rt, id)?.remove(id, record_tombstone)
     }
 
     /// Sets the first and the last file of a region's atomic group; its table is made where there is
@@ -242,12 +223,8 @@ impl SharedAccessor {
         requires { start ≤ end }
         ensures { IfErr result IsLockFault }
     {
-        let number = slot_of(id);
-        let mut slot = self.slots[number].write(rt);
-        if slot.number() != number {
-            return Err(Error::Failed);
-        }
-        slot.apply_rewrite_atomic_group(id, start, end)
+        self.lock(rt, id)?
+            .apply_rewrite_atomic_group(id, start, end)
     }
 
     /// Writes new items of the append queue to the tables, in order.
@@ -385,16 +362,45 @@ impl SharedAccessor {
         live
     }
 
-    /// Lists a region as cleaned.
-    fn list(&mut self, id: u64) -> Result<()>
-        ensures { IfErr result IsLockFault }
+    /// Locks the slot of a region for writing.
+    ///
+    /// # Errors
+    ///
+    /// `Failed` where the slot has another number, which never happens.
+    fn lock<R: Wait>(&self, rt: &R, id: u64) -> Result<RwLockWriteGuard<'_, Slot>>
+        ensures number { IfOk result (λ slot. (write_guard_value slot).number ≡ slot_of id) }
+        ensures fault { IfErr result (λ e. e ≡ Error.Failed) }
+    {
+        let number = slot_of(id);
+        let slot = self.slots[number].write(rt);
+        if slot.number() != number {
+            return Err(Error::Failed);
+        }
+        Ok(slot)
+    }
+
+    /// The slot of a region.
+    ///
+    /// # Errors
+    ///
+    /// `Failed` where the slot has another number, which never happens.
+    fn slot_mut(&mut self, id: u64) -> Result<&mut Slot>
+        ensures number { IfOk result (λ slot. slot.now.number ≡ slot_of id) }
+        ensures fault { IfErr result (λ e. e ≡ Error.Failed) }
     {
         let number = slot_of(id);
         let slot = self.slots[number].get_mut();
         if slot.number() != number {
             return Err(Error::Failed);
         }
-        slot.remove(id, true)?;
+        Ok(slot)
+    }
+
+    /// Lists a region as cleaned.
+    fn list(&mut self, id: u64) -> Result<()>
+        ensures { IfErr result IsLockFault }
+    {
+        self.slot_mut(id)?.remove(id, true)?;
         Ok(())
     }
 
@@ -403,12 +409,7 @@ impl SharedAccessor {
         ensures { IfErr result (λ e. IsLockFault e ⊎ (e ≡ Error.Full)) }
     {
         let id = table.region_id();
-        let number = slot_of(id);
-        let slot = self.slots[number].get_mut();
-        if slot.number() != number {
-            return Err(Error::Failed);
-        }
-        slot.insert(id, table)?;
+        self.slot_mut(id)?.insert(id, table)?;
         Ok(())
     }
 
@@ -417,12 +418,7 @@ impl SharedAccessor {
         ensures ok { OnOk result (MayBeWritten Appending (item_of item)) }
         ensures fault { IfErr result (IsSharedItemFault Appending (item_of item)) }
     {
-        let number = slot_of(item.raft_group_id);
-        let mut slot = self.slots[number].write(rt);
-        if slot.number() != number {
-            return Err(Error::Failed);
-        }
-        slot.apply_append_write(item)
+        self.lock(rt, item.raft_group_id)?.apply_append_write(item)
     }
 
     /// Writes a rewritten item.
@@ -436,12 +432,8 @@ impl SharedAccessor {
         ensures ok { OnOk result (MayBeWritten (Rewriting gate seq) (item_of item)) }
         ensures fault { IfErr result (IsSharedItemFault (Rewriting gate seq) (item_of item)) }
     {
-        let number = slot_of(item.raft_group_id);
-        let mut slot = self.slots[number].write(rt);
-        if slot.number() != number {
-            return Err(Error::Failed);
-        }
-        slot.apply_rewrite_write(item, gate, seq)
+        self.lock(rt, item.raft_group_id)?
+            .apply_rewrite_write(item, gate, seq)
     }
 }
 

@@ -2,7 +2,7 @@
 SHELL := /bin/bash
 RT ?= rt
 export RT
-.PHONY: believe believe-check bench calls compare cuttings demo demo-recover edits example hostile raftlog refused-memory stack test wrong-bodies
+.PHONY: believe believe-check bench calls compare crashes cuttings demo demo-recover edits example hostile raftlog refused-memory stack test wrong-bodies
 
 # Runs `raftlog` on an item batch, which says that the records of region 1 go. Nothing is proved.
 demo:
@@ -80,6 +80,16 @@ PROGRAM ?= crates/raftlog/out/raftlog
 compare:
 	@test -n "$(CASES)" || { echo "make compare CASES=folder: the folder with the cases has to be named"; exit 1; }
 	@tools/compare.py $(CASES) $(PROGRAM) $(WORKERS)
+
+# Proves `raft_example`, and tries its store in HISTORIES random histories from a seed on, as `make crashes SEED=7`: it is opened again
+# after a crash at each batch, and in the first BY_BYTES histories at each byte.
+HISTORIES ?= 500
+BY_BYTES ?= 20
+crashes:
+	@mkdir -p crates/raft_example/out
+	@cd crates/raft_example && $(RT) run > out/run.log 2>&1 || { cat out/run.log; exit 1; }
+	@room=$$(mktemp -d) && cd "$$room" && $(CURDIR)/crates/raft_example/out/raft_example crashes $(SEED) $(HISTORIES) $(BY_BYTES); \
+	  status=$$?; rm -rf "$$room"; exit $$status
 
 # Proves `raft_cuttings` and the crates below it, builds it, and says where it lies.
 cuttings:

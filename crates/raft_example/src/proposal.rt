@@ -1,27 +1,29 @@
 //! What the entries of a region's log say: proposals to its replicas.
 
-use raft_records::{Message, MessageError, MessageExt};
+use raft_base::{Message, MessageError, MessageExt, Result};
+use std::alloc::Global;
 
 /// A proposal, which is its text.
 #[derive(Clone, PartialEq, Debug, Drop)]
 pub(crate) struct Proposal {
-    index: u64,
-    text: &'static str,
+    pub(crate) index: u64,
+    pub(crate) text: Vec<u8>,
 }
 
 impl Proposal {
-    pub(crate) fn new(index: u64, text: &'static str) -> Proposal {
-        Proposal { index, text }
+    pub(crate) fn new(alloc: Global, index: u64, text: &str) -> Result<Proposal> {
+        let text = Vec::from_slice(alloc, text.as_bytes())?;
+        Ok(Proposal { index, text })
     }
 }
 
 impl Message for Proposal {
-    ghost bytes_of = { λ proposal. proposal.text.now };
+    ghost bytes_of = { λ proposal. proposal.text.items };
 
     ghost refuses = { λ proposal code. ⊥ };
 
-    fn write_to_vec(&self, buf: &mut Vec<u8>) -> Result<(), MessageError> {
-        match buf.extend_from_slice(self.text.as_bytes()) {
+    fn write_to_vec(&self, buf: &mut Vec<u8>) -> std::result::Result<(), MessageError> {
+        match buf.extend_from_slice(self.text.as_slice()) {
             Ok(()) => Ok(()),
             Err(_) => Err(MessageError::Memory),
         }

@@ -1,0 +1,47 @@
+//! Crashes of a store in random histories: at each batch, and in some histories at each byte, everything but what the
+//! files hold so far is lost.
+
+mod change;
+mod crash;
+mod dice;
+mod history;
+
+use crate::crashes::crash::{CRASHED, Crashes};
+use crate::crashes::history::{FOLDER, History};
+use crate::folder_pipe::clear;
+use crate::store::Host;
+use raft_base::Result;
+
+/// How many steps a history has.
+const STEPS: u64 = 30;
+
+/// Tries so many histories from a seed on, the first `by_bytes` of them at each byte, and prints how many crashes there
+/// were. Returns whether a store held after each of them what it had to.
+pub(crate) fn try_all<R: Host + Print>(
+    rt: &R,
+    seed: u64,
+    histories: u64,
+    by_bytes: u64,
+) -> Result<bool> {
+    let mut crashes = Crashes::new(rt);
+    for number in 0..histories {
+        crashes.each_byte = number < by_bytes;
+        let different = crashes.different;
+        let mut history = History::begin(rt, seed.wrapping_add(number))?;
+        for step in 0..STEPS {
+            history.step(&mut crashes)?;
+            if crashes.different > different {
+                println!(rt; "history {number}, step {step}: different")?;
+                break;
+            }
+        }
+    }
+    clear(rt, FOLDER)?;
+    clear(rt, CRASHED)?;
+    println!(rt; "{histories} histories from seed {seed} on, {by_bytes} at each byte:")?;
+    println!(rt;
+        "{} recoveries, {} different",
+        crashes.tried, crashes.different
+    )?;
+    Ok(crashes.different == 0)
+}

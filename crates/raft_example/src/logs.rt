@@ -1,0 +1,134 @@
+//! The batches that the log files of a folder hold.
+
+ghost use Rattle.std.specs.Prelude.{◌≤◌, length};
+
+use crate::folder_pipe::{Disk, FolderPipe};
+use raft_base::{Error, LogQueue, Result};
+use raft_records::{
+    AtomicGroupStatus, Command, FilePart, LogBatch, LogItem, LogItemBatch, LogItemContent, OpType,
+    next_batch, readable_front,
+};
+use raft_recover::Segment;
+use std::alloc::Global;
+
+/// The files of both queues, a segment each.
+#[derive(Drop)]
+pub(crate) struct Logs {
+    pub(crate) append: Vec<Segment>,
+    pub(crate) rewrite: Vec<Segment>,
+}
+
+impl Logs {
+    /// Reads all files of a folder. A torn tail of the last file of a queue is cut off, on the disk too.
+    pub(crate) fn read<R: Disk>(alloc: Global, pipe: &FolderPipe<'_, R>) -> Result<Logs> {
+        Ok(Logs {
+            append: segments_of(alloc, pipe, LogQueue::Append)?,
+            rewrite: segments_of(alloc, pipe, LogQueue::Rewrite)?,
+        })
+    }
+
+    /// The commands and deletions of the append queue, in order.
+    pub(crate) fn tombstones(&self, alloc: Global) -> Result<Vec<LogItem>> {
+        let mut tombstones = Vec::new(alloc);
+        for part in self.append.iter().flatten() {
+            for (batch, _) in &batches_of(alloc, part)? {
+                push_tombstones(&mut tombstones, batch.iter().as_slice())?;
+            }
+        }
+        Ok(tombstones)
+    }
+
+    /// The greatest number of an atomic group in the rewrite queue, 0 where there is none.
+    pub(crate) fn last_group(&self, alloc: Global) -> Result<u64> {
+        let mut last = 0;
+        for part in self.rewrite.iter().flatten() {
+            for (batch, _) in &batches_of(alloc, part)? {
+                for item in batch.iter() {
+                    if let Some((group, _)) = AtomicGroupStatus::parse(alloc, item)? {
+                        last = group.max(last);
+                    }
+                }
+            }
+        }
+        Ok(last)
+    }
+}
+
+/// Adds those of these items that remove records of a region that stays: compactions, truncations and deletions. The
+/// tables themselves list the regions that were cleaned.
+pub(crate) fn push_tombstones(tombstones: &mut Vec<LogItem>, items: &[LogItem]) -> Result<()> {
+    for item in items {
+        let removes = match &item.content {
+            LogItemContent::Command(command) => *command != Command::Clean,
+            LogItemContent::Kv(pair) => pair.op_type == OpType::Del,
+            LogItemContent::EntryIndexes(_) => false,
+        };
+        if removes {
+            tombstones.push(item.clone()?)?;
+        }
+    }
+    Ok(())
+}
+
+/// The files of a queue, the last of them without a torn tail.
+fn segments_of<R: Disk>(
+    alloc: Global,
+    pipe: &FolderPipe<'_, R>,
+    queue: LogQueue,
+) -> Result<Vec<Segment>> {
+    let mut files = pipe.files(queue)?;
+    if let Some(last) = files.last_mut() {
+        cut_torn_tail(pipe, last)?;
+    }
+    let mut segments = Vec::new(alloc);
+    for file in files {
+        segments.push(vec![in alloc; file]?)?;
+    }
+    Ok(segments)
+}
+
+/// Cuts a file where its readable batches end, on the disk too. Not so where there was no memory to read on, and not
+/// where a readable batch comes behind an unreadable one: that file is damaged, and a recovery refuses it.
+fn cut_torn_tail<R: Disk>(pipe: &FolderPipe<'_, R>, file: &mut FilePart) -> Result<()> {
+    match readable_front(file) {
+        (_, None) => Ok(()),
+        (_, Some(Error::Memory)) => Err(Error::Memory),
+        (end, Some(_)) => {
+            if is_damaged(file, end)? {
+                return Ok(());
+            }
+            let torn = file.split_off(end)?;
+            pipe.cut(torn.id(), torn.offset())
+        }
+    }
+}
+
+/// Tests whether a readable batch comes behind the unreadable one at an offset, whose header says where it ends.
+fn is_damaged(file: &FilePart, at: usize) -> Result<bool>
+    requires { at ≤ length file.now.bytes }
+{
+    let (_, mut bytes) = file.bytes().split_at(at);
+    let Ok((_, _, len)) = LogBatch::decode_header(file.allocator(), &mut bytes) else {
+        return Ok(false);
+    };
+    let end = at.saturating_add(len);
+    if end >= file.bytes().len() {
+        return Ok(false);
+    }
+    match next_batch(file, end) {
+        Ok(_) => Ok(true),
+        Err(Error::Memory) => Err(Error::Memory),
+        Err(_) => Ok(false),
+    }
+}
+
+/// The batches of a part, each with where the next one begins.
+pub(crate) fn batches_of(alloc: Global, part: &FilePart) -> Result<Vec<(LogItemBatch, usize)>> {
+    let mut batches = Vec::new(alloc);
+    let mut at = 0;
+    while let Some((batch, behind)) = next_batch(part, at)? {
+        batches.push((batch, behind))?;
+        at = behind;
+    }
+    Ok(batches)
+}

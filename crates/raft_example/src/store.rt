@@ -1,0 +1,211 @@
+//! The logs of many regions in a folder.
+
+ghost use Rattle.std.specs.Prelude.{◌≡◌};
+ghost use Rattle.raft_records.specs.LogBatch.{populating};
+
+mod rewriting;
+
+use crate::folder_pipe::{Disk, FolderPipe};
+use crate::logs::{Logs, push_tombstones};
+use crate::proposal::Proposal;
+use raft_base::{
+    CompressionType, EntryIndex, Error, FileBlockHandle, FileSeq, LogQueue, PipeLog, Result,
+};
+use raft_memtable::{MemTable, MemTableAccessor};
+use raft_records::{LogBatch, LogItem, entry_bytes};
+use raft_recover::recover_both;
+use std::alloc::Global;
+use std::thread::Threads;
+
+/// The last offset at which a batch may stand.
+const LAST_OFFSET: u64 = u64::MAX - 16;
+
+/// What a store asks of the machine: files, memory, and threads that recover.
+pub(crate) trait Host: Disk + Threads + Sync {}
+
+impl<R: Disk + Threads + Sync> Host for R {}
+
+/// The logs of many regions: files of both queues, and the tables that say where their records are.
+///
+/// After an `Err` of a call that writes or deletes, the files may hold something else than the tables say: open the
+/// store again. A batch that the tables wouldn't take is refused before anything is written, and the store serves on.
+#[derive(Drop)]
+pub(crate) struct Store<'a, R: Host> {
+    rt: &'a R,
+    pipe: FolderPipe<'a, R>,
+    tables: MemTableAccessor,
+    /// Commands and deletions of the append queue that the rewrite queue doesn't have yet.
+    tombstones: Vec<LogItem>,
+    /// The greatest number of an atomic group so far.
+    last_group: u64,
+    /// How many bytes a file has at least before a new one is begun.
+    file_size: u64,
+}
+
+impl<'a, R: Host> Store<'a, R> {
+    /// Recovers what a folder holds, with so many threads at most. A folder that isn't there yet is made.
+    pub(crate) fn open(
+        rt: &'a R,
+        folder: &'a str,
+        file_size: u64,
+        workers: usize,
+    ) -> Result<Store<'a, R>> {
+        let pipe = FolderPipe::open(rt, folder)?;
+        let logs = Logs::read(rt.alloc(), &pipe)?;
+        let (rewrite, append) = (logs.rewrite.as_slice(), logs.append.as_slice());
+        let tables = recover_both(rt, rt.alloc(), rewrite, append, workers)?;
+        Store::with_tables(rt, pipe, &logs, file_size, tables)
+    }
+
+    /// The store over these files, from which these tables were recovered.
+    pub(crate) fn with_tables(
+        rt: &'a R,
+        pipe: FolderPipe<'a, R>,
+        logs: &Logs,
+        file_size: u64,
+        tables: MemTableAccessor,
+    ) -> Result<Store<'a, R>> {
+        Ok(Store {
+            rt,
+            pipe,
+            tables,
+            tombstones: logs.tombstones(rt.alloc())?,
+            last_group: logs.last_group(rt.alloc())?,
+            file_size,
+        })
+    }
+
+    fn alloc(&self) -> Global {
+        self.rt.alloc()
+    }
+
+    pub(crate) fn pipe(&self) -> &FolderPipe<'a, R> {
+        &self.pipe
+    }
+
+    pub(crate) fn tables(&self) -> &MemTableAccessor {
+        &self.tables
+    }
+
+    pub(crate) fn into_tables(self) -> MemTableAccessor {
+        self.tables
+    }
+
+    /// Writes a batch to the append queue, and then to the tables. With `sync` it lasts once the call returns `Ok`.
+    pub(crate) fn write(&mut self, mut batch: LogBatch, sync: bool) -> Result<()>
+        requires { batch.stage ≡ populating }
+    {
+        if batch.is_empty() {
+            return Ok(());
+        }
+        self.tables.check_append_writes(batch.items())?;
+        self.append(LogQueue::Append, &mut batch)?;
+        if sync {
+            self.pipe.sync(LogQueue::Append)?;
+        }
+        push_tombstones(&mut self.tombstones, batch.items())?;
+        self.tables.apply_append_writes(batch.drain())
+    }
+
+    /// Begins a new file of a queue.
+    pub(crate) fn rotate(&mut self, queue: LogQueue) -> Result<()> {
+        self.pipe.rotate(queue)?;
+        self.pipe = self.pipe.reopened()?;
+        Ok(())
+    }
+
+    /// Writes a batch to the last file of a queue, which is returned, and gives its items their places.
+    fn append(&mut self, queue: LogQueue, batch: &mut LogBatch) -> Result<FileSeq>
+        requires { batch.old.stage ≡ populating }
+    {
+        if self.pipe.last_len(queue)? >= self.file_size {
+            self.rotate(queue)?;
+        }
+        batch.finish_populate()?;
+        let place = self.pipe.append(queue, batch)?;
+        if !batch.is_sealed() || place.offset > LAST_OFFSET {
+            return Err(Error::Failed);
+        }
+        batch.finish_write(place);
+        Ok(place.id.seq)
+    }
+
+    /// Reads the entries of a region from `begin` on and below `end`.
+    pub(crate) fn entries(&self, region: u64, begin: u64, end: u64) -> Result<Vec<Proposal>> {
+        let mut entries = Vec::new(self.alloc());
+        if let Some(table) = self.tables.get(region) {
+            table.fetch_entries_to(begin, end, None, &mut entries)?;
+        }
+        self.read(entries.as_slice())
+    }
+
+    /// Reads all entries of a region.
+    pub(crate) fn all_entries(&self, region: u64) -> Result<Vec<Proposal>> {
+        match self.tables.get(region).and_then(span_of) {
+            Some((first, last)) => self.entries(region, first, last.saturating_add(1)),
+            None => Ok(Vec::new(self.alloc())),
+        }
+    }
+
+    /// The value of a key of a region.
+    pub(crate) fn value(&self, region: u64, key: &[u8]) -> Option<&[u8]> {
+        self.tables.get(region)?.get(key)
+    }
+
+    /// Reads the bytes of entries. Neighbors in one entry block are read together.
+    fn read(&self, entries: &[EntryIndex]) -> Result<Vec<Proposal>> {
+        let alloc = self.alloc();
+        let mut proposals = Vec::new(alloc);
+        for neighbors in entries.chunk_by(are_in_one_block) {
+            if let Some(first) = neighbors.first() {
+                let place = first.entries.ok_or(Error::EntryNotFound)?;
+                let block = self.read_block(place, first.compression_type)?;
+                push_proposals(alloc, &mut proposals, neighbors, block.as_slice())?;
+            }
+        }
+        Ok(proposals)
+    }
+
+    /// Reads the entry bytes of the entry block at a place. `Corruption` names the file and the offset.
+    fn read_block(&self, place: FileBlockHandle, compression: CompressionType) -> Result<Vec<u8>> {
+        let alloc = self.alloc();
+        let block = self.pipe.read_bytes(alloc, place)?;
+        match LogBatch::decode_entries_block(alloc, &block, place, compression) {
+            Err(Error::Corruption(text)) => {
+                let (path, offset) = (self.pipe.path(place.id)?, place.offset);
+                Err(Error::Corruption(format!(in alloc; "{path}, offset {offset}: {text}")?))
+            }
+            entries => entries,
+        }
+    }
+}
+
+/// Tests whether the bytes of two entries are in the same entry block.
+fn are_in_one_block(a: &EntryIndex, b: &EntryIndex) -> bool {
+    a.entries == b.entries
+}
+
+/// Adds entries whose bytes are among these to a list.
+fn push_proposals(
+    alloc: Global,
+    proposals: &mut Vec<Proposal>,
+    entries: &[EntryIndex],
+    bytes: &[u8],
+) -> Result<()> {
+    for entry in entries {
+        let text = Vec::from_slice(alloc, entry_bytes(alloc, bytes, entry)?)?;
+        proposals.push(Proposal {
+            index: entry.index,
+            text,
+        })?;
+    }
+    Ok(())
+}
+
+/// The first and the last index of a table.
+fn span_of(table: &MemTable) -> Option<(u64, u64)> {
+    match (table.first_index(), table.last_index()) {
+        (Some(first), Some(last)) => Some((first, last)),
+        _ => None,
+    }
+}

@@ -1,0 +1,206 @@
+//! Moves records to the rewrite queue, and deletes files that nobody needs.
+
+ghost use Rattle.std.specs.Prelude.{◌≡◌, OnOk};
+ghost use Rattle.raft_records.specs.LogBatch.{populating};
+
+use super::{Host, Store};
+use crate::proposal::Proposals;
+use raft_base::{EntryIndex, FileId, FileSeq, LogQueue, PipeLog, Result};
+use raft_memtable::MemTable;
+use raft_records::{AtomicGroupBuilder, LogBatch, LogItem, LogItemContent};
+use std::alloc::Global;
+
+/// How many entries a batch has at most that moves them. An engine goes by their bytes.
+const BATCH_ENTRIES: usize = 3;
+
+/// Records of a region that are to be moved.
+#[derive(Drop)]
+struct MovedRecords {
+    entries: Vec<EntryIndex>,
+    pairs: Vec<(Vec<u8>, Vec<u8>)>,
+}
+
+impl MovedRecords {
+    /// With a gate those in append files at or below it, without one those in rewrite files.
+    fn of(alloc: Global, table: &MemTable, gate: Option<FileSeq>) -> Result<MovedRecords> {
+        let mut records = MovedRecords {
+            entries: Vec::new(alloc),
+            pairs: Vec::new(alloc),
+        };
+        match gate {
+            Some(gate) => {
+                table.fetch_entry_indexes_before(gate, &mut records.entries)?;
+                table.fetch_kvs_before(gate, &mut records.pairs)?;
+            }
+            None => {
+                table.fetch_rewritten_entry_indexes(&mut records.entries)?;
+                table.fetch_rewritten_kvs(&mut records.pairs)?;
+            }
+        }
+        Ok(records)
+    }
+
+    fn is_empty(&self) -> bool {
+        self.entries.is_empty() && self.pairs.is_empty()
+    }
+}
+
+impl<R: Host> Store<'_, R> {
+    /// Moves the records of all append files but the one that is written to, and returns of how many regions.
+    pub(crate) fn rewrite_append_queue(&mut self) -> Result<usize> {
+        let (first, last) = self.pipe.file_span(LogQueue::Append);
+        if first == last {
+            return Ok(0);
+        }
+        self.rewrite(Some(last - 1))
+    }
+
+    /// Moves the records of all rewrite files to a new one, and returns of how many regions.
+    pub(crate) fn rewrite_rewrite_queue(&mut self) -> Result<usize> {
+        self.rotate(LogQueue::Rewrite)?;
+        self.rewrite(None)
+    }
+
+    /// Deletes the files of both queues that no table needs, and returns how many.
+    pub(crate) fn purge(&mut self) -> Result<(usize, usize)> {
+        self.rewrite_tombstones()?;
+        self.pipe.sync(LogQueue::Rewrite)?;
+        let appended = self.purge_queue(LogQueue::Append)?;
+        let rewritten = self.purge_queue(LogQueue::Rewrite)?;
+        self.pipe = self.pipe.reopened()?;
+        Ok((appended, rewritten))
+    }
+
+    fn purge_queue(&self, queue: LogQueue) -> Result<usize> {
+        let (_, last) = self.pipe.file_span(queue);
+        let least = self.tables.fold(last, |least: FileSeq, table: &MemTable| {
+            match table.min_file_seq(queue) {
+                Some(seq) => least.min(seq),
+                None => least,
+            }
+        });
+        self.pipe.purge_to(FileId::new(queue, least))
+    }
+
+    /// Writes to the rewrite queue what removes records there: the cleaned regions, then all other commands and deletions.
+    pub(crate) fn rewrite_tombstones(&mut self) -> Result<()> {
+        let cleaned = self.tables.take_cleaned_region_logs()?;
+        self.write_moved(cleaned, None)?;
+        let mut batch = LogBatch::default(self.alloc());
+        add_tombstones(&mut batch, self.tombstones.as_slice())?;
+        if !batch.is_empty() {
+            self.append(LogQueue::Rewrite, &mut batch)?;
+        }
+        self.tombstones.clear();
+        Ok(())
+    }
+
+    /// Moves the records of all regions, and returns of how many regions there were any.
+    fn rewrite(&mut self, gate: Option<FileSeq>) -> Result<usize> {
+        self.rewrite_tombstones()?;
+        let mut regions = Vec::new(self.alloc());
+        for table in self.tables.tables()? {
+            regions.push(table.region_id())?;
+        }
+        regions.sort_unstable();
+        let mut moved = 0usize;
+        for region in regions {
+            moved = moved.saturating_add(usize::from(self.rewrite_region(region, gate)?));
+        }
+        Ok(moved)
+    }
+
+    /// Moves records of a region, and returns whether there were any.
+    fn rewrite_region(&mut self, region: u64, gate: Option<FileSeq>) -> Result<bool> {
+        let Some(table) = self.tables.get(region) else {
+            return Ok(false);
+        };
+        let records = MovedRecords::of(self.alloc(), table, gate)?;
+        if records.is_empty() {
+            return Ok(false);
+        }
+        match gate {
+            Some(_) => self.write_batches(region, records, gate)?,
+            None => self.write_group(region, records)?,
+        }
+        Ok(true)
+    }
+
+    /// Writes records out of append files. Each batch takes effect by itself: these files stay until all is written.
+    fn write_batches(
+        &mut self,
+        region: u64,
+        records: MovedRecords,
+        gate: Option<FileSeq>,
+    ) -> Result<()> {
+        for entries in records.entries.chunks(BATCH_ENTRIES) {
+            let mut batch = LogBatch::default(self.alloc());
+            batch.add_entries::<Proposals>(region, self.read(entries)?.as_slice())?;
+            self.write_moved(batch, gate)?;
+        }
+        let mut batch = LogBatch::default(self.alloc());
+        put_all(&mut batch, region, records.pairs)?;
+        self.write_moved(batch, gate)?;
+        Ok(())
+    }
+
+    /// Writes all rewritten records of a region again, as an atomic group of two batches: all of them move, or none. The
+    /// table remembers the files of one group, so nothing may be left in an older one.
+    fn write_group(&mut self, region: u64, records: MovedRecords) -> Result<()> {
+        self.last_group = self.last_group.saturating_add(1);
+        let mut group = AtomicGroupBuilder::with_id(self.last_group);
+        let (front, rest) = records.entries.split_at(records.entries.len() / 2);
+        let mut begin = LogBatch::default(self.alloc());
+        group.begin(&mut begin)?;
+        begin.add_entries::<Proposals>(region, self.read(front)?.as_slice())?;
+        let first = self.write_moved(begin, None)?;
+        let mut end = LogBatch::default(self.alloc());
+        group.end(&mut end)?;
+        end.add_entries::<Proposals>(region, self.read(rest)?.as_slice())?;
+        put_all(&mut end, region, records.pairs)?;
+        let last = self.write_moved(end, None)?;
+        self.tables
+            .apply_rewrite_atomic_group(region, first.min(last), last)
+    }
+
+    /// Writes a batch to the rewrite queue and then to the tables, and returns its file.
+    fn write_moved(&mut self, mut batch: LogBatch, gate: Option<FileSeq>) -> Result<FileSeq>
+        requires { batch.stage ≡ populating }
+    {
+        if batch.is_empty() {
+            return Ok(0);
+        }
+        let seq = self.append(LogQueue::Rewrite, &mut batch)?;
+        self.tables.apply_rewrite_writes(batch.drain(), gate, seq)?;
+        Ok(seq)
+    }
+}
+
+/// Adds key values of a region to a batch.
+fn put_all(batch: &mut LogBatch, region: u64, pairs: Vec<(Vec<u8>, Vec<u8>)>) -> Result<()>
+    requires { batch.old.stage ≡ populating }
+    ensures { OnOk result (batch.new.stage ≡ populating) }
+{
+    for pair in pairs {
+        let (key, value) = pair;
+        batch.put(region, key, value)?;
+    }
+    Ok(())
+}
+
+/// Adds commands and deletions to a batch.
+fn add_tombstones(batch: &mut LogBatch, items: &[LogItem]) -> Result<()>
+    requires { batch.old.stage ≡ populating }
+    ensures { OnOk result (batch.new.stage ≡ populating) }
+{
+    for item in items {
+        match &item.content {
+            LogItemContent::Command(command) => {
+                batch.add_command(item.raft_group_id, command.clone()?)?
+            }
+            LogItemContent::Kv(pair) => batch.delete(item.raft_group_id, pair.key.clone()?)?,
+            LogItemContent::EntryIndexes(_) => {}
+        }
+    }
+    Ok(())
+}

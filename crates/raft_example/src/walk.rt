@@ -1,0 +1,176 @@
+//! What a store does, step by step, with what it holds before and after each restart.
+
+ghost use Rattle.std.specs.Prelude.{◌≡◌, OnOk};
+ghost use Rattle.raft_records.specs.LogBatch.{populating};
+
+mod damage;
+mod sharing;
+
+use crate::contents::Contents;
+use crate::folder_pipe::clear;
+use crate::proposal::{Proposal, Proposals};
+use crate::store::{Host, Store};
+use raft_base::{LogQueue, PipeLog, Result};
+use raft_records::{Command, LogBatch};
+use std::alloc::Global;
+use std::sync::Wait;
+
+/// Where the store's files are.
+const FOLDER: &str = "raft_example_logs";
+
+/// The least bytes of a file before a new one is begun.
+const FILE_SIZE: u64 = 1 << 20;
+
+/// How many threads read the files at most.
+const WORKERS: usize = 4;
+
+/// Goes through what a store does. The folder is removed at the end.
+pub(crate) fn walk<R: Host + Wait + Print>(rt: &R) -> Result<()> {
+    clear(rt, FOLDER)?;
+    let mut store = open(rt)?;
+    write(rt, &mut store)?;
+    let mut store = restart(rt, store)?;
+    change(rt, &mut store)?;
+    let mut store = restart(rt, store)?;
+    rewrite(rt, &mut store)?;
+    remove(rt, &mut store)?;
+    purge(rt, &mut store)?;
+    let mut store = restart(rt, store)?;
+    rewrite_again(rt, &mut store)?;
+    let store = restart(rt, store)?;
+    damage::damage(rt, store)?;
+    sharing::look_up(rt, open(rt)?.into_tables())?;
+    clear(rt, FOLDER)
+}
+
+/// Opens the folder.
+fn open<R: Host>(rt: &R) -> Result<Store<'_, R>> {
+    Store::open(rt, FOLDER, FILE_SIZE, WORKERS)
+}
+
+/// Lets a store go, and opens its folder again.
+fn restart<'a, R: Host + Print>(rt: &'a R, store: Store<'a, R>) -> Result<Store<'a, R>> {
+    drop(store);
+    let store = open(rt)?;
+    show(rt, &store, "after a restart")?;
+    Ok(store)
+}
+
+/// Prints what a store holds after a step, and in which files.
+fn show<R: Host + Print>(rt: &R, store: &Store<'_, R>, step: &str) -> Result<()> {
+    let stats = store.tables().stats();
+    let (first, last) = store.pipe().file_span(LogQueue::Append);
+    let appended = stats.live_entries(LogQueue::Append);
+    print!(rt; "{step}: {appended} live in append files {first}..={last}, ")?;
+    let (first, last) = store.pipe().file_span(LogQueue::Rewrite);
+    let rewritten = stats.live_entries(LogQueue::Rewrite);
+    println!(rt; "{rewritten} in rewrite files {first}..={last}")?;
+    print!(rt; "{}", Contents::of(rt.alloc(), store)?.text(rt.alloc())?)?;
+    Ok(())
+}
+
+/// Writes a batch of three regions, and reads some of it back.
+fn write<R: Host + Print>(rt: &R, store: &mut Store<'_, R>) -> Result<()> {
+    let alloc = rt.alloc();
+    let mut batch = LogBatch::default(alloc);
+    add(alloc, &mut batch, 7, 10, &["put x 1", "put y 2", "put z 3"])?;
+    put(alloc, &mut batch, 7, "applied", "9")?;
+    add(alloc, &mut batch, 8, 1, &["put u 4", "put v 5"])?;
+    add(alloc, &mut batch, 9, 5, &["put w 6"])?;
+    store.write(batch, true)?;
+    show(rt, store, "written")?;
+    for proposal in &store.entries(7, 11, 13)? {
+        let text = String::from_utf8_lossy(alloc, &proposal.text)?;
+        println!(rt; "  read: entry {} of region 7 is {text}", proposal.index)?;
+    }
+    if let Some(value) = store.value(7, b"applied") {
+        let value = String::from_utf8_lossy(alloc, value)?;
+        println!(rt; "  read: key applied of region 7 is {value}")?;
+    }
+    Ok(())
+}
+
+/// Writes to a second file: other entries of region 7 from 12 on, of which the last is taken back.
+fn change<R: Host + Print>(rt: &R, store: &mut Store<'_, R>) -> Result<()> {
+    store.rotate(LogQueue::Append)?;
+    let alloc = rt.alloc();
+    let mut batch = LogBatch::default(alloc);
+    add(
+        alloc,
+        &mut batch,
+        7,
+        12,
+        &["delete x", "put y 7", "put y 8"],
+    )?;
+    batch.add_command(7, Command::Truncate { index: 14 })?;
+    put(alloc, &mut batch, 7, "applied", "12")?;
+    put(alloc, &mut batch, 8, "vote", "3")?;
+    store.write(batch, true)?;
+    show(
+        rt,
+        store,
+        "entries of region 7 replaced from 12 on, and truncated from 14 on",
+    )
+}
+
+/// Moves all records of append files 1 and 2 to the rewrite queue.
+fn rewrite<R: Host + Print>(rt: &R, store: &mut Store<'_, R>) -> Result<()> {
+    store.rotate(LogQueue::Append)?;
+    let regions = store.rewrite_append_queue()?;
+    let step = format!(in rt.alloc(); "{regions} regions rewritten")?;
+    show(rt, store, step.as_str())
+}
+
+/// Removes records that are in the rewrite queue.
+fn remove<R: Host + Print>(rt: &R, store: &mut Store<'_, R>) -> Result<()> {
+    let mut batch = LogBatch::default(rt.alloc());
+    batch.add_command(7, Command::Compact { index: 11 })?;
+    batch.delete(8, Vec::from_slice(rt.alloc(), b"vote")?)?;
+    batch.add_command(9, Command::Clean)?;
+    store.write(batch, true)?;
+    show(
+        rt,
+        store,
+        "region 7 compacted below 11, a key of 8 deleted, 9 cleaned",
+    )
+}
+
+/// Deletes the files that no table needs.
+fn purge<R: Host + Print>(rt: &R, store: &mut Store<'_, R>) -> Result<()> {
+    store.rotate(LogQueue::Append)?;
+    let (appended, rewritten) = store.purge()?;
+    let step = format!(in rt.alloc();
+        "{appended} append files and {rewritten} rewrite files deleted"
+    )?;
+    show(rt, store, step.as_str())
+}
+
+/// Moves all rewritten records to a new file, so that the older ones go.
+fn rewrite_again<R: Host + Print>(rt: &R, store: &mut Store<'_, R>) -> Result<()> {
+    let regions = store.rewrite_rewrite_queue()?;
+    let step = format!(in rt.alloc(); "{regions} regions rewritten again, an atomic group each")?;
+    show(rt, store, step.as_str())?;
+    purge(rt, store)
+}
+
+/// Adds proposals of a region to a batch, the first of them at an index.
+fn add(alloc: Global, batch: &mut LogBatch, region: u64, first: u64, texts: &[&str]) -> Result<()>
+    requires { batch.old.stage ≡ populating }
+    ensures { OnOk result (batch.new.stage ≡ populating) }
+{
+    let mut proposals = Vec::new(alloc);
+    for (index, text) in (first..).zip(texts) {
+        proposals.push(Proposal::new(alloc, index, text)?)?;
+    }
+    batch.add_entries::<Proposals>(region, proposals.as_slice())
+}
+
+/// Adds a key value of a region to a batch.
+fn put(alloc: Global, batch: &mut LogBatch, region: u64, key: &str, value: &str) -> Result<()>
+    requires { batch.old.stage ≡ populating }
+    ensures { OnOk result (batch.new.stage ≡ populating) }
+{
+    let key = Vec::from_slice(alloc, key.as_bytes())?;
+    let value = Vec::from_slice(alloc, value.as_bytes())?;
+    batch.put(region, key, value)
+}

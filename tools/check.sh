@@ -1,12 +1,13 @@
 #!/usr/bin/env bash
 # The full check: `rt ci`, then what it can't look at: words that aren't UTF-8, a scan of a sound file, the frames of `raftlog` on
-# the stack, and runs with little stack, and, where there is a C compiler, some rows with memory refused; first of all whether
-# docs/BELIEVE.md and docs/CALLS.md are what the definitions and the sources say. The last line is that of `rt ci`,
-# 'N passed, M failed'.
+# the stack, runs with little stack, crashes of the store of `raft_example`, and, where there is a C compiler, some rows with
+# memory refused; first of all whether docs/BELIEVE.md and docs/CALLS.md are what the definitions and the sources say. The last
+# line is that of `rt ci`, 'N passed, M failed'.
 set -euo pipefail
 cd "$(dirname "$0")/.."
 program=crates/raftlog/out/raftlog
 scan=crates/raft_scan/out/raft_scan
+example=$PWD/crates/raft_example/out/raft_example
 frame_limit=16384
 room=$(mktemp -d)
 trap 'rm -rf "$room"' EXIT
@@ -30,6 +31,7 @@ if [ "$status" != 0 ] || [ -s "$room/err" ] || ! cmp -s "$room/out" "$room/wante
 fi
 tools/frames.py "$program" --show 3 --limit "$frame_limit"
 tools/stack.py "$program"
+(cd "$room" && "$example" crashes 1 2 1)
 if command -v cc > "$room/compiler"; then
   tools/refused_memory.py --rows-alone --every 5 --row batches --row tables --row contexts --row take --row shared --row shared-take
 fi

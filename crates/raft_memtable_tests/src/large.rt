@@ -1,24 +1,26 @@
-//! Contexts with many regions, many groups, a long stretch and many deleted keys.
+//! Contexts with many regions, many groups, long stretches, many deleted keys and long runs.
 
 use crate::files::{file_of, replay_file};
 use crate::groups::{add_marker, part_of, seen_of};
+use crate::overlays::{Word, read as read_words};
 use AtomicGroupStatus::{Begin, End};
 use raft_memtable::{
     Error, FileId, Kept, LogQueue, MemTable, MemTableAccessor, MemTableRecoverContext, Result,
 };
 use raft_records::{AtomicGroupStatus, FilePart, LogBatch};
 use std::alloc::Global;
+use std::ops::Range;
 
 /// How many groups begin before one of them ends.
 const GROUPS: u64 = 12;
 
-/// How many keys the batch of a group puts.
+/// How many keys each of two batches of a group puts.
 const LONG: u64 = 1_200;
 
-/// How many regions there are.
+/// How many regions a context names.
 const REGIONS: u64 = 600;
 
-/// How many keys are deleted.
+/// How many keys a context deletes.
 const DELETED: u64 = 100;
 
 /// A context of a batch with this status for each group, in files from one on: group n puts a key in region n.
@@ -88,13 +90,13 @@ fn change_key(
     }
 }
 
-/// A part whose batch changes so many keys from the empty one on, all of a region or the first key of as many regions;
+/// A part whose batch changes the keys with these numbers in a region, or the empty key in the regions with these ids;
 /// with a group marker of group 9 where there is a status.
 fn changes(
     alloc: Global,
     file: FileId,
     status: Option<AtomicGroupStatus>,
-    count: u64,
+    numbers: Range<u64>,
     is_of_one_region: bool,
     change: Change,
 ) -> Result<FilePart> {
@@ -102,7 +104,7 @@ fn changes(
     if let Some(status) = status {
         add_marker(alloc, 9, status, &mut batch)?;
     }
-    for number in 0..count {
+    for number in numbers {
         if is_of_one_region {
             change_key(alloc, &mut batch, 5, number, change)?;
         } else {
@@ -129,11 +131,6 @@ fn counts(accessor: &MemTableAccessor) -> (u64, usize) {
         count.saturating_add(table.key_count())
     });
     (tables, keys)
-}
-
-/// The last of the keys that a group puts in region 5.
-fn last_key() -> [u8; 8] {
-    (LONG - 1).to_be_bytes()
 }
 
 /// What the contexts of two parts hold, the older one and both merged, and the tables then.
@@ -167,23 +164,21 @@ fn file(seq: u64) -> FileId {
     FileId::new(LogQueue::Rewrite, seq)
 }
 
-/// Whether region 5 has the first and the last of the keys that a group puts.
+/// Whether region 5 has the first key and the last that a group puts in two batches.
 fn has_ends(accessor: &MemTableAccessor) -> bool {
-    match accessor.get(5) {
-        Some(table) => table.get(&last_key()).is_some() && table.get(b"").is_some(),
-        None => false,
-    }
+    let last = (2 * LONG - 1).to_be_bytes();
+    accessor.get(5).is_some_and(|table| table.get(&last).is_some() && table.get(b"").is_some())
 }
 
-/// Whether a stretch of many items waits, and takes effect whole when the group ends.
+/// Whether a stretch of many items waits, and takes effect whole when a batch of as many ends the group.
 fn stretch_takes_effect(alloc: Global) -> Result<bool> {
-    let begun = changes(alloc, file(1), Some(Begin), LONG, true, Put(1))?;
-    let ended = changes(alloc, file(2), Some(End), 0, true, Put(1))?;
+    let begun = changes(alloc, file(1), Some(Begin), 0..LONG, true, Put(1))?;
+    let ended = changes(alloc, file(2), Some(End), LONG..2 * LONG, true, Put(1))?;
     let merged = merge_parts(alloc, LogQueue::Rewrite, &begun, &ended)?;
     Ok(
         merged.older.waiting_items == u128::from(LONG)
             && merged.both.waiting_items == 0
-            && counts(&merged.accessor) == (1, LONG as usize)
+            && counts(&merged.accessor) == (1, 2_400)
             && has_ends(&merged.accessor),
     )
 }
@@ -194,30 +189,57 @@ const APPENDED: FileId = FileId {
     seq: 1,
 };
 
-/// Whether an older context's keys, one for each region, are merged with those of a newer one, of half as many regions.
+/// Whether a key for each of many regions is merged with one for each of as many, of which half are the same.
 fn regions_are_merged(alloc: Global) -> Result<bool> {
-    let older = changes(alloc, APPENDED, None, REGIONS, false, Put(1))?;
-    let newer = changes(alloc, APPENDED, None, REGIONS / 2, false, Put(1 << 10))?;
+    let older = changes(alloc, APPENDED, None, 0..REGIONS, false, Put(1))?;
+    let newer = changes(
+        alloc,
+        APPENDED,
+        None,
+        300..300 + REGIONS,
+        false,
+        Put(1 << 10),
+    )?;
     let merged = merge_parts(alloc, LogQueue::Append, &older, &newer)?;
-    Ok(counts(&merged.accessor) == (REGIONS, REGIONS as usize) && merged.both.keys == 600)
+    Ok(counts(&merged.accessor) == (900, 900) && merged.both.keys == 900)
 }
 
-/// Whether a context that deletes keys of region 5, the empty one too, deletes those of an older one, of which the last
-/// stays, and may hold each of them.
+/// A context that read such changes of keys in region 5, each of the keys with the numbers from one on and below another.
+fn read_changes(alloc: Global, rows: &[(u64, u64, Change)]) -> Result<MemTableRecoverContext> {
+    let mut context = MemTableRecoverContext::new(alloc)?;
+    for &(first, end, change) in rows {
+        let part = changes(alloc, APPENDED, None, first..end, true, change)?;
+        replay_file(&mut context, &part)?;
+    }
+    Ok(context)
+}
+
+/// A context that puts the keys from the empty one on and deletes as many others, merged with a newer one that deletes
+/// all that were put but the last.
+fn deletions(alloc: Global) -> Result<MemTableRecoverContext> {
+    let older = [
+        (0, DELETED + 1, Put(1 << 16)),
+        (DELETED + 1, 2 * DELETED + 1, Delete),
+    ];
+    let mut context = read_changes(alloc, &older)?;
+    let newer = read_changes(alloc, &[(0, DELETED, Delete)])?;
+    context.merge(newer, LogQueue::Append)?;
+    Ok(context)
+}
+
+/// Whether the keys that both contexts delete, the empty one too, are gone, also those that an older context put, and the
+/// other key stays. They may hold each key that they deleted.
 fn deletions_are_merged(alloc: Global) -> Result<bool> {
-    let older = changes(alloc, APPENDED, None, DELETED + 1, true, Put(1 << 16))?;
-    let newer = changes(alloc, APPENDED, None, DELETED, true, Delete)?;
-    let merged = merge_parts(alloc, LogQueue::Append, &older, &newer)?;
-    Ok(
-        is_of_deleted(merged.both, 1)
-            && has_long_value(&merged.accessor, DELETED)
-            && counts(&merged.accessor) == (1, 1),
-    )
+    let mut context = read_changes(alloc, &[(DELETED + 1, 2 * DELETED + 1, Put(1))])?;
+    context.merge(deletions(alloc)?, LogQueue::Append)?;
+    let kept = context.kept()?;
+    let accessor = context.finish()?;
+    Ok(is_of_deleted(kept, 1) && has_long_value(&accessor, DELETED) && counts(&accessor) == (1, 1))
 }
 
 /// Whether so many keys, and at most those that were deleted, are held.
 fn is_of_deleted(kept: Kept, keys: u128) -> bool {
-    kept.keys == keys && kept.deleted_keys <= u128::from(DELETED)
+    kept.keys == keys && kept.deleted_keys <= u128::from(2 * DELETED)
 }
 
 /// Whether region 5's key with a number has a value of 64 KiB.
@@ -228,12 +250,77 @@ fn has_long_value(accessor: &MemTableAccessor, number: u64) -> bool {
     value.is_some_and(|value| value.len() == 1 << 16 && value.iter().all(|byte| *byte == 0xab))
 }
 
+/// The first index of region 1 and the last, and how many of its records are live in each queue.
+type Shape = (Option<u64>, Option<u64>, usize, usize);
+
+fn shape(accessor: &MemTableAccessor) -> Shape {
+    let table = accessor.get(1);
+    let stats = accessor.stats();
+    (
+        table.and_then(|table| table.first_index()),
+        table.and_then(|table| table.last_index()),
+        stats.live_entries(LogQueue::Append),
+        stats.live_entries(LogQueue::Rewrite),
+    )
+}
+
+const OLDER: Word = Word::Run(0, 5_000);
+
+const NEWER: Word = Word::Run(4_000, 9_000);
+
+/// The queues of an older long run and of a newer one, and what region 1 has of both.
+static RUNS: [(LogQueue, LogQueue, Shape); 3] = [
+    (
+        LogQueue::Append,
+        LogQueue::Append,
+        (Some(0), Some(8_999), 9_000, 0),
+    ),
+    (
+        LogQueue::Rewrite,
+        LogQueue::Rewrite,
+        (Some(0), Some(8_999), 0, 9_000),
+    ),
+    (
+        LogQueue::Rewrite,
+        LogQueue::Append,
+        (Some(0), Some(8_999), 5_000, 4_000),
+    ),
+];
+
+fn runs() -> &'static [(LogQueue, LogQueue, Shape)] {
+    &RUNS
+}
+
+/// The contexts of an older long run and of a newer one, merged, or the newer one put over the older one.
+fn both_runs(alloc: Global, older: LogQueue, newer: LogQueue) -> Result<MemTableRecoverContext> {
+    let mut context = read_words(alloc, older, &[OLDER])?;
+    let appended = read_words(alloc, newer, &[NEWER])?;
+    if older == newer {
+        context.merge(appended, newer)?;
+    } else {
+        context.merge_append_context(appended)?;
+    }
+    Ok(context)
+}
+
+/// Whether long runs are merged and put over each other so, and so are two that one context reads.
+fn runs_are_merged(alloc: Global) -> Result<bool> {
+    for &(older, newer, merged) in runs() {
+        if shape(&both_runs(alloc, older, newer)?.finish()?) != merged {
+            return Ok(false);
+        }
+    }
+    let read = read_words(alloc, LogQueue::Append, &[OLDER, NEWER])?;
+    Ok(shape(&read.finish()?) == (Some(0), Some(8_999), 9_000, 0))
+}
+
 fn all_are_merged(alloc: Global) -> Result<bool> {
     Ok(
         groups_take_effect(alloc)?
             && stretch_takes_effect(alloc)?
             && regions_are_merged(alloc)?
-            && deletions_are_merged(alloc)?,
+            && deletions_are_merged(alloc)?
+            && runs_are_merged(alloc)?,
     )
 }
 

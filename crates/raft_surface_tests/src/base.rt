@@ -122,6 +122,11 @@ fn utilities_by_module() {
     ];
 }
 
+/// The number of a file, which is 64 bits wide.
+fn number_of_file(seq: FileSeq) -> u64 {
+    seq
+}
+
 fn files() {
     let _new: fn(LogQueue, FileSeq) -> FileId = FileId::new;
     let _context: fn(FileId, Version) -> LogFileContext = LogFileContext::new;
@@ -269,5 +274,5 @@ fn base_is_handed_on(rt: HostRuntime) {
     assert!(rt; Version::V1 as u8 == 1 && Version::V2 as u8 == 2);
     assert!(rt; bytes_of(ReadableSize(7)) == 7 && fields(entry(7, 1, 3, 2).0) == 7);
     assert!(rt; refused_with(MessageError::Refused(7)) == Some(7));
-    assert!(rt; text_of(Error::Full).is_none());
+    assert!(rt; text_of(Error::Full).is_none() && number_of_file(7) == 7);
 }

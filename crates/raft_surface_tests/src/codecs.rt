@@ -151,11 +151,25 @@ fn word_of(error: &Error) -> &'static str {
     }
 }
 
+/// What a number is read with, by type.
+fn read_with(number: Result<u64>) -> std::result::Result<u64, codec::Error> {
+    number
+}
+
+/// The error of a reader or writer, if it is one.
+fn io_of(error: Error) -> Option<io::Error> {
+    match error {
+        Error::Io(io) => Some(io),
+        _ => None,
+    }
+}
+
 #[test]
 fn numbers_are_handed_on(rt: HostRuntime) {
     varint_decoders();
     is_encoder::<Vec<u8>>();
     assert!(rt; bytes_of(b"7".as_slice()) == b"7".as_slice());
     let eof: codec::Error = Error::unexpected_eof();
-    assert!(rt; word_of(&eof) == "io");
+    assert!(rt; word_of(&eof) == "io" && io_of(eof).is_some());
+    assert!(rt; matches!(read_with(Ok(7)), Ok(7)));
 }

@@ -76,6 +76,10 @@ fn iter_of_batches<'a>(batch: &'a LogItemBatch) -> slice::Iter<'a, LogItem> {
     LogItemBatch::iter(batch)
 }
 
+fn as_slice_of_batches<'a>(batch: &'a LogItemBatch) -> &'a [LogItem] {
+    LogItemBatch::as_slice(batch)
+}
+
 fn changes_of_batches<S: Message>() {
     let _add_entry_indexes: fn(&mut LogItemBatch, u64, Vec<EntryIndex>) -> Result<()> =
         LogItemBatch::add_entry_indexes;

@@ -20,6 +20,10 @@ fn batches() {
     let _clone: fn(&LogBatch) -> Result<LogBatch> = LogBatch::clone;
 }
 
+fn items_of_batches<'a>(batch: &'a LogBatch) -> &'a [LogItem] {
+    LogBatch::items(batch)
+}
+
 fn changes() {
     let _add_raw_entries: fn(&mut LogBatch, u64, Vec<EntryIndex>, Vec<Vec<u8>>) -> Result<()> =
         LogBatch::add_raw_entries;
@@ -92,6 +96,6 @@ fn log_batches_are_handed_on(rt: HostRuntime) {
     writes();
     reads();
     let batch = LogBatch::default(rt.alloc());
-    assert!(rt; batch.is_open() && batch.is_empty());
+    assert!(rt; batch.is_open() && batch.is_empty() && items_of_batches(&batch).is_empty());
     assert!(rt; encoded_bytes_of_writes(&batch).is_none());
 }

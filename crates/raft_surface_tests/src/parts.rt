@@ -6,11 +6,11 @@ use raft_records::laws::{
     written_batches_are_next,
 };
 use raft_records::{
-    AllocResult, B, EntryIndex, Error, Factory, FileId, FilePart, FileSeq, GIB, KIB,
-    LogFileContext, LogItemBatch, LogQueue, MIB, MessageError, PIB, PipeLog, ReadableSize, Result,
-    SizeError, TIB, Version, batch_text, compression_type, crc32, entry_index, errors, hash_u64,
-    message, next_batch, pipe_log, print_batch, round_down, round_up, size_from_value, unhash_u64,
-    util,
+    AllocResult, B, EntryIndex, Error, Factory, FileBlockHandle, FileId, FilePart, FileSeq, GIB,
+    KIB, LogFileContext, LogItemBatch, LogQueue, MIB, MessageError, PIB, PipeLog, ReadableSize,
+    Result, SizeError, TIB, Version, batch_text, compression_type, crc32, entries_block_in,
+    entry_bytes, entry_index, errors, hash_u64, message, next_batch, next_in, pipe_log,
+    print_batch, readable_front, round_down, round_up, size_from_value, unhash_u64, util,
 };
 use std::alloc::{AllocError, Global};
 use std::io::{Read, Write};
@@ -22,6 +22,35 @@ fn parts() {
     let _offset: fn(&FilePart) -> u64 = FilePart::offset;
     let _split_off: fn(&mut FilePart, usize) -> Result<FilePart> = FilePart::split_off;
     let _next_batch: fn(&FilePart, usize) -> Result<Option<(LogItemBatch, usize)>> = next_batch;
+    let _clone: fn(&FilePart) -> Result<FilePart> = FilePart::clone;
+    let _readable_front: fn(&FilePart) -> (usize, Option<Error>) = readable_front;
+}
+
+/// The first batch of bytes of a file, which are read from an offset below 2^32 on.
+fn next_in_of_parts(
+    alloc: Global,
+    file: &LogFileContext,
+    offset: u32,
+    bytes: &[u8],
+) -> Result<Option<(LogItemBatch, usize)>> {
+    if bytes.len() >= 1 << 32 {
+        return Ok(None);
+    }
+    let offset: u64 = u64::from(offset);
+    let at: usize = 0;
+    next_in(alloc, file, offset, bytes, at)
+}
+
+fn entries_block_in_of_parts<'a>(part: &'a FilePart, place: FileBlockHandle) -> Result<&'a [u8]> {
+    entries_block_in(part, place)
+}
+
+fn entry_bytes_of_parts<'a>(
+    alloc: Global,
+    entries: &'a [u8],
+    entry: &EntryIndex,
+) -> Result<&'a [u8]> {
+    entry_bytes(alloc, entries, entry)
 }
 
 fn bytes_of_parts<'a>(part: &'a FilePart) -> &'a [u8] {

@@ -1,17 +1,23 @@
 //! Segments, plans, tickets, workers and what the program does, from `raft_recover`.
 
+ghost use Rattle.std.specs.Prelude.{[]};
+
+use raft_records::LogFileContext;
 use raft_recover::files::file_segments;
 use raft_recover::recovered::recovered_text;
+use raft_recover::shares::equal_shares;
 use raft_recover::{
     AllocResult, Error, Factory, FileId, FilePart, FileSeq, Gate, LogQueue, MAX_WORKERS, MemTable,
     MemTableAccessor, MemTableRecoverContext, MemTableRecoverContextFactory, OpenGate, Plan,
-    ReplayMachine, Result, Segment, TicketSeat, Tickets, Version, cut_part, merge_pieces,
-    piece_count, print_recovered, recover, recover_bytes, replay_scheduled, replay_segment,
-    replay_segments, run, segments_read_as_one_history,
+    ReplayMachine, Result, Segment, TicketSeat, Tickets, Version, append_scan, command_words,
+    cut_part, merge_pieces, piece_count, print_recovered, recover, recover_both, recover_bytes,
+    recover_segments, replay_bytes, replay_scheduled, replay_segment, replay_segments, run,
+    run_scan, run_without_words, scan_without_words, segments_read_as_one_history,
 };
 use std::alloc::Global;
+use std::io;
 use std::io::{Read, Write};
-use std::rt::Files;
+use std::rt::{Env, Files};
 use std::thread::Threads;
 
 fn tickets() {
@@ -25,6 +31,21 @@ fn plans() {
     let _halves: fn(Global, usize) -> Result<Plan> = Plan::halves;
     let _piece_count: fn(usize, &[usize]) -> usize = piece_count;
     let _cut_part: fn(Global, FilePart, usize) -> Result<Vec<FilePart>> = cut_part;
+}
+
+/// The plan that merges what two plans make.
+fn join_of_plans(alloc: Global, left: Plan, right: Plan) -> AllocResult<Plan> {
+    Ok(Plan::Join(Box::new(alloc, left)?, Box::new(alloc, right)?))
+}
+
+/// At least one share, of at least one byte.
+fn equal_shares_of_plans(
+    alloc: Global,
+    segments: &[Segment],
+    count: usize,
+    least: usize,
+) -> Result<Vec<Segment>> {
+    equal_shares(alloc, segments, count.max(1), least.max(1))
 }
 
 fn pass_of_gates<G: Gate>(gate: &G, count: usize) {
@@ -47,6 +68,21 @@ fn merge_pieces_of_workers<M: ReplayMachine, F: Factory<M>, G: Gate, R: Threads 
     merge_pieces::<M, R>(rt, pieces, plan, queue)
 }
 
+/// The batches of lent bytes, which are read from an offset below 2^32 on.
+fn replay_bytes_of_machines<M: ReplayMachine>(
+    machine: &mut M,
+    alloc: Global,
+    file: &LogFileContext,
+    offset: u32,
+    bytes: &[u8],
+) -> Result<()> {
+    if bytes.len() >= 1 << 32 {
+        return Ok(());
+    }
+    let offset: u64 = u64::from(offset);
+    replay_bytes::<M>(machine, alloc, file, offset, bytes)
+}
+
 /// Machines as draws and a plan make them.
 fn replay_scheduled_of_schedules(
     alloc: Global,
@@ -58,6 +94,36 @@ fn replay_scheduled_of_schedules(
     plan: &Plan,
 ) -> Result<MemTableRecoverContext> {
     replay_scheduled(alloc, factory, segments, queue, workers, draws, plan)
+}
+
+/// The same of any machine.
+fn replay_scheduled_of_machines<M: ReplayMachine, F: Factory<M>>(
+    alloc: Global,
+    factory: &F,
+    segments: &[Segment],
+    queue: LogQueue,
+    workers: usize,
+    draws: &[usize],
+    plan: &Plan,
+) -> Result<M>
+    requires { (m : M) → F.gives factory.now m → M.stands_exactly m [] }
+{
+    replay_scheduled::<M, F>(alloc, factory, segments, queue, workers, draws, plan)
+}
+
+/// The same of any machine, by workers.
+fn replay_segments_of_machines<M: ReplayMachine, F: Factory<M>, G: Gate, R: Threads + Sync>(
+    rt: &R,
+    alloc: Global,
+    factory: &F,
+    segments: &[Segment],
+    queue: LogQueue,
+    workers: usize,
+    gate: &G,
+) -> Result<M>
+    requires { (m : M) → F.gives factory.now m → M.stands_exactly m [] }
+{
+    replay_segments::<M, F, G, R>(rt, alloc, factory, segments, queue, workers, gate)
 }
 
 /// Machines as workers make them.
@@ -91,6 +157,36 @@ fn run_of_programs<S: Files + AllocGlobal + Threads + Sync, R: Read, W: Write, E
     run::<S, R, W, E>(rt, words, input, out, err)
 }
 
+/// The words of a command line, and what the program returns where there are none.
+fn words_of_programs<S: Env + AllocGlobal, E: Write>(
+    rt: &S,
+    err: &mut E,
+) -> std::result::Result<Vec<String>, u8> {
+    let words: io::Result<Vec<String>> = command_words::<S>(rt);
+    match words {
+        Ok(words) => Ok(words),
+        Err(error) => Err(run_without_words::<E>(&error, err)),
+    }
+}
+
+/// The status that a scan of files ends with.
+fn run_scan_of_scans<S: Files + AllocGlobal, W: Write, E: Write>(
+    rt: &S,
+    words: &[String],
+    out: &mut W,
+    err: &mut E,
+) -> u8 {
+    run_scan::<S, W, E>(rt, words, out, err)
+}
+
+fn scan_without_words_of_scans<E: Write>(error: &io::Error, err: &mut E) -> u8 {
+    scan_without_words::<E>(error, err)
+}
+
+fn scans() {
+    let _append_scan: fn(Global, &FilePart, bool, &mut String) -> Result<bool> = append_scan;
+}
+
 /// The parts of a segment.
 fn parts_of(segment: Segment) -> Vec<FilePart> {
     segment
@@ -117,6 +213,26 @@ fn recover_of_recoveries<R: Threads + Sync, W: Write>(
     count: usize,
 ) -> Result<MemTableAccessor> {
     recover::<R>(rt, alloc, segments, queue, count)
+}
+
+fn recover_both_of_recoveries<R: Threads + Sync>(
+    rt: &R,
+    alloc: Global,
+    rewrite: &[Segment],
+    append: &[Segment],
+    workers: usize,
+) -> Result<MemTableAccessor> {
+    recover_both::<R>(rt, alloc, rewrite, append, workers)
+}
+
+fn recover_segments_of_recoveries<R: Threads + Sync>(
+    rt: &R,
+    alloc: Global,
+    segments: &[Segment],
+    queue: LogQueue,
+    workers: usize,
+) -> Result<MemTableAccessor> {
+    recover_segments::<R>(rt, alloc, segments, queue, workers)
 }
 
 fn recover_bytes_of_recoveries<R: Threads + Sync, W: Write>(
@@ -151,6 +267,7 @@ fn leaves_of(plan: &Plan) -> usize {
 fn recovery_is_handed_on(rt: HostRuntime) {
     tickets();
     plans();
+    scans();
     is_shared_gate::<OpenGate>();
     assert!(rt; parts_of(Vec::new(rt.alloc())).is_empty());
     segments_read_as_one_history();

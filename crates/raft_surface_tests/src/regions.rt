@@ -5,10 +5,13 @@ use raft_memtable::{
     Result, TableChange, slot_of,
 };
 use std::alloc::Global;
+use std::vec;
 
 fn tables() {
     let _new: fn(Global) -> Result<MemTableAccessor> = MemTableAccessor::new;
     let _is_empty: fn(&MemTableAccessor) -> bool = MemTableAccessor::is_empty;
+    let _entries_count: fn(&MemTableAccessor) -> Result<u128> = MemTableAccessor::entries_count;
+    let _key_count: fn(&MemTableAccessor) -> Result<u128> = MemTableAccessor::key_count;
     let _slot_of: fn(u64) -> usize = slot_of;
     let _region_tables: fn(Global) -> RegionTables = RegionTables::new;
 }
@@ -19,6 +22,10 @@ fn stats_of_tables<'a>(accessor: &'a MemTableAccessor) -> &'a GlobalStats {
 
 fn cleaned_regions_of_tables<'a>(accessor: &'a MemTableAccessor) -> &'a [u64] {
     MemTableAccessor::cleaned_regions(accessor)
+}
+
+fn tables_of_tables<'a>(accessor: &'a MemTableAccessor) -> Result<Vec<&'a MemTable>> {
+    MemTableAccessor::tables(accessor)
 }
 
 fn get_of_tables<'a>(accessor: &'a MemTableAccessor, number: u64) -> Option<&'a MemTable> {
@@ -35,6 +42,10 @@ fn get_or_insert_of_tables<'a>(
 fn changes() {
     let _change: fn(&mut MemTableAccessor, u64, TableChange) -> Result<u64> =
         MemTableAccessor::change;
+    let _check_append_writes: fn(&MemTableAccessor, &[LogItem]) -> Result<()> =
+        MemTableAccessor::check_append_writes;
+    let _check_append_items: fn(&RegionTables, &[LogItem]) -> Result<()> =
+        RegionTables::check_append_items;
     let _insert: fn(&mut MemTableAccessor, u64, MemTable) -> Result<Option<MemTable>> =
         MemTableAccessor::insert;
     let _remove: fn(&mut MemTableAccessor, u64, bool) -> Result<Option<MemTable>> =
@@ -79,6 +90,31 @@ fn apply_rewrite_writes_of_items(
     MemTableAccessor::apply_rewrite_writes(accessor, items, watermark, new_file)
 }
 
+/// The items of a batch, as it hands them out.
+fn appended_items(accessor: &mut MemTableAccessor, items: vec::IntoIter<LogItem>) -> Result<()> {
+    MemTableAccessor::apply_append_writes(accessor, items)
+}
+
+/// The same, replayed in the append queue.
+fn replayed_items(accessor: &mut MemTableAccessor, items: vec::IntoIter<LogItem>) -> Result<()> {
+    MemTableAccessor::replay_append_writes(accessor, items)
+}
+
+/// The same, replayed in the rewrite queue.
+fn replayed_rewrites(accessor: &mut MemTableAccessor, items: vec::IntoIter<LogItem>) -> Result<()> {
+    MemTableAccessor::replay_rewrite_writes(accessor, items)
+}
+
+/// The same, rewritten to a file.
+fn rewritten_items(
+    accessor: &mut MemTableAccessor,
+    items: vec::IntoIter<LogItem>,
+    watermark: Option<FileSeq>,
+    new_file: FileSeq,
+) -> Result<()> {
+    MemTableAccessor::apply_rewrite_writes(accessor, items, watermark, new_file)
+}
+
 /// How many tables a walk meets.
 fn fold_of_walks(accessor: &MemTableAccessor) -> u64 {
     let init: u64 = 0;
@@ -98,6 +134,7 @@ fn collect_of_walks<'a>(accessor: &'a MemTableAccessor, id: u64) -> Result<Vec<&
 fn met_in_none(alloc: Global) -> Result<u64> {
     let mut accessor = MemTableAccessor::new(alloc)?;
     apply_append_writes_of_items(&mut accessor, Vec::new(alloc))?;
+    appended_items(&mut accessor, LogBatch::default(alloc).drain())?;
     Ok(fold_of_walks(&accessor))
 }
 

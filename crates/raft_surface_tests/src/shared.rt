@@ -6,6 +6,7 @@ use raft_recover::{
 };
 use std::alloc::Global;
 use std::sync::Wait;
+use std::vec;
 
 fn slots() {
     let _new: fn(Global, usize) -> Slot = Slot::new;
@@ -31,6 +32,7 @@ fn changes_of_slots() {
     let _remove: fn(&mut Slot, u64, bool) -> Result<Option<MemTable>> = Slot::remove;
     let _atomic_group: fn(&mut Slot, u64, FileSeq, FileSeq) -> Result<()> =
         Slot::apply_rewrite_atomic_group;
+    let _check_append_writes: fn(&Slot, &[LogItem]) -> Result<()> = Slot::check_append_writes;
     let _append_write: fn(&mut Slot, LogItem) -> Result<()> = Slot::apply_append_write;
     let _rewrite_write: fn(&mut Slot, LogItem, Option<FileSeq>, FileSeq) -> Result<()> =
         Slot::apply_rewrite_write;
@@ -41,6 +43,7 @@ fn tables<R: Wait>() {
     let _new: fn(Global) -> SharedAccessor = SharedAccessor::new;
     let _from_core: fn(Global, MemTableAccessor) -> Result<SharedAccessor> =
         SharedAccessor::from_core;
+    let _into_core: fn(SharedAccessor) -> Result<MemTableAccessor> = SharedAccessor::into_core;
 }
 
 fn change_of_tables<R: Wait>(
@@ -113,6 +116,26 @@ fn apply_rewrite_writes_of_items<R: Wait>(
     shared: &SharedAccessor,
     rt: &R,
     items: Vec<LogItem>,
+    watermark: Option<FileSeq>,
+    new_file: FileSeq,
+) -> Result<()> {
+    SharedAccessor::apply_rewrite_writes(shared, rt, items, watermark, new_file)
+}
+
+/// The items of a batch, as it hands them out.
+fn appended_items<R: Wait>(
+    shared: &SharedAccessor,
+    rt: &R,
+    items: vec::IntoIter<LogItem>,
+) -> Result<()> {
+    SharedAccessor::apply_append_writes(shared, rt, items)
+}
+
+/// The same, rewritten to a file.
+fn rewritten_items<R: Wait>(
+    shared: &SharedAccessor,
+    rt: &R,
+    items: vec::IntoIter<LogItem>,
     watermark: Option<FileSeq>,
     new_file: FileSeq,
 ) -> Result<()> {

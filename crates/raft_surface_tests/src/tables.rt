@@ -26,6 +26,8 @@ fn properties() {
     let _atomic_group: fn(&MemTable) -> Option<(FileSeq, FileSeq)> = MemTable::atomic_group;
     let _block_count: fn(&MemTable) -> usize = MemTable::block_count;
     let _records: fn(&MemTable, LogQueue) -> u128 = MemTable::records;
+    let _entries_count: fn(&MemTable) -> usize = MemTable::entries_count;
+    let _key_count: fn(&MemTable) -> usize = MemTable::key_count;
     let _is_run: fn(&[EntryIndex], LogQueue) -> bool = is_run;
 }
 

@@ -2,7 +2,7 @@
 use Rattle.std.proofs.Common.{◌≡◌, List, [], ◌∷◌, ◌++◌, length, map, Result, Ok, Err, OnOk, IfErr, refl, sym, ap, ◌∙◌, subst}
 use Rattle.std.proofs.lemmas.Iterator.{items_from_drains}
 use Rattle.std.proofs.lemmas.Iterator.Adapters.{YieldsList-from_vec}
-use Rattle.std.proofs.lemmas.List.{map-id, length-map}
+use Rattle.std.proofs.lemmas.List.{map-append, map-id, length-map}
 use Rattle.std.specs.Global.{Global}
 use Rattle.std.specs.Iterator.{Yields, Drains}
 use Rattle.std.specs.Vec.Iter.{into_iter_items, into_iter_len, into_iter_steps}
@@ -12,7 +12,7 @@ use Rattle.raft_records.specs.declared.log_item.LogItem.{LogItem}
 use Rattle.raft_records.specs.Item.{Item, item_of}
 use Rattle.raft_memtable.specs.Accessor.{Accessor}
 use Rattle.raft_memtable.specs.Writes.{Writing, AreWritten, AreItemsRefused}
-use Rattle.raft_log.specs.WrittenBatch.{AreSomeWritten}
+use Rattle.raft_log.specs.WrittenBatch.{AreSomeWritten, AreStopped}
 
 -- all items, in order
 pub drained : {X Z : Type 0} (s : IntoIter X Z) (xs : List X) → into_iter_len s ≡ length (into_iter_items s) → Drains into_iter_steps s xs → xs ≡ into_iter_items s
@@ -41,3 +41,17 @@ some_so (Err e) w s old new done refused = (refused.5.front, refused.5.written)
 pub parted : {X Z : Type 0} (s u : IntoIter X Z) (xs : List X) → Yields into_iter_steps s xs u → into_iter_items s ≡ xs ++ into_iter_items u
 parted s u [] y = ap into_iter_items y
 parted s u (x ∷ xs) y = y.1.0 ∙ ap (λ l. x ∷ l) (parted y.0 u xs y.2)
+
+-- a loop over the items of a batch that was drained is stopped at one of them
+pub stopped_so : {R : Type 0} (r : Result R Error) (w : Writing) (s : IntoIter LogItem Global) (items : List Item) (old new : Accessor) → map item_of (into_iter_items s) ≡ items
+    → IfErr r (λ e. (it : IntoIter LogItem Global) × (xs : List LogItem) × (u : IntoIter LogItem Global) × (it ≡ s) × Yields into_iter_steps it xs u × AreItemsRefused w (map item_of xs) old new e)
+    → IfErr r (AreStopped w items old new)
+stopped_so (Ok x) w s items old new is p = tt
+stopped_so (Err e) w s items old new is p =
+    let yields = subst (λ (it : IntoIter LogItem Global). Yields into_iter_steps it p.1 p.2) p.3 p.4 in
+    record {
+      taken = map item_of p.1;
+      rest = map item_of (into_iter_items p.2);
+      split = sym is ∙ ap (map item_of) (parted s p.2 p.1 yields) ∙ map-append item_of p.1 (into_iter_items p.2);
+      refused = p.5;
+    }

@@ -1,3 +1,4 @@
+pub mod BytesLemmas
 pub mod DrainLemmas
 pub mod LogLemmas
 pub mod NumberLemmas

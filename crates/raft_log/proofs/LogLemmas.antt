@@ -231,17 +231,17 @@ sealed_is_shut signature e = cc
 
 -- ---- a log whose places move
 
-no_lists : (gate : Option ℕ) (seq : ℕ) (items : List Item) → listed_by_items (Rewriting gate seq) items ≡ []
-no_lists gate seq [] = refl
-no_lists gate seq (item ∷ items) = no_lists gate seq items
+no_lists : (watermark : Option ℕ) (new_file : ℕ) (items : List Item) → listed_by_items (Rewriting watermark new_file) items ≡ []
+no_lists watermark new_file [] = refl
+no_lists watermark new_file (item ∷ items) = no_lists watermark new_file items
 
 pub moved_on : RewritingMovesPlaces
-    → (version : Version) (files : List NumberedBytes) (gate : Option ℕ) (seq : ℕ) (kept later : Accessor) (intact complete unmoved : Bool) → AreSomeWritten (Rewriting gate seq) kept later
+    → (version : Version) (files : List NumberedBytes) (watermark : Option ℕ) (new_file : ℕ) (kept later : Accessor) (intact complete unmoved : Bool) → AreSomeWritten (Rewriting watermark new_file) kept later
     → IsReadBack (record { version = version; files = files; accessor = kept; intact = intact; complete = complete; unmoved = unmoved })
     → IsReadBack (record { version = version; files = files; accessor = later; intact = intact; complete = complete; unmoved = false })
-moved_on law version files gate seq kept later intact complete unmoved some r =
+moved_on law version files watermark new_file kept later intact complete unmoved some r =
     let w = some.1 in
-    let same : later.cleaned ≡ kept.cleaned = w.cleaned ∙ ap (λ (l : List ℕ). kept.cleaned ++ l) (no_lists gate seq some.0) ∙ append-nil kept.cleaned in
+    let same : later.cleaned ≡ kept.cleaned = w.cleaned ∙ ap (λ (l : List ℕ). kept.cleaned ++ l) (no_lists watermark new_file some.0) ∙ append-nil kept.cleaned in
     record {
       history = r.history;
       held = r.held;
@@ -252,6 +252,6 @@ moved_on law version files gate seq kept later intact complete unmoved some r =
       read = r.read;
       reading = subst (λ (l : List ℕ). IsOneReading Append r.history r.read (r.taken ++ l)) (sym same) r.reading;
       runs = r.runs;
-      moved = law gate seq kept.tables r.read later.tables some.0 r.moved r.runs w.asked w.tables;
+      moved = law watermark new_file kept.tables r.read later.tables some.0 r.moved r.runs w.asked w.tables;
       unmoved = λ k. absurd (false≢true k);
     }

@@ -1,25 +1,20 @@
 -- Why the write of a batch that the tables accept can fail.
-use Rattle.std.proofs.Common.{◌≡◌, ◌≢◌, List, [], ◌++◌, map, Result, Ok, Err, IfErr, inl, inr, refl, sym, ap, ◌∙◌, subst}
-use Rattle.std.proofs.lemmas.List.{map-append}
-use Rattle.std.specs.Global.{Global}
-use Rattle.std.specs.Iterator.{Yields}
-use Rattle.std.specs.Vec.Iter.{into_iter_items, into_iter_steps}
-use Rattle.std.specs.declared.vec.IntoIter.{IntoIter}
+use Rattle.std.proofs.Common.{◌≡◌, ◌≢◌, ◌^◌, ◌≤◌, true, List, [], ◌++◌, Result, Ok, Err, IfErr, inl, inr, refl, sym, ap, ◌∙◌, subst}
 use Rattle.raft_base.specs.declared.compression_type.CompressionType.TheVariants as compressions
 use Rattle.raft_base.specs.declared.errors.Error.{Error}
 use Rattle.raft_base.specs.declared.errors.Error.TheVariants as errors
 use Rattle.raft_base.specs.declared.pipe_log.FileBlockHandle.{FileBlockHandle}
 use Rattle.raft_base.specs.declared.pipe_log.FileId.{FileId}
+use Rattle.raft_base.specs.declared.pipe_log.LogFileContext.{LogFileContext}
 use Rattle.raft_base.specs.declared.pipe_log.LogQueue.TheVariants.{Append}
-use Rattle.raft_records.specs.declared.log_item.LogItem.{LogItem}
-use Rattle.raft_records.specs.Item.{Item, item_of}
-use Rattle.raft_records.specs.LogBatch.{Batch, entry_place}
+use Rattle.raft_records.specs.Item.{Item}
+use Rattle.raft_records.specs.LogBatch.{Batch, encoded_length, entry_place}
 use Rattle.raft_memtable.specs.Accessor.{Accessor}
 use Rattle.raft_memtable.specs.AppendChecks.{AreAccepted, AreAcceptedOncePlaced, IsAppendCheckFault}
 use Rattle.raft_memtable.specs.RegionSteps.{Tables}
 use Rattle.raft_memtable.specs.Writes.{Appending, AreItemsRefused}
-use Rattle.raft_log.specs.WrittenBatch.{IsPlaced, LacksRoom}
-use Rattle.raft_log.proofs.DrainLemmas.{parted}
+use Rattle.raft_log.specs.KeptLog.{KeptLog}
+use Rattle.raft_log.specs.WrittenBatch.{AreStopped, IsLeft, IsPlaced, IsPutFault, IsRefusal, LacksRoom}
 
 -- a test of items that the tables accept fails for lack of memory alone
 pub test_room : (tables : Tables) (items : List Item) (e : Error) → AreAcceptedOncePlaced tables items → IsAppendCheckFault tables items e → LacksRoom e
@@ -39,31 +34,71 @@ test_room tables items (errors.Other text) accepted f = absurd f
 test_room tables items errors.Failed accepted f = absurd f
 
 -- a batch's bytes are refused where there are too many of them, or for lack of memory
-pub bytes_room : {X : Type 0} (e : Error) → (e ≢ errors.Memory → (e ≡ errors.Full) × X) → LacksRoom e
-bytes_room errors.Memory f = inl refl
-bytes_room errors.Full f = inr refl
-bytes_room (errors.Corruption text) f = inr (f (λ p. cc)).0
-bytes_room (errors.InvalidArgument text) f = inr (f (λ p. cc)).0
-bytes_room (errors.Io text) f = inr (f (λ p. cc)).0
-bytes_room (errors.Codec text) f = inr (f (λ p. cc)).0
-bytes_room (errors.Message text) f = inr (f (λ p. cc)).0
-bytes_room (errors.TryAgain text) f = inr (f (λ p. cc)).0
-bytes_room errors.EntryCompacted f = inr (f (λ p. cc)).0
-bytes_room errors.EntryNotFound f = inr (f (λ p. cc)).0
-bytes_room (errors.Other text) f = inr (f (λ p. cc)).0
-bytes_room errors.Failed f = inr (f (λ p. cc)).0
+pub bytes_fault : (batch : Batch) (e : Error) → (e ≢ errors.Memory → (e ≡ errors.Full) × (2 ^ 56 ≤ encoded_length batch.items batch.entry_bytes)) → IsPutFault batch e
+bytes_fault batch errors.Memory f = tt
+bytes_fault batch errors.Full f = (f (λ p. cc)).1
+bytes_fault batch (errors.Corruption text) f = let is = (f (λ p. cc)).0 in absurd cc
+bytes_fault batch (errors.InvalidArgument text) f = let is = (f (λ p. cc)).0 in absurd cc
+bytes_fault batch (errors.Io text) f = let is = (f (λ p. cc)).0 in absurd cc
+bytes_fault batch (errors.Codec text) f = let is = (f (λ p. cc)).0 in absurd cc
+bytes_fault batch (errors.Message text) f = let is = (f (λ p. cc)).0 in absurd cc
+bytes_fault batch (errors.TryAgain text) f = let is = (f (λ p. cc)).0 in absurd cc
+bytes_fault batch errors.EntryCompacted f = let is = (f (λ p. cc)).0 in absurd cc
+bytes_fault batch errors.EntryNotFound f = let is = (f (λ p. cc)).0 in absurd cc
+bytes_fault batch (errors.Other text) f = let is = (f (λ p. cc)).0 in absurd cc
+bytes_fault batch errors.Failed f = let is = (f (λ p. cc)).0 in absurd cc
+
+-- a batch that is as it was is left so, whatever the error
+pub left_as_it_was : (file : LogFileContext) (old new : Batch) (e : Error) → new ≡ old → IsLeft file old new e
+left_as_it_was file old new errors.Memory same = inl same
+left_as_it_was file old new (errors.Corruption text) same = same
+left_as_it_was file old new (errors.InvalidArgument text) same = same
+left_as_it_was file old new (errors.Io text) same = same
+left_as_it_was file old new (errors.Codec text) same = same
+left_as_it_was file old new (errors.Message text) same = same
+left_as_it_was file old new (errors.TryAgain text) same = same
+left_as_it_was file old new errors.EntryCompacted same = same
+left_as_it_was file old new errors.EntryNotFound same = same
+left_as_it_was file old new errors.Full same = same
+left_as_it_was file old new (errors.Other text) same = same
+left_as_it_was file old new errors.Failed same = same
+
+-- a batch that the test refuses isn't written for that reason
+pub test_refusal : (log : KeptLog) (batch : Batch) (e : Error) → log.intact ≡ true → IsAppendCheckFault log.accessor.tables batch.items e → IsRefusal log batch e
+test_refusal log batch (errors.Corruption text) intact f = (intact, f)
+test_refusal log batch errors.Memory intact f = intact
+test_refusal log batch (errors.InvalidArgument text) intact f = absurd f
+test_refusal log batch (errors.Io text) intact f = absurd f
+test_refusal log batch (errors.Codec text) intact f = absurd f
+test_refusal log batch (errors.Message text) intact f = absurd f
+test_refusal log batch (errors.TryAgain text) intact f = absurd f
+test_refusal log batch errors.EntryCompacted intact f = absurd f
+test_refusal log batch errors.EntryNotFound intact f = absurd f
+test_refusal log batch errors.Full intact f = absurd f
+test_refusal log batch (errors.Other text) intact f = absurd f
+test_refusal log batch errors.Failed intact f = absurd f
+
+-- a batch that can't be put after the bytes of a file isn't written for that reason
+pub put_refusal : (log : KeptLog) (batch : Batch) (e : Error) → log.intact ≡ true → IsPutFault batch e → IsRefusal log batch e
+put_refusal log batch errors.Full intact f = (intact, f)
+put_refusal log batch errors.Memory intact f = intact
+put_refusal log batch (errors.Corruption text) intact f = absurd f
+put_refusal log batch (errors.InvalidArgument text) intact f = absurd f
+put_refusal log batch (errors.Io text) intact f = absurd f
+put_refusal log batch (errors.Codec text) intact f = absurd f
+put_refusal log batch (errors.Message text) intact f = absurd f
+put_refusal log batch (errors.TryAgain text) intact f = absurd f
+put_refusal log batch errors.EntryCompacted intact f = absurd f
+put_refusal log batch errors.EntryNotFound intact f = absurd f
+put_refusal log batch (errors.Other text) intact f = absurd f
+put_refusal log batch errors.Failed intact f = absurd f
 
 -- items that are accepted are refused, whichever of them is, for lack of room alone
-pub items_room : {R : Type 0} → ((items rest : List Item) (old new : Accessor) (e : Error) → AreAccepted old.tables (items ++ rest) → AreItemsRefused Appending items old new e → LacksRoom e)
-    → (r : Result R Error) (s : IntoIter LogItem Global) (items : List Item) (old new : Accessor) → map item_of (into_iter_items s) ≡ items → AreAccepted old.tables items
-    → IfErr r (λ e. (it : IntoIter LogItem Global) × (xs : List LogItem) × (u : IntoIter LogItem Global) × (it ≡ s) × Yields into_iter_steps it xs u × AreItemsRefused Appending (map item_of xs) old new e)
-    → IfErr r LacksRoom
-items_room law (Ok x) s items old new is accepted p = tt
-items_room law (Err e) s items old new is accepted p =
-    let yields = subst (λ (it : IntoIter LogItem Global). Yields into_iter_steps it p.1 p.2) p.3 p.4 in
-    let all : items ≡ map item_of p.1 ++ map item_of (into_iter_items p.2) =
-    sym is ∙ ap (map item_of) (parted s p.2 p.1 yields) ∙ map-append item_of p.1 (into_iter_items p.2) in
-    law (map item_of p.1) (map item_of (into_iter_items p.2)) old new e (subst (AreAccepted old.tables) all accepted) p.5
+pub stopped_room : {R : Type 0} → ((items rest : List Item) (old new : Accessor) (e : Error) → AreAccepted old.tables (items ++ rest) → AreItemsRefused Appending items old new e → LacksRoom e)
+    → (r : Result R Error) (items : List Item) (old new : Accessor) → AreAccepted old.tables items → IfErr r (AreStopped Appending items old new) → IfErr r LacksRoom
+stopped_room law (Ok x) items old new accepted p = tt
+stopped_room law (Err e) items old new accepted p =
+    law p.taken p.rest old new e (subst (AreAccepted old.tables) p.split accepted) p.refused
 
 -- no items are accepted
 pub none_accepted : (tables : Tables) (items : List Item) → items ≡ [] → AreAcceptedOncePlaced tables items

@@ -6,13 +6,14 @@ ghost use Rattle.raft_base.specs.Errors.{IsInvalidArgument};
 ghost use Rattle.raft_records.specs.Item.{command_item};
 ghost use Rattle.raft_records.specs.declared.command.Command.TheVariants.{Clean};
 ghost use Rattle.raft_records.specs.LogBatch.{populating, empty_batch};
-ghost use Rattle.raft_memtable.specs.AppendChecks.{AreAccepted, AreAcceptedOncePlaced, AreRefusedOncePlaced};
+ghost use Rattle.raft_memtable.specs.AppendChecks.{AreAccepted, AreAcceptedOncePlaced};
 ghost use Rattle.raft_memtable.specs.Writes.{Appending, Rewriting, AreWritten};
-ghost use Rattle.raft_recover.specs.Files.{FilesCannotBeRead, bytes_of_files, file_shown};
-ghost use Rattle.raft_recover.specs.Segments.{MayReplay, SegmentsAreOf};
+ghost use Rattle.raft_recover.specs.Files.{FilesCannotBeRead, FilesHold, bytes_of_files, file_shown};
+ghost use Rattle.raft_recover.specs.Recovery.{IsRecovered};
+ghost use Rattle.raft_recover.specs.Segments.{CannotBeRead, MayReplay, SegmentsAreOf, SegmentsHold};
 ghost use Rattle.raft_log.specs.KeptLog.{NumbersRise, last_number};
 ghost use Rattle.raft_log.specs.RoundTrip.{AreCutFromFiles, IsOpened, IsRecoveredAs, MayOpen};
-ghost use Rattle.raft_log.specs.WrittenBatch.{AreSomeWritten, IsOneMore, IsPlaced, IsPutAfter, LacksRoom};
+ghost use Rattle.raft_log.specs.WrittenBatch.{AreBytesAdded, AreSomeWritten, AreStopped, IsHalfWritten, IsLeft, IsOneMore, IsPlaced, IsPutAfter, IsPutFault, IsUnwritten, LacksRoom, bytes_for, last_file};
 
 use raft_memtable::MemTableAccessor;
 use raft_memtable::accessor::accepted_items_lack_room_alone;
@@ -103,7 +104,8 @@ impl Log {
     }
 
     /// Opens the files of the append queue, oldest first, with the tables that [`recover`] gives of them on 1 to 256
-    /// workers. It goes on in the last file, and asks that there is one: without files, begin with [`Log::new`].
+    /// workers. It goes on in the last file, and asks that there is one: without files, begin with [`Log::new`]. Their
+    /// bytes are copied once, since the parts that a recovery reads own theirs and don't give them back.
     ///
     /// # Errors
     ///
@@ -176,17 +178,22 @@ impl Log {
     ///
     /// # Errors
     ///
-    /// `Failed` where the log isn't intact; `Corruption` where the tables would refuse an item, which the text names.
-    /// The log is then as it was. `Memory`, `Full`: the log is as it was, or, if the bytes stand in the file already,
-    /// not intact any more.
+    /// `Failed` where the log isn't intact; `Corruption` where the tables would refuse an item, which the text names;
+    /// `Full` where the batch has 2^56 bytes or more; `Memory`. Log and batch are then as they were, but after `Memory`
+    /// the batch may be sealed for the last file. `Memory`, or `Full` where more than 2^64 - 1 records would be live, can
+    /// also come once the bytes stand in the file: the items in front of the refused one are then written, the log isn't
+    /// intact any more, and the batch is empty.
     pub fn write(&mut self, batch: &mut LogBatch) -> Result<()>
         requires { batch.old.stage ≡ populating }
         ensures ok { OnOk result ((batch.old.items ≡ []) × (self.new ≡ self.old)
             ⊎ IsOneMore batch.old self.old self.new) }
+        ensures bytes { OnOk result (AreBytesAdded (bytes_for (last_file self.old) batch.old)
+            self.old.files self.new.files) }
+        ensures emptied { OnOk result (batch.new ≡ empty_batch) }
         ensures accepted { OnOk result (self.old.intact ≡ true) }
         ensures intact { OnOk result (self.new.intact ≡ true) }
-        ensures err { IfErr result (λ e. (self.new ≡ self.old)
-            ⊎ (LacksRoom e × (self.new.intact ≡ false))) }
+        ensures err { IfErr result (λ e. IsUnwritten self.old self.new batch.old batch.new e
+            ⊎ IsHalfWritten self.old self.new batch.old batch.new e) }
         ensures refused { self.old.intact ≡ true
             → AreAcceptedOncePlaced self.old.accessor.tables batch.old.items
             → IfErr result LacksRoom }
@@ -197,6 +204,7 @@ impl Log {
         items_are_read_as_steps();
         rewriting_changes_places_alone();
         readings_go_on();
+        batch.is_read_again();
         if !self.intact {
             return Err(Error::Failed);
         }
@@ -215,27 +223,32 @@ impl Log {
         }
     }
 
-    /// Gives the items of a batch that was written to the file `seq` of the rewrite queue their places there, as
+    /// Gives the items of a batch that was written to the file `new_file` of the rewrite queue their places there, as
     /// [`MemTableAccessor::apply_rewrite_writes`] does. The batch is empty then.
     ///
     /// # Errors
     ///
-    /// Those of that call; the items before the refused one are written. The log is as intact as it was.
+    /// Those of that call, at the first item that is refused: the items in front of it are written. The log is as intact
+    /// as it was, and the batch is empty.
     pub fn rewrite(
         &mut self,
         batch: &mut LogBatch,
-        gate: Option<FileSeq>,
-        seq: FileSeq,
+        watermark: Option<FileSeq>,
+        new_file: FileSeq,
     ) -> Result<()>
-        ensures ok { OnOk result (AreWritten (Rewriting gate seq) batch.old.items self.old.accessor
-            self.new.accessor) }
-        ensures some { AreSomeWritten (Rewriting gate seq) self.old.accessor self.new.accessor }
+        ensures ok { OnOk result (AreWritten (Rewriting watermark new_file) batch.old.items
+            self.old.accessor self.new.accessor) }
+        ensures fault { IfErr result (AreStopped (Rewriting watermark new_file) batch.old.items
+            self.old.accessor self.new.accessor) }
+        ensures some { AreSomeWritten (Rewriting watermark new_file) self.old.accessor
+            self.new.accessor }
         ensures others { self.new ≡ record self.old
             { accessor = self.new.accessor; unmoved = false } }
+        ensures emptied { batch.new ≡ empty_batch }
     {
         rewriting_changes_places_alone();
         self.unmoved = false;
-        rewrite(&mut self.accessor, batch, gate, seq)
+        rewrite(&mut self.accessor, batch, watermark, new_file)
     }
 
     /// Goes on in a new file. It asks that its number is not below that of the last one ([`Log::last_seq`]).
@@ -278,7 +291,8 @@ impl Log {
         Ok(logs)
     }
 
-    /// Returns the files as segments, each of one part: the same is read of them as of the files.
+    /// Returns the files as segments, each of one part: the same is read of them as of the files. Their bytes are copied,
+    /// since a part owns its bytes, and the log goes on with its own.
     ///
     /// # Errors
     ///
@@ -301,8 +315,8 @@ impl Log {
     ///
     /// # Errors
     ///
-    /// Of an intact log whose files have fewer than 2^63 bytes only `Memory`, where the segments and the number of
-    /// workers are such as [`recover`] asks.
+    /// Those of [`recover`]. Of an intact log whose files have fewer than 2^63 bytes only `Memory`, where the segments and
+    /// the number of workers are such as that call asks.
     pub fn recover<R: Threads + Sync>(
         &self,
         rt: &R,
@@ -310,12 +324,18 @@ impl Log {
         segments: &[Segment],
         workers: usize,
     ) -> Result<MemTableAccessor>
+        ensures ok { IfOk result (IsRecovered Append (SegmentsHold segments.entry.now)) }
         ensures same { self.now.intact ≡ true → bytes_of_files self.now.files < 2 ^ 63
             → AreCutFromFiles self.now segments.entry.now
             → IfOk result (IsRecoveredAs self.now) }
+        ensures accepted { OnOk result (MayReplay Append workers segments.entry.now) }
         ensures refused { self.now.intact ≡ true → bytes_of_files self.now.files < 2 ^ 63
             → AreCutFromFiles self.now segments.entry.now
             → MayReplay Append workers segments.entry.now → IfErr result (λ e. e ≡ Error.Memory) }
+        ensures unreadable { MayReplay Append workers segments.entry.now
+            → IfErr result (λ e. e ≢ Error.Memory → CannotBeRead segments.entry.now) }
+        ensures fault { ¬ (MayReplay Append workers segments.entry.now)
+            → IfErr result (λ e. e ≢ Error.Memory → IsInvalidArgument e) }
     {
         histories_of_the_append_queue_are_apart();
         segments_read_as_one_history();
@@ -330,18 +350,28 @@ impl Log {
     ///
     /// # Errors
     ///
-    /// Of an intact log of fewer than 2^63 bytes in fewer than 2^62 files only `Memory`.
+    /// `InvalidArgument` for another number of workers and for 2^62 files and more; then those of [`recover`]. Of an
+    /// intact log of fewer than 2^63 bytes in fewer than 2^62 files only `Memory`.
     pub fn recover_files<R: Threads + Sync>(
         &self,
         rt: &R,
         alloc: Global,
         workers: usize,
     ) -> Result<MemTableAccessor>
+        ensures ok { IfOk result
+            (IsRecovered Append (FilesHold Append self.now.version self.now.files)) }
         ensures same { self.now.intact ≡ true → bytes_of_files self.now.files < 2 ^ 63
             → IfOk result (IsRecoveredAs self.now) }
+        ensures accepted { OnOk result
+            ((0 < workers) × (workers ≤ 256) × (length self.now.files < 2 ^ 62)) }
         ensures refused { self.now.intact ≡ true → bytes_of_files self.now.files < 2 ^ 63
             → 0 < workers → workers ≤ 256 → length self.now.files < 2 ^ 62
             → IfErr result (λ e. e ≡ Error.Memory) }
+        ensures unreadable { (0 < workers) × (workers ≤ 256) × (length self.now.files < 2 ^ 62)
+            → IfErr result (λ e. e ≢ Error.Memory
+            → FilesCannotBeRead Append self.now.version self.now.files) }
+        ensures fault { ¬ ((0 < workers) × (workers ≤ 256) × (length self.now.files < 2 ^ 62))
+            → IfErr result (λ e. e ≢ Error.Memory → IsInvalidArgument e) }
     {
         let segments = self.segments()?;
         self.recover(rt, alloc, segments.as_slice(), workers)
@@ -366,22 +396,24 @@ fn numbers_rise(files: &Vec<(FileSeq, Vec<u8>)>) -> bool
 ///
 /// # Errors
 ///
-/// `Full`, `Memory`. The bytes are then as they were.
+/// `Full` where the batch has 2^56 bytes or more, `Memory`. The bytes are then as they were, and the batch too, but after
+/// `Memory` it may be sealed for the file.
 fn put_after(file: &LogFileContext, bytes: &mut Vec<u8>, batch: &mut LogBatch) -> Result<()>
     requires populating { batch.old.stage ≡ populating }
     requires some { batch.old.items ≢ [] }
     ensures put { OnOk result (IsPutAfter file.now batch.new.items bytes.old.items
         bytes.new.items) }
+    ensures bytes { OnOk result (bytes.new.items
+        ≡ bytes.old.items ++ bytes_for file.now batch.old) }
     ensures placed { OnOk result (IsPlaced file.now.id batch.old batch.new) }
     ensures err { OnErr result (bytes.new.items ≡ bytes.old.items) }
-    ensures fault { IfErr result LacksRoom }
+    ensures left { IfErr result (IsLeft file.now batch.old batch.new) }
+    ensures room { IfErr result LacksRoom }
+    ensures fault { IfErr result (IsPutFault batch.old) }
 {
     placed_items_are_in_their_file();
     written_batches_are_held();
     let offset = bytes.len() as u64;
-    if offset > u64::MAX - 16 {
-        return Err(Error::Full);
-    }
     let len = batch.finish_populate()?;
     batch.prepare_write(file);
     batch.is_read_again();
@@ -398,6 +430,9 @@ fn put_after(file: &LogFileContext, bytes: &mut Vec<u8>, batch: &mut LogBatch) -
 fn apply(accessor: &mut MemTableAccessor, batch: &mut LogBatch) -> Result<()>
     ensures ok { OnOk result (AreWritten Appending batch.old.items accessor.old accessor.new) }
     ensures refused { AreAccepted accessor.old.tables batch.old.items → IfErr result LacksRoom }
+    ensures stopped { IfErr result (AreStopped Appending batch.old.items accessor.old
+        accessor.new) }
+    ensures emptied { batch.new ≡ empty_batch }
 {
     accepted_items_lack_room_alone();
     accessor.apply_append_writes(batch.drain())
@@ -407,14 +442,17 @@ fn apply(accessor: &mut MemTableAccessor, batch: &mut LogBatch) -> Result<()>
 fn rewrite(
     accessor: &mut MemTableAccessor,
     batch: &mut LogBatch,
-    gate: Option<FileSeq>,
-    seq: FileSeq,
+    watermark: Option<FileSeq>,
+    new_file: FileSeq,
 ) -> Result<()>
-    ensures ok { OnOk result (AreWritten (Rewriting gate seq) batch.old.items accessor.old
-        accessor.new) }
-    ensures some { AreSomeWritten (Rewriting gate seq) accessor.old accessor.new }
+    ensures ok { OnOk result (AreWritten (Rewriting watermark new_file) batch.old.items
+        accessor.old accessor.new) }
+    ensures stopped { IfErr result (AreStopped (Rewriting watermark new_file) batch.old.items
+        accessor.old accessor.new) }
+    ensures some { AreSomeWritten (Rewriting watermark new_file) accessor.old accessor.new }
+    ensures emptied { batch.new ≡ empty_batch }
 {
-    accessor.apply_rewrite_writes(batch.drain(), gate, seq)
+    accessor.apply_rewrite_writes(batch.drain(), watermark, new_file)
 }
 
 /// Copies files.

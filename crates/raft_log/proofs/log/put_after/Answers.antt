@@ -3,7 +3,7 @@ use Rattle.raft_base.specs.Signature.{signature_of}
 use Rattle.raft_base.specs.declared.compression_type.CompressionType.TheVariants as compressions
 use Rattle.raft_base.specs.declared.pipe_log.FileBlockHandle.{FileBlockHandle}
 use Rattle.raft_records.specs.ItemBatch.{placed_item}
-use Rattle.raft_records.specs.LogBatch.{entry_place, Batch, sealed}
+use Rattle.raft_records.specs.LogBatch.{entry_place, Batch, encoded, log_batch_bytes, sealed}
 use Rattle.raft_log.proofs.LogLemmas.{put_so, sealed_is_shut}
 use Rattle.raft_log.proofs.log.put_after.Goals as goal
 
@@ -18,6 +18,15 @@ returns-clause-put c =
     (c.is_read_again.ensures.short (λ e. sealed_is_shut (signature_of c.args.file.now) (sym stage_is ∙ e))) at
     (c.in_ok-extend_from_slice.ensures.items ∙ ap (λ (l : List ℕ). c.args.bytes.now.items ++ l) (c.encoded_bytes.ensures.bytes (signature_of c.args.file.now) stage_is))
     c.finish_write.ensures.placed
+
+pub returns-clause-bytes : goal.returns-clause-bytes
+returns-clause-bytes c =
+    let before : Batch = c.prepare_write.new.self in
+    let signed = signature_of c.args.file.now in
+    let stage_is : before.stage ≡ sealed signed = ap (λ (b : Batch). b.stage) c.prepare_write.ensures in
+    let populated : c.finish_populate.new.self ≡ record c.args.batch.now { stage = encoded } = c.in_ok-len.ensures.ok in
+    c.in_ok-extend_from_slice.ensures.items
+    ∙ ap (λ (l : List ℕ). c.args.bytes.now.items ++ l) (c.encoded_bytes.ensures.bytes signed stage_is ∙ ap (λ (b : Batch). log_batch_bytes signed b.items b.entry_bytes) (c.prepare_write.ensures ∙ ap (λ (b : Batch). record b { stage = sealed signed }) populated))
 
 pub returns-clause-placed : goal.returns-clause-placed
 returns-clause-placed c =

@@ -8,4 +8,4 @@ pub invariant_of-self : goal.invariant_of-self
 invariant_of-self c = λ k few.
     let a = c.self.inside in
     let files : List NumberedBytes = map file_shown a.closed.items ++ (a.seq, a.bytes.items) ∷ [] in
-    moved_on c.rewriting_changes_places_alone.ensures.rewritten a.version files c.args.gate c.args.seq a.accessor c.rewrite.new.accessor a.intact a.complete a.unmoved c.rewrite.ensures.some (c.self.invariant k few)
+    moved_on c.rewriting_changes_places_alone.ensures.rewritten a.version files c.args.watermark c.args.new_file a.accessor c.rewrite.new.accessor a.intact a.complete a.unmoved c.rewrite.ensures.some (c.self.invariant k few)

@@ -1,0 +1,51 @@
+-- The items that a loop takes of a batch that was drained.
+use Rattle.std.proofs.Common.{◌≡◌, List, [], ◌∷◌, ◌++◌, length, map, Result, Ok, Err, OnOk, IfErr, refl, sym, ap, ◌∙◌, subst}
+use Rattle.std.proofs.lemmas.Iterator.{items_from_drains}
+use Rattle.std.proofs.lemmas.Iterator.Adapters.{YieldsList-from_vec}
+use Rattle.std.proofs.lemmas.List.{map-id, length-map}
+use Rattle.std.specs.Global.{Global}
+use Rattle.std.specs.Iterator.{Yields, Drains}
+use Rattle.std.specs.Vec.Iter.{into_iter_items, into_iter_len, into_iter_steps}
+use Rattle.std.specs.declared.vec.IntoIter.{IntoIter}
+use Rattle.raft_base.specs.declared.errors.Error.{Error}
+use Rattle.raft_records.specs.declared.log_item.LogItem.{LogItem}
+use Rattle.raft_records.specs.Item.{Item, item_of}
+use Rattle.raft_accessor.specs.Accessor.{Accessor}
+use Rattle.raft_accessor.specs.Writes.{Writing, AreWritten, AreItemsRefused}
+use Rattle.raft_ffi.specs.Changes.{IsStoppedAt}
+
+-- all items, in order
+pub drained : {X Z : Type 0} (s : IntoIter X Z) (xs : List X) → into_iter_len s ≡ length (into_iter_items s) → Drains into_iter_steps s xs → xs ≡ into_iter_items s
+drained s xs len d = sym (map-id xs) ∙ items_from_drains xs (d.1.0, d.1.1, λ _. (d.0, d.1.2)) (YieldsList-from_vec (into_iter_items s) refl len)
+
+-- a loop over the items of a batch that was drained writes them all
+pub apply_so : {R E : Type 0} (r : Result R E) (w : Writing) (s : IntoIter LogItem Global) (items : List Item) (old new : Accessor) → map item_of (into_iter_items s) ≡ items → into_iter_len s ≡ length items
+    → OnOk r ((it : IntoIter LogItem Global) × (xs : List LogItem) × (it ≡ s) × Drains into_iter_steps it xs × AreWritten w (map item_of xs) old new) → OnOk r (AreWritten w items old new)
+apply_so (Ok x) w s items old new e len p =
+    let as_long : into_iter_len s ≡ length (into_iter_items s) = len ∙ ap length (sym e) ∙ length-map (into_iter_items s) item_of in
+    let all : p.1 ≡ into_iter_items s = drained s p.1 as_long (subst (λ (it : IntoIter LogItem Global). Drains into_iter_steps it p.1) p.2 p.3) in
+    subst (λ (l : List Item). AreWritten w l old new) (ap (map item_of) all ∙ e) p.4
+apply_so (Err x) w s items old new e len p = tt
+
+-- what was taken, and what is left
+pub parted : {X Z : Type 0} (s u : IntoIter X Z) (xs : List X) → Yields into_iter_steps s xs u → into_iter_items s ≡ xs ++ into_iter_items u
+parted s u [] y = ap into_iter_items y
+parted s u (x ∷ xs) y = y.1.0 ∙ ap (λ l. x ∷ l) (parted y.0 u xs y.2)
+
+map_append : {X Y : Type 0} (f : X → Y) (xs ys : List X) → map f (xs ++ ys) ≡ map f xs ++ map f ys
+map_append f [] ys = refl
+map_append f (x ∷ xs) ys = ap (λ l. f x ∷ l) (map_append f xs ys)
+
+-- a loop that stopped has taken the items up to the refused one
+pub stopped_so : {R : Type 0} (r : Result R Error) (w : Writing) (s : IntoIter LogItem Global) (items : List Item) (old new : Accessor) → map item_of (into_iter_items s) ≡ items
+    → IfErr r (λ e. (it : IntoIter LogItem Global) × (xs : List LogItem) × (u : IntoIter LogItem Global) × (it ≡ s) × Yields into_iter_steps it xs u × AreItemsRefused w (map item_of xs) old new e)
+    → IfErr r (IsStoppedAt w items old new)
+stopped_so (Ok x) w s items old new e p = tt
+stopped_so (Err x) w s items old new e p =
+    let yields = subst (λ (it : IntoIter LogItem Global). Yields into_iter_steps it p.1 p.2) p.3 p.4 in
+    record {
+      taken = map item_of p.1;
+      left = map item_of (into_iter_items p.2);
+      split = sym e ∙ ap (map item_of) (parted s p.2 p.1 yields) ∙ map_append item_of p.1 (into_iter_items p.2);
+      refused = p.5;
+    }

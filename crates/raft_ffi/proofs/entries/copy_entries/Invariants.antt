@@ -1,0 +1,10 @@
+use Rattle.std.proofs.Common.{◌≡◌, ◌≤◌, length, map, take}
+use Rattle.raft_ffi.specs.EntryData.{entry_of}
+use Rattle.raft_ffi.proofs.entries.copy_entries.Given as goal
+
+-- the first entries are copied, and there is as much room as there was
+abbrev pub invariant-loop-k : goal.invariant-loop-k
+invariant-loop-k l = record {
+  room : length l.room ≡ length l.fn.room;
+  copied : map entry_of (take l.k l.room) ≡ take l.k l.found;
+}

@@ -1,0 +1,11 @@
+use Rattle.std.proofs.Common.{drop}
+use Rattle.raft_base.specs.Signature.{signature_of}
+use Rattle.raft_records.specs.FilePart.{IsNextFault}
+use Rattle.raft_ffi.proofs.CodeLemmas.{refusal}
+use Rattle.raft_ffi.specs.Calls.{file_of}
+use Rattle.raft_ffi.specs.Changes.{IsMemoryOr}
+use Rattle.raft_ffi.proofs.item_calls.raft_ffi_items_next.Goals as goal
+
+pub returns-clause-fault : goal.returns-clause-fault
+returns-clause-fault c =
+    refusal c.read_next-answer.result _ (IsMemoryOr (IsNextFault (signature_of (file_of c.args.file)) (drop c.args.at c.args.bytes.now))) c.answered.ensures.ok c.answered.ensures.err c.read_next-answer.ensures.fault

@@ -1,0 +1,64 @@
+-- What the calls of this library say.
+use Rattle.std.specs.Prelude.{◌≡◌, ℕ, List, Option, Some, None, Bool, true, false, if◌then◌else◌}
+use Rattle.raft_base.specs.declared.errors.Error.{Error}
+use Rattle.raft_base.specs.declared.errors.Error.TheVariants as errors
+use Rattle.raft_base.specs.declared.pipe_log.FileId.{FileId}
+use Rattle.raft_base.specs.declared.pipe_log.LogQueue.{LogQueue}
+use Rattle.raft_base.specs.declared.pipe_log.LogQueue.TheVariants.{Append, Rewrite}
+use Rattle.raft_base.specs.declared.pipe_log.LogFileContext.{LogFileContext}
+use Rattle.raft_base.specs.declared.pipe_log.Version.{Version}
+use Rattle.raft_base.specs.declared.pipe_log.Version.TheVariants.{V1, V2}
+use Rattle.raft_ffi.specs.declared.status.File.{File}
+
+-- the queue that a flag names
+abbrev pub queue_of : Bool → LogQueue
+queue_of false = Append
+queue_of true = Rewrite
+
+-- the version that a flag names
+abbrev pub version_of : Bool → Version
+version_of false = V1
+version_of true = V2
+
+-- the file that its number and its flags name
+abbrev pub file_of : File → LogFileContext
+file_of file = record { id = record { queue = queue_of file.is_rewrite; seq = file.seq }; version = version_of file.is_signed }
+
+-- the number of an error; 0 is none's
+abbrev pub code_of : Error → ℕ
+code_of (errors.InvalidArgument text) = 1
+code_of (errors.Corruption text) = 2
+code_of (errors.Io e) = 3
+code_of (errors.Codec e) = 4
+code_of (errors.Message e) = 5
+code_of (errors.TryAgain text) = 6
+code_of errors.EntryCompacted = 7
+code_of errors.EntryNotFound = 8
+code_of errors.Full = 9
+code_of (errors.Other text) = 10
+code_of errors.Memory = 11
+code_of errors.Failed = 12
+
+-- the number of an error that has this reason
+abbrev pub IsCodeOf : (Error → Type 0) → ℕ → Type 0
+IsCodeOf IsFault code = (e : Error) × IsFault e × (code ≡ code_of e)
+
+-- a handle holds what this says
+abbrev pub Holds : {V : Type 0} → (V → Type 0) → Option V → Type 0
+Holds P None = ⊥
+Holds P (Some v) = P v
+
+-- what there is was found, if the flag says so, and is as this says
+abbrev pub IsFound : {X : Type 0} → (X → Type 0) → Option X → Bool → Type 0
+IsFound P None found = found ≡ false
+IsFound P (Some x) found = (found ≡ true) × P x
+
+-- two handles hold what this says of the two
+abbrev pub BothHold : {V W : Type 0} → (V → W → Type 0) → Option V → Option W → Type 0
+BothHold P (Some v) (Some w) = P v w
+BothHold P _ _ = ⊥
+
+-- what a handle holds, and where the next batch begins
+abbrev pub next_shown : {V : Type 0} → Option V → ℕ → Option (V × ℕ)
+next_shown None next = None
+next_shown (Some v) next = Some (v, next)

@@ -1,0 +1,13 @@
+pub mod ContextHandle
+pub mod TablesHandle
+pub mod ItemsHandle
+pub mod Calls
+pub mod Summaries
+pub mod EntryData
+pub mod Rooms
+pub mod Reads
+pub mod Changes
+pub mod ItemLists
+pub mod KeptNumbers
+pub mod Lengths
+pub mod Contexts

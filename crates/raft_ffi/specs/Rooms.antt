@@ -1,0 +1,19 @@
+-- What calls put into the room that their caller has for it.
+use Rattle.std.specs.Prelude.{◌≡◌, ℕ, List, ◌++◌, length, take, drop, map}
+use Rattle.raft_base.specs.declared.entry_index.EntryIndex.{EntryIndex}
+use Rattle.raft_ffi.specs.declared.entries.Entry.{Entry}
+use Rattle.raft_ffi.specs.EntryData.{entry_of}
+
+-- the first of what was found, as far as there is room, over what stood there
+abbrev pub copied_over : {X : Type 0} → List X → List X → List X
+copied_over found room = take (length room) found ++ drop (length found) room
+
+-- how many were found, and the first of them, as far as there is room
+pub record IsCopied {X : Type 0} (found old new : List X) (count : ℕ) : Type 0 where
+  pub counted : count ≡ length found
+  pub copied : new ≡ copied_over found old
+
+-- how many entries were found, and the first of them, as far as there is room
+pub record AreEntriesIn (found : List EntryIndex) (room : List Entry) (count : ℕ) : Type 0 where
+  pub counted : count ≡ length found
+  pub copied : map entry_of (take (length found) room) ≡ take (length room) found

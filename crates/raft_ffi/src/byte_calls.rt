@@ -1,0 +1,105 @@
+//! Calls that read bytes alone.
+
+ghost use Rattle.std.specs.Prelude.{◌≡◌, ◌≢◌, ◌+◌, ◌^◌, ◌<◌, length, drop, OnOk, OnErr, IfErr, IfSome, MatchOption};
+ghost use Rattle.raft_codec.specs.Reading.{HasNoFront};
+ghost use Rattle.raft_checksum.specs.Checksum.{crc32_of};
+ghost use Rattle.raft_base.specs.Signature.{signature_of};
+ghost use Rattle.raft_records.specs.FilePart.{AreBatchesUpTo, IsNextFault, part_of};
+ghost use Rattle.raft_records.specs.Header.{IsHeader};
+ghost use Rattle.raft_ffi.specs.Calls.{file_of, IsCodeOf};
+ghost use Rattle.raft_ffi.specs.Lengths.{HasLength};
+
+use crate::status::{File, Status, answered};
+use raft_base::{Error, LogFileContext, Result, crc32};
+use raft_records::{LogBatch, next_in};
+use std::alloc::Global;
+
+/// Returns how long the log batch is whose header stands in front of the bytes; 0 where none does. So files can be cut
+/// between batches.
+#[unsafe(no_mangle)]
+pub extern "C" fn raft_ffi_batch_len(alloc: Global, bytes: &[u8]) -> usize
+    ensures none { result ≡ 0 → HasNoFront IsHeader bytes.now }
+    ensures some { result ≢ 0 → HasLength bytes.now result }
+{
+    let mut rest = bytes;
+    match LogBatch::decode_header(alloc, &mut rest) {
+        Ok((_, _, len)) => len,
+        Err(_) => 0,
+    }
+}
+
+/// Says how many of the bytes that stand in the file from `offset` on are readable batches, one behind the other, from the
+/// first byte on, and why the batch there can't be read; 0 where that is the end.
+#[unsafe(no_mangle)]
+pub extern "C" fn raft_ffi_readable_front(
+    alloc: Global,
+    file: File,
+    offset: u64,
+    bytes: &[u8],
+    len: &mut usize,
+    text: &mut [u8],
+) -> Status
+    requires ends { offset + length bytes.now < 2 ^ 64 }
+    ensures readable { AreBatchesUpTo (part_of (file_of file) offset bytes.now) len.new }
+    ensures whole { result.code ≡ 0 → len.new ≡ length bytes.now }
+    ensures cut { result.code ≢ 0 → len.new < length bytes.now }
+    ensures fault { result.code ≢ 0 → IsCodeOf
+        (IsNextFault (signature_of (file_of file)) (drop len.new bytes.now)) result.code }
+{
+    let answer = find_front(alloc, &file.context(), offset, bytes, len);
+    answered(alloc, &answer, text)
+}
+
+/// Finds where the readable batches end that the bytes begin with.
+fn find_front(
+    alloc: Global,
+    file: &LogFileContext,
+    offset: u64,
+    bytes: &[u8],
+    len: &mut usize,
+) -> Result<()>
+    requires ends { offset + length bytes.now < 2 ^ 64 }
+    ensures readable { AreBatchesUpTo (part_of file.now offset bytes.now) len.new }
+    ensures whole { OnOk result (len.new ≡ length bytes.now) }
+    ensures cut { OnErr result (len.new < length bytes.now) }
+    ensures fault { IfErr result (IsNextFault (signature_of file.now) (drop len.new bytes.now)) }
+{
+    let (end, error) = walk_front(alloc, file, offset, bytes);
+    *len = end;
+    match error {
+        Some(error) => Err(error),
+        None => Ok(()),
+    }
+}
+
+/// Returns where the readable batches end that the bytes begin with, and why the batch there can't be read.
+fn walk_front(
+    alloc: Global,
+    file: &LogFileContext,
+    offset: u64,
+    bytes: &[u8],
+) -> (usize, Option<Error>)
+    requires ends { offset + length bytes.now < 2 ^ 64 }
+    ensures readable { AreBatchesUpTo (part_of file.now offset bytes.now) result.0 }
+    ensures whole { MatchOption result.1 (result.0 ≡ length bytes.now)
+        (λ e. result.0 < length bytes.now) }
+    ensures fault { IfSome result.1
+        (IsNextFault (signature_of file.now) (drop result.0 bytes.now)) }
+{
+    let mut at = 0;
+    loop {
+        match next_in(alloc, file, offset, bytes, at) {
+            Ok(Some((_, next))) => at = next,
+            Ok(None) => return (at, None),
+            Err(error) => return (at, Some(error)),
+        }
+    }
+}
+
+/// Returns the CRC-32 of the bytes.
+#[unsafe(no_mangle)]
+pub extern "C" fn raft_ffi_crc32(bytes: &[u8]) -> u32
+    ensures { result ≡ crc32_of bytes.now }
+{
+    crc32(bytes)
+}

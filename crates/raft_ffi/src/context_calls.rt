@@ -1,0 +1,293 @@
+//! Calls of contexts, which rebuild the tables from log files.
+
+ghost use Rattle.std.specs.Prelude.{◌≡◌, ◌≢◌, ◌⊎◌, ◌+◌, ◌^◌, ◌<◌, ◌++◌, [], List, IsTrue, IfOk, IfErr, OnOk, OnErr, Some, None, is_some, length};
+ghost use Rattle.raft_base.specs.declared.pipe_log.LogQueue.{LogQueue};
+ghost use Rattle.raft_history.specs.Batches.{Event};
+ghost use Rattle.raft_history.specs.BothQueues.{IsReadingOfBoth};
+ghost use Rattle.raft_history.specs.Histories.{IsSmall, Sound, Apart, IsOfQueue};
+ghost use Rattle.raft_history.specs.Kept.{kept_of};
+ghost use Rattle.raft_accessor.specs.Accessor.{Accessor, AreCountsOf};
+ghost use Rattle.raft_memtable.specs.KeptShown.{kept_shown, IsKeptFault};
+ghost use Rattle.raft_memtable.specs.OverlaidContext.{IsOverlaidWith, IsOfBothExactly, IsMergeAppendFault};
+ghost use Rattle.raft_memtable.specs.RecoverContext.{RecoverContext, blank_context, HasRead, HasReadExactly};
+ghost use Rattle.raft_memtable.specs.declared.context_stage.ContextStage.TheVariants.{Failed};
+ghost use Rattle.raft_records.specs.FilePart.{part_of};
+ghost use Rattle.raft_replay.specs.Replays.{HasReplayed, CannotFollow};
+ghost use Rattle.raft_replay.specs.Segments.{HoldsFrom};
+ghost use Rattle.raft_replay.specs.Stops.{StopsIn};
+ghost use Rattle.raft_ffi.specs.Calls.{queue_of, file_of, code_of, IsCodeOf, Holds, BothHold};
+ghost use Rattle.raft_ffi.specs.Changes.{IsMemoryOr};
+ghost use Rattle.raft_ffi.specs.Contexts.{HasTablesRead, IsOverlaidExactly};
+ghost use Rattle.raft_ffi.specs.KeptNumbers.{capped, AreKept};
+
+use crate::context::Context;
+use crate::status::{File, Status, answered, queue};
+use crate::tables::Tables;
+use raft_accessor::MemTableAccessor;
+use raft_base::{Error, LogQueue, Result};
+use raft_history::ReplayMachine;
+use raft_memtable::{Kept, MemTableRecoverContext};
+use raft_replay::replay_bytes;
+use std::alloc::Global;
+
+/// What a context holds, in numbers; 2^64 - 1 in place of a greater one.
+#[repr(C)]
+#[derive(Clone, Copy)]
+pub struct KeptNumbers {
+    pub entries: u64,
+    pub keys: u64,
+    /// How many regions have a region mark, and how many groups have a group marker, together.
+    pub marks: u64,
+    pub deleted_keys: u64,
+    pub cleaned: u64,
+    pub waiting_items: u64,
+}
+
+/// Makes a context that has read nothing.
+#[unsafe(no_mangle)]
+pub extern "C" fn raft_ffi_context_new(alloc: Global, context: &mut Context) -> u32
+    requires empty { context.old.value ≡ None }
+    ensures ok { result ≡ 0 → context.new.value ≡ Some blank_context }
+    ensures exact { result ≡ 0 → Holds (λ c. HasReadExactly c []) context.new.value }
+    ensures err { result ≢ 0 → context.new.value ≡ None }
+    ensures fault { result ≢ 0 → result ≡ 11 }
+{
+    match new_context(alloc) {
+        Ok(held) => {
+            context.put(held);
+            0
+        }
+        Err(_) => 11,
+    }
+}
+
+/// Makes a context on the heap that has read nothing.
+fn new_context(alloc: Global) -> Result<Box<MemTableRecoverContext>>
+    ensures ok { IfOk result (λ b. b.value ≡ blank_context) }
+    ensures exact { IfOk result (λ b. HasReadExactly b.value []) }
+    ensures memory { IfErr result (λ e. e ≡ Error.Memory) }
+{
+    Ok(Box::new(alloc, MemTableRecoverContext::new(alloc)?)?)
+}
+
+/// Replays the batches of bytes that stand in the file from `offset` on. Where that is refused the
+/// context is gone: it may have taken in some of them.
+#[unsafe(no_mangle)]
+pub extern "C" fn raft_ffi_context_replay(
+    alloc: Global,
+    context: &mut Context,
+    file: File,
+    offset: u64,
+    bytes: &[u8],
+    text: &mut [u8],
+) -> Status
+    requires held { IsTrue (is_some context.old.value) }
+    requires ends { offset + length bytes.now < 2 ^ 64 }
+    ensures ok { result.code ≡ 0 → BothHold
+        (HasReplayed (HoldsFrom (part_of (file_of file) offset bytes.now) 0) HasRead HasReadExactly)
+        context.old.value context.new.value }
+    ensures err { result.code ≢ 0 → context.new.value ≡ None }
+    ensures refused { result.code ≢ 0 → result.code ≢ 11 → Holds
+        (λ old. CannotFollow (HoldsFrom (part_of (file_of file) offset bytes.now) 0) (HasRead old))
+        context.old.value }
+    ensures place { result.code ≢ 0
+        → IsCodeOf (StopsIn (part_of (file_of file) offset bytes.now)) result.code }
+{
+    let mut held = context.take(alloc);
+    let answer = replay_bytes(&mut *held, alloc, &file.context(), offset, bytes);
+    match &answer {
+        Ok(()) => context.put(held),
+        Err(_) => drop(held),
+    }
+    answered(alloc, &answer, text)
+}
+
+/// Takes in the context of the batches that follow. That one is gone then, and where it is refused both
+/// are.
+#[unsafe(no_mangle)]
+pub extern "C" fn raft_ffi_context_merge(
+    alloc: Global,
+    context: &mut Context,
+    newer: Context,
+    is_rewrite: bool,
+    text: &mut [u8],
+) -> Status
+    requires held { IsTrue (is_some context.old.value) }
+    requires newer { IsTrue (is_some newer.value) }
+    ensures stands { result.code ≡ 0 → BothHold (λ old new. Holds (λ rhs. (h g : List Event)
+        → IsSmall (h ++ g) → HasRead old h → HasRead rhs g → HasRead new (h ++ g)) newer.value)
+        context.old.value context.new.value }
+    ensures exact { result.code ≡ 0 → BothHold (λ old new. Holds (λ rhs. (h g : List Event)
+        → IsSmall (h ++ g) → Apart (h ++ g) → HasReadExactly old h → HasReadExactly rhs g
+        → HasReadExactly new (h ++ g)) newer.value) context.old.value context.new.value }
+    ensures err { result.code ≢ 0 → context.new.value ≡ None }
+    ensures refused { result.code ≢ 0 → result.code ≢ 11 → BothHold (λ old rhs. (h g : List Event)
+        → IsSmall (h ++ g) → IsOfQueue (queue_of is_rewrite) (h ++ g) → HasRead old h
+        → HasRead rhs g → ¬ (Sound (h ++ g))) context.old.value newer.value }
+{
+    let mut held = context.take(alloc);
+    let newer = Box::into_inner(newer.into_box());
+    let answer = merge_machines(&mut *held, newer, queue(is_rewrite));
+    match &answer {
+        Ok(()) => context.put(held),
+        Err(_) => drop(held),
+    }
+    answered(alloc, &answer, text)
+}
+
+/// Takes in the machine of the batches that follow.
+fn merge_machines<M: ReplayMachine>(machine: &mut M, newer: M, queue: LogQueue) -> Result<()>
+    ensures stands { (h g : List Event) → IsSmall (h ++ g) → M.stands_for machine.old h
+        → M.stands_for newer g → OnOk result (M.stands_for machine.new (h ++ g)) }
+    ensures exact { (h g : List Event) → IsSmall (h ++ g) → Apart (h ++ g)
+        → M.stands_exactly machine.old h → M.stands_exactly newer g
+        → OnOk result (M.stands_exactly machine.new (h ++ g)) }
+    ensures refused { IfErr result (λ e. e ≢ Error.Memory → (h g : List Event)
+        → IsSmall (h ++ g) → IsOfQueue queue (h ++ g) → M.stands_for machine.old h
+        → M.stands_for newer g → ¬ (Sound (h ++ g))) }
+{
+    machine.merge(newer, queue)
+}
+
+/// Takes in the context of the append queue; the other one is that of the rewrite queue. That one is gone
+/// then, and where it is refused both are.
+#[unsafe(no_mangle)]
+pub extern "C" fn raft_ffi_context_overlay(
+    alloc: Global,
+    context: &mut Context,
+    append: Context,
+    text: &mut [u8],
+) -> Status
+    requires held { IsTrue (is_some context.old.value) }
+    requires append { IsTrue (is_some append.value) }
+    ensures ok { result.code ≡ 0 → BothHold (λ old new. Holds
+        (λ rhs. IsOverlaidWith rhs old new) append.value) context.old.value context.new.value }
+    ensures exact { result.code ≡ 0 → BothHold (λ old new. Holds
+        (λ rhs. IsOverlaidExactly rhs old new) append.value) context.old.value context.new.value }
+    ensures err { result.code ≢ 0 → context.new.value ≡ None }
+    ensures fault { result.code ≢ 0 → BothHold
+        (λ old rhs. IsCodeOf (IsMergeAppendFault old rhs) result.code) context.old.value
+        append.value }
+{
+    let mut held = context.take(alloc);
+    let appended = Box::into_inner(append.into_box());
+    let answer = overlay(&mut *held, appended);
+    match &answer {
+        Ok(()) => context.put(held),
+        Err(_) => drop(held),
+    }
+    answered(alloc, &answer, text)
+}
+
+/// Takes in the context of the append queue.
+fn overlay(context: &mut MemTableRecoverContext, append: MemTableRecoverContext) -> Result<()>
+    ensures ok { OnOk result (IsOverlaidWith append context.old context.new) }
+    ensures exact { OnOk result (IsOverlaidExactly append context.old context.new) }
+    ensures fault { IfErr result (IsMergeAppendFault context.old append) }
+{
+    context.merge_append_context(append)
+}
+
+/// Says how much a context holds.
+#[unsafe(no_mangle)]
+pub extern "C" fn raft_ffi_context_kept(
+    alloc: Global,
+    context: &mut Context,
+    kept: &mut KeptNumbers,
+    text: &mut [u8],
+) -> Status
+    requires held { IsTrue (is_some context.old.value) }
+    ensures same { context.new.value ≡ context.old.value }
+    ensures ok { result.code ≡ 0 → Holds (λ c. AreKept (kept_of c.context) kept.new)
+        context.old.value }
+    ensures fault { result.code ≢ 0 → Holds (λ c. IsCodeOf (IsKeptFault c.stage) result.code)
+        context.old.value }
+{
+    let held = context.take(alloc);
+    let answer = count_kept(&*held, kept);
+    context.put(held);
+    answered(alloc, &answer, text)
+}
+
+/// Says how much a context holds.
+fn count_kept(context: &MemTableRecoverContext, kept: &mut KeptNumbers) -> Result<()>
+    ensures ok { OnOk result (AreKept (kept_of context.now.context) kept.new) }
+    ensures fault { IfErr result (IsKeptFault context.now.stage) }
+{
+    *kept = kept_numbers(context.kept()?);
+    Ok(())
+}
+
+/// Returns six numbers of 64 bits.
+fn kept_numbers(kept: Kept) -> KeptNumbers
+    ensures { AreKept (kept_shown kept) result }
+{
+    KeptNumbers {
+        entries: capped(kept.entries),
+        keys: capped(kept.keys),
+        marks: capped(kept.marks),
+        deleted_keys: capped(kept.deleted_keys),
+        cleaned: capped(kept.cleaned),
+        waiting_items: capped(kept.waiting_items),
+    }
+}
+
+/// Returns a number, or 2^64 - 1 in place of a greater one.
+fn capped(number: u128) -> u64
+    ensures { result ≡ capped number }
+{
+    number.min(u128::from(u64::MAX)) as u64
+}
+
+/// Makes the tables of a context, which is gone then.
+#[unsafe(no_mangle)]
+pub extern "C" fn raft_ffi_context_finish(
+    alloc: Global,
+    context: Context,
+    tables: &mut Tables,
+    text: &mut [u8],
+) -> Status
+    requires held { IsTrue (is_some context.value) }
+    requires empty { tables.old.value ≡ None }
+    ensures ok { result.code ≡ 0 → BothHold (λ c a. (a.tables ≡ c.context.regions.tables)
+        × (a.cleaned ≡ c.context.cleaned) × AreCountsOf a.tables a.counts)
+        context.value tables.new.value }
+    ensures reading { result.code ≡ 0 → BothHold HasTablesRead context.value tables.new.value }
+    ensures overlaid { result.code ≡ 0 → BothHold (λ c a. (rewrite append : List Event)
+        → IsOfBothExactly c rewrite append → IsReadingOfBoth rewrite append a.tables a.cleaned)
+        context.value tables.new.value }
+    ensures err { result.code ≢ 0 → tables.new.value ≡ None }
+    ensures fault { result.code ≢ 0 → Holds (λ c. IsCodeOf
+        (IsMemoryOr (λ e. (e ≡ Error.Failed) × (c.stage ≡ Failed))) result.code) context.value }
+{
+    let answer = match finished(alloc, Box::into_inner(context.into_box())) {
+        Ok(held) => {
+            tables.put(held);
+            Ok(())
+        }
+        Err(e) => Err(e),
+    };
+    answered(alloc, &answer, text)
+}
+
+/// Makes the tables of a context, on the heap.
+fn finished(alloc: Global, context: MemTableRecoverContext) -> Result<Box<MemTableAccessor>>
+    ensures ok { IfOk result (λ a. (a.value.tables ≡ context.context.regions.tables)
+        × (a.value.cleaned ≡ context.context.cleaned) × AreCountsOf a.value.tables a.value.counts) }
+    ensures reading { IfOk result (λ a. HasTablesRead context a.value) }
+    ensures overlaid { (rewrite append : List Event) → IsOfBothExactly context rewrite append
+        → IfOk result (λ a. IsReadingOfBoth rewrite append a.value.tables a.value.cleaned) }
+    ensures fault { IfErr result
+        (IsMemoryOr (λ e. (e ≡ Error.Failed) × (context.stage ≡ Failed))) }
+{
+    let accessor = context.finish()?;
+    Ok(Box::new(alloc, accessor)?)
+}
+
+/// Lets a context go.
+#[unsafe(no_mangle)]
+pub extern "C" fn raft_ffi_context_drop(context: Context)
+    requires held { IsTrue (is_some context.value) }
+{
+    drop(context.into_box());
+}

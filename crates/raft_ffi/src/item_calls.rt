@@ -1,0 +1,326 @@
+//! Calls that read batches, item by item.
+
+ghost use Rattle.std.specs.Prelude.{◌≡◌, ◌≢◌, ◌+◌, ◌^◌, ◌<◌, ◌≤◌, IsTrue, OnOk, OnErr, IfErr, None, is_some, length, drop, slice_get, option_map};
+ghost use Rattle.raft_base.specs.Signature.{signature_of};
+ghost use Rattle.raft_records.specs.FilePart.{IsNext, IsNextFault, part_of};
+ghost use Rattle.raft_records.specs.Item.{item_of, content_of};
+ghost use Rattle.raft_ffi.specs.Calls.{file_of, IsCodeOf, next_shown, Holds, IsFound};
+ghost use Rattle.raft_ffi.specs.Changes.{IsMemoryOr};
+ghost use Rattle.raft_ffi.specs.ItemLists.{IsHeadOf, kind_of, number_of, entries_at, key_at, value_at};
+ghost use Rattle.raft_ffi.specs.Rooms.{AreEntriesIn, IsCopied};
+
+use crate::entries::{Entry, copy_entries};
+use crate::items::Items;
+use crate::rooms::copy_front;
+use crate::status::{File, Status, answered};
+use raft_base::{EntryIndex, LogFileContext, Result};
+use raft_records::{Command, LogItem, LogItemBatch, LogItemContent, OpType, next_in};
+use std::alloc::Global;
+
+/// What an item says, without its lists.
+#[repr(C)]
+#[derive(Clone, Copy)]
+pub struct ItemHead {
+    pub region: u64,
+    /// How many entries there are, or the index of a command.
+    pub number: u64,
+    /// 0: entries, 1: clean, 2: compact, 3: truncate, 4: put, 5: delete.
+    pub kind: u32,
+}
+
+/// Reads the items of the log batch that stands at `at` in the bytes, and says where the next batch begins; nothing at
+/// the end.
+#[unsafe(no_mangle)]
+pub extern "C" fn raft_ffi_items_next(
+    alloc: Global,
+    items: &mut Items,
+    file: File,
+    offset: u64,
+    bytes: &[u8],
+    at: usize,
+    next: &mut usize,
+    text: &mut [u8],
+) -> Status
+    requires empty { items.old.value ≡ None }
+    requires inside { at ≤ length bytes.now }
+    requires ends { offset + length bytes.now < 2 ^ 64 }
+    ensures ok { result.code ≡ 0 → IsNext (part_of (file_of file) offset bytes.now) at
+        (next_shown items.new.value next.new) }
+    ensures err { result.code ≢ 0 → items.new.value ≡ None }
+    ensures fault { result.code ≢ 0 → IsCodeOf
+        (IsMemoryOr (IsNextFault (signature_of (file_of file)) (drop at bytes.now))) result.code }
+{
+    let answer = read_next(alloc, items, file, offset, bytes, at, next);
+    answered(alloc, &answer, text)
+}
+
+/// Puts the items of the next batch of a file, if there is one, where none are.
+fn read_next(
+    alloc: Global,
+    items: &mut Items,
+    file: File,
+    offset: u64,
+    bytes: &[u8],
+    at: usize,
+    next: &mut usize,
+) -> Result<()>
+    requires empty { items.old.value ≡ None }
+    requires inside { at ≤ length bytes.now }
+    requires ends { offset + length bytes.now < 2 ^ 64 }
+    ensures ok { OnOk result (IsNext (part_of (file_of file) offset bytes.now) at
+        (next_shown items.new.value next.new)) }
+    ensures err { OnErr result (items.new.value ≡ None) }
+    ensures fault { IfErr result
+        (IsMemoryOr (IsNextFault (signature_of (file_of file)) (drop at bytes.now))) }
+{
+    put_next(alloc, items, &file.context(), offset, bytes, at, next)
+}
+
+/// Puts the items of the next batch, if there is one, where none are.
+fn put_next(
+    alloc: Global,
+    items: &mut Items,
+    file: &LogFileContext,
+    offset: u64,
+    bytes: &[u8],
+    at: usize,
+    next: &mut usize,
+) -> Result<()>
+    requires empty { items.old.value ≡ None }
+    requires inside { at ≤ length bytes.now }
+    requires ends { offset + length bytes.now < 2 ^ 64 }
+    ensures ok { OnOk result (IsNext (part_of file.now offset bytes.now) at
+        (next_shown items.new.value next.new)) }
+    ensures err { OnErr result (items.new.value ≡ None) }
+    ensures fault { IfErr result
+        (IsMemoryOr (IsNextFault (signature_of file.now) (drop at bytes.now))) }
+{
+    if let Some((batch, behind)) = next_in(alloc, file, offset, bytes, at)? {
+        items.put(Box::new(alloc, batch)?);
+        *next = behind;
+    }
+    Ok(())
+}
+
+/// Returns how many items there are.
+#[unsafe(no_mangle)]
+pub extern "C" fn raft_ffi_items_len(alloc: Global, items: &mut Items) -> usize
+    requires held { IsTrue (is_some items.old.value) }
+    ensures same { items.new.value ≡ items.old.value }
+    ensures len { Holds (λ xs. result ≡ length xs) items.old.value }
+{
+    let held = items.take(alloc);
+    let len = held.as_slice().len();
+    items.put(held);
+    len
+}
+
+/// Finds what an item says, if there is one.
+#[unsafe(no_mangle)]
+pub extern "C" fn raft_ffi_items_head(
+    alloc: Global,
+    items: &mut Items,
+    i: usize,
+    head: &mut ItemHead,
+) -> bool
+    requires held { IsTrue (is_some items.old.value) }
+    ensures same { items.new.value ≡ items.old.value }
+    ensures found { Holds (λ xs. IsFound (λ item. IsHeadOf item head.new) (slice_get xs i) result)
+        items.old.value }
+{
+    let held = items.take(alloc);
+    let found = find_head(&*held, i, head);
+    items.put(held);
+    found
+}
+
+/// Lists the entries of an item, if it has some, as far as there is room, and says how many they are.
+#[unsafe(no_mangle)]
+pub extern "C" fn raft_ffi_items_entries(
+    alloc: Global,
+    items: &mut Items,
+    i: usize,
+    entries: &mut [Entry],
+    count: &mut usize,
+) -> bool
+    requires held { IsTrue (is_some items.old.value) }
+    ensures same { items.new.value ≡ items.old.value }
+    ensures found { Holds (λ xs. IsFound (λ es. AreEntriesIn es entries.new count.new)
+        (entries_at xs i) result) items.old.value }
+{
+    let held = items.take(alloc);
+    let found = find_entries(&*held, i, entries, count);
+    items.put(held);
+    found
+}
+
+/// Finds the key of an item, if it changes one: as much of it as there is room for, and how long it is.
+#[unsafe(no_mangle)]
+pub extern "C" fn raft_ffi_items_key(
+    alloc: Global,
+    items: &mut Items,
+    i: usize,
+    key: &mut [u8],
+    len: &mut usize,
+) -> bool
+    requires held { IsTrue (is_some items.old.value) }
+    ensures same { items.new.value ≡ items.old.value }
+    ensures found { Holds (λ xs. IsFound (λ bytes. IsCopied bytes key.old key.new len.new)
+        (key_at xs i) result) items.old.value }
+{
+    let held = items.take(alloc);
+    let found = find_key(&*held, i, key, len);
+    items.put(held);
+    found
+}
+
+/// Finds the value of an item, if it puts one: as much of it as there is room for, and how long it is.
+#[unsafe(no_mangle)]
+pub extern "C" fn raft_ffi_items_value(
+    alloc: Global,
+    items: &mut Items,
+    i: usize,
+    value: &mut [u8],
+    len: &mut usize,
+) -> bool
+    requires held { IsTrue (is_some items.old.value) }
+    ensures same { items.new.value ≡ items.old.value }
+    ensures found { Holds (λ xs. IsFound (λ bytes. IsCopied bytes value.old value.new len.new)
+        (value_at xs i) result) items.old.value }
+{
+    let held = items.take(alloc);
+    let found = find_value(&*held, i, value, len);
+    items.put(held);
+    found
+}
+
+/// Lets items go.
+#[unsafe(no_mangle)]
+pub extern "C" fn raft_ffi_items_drop(items: Items)
+    requires held { IsTrue (is_some items.value) }
+{
+    drop(items.into_box());
+}
+
+/// Returns an item, if there is one.
+fn item_at(items: &LogItemBatch, i: usize) -> Option<&LogItem>
+    ensures { option_map (λ item. item_of item.now) result ≡ slice_get items.now i }
+{
+    items.as_slice().get(i)
+}
+
+/// Finds what an item says, if there is one.
+fn find_head(items: &LogItemBatch, i: usize, head: &mut ItemHead) -> bool
+    ensures { IsFound (λ item. IsHeadOf item head.new) (slice_get items.now i) result }
+{
+    match item_at(items, i) {
+        Some(item) => {
+            *head = head_of(item);
+            true
+        }
+        None => false,
+    }
+}
+
+/// Returns what an item says, without its lists.
+fn head_of(item: &LogItem) -> ItemHead
+    ensures { IsHeadOf (item_of item.now) result }
+{
+    let (kind, number) = said_by(&item.content);
+    ItemHead {
+        region: item.raft_group_id,
+        number,
+        kind,
+    }
+}
+
+/// Returns the number of what a content says, and how many entries it has or the index of its command.
+fn said_by(content: &LogItemContent) -> (u32, u64)
+    ensures kind { result.0 ≡ kind_of (content_of content.now) }
+    ensures number { result.1 ≡ number_of (content_of content.now) }
+{
+    match content {
+        LogItemContent::EntryIndexes(entries) => (0, entries.0.len() as u64),
+        LogItemContent::Command(Command::Clean) => (1, 0),
+        LogItemContent::Command(Command::Compact { index }) => (2, *index),
+        LogItemContent::Command(Command::Truncate { index }) => (3, *index),
+        LogItemContent::Kv(kv) => match kv.op_type {
+            OpType::Put => (4, 0),
+            OpType::Del => (5, 0),
+        },
+    }
+}
+
+/// Lists the entries of an item, if it has some, as far as there is room.
+fn find_entries(items: &LogItemBatch, i: usize, room: &mut [Entry], count: &mut usize) -> bool
+    ensures { IsFound (λ es. AreEntriesIn es room.new count.new) (entries_at items.now i) result }
+{
+    match entries_of(items, i) {
+        Some(entries) => {
+            *count = copy_entries(entries, room);
+            true
+        }
+        None => false,
+    }
+}
+
+/// Finds the key of an item, if it changes one.
+fn find_key(items: &LogItemBatch, i: usize, room: &mut [u8], len: &mut usize) -> bool
+    ensures { IsFound (λ bytes. IsCopied bytes room.old room.new len.new) (key_at items.now i)
+        result }
+{
+    match key_of(items, i) {
+        Some(key) => {
+            *len = copy_front(key, room);
+            true
+        }
+        None => false,
+    }
+}
+
+/// Finds the value of an item, if it puts one.
+fn find_value(items: &LogItemBatch, i: usize, room: &mut [u8], len: &mut usize) -> bool
+    ensures { IsFound (λ bytes. IsCopied bytes room.old room.new len.new) (value_at items.now i)
+        result }
+{
+    match value_of(items, i) {
+        Some(value) => {
+            *len = copy_front(value, room);
+            true
+        }
+        None => false,
+    }
+}
+
+/// Returns the entries of an item, if it has some.
+fn entries_of(items: &LogItemBatch, i: usize) -> Option<&[EntryIndex]>
+    ensures { option_map (λ es. es.now) result ≡ entries_at items.now i }
+{
+    match &item_at(items, i)?.content {
+        LogItemContent::EntryIndexes(entries) => Some(entries.0.as_slice()),
+        LogItemContent::Command(_) | LogItemContent::Kv(_) => None,
+    }
+}
+
+/// Returns the key of an item, if it changes one.
+fn key_of(items: &LogItemBatch, i: usize) -> Option<&[u8]>
+    ensures { option_map (λ key. key.now) result ≡ key_at items.now i }
+{
+    match &item_at(items, i)?.content {
+        LogItemContent::Kv(kv) => Some(kv.key.as_slice()),
+        LogItemContent::EntryIndexes(_) | LogItemContent::Command(_) => None,
+    }
+}
+
+/// Returns the value of an item, if it puts one.
+fn value_of(items: &LogItemBatch, i: usize) -> Option<&[u8]>
+    ensures { option_map (λ value. value.now) result ≡ value_at items.now i }
+{
+    match &item_at(items, i)?.content {
+        LogItemContent::Kv(kv) => match &kv.value {
+            Some(value) => Some(value.as_slice()),
+            None => None,
+        },
+        LogItemContent::EntryIndexes(_) | LogItemContent::Command(_) => None,
+    }
+}

@@ -1,0 +1,93 @@
+//! Items behind a pointer that C keeps.
+
+ghost use Rattle.std.specs.Prelude.{◌≡◌, Option, Some, None, IsTrue, is_some};
+ghost use Rattle.std.specs.Prelude.{List};
+ghost use Rattle.raft_records.specs.Item.{Item};
+ghost use Rattle.raft_ffi.specs.ItemsHandle.{items_owned, held_items_code};
+
+use crate::parts::Parts;
+use raft_records::LogItemBatch;
+use std::alloc::Global;
+use std::marker::Model;
+use std::mem;
+
+/// Items, or nothing. C keeps it as a pointer, null where it holds nothing.
+#[repr(C)]
+#[derive(Drop)]
+pub struct Items {
+    at: *mut u8,
+    alloc: Global,
+    pub ghost value: { Option (List Item) } by { held_items_code },
+}
+
+impl Model for Items {
+    ghost also_owns = { λ c. items_owned c.alloc c.at c.value };
+}
+
+impl Items {
+    /// Makes a handle that holds nothing.
+    fn empty(alloc: Global) -> Items
+        ensures { result.value ≡ None }
+    {
+        Items {
+            at: std::ptr::null_mut(),
+            alloc,
+        }
+    }
+
+    /// Makes a handle of the parts of a box.
+    fn of_parts(parts: Parts<LogItemBatch, Global>) -> Items
+        ensures { result.value ≡ Some parts.value }
+    {
+        let Parts { ptr, alloc } = parts;
+        Items {
+            at: ptr as *mut u8,
+            alloc,
+        }
+    }
+
+    /// Returns the parts of the box.
+    fn into_parts(self) -> Parts<LogItemBatch, Global>
+        requires { IsTrue (is_some self.value) }
+        ensures { self.value ≡ Some result.value }
+    {
+        let Items { at, alloc } = self;
+        Parts {
+            ptr: at as *mut LogItemBatch,
+            alloc,
+        }
+    }
+
+    /// Makes a handle that holds items.
+    pub(crate) fn of_box(held: Box<LogItemBatch>) -> Items
+        ensures { result.value ≡ Some held.value }
+    {
+        Items::of_parts(Parts::of(held))
+    }
+
+    /// Returns the items.
+    pub(crate) fn into_box(self) -> Box<LogItemBatch>
+        requires { IsTrue (is_some self.value) }
+        ensures { self.value ≡ Some result.value }
+    {
+        self.into_parts().into_box()
+    }
+
+    /// Takes the items out.
+    pub(crate) fn take(&mut self, alloc: Global) -> Box<LogItemBatch>
+        requires { IsTrue (is_some self.old.value) }
+        ensures value { self.old.value ≡ Some result.value }
+        ensures emptied { self.new.value ≡ None }
+    {
+        mem::replace(self, Items::empty(alloc)).into_box()
+    }
+
+    /// Puts items in.
+    pub(crate) fn put(&mut self, held: Box<LogItemBatch>)
+        ensures { self.new.value ≡ Some held.value }
+    {
+        *self = Items::of_box(held);
+    }
+}
+
+unsafe impl Send for Items {}

@@ -1,0 +1,18 @@
+//! The tables of all regions, the contexts that rebuild them, and items, for programs in C and in Rust: a static library.
+#![tactic(auto)]
+
+mod byte_calls;
+mod change_calls;
+mod changes;
+mod context;
+mod context_calls;
+mod entries;
+mod item_calls;
+mod items;
+mod parts;
+mod reads;
+mod rooms;
+mod status;
+mod table_reads;
+mod tables;
+mod write_calls;

@@ -1,0 +1,167 @@
+//! What calls take and return, in numbers.
+
+ghost use Rattle.std.specs.Prelude.{◌≡◌, OnOk, OnErr, IfErr};
+ghost use Rattle.raft_ffi.specs.Calls.{code_of, queue_of, file_of};
+ghost use Rattle.raft_ffi.specs.Summaries.{number_in};
+
+use crate::rooms::copy_front;
+use raft_base::{Error, FileId, LogFileContext, LogQueue, Result, Version};
+use std::alloc::Global;
+
+/// A log file.
+#[repr(C)]
+#[derive(Clone, Copy)]
+pub struct File {
+    pub seq: u64,
+    /// Whether it is of the rewrite queue.
+    pub is_rewrite: bool,
+    /// Whether it is of version 2.
+    pub is_signed: bool,
+}
+
+/// A number that may be there.
+#[repr(C)]
+#[derive(Clone, Copy)]
+pub struct Maybe {
+    pub is_some: bool,
+    pub number: u64,
+}
+
+/// How a call ended: 0, or the number of its error, and how many bytes the error's text has.
+#[repr(C)]
+#[derive(Clone, Copy)]
+pub struct Status {
+    pub code: u32,
+    pub text_len: usize,
+}
+
+/// Returns the queue that a flag names.
+pub(crate) fn queue(is_rewrite: bool) -> LogQueue
+    ensures { result ≡ queue_of is_rewrite }
+{
+    if is_rewrite {
+        LogQueue::Rewrite
+    } else {
+        LogQueue::Append
+    }
+}
+
+/// Whether a queue is the rewrite queue.
+pub(crate) fn is_rewrite(queue: LogQueue) -> bool
+    ensures { queue_of result ≡ queue }
+{
+    match queue {
+        LogQueue::Append => false,
+        LogQueue::Rewrite => true,
+    }
+}
+
+impl Maybe {
+    /// Returns the number, if there is one.
+    pub(crate) fn number(self) -> Option<u64>
+        ensures { result ≡ number_in self }
+    {
+        if self.is_some {
+            Some(self.number)
+        } else {
+            None
+        }
+    }
+
+    /// Returns the size, if there is one.
+    pub(crate) fn size(self) -> Option<usize>
+        ensures { result ≡ number_in self }
+    {
+        if self.is_some {
+            Some(self.number as usize)
+        } else {
+            None
+        }
+    }
+
+    /// Makes one of a number that may be there.
+    pub(crate) fn of(number: Option<u64>) -> Maybe
+        ensures { number_in result ≡ number }
+    {
+        match number {
+            Some(number) => Maybe {
+                is_some: true,
+                number,
+            },
+            None => Maybe {
+                is_some: false,
+                number: 0,
+            },
+        }
+    }
+}
+
+impl File {
+    /// Returns the file and its version.
+    pub(crate) fn context(&self) -> LogFileContext
+        ensures { result ≡ file_of self.now }
+    {
+        let version = if self.is_signed {
+            Version::V2
+        } else {
+            Version::V1
+        };
+        LogFileContext::new(FileId::new(queue(self.is_rewrite), self.seq), version)
+    }
+}
+
+/// Returns the number of an error.
+pub(crate) fn code(e: &Error) -> u32
+    ensures { result ≡ code_of e.now }
+{
+    match e {
+        Error::InvalidArgument(_) => 1,
+        Error::Corruption(_) => 2,
+        Error::Io(_) => 3,
+        Error::Codec(_) => 4,
+        Error::Message(_) => 5,
+        Error::TryAgain(_) => 6,
+        Error::EntryCompacted => 7,
+        Error::EntryNotFound => 8,
+        Error::Full => 9,
+        Error::Other(_) => 10,
+        Error::Memory => 11,
+        Error::Failed => 12,
+    }
+}
+
+/// Says how a call ended that fails only for want of memory: 0, or 11.
+pub(crate) fn memory_code(answer: &Result<()>) -> u32
+    ensures ok { OnOk answer.now (result ≡ 0) }
+    ensures err { OnErr answer.now (result ≡ 11) }
+{
+    match answer {
+        Ok(()) => 0,
+        Err(_) => 11,
+    }
+}
+
+/// Says how a call ended, and writes the text of its error as far as there is room.
+pub(crate) fn answered(alloc: Global, answer: &Result<()>, text: &mut [u8]) -> Status
+    ensures ok { OnOk answer.now (result.code ≡ 0) }
+    ensures err { IfErr answer.now (λ e. result.code ≡ code_of e) }
+{
+    match answer {
+        Ok(()) => Status {
+            code: 0,
+            text_len: 0,
+        },
+        Err(e) => Status {
+            code: code(e),
+            text_len: write_text(alloc, e, text),
+        },
+    }
+}
+
+/// Writes the text of an error as far as there is room, and returns how many bytes it has.
+fn write_text(alloc: Global, e: &Error, text: &mut [u8]) -> usize {
+    match format!(in alloc; "{e}") {
+        Ok(words) => copy_front(words.as_bytes(), text),
+        Err(_) => 0,
+    }
+}

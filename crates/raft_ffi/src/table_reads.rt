@@ -1,0 +1,245 @@
+//! Calls that read the tables of all regions.
+
+ghost use Rattle.std.specs.Prelude.{◌≡◌, ◌≢◌, IsTrue, None, is_some};
+ghost use Rattle.std.specs.FinMap as finite;
+ghost use Rattle.raft_base.specs.declared.pipe_log.LogQueue.TheVariants.{Rewrite};
+ghost use Rattle.raft_accessor.specs.Accessor.{table_in};
+ghost use Rattle.raft_table.specs.Counts.{live};
+ghost use Rattle.raft_table.specs.Fetches.{IsFetchFault, range_answer, appended_before};
+ghost use Rattle.raft_table.specs.TableEntries.{entry_at, placed_in};
+ghost use Rattle.raft_ffi.specs.Calls.{queue_of, IsCodeOf, IsFound, Holds};
+ghost use Rattle.raft_ffi.specs.EntryData.{entry_found};
+ghost use Rattle.raft_ffi.specs.Reads.{AreRegionsIn, IsFetched, value_in};
+ghost use Rattle.raft_ffi.specs.Rooms.{AreEntriesIn, IsCopied};
+ghost use Rattle.raft_ffi.specs.Summaries.{number_in, IsSummaryOf};
+
+use crate::entries::Entry;
+use crate::reads::{
+    find_entries, find_entries_before, find_entry, find_regions, find_rewritten_entries,
+    find_summary, find_value,
+};
+use crate::rooms::copy_front;
+use crate::status::{Maybe, Status, answered, memory_code, queue};
+use crate::tables::Tables;
+use std::alloc::Global;
+
+/// What a table has.
+#[repr(C)]
+#[derive(Clone, Copy)]
+pub struct Summary {
+    pub entries: usize,
+    pub keys: usize,
+    /// The least index.
+    pub first: Maybe,
+    /// The least file in the append queue.
+    pub append_seq: Maybe,
+    /// The least file in the rewrite queue.
+    pub rewrite_seq: Maybe,
+}
+
+/// Says how many records are live in a queue.
+#[unsafe(no_mangle)]
+pub extern "C" fn raft_ffi_tables_live(
+    alloc: Global,
+    tables: &mut Tables,
+    is_rewrite: bool,
+) -> usize
+    requires held { IsTrue (is_some tables.old.value) }
+    ensures same { tables.new.value ≡ tables.old.value }
+    ensures live { Holds (λ a. result ≡ live (queue_of is_rewrite) a.counts) tables.old.value }
+{
+    let held = tables.take(alloc);
+    let count = held.stats().live_entries(queue(is_rewrite));
+    tables.put(held);
+    count
+}
+
+/// Says what a region's table has, if there is one.
+#[unsafe(no_mangle)]
+pub extern "C" fn raft_ffi_tables_summary(
+    alloc: Global,
+    tables: &mut Tables,
+    region: u64,
+    summary: &mut Summary,
+) -> bool
+    requires held { IsTrue (is_some tables.old.value) }
+    ensures same { tables.new.value ≡ tables.old.value }
+    ensures found { Holds (λ a. IsFound (λ t. IsSummaryOf t summary.new)
+        (finite.get a.tables region) result) tables.old.value }
+{
+    let held = tables.take(alloc);
+    let found = find_summary(&*held, region, summary);
+    tables.put(held);
+    found
+}
+
+/// Lists the regions that have a table, in rising order, as far as there is room, and says how many they are.
+#[unsafe(no_mangle)]
+pub extern "C" fn raft_ffi_tables_regions(
+    alloc: Global,
+    tables: &mut Tables,
+    regions: &mut [u64],
+    count: &mut usize,
+) -> u32
+    requires held { IsTrue (is_some tables.old.value) }
+    ensures same { tables.new.value ≡ tables.old.value }
+    ensures ok { result ≡ 0 → Holds
+        (λ a. AreRegionsIn a.tables regions.old regions.new count.new) tables.old.value }
+    ensures fault { result ≢ 0 → result ≡ 11 }
+{
+    let held = tables.take(alloc);
+    let answer = find_regions(alloc, &*held, regions, count);
+    tables.put(held);
+    memory_code(&answer)
+}
+
+/// Lists the regions that were cleaned, in order, as far as there is room, and returns how many they are.
+#[unsafe(no_mangle)]
+pub extern "C" fn raft_ffi_tables_cleaned(
+    alloc: Global,
+    tables: &mut Tables,
+    regions: &mut [u64],
+) -> usize
+    requires held { IsTrue (is_some tables.old.value) }
+    ensures same { tables.new.value ≡ tables.old.value }
+    ensures found { Holds (λ a. IsCopied a.cleaned regions.old regions.new result)
+        tables.old.value }
+{
+    let held = tables.take(alloc);
+    let count = copy_front(held.cleaned_regions(), regions);
+    tables.put(held);
+    count
+}
+
+/// Finds an entry of a region, if there is one.
+#[unsafe(no_mangle)]
+pub extern "C" fn raft_ffi_tables_entry(
+    alloc: Global,
+    tables: &mut Tables,
+    region: u64,
+    index: u64,
+    entry: &mut Entry,
+) -> bool
+    requires held { IsTrue (is_some tables.old.value) }
+    ensures same { tables.new.value ≡ tables.old.value }
+    ensures found { Holds (λ a. entry_found result entry.new
+        ≡ entry_at index (table_in a.tables region).entries) tables.old.value }
+{
+    let held = tables.take(alloc);
+    let found = find_entry(&*held, region, index, entry);
+    tables.put(held);
+    found
+}
+
+/// Lists the entries of a region from `begin` on and below `end`, as far as there is room, and says how many they are.
+/// With a maximal size it stops before the first one with which the total of lengths passes that size and exceeds the
+/// entry's own length. A region without a table has no entries.
+#[unsafe(no_mangle)]
+pub extern "C" fn raft_ffi_tables_entries(
+    alloc: Global,
+    tables: &mut Tables,
+    region: u64,
+    begin: u64,
+    end: u64,
+    max_size: Maybe,
+    entries: &mut [Entry],
+    count: &mut usize,
+    text: &mut [u8],
+) -> Status
+    requires held { IsTrue (is_some tables.old.value) }
+    ensures same { tables.new.value ≡ tables.old.value }
+    ensures ok { result.code ≡ 0 → Holds (λ a. IsFetched (number_in max_size) begin end
+        (table_in a.tables region).entries entries.new count.new) tables.old.value }
+    ensures fault { result.code ≢ 0 → Holds (λ a. IsCodeOf
+        (IsFetchFault (range_answer begin end (table_in a.tables region).entries)) result.code)
+        tables.old.value }
+{
+    let held = tables.take(alloc);
+    let range = (begin, end);
+    let answer = find_entries(
+        alloc,
+        &*held,
+        region,
+        range,
+        max_size.size(),
+        entries,
+        count,
+    );
+    tables.put(held);
+    answered(alloc, &answer, text)
+}
+
+/// Lists the appended entries of a region from the first on while their file is at or below a gate, as far as there is
+/// room, and says how many they are.
+#[unsafe(no_mangle)]
+pub extern "C" fn raft_ffi_tables_entries_before(
+    alloc: Global,
+    tables: &mut Tables,
+    region: u64,
+    gate: u64,
+    entries: &mut [Entry],
+    count: &mut usize,
+) -> u32
+    requires held { IsTrue (is_some tables.old.value) }
+    ensures same { tables.new.value ≡ tables.old.value }
+    ensures ok { result ≡ 0 → Holds (λ a. AreEntriesIn
+        (appended_before gate (table_in a.tables region).entries) entries.new count.new)
+        tables.old.value }
+    ensures fault { result ≢ 0 → result ≡ 11 }
+{
+    let held = tables.take(alloc);
+    let answer = find_entries_before(alloc, &*held, region, gate, entries, count);
+    tables.put(held);
+    memory_code(&answer)
+}
+
+/// Lists the rewritten entries of a region, as far as there is room, and says how many they are.
+#[unsafe(no_mangle)]
+pub extern "C" fn raft_ffi_tables_rewritten_entries(
+    alloc: Global,
+    tables: &mut Tables,
+    region: u64,
+    entries: &mut [Entry],
+    count: &mut usize,
+) -> u32
+    requires held { IsTrue (is_some tables.old.value) }
+    ensures same { tables.new.value ≡ tables.old.value }
+    ensures ok { result ≡ 0 → Holds (λ a. AreEntriesIn
+        (placed_in Rewrite (table_in a.tables region).entries) entries.new count.new)
+        tables.old.value }
+    ensures fault { result ≢ 0 → result ≡ 11 }
+{
+    let held = tables.take(alloc);
+    let answer = find_rewritten_entries(alloc, &*held, region, entries, count);
+    tables.put(held);
+    memory_code(&answer)
+}
+
+/// Finds the value of a region's key, if there is one: as much of it as there is room for, and how long it is.
+#[unsafe(no_mangle)]
+pub extern "C" fn raft_ffi_tables_value(
+    alloc: Global,
+    tables: &mut Tables,
+    region: u64,
+    key: &[u8],
+    value: &mut [u8],
+    len: &mut usize,
+) -> bool
+    requires held { IsTrue (is_some tables.old.value) }
+    ensures same { tables.new.value ≡ tables.old.value }
+    ensures found { Holds (λ a. IsFound (λ bytes. IsCopied bytes value.old value.new len.new)
+        (value_in a.tables region key.now) result) tables.old.value }
+{
+    let held = tables.take(alloc);
+    let found = find_value(&*held, region, key, value, len);
+    tables.put(held);
+    found
+}
+
+/// Lets tables go.
+#[unsafe(no_mangle)]
+pub extern "C" fn raft_ffi_tables_drop(tables: Tables)
+    requires held { IsTrue (is_some tables.value) }
+{
+    drop(tables.into_box());
+}

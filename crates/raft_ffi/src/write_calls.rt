@@ -1,0 +1,262 @@
+//! Calls that make tables, and change those of several regions.
+
+ghost use Rattle.std.specs.Prelude.{◌≡◌, ◌≢◌, ◌≤◌, IsTrue, IfOk, IfErr, OnOk, OnErr, Some, None, is_some};
+ghost use Rattle.std.specs.FinMap as finite;
+ghost use Rattle.raft_accessor.specs.Accessor.{Accessor, table_in};
+ghost use Rattle.raft_accessor.specs.Merges.{with_newer, with_appended, AreTablesLeft, AreOthersLeft, IsNewerFault, IsAppendedFault, IsMergeRefusal};
+ghost use Rattle.raft_accessor.specs.Writes.{Appending, Rewriting, AreWritten};
+ghost use Rattle.raft_ffi.specs.Calls.{IsCodeOf, Holds, BothHold};
+ghost use Rattle.raft_ffi.specs.Changes.{IsChangedTo, IsRemoved, AreSomeWritten, AreMerged, IsStoppedAt, no_tables};
+ghost use Rattle.raft_ffi.specs.Summaries.{number_in};
+
+use crate::items::Items;
+use crate::status::{Maybe, Status, answered, memory_code};
+use crate::tables::Tables;
+use raft_accessor::MemTableAccessor;
+use raft_base::{Error, Result};
+use raft_records::LogItemBatch;
+use std::alloc::Global;
+
+/// Makes no tables.
+#[unsafe(no_mangle)]
+pub extern "C" fn raft_ffi_tables_new(alloc: Global, tables: &mut Tables) -> u32
+    requires empty { tables.old.value ≡ None }
+    ensures ok { result ≡ 0 → tables.new.value ≡ Some no_tables }
+    ensures err { result ≢ 0 → tables.new.value ≡ None }
+    ensures fault { result ≢ 0 → result ≡ 11 }
+{
+    match new_tables(alloc) {
+        Ok(held) => {
+            tables.put(held);
+            0
+        }
+        Err(_) => 11,
+    }
+}
+
+/// Makes no tables, on the heap.
+fn new_tables(alloc: Global) -> Result<Box<MemTableAccessor>>
+    ensures ok { IfOk result (λ b. b.value ≡ no_tables) }
+    ensures memory { IfErr result (λ e. e ≡ Error.Memory) }
+{
+    Ok(Box::new(alloc, MemTableAccessor::new(alloc)?)?)
+}
+
+/// Sets the first and the last file of a region's atomic group, once the group's End is written.
+#[unsafe(no_mangle)]
+pub extern "C" fn raft_ffi_tables_atomic_group(
+    alloc: Global,
+    tables: &mut Tables,
+    region: u64,
+    start: u64,
+    end: u64,
+) -> u32
+    requires held { IsTrue (is_some tables.old.value) }
+    requires range { start ≤ end }
+    ensures ok { result ≡ 0 → BothHold (λ old new. IsChangedTo
+        (Some (record (table_in old.tables region) { atomic_group = Some (start, end) })) region old
+        new) tables.old.value tables.new.value }
+    ensures err { result ≢ 0 → tables.new.value ≡ tables.old.value }
+    ensures fault { result ≢ 0 → result ≡ 11 }
+{
+    let mut held = tables.take(alloc);
+    let answer = set_atomic_group(&mut *held, region, start, end);
+    tables.put(held);
+    memory_code(&answer)
+}
+
+/// Sets the first and the last file of a region's atomic group.
+fn set_atomic_group(
+    accessor: &mut MemTableAccessor,
+    region: u64,
+    start: u64,
+    end: u64,
+) -> Result<()>
+    requires { start ≤ end }
+    ensures ok { OnOk result (IsChangedTo (Some (record (table_in accessor.old.tables region)
+        { atomic_group = Some (start, end) })) region accessor.old accessor.new) }
+    ensures err { OnErr result (accessor.new ≡ accessor.old) }
+    ensures memory { IfErr result (λ e. e ≡ Error.Memory) }
+{
+    let answer = accessor.apply_rewrite_atomic_group(region, start, end);
+    accessor.counts_are_exact();
+    answer
+}
+
+/// Takes a region's table away, and lists the region as cleaned where that is asked for, also where it has no table.
+#[unsafe(no_mangle)]
+pub extern "C" fn raft_ffi_tables_remove(
+    alloc: Global,
+    tables: &mut Tables,
+    region: u64,
+    is_listed: bool,
+    found: &mut bool,
+) -> u32
+    requires held { IsTrue (is_some tables.old.value) }
+    ensures ok { result ≡ 0 → BothHold (IsRemoved region is_listed) tables.old.value
+        tables.new.value }
+    ensures found { result ≡ 0 → Holds (λ old. found.new ≡ is_some (finite.get old.tables region))
+        tables.old.value }
+    ensures err { result ≢ 0 → tables.new.value ≡ tables.old.value }
+    ensures fault { result ≢ 0 → (result ≡ 11) × IsTrue is_listed }
+{
+    let mut held = tables.take(alloc);
+    let answer = remove(&mut *held, region, is_listed, found);
+    tables.put(held);
+    memory_code(&answer)
+}
+
+/// Takes a region's table away, and lists the region where that is asked for.
+fn remove(
+    accessor: &mut MemTableAccessor,
+    region: u64,
+    is_listed: bool,
+    found: &mut bool,
+) -> Result<()>
+    ensures ok { OnOk result (IsRemoved region is_listed accessor.old accessor.new) }
+    ensures found { OnOk result (found.new ≡ is_some (finite.get accessor.old.tables region)) }
+    ensures err { OnErr result (accessor.new ≡ accessor.old) }
+    ensures fault { IfErr result (λ e. (e ≡ Error.Memory) × IsTrue is_listed) }
+{
+    *found = accessor.remove(region, is_listed)?.is_some();
+    accessor.counts_are_exact();
+    Ok(())
+}
+
+/// Merges the tables of a newer neighbor, each into the table of its region. Those are gone then.
+#[unsafe(no_mangle)]
+pub extern "C" fn raft_ffi_tables_merge_newer(
+    alloc: Global,
+    tables: &mut Tables,
+    newer: Tables,
+    text: &mut [u8],
+) -> Status
+    requires held { IsTrue (is_some tables.old.value) }
+    requires newer { IsTrue (is_some newer.value) }
+    ensures ok { result.code ≡ 0 → BothHold (λ old new. Holds
+        (λ rhs. AreMerged with_newer rhs old new) newer.value) tables.old.value tables.new.value }
+    ensures err { result.code ≢ 0 → result.code ≢ 11 → BothHold (λ old new. Holds
+        (λ rhs. AreTablesLeft with_newer old.tables rhs.tables new.tables) newer.value)
+        tables.old.value tables.new.value }
+    ensures others { result.code ≢ 0 → BothHold (λ old new. Holds
+        (λ rhs. AreOthersLeft with_newer old.tables rhs.tables new.tables) newer.value)
+        tables.old.value tables.new.value }
+    ensures cleaned { BothHold (λ old new. new.cleaned ≡ old.cleaned) tables.old.value
+        tables.new.value }
+    ensures fault { result.code ≢ 0 → BothHold (λ old new. Holds (λ rhs. IsCodeOf
+        (IsMergeRefusal (IsNewerFault new.counts) old.tables rhs.tables) result.code)
+        newer.value) tables.old.value tables.new.value }
+{
+    let mut held = tables.take(alloc);
+    let newer = Box::into_inner(newer.into_box());
+    let answer = held.merge_newer_neighbor(newer);
+    held.counts_are_exact();
+    tables.put(held);
+    answered(alloc, &answer, text)
+}
+
+/// Merges appended tables, each into the rewritten table of its region. Those are gone then.
+#[unsafe(no_mangle)]
+pub extern "C" fn raft_ffi_tables_merge_append(
+    alloc: Global,
+    tables: &mut Tables,
+    append: Tables,
+    text: &mut [u8],
+) -> Status
+    requires held { IsTrue (is_some tables.old.value) }
+    requires append { IsTrue (is_some append.value) }
+    ensures ok { result.code ≡ 0 → BothHold (λ old new. Holds
+        (λ rhs. AreMerged with_appended rhs old new) append.value) tables.old.value
+        tables.new.value }
+    ensures err { result.code ≢ 0 → result.code ≢ 11 → BothHold (λ old new. Holds
+        (λ rhs. AreTablesLeft with_appended old.tables rhs.tables new.tables) append.value)
+        tables.old.value tables.new.value }
+    ensures others { result.code ≢ 0 → BothHold (λ old new. Holds
+        (λ rhs. AreOthersLeft with_appended old.tables rhs.tables new.tables) append.value)
+        tables.old.value tables.new.value }
+    ensures cleaned { BothHold (λ old new. new.cleaned ≡ old.cleaned) tables.old.value
+        tables.new.value }
+    ensures fault { result.code ≢ 0 → BothHold (λ old new. Holds (λ rhs. IsCodeOf
+        (IsMergeRefusal (IsAppendedFault new.counts) old.tables rhs.tables) result.code)
+        append.value) tables.old.value tables.new.value }
+{
+    let mut held = tables.take(alloc);
+    let appended = Box::into_inner(append.into_box());
+    let answer = held.merge_append_table(appended);
+    held.counts_are_exact();
+    tables.put(held);
+    answered(alloc, &answer, text)
+}
+
+/// Writes items of the append queue to the tables, in order. They are gone then. Where an item is refused those in front
+/// of it are written, and nothing else.
+#[unsafe(no_mangle)]
+pub extern "C" fn raft_ffi_tables_apply_append(
+    alloc: Global,
+    tables: &mut Tables,
+    items: Items,
+    text: &mut [u8],
+) -> Status
+    requires held { IsTrue (is_some tables.old.value) }
+    requires items { IsTrue (is_some items.value) }
+    ensures ok { result.code ≡ 0 → BothHold (λ old new. Holds
+        (λ xs. AreWritten Appending xs old new) items.value) tables.old.value tables.new.value }
+    ensures refused { result.code ≢ 0 → BothHold (λ old new. Holds
+        (λ xs. AreSomeWritten Appending xs result.code old new) items.value) tables.old.value
+        tables.new.value }
+{
+    let mut held = tables.take(alloc);
+    let items = Box::into_inner(items.into_box());
+    let answer = apply_append(&mut *held, items);
+    tables.put(held);
+    answered(alloc, &answer, text)
+}
+
+/// Writes items of the append queue to the tables, in order.
+fn apply_append(accessor: &mut MemTableAccessor, mut items: LogItemBatch) -> Result<()>
+    ensures ok { OnOk result (AreWritten Appending items accessor.old accessor.new) }
+    ensures refused { IfErr result (IsStoppedAt Appending items accessor.old accessor.new) }
+{
+    accessor.apply_append_writes(items.drain())
+}
+
+/// Writes items that were rewritten to the file of number `seq` of the rewrite queue to the tables, in order. They are gone
+/// then. Where an item is refused those in front of it are written, and nothing else.
+#[unsafe(no_mangle)]
+pub extern "C" fn raft_ffi_tables_apply_rewrite(
+    alloc: Global,
+    tables: &mut Tables,
+    items: Items,
+    gate: Maybe,
+    seq: u64,
+    text: &mut [u8],
+) -> Status
+    requires held { IsTrue (is_some tables.old.value) }
+    requires items { IsTrue (is_some items.value) }
+    ensures ok { result.code ≡ 0 → BothHold (λ old new. Holds
+        (λ xs. AreWritten (Rewriting (number_in gate) seq) xs old new) items.value)
+        tables.old.value tables.new.value }
+    ensures refused { result.code ≢ 0 → BothHold (λ old new. Holds
+        (λ xs. AreSomeWritten (Rewriting (number_in gate) seq) xs result.code old new) items.value)
+        tables.old.value tables.new.value }
+{
+    let mut held = tables.take(alloc);
+    let items = Box::into_inner(items.into_box());
+    let answer = apply_rewrite(&mut *held, items, gate.number(), seq);
+    tables.put(held);
+    answered(alloc, &answer, text)
+}
+
+/// Writes items that were rewritten to a file of the rewrite queue to the tables, in order.
+fn apply_rewrite(
+    accessor: &mut MemTableAccessor,
+    mut items: LogItemBatch,
+    gate: Option<u64>,
+    seq: u64,
+) -> Result<()>
+    ensures ok { OnOk result (AreWritten (Rewriting gate seq) items accessor.old accessor.new) }
+    ensures refused { IfErr result
+        (IsStoppedAt (Rewriting gate seq) items accessor.old accessor.new) }
+{
+    accessor.apply_rewrite_writes(items.drain(), gate, seq)
+}

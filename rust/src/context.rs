@@ -1,0 +1,113 @@
+//! What was read of a queue.
+
+use crate::sys::ContextHandle;
+use crate::{Error, FilePart, Queue, Result, Tables};
+
+/// How much a context holds. A number that 64 bits don't hold is 2^64 - 1.
+#[derive(Clone, Copy, PartialEq, Eq, Debug)]
+pub struct Kept {
+    /// Entries in all tables.
+    pub entries: u64,
+    /// Key values in all tables.
+    pub keys: u64,
+    /// How many regions have a region mark, and how many groups have a group marker, together.
+    pub marks: u64,
+    /// Keys in the region marks that were deleted.
+    pub deleted_keys: u64,
+    /// Regions in the list of those that were cleaned.
+    pub cleaned: u64,
+    /// Items of groups that wait.
+    pub waiting_items: u64,
+}
+
+/// What was read of a stretch of a queue.
+///
+/// Contexts of neighboring stretches are read on as many threads as one likes, and merged; the tables are those of one
+/// reading of all. After a refusal a context holds nothing, and each further call returns [`Failed`].
+///
+/// What is proved asks that a queue has fewer than 2^63 entries and key values, and that contexts are merged in the order of
+/// their batches.
+///
+/// [`Failed`]: crate::ErrorKind::Failed
+#[derive(Debug)]
+pub struct Context {
+    handle: Option<ContextHandle>,
+}
+
+impl Context {
+    /// Makes a context that has read nothing.
+    ///
+    /// # Errors
+    ///
+    /// `Memory`.
+    pub fn new() -> Result<Context> {
+        Ok(Context {
+            handle: Some(ContextHandle::new()?),
+        })
+    }
+
+    /// Replays the log batches of a part, which stand behind those that were replayed before. The bytes are lent, and
+    /// nothing of them is kept.
+    ///
+    /// # Errors
+    ///
+    /// `InvalidArgument` where the bytes end past offset 2^64 - 1, and then the context stays as it is. `Corruption`, `Codec`
+    /// or `Io` where they are no sequence of readable batches, or where these can't follow those before; `Full` where more
+    /// than 2^64 - 1 records would be live; `Memory`; `Failed`.
+    pub fn replay(&mut self, part: FilePart<'_>) -> Result<()> {
+        part.check()?;
+        let handle = self.take()?;
+        self.handle = Some(handle.replay(part)?);
+        Ok(())
+    }
+
+    /// Takes in the context of the batches that follow, all of this queue.
+    ///
+    /// # Errors
+    ///
+    /// `InvalidArgument` where one of the two is of the other queue; `Corruption` where the first file of `newer` is below the
+    /// last one of this context, or where entries leave a hole; `Full`, `Memory`, `Failed`. Both are lost then.
+    pub fn merge(&mut self, mut newer: Context, queue: Queue) -> Result<()> {
+        let handle = self.take()?;
+        let newer = newer.take()?;
+        self.handle = Some(handle.merge(newer, queue)?);
+        Ok(())
+    }
+
+    /// Takes in the context of the append queue; this one is that of the rewrite queue. It then serves `kept` and `finish`
+    /// alone.
+    ///
+    /// # Errors
+    ///
+    /// `InvalidArgument` where one of the two is of the other queue; `Full`, `Memory`, `Failed`. Both are lost then.
+    pub fn overlay(&mut self, mut append: Context) -> Result<()> {
+        let handle = self.take()?;
+        let append = append.take()?;
+        self.handle = Some(handle.overlay(append)?);
+        Ok(())
+    }
+
+    /// Says how much the context holds.
+    ///
+    /// # Errors
+    ///
+    /// `Memory`, `Failed`. The context stays as it is.
+    pub fn kept(&mut self) -> Result<Kept> {
+        self.handle.as_mut().ok_or_else(Error::failed)?.kept()
+    }
+
+    /// Returns the tables.
+    ///
+    /// # Errors
+    ///
+    /// `Memory`, `Failed`.
+    pub fn finish(mut self) -> Result<Tables> {
+        let tables = self.take()?.finish()?;
+        Ok(Tables::of(tables))
+    }
+
+    /// Takes the handle out, unless an earlier call was refused.
+    fn take(&mut self) -> Result<ContextHandle> {
+        self.handle.take().ok_or_else(Error::failed)
+    }
+}

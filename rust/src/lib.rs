@@ -1,0 +1,41 @@
+//! Recovery of raft-engine's tables from its log files on several threads, and the tables that an engine keeps.
+//!
+//! All that reads bytes and changes tables is the static library `raft_ffi`, each function of which is proved to meet its
+//! contract. This crate is a thin safe layer over it, with no dependency but std. It starts threads
+//! ([`recover`], [`recover_both`]); the library starts none, and opens no file.
+//!
+//! ```no_run
+//! use raft_recover::{FilePart, LogFile, Queue, Version, recover};
+//!
+//! # fn main() -> Result<(), Box<dyn std::error::Error>> {
+//! let bytes = std::fs::read("0000000000000001.raftlog")?;
+//! let file = LogFile { queue: Queue::Append, seq: 1, version: Version::V2 };
+//! let part = FilePart { file, offset: 0, bytes: &bytes };
+//! let tables = recover(&[part], Queue::Append, 4)?;
+//! for region in tables.regions()? {
+//!     println!("{region}: {:?}", tables.summary(region));
+//! }
+//! # Ok(())
+//! # }
+//! ```
+
+#![deny(unsafe_code)]
+#![warn(missing_docs)]
+
+mod batches;
+mod context;
+mod entries;
+mod error;
+mod files;
+mod recovery;
+#[allow(unsafe_code)]
+mod sys;
+mod tables;
+
+pub use batches::{Batch, Batches, Content, Item, batch_len, crc32, readable_front};
+pub use context::{Context, Kept};
+pub use entries::{Block, Entry};
+pub use error::{Error, ErrorKind, Result};
+pub use files::{FileId, FilePart, LogFile, Queue, Version};
+pub use recovery::{recover, recover_both};
+pub use tables::{Summary, Tables};

@@ -1,0 +1,293 @@
+//! The tables of all regions.
+
+use crate::sys::TablesHandle;
+use crate::{Batch, Entry, Error, FileId, Queue, Result};
+use std::fmt;
+use std::ops::Range;
+
+/// What a region's table has.
+#[derive(Clone, Copy, PartialEq, Eq, Hash, Debug)]
+pub struct Summary {
+    /// How many entries.
+    pub entries: usize,
+    /// How many keys with a value.
+    pub keys: usize,
+    /// The least index.
+    pub first_index: Option<u64>,
+    /// The least file in the append queue that it needs.
+    pub append_seq: Option<u64>,
+    /// The least file in the rewrite queue that it needs.
+    pub rewrite_seq: Option<u64>,
+}
+
+/// The tables of all regions, the regions that were cleaned, and how many records are live.
+///
+/// It is `Send` and not `Sync`: to share it, put it behind a `Mutex`. After a refused change all is as it was, but for
+/// merges and items, which say themselves what stays.
+///
+/// Its `Display` has the lines of `raftlog recover`.
+#[derive(Debug)]
+pub struct Tables {
+    handle: TablesHandle,
+}
+
+impl Tables {
+    /// Makes tables of a handle.
+    pub(crate) fn of(handle: TablesHandle) -> Tables {
+        Tables { handle }
+    }
+
+    /// Makes no tables.
+    ///
+    /// # Errors
+    ///
+    /// `Memory`.
+    pub fn new() -> Result<Tables> {
+        Ok(Tables::of(TablesHandle::new()?))
+    }
+
+    /// Returns how many records are live in a queue.
+    pub fn live(&self, queue: Queue) -> usize {
+        self.handle.live(queue)
+    }
+
+    /// Returns the regions that have a table, in rising order.
+    ///
+    /// # Errors
+    ///
+    /// `Memory`.
+    pub fn regions(&self) -> Result<Vec<u64>> {
+        self.handle.regions()
+    }
+
+    /// Returns the regions that were cleaned, in the order of their `Clean`s.
+    pub fn cleaned(&self) -> Vec<u64> {
+        self.handle.cleaned()
+    }
+
+    /// Returns what a region's table has, if there is one.
+    pub fn summary(&self, region: u64) -> Option<Summary> {
+        self.handle.summary(region)
+    }
+
+    /// Returns an entry of a region, if there is one.
+    pub fn entry(&self, region: u64, index: u64) -> Option<Entry> {
+        self.handle.entry(region, index)
+    }
+
+    /// Returns the entries of a range of indexes, in order. With a maximal size it stops before the first one with which the
+    /// total of lengths passes that size and exceeds the entry's own length. A region without a table has no entries.
+    ///
+    /// # Errors
+    ///
+    /// Where the range isn't empty: `EntryNotFound` without entries, `EntryCompacted` where it begins below the first entry,
+    /// `EntryNotFound` where it ends behind the last; else `Memory` alone.
+    pub fn entries(
+        &self,
+        region: u64,
+        range: Range<u64>,
+        max_size: Option<u64>,
+    ) -> Result<Vec<Entry>> {
+        self.handle.entries(region, range, max_size)
+    }
+
+    /// Returns the appended entries of a region from the first on while their file is at or below `gate`.
+    ///
+    /// # Errors
+    ///
+    /// `Memory`.
+    pub fn entries_before(&self, region: u64, gate: u64) -> Result<Vec<Entry>> {
+        self.handle.entries_before(region, gate)
+    }
+
+    /// Returns the rewritten entries of a region.
+    ///
+    /// # Errors
+    ///
+    /// `Memory`.
+    pub fn rewritten_entries(&self, region: u64) -> Result<Vec<Entry>> {
+        self.handle.rewritten_entries(region)
+    }
+
+    /// Returns the value of a region's key, if there is one.
+    pub fn value(&self, region: u64, key: &[u8]) -> Option<Vec<u8>> {
+        self.handle.value(region, key)
+    }
+
+    /// Puts new entries of the append queue behind those of a region below their start. All others go.
+    ///
+    /// # Errors
+    ///
+    /// `InvalidArgument` where the indexes don't rise by one or a place is in the rewrite queue; `Corruption` where they start
+    /// below all entries or leave a hole behind them; `Full`, `Memory`.
+    pub fn append(&mut self, region: u64, entries: &[Entry]) -> Result<()> {
+        self.handle.append(region, entries)
+    }
+
+    /// Drops the entries of a region below an index, and returns how many those were.
+    ///
+    /// # Errors
+    ///
+    /// `Memory`.
+    pub fn compact(&mut self, region: u64, index: u64) -> Result<u64> {
+        self.handle.compact(region, index)
+    }
+
+    /// Drops the entries of a region at or above an index, and returns how many those were.
+    ///
+    /// # Errors
+    ///
+    /// `Memory`.
+    pub fn truncate(&mut self, region: u64, index: u64) -> Result<u64> {
+        self.handle.truncate(region, index)
+    }
+
+    /// Puts a key of a region with its value, which were written to this file.
+    ///
+    /// # Errors
+    ///
+    /// `Full`, `Memory`.
+    pub fn put(&mut self, region: u64, key: &[u8], value: &[u8], file: FileId) -> Result<()> {
+        self.handle.put(region, key, value, file)
+    }
+
+    /// Deletes a key of a region and its value.
+    ///
+    /// # Errors
+    ///
+    /// `Memory`.
+    pub fn delete(&mut self, region: u64, key: &[u8]) -> Result<()> {
+        self.handle.delete(region, key)
+    }
+
+    /// Gives entries of a region the places of a run of the rewrite queue, as far as they may move: with a gate those in files
+    /// at or below it, without one those that are rewritten already.
+    ///
+    /// # Errors
+    ///
+    /// `InvalidArgument` where the indexes don't rise by one or a place is in the append queue; `Corruption` where the run
+    /// doesn't fit the rewritten entries; `Full`, `Memory`.
+    pub fn rewrite(&mut self, region: u64, entries: &[Entry], gate: Option<u64>) -> Result<()> {
+        self.handle.rewrite(region, entries, gate)
+    }
+
+    /// Moves the pair of a region's key to the file of number `seq` of the rewrite queue: one in the append queue where there is
+    /// a gate and its file is at or below it, one in the rewrite queue always.
+    ///
+    /// # Errors
+    ///
+    /// `Corruption` where the pair is in a rewritten file above `seq`; `Full`, `Memory`.
+    pub fn rewrite_key(
+        &mut self,
+        region: u64,
+        key: &[u8],
+        gate: Option<u64>,
+        seq: u64,
+    ) -> Result<()> {
+        self.handle.rewrite_key(region, key, gate, seq)
+    }
+
+    /// Sets the first and the last file of a region's atomic group, once the group's End is written.
+    ///
+    /// # Errors
+    ///
+    /// `InvalidArgument` where `start` is above `end`, `Memory`.
+    pub fn set_atomic_group(&mut self, region: u64, start: u64, end: u64) -> Result<()> {
+        if start > end {
+            return Err(Error::invalid_argument(
+                "an atomic group starts behind its end",
+            ));
+        }
+        self.handle.set_atomic_group(region, start, end)
+    }
+
+    /// Takes a region's table away, and returns whether there was one. Where that is asked for, it lists the region as cleaned,
+    /// also where it has no table.
+    ///
+    /// # Errors
+    ///
+    /// `Memory`, where the region is to be listed.
+    pub fn remove(&mut self, region: u64, is_listed: bool) -> Result<bool> {
+        self.handle.remove(region, is_listed)
+    }
+
+    /// Merges the tables of a newer neighbor, each into the table of its region. Its list of cleaned regions is dropped.
+    ///
+    /// # Errors
+    ///
+    /// Where a table can't be merged: other tables are then merged or as they were, and the rest of `newer` is lost. `Memory`.
+    pub fn merge_newer(&mut self, newer: Tables) -> Result<()> {
+        self.handle.merge_newer(newer.handle)
+    }
+
+    /// Merges appended tables, each into the rewritten table of its region. Their list of cleaned regions is dropped.
+    ///
+    /// # Errors
+    ///
+    /// As [`Tables::merge_newer`].
+    pub fn merge_append(&mut self, append: Tables) -> Result<()> {
+        self.handle.merge_append(append.handle)
+    }
+
+    /// Writes the items of a batch of the append queue to the tables, in order.
+    ///
+    /// # Errors
+    ///
+    /// `Corruption`, `Full` or `Memory` at the first item that is refused. The items in front of it are written, and nothing
+    /// else.
+    pub fn apply_append(&mut self, batch: Batch) -> Result<()> {
+        self.handle.apply_append(batch.into_handle())
+    }
+
+    /// Writes the items of a batch that was rewritten to the file of number `seq` of the rewrite queue to the tables, in order.
+    /// With a gate the places that move are those in append files at or below it, without one those that are rewritten
+    /// already.
+    ///
+    /// # Errors
+    ///
+    /// As [`Tables::apply_append`].
+    pub fn apply_rewrite(&mut self, batch: Batch, gate: Option<u64>, seq: u64) -> Result<()> {
+        self.handle.apply_rewrite(batch.into_handle(), gate, seq)
+    }
+
+    /// Writes the line of a region.
+    fn write_region(&self, region: u64, f: &mut fmt::Formatter<'_>) -> fmt::Result {
+        let Some(summary) = self.summary(region) else {
+            return Ok(());
+        };
+        write!(f, "{region} entries ")?;
+        match summary.first_index {
+            Some(first) => write!(f, "{first}..{}", first + summary.entries as u64)?,
+            None => f.write_str("-")?,
+        }
+        write!(f, " keys {}", summary.keys)?;
+        for (name, seq) in [
+            ("append", summary.append_seq),
+            ("rewrite", summary.rewrite_seq),
+        ] {
+            match seq {
+                Some(seq) => write!(f, " {name} {seq}")?,
+                None => write!(f, " {name} -")?,
+            }
+        }
+        f.write_str("\n")
+    }
+}
+
+impl fmt::Display for Tables {
+    fn fmt(&self, f: &mut fmt::Formatter<'_>) -> fmt::Result {
+        for region in self.regions().map_err(|_| fmt::Error)? {
+            self.write_region(region, f)?;
+        }
+        f.write_str("cleaned")?;
+        let cleaned = self.cleaned();
+        if cleaned.is_empty() {
+            f.write_str(" -")?;
+        }
+        for region in cleaned {
+            write!(f, " {region}")?;
+        }
+        let (append, rewrite) = (self.live(Queue::Append), self.live(Queue::Rewrite));
+        writeln!(f, "\nlive {append} {rewrite}")
+    }
+}

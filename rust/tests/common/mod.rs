@@ -1,0 +1,73 @@
+//! The files of demo/, and entries.
+
+#![allow(dead_code)]
+
+use raft_recover::{Block, Entry, FileId, FilePart, LogFile, Queue, Version};
+use std::fs;
+use std::path::Path;
+
+/// A file of the append queue, signed.
+pub fn file(seq: u64) -> LogFile {
+    LogFile {
+        queue: Queue::Append,
+        seq,
+        version: Version::V2,
+    }
+}
+
+/// The bytes of the four files of demo/.
+pub fn files() -> Vec<Vec<u8>> {
+    (1..=4)
+        .map(|n| fs::read(top().join(format!("demo/{n}.log"))).unwrap())
+        .collect()
+}
+
+/// The top folder of the repository.
+pub fn top() -> &'static Path {
+    Path::new(concat!(env!("CARGO_MANIFEST_DIR"), "/.."))
+}
+
+/// The files as parts.
+pub fn parts(files: &[Vec<u8>]) -> Vec<FilePart<'_>> {
+    (1..)
+        .zip(files)
+        .map(|(seq, bytes)| FilePart {
+            file: file(seq),
+            offset: 0,
+            bytes,
+        })
+        .collect()
+}
+
+/// The lines that `raftlog recover` prints of demo/, as README.md has them.
+pub fn lines() -> String {
+    let readme = fs::read_to_string(top().join("README.md")).unwrap();
+    let lines: String = readme
+        .lines()
+        .skip_while(|line| !line.starts_with("    $ raftlog recover"))
+        .skip(1)
+        .take_while(|line| line.starts_with("    "))
+        .map(|line| format!("{}\n", line.trim()))
+        .collect();
+    assert!(lines.contains("live "), "{lines}");
+    lines
+}
+
+/// An entry of ten bytes in a file of a queue.
+pub fn entry(queue: Queue, seq: u64, index: u64) -> Entry {
+    Entry {
+        index,
+        block: Block {
+            file: FileId { queue, seq },
+            offset: 16,
+            len: 104,
+        },
+        offset: 0,
+        len: 10,
+    }
+}
+
+/// Consecutive entries in one block of a file.
+pub fn run(queue: Queue, seq: u64, indexes: std::ops::Range<u64>) -> Vec<Entry> {
+    indexes.map(|index| entry(queue, seq, index)).collect()
+}

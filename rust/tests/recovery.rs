@@ -1,0 +1,196 @@
+//! Recovery on several threads, of the files of demo/.
+
+mod common;
+
+use common::{file, files, lines, parts};
+use raft_recover::{
+    Context, ErrorKind, FilePart, LogFile, Queue, Tables, Version, batch_len, recover, recover_both,
+};
+use std::thread;
+
+#[test]
+fn any_number_of_threads_gives_the_lines_of_the_readme() {
+    let files = files();
+    for workers in 0..6 {
+        let tables = recover(&parts(&files), Queue::Append, workers).unwrap();
+        assert_eq!(tables.to_string(), lines(), "{workers} threads");
+    }
+}
+
+#[test]
+fn files_cut_between_batches_give_the_same() {
+    let files = files();
+    let mut cut = Vec::new();
+    for part in parts(&files) {
+        let mut at = 0;
+        while let Some(len) = batch_len(&part.bytes[at..]) {
+            cut.push(FilePart {
+                offset: at as u64,
+                bytes: &part.bytes[at..at + len],
+                ..part
+            });
+            at += len;
+        }
+        assert_eq!(at, part.bytes.len());
+    }
+    let tables = recover(&cut, Queue::Append, 7).unwrap();
+    assert_eq!(tables.to_string(), lines());
+}
+
+#[test]
+fn contexts_move_to_other_threads() {
+    let files = files();
+    let parts = parts(&files);
+    let mut older = Context::new().unwrap();
+    older.replay(parts[0]).unwrap();
+    let older = thread::scope(|scope| {
+        let merged = scope.spawn(|| {
+            let mut newer = Context::new().unwrap();
+            for part in &parts[1..] {
+                newer.replay(*part).unwrap();
+            }
+            older.merge(newer, Queue::Append).unwrap();
+            older
+        });
+        merged.join().unwrap()
+    });
+    assert_eq!(older.finish().unwrap().to_string(), lines());
+}
+
+#[test]
+fn nothing_is_recovered_of_nothing() {
+    let tables = recover(&[], Queue::Append, 3).unwrap();
+    assert_eq!(tables.to_string(), "cleaned -\nlive 0 0\n");
+    let tables = recover_both(&[], &[], 3).unwrap();
+    assert_eq!(tables.regions().unwrap(), []);
+    assert_eq!(tables.summary(1), None);
+}
+
+#[test]
+fn without_rewritten_files_both_queues_give_the_lines_of_the_readme() {
+    let files = files();
+    let tables = recover_both(&[], &parts(&files), 2).unwrap();
+    assert_eq!(tables.to_string(), lines());
+}
+
+#[test]
+fn a_context_says_how_much_it_holds() {
+    let files = files();
+    let mut context = Context::new().unwrap();
+    for part in parts(&files) {
+        context.replay(part).unwrap();
+    }
+    let kept = context.kept().unwrap();
+    let tables = context.finish().unwrap();
+    let (mut entries, mut keys) = (0, 0);
+    for region in tables.regions().unwrap() {
+        let summary = tables.summary(region).unwrap();
+        entries += summary.entries as u64;
+        keys += summary.keys as u64;
+    }
+    assert_eq!((kept.entries, kept.keys), (entries, keys));
+    assert_eq!(kept.cleaned, tables.cleaned().len() as u64);
+    assert_eq!(kept.waiting_items, 0);
+}
+
+#[test]
+fn a_refusal_has_a_kind_and_a_text_and_empties_the_context() {
+    let files = files();
+    let mut context = Context::new().unwrap();
+    let whole = parts(&files)[0];
+    let cut = FilePart {
+        bytes: &whole.bytes[..whole.bytes.len() - 1],
+        ..whole
+    };
+    let e = context.replay(cut).unwrap_err();
+    assert_eq!(e.kind, ErrorKind::Corruption);
+    assert!(
+        e.text.starts_with("Corruption: append file 1, offset ")
+            && e.text.contains(": a log batch of "),
+        "{e}"
+    );
+    let e: Box<dyn std::error::Error> = Box::new(context.replay(whole).unwrap_err());
+    assert_eq!(e.to_string(), "Failed");
+    assert_eq!(context.kept().unwrap_err().kind, ErrorKind::Failed);
+    assert_eq!(context.finish().unwrap_err().kind, ErrorKind::Failed);
+}
+
+#[test]
+fn bytes_that_are_signed_for_another_file_are_refused() {
+    let files = files();
+    let part = FilePart {
+        file: file(2),
+        ..parts(&files)[0]
+    };
+    let e = recover(&[part], Queue::Append, 1).unwrap_err();
+    assert_eq!(e.kind, ErrorKind::Corruption, "{e}");
+}
+
+#[test]
+fn a_part_that_ends_past_the_last_offset_is_refused_and_the_context_stays() {
+    let mut context = Context::new().unwrap();
+    let part = |bytes| FilePart {
+        file: file(1),
+        offset: u64::MAX,
+        bytes,
+    };
+    let e = context.replay(part(&[0])).unwrap_err();
+    assert_eq!(e.kind, ErrorKind::InvalidArgument);
+    context.replay(part(&[])).unwrap();
+    assert_eq!(context.finish().unwrap().regions().unwrap(), []);
+}
+
+#[test]
+fn a_merge_in_the_wrong_order_is_refused() {
+    let files = files();
+    let read = |part| {
+        let mut context = Context::new().unwrap();
+        context.replay(parts(&files)[part]).unwrap();
+        context
+    };
+    let mut newer = read(1);
+    let e = newer.merge(read(0), Queue::Append).unwrap_err();
+    assert_eq!(e.kind, ErrorKind::Corruption, "{e}");
+    assert_eq!(newer.finish().unwrap_err().kind, ErrorKind::Failed);
+    let mut older = read(0);
+    let e = older.merge(read(1), Queue::Rewrite).unwrap_err();
+    assert_eq!(e.kind, ErrorKind::InvalidArgument, "{e}");
+}
+
+#[test]
+fn an_overlay_asks_for_one_context_of_each_queue() {
+    let files = files();
+    let read = || {
+        let mut context = Context::new().unwrap();
+        context.replay(parts(&files)[0]).unwrap();
+        context
+    };
+    let mut rewrite = read();
+    let e = rewrite.overlay(read()).unwrap_err();
+    assert_eq!(e.kind, ErrorKind::InvalidArgument, "{e}");
+    let mut rewrite = Context::new().unwrap();
+    rewrite.overlay(read()).unwrap();
+    assert!(rewrite.kept().unwrap().entries > 0);
+    let e = rewrite.replay(parts(&files)[1]).unwrap_err();
+    assert_eq!(e.kind, ErrorKind::Failed, "{e}");
+    // another empty context is of either queue
+    let mut both = Context::new().unwrap();
+    both.overlay(Context::new().unwrap()).unwrap();
+    assert_eq!(
+        both.finish().unwrap().to_string(),
+        Tables::new().unwrap().to_string()
+    );
+}
+
+#[test]
+fn types_may_move_to_other_threads_but_not_be_shared() {
+    fn is_send<T: Send>() {}
+    is_send::<Context>();
+    is_send::<Tables>();
+    is_send::<raft_recover::Batch>();
+    let _ = LogFile {
+        queue: Queue::Rewrite,
+        seq: 1,
+        version: Version::V1,
+    };
+}

@@ -1,0 +1,120 @@
+//! Each request of the library for memory is refused in turn, by a heap of this test's own.
+//!
+//! The library takes memory by three functions (`rattle_alloc` ..), which the kit's `liblibc_c.a` defines over `malloc`.
+//! A program may define them itself, as here: then nothing of that archive is linked.
+#![cfg(not(feature = "global-allocator"))]
+
+mod common;
+
+use common::{files, parts};
+use raft_recover::{ErrorKind, Queue, recover};
+use std::alloc::{Layout, alloc, dealloc, realloc};
+use std::sync::atomic::{AtomicI64, AtomicU64, Ordering::SeqCst};
+
+/// How many requests are granted before one is refused.
+static GRANTED: AtomicI64 = AtomicI64::new(i64::MAX);
+static LIVE: AtomicU64 = AtomicU64::new(0);
+
+#[repr(C)]
+struct Tried {
+    ok: bool,
+    p: *mut u8,
+}
+
+const HEAD: usize = 16;
+
+fn layout(n: usize) -> Layout {
+    Layout::from_size_align(n + HEAD, HEAD).unwrap()
+}
+
+fn tried(p: *mut u8, n: usize) -> Tried {
+    if p.is_null() {
+        return refusal();
+    }
+    // SAFETY: the block has room for its size in front.
+    unsafe {
+        p.cast::<usize>().write(n);
+        Tried {
+            ok: true,
+            p: p.add(HEAD),
+        }
+    }
+}
+
+/// What a refusal points to: the library asks for a pointer that leads somewhere, and nothing of it.
+static NOTHING: AtomicU64 = AtomicU64::new(0);
+
+fn refusal() -> Tried {
+    Tried {
+        ok: false,
+        p: NOTHING.as_ptr().cast(),
+    }
+}
+
+fn is_refused() -> bool {
+    GRANTED.fetch_sub(1, SeqCst) == 0
+}
+
+#[unsafe(no_mangle)]
+extern "C" fn rattle_alloc(n: usize, _a: usize) -> Tried {
+    if is_refused() {
+        return refusal();
+    }
+    LIVE.fetch_add(1, SeqCst);
+    // SAFETY: the layout isn't empty.
+    tried(unsafe { alloc(layout(n)) }, n)
+}
+
+#[unsafe(no_mangle)]
+unsafe extern "C" fn rattle_realloc(p: *mut u8, _kept: usize, n: usize, _a: usize) -> Tried {
+    if is_refused() {
+        return refusal();
+    }
+    // SAFETY: the block came from `tried`.
+    unsafe {
+        let block = p.sub(HEAD);
+        let old = block.cast::<usize>().read();
+        tried(realloc(block, layout(old), n + HEAD), n)
+    }
+}
+
+#[unsafe(no_mangle)]
+unsafe extern "C" fn rattle_dealloc(p: *mut u8) {
+    LIVE.fetch_sub(1, SeqCst);
+    // SAFETY: the block came from `tried`.
+    unsafe {
+        let block = p.sub(HEAD);
+        dealloc(block, layout(block.cast::<usize>().read()));
+    }
+}
+
+#[test]
+fn every_request_refused_in_turn() {
+    let files = files();
+    let parts = parts(&files);
+    let whole = recover(&parts, Queue::Append, 2).unwrap().to_string();
+    assert_eq!(LIVE.load(SeqCst), 0);
+    let mut refused = 0;
+    for granted in 0.. {
+        GRANTED.store(granted, SeqCst);
+        let answer = recover(&parts, Queue::Append, 2);
+        let is_over = GRANTED.swap(i64::MAX, SeqCst) > 0;
+        match answer {
+            Ok(tables) => assert_eq!(tables.to_string(), whole),
+            Err(e) => {
+                assert_eq!(e.kind, ErrorKind::Memory, "{e}");
+                refused += 1;
+            }
+        }
+        assert_eq!(
+            LIVE.load(SeqCst),
+            0,
+            "blocks are left after {granted} requests"
+        );
+        if is_over {
+            break;
+        }
+    }
+    assert!(refused > 100, "{refused}");
+    println!("{refused} requests refused");
+}

@@ -1,0 +1,271 @@
+//! The tables that an engine keeps.
+
+mod common;
+
+use common::{entry, files, lines, parts, run};
+use raft_recover::{
+    Batches, Content, ErrorKind, FileId, FilePart, Queue, Summary, Tables, crc32, readable_front,
+    recover,
+};
+
+const APPEND_9: FileId = FileId {
+    queue: Queue::Append,
+    seq: 9,
+};
+
+#[test]
+fn entries_are_appended_read_and_dropped() {
+    let mut tables = Tables::new().unwrap();
+    tables.append(7, &run(Queue::Append, 9, 10..20)).unwrap();
+    assert_eq!(tables.compact(7, 13).unwrap(), 3);
+    assert_eq!(tables.truncate(7, 19).unwrap(), 1);
+    assert_eq!(tables.entry(7, 12), None);
+    assert_eq!(tables.entry(7, 13), Some(entry(Queue::Append, 9, 13)));
+    assert_eq!(tables.entry(8, 13), None);
+    assert_eq!(
+        tables.entries(7, 14..16, None).unwrap(),
+        run(Queue::Append, 9, 14..16)
+    );
+    // the third entry would pass 25 bytes
+    assert_eq!(tables.entries(7, 13..19, Some(25)).unwrap().len(), 2);
+    assert_eq!(tables.entries(7, 13..13, None).unwrap(), []);
+    let kind = |range| tables.entries(7, range, None).unwrap_err().kind;
+    assert_eq!(kind(12..14), ErrorKind::EntryCompacted);
+    assert_eq!(kind(13..20), ErrorKind::EntryNotFound);
+    let e = tables.entries(8, 0..1, None).unwrap_err();
+    assert_eq!(e.kind, ErrorKind::EntryNotFound);
+    assert_eq!(
+        tables.to_string(),
+        "7 entries 13..19 keys 0 append 9 rewrite -\ncleaned -\nlive 6 0\n"
+    );
+}
+
+#[test]
+fn runs_that_do_not_fit_are_refused_and_change_nothing() {
+    let mut tables = Tables::new().unwrap();
+    tables.append(7, &run(Queue::Append, 9, 10..20)).unwrap();
+    let before = tables.to_string();
+    let mut kind = |entries: &[_]| tables.append(7, entries).unwrap_err().kind;
+    let hole = run(Queue::Append, 9, 30..31);
+    let gap = [entry(Queue::Append, 9, 15), entry(Queue::Append, 9, 17)];
+    let rewritten = run(Queue::Rewrite, 9, 20..21);
+    assert_eq!(kind(&hole), ErrorKind::Corruption);
+    assert_eq!(kind(&gap), ErrorKind::InvalidArgument);
+    assert_eq!(kind(&rewritten), ErrorKind::InvalidArgument);
+    assert_eq!(tables.to_string(), before);
+}
+
+#[test]
+fn keys_are_put_read_and_deleted() {
+    let mut tables = Tables::new().unwrap();
+    tables.put(3, b"a", b"one", APPEND_9).unwrap();
+    tables.put(3, b"b", b"", APPEND_9).unwrap();
+    tables.put(3, b"", b"two", APPEND_9).unwrap();
+    assert_eq!(tables.value(3, b"a").unwrap(), b"one");
+    assert_eq!(tables.value(3, b"b").unwrap(), b"");
+    assert_eq!(tables.value(3, b"").unwrap(), b"two");
+    assert_eq!(tables.value(3, b"c"), None);
+    assert_eq!(tables.value(4, b"a"), None);
+    tables.delete(3, b"a").unwrap();
+    assert_eq!(tables.value(3, b"a"), None);
+    assert_eq!(
+        (tables.live(Queue::Append), tables.live(Queue::Rewrite)),
+        (2, 0)
+    );
+}
+
+#[test]
+fn places_are_rewritten_up_to_the_gate() {
+    let mut tables = Tables::new().unwrap();
+    tables.append(7, &run(Queue::Append, 9, 10..12)).unwrap();
+    tables.append(7, &run(Queue::Append, 10, 12..14)).unwrap();
+    tables.put(7, b"k", b"v", APPEND_9).unwrap();
+    assert_eq!(
+        tables.entries_before(7, 9).unwrap(),
+        run(Queue::Append, 9, 10..12)
+    );
+    tables
+        .rewrite(7, &run(Queue::Rewrite, 2, 10..12), Some(9))
+        .unwrap();
+    tables.rewrite_key(7, b"k", Some(9), 2).unwrap();
+    assert_eq!(tables.entries_before(7, 9).unwrap(), []);
+    assert_eq!(
+        tables.rewritten_entries(7).unwrap(),
+        run(Queue::Rewrite, 2, 10..12)
+    );
+    assert_eq!(
+        tables.summary(7).unwrap(),
+        Summary {
+            entries: 4,
+            keys: 1,
+            first_index: Some(10),
+            append_seq: Some(10),
+            rewrite_seq: Some(2),
+        }
+    );
+    assert_eq!(
+        (tables.live(Queue::Append), tables.live(Queue::Rewrite)),
+        (2, 3)
+    );
+    let e = tables.rewrite_key(7, b"k", None, 1).unwrap_err();
+    assert_eq!(e.kind, ErrorKind::Corruption);
+}
+
+#[test]
+fn the_least_rewritten_file_is_that_of_the_atomic_group() {
+    let mut tables = Tables::new().unwrap();
+    tables.append(7, &run(Queue::Append, 9, 10..12)).unwrap();
+    tables
+        .rewrite(7, &run(Queue::Rewrite, 5, 10..12), Some(9))
+        .unwrap();
+    tables.set_atomic_group(7, 3, 5).unwrap();
+    assert_eq!(tables.summary(7).unwrap().rewrite_seq, Some(3));
+    let e = tables.set_atomic_group(7, 6, 5).unwrap_err();
+    assert_eq!(e.kind, ErrorKind::InvalidArgument);
+}
+
+#[test]
+fn regions_are_removed_and_listed() {
+    let mut tables = Tables::new().unwrap();
+    for region in [5, 1, 300, 2] {
+        tables.append(region, &run(Queue::Append, 9, 1..3)).unwrap();
+    }
+    assert_eq!(tables.regions().unwrap(), [1, 2, 5, 300]);
+    assert!(tables.remove(5, true).unwrap());
+    assert!(!tables.remove(4, true).unwrap());
+    assert!(tables.remove(1, false).unwrap());
+    assert_eq!(tables.regions().unwrap(), [2, 300]);
+    assert_eq!(tables.cleaned(), [5, 4]);
+    assert_eq!(tables.live(Queue::Append), 4);
+}
+
+#[test]
+fn tables_are_merged() {
+    let mut older = Tables::new().unwrap();
+    older.append(7, &run(Queue::Append, 9, 10..20)).unwrap();
+    let mut newer = Tables::new().unwrap();
+    newer.append(7, &run(Queue::Append, 10, 15..17)).unwrap();
+    newer.append(8, &run(Queue::Append, 10, 1..2)).unwrap();
+    older.merge_newer(newer).unwrap();
+    assert_eq!(older.summary(7).unwrap().entries, 7);
+    assert_eq!(older.regions().unwrap(), [7, 8]);
+    let mut hole = Tables::new().unwrap();
+    hole.append(7, &run(Queue::Append, 11, 40..41)).unwrap();
+    let e = older.merge_newer(hole).unwrap_err();
+    assert_eq!(e.kind, ErrorKind::Corruption, "{e}");
+    assert_eq!(older.summary(7).unwrap().entries, 7);
+}
+
+#[test]
+fn the_items_of_all_batches_give_the_recovered_tables() {
+    let files = files();
+    let mut tables = Tables::new().unwrap();
+    for part in parts(&files) {
+        for batch in Batches::new(part).unwrap() {
+            tables.apply_append(batch.unwrap()).unwrap();
+        }
+    }
+    assert_eq!(tables.to_string(), lines());
+    let recovered = recover(&parts(&files), Queue::Append, 2).unwrap();
+    for region in recovered.regions().unwrap() {
+        let Some(summary) = recovered.summary(region) else {
+            panic!("{region}");
+        };
+        assert_eq!(tables.summary(region), Some(summary));
+        if let Some(first) = summary.first_index {
+            let range = first..first + summary.entries as u64;
+            assert_eq!(
+                tables.entries(region, range.clone(), None),
+                recovered.entries(region, range, None)
+            );
+        }
+    }
+}
+
+#[test]
+fn items_of_the_append_queue_are_no_rewriting() {
+    let files = files();
+    let batch = Batches::new(parts(&files)[0])
+        .unwrap()
+        .map(Result::unwrap)
+        .find(|batch| {
+            batch
+                .iter()
+                .any(|item| matches!(item.content, Content::Entries(_)))
+        })
+        .unwrap();
+    let mut tables = Tables::new().unwrap();
+    let e = tables.apply_rewrite(batch, Some(9), 1).unwrap_err();
+    assert_eq!(e.kind, ErrorKind::Corruption, "{e}");
+}
+
+#[test]
+fn batches_are_walked_item_by_item() {
+    let files = files();
+    let (mut batches, mut items, mut entries) = (0, 0, 0);
+    for part in &parts(&files)[..3] {
+        for batch in Batches::new(*part).unwrap() {
+            let batch = batch.unwrap();
+            batches += 1;
+            items += batch.len();
+            assert_eq!(batch.iter().count(), batch.len());
+            assert_eq!(batch.get(batch.len()), None);
+            for item in batch.iter() {
+                if let Content::Entries(list) = item.content {
+                    entries += list.len();
+                    assert!(
+                        list.iter()
+                            .all(|entry| entry.block.file.seq == part.file.seq)
+                    );
+                }
+            }
+        }
+    }
+    // as demo/README.md says
+    assert_eq!((batches, items, entries), (36, 107, 108));
+}
+
+#[test]
+fn a_torn_tail_is_found() {
+    let files = files();
+    let whole = parts(&files)[0];
+    assert_eq!(readable_front(whole).unwrap(), (whole.bytes.len(), None));
+    let cut = FilePart {
+        bytes: &whole.bytes[..whole.bytes.len() - 1],
+        ..whole
+    };
+    let mut batches = Batches::new(cut).unwrap();
+    let mut last = 0;
+    let refused = loop {
+        let at = batches.next_at().unwrap();
+        match batches.next() {
+            Some(Ok(_)) => last = batches.next_at().unwrap(),
+            Some(Err(e)) => {
+                assert_eq!(at, last);
+                break e;
+            }
+            None => panic!("the last batch is cut short"),
+        }
+    };
+    assert_eq!(refused.kind, ErrorKind::Corruption);
+    assert_eq!(readable_front(cut).unwrap(), (last, Some(refused)));
+    assert!(batches.next().is_none());
+    let past = FilePart {
+        offset: u64::MAX,
+        ..whole
+    };
+    assert_eq!(
+        readable_front(past).unwrap_err().kind,
+        ErrorKind::InvalidArgument
+    );
+    assert_eq!(
+        Batches::new(past).unwrap_err().kind,
+        ErrorKind::InvalidArgument
+    );
+}
+
+#[test]
+fn the_checksum_is_that_of_zip_files() {
+    assert_eq!(crc32(b"123456789"), 0xCBF4_3926);
+    assert_eq!(crc32(b""), 0);
+}

@@ -1,0 +1,153 @@
+#!/usr/bin/env python3
+"""Compares the declarations in rust/src/sys.rs with the exports of crates/raft_ffi: names, parameters, results, and the fields of
+the structs that cross. With an archive it also compares the symbols that the archive leaves to others with those that it
+may: `tools/ffi.py [libraft_ffi.a]`. It prints each difference, and fails where there is one."""
+
+import pathlib
+import re
+import subprocess
+import sys
+
+TOP = pathlib.Path(__file__).resolve().parent.parent
+EXPORTS = TOP / "crates/raft_ffi/src"
+DECLARATIONS = TOP / "rust/src/sys.rs"
+
+# A type that crosses is a handle, or has another name in Rust, where the plain name is that of the safe type.
+IN_RUST = {
+    "Context": "Handle",
+    "Tables": "Handle",
+    "Items": "Handle",
+    "Entry": "EntryNumbers",
+    "Summary": "SummaryNumbers",
+}
+
+# What the archive may call: C's functions on memory, the text of a system error, and the heap.
+ALLOWED = {
+    "memcpy",
+    "memmove",
+    "memset",
+    "__xpg_strerror_r",
+    "rattle_alloc",
+    "rattle_realloc",
+    "rattle_dealloc",
+}
+
+
+def without_comments(text):
+    return re.sub(r"//[^\n]*", "", text)
+
+
+def parameters(text):
+    """The names and types of a list of parameters."""
+    found = [part.split(":", 1) for part in text.split(",") if part.strip()]
+    return [(name.strip(), " ".join(kind.split())) for name, kind in found]
+
+
+def in_rust(kind):
+    return IN_RUST.get(kind, kind)
+
+
+def passed(name, kind):
+    """The parameters in Rust that pass one of an export."""
+    if kind == "Global":
+        return []
+    for begin, pointer in (("&mut [", "*mut"), ("&[", "*const")):
+        if kind.startswith(begin):
+            item = kind[len(begin) : -1]
+            return [(name, f"{pointer} {in_rust(item)}"), (name + "_len", "usize")]
+    if kind.startswith("&mut "):
+        return [(name, f"*mut {in_rust(kind[5:])}")]
+    return [(name, in_rust(kind))]
+
+
+def exports():
+    """The exports as Rust has to declare them."""
+    head = re.compile(
+        r"#\[unsafe\(no_mangle\)\]\s*pub extern \"C\" fn (\w+)\(([^)]*)\)\s*(?:-> (\w+))?"
+    )
+    found = {}
+    for path in sorted(EXPORTS.glob("*.rt")):
+        for name, inside, result in head.findall(without_comments(path.read_text())):
+            wanted = [pair for kind in parameters(inside) for pair in passed(*kind)]
+            found[name] = (wanted, in_rust(result))
+    return found
+
+
+def declarations(text):
+    block = text[text.index('unsafe extern "C" {') :]
+    block = block[: block.index("\n}\n")]
+    head = re.compile(r"fn (\w+)\(([^)]*)\)\s*(?:-> (\w+))?;")
+    return {
+        name: (parameters(inside), result)
+        for name, inside, result in head.findall(block)
+    }
+
+
+def structs(text):
+    """The fields of each struct with C's layout, in order, but for ghost fields and those without bytes."""
+    head = re.compile(
+        r"#\[repr\(C\)\]\s*(?:#\[derive\([^)]*\)\]\s*)?(?:pub )?struct (\w+) \{(.*?)\n\}", re.S
+    )
+    found = {}
+    for name, inside in head.findall(without_comments(text)):
+        lines = [line.strip().rstrip(",") for line in inside.splitlines()]
+        fields = [line.removeprefix("pub ").split(": ", 1) for line in lines if ": " in line]
+        found[in_rust(name)] = [
+            (field, in_rust(kind))
+            for field, kind in fields
+            if not field.startswith("ghost ") and kind != "Global"
+        ]
+    return found
+
+
+def shown(call):
+    wanted, result = call
+    inside = ", ".join(f"{name}: {kind}" for name, kind in wanted)
+    return f"({inside})" + (f" -> {result}" if result else "")
+
+
+def differences(kind, wanted, found, show):
+    for name in sorted(wanted.keys() | found.keys()):
+        if name not in found:
+            yield f"{kind} {name}: Rust doesn't declare it"
+        elif name not in wanted:
+            yield f"{kind} {name}: the library has none"
+        elif wanted[name] != found[name]:
+            yield f"{kind} {name}: the library has {show(wanted[name])}, Rust {show(found[name])}"
+
+
+def undefined(archive):
+    """The symbols that the archive leaves to others."""
+    lines = subprocess.run(
+        ["nm", "-u", archive], check=True, capture_output=True, text=True
+    ).stdout.splitlines()
+    defined = subprocess.run(
+        ["nm", "--defined-only", archive], check=True, capture_output=True, text=True
+    ).stdout.split()
+    names = {line.split()[1] for line in lines if len(line.split()) == 2}
+    return names - set(defined)
+
+
+def main(words):
+    rust = without_comments(DECLARATIONS.read_text())
+    library = {}
+    for path in sorted(EXPORTS.glob("*.rt")):
+        library.update(structs(path.read_text()))
+    # the structs of the heap's shim are no part of an export
+    plain = {name: kind for name, kind in structs(rust).items() if name != "Tried"}
+    wanted = exports()
+    found = [
+        *differences("fn", wanted, declarations(rust), shown),
+        *differences("struct", library, plain, str),
+    ]
+    for archive in words:
+        calls = undefined(archive)
+        found += [f"{archive} calls {name}" for name in sorted(calls - ALLOWED)]
+    if not wanted:
+        found.append("no export was found")
+    print("\n".join(found) if found else f"rust/src/sys.rs declares the {len(wanted)} exports as they are")
+    return 1 if found else 0
+
+
+if __name__ == "__main__":
+    sys.exit(main(sys.argv[1:]))

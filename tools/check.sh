@@ -1,9 +1,8 @@
 #!/usr/bin/env bash
 # The full check: `rt ci`, then what it can't look at: words that aren't UTF-8, a scan of a sound file, the frames of `raftlog` on
-# the stack, runs with little stack, crashes of the store of `raft_example`, where there is a C compiler, some rows with memory
-# refused, and where there is cargo, the tests of the Rust crate over the archive of `raft_ffi`; first of all whether
-# docs/BELIEVE.md and docs/CALLS.md are what the definitions and the sources say, and the declarations of the Rust crate what the
-# exports are. The last line is that of `rt ci`, 'N passed, M failed'.
+# the stack, runs with little stack, crashes of the store of `raft_example`, and, where there is a C compiler, some rows with
+# memory refused; first of all whether docs/BELIEVE.md and docs/CALLS.md are what the definitions and the sources say, and the
+# declarations of the Rust crate what the exports are. The last line is that of `rt ci`, 'N passed, M failed'.
 set -euo pipefail
 cd "$(dirname "$0")/.."
 program=crates/raftlog/out/raftlog
@@ -36,14 +35,5 @@ tools/stack.py "$program"
 (cd "$room" && "$example" crashes 1 2 1)
 if command -v cc > "$room/compiler"; then
   tools/refused_memory.py --rows-alone --every 5 --row batches --row tables --row contexts --row take --row shared --row shared-take
-fi
-if command -v cargo > "$room/cargo"; then
-  archive=$PWD/crates/raft_ffi/out/libraft_ffi.a
-  (cd crates/raft_ffi && "${RT:-rt}" lib > "$room/lib" 2>&1) || { cat "$room/lib"; exit 1; }
-  tools/ffi.py "$archive"
-  kit=$(dirname "$("${RT:-rt}" doc)")
-  export RAFT_FFI_ARCHIVE=$archive RATTLE_HEAP_ARCHIVE=$kit/c/liblibc_c.a CARGO_TARGET_DIR=$room/target
-  cargo test --quiet --offline --manifest-path rust/Cargo.toml
-  cargo test --quiet --offline --manifest-path rust/Cargo.toml --features global-allocator
 fi
 tail -n 1 "$room/proved"

@@ -7,7 +7,7 @@ ghost use Rattle.raft_history.specs.BothQueues.{IsReadingOfBoth};
 ghost use Rattle.raft_history.specs.Histories.{IsSmall, Sound, Apart, IsOfQueue};
 ghost use Rattle.raft_history.specs.Kept.{kept_of};
 ghost use Rattle.raft_accessor.specs.Accessor.{Accessor, AreCountsOf};
-ghost use Rattle.raft_memtable.specs.KeptShown.{kept_shown, IsKeptFault};
+ghost use Rattle.raft_memtable.specs.KeptShown.{kept_shown};
 ghost use Rattle.raft_memtable.specs.OverlaidContext.{IsOverlaidWith, IsOfBothExactly, IsMergeAppendFault};
 ghost use Rattle.raft_memtable.specs.RecoverContext.{RecoverContext, blank_context, HasRead, HasReadExactly};
 ghost use Rattle.raft_memtable.specs.declared.context_stage.ContextStage.TheVariants.{Failed};
@@ -200,8 +200,8 @@ pub extern "C" fn raft_ffi_context_kept(
     ensures same { context.new.value ≡ context.old.value }
     ensures ok { result.code ≡ 0 → Holds (λ c. AreKept (kept_of c.context) kept.new)
         context.old.value }
-    ensures fault { result.code ≢ 0 → Holds (λ c. IsCodeOf (IsKeptFault c.stage) result.code)
-        context.old.value }
+    ensures fault { result.code ≢ 0 → Holds (λ c. IsCodeOf
+        (λ e. (e ≡ Error.Failed) × (c.stage ≡ Failed)) result.code) context.old.value }
 {
     let held = context.take(alloc);
     let answer = count_kept(&*held, kept);
@@ -212,7 +212,7 @@ pub extern "C" fn raft_ffi_context_kept(
 /// Says how much a context holds.
 fn count_kept(context: &MemTableRecoverContext, kept: &mut KeptNumbers) -> Result<()>
     ensures ok { OnOk result (AreKept (kept_of context.now.context) kept.new) }
-    ensures fault { IfErr result (IsKeptFault context.now.stage) }
+    ensures fault { IfErr result (λ e. (e ≡ Error.Failed) × (context.now.stage ≡ Failed)) }
 {
     *kept = kept_numbers(context.kept()?);
     Ok(())

@@ -39,3 +39,43 @@ pub use error::{Error, ErrorKind, Result};
 pub use files::{FileId, FilePart, LogFile, Queue, Version};
 pub use recovery::{recover, recover_both};
 pub use tables::{Summary, Tables};
+
+/// A value of the library is in one call at a time, and is freed once: no type is `Sync` or `Clone`.
+///
+/// ```compile_fail
+/// fn is_sync<T: Sync>() {}
+/// is_sync::<raft_recover::Tables>();
+/// ```
+///
+/// ```compile_fail
+/// fn is_sync<T: Sync>() {}
+/// is_sync::<raft_recover::Batch>();
+/// ```
+///
+/// ```compile_fail
+/// fn is_sync<T: Sync>() {}
+/// is_sync::<raft_recover::Context>();
+/// ```
+///
+/// ```compile_fail
+/// fn copy(tables: &raft_recover::Tables) -> raft_recover::Tables {
+///     tables.clone()
+/// }
+/// ```
+///
+/// ```compile_fail
+/// fn copy(context: &raft_recover::Context) -> raft_recover::Context {
+///     context.clone()
+/// }
+/// ```
+///
+/// A context that was handed to a merge is gone.
+///
+/// ```compile_fail
+/// use raft_recover::{Context, Queue};
+/// let (mut older, newer) = (Context::new().unwrap(), Context::new().unwrap());
+/// older.merge(newer, Queue::Append).unwrap();
+/// newer.finish().unwrap();
+/// ```
+#[cfg(doctest)]
+struct Refused;

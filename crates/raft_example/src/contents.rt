@@ -62,17 +62,17 @@ impl Contents {
         let mut text = String::new(alloc);
         for (region, records) in &self.regions {
             write!(text, "  region {region}")?;
-            let mut separator = ": ";
+            let mut is_first = true;
             for (index, bytes) in &records.entries {
                 let bytes = String::from_utf8_lossy(alloc, bytes)?;
-                write!(text, "{separator}{index} {bytes}")?;
-                separator = ", ";
+                write!(text, "{}{index} {bytes}", separator(is_first))?;
+                is_first = false;
             }
             for (key, value) in &records.pairs {
                 let key = String::from_utf8_lossy(alloc, key)?;
                 let value = String::from_utf8_lossy(alloc, value)?;
-                write!(text, "{separator}{key}={value}")?;
-                separator = ", ";
+                write!(text, "{}{key}={value}", separator(is_first))?;
+                is_first = false;
             }
             text.push('\n')?;
         }
@@ -108,4 +108,9 @@ impl Records {
         }
         Ok(())
     }
+}
+
+/// Returns what stands before a record of a line.
+fn separator(is_first: bool) -> &'static str {
+    if is_first { ": " } else { ", " }
 }

@@ -336,8 +336,7 @@ impl LogStore {
         {
             return Err(Error::Failed);
         }
-        self.table
-            .join_under(queue, newer, mark, &mut self.stats)?;
+        self.table.join_under(queue, newer, mark, &mut self.stats)?;
         Ok(())
     }
 

@@ -10,8 +10,7 @@ use std::vec;
 fn tables() {
     let _new: fn(Global) -> Result<MemTableAccessor> = MemTableAccessor::new;
     let _is_empty: fn(&MemTableAccessor) -> bool = MemTableAccessor::is_empty;
-    let _entries_count: fn(&MemTableAccessor) -> Result<u128> = MemTableAccessor::entries_count;
-    let _key_count: fn(&MemTableAccessor) -> Result<u128> = MemTableAccessor::key_count;
+    let _totals: fn(&MemTableAccessor) -> (u128, u128) = MemTableAccessor::totals;
     let _slot_of: fn(u64) -> usize = slot_of;
     let _region_tables: fn(Global) -> RegionTables = RegionTables::new;
 }

@@ -1,7 +1,5 @@
 //! Segments, plans, tickets, workers and what the program does, from `raft_recover`.
 
-ghost use Rattle.std.specs.Prelude.{[]};
-
 use raft_records::LogFileContext;
 use raft_recover::files::file_segments;
 use raft_recover::recovered::recovered_text;
@@ -94,36 +92,6 @@ fn replay_scheduled_of_schedules(
     plan: &Plan,
 ) -> Result<MemTableRecoverContext> {
     replay_scheduled(alloc, factory, segments, queue, workers, draws, plan)
-}
-
-/// The same of any machine.
-fn replay_scheduled_of_machines<M: ReplayMachine, F: Factory<M>>(
-    alloc: Global,
-    factory: &F,
-    segments: &[Segment],
-    queue: LogQueue,
-    workers: usize,
-    draws: &[usize],
-    plan: &Plan,
-) -> Result<M>
-    requires { (m : M) → F.gives factory.now m → M.stands_exactly m [] }
-{
-    replay_scheduled::<M, F>(alloc, factory, segments, queue, workers, draws, plan)
-}
-
-/// The same of any machine, by workers.
-fn replay_segments_of_machines<M: ReplayMachine, F: Factory<M>, G: Gate, R: Threads + Sync>(
-    rt: &R,
-    alloc: Global,
-    factory: &F,
-    segments: &[Segment],
-    queue: LogQueue,
-    workers: usize,
-    gate: &G,
-) -> Result<M>
-    requires { (m : M) → F.gives factory.now m → M.stands_exactly m [] }
-{
-    replay_segments::<M, F, G, R>(rt, alloc, factory, segments, queue, workers, gate)
 }
 
 /// Machines as workers make them.

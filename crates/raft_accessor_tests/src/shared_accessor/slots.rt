@@ -62,9 +62,9 @@ const HOLE: &str =
 
 const BEFORE: &str = "region 1: a run from index 9 on begins in front of the first entry 10";
 
-/// Why a slot would refuse two entries of region 1 from an index on; nothing where it would accept them.
-fn refusal(alloc: Global, slot: &Slot, start: u64) -> Result<String> {
-    let entries = run(alloc, start, start + 2, FileId::new(LogQueue::Append, 1))?;
+/// Why a slot would refuse a run of region 1; nothing where it would accept it.
+fn refusal(alloc: Global, slot: &Slot, start: u64, end: u64) -> Result<String> {
+    let entries = run(alloc, start, end, FileId::new(LogQueue::Append, 1))?;
     let items = vec![in alloc; LogItem::new_entry_indexes(1, entries)]?;
     match slot.check_append_writes(&items) {
         Ok(()) => Ok(String::new(alloc)),
@@ -78,9 +78,9 @@ fn test_runs(alloc: Global) -> Result<bool> {
     let mut slot = Slot::new(alloc, slot_of(1));
     let appended = run(alloc, 10, 20, FileId::new(LogQueue::Append, 1))?;
     slot.change(1, TableChange::Append(appended))?;
-    let behind = refusal(alloc, &slot, 20)?;
-    let apart = refusal(alloc, &slot, 21)?;
-    let before = refusal(alloc, &slot, 9)?;
+    let behind = refusal(alloc, &slot, 20, 22)?;
+    let apart = refusal(alloc, &slot, 21, 23)?;
+    let before = refusal(alloc, &slot, 9, 11)?;
     Ok(
         behind.is_empty()
             && apart.as_str() == HOLE

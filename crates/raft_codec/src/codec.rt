@@ -27,23 +27,23 @@ use std::io;
 use std::io::{ErrorKind, Write};
 use thiserror::Error;
 
-/// Bytes that a decoder reads from the front.
+/// The bytes that a decoder reads from the front.
 pub type BytesSlice<'a> = &'a [u8];
 
-/// Why a number was not read or written.
+/// The reason why a number was not read or written.
 #[derive(Debug, Drop, Error)]
 pub enum Error {
-    /// The writer failed, or the bytes spell no number: `UnexpectedEof` where they end too
-    /// early, `InvalidData` where they cannot be completed.
+    /// The writer failed, or the bytes spell no number: `UnexpectedEof` where they end too early, `InvalidData`
+    /// where they cannot be completed.
     #[error("{0}")]
     Io(io::Error),
-    /// For layers above.
+    /// A key of the wrong length. Layers above use it.
     #[error("bad format key(length)")]
     KeyLength,
-    /// For layers above.
+    /// A key with the wrong padding. Layers above use it.
     #[error("bad format key(padding)")]
     KeyPadding,
-    /// For layers above.
+    /// A key that is not there. Layers above use it.
     #[error("key not found")]
     KeyNotFound,
 }
@@ -63,7 +63,7 @@ impl Error {
     ghost use Rattle.std.specs.declared.io.ErrorKind.TheVariants.{UnexpectedEof};
     ghost use Rattle.raft_codec.specs.Errors.{IsIoOf};
 
-    /// The error of bytes that end too early.
+    /// Returns the error of bytes that end too early.
     pub fn unexpected_eof() -> Error
         ensures { IsIoOf result UnexpectedEof }
     {
@@ -71,11 +71,11 @@ impl Error {
     }
 }
 
-/// The answer of a codec.
+/// The result of a codec's call.
 pub type Result<T> = std::result::Result<T, Error>;
 
-/// Writes numbers to any writer. The error is the writer's, as `Error::Io`; the writer may have taken
-/// a part of the number's bytes before it.
+/// Writes numbers to any writer. The error is the writer's, as `Error::Io`. The writer may have taken a part of
+/// the number's bytes before it.
 pub trait NumberEncoder: Write {
     /// Writes `v` in eight bytes, the highest first: they order as the numbers do.
     final fn encode_u64(&mut self, v: u64) -> Result<()>
@@ -139,7 +139,7 @@ pub trait NumberEncoder: Write {
         Ok(())
     }
 
-    /// Writes the bytes of `encode_i64` with every bit complemented: they order in reverse.
+    /// Writes the bytes of `encode_i64` with every bit complemented: they order in reverse of the numbers.
     final fn encode_i64_desc(&mut self, v: i64) -> Result<()>
     where
         Self: Sized,
@@ -229,8 +229,8 @@ pub trait NumberEncoder: Write {
         Ok(())
     }
 
-    /// Writes `v` in base 128 by its code, which is small where `v` is near 0: twice `v` from 0
-    /// on, and the complement of that below 0.
+    /// Writes `v` in base 128 by its code, which is small where `v` is near 0: twice `v` from 0 on, and below 0
+    /// the complement of that.
     final fn encode_var_i64(&mut self, v: i64) -> Result<()>
     where
         Self: Sized,

@@ -11,10 +11,10 @@ ghost use Rattle.raft_codec.specs.Fixed.{IsBig, IsLittle, IsU64Desc, IsI64, IsI6
 
 use crate::codec::{BytesSlice, Error, Result};
 
-/// The sign of an `i64` in two's complement.
+/// The sign bit of an `i64` in two's complement.
 pub(crate) const SIGN_BIT: u64 = 1 << 63;
 
-/// The first `N` bytes, which the slice then lacks.
+/// Takes the first `N` bytes off the slice.
 #[inline]
 fn take_front<const N: usize>(buf: &mut BytesSlice<'_>) -> Result<[u8; N]>
     ensures ok { IfOk result (λ front. buf.old.now ≡ front ++ buf.new.now) }
@@ -32,7 +32,7 @@ fn take_front<const N: usize>(buf: &mut BytesSlice<'_>) -> Result<[u8; N]>
     }
 }
 
-/// Reads one byte. On `Err` the slice is empty, and the error is `Io` of kind `UnexpectedEof`.
+/// Reads one byte from the front. On `Err` the slice is empty, and the error is `Io` of kind `UnexpectedEof`.
 #[inline]
 pub fn read_u8(buf: &mut BytesSlice<'_>) -> Result<u8>
     ensures ok { IfOk result (λ byte. buf.old.now ≡ byte ∷ buf.new.now) }
@@ -49,8 +49,8 @@ pub fn read_u8(buf: &mut BytesSlice<'_>) -> Result<u8>
     }
 }
 
-/// Reads a number of eight bytes, the highest first. On `Err` there are fewer bytes, the slice is as it
-/// was, and the error is `Io` of kind `UnexpectedEof`.
+/// Reads a number of eight bytes, the highest first. On `Err` there are fewer bytes, the slice is as it was,
+/// and the error is `Io` of kind `UnexpectedEof`.
 #[inline]
 pub fn decode_u64(buf: &mut BytesSlice<'_>) -> Result<u64>
     ensures ok { IfOk result (Reads (IsBig 8) buf.old.now buf.new.now) }
@@ -62,8 +62,8 @@ pub fn decode_u64(buf: &mut BytesSlice<'_>) -> Result<u64>
     Ok(u64::from_be_bytes(bytes))
 }
 
-/// Reads a number of four bytes, the highest first. On `Err` there are fewer bytes, the slice is as it
-/// was, and the error is `Io` of kind `UnexpectedEof`.
+/// Reads a number of four bytes, the highest first. On `Err` there are fewer bytes, the slice is as it was, and
+/// the error is `Io` of kind `UnexpectedEof`.
 #[inline]
 #[tactic(auto, using(crate::proofs::FixedLemmas::reads_big_4))]
 pub fn decode_u32(buf: &mut BytesSlice<'_>) -> Result<u32>
@@ -76,8 +76,8 @@ pub fn decode_u32(buf: &mut BytesSlice<'_>) -> Result<u32>
     Ok(u32::from_be_bytes(bytes))
 }
 
-/// Reads a number of two bytes, the highest first. On `Err` there are fewer bytes, the slice is as it
-/// was, and the error is `Io` of kind `UnexpectedEof`.
+/// Reads a number of two bytes, the highest first. On `Err` there are fewer bytes, the slice is as it was, and
+/// the error is `Io` of kind `UnexpectedEof`.
 #[inline]
 #[tactic(auto, using(crate::proofs::FixedLemmas::reads_big_2))]
 pub fn decode_u16(buf: &mut BytesSlice<'_>) -> Result<u16>
@@ -90,8 +90,8 @@ pub fn decode_u16(buf: &mut BytesSlice<'_>) -> Result<u16>
     Ok(u16::from_be_bytes(bytes))
 }
 
-/// Reads what `encode_u64_desc` writes. On `Err` there are fewer bytes, the slice is as it
-/// was, and the error is `Io` of kind `UnexpectedEof`.
+/// Reads what `encode_u64_desc` writes. On `Err` there are fewer bytes, the slice is as it was, and the error
+/// is `Io` of kind `UnexpectedEof`.
 #[inline]
 pub fn decode_u64_desc(buf: &mut BytesSlice<'_>) -> Result<u64>
     ensures ok { IfOk result (Reads IsU64Desc buf.old.now buf.new.now) }
@@ -103,8 +103,8 @@ pub fn decode_u64_desc(buf: &mut BytesSlice<'_>) -> Result<u64>
     Ok(!complement)
 }
 
-/// Reads what `encode_i64` writes. On `Err` there are fewer bytes, the slice is as it
-/// was, and the error is `Io` of kind `UnexpectedEof`.
+/// Reads what `encode_i64` writes. On `Err` there are fewer bytes, the slice is as it was, and the error is
+/// `Io` of kind `UnexpectedEof`.
 #[inline]
 pub fn decode_i64(buf: &mut BytesSlice<'_>) -> Result<i64>
     ensures ok { IfOk result (Reads IsI64 buf.old.now buf.new.now) }
@@ -116,8 +116,8 @@ pub fn decode_i64(buf: &mut BytesSlice<'_>) -> Result<i64>
     Ok((flipped ^ SIGN_BIT).cast_signed())
 }
 
-/// Reads what `encode_i64_desc` writes. On `Err` there are fewer bytes, the slice is as it
-/// was, and the error is `Io` of kind `UnexpectedEof`.
+/// Reads what `encode_i64_desc` writes. On `Err` there are fewer bytes, the slice is as it was, and the error
+/// is `Io` of kind `UnexpectedEof`.
 #[inline]
 pub fn decode_i64_desc(buf: &mut BytesSlice<'_>) -> Result<i64>
     ensures ok { IfOk result (Reads IsI64Desc buf.old.now buf.new.now) }
@@ -196,7 +196,7 @@ pub fn decode_i64_le(buf: &mut BytesSlice<'_>) -> Result<i64>
     Ok(bits.cast_signed())
 }
 
-/// What is written in a fixed count of bytes is read again, whatever follows it.
+/// States that what is written in a fixed count of bytes is read again, whatever follows it.
 pub fn fixed_is_read_again()
     ensures big { (width : ℕ) → IsReadAgain width (λ x. x < 256 ^ width) (big_bytes width) }
     ensures little { (width : ℕ) → IsReadAgain width (λ x. x < 256 ^ width) (little_bytes width) }
@@ -207,9 +207,9 @@ pub fn fixed_is_read_again()
     ensures i64_le { IsReadAgain 8 (FitsSigned w64) (signed_le_bytes w64) }
 {}
 
-/// Bytes with the highest first order as their numbers do, those of `encode_i64` too, and those of
-/// `encode_u64_desc` and `encode_i64_desc` in reverse. An `i64` is written as its distance from the
-/// least one.
+/// States how bytes order. Bytes with the highest first order as their numbers do, those of `encode_i64` too,
+/// and those of `encode_u64_desc` and `encode_i64_desc` in reverse. An `i64` is written as its distance from
+/// the least one.
 pub fn bytes_order_as_numbers()
     ensures big { (width : ℕ) → OrdersAs nat_cmp (λ x. x < 256 ^ width) (big_bytes width) }
     ensures u64_desc { OrdersAs (λ x y. nat_cmp y x) (λ x. x < 2 ^ 64) u64_desc_bytes }

@@ -14,9 +14,9 @@ use std::io::{ErrorKind, Write};
 /// The most bytes that a number takes.
 pub const MAX_VAR_U64_LEN: usize = 10;
 
-/// Reads a number from the front, also one in a longer spelling than `encode_var_u64` writes. It
-/// takes no memory. On `Err` the slice is as it was: `UnexpectedEof` where the bytes end before
-/// their number does, `InvalidData` where it passes 64 bits.
+/// Reads a number from the front, also one in a longer spelling than `encode_var_u64` writes. It takes no
+/// memory. On `Err` the slice is as it was: `UnexpectedEof` where the bytes end before their number does,
+/// `InvalidData` where it passes 64 bits.
 #[inline(always)]
 pub fn decode_var_u64(buf: &mut BytesSlice<'_>) -> Result<u64>
     ensures ok { IfOk result (Reads IsVarint buf.old.now buf.new.now) }
@@ -29,7 +29,7 @@ pub fn decode_var_u64(buf: &mut BytesSlice<'_>) -> Result<u64>
     Ok(number)
 }
 
-/// The number in front of `bytes`, and what is behind it: what `decode_var_u64` reads, for readers that
+/// Returns the number in front of `bytes` and what follows it: what `decode_var_u64` reads, for readers that
 /// hold no slice to move on.
 #[inline(always)]
 pub fn parse_var_u64(bytes: &[u8]) -> Result<(u64, &[u8])>
@@ -43,8 +43,8 @@ pub fn parse_var_u64(bytes: &[u8]) -> Result<(u64, &[u8])>
     }
 }
 
-/// The number in front of `bytes`, and what is behind it, where it takes four bytes at most, as most
-/// numbers do; nothing where it takes more, or where no number is there.
+/// Returns the number in front of `bytes` and what follows it, where the number takes four bytes at most, as
+/// most numbers do. Returns nothing where it takes more, or where no number is there.
 #[inline(always)]
 pub fn parse_short_var_u64(bytes: &[u8]) -> Option<(u64, &[u8])>
     ensures some { IfSome result (λ read. Reads IsShortVarint bytes.now read.1.now read.0) }
@@ -71,7 +71,7 @@ pub fn parse_short_var_u64(bytes: &[u8]) -> Option<(u64, &[u8])>
     }
 }
 
-/// The low seven bits of two bytes, those of the second one above those of the first.
+/// Returns the low seven bits of two bytes, those of the second one above those of the first.
 #[inline(always)]
 fn two_septets(first: u8, second: u8) -> u64
     ensures { result ≡ first % 128 + 128 * (second % 128) }
@@ -79,7 +79,7 @@ fn two_septets(first: u8, second: u8) -> u64
     u64::from(first % 0x80) + (u64::from(second % 0x80) << 7)
 }
 
-/// What `parse_var_u64` reads, one septet after another.
+/// Reads what `parse_var_u64` reads, one septet after another.
 #[inline(never)]
 fn parse_septets(bytes: &[u8]) -> Result<(u64, &[u8])>
     ensures ok { IfOk result (λ read. Reads IsVarint bytes.now read.1.now read.0) }
@@ -100,7 +100,7 @@ fn parse_septets(bytes: &[u8]) -> Result<(u64, &[u8])>
     Err(Error::unexpected_eof())
 }
 
-/// A septet at its place.
+/// Returns the value of a septet at its place.
 #[inline]
 fn at_place(bits: u8, place: usize) -> u64
     requires septet { bits < 128 }
@@ -111,7 +111,7 @@ fn at_place(bits: u8, place: usize) -> u64
     u64::from(bits) << (7 * place)
 }
 
-/// Writes the shortest spelling of `number` to the front of `bytes`, and answers its length.
+/// Writes the shortest spelling of `number` to the front of `bytes`, and returns its length.
 #[inline]
 pub(crate) fn put_var_u64(bytes: &mut [u8; 10], number: u64) -> usize
     ensures written { take result bytes.new ≡ varint number }
@@ -130,7 +130,7 @@ pub(crate) fn put_var_u64(bytes: &mut [u8; 10], number: u64) -> usize
     MAX_VAR_U64_LEN
 }
 
-/// Writes a byte, and answers whether the writer took it at once. It may be asked again where it did not.
+/// Writes a byte, and returns whether the writer took it at once. It may be asked again where it did not.
 pub(crate) fn takes_byte<W: Write>(writer: &mut W, byte: u8) -> Result<bool>
     ensures written { IfOk result (λ written. MatchBool written
         (Appends (W.contents writer.old) (W.contents writer.new) (byte ∷ []))
@@ -169,7 +169,7 @@ pub fn append_var_u64(buf: &mut Vec<u8>, number: u64) -> std::result::Result<(),
     buf.extend_from_slice(&bytes[..len])
 }
 
-/// The shortest spelling of a number of two septets.
+/// Returns the shortest spelling of a number of two septets.
 fn in_two_bytes(number: u64) -> [u8; 2]
     requires least { 128 ≤ number }
     requires below { number < 16384 }
@@ -178,7 +178,7 @@ fn in_two_bytes(number: u64) -> [u8; 2]
     [septet(number), (number >> 7) as u8]
 }
 
-/// The shortest spelling of a number of three septets.
+/// Returns the shortest spelling of a number of three septets.
 fn in_three_bytes(number: u64) -> [u8; 3]
     requires least { 16384 ≤ number }
     requires below { number < 2097152 }
@@ -187,7 +187,7 @@ fn in_three_bytes(number: u64) -> [u8; 3]
     [septet(number), septet(number >> 7), (number >> 14) as u8]
 }
 
-/// The shortest spelling of a number of four septets.
+/// Returns the shortest spelling of a number of four septets.
 fn in_four_bytes(number: u64) -> [u8; 4]
     requires least { 2097152 ≤ number }
     requires below { number < 268435456 }
@@ -201,15 +201,15 @@ fn in_four_bytes(number: u64) -> [u8; 4]
     ]
 }
 
-/// The lowest septet of a number, which has more.
+/// Returns the byte of a number's lowest septet, which others follow.
 fn septet(number: u64) -> u8
     ensures { result ≡ number % 128 + 128 }
 {
     (number % 0x80) as u8 + 0x80
 }
 
-/// What is written is a spelling of its number, and none is shorter; and no spelling of a number
-/// begins another. So what was written is read again, whatever follows it.
+/// States that what is written is a spelling of its number, that none is shorter, and that no spelling of a
+/// number begins another. So what was written is read again, whatever follows it.
 pub fn varint_is_read_again()
     ensures spelled { (n : ℕ) → n < 2 ^ 64 → IsVarint (varint n) n }
     ensures shortest { (n : ℕ) (bytes : List ℕ) → n < 2 ^ 64 → IsVarint bytes n →

@@ -9,9 +9,8 @@ ghost use Rattle.raft_codec.specs.Zigzag.{IsVarI64, zigzag};
 use crate::codec::varint::decode_var_u64;
 use crate::codec::{BytesSlice, Result};
 
-/// Reads what `encode_var_i64` writes, also in a longer spelling. It takes no memory. On `Err` the
-/// slice is as it was: `UnexpectedEof` where the bytes end before their number does, `InvalidData`
-/// where it passes 64 bits.
+/// Reads what `encode_var_i64` writes, also in a longer spelling. It takes no memory. On `Err` the slice is as
+/// it was: `UnexpectedEof` where the bytes end before their number does, `InvalidData` where it passes 64 bits.
 #[inline]
 pub fn decode_var_i64(buf: &mut BytesSlice<'_>) -> Result<i64>
     ensures ok { IfOk result (Reads IsVarI64 buf.old.now buf.new.now) }
@@ -23,7 +22,7 @@ pub fn decode_var_i64(buf: &mut BytesSlice<'_>) -> Result<i64>
     Ok(number_of(code))
 }
 
-/// The code of a number, which is small where the number is near 0.
+/// Returns the code of a number, which is small where the number is near 0.
 #[inline]
 pub(crate) fn code_of(number: i64) -> u64
     ensures { result ≡ zigzag number }
@@ -32,7 +31,7 @@ pub(crate) fn code_of(number: i64) -> u64
     if number < 0 { !doubled } else { doubled }
 }
 
-/// The number of a code.
+/// Returns the number of a code.
 #[inline]
 fn number_of(code: u64) -> i64
     ensures { zigzag result ≡ code }
@@ -41,8 +40,8 @@ fn number_of(code: u64) -> i64
     if code & 1 == 0 { half } else { !half }
 }
 
-/// What `encode_var_i64` writes is a spelling of its number, and none is shorter; and no spelling
-/// of a number begins another. So it is read again, whatever follows it.
+/// States that what `encode_var_i64` writes is a spelling of its number, that none is shorter, and that no
+/// spelling of a number begins another. So it is read again, whatever follows it.
 pub fn var_i64_is_read_again()
     ensures spelled { (z : ℤ) → FitsSigned w64 z → IsVarI64 (varint (zigzag z)) z }
     ensures shortest { (z : ℤ) (bytes : List ℕ) → FitsSigned w64 z → IsVarI64 bytes z →

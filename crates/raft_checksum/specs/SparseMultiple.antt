@@ -2,7 +2,7 @@
 use Rattle.std.specs.Prelude.{◌≡◌, ℕ, ◌+◌, ◌*◌, ◌^◌, ◌<◌, ◌≤◌, bit_xor, List, [], ◌∷◌, length, slice_index}
 use Rattle.raft_checksum.specs.Checksum.{crc_steps}
 
--- the bytes of the quotient stand behind 300 earlier ones: each is the text's byte, with the four taken off that come 145, 183, 211 and 300 bytes before it
+-- from byte 300 on, each of the quotient is the text's, with those 145, 183, 211 and 300 bytes before it taken off
 abbrev pub IsQuotient : List ℕ → List ℕ → Type 0
 IsQuotient bytes quotient = (k : ℕ) → k < length bytes
     → slice_index quotient (k + 300) ≡ bit_xor (bit_xor (bit_xor (bit_xor (slice_index bytes k) (slice_index quotient (k + 155))) (slice_index quotient (k + 117))) (slice_index quotient (k + 89))) (slice_index quotient k)
@@ -25,6 +25,6 @@ unfoldable pub number_of_words : List ℕ → ℕ
 number_of_words [] = 0
 number_of_words (word ∷ words) = bit_xor word (number_of_words words * 2 ^ 64)
 
--- taken off the text that follows, these words do what the register does: they differ from it by a multiple of the polynomial
+-- taken off the following text, these words do what the register does: the difference is a multiple of the polynomial
 abbrev pub StandFor : List ℕ → ℕ → Type 0
 StandFor words register = crc_steps 300 register ≡ crc_steps 300 (number_of_words words)

@@ -12,13 +12,13 @@ use sparse::by_chunks;
 use tables::TABLES;
 use words::by_words;
 
-/// From this length on a text is divided by words, before its last bytes are looked up.
+/// The length from which on a text is divided by words, before its last bytes are looked up.
 const MIDDLING: usize = 128;
 
-/// From this length on a text is divided by chunks, before its last bytes are divided by words.
+/// The length from which on a text is divided by chunks, before its last bytes are divided by words.
 const LONG: usize = 640;
 
-/// What `byte` and then `zeros` zeros make of a register of zeros.
+/// Returns what `byte` and then `zeros` zeros make of a register of zeros.
 #[inline(always)]
 fn byte_then_zeros(byte: u8, zeros: usize) -> u32
     requires { zeros < 16 }
@@ -27,7 +27,7 @@ fn byte_then_zeros(byte: u8, zeros: usize) -> u32
     TABLES[zeros][byte as usize]
 }
 
-/// What the bytes of `word`, the lowest first, and then `zeros` zeros make of a register of zeros.
+/// Returns what the bytes of `word`, the lowest first, and then `zeros` zeros make of a register of zeros.
 #[inline(always)]
 fn word_then_zeros(word: u64, zeros: usize) -> u32
     requires { zeros ≤ 8 }
@@ -44,8 +44,8 @@ fn word_then_zeros(word: u64, zeros: usize) -> u32
         ^ byte_then_zeros(a, zeros + 7)
 }
 
-/// What two words make of a register of zeros. What the caller waits for stands in the first word's
-/// low bytes, so these are looked up last.
+/// Returns what two words make of a register of zeros. What the caller waits for stands in the first word's low
+/// bytes, so these are looked up last.
 #[inline(always)]
 fn two_words(first: u64, second: u64) -> u32
     ensures { result ≡ crc_steps 64 (bit_xor (crc_steps 64 first) second) }
@@ -53,7 +53,7 @@ fn two_words(first: u64, second: u64) -> u32
     word_then_zeros(second, 0) ^ word_then_zeros(first, 8)
 }
 
-/// The first eight bytes, as they join the register, and the bytes behind them.
+/// Returns the first eight bytes, as they join the register, and the bytes after them.
 #[inline(always)]
 fn first_eight_bytes(bytes: &[u8]) -> (u64, &[u8])
     requires { 8 ≤ length bytes.now }
@@ -66,7 +66,7 @@ fn first_eight_bytes(bytes: &[u8]) -> (u64, &[u8])
     (LittleEndian::read_u64(front), back)
 }
 
-/// The register after `bytes`, one at a time.
+/// Returns the register after `bytes`, which join it one at a time.
 #[inline]
 fn by_bytes(mut register: u32, bytes: &[u8]) -> u32
     ensures { result ≡ register_after register bytes.now }
@@ -78,7 +78,7 @@ fn by_bytes(mut register: u32, bytes: &[u8]) -> u32
     register
 }
 
-/// The register after `bytes`, sixteen at a time.
+/// Returns the register after `bytes`, which join it sixteen at a time.
 #[inline]
 fn by_sixteens(mut register: u32, bytes: &[u8]) -> u32
     ensures { result ≡ register_after register bytes.now }
@@ -97,7 +97,7 @@ fn by_sixteens(mut register: u32, bytes: &[u8]) -> u32
     by_bytes(word_then_zeros(register as u64 ^ word, 0), behind)
 }
 
-/// The register after `bytes`, in the way that is fastest for as many.
+/// Returns the register after `bytes`, in the way that is fastest for as many.
 #[inline]
 fn advanced(register: u32, bytes: &[u8]) -> u32
     ensures { result ≡ register_after register bytes.now }
@@ -111,16 +111,16 @@ fn advanced(register: u32, bytes: &[u8]) -> u32
     by_chunks(register, bytes)
 }
 
-/// The CRC-32 of `bytes`, as zip files and Ethernet frames have it.
+/// Returns the CRC-32 of `bytes`, as zip files and Ethernet frames have it.
 pub fn crc32(bytes: &[u8]) -> u32
     ensures { result ≡ crc32_of bytes.now }
 {
     !advanced(u32::MAX, bytes)
 }
 
-/// The register is a remainder: bytes that join it go on from where it is, and behind it they
-/// differ from the register after them, moved past them, by a multiple of
-/// x^32 + x^26 + x^23 + x^22 + x^16 + x^12 + x^11 + x^10 + x^8 + x^7 + x^5 + x^4 + x^2 + x + 1.
+/// States that the register is a remainder. More bytes go on from the register after those before them. The
+/// register, xored with bytes as one polynomial, differs from the register after them, moved past them, by a
+/// multiple of x^32 + x^26 + x^23 + x^22 + x^16 + x^12 + x^11 + x^10 + x^8 + x^7 + x^5 + x^4 + x^2 + x + 1.
 pub fn crc32_is_remainder()
     ensures appended { (register : ℕ) (bytes more : List ℕ) →
         register_after register (bytes ++ more)

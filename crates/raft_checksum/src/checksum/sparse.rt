@@ -16,7 +16,7 @@ const REACH: usize = 300;
 /// The bytes that are divided at once.
 const CHUNK: usize = 2048;
 
-/// Writes the quotient of `bytes` behind the 300 bytes of it that came before.
+/// Writes the quotient of `bytes` after the 300 bytes of it that came before.
 fn divide(quotient: &mut [u8], bytes: &[u8])
     requires { length bytes.now + 300 ≤ length quotient.old }
     ensures quotient { IsQuotient bytes.now quotient.new }
@@ -31,7 +31,7 @@ fn divide(quotient: &mut [u8], bytes: &[u8])
     }
 }
 
-/// Takes the last bytes of the quotient off the 300 bytes of the text behind them.
+/// Takes the last bytes of the quotient off the 300 bytes of the text that follow them.
 fn settle(remainder: &mut [u8], quotient: &[u8], bytes: &[u8])
     requires remainder { length remainder.old ≡ 300 }
     requires quotient { 455 ≤ length quotient.now }
@@ -43,7 +43,7 @@ fn settle(remainder: &mut [u8], quotient: &[u8], bytes: &[u8])
     }
 }
 
-/// Forgets the quotient's bytes behind the first 300.
+/// Forgets the quotient's bytes past the first 300.
 fn forget(quotient: &mut [u8])
     requires { 455 ≤ length quotient.old }
     ensures before { StartsAlike 300 quotient.old quotient.new }
@@ -54,7 +54,7 @@ fn forget(quotient: &mut [u8])
     }
 }
 
-/// The register after `bytes`, by chunks of the quotient.
+/// Returns the register after `bytes`, by chunks of the quotient.
 pub fn by_chunks(register: u32, bytes: &[u8]) -> u32
     requires { 300 ≤ length bytes.now }
     ensures { result ≡ register_after register bytes.now }

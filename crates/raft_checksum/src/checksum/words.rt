@@ -9,7 +9,7 @@ ghost use Rattle.raft_checksum.specs.SparseMultiple.{StandFor};
 
 use super::{by_sixteens, first_eight_bytes, two_words, word_then_zeros};
 
-/// The remainder once `word` is divided too.
+/// Returns the remainder once `word` is divided too.
 #[inline(always)]
 fn divided(remainder: [u64; 5], word: u64) -> [u64; 5]
     ensures { (register : ℕ) → StandFor remainder register →
@@ -26,7 +26,7 @@ fn divided(remainder: [u64; 5], word: u64) -> [u64; 5]
     ]
 }
 
-/// The register after `bytes`, where the remainder stands for the register before them.
+/// Returns the register after `bytes`, where the remainder stands for the register before them.
 #[inline(always)]
 fn settled(remainder: [u64; 5], bytes: &[u8]) -> u32
     requires { 40 ≤ length bytes.now }
@@ -44,7 +44,7 @@ fn settled(remainder: [u64; 5], bytes: &[u8]) -> u32
     by_sixteens(word_then_zeros(fifth ^ e ^ four as u64, 0), rest)
 }
 
-/// The register after `bytes`, two words at a time.
+/// Returns the register after `bytes`, two words at a time.
 pub fn by_words(register: u32, bytes: &[u8]) -> u32
     requires { 40 ≤ length bytes.now }
     ensures { result ≡ register_after register bytes.now }

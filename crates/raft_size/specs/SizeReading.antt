@@ -10,7 +10,7 @@ abbrev pub has_minus : List ℕ → Bool
 has_minus [] = false
 has_minus (c ∷ cs) = c == 45
 
--- what stands behind a sign, or all where none stands in front
+-- what follows a sign, or all where none stands in front
 abbrev pub behind_sign : List ℕ → List ℕ
 behind_sign [] = []
 behind_sign (c ∷ cs) = if c == 45 || c == 43 then cs else c ∷ cs
@@ -25,7 +25,7 @@ abbrev pub NoPointFirst : List ℕ → Type 0
 NoPointFirst [] = ⊤
 NoPointFirst (c ∷ cs) = c ≢ 46
 
--- a point with the digits behind it was taken off, or no point stands there
+-- a point with the digits after it was taken off, or no point stands there
 abbrev pub TakesFraction : List ℕ → List ℕ → List ℕ → Type 0
 TakesFraction behind fraction rest =
     (behind ≡ 46 ∷ (fraction ++ rest)) ⊎ ((behind ≡ rest) × (fraction ≡ []) × NoPointFirst rest)

@@ -30,7 +30,7 @@ pub record HasUnit (text : List ℕ) (factor : ℕ) : Type 0 where
   pub ascii : IsAscii text
   pub unit : IsUnit (unit_text text) factor
 
--- a number of at most twenty digits, and a unit behind it
+-- a number of at most twenty digits, and a unit after it
 pub record SpellsSize (text : List ℕ) (size : ℕ) : Type 0 where
   pub factor : ℕ
   pub number : Number

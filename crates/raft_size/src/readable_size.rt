@@ -41,7 +41,7 @@ impl ReadableSize {
     ghost use Rattle.raft_size.specs.declared.readable_size.ReadableSize.{ReadableSize};
     ghost use Rattle.raft_size.specs.declared.size_text.SizeError.{SizeError};
 
-    /// So many times 2^10 bytes.
+    /// Returns so many times 2^10 bytes.
     pub const fn kb(count: u64) -> ReadableSize
         requires { count * 2 ^ 10 < 2 ^ 64 }
         ensures { result.0 ≡ count * 2 ^ 10 }
@@ -49,7 +49,7 @@ impl ReadableSize {
         ReadableSize(count * KIB)
     }
 
-    /// So many times 2^20 bytes.
+    /// Returns so many times 2^20 bytes.
     pub const fn mb(count: u64) -> ReadableSize
         requires { count * 2 ^ 20 < 2 ^ 64 }
         ensures { result.0 ≡ count * 2 ^ 20 }
@@ -57,7 +57,7 @@ impl ReadableSize {
         ReadableSize(count * MIB)
     }
 
-    /// So many times 2^30 bytes.
+    /// Returns so many times 2^30 bytes.
     pub const fn gb(count: u64) -> ReadableSize
         requires { count * 2 ^ 30 < 2 ^ 64 }
         ensures { result.0 ≡ count * 2 ^ 30 }
@@ -65,15 +65,15 @@ impl ReadableSize {
         ReadableSize(count * GIB)
     }
 
-    /// How often 2^20 bytes fit into the size.
+    /// Returns how often 2^20 bytes fit into the size.
     pub const fn as_mb(self) -> u64
         ensures { result ≡ self.0 / 2 ^ 20 }
     {
         self.0 / MIB
     }
 
-    /// The laws of texts: a text can be read in one way alone, what is printed of a size stands
-    /// for that size, and so it is read again as that size.
+    /// States the laws of texts: a text can be read in one way alone, what is printed of a size stands for that
+    /// size, and so it is read again as that size.
     pub fn text_laws()
         ensures one_way { (text : List ℕ) (r s : Result ReadableSize SizeError) → IsReadAs text r
             → IsReadAs text s → r ≡ s }
@@ -82,7 +82,7 @@ impl ReadableSize {
             → IsReadAs (size_text n) r → r ≡ Ok (record { 0 = n }) }
     {}
 
-    /// The number and the unit that are printed.
+    /// Returns the number and the unit that are printed.
     fn printed(self) -> (u64, &'static str)
         ensures text { size_text self.0 ≡ decimal result.0 ++ result.1.now }
         ensures unit { length result.1.now ≤ 3 }
@@ -106,7 +106,7 @@ impl ReadableSize {
     }
 }
 
-/// The size divided by a number, rounded down.
+/// Divides the size by a number, and rounds down.
 impl Div<u64> for ReadableSize {
     type Output = ReadableSize;
 
@@ -119,7 +119,7 @@ impl Div<u64> for ReadableSize {
     }
 }
 
-/// How often a size fits into the size.
+/// Returns how often a size fits into the size.
 impl Div<ReadableSize> for ReadableSize {
     type Output = u64;
 
@@ -132,7 +132,7 @@ impl Div<ReadableSize> for ReadableSize {
     }
 }
 
-/// So many times the size.
+/// Returns so many times the size.
 impl Mul<u64> for ReadableSize {
     type Output = ReadableSize;
 
@@ -145,11 +145,11 @@ impl Mul<u64> for ReadableSize {
     }
 }
 
-/// A number and a unit, as ` 0.5 PiB` or `1e+1MB`, rounded down to whole bytes and held from 0 to
+/// Reads a number and a unit, as ` 0.5 PiB` or `1e+1MB`, rounded down to whole bytes and held from 0 to
 /// 2^64 - 1.
 ///
-/// The units are `B` or none, and `K`, `M`, `G`, `T` and `P`, alone or with `B` or `iB` behind
-/// them, for 2^10, 2^20, 2^30, 2^40 and 2^50 bytes.
+/// The units are `B` or none, and `K`, `M`, `G`, `T` and `P`, alone or with `B` or `iB` after them, for 2^10,
+/// 2^20, 2^30, 2^40 and 2^50 bytes.
 impl FromStr for ReadableSize {
     type Err = SizeError;
 
@@ -160,7 +160,7 @@ impl FromStr for ReadableSize {
     }
 }
 
-/// The size in the largest unit that divides it.
+/// Prints the size in the largest unit that divides it.
 impl fmt::Display for ReadableSize {
     ghost output = { λ size. Some (size_text size.0) };
 
@@ -174,7 +174,7 @@ impl Described for ReadableSize {
     ghost writes = { λ size old new. Logs old new (text (size_text size.0)) };
 }
 
-/// As its text.
+/// Writes the size as its text.
 impl Serialize for ReadableSize {
     fn serialize<S: Serializer>(&self, out: &mut S) -> Result<(), S::Error> {
         let (count, unit) = self.printed();
@@ -186,7 +186,7 @@ impl Serialize for ReadableSize {
     }
 }
 
-/// From a text.
+/// Reads the size from a text.
 impl<'de> Deserialize<'de> for ReadableSize {
     fn deserialize<F: Format>(
         alloc: Global,
@@ -213,7 +213,11 @@ impl DeserializeOwned for ReadableSize {
     }
 }
 
-/// The size that a setting gives: a text, or a whole number of bytes.
+/// Returns the size that a setting gives: a text, or a whole number of bytes.
+///
+/// # Errors
+///
+/// The fault of the text; `Kind` for a number below 0, and for any other value.
 pub fn size_from_value(value: &Value) -> Result<ReadableSize, SizeError>
     ensures { IsValueReadAs (view value.now) result }
 {

@@ -5,10 +5,10 @@ ghost use Rattle.std.specs.Str.Parse.{AllDigits, IsNumeral, digits_value, digits
 ghost use Rattle.raft_size.specs.SizeNumber.{Number, IsNumber, IsExponent, digits_of, significant, size_of};
 ghost use Rattle.raft_size.specs.SizeReading.{has_minus, behind_sign, NoDigitFirst, TakesFraction, number_shown, HasDigitsAlone, scaled_size};
 
-/// Above every number of 20 digits.
+/// A limit above every number of 20 digits.
 const SIGNIFICAND_LIMIT: u128 = 100_000_000_000_000_000_000;
 
-/// Above the length of every text, by more than the digits that a size can have.
+/// A limit above the length of every text, by more than the digits that a size can have.
 const EXPONENT_LIMIT: u128 = 1 << 65;
 
 /// A number, taken apart.
@@ -22,7 +22,7 @@ pub(super) struct SizeNumber<'a> {
 }
 
 impl<'a> SizeNumber<'a> {
-    /// The number that the text is, if it is one.
+    /// Returns the number that the text is, if it is one.
     pub(super) fn parse(text: &'a [u8]) -> Option<SizeNumber<'a>>
         ensures number { IfSome result (λ number. IsNumber text.now (number_shown number)) }
         ensures digits { IfSome result (λ number. HasDigitsAlone (number_shown number)) }
@@ -44,7 +44,7 @@ impl<'a> SizeNumber<'a> {
         })
     }
 
-    /// The number that the digits make with the point taken out, if they are few enough.
+    /// Returns the number that the digits make with the point taken out, if they are few enough.
     pub(super) fn significand(&self) -> Option<u128>
         requires { HasDigitsAlone (number_shown self.now) }
         ensures value { IfSome result (λ value. value ≡ digits_value 10
@@ -64,7 +64,7 @@ impl<'a> SizeNumber<'a> {
         }
     }
 
-    /// The size of so many units.
+    /// Returns the size of so many units.
     pub(super) fn size(&self, significand: u128, factor: u64) -> u64
         requires digits { HasDigitsAlone (number_shown self.now) }
         requires significand { significand ≡ digits_value 10 (digits_of (number_shown self.now)) }
@@ -86,7 +86,7 @@ impl<'a> SizeNumber<'a> {
     }
 }
 
-/// Whether a minus sign stands in front, and what stands behind the sign.
+/// Returns whether a minus sign stands in front, and what follows the sign.
 fn split_sign(text: &[u8]) -> (bool, &[u8])
     ensures minus { result.0 ≡ has_minus text.now }
     ensures rest { result.1.now ≡ behind_sign text.now }
@@ -98,7 +98,7 @@ fn split_sign(text: &[u8]) -> (bool, &[u8])
     }
 }
 
-/// The digits in front, and the rest.
+/// Returns the digits in front, and the rest.
 fn split_digits(text: &[u8]) -> (&[u8], &[u8])
     ensures split { text.now ≡ result.0.now ++ result.1.now }
     ensures digits { AllDigits 10 result.0.now }
@@ -112,7 +112,7 @@ fn split_digits(text: &[u8]) -> (&[u8], &[u8])
     text.split_at(text.len())
 }
 
-/// The digits behind a point in front, and the rest.
+/// Returns the digits after a point in front, and the rest.
 fn split_fraction(behind: &[u8]) -> (&[u8], &[u8])
     requires { NoDigitFirst behind.now }
     ensures split { TakesFraction behind.now result.0.now result.1.now }
@@ -125,7 +125,7 @@ fn split_fraction(behind: &[u8]) -> (&[u8], &[u8])
     }
 }
 
-/// Whether an exponent's sign is a minus, and its digits.
+/// Returns whether an exponent's sign is a minus, and its digits.
 fn parse_exponent(text: &[u8]) -> Option<(bool, &[u8])>
     ensures exponent { IfSome result (λ exponent. IsExponent text.now exponent.0 exponent.1.now) }
     ensures none { IfNone result ((minus : Bool) (digits : List ℕ) →
@@ -139,7 +139,7 @@ fn parse_exponent(text: &[u8]) -> Option<(bool, &[u8])>
     }
 }
 
-/// Whether a power's sign is a minus, and its digits.
+/// Returns whether a power's sign is a minus, and its digits.
 fn parse_power(text: &[u8]) -> Option<(bool, &[u8])>
     ensures minus { IfSome result (λ power. power.0 ≡ has_minus text.now) }
     ensures digits { IfSome result (λ power. power.1.now ≡ behind_sign text.now) }
@@ -154,7 +154,7 @@ fn parse_power(text: &[u8]) -> Option<(bool, &[u8])>
     Some((is_negative, digits))
 }
 
-/// The number that the digits make behind those of `start`, capped at the limit.
+/// Returns the number that the digits make after those of `start`, capped at the limit.
 fn value_up_to(limit: u128, start: u128, digits: &[u8]) -> u128
     requires limit { limit < 2 ^ 100 }
     requires start { start ≤ limit }
@@ -168,7 +168,7 @@ fn value_up_to(limit: u128, start: u128, digits: &[u8]) -> u128
     value
 }
 
-/// The value times powers of ten and divided by others, rounded down and capped at the greatest size.
+/// Returns the value times powers of ten and divided by others, rounded down and capped at the greatest size.
 fn scaled(value: u128, up: u128, down: u128) -> u64
     requires { value < 2 ^ 120 }
     ensures { result ≡ scaled_size value up down }
@@ -180,7 +180,7 @@ fn scaled(value: u128, up: u128, down: u128) -> u64
     }
 }
 
-/// The value divided by a power of ten, rounded down and capped at the greatest size.
+/// Returns the value divided by a power of ten, rounded down and capped at the greatest size.
 fn lowered(value: u128, power: u128) -> u64
     requires { value < 2 ^ 120 }
     ensures { result ≡ scaled_size value 0 power }
@@ -192,7 +192,7 @@ fn lowered(value: u128, power: u128) -> u64
     }
 }
 
-/// The value times a power of ten, capped at the greatest size.
+/// Returns the value times a power of ten, capped at the greatest size.
 fn raised(value: u128, power: u128) -> u64
     ensures { result ≡ scaled_size value power 0 }
 {
@@ -206,7 +206,7 @@ fn raised(value: u128, power: u128) -> u64
     }
 }
 
-/// The number, capped at the greatest size.
+/// Returns the number, capped at the greatest size.
 fn held(number: u128) -> u64
     ensures { result ≡ min (2 ^ 64 - 1) number }
 {

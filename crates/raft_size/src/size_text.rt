@@ -9,7 +9,7 @@ use super::size_number::SizeNumber;
 use super::units::{B, GIB, KIB, MIB, PIB, TIB};
 use thiserror::Error;
 
-/// Why a text or a value stands for no size.
+/// The reason why a text or a value stands for no size.
 #[derive(Debug, Drop, Error, Clone, Copy, PartialEq, Eq)]
 pub enum SizeError {
     /// The text is empty, or white space alone.
@@ -18,7 +18,7 @@ pub enum SizeError {
     /// The text has a character that is not ASCII.
     #[error("not ASCII")]
     NotAscii,
-    /// What stands behind the number is no unit.
+    /// What follows the number is no unit.
     #[error("only B, KB, KiB, MB, MiB, GB, GiB, TB, TiB, PB and PiB are supported")]
     Unit,
     /// What stands in front of the unit is no number.
@@ -32,7 +32,7 @@ pub enum SizeError {
     Kind,
 }
 
-/// The size that the text stands for, in bytes.
+/// Returns the size that the text stands for, in bytes.
 pub(super) fn parse_size(text: &str) -> Result<u64, SizeError>
     ensures size { IfOk result (IsSizeText text.now) }
     ensures fault { IfErr result (IsSizeFault text.now) }
@@ -47,7 +47,7 @@ pub(super) fn parse_size(text: &str) -> Result<u64, SizeError>
     }
 }
 
-/// The size that a text spells.
+/// Returns the size that a text spells.
 fn parse_ascii(text: &str) -> Result<u64, SizeError>
     requires some_text { text.now ≢ [] }
     requires ascii { IsAscii text.now }
@@ -67,7 +67,7 @@ fn parse_ascii(text: &str) -> Result<u64, SizeError>
     Ok(number.size(significand, factor))
 }
 
-/// How long the number in front is.
+/// Returns how long the number in front is.
 fn front_len(text: &[u8]) -> usize
     ensures { result ≡ number_len text.now }
 {
@@ -79,14 +79,14 @@ fn front_len(text: &[u8]) -> usize
     text.len()
 }
 
-/// Whether a number may have this character.
+/// Tests whether a number may have this character.
 fn is_number_byte(c: u8) -> bool
     ensures { result ≡ is_number_character c }
 {
     c.is_ascii_digit() || matches!(c, b'.' | b'e' | b'E' | b'-' | b'+')
 }
 
-/// The factor of a unit, if the text is one.
+/// Returns the factor of a unit, if the text is one.
 fn unit_factor(unit: &str) -> Option<u64>
     ensures bound { IfSome result (λ factor. factor ≤ 2 ^ 50) }
     ensures known { IfSome result (IsUnit unit.now) }

@@ -9,12 +9,12 @@ use std::alloc::Global;
 /// How the entry bytes of a batch are compressed.
 #[derive(Clone, Copy, PartialEq, Eq, Debug)]
 pub enum CompressionType {
-    /// They stand as they are.
+    /// The bytes stand as they are.
     None = 0,
 }
 
 impl CompressionType {
-    /// The compression type that a byte stands for.
+    /// Returns the compression type that a byte stands for.
     ///
     /// # Errors
     ///
@@ -31,7 +31,7 @@ impl CompressionType {
         }
     }
 
-    /// The byte that stands for the compression type.
+    /// Returns the byte that stands for the compression type.
     pub fn to_u8(self) -> u8
         ensures { result ≡ compression_byte self }
     {

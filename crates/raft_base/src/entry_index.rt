@@ -25,7 +25,7 @@ impl Default for EntryIndex {
 
     ghost is_default = { λ e. e ≡ no_entry };
 
-    /// Index 0, no bytes and no place.
+    /// Returns the entry with index 0, without bytes and without a place.
     fn default() -> EntryIndex {
         EntryIndex {
             index: 0,
@@ -37,7 +37,7 @@ impl Default for EntryIndex {
     }
 }
 
-/// Whether the indexes rise by one from entry to entry and none is 2^64 - 1. It takes no memory.
+/// Tests whether the indexes rise by one from entry to entry and none is 2^64 - 1. It takes no memory.
 pub fn is_consecutive(entries: &[EntryIndex]) -> bool
     ensures { IsTrue result ↔ IsConsecutive entries.now }
 {

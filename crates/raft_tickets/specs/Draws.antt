@@ -5,13 +5,13 @@ use Rattle.atomic_table.specs.Seated.{TableId, table_id_coded}
 use Rattle.raft_base.specs.declared.errors.Error.{Error}
 use Rattle.raft_base.specs.declared.errors.Error.TheVariants as errors
 
--- a seat: where it draws, how many numbers are answered there, and the numbers that it drew, in order
+-- a seat: where it draws, how many numbers are returned there, and the numbers that it drew, in order
 pub record Drawer : Type 0 where
   pub table : TableId
   pub total : ℕ
   pub drawn : List ℕ
 
--- tickets: where they are drawn, how many numbers are answered, and how many seats draw
+-- tickets: where they are drawn, how many numbers are returned, and how many seats draw
 pub record TicketBook : Type 0 where
   pub table : TableId
   pub total : ℕ
@@ -60,8 +60,8 @@ pub record HasEnded (total : ℕ) (drawn : List ℕ) : Type 0 where
   pub below : AreBelow total front
   pub past : total ≤ last
 
--- A draw: what is answered, and the seat's list afterwards. One more number, above all that the seat drew before, is answered where it is below the
--- total; otherwise the list ends with it. A seat whose list has ended draws no more.
+-- A draw: what is returned, and the seat's list afterwards. One more number, above all that the seat drew before, is
+-- returned where it is below the total; otherwise the list ends with it. A seat whose list has ended draws no more.
 abbrev pub Draw : ℕ → List ℕ → Option ℕ → List ℕ → Type 0
 Draw total before (Some n) after = (n < total) × AreBelow n before × (after ≡ before ++ n ∷ [])
 Draw total before None after =

@@ -8,14 +8,14 @@ use std::collections::LinkedList;
 /// The numbers that seats drew, a list for each. No value of it is made.
 pub(crate) type Lists = LinkedList<LinkedList<u64>>;
 
-/// How many numbers are answered, and how many seats draw.
+/// The sizes of tickets: how many numbers are returned, and how many seats draw.
 #[derive(Drop)]
 pub(crate) struct Sizes {
     pub(crate) total: u64,
     pub(crate) seats: u64,
 }
 
-/// The numbers below the word were drawn, each once.
+/// The rule that the numbers below the word were drawn, each once.
 pub(crate) struct Drawing;
 
 impl TableRule<(), Lists, Sizes> for Drawing {
@@ -27,7 +27,7 @@ impl TableRule<(), Lists, Sizes> for Drawing {
     ghost first = { λ sizes. replicate sizes.seats [] };
 }
 
-/// A seat draws the number that it finds.
+/// The play by which a seat draws the number that it finds.
 pub(crate) struct Draws;
 
 impl Play<(), Lists> for Draws {
@@ -37,7 +37,7 @@ impl Play<(), Lists> for Draws {
     ghost then = { λ _ me n after. HasDrawn me.0 n after.0 × (after.1 ≡ me.1) };
 }
 
-/// The first list goes to a new seat.
+/// The split by which the first list goes to a new seat.
 pub(crate) struct First;
 
 impl Split<Lists> for First {
@@ -48,7 +48,7 @@ impl Split<Lists> for First {
     ghost right = { λ view. take 1 view };
 }
 
-/// All lists of both go to one seat.
+/// The join by which all lists of both go to one seat.
 pub(crate) struct Both;
 
 impl Join<Lists> for Both {

@@ -11,10 +11,10 @@ use raft_base::{Error, Result};
 use std::alloc::Global;
 use std::marker::Model;
 
-/// Fewer numbers and seats than this: the word never passes twice as much, so it can't wrap.
+/// The limit that numbers and seats stay below: the word never passes twice as much, so it can't wrap.
 const LIMIT: usize = 1 << 62;
 
-/// The numbers from 0 on, each to be drawn once, by some seat. Those below the total are answered.
+/// The numbers from 0 on, each to be drawn once, by some seat. Those below the total are returned.
 #[derive(Drop)]
 pub struct Tickets {
     table: Table<(), Lists, Sizes, Drawing, Global>,
@@ -36,7 +36,7 @@ impl Model for Tickets {
 }
 
 impl Tickets {
-    /// Tickets of the numbers below `total`, and this many seats, which have drawn nothing.
+    /// Returns tickets of the numbers below `total`, and this many seats, which have drawn nothing.
     ///
     /// # Errors
     ///
@@ -65,8 +65,9 @@ impl Tickets {
         Ok((tickets, drawers))
     }
 
-    /// The next number, by one step on the word; nothing once all numbers below the total are drawn. A seat that
-    /// was answered nothing draws no more, and takes no step.
+    /// Draws the next number by one step on the word, and returns it where it is below the total. Returns
+    /// nothing once all numbers below the total are drawn. A seat that got nothing draws no more, and takes no
+    /// step.
     pub fn draw(&self, seat: &mut TicketSeat) -> Option<usize>
         requires { IsSeatOf self.now seat.old }
         ensures same { IsSeatOf self.now seat.new }
@@ -85,7 +86,7 @@ impl Tickets {
         }
     }
 
-    /// How many numbers were drawn, once all seats are back.
+    /// Returns how many numbers were drawn, once all seats are back.
     pub fn close(self, mut seats: Vec<TicketSeat>) -> usize
         requires { (vec_len seats ≡ self.seats) × All (IsSeatOf self) seats.items }
         ensures { (x : ℕ) → weigh (λ s. occurrences x s.drawn) seats.items ≡ once_below x result }
@@ -104,7 +105,7 @@ impl Tickets {
     }
 }
 
-/// Seats for the lists of `root`, one each.
+/// Returns seats for the lists of `root`, one each.
 fn split_seats(
     alloc: Global,
     shared: &Shared<(), Lists, Sizes, Drawing>,
@@ -128,7 +129,7 @@ fn split_seats(
     Ok(seats)
 }
 
-/// A seat that has drawn nothing.
+/// Returns a seat that has drawn nothing.
 fn new_seat(seat: Seat<(), Lists>, total: u64) -> TicketSeat
     requires { seat.me ≡ ([] ∷ [], []) }
     ensures { (result.table ≡ seat.table_id) × (result.total ≡ total) × (result.drawn ≡ []) }

@@ -1,10 +1,10 @@
--- How a log batch is held: in its buffer stand sixteen bytes for the header and the entry bytes, or the bytes of the batch.
+-- How a log batch is held: its buffer has sixteen bytes for the header and the entry bytes, or the batch's bytes.
 use Rattle.std.specs.Prelude.{◌≡◌, ℕ, ◌-◌, ◌^◌, ◌<◌, List, [], ◌∷◌, ◌++◌, length, take, drop}
 use Rattle.raft_records.specs.Item.{Item}
 use Rattle.raft_records.specs.ItemBatch.{entry_bytes_of}
 use Rattle.raft_records.specs.LogBatch.{Stage, populating, encoded, sealed, unsealed_bytes, encoded_length, log_batch_bytes}
 
--- the entry bytes in a buffer: behind the header, as many as the items' entries have
+-- the entry bytes in a buffer: after the header, as many as the items' entries have
 abbrev pub entry_bytes_in : List Item → List ℕ → List ℕ
 entry_bytes_in items buf = take (entry_bytes_of items) (drop 16 buf)
 
@@ -31,7 +31,7 @@ IsShortAt populating buf = Unit {0}
 IsShortAt encoded buf = length buf < 2 ^ 56
 IsShortAt (sealed signature) buf = length buf < 2 ^ 56
 
--- what is kept beside a batch is its own; the entry bytes of its items are those that it holds; both are within their limits
+-- what is kept beside a batch is its own; its items' entry bytes are those that it holds; both are within their limits
 pub record IsHeld (stage : Stage) (items : List Item) (entry_bytes buf : List ℕ) : Type 0 where
   pub whole : length entry_bytes ≡ entry_bytes_of items
   pub fits : length entry_bytes < 2 ^ 31

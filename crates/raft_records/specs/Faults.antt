@@ -31,7 +31,7 @@ abbrev pub IsNumberFault : List ℕ → Error → Type 0
 IsNumberFault bytes (errors.Codec e) = IsVarintFault bytes e
 IsNumberFault bytes _ = ⊥
 
--- no command: nothing, an unknown type byte, or no number behind that of a Compact or a Truncate
+-- no command: nothing, an unknown type byte, or no number after that of a Compact or a Truncate
 abbrev pub IsCommandFault : List ℕ → Error → Type 0
 IsCommandFault [] e = IsEof e
 IsCommandFault (kind ∷ rest) e =
@@ -59,7 +59,7 @@ IsPutFault bytes e = IsMemory e ⊎ IsByteStringFault bytes e ⊎ IsFaultBehind 
 abbrev pub IsDelFault : List ℕ → Error → Type 0
 IsDelFault bytes e = IsMemory e ⊎ IsByteStringFault bytes e
 
--- no key value: nothing, an unknown op type, or a fault behind it
+-- no key value: nothing, an unknown op type, or a fault after it
 abbrev pub IsKeyValueFault : List ℕ → Error → Type 0
 IsKeyValueFault [] e = IsEof e
 IsKeyValueFault (byte ∷ rest) e = IsOpTypeFault byte e ⊎ ((byte ≡ 1) × IsPutFault rest e) ⊎ ((byte ≡ 2) × IsDelFault rest e)
@@ -79,11 +79,11 @@ abbrev pub IsTailsFault : ℕ → ℕ × ℕ → List ℕ → Error → Type 0
 IsTailsFault count next bytes e =
     IsMemory e ⊎ IsSequenceFault (λ (at : ℕ × ℕ) x. (at.0 + 1, tail_of x)) IsTail IsTailFault count next bytes e
 
--- behind the count, which is not 0: no first index, or a fault in the tail offsets
+-- after the count, which is not 0: no first index, or a fault in the tail offsets
 abbrev pub AreIndexAndTailsFault : ℕ → ℕ → List ℕ → Error → Type 0
 AreIndexAndTailsFault s n bytes e = (0 < n) × (IsNumberFault bytes e ⊎ IsFaultBehind IsVarint (λ first. IsTailsFault n (first, s)) bytes e)
 
--- no entries: no count, or a fault behind it
+-- no entries: no count, or a fault after it
 abbrev pub IsEntriesFault : ℕ → List ℕ → Error → Type 0
 IsEntriesFault s bytes e = IsNumberFault bytes e ⊎ IsFaultBehind IsVarint (AreIndexAndTailsFault s) bytes e
 

@@ -1,4 +1,4 @@
--- Parts of files, and the log batches that stand in them one behind the other.
+-- Parts of files, and the log batches that stand in them one after the other.
 use Rattle.std.specs.Prelude.{◌≡◌, ◌≢◌, ℕ, ◌+◌, ◌-◌, ◌^◌, ◌<◌, ◌≤◌, ◌⊎◌, List, [], ◌∷◌, ◌++◌, length, map, drop, take, Option, Some, None}
 use Rattle.raft_base.specs.declared.errors.Error.{Error}
 use Rattle.raft_base.specs.declared.errors.Error.TheVariants as errors
@@ -34,8 +34,8 @@ abbrev pub IsPartRefusal : ℕ → Error → Type 0
 IsPartRefusal end (errors.InvalidArgument text) = 2 ^ 64 ≤ end
 IsPartRefusal end e = IsMemory e
 
--- a readable batch begins at this byte of a part, and these are its items with their places in the file:
--- the entry bytes lie behind the header, up to the item batch; the next batch begins behind it
+-- a readable batch begins at this byte of a part, and these are its items with their places in the file: the entry
+-- bytes lie after the header, up to the item batch; the next batch begins after it
 pub record IsBatchAt (part : Part) (at : ℕ) (items : List Item) (next : ℕ) : Type 0 where
   pub bytes : List ℕ
   pub read : List Item
@@ -46,7 +46,8 @@ pub record IsBatchAt (part : Part) (at : ℕ) (items : List Item) (next : ℕ) :
   pub places : items ≡
       map (placed_item (record { id = part.id; offset = part.offset + at + 16; len = offset - 16 }) frame.compression) read
 
--- where the bytes of a written batch that has items stand in a part of the file that they are signed for, at the offset of the place that they were written to, the batch stands there, with its items as the write has placed them
+-- Where the bytes of a written batch that has items stand in a part of the file that they are signed for, at the offset
+-- of the place that they were written to, the batch stands there, with its items as the write has placed them.
 abbrev pub WrittenBatchStands : Type 0
 WrittenBatchStands =
     (part : Part) (at : ℕ) (handle : FileBlockHandle) (items : List Item) (entry_bytes rest : List ℕ)
@@ -60,7 +61,7 @@ abbrev pub IsNext : Part → ℕ → Option (List Item × ℕ) → Type 0
 IsNext part at None = at ≡ length part.bytes
 IsNext part at (Some next) = IsBatchAt part at next.0 next.1
 
--- batches of these items stand one behind the other, from the first byte up to the second
+-- batches of these items stand one after the other, from the first byte up to the second
 abbrev pub StandBetween : Part → ℕ → ℕ → List (List Item) → Type 0
 StandBetween part from end [] = from ≡ end
 StandBetween part from end (items ∷ batches) = (next : ℕ) × IsBatchAt part from items next × StandBetween part next end batches

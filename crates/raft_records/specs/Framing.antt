@@ -21,7 +21,7 @@ pub record IsFramedWith (bytes : List ℕ) (signature : Option ℕ) (items : Lis
   pub frame : IsFramed bytes signature items offset
   pub entry_block : IsEntryBlockOf (offset - 16) (drop 16 bytes) entry_bytes
 
--- what is written and signed of a batch that has items is a log batch of its items, without what bytes don't hold, and its entry bytes
+-- a batch with items, written and signed, is a log batch of its items, less what bytes don't hold, and its entry bytes
 abbrev pub LogBatchIsSpelled : Type 0
 LogBatchIsSpelled =
     (signature : Option ℕ) (items : List Item) (entry_bytes : List ℕ) → IsBatchOf items entry_bytes → AreInRange items → items ≢ [] → encoded_length items entry_bytes < 2 ^ 56 → IsLogBatch (log_batch_bytes signature items entry_bytes) signature (map bare items) entry_bytes

@@ -15,13 +15,13 @@ abbrev pub op_type_byte : OpType → ℕ
 op_type_byte Put = 1
 op_type_byte Del = 2
 
--- a command's type byte, and behind that of a Compact or a Truncate the index
+-- a command's type byte, and after that of a Compact or a Truncate the index
 abbrev pub IsCommand : List ℕ → Command → Type 0
 IsCommand bytes Clean = bytes ≡ 1 ∷ []
 IsCommand bytes (Compact index) = IsTagged 2 IsVarint bytes index
 IsCommand bytes (Truncate index) = IsTagged 3 IsVarint bytes index
 
--- a length, and that many bytes behind it
+-- a length, and that many bytes after it
 abbrev pub IsByteString : List ℕ → List ℕ → Type 0
 IsByteString bytes text =
     IsFollowedBy IsVarint (λ n rest (behind : List ℕ). (rest ≡ behind) × (length behind ≡ n)) bytes (length text) text
@@ -51,13 +51,13 @@ pub record IsTail (next : ℕ × ℕ) (bytes : List ℕ) (e : EntryIndex) : Type
   pub tail_fits : tail_of e < 2 ^ 32
   pub bare : e ≡ bare_entry e
 
--- n tail offsets, one behind the other, the first for this index and offset; each further entry has the
--- next index and begins where the one before it ends
+-- n tail offsets, one after the other, the first for this index and offset; each further entry has the next index and
+-- begins where the one before it ends
 pub record AreTails (n : ℕ) (next : ℕ × ℕ) (bytes : List ℕ) (es : List EntryIndex) : Type 0 where
   pub tails : IsSequence (λ (at : ℕ × ℕ) e. (at.0 + 1, tail_of e)) IsTail next bytes es
   pub count : length es ≡ n
 
--- n entries behind s entry bytes: the first index and the tail offsets; nothing where there are none
+-- n entries after s entry bytes: the first index and the tail offsets; nothing where there are none
 abbrev pub AreIndexAndTails : ℕ → ℕ → List ℕ → List EntryIndex → Type 0
 AreIndexAndTails s n bytes [] = (bytes ≡ []) × (n ≡ 0)
 AreIndexAndTails s n bytes (e ∷ es) = IsFollowedBy IsVarint (λ first. AreTails n (first, s)) bytes e.index (e ∷ es)
@@ -76,12 +76,12 @@ IsContent s bytes (pair p) = IsTagged 3 IsKeyValue bytes p
 abbrev pub IsItem : ℕ → List ℕ → Item → Type 0
 IsItem s bytes item = IsFollowedBy IsVarint (λ _. IsContent s) bytes item.raft_group_id item.content
 
--- how many entry bytes there are up to the end of these entries, which come behind s of them
+-- how many entry bytes there are up to the end of these entries, which come after s of them
 abbrev pub end_behind : ℕ → List EntryIndex → ℕ
 end_behind s [] = s
 end_behind s (e ∷ es) = end_behind (tail_of e) es
 
--- how many entry bytes there are up to the end of a content, which comes behind s of them
+-- how many entry bytes there are up to the end of a content, which comes after s of them
 abbrev pub end_of_content : ℕ → Content → ℕ
 end_of_content s (entries es) = end_behind s es
 end_of_content s _ = s

@@ -89,7 +89,7 @@ abbrev pub IsKeyRefusal : List ℕ → Error → Type 0
 IsKeyRefusal key (errors.InvalidArgument text) = key ≡ reserved_key
 IsKeyRefusal key e = IsMemory e
 
--- why a message isn't put under a key: the same, or under another key it refuses to write itself with one of these codes
+-- why a message isn't put under a key: the same, or under another key it refuses with one of these codes
 abbrev pub IsMessageRefusal : (ℕ → Type 0) → List ℕ → Error → Type 0
 IsMessageRefusal refuses key (errors.Message (messages.Refused code)) = (key ≢ reserved_key) × refuses code
 IsMessageRefusal refuses key e = IsKeyRefusal key e

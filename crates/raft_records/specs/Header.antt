@@ -17,7 +17,7 @@ pub record IsHeader (bytes : List ℕ) (header : ℕ × CompressionType × ℕ) 
   pub behind_header : 16 ≤ header.0
   pub inside : header.0 ≤ header.2
 
--- an item batch that would begin behind the end, or inside the header
+-- an item batch that would begin past the end, or inside the header
 abbrev pub IsOffsetFault : ℕ → ℕ → Error → Type 0
 IsOffsetFault len offset e =
     ((len < offset) × IsCorruption (codes "Log item offset exceeds log batch length") e)

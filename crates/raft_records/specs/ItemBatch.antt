@@ -22,7 +22,7 @@ use Rattle.raft_records.specs.Faults.{IsMemory, IsNumberFault, IsItemFault}
 
 -- ---- bytes
 
--- n items, one behind the other, the first behind no entry bytes
+-- n items, one after the other, the first after no entry bytes
 pub record AreItems (n : ℕ) (bytes : List ℕ) (items : List Item) : Type 0 where
   pub spelled : IsSequence (λ s (item : Item). end_of_content s item.content) IsItem 0 bytes items
   pub count : length items ≡ n
@@ -32,7 +32,7 @@ abbrev pub signed_crc : Option ℕ → ℕ → ℕ
 signed_crc None crc = crc
 signed_crc (Some signature) crc = bit_xor crc signature
 
--- the four bytes behind these: their CRC, signed
+-- the four bytes after these: their CRC, signed
 abbrev pub checksum_bytes : Option ℕ → List ℕ → List ℕ
 checksum_bytes signature bytes = little_bytes 4 (signed_crc signature (crc32_of bytes))
 
@@ -77,19 +77,19 @@ pub record IsDecoded (old : List ℕ) (signature : Option ℕ) (place : FileBloc
 
 -- ---- what a batch holds
 
--- an item that can be written behind s entry bytes
+-- an item that can be written after s entry bytes
 abbrev pub FitsBehind : ℕ → Content → Type 0
 FitsBehind s (entries es) = IsConsecutive es × Tile s es
 FitsBehind s (command c) = Unit {0}
 FitsBehind s (pair p) = IsWritablePair p
 
--- items that can be written one behind the other: their entries' bytes run on
+-- items that can be written one after the other: their entries' bytes run on
 abbrev pub FitTogether : ℕ → List Item → Type 0
 FitTogether s [] = Unit {0}
 FitTogether s (item ∷ items) =
     FitsBehind s item.content × FitTogether (end_of_content s item.content) items
 
--- how many entry bytes there are, behind s of them
+-- how many entry bytes there are, after s of them
 abbrev pub end_of_items : ℕ → List Item → ℕ
 end_of_items s [] = s
 end_of_items s (item ∷ items) = end_of_items (end_of_content s item.content) items
@@ -98,7 +98,7 @@ end_of_items s (item ∷ items) = end_of_items (end_of_content s item.content) i
 abbrev pub entry_bytes_of : List Item → ℕ
 entry_bytes_of items = end_of_items 0 items
 
--- entries whose bytes come one behind the other, from s on
+-- entries whose bytes come one after the other, from s on
 abbrev pub with_offsets_from : ℕ → List EntryIndex → List EntryIndex
 with_offsets_from s [] = []
 with_offsets_from s (e ∷ es) = record e { entry_offset = s } ∷ with_offsets_from (s + e.entry_len) es
@@ -112,13 +112,13 @@ entry_lengths (e ∷ es) = e.entry_len + entry_lengths es
 abbrev pub raised_entry : ℕ → EntryIndex → EntryIndex
 raised_entry s e = record e { entry_offset = e.entry_offset + s }
 
--- a content whose entries stand behind s more entry bytes
+-- a content whose entries stand after s more entry bytes
 abbrev pub raised_content : ℕ → Content → Content
 raised_content s (entries es) = entries (map (raised_entry s) es)
 raised_content s (command c) = command c
 raised_content s (pair p) = pair p
 
--- an item behind s more entry bytes
+-- an item after s more entry bytes
 abbrev pub raised_item : ℕ → Item → Item
 raised_item s item = record item { content = raised_content s item.content }
 
@@ -138,7 +138,7 @@ abbrev pub first_of : List EntryIndex → Option EntryIndex
 first_of [] = None
 first_of (e ∷ es) = Some e
 
--- an entries item's first entry, or what the items behind it have
+-- an entries item's first entry, or what the items after it have
 abbrev pub first_entry_or : Content → Option EntryIndex → Option EntryIndex
 first_entry_or (entries es) others = first_of es
 first_entry_or (command c) others = others
@@ -175,7 +175,7 @@ abbrev pub AreItemsFault : ℕ → List ℕ → Error → Type 0
 AreItemsFault n bytes e =
     IsMemory e ⊎ IsSequenceFault (λ s (item : Item). end_of_content s item.content) IsItem IsItemFault n 0 bytes e
 
--- no item batch: a fault of its seal, or behind a good one a fault of the count or the items
+-- no item batch: a fault of its seal, or after a good one a fault of the count or the items
 abbrev pub IsItemBatchFault : Option ℕ → List ℕ → Error → Type 0
 IsItemBatchFault signature bytes e =
     IsSealFault signature bytes e

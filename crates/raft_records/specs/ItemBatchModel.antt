@@ -9,6 +9,6 @@ use Rattle.raft_records.specs.DecodedIn.{AreDecodedIn}
 abbrev pub items_in : Inside → List Item
 items_in b = map item_of b.items.items
 
--- the items fit together, and what is kept beside them is theirs; where a file is kept, they are as they may stand there
+-- the items fit together; what is kept beside them is theirs; where a file is kept, they are as they may stand there
 abbrev pub IsWellFormed : Inside → Type 0
 IsWellFormed b = IsKeptBeside (items_in b) b.item_size b.entries_size b.checksum × IfSome b.decoded_in (λ file. AreDecodedIn file (items_in b))

@@ -57,7 +57,7 @@ line_of item = decimal item.raft_group_id ++ codes " " ++ content_text item.cont
 abbrev pub last_line : ℕ → ℕ → List ℕ
 last_line items rest = codes "items " ++ decimal items ++ codes " rest " ++ decimal rest ++ codes "\n"
 
--- the text of items with so many bytes left unread behind them
+-- the text of items with so many bytes left unread after them
 abbrev pub text_of : List Item → ℕ → List ℕ
 text_of items rest = flat_map line_of items ++ last_line (length items) rest
 
@@ -68,7 +68,7 @@ pub record IsTextOf (bytes : List ℕ) (signature : Option ℕ) (text : List ℕ
   pub item_batch : IsItemBatch bytes signature items rest
   pub lines : text ≡ text_of items (length rest)
 
--- the text of an item batch was written behind the old bytes, where those are known
+-- the text of an item batch was written after the old bytes, where those are known
 pub record Prints (input : List ℕ) (signature : Option ℕ) (old new : Option (List ℕ)) : Type 0 where
   pub text : List ℕ
   pub of_input : IsTextOf input signature text
@@ -87,7 +87,7 @@ abbrev pub IsIoError : Error → Type 0
 IsIoError (Io _) = Unit {0}
 IsIoError _ = ⊥
 
--- a front of the text, and not all of it, was written behind the old bytes, where those are known
+-- a front of the text, and not all of it, was written after the old bytes, where those are known
 pub record AppendsFront (old new : Option (List ℕ)) (text : List ℕ) : Type 0 where
   pub front : List ℕ
   pub rest : List ℕ
@@ -95,7 +95,7 @@ pub record AppendsFront (old new : Option (List ℕ)) (text : List ℕ) : Type 0
   pub unfinished : rest ≢ []
   pub written : Appends old new front
 
--- the writer failed, once the whole input was read and was an item batch: a front of its text, and not all of it, was written
+-- the writer failed once the whole input was read and was an item batch: a front of its text, not all, was written
 pub record IsWriteFailure (input left : Option (List ℕ)) (signature : Option ℕ) (old new : Option (List ℕ)) (e : Error) : Type 0 where
   pub io : IsIoError e
   pub all_read : IsAtEnd left

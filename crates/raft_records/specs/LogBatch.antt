@@ -16,7 +16,7 @@ use Rattle.raft_records.specs.Item.{Item, entries_item}
 use Rattle.raft_records.specs.Sizes.{item_batch_size, at_most_usize}
 use Rattle.raft_records.specs.ItemBatch.{checksum_bytes, item_batch_bytes, entry_bytes_of, FitTogether, IsItemBatch, with_offsets_from, raised_item}
 
--- how far a batch has come: it is open (items may be added); its bytes are made; they are signed for a file, or without a signature
+-- how far a batch has come: it is open to items; its bytes are made; they are signed for a file, or without a signature
 pub data Stage : Type 0 where
   populating : Stage
   encoded : Stage
@@ -49,23 +49,23 @@ pub record AreEqual (a b : Batch) : Type 0 where
 abbrev pub empty_batch : Batch
 empty_batch = record { items = []; entry_bytes = []; stage = populating }
 
--- all of another batch behind this one: its entries' bytes stand behind the first one's
+-- all of another batch after this one: its entries' bytes follow the first one's
 abbrev pub with_batch : Batch → Batch → Batch
 with_batch b more =
     record b { items = b.items ++ map (raised_item (length b.entry_bytes)) more.items; entry_bytes = b.entry_bytes ++ more.entry_bytes }
 
--- a batch and these entries of a region, whose bytes are these strings and stand behind the batch's own; no entries add nothing
+-- a batch and these entries of a region, whose bytes are these strings and follow the batch's; no entries add nothing
 abbrev pub with_entries_added : Batch → ℕ → List EntryIndex → List (List ℕ) → Batch
 with_entries_added b region [] strings = b
 with_entries_added b region (e ∷ es) strings =
     record b { items = b.items ++ entries_item region (with_offsets_from (length b.entry_bytes) (with_lengths (e ∷ es) strings)) ∷ []; entry_bytes = b.entry_bytes ++ concat strings }
 
--- why the bytes of entries are not added: they would pass the limit, a message refused to write itself with one of these codes, or there is no memory
+-- why entries' bytes are not added: they pass the limit, a message refused with one of these codes, or want of memory
 abbrev pub IsBytesFault : (ℕ → Type 0) → ℕ → Error → Type 0
 IsBytesFault refuses size errors.Full = 2 ^ 31 ≤ size
 IsBytesFault refuses size e = IsMemoryOrMessage refuses e
 
--- why entries are not added: their indexes are not consecutive, or they are and their bytes are not added, or there is no memory
+-- why entries are not added: their indexes are not consecutive; they are, but their bytes are not added; want of memory
 abbrev pub IsAddFault : (ℕ → Type 0) → List EntryIndex → ℕ → Error → Type 0
 IsAddFault refuses es size errors.Memory = Unit {0}
 IsAddFault refuses es size (errors.InvalidArgument text) = IsConsecutive es → ⊥
@@ -79,7 +79,7 @@ pub record IsBatchOf (items : List Item) (entry_bytes : List ℕ) : Type 0 where
 
 -- ---- bytes
 
--- a header: the batch's length with the compression type's byte behind it, and the offset of the item batch; eight bytes each, the highest first
+-- a header: the batch's length and then its compression byte; the item batch's offset; eight bytes each, highest first
 unfoldable pub header_bytes : ℕ → CompressionType → ℕ → List ℕ
 header_bytes offset compression len = big_bytes 8 (len * 256 + compression_byte compression) ++ big_bytes 8 offset
 
@@ -93,7 +93,7 @@ abbrev pub entry_place : FileBlockHandle → List ℕ → FileBlockHandle
 entry_place place entry_bytes =
     record { id = place.id; offset = place.offset + 16; len = length (entry_block entry_bytes) }
 
--- where the item batch begins: behind the header and the entry block
+-- where the item batch begins: after the header and the entry block
 abbrev pub item_offset : List ℕ → ℕ
 item_offset entry_bytes = 16 + length (entry_block entry_bytes)
 
@@ -102,12 +102,13 @@ abbrev pub unsealed_bytes : ℕ → List Item → List ℕ → List ℕ
 unsealed_bytes len items entry_bytes =
     header_bytes (item_offset entry_bytes) compressions.None len ++ (entry_block entry_bytes ++ item_batch_bytes items)
 
--- how many bytes a batch has: none without items, and else four behind the items
+-- how many bytes a batch has: none without items, and else four after the items
 abbrev pub encoded_length : List Item → List ℕ → ℕ
 encoded_length [] entry_bytes = 0
 encoded_length (item ∷ items) entry_bytes = item_offset entry_bytes + length (item_batch_bytes (item ∷ items)) + 4
 
--- the approximate length: none without items; of an open batch header, entry bytes, their checksum and items as if each number took eight bytes; else the length itself
+-- The approximate length: none without items; of an open batch header, entry bytes, their checksum and items as if each
+-- number took eight bytes; else the length itself.
 abbrev pub approximate_length : Stage → List Item → List ℕ → ℕ
 approximate_length stage [] entry_bytes = 0
 approximate_length populating (item ∷ items) entry_bytes = at_most_usize (16 + length entry_bytes + 4 + item_batch_size (item ∷ items))
@@ -120,7 +121,7 @@ log_batch_bytes signature [] entry_bytes = []
 log_batch_bytes signature (item ∷ items) entry_bytes =
     unsealed_bytes (encoded_length (item ∷ items) entry_bytes) (item ∷ items) entry_bytes ++ checksum_bytes signature (item_batch_bytes (item ∷ items))
 
--- a header, these bytes and an item batch, one behind the other; the header says how many bytes there are and where the item batch begins
+-- a header, these bytes and an item batch, one after the other; the header gives the length and the item batch's offset
 pub record IsLaidOut (bytes : List ℕ) (signature : Option ℕ) (items : List Item) (between : List ℕ) : Type 0 where
   pub behind : List ℕ
   pub rest : List ℕ

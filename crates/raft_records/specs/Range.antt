@@ -15,7 +15,7 @@ abbrev pub HasLength : Option (List ℕ) → Type 0
 HasLength None = Unit {0}
 HasLength (Some value) = length value < 2 ^ 64
 
--- the count of entries, a command's index, and the lengths of key and value are u64s, as those of every content in memory
+-- the count of entries, a command's index, and key's and value's lengths are u64s, as those of every content in memory
 abbrev pub IsContentInRange : Content → Type 0
 IsContentInRange (entries es) = length es < 2 ^ 64
 IsContentInRange (command c) = HasIndex c

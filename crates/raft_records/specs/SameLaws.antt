@@ -1,4 +1,5 @@
--- The tests by which `==` compares batches are equivalences. These are proofs: nothing here is to be believed. They stand here since the laws of an `impl` may cite `specs/` alone.
+-- The tests by which `==` compares batches are equivalences. These are proofs: nothing here is to be believed. They
+-- stand here since the laws of an `impl` may cite `specs/` alone.
 use Rattle.std.specs.Cmp.{IsEquivalence, on_equiv, and_equiv, nat_eq_equiv}
 use Rattle.std.specs.Cmp.Lexicographic.{lists_equiv, options_equiv, nat_list_eq_equiv}
 use Rattle.raft_base.specs.contracts.pipe_log.FileIdEq.TheImpl.Laws.{laws-law as file_id_laws}

@@ -25,7 +25,7 @@ value_length (Some value) = length value
 abbrev pub pair_size : Pair → ℕ
 pair_size p = 1 + 8 + length p.key + 8 + value_length p.value
 
--- what there is behind the type
+-- what there is after the type
 abbrev pub content_size : Content → ℕ
 content_size (entries es) = entries_size es
 content_size (command c) = command_size c
@@ -35,7 +35,7 @@ content_size (pair p) = pair_size p
 abbrev pub item_size : Item → ℕ
 item_size item = 8 + 1 + content_size item.content
 
--- the items one behind the other
+-- the items one after the other
 abbrev pub items_size : List Item → ℕ
 items_size [] = 0
 items_size (item ∷ items) = item_size item + items_size items

@@ -35,7 +35,7 @@ IsWritableWith _ _ = Unit {0}
 abbrev pub IsWritablePair : Pair → Type 0
 IsWritablePair p = IsWritableWith p.op_type p.value
 
--- behind the key a Put has its value
+-- after the key a Put has its value
 abbrev pub value_bytes : OpType → Option (List ℕ) → List ℕ
 value_bytes Put (Some value) = byte_string value
 value_bytes _ _ = []
@@ -48,7 +48,7 @@ pair_bytes p = op_type_byte p.op_type ∷ byte_string p.key ++ value_bytes p.op_
 abbrev pub tails_bytes : List EntryIndex → List ℕ
 tails_bytes es = flat_map (λ e. varint (tail_of e)) es
 
--- behind the count come the first index and the tail offsets, where there are entries
+-- after the count come the first index and the tail offsets, where there are entries
 abbrev pub run_bytes : List EntryIndex → List ℕ
 run_bytes [] = []
 run_bytes (e ∷ es) = varint e.index ++ tails_bytes (e ∷ es)

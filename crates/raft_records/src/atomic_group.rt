@@ -16,7 +16,7 @@ use std::marker::Model;
 /// The key of the group markers. No value is put under it but theirs.
 pub const ATOMIC_GROUP_KEY: [u8; 3] = [b'_', b'_', 1];
 
-/// Where in an atomic group a batch stands.
+/// The place of a batch in its atomic group.
 #[derive(Clone, Copy, PartialEq, Debug)]
 pub enum AtomicGroupStatus {
     /// It is the first batch of the group.
@@ -30,7 +30,7 @@ pub enum AtomicGroupStatus {
 impl AtomicGroupStatus {
     ghost use Rattle.raft_records.specs.Group.{status_byte, IsStatusFault};
 
-    /// The group whose group marker an item is, and its status; nothing of an item that is no group
+    /// Returns the group whose group marker an item is, and its status; nothing of an item that is no group
     /// marker.
     ///
     /// # Errors
@@ -52,7 +52,7 @@ impl AtomicGroupStatus {
         }
     }
 
-    /// The status that a byte stands for. Any other byte is `Corruption`.
+    /// Returns the status that a byte stands for. Any other byte is `Corruption`.
     fn from_u8(alloc: Global, byte: u8) -> Result<AtomicGroupStatus>
         ensures ok { IfOk result (λ status. byte ≡ status_byte status) }
         ensures fault { IfErr result (IsStatusFault byte) }
@@ -67,7 +67,7 @@ impl AtomicGroupStatus {
         }
     }
 
-    /// The byte that stands for the status.
+    /// Returns the byte that stands for the status.
     pub(crate) fn to_u8(self) -> u8
         ensures { result ≡ status_byte self }
     {
@@ -75,7 +75,7 @@ impl AtomicGroupStatus {
     }
 }
 
-/// Whether this key is kept for the group markers. Key values under it never reach a table.
+/// Tests whether this key is kept for the group markers. Key values under it never reach a table.
 pub fn is_reserved(key: &[u8]) -> bool
     ensures meaning { IsTrue result ↔ (key.now ≡ reserved_key) }
     ensures value { result ≡ is_reserved key.now }
@@ -83,7 +83,7 @@ pub fn is_reserved(key: &[u8]) -> bool
     key == ATOMIC_GROUP_KEY.as_slice()
 }
 
-/// The byte of a group marker, if the change is one.
+/// Returns the byte of a group marker, if the change is one.
 fn marker_byte(kv: &KeyValue) -> Option<u8>
     ensures { result ≡ marker_byte (pair (pair_of kv.now)) }
 {
@@ -96,9 +96,9 @@ fn marker_byte(kv: &KeyValue) -> Option<u8>
     }
 }
 
-/// Marks the batches of one group: the first with `Begin`, the last with `End`, those between them
-/// with `Middle`. Each call takes a batch of its own: of two group markers in one batch only the first
-/// is read, so a group has two batches at least.
+/// A builder of one atomic group, which marks its batches: the first with `Begin`, the last with `End`, those
+/// between them with `Middle`. Each call takes a batch of its own: of two group markers in one batch only the
+/// first is read, so a group has two batches at least.
 #[derive(Debug, Drop)]
 pub struct AtomicGroupBuilder {
     id: u64,
@@ -114,14 +114,14 @@ impl Model for AtomicGroupBuilder {
 }
 
 impl AtomicGroupBuilder {
-    /// A builder of the group `id`, which hasn't begun.
+    /// Returns a builder of the group `id`, which hasn't begun.
     pub fn with_id(id: u64) -> AtomicGroupBuilder
         ensures { result ≡ record { id = id; state = None } }
     {
         AtomicGroupBuilder { id, status: None }
     }
 
-    /// The status of the group marker that was added last, if any was.
+    /// Returns the status of the group marker that was added last, if any was.
     pub fn state(&self) -> Option<AtomicGroupStatus>
         ensures { result ≡ self.now.state }
     {
@@ -147,7 +147,7 @@ impl AtomicGroupBuilder {
         self.add_marker(AtomicGroupStatus::Begin, log_batch)
     }
 
-    /// Goes on with the group in this batch.
+    /// Continues the group with this batch.
     ///
     /// # Errors
     ///
@@ -166,7 +166,7 @@ impl AtomicGroupBuilder {
         self.add_marker(AtomicGroupStatus::Middle, log_batch)
     }
 
-    /// Ends the group with this batch; the builder is then of no more use.
+    /// Ends the group with this batch. The builder is then of no more use.
     ///
     /// # Errors
     ///
@@ -205,8 +205,8 @@ impl AtomicGroupBuilder {
     }
 }
 
-/// What is added as a group marker is read as the group marker of its group with its status, and never
-/// refused. What is read is a function of the item; the reserved key is told by a test.
+/// States that what is added as a group marker is read as the group marker of its group with its status, and is
+/// never refused. What is read is a function of the item. A test tells the reserved key.
 pub fn group_markers_are_read_again()
     ensures is_marker { (id : ℕ) (status : Status) →
         marker_byte (group_marker_item id status).content ≡ Some (status_byte status) }

@@ -1,4 +1,4 @@
-//! Checksums behind bytes.
+//! Checksums that follow their bytes.
 
 ghost use Rattle.std.specs.Prelude.{◌≡◌, List, ℕ, length, IfOk, IfErr};
 ghost use Rattle.byteorder.specs.Endian.{little_bytes};
@@ -12,7 +12,7 @@ use std::alloc::Global;
 /// How many bytes a checksum takes.
 pub(crate) const LOG_BATCH_CHECKSUM_LEN: usize = 4;
 
-/// What stands before the checksum at the end of `bytes`, which is that of all before it, xored with
+/// Returns what stands before the checksum at the end of `bytes`, which is that of all before it, xored with
 /// the signature if there is one. `Corruption` where it isn't, or where nothing stands before it.
 pub(crate) fn verify_checksum(alloc: Global, bytes: &[u8], signature: Option<u32>) -> Result<&[u8]>
     ensures ok { IfOk result (λ content. HasSeal signature bytes.now content.now) }
@@ -36,7 +36,7 @@ pub(crate) fn verify_checksum(alloc: Global, bytes: &[u8], signature: Option<u32
     Ok(content)
 }
 
-/// The checksum that these four bytes are.
+/// Returns the checksum that these four bytes are.
 fn checksum_of(seal: &[u8]) -> u32
     requires { length seal.now ≡ LOG_BATCH_CHECKSUM_LEN }
     ensures { seal.now ≡ little_bytes 4 result }
@@ -48,8 +48,8 @@ fn checksum_of(seal: &[u8]) -> u32
     }
 }
 
-/// A checksum xored with the signature, if there is one: as it is written, or, of one that was
-/// written, as it was before.
+/// Returns a checksum xored with the signature, if there is one: as it is written, or, of one that was written,
+/// as it was before.
 pub(crate) fn sign(checksum: u32, signature: Option<u32>) -> u32
     ensures { result ≡ signed_crc signature checksum }
 {

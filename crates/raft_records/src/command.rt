@@ -22,17 +22,17 @@ const CMD_TRUNCATE: u8 = 3;
 /// What is done to a region's log.
 #[derive(Clone, PartialEq, Eq, Debug, Drop)]
 pub enum Command {
-    /// The region's records go.
+    /// Removes the region's records.
     Clean,
-    /// The entries below `index` go.
+    /// Removes the entries below `index`.
     Compact { index: u64 },
-    /// The entries at or above `index` go. Older files may still hold them, so where some stand in the
-    /// rewrite queue it is to hold the command too, before the append file with it is purged.
+    /// Removes the entries at or above `index`. Older files may still hold them. So where some stand in the
+    /// rewrite queue, that queue is to hold the command too, before the append file with the command is purged.
     Truncate { index: u64 },
 }
 
 impl Command {
-    /// The approximate length of the command's bytes.
+    /// Returns the approximate length of the command's bytes.
     pub(crate) fn approximate_size(&self) -> usize
         ensures { result ≡ command_size self.now }
     {
@@ -56,7 +56,7 @@ impl Command {
         Ok(self.write(buf)?)
     }
 
-    /// The same; only memory can fail.
+    /// Does the same as `encode`; only memory can fail.
     pub(crate) fn write(&self, buf: &mut Vec<u8>) -> AllocResult<()>
         ensures ok { OnOk result (buf.new.items ≡ buf.old.items ++ command_bytes self.now) }
         ensures err { OnErr result (buf.new.items ≡ buf.old.items) }
@@ -68,12 +68,12 @@ impl Command {
         }
     }
 
-    /// Reads a command from the front, for which it takes no memory.
+    /// Reads a command from the front, and takes no memory for it.
     ///
     /// # Errors
     ///
-    /// `Codec` where the bytes end early or a number is malformed; `Corruption` for an unknown command,
-    /// and `Memory` for its text. The slice is then as it was.
+    /// `Codec` where the bytes end early or a number is malformed; `Corruption` for an unknown command, and
+    /// `Memory` for its text. The slice is then as it was.
     pub fn decode(alloc: Global, buf: &mut BytesSlice<'_>) -> Result<Command>
         ensures ok { IfOk result (Reads IsCommand buf.old.now buf.new.now) }
         ensures err { OnErr result (buf.new.now ≡ buf.old.now) }
@@ -85,7 +85,7 @@ impl Command {
         Ok(command)
     }
 
-    /// The command in front of `bytes`, and what is behind it.
+    /// Returns the command in front of `bytes` and what follows it.
     pub(crate) fn parse(alloc: Global, bytes: &[u8]) -> Result<(Command, &[u8])>
         ensures ok { IfOk result (λ read. Reads IsCommand bytes.now read.1.now read.0) }
         ensures refused { OnErr result (HasNoFront IsCommand bytes.now) }

@@ -19,7 +19,7 @@ use raft_codec::codec;
 use raft_codec::codec::BytesSlice;
 use std::alloc::Global;
 
-/// Where entries that are read are placed.
+/// The place and the compression type that entries get as they are read.
 #[derive(Clone, Copy)]
 pub(crate) struct Placement {
     /// Their place, whose file is also that of key values.
@@ -27,14 +27,14 @@ pub(crate) struct Placement {
     pub(crate) compression_type: CompressionType,
 }
 
-/// No place.
+/// The placement without a place.
 pub(crate) const UNPLACED: Placement = Placement {
     handle: None,
     compression_type: CompressionType::None,
 };
 
 impl Placement {
-    /// The file of the place, if there is one.
+    /// Returns the file of the place, if there is one.
     pub(crate) fn file_id(self) -> Option<FileId>
         ensures { result ≡ file_in self.handle }
     {
@@ -42,7 +42,7 @@ impl Placement {
     }
 }
 
-/// Whether each entry's bytes begin where those of the one before it end, and end below 2^32.
+/// Tests whether each entry's bytes begin where those of the one before it end, and end below 2^32.
 fn runs_on(entries: &[EntryIndex]) -> bool
     ensures { IsTrue result ↔ RunOn entries.now }
 {
@@ -64,7 +64,7 @@ fn runs_on(entries: &[EntryIndex]) -> bool
 pub struct EntryIndexes(pub Vec<EntryIndex>);
 
 impl EntryIndexes {
-    /// A list of the same entries.
+    /// Returns a list of the same entries.
     ///
     /// # Errors
     ///
@@ -77,7 +77,7 @@ impl EntryIndexes {
         Ok(<EntryIndexes as Clone>::clone(self)?)
     }
 
-    /// The approximate length of the entries' bytes, capped at `usize::MAX`.
+    /// Returns the approximate length of the entries' bytes, capped at `usize::MAX`.
     pub(crate) fn approximate_size(&self) -> usize
         ensures { result ≡ at_most_usize (entries_size self.now.0.items) }
     {
@@ -110,7 +110,7 @@ impl EntryIndexes {
         }
     }
 
-    /// Whether the entries can be written: their indexes are consecutive and their bytes run on.
+    /// Tests whether the entries can be written: their indexes are consecutive and their bytes run on.
     pub(crate) fn is_writable(&self) -> bool
         ensures { IsTrue result ↔ AreWritable self.now.0.items }
     {
@@ -143,7 +143,7 @@ impl EntryIndexes {
         Ok(())
     }
 
-    /// Appends the entries' bytes. On `Err` some bytes may stand behind those of the vector.
+    /// Appends the entries' bytes. On `Err` some bytes may follow those of the vector.
     pub(crate) fn write(&self, buf: &mut Vec<u8>) -> AllocResult<()>
         ensures ok { OnOk result (buf.new.items ≡ buf.old.items ++ entries_bytes self.now.0.items) }
         ensures err { OnErr result (Keeps buf.old.items buf.new.items) }
@@ -155,14 +155,14 @@ impl EntryIndexes {
         }
     }
 
-    /// Reads the entries of an item that stands behind `entries_size` entry bytes, without a place.
-    /// `entries_size` becomes the end of their bytes.
+    /// Reads the entries of an item that follows `entries_size` entry bytes, without a place. `entries_size`
+    /// becomes the end of their bytes.
     ///
     /// # Errors
     ///
     /// `Codec` where the bytes end early or a number is malformed; `Corruption` where an index would be
-    /// 2^64 - 1, or a tail offset falls or is above 2^32 - 1; `Memory`. `entries_size` and the slice
-    /// are then as they were.
+    /// 2^64 - 1, or a tail offset falls or is above 2^32 - 1; `Memory`. `entries_size` and the slice are then
+    /// as they were.
     pub fn decode(
         alloc: Global,
         buf: &mut BytesSlice<'_>,
@@ -184,7 +184,7 @@ impl EntryIndexes {
         Ok(entries)
     }
 
-    /// The entries in front of `bytes`, each in this place, the end of their bytes, and what is behind
+    /// Returns the entries in front of `bytes`, each in this place, the end of their bytes, and what follows
     /// them.
     #[inline(always)]
     pub(crate) fn parse(
@@ -227,7 +227,7 @@ fn append_run(buf: &mut Vec<u8>, first: u64, entries: &[EntryIndex]) -> AllocRes
     Ok(())
 }
 
-/// The tail offsets of `count` entries from the index `first` on, behind `entries_size` entry bytes.
+/// Reads the tail offsets of `count` entries from the index `first` on, after `entries_size` entry bytes.
 #[inline(never)]
 fn parse_tails(
     alloc: Global,
@@ -272,7 +272,7 @@ fn parse_tails(
     Ok((entries, offset, rest))
 }
 
-/// The tail offset of an entry whose bytes begin at `offset`, and what is behind it, where it takes four
+/// Returns the tail offset of an entry whose bytes begin at `offset`, and what follows it, where it takes four
 /// bytes at most, as most do, and `bounded` tells that no index is 2^64 - 1. Else nothing is said.
 #[inline(always)]
 fn short_tail(bytes: &[u8], offset: u32, bounded: bool) -> Option<(u32, &[u8])>
@@ -288,7 +288,7 @@ fn short_tail(bytes: &[u8], offset: u32, bounded: bool) -> Option<(u32, &[u8])>
     }
 }
 
-/// The tail offset of the entry `index`, whose bytes begin at `offset`, and what is behind it.
+/// Returns the tail offset of the entry `index`, whose bytes begin at `offset`, and what follows it.
 #[inline(never)]
 fn parse_tail(alloc: Global, bytes: &[u8], index: u64, offset: u32) -> Result<(u32, &[u8])>
     ensures ok { IfOk result (λ read.

@@ -14,7 +14,7 @@ use raft_base::{Error, FileBlockHandle, FileId, LogFileContext, Result, Version}
 use std::alloc::Global;
 use std::marker::Model;
 
-/// Bytes of a file, from an offset in it on: log batches one behind the other.
+/// Bytes of a file, from an offset in it on: log batches one after the other.
 #[derive(Debug, Drop)]
 pub struct FilePart {
     id: FileId,
@@ -37,7 +37,7 @@ impl Model for FilePart {
 }
 
 impl FilePart {
-    /// The bytes of the file `id` from `offset` on, which aren't copied.
+    /// Returns the part that holds the bytes of the file `id` from `offset` on, which aren't copied.
     ///
     /// # Errors
     ///
@@ -65,8 +65,8 @@ impl FilePart {
         })
     }
 
-    /// Cuts the part: the bytes in front of `at` stay, and those from there on are handed out as a part of
-    /// their own. No byte is copied.
+    /// Cuts the part: the bytes in front of `at` stay, and those from there on are returned as a part of their
+    /// own. No byte is copied.
     ///
     /// # Errors
     ///
@@ -90,7 +90,7 @@ impl FilePart {
         })
     }
 
-    /// The same part again, which shares its bytes.
+    /// Returns the same part again, which shares its bytes.
     ///
     /// # Errors
     ///
@@ -108,21 +108,21 @@ impl FilePart {
         })
     }
 
-    /// The file.
+    /// Returns the file of the part.
     pub fn id(&self) -> FileId
         ensures { result ≡ self.now.id }
     {
         self.id
     }
 
-    /// The version of the file.
+    /// Returns the version of the file.
     pub fn version(&self) -> Version
         ensures { result ≡ self.now.version }
     {
         self.version
     }
 
-    /// Where in the file the bytes begin. They end at 2^64 - 1 at most.
+    /// Returns where in the file the bytes begin. They end at 2^64 - 1 at most.
     pub fn offset(&self) -> u64
         ensures value { result ≡ self.now.offset }
         ensures ends { self.now.offset + length self.now.bytes < 2 ^ 64 }
@@ -130,27 +130,27 @@ impl FilePart {
         self.offset
     }
 
-    /// The bytes.
+    /// Returns the bytes of the part.
     pub fn bytes(&self) -> &[u8]
         ensures { result.now ≡ self.now.bytes }
     {
         self.bytes.as_slice()
     }
 
-    /// The allocator that the part was made with.
+    /// Returns the allocator that the part was made with.
     pub fn allocator(&self) -> Global {
         self.alloc
     }
 }
 
-/// The items of the log batch that stands at `at` in the part, each with its place in the file, and
-/// where the next batch begins; nothing at the part's end. The entries of an item are consecutive and
-/// lie in the part's file, as each key value does. It doesn't read the entry bytes.
+/// Returns the items of the log batch that stands at `at` in the part, each with its place in the file, and
+/// where the next batch begins; nothing at the part's end. The entries of an item are consecutive and lie in
+/// the part's file, as each key value does. It doesn't read the entry bytes.
 ///
 /// # Errors
 ///
-/// `Corruption` where what stands there is no header of a log batch, or the batch is longer than what
-/// is left; what [`LogItemBatch::decode`] answers of its items; `Memory`.
+/// `Corruption` where what stands there is no header of a log batch, or the batch is longer than what is left;
+/// what [`LogItemBatch::decode`] returns of its items; `Memory`.
 pub fn next_batch(part: &FilePart, at: usize) -> Result<Option<(LogItemBatch, usize)>>
     requires { at ≤ length part.now.bytes }
     ensures ok { IfOk result (IsNext part.now at) }
@@ -210,9 +210,9 @@ pub fn next_in(
     Ok(Some((items, at + len)))
 }
 
-/// Returns how many bytes of the part, from its first on, are readable batches, one behind the other, and
-/// why the batch there can't be read; no reason where that is the end of the part. So a torn tail of a file
-/// begins there. After the reason `Memory` more of the part may be readable.
+/// Returns how many bytes of the part, from its first on, are readable batches, one after the other, and why
+/// the batch there can't be read; no reason where that is the end of the part. So a torn tail of a file begins
+/// there. After the reason `Memory` more of the part may be readable.
 pub fn readable_front(part: &FilePart) -> (usize, Option<Error>)
     ensures readable { AreBatchesUpTo part.now result.0 }
     ensures whole { MatchOption result.1 (result.0 ≡ length part.now.bytes)

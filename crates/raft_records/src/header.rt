@@ -22,11 +22,11 @@ use std::alloc::Global;
 /// How many bytes a header takes.
 pub(crate) const LOG_BATCH_HEADER_LEN: usize = 16;
 
-/// The first length in bytes that a batch may not have.
+/// The least length in bytes that a batch may not have.
 const LENGTH_LIMIT: u64 = 1 << 56;
 
-/// The header in front of `bytes`, as the offset of the item batch, the compression type and the
-/// length of the batch, and what is behind it. Success takes no memory.
+/// Returns the header in front of `bytes`, as the offset of the item batch, the compression type and the length
+/// of the batch, and what follows it. Success takes no memory.
 pub(crate) fn parse_header(
     alloc: Global,
     bytes: &[u8],
@@ -55,7 +55,7 @@ pub(crate) fn parse_header(
     Ok(((offset as usize, compression_type, len as usize), rest))
 }
 
-/// The number in the first eight bytes, the highest first, and what is behind them.
+/// Returns the number in the first eight bytes, the highest first, and what follows them.
 fn parse_u64(bytes: &[u8]) -> (u64, &[u8])
     requires { 8 ≤ length bytes.now }
     ensures read { Reads (IsBig 8) bytes.now result.1.now result.0 }
@@ -80,7 +80,7 @@ fn write_header(buf: &mut [u8], offset: usize, len: usize)
     BigEndian::write_u64(&mut buf[8..], offset as u64);
 }
 
-/// Makes the buffer hold sixteen bytes at least. What is behind them stays, also on `Err`.
+/// Makes the buffer hold sixteen bytes at least. What follows them stays, also on `Err`.
 pub(crate) fn reserve_header(buf: &mut Vec<u8>) -> AllocResult<()>
     ensures ok { OnOk result (16 ≤ length buf.new.items) }
     ensures same { drop 16 buf.new.items ≡ drop 16 buf.old.items }
@@ -92,7 +92,7 @@ pub(crate) fn reserve_header(buf: &mut Vec<u8>) -> AllocResult<()>
     Ok(())
 }
 
-/// Appends the checksum of the entry bytes behind the header, if there are any.
+/// Appends the checksum of the entry bytes after the header, if there are any.
 fn close_entry_block(buf: &mut Vec<u8>) -> AllocResult<()>
     requires { 16 ≤ length buf.old.items }
     ensures ok { OnOk result
@@ -107,7 +107,7 @@ fn close_entry_block(buf: &mut Vec<u8>) -> AllocResult<()>
     buf.extend_from_slice(&seal)
 }
 
-/// Where the item batch begins behind that many entry bytes.
+/// Returns where the item batch begins after that many entry bytes.
 pub(crate) fn offset_behind(entries_size: u32) -> usize
     ensures { (entry_bytes : List ℕ) → length entry_bytes ≡ entries_size →
         result ≡ item_offset entry_bytes }
@@ -119,7 +119,7 @@ pub(crate) fn offset_behind(entries_size: u32) -> usize
     }
 }
 
-/// The entry bytes in the entry block of `len` bytes in front of `bytes`; one of length 0 holds none.
+/// Returns the entry bytes in the entry block of `len` bytes in front of `bytes`; one of length 0 holds none.
 pub(crate) fn parse_entry_block(
     alloc: Global,
     bytes: &[u8],
@@ -141,8 +141,8 @@ pub(crate) fn parse_entry_block(
     }
 }
 
-/// The entry bytes in the entry block of `len` bytes in front of `bytes`, as they stand there; one of length 0
-/// holds none. Success takes no memory.
+/// Returns the entry bytes in the entry block of `len` bytes in front of `bytes`, as they stand there; one of
+/// length 0 holds none. Success takes no memory.
 pub(crate) fn lent_entry_block(alloc: Global, bytes: &[u8], len: usize) -> Result<&[u8]>
     ensures ok { IfOk result (λ entries. IsEntryBlockOf len bytes.now entries.now) }
     ensures refused { OnErr result ((entries : List ℕ) → IsEntryBlockOf len bytes.now entries → ⊥) }
@@ -160,8 +160,8 @@ pub(crate) fn lent_entry_block(alloc: Global, bytes: &[u8], len: usize) -> Resul
     verify_checksum(alloc, block, None)
 }
 
-/// Writes the bytes of a batch around the entry bytes that stand behind the header's sixteen.
-/// `Full` where they pass the limit. On `Err` some bytes may stand behind those of the buffer.
+/// Writes the bytes of a batch around the entry bytes that follow the header's sixteen. `Full` where they would
+/// be 2^56 or more. On `Err` some bytes may follow those of the buffer.
 pub(crate) fn encode_behind(buf: &mut Vec<u8>, item_batch: &mut LogItemBatch) -> Result<()>
     requires room { 16 ≤ length buf.old.items }
     requires some { item_batch.old ≢ [] }

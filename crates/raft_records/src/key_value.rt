@@ -17,16 +17,16 @@ use std::alloc::Global;
 /// What is done to a key.
 #[derive(Clone, Copy, PartialEq, Eq, Debug)]
 pub enum OpType {
-    /// It gets a value.
+    /// The key gets a value.
     Put = 1,
-    /// It goes.
+    /// The key is removed.
     Del = 2,
 }
 
 impl OpType {
     ghost use Rattle.raft_records.specs.Grammar.{op_type_byte};
 
-    /// The op type that a byte stands for.
+    /// Returns the op type that a byte stands for.
     ///
     /// # Errors
     ///
@@ -42,7 +42,7 @@ impl OpType {
         }
     }
 
-    /// The byte that stands for the op type.
+    /// Returns the byte that stands for the op type.
     pub fn to_u8(self) -> u8
         ensures { result ≡ op_type_byte self }
     {
@@ -62,7 +62,7 @@ pub struct KeyValue {
 }
 
 impl KeyValue {
-    /// A change that has not been written to a file.
+    /// Returns a change that has not been written to a file.
     pub fn new(op_type: OpType, key: Vec<u8>, value: Option<Vec<u8>>) -> KeyValue
         ensures { result
             ≡ record { op_type = op_type; key = key; value = value; file_id = None } }
@@ -75,7 +75,7 @@ impl KeyValue {
         }
     }
 
-    /// The same change.
+    /// Returns the same change.
     ///
     /// # Errors
     ///
@@ -88,7 +88,7 @@ impl KeyValue {
         Ok(<KeyValue as Clone>::clone(self)?)
     }
 
-    /// The approximate length of the change's bytes, capped at `usize::MAX`.
+    /// Returns the approximate length of the change's bytes, capped at `usize::MAX`.
     pub(crate) fn approximate_size(&self) -> usize
         ensures { result ≡ at_most_usize (pair_size (pair_of self.now)) }
     {
@@ -102,7 +102,7 @@ impl KeyValue {
             .saturating_add(1 + 8 + 8)
     }
 
-    /// Key and value have lengths. This is a law: it computes nothing.
+    /// States that the lengths of key and value are below 2^64. This is a law: it computes nothing.
     pub(crate) fn lengths_fit(&self)
         ensures key { length self.now.key.items < 2 ^ 64 }
         ensures value { HasLength (pair_of self.now).value }
@@ -113,7 +113,7 @@ impl KeyValue {
         }
     }
 
-    /// Whether the change can be written: a `Put` has a value.
+    /// Tests whether the change can be written: a `Put` has a value.
     pub(crate) fn is_writable(&self) -> bool
         ensures { IsTrue result ↔ IsWritablePair (pair_of self.now) }
     {
@@ -145,7 +145,7 @@ impl KeyValue {
         Ok(())
     }
 
-    /// Appends the change's bytes. On `Err` some bytes may stand behind those of the vector.
+    /// Appends the change's bytes. On `Err` some bytes may follow those of the vector.
     pub(crate) fn write(&self, buf: &mut Vec<u8>) -> AllocResult<()>
         ensures ok { OnOk result (buf.new.items ≡ buf.old.items ++ pair_bytes (pair_of self.now)) }
         ensures err { OnErr result (Keeps buf.old.items buf.new.items) }
@@ -176,7 +176,7 @@ impl KeyValue {
         Ok(kv)
     }
 
-    /// The change in front of `bytes`, and what is behind it.
+    /// Returns the change in front of `bytes` and what follows it.
     pub(crate) fn parse(alloc: Global, bytes: &[u8]) -> Result<(KeyValue, &[u8])>
         ensures ok { IfOk result (λ read. Reads IsKeyValue bytes.now read.1.now (pair_of read.0)) }
         ensures refused { IfErr result (λ e. e ≢ Error.Memory → HasNoFront IsKeyValue bytes.now) }
@@ -191,7 +191,7 @@ impl KeyValue {
         }
     }
 
-    /// A `Put` behind its op type byte.
+    /// Reads a `Put` after its op type byte.
     fn parse_put(alloc: Global, bytes: &[u8]) -> Result<(KeyValue, &[u8])>
         ensures ok { IfOk result (λ read. Reads IsKeyValue (1 ∷ bytes.now) read.1.now
             (pair_of read.0)) }
@@ -206,7 +206,7 @@ impl KeyValue {
         Ok((KeyValue::new(OpType::Put, key, Some(value)), rest))
     }
 
-    /// A `Del` behind its op type byte.
+    /// Reads a `Del` after its op type byte.
     fn parse_del(alloc: Global, bytes: &[u8]) -> Result<(KeyValue, &[u8])>
         ensures ok { IfOk result (λ read. Reads IsKeyValue (2 ∷ bytes.now) read.1.now
             (pair_of read.0)) }
@@ -220,7 +220,7 @@ impl KeyValue {
     }
 }
 
-/// Appends `text` behind its length. On `Err` some bytes may stand behind those of the vector.
+/// Appends the length of `text` and then `text`. On `Err` some bytes may follow those of the vector.
 fn append_byte_string(buf: &mut Vec<u8>, text: &[u8]) -> AllocResult<()>
     ensures ok { OnOk result (buf.new.items ≡ buf.old.items ++ byte_string text.now) }
     ensures err { OnErr result (Keeps buf.old.items buf.new.items) }
@@ -229,7 +229,7 @@ fn append_byte_string(buf: &mut Vec<u8>, text: &[u8]) -> AllocResult<()>
     buf.extend_from_slice(text)
 }
 
-/// The byte string in front of `bytes`, which stands behind its length, and what is behind it.
+/// Reads a length and that many bytes after it in front of `bytes`, and returns these and what follows them.
 fn parse_byte_string(alloc: Global, bytes: &[u8]) -> Result<(&[u8], &[u8])>
     ensures ok { IfOk result (λ read. Reads IsByteString bytes.now read.1.now read.0.now) }
     ensures refused { OnErr result (HasNoFront IsByteString bytes.now) }

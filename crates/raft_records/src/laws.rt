@@ -22,8 +22,8 @@ ghost use Rattle.raft_records.specs.Entries.{Tile};
 ghost use Rattle.raft_records.specs.Spelling.{IsWritablePair, command_bytes, entries_bytes, pair_bytes};
 ghost use Rattle.raft_records.specs.Written.{ItemIsSpelled, ItemBatchIsSpelled};
 
-/// What is written of an item is a spelling of it, and no spelling of an item begins another, so it is
-/// read again, whatever follows it. What is written and signed of a batch is an item batch of its
+/// States that what is written of an item is a spelling of it, and that no spelling of an item begins another;
+/// so it is read again, whatever follows it. What is written and signed of a batch is an item batch of its
 /// items. Bytes are an item batch of one list of items, with one rest.
 pub fn items_are_read_again()
     ensures item { ItemIsSpelled }
@@ -35,8 +35,8 @@ pub fn items_are_read_again()
         (items ≡ items') × (rest ≡ rest') }
 {}
 
-/// What is written of an item's content is a spelling of it, and no spelling begins another, so it is
-/// read again by itself: commands, key values without what bytes don't hold, and entries behind any
+/// States that what is written of an item's content is a spelling of it, and that no spelling begins another;
+/// so it is read again by itself: commands, key values without what bytes don't hold, and entries after any
 /// entry bytes.
 pub fn contents_are_read_again()
     ensures command { (c : Command) → IsContentInRange (command c) → IsCommand (command_bytes c) c }
@@ -49,8 +49,8 @@ pub fn contents_are_read_again()
     ensures one_entries { (s : ℕ) → HasOneFront (IsEntries s) }
 {}
 
-/// Bytes that are an item batch in one file of version 2 are none in another file of version 2, unless
-/// the low 32 bits of the files' numbers agree; and then they are the same one.
+/// States that bytes that are an item batch in one file of version 2 are none in another file of version 2,
+/// unless the low 32 bits of the files' numbers agree; and then they are the same one.
 pub fn batches_belong_to_one_file()
     ensures other_file { (bytes rest rest' : List ℕ) (seq seq' : ℕ) (items items' : List Item) →
         IsItemBatch bytes (signature_in V2 seq) items rest →
@@ -60,10 +60,9 @@ pub fn batches_belong_to_one_file()
         IsItemBatch bytes (signature_in V2 seq') items rest }
 {}
 
-/// What is written and signed of a batch is a log batch of its items and entry bytes. Bytes are a log
-/// batch exactly where a header, an entry block and an item batch are read of them, and each of these
-/// is read in one way only; so they are a log batch of one list of items and of one string of entry
-/// bytes.
+/// States that what is written and signed of a batch is a log batch of its items and entry bytes. Bytes are a
+/// log batch exactly where a header, an entry block and an item batch are read of them, and each of these is
+/// read in one way only. So they are a log batch of one list of items and of one string of entry bytes.
 pub fn log_batches_are_read_again()
     ensures written { LogBatchIsSpelled }
     ensures sections { (bytes : List ℕ) (signature : Option ℕ) (items : List Item)
@@ -83,8 +82,8 @@ pub fn log_batches_are_read_again()
         → (items ≡ items') × (entry_bytes ≡ entry_bytes') }
 {}
 
-/// A batch that was signed for one file of version 2 is refused for another file of version 2 exactly
-/// if the low 32 bits of the files' numbers differ; where they agree it is the same batch.
+/// States that a batch that was signed for one file of version 2 is refused for another file of version 2
+/// exactly if the low 32 bits of the files' numbers differ; where they agree it is the same batch.
 pub fn log_batches_belong_to_one_file()
     ensures other_file { (bytes : List ℕ) (seq seq' : ℕ) (items items' : List Item) →
         IsReadable bytes (signature_in V2 seq) items
@@ -95,10 +94,10 @@ pub fn log_batches_belong_to_one_file()
         IsLogBatch bytes (signature_in V2 seq') items entry_bytes }
 {}
 
-/// The bytes of a written batch, in a part of the file that they are signed for, at the offset of the place
-/// that they were written to, are never refused there: `next_batch` returns exactly the items that
+/// States that the bytes of a written batch, in a part of the file that they are signed for, at the offset of
+/// the place that they were written to, are never refused there: `next_batch` returns exactly the items that
 /// `finish_write` leaves, and where the bytes end. So the batch stands there. What is asked of the items holds
-/// of every batch, as its `is_read_again` tells.
+/// of every batch, as its `is_read_again` states.
 pub fn written_batches_are_next()
     ensures stands { WrittenBatchStands }
     ensures next { (part : Part) (at : ℕ) (handle : FileBlockHandle) (items : List Item)
@@ -122,7 +121,7 @@ pub fn written_batches_are_next()
         (drop at part.bytes) → ⊥ }
 {}
 
-/// What is read of a written batch is what the batch holds once the write has given its items their
+/// States that what is read of a written batch is what the batch holds once the write has given its items their
 /// places.
 pub fn placed_items_are_read()
     ensures { (handle : FileBlockHandle) (compression : CompressionType) (items : List Item) →

@@ -54,7 +54,7 @@ impl BufState {
     ghost use Rattle.raft_records.specs.LogBatch.{stage_number};
     ghost use Rattle.raft_records.specs.LogBatchModel.{stage_of};
 
-    /// Whether both are states of the same stage.
+    /// Tests whether both are states of the same stage.
     fn is_same_stage(self, other: BufState) -> bool
         ensures { IsTrue result ↔ (stage_number (stage_of self) ≡ stage_number (stage_of other)) }
     {
@@ -67,8 +67,8 @@ impl BufState {
     }
 }
 
-/// Log items and the bytes of their entries. While it is open items are added; then its bytes are
-/// made, signed for a file and written there.
+/// Log items and the bytes of their entries. Items are added while it is open; then its bytes are made, signed
+/// for a file and written there.
 #[derive(Debug, Drop)]
 pub struct LogBatch {
     item_batch: LogItemBatch,
@@ -89,7 +89,7 @@ impl Model for LogBatch {
 }
 
 impl LogBatch {
-    /// An open batch without items.
+    /// Returns an open batch without items.
     pub fn default(alloc: Global) -> LogBatch
         ensures { result ≡ empty_batch }
     {
@@ -100,7 +100,7 @@ impl LogBatch {
         }
     }
 
-    /// An open batch without items, with room for `cap` of them.
+    /// Returns an open batch without items, with room for `cap` of them.
     ///
     /// # Errors
     ///
@@ -117,35 +117,35 @@ impl LogBatch {
         })
     }
 
-    /// The allocator that the batch was made with.
+    /// Returns the allocator that the batch was made with.
     pub(crate) fn allocator(&self) -> Global {
         *self.buf.allocator()
     }
 
-    /// Whether there are no items.
+    /// Tests whether there are no items.
     pub fn is_empty(&self) -> bool
         ensures { IsTrue result ↔ (self.now.items ≡ []) }
     {
         self.item_batch.iter().as_slice().is_empty()
     }
 
-    /// Whether items may still be added.
+    /// Tests whether items may still be added.
     pub fn is_open(&self) -> bool
         ensures { IsTrue result ↔ (self.now.stage ≡ populating) }
     {
         matches!(self.state, BufState::Open)
     }
 
-    /// Whether the batch's bytes are signed for a file.
+    /// Tests whether the batch's bytes are signed for a file.
     pub fn is_sealed(&self) -> bool
         ensures { IsTrue result ↔ IsSealedStage self.now.stage }
     {
         matches!(self.state, BufState::Sealed(_))
     }
 
-    /// The approximate length of the batch's bytes, capped at `usize::MAX`: 0 without items, and their
-    /// length itself once they are made. It is at least their length where all region ids and indexes
-    /// are below 2^56, unless the batch is too long to be encoded.
+    /// Returns the approximate length of the batch's bytes, capped at `usize::MAX`: 0 without items, and their
+    /// length itself once they are made. It is at least their length where all region ids and indexes are below
+    /// 2^56, unless the batch is too long to be encoded.
     pub fn approximate_size(&self) -> usize
         ensures size { result
             ≡ approximate_length self.now.stage self.now.items self.now.entry_bytes }
@@ -173,7 +173,7 @@ impl LogBatch {
         self.item_batch.as_slice()
     }
 
-    /// Hands out the items in order, and leaves the batch open and empty.
+    /// Returns the items in order, and leaves the batch open and empty.
     pub fn drain(&mut self) -> vec::IntoIter<LogItem>
         ensures items { map item_of (into_iter_items result) ≡ self.old.items }
         ensures len { into_iter_len result ≡ length self.old.items }
@@ -200,8 +200,8 @@ impl LogBatch {
         self.item_batch.add_command(region, command)
     }
 
-    /// Makes the bytes of an open batch, to which nothing is added from then on, and answers how many
-    /// they are: none without items.
+    /// Makes the bytes of an open batch, to which nothing is added from then on, and returns how many they are:
+    /// none without items.
     ///
     /// # Errors
     ///
@@ -243,7 +243,7 @@ impl LogBatch {
         self.state = BufState::Sealed(context.get_signature());
     }
 
-    /// The bytes of a sealed batch: none without items.
+    /// Returns the bytes of a sealed batch: none without items.
     pub fn encoded_bytes(&self) -> &[u8]
         requires { IsSealedStage self.now.stage }
         ensures bytes { (signature : Option ℕ) → self.now.stage ≡ sealed signature →
@@ -256,11 +256,10 @@ impl LogBatch {
         self.buf.as_slice()
     }
 
-    /// What is written and signed of a batch is read again: the entries of its items tile its entry
-    /// bytes, which are 2^31 - 1 at most, its items' numbers are in the ranges of their types, bytes hold
-    /// all of its items but places and files, its bytes are fewer than 2^56 once they are made, and, where
-    /// it has items, they are a log batch of these items and entry bytes. This is a law: it computes
-    /// nothing.
+    /// States that what is written and signed of a batch is read again. The entries of its items tile its entry
+    /// bytes, which are 2^31 - 1 at most. Its items' numbers are in the ranges of their types. Bytes hold all
+    /// of its items but places and files. Its bytes are fewer than 2^56 once they are made, and, where it has
+    /// items, they are a log batch of these items and entry bytes. This is a law: it computes nothing.
     pub fn is_read_again(&self)
         ensures tiled { IsBatchOf self.now.items self.now.entry_bytes }
         ensures in_range { AreInRange self.now.items }
@@ -276,13 +275,12 @@ impl LogBatch {
         log_batches_are_read_again();
     }
 
-    /// Reads the header of a log batch from the front: where its item batch begins, how its entry bytes
-    /// are compressed, and how many bytes the batch has. For this it takes no memory.
+    /// Reads the header of a log batch from the front: where its item batch begins, how its entry bytes are
+    /// compressed, and how many bytes the batch has. It takes no memory for this.
     ///
     /// # Errors
     ///
-    /// `Corruption` where no header stands there, and `Memory` for its text. The slice is then as it
-    /// was.
+    /// `Corruption` where no header stands there, and `Memory` for its text. The slice is then as it was.
     pub fn decode_header(
         alloc: Global,
         buf: &mut BytesSlice<'_>,
@@ -297,7 +295,7 @@ impl LogBatch {
         Ok(header)
     }
 
-    /// The entry bytes in the entry block that stands in front of `buf`, of the length that its place
+    /// Returns the entry bytes in the entry block that stands in front of `buf`, of the length that its place
     /// says; none where that is 0.
     ///
     /// # Errors
@@ -402,10 +400,10 @@ fn refuse_reserved(key: &Vec<u8>) -> Result<()>
 }
 
 impl LogBatch {
-    /// Gives every entry of a sealed batch the place of the entry bytes with their checksum, within the
-    /// place that the batch was written to and of length 0 where there are no entry bytes, and every key
-    /// value its file. It asks that the place of the batch begins at 2^64 - 17 at most. The batch's
-    /// bytes stay as they are, and it takes no memory.
+    /// Gives the items of a sealed batch their places. Every entry gets the place of the entry bytes with their
+    /// checksum, which is within the place that the batch was written to, and of length 0 where there are no
+    /// entry bytes. Every key value gets its file. It asks that the place of the batch begins at 2^64 - 17 at
+    /// most. The batch's bytes stay as they are, and it takes no memory.
     pub fn finish_write(&mut self, handle: FileBlockHandle)
         requires sealed { IsSealedStage self.old.stage }
         requires offset { handle.offset ≤ 2 ^ 64 - 17 }
@@ -459,8 +457,8 @@ impl PartialEq for LogBatch {
 
     ghost laws = { partial_equiv_from_equiv same_batch_is_equivalence };
 
-    /// Whether both have the same items and entry bytes and are both open, both encoded or both
-    /// sealed, for whichever files.
+    /// Tests whether both have the same items and entry bytes and are both open, both encoded or both sealed,
+    /// for whichever files.
     fn eq(&self, other: &LogBatch) -> bool
         ensures tested { result ≡ same_batch self.now other.now }
         ensures exact { IsTrue result ↔ AreEqual self.now other.now }
@@ -482,7 +480,7 @@ impl Clone for LogBatch {
 
     ghost is_clone = { λ batch copy. copy ≡ batch };
 
-    /// A batch of the same items and entry bytes at the same stage. There may be no memory for it.
+    /// Returns a batch of the same items and entry bytes at the same stage. There may be no memory for it.
     fn clone(&self) -> AllocResult<LogBatch> {
         Ok(LogBatch {
             item_batch: <LogItemBatch as Clone>::clone(&self.item_batch)?,
@@ -493,7 +491,7 @@ impl Clone for LogBatch {
 }
 
 impl LogBatch {
-    /// A batch of the same items and entry bytes at the same stage.
+    /// Returns a batch of the same items and entry bytes at the same stage.
     ///
     /// # Errors
     ///
@@ -505,7 +503,7 @@ impl LogBatch {
         Ok(<LogBatch as Clone>::clone(self)?)
     }
 
-    /// The bytes of the entries.
+    /// Returns the bytes of the entries.
     fn entry_bytes(&self) -> &[u8]
         ensures { result.now ≡ self.now.entry_bytes }
     {

@@ -46,7 +46,7 @@ pub enum LogItemContent {
 }
 
 impl LogItem {
-    /// New entries of a region.
+    /// Returns an item of new entries of a region.
     pub fn new_entry_indexes(raft_group_id: u64, entry_indexes: Vec<EntryIndex>) -> LogItem
         ensures { item_of result ≡ entries_item raft_group_id entry_indexes.items }
     {
@@ -56,7 +56,7 @@ impl LogItem {
         }
     }
 
-    /// A command on a region's log.
+    /// Returns an item of a command on a region's log.
     pub fn new_command(raft_group_id: u64, command: Command) -> LogItem
         ensures { item_of result ≡ command_item raft_group_id command }
     {
@@ -66,7 +66,7 @@ impl LogItem {
         }
     }
 
-    /// A change of a region's key.
+    /// Returns an item of a change of a region's key.
     pub fn new_kv(
         raft_group_id: u64,
         op_type: OpType,
@@ -82,7 +82,7 @@ impl LogItem {
         }
     }
 
-    /// The same change of the same region.
+    /// Returns the same change of the same region.
     ///
     /// # Errors
     ///
@@ -95,7 +95,7 @@ impl LogItem {
         Ok(<LogItem as Clone>::clone(self)?)
     }
 
-    /// The approximate length of the item's bytes, capped at `usize::MAX`.
+    /// Returns the approximate length of the item's bytes, capped at `usize::MAX`.
     pub(crate) fn approximate_size(&self) -> usize
         ensures { result ≡ at_most_usize (item_size (item_of self.now)) }
     {
@@ -129,7 +129,7 @@ impl LogItem {
         }
     }
 
-    /// The item's numbers are in the ranges of their types. This is a law: it computes nothing.
+    /// States that the item's numbers are in the ranges of their types. This is a law: it computes nothing.
     pub(crate) fn numbers_fit(&self)
         ensures { IsInRange (item_of self.now) }
     {
@@ -146,8 +146,8 @@ impl LogItem {
         }
     }
 
-    /// Whether the item can be written: its entries are consecutive and their bytes run on, its
-    /// `Put` has a value.
+    /// Tests whether the item can be written: its entries are consecutive and their bytes run on, its `Put` has
+    /// a value.
     fn is_writable(&self) -> bool
         ensures { IsTrue result ↔ IsWritable (item_of self.now) }
     {
@@ -184,7 +184,7 @@ impl LogItem {
         Ok(())
     }
 
-    /// Appends the item's bytes. On `Err` some bytes may stand behind those of the vector.
+    /// Appends the item's bytes. On `Err` some bytes may follow those of the vector.
     pub(crate) fn write(&self, buf: &mut Vec<u8>) -> AllocResult<()>
         ensures ok { OnOk result (buf.new.items ≡ buf.old.items ++ item_bytes (item_of self.now)) }
         ensures err { OnErr result (Keeps buf.old.items buf.new.items) }
@@ -193,14 +193,14 @@ impl LogItem {
         self.content.write(buf)
     }
 
-    /// Reads an item that stands behind `entries_size` entry bytes from the front, without places and
-    /// file. `entries_size` becomes the end of its entries' bytes.
+    /// Reads an item, which follows `entries_size` entry bytes, from the front, without places and file.
+    /// `entries_size` becomes the end of its entries' bytes.
     ///
     /// # Errors
     ///
-    /// `Codec` where the bytes end early or a number is malformed; `Io` where they end before the
-    /// item's type; `Corruption` for an unknown type, and what its content's `decode` refuses so;
-    /// `Memory`. `entries_size` and the slice are then as they were.
+    /// `Codec` where the bytes end early or a number is malformed; `Io` where they end before the item's type;
+    /// `Corruption` for an unknown type, and what its content's `decode` refuses so; `Memory`. `entries_size`
+    /// and the slice are then as they were.
     pub fn decode(
         alloc: Global,
         buf: &mut BytesSlice<'_>,
@@ -222,8 +222,7 @@ impl LogItem {
         Ok(item)
     }
 
-    /// The item in front of `bytes`, in this place, the end of its entries' bytes, and what is behind
-    /// it.
+    /// Returns the item in front of `bytes`, in this place, the end of its entries' bytes, and what follows it.
     #[inline(always)]
     pub(crate) fn parse(
         alloc: Global,
@@ -251,7 +250,7 @@ impl LogItem {
 }
 
 impl LogItemContent {
-    /// The same change.
+    /// Returns the same change.
     ///
     /// # Errors
     ///
@@ -264,8 +263,7 @@ impl LogItemContent {
         Ok(<LogItemContent as Clone>::clone(self)?)
     }
 
-    /// Appends the type byte and the content's bytes. On `Err` some bytes may stand behind those of
-    /// the vector.
+    /// Appends the type byte and the content's bytes. On `Err` some bytes may follow those of the vector.
     fn write(&self, buf: &mut Vec<u8>) -> AllocResult<()>
         ensures ok { OnOk result (buf.new.items
             ≡ buf.old.items ++ content_bytes (content_of self.now)) }
@@ -287,8 +285,8 @@ impl LogItemContent {
         }
     }
 
-    /// The content in front of `bytes`, in this place, the end of its entries' bytes, and what is
-    /// behind it.
+    /// Returns the content in front of `bytes`, in this place, the end of its entries' bytes, and what follows
+    /// it.
     #[inline(always)]
     fn parse(
         alloc: Global,

@@ -63,7 +63,7 @@ impl Model for LogItemBatch {
 }
 
 impl LogItemBatch {
-    /// A batch without items.
+    /// Returns a batch without items.
     pub fn default(alloc: Global) -> LogItemBatch
         ensures { result ≡ [] }
     {
@@ -76,7 +76,7 @@ impl LogItemBatch {
         }
     }
 
-    /// A batch without items, with room for `cap` of them.
+    /// Returns a batch without items, with room for `cap` of them.
     ///
     /// # Errors
     ///
@@ -95,7 +95,7 @@ impl LogItemBatch {
         })
     }
 
-    /// The items in order.
+    /// Returns the items, in order.
     pub fn into_items(self) -> Vec<LogItem>
         ensures { map item_of result.items ≡ self }
     {
@@ -103,7 +103,7 @@ impl LogItemBatch {
         items
     }
 
-    /// The items in order.
+    /// Returns an iterator over the items, in order.
     pub fn iter(&self) -> slice::Iter<'_, LogItem>
         ensures { map item_of (iter_rest result) ≡ self.now }
     {
@@ -117,8 +117,8 @@ impl LogItemBatch {
         self.items.as_slice()
     }
 
-    /// What is written and signed of a batch is read again: its items fit together, their numbers are
-    /// in the ranges of their types, and bytes hold all of them but places and files. This is a law: it
+    /// States that what is written and signed of a batch is read again. Its items fit together, their numbers
+    /// are in the ranges of their types, and bytes hold all of them but places and files. This is a law: it
     /// computes nothing.
     pub fn is_read_again(&self)
         ensures fit { FitTogether 0 self.now }
@@ -131,23 +131,23 @@ impl LogItemBatch {
         let _count = self.items.len();
     }
 
-    /// The file in which `decode` gave the items their places, as long as none was added, moved or
-    /// placed since: the items may stand in it, so nobody needs to test them again. A clone answers the
-    /// same, a batch that was made otherwise `None`. `None` says nothing of the items.
+    /// Returns the file in which `decode` gave the items their places, as long as none was added, moved or
+    /// placed since: the items may stand in it, so nobody needs to test them again. A clone returns the same. A
+    /// batch that was made otherwise returns `None`, which says nothing of the items.
     pub fn decoded_in(&self) -> Option<FileId>
         ensures { IfSome result (λ file. AreDecodedIn file self.now) }
     {
         self.decoded_in
     }
 
-    /// How many bytes the entries of all items have together.
+    /// Returns how many bytes the entries of all items have together.
     pub fn entries_size(&self) -> u32
         ensures { result ≡ entry_bytes_of self.now }
     {
         self.entries_size
     }
 
-    /// The approximate length of the batch's bytes, capped at `usize::MAX`. It is at least their length
+    /// Returns the approximate length of the batch's bytes, capped at `usize::MAX`. It is at least their length
     /// where all region ids and indexes are below 2^56, of bytes that a log batch can hold.
     pub fn approximate_size(&self) -> usize
         ensures size { result ≡ at_most_usize (item_batch_size self.now) }
@@ -157,7 +157,7 @@ impl LogItemBatch {
         self.item_size.saturating_add(8 + LOG_BATCH_CHECKSUM_LEN)
     }
 
-    /// The first entry of the first item that has entries to list, if it has any.
+    /// Returns the first entry of the first item that has entries to list, if it has any.
     pub fn entry_index(&self) -> Option<EntryIndex>
         ensures { result ≡ first_entry self.now }
     {
@@ -169,9 +169,9 @@ impl LogItemBatch {
         None
     }
 
-    /// Adds entries of a region, whose bytes stand behind those of the batch: their offsets are set so.
-    /// It asks consecutive entries, and that the bytes of all entries stay below 2^32 (`entries_size`
-    /// tells those of the batch).
+    /// Adds entries of a region, whose bytes follow those of the batch: their offsets are set so. It asks
+    /// consecutive entries, and that the bytes of all entries stay below 2^32 (`entries_size` tells those of
+    /// the batch).
     ///
     /// # Errors
     ///
@@ -260,8 +260,8 @@ impl LogItemBatch {
         self.put(region, key, value)
     }
 
-    /// Moves the items of `rhs` behind those of the batch; their entries' bytes stand behind the
-    /// batch's, so that their offsets rise. It asks that the bytes of all entries stay below 2^32.
+    /// Moves the items of `rhs` after those of the batch. Their entries' bytes follow the batch's, so that
+    /// their offsets rise. It asks that the bytes of all entries stay below 2^32.
     ///
     /// # Errors
     ///
@@ -295,7 +295,7 @@ impl LogItemBatch {
         Ok(())
     }
 
-    /// Hands out the items in order, and leaves the batch empty.
+    /// Returns the items in order, and leaves the batch empty.
     pub fn drain(&mut self) -> vec::IntoIter<LogItem>
         ensures items { map item_of (into_iter_items result) ≡ self.old }
         ensures len { into_iter_len result ≡ length self.old }
@@ -355,17 +355,17 @@ impl LogItemBatch {
         LittleEndian::write_u32(&mut buf[end..], sign(checksum, context.get_signature()));
     }
 
-    /// Reads the item batch that the whole slice is, in the file of `context`. Every entry gets the
-    /// place `entries` and the compression type, every key value the file of `entries`. The slice then
-    /// holds the bytes between the last item and the checksum, which are free. Entries are consecutive,
-    /// and a `Put` has a value: nobody needs to test it again. The batch keeps the file of `entries`
+    /// Reads the item batch that the whole slice is, in the file of `context`. Every entry gets the place
+    /// `entries` and the compression type, every key value the file of `entries`. The slice then holds the
+    /// bytes between the last item and the checksum, which are free. Entries are consecutive, and a `Put` has a
+    /// value: nobody needs to test it again. The batch keeps the file of `entries`
     /// ([`LogItemBatch::decoded_in`]).
     ///
     /// # Errors
     ///
     /// `Corruption` where the bytes are four or fewer or their checksum is another, and what
-    /// [`LogItem::decode`] answers of an item; `Codec` where the count of items is malformed; `Memory`.
-    /// The slice is then as it was.
+    /// [`LogItem::decode`] returns of an item; `Codec` where the count of items is malformed; `Memory`. The
+    /// slice is then as it was.
     pub fn decode(
         alloc: Global,
         buf: &mut BytesSlice<'_>,
@@ -390,7 +390,7 @@ impl LogItemBatch {
         Ok(batch.with_file(entries.id))
     }
 
-    /// The same items, with the file of their places beside them.
+    /// Returns the same items, with the file of their places beside them.
     #[inline(always)]
     fn with_file(mut self, file: FileId) -> LogItemBatch
         requires { AreDecodedIn file self }
@@ -433,7 +433,7 @@ impl PartialEq for LogItemBatch {
 
     ghost laws = { partial_equiv_from_equiv same_items_is_equivalence };
 
-    /// Whether the items are the same, in order.
+    /// Tests whether the items are the same, in order.
     fn eq(&self, other: &LogItemBatch) -> bool
         ensures tested { result ≡ same_items self.now other.now }
         ensures exact { IsTrue result ↔ (self.now ≡ other.now) }
@@ -453,7 +453,7 @@ impl Clone for LogItemBatch {
 
     ghost is_clone = { λ batch copy. copy ≡ batch };
 
-    /// A batch of the same items. There may be no memory for it.
+    /// Returns a batch of the same items. There may be no memory for it.
     fn clone(&self) -> AllocResult<LogItemBatch> {
         let items = self.items.clone()?;
         Ok(LogItemBatch {
@@ -467,7 +467,7 @@ impl Clone for LogItemBatch {
 }
 
 impl LogItemBatch {
-    /// A batch of the same items.
+    /// Returns a batch of the same items.
     ///
     /// # Errors
     ///
@@ -480,8 +480,7 @@ impl LogItemBatch {
     }
 }
 
-/// Appends the count, the items and four zero bytes. On `Err` some bytes may stand behind those of
-/// the vector.
+/// Appends the count, the items and four zero bytes. On `Err` some bytes may follow those of the vector.
 fn write_items(buf: &mut Vec<u8>, items: &[LogItem]) -> AllocResult<()>
     ensures ok { OnOk result
         (buf.new.items
@@ -496,7 +495,7 @@ fn write_items(buf: &mut Vec<u8>, items: &[LogItem]) -> AllocResult<()>
     Ok(())
 }
 
-/// The `count` items in front of `bytes`, each in its place, and what is behind them.
+/// Returns the `count` items in front of `bytes`, each in its place, and what follows them.
 fn parse_items(
     alloc: Global,
     bytes: &[u8],

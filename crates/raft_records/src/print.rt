@@ -15,13 +15,13 @@ use raft_base::{
 use std::alloc::Global;
 use std::io::{self, ErrorKind, Read, Write};
 
-/// Prints the item batch that the whole of `reader` is, in the file of `context`: a line for each item,
-/// and a last one with the number of items and of the bytes that are left unread behind them.
+/// Prints the item batch that the whole of `reader` is, in the file of `context`: a line for each item, and a
+/// last one with the number of items and of the bytes that are left unread after them.
 ///
 /// # Errors
 ///
-/// What [`LogItemBatch::decode`] answers, or `Memory`, and then nothing is written. `Io` where the
-/// reader or the writer fails; behind a failure of the writer a front of the lines may stand.
+/// What [`LogItemBatch::decode`] returns, or `Memory`, and then nothing is written. `Io` where the reader or
+/// the writer fails; after a failure of the writer a front of the lines may stand.
 pub fn print_batch<R: Read, W: Write>(
     alloc: Global,
     reader: &mut R,
@@ -47,7 +47,7 @@ pub fn print_batch<R: Read, W: Write>(
     write_whole(writer, text.as_bytes())
 }
 
-/// Writes all of these bytes, and goes on behind a write that took a part or was interrupted.
+/// Writes all of these bytes, and goes on after a write that took a part or was interrupted.
 ///
 /// # Errors
 ///
@@ -74,7 +74,7 @@ pub fn write_whole<W: Write>(writer: &mut W, bytes: &[u8]) -> Result<()>
     }
 }
 
-/// Writes some of these bytes, and answers how many; none where the write was interrupted.
+/// Writes some of these bytes, and returns how many; none where the write was interrupted.
 fn write_some<W: Write>(writer: &mut W, bytes: &[u8]) -> Result<usize>
     ensures bound { IfOk result (λ count. count ≤ length bytes.now) }
     ensures ok { IfOk result
@@ -90,19 +90,19 @@ fn write_some<W: Write>(writer: &mut W, bytes: &[u8]) -> Result<usize>
     }
 }
 
-/// A writer took nothing.
+/// Returns the error of a writer that took nothing.
 fn unwritten() -> Error
     ensures { IsIoError result }
 {
     Error::Io(io::Error::new(ErrorKind::WriteZero, "the writer takes no more"))
 }
 
-/// The text of the item batch that the whole slice is, in the file of `context`: a line for each item,
-/// and a last one with the number of items and of the bytes that are left unread behind them.
+/// Returns the text of the item batch that the whole slice is, in the file of `context`: a line for each item,
+/// and a last one with the number of items and of the bytes that are left unread after them.
 ///
 /// # Errors
 ///
-/// What [`LogItemBatch::decode`] answers, or `Memory`.
+/// What [`LogItemBatch::decode`] returns, or `Memory`.
 pub fn batch_text(alloc: Global, bytes: &[u8], context: &LogFileContext) -> Result<String>
     ensures ok { IfOk result (λ text.
         IsTextOf bytes.now (signature_of context.now) (string_bytes text)) }
@@ -174,7 +174,7 @@ fn append_entries(entries: &[EntryIndex], text: &mut String) -> AllocResult<()>
     write!(text, "entries {count} first {index} tail {tail}")
 }
 
-/// Where an entry's bytes end, counted from the first entry byte of the batch.
+/// Returns where an entry's bytes end, counted from the first entry byte of the batch.
 fn tail_offset(entry: &EntryIndex) -> u64
     ensures { result ≡ tail_of entry.now }
 {
@@ -215,7 +215,7 @@ fn append_bytes(alloc: Global, bytes: &[u8], text: &mut String) -> AllocResult<(
     text.push_str(digits.as_str())
 }
 
-/// Appends the last line: how many items there are, and how many bytes are left behind them.
+/// Appends the last line: how many items there are, and how many bytes are left after them.
 fn append_counts(items: usize, rest: usize, text: &mut String) -> AllocResult<()>
     ensures { OnOk result (string_bytes text.new
         ≡ string_bytes text.old ++ last_line items rest) }

@@ -103,8 +103,8 @@ impl LogBatch {
         Ok(())
     }
 
-    /// Moves all items of `rhs` behind those of the batch, and their entry bytes behind its own; both
-    /// are open, and `rhs` is left empty.
+    /// Moves all items of `rhs` after those of the batch, and their entry bytes after its own. Both are open,
+    /// and `rhs` is left empty.
     ///
     /// # Errors
     ///
@@ -137,8 +137,8 @@ impl LogBatch {
     }
 }
 
-/// Appends the bytes of entries, and adds their item to the items of the buffer's batch. On `Err` some
-/// bytes may stand behind those of the buffer.
+/// Appends the bytes of entries, and adds their item to the items of the buffer's batch. On `Err` some bytes
+/// may follow those of the buffer.
 fn write_strings(
     buf: &mut Vec<u8>,
     item_batch: &mut LogItemBatch,
@@ -166,8 +166,8 @@ fn write_strings(
     item_batch.add_entry_indexes(region, entry_indexes)
 }
 
-/// Appends the bytes of entries, and sets their lengths. `Full` where an open batch's buffer may not
-/// have so many. On `Err` some bytes may stand behind those of the buffer.
+/// Appends the bytes of entries, and sets their lengths. `Full` where an open batch's buffer may not have so
+/// many. On `Err` some bytes may follow those of the buffer.
 fn append_strings(
     buf: &mut Vec<u8>,
     entry_indexes: &mut Vec<EntryIndex>,
@@ -194,8 +194,8 @@ fn append_strings(
     Ok(())
 }
 
-/// Appends the bytes of messages, and adds their item to the items of the buffer's batch. On `Err` some
-/// bytes may stand behind those of the buffer.
+/// Appends the bytes of messages, and adds their item to the items of the buffer's batch. On `Err` some bytes
+/// may follow those of the buffer.
 fn write_messages<M: MessageExt>(
     buf: &mut Vec<u8>,
     item_batch: &mut LogItemBatch,
@@ -230,7 +230,7 @@ fn write_messages<M: MessageExt>(
     item_batch.add_entry_indexes(region, entry_indexes)
 }
 
-/// Entries with the indexes of messages, in their order, without lengths.
+/// Returns entries with the indexes of messages, in their order, without lengths.
 fn indexed_entries<M: MessageExt>(
     alloc: Global,
     entries: &[M::Entry],
@@ -248,8 +248,8 @@ fn indexed_entries<M: MessageExt>(
     Ok(entry_indexes)
 }
 
-/// Appends the bytes of messages, and sets the lengths of their entries. `Full` where an open batch's
-/// buffer may not have so many. On `Err` some bytes may stand behind those of the buffer.
+/// Appends the bytes of messages, and sets the lengths of their entries. `Full` where an open batch's buffer
+/// may not have so many. On `Err` some bytes may follow those of the buffer.
 fn append_messages<M: MessageExt>(
     buf: &mut Vec<u8>,
     entry_indexes: &mut Vec<EntryIndex>,
@@ -277,7 +277,7 @@ fn append_messages<M: MessageExt>(
     Ok(())
 }
 
-/// Makes room behind the entry bytes, if there are any, for those of a buffer of `len` bytes.
+/// Makes room after the entry bytes, if there are any, for those of a buffer of `len` bytes.
 fn reserve_behind(buf: &mut Vec<u8>, len: usize) -> AllocResult<()>
     ensures same { buf.new.items ≡ buf.old.items }
     ensures room { OnOk result (16 < length buf.old.items →
@@ -289,8 +289,8 @@ fn reserve_behind(buf: &mut Vec<u8>, len: usize) -> AllocResult<()>
     Ok(())
 }
 
-/// Moves the entry bytes of `others` behind those of `buf`, which has room for them if it has any, and
-/// leaves `others` empty.
+/// Moves the entry bytes of `others` after those of `buf`, which has room for them if it has any, and leaves
+/// `others` empty.
 fn move_entry_bytes(buf: &mut Vec<u8>, others: &mut Vec<u8>)
     requires { 16 < length buf.old.items →
         length buf.old.items + (length others.old.items - 16) ≤ vec_capacity buf.old }

@@ -21,8 +21,8 @@ pub(super) fn place_items(
     }
 }
 
-/// Sets the offsets of entries so that their bytes stand one behind the other from `start` on, and
-/// answers where they end.
+/// Sets the offsets of entries so that their bytes stand one after the other from `start` on, and returns where
+/// they end.
 pub(super) fn set_offsets(entries: &mut Vec<EntryIndex>, start: u32) -> u32
     requires { start + entry_lengths entries.old.items < 2 ^ 32 }
     ensures offsets { entries.new.items ≡ with_offsets_from start entries.old.items }

@@ -25,8 +25,8 @@ pub struct Kept {
 /// Contexts of neighboring stretches are read on as many threads as one likes, and merged; the tables are those of one
 /// reading of all. After a refusal a context holds nothing, and each further call returns [`Failed`].
 ///
-/// What is proved asks that a queue has fewer than 2^63 entries and key values, and that contexts are merged in the order of
-/// their batches.
+/// What is proved asks that the batches of a queue name fewer than 2^63 entries, key values and deletions together, and
+/// that contexts are merged in the order of their batches.
 ///
 /// [`Failed`]: crate::ErrorKind::Failed
 #[derive(Debug)]

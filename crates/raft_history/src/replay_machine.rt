@@ -9,12 +9,13 @@ ghost use Rattle.raft_history.specs.ReplayMachine.{event};
 use raft_base::{FileId, LogQueue, Result};
 use raft_records::LogItemBatch;
 
-/// A machine replays the batches of a segment, and takes in the machine of the segment behind it.
+/// A machine replays the batches of a segment, and takes in the machine of the segment after it.
 ///
 /// What its state says of the batches is known by two relations that each machine defines: it *stands for* a history
-/// of batches, and it stands for it *exactly*. In histories of fewer than 2^63 entries and key values both are kept
-/// by every successful call, exactness by a merge where effects are apart; a refusal comes only for want of memory,
-/// where the history can't be read, or where the queue handed to `merge` is another than the batches'.
+/// of batches, and it stands for it *exactly*. In histories of fewer than 2^63 entries, key values and deletions
+/// together both are kept by every successful call, exactness by a merge where effects are apart; a refusal comes only
+/// for want of memory, where the history can't be read, or where the queue handed to `merge` is another than the
+/// batches'.
 pub trait ReplayMachine: Send + Drop {
     /// The machine stands for the history.
     ghost stands_for: { Self → List Event → Type 0 };

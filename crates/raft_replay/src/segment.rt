@@ -135,8 +135,8 @@ pub fn written_batches_are_held()
     ensures { WrittenBatchIsHeld }
 {}
 
-/// States that batches name no more entries and key values than they have bytes: so segments of fewer than 2^63
-/// bytes together hold a small history.
+/// States that batches name no more entries, key values and deletions together than they have bytes: so segments of
+/// fewer than 2^63 bytes together hold a small history.
 pub fn segments_hold_few_records()
     ensures { (segments : List (Vec Part Global)) (h : List Event)
         → SegmentsHold segments h → bytes_of_segments segments < 2 ^ 63 → IsSmall h }

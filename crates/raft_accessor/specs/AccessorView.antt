@@ -6,7 +6,7 @@ use Rattle.raft_accessor.specs.declared.accessor.MemTableAccessor.TheInside.{Ins
 use Rattle.raft_history.specs.RegionSteps.{Tables}
 use Rattle.raft_accessor.specs.Accessor.{Accessor, slot_of, AreCountsOf}
 
--- the tables of all slots, one slot behind the other
+-- the tables of all slots, one slot after the other
 abbrev pub slot_entries : List Tables → List (ℕ × Table)
 slot_entries [] = []
 slot_entries (m ∷ ms) = finite.entries m ++ slot_entries ms

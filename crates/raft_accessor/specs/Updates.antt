@@ -33,7 +33,7 @@ pub record MayChange {F R : Type 0} (g : TableCall F R) (f : F) (old : Table) (c
   pub kept : (r : Result R Error) (new : Table) (after : Counts) → TableCalls g f old counts r new after → OnErr r (new ≡ old)
   pub kept_counts : (r : Result R Error) (new : Table) (after : Counts) → TableCalls g f old counts r new after → OnErr r (after ≡ counts)
 
--- what a change leaves behind a call: what it left, or, for want of memory for a new table, what was
+-- what a change leaves after a call: what it left, or, for want of memory for a new table, what was
 abbrev pub IsChangedBy : {F R : Type 0} → TableCall F R → F → Table → Counts → Result R Error → Table → Counts → Type 0
 IsChangedBy g f old counts r new after = TableCalls g f old counts r new after ⊎ ((r ≡ Err Memory) × (new ≡ old) × (after ≡ counts))
 

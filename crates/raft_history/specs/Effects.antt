@@ -40,7 +40,7 @@ abbrev pub has_status : AtomicGroupStatus → Option GroupMarker → Bool
 has_status status None = false
 has_status status (Some m) = is_same_status status m.status
 
--- of the batches of one group: the last Begin with the Middles behind it, if nothing else follows it; else nothing
+-- of the batches of one group: the last Begin with the Middles after it, if nothing else follows it; else nothing
 unfoldable pub open_stretch : List Numbered → List Numbered
 open_stretch [] = []
 open_stretch (p ∷ ps) =

@@ -38,7 +38,7 @@ pub record IsAlone (h : List BatchSteps) (e : Effect) : Type 0 where
 abbrev pub IsEffect : List BatchSteps → Effect → Type 0
 IsEffect h e = IsAlone h e ⊎ ((g : ℕ) × IsStretch h g e)
 
--- each effect's last batch stands behind that of the effect before it, the first at this number or behind it
+-- each effect's last batch stands after that of the effect before it, the first at this number or past it
 abbrev pub RiseFrom : ℕ → List Effect → Type 0
 RiseFrom n [] = Unit {0}
 RiseFrom n (e ∷ es) = (n ≤ e.last.number) × RiseFrom (suc e.last.number) es

@@ -33,7 +33,7 @@ abbrev pub joined_with : WaitingGroups → List (ℕ × WaitingGroup) → Waitin
 joined_with older [] = older
 joined_with older (e ∷ es) = joined_with (finite.insert older e.0 (joined_group (known_of older e.0) e.1)) es
 
--- the groups of an older and a newer history, one behind the other
+-- the groups of an older and a newer history, one after the other
 abbrev pub joined_groups : WaitingGroups → WaitingGroups → WaitingGroups
 joined_groups older newer = joined_with older (finite.entries newer)
 

@@ -39,7 +39,7 @@ pub fn batches_are_taken_in()
         × AreInFile e.file e.items × HaveStatus e.file.queue e.items }
 {}
 
-/// States that contexts of two neighboring histories, merged, stand for both, one behind the other;
+/// States that contexts of two neighboring histories, merged, stand for both, one after the other;
 /// exactly, if both did and the effects of that history are apart. They are refused only where it
 /// isn't sound, in the rewrite queue by its files alone.
 pub fn merges_stand_for_both()

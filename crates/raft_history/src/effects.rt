@@ -17,7 +17,7 @@ pub fn effects_are_stretches()
 {}
 
 /// States that what is known of the groups of two neighboring histories tells what is known of
-/// both, one behind the other.
+/// both, one after the other.
 pub fn groups_join()
     ensures joined { (h k : List BatchSteps)
         → groups_in (h ++ k) ≡ joined_groups (groups_in h) (groups_in k) }
@@ -38,7 +38,7 @@ pub fn steps_join()
 {}
 
 /// States that groups that become whole between two histories name different regions, where the
-/// effects of both, one behind the other, are apart.
+/// effects of both, one after the other, are apart.
 pub fn wholes_name_different_regions()
     ensures { (h k : List BatchSteps) → EachApart (effects (h ++ k)) → (g l : ℕ) → g ≢ l
         → (w v : WholeGroup) → whole_group (group_in g h) (group_in g k) ≡ Some w
@@ -56,7 +56,7 @@ pub fn batches_without_markers_are_effects()
 {}
 
 /// States that a region has steps in the effects exactly where one of them names it; and the
-/// regions that two histories name, one behind the other, are those of the older, of the groups
+/// regions that two histories name, one after the other, are those of the older, of the groups
 /// that become whole between them, and of the newer.
 pub fn named_regions_have_steps()
     ensures steps { (r : ℕ) (h : List BatchSteps) → (is_named r h ≡ false) ↔ (steps_of r h ≡ []) }

@@ -18,7 +18,7 @@ ghost use Rattle.raft_history.specs.LeastFiles.{AreLeastFiles, HasNoneBelow};
 ghost use Rattle.raft_history.specs.RewrittenRecords.{AreRewrittenFrom, HaveSameRecords};
 ghost use Rattle.raft_history.specs.Histories.{IsSmall, Sound, IsSoundIn, Apart, AreInFile, IsOfQueue, IsOneReading};
 
-/// States that what holds of two histories, one behind the other, holds of each.
+/// States that what holds of two histories, one after the other, holds of each.
 pub fn neighbors_keep_what_histories_are()
     ensures small { (h k : List Event) → IsSmall (h ++ k) → IsSmall h × IsSmall k }
     ensures sound { (h k : List Event) → Sound (h ++ k) → Sound h × Sound k }

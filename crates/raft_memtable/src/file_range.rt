@@ -37,7 +37,7 @@ impl FileRange {
         }
     }
 
-    /// Tests whether the newer files may come behind the older ones: the first isn't below the
+    /// Tests whether the newer files may follow the older ones: the first isn't below the
     /// last.
     pub(crate) fn follows(older: Option<FileRange>, newer: Option<FileRange>) -> bool
         ensures { result ≡ follows (ranges_shown older) (ranges_shown newer) }

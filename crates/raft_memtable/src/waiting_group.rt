@@ -120,12 +120,12 @@ impl WaitingGroup {
         self.front.len() as u128 + behind as u128
     }
 
-    /// Returns what is known of the group from this history and a newer one behind it, and the
+    /// Returns what is known of the group from this history and a newer one after it, and the
     /// group, if the two make it whole.
     ///
     /// # Errors
     ///
-    /// Where there is no memory to put the newer items behind the older ones.
+    /// Where there is no memory to put the newer items after the older ones.
     pub fn join(self, newer: WaitingGroup) -> AllocResult<(WaitingGroup, Option<WholeGroup>)>
         ensures known { IfOk result (λ r. group_shown r.0 ≡ joined_group (group_shown self)
             (group_shown newer)) }

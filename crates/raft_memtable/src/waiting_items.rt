@@ -64,7 +64,7 @@ impl WaitingItems {
         self.steps.len()
     }
 
-    /// Moves the steps of `more` behind these.
+    /// Moves the steps of `more` after these.
     ///
     /// # Errors
     ///

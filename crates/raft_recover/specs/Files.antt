@@ -36,13 +36,13 @@ FilesHold queue version files h =
 pub record FilesCannotBeRead (queue : LogQueue) (version : Version) (files : List NumberedBytes) : Type 0 where
   pub unsound : (h : List Event) → FilesHold queue version files h → IsSmall h → ¬ (Sound h)
 
--- the lines of the files' tables were written behind the old bytes, where those are known
+-- the lines of the files' tables were written after the old bytes, where those are known
 pub record PrintsRecovered (queue : LogQueue) (version : Version) (files : List NumberedBytes) (old new : Option (List ℕ)) : Type 0 where
   pub accessor : Accessor
   pub recovered : IsRecovered queue (FilesHold queue version files) accessor
   pub printed : PrintsTables accessor old new
 
--- a front of the lines of the files' tables, and not all of them, was written behind the old bytes, where those are known
+-- a front of the lines of the files' tables, and not all of them, was written after the old bytes, where those are known
 pub record PrintsFrontOfRecovered (queue : LogQueue) (version : Version) (files : List NumberedBytes) (old new : Option (List ℕ)) : Type 0 where
   pub accessor : Accessor
   pub recovered : IsRecovered queue (FilesHold queue version files) accessor

@@ -40,7 +40,7 @@ pub record AsksScan (words : List (List ℕ)) (scan : AskedScan) : Type 0 where
 abbrev pub AsksNoScan : List (List ℕ) → Type 0
 AsksNoScan words = (scan : AskedScan) → AsksScan words scan → ⊥
 
--- the texts of scans of files, one behind the other, and whether all that they find is undamaged
+-- the texts of scans of files, one after the other, and whether all that they find is undamaged
 abbrev pub AreScanned : Bool → LogQueue → Version → List NumberedBytes → Bool → List ℕ → Type 0
 AreScanned past queue version [] undamaged text = (undamaged ≡ true) × (text ≡ [])
 AreScanned past queue version (file ∷ files) undamaged text =
@@ -61,13 +61,13 @@ pub record AreScannedFiles (undamaged : Bool) (words : List (List ℕ)) (text : 
   pub of_paths : AreFilesOf scan.paths files
   pub scanned : AreScanned scan.past_damage scan.queue scan.version files undamaged text
 
--- that text was written behind the old bytes, where those are known
+-- that text was written after the old bytes, where those are known
 pub record IsScanPrinted (undamaged : Bool) (words : List (List ℕ)) (old new : Option (List ℕ)) : Type 0 where
   pub text : List ℕ
   pub of_files : AreScannedFiles undamaged words text
   pub written : Appends old new text
 
--- a front of that text, and not all of it, was written behind the old bytes, where those are known
+-- a front of that text, and not all of it, was written after the old bytes, where those are known
 pub record IsScanFrontPrinted (words : List (List ℕ)) (old new : Option (List ℕ)) : Type 0 where
   pub undamaged : Bool
   pub text : List ℕ

@@ -51,7 +51,7 @@ abbrev pub IsFound : Part → ℕ → Finding → Type 0
 IsFound part at (Batch len items block) = IsBatchFound part at len items block
 IsFound part at (Damage reason len) = IsDamage part at reason len
 
--- where a scan goes on: behind a batch, and behind damage only if it shall, and a header says where
+-- where a scan goes on: after a batch, and after damage only if it shall, and a header says where
 abbrev pub next_after : Bool → ℕ → Finding → Option ℕ
 next_after past at (Batch len items block) = Some (at + len)
 next_after past at (Damage reason None) = None

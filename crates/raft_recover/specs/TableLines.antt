@@ -16,7 +16,7 @@ use Rattle.raft_table.specs.TableEntries.{start_of}
 use Rattle.raft_table.specs.Least.{least_of}
 use Rattle.raft_table.specs.Table.{Table}
 
--- the first index of entries and the one behind the last, `-` where there are none
+-- the first index of entries and the one past the last, `-` where there are none
 abbrev pub range_text : List EntryIndex → List ℕ
 range_text [] = codes "-"
 range_text (e ∷ es) = decimal (start_of (e ∷ es)) ++ codes ".." ++ decimal (end_of (e ∷ es))
@@ -31,7 +31,7 @@ abbrev pub table_line : Table → List ℕ
 table_line t =
     decimal t.region_id ++ codes " entries " ++ range_text t.entries ++ codes " keys " ++ decimal (finite.len t.keys) ++ codes " append " ++ seq_text (least_of Append t) ++ codes " rewrite " ++ seq_text (least_of Rewrite t) ++ codes "\n"
 
--- a region's id behind a space
+-- a region's id after a space
 abbrev pub region_text : ℕ → List ℕ
 region_text id = codes " " ++ decimal id
 
@@ -59,13 +59,13 @@ pub record IsTextOfTables (accessor : Accessor) (text : List ℕ) : Type 0 where
   pub by_region : AreByRegion accessor.tables tables
   pub lines : text ≡ (flat_map table_line tables ++ cleaned_line accessor.cleaned) ++ live_line accessor.counts
 
--- the text was written behind the old bytes, where those are known
+-- the text was written after the old bytes, where those are known
 pub record PrintsTables (accessor : Accessor) (old new : Option (List ℕ)) : Type 0 where
   pub text : List ℕ
   pub of_tables : IsTextOfTables accessor text
   pub written : Appends old new text
 
--- a front of the text, and not all of it, was written behind the old bytes, where those are known
+-- a front of the text, and not all of it, was written after the old bytes, where those are known
 pub record PrintsFrontOfTables (accessor : Accessor) (old new : Option (List ℕ)) : Type 0 where
   pub text : List ℕ
   pub of_tables : IsTextOfTables accessor text

@@ -91,7 +91,7 @@ fn append_table(table: &MemTable, text: &mut String) -> AllocResult<()>
     text.push('\n')
 }
 
-/// Appends the first index of a table and the one behind the last, `-` where it has no entries.
+/// Appends the first index of a table and the one past the last, `-` where it has no entries.
 fn append_range(table: &MemTable, text: &mut String) -> AllocResult<()>
     ensures { OnOk result (string_bytes text.new ≡ string_bytes text.old ++ range_text
         table.now.entries) }

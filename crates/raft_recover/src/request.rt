@@ -173,7 +173,7 @@ pub fn path_named(word: &str) -> Option<(FileSeq, &str)>
     Some((number_named(seq)?, path))
 }
 
-/// Reads files by their paths, one behind the other.
+/// Reads files by their paths, one after the other.
 ///
 /// # Errors
 ///

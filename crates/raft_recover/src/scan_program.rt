@@ -125,7 +125,7 @@ fn scan_request<'a>(alloc: Global, words: &'a [String]) -> Result<Option<ScanWor
     files_request(alloc, false, words)
 }
 
-/// Returns the scan of the files that the words name, behind what may stand in front.
+/// Returns the scan of the files that the words name, after what may stand in front.
 ///
 /// # Errors
 ///

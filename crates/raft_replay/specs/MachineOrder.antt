@@ -7,13 +7,13 @@ use Rattle.raft_history.specs.Histories.{IsSmall}
 use Rattle.raft_replay.specs.PieceMerges.{histories_in_turn, StandForEach}
 use Rattle.raft_replay.specs.Segments.{SegmentsHold}
 
--- the machines stand exactly for histories which, one behind the other, are what the segments read as
+-- the machines stand exactly for histories which, one after the other, are what the segments read as
 pub record AreInOrder {M : Type 0} (stands_exactly : M → List Event → Type 0) (segments : List (Vec Part Global)) (machines : List M) : Type 0 where
   pub histories : List (List Event)
   pub held : SegmentsHold segments (histories_in_turn histories)
   pub stand : IsSmall (histories_in_turn histories) → StandForEach stands_exactly machines histories
 
--- the machines and one more, which goes on, stand exactly for histories which, one behind the other, are what the segments read as
+-- the machines and one more, which goes on, stand exactly for histories which, one after the other, are what the segments read as
 pub record IsUnderway {M : Type 0} (stands_exactly : M → List Event → Type 0) (segments : List (Vec Part Global)) (machines : List M) (current : M) : Type 0 where
   pub histories : List (List Event)
   pub last : List Event

@@ -35,7 +35,7 @@ abbrev pub cost : {M : Type 0} → Waiting M → ℕ
 cost (Merged machine) = 1
 cost (Unmerged plan) = 2 * leaves plan.now
 
--- how much is left to do of a plan that is taken apart from the front: less once a join in front is turned behind its own first plan, or a piece in front is gone
+-- how much is left to do of a plan that is taken apart from the front: less once the second plan of a join in front is joined with what follows it, or a piece in front is gone
 abbrev pub heft : Plan → ℕ
 heft One = 0
 heft (Join' p a q b) = 2 * heft a + heft b + 1

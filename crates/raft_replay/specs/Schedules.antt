@@ -7,7 +7,7 @@ use Rattle.raft_replay.specs.declared.plan.Plan.{Plan}
 use Rattle.raft_replay.specs.Plans.{leaves}
 use Rattle.raft_replay.specs.Segments.{SegmentsAreOf}
 
--- whether another worker draws the segment than the one before it. The list says who draws each; behind its end worker 0 draws
+-- whether another worker draws the segment than the one before it. The list says who draws each; past its end worker 0 draws
 abbrev pub switches : List ℕ → ℕ → Bool
 switches draws zero = false
 switches draws (suc n) = not (slice_index draws (suc n) == slice_index draws n)

@@ -6,7 +6,7 @@ use Rattle.raft_records.specs.FilePart.{Part, IsBatchAt}
 use Rattle.raft_history.specs.Batches.{Event}
 use Rattle.raft_history.specs.Histories.{IsSmall, Sound}
 
--- one history behind another
+-- one history after another
 pub record AreHeldInTurn (IsFirst IsRest : List Event → Type 0) (h : List Event) : Type 0 where
   pub first : List Event
   pub rest : List Event
@@ -14,7 +14,7 @@ pub record AreHeldInTurn (IsFirst IsRest : List Event → Type 0) (h : List Even
   pub rest_held : IsRest rest
   pub split : h ≡ first ++ rest
 
--- the batches from a byte of a part on, one behind the other up to its end, each written to the part's file
+-- the batches from a byte of a part on, one after the other up to its end, each written to the part's file
 abbrev pub HoldsFrom : Part → ℕ → List Event → Type 0
 HoldsFrom part at [] = at ≡ length part.bytes
 HoldsFrom part at (e ∷ h) = (e.file ≡ part.id) × ((next : ℕ) × IsBatchAt part at e.items next × HoldsFrom part next h)
@@ -29,7 +29,7 @@ abbrev pub SegmentsHold : List (Vec Part Global) → List Event → Type 0
 SegmentsHold segments h =
     EachHolds (λ segment. EachHolds (λ part. HoldsFrom part 0) segment.items) segments h
 
--- the same is read of a part and, one behind the other, of the parts that it is cut into
+-- the same is read of a part and, one after the other, of the parts that it is cut into
 abbrev pub AreCutFrom : Part → List Part → Type 0
 AreCutFrom whole parts =
     (h : List Event) → HoldsFrom whole 0 h ↔ EachHolds (λ part. HoldsFrom part 0) parts h

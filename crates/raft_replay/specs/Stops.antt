@@ -23,7 +23,7 @@ abbrev pub IsPlaced : FileId → ℕ → Error → Type 0
 IsPlaced id offset (errors.Corruption text) = (reason : List ℕ) × (string_bytes text ≡ place_text id offset ++ reason)
 IsPlaced id offset e = Unit {0}
 
--- the reading of a part stopped behind readable batches and before its end, and the refusal has that place
+-- the reading of a part stopped after readable batches and before its end, and the refusal has that place
 pub record StopsIn (part : Part) (e : Error) : Type 0 where
   pub at : ℕ
   pub readable : AreBatchesUpTo part at

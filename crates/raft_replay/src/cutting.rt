@@ -11,9 +11,9 @@ use raft_records::{FilePart, LogBatch};
 use std::alloc::Global;
 use std::mem;
 
-/// Cuts a part between batches into at most `count` parts of about one length, one behind the other, and at
+/// Cuts a part between batches into at most `count` parts of about one length, one after the other, and at
 /// least into one. What is read of them is what is read of the part, also where it can't be read: a cut lies
-/// where the headers from the front on say that a batch begins, and none behind what is no header. No byte is
+/// where the headers from the front on say that a batch begins, and none after what is no header. No byte is
 /// copied.
 ///
 /// # Errors
@@ -40,7 +40,7 @@ pub fn cut_part(alloc: Global, part: FilePart, count: usize) -> Result<Vec<FileP
     Ok(parts)
 }
 
-/// Returns where a batch ends, the first at `least` or behind it, if headers lead there from the front on
+/// Returns where a batch ends, the first at `least` or past it, if headers lead there from the front on
 /// and more bytes follow.
 fn batch_end(alloc: Global, part: &FilePart, least: usize) -> Option<usize>
     ensures inside { IfSome result (λ at. at < length part.now.bytes) }

@@ -7,7 +7,7 @@ ghost use Rattle.raft_replay.specs.PlanWalks.{heft};
 use raft_base::{Error, Result};
 use std::alloc::Global;
 
-/// How pieces that lie one behind the other are merged, two neighbors at a time.
+/// How pieces that lie one after the other are merged, two neighbors at a time.
 #[derive(Debug)]
 pub enum Plan {
     /// One piece as it is.
@@ -66,8 +66,8 @@ impl Plan {
     }
 
     /// Returns what is left of the join of this plan, which stood in the box, and another one: where this plan
-    /// is one piece, that is let go; where it is a join, that is turned behind its own first plan, and its box
-    /// is used again.
+    /// is one piece, that is let go; where it is a join, its first plan comes in front of the join of its second one
+    /// and the other, which uses the box again.
     fn let_go_before(self, mut room: Box<Plan>, right: Box<Plan>) -> Plan
         requires { room.value ≡ Plan.One }
         ensures { heft result < 2 * heft self + heft right.value + 1 }

@@ -18,7 +18,7 @@ use raft_history::ReplayMachine;
 use raft_records::FilePart;
 use std::alloc::Global;
 
-/// Does on the caller's thread what workers would do if `draws` named, segment by segment, who draws next; behind its
+/// Does on the caller's thread what workers would do if `draws` named, segment by segment, who draws next; past its
 /// end worker 0 draws. A worker that draws the segment after its last one goes on in the same machine, else it begins
 /// another; the pieces are merged by the plan. Without segments it is a new machine, whatever the plan.
 ///
@@ -176,8 +176,8 @@ fn replay_in_order<M: ReplayMachine, F: Factory<M>>(
     Ok(current)
 }
 
-/// Returns the machine that goes on: the current one, or a new one where another worker draws, behind which the
-/// current one is in line.
+/// Returns the machine that goes on: the current one, or a new one where another worker draws; the
+/// current one is then the last of those in line.
 fn next_machine<M: ReplayMachine, F: Factory<M>>(
     alloc: Global,
     factory: &F,

@@ -15,14 +15,14 @@ use raft_history::ReplayMachine;
 use raft_records::{FilePart, next_in};
 use std::alloc::Global;
 
-/// Parts of files of a queue, one behind the other.
+/// Parts of files of a queue, one after the other.
 pub type Segment = Vec<FilePart>;
 
 /// Replays every batch of every part, in order.
 ///
 /// # Errors
 ///
-/// `Memory`. Any other comes only where a part isn't a sequence of readable batches, or where the batches behind
+/// `Memory`. Any other comes only where a part isn't a sequence of readable batches, or where the batches after
 /// those that the machine stands for can't be read. The text of a `Corruption` begins with the queue, the file and the
 /// offset of the batch that was refused, as `append file 3, offset 1024: `. How many batches the machine has then
 /// replayed is not known.

@@ -437,7 +437,7 @@ impl SharedAccessor {
     }
 }
 
-/// Moves the tables of a slot, and the regions of it that were cleaned, behind those of an accessor.
+/// Moves the tables of a slot, and the regions of it that were cleaned, after those of an accessor.
 ///
 /// # Errors
 ///

@@ -46,7 +46,7 @@ first_spans m b = record b { spans = take m b.spans }
 abbrev pub without_first_spans : ℕ → BlockSpans → BlockSpans
 without_first_spans m b = record b { spans = drop m b.spans }
 
--- a block with more entries behind
+-- a block with more entries after its own
 abbrev pub with_spans_behind : BlockSpans → List (ℕ × ℕ) → BlockSpans
 with_spans_behind b more = record b { spans = b.spans ++ more }
 
@@ -61,7 +61,7 @@ abbrev pub without_first_of_first : ℕ → List BlockSpans → List BlockSpans
 without_first_of_first m [] = []
 without_first_of_first m (b ∷ bs) = without_first_spans m b ∷ bs
 
--- blocks behind others: the two at the seam are one where they have the same place
+-- blocks after others: the two at the seam are one where they have the same place
 abbrev pub joined_blocks : List BlockSpans → List BlockSpans → List BlockSpans
 joined_blocks [] cs = cs
 joined_blocks (b ∷ []) [] = b ∷ []
@@ -79,7 +79,7 @@ seam (b ∷ d ∷ bs) cs = seam (d ∷ bs) cs
 abbrev pub IsIndexOf : List ℕ → ℕ → Type 0
 IsIndexOf ss x = (i : ℕ) × (bs : List BlockSpans) × (ss ≡ starts_of i bs) × (i ≤ x) × (x < i + count bs)
 
--- the entry behind the first p ones stands in the block behind the first k ones, behind so many of its entries
+-- the entry after the first p ones stands in the block after the first k ones, after so many of its entries
 pub record IsAt (p : ℕ) (bs : List BlockSpans) (k o : ℕ) : Type 0 where
   pub block : k < length bs
   pub spot : count (take k bs) + o ≡ p

@@ -16,7 +16,7 @@ use Rattle.raft_table.specs.Rewriting.{is_placed_before}
 abbrev pub total_len : ℕ → List EntryIndex → ℕ
 total_len n es = sum_by (λ e. e.entry_len) (take n es)
 
--- whether the entry behind the first n is one too many: with it the total passes the limit, and exceeds its own length
+-- whether the entry after the first n is one too many: with it the total passes the limit, and exceeds its own length
 abbrev pub is_too_many : Option ℕ → ℕ → List EntryIndex → Bool
 is_too_many None n es = false
 is_too_many (Some limit) n es = nat_lt limit (total_len (suc n) es) && nat_lt 0 (total_len n es)
@@ -33,7 +33,7 @@ pub record FetchesWithin (limit : Option ℕ) (es old new : List EntryIndex) : T
   pub within : IsLimitCount limit es count
   pub appended : new ≡ old ++ take count es
 
--- what a fetch from begin to end answers: nothing where the range is empty; else no entries, a range that begins below the first or ends behind the last is refused, in this order
+-- what a fetch from begin to end returns: nothing where the range is empty; else no entries, a range that begins below the first or ends past the last is refused, in this order
 pub data RangeAnswer : Type 0 where
   Empty : RangeAnswer
   NotFound : RangeAnswer

@@ -7,7 +7,7 @@ abbrev pub hole_text_from : ℕ → List ℕ → ℕ → List ℕ
 hole_text_from region start end =
     codes "region " ++ (decimal region ++ (codes ": a run from " ++ (start ++ (codes " on leaves a hole behind the entries, which end before index " ++ decimal end))))
 
--- a run of a region from this index on, behind entries with this end
+-- a run of a region from this index on, after entries with this end
 abbrev pub hole_text : ℕ → ℕ → ℕ → List ℕ
 hole_text region start end = hole_text_from region (codes "index " ++ decimal start) end
 

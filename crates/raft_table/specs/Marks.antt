@@ -38,12 +38,12 @@ is_under (Some cut) i = nat_lt i cut
 unfoldable pub entries_within : ℕ → Option ℕ → List EntryIndex → List EntryIndex
 entries_within floor cut es = filter (λ e. nat_le floor e.index && is_under cut e.index) es
 
--- whether the first run, if there is one, leaves a hole behind entries with this end, which is 0 without entries
+-- whether the first run, if there is one, leaves a hole after entries with this end, which is 0 without entries
 abbrev pub misses : Option ℕ → ℕ → Bool
 misses None end = false
 misses (Some start) end = nat_lt 0 end && nat_lt end start
 
--- whether the first run leaves a hole behind the older entries that it meets
+-- whether the first run leaves a hole after the older entries that it meets
 abbrev pub is_missed : Mark → List EntryIndex → Bool
 is_missed m older = misses m.reach (end_of (entries_within m.reach_floor m.reach_cut older))
 

@@ -2,7 +2,7 @@
 use Rattle.std.specs.Prelude.{◌≡◌, ℕ, ◌+◌, ◌<◌, ◌≤◌, max, min}
 use Rattle.raft_table.specs.declared.memtable.entries.Overlap.{Overlap}
 
--- of n indexes from s on and k from r on, those in both: they begin behind `at` of the first and `skipped` of the second, and are `count`, one at least
+-- of n indexes from s on and k from r on, those in both: they begin after `at` of the first and `skipped` of the second, and are `count`, one at least
 pub record IsOverlap (s n r k : ℕ) (m : Overlap) : Type 0 where
   pub in_entries : s + m.at ≡ max s r
   pub in_run : r + m.skipped ≡ max s r

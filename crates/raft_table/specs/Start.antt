@@ -19,7 +19,7 @@ abbrev pub starts_in_front : List EntryIndex → ℕ → Bool
 starts_in_front [] start = false
 starts_in_front (e ∷ es) start = nat_lt start e.index
 
--- a new run: the entries below its start stay; none where it is refused, in front of all entries or behind a hole
+-- a new run: the entries below its start stay; none where it is refused, in front of all entries or after a hole
 abbrev pub entries_after_append : List EntryIndex → List EntryIndex → Option (List EntryIndex)
 entries_after_append es [] = Some es
 entries_after_append es (e ∷ run) =
@@ -34,7 +34,7 @@ entries_after_replay Append es (e ∷ run) =
 entries_after_replay Rewrite es (e ∷ run) =
     Some (if leaves_hole es e.index then e ∷ run else below e.index es ++ e ∷ run)
 
--- the entries that a run takes away: those from its first index on, and all behind a hole
+-- the entries that a run takes away: those from its first index on, and all after a hole
 abbrev pub replaced_by : List EntryIndex → List EntryIndex → List EntryIndex
 replaced_by es [] = []
 replaced_by es (e ∷ run) = if leaves_hole es e.index then es else from e.index es

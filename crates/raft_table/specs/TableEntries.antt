@@ -52,7 +52,7 @@ pub record AreTableEntries (es : List EntryIndex) : Type 0 where
 abbrev pub entry_at : ℕ → List EntryIndex → Option EntryIndex
 entry_at i es = find (λ e. e.index == i) es
 
--- what stands behind a run: below its first index the old entries, from it on the run's
+-- what stands after a run: below its first index the old entries, from it on the run's
 abbrev pub StandsBehind : List EntryIndex → List EntryIndex → List EntryIndex → Type 0
 StandsBehind old run new = (i : ℕ) → entry_at i new ≡ (if nat_lt i (start_of run) then entry_at i old else entry_at i run)
 

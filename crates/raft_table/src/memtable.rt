@@ -164,11 +164,11 @@ impl MemTable {
         self.keys.get(key)
     }
 
-    /// Puts a new run of the append queue behind the entries below its start. All others go.
+    /// Puts a new run of the append queue after the entries below its start. All others go.
     ///
     /// # Errors
     ///
-    /// `Corruption` where the run starts below all entries or leaves a hole behind them, which names the
+    /// `Corruption` where the run starts below all entries or leaves a hole after them, which names the
     /// region, where the run starts and the end of the entries; `Full`
     /// where more than 2^64 - 1 records would be live in the append queue, `Memory`. The table and the
     /// counts are then as they were.
@@ -187,12 +187,12 @@ impl MemTable {
         self.entries.append(self.region_id, run, stats)
     }
 
-    /// Puts a run of the append queue that is read again behind the entries below its start. All
+    /// Puts a run of the append queue, which is read again, after the entries below its start. All
     /// others go.
     ///
     /// # Errors
     ///
-    /// `Corruption` where the run leaves a hole behind the entries, `Full` where more than
+    /// `Corruption` where the run leaves a hole after the entries, `Full` where more than
     /// 2^64 - 1 records would be live in the append queue, `Memory`. The table and the counts are then as
     /// they were.
     pub fn replay_append(&mut self, run: Vec<EntryIndex>, stats: &mut GlobalStats) -> Result<()>
@@ -211,8 +211,8 @@ impl MemTable {
             .replay_run(self.region_id, &run, LogQueue::Append, stats)
     }
 
-    /// Puts a run of the rewrite queue that is read again behind the entries below its start, or
-    /// in place of all entries where it leaves a hole behind them. All others go.
+    /// Puts a run of the rewrite queue, which is read again, after the entries below its start, or
+    /// in place of all entries where it leaves a hole after them. All others go.
     ///
     /// # Errors
     ///

@@ -40,7 +40,7 @@ pub enum Step {
 }
 
 impl Step {
-    /// Tests whether the region has no table behind the step.
+    /// Tests whether the region has no table after the step.
     pub fn is_clean(&self) -> bool
         ensures { MatchBool result (step_shown self.now ≡ Clean) (LeavesTable (step_shown
             self.now)) }

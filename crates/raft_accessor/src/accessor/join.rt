@@ -36,7 +36,7 @@ impl MemTableAccessor {
         self.slots[slot_of(id)].join_table(queue, id, newer, mark, &mut self.stats)
     }
 
-    /// Lists the cleaned regions of another accessor behind the own ones.
+    /// Lists the cleaned regions of another accessor after the own ones.
     ///
     /// # Errors
     ///

@@ -23,7 +23,7 @@ impl MarkedTables {
     ///
     /// # Errors
     ///
-    /// `Corruption` where, in the append queue, a newer run of a region leaves a hole behind the older
+    /// `Corruption` where, in the append queue, a newer run of a region leaves a hole after the older
     /// entries, `Full` where more than 2^64 - 1 records would be live, `Memory`. Some regions are then
     /// joined.
     pub(crate) fn join(&mut self, queue: LogQueue, newer: MarkedTables) -> Result<()>

@@ -39,11 +39,11 @@ pub struct Entries {
 /// Where a run meets the entries of a table.
 #[derive(Clone, Copy)]
 enum Start {
-    /// It starts among them or right behind them: so many stand below its start.
+    /// It starts among them or right after them: so many stand below its start.
     Joins(usize),
     /// It starts below all of them.
     InFront,
-    /// It starts behind them, and indexes between are missing.
+    /// It starts after them, and indexes between are missing.
     BehindHole,
 }
 

@@ -201,14 +201,14 @@ impl Mark {
         &self.deleted
     }
 
-    /// Tests whether the first run leaves a hole behind entries that end at `end`.
+    /// Tests whether the first run leaves a hole after entries that end at `end`.
     pub fn misses(&self, end: u64) -> bool
         ensures { result ≡ misses self.now.reach end }
     {
         misses(self.reach, end)
     }
 
-    /// Joins the region mark of newer steps, whose first run comes behind own entries that end at
+    /// Joins the region mark of newer steps, whose first run follows own entries that end at
     /// `end_at_reach`. `newer` keeps its bounds and gives its deleted keys away.
     ///
     /// # Errors
@@ -285,7 +285,7 @@ impl Mark {
     }
 
     /// Tests whether a run that starts at `start`, where the own entries end at `end`, changes nothing: it
-    /// begins among them or right behind them, and not below the cut.
+    /// begins among them or right after them, and not below the cut.
     fn covers(&self, end: u64, start: u64) -> bool
         ensures { MatchBool result ((queue : LogQueue) → joined_at queue end self.now
             (record fresh { reach = Some start; cut = Some start }) ≡ self.now) (Unit {0}) }
@@ -333,7 +333,7 @@ impl Mark {
         }
     }
 
-    /// Joins the bounds of newer steps, whose first run comes behind own entries that end at `end`.
+    /// Joins the bounds of newer steps, whose first run follows own entries that end at `end`.
     #[inline(always)]
     fn join_bounds(&mut self, queue: LogQueue, end: u64, newer: Bounds)
         ensures { self.new ≡ record (joined_at queue end self.old (with_bounds newer))
@@ -382,7 +382,7 @@ impl Mark {
     }
 }
 
-/// Tests whether a first run leaves a hole behind entries that end at `end`.
+/// Tests whether a first run leaves a hole after entries that end at `end`.
 fn misses(reach: Option<u64>, end: u64) -> bool
     ensures { result ≡ misses reach end }
 {
@@ -400,7 +400,7 @@ fn narrowed(floor: u64, cut: Option<u64>, barred: Option<(u64, u64)>) -> Option<
     Some((floor.max(from), capped(below, cut)))
 }
 
-/// Tests whether a newer first run is detached: it comes behind no entry of the older table, whose
+/// Tests whether a newer first run is detached: it follows no entry of the older table, whose
 /// entries it meets end at `end`, and starts above the bound below which still older ones stay.
 fn is_detached(reach: Option<u64>, end: u64, bound: u64) -> bool
     ensures { result ≡ is_detached reach end bound }
@@ -419,7 +419,7 @@ fn drops_below(reach: Option<u64>, end: u64, bound: u64) -> bool
 }
 
 /// Returns the barred indexes of two region marks: the older one's, else those that a newer first run which is
-/// detached would come behind, else the newer one's.
+/// detached would follow, else the newer one's.
 fn joined_barred(
     queue: LogQueue,
     detached: bool,
@@ -435,7 +435,7 @@ fn joined_barred(
     }
 }
 
-/// Returns where older entries begin that stay behind a run with this cut.
+/// Returns where older entries begin that stay after a run with this cut.
 fn joined_floor(queue: LogQueue, dropped: bool, floor: u64, cut: u64) -> u64
     ensures { result ≡ joined_floor queue dropped floor cut }
 {

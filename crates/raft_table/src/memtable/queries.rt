@@ -45,7 +45,7 @@ impl MemTable {
     /// # Errors
     ///
     /// Where the range isn't empty: `EntryNotFound` without entries, `EntryCompacted` where it
-    /// begins below the first entry, `EntryNotFound` where it ends behind the last; else `Memory`
+    /// begins below the first entry, `EntryNotFound` where it ends past the last; else `Memory`
     /// alone. The vector is then as it was.
     pub fn fetch_entries_to(
         &self,

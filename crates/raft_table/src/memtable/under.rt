@@ -27,7 +27,7 @@ use raft_base::{Error, LogQueue, Result};
 use std::mem;
 
 impl MemTable {
-    /// Returns the end of the entries that the first run of a newer region mark came behind.
+    /// Returns the end of the entries that the first run of a newer region mark followed.
     #[doc(hidden)]
     pub fn end_at_reach(&self, mark: &Mark) -> u64
         ensures { result ≡ end_at_reach mark.now self.now }
@@ -39,11 +39,11 @@ impl MemTable {
     /// Puts the newer table `rhs` of the same region, which the counts don't hold, over this one as
     /// its region mark says, where the entries that this makes are a run, as they are where region mark and table
     /// stand for steps. `rhs` is left empty. Returns the end of the older entries that the region mark's
-    /// first run came behind.
+    /// first run followed.
     ///
     /// # Errors
     ///
-    /// `Corruption` where, in the append queue, a run among the region mark's steps would leave a hole behind
+    /// `Corruption` where, in the append queue, a run among the region mark's steps would leave a hole after
     /// the older entries, `Full` where the live count of a queue and the
     /// records of `rhs` there would pass 2^64 - 1. Both tables and the counts are then as they were;
     /// after `Memory` the counts still agree with this table.
@@ -203,7 +203,7 @@ impl MemTable {
     }
 
     /// Refuses a newer region mark whose steps are refused over these entries, and whose first run came
-    /// behind those that end at `end`.
+    /// after those that end at `end`.
     ///
     /// # Errors
     ///
@@ -224,7 +224,7 @@ impl MemTable {
         }
     }
 
-    /// Refuses a newer region mark whose first run leaves a hole behind the entries that it meets, which
+    /// Refuses a newer region mark whose first run leaves a hole after the entries that it meets, which
     /// end at `end`.
     ///
     /// # Errors
@@ -246,7 +246,7 @@ impl MemTable {
         Err(hole_error(self.entries.allocator(), self.region_id, start, end))
     }
 
-    /// Refuses a newer region mark over an entry where it lets none stand: a later run leaves a hole behind it.
+    /// Refuses a newer region mark over an entry where it lets none stand: a later run leaves a hole after it.
     ///
     /// # Errors
     ///

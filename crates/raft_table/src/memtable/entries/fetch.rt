@@ -65,7 +65,7 @@ impl Entries {
         self.extend(vec, start, start + count)
     }
 
-    /// Returns the file number of the entry behind the first `at` ones.
+    /// Returns the file number of the entry after the first `at` ones.
     pub fn seq_at(&self, at: usize) -> Option<FileSeq>
         ensures { result ≡ entry_seq (slice_get self.now at) }
     {
@@ -94,7 +94,7 @@ impl Entries {
         self.blocks.len()
     }
 
-    /// Returns how many entries behind the first `at`, among the first `end`, may move, up to the
+    /// Returns how many entries after the first `at`, among the first `end`, may move, up to the
     /// first that may not.
     pub(super) fn movable(&self, at: usize, end: usize, gate: Option<FileSeq>) -> usize
         requires order { at ≤ end }
@@ -108,7 +108,7 @@ impl Entries {
         movable_from(&self.blocks, spot, at, end, gate)
     }
 
-    /// Returns how many entries behind the first `start`, among the first `end`, a limit on the
+    /// Returns how many entries after the first `start`, among the first `end`, a limit on the
     /// total of their lengths lets through.
     fn count_within(&self, start: usize, end: usize, limit: Option<usize>) -> usize
         requires order { start ≤ end }
@@ -130,7 +130,7 @@ impl Entries {
         count_from(&self.blocks, spot, start, end, limit)
     }
 
-    /// Appends the entries behind the first `start`, among the first `end`, to a vector, which
+    /// Appends the entries after the first `start`, among the first `end`, to a vector, which
     /// stays as it was where there is no memory.
     fn extend(&self, vec: &mut Vec<EntryIndex>, start: usize, end: usize) -> Result<()>
         requires order { start ≤ end }

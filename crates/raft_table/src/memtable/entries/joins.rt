@@ -1,4 +1,4 @@
-//! Runs that become entries, and entries behind or between others.
+//! Runs that become entries, and entries after or between others.
 
 ghost use Rattle.std.specs.Prelude.{◌≡◌, ◌≢◌, ◌+◌, ◌≤◌, ◌<◌, ℕ, [], ◌++◌, length, take, drop, slice_index_or, Some, MatchBool, OnOk, OnErr, IfOk};
 ghost use Rattle.raft_base.specs.declared.pipe_log.LogQueue.TheVariants.{Rewrite};
@@ -38,7 +38,7 @@ impl Entries {
         Ok(entries)
     }
 
-    /// Puts the entries of one block, from an index on, behind the others.
+    /// Puts the entries of one block, from an index on, after the others.
     fn push(
         &mut self,
         index: u64,
@@ -66,7 +66,7 @@ impl Entries {
         Ok(())
     }
 
-    /// Keeps the first `keep` entries, and puts the entries of a run behind them.
+    /// Keeps the first `keep` entries, and puts the entries of a run after them.
     pub(super) fn lay(&mut self, keep: usize, run: &[EntryIndex]) -> AllocResult<()>
         requires keep { keep ≤ length self.old }
         requires run { 0 < length run.now }
@@ -87,7 +87,7 @@ impl Entries {
         self.put_run(keep, &mut entries)
     }
 
-    /// Keeps the first `keep` entries, and moves a run behind them.
+    /// Keeps the first `keep` entries, and moves a run after them.
     pub(super) fn put_run(&mut self, keep: usize, run: &mut Entries) -> AllocResult<()>
         requires keep { keep ≤ length self.old }
         requires run { 0 < length run.old }
@@ -103,7 +103,7 @@ impl Entries {
         self.join(keep, run)
     }
 
-    /// Keeps the first `keep` entries, of which there are some, and moves a run behind them.
+    /// Keeps the first `keep` entries, of which there are some, and moves a run after them.
     fn join(&mut self, keep: usize, run: &mut Entries) -> AllocResult<()>
         requires keep { (0 < keep) × (keep ≤ length self.old) }
         requires run { 0 < length run.old }
@@ -128,7 +128,7 @@ impl Entries {
         Ok(())
     }
 
-    /// Puts a run in place of as many entries behind the first `at`. Others stand behind those.
+    /// Puts a run in place of as many entries after the first `at`. Others stand after those.
     pub(super) fn put_between(&mut self, at: usize, run: Entries) -> AllocResult<()>
         requires run { 0 < length run }
         requires behind { at + length run < length self.old }
@@ -165,7 +165,7 @@ impl Entries {
     }
 }
 
-/// Returns the first index of so many entries from `first` on, with others from `index` on behind
+/// Returns the first index of so many entries from `first` on, with others from `index` on after
 /// them.
 fn first_of(len: usize, first: u64, index: u64) -> u64
     ensures { (len ≡ 0 → result ≡ index) × (0 < len → result ≡ first) }
@@ -183,7 +183,7 @@ fn rewritten_in(queue: LogQueue, count: usize) -> usize
     }
 }
 
-/// Returns how many entries of a run, behind the first `at` ones, have this place, up to the first
+/// Returns how many entries of a run, after the first `at` ones, have this place, up to the first
 /// that has another or none.
 fn count_of(handle: &FileBlockHandle, run: &[EntryIndex], at: usize) -> usize
     requires { at ≤ length run.now }

@@ -81,7 +81,7 @@ pub(super) fn spot_behind(starts: &VecDeque<u64>, first: u64, kept: usize) -> (u
     (nth + 1, last + 1)
 }
 
-/// Returns the spans behind the first `dropped`.
+/// Returns the spans after the first `dropped`.
 pub(super) fn spans_behind(
     alloc: Global,
     spans: &VecDeque<(u32, u32)>,
@@ -104,7 +104,7 @@ pub(super) fn is_same(a: &FileBlockHandle, b: &FileBlockHandle) -> bool
     a == b
 }
 
-/// Puts more blocks behind so many first ones, of the last of which so many entries stay, and in
+/// Puts more blocks after so many first ones, of the last of which so many entries stay, and in
 /// front of those from `rest` on. Where the two at the first seam have the same place they are one
 /// block.
 pub(super) fn put_blocks(
@@ -161,7 +161,7 @@ fn make_room<T>(deque: &mut VecDeque<T>, more: &mut VecDeque<T>) -> AllocResult<
 }
 
 /// Keeps so many entries of the last of so many blocks, if there are any, and moves the entries of
-/// the first of more blocks behind them where the two have the same place.
+/// the first of more blocks after them where the two have the same place.
 fn meet(
     blocks: &mut VecDeque<Block>,
     spot: (usize, usize),
@@ -216,8 +216,8 @@ fn drop_front<T: Drop>(deque: &mut VecDeque<T>)
     drop(deque.pop_front());
 }
 
-/// Puts a block, whose first entry has this index, behind others. Where it has the place of the
-/// last of them its entries go behind those of that one.
+/// Puts a block, whose first entry has this index, after others. Where it has the place of the
+/// last of them its entries go after those of that one.
 pub(super) fn push_block(
     blocks: &mut VecDeque<Block>,
     starts: &mut VecDeque<u64>,
@@ -246,7 +246,7 @@ pub(super) fn push_block(
     Ok(())
 }
 
-/// Keeps so many entries of a block, and moves more behind them.
+/// Keeps so many entries of a block, and moves more after them.
 fn lengthen(block: &mut Block, kept: usize, more: &mut VecDeque<(u32, u32)>) -> AllocResult<()>
     requires { kept ≤ length block.old.spans.items }
     ensures handle { block.new.handle ≡ block.old.handle }
@@ -297,7 +297,7 @@ fn splice<T: Drop>(deque: &mut VecDeque<T>, kept: usize, rest: usize, more: &mut
     swap(deque, more);
 }
 
-/// Moves more elements behind those of a queue that has room for them.
+/// Moves more elements after those of a queue that has room for them.
 fn append<T>(deque: &mut VecDeque<T>, more: &mut VecDeque<T>)
     requires room { deque_len deque.old + deque_len more.old ≤ deque_capacity deque.old }
     ensures items { deque.new.items ≡ deque.old.items ++ more.old.items }

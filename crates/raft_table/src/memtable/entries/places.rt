@@ -118,7 +118,7 @@ impl Entries {
         Ok(())
     }
 
-    /// Gives the entries behind the first `at` these places.
+    /// Gives the entries after the first `at` these places.
     fn set_places(&mut self, at: usize, places: &[EntryIndex]) -> AllocResult<()>
         requires within { at + length places.now ≤ length self.old }
         requires table_entries { AreTableEntries

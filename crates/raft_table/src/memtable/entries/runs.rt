@@ -1,4 +1,4 @@
-//! Runs that are put behind a table's entries.
+//! Runs that are put after a table's entries.
 
 ghost use Rattle.std.specs.Prelude.{◌≡◌, ◌+◌, ◌≤◌, ◌<◌, ◌^◌, [], ◌++◌, length, take, drop, true, OnOk, OnErr, IfErr, MatchBool, MatchOption, Some};
 ghost use Rattle.raft_base.specs.Corruption.{IsCorruption};
@@ -50,7 +50,7 @@ impl Entries {
         }
     }
 
-    /// Moves all entries of `rhs`, which are in one queue, behind this region's entries below their start, by
+    /// Moves all entries of `rhs`, which are in one queue, after this region's entries below their start, by
     /// the start rule of the replays into `rule`. All others go, and `rhs` is left empty.
     ///
     /// # Errors
@@ -175,7 +175,7 @@ impl Entries {
         }
     }
 
-    /// Keeps the first `keep` entries and moves a run of one queue behind them.
+    /// Keeps the first `keep` entries and moves a run of one queue after them.
     fn put_behind(
         &mut self,
         keep: usize,
@@ -207,7 +207,7 @@ impl Entries {
         Ok(())
     }
 
-    /// Keeps the first `keep` entries and puts a run of `queue` behind them.
+    /// Keeps the first `keep` entries and puts a run of `queue` after them.
     fn put_run_behind(
         &mut self,
         keep: usize,
@@ -234,7 +234,7 @@ impl Entries {
         Ok(self.exchange_run(keep, run, queue, stats)?)
     }
 
-    /// Tests whether the entries of a run of `queue` can be live in place of those behind the first
+    /// Tests whether the entries of a run of `queue` can be live in place of those after the first
     /// `keep`.
     fn has_room_behind(
         &self,
@@ -255,7 +255,7 @@ impl Entries {
         has_room(stats, rewritten, appended, queue, run.len())
     }
 
-    /// Keeps the first `keep` entries and puts a run of `queue`, for which there is room, behind them.
+    /// Keeps the first `keep` entries and puts a run of `queue`, for which there is room, after them.
     fn exchange_run(
         &mut self,
         keep: usize,
@@ -282,7 +282,7 @@ impl Entries {
         Ok(())
     }
 
-    /// Returns how many of the entries behind the first `keep` are rewritten, and how many are not.
+    /// Returns how many of the entries after the first `keep` are rewritten, and how many are not.
     pub(super) fn count_behind(&self, keep: usize) -> (usize, usize)
         requires { keep ≤ length self.now }
         ensures rewritten { result.0 ≡ entry_count Rewrite (drop keep self.now) }

@@ -13,7 +13,7 @@ use crate::memtable::block::Block;
 use raft_base::{EntryIndex, FileBlockHandle, FileSeq, LogQueue};
 use std::collections::VecDeque;
 
-/// Appends the entries behind the first `start`, among the first `end`, to a vector with room for
+/// Appends the entries after the first `start`, among the first `end`, to a vector with room for
 /// them. The first of them stands at `spot`, the first of all blocks has the index `first`.
 ///
 /// The entries come first, and a second walk sets their spans: the spans of each block lie apart,
@@ -72,7 +72,7 @@ fn push_without_spans(
     }
 }
 
-/// Appends so many entries of a block, behind the first `at`, without their spans to a vector with room
+/// Appends so many entries of a block, after the first `at`, without their spans to a vector with room
 /// for them. The first of them has the index `first`.
 fn push_without_spans_of(
     vec: &mut Vec<EntryIndex>,
@@ -101,7 +101,7 @@ fn push_without_spans_of(
     }
 }
 
-/// Sets the spans of the entries behind the first `len` of a vector, which are those behind the first
+/// Sets the spans of the entries after the first `len` of a vector, which are those after the first
 /// `start` among the first `end`.
 fn set_spans(
     vec: &mut Vec<EntryIndex>,
@@ -136,7 +136,7 @@ fn set_spans(
     }
 }
 
-/// Gives entries behind the first `len` of a vector the spans of so many of a block behind the first
+/// Gives entries after the first `len` of a vector the spans of so many of a block after the first
 /// `at`.
 fn set_spans_of(vec: &mut Vec<EntryIndex>, len: usize, block: &Block, at: usize, count: usize)
     requires within { at + count ≤ length block.now.spans.items }
@@ -160,7 +160,7 @@ fn set_span(entry: &mut EntryIndex, span: (u32, u32))
     entry.entry_len = span.1;
 }
 
-/// Returns how many entries behind the first `start`, among the first `end`, may move, up to the
+/// Returns how many entries after the first `start`, among the first `end`, may move, up to the
 /// first that may not. The first of them stands at `spot`.
 pub(super) fn movable_from(
     blocks: &VecDeque<Block>,
@@ -202,7 +202,7 @@ fn is_movable(handle: &FileBlockHandle, gate: Option<FileSeq>) -> bool
     }
 }
 
-/// Returns how many entries behind the first `start`, among the first `end`, a limit on the total
+/// Returns how many entries after the first `start`, among the first `end`, a limit on the total
 /// of their lengths lets through. The first of them stands at `spot`.
 pub(super) fn count_from(
     blocks: &VecDeque<Block>,
@@ -231,7 +231,7 @@ pub(super) fn count_from(
     end - start
 }
 
-/// Returns the spot of the next entry: behind the last one in its block, or first in the next
+/// Returns the spot of the next entry: after the last one in its block, or first in the next
 /// block.
 fn next(block: &Block, spot: (usize, usize)) -> (usize, usize)
     requires within { spot.0 + 1 < 2 ^ 64 }

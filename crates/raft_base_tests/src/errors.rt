@@ -5,7 +5,7 @@ use std::alloc::Global;
 use std::io;
 use std::io::ErrorKind;
 
-/// Whether the error is printed so. Memory is refused once in a test at most.
+/// Tests whether the error is printed so. Memory is refused once in a test at most.
 fn is_text_of(alloc: Global, text: &str, error: &Error) -> bool {
     let mut printed = error.to_string(alloc);
     if printed.is_err() {

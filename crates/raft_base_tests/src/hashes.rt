@@ -56,7 +56,7 @@ fn hashes_are_those_of_the_table(rt: HostRuntime) {
     }
 }
 
-/// The multiples of the alignment, if there are any, at or above and at or below the offset.
+/// Returns the multiples of the alignment, if there are any, at or above and at or below the offset.
 fn multiples_round(offset: usize, alignment: usize) -> Option<(usize, usize)> {
     if alignment == 0 || offset > usize::MAX - alignment {
         return None;

@@ -16,7 +16,7 @@ use std::io;
 use std::io::{ErrorKind, Write};
 use std::test::Fail;
 
-/// Whether the row is written, and read back.
+/// Tests whether the row is written, and read back.
 fn is_u64_row(row: (u64, u64, u64, u64)) -> codec::Result<bool> {
     let (number, ascending, descending, lowest_first) = row;
     let mut bytes = [0; 24];
@@ -43,7 +43,7 @@ fn u64_rows(rt: HostRuntime) -> Result<(), Fail> {
     Ok(())
 }
 
-/// Whether the row is written, and read back.
+/// Tests whether the row is written, and read back.
 fn is_i64_row(row: (i64, u64, u64, u64)) -> codec::Result<bool> {
     let (number, ascending, descending, lowest_first) = row;
     let mut bytes = [0; 24];
@@ -70,7 +70,7 @@ fn i64_rows(rt: HostRuntime) -> Result<(), Fail> {
     Ok(())
 }
 
-/// Whether the row is written, and read back.
+/// Tests whether the row is written, and read back.
 fn is_short_row(row: (u32, u16, u32, u32, u16, u16)) -> codec::Result<bool> {
     let (
         long,
@@ -107,7 +107,7 @@ fn short_rows(rt: HostRuntime) -> Result<(), Fail> {
     Ok(())
 }
 
-/// Whether the row is written, and read back.
+/// Tests whether the row is written, and read back.
 fn is_i32_row(row: (i32, u32)) -> codec::Result<bool> {
     let (number, lowest_first) = row;
     let mut bytes = [0; 4];
@@ -125,7 +125,7 @@ fn i32_rows(rt: HostRuntime) -> Result<(), Fail> {
     Ok(())
 }
 
-/// Whether the number is written so, with nothing behind it, and read back.
+/// Tests whether the number is written so, with nothing after it, and read back.
 fn is_var_u64_row(number: u64, spelling: &[u8]) -> codec::Result<bool> {
     let mut bytes = [0; 16];
     let mut out: &mut [u8] = &mut bytes;
@@ -147,7 +147,7 @@ fn var_u64_rows(rt: HostRuntime) -> Result<(), Fail> {
     Ok(())
 }
 
-/// Whether the number is written so, with nothing behind it, and read back.
+/// Tests whether the number is written so, with nothing after it, and read back.
 fn is_var_i64_row(number: i64, spelling: &[u8]) -> codec::Result<bool> {
     let mut bytes = [0; 16];
     let mut out: &mut [u8] = &mut bytes;
@@ -169,7 +169,7 @@ fn var_i64_rows(rt: HostRuntime) -> Result<(), Fail> {
     Ok(())
 }
 
-/// The numbers rise from row to row, and their bytes with them; the third column falls.
+/// Tests that the numbers rise from row to row, and their bytes with them; the third column falls.
 #[test]
 fn u64_rows_order(rt: HostRuntime) {
     for pair in U64_ROWS.windows(2) {
@@ -179,7 +179,7 @@ fn u64_rows_order(rt: HostRuntime) {
     }
 }
 
-/// The numbers rise from row to row, and their bytes with them; the third column falls.
+/// Tests that the numbers rise from row to row, and their bytes with them; the third column falls.
 #[test]
 fn i64_rows_order(rt: HostRuntime) {
     for pair in I64_ROWS.windows(2) {
@@ -189,7 +189,7 @@ fn i64_rows_order(rt: HostRuntime) {
     }
 }
 
-/// The numbers rise from row to row, and with them their bytes where the highest stands first.
+/// Tests that the numbers rise from row to row, and with them their bytes where the highest stands first.
 #[test]
 fn short_rows_order(rt: HostRuntime) {
     for pair in SHORT_ROWS.windows(2) {
@@ -200,7 +200,7 @@ fn short_rows_order(rt: HostRuntime) {
     }
 }
 
-/// Whether both decoders read these numbers, and leave so many bytes.
+/// Tests whether both decoders read these numbers, and leave so many bytes.
 fn are_read(bytes: &[u8], number: u64, signed: i64, left: usize) -> codec::Result<bool> {
     let mut buf = bytes;
     let mut signed_buf = bytes;
@@ -220,7 +220,7 @@ fn longer_spellings_are_read(rt: HostRuntime) -> Result<(), Fail> {
     Ok(())
 }
 
-/// Whether the answer is a refusal of this kind.
+/// Tests whether the answer is a refusal of this kind.
 fn is_refusal<T: Drop>(read: codec::Result<T>, kind: ErrorKind) -> bool {
     matches!(read, Err(Error::Io(e)) if e.kind() == kind)
 }
@@ -260,7 +260,7 @@ impl Write for Closed {
     }
 }
 
-/// Whether the answer is the error of `Closed`.
+/// Tests whether the answer is the error of `Closed`.
 fn is_closed(answer: codec::Result<()>) -> bool {
     matches!(answer, Err(Error::Io(e)) if e.kind() == ErrorKind::BrokenPipe)
 }
@@ -299,7 +299,7 @@ fn encode_all<W: Write>(out: &mut W) -> codec::Result<()> {
     out.encode_var_i64(-1024)
 }
 
-/// What all encoders write, one behind the other.
+/// What all encoders write, one after the other.
 const ALL_NUMBERS: &[u8] = b"\
     \x00\x00\x00\x00\x00\x00\x00\x01\
     \x00\x00\x00\x01\
@@ -335,7 +335,7 @@ impl Write for Counting {
     }
 }
 
-/// Each number is one write, and a vector takes the whole of a write or nothing: it never keeps a part
+/// Tests that each number is one write, and a vector takes the whole of a write or nothing: it never keeps a part
 /// of a number.
 #[test]
 fn numbers_are_written_at_once(rt: HostRuntime) {
@@ -344,7 +344,7 @@ fn numbers_are_written_at_once(rt: HostRuntime) {
     assert_eq!(rt; out.writes, 13);
 }
 
-/// A vector that finds no memory for a number keeps the numbers before it, and no part of it.
+/// Tests that a vector that finds no memory for a number keeps the numbers before it, and no part of it.
 #[test]
 fn vectors_take_whole_numbers(rt: HostRuntime) {
     let mut vector = Vec::new(rt.alloc());

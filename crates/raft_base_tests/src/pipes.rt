@@ -47,7 +47,7 @@ impl PipeLog for SmallPipe {
     }
 }
 
-// The file behind a part of all files.
+// Returns the file after a part of all files.
 fn part_of<P: PipeLog>(pipe: &P, num: u64, den: u64) -> FileSeq
     requires { 0 < den }
 {
@@ -76,7 +76,7 @@ fn files_are_ordered_by_freshness(rt: HostRuntime) {
     assert_eq!(rt; new.max(old), new);
 }
 
-/// Whether the version is printed so. Memory is refused once in a test at most.
+/// Tests whether the version is printed so. Memory is refused once in a test at most.
 fn is_text_of(alloc: Global, text: &str, version: Version) -> bool {
     let mut printed = version.to_string(alloc);
     if printed.is_err() {

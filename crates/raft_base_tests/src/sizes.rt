@@ -11,7 +11,7 @@ use std::fmt::InlineText;
 use std::str::{FromStr, from_utf8};
 use toml::Value;
 
-// Texts, and the sizes that they stand for. The last three are exact here and rounded there.
+// Tests texts and the sizes that they stand for. The last three are exact here and rounded there.
 #[test]
 fn sizes_are_read(rt: HostRuntime) {
     let cases = [
@@ -31,7 +31,7 @@ fn sizes_are_read(rt: HostRuntime) {
     }
 }
 
-// Texts that stand for no size, and why.
+// Tests texts that stand for no size, and why.
 #[test]
 fn faults_are_told(rt: HostRuntime) {
     let cases = [
@@ -46,7 +46,7 @@ fn faults_are_told(rt: HostRuntime) {
     }
 }
 
-// An exponent of a thousand digits.
+// Tests an exponent of a thousand digits.
 #[test]
 fn long_exponents_are_read(rt: HostRuntime) {
     let mut bytes = [b'9'; 1003];
@@ -67,7 +67,7 @@ fn long_exponents_are_read(rt: HostRuntime) {
     }
 }
 
-// What is printed, and that it is read again.
+// Tests what is printed, and that it is read again.
 #[test]
 fn sizes_are_printed(rt: HostRuntime) {
     let cases = [(3 << 20, "3MiB"), (1 << 49, "512TiB")];
@@ -140,13 +140,13 @@ struct Settings {
     format: Version,
 }
 
-/// What settings are written as that are read from a text.
+/// Returns what settings are written as that are read from a text.
 fn rewritten(alloc: Global, text: &str) -> Option<String> {
     let settings = toml::from_str::<Settings>(alloc, text).ok()?;
     toml::to_string(alloc, &settings).ok()
 }
 
-// Settings go both ways, and faults in them are refused.
+// Tests that settings go both ways, and faults in them are refused.
 #[test]
 fn settings_are_read_and_written(rt: HostRuntime) {
     let text = "limit = \"1536B\"\nformat = 2\n";

@@ -3,7 +3,7 @@
 
 use std::io::ErrorKind;
 
-/// A row for each line: what stands behind the arrow is written for what stands before it.
+/// Makes a row of each line: what stands after the arrow is written for what stands before it.
 macro_rules! rows {
     ($($($number:expr),+ => $($bytes:literal)+;)+) => {
         [$(($($number),+, $($bytes),+)),+]

@@ -16,17 +16,17 @@ const BATCHES: &[u8; 58] =
 /// How long the first of them is.
 const FIRST: usize = 34;
 
-/// A file of the append queue.
+/// Returns a file of the append queue.
 fn file() -> FileId {
     FileId::new(LogQueue::Append, 12)
 }
 
-/// These bytes of that file, from 100 on.
+/// Returns these bytes of that file, from 100 on.
 fn part(alloc: Global, bytes: &[u8]) -> Result<FilePart> {
     FilePart::new(file(), Version::V1, 100, Vec::from_slice(alloc, bytes)?)
 }
 
-/// How many items stand at `at`, and where the next batch begins; nothing at the end.
+/// Returns how many items stand at `at`, and where the next batch begins; nothing at the end.
 fn counted(part: &FilePart, at: usize) -> Result<Option<(usize, usize)>> {
     if at > part.bytes().len() {
         return Ok(None);
@@ -37,7 +37,7 @@ fn counted(part: &FilePart, at: usize) -> Result<Option<(usize, usize)>> {
     }
 }
 
-/// Where the first entry's bytes lie.
+/// Returns where the first entry's bytes lie.
 fn place(part: &FilePart) -> Result<Option<FileBlockHandle>> {
     let Some((batch, _)) = next_batch(part, 0)? else {
         return Ok(None);
@@ -50,7 +50,7 @@ fn place(part: &FilePart) -> Result<Option<FileBlockHandle>> {
     Ok(None)
 }
 
-/// Whether nothing is read at the start of these bytes, for `Corruption`.
+/// Tests whether nothing is read at the start of these bytes, for `Corruption`.
 fn is_refused(alloc: Global, bytes: &[u8]) -> Result<bool> {
     match counted(&part(alloc, bytes)?, 0) {
         Ok(_read) => Ok(false),
@@ -80,7 +80,7 @@ fn batches_stand_one_behind_the_other(rt: &impl Abort, alloc: Global) -> Result<
     Ok(())
 }
 
-/// Whether the entry bytes of the first batch are lent, and those of each of its entries.
+/// Tests whether the entry bytes of the first batch are lent, and those of each of its entries.
 fn lends_entries(alloc: Global, part: &FilePart) -> Result<bool> {
     let Some((batch, _)) = next_batch(part, 0)? else {
         return Ok(false);
@@ -112,7 +112,7 @@ fn has_place(part: &FilePart) -> bool {
     part.id() == file() && part.version() == Version::V1 && part.offset() == 100
 }
 
-/// Whether the first entry's bytes lie behind the first header.
+/// Tests whether the first entry's bytes lie after the first header.
 fn has_block(part: &FilePart) -> Result<bool> {
     let handle = FileBlockHandle {
         id: file(),
@@ -122,7 +122,7 @@ fn has_block(part: &FilePart) -> Result<bool> {
     Ok(place(part)? == Some(handle))
 }
 
-/// Whether the first batch and its clone know the file that it was decoded in, until an item is added.
+/// Tests whether the first batch and its clone know the file that it was decoded in, until an item is added.
 fn knows_its_file(part: &FilePart) -> Result<bool> {
     let Some((mut batch, _)) = next_batch(part, 0)? else {
         return Ok(false);
@@ -146,8 +146,8 @@ fn damaged_batches(rt: HostRuntime) {
     assert!(rt; answer.is_ok());
 }
 
-/// A batch that is cut short is refused, but where nothing of it is left, and one with a flipped bit, but in its
-/// entry block, which isn't read.
+/// Tests that a batch that is cut short is refused, but where nothing of it is left, and one with a flipped bit, but in
+/// its entry block, which isn't read.
 fn damaged_batches_are_refused(rt: &impl Abort, alloc: Global) -> Result<()> {
     assert!(rt; counted(&part(alloc, b"")?, 0)?.is_none());
     for len in 1..FIRST {
@@ -160,7 +160,7 @@ fn damaged_batches_are_refused(rt: &impl Abort, alloc: Global) -> Result<()> {
     Ok(())
 }
 
-/// Whether the entry block of the first batch is refused, for `Corruption`.
+/// Tests whether the entry block of the first batch is refused, for `Corruption`.
 fn is_block_refused(alloc: Global, bytes: &[u8]) -> Result<bool> {
     let place = FileBlockHandle {
         id: file(),
@@ -175,8 +175,8 @@ fn is_block_refused(alloc: Global, bytes: &[u8]) -> Result<bool> {
     }
 }
 
-/// Whether the first batch is refused with this byte's lowest bit flipped, or where the byte is in its entry block, the
-/// batch is read and the block refused.
+/// Tests whether the first batch is refused with this byte's lowest bit flipped, or where the byte is in its entry
+/// block, the batch is read and the block refused.
 fn is_flip_row(alloc: Global, at: usize) -> Result<bool> {
     let mut bytes = *BATCHES;
     if let Some(byte) = bytes.get_mut(at) {
@@ -221,7 +221,7 @@ fn fronts(rt: HostRuntime) {
     assert!(rt; answer.is_ok());
 }
 
-/// The front of so many bytes ends where its last whole batch does, and the reason is that of the decoders.
+/// Tests that the front of so many bytes ends where its last whole batch does, and the reason is that of the decoders.
 fn fronts_end_at_damage(rt: &impl Abort, alloc: Global) -> Result<()> {
     for &(len, front, reason) in &[
         (0, 0, ""),
@@ -240,7 +240,7 @@ fn fronts_end_at_damage(rt: &impl Abort, alloc: Global) -> Result<()> {
     Ok(())
 }
 
-/// Whether there is this reason, and none where it is empty.
+/// Tests whether there is this reason, and none where it is empty.
 fn is_reason(error: Option<Error>, reason: &str) -> Result<bool> {
     match error {
         None => Ok(reason.is_empty()),

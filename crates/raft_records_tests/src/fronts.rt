@@ -53,7 +53,7 @@ static CONTENTS: [(Form, &[u8]); 19] = [
 ];
 
 /// Bytes that are no such content, and how they are refused. A count and the lengths in some are of 2^63, and
-/// no bytes behind them.
+/// no bytes after them.
 static NO_CONTENTS: [(Form, &[u8], Read); 21] = [
     (
         Form::KeyValue,
@@ -126,7 +126,7 @@ fn no_contents() -> &'static [(Form, &'static [u8], Read)] {
     &NO_CONTENTS
 }
 
-/// Reads what stands in front of bytes behind so many entry bytes.
+/// Reads what stands in front of bytes after so many entry bytes.
 fn read(alloc: Global, form: Form, buf: &mut &[u8], size: &mut u32) -> Result<()> {
     match form {
         Form::Item => {
@@ -145,7 +145,7 @@ fn read(alloc: Global, form: Form, buf: &mut &[u8], size: &mut u32) -> Result<()
     Ok(())
 }
 
-/// How many bytes are left behind what is read in front of these, behind one entry byte.
+/// Returns how many bytes are left after what is read in front of these, after one entry byte.
 fn left_behind(alloc: Global, form: Form, bytes: &[u8]) -> Result<usize> {
     let mut rest = bytes;
     let mut size = 1;
@@ -153,8 +153,8 @@ fn left_behind(alloc: Global, form: Form, bytes: &[u8]) -> Result<usize> {
     Ok(rest.len())
 }
 
-/// How bytes are refused that are read behind one entry byte; none where they are read, or where they or the number
-/// of entry bytes don't stay as they were. Want of memory is handed on.
+/// Returns how bytes are refused that are read after one entry byte; none where they are read, or where they or the
+/// number of entry bytes don't stay as they were. Want of memory is handed on.
 fn refusal_of(alloc: Global, form: Form, bytes: &[u8]) -> Result<Option<Error>> {
     let mut rest = bytes;
     let mut size = 1;
@@ -165,7 +165,7 @@ fn refusal_of(alloc: Global, form: Form, bytes: &[u8]) -> Result<Option<Error>> 
     }
 }
 
-/// Whether all shorter fronts of bytes are refused that are read whole.
+/// Tests whether all shorter fronts of bytes are refused that are read whole.
 fn is_read_whole_alone(alloc: Global, form: Form, bytes: &[u8]) -> Result<bool> {
     if left_behind(alloc, form, bytes)? > 0 {
         return Ok(false);
@@ -182,7 +182,7 @@ fn is_read_whole_alone(alloc: Global, form: Form, bytes: &[u8]) -> Result<bool> 
     Ok(true)
 }
 
-/// Whether bytes are refused so.
+/// Tests whether bytes are refused so.
 fn is_refused_as(alloc: Global, form: Form, bytes: &[u8], fault: Read) -> Result<bool> {
     match refusal_of(alloc, form, bytes)? {
         Some(error) => Ok(is_fault(fault, &error)),
@@ -190,7 +190,7 @@ fn is_refused_as(alloc: Global, form: Form, bytes: &[u8], fault: Read) -> Result
     }
 }
 
-/// Whether this holds of the item in a row, if one is read there.
+/// Tests whether this holds of the item in a row, if one is read there.
 fn is_item_whole_alone(alloc: Global, bytes: &[u8], read: Read) -> Result<bool> {
     match read {
         Read::Item(_, left) => {

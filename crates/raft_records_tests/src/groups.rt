@@ -11,12 +11,12 @@ use raft_records::{
 use std::alloc::Global;
 use std::process::Abort;
 
-/// A file of the append queue, of version 2.
+/// Returns a file of the append queue, of version 2.
 fn file(seq: u64) -> LogFileContext {
     LogFileContext::new(FileId::new(LogQueue::Append, seq), Version::V2)
 }
 
-/// The header of a sealed batch that has items: it is read, whatever the items are.
+/// Returns the header of a sealed batch that has items: it is read, whatever the items are.
 fn header_of(alloc: Global, batch: &LogBatch) -> (usize, CompressionType, usize)
     requires sealed { IsSealedStage batch.now.stage }
     requires some { batch.now.items ≢ [] }
@@ -41,7 +41,7 @@ struct FirstBatch {
     marker: Option<(u64, AtomicGroupStatus)>,
 }
 
-/// The batch in which a group begins that hasn't begun.
+/// Returns the batch in which a group begins that hasn't begun.
 fn first_batch(alloc: Global, builder: &mut AtomicGroupBuilder) -> Result<FirstBatch>
     requires { builder.old.state ≡ None }
 {
@@ -83,13 +83,13 @@ fn begin_group(rt: &impl Abort, alloc: Global) -> Result<()> {
     Ok(())
 }
 
-/// Whether these are the bytes of the first batch of group 9 in the file 12.
+/// Tests whether these are the bytes of the first batch of group 9 in the file 12.
 fn has_begun(bytes: &[u8]) -> bool {
     bytes
         == b"\x00\x00\x00\x00\x00\x00\x1e\x00\x00\x00\x00\x00\x00\x00\x00\x10\x01\x09\x03\x01\x03\x5f\x5f\x01\x01\x00\x7e\xd7\x73\x3f".as_slice()
 }
 
-/// The batches of a group, and the group markers in them.
+/// Returns the batches of a group, and the group markers in them.
 fn batches_with_markers(alloc: Global) -> Result<[(LogBatch, &'static [u8]); 3]> {
     let mut builder = AtomicGroupBuilder::with_id(9);
     let mut first = LogBatch::default(alloc);
@@ -105,7 +105,7 @@ fn batches_with_markers(alloc: Global) -> Result<[(LogBatch, &'static [u8]); 3]>
     ])
 }
 
-/// Whether this is the only item of an open batch, as its bytes say.
+/// Tests whether this is the only item of an open batch, as its bytes say.
 fn is_only_item(mut batch: LogBatch, item: &[u8]) -> Result<bool> {
     if !batch.is_open() || batch.approximate_size() != 62 {
         return Ok(false);
@@ -115,7 +115,7 @@ fn is_only_item(mut batch: LogBatch, item: &[u8]) -> Result<bool> {
     Ok(len == 30 && batch.encoded_bytes().get(17..26) == Some(item))
 }
 
-/// Whether each batch of a group has its group marker as its only item.
+/// Tests whether each batch of a group has its group marker as its only item.
 fn have_markers(alloc: Global) -> Result<bool> {
     let mut all = true;
     for (batch, item) in batches_with_markers(alloc)? {
@@ -133,7 +133,7 @@ fn batches_of_a_group_have_its_markers(rt: HostRuntime) {
     assert!(rt; matches!(answer, Ok(true)));
 }
 
-/// Whether clones are equal to what they are made of, until an item is added to them.
+/// Tests whether clones are equal to what they are made of, until an item is added to them.
 fn clones_are_equal(alloc: Global) -> Result<bool> {
     let mut items = LogItemBatch::default(alloc);
     items.delete(1, Vec::new(alloc))?;
@@ -143,7 +143,7 @@ fn clones_are_equal(alloc: Global) -> Result<bool> {
     Ok(same && more != items)
 }
 
-/// The same of log batches, until one is finished.
+/// Tests the same of log batches, until one is finished.
 fn log_batches_are_equal(alloc: Global) -> Result<bool> {
     let mut batch = LogBatch::default(alloc);
     AtomicGroupBuilder::with_id(9).begin(&mut batch)?;

@@ -9,7 +9,7 @@ use raft_records::{
 use std::alloc::Global;
 use std::process::Abort;
 
-/// The batch's bytes in a file of the append queue.
+/// Returns the batch's bytes in a file of the append queue.
 fn sealed(alloc: Global, batch: &mut LogItemBatch, seq: u64, version: Version) -> Result<Vec<u8>> {
     let context = LogFileContext::new(FileId::new(LogQueue::Append, seq), version);
     let mut buf = Vec::new(alloc);
@@ -18,7 +18,7 @@ fn sealed(alloc: Global, batch: &mut LogItemBatch, seq: u64, version: Version) -
     Ok(buf)
 }
 
-/// Whether these bytes are a batch without items in the file; `Corruption` is an answer.
+/// Tests whether these bytes are a batch without items in the file; `Corruption` is an answer.
 fn is_empty_batch(alloc: Global, bytes: &[u8], seq: u64, version: Version) -> Result<bool> {
     let context = LogFileContext::new(FileId::new(LogQueue::Append, seq), version);
     let place = FileBlockHandle {
@@ -43,7 +43,7 @@ fn empty_batch(rt: HostRuntime) {
     assert!(rt; answer.is_ok());
 }
 
-/// A batch without items is these bytes in these files, and is read in them alone.
+/// Tests that a batch without items is these bytes in these files, and is read in them alone.
 fn empty_batch_is_signed(rt: &impl Abort, alloc: Global) -> Result<()> {
     let mut batch = LogItemBatch::default(alloc);
     assert!(rt; batch.approximate_size() == 12 && batch.entry_index().is_none());
@@ -64,7 +64,7 @@ fn empty_batch_is_signed(rt: &impl Abort, alloc: Global) -> Result<()> {
     Ok(())
 }
 
-/// Whether these are a batch's bytes in a file.
+/// Tests whether these are a batch's bytes in a file.
 fn is_signed(
     alloc: Global,
     batch: &mut LogItemBatch,
@@ -75,7 +75,7 @@ fn is_signed(
     Ok(sealed(alloc, batch, seq, version)?.as_slice() == bytes)
 }
 
-/// A put and a delete, as one batch.
+/// Returns a put and a delete, as one batch.
 fn put_and_delete(alloc: Global) -> Result<LogItemBatch> {
     let mut batch = LogItemBatch::with_capacity(alloc, 2)?;
     let key = Vec::from_slice(alloc, b"put")?;
@@ -84,7 +84,7 @@ fn put_and_delete(alloc: Global) -> Result<LogItemBatch> {
     Ok(batch)
 }
 
-/// An entry of one byte.
+/// Returns an entry of one byte.
 fn entry(index: u64) -> EntryIndex
     ensures index { result.index ≡ index }
     ensures len { result.entry_len ≡ 1 }
@@ -96,7 +96,7 @@ fn entry(index: u64) -> EntryIndex
     }
 }
 
-/// Three entries of region 7 and, in a batch that was merged into theirs, two of region 8.
+/// Returns three entries of region 7 and, in a batch that was merged into theirs, two of region 8.
 fn merged(alloc: Global) -> Result<LogItemBatch> {
     let mut batch = LogItemBatch::default(alloc);
     batch.add_entry_indexes(
@@ -122,7 +122,7 @@ struct Seen {
 }
 
 impl Seen {
-    /// Whether a batch has this size and first index, these bytes, and two items.
+    /// Tests whether a batch has this size and first index, these bytes, and two items.
     fn has(&self, approximate_size: usize, first_index: Option<u64>, bytes: &[u8]) -> bool {
         self.approximate_size == approximate_size
             && self.first_index == first_index
@@ -131,7 +131,7 @@ impl Seen {
     }
 }
 
-/// What is seen of a batch.
+/// Returns what is seen of a batch.
 fn look_at(alloc: Global, mut batch: LogItemBatch) -> Result<Seen> {
     Ok(Seen {
         approximate_size: batch.approximate_size(),
@@ -150,7 +150,7 @@ fn built_batches(rt: HostRuntime) {
     assert!(rt; answer.is_ok());
 }
 
-/// Two batches have these sizes, first entries and bytes, and two items each.
+/// Tests that two batches have these sizes, first entries and bytes, and two items each.
 fn batches_are_as_built(rt: &impl Abort, alloc: Global) -> Result<()> {
     let put = look_at(alloc, put_and_delete(alloc)?)?;
     assert!(rt;

@@ -15,7 +15,7 @@ fn commands(rt: HostRuntime) {
     assert!(rt; answer.is_ok());
 }
 
-/// Commands are written as these bytes, and read of them, and others are refused.
+/// Tests that commands are written as these bytes, and read of them, and others are refused.
 fn commands_are_their_bytes(rt: &impl Abort, alloc: Global) -> Result<()> {
     for (command, bytes) in &[
         (Command::Clean, b"\x01".as_slice()),
@@ -45,7 +45,7 @@ fn commands_are_their_bytes(rt: &impl Abort, alloc: Global) -> Result<()> {
     Ok(())
 }
 
-/// Whether a command is written as these bytes, and read of them.
+/// Tests whether a command is written as these bytes, and read of them.
 fn is_command(alloc: Global, command: &Command, bytes: &[u8]) -> Result<bool> {
     let mut buf = Vec::new(alloc);
     command.encode(&mut buf)?;
@@ -54,7 +54,7 @@ fn is_command(alloc: Global, command: &Command, bytes: &[u8]) -> Result<bool> {
     Ok(buf.as_slice() == bytes && read == *command && rest.is_empty())
 }
 
-/// Whether bytes are refused as a command, and left as they are.
+/// Tests whether bytes are refused as a command, and left as they are.
 fn is_no_command(alloc: Global, bytes: &[u8], fault: Read) -> Result<bool> {
     let mut rest = bytes;
     match Command::decode(alloc, &mut rest) {
@@ -64,7 +64,7 @@ fn is_no_command(alloc: Global, bytes: &[u8], fault: Read) -> Result<bool> {
     }
 }
 
-/// A change of one key.
+/// Returns a change of one key.
 fn key_value(alloc: Global, op_type: OpType, key: &[u8], value: Option<&[u8]>) -> Result<KeyValue> {
     let key = Vec::from_slice(alloc, key)?;
     let value = match value {
@@ -86,7 +86,7 @@ fn key_values(rt: HostRuntime) {
 /// A kind of change, its key and value, and its bytes.
 type PairRow<'a> = (OpType, &'a [u8], Option<&'a [u8]>, &'a [u8]);
 
-/// Whether a key value is written as these bytes.
+/// Tests whether a key value is written as these bytes.
 fn is_pair_written(alloc: Global, row: &PairRow<'_>) -> Result<bool> {
     let (op_type, key, value, bytes) = *row;
     let mut buf = Vec::new(alloc);
@@ -94,7 +94,7 @@ fn is_pair_written(alloc: Global, row: &PairRow<'_>) -> Result<bool> {
     Ok(buf.as_slice() == bytes)
 }
 
-/// Whether it is read of them.
+/// Tests whether it is read of them.
 fn is_pair_read(alloc: Global, row: &PairRow<'_>) -> Result<bool> {
     let (op_type, key, value, bytes) = *row;
     let mut rest = bytes;
@@ -103,7 +103,7 @@ fn is_pair_read(alloc: Global, row: &PairRow<'_>) -> Result<bool> {
     Ok(read == key_value(alloc, op_type, key, written)?)
 }
 
-/// Key values are written as these bytes and read of them, a `Del` without its value.
+/// Tests that key values are written as these bytes and read of them, a `Del` without its value.
 fn key_values_are_their_bytes(rt: &impl Abort, alloc: Global) -> Result<()> {
     let put = b"\x01\x03\x70\x75\x74\x05\x70\x75\x74\x5f\x76".as_slice();
     let del = b"\x02\x03\x64\x65\x6c".as_slice();
@@ -143,7 +143,7 @@ fn key_values_are_their_bytes(rt: &impl Abort, alloc: Global) -> Result<()> {
     Ok(())
 }
 
-/// Entries of these lengths, one behind the other, the first with this index.
+/// Returns entries of these lengths, one after the other, the first with this index.
 fn run_of(alloc: Global, first: u64, lengths: &[u32]) -> Result<EntryIndexes> {
     let mut entries = Vec::new(alloc);
     let mut index = first;
@@ -195,7 +195,7 @@ fn entries(rt: HostRuntime) {
     assert!(rt; answer.is_ok());
 }
 
-/// Entries are written as these bytes, and read of them.
+/// Tests that entries are written as these bytes, and read of them.
 fn entries_are_their_tail_offsets(rt: &impl Abort, alloc: Global) -> Result<()> {
     for row in entry_rows() {
         let run = run_of(alloc, row.0, row.1)?;
@@ -225,7 +225,7 @@ fn are_read(alloc: Global, run: &EntryIndexes, bytes: &[u8]) -> Result<bool> {
 /// What is read in front of bytes.
 #[derive(Clone, Copy)]
 pub(crate) enum Read {
-    /// An item, behind which so many entry bytes and so many bytes are.
+    /// An item, after which so many entry bytes and so many bytes are.
     Item(u32, usize),
     /// A type that none is known of, in the words of the refusal.
     Unrecognized(&'static str),
@@ -234,7 +234,8 @@ pub(crate) enum Read {
     Io,
 }
 
-/// Whether this is read in front of the bytes, and an item is written as it was read, and cloned. What is refused stays.
+/// Tests whether this is read in front of the bytes, and an item is written as it was read, and cloned. What is refused
+/// stays.
 fn is_item_row(alloc: Global, bytes: &[u8], read: Read) -> Result<bool> {
     let mut rest = bytes;
     let mut size = 0;
@@ -256,7 +257,7 @@ fn is_written(alloc: Global, item: &LogItem, bytes: &[u8]) -> Result<bool> {
     Ok(buf.as_slice() == bytes)
 }
 
-/// Whether the clones of an item, its content and what that has are equal to them.
+/// Tests whether the clones of an item, its content and what that has are equal to them.
 fn is_cloned(item: &LogItem) -> Result<bool> {
     let is_content_cloned = match &item.content {
         LogItemContent::EntryIndexes(entries) => entries.clone()? == *entries,

@@ -18,7 +18,7 @@ const LENGTH: usize = 200;
 /// How long the value is.
 const VALUE: usize = 1 << 16;
 
-/// Where the entry bytes end, behind the header.
+/// Where the entry bytes end, after the header.
 const ITEM_OFFSET: usize = 16 + 5_000 * LENGTH + 4;
 
 /// Adds the entries, from the index 1 on.
@@ -43,7 +43,7 @@ fn add_entries(alloc: Global, batch: &mut LogBatch) -> Result<()>
     batch.add_raw_entries(7, indexes, texts)
 }
 
-/// A part with the batch alone.
+/// Returns a part with the batch alone.
 fn large_part(alloc: Global) -> Result<FilePart> {
     let mut batch = LogBatch::default(alloc);
     add_entries(alloc, &mut batch)?;
@@ -57,7 +57,7 @@ fn large_part(alloc: Global) -> Result<FilePart> {
     FilePart::new(file, Version::V2, 0, bytes)
 }
 
-/// Whether each entry of the batch has its bytes.
+/// Tests whether each entry of the batch has its bytes.
 fn has_entry_bytes(alloc: Global, part: &FilePart) -> Result<bool> {
     let block = part.bytes().get(16..).unwrap_or(&[]);
     let place = FileBlockHandle {
@@ -76,7 +76,7 @@ fn has_entry_bytes(alloc: Global, part: &FilePart) -> Result<bool> {
     Ok(entries.len() == ITEM_OFFSET.saturating_sub(20) && index == ENTRIES)
 }
 
-/// Whether an item has the entries, the last of them at its place, or the value.
+/// Tests whether an item has the entries, the last of them at its place, or the value.
 fn is_whole(item: &LogItem) -> bool {
     match &item.content {
         LogItemContent::EntryIndexes(entries) => {
@@ -94,7 +94,7 @@ fn is_whole(item: &LogItem) -> bool {
     }
 }
 
-/// Whether the batch is read as it was made.
+/// Tests whether the batch is read as it was made.
 fn is_read(alloc: Global) -> Result<bool> {
     let part = large_part(alloc)?;
     let Some((batch, end)) = next_batch(&part, 0)? else {

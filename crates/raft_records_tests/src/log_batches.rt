@@ -51,12 +51,12 @@ impl MessageExt for Lines {
     }
 }
 
-/// A line of a log.
+/// Returns a line of a log.
 const fn line_of(index: u64, text: &'static [u8]) -> Line {
     Line { index, text }
 }
 
-/// An entry without bytes.
+/// Returns an entry without bytes.
 fn entry(index: u64) -> EntryIndex
     ensures { result.index ≡ index }
 {
@@ -66,7 +66,7 @@ fn entry(index: u64) -> EntryIndex
     }
 }
 
-/// A batch with a command.
+/// Returns a batch with a command.
 fn with_command(alloc: Global, region_id: u64, command: Command) -> Result<LogBatch>
     ensures { IfOk result (λ batch. batch.stage ≡ populating) }
 {
@@ -75,7 +75,7 @@ fn with_command(alloc: Global, region_id: u64, command: Command) -> Result<LogBa
     Ok(batch)
 }
 
-/// A batch with a put and a delete.
+/// Returns a batch with a put and a delete.
 fn with_key_values(alloc: Global) -> Result<LogBatch>
     ensures { IfOk result (λ batch. batch.stage ≡ populating) }
 {
@@ -86,7 +86,7 @@ fn with_key_values(alloc: Global) -> Result<LogBatch>
     Ok(batch)
 }
 
-/// A batch with entries.
+/// Returns a batch with entries.
 fn with_lines(alloc: Global, region_id: u64, lines: &[Line]) -> Result<LogBatch>
     ensures { IfOk result (λ batch. batch.stage ≡ populating) }
 {
@@ -95,7 +95,7 @@ fn with_lines(alloc: Global, region_id: u64, lines: &[Line]) -> Result<LogBatch>
     Ok(batch)
 }
 
-/// A batch with three entries, of which one has no bytes, and one item of each other kind.
+/// Returns a batch with three entries, of which one has no bytes, and one item of each other kind.
 fn with_one_of_each(alloc: Global) -> Result<LogBatch>
     ensures { IfOk result (λ batch. batch.stage ≡ populating) }
 {
@@ -119,7 +119,7 @@ fn with_one_of_each(alloc: Global) -> Result<LogBatch>
     Ok(batch)
 }
 
-/// Three entries of region 7, and two of region 8 in a batch that was merged behind theirs.
+/// Returns three entries of region 7, and two of region 8 in a batch that was merged after theirs.
 fn merged(alloc: Global) -> Result<LogBatch>
     ensures { IfOk result (λ batch. batch.stage ≡ populating) }
 {
@@ -131,12 +131,12 @@ fn merged(alloc: Global) -> Result<LogBatch>
     Ok(batch)
 }
 
-/// A file of the append queue.
+/// Returns a file of the append queue.
 fn context(seq: u64, version: Version) -> LogFileContext {
     LogFileContext::new(FileId::new(LogQueue::Append, seq), version)
 }
 
-/// The place of the entry block between a header at the file's start and an item batch.
+/// Returns the place of the entry block between a header at the file's start and an item batch.
 fn entries_place(id: FileId, item_offset: usize) -> FileBlockHandle {
     FileBlockHandle {
         id,
@@ -145,7 +145,7 @@ fn entries_place(id: FileId, item_offset: usize) -> FileBlockHandle {
     }
 }
 
-/// Whether these are the bytes of the value in a file.
+/// Tests whether these are the bytes of the value in a file.
 fn is_written<T: ReactiveBytes>(
     value: &mut T,
     seq: u64,
@@ -160,7 +160,7 @@ fn is_written<T: ReactiveBytes>(
     bytes.len() == front.len() + seal.len() && bytes.starts_with(front) && bytes.ends_with(seal)
 }
 
-/// Whether a sealed batch's header, entry bytes and item batch are read as in the row, in the same file.
+/// Tests whether a sealed batch's header, entry bytes and item batch are read as in the row, in the same file.
 fn is_read_so(
     alloc: Global,
     batch: &LogBatch,
@@ -186,7 +186,7 @@ fn is_read_so(
     Ok(entries.as_slice() == row.entry_bytes && items.approximate_size() == row.item_batch_size)
 }
 
-/// Whether an open batch has the row's approximate size, and then its bytes in five files, which are
+/// Tests whether an open batch has the row's approximate size, and then its bytes in five files, which are
 /// read there.
 fn is_made(alloc: Global, batch: &mut LogBatch, row: &Row) -> Result<bool> {
     if batch.ready() || !batch.is_open() || batch.approximate_size() != row.size {
@@ -225,7 +225,7 @@ fn batches_are_made_and_read_as_in_the_rows(rt: &impl Abort, alloc: Global) -> R
     Ok(())
 }
 
-/// The open batch of a row.
+/// Returns the open batch of a row.
 fn batch_of(alloc: Global, number: usize) -> Result<LogBatch> {
     match number {
         0 => Ok(LogBatch::default(alloc)),
@@ -238,7 +238,7 @@ fn batch_of(alloc: Global, number: usize) -> Result<LogBatch> {
     }
 }
 
-/// Which refusal a call answers, if any.
+/// Which refusal a call returns, if any.
 #[derive(Clone, Copy, PartialEq, Eq, Debug)]
 enum Refusal {
     None,
@@ -247,7 +247,7 @@ enum Refusal {
     Other,
 }
 
-/// What comes of a call, if it isn't refused for want of memory.
+/// Returns what comes of a call, if it isn't refused for want of memory.
 fn refusal_of(called: Result<()>) -> Result<Refusal> {
     match called {
         Ok(()) => Ok(Refusal::None),
@@ -258,21 +258,21 @@ fn refusal_of(called: Result<()>) -> Result<Refusal> {
     }
 }
 
-/// A put of a message under a key.
+/// Puts a message under a key.
 fn put_line(alloc: Global, batch: &mut LogBatch, key: &[u8], text: &'static [u8]) -> Result<()>
     requires { batch.old.stage ≡ populating }
 {
     batch.put_message(1, Vec::from_slice(alloc, key)?, &line_of(0, text))
 }
 
-/// A put of an empty value under a key.
+/// Puts an empty value under a key.
 fn put_empty(alloc: Global, batch: &mut LogBatch, key: &[u8]) -> Result<()>
     requires { batch.old.stage ≡ populating }
 {
     batch.put(0, Vec::from_slice(alloc, key)?, Vec::new(alloc))
 }
 
-/// One of nine calls, of which the last four are not refused.
+/// Makes one of nine calls, of which the last four are not refused.
 fn attempt(alloc: Global, batch: &mut LogBatch, number: usize) -> Result<()> {
     if !batch.is_open() {
         return Ok(());
@@ -300,7 +300,7 @@ fn refused_additions(rt: HostRuntime) {
     assert!(rt; answer.is_ok());
 }
 
-/// What each call is refused for, if it is, and the batch's approximate size behind it.
+/// Tests what each call is refused for, if it is, and the batch's approximate size after it.
 fn refused_additions_leave_the_batch(rt: &impl Abort, alloc: Global) -> Result<()> {
     for &(number, refusal, size) in &[
         (0, Refusal::InvalidArgument, 0),
@@ -324,8 +324,8 @@ fn refused_additions_leave_the_batch(rt: &impl Abort, alloc: Global) -> Result<(
     Ok(())
 }
 
-/// A batch with a command and two lines, between which a list may be refused whose second line refuses to write itself;
-/// nothing if that is answered otherwise, or if it changed the batch.
+/// Returns a batch with a command and two lines, between which a list may be refused whose second line refuses to write
+/// itself; nothing if that ends otherwise, or if it changed the batch.
 fn with_refused_lines(alloc: Global, is_tried: bool) -> Result<Option<LogBatch>> {
     let mut batch = with_command(alloc, 8, Command::Clean)?;
     if is_tried {
@@ -342,7 +342,7 @@ fn with_refused_lines(alloc: Global, is_tried: bool) -> Result<Option<LogBatch>>
     Ok(Some(batch))
 }
 
-/// Whether a batch is as if a list that was refused had not been tried.
+/// Tests whether a batch is as if a list that was refused had not been tried.
 fn is_left_by_refusals(alloc: Global) -> Result<bool> {
     let tried = with_refused_lines(alloc, true)?;
     Ok(tried.is_some() && tried == with_refused_lines(alloc, false)?)

@@ -7,7 +7,7 @@ use std::alloc::Global;
 use std::io;
 use std::io::{ErrorKind, Read, Write};
 
-/// A batch that puts a value of 100,000 bytes.
+/// Returns a batch that puts a value of 100,000 bytes.
 fn long_batch(alloc: Global) -> Result<LogItemBatch> {
     let mut value = Vec::new(alloc);
     value.resize(100_000, 0xab)?;
@@ -16,7 +16,7 @@ fn long_batch(alloc: Global) -> Result<LogItemBatch> {
     Ok(batch)
 }
 
-/// Its bytes.
+/// Returns its bytes.
 fn sealed(alloc: Global, context: &LogFileContext) -> Result<Vec<u8>> {
     let mut batch = long_batch(alloc)?;
     let mut bytes = Vec::new(alloc);
@@ -25,7 +25,7 @@ fn sealed(alloc: Global, context: &LogFileContext) -> Result<Vec<u8>> {
     Ok(bytes)
 }
 
-/// The text of a batch that puts a value of 100,000 bytes, if that is what is printed.
+/// Returns the text of a batch that puts a value of 100,000 bytes, if that is what is printed.
 fn long_text(alloc: Global) -> Result<Option<String>> {
     let context = LogFileContext::new(FileId::new(LogQueue::Append, 0), Version::V1);
     let bytes = sealed(alloc, &context)?;
@@ -54,7 +54,7 @@ fn long_batches_are_printed(rt: HostRuntime) {
     );
 }
 
-/// Bytes that are read or written a few at a time, interrupted before each time, and not behind so many times.
+/// Bytes that are read or written a few at a time, interrupted before each time, and not after so many times.
 #[derive(Drop)]
 struct Halting {
     bytes: Vec<u8>,
@@ -76,7 +76,7 @@ impl Halting {
         }
     }
 
-    /// Refuses each second call as interrupted, and those behind so many.
+    /// Refuses each second call as interrupted, and those after so many.
     fn go_on(&mut self) -> io::Result<()> {
         self.is_interrupted = !self.is_interrupted;
         if self.is_interrupted {
@@ -122,8 +122,8 @@ const CLEAN: &[u8; 8] = b"\x01\x01\x02\x01\x5a\x80\x0b\xdd";
 /// Its lines, of 23 bytes, which are written at the eighth time.
 const LINES: &str = "1 clean\nitems 1 rest 0\n";
 
-/// What is written of the lines where the reader fails behind so many reads and the writer behind so many writes, and
-/// whether one of them fails and that is handed on.
+/// Returns what is written of the lines where the reader fails after so many reads and the writer after so many writes,
+/// and whether one of them fails and that is handed on.
 fn printed(alloc: Global, reads: usize, writes: usize) -> Result<(Vec<u8>, bool)> {
     let context = LogFileContext::new(FileId::new(LogQueue::Append, 12), Version::V1);
     let mut reader = Halting::new(Vec::from_slice(alloc, CLEAN)?, reads);
@@ -136,13 +136,13 @@ fn printed(alloc: Global, reads: usize, writes: usize) -> Result<(Vec<u8>, bool)
     }
 }
 
-/// Whether so many bytes of the lines are written, all of them without a failure.
+/// Tests whether so many bytes of the lines are written, all of them without a failure.
 fn are_printed(alloc: Global, reads: usize, writes: usize, len: usize) -> Result<bool> {
     let (written, is_refused) = printed(alloc, reads, writes)?;
     Ok(LINES.as_bytes().get(..len) == Some(written.as_slice()) && is_refused == (len < LINES.len()))
 }
 
-/// Nothing is written where a read fails, and what the writes before have taken where a write does.
+/// Tests that nothing is written where a read fails, and what the writes before have taken where a write does.
 fn failures_are_handed_on(alloc: Global) -> Result<bool> {
     for reads in 0..4 {
         if !are_printed(alloc, reads, 8, 0)? {

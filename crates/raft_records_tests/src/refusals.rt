@@ -179,7 +179,7 @@ static ITEM_BATCHES: [ItemBatchRow; 18] = [
     ),
 ];
 
-/// Whether the bytes are refused as corrupt with this text.
+/// Tests whether the bytes are refused as corrupt with this text.
 fn is_corrupt<T: Drop>(answer: Result<T>, text: &str) -> Result<bool> {
     match answer {
         Ok(_read) => Ok(false),
@@ -212,14 +212,14 @@ fn header_rows() -> &'static [HeaderRow] {
     &NO_HEADERS
 }
 
-/// Whether bytes are refused as a header, and left.
+/// Tests whether bytes are refused as a header, and left.
 fn is_no_header(alloc: Global, bytes: &[u8], text: &str) -> Result<bool> {
     let mut buf = bytes;
     let read = LogBatch::decode_header(alloc, &mut buf);
     Ok(is_corrupt(read, text)? && buf == bytes)
 }
 
-/// The entry bytes in the entry block of this length in front of bytes.
+/// Returns the entry bytes in the entry block of this length in front of bytes.
 fn block(alloc: Global, bytes: &[u8], len: usize) -> Result<Vec<u8>> {
     let place = FileBlockHandle {
         id: FileId::new(LogQueue::Append, 12),
@@ -238,7 +238,7 @@ fn entry_blocks(rt: HostRuntime) {
     assert!(rt; answer.is_ok());
 }
 
-/// Entry blocks are read or refused as in the rows, and corrupt where they are cut short.
+/// Tests that entry blocks are read or refused as in the rows, and corrupt where they are cut short.
 fn entry_blocks_end_in_their_checksum(rt: &impl Abort, alloc: Global) -> Result<()> {
     for row in block_rows() {
         assert!(rt; is_block_row(alloc, row)?, "{} bytes of {:?}", row.1, row.0);
@@ -269,7 +269,7 @@ fn is_cut_short(alloc: Global, len: usize) -> Result<bool> {
     }
 }
 
-/// The item batch that bytes of the append queue are.
+/// Returns the item batch that bytes of the append queue are.
 fn item_batch(alloc: Global, buf: &mut &[u8], version: Version, seq: u64) -> Result<LogItemBatch> {
     let context = LogFileContext::new(FileId::new(LogQueue::Append, seq), version);
     let place = FileBlockHandle {

@@ -45,7 +45,7 @@ fn no_runs() -> &'static [&'static [(u64, u32, u32)]] {
     &NO_RUNS
 }
 
-/// Whether a list of entries with these indexes is consecutive.
+/// Tests whether a list of entries with these indexes is consecutive.
 fn are_consecutive(alloc: Global, indexes: &[u64]) -> Result<bool> {
     let mut entries = Vec::new(alloc);
     for index in indexes {
@@ -76,7 +76,7 @@ fn consecutive_lists(rt: HostRuntime) {
     assert!(rt; answer.is_ok());
 }
 
-/// The entries of a row.
+/// Returns the entries of a row.
 fn entries_of(alloc: Global, row: &[(u64, u32, u32)]) -> Result<Vec<EntryIndex>> {
     let mut entries = Vec::new(alloc);
     for &(index, entry_offset, entry_len) in row {
@@ -90,8 +90,8 @@ fn entries_of(alloc: Global, row: &[(u64, u32, u32)]) -> Result<Vec<EntryIndex>>
     Ok(entries)
 }
 
-/// Whether writing was refused as an invalid argument, and the two bytes in the vector stayed alone. Want of memory
-/// is handed on.
+/// Tests whether writing was refused as an invalid argument, and the two bytes in the vector stayed alone. Want of
+/// memory is handed on.
 fn is_unwritable(written: Result<()>, buf: &[u8]) -> Result<bool> {
     match written {
         Err(Error::Memory) => Err(Error::Memory),
@@ -100,7 +100,7 @@ fn is_unwritable(written: Result<()>, buf: &[u8]) -> Result<bool> {
     }
 }
 
-/// Whether entries are refused as such.
+/// Tests whether entries are refused as such.
 fn are_unwritable(alloc: Global, row: &[(u64, u32, u32)]) -> Result<bool> {
     let entries = EntryIndexes(entries_of(alloc, row)?);
     let mut buf = Vec::from_slice(alloc, b"ab")?;
@@ -108,14 +108,14 @@ fn are_unwritable(alloc: Global, row: &[(u64, u32, u32)]) -> Result<bool> {
     is_unwritable(written, buf.as_slice())
 }
 
-/// Whether an item is.
+/// Tests whether an item is.
 fn is_item_unwritable(alloc: Global, item: &LogItem) -> Result<bool> {
     let mut buf = Vec::from_slice(alloc, b"ab")?;
     let written = item.encode(&mut buf);
     is_unwritable(written, buf.as_slice())
 }
 
-/// A put of the group markers' key, or another change of it.
+/// Returns a put of the group markers' key, or another change of it.
 fn marker(alloc: Global, op_type: OpType, value: Option<&[u8]>) -> Result<LogItem> {
     let key = Vec::from_slice(alloc, &ATOMIC_GROUP_KEY)?;
     let value = match value {
@@ -125,7 +125,7 @@ fn marker(alloc: Global, op_type: OpType, value: Option<&[u8]>) -> Result<LogIte
     Ok(LogItem::new_kv(9, op_type, key, value))
 }
 
-/// Whether a put without a value is refused.
+/// Tests whether a put without a value is refused.
 fn is_pair_unwritable(alloc: Global) -> Result<bool> {
     let kv = KeyValue::new(OpType::Put, Vec::from_slice(alloc, b"k")?, None);
     let mut buf = Vec::from_slice(alloc, b"ab")?;
@@ -181,7 +181,7 @@ fn markers() -> &'static [(&'static [u8], AtomicGroupStatus)] {
     &MARKERS
 }
 
-/// What an item of the group markers' key is read as.
+/// Returns what an item of the group markers' key is read as.
 fn parsed(
     alloc: Global,
     op_type: OpType,
@@ -190,7 +190,7 @@ fn parsed(
     AtomicGroupStatus::parse(alloc, &marker(alloc, op_type, value)?)
 }
 
-/// Whether a group marker with this byte is refused as corrupt.
+/// Tests whether a group marker with this byte is refused as corrupt.
 fn is_no_status(alloc: Global, byte: u8) -> Result<bool> {
     match parsed(alloc, OpType::Put, Some(&[byte])) {
         Ok(_read) => Ok(false),

@@ -7,7 +7,7 @@ use raft_records::{
 };
 use std::alloc::Global;
 
-/// Whether the items of a log batch are read from its bytes in a file, behind these entry bytes.
+/// Tests whether the items of a log batch are read from its bytes in a file, after these entry bytes.
 fn is_read(alloc: Global, bytes: &[u8], seq: u64, entry_bytes: &[u8]) -> Result<bool> {
     let mut behind = bytes;
     let (offset, compression_type, len) = LogBatch::decode_header(alloc, &mut behind)?;
@@ -25,7 +25,7 @@ fn is_read(alloc: Global, bytes: &[u8], seq: u64, entry_bytes: &[u8]) -> Result<
     }
 }
 
-/// Whether a batch that is signed for three files in turn is read each time in that file alone.
+/// Tests whether a batch that is signed for three files in turn is read each time in that file alone.
 fn is_read_where_signed(alloc: Global) -> Result<bool> {
     let mut batch = with_one_of_each(alloc)?;
     batch.finish_populate()?;
@@ -51,7 +51,7 @@ fn one_batch_signed_for_three_files(rt: HostRuntime) {
     assert!(rt; matches!(answer, Ok(true)));
 }
 
-/// Whether a batch whose bytes are asked for is then as its clone that was signed for the same file.
+/// Tests whether a batch whose bytes are asked for is then as its clone that was signed for the same file.
 fn is_only_signed(alloc: Global) -> Result<bool> {
     let mut batch = with_one_of_each(alloc)?;
     batch.finish_populate()?;
@@ -80,7 +80,7 @@ fn asked_bytes_leave_the_batch(rt: HostRuntime) {
     assert!(rt; matches!(answer, Ok(true)));
 }
 
-/// Whether this item's entries have the place, and its key value is in the place's file.
+/// Tests whether this item's entries have the place, and its key value is in the place's file.
 fn is_placed(item: &LogItem, handle: FileBlockHandle) -> bool {
     match &item.content {
         LogItemContent::EntryIndexes(entries) => {
@@ -113,7 +113,7 @@ struct Drained {
     len_with_command: usize,
 }
 
-/// A batch is written, and its items are handed out.
+/// Writes a batch, and hands its items out.
 fn written_and_drained(alloc: Global) -> Result<Drained> {
     let mut batch = with_one_of_each(alloc)?;
     let len = batch.finish_populate()?;

@@ -9,7 +9,7 @@ use raft_memtable::{
 use std::alloc::Global;
 use std::process::Abort;
 
-/// Whether these are the blocks of a table, each told by the number of its file and by how many entries it has.
+/// Tests whether these are the blocks of a table, each told by the number of its file and by how many entries it has.
 fn has_blocks(table: &MemTable, want: &[(FileSeq, usize)]) -> bool {
     let blocks = table.blocks();
     blocks.len() == want.len()
@@ -257,7 +257,7 @@ fn calls_divide_blocks(rt: HostRuntime) {
     follow(&rt, rt.alloc(), truncated());
 }
 
-/// Two entries from an index on, in one block of the first file.
+/// Returns two entries from an index on, in one block of the first file.
 fn pair(alloc: Global, first: u64) -> Result<Vec<EntryIndex>> {
     let handle = FileBlockHandle {
         id: FileId::new(LogQueue::Append, 1),

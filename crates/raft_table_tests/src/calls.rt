@@ -10,7 +10,7 @@ use raft_memtable::{Error, FileSeq, LogQueue, MemTable, Result};
 use std::alloc::Global;
 use std::process::Abort;
 
-/// What the calls of a row answer, one behind the other, and the store after each.
+/// What the calls of a row return, one after the other, and the store after each.
 type Row = (Call, Answer, Shape);
 
 /// Makes the calls of the rows on an empty store.
@@ -82,7 +82,7 @@ fn compactions() -> [Row; 5] {
     ]
 }
 
-/// In the second half the entries below 10 are rewritten.
+/// Returns rows of truncations; in their second half the entries below 10 are rewritten.
 fn truncations() -> [Row; 9] {
     [
         (Append(of(0, 25, 1)), Done, has(0, 25).appended(25, 1)),
@@ -250,10 +250,10 @@ fn calls_change_the_store(rt: HostRuntime) {
     follow(&rt, rt.alloc(), &counted());
 }
 
-/// A call on a store, a run of a queue that is tried then, whether it is put, and the store behind it.
+/// A call on a store, a run of a queue that is tried then, whether it is put, and the store after it.
 type TriedRow = (Call, LogQueue, Run, bool, Shape);
 
-/// Runs that are tried on a store with the entries from 10 on and below 20 in the append queue.
+/// Returns runs that are tried on a store with the entries from 10 on and below 20 in the append queue.
 fn tried_behind_appended() -> [TriedRow; 5] {
     let call = Append(of(10, 20, 1));
     let before = has(10, 20).appended(10, 1);
@@ -284,8 +284,8 @@ fn tried_behind_appended() -> [TriedRow; 5] {
     ]
 }
 
-/// Runs that are tried on a store with the entries from 10 on and below 20 in the rewrite queue, or on one without
-/// entries that has room for three.
+/// Returns runs that are tried on a store with the entries from 10 on and below 20 in the rewrite queue, or on one
+/// without entries that has room for three.
 fn tried_otherwise() -> [TriedRow; 4] {
     let call = ReplayRewrite(of(10, 20, 1));
     let count = Count(LogQueue::Append, MAX - 3);
@@ -321,7 +321,7 @@ fn tried_otherwise() -> [TriedRow; 4] {
     ]
 }
 
-/// Tries a run behind a call, and answers whether it was put, and the store behind it.
+/// Tries a run after a call, and returns whether it was put, and the store after it.
 fn try_run(alloc: Global, call: Call, queue: LogQueue, run: Run) -> Result<(bool, Shape)> {
     let mut store = LogStore::new(alloc);
     store.direct(call)?;
@@ -349,7 +349,7 @@ fn runs_are_put_where_they_may(rt: HostRuntime) {
     try_each(&rt, rt.alloc(), &tried_otherwise());
 }
 
-/// A call on each of two stores, the answer of a merge of their tables, and the first store behind it.
+/// A call on each of two stores, the answer of a merge of their tables, and the first store after it.
 type MergeRow = (Call, Call, Answer, Shape);
 
 /// Merges of a newer neighbor.
@@ -433,8 +433,8 @@ fn seen(table: &MemTable) -> Seen {
     )
 }
 
-/// What a merge of the second store's table into the first's answers, the first store, and whether the second table is
-/// then empty, or as it was where the merge was refused.
+/// Merges the second store's table into the first's. Returns the result, the first store, and whether the second table
+/// is then empty, or as it was where the merge was refused.
 fn merged(
     alloc: Global,
     older: Call,

@@ -6,7 +6,7 @@ use raft_memtable::{Error, GlobalStats, LogQueue, MemTable, Result};
 use std::alloc::Global;
 use std::process::Abort;
 
-/// Ten appended entries and a rewritten key.
+/// Returns a store with ten appended entries and a rewritten key.
 fn both_queues(alloc: Global) -> Result<LogStore> {
     let mut store = LogStore::new(alloc);
     for &call in &[Append(of(0, 10, 1)), Put(LogQueue::Rewrite, 5)] {
@@ -15,7 +15,7 @@ fn both_queues(alloc: Global) -> Result<LogStore> {
     Ok(store)
 }
 
-/// How many records are live in the append queue, and how many were written to the rewrite queue and deleted
+/// Returns how many records are live in the append queue, and how many were written to the rewrite queue and deleted
 /// from it.
 fn counts(stats: &GlobalStats) -> [usize; 3] {
     [

@@ -13,7 +13,7 @@ fn put(store: &mut LogStore, file_id: FileId, pairs: &[(&[u8], &[u8])]) -> Resul
     Ok(())
 }
 
-/// A store of these keys in one file.
+/// Returns a store of these keys in one file.
 fn store_of_pairs(alloc: Global, file: FileId, pairs: &[(&[u8], &[u8])]) -> Result<LogStore> {
     let mut store = LogStore::new(alloc);
     put(&mut store, file, pairs)?;
@@ -28,7 +28,7 @@ const ONE: Bound = Some(b"1");
 const TWO: Bound = Some(b"2");
 
 /// Where a walk over the keys 1, 2 and 3 starts and ends, whether it goes back, the number at which it is told
-/// to end, and the decimal number of the keys that it meets, one behind the other.
+/// to end, and the decimal number of the keys that it meets, one after the other.
 type Walk = (Bound, Bound, bool, u64, u64);
 
 static WALKS: [Walk; 10] = [
@@ -48,7 +48,7 @@ fn walks() -> &'static [Walk] {
     &WALKS
 }
 
-/// The number of the keys that a walk meets.
+/// Returns the number of the keys that a walk meets.
 fn seen(table: &MemTable, start: Bound, end: Bound, reverse: bool, limit: u64) -> Result<u64> {
     let mut seen = 0u64;
     table.scan(start, end, reverse, |key, _| {
@@ -84,7 +84,7 @@ fn newer_pairs_replace_older_ones(rt: HostRuntime) -> Result<()> {
     }
 }
 
-/// Two rewritten keys under two appended ones, of which one is the same.
+/// Returns a store with two rewritten keys under two appended ones, of which one is the same.
 fn joined(alloc: Global) -> Result<LogStore> {
     let rewritten = FileId::new(LogQueue::Rewrite, 7);
     let mut store = store_of_pairs(alloc, rewritten, &[(b"j", b"1"), (b"k", b"2")])?;
@@ -95,14 +95,14 @@ fn joined(alloc: Global) -> Result<LogStore> {
     Ok(store)
 }
 
-/// How many pairs lie in the append queue's files up to one.
+/// Returns how many pairs lie in the append queue's files up to one.
 fn count_before(alloc: Global, table: &MemTable, gate: FileSeq) -> Result<usize> {
     let mut pairs = Vec::new(alloc);
     table.fetch_kvs_before(gate, &mut pairs)?;
     Ok(pairs.len())
 }
 
-/// How many keys there are, how many of them are rewritten, and the least file of the others.
+/// Returns how many keys there are, how many of them are rewritten, and the least file of the others.
 fn counts(table: &MemTable) -> (usize, u128, Option<FileSeq>) {
     (
         table.key_count(),

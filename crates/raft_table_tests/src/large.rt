@@ -13,7 +13,7 @@ use std::alloc::Global;
 /// How many entries lie in one block.
 const BLOCK: u64 = 50;
 
-/// Entries from an index on and below another, fifty to a block of a file.
+/// Returns entries from an index on and below another, fifty to a block of a file.
 fn long_run(alloc: Global, queue: LogQueue, first: u64, end: u64) -> Result<Vec<EntryIndex>>
     ensures { IfOk result (λ run. IsRunIn queue run.items) }
 {
@@ -37,7 +37,7 @@ fn long_run(alloc: Global, queue: LogQueue, first: u64, end: u64) -> Result<Vec<
     }
 }
 
-/// A store whose table replayed entries of a queue.
+/// Returns a store whose table replayed entries of a queue.
 fn replayed(alloc: Global, queue: LogQueue, first: u64, end: u64) -> Result<LogStore> {
     let mut store = LogStore::new(alloc);
     let run = long_run(alloc, queue, first, end)?;
@@ -59,7 +59,7 @@ fn shape(alloc: Global, table: &MemTable) -> Result<Shape> {
     Ok((first, last, table.rewrite_count(), blocks, fetched.len()))
 }
 
-/// Whether a list of 5,000 entries in 100 blocks is appended, and its older half is rewritten.
+/// Tests whether a list of 5,000 entries in 100 blocks is appended, and its older half is rewritten.
 fn is_rewritten(alloc: Global) -> Result<bool> {
     let mut store = LogStore::new(alloc);
     let run = long_run(alloc, LogQueue::Append, 0, 5_000)?;
@@ -100,7 +100,7 @@ fn merges() -> &'static [(LogQueue, bool, Shape)] {
     &MERGES
 }
 
-/// Whether both tables are merged so.
+/// Tests whether both tables are merged so.
 fn is_merged(alloc: Global, row: &(LogQueue, bool, Shape)) -> Result<bool> {
     let (queue, is_append, merged) = *row;
     let newer_queue = if is_append { LogQueue::Append } else { queue };
@@ -110,7 +110,7 @@ fn is_merged(alloc: Global, row: &(LogQueue, bool, Shape)) -> Result<bool> {
     Ok(shape(alloc, &store.table)? == merged && newer.last_index().is_none())
 }
 
-/// Whether the empty key has a value of 64 KiB, until it is deleted.
+/// Tests whether the empty key has a value of 64 KiB, until it is deleted.
 fn is_deleted(alloc: Global) -> Result<bool> {
     let mut store = LogStore::new(alloc);
     let mut value = Vec::new(alloc);

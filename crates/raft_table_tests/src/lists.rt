@@ -18,7 +18,7 @@ struct Numbers {
 }
 
 impl Numbers {
-    /// The next number, below another.
+    /// Returns the next number, below another.
     fn below(&mut self, end: u64) -> u64
         requires { 0 < end }
         ensures { result < end }
@@ -72,8 +72,8 @@ impl Bounds {
 }
 
 impl Run {
-    /// A run of up to three entries in a file from 1 to 3, that starts near the entries of a list or, less often,
-    /// anywhere; all indexes stay below 27.
+    /// Returns a run of up to three entries in a file from 1 to 3, that starts near the entries of a list or, less
+    /// often, anywhere; all indexes stay below 27.
     fn random(numbers: &mut Numbers, list: &List, call: u32) -> Run {
         let near = list
             .start()
@@ -101,7 +101,7 @@ impl Run {
 }
 
 impl Call {
-    /// Some call with this number.
+    /// Returns some call with this number.
     fn random(numbers: &mut Numbers, list: &List, call: u32) -> Call {
         let run = Run::random(numbers, list, call);
         let gate = 1 + numbers.below(3);
@@ -127,7 +127,7 @@ impl Call {
     }
 }
 
-/// An entry of a run.
+/// Returns an entry of a run.
 fn entry_of(queue: LogQueue, run: Run, index: u64) -> EntryIndex {
     EntryIndex {
         index,
@@ -142,7 +142,7 @@ fn entry_of(queue: LogQueue, run: Run, index: u64) -> EntryIndex {
     }
 }
 
-/// The entries of a run.
+/// Returns the entries of a run.
 fn entries_of(alloc: Global, queue: LogQueue, run: Run) -> Result<Vec<EntryIndex>>
     ensures { IfOk result (λ entries. IsRunIn queue entries.items) }
 {
@@ -157,7 +157,7 @@ fn entries_of(alloc: Global, queue: LogQueue, run: Run) -> Result<Vec<EntryIndex
     }
 }
 
-/// The table of a run.
+/// Returns the table of a run.
 fn table_of(alloc: Global, queue: LogQueue, run: Run) -> Result<MemTable> {
     let mut store = LogStore::new(alloc);
     store.replay(queue, entries_of(alloc, queue, run)?)?;
@@ -227,7 +227,7 @@ struct List {
     entries: Vec<EntryIndex>,
 }
 
-/// Whether an entry is in a queue.
+/// Tests whether an entry is in a queue.
 fn is_in(entry: &EntryIndex, queue: LogQueue) -> bool {
     match entry.entries {
         Some(handle) => handle.id.queue == queue,
@@ -235,7 +235,7 @@ fn is_in(entry: &EntryIndex, queue: LogQueue) -> bool {
     }
 }
 
-/// Whether a rewriting may move an entry.
+/// Tests whether a rewriting may move an entry.
 fn may_move(entry: &EntryIndex, gate: Option<FileSeq>) -> bool {
     match (entry.entries, gate) {
         (Some(handle), Some(gate)) => handle.id.seq <= gate,
@@ -244,7 +244,7 @@ fn may_move(entry: &EntryIndex, gate: Option<FileSeq>) -> bool {
     }
 }
 
-/// The index behind the last entry, 0 where there is none.
+/// Returns the index past the last entry, 0 where there is none.
 fn end_of(last: Option<&EntryIndex>) -> u64 {
     match last {
         Some(last) => last.index.saturating_add(1),
@@ -253,7 +253,7 @@ fn end_of(last: Option<&EntryIndex>) -> u64 {
 }
 
 impl List {
-    /// The least index, 0 without entries.
+    /// Returns the least index, 0 without entries.
     fn start(&self) -> u64 {
         match self.entries.first() {
             Some(first) => first.index,
@@ -261,12 +261,12 @@ impl List {
         }
     }
 
-    /// The greatest index plus one, 0 without entries.
+    /// Returns the greatest index plus one, 0 without entries.
     fn end(&self) -> u64 {
         end_of(self.entries.last())
     }
 
-    /// The end of the entries within bounds, 0 where there are none.
+    /// Returns the end of the entries within bounds, 0 where there are none.
     fn end_within(&self, bounds: Bounds) -> u64 {
         end_of(self.entries.iter().filter(|e| bounds.hold(e)).last())
     }
@@ -280,12 +280,12 @@ impl List {
         None
     }
 
-    /// How many entries are in a queue.
+    /// Returns how many entries are in a queue.
     fn count_in(&self, queue: LogQueue) -> usize {
         self.entries.iter().filter(|e| is_in(e, queue)).count()
     }
 
-    /// How many stretches of neighbors of one place there are.
+    /// Returns how many stretches of neighbors of one place there are.
     fn count_blocks(&self) -> usize {
         let mut count = 0usize;
         let mut last = None;
@@ -298,13 +298,13 @@ impl List {
         count
     }
 
-    /// Whether a run in place of the entries from its start on leaves no hole.
+    /// Tests whether a run in place of the entries from its start on leaves no hole.
     fn meets(&self, run: Run) -> bool {
         self.entries.is_empty() || run.first <= self.end()
     }
 
-    /// Whether a rewriting may begin where it does: behind no more than the rewritten entries, and with a gate
-    /// right behind them.
+    /// Tests whether a rewriting may begin where it does: after no more than the rewritten entries, and with a gate
+    /// right after them.
     fn may_rewrite(&self, run: Run, gate: Option<FileSeq>) -> bool {
         if !self.entries.iter().any(|e| run.holds(e.index)) {
             return true;
@@ -314,7 +314,7 @@ impl List {
         before == rewritten || before < rewritten && gate.is_none()
     }
 
-    /// Whether a call is accepted.
+    /// Tests whether a call is accepted.
     fn accepts(&self, call: Call) -> bool {
         let appended = self.count_in(LogQueue::Append) > 0;
         let rewritten = self.count_in(LogQueue::Rewrite) > 0;
@@ -391,7 +391,7 @@ impl List {
     }
 }
 
-/// Whether a table has the entries of a list, in as few blocks as there are, and is counted.
+/// Tests whether a table has the entries of a list, in as few blocks as there are, and is counted.
 fn is_same(store: &LogStore, list: &List) -> bool {
     (0..32).all(|index| store.table.get_entry(index) == list.get(index))
         && store.table.block_count() == list.count_blocks()
@@ -400,7 +400,7 @@ fn is_same(store: &LogStore, list: &List) -> bool {
         && store.stats.live_entries(LogQueue::Rewrite) == list.count_in(LogQueue::Rewrite)
 }
 
-/// Whether a call is accepted as it should be, and leaves the table with the entries of the list.
+/// Tests whether a call is accepted as it should be, and leaves the table with the entries of the list.
 fn agree(alloc: Global, store: &mut LogStore, list: &mut List, call: Call) -> Result<bool> {
     let accepted = match make(alloc, store, call) {
         Err(Error::Memory) => return Err(Error::Memory),
@@ -415,7 +415,7 @@ fn agree(alloc: Global, store: &mut LogStore, list: &mut List, call: Call) -> Re
     Ok(is_same(store, list))
 }
 
-/// The first of so many calls in which the table and the list differ, if there is one.
+/// Returns the first of so many calls in which the table and the list differ, if there is one.
 fn first_fault(alloc: Global, calls: u32) -> Result<Option<Call>> {
     let mut numbers = Numbers { state: 2024 };
     let mut store = LogStore::new(alloc);

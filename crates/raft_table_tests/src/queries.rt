@@ -1,4 +1,4 @@
-//! What a table answers.
+//! What a table returns.
 
 use crate::store::Answer::{Compacted, Done, InvalidArgument, NotFound};
 use crate::store::Call::{Append, Group, Rewrite};
@@ -13,7 +13,7 @@ use std::process::Abort;
 /// An entry's index, its length, and the queue that it lies in, if it lies somewhere.
 type Row = (u64, u32, Option<LogQueue>);
 
-/// The entries of these rows, each at a place of its own.
+/// Returns the entries of these rows, each at a place of its own.
 fn entries(alloc: Global, rows: &[Row]) -> Result<Vec<EntryIndex>> {
     let mut entries = Vec::new(alloc);
     for (index, entry_len, queue) in rows {
@@ -41,7 +41,7 @@ fn lists_are_runs_or_refused(rt: HostRuntime) -> Result<()> {
 
 const HERE: Option<LogQueue> = Some(LogQueue::Append);
 
-/// Lists, and what an append of them answers.
+/// Lists, and what an append of them returns.
 static LISTS: [(&[Row], Answer); 6] = [
     (&[], Done),
     (&[(u64::MAX - 2, 0, HERE), (u64::MAX - 1, 0, HERE)], Done),
@@ -55,7 +55,7 @@ fn list_rows() -> &'static [(&'static [Row], Answer)] {
     &LISTS
 }
 
-/// Whether a list is a run, and what its append answers.
+/// Returns whether a list is a run, and what its append returns.
 fn append(alloc: Global, store: &mut LogStore, rows: &[Row]) -> Result<(bool, Answer)> {
     let list = entries(alloc, rows)?;
     let is_run = is_run(&list, LogQueue::Append);
@@ -72,7 +72,7 @@ fn make_lists(rt: &impl Abort, alloc: Global) -> Result<()> {
     Ok(())
 }
 
-/// The lengths of entries from the index 10 on, a fetch's range and limit, what it answers, and how many entries
+/// The lengths of entries from the index 10 on, a fetch's range and limit, what it returns, and how many entries
 /// it gives.
 type Fetch = (&'static [u32], u64, u64, Option<usize>, Answer, usize);
 
@@ -98,7 +98,7 @@ fn fetches_end_at_limits(rt: HostRuntime) -> Result<()> {
     }
 }
 
-/// A store with entries of these lengths from the index 10 on.
+/// Returns a store with entries of these lengths from the index 10 on.
 fn store_of(alloc: Global, lens: &[u32]) -> Result<LogStore> {
     let mut store = LogStore::new(alloc);
     let mut index = 10u64;
@@ -115,7 +115,7 @@ fn append_one(alloc: Global, store: &mut LogStore, index: u64, len: u32) -> Resu
     Ok(())
 }
 
-/// What a fetch answers, how many entries it gives, and the index of the first.
+/// Returns the result of a fetch, how many entries it gives, and the index of the first.
 fn fetch(
     alloc: Global,
     table: &MemTable,
@@ -137,7 +137,7 @@ fn fetch_rows() -> &'static [Fetch] {
     &FETCHES
 }
 
-/// Whether a fetch answers as its row says.
+/// Tests whether a fetch returns what its row says.
 fn holds(alloc: Global, row: &Fetch) -> Result<bool> {
     let (lens, begin, end, limit, want, count) = *row;
     let store = store_of(alloc, lens)?;
@@ -160,7 +160,7 @@ fn queries_tell_the_queues_apart(rt: HostRuntime) -> Result<()> {
     }
 }
 
-/// A store of two appended files, of which the first is rewritten.
+/// Returns a store of two appended files, of which the first is rewritten.
 fn rewritten_store(alloc: Global) -> Result<LogStore> {
     let calls = [
         Append(of(0, 10, 1)),
@@ -171,7 +171,7 @@ fn rewritten_store(alloc: Global) -> Result<LogStore> {
     LogStore::after(alloc, &calls)
 }
 
-/// How many blocks there are, how many rewritten entries, and how many records of the append queue.
+/// Returns how many blocks there are, how many rewritten entries, and how many records of the append queue.
 fn counts(table: &MemTable) -> (usize, usize, u128) {
     (
         table.block_count(),
@@ -184,7 +184,7 @@ fn group(table: &MemTable) -> Option<(FileSeq, FileSeq)> {
     table.atomic_group()
 }
 
-/// The number of the file that an entry lies in.
+/// Returns the number of the file that an entry lies in.
 fn seq_at(table: &MemTable, index: u64) -> Option<FileSeq> {
     table
         .get_entry(index)
@@ -197,7 +197,7 @@ fn has_before(table: &MemTable, seq: FileSeq, count: usize) -> bool {
     count > 0 && table.has_at_least_some_entries_before(gate, count)
 }
 
-/// How many entries lie in the first file and, behind them, in the second, and how many with those that are
+/// Returns how many entries lie in the first file and, after them, in the second, and how many with those that are
 /// rewritten; and the first and the last of them.
 fn fetch_queues(alloc: Global, table: &MemTable) -> Result<([usize; 3], [Option<u64>; 2])> {
     let mut fetched = Vec::new(alloc);
@@ -239,7 +239,7 @@ fn pairs_are_found_and_handed_out(rt: HostRuntime) -> Result<()> {
     }
 }
 
-/// A store of three keys, of which the second is rewritten.
+/// Returns a store of three keys, of which the second is rewritten.
 fn store_of_keys(alloc: Global) -> Result<LogStore> {
     let mut store = LogStore::new(alloc);
     for &(key, queue, seq) in &[
@@ -252,7 +252,7 @@ fn store_of_keys(alloc: Global) -> Result<LogStore> {
     Ok(store)
 }
 
-/// How many pairs are fetched, and whether the first is of the key 1.
+/// Returns how many pairs are fetched, and whether the first is of the key 1.
 fn fetch_pairs(alloc: Global, table: &MemTable) -> Result<(usize, bool)> {
     let mut pairs = Vec::new(alloc);
     table.fetch_kvs_before(2, &mut pairs)?;

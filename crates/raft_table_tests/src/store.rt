@@ -20,7 +20,7 @@ pub struct LogStore {
     ghost counted: { IsCounted table stats },
 }
 
-/// A run, told by its first index, the index behind its last, and the number of its file.
+/// A run, told by its first index, the index past its last, and the number of its file.
 #[derive(Clone, Copy, Debug)]
 pub struct Run {
     pub first: u64,
@@ -28,7 +28,7 @@ pub struct Run {
     pub seq: FileSeq,
 }
 
-/// A run in a file.
+/// Returns a run in a file.
 pub fn of(first: u64, end: u64, seq: FileSeq) -> Run {
     Run { first, end, seq }
 }
@@ -51,7 +51,7 @@ pub enum Call {
     Count(LogQueue, u64),
 }
 
-/// What a call answers.
+/// What a call returns.
 #[derive(Clone, Copy, PartialEq, Eq, Debug)]
 pub enum Answer {
     Done,
@@ -68,7 +68,7 @@ pub enum Answer {
 /// What is seen of a store.
 #[derive(Clone, Copy, PartialEq, Eq, Debug)]
 pub struct Shape {
-    /// The first index, and the one behind the last; 0 without entries.
+    /// The first index, and the one past the last; 0 without entries.
     pub first: u64,
     pub end: u64,
     /// How many records are live in the append queue, and their least file, 0 without records.
@@ -81,7 +81,7 @@ pub struct Shape {
     pub least_rewritten: FileSeq,
 }
 
-/// A store with the entries from an index on and below another, that counts no records.
+/// Returns the shape of a store with the entries from an index on and below another, that counts no records.
 pub fn has(first: u64, end: u64) -> Shape {
     Shape {
         first,
@@ -95,7 +95,7 @@ pub fn has(first: u64, end: u64) -> Shape {
 }
 
 impl Shape {
-    /// With so many live records in the append queue, whose least file is this.
+    /// Returns the shape with so many live records in the append queue, whose least file is this.
     pub fn appended(self, live: u64, least_appended: FileSeq) -> Shape {
         Shape {
             live,
@@ -104,8 +104,8 @@ impl Shape {
         }
     }
 
-    /// With so many records that were written to the rewrite queue and deleted from it, whose least file is
-    /// this.
+    /// Returns the shape with so many records that were written to the rewrite queue and deleted from it, whose least
+    /// file is this.
     pub fn rewritten(self, written: u64, deleted: u64, least_rewritten: FileSeq) -> Shape {
         Shape {
             written,
@@ -116,7 +116,7 @@ impl Shape {
     }
 }
 
-/// What a call answered, but for the number of a compaction or a truncation that drops nothing.
+/// Returns what a call returned, but for the number of a compaction or a truncation that drops nothing.
 pub fn answered(given: Result<u64>) -> Answer {
     match given {
         Ok(0) => Answer::Done,
@@ -131,7 +131,7 @@ pub fn answered(given: Result<u64>) -> Answer {
     }
 }
 
-/// What a call answered, with want of memory handed on.
+/// Returns what a call returned, with want of memory handed on.
 pub fn told(given: Result<u64>) -> Result<Answer> {
     match given {
         Err(Error::Memory) => Err(Error::Memory),
@@ -148,7 +148,7 @@ impl LogStore {
         }
     }
 
-    /// A store on which these calls were made.
+    /// Returns a store on which these calls were made.
     pub fn after(alloc: Global, calls: &[Call]) -> Result<LogStore> {
         let mut store = LogStore::new(alloc);
         for call in calls {
@@ -161,7 +161,7 @@ impl LogStore {
         Ok(Vec::from_slice(self.alloc, text)?)
     }
 
-    /// Entries of one byte in one block of a file.
+    /// Returns entries of one byte in one block of a file.
     fn entries(&self, queue: LogQueue, run: Run) -> Result<Vec<EntryIndex>>
         ensures { IfOk result (λ entries. IsRunIn queue entries.items) }
     {
@@ -186,7 +186,7 @@ impl LogStore {
         }
     }
 
-    /// The call as a value, if there is one for it.
+    /// Returns the call as a value, if there is one for it.
     fn change(&self, call: Call) -> Result<Option<TableChange>> {
         Ok(match call {
             Call::Append(run) => Some(TableChange::Append(self.entries(LogQueue::Append, run)?)),
@@ -214,7 +214,7 @@ impl LogStore {
         })
     }
 
-    /// The call itself.
+    /// Makes the call itself.
     pub fn direct(&mut self, call: Call) -> Result<u64> {
         match call {
             Call::Append(run) => {
@@ -262,7 +262,7 @@ impl LogStore {
         }
     }
 
-    /// Tries a run that is replayed, once more where it isn't put, as for want of memory. Answers whether it was put.
+    /// Tries a run that is replayed, once more where it isn't put, as for want of memory. Returns whether it was put.
     pub fn try_replay(&mut self, queue: LogQueue, run: Run) -> Result<bool> {
         let entries = self.entries(queue, run)?;
         Ok(
@@ -280,7 +280,7 @@ impl LogStore {
         Ok(())
     }
 
-    /// The call, as a value where there is one for it and that is asked.
+    /// Makes the call, as a value where there is one for it and that is asked.
     fn call(&mut self, call: Call, by_value: bool) -> Result<u64> {
         if by_value && let Some(change) = self.change(call)? {
             return self.table.change(change, &mut self.stats);
@@ -288,7 +288,7 @@ impl LogStore {
         self.direct(call)
     }
 
-    /// The call, once more where it found no memory: it has changed nothing then.
+    /// Makes the call, once more where it found no memory: it has changed nothing then.
     pub fn apply(&mut self, call: Call, by_value: bool) -> Answer {
         match self.call(call, by_value) {
             Err(Error::Memory) => answered(self.call(call, by_value)),
@@ -296,7 +296,7 @@ impl LogStore {
         }
     }
 
-    /// A change of the table.
+    /// Makes a change of the table.
     pub fn make(&mut self, change: TableChange) -> Result<u64> {
         self.table.change(change, &mut self.stats)
     }

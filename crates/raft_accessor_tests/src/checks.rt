@@ -117,7 +117,7 @@ fn log_item(alloc: Global, item: Item) -> Result<LogItem> {
     })
 }
 
-/// Whether the items of a row are refused by its text, or accepted.
+/// Tests whether the items of a row are refused by its text, or accepted.
 fn is_checked(alloc: Global, tables: &MemTableAccessor, row: &[Item], text: &str) -> Result<bool> {
     let mut items = Vec::new(alloc);
     for &one in row {

@@ -29,7 +29,7 @@ enum Call {
     ReplayRewrite(Item),
     /// With a gate, if there is one.
     RewriteWrite(Item, Option<FileSeq>),
-    /// An item that is rewritten past a gate, and behind it one that is refused.
+    /// An item that is rewritten past a gate, and after it one that is refused.
     RewriteTwo(Item, Item),
     GetOrInsert(u64),
     /// The files of a region's atomic group.
@@ -45,7 +45,7 @@ enum Call {
 /// queue, and were deleted from it.
 type Row = (Call, std::result::Result<(), Fault>, (usize, usize, usize));
 
-/// Calls of one accessor, one behind the other.
+/// Calls of one accessor, one after the other.
 static COUNTED: [Row; 19] = [
     (
         Call::AppendWrite(Item::Entries(1, 10, 20)),
@@ -120,7 +120,7 @@ fn counted() -> &'static [Row] {
     &COUNTED
 }
 
-/// An item whose entries or key stand in a file.
+/// Returns an item whose entries or key stand in a file.
 fn log_item(alloc: Global, item: Item, file: FileId) -> Result<LogItem> {
     match item {
         Item::Entries(region, start, end) => entries(alloc, region, start, end, file),
@@ -191,7 +191,7 @@ fn make(alloc: Global, accessor: &mut MemTableAccessor, call: Call) -> Result<()
     Ok(())
 }
 
-/// Whether a call answers and counts as its row says.
+/// Tests whether a call returns and counts what its row says.
 fn is_counted(alloc: Global, accessor: &mut MemTableAccessor, row: &Row) -> Result<bool> {
     let (call, expected, numbers) = *row;
     let answer = answered(write(alloc, accessor, call))?;
@@ -204,7 +204,7 @@ fn is_counted(alloc: Global, accessor: &mut MemTableAccessor, row: &Row) -> Resu
     Ok(answer == expected && counts == numbers)
 }
 
-/// Whether each call counts as its row says.
+/// Tests whether each call counts as its row says.
 fn are_counted(alloc: Global) -> Result<bool> {
     let mut accessor = MemTableAccessor::new(alloc)?;
     for row in counted() {

@@ -14,7 +14,7 @@ pub(crate) const FIRST: FileId = FileId {
     seq: 1,
 };
 
-/// Entries from `start` to below `end`, each a byte of one block of `file`.
+/// Returns entries from `start` to below `end`, each a byte of one block of `file`.
 pub(crate) fn run(alloc: Global, start: u64, end: u64, file: FileId) -> Result<Vec<EntryIndex>> {
     let mut run = Vec::new(alloc);
     for index in start..end {
@@ -84,7 +84,7 @@ pub(crate) enum Fault {
     InvalidArgument,
 }
 
-/// What a call answers; want of memory and other faults are handed on.
+/// Returns what a call returns; want of memory and other faults are handed on.
 pub(crate) fn answered<X: Drop>(given: Result<X>) -> Result<std::result::Result<X, Fault>> {
     match given {
         Ok(answer) => Ok(Ok(answer)),
@@ -94,12 +94,12 @@ pub(crate) fn answered<X: Drop>(given: Result<X>) -> Result<std::result::Result<
     }
 }
 
-/// Whether items were refused as `Corruption`.
+/// Tests whether items were refused as `Corruption`.
 fn is_corruption(written: Result<()>) -> Result<bool> {
     Ok(answered(written)? == Err(Fault::Corruption))
 }
 
-/// Entries of a region, others behind a hole, and a key of another region.
+/// Returns entries of a region, others after a hole, and a key of another region.
 fn items_with_hole(alloc: Global) -> Result<Vec<LogItem>> {
     let mut items = Vec::new(alloc);
     items.push(entries(alloc, 1, 1, 4, FIRST)?)?;
@@ -108,7 +108,7 @@ fn items_with_hole(alloc: Global) -> Result<Vec<LogItem>> {
     Ok(items)
 }
 
-/// The items in front of a hole stand, and nothing of those behind it.
+/// Tests that the items in front of a hole stand, and nothing of those after it.
 fn write_up_to_a_hole(alloc: Global) -> Result<bool> {
     let mut accessor = MemTableAccessor::new(alloc)?;
     let items = items_with_hole(alloc)?;
@@ -120,7 +120,7 @@ fn write_up_to_a_hole(alloc: Global) -> Result<bool> {
     )
 }
 
-/// Whether the rewriting of one item is refused as `Corruption`.
+/// Tests whether the rewriting of one item is refused as `Corruption`.
 fn is_rewriting_refused(
     alloc: Global,
     accessor: &mut MemTableAccessor,
@@ -131,7 +131,7 @@ fn is_rewriting_refused(
     is_corruption(accessor.apply_rewrite_writes(items, Some(1), 50))
 }
 
-/// A rewriting refuses deletions, compactions and truncations.
+/// Tests that a rewriting refuses deletions, compactions and truncations.
 fn rewrite_what_cannot_be(alloc: Global) -> Result<bool> {
     let mut accessor = MemTableAccessor::new(alloc)?;
     let deletion = pair(alloc, 1, OpType::Del, FIRST)?;
@@ -145,7 +145,7 @@ fn rewrite_what_cannot_be(alloc: Global) -> Result<bool> {
     )
 }
 
-/// A rewriting passes by a cleaned region, with a table or without one.
+/// Tests that a rewriting passes by a cleaned region, with a table or without one.
 fn rewrite_a_clean(alloc: Global) -> Result<bool> {
     let mut accessor = appended(alloc, 1)?;
     let mut items = Vec::new(alloc);
@@ -161,7 +161,7 @@ fn rewrite_a_clean(alloc: Global) -> Result<bool> {
     )
 }
 
-/// Truncations of these regions, from an index on.
+/// Returns truncations of these regions, from an index on.
 fn truncations(alloc: Global, regions: &[(u64, u64)]) -> Result<Vec<LogItem>> {
     let mut items = Vec::new(alloc);
     for (region, index) in regions {
@@ -170,7 +170,7 @@ fn truncations(alloc: Global, regions: &[(u64, u64)]) -> Result<Vec<LogItem>> {
     Ok(items)
 }
 
-/// Truncations take entries of the append queue away, and make a table where there is none.
+/// Tests that truncations take entries of the append queue away, and make a table where there is none.
 fn truncate_appended(alloc: Global) -> Result<bool> {
     let mut accessor = appended(alloc, 1)?;
     accessor.apply_append_writes(truncations(alloc, &[(1, 15), (4, 3)])?)?;
@@ -180,7 +180,7 @@ fn truncate_appended(alloc: Global) -> Result<bool> {
     Ok(written && shape(&accessor, 1) == Some((None, None, 0, 0)) && live(&accessor) == (0, 0))
 }
 
-/// Truncations that are read again take rewritten entries away.
+/// Tests that truncations that are read again take rewritten entries away.
 fn truncate_rewritten(alloc: Global) -> Result<bool> {
     let mut accessor = MemTableAccessor::new(alloc)?;
     let replayed = replay(alloc, &mut accessor)?;
@@ -192,14 +192,14 @@ fn truncate_rewritten(alloc: Global) -> Result<bool> {
     )
 }
 
-/// An accessor whose region has entries from 10 to below 20.
+/// Returns an accessor whose region has entries from 10 to below 20.
 fn appended(alloc: Global, region: u64) -> Result<MemTableAccessor> {
     let mut accessor = MemTableAccessor::new(alloc)?;
     accessor.change(region, TableChange::Append(run(alloc, 10, 20, FIRST)?))?;
     Ok(accessor)
 }
 
-/// An item that cleans a region, for each of three.
+/// Returns an item that cleans a region, for each of three.
 fn cleans(alloc: Global) -> Result<Vec<LogItem>> {
     let mut items = Vec::new(alloc);
     for &region in &[3, 5, 3] {
@@ -208,7 +208,7 @@ fn cleans(alloc: Global) -> Result<Vec<LogItem>> {
     Ok(items)
 }
 
-/// The items that are handed out for cleaned regions.
+/// Returns the items that are handed out for cleaned regions.
 fn taken(alloc: Global, accessor: &mut MemTableAccessor) -> Result<Vec<LogItem>> {
     let mut logs = accessor.take_cleaned_region_logs()?;
     let mut items = Vec::new(alloc);
@@ -218,7 +218,7 @@ fn taken(alloc: Global, accessor: &mut MemTableAccessor) -> Result<Vec<LogItem>>
     Ok(items)
 }
 
-/// Cleaned regions are listed as often as they are cleaned, in order, and handed out once.
+/// Tests that cleaned regions are listed as often as they are cleaned, in order, and handed out once.
 fn clean(alloc: Global) -> Result<bool> {
     let mut accessor = appended(alloc, 5)?;
     accessor.replay_append_writes(cleans(alloc)?)?;
@@ -236,7 +236,7 @@ const REWRITTEN: FileId = FileId {
     seq: 50,
 };
 
-/// The first entries of region 1 are rewritten.
+/// Tests that the first entries of region 1 are rewritten.
 fn rewrite(alloc: Global, accessor: &mut MemTableAccessor) -> Result<bool> {
     let mut items = Vec::new(alloc);
     items.push(entries(alloc, 1, 10, 15, REWRITTEN)?)?;
@@ -258,7 +258,7 @@ fn replace(alloc: Global, accessor: &mut MemTableAccessor) -> Result<bool> {
     Ok(replaced.is_some() && live(accessor) == (0, 0))
 }
 
-/// Entries and a key of region 2 are read from the rewrite queue.
+/// Tests that entries and a key of region 2 are read from the rewrite queue.
 fn replay(alloc: Global, accessor: &mut MemTableAccessor) -> Result<bool> {
     let mut items = Vec::new(alloc);
     items.push(entries(alloc, 2, 1, 4, REWRITTEN)?)?;
@@ -272,7 +272,7 @@ fn remove(accessor: &mut MemTableAccessor) -> Result<bool> {
     Ok(removed.is_some() && live(accessor) == (0, 0) && accessor.cleaned_regions().is_empty())
 }
 
-/// Tables that are rewritten, replaced, read again and removed stay counted.
+/// Tests that tables that are rewritten, replaced, read again and removed stay counted.
 fn count(alloc: Global) -> Result<bool> {
     let mut accessor = appended(alloc, 1)?;
     Ok(
@@ -284,7 +284,7 @@ fn count(alloc: Global) -> Result<bool> {
     )
 }
 
-/// Whether a run that is read again is put behind a region's entries, and makes no table of region 9.
+/// Tests whether a run that is read again is put after a region's entries, and makes no table of region 9.
 fn is_put_again(
     alloc: Global,
     accessor: &mut MemTableAccessor,
@@ -305,7 +305,7 @@ fn is_put_again(
     Ok((put, other) == (Some(start), None) && accessor.get(9).is_none())
 }
 
-/// A run of the append queue is put again.
+/// Tests that a run of the append queue is put again.
 fn append_again(alloc: Global) -> Result<bool> {
     let mut accessor = appended(alloc, 1)?;
     Ok(
@@ -314,7 +314,7 @@ fn append_again(alloc: Global) -> Result<bool> {
     )
 }
 
-/// A run of the rewrite queue is put again.
+/// Tests that a run of the rewrite queue is put again.
 fn rewrite_again(alloc: Global) -> Result<bool> {
     let mut accessor = MemTableAccessor::new(alloc)?;
     Ok(
@@ -324,13 +324,13 @@ fn rewrite_again(alloc: Global) -> Result<bool> {
     )
 }
 
-/// The region and the last index of the table that is handed out for a region.
+/// Returns the region and the last index of the table that is handed out for a region.
 fn handed_out(accessor: &mut MemTableAccessor, region: u64) -> Result<(u64, Option<u64>)> {
     let table = accessor.get_or_insert(region)?;
     Ok((table.region_id(), table.last_index()))
 }
 
-/// The regions whose tables have no entry.
+/// Returns the regions whose tables have no entry.
 fn blank_regions(alloc: Global, accessor: &MemTableAccessor) -> Result<Vec<u64>> {
     let kept = accessor.collect(|table: &MemTable| table.first_index().is_none())?;
     let mut regions = Vec::new(alloc);
@@ -341,7 +341,7 @@ fn blank_regions(alloc: Global, accessor: &MemTableAccessor) -> Result<Vec<u64>>
     Ok(regions)
 }
 
-/// A table is made where there is none and handed out, and a walk meets each.
+/// Tests that a table is made where there is none and handed out, and a walk meets each.
 fn walk(alloc: Global) -> Result<bool> {
     let mut accessor = appended(alloc, 7)?;
     for &(region, last) in &[(7, Some(19)), (8, None), (9, None)] {
@@ -363,7 +363,7 @@ fn runs_of(alloc: Global, file: FileId, runs: &[(u64, u64, u64)]) -> Result<Vec<
     Ok(items)
 }
 
-/// The tables of regions with one run each, in files of one queue.
+/// Returns the tables of regions with one run each, in files of one queue.
 pub(crate) fn replayed(
     alloc: Global,
     file: FileId,
@@ -384,7 +384,7 @@ fn joined(alloc: Global) -> Result<MemTableAccessor> {
     Ok(older)
 }
 
-/// Tables of neighbors are joined region by region, unless a hole is left.
+/// Tests that tables of neighbors are joined region by region, unless a hole is left.
 fn merge_neighbors(alloc: Global) -> Result<bool> {
     let mut older = joined(alloc)?;
     let joined = shape(&older, 1) == Some((Some(10), Some(17), 8, 0))
@@ -395,7 +395,7 @@ fn merge_neighbors(alloc: Global) -> Result<bool> {
     Ok(joined && is_corruption(older.merge_newer_neighbor(hole))? && live(&older) == (13, 0))
 }
 
-/// An appended table behind a hole takes the place of the rewritten one.
+/// Tests that an appended table after a hole takes the place of the rewritten one.
 fn merge_appended(alloc: Global) -> Result<bool> {
     let rewritten = FileId::new(LogQueue::Rewrite, 50);
     let mut older = replayed(alloc, rewritten, &[(1, 10, 20), (2, 1, 4)])?;
@@ -407,7 +407,7 @@ fn merge_appended(alloc: Global) -> Result<bool> {
     )
 }
 
-/// Numbers as raft-engine gives them.
+/// Tests that the numbers are those that raft-engine gives.
 #[test]
 fn a_region_has_one_slot(rt: HostRuntime) -> std::result::Result<(), Fail> {
     for &(region, slot) in &[
@@ -425,7 +425,7 @@ fn a_region_has_one_slot(rt: HostRuntime) -> std::result::Result<(), Fail> {
     Ok(())
 }
 
-/// Whether all of it holds.
+/// Tests whether all of it holds.
 fn write_items(alloc: Global) -> Result<bool> {
     Ok(
         write_up_to_a_hole(alloc)?

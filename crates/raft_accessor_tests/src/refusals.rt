@@ -97,7 +97,7 @@ static REFUSED: [(FileId, Call, Fault); 16] = [
     (REWRITTEN, Call::MergeGroup, Fault::InvalidArgument),
 ];
 
-/// A key that is put, with a value or without, in a file.
+/// Returns an item that puts a key, with a value or without, in a file.
 fn put(alloc: Global, has_value: bool, file: Option<FileId>) -> Result<LogItem> {
     let mut item = pair(alloc, 1, OpType::Put, FIRST)?;
     if let LogItemContent::Kv(kv) = &mut item.content {
@@ -118,7 +118,7 @@ fn items(alloc: Global, item: Item) -> Result<Vec<LogItem>> {
     Ok(items)
 }
 
-/// The table of region 1 with entries behind the others.
+/// Returns the table of region 1 with entries after the others.
 fn newer(alloc: Global, file: FileId) -> Result<MemTableAccessor> {
     replayed(alloc, file, &[(1, 20, 25)])
 }
@@ -141,7 +141,7 @@ fn make(alloc: Global, accessor: &mut MemTableAccessor, call: Call) -> Result<()
     }
 }
 
-/// Whether a call is refused for this fault, and all stays.
+/// Tests whether a call is refused for this fault, and all stays.
 fn is_refused(alloc: Global, file: FileId, call: Call, fault: Fault) -> Result<bool> {
     let mut accessor = replayed(alloc, file, &[(1, 10, 20)])?;
     let before = (shape(&accessor, 1), live(&accessor));
@@ -149,7 +149,7 @@ fn is_refused(alloc: Global, file: FileId, call: Call, fault: Fault) -> Result<b
     Ok(answer == Err(fault) && (shape(&accessor, 1), live(&accessor)) == before)
 }
 
-/// Whether all refusals are for their faults.
+/// Tests whether all refusals are for their faults.
 pub(crate) fn are_named(alloc: Global) -> Result<bool> {
     for (file, call, fault) in refused() {
         if !is_refused(alloc, *file, *call, *fault)? {
@@ -177,7 +177,7 @@ enum Change {
 /// those were deleted again.
 type Row = (Change, std::result::Result<u64, Fault>, (usize, usize));
 
-/// Changes of one table, one behind the other.
+/// Changes of one table, one after the other.
 static COUNTED: [Row; 9] = [
     (Change::Append(10, 20, FIRST), Ok(0), (0, 0)),
     (Change::Rewrite(10, 15, REWRITTEN, Some(1)), Ok(0), (5, 0)),
@@ -219,7 +219,7 @@ fn table_change(alloc: Global, change: Change) -> Result<TableChange> {
     }
 }
 
-/// Whether written records and deleted ones of the rewrite queue are counted apart.
+/// Tests whether written records and deleted ones of the rewrite queue are counted apart.
 pub(crate) fn are_counted(alloc: Global) -> Result<bool> {
     let mut accessor = MemTableAccessor::new(alloc)?;
     for row in counted() {
@@ -234,7 +234,7 @@ fn counted() -> &'static [Row] {
     &COUNTED
 }
 
-/// Whether a change answers and counts as its row says.
+/// Tests whether a change returns and counts what its row says.
 fn is_counted(alloc: Global, accessor: &mut MemTableAccessor, row: &Row) -> Result<bool> {
     let (change, expected, numbers) = *row;
     let answer = answered(accessor.change(1, table_change(alloc, change)?))?;

@@ -16,7 +16,7 @@ use std::thread;
 use std::thread::Threads;
 use std::time::{Clock, Duration};
 
-/// A run from `start` to below `end`, each entry another byte of one block of `file`.
+/// Returns a run from `start` to below `end`, each entry another byte of one block of `file`.
 pub(crate) fn run(alloc: Global, start: u64, end: u64, file: FileId) -> Result<Vec<EntryIndex>> {
     let mut run = Vec::new(alloc);
     for index in start..end {
@@ -49,7 +49,7 @@ fn append_hundred<R: Wait>(
     Ok(())
 }
 
-/// Whether all stands that four threads append, each to a region of its own.
+/// Tests whether all stands that four threads append, each to a region of its own.
 fn append_in_threads<R: Threads + Wait + Sync>(rt: &R, alloc: Global) -> Result<bool> {
     let shared = SharedAccessor::new(alloc);
     let append = |region: usize| append_hundred(rt, alloc, &shared, region as u64);
@@ -78,7 +78,7 @@ fn threads_append_at_once(rt: HostRuntime) {
     assert!(rt; matches!(all, Ok(true)));
 }
 
-/// Whether the number is reached within ten thousand sleeps of a millisecond.
+/// Tests whether the number is reached within ten thousand sleeps of a millisecond.
 fn is_reached<R: Clock>(rt: &R, number: &AtomicU64, goal: u64) -> bool {
     for _ in 0..10_000 {
         if number.load(Ordering::SeqCst) >= goal {
@@ -95,7 +95,7 @@ fn sees<R: Clock>(rt: &R, own: &AtomicU64, other: &AtomicU64) -> bool {
     is_reached(rt, other, 1)
 }
 
-/// Whether a closure on a table of region 1, which may change it, sees that one of region 2 has begun.
+/// Tests whether a closure on a table of region 1, which may change it, sees that one of region 2 has begun.
 fn change_sees<R: Wait + Clock>(
     rt: &R,
     shared: &SharedAccessor,
@@ -111,7 +111,7 @@ fn change_sees<R: Wait + Clock>(
     Ok(seen)
 }
 
-/// Whether two closures that may change tables of different slots see each other.
+/// Tests whether two closures that may change tables of different slots see each other.
 fn writers_meet<R: Threads + Wait + Clock + Sync>(rt: &R, alloc: Global) -> Result<bool> {
     let shared = SharedAccessor::new(alloc);
     let (one, two) = (AtomicU64::new(0), AtomicU64::new(0));
@@ -123,7 +123,7 @@ fn writers_meet<R: Threads + Wait + Clock + Sync>(rt: &R, alloc: Global) -> Resu
     Ok(first? && second?)
 }
 
-/// Whether a closure that reads a table and one that may change a table of another slot see each other.
+/// Tests whether a closure that reads a table and one that may change a table of another slot see each other.
 fn reader_meets_writer<R: Threads + Wait + Clock + Sync>(rt: &R, alloc: Global) -> Result<bool> {
     let shared = SharedAccessor::new(alloc);
     shared.get_or_insert(rt, 1)?;
@@ -136,7 +136,7 @@ fn reader_meets_writer<R: Threads + Wait + Clock + Sync>(rt: &R, alloc: Global) 
     Ok(read == Some(true) && written?)
 }
 
-/// Whether two closures that read one table see each other.
+/// Tests whether two closures that read one table see each other.
 fn readers_meet<R: Threads + Wait + Clock + Sync>(rt: &R, alloc: Global) -> Result<bool> {
     let shared = SharedAccessor::new(alloc);
     shared.get_or_insert(rt, 1)?;
@@ -164,7 +164,7 @@ fn walk<R: Wait + Clock>(
     Ok(is_begun && ids.len() == 1 && tables == 1 && is_met)
 }
 
-/// Whether a closure that reads a table sees that all tables are walked over meanwhile.
+/// Tests whether a closure that reads a table sees that all tables are walked over meanwhile.
 fn reader_meets_walks<R: Threads + Wait + Clock + Sync>(rt: &R, alloc: Global) -> Result<bool> {
     let shared = SharedAccessor::new(alloc);
     shared.get_or_insert(rt, 1)?;
@@ -177,7 +177,7 @@ fn reader_meets_walks<R: Threads + Wait + Clock + Sync>(rt: &R, alloc: Global) -
     Ok(walked? && read == Some(true))
 }
 
-/// Whether both pairs of closures meet.
+/// Tests whether both pairs of closures meet.
 fn meet<R: Threads + Wait + Clock + Sync>(rt: &R, alloc: Global) -> Result<bool> {
     Ok(writers_meet(rt, alloc)? && reader_meets_writer(rt, alloc)?)
 }
@@ -192,7 +192,7 @@ fn slots_lock_apart(rt: HostRuntime) {
     assert!(rt; matches!(met, Ok(true)));
 }
 
-/// Whether those that read one table don't wait for each other.
+/// Tests whether those that read one table don't wait for each other.
 fn read_at_once<R: Threads + Wait + Clock + Sync>(rt: &R, alloc: Global) -> Result<bool> {
     Ok(readers_meet(rt, alloc)? && reader_meets_walks(rt, alloc)?)
 }

@@ -150,7 +150,7 @@ fn pair(alloc: Global, region: u64, key: &[u8], file: FileId) -> Result<LogItem>
     Ok(item)
 }
 
-/// Entries and a key of the region, and another region that is cleaned.
+/// Returns entries and a key of the region, and another region that is cleaned.
 fn new_items(alloc: Global) -> Result<Vec<LogItem>> {
     let mut items = Vec::new(alloc);
     items.push(LogItem::new_entry_indexes(REGION, run(alloc, 20, 23, NEW)?))?;
@@ -159,7 +159,7 @@ fn new_items(alloc: Global) -> Result<Vec<LogItem>> {
     Ok(items)
 }
 
-/// Entries of the region, others behind a hole, and a key of another region.
+/// Returns entries of the region, others after a hole, and a key of another region.
 fn items_with_hole(alloc: Global) -> Result<Vec<LogItem>> {
     let mut items = Vec::new(alloc);
     items.push(LogItem::new_entry_indexes(REGION, run(alloc, 20, 22, NEW)?))?;
@@ -168,7 +168,7 @@ fn items_with_hole(alloc: Global) -> Result<Vec<LogItem>> {
     Ok(items)
 }
 
-/// Truncations of three regions.
+/// Returns truncations of three regions.
 fn truncated_items(alloc: Global) -> Result<Vec<LogItem>> {
     let mut items = Vec::new(alloc);
     for &(region, index) in &[(REGION, 15), (2, 13), (FRESH, 5)] {
@@ -177,7 +177,7 @@ fn truncated_items(alloc: Global) -> Result<Vec<LogItem>> {
     Ok(items)
 }
 
-/// Entries and a key of a region that were rewritten.
+/// Returns entries and a key of a region that were rewritten.
 fn rewritten_items(alloc: Global, region: u64) -> Result<Vec<LogItem>> {
     let mut items = Vec::new(alloc);
     items.push(LogItem::new_entry_indexes(region, run(alloc, 10, 15, REWRITTEN)?))?;
@@ -203,7 +203,7 @@ fn flawed(alloc: Global, flaw: Flaw) -> Result<LogItem> {
     }
 }
 
-/// Rewritten items of the region, one that is refused, and a key of another region.
+/// Returns rewritten items of the region, one that is refused, and a key of another region.
 fn items_with_flaw(alloc: Global, flaw: Flaw) -> Result<Vec<LogItem>> {
     let mut items = rewritten_items(alloc, REGION)?;
     items.push(flawed(alloc, flaw)?)?;
@@ -222,7 +222,8 @@ fn items_of(alloc: Global, items: Items) -> Result<Vec<LogItem>> {
     }
 }
 
-/// Three regions, one of them rewritten in part and one in two files, and two others that were cleaned.
+/// Returns an accessor with three regions, one of them rewritten in part and one in two files, and two others that were
+/// cleaned.
 fn accessor(alloc: Global) -> Result<MemTableAccessor> {
     let mut core = MemTableAccessor::new(alloc)?;
     for region in 1..4 {
@@ -255,7 +256,7 @@ fn rewrite(alloc: Global, core: &mut MemTableAccessor) -> Result<()> {
     core.apply_rewrite_atomic_group(2, 48, 50)
 }
 
-/// A table with other entries and another key.
+/// Returns a table with other entries and another key.
 fn other_table(alloc: Global, id: u64) -> Result<MemTable> {
     let mut core = MemTableAccessor::new(alloc)?;
     core.change(id, TableChange::Append(run(alloc, 50, 53, NEW)?))?;
@@ -324,7 +325,7 @@ fn call_core(alloc: Global, core: &mut MemTableAccessor, call: Call) -> Result<A
     }
 }
 
-/// The same call of shared tables.
+/// Makes the same call of shared tables.
 fn call_shared<R: Wait>(
     rt: &R,
     alloc: Global,
@@ -357,7 +358,7 @@ fn call_shared<R: Wait>(
     }
 }
 
-/// Whether cleaned regions of one slot stay listed in order, each as often as it was cleaned.
+/// Tests whether cleaned regions of one slot stay listed in order, each as often as it was cleaned.
 fn is_list_kept<R: Wait>(rt: &R, alloc: Global) -> Result<bool> {
     let mut core = MemTableAccessor::new(alloc)?;
     for &region in &[3, 73, 3, 3] {
@@ -367,7 +368,7 @@ fn is_list_kept<R: Wait>(rt: &R, alloc: Global) -> Result<bool> {
     Ok(taken(rt, alloc, &shared)?.as_slice() == [3, 73, 3, 3].as_slice())
 }
 
-/// Whether tables with one rewritten entry alone aren't empty.
+/// Tests whether tables with one rewritten entry alone aren't empty.
 fn is_rewritten_seen<R: Wait>(rt: &R, alloc: Global) -> Result<bool> {
     let core = replayed(alloc, REWRITTEN, &[(REGION, 10, 11)])?;
     let shared = SharedAccessor::from_core(alloc, core)?;
@@ -378,7 +379,7 @@ fn is_rewritten_seen<R: Wait>(rt: &R, alloc: Global) -> Result<bool> {
     Ok(!shared.is_empty(rt) && live == (0, 1))
 }
 
-/// Whether a call answers and leaves the same in both, and is refused for this fault or not at all.
+/// Tests whether a call returns and leaves the same in both, and is refused for this fault or not at all.
 fn is_alike<R: Wait>(rt: &R, alloc: Global, call: Call, fault: Option<Fault>) -> Result<bool> {
     let shared = SharedAccessor::from_core(alloc, accessor(alloc)?)?;
     let answer = answered(call_shared(rt, alloc, &shared, call))?;
@@ -395,7 +396,7 @@ fn calls() -> &'static [(Call, Option<Fault>)] {
     &CALLS
 }
 
-/// Whether all calls do, also of tables without any.
+/// Tests whether all calls do, also of tables without any.
 fn are_alike<R: Wait>(rt: &R, alloc: Global) -> Result<bool> {
     let empty = SharedAccessor::new(alloc);
     let mut core = MemTableAccessor::new(alloc)?;

@@ -23,7 +23,7 @@ struct Regions {
     cleaned: u64,
 }
 
-/// The first region of a slot from an id on.
+/// Returns the first region of a slot from an id on.
 fn region_from(slot: usize, id: u64) -> Result<u64> {
     for region in id..id.saturating_add(4096) {
         if slot_of(region) == slot {
@@ -44,7 +44,7 @@ fn regions_in(slot: usize) -> Result<Regions> {
     })
 }
 
-/// Regions of each slot, in order.
+/// Returns regions of each slot, in order.
 fn all_regions(alloc: Global) -> Result<Vec<Regions>> {
     let mut all = Vec::new(alloc);
     for slot in 0..128 {
@@ -53,13 +53,13 @@ fn all_regions(alloc: Global) -> Result<Vec<Regions>> {
     Ok(all)
 }
 
-/// An entry, whose index is another one for each region.
+/// Returns an entry, whose index is another one for each region.
 fn entry(alloc: Global, region: u64) -> Result<TableChange> {
     let index = region % 1000;
     Ok(TableChange::Append(run(alloc, index, index + 1, APPENDED)?))
 }
 
-/// A key, which is another one for each region.
+/// Returns a key, which is another one for each region.
 fn key(alloc: Global, region: u64) -> Result<Vec<LogItem>> {
     let key = Vec::from_slice(alloc, region.to_be_bytes().as_slice())?;
     let value = Vec::from_slice(alloc, b"v".as_slice())?;
@@ -115,20 +115,20 @@ fn core_of(alloc: Global, all: &[Regions]) -> Result<MemTableAccessor> {
     Ok(core)
 }
 
-/// What shared tables show that are filled by their own calls.
+/// Returns what shared tables show that are filled by their own calls.
 fn see_filled<R: Wait>(rt: &R, alloc: Global, all: &[Regions]) -> Result<Seen> {
     let shared = SharedAccessor::new(alloc);
     fill_shared(rt, alloc, &shared, all)?;
     see_shared(rt, alloc, &shared)
 }
 
-/// What shared tables show that are those of an accessor.
+/// Returns what shared tables show that are those of an accessor.
 fn see_from_core<R: Wait>(rt: &R, alloc: Global, all: &[Regions]) -> Result<Seen> {
     let shared = SharedAccessor::from_core(alloc, core_of(alloc, all)?)?;
     see_shared(rt, alloc, &shared)
 }
 
-/// Whether both show what the accessor shows: two tables and a cleaned region of each slot.
+/// Tests whether both show what the accessor shows: two tables and a cleaned region of each slot.
 fn are_all_seen<R: Wait>(rt: &R, alloc: Global) -> Result<bool> {
     let all = all_regions(alloc)?;
     let all = all.as_slice();
@@ -149,7 +149,7 @@ fn no_slot_is_left_out(rt: HostRuntime) {
     assert!(rt; matches!(all, Ok(true)));
 }
 
-/// Whether there are tables exactly while a region of the slot has one. The region is listed as cleaned.
+/// Tests whether there are tables exactly while a region of the slot has one. The region is listed as cleaned.
 fn is_table_met<R: Wait>(rt: &R, shared: &SharedAccessor, region: u64) -> Result<bool> {
     let before = shared.is_empty(rt);
     shared.get_or_insert(rt, region)?;
@@ -158,8 +158,8 @@ fn is_table_met<R: Wait>(rt: &R, shared: &SharedAccessor, region: u64) -> Result
     Ok(before && !between && shared.is_empty(rt))
 }
 
-/// Whether the table of each slot alone is met, the first time without cleaned regions in the slots behind it, the second
-/// time with one in each slot.
+/// Tests whether the table of each slot alone is met, the first time without cleaned regions in the slots after it, the
+/// second time with one in each slot.
 fn is_each_met<R: Wait>(rt: &R, alloc: Global) -> Result<bool> {
     let shared = SharedAccessor::new(alloc);
     for _ in 0..2 {

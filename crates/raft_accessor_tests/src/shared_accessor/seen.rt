@@ -35,7 +35,7 @@ fn place(table: &MemTable) -> Option<Place> {
     ))
 }
 
-/// The bytes of all keys and values in one number.
+/// Returns the bytes of all keys and values in one number.
 fn pairs(table: &MemTable) -> u64 {
     let mut seen = 0u64;
     let _ = table.scan(None, None, false, |key, value| {
@@ -81,13 +81,13 @@ pub(super) struct Seen {
 }
 
 impl Seen {
-    /// Whether there are so many tables and cleaned regions, and so many live records of both queues.
+    /// Tests whether there are so many tables and cleaned regions, and so many live records of both queues.
     pub(super) fn has(&self, tables: usize, cleaned: usize, live: (u128, u128)) -> bool {
         (self.tables.len(), self.cleaned.len(), self.live) == (tables, cleaned, live)
     }
 }
 
-/// One number of a table's region, entries and keys.
+/// Returns one number of a table's region, entries and keys.
 fn read(table: &MemTable) -> u64 {
     let mut seen = pairs(table);
     for index in &[table.first_index(), table.last_index()] {
@@ -96,12 +96,12 @@ fn read(table: &MemTable) -> u64 {
     seen.wrapping_mul(257).wrapping_add(table.region_id())
 }
 
-/// Whether a table has an entry and a key.
+/// Tests whether a table has an entry and a key.
 fn is_full(table: &MemTable) -> bool {
     table.first_index().is_some() && pairs(table) != 0
 }
 
-/// The regions of the items of a batch, in order.
+/// Returns the regions of the items of a batch, in order.
 fn regions_of(alloc: Global, mut logs: LogBatch) -> Result<Vec<u64>> {
     let mut regions = Vec::new(alloc);
     for item in logs.drain() {
@@ -110,7 +110,7 @@ fn regions_of(alloc: Global, mut logs: LogBatch) -> Result<Vec<u64>> {
     Ok(regions)
 }
 
-/// The cleaned regions of shared tables, in order. What a call took that ran out of memory is in the batch,
+/// Returns the cleaned regions of shared tables, in order. What a call took that ran out of memory is in the batch,
 /// and a second one takes the rest.
 pub(super) fn taken<R: Wait>(rt: &R, alloc: Global, shared: &SharedAccessor) -> Result<Vec<u64>> {
     let mut logs = LogBatch::default(alloc);
@@ -120,12 +120,12 @@ pub(super) fn taken<R: Wait>(rt: &R, alloc: Global, shared: &SharedAccessor) -> 
     regions_of(alloc, logs)
 }
 
-/// The cleaned regions of an accessor, in order. They are taken.
+/// Returns the cleaned regions of an accessor, in order. They are taken.
 pub(super) fn taken_of(alloc: Global, core: &mut MemTableAccessor) -> Result<Vec<u64>> {
     regions_of(alloc, core.take_cleaned_region_logs()?)
 }
 
-/// The tables of an accessor by region.
+/// Returns the tables of an accessor by region.
 fn shapes_of(alloc: Global, core: &MemTableAccessor) -> Result<Vec<Shape>> {
     let mut tables = Vec::new(alloc);
     for table in core.tables()? {
@@ -135,7 +135,7 @@ fn shapes_of(alloc: Global, core: &MemTableAccessor) -> Result<Vec<Shape>> {
     Ok(tables)
 }
 
-/// The sum of what is read in the tables of an accessor.
+/// Returns the sum of what is read in the tables of an accessor.
 fn read_of(core: &MemTableAccessor) -> Result<u64> {
     let mut sum = 0u64;
     for table in core.tables()? {
@@ -144,7 +144,7 @@ fn read_of(core: &MemTableAccessor) -> Result<u64> {
     Ok(sum)
 }
 
-/// The regions of an accessor whose tables have an entry and a key.
+/// Returns the regions of an accessor whose tables have an entry and a key.
 fn full_of(alloc: Global, core: &MemTableAccessor) -> Result<Vec<u64>> {
     let mut full = Vec::new(alloc);
     for table in core.tables()? {
@@ -156,7 +156,7 @@ fn full_of(alloc: Global, core: &MemTableAccessor) -> Result<Vec<u64>> {
     Ok(full)
 }
 
-/// What an accessor shows. Its cleaned regions are taken.
+/// Returns what an accessor shows. Its cleaned regions are taken.
 pub(super) fn see_core(alloc: Global, core: &mut MemTableAccessor) -> Result<Seen> {
     let tables = shapes_of(alloc, core)?;
     let mut cleaned = taken_of(alloc, core)?;
@@ -181,7 +181,7 @@ fn shape_in<R: Wait>(rt: &R, shared: &SharedAccessor, region: u64) -> Option<Sha
     shared.with_table(rt, region, shape)
 }
 
-/// Shared tables by region.
+/// Returns the shapes of shared tables by region.
 fn shapes_in<R: Wait>(rt: &R, alloc: Global, shared: &SharedAccessor) -> Result<Vec<Shape>> {
     let mut tables = Vec::new(alloc);
     for region in shared.collect(rt, |_: &MemTable| true)? {
@@ -193,14 +193,14 @@ fn shapes_in<R: Wait>(rt: &R, alloc: Global, shared: &SharedAccessor) -> Result<
     Ok(tables)
 }
 
-/// The regions whose shared tables have an entry and a key.
+/// Returns the regions whose shared tables have an entry and a key.
 fn full_in<R: Wait>(rt: &R, shared: &SharedAccessor) -> Result<Vec<u64>> {
     let mut full = shared.collect(rt, is_full)?;
     full.sort()?;
     Ok(full)
 }
 
-/// What shared tables show. Their cleaned regions are taken.
+/// Returns what shared tables show. Their cleaned regions are taken.
 pub(super) fn see_shared<R: Wait>(rt: &R, alloc: Global, shared: &SharedAccessor) -> Result<Seen> {
     let mut seen = Seen {
         found: shape_in(rt, shared, REGION),

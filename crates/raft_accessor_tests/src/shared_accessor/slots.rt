@@ -10,14 +10,14 @@ use raft_records::{Command, LogItem};
 use raft_recover::{SharedAccessor, Slot};
 use std::alloc::Global;
 
-/// A truncation of region 1.
+/// Returns a truncation of region 1.
 fn truncation(index: u64) -> LogItem
     ensures { result.raft_group_id ≡ 1 }
 {
     LogItem::new_command(1, Command::Truncate { index })
 }
 
-/// How many records are live in both queues.
+/// Returns how many records are live in both queues.
 fn live(slot: &Slot) -> (usize, usize) {
     (
         slot.stats().live_entries(LogQueue::Append),
@@ -25,13 +25,13 @@ fn live(slot: &Slot) -> (usize, usize) {
     )
 }
 
-/// The index of the last entry of region 1.
+/// Returns the index of the last entry of region 1.
 fn last(slot: &Slot) -> Option<u64> {
     slot.table(1).and_then(|table| table.last_index())
 }
 
-/// Of the entries from 10 on and below 20 the first five are rewritten; the rest goes in two steps, and a rewriting
-/// truncates nothing.
+/// Tests truncations of the entries from 10 on and below 20, of which the first five are rewritten: the rest goes in
+/// two steps, and a rewriting truncates nothing.
 fn truncate(alloc: Global) -> Result<bool> {
     let mut slot = Slot::new(alloc, slot_of(1));
     let appended = run(alloc, 10, 20, FileId::new(LogQueue::Append, 1))?;
@@ -62,7 +62,7 @@ const HOLE: &str =
 
 const BEFORE: &str = "region 1: a run from index 9 on begins in front of the first entry 10";
 
-/// Why a slot would refuse a run of region 1; nothing where it would accept it.
+/// Returns why a slot would refuse a run of region 1; nothing where it would accept it.
 fn refusal(alloc: Global, slot: &Slot, start: u64, end: u64) -> Result<String> {
     let entries = run(alloc, start, end, FileId::new(LogQueue::Append, 1))?;
     let items = vec![in alloc; LogItem::new_entry_indexes(1, entries)]?;
@@ -73,7 +73,7 @@ fn refusal(alloc: Global, slot: &Slot, start: u64, end: u64) -> Result<String> {
     }
 }
 
-/// A slot tests runs behind the entries from 10 on and below 20, which stay as they are.
+/// Tests that a slot tests runs after the entries from 10 on and below 20, which stay as they are.
 fn test_runs(alloc: Global) -> Result<bool> {
     let mut slot = Slot::new(alloc, slot_of(1));
     let appended = run(alloc, 10, 20, FileId::new(LogQueue::Append, 1))?;
@@ -101,7 +101,7 @@ fn slots_test_new_items(rt: HostRuntime) {
 /// How many regions have tables in the test below.
 const REGIONS: u64 = 2_048;
 
-/// Tables of many regions, of which every fifth is empty, and as many cleaned regions as a third of them.
+/// Returns tables of many regions, of which every fifth is empty, and as many cleaned regions as a third of them.
 fn many_tables(alloc: Global) -> Result<MemTableAccessor> {
     let mut core = MemTableAccessor::new(alloc)?;
     for region in 0..REGIONS {
@@ -123,7 +123,7 @@ fn many_tables(alloc: Global) -> Result<MemTableAccessor> {
     Ok(core)
 }
 
-/// Whether each of the 128 slots has the table of a region.
+/// Tests whether each of the 128 slots has the table of a region.
 fn are_all_filled() -> bool {
     let mut filled = [false; 128];
     for region in 0..REGIONS {
@@ -132,7 +132,7 @@ fn are_all_filled() -> bool {
     filled.iter().all(|slot| *slot)
 }
 
-/// Whether tables that were shared come back as they were.
+/// Tests whether tables that were shared come back as they were.
 fn come_back(alloc: Global) -> Result<bool> {
     let shared = SharedAccessor::from_core(alloc, many_tables(alloc)?)?;
     let mut core = shared.into_core()?;

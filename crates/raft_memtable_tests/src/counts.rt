@@ -8,7 +8,7 @@ use std::alloc::Global;
 /// The live count of the append queue, and what was written to the rewrite queue and deleted from it.
 type Counts = (usize, usize, usize);
 
-/// The counts of what a context has read.
+/// Returns the counts of what a context has read.
 fn counts_of(context: MemTableRecoverContext) -> Result<Counts> {
     let accessor = context.finish()?;
     let stats = accessor.stats();
@@ -39,7 +39,7 @@ static APPENDED: [(&[Word], Counts); 3] = [
     (&[Run(10, 20), Put, Clean, Put], (1, 0, 0)),
 ];
 
-/// Whether what was read of a queue has these counts.
+/// Tests whether what was read of a queue has these counts.
 fn are_counted(alloc: Global, queue: LogQueue, rows: &[(&'static [Word], Counts)]) -> Result<bool> {
     let mut same = true;
     for (words, counts) in rows {
@@ -72,7 +72,7 @@ static CLEANED: [(Word, LogQueue, &[Word], Counts); 5] = [
     (Run(10, 20), LogQueue::Append, &[Clean, Put], (1, 10, 10)),
 ];
 
-/// The counts of a context that took in a newer one of the rewrite queue, or that of the append queue.
+/// Returns the counts of a context that took in a newer one of the rewrite queue, or that of the append queue.
 fn counts_of_both(alloc: Global, older: Word, queue: LogQueue, newer: &[Word]) -> Result<Counts> {
     let mut context = read(alloc, LogQueue::Rewrite, &[older])?;
     let newer = read(alloc, queue, newer)?;

@@ -7,7 +7,7 @@ use raft_memtable::{FileId, MemTableRecoverContext, Result};
 use raft_records::{FilePart, LogBatch, LogFileContext, Version, next_batch};
 use std::alloc::Global;
 
-/// A file that holds this batch alone.
+/// Returns a file that holds this batch alone.
 pub(crate) fn file_of(alloc: Global, file: FileId, mut batch: LogBatch) -> Result<FilePart>
     requires { batch.stage ≡ populating }
 {

@@ -15,7 +15,7 @@ use std::alloc::Global;
 /// The four keys, one of each batch.
 pub(crate) const KEYS: [&[u8; 2]; 4] = [b"k1", b"k2", b"k3", b"k4"];
 
-/// A file of the rewrite queue.
+/// Returns a file of the rewrite queue.
 fn file(seq: u64) -> FileId {
     FileId::new(LogQueue::Rewrite, seq)
 }
@@ -41,7 +41,7 @@ pub(crate) fn add_marker(
     }
 }
 
-/// The bytes of a batch with this group marker of a group, which puts a key in a region.
+/// Returns the bytes of a batch with this group marker of a group, which puts a key in a region.
 pub(crate) fn part_of(
     alloc: Global,
     group: u64,
@@ -63,7 +63,7 @@ pub(crate) fn part_of(
 /// Which of the four keys a region has, and the files of its last group.
 pub(crate) type Effect = ([bool; 4], Option<(u64, u64)>);
 
-/// What the tables have of a region.
+/// Returns what the tables have of a region.
 pub(crate) fn seen_of(accessor: &MemTableAccessor, region: u64) -> Effect {
     match accessor.get(region) {
         Some(table) => (
@@ -74,8 +74,8 @@ pub(crate) fn seen_of(accessor: &MemTableAccessor, region: u64) -> Effect {
     }
 }
 
-/// A context of two batches with this status, in two files: the first one's group, region, key and file, and those of
-/// the second.
+/// Returns a context of two batches with this status, in two files: the first one's group, region, key and file, and
+/// those of the second.
 fn two_of(
     alloc: Global,
     status: AtomicGroupStatus,
@@ -89,8 +89,8 @@ fn two_of(
     Ok(context)
 }
 
-/// Group 9 of region 5 begins in file 1 and ends in file 4, group 8 of region 6 in between; a merge of the contexts of
-/// the files 1, 2 and 3, 4 makes both whole.
+/// Returns the tables of two groups: group 9 of region 5 begins in file 1 and ends in file 4, group 8 of region 6 lies
+/// in between; a merge of the contexts of the files 1, 2 and 3, 4 makes both whole.
 fn two_groups(alloc: Global) -> Result<MemTableAccessor> {
     let mut context = two_of(alloc, Begin, &[(9, 5, *b"k1", 1), (8, 6, *b"k2", 2)])?;
     let newer = two_of(alloc, End, &[(8, 6, *b"k3", 3), (9, 5, *b"k4", 4)])?;
@@ -98,7 +98,7 @@ fn two_groups(alloc: Global) -> Result<MemTableAccessor> {
     context.finish()
 }
 
-/// Whether both groups take effect with the merge that makes them whole.
+/// Tests whether both groups take effect with the merge that makes them whole.
 fn two_groups_take_effect(alloc: Global) -> Result<bool> {
     let accessor = two_groups(alloc)?;
     Ok(
@@ -117,7 +117,7 @@ fn a_merge_makes_two_groups_whole(rt: HostRuntime) {
     assert!(rt; matches!(held, Ok(true)));
 }
 
-/// A batch with a put of the group markers' key for each of these groups, and a compaction of region 5.
+/// Returns a batch with a put of the group markers' key for each of these groups, and a compaction of region 5.
 fn batch_with_markers(alloc: Global, markers: &[(u64, &[u8])]) -> Result<LogItemBatch> {
     let mut batch = LogItemBatch::default(alloc);
     for (group, value) in markers {
@@ -131,7 +131,7 @@ fn batch_with_markers(alloc: Global, markers: &[(u64, &[u8])]) -> Result<LogItem
     Ok(batch)
 }
 
-/// Whether a call was refused as `Failed`; want of memory is handed on.
+/// Tests whether a call was refused as `Failed`; want of memory is handed on.
 fn is_failed<T: Drop>(answer: Result<T>) -> Result<bool> {
     match answer {
         Err(Error::Memory) => Err(Error::Memory),
@@ -140,7 +140,7 @@ fn is_failed<T: Drop>(answer: Result<T>) -> Result<bool> {
     }
 }
 
-/// Whether a batch is refused as `Corruption`, and every later call as `Failed`.
+/// Tests whether a batch is refused as `Corruption`, and every later call as `Failed`.
 fn is_refused(
     alloc: Global,
     mut context: MemTableRecoverContext,
@@ -156,7 +156,7 @@ fn is_refused(
     Ok(is_failed(again)? && is_failed(context.finish())?)
 }
 
-/// A context that replayed a batch with these group markers.
+/// Returns a context that replayed a batch with these group markers.
 fn replayed(
     alloc: Global,
     markers: &[(u64, &[u8])],
@@ -167,20 +167,21 @@ fn replayed(
     Ok(context)
 }
 
-/// Whether a batch with these group markers takes effect at once, and its puts of the group markers' key in
+/// Tests whether a batch with these group markers takes effect at once, and its puts of the group markers' key in
 /// region 9 have none.
 fn has_table(alloc: Global, markers: &[(u64, &[u8])], file: FileId) -> Result<bool> {
     let accessor = replayed(alloc, markers, file)?.finish()?;
     Ok(accessor.get(5).is_some() && accessor.get(9).is_none())
 }
 
-/// Whether a batch with this group marker is refused.
+/// Tests whether a batch with this group marker is refused.
 fn is_marker_refused(alloc: Global, markers: &[(u64, &[u8])]) -> Result<bool> {
     let batch = batch_with_markers(alloc, markers)?;
     is_refused(alloc, MemTableRecoverContext::new(alloc)?, batch, file(1))
 }
 
-/// The last group of region 5, where one batch has two group markers and the next one ends the group of the first.
+/// Returns the last group of region 5, where one batch has two group markers and the next one ends the group of the
+/// first.
 fn first_group(alloc: Global) -> Result<Option<(u64, u64)>> {
     let two = [(9, [0u8].as_slice()), (8, [2u8].as_slice())];
     let mut context = replayed(alloc, &two, file(1))?;
@@ -190,7 +191,7 @@ fn first_group(alloc: Global) -> Result<Option<(u64, u64)>> {
     Ok(accessor.get(5).and_then(|table| table.atomic_group()))
 }
 
-/// A group marker with an unknown status is refused in the rewrite queue alone, one with two bytes is none,
+/// Tests that a group marker with an unknown status is refused in the rewrite queue alone, one with two bytes is none,
 /// and of two group markers in a batch the first counts.
 fn markers_are_read(alloc: Global) -> Result<bool> {
     let unknown = [(9, [3u8].as_slice())];
@@ -203,7 +204,7 @@ fn markers_are_read(alloc: Global) -> Result<bool> {
     )
 }
 
-/// A batch of an older file is refused, and one of the other queue.
+/// Tests that a batch of an older file is refused, and one of the other queue.
 fn files_are_in_order(alloc: Global) -> Result<bool> {
     for &older in &[file(4), FileId::new(LogQueue::Append, 6)] {
         let context = replayed(alloc, &[], file(5))?;

@@ -23,7 +23,7 @@ const REGIONS: u64 = 600;
 /// How many keys a context deletes.
 const DELETED: u64 = 100;
 
-/// A context of a batch with this status for each group, in files from one on: group n puts a key in region n.
+/// Returns a context of a batch with this status for each group, in files from one on: group n puts a key in region n.
 fn groups(
     alloc: Global,
     status: AtomicGroupStatus,
@@ -41,7 +41,7 @@ fn groups(
     Ok(context)
 }
 
-/// Whether all groups wait, and take effect in a merge with a context that ends them.
+/// Tests whether all groups wait, and take effect in a merge with a context that ends them.
 fn groups_take_effect(alloc: Global) -> Result<bool> {
     let mut context = groups(alloc, Begin, b"k1", 1)?;
     let waiting = context.kept()?.waiting_items;
@@ -90,8 +90,8 @@ fn change_key(
     }
 }
 
-/// A part whose batch changes the keys with these numbers in a region, or the empty key in the regions with these ids;
-/// with a group marker of group 9 where there is a status.
+/// Returns a part whose batch changes the keys with these numbers in a region, or the empty key in the regions with
+/// these ids; with a group marker of group 9 where there is a status.
 fn changes(
     alloc: Global,
     file: FileId,
@@ -117,14 +117,14 @@ fn changes(
     file_of(alloc, file, batch)
 }
 
-/// A context of one part.
+/// Returns a context of one part.
 fn read(alloc: Global, part: &FilePart) -> Result<MemTableRecoverContext> {
     let mut context = MemTableRecoverContext::new(alloc)?;
     replay_file(&mut context, part)?;
     Ok(context)
 }
 
-/// How many tables there are, and how many keys they have.
+/// Returns how many tables there are, and how many keys they have.
 fn counts(accessor: &MemTableAccessor) -> (u64, usize) {
     let tables = accessor.fold(0u64, |count: u64, _: &MemTable| count.saturating_add(1));
     let keys = accessor.fold(0usize, |count: usize, table: &MemTable| {
@@ -159,18 +159,18 @@ fn merge_parts(
     })
 }
 
-/// A file of the rewrite queue.
+/// Returns a file of the rewrite queue.
 fn file(seq: u64) -> FileId {
     FileId::new(LogQueue::Rewrite, seq)
 }
 
-/// Whether region 5 has the first key and the last that a group puts in two batches.
+/// Tests whether region 5 has the first key and the last that a group puts in two batches.
 fn has_ends(accessor: &MemTableAccessor) -> bool {
     let last = (2 * LONG - 1).to_be_bytes();
     accessor.get(5).is_some_and(|table| table.get(&last).is_some() && table.get(b"").is_some())
 }
 
-/// Whether a stretch of many items waits, and takes effect whole when a batch of as many ends the group.
+/// Tests whether a stretch of many items waits, and takes effect whole when a batch of as many ends the group.
 fn stretch_takes_effect(alloc: Global) -> Result<bool> {
     let begun = changes(alloc, file(1), Some(Begin), 0..LONG, true, Put(1))?;
     let ended = changes(alloc, file(2), Some(End), LONG..2 * LONG, true, Put(1))?;
@@ -189,7 +189,7 @@ const APPENDED: FileId = FileId {
     seq: 1,
 };
 
-/// Whether a key for each of many regions is merged with one for each of as many, of which half are the same.
+/// Tests whether a key for each of many regions is merged with one for each of as many, of which half are the same.
 fn regions_are_merged(alloc: Global) -> Result<bool> {
     let older = changes(alloc, APPENDED, None, 0..REGIONS, false, Put(1))?;
     let newer = changes(
@@ -204,7 +204,8 @@ fn regions_are_merged(alloc: Global) -> Result<bool> {
     Ok(counts(&merged.accessor) == (900, 900) && merged.both.keys == 900)
 }
 
-/// A context that read such changes of keys in region 5, each of the keys with the numbers from one on and below another.
+/// Returns a context that read such changes of keys in region 5, each of the keys with the numbers from one on and
+/// below another.
 fn read_changes(alloc: Global, rows: &[(u64, u64, Change)]) -> Result<MemTableRecoverContext> {
     let mut context = MemTableRecoverContext::new(alloc)?;
     for &(first, end, change) in rows {
@@ -214,8 +215,8 @@ fn read_changes(alloc: Global, rows: &[(u64, u64, Change)]) -> Result<MemTableRe
     Ok(context)
 }
 
-/// A context that puts the keys from the empty one on and deletes as many others, merged with a newer one that deletes
-/// all that were put but the last.
+/// Returns a context that puts the keys from the empty one on and deletes as many others, merged with a newer one that
+/// deletes all that were put but the last.
 fn deletions(alloc: Global) -> Result<MemTableRecoverContext> {
     let older = [
         (0, DELETED + 1, Put(1 << 16)),
@@ -227,8 +228,8 @@ fn deletions(alloc: Global) -> Result<MemTableRecoverContext> {
     Ok(context)
 }
 
-/// Whether the keys that both contexts delete, the empty one too, are gone, also those that an older context put, and the
-/// other key stays. They may hold each key that they deleted.
+/// Tests whether the keys that both contexts delete, the empty one too, are gone, also those that an older context put,
+/// and the other key stays. They may hold each key that they deleted.
 fn deletions_are_merged(alloc: Global) -> Result<bool> {
     let mut context = read_changes(alloc, &[(DELETED + 1, 2 * DELETED + 1, Put(1))])?;
     context.merge(deletions(alloc)?, LogQueue::Append)?;
@@ -237,12 +238,12 @@ fn deletions_are_merged(alloc: Global) -> Result<bool> {
     Ok(is_of_deleted(kept, 1) && has_long_value(&accessor, DELETED) && counts(&accessor) == (1, 1))
 }
 
-/// Whether so many keys, and at most those that were deleted, are held.
+/// Tests whether so many keys, and at most those that were deleted, are held.
 fn is_of_deleted(kept: Kept, keys: u128) -> bool {
     kept.keys == keys && kept.deleted_keys <= u128::from(2 * DELETED)
 }
 
-/// Whether region 5's key with a number has a value of 64 KiB.
+/// Tests whether region 5's key with a number has a value of 64 KiB.
 fn has_long_value(accessor: &MemTableAccessor, number: u64) -> bool {
     let value = accessor
         .get(5)
@@ -291,7 +292,7 @@ fn runs() -> &'static [(LogQueue, LogQueue, Shape)] {
     &RUNS
 }
 
-/// The contexts of an older long run and of a newer one, merged, or the newer one put over the older one.
+/// Returns the contexts of an older long run and of a newer one, merged, or the newer one put over the older one.
 fn both_runs(alloc: Global, older: LogQueue, newer: LogQueue) -> Result<MemTableRecoverContext> {
     let mut context = read_words(alloc, older, &[OLDER])?;
     let appended = read_words(alloc, newer, &[NEWER])?;
@@ -303,7 +304,7 @@ fn both_runs(alloc: Global, older: LogQueue, newer: LogQueue) -> Result<MemTable
     Ok(context)
 }
 
-/// Whether long runs are merged and put over each other so, and so are two that one context reads.
+/// Tests whether long runs are merged and put over each other so, and so are two that one context reads.
 fn runs_are_merged(alloc: Global) -> Result<bool> {
     for &(older, newer, merged) in runs() {
         if shape(&both_runs(alloc, older, newer)?.finish()?) != merged {

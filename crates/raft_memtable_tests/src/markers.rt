@@ -37,7 +37,7 @@ fn cuttings() -> &'static [Cutting] {
     &CUTTINGS
 }
 
-/// Whether group markers of a group, one behind the other, are a whole stretch.
+/// Tests whether group markers of a group, one after the other, are a whole stretch.
 fn is_whole(statuses: &[AtomicGroupStatus]) -> bool {
     match statuses {
         [Begin, middles @ .., End] => middles.iter().all(|status| *status == Middle),
@@ -45,8 +45,8 @@ fn is_whole(statuses: &[AtomicGroupStatus]) -> bool {
     }
 }
 
-/// What the group markers ask for: each whole stretch has the keys of its batches, and is the region's last
-/// group if none comes behind it.
+/// Returns what the group markers ask for: each whole stretch has the keys of its batches, and is the region's last
+/// group if none follows it.
 fn owed(statuses: &Statuses) -> Effect {
     let mut keys = [false; 4];
     let mut group = None;
@@ -77,7 +77,7 @@ fn whole_stretches_are_found(rt: HostRuntime) {
     }
 }
 
-/// Four batches with these group markers of group 9, in the files 1 to 4: each puts a key in region 5.
+/// Returns four batches with these group markers of group 9, in the files 1 to 4: each puts a key in region 5.
 fn parts_of(alloc: Global, statuses: &Statuses) -> Result<Vec<FilePart>> {
     let mut parts = Vec::new(alloc);
     let mut seq = 1u64;
@@ -88,7 +88,7 @@ fn parts_of(alloc: Global, statuses: &Statuses) -> Result<Vec<FilePart>> {
     Ok(parts)
 }
 
-/// Contexts that replay so many batches each.
+/// Returns contexts that replay so many batches each.
 fn contexts(
     alloc: Global,
     parts: &[FilePart],
@@ -104,7 +104,7 @@ fn contexts(
     Ok(contexts)
 }
 
-/// A context that replayed these batches.
+/// Returns a context that replayed these batches.
 fn replayed(alloc: Global, parts: &[FilePart]) -> Result<MemTableRecoverContext> {
     let mut context = MemTableRecoverContext::new(alloc)?;
     for part in parts {
@@ -122,7 +122,7 @@ fn merge_at(contexts: &mut Vec<MemTableRecoverContext>, at: usize) -> Result<()>
     Ok(())
 }
 
-/// The tables of batches that are read and merged so.
+/// Returns the tables of batches that are read and merged so.
 fn tables(alloc: Global, parts: &[FilePart], cutting: Cutting) -> Result<Option<MemTableAccessor>> {
     let (lengths, merges) = cutting;
     let mut contexts = contexts(alloc, parts, lengths)?;
@@ -135,7 +135,7 @@ fn tables(alloc: Global, parts: &[FilePart], cutting: Cutting) -> Result<Option<
     }
 }
 
-/// Whether tables have this effect, and nothing beside it.
+/// Tests whether tables have this effect, and nothing beside it.
 fn have_effect(tables: &MemTableAccessor, effect: Effect) -> bool {
     let records = effect.0.iter().filter(|has| **has).count();
     seen_of(tables, 5) == effect
@@ -144,7 +144,7 @@ fn have_effect(tables: &MemTableAccessor, effect: Effect) -> bool {
         && tables.is_empty() == (records == 0)
 }
 
-/// Whether these group markers have the effect that is owed, however the batches are read and merged.
+/// Tests whether these group markers have the effect that is owed, however the batches are read and merged.
 fn has_effect(alloc: Global, statuses: &Statuses) -> Result<bool> {
     let parts = parts_of(alloc, statuses)?;
     let effect = owed(statuses);
@@ -157,7 +157,7 @@ fn has_effect(alloc: Global, statuses: &Statuses) -> Result<bool> {
     Ok(true)
 }
 
-/// Whether all lists of group markers that begin with these two have their effects.
+/// Tests whether all lists of group markers that begin with these two have their effects.
 fn all_behind_have_effects(
     alloc: Global,
     first: AtomicGroupStatus,

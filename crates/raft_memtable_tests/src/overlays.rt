@@ -86,7 +86,7 @@ fn add(alloc: Global, region: u64, word: Word, batch: &mut LogBatch) -> Result<(
     }
 }
 
-/// The bytes of a batch that says this.
+/// Returns the bytes of a batch that says this.
 fn part(alloc: Global, region: u64, word: Word, file: FileId) -> Result<FilePart> {
     let mut batch = LogBatch::default(alloc);
     add(alloc, region, word, &mut batch)?;
@@ -110,7 +110,7 @@ fn replay(
     Ok(())
 }
 
-/// A context of these words on region 1.
+/// Returns a context of these words on region 1.
 pub(crate) fn read(
     alloc: Global,
     queue: LogQueue,
@@ -119,7 +119,7 @@ pub(crate) fn read(
     read_region(alloc, queue, 1, words)
 }
 
-/// A context of these words on a region.
+/// Returns a context of these words on a region.
 fn read_region(
     alloc: Global,
     queue: LogQueue,
@@ -225,7 +225,7 @@ static ROWS: [Row; 18] = [
             ..NONE
         },
     },
-    // A compaction drops what was written behind a run that starts below it.
+    // A compaction drops what was written after a run that starts below it.
     Row {
         rewritten: &[Run(10, 20)],
         appended: &[Run(15, 18), Compact(18)],
@@ -305,7 +305,7 @@ static ROWS: [Row; 18] = [
             ..NONE
         },
     },
-    // The appended entries begin behind the cut, so none of the rewritten ones stay.
+    // The appended entries begin past the cut, so none of the rewritten ones stay.
     Row {
         rewritten: &[Run(10, 20)],
         appended: &[Run(20, 30), Truncate(20), Run(25, 30)],
@@ -364,7 +364,7 @@ static ROWS: [Row; 18] = [
 /// What the rewrite queue alone says of region 2.
 const BESIDE: Word = Run(3, 6);
 
-/// Whether region 2 has its entries, and region 3 no table, whose group doesn't end.
+/// Tests whether region 2 has its entries, and region 3 no table, whose group doesn't end.
 fn are_beside(accessor: &MemTableAccessor) -> bool {
     let table = accessor.get(2);
     let first = table.and_then(|table| table.first_index());
@@ -372,7 +372,7 @@ fn are_beside(accessor: &MemTableAccessor) -> bool {
     (first, last) == (Some(3), Some(5)) && accessor.get(3).is_none()
 }
 
-/// What region 1 has. The three entries of region 2 aren't counted.
+/// Returns what region 1 has. The three entries of region 2 aren't counted.
 fn shape_of(accessor: &MemTableAccessor) -> Shape {
     let table = accessor.get(1);
     Shape {
@@ -394,7 +394,7 @@ fn rows() -> &'static [Row] {
     &ROWS
 }
 
-/// A context of the rewrite queue: region 2, a group of region 3 that waits, and these words on region 1.
+/// Returns a context of the rewrite queue: region 2, a group of region 3 that waits, and these words on region 1.
 fn rewritten_beside(alloc: Global, words: &[Word]) -> Result<MemTableRecoverContext> {
     let mut context = read_region(alloc, LogQueue::Rewrite, 2, &[BESIDE])?;
     let begun = part_of(alloc, 9, 3, AtomicGroupStatus::Begin, b"k1", 1)?;
@@ -403,7 +403,7 @@ fn rewritten_beside(alloc: Global, words: &[Word]) -> Result<MemTableRecoverCont
     Ok(context)
 }
 
-/// The context of words of the rewrite queue that took in that of words of the append queue.
+/// Returns the context of words of the rewrite queue that took in that of words of the append queue.
 fn overlaid(
     alloc: Global,
     rewritten: &[Word],
@@ -414,7 +414,7 @@ fn overlaid(
     Ok(context)
 }
 
-/// Whether a row's tables are those that it owes.
+/// Tests whether a row's tables are those that it owes.
 fn holds(alloc: Global, row: &Row) -> Result<bool> {
     let tables = overlaid(alloc, row.rewritten, row.appended)?.finish()?;
     Ok(shape_of(&tables) == row.shape)

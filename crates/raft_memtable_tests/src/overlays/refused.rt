@@ -23,7 +23,7 @@ fn refusal_of(answer: Result<()>) -> Result<Option<Refusal>> {
     }
 }
 
-/// A context of the wrong queue is refused, and the refusal fails the other one.
+/// Tests that a context of the wrong queue is refused, and the refusal fails the other one.
 fn wrong_queues(alloc: Global) -> Result<bool> {
     let mut appended = read(alloc, LogQueue::Append, &[Put])?;
     let taken = take_in(&mut appended, MemTableRecoverContext::new(alloc)?)?;
@@ -37,7 +37,7 @@ fn rewrite_queues(alloc: Global) -> Result<bool> {
     Ok(refused == Some(Refusal::InvalidArgument) && failed)
 }
 
-/// How a context's taking in of another is refused.
+/// Returns how a context's taking in of another is refused.
 fn take_in(
     context: &mut MemTableRecoverContext,
     appended: MemTableRecoverContext,
@@ -64,7 +64,7 @@ const NEIGHBORS: [(Neighbor, Neighbor); 5] = [
     ),
 ];
 
-/// Neighbors are merged for no other queue than that of both, and the refusal fails the older one.
+/// Tests that neighbors are merged for no other queue than that of both, and the refusal fails the older one.
 fn wrong_neighbors(alloc: Global) -> Result<bool> {
     for &(older, newer) in &NEIGHBORS {
         if !are_wrong(alloc, older, newer)? {
@@ -82,7 +82,7 @@ fn are_wrong(alloc: Global, older: Neighbor, newer: Neighbor) -> Result<bool> {
     Ok(refused == Some(Refusal::InvalidArgument) && failed)
 }
 
-/// What has taken in an append context takes in nothing more, and is taken in by none.
+/// Tests that what has taken in an append context takes in nothing more, and is taken in by none.
 fn overlaid_twice(alloc: Global) -> Result<bool> {
     let mut context = overlaid(alloc, &[Run(10, 20)], &[Put])?;
     let again = take_in(&mut context, MemTableRecoverContext::new(alloc)?)?;
@@ -97,7 +97,8 @@ fn overlaid_twice(alloc: Global) -> Result<bool> {
     )
 }
 
-/// Whether a context holds ten entries, those of the region beside and a key, and no item of the group that waited.
+/// Tests whether a context holds ten entries, those of the region beside and a key, and no item of the group that
+/// waited.
 fn has_kept(context: &MemTableRecoverContext) -> Result<bool> {
     let stays = Kept {
         entries: 13,
@@ -110,7 +111,7 @@ fn has_kept(context: &MemTableRecoverContext) -> Result<bool> {
     Ok(context.kept()? == stays)
 }
 
-/// Whether contexts that don't fit are refused.
+/// Tests whether contexts that don't fit are refused.
 fn are_refused(alloc: Global) -> Result<bool> {
     Ok(wrong_queues(alloc)? && wrong_neighbors(alloc)? && overlaid_twice(alloc)?)
 }

@@ -4,12 +4,12 @@ use Rattle.raft_base.specs.declared.pipe_log.LogQueue.{LogQueue}
 use Rattle.raft_memtable.specs.Batches.{Event}
 use Rattle.raft_memtable.specs.Histories.{FilesFrom, last_from, Sound}
 
--- files that follow one another do so behind the first ones
+-- files that follow one another do so after the first ones
 files_back : (q : LogQueue) (n : ℕ) (h k : List Event) → FilesFrom q n (h ++ k) → FilesFrom q (last_from n h) k
 files_back q n [] k a = a
 files_back q n (e ∷ h) k a = files_back q e.file.seq h k a.2
 
--- the last number of what comes behind is no higher than that of the whole
+-- the last number of what follows is no higher than that of the whole
 pub last_behind : (n : ℕ) (h g : List Event) → last_from 0 g ≤ last_from n (h ++ g)
 last_behind n [] [] = omega arith
 last_behind n [] (e ∷ g) = omega arith

@@ -23,7 +23,7 @@ use std::time::Clock;
 const CLEAN: &[u8; 24] =
     b"\x00\x00\x00\x00\x00\x00\x18\x00\x00\x00\x00\x00\x00\x00\x00\x10\x01\x01\x02\x01\x5a\x80\x0b\xdd";
 
-/// A segment of one batch, in this file.
+/// Returns a segment of one batch, in this file.
 fn segment(alloc: Global, queue: LogQueue, seq: u64) -> Result<Segment> {
     let id = FileId::new(queue, seq);
     let part = FilePart::new(id, Version::V1, 0, Vec::from_slice(alloc, CLEAN)?)?;
@@ -32,7 +32,7 @@ fn segment(alloc: Global, queue: LogQueue, seq: u64) -> Result<Segment> {
     Ok(segment)
 }
 
-/// Segments of one batch each, in files with these numbers from 0 on.
+/// Returns segments of one batch each, in files with these numbers from 0 on.
 fn segments(alloc: Global, count: u64) -> Result<Vec<Segment>> {
     let mut segments = Vec::new(alloc);
     for seq in 0..count {
@@ -41,7 +41,7 @@ fn segments(alloc: Global, count: u64) -> Result<Vec<Segment>> {
     Ok(segments)
 }
 
-/// Whether the list has the batches of this many segments, in order.
+/// Tests whether the list has the batches of this many segments, in order.
 fn has_all(list: &List, count: u64) -> bool {
     let mut seq = 0;
     for kept in &list.kept {
@@ -53,7 +53,7 @@ fn has_all(list: &List, count: u64) -> bool {
     seq == count
 }
 
-/// Whether nothing is drawn where there are no numbers, by one step.
+/// Tests whether nothing is drawn where there are no numbers, by one step.
 fn draws_nothing(alloc: Global) -> Result<bool> {
     let (tickets, mut seats) = Tickets::open(alloc, 0, 1)?;
     let Some(mut seat) = seats.pop() else {
@@ -64,7 +64,7 @@ fn draws_nothing(alloc: Global) -> Result<bool> {
     Ok(none.is_none() && tickets.close(seats) == 1)
 }
 
-/// Whether two seats draw three numbers in turn, each once, and how many steps that took.
+/// Returns whether two seats draw three numbers in turn, each once, and how many steps that took.
 fn draws(alloc: Global) -> Result<(bool, usize)> {
     let (tickets, mut seats) = Tickets::open(alloc, 3, 2)?;
     let (Some(mut second), Some(mut first)) = (seats.pop(), seats.pop()) else {
@@ -116,19 +116,19 @@ fn pieces_are_counted(rt: HostRuntime) {
     }
 }
 
-/// The plan of two plans.
+/// Returns the plan of two plans.
 fn join(alloc: Global, left: Plan, right: Plan) -> Result<Plan> {
     Ok(Plan::Join(Box::new(alloc, left)?, Box::new(alloc, right)?))
 }
 
-/// The plan that merges four pieces by pairs.
+/// Returns the plan that merges four pieces by pairs.
 fn pairs(alloc: Global) -> Result<Plan> {
     let left = join(alloc, Plan::One, Plan::One)?;
     let right = join(alloc, Plan::One, Plan::One)?;
     join(alloc, left, right)
 }
 
-/// The plan that merges so many pieces one by one.
+/// Returns the plan that merges so many pieces one by one.
 fn chain(alloc: Global, pieces: usize) -> Result<Plan> {
     let mut chain = Plan::One;
     for _ in 1..pieces {
@@ -137,7 +137,7 @@ fn chain(alloc: Global, pieces: usize) -> Result<Plan> {
     Ok(chain)
 }
 
-/// The batches of segments that some workers draw so.
+/// Returns the batches of segments that some workers draw so.
 fn scheduled(
     alloc: Global,
     segments: &[Segment],
@@ -156,7 +156,7 @@ fn scheduled(
     )
 }
 
-/// Segments of their own: the first has one batch, and each one more than the one before it.
+/// Returns segments of their own: the first has one batch, and each one more than the one before it.
 fn rising(alloc: Global, count: u64) -> Result<Vec<Segment>> {
     let mut segments = Vec::new(alloc);
     for seq in 0..count {
@@ -170,7 +170,7 @@ fn rising(alloc: Global, count: u64) -> Result<Vec<Segment>> {
     Ok(segments)
 }
 
-/// The batches of segments, in one reading.
+/// Returns the batches of segments, in one reading.
 fn one_reading(alloc: Global, segments: &[Segment]) -> Result<List> {
     let mut list = Lists.new_target(alloc)?;
     for segment in segments {
@@ -179,7 +179,8 @@ fn one_reading(alloc: Global, segments: &[Segment]) -> Result<List> {
     Ok(list)
 }
 
-/// Whether this many segments, drawn by two workers as if they were five, have the batches of one reading, so many.
+/// Tests whether this many segments, drawn by two workers as if they were five, have the batches of one reading, so
+/// many.
 fn is_read(alloc: Global, count: u64, batches: usize, plan: &Plan) -> Result<bool> {
     let segments = rising(alloc, count)?;
     let list = scheduled(alloc, segments.as_slice(), 2, &[0, 1, 1, 0, 1], plan)?;
@@ -187,7 +188,7 @@ fn is_read(alloc: Global, count: u64, batches: usize, plan: &Plan) -> Result<boo
     Ok(list.kept.len() == batches && list.is_as(&one))
 }
 
-/// Five segments drawn by two workers make four pieces, merged by pairs and one by one.
+/// Tests that five segments drawn by two workers make four pieces, merged by pairs and one by one.
 fn schedules(alloc: Global) -> Result<bool> {
     let pairs = pairs(alloc)?;
     Ok(
@@ -197,8 +198,8 @@ fn schedules(alloc: Global) -> Result<bool> {
     )
 }
 
-/// Whether five segments have all batches where these workers draw so and a plan merges three pieces, if they aren't
-/// refused.
+/// Tests whether five segments have all batches where these workers draw so and a plan merges three pieces, if they
+/// aren't refused.
 fn has_all_batches(alloc: Global, workers: usize, draws: &[usize]) -> Result<Option<bool>> {
     let five = segments(alloc, 5)?;
     let three = chain(alloc, 3)?;
@@ -209,8 +210,8 @@ fn has_all_batches(alloc: Global, workers: usize, draws: &[usize]) -> Result<Opt
     }
 }
 
-/// Whether five segments and a plan of three pieces are refused where the draws make four pieces, where a third worker
-/// draws and where there are 0 or 257 workers, and are read else.
+/// Tests whether five segments and a plan of three pieces are refused where the draws make four pieces, where a third
+/// worker draws and where there are 0 or 257 workers, and are read else.
 fn misfits(alloc: Global) -> Result<bool> {
     for &(workers, draws, read) in &[
         (2, [0, 1, 1, 0, 1], None),
@@ -267,7 +268,7 @@ impl Gate for ToldGate {
 }
 
 impl ToldGate {
-    /// Whether it was told the segments from 0 to 99, each once.
+    /// Tests whether it was told the segments from 0 to 99, each once.
     fn was_told_hundred(&self) -> bool {
         self.low.load(Ordering::SeqCst) == u64::MAX
             && self.high.load(Ordering::SeqCst) == (1 << 36) - 1
@@ -275,7 +276,7 @@ impl ToldGate {
     }
 }
 
-/// Whether a hundred segments are read by so many workers, who tell the gate each of them once.
+/// Tests whether a hundred segments are read by so many workers, who tell the gate each of them once.
 fn by_workers<R: Threads + Sync>(rt: &R, alloc: Global, workers: usize) -> Result<bool> {
     let hundred = segments(alloc, 100)?;
     let gate = ToldGate {
@@ -306,7 +307,7 @@ fn workers_give_one_reading(rt: HostRuntime) {
     }
 }
 
-/// Whether two workers pass the workers' gate, which holds one segment up until all were passed.
+/// Tests whether two workers pass the workers' gate, which holds one segment up until all were passed.
 fn passes<R: Threads + Clock + Send + Sync + Copy + Drop>(
     rt: &R,
     alloc: Global,
@@ -338,7 +339,7 @@ fn no_worker_waits_for_another(rt: HostRuntime) {
     }
 }
 
-/// How many merges of four machines saw that two had begun.
+/// Returns how many merges of four machines saw that two had begun.
 fn merges<R: Threads + Clock + Send + Sync + Copy + Drop>(rt: &R, alloc: Global) -> Result<u64> {
     let gate = WaitGate::new(*rt, alloc, (0, 0), 0)?;
     let mut machines = Vec::new(alloc);
@@ -349,7 +350,7 @@ fn merges<R: Threads + Clock + Send + Sync + Copy + Drop>(rt: &R, alloc: Global)
     Ok(gate.seen.load(Ordering::SeqCst))
 }
 
-/// Where four workers replay four segments, how many of the four passes saw them all made, how many of the four
+/// Lets four workers replay four segments. Returns how many of the four passes saw them all made, how many of the four
 /// replays saw that their segment was passed, and how many of the three merges saw that two had begun.
 fn works<R: Threads + Clock + Send + Sync + Copy + Drop>(rt: &R, alloc: Global) -> Result<u64> {
     let four = segments(alloc, 4)?;

@@ -9,7 +9,7 @@ use std::sync::atomic::{AtomicU64, Ordering};
 use std::thread;
 use std::time::{Clock, Duration};
 
-/// Whether the number is reached within ten thousand sleeps of a millisecond.
+/// Tests whether the number is reached within ten thousand sleeps of a millisecond.
 pub(crate) fn is_reached<R: Clock>(rt: &R, number: &AtomicU64, goal: u64) -> bool {
     for _ in 0..10_000 {
         if number.load(Ordering::SeqCst) >= goal {
@@ -20,7 +20,7 @@ pub(crate) fn is_reached<R: Clock>(rt: &R, number: &AtomicU64, goal: u64) -> boo
     false
 }
 
-/// The bit of a number below 64.
+/// Returns the bit of a number below 64.
 fn bit(number: u64) -> u64 {
     1 << (number % 64)
 }
@@ -29,7 +29,7 @@ fn bit(number: u64) -> u64 {
 #[derive(Drop)]
 pub(crate) struct WaitGate<R: Drop> {
     rt: R,
-    /// The first segment that is held up, and the one behind the last.
+    /// The first segment that is held up, and the one past the last.
     held: (usize, usize),
     /// The bits of all segments.
     all: u64,
@@ -41,7 +41,7 @@ pub(crate) struct WaitGate<R: Drop> {
 }
 
 impl<R: Drop> WaitGate<R> {
-    /// A gate of so many segments, which holds those from one up to another.
+    /// Returns a gate of so many segments, which holds those from one up to another.
     pub(crate) fn new(
         rt: R,
         alloc: Global,

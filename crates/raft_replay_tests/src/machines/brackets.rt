@@ -64,7 +64,7 @@ impl Factory<Brackets> for Dots {
     }
 }
 
-/// What is written down where two workers draw five segments.
+/// Returns what is written down where two workers draw five segments.
 fn scheduled(alloc: Global, draws: &[usize], plan: &Plan) -> Result<String> {
     let five = segments(alloc, 5)?;
     let queue = LogQueue::Append;
@@ -72,7 +72,7 @@ fn scheduled(alloc: Global, draws: &[usize], plan: &Plan) -> Result<String> {
     Ok(machine.text)
 }
 
-/// What is written down where so many new machines are merged.
+/// Returns what is written down where so many new machines are merged.
 fn merged<R: Threads + Sync>(rt: &R, alloc: Global, count: usize, plan: &Plan) -> Result<String> {
     let mut machines = Vec::new(alloc);
     for _ in 0..count {
@@ -81,7 +81,7 @@ fn merged<R: Threads + Sync>(rt: &R, alloc: Global, count: usize, plan: &Plan) -
     Ok(merge_pieces(rt, machines, plan, LogQueue::Append)?.text)
 }
 
-/// Whether pieces are made as the draws say, and merged as both plans say.
+/// Tests whether pieces are made as the draws say, and merged as both plans say.
 fn go_by_plan<R: Threads + Sync>(rt: &R, alloc: Global) -> Result<bool> {
     Ok(
         is_merged(rt, alloc, &pairs(alloc)?, "((././/)(././))", "((..)(..))")?
@@ -95,7 +95,7 @@ fn go_by_plan<R: Threads + Sync>(rt: &R, alloc: Global) -> Result<bool> {
     )
 }
 
-/// Whether this is written down of five segments that are drawn in turns, and that of four new machines.
+/// Tests whether this is written down of five segments that are drawn in turns, and that of four new machines.
 fn is_merged<R: Threads + Sync>(
     rt: &R,
     alloc: Global,
@@ -109,7 +109,7 @@ fn is_merged<R: Threads + Sync>(
     )
 }
 
-/// Whether worker 0 draws behind the end of the draws, and no plan of four pieces merges another number of them.
+/// Tests whether worker 0 draws past the end of the draws, and no plan of four pieces merges another number of them.
 fn end_by_rule<R: Threads + Sync>(rt: &R, alloc: Global) -> Result<bool> {
     if scheduled(alloc, &[1], &chain(alloc, 2)?)?.as_str() != "(././///)" {
         return Ok(false);
@@ -148,7 +148,7 @@ const WORKED: [(usize, u64, usize, &str); 3] = [
     (4, 4, 4, "((././)(././))"),
 ];
 
-/// Whether this is written down, and as many segments have waited.
+/// Tests whether this is written down, and as many segments have waited.
 fn is_worked<R: Threads + Clock + Send + Sync + Copy + Drop>(
     rt: &R,
     alloc: Global,

@@ -6,7 +6,7 @@ use raft_records::FilePart;
 use raft_recover::cut_part;
 use std::alloc::Global;
 
-/// How many batches of 24 bytes stand in a part, how many bytes that are no header behind them, into how many
+/// How many batches of 24 bytes stand in a part, how many bytes that are no header after them, into how many
 /// parts it is to be cut, and how long those are that it is cut into.
 static CUTS: [(usize, usize, usize, &[usize]); 9] = [
     (0, 0, 4, &[0]),
@@ -24,7 +24,7 @@ fn cuts() -> &'static [(usize, usize, usize, &'static [usize])] {
     &CUTS
 }
 
-/// So many batches, and so many bytes that are no header behind them.
+/// Returns so many batches, and so many bytes that are no header after them.
 fn bytes_of(alloc: Global, batches: usize, behind: usize) -> Result<Vec<u8>> {
     let mut bytes = Vec::new(alloc);
     for _ in 0..batches {
@@ -34,7 +34,7 @@ fn bytes_of(alloc: Global, batches: usize, behind: usize) -> Result<Vec<u8>> {
     Ok(bytes)
 }
 
-/// Whether a part of a version from 100 on is cut so, each of its parts at the offset behind the one before.
+/// Tests whether a part of a version from 100 on is cut so, each of its parts at the offset after the one before.
 fn is_cut(
     alloc: Global,
     version: Version,

@@ -21,7 +21,7 @@ pub(crate) struct List {
 }
 
 impl List {
-    /// Whether both have the same batches of the same files.
+    /// Tests whether both have the same batches of the same files.
     pub(crate) fn is_as(&self, other: &List) -> bool {
         let same = |(one, two): (&Kept, &Kept)| -> bool {
             one.batch == two.batch && one.file == two.file

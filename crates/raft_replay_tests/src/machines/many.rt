@@ -21,7 +21,7 @@ const SPARSE: u64 = 10_000;
 /// The stack that they are merged on, 1 MB.
 const STACK: usize = 1 << 20;
 
-/// A plan as long as a list, down the left side or the right.
+/// Returns a plan as long as a list, down the left side or the right.
 fn list(alloc: Global, down_left: bool) -> Result<Plan> {
     let mut plan = Plan::One;
     for _ in 1..PIECES {
@@ -34,7 +34,7 @@ fn list(alloc: Global, down_left: bool) -> Result<Plan> {
     Ok(plan)
 }
 
-/// Segments of which few have a batch, in files with numbers from 0 on.
+/// Returns segments of which few have a batch, in files with numbers from 0 on.
 fn sparse(alloc: Global) -> Result<Vec<Segment>> {
     let mut segments = Vec::new(alloc);
     for n in 0..PIECES {
@@ -47,7 +47,7 @@ fn sparse(alloc: Global) -> Result<Vec<Segment>> {
     Ok(segments)
 }
 
-/// A machine for each segment.
+/// Returns a machine for each segment.
 fn machines(alloc: Global, segments: &[Segment]) -> Result<Vec<List>> {
     let mut machines = Vec::new(alloc);
     for segment in segments {
@@ -58,7 +58,7 @@ fn machines(alloc: Global, segments: &[Segment]) -> Result<Vec<List>> {
     Ok(machines)
 }
 
-/// Two workers, who draw in turn.
+/// Returns the draws of two workers who draw in turn.
 fn draws(alloc: Global) -> Result<Vec<usize>> {
     let mut draws = Vec::new(alloc);
     for n in 0..PIECES {
@@ -67,7 +67,7 @@ fn draws(alloc: Global) -> Result<Vec<usize>> {
     Ok(draws)
 }
 
-/// Whether a machine for each segment is merged by the plan with all batches in order.
+/// Tests whether a machine for each segment is merged by the plan with all batches in order.
 fn is_merged<R: Threads + Sync>(
     rt: &R,
     alloc: Global,
@@ -78,7 +78,7 @@ fn is_merged<R: Threads + Sync>(
     Ok(has_all(&list, PIECES / SPARSE))
 }
 
-/// Whether the segments, drawn in turn, are read with all batches in order.
+/// Tests whether the segments, drawn in turn, are read with all batches in order.
 fn is_scheduled(alloc: Global, segments: &[Segment], plan: &Plan) -> Result<bool> {
     let draws = draws(alloc)?;
     let queue = LogQueue::Append;
@@ -86,7 +86,7 @@ fn is_scheduled(alloc: Global, segments: &[Segment], plan: &Plan) -> Result<bool
     Ok(has_all(&list, PIECES / SPARSE))
 }
 
-/// Whether both are so by a plan as long as a list, which is counted, and let go of at the end.
+/// Tests whether both are so by a plan as long as a list, which is counted, and let go of at the end.
 fn goes_down<R: Threads + Sync>(rt: &R, alloc: Global, down_left: bool) -> Result<bool> {
     let segments = sparse(alloc)?;
     let plan = list(alloc, down_left)?;
@@ -97,7 +97,7 @@ fn goes_down<R: Threads + Sync>(rt: &R, alloc: Global, down_left: bool) -> Resul
     )
 }
 
-/// The same, on a stack of 1 MB.
+/// Tests the same on a stack of 1 MB.
 fn goes_down_on_little<R: Threads + Send + Sync + Copy + Drop + 'static>(
     rt: R,
     alloc: Global,
@@ -138,7 +138,8 @@ impl<R: Clock + Send + Sync + Drop> Gate for FullGate<R> {
     }
 }
 
-/// Whether a hundred workers, each of whom waits until all have drawn, make a hundred pieces with all batches in order.
+/// Tests whether a hundred workers, each of whom waits until all have drawn, make a hundred pieces with all batches in
+/// order.
 fn hundred<R: Threads + Clock + Send + Sync + Copy + Drop>(rt: &R, alloc: Global) -> Result<bool> {
     let hundred = segments(alloc, 100)?;
     let gate = FullGate {

@@ -69,7 +69,7 @@ const REFUSALS: [(bool, &[(LogQueue, u64)], u64, What); 8] = [
     (true, MIXED, 0, What::Queue),
 ];
 
-/// One worker replays the segments, or two by a schedule.
+/// Lets one worker replay the segments, or two by a schedule.
 fn replayed<R: Threads + Clock + Send + Sync + Drop>(
     rt: &R,
     alloc: Global,
@@ -86,7 +86,7 @@ fn replayed<R: Threads + Clock + Send + Sync + Drop>(
     replay_scheduled(alloc, few, segments, queue, 2, &[0, 1, 1], &two)
 }
 
-/// What is refused, if it is, and whether no segment was passed and no machine asked for.
+/// Returns what is refused, if it is, and whether no segment was passed and no machine asked for.
 fn told<R: Threads + Clock + Send + Sync + Copy + Drop>(
     rt: &R,
     alloc: Global,
@@ -113,7 +113,7 @@ fn told<R: Threads + Clock + Send + Sync + Copy + Drop>(
     Ok((refused, untouched))
 }
 
-/// A part of another queue is refused before anything is done.
+/// Tests that a part of another queue is refused before anything is done.
 #[test]
 fn refusals_are_handed_on(rt: HostRuntime) {
     for &(by_worker, files, given, what) in &REFUSALS {

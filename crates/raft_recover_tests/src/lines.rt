@@ -18,7 +18,7 @@ cleaned 5 3
 live 2 1
 ";
 
-/// An entry of 1 byte in a file of the append queue.
+/// Returns an entry of 1 byte in a file of the append queue.
 fn entry(index: u64, seq: u64) -> EntryIndex {
     EntryIndex {
         index,
@@ -50,7 +50,7 @@ fn put(alloc: Global, accessor: &mut MemTableAccessor, region: u64) -> Result<()
     Ok(())
 }
 
-/// Three tables: one with entries, an empty one, and one with a key.
+/// Returns three tables: one with entries, an empty one, and one with a key.
 fn tables(alloc: Global) -> Result<MemTableAccessor> {
     let mut accessor = MemTableAccessor::new(alloc)?;
     put(alloc, &mut accessor, 300)?;
@@ -76,7 +76,7 @@ fn tables_stand_by_region(rt: HostRuntime) -> Result<()> {
     }
 }
 
-/// A writer that is interrupted before each write, takes a few bytes at a time, and fails behind so many writes.
+/// A writer that is interrupted before each write, takes a few bytes at a time, and fails after so many writes.
 #[derive(Drop)]
 struct Halting {
     written: Vec<u8>,
@@ -105,7 +105,8 @@ impl Write for Halting {
     }
 }
 
-/// What is written of the lines, by how many writes, and whether the writer's failure behind so many is handed on.
+/// Returns what is written of the lines, by how many writes, and whether the writer's failure after so many is handed
+/// on.
 fn printed(
     alloc: Global,
     accessor: &MemTableAccessor,
@@ -124,7 +125,8 @@ fn printed(
     }
 }
 
-/// Whether the lines are written by so many writes, and where one of them fails those before it have a front of them.
+/// Tests whether the lines are written by so many writes, and where one of them fails those before it have a front of
+/// them.
 fn is_handed_on(alloc: Global, accessor: &MemTableAccessor) -> Result<bool> {
     let count = LINES.len().div_ceil(7);
     for fails_behind in 0..=count {

@@ -27,7 +27,7 @@ use std::alloc::Global;
 use std::thread::Threads;
 use truncations::truncations;
 
-/// The bytes that digits in base 16 spell.
+/// Returns the bytes that digits in base 16 spell.
 fn bytes_of(alloc: Global, digits: &str) -> Result<Vec<u8>> {
     hex::decode(alloc, digits).map_err(|_| Error::Memory)
 }
@@ -40,7 +40,7 @@ fn files_of(alloc: Global, row: &Row) -> Result<Vec<(FileSeq, Vec<u8>)>> {
     Ok(files)
 }
 
-/// Whether the files of a row, a segment each, have what it owes, read by so many workers.
+/// Tests whether the files of a row, a segment each, have what it owes, read by so many workers.
 fn holds<R: Threads + Sync>(rt: &R, alloc: Global, row: &Row, workers: usize) -> Result<bool> {
     let segments = file_segments(row.queue, row.version, files_of(alloc, row)?)?;
     have(
@@ -53,7 +53,7 @@ fn holds<R: Threads + Sync>(rt: &R, alloc: Global, row: &Row, workers: usize) ->
     )
 }
 
-/// Where an allocation is refused the row runs again, and has to find memory.
+/// Runs each row, once more where an allocation is refused: it has to find memory then.
 #[test]
 fn files_have_their_tables(rt: HostRuntime) {
     for row in rows() {
@@ -67,7 +67,8 @@ fn files_have_their_tables(rt: HostRuntime) {
     }
 }
 
-/// Whether the lines of a row are printed of its files. Files as small as these are one share, which one worker reads.
+/// Tests whether the lines of a row are printed of its files. Files as small as these are one share, which one worker
+/// reads.
 fn prints<R: Threads + Sync>(rt: &R, alloc: Global, row: &Row, workers: usize) -> Result<bool> {
     let files = files_of(alloc, row)?;
     let mut out = Vec::with_capacity(alloc, 512)?;
@@ -82,7 +83,7 @@ fn prints<R: Threads + Sync>(rt: &R, alloc: Global, row: &Row, workers: usize) -
     }
 }
 
-/// Where an allocation is refused the row runs again, and has to find memory.
+/// Runs each row, once more where an allocation is refused: it has to find memory then.
 #[test]
 fn files_have_their_lines(rt: HostRuntime) {
     for row in rows() {
@@ -96,7 +97,7 @@ fn files_have_their_lines(rt: HostRuntime) {
     }
 }
 
-/// A history of version 1 as segments of one batch a part, cut behind the batches whose bits are set.
+/// Returns a history of version 1 as segments of one batch a part, cut after the batches whose bits are set.
 fn cut(
     alloc: Global,
     queue: LogQueue,
@@ -106,7 +107,7 @@ fn cut(
     cut_in(alloc, queue, Version::V1, batches, cuts)
 }
 
-/// The same of files of a version.
+/// Returns the same of files of a version.
 fn cut_in(
     alloc: Global,
     queue: LogQueue,
@@ -129,8 +130,8 @@ fn cut_in(
     Ok(segments)
 }
 
-/// The bytes of a batch in a file of a version, whose number is below 256: digits in base 16 spell it in version 1, and
-/// in version 2 the number is in its checksum.
+/// Returns the bytes of a batch in a file of a version, whose number is below 256: digits in base 16 spell it in
+/// version 1, and in version 2 the number is in its checksum.
 fn signed(alloc: Global, version: Version, seq: FileSeq, digits: &str) -> Result<Vec<u8>> {
     let mut bytes = bytes_of(alloc, digits)?;
     let checksum = bytes.len().saturating_sub(4);
@@ -142,7 +143,7 @@ fn signed(alloc: Global, version: Version, seq: FileSeq, digits: &str) -> Result
     Ok(bytes)
 }
 
-/// Puts a part into the last segment, and where it is cut behind that begins another.
+/// Puts a part into the last segment, and where it is cut after that begins another.
 fn push_part(
     alloc: Global,
     segments: &mut Vec<Segment>,
@@ -158,7 +159,7 @@ fn push_part(
     Ok(())
 }
 
-/// In how many ways so many batches can be cut.
+/// Returns in how many ways so many batches can be cut.
 fn cuttings(batches: usize) -> u64 {
     let mut cuttings = 1u64;
     for _ in 1..batches {
@@ -176,7 +177,7 @@ const READINGS: [(Version, usize); 5] = [
     (Version::V2, 256),
 ];
 
-/// Whether a history has what is owed at each cutting; where nothing is owed, whether it is refused.
+/// Tests whether a history has what is owed at each cutting; where nothing is owed, whether it is refused.
 fn at_each_cutting<R: Threads + Sync>(
     rt: &R,
     alloc: Global,
@@ -195,7 +196,7 @@ fn at_each_cutting<R: Threads + Sync>(
     Ok(true)
 }
 
-/// Whether segments have what is owed, or are refused, on so many workers: read as they are, and as equal shares.
+/// Tests whether segments have what is owed, or are refused, on so many workers: read as they are, and as equal shares.
 fn both_have<R: Threads + Sync>(
     rt: &R,
     alloc: Global,
@@ -211,7 +212,7 @@ fn both_have<R: Threads + Sync>(
     )
 }
 
-/// Whether segments have what is owed, or are refused, on so many workers.
+/// Tests whether segments have what is owed, or are refused, on so many workers.
 fn have<R: Threads + Sync>(
     rt: &R,
     alloc: Global,
@@ -239,7 +240,7 @@ fn no_cut_shows(rt: HostRuntime) {
     }
 }
 
-/// The files of a history in a version, each with all its batches.
+/// Returns the files of a history in a version, each with all its batches.
 fn whole_files(
     alloc: Global,
     version: Version,
@@ -260,7 +261,7 @@ fn whole_files(
     Ok(files)
 }
 
-/// Whether the files of a history, cut into up to so many shares, have what is owed, read by as many workers.
+/// Tests whether the files of a history, cut into up to so many shares, have what is owed, read by as many workers.
 fn have_in_shares<R: Threads + Sync>(
     rt: &R,
     alloc: Global,
@@ -274,7 +275,7 @@ fn have_in_shares<R: Threads + Sync>(
     have(rt, alloc, queue, shares.as_slice(), count, Some(owed))
 }
 
-/// Shares of up to 256, of which there are no more than batches: parts of both versions are cut inside a file.
+/// Tests shares of up to 256, of which there are no more than batches: parts of both versions are cut inside a file.
 #[test]
 fn no_share_shows(rt: HostRuntime) {
     for history in histories() {
@@ -290,7 +291,7 @@ fn no_share_shows(rt: HostRuntime) {
     }
 }
 
-/// Whether a row's batches have what it owes, or are refused, at each cutting.
+/// Tests whether a row's batches have what it owes, or are refused, at each cutting.
 fn row_at_each_cutting<R: Threads + Sync>(rt: &R, alloc: Global, row: &Row) -> Result<bool> {
     at_each_cutting(rt, alloc, row.queue, row.files, row.owed())
 }
@@ -306,7 +307,7 @@ fn no_cut_of_truncations_shows(rt: HostRuntime) {
     }
 }
 
-/// Whether the appended batches with one more behind them have what is owed, or are refused, at each cutting.
+/// Tests whether the appended batches with one more after them have what is owed, or are refused, at each cutting.
 fn longer_at_each_cutting<R: Threads + Sync>(
     rt: &R,
     alloc: Global,
@@ -329,7 +330,7 @@ fn no_cut_shows_in_front_of_one_more_batch(rt: HostRuntime) {
     }
 }
 
-/// Segments of empty parts, each of the queue that stands in its place.
+/// Returns segments of empty parts, each of the queue that stands in its place.
 fn empty_segments(alloc: Global, queues: &[&[LogQueue]]) -> Result<Vec<Segment>> {
     let mut segments = Vec::new(alloc);
     for parts in queues {
@@ -343,7 +344,7 @@ fn empty_segments(alloc: Global, queues: &[&[LogQueue]]) -> Result<Vec<Segment>>
     Ok(segments)
 }
 
-/// Whether this many workers, or these queues' parts, are refused by a recovery of the append queue.
+/// Tests whether this many workers, or these queues' parts, are refused by a recovery of the append queue.
 fn is_refused<R: Threads + Sync>(
     rt: &R,
     alloc: Global,

@@ -126,7 +126,7 @@ impl Answer {
             && self.err.is_empty() == err.is_empty()
     }
 
-    /// Whether an allocation was refused. Inside a reader or a writer that is an io error.
+    /// Tests whether an allocation was refused. Inside a reader or a writer that is an io error.
     fn found_no_memory(&self) -> bool {
         self.is(1, "", "raftlog: refused: memory\n") || self.is(1, "", "raftlog: refused: io\n")
     }
@@ -151,7 +151,7 @@ fn run_on<S: Files + AllocGlobal + Threads + Sync>(
     answer_of(rt, words.as_slice(), &mut input)
 }
 
-/// What is answered to these words.
+/// Returns the answer to these words.
 fn answer_of<S: Files + AllocGlobal + Threads + Sync, R: Read>(
     rt: &S,
     words: &[String],
@@ -163,7 +163,7 @@ fn answer_of<S: Files + AllocGlobal + Threads + Sync, R: Read>(
     Some(Answer { status, out, err })
 }
 
-/// Whether words are answered so. Where an allocation is refused they run again, and have to find memory.
+/// Tests whether this is the answer to words. Where an allocation is refused they run again, and have to find memory.
 fn is_answered<S: Files + AllocGlobal + Threads + Sync>(rt: &S, row: &Row) -> bool {
     let (line, input, status, out, err) = *row;
     let mut answer = run_on(rt, line, input);
@@ -238,7 +238,8 @@ fn failing_streams(rt: HostRuntime) {
     }
 }
 
-/// Whether a run whose input fails is refused so. Where an allocation is refused it runs again, and has to find memory.
+/// Tests whether a run whose input fails is refused so. Where an allocation is refused it runs again, and has to find
+/// memory.
 fn is_torn<S: Files + AllocGlobal + Threads + Sync>(rt: &S, words: &[String]) -> bool {
     let mut answer = answer_of(rt, words, &mut Torn { read: false });
     if answer
@@ -250,7 +251,7 @@ fn is_torn<S: Files + AllocGlobal + Threads + Sync>(rt: &S, words: &[String]) ->
     answer.is_some_and(|answer| answer.is(1, "", "raftlog: refused: io\n"))
 }
 
-/// Whether words that can't be read for such an error end a run so.
+/// Tests whether words that can't be read for such an error end a run so.
 fn ends_without_words(alloc: Global, kind: ErrorKind, status: u8, err: &str) -> Result<bool> {
     let mut said = Vec::with_capacity(alloc, 1024)?;
     let ended = run_without_words(&io::Error::from(kind), &mut said);
@@ -271,7 +272,7 @@ fn words_that_cannot_be_read(rt: HostRuntime) {
     }
 }
 
-/// The status of a run that can't print.
+/// Returns the status of a run that can't print.
 fn status_of_closed<S: Files + AllocGlobal + Threads + Sync>(rt: &S, words: &[String]) -> u8 {
     let mut input = b"\x00\x8d\xef\x02\xd2".as_slice();
     run(rt, words, &mut input, &mut Closed, &mut Closed)
@@ -294,7 +295,7 @@ const CLEANED: &str = "recover append 1 1 12=clean=1.log";
 
 const BOTH: &str = "recover append 1 2 012=two_entries.log 13=clean=1.log";
 
-/// What is answered where one file holds the first bytes of the two entries' batch, and another the other batch.
+/// Returns the answer where one file holds the first bytes of the two entries' batch, and another the other batch.
 fn run_on_files<S: Files + AllocGlobal + Threads + Sync>(
     rt: &S,
     line: &str,
@@ -316,7 +317,7 @@ fn write<S: Files + AllocGlobal>(rt: &S, path: &str, digits: &str, length: usize
     fs::write(rt, path, bytes.as_slice()).ok()
 }
 
-/// Words whose paths begin and end with a space.
+/// Returns words whose paths begin and end with a space.
 fn spaced_words(alloc: Global) -> Result<Vec<String>> {
     let mut words = words_of(alloc, "recover append 1 1")?;
     for &word in &["12= spaced.log", "13=spaced.log "] {
@@ -325,7 +326,7 @@ fn spaced_words(alloc: Global) -> Result<Vec<String>> {
     Ok(words)
 }
 
-/// What is answered where there are files at these paths, and none at the path without spaces.
+/// Returns the answer where there are files at these paths, and none at the path without spaces.
 fn run_on_spaced_files<S: Files + AllocGlobal + Threads + Sync>(rt: &S) -> Option<Answer> {
     let words = spaced_words(rt.alloc()).ok()?;
     write(rt, " spaced.log", TWO_ENTRIES, usize::MAX)?;
@@ -349,7 +350,7 @@ fn paths_keep_their_spaces(rt: HostRuntime) {
     assert!(rt; answer.is_some_and(|answer| answer.is(0, BOTH_LINES, "")));
 }
 
-/// Where an allocation is refused the row runs again, and has to find memory.
+/// Runs each row, once more where an allocation is refused: it has to find memory then.
 #[test]
 fn files(rt: HostRuntime) {
     for &(line, length, status, out, err) in &[

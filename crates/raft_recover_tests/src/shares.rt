@@ -30,7 +30,7 @@ fn rows() -> &'static [Row] {
     &ROWS
 }
 
-/// A file of four batches.
+/// Returns a file of four batches.
 fn file_bytes(alloc: Global) -> Result<Vec<u8>> {
     let mut bytes = Vec::new(alloc);
     for _ in 0..4 {
@@ -47,7 +47,7 @@ fn files_of(alloc: Global, count: u64) -> Result<Vec<(FileSeq, Vec<u8>)>> {
     Ok(files)
 }
 
-/// How many bytes are in each share of so many files of a version.
+/// Returns how many bytes are in each share of so many files of a version.
 fn share_bytes(
     alloc: Global,
     version: Version,

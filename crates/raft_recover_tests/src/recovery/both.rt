@@ -41,7 +41,7 @@ static ROWS: [Row; 6] = [
         appended: &[Run(30, 40), Run(20, 25)],
         lines: "1 entries 10..25 keys 0 append 3 rewrite 3\ncleaned -\nlive 5 10\n",
     },
-    // They would leave a hole behind them.
+    // They would leave a hole after them.
     Row {
         rewritten: &[Run(10, 15)],
         appended: &[Run(20, 30)],
@@ -71,7 +71,7 @@ static ROWS: [Row; 6] = [
     },
 ];
 
-/// A batch of one entry of region 1 with so many bytes.
+/// Returns a batch of one entry of region 1 with so many bytes.
 fn entry(alloc: Global, index: u64, len: usize) -> Result<LogBatch> {
     let entry = EntryIndex {
         index,
@@ -91,7 +91,7 @@ fn entry(alloc: Global, index: u64, len: usize) -> Result<LogBatch> {
     Ok(batch)
 }
 
-/// A batch that puts a key of region 1.
+/// Returns a batch that puts a key of region 1.
 fn put(alloc: Global) -> Result<LogBatch> {
     let mut batch = LogBatch::default(alloc);
     let key = Vec::from_slice(alloc, b"k".as_slice())?;
@@ -99,21 +99,21 @@ fn put(alloc: Global) -> Result<LogBatch> {
     Ok(batch)
 }
 
-/// A batch that deletes that key.
+/// Returns a batch that deletes that key.
 fn deletion(alloc: Global) -> Result<LogBatch> {
     let mut batch = LogBatch::default(alloc);
     batch.delete(1, Vec::from_slice(alloc, b"k".as_slice())?)?;
     Ok(batch)
 }
 
-/// A batch of a command.
+/// Returns a batch of a command.
 fn command(alloc: Global, region: u64, command: Command) -> Result<LogBatch> {
     let mut batch = LogBatch::default(alloc);
     batch.add_command(region, command)?;
     Ok(batch)
 }
 
-/// Puts a batch behind the bytes of the file.
+/// Puts a batch after the bytes of the file.
 fn append_batch(file: FileId, mut batch: LogBatch, bytes: &mut Vec<u8>) -> Result<()> {
     if !batch.is_open() {
         return Err(Error::Failed);
@@ -124,7 +124,7 @@ fn append_batch(file: FileId, mut batch: LogBatch, bytes: &mut Vec<u8>) -> Resul
     Ok(())
 }
 
-/// Puts the batches of a record behind the bytes of the file. Entries have so many bytes.
+/// Puts the batches of a record after the bytes of the file. Entries have so many bytes.
 fn append_record(
     alloc: Global,
     file: FileId,
@@ -146,7 +146,7 @@ fn append_record(
     }
 }
 
-/// One file of the queue with the batches of the records, whose entries have so many bytes.
+/// Returns one file of the queue with the batches of the records, whose entries have so many bytes.
 fn segments_of(
     alloc: Global,
     queue: LogQueue,
@@ -163,7 +163,7 @@ fn segments_of(
     Ok(vec![in alloc; segment]?)
 }
 
-/// Whether a row's files, whose entries have so many bytes, give what the row says.
+/// Tests whether a row's files, whose entries have so many bytes, give what the row says.
 fn holds<R: Threads + Sync>(
     rt: &R,
     alloc: Global,
@@ -181,7 +181,7 @@ fn rows() -> &'static [Row] {
     &ROWS
 }
 
-/// Short entries, and entries with which a queue has a MiB and more, so that several workers read it.
+/// Tests short entries, and entries with which a queue has a MiB and more, so that several workers read it.
 #[test]
 fn both_queues_have_their_tables(rt: HostRuntime) {
     for row in rows() {
@@ -202,7 +202,7 @@ fn both_queues_have_their_tables(rt: HostRuntime) {
     }
 }
 
-/// Whether files of these queues are refused, as the first and the second of a recovery of both.
+/// Tests whether files of these queues are refused, as the first and the second of a recovery of both.
 fn are_refused<R: Threads + Sync>(
     rt: &R,
     alloc: Global,

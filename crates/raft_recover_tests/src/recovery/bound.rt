@@ -24,7 +24,7 @@ pub(crate) struct Written {
     marker: Option<Marker>,
 }
 
-/// The first group marker of a batch. The append queue has none.
+/// Returns the first group marker of a batch. The append queue has none.
 fn marker_of(alloc: Global, batch: &LogItemBatch, queue: LogQueue) -> Result<Option<Marker>> {
     if queue == LogQueue::Append {
         return Ok(None);
@@ -37,7 +37,7 @@ fn marker_of(alloc: Global, batch: &LogItemBatch, queue: LogQueue) -> Result<Opt
     Ok(None)
 }
 
-/// Whether an item is of the group markers' key.
+/// Tests whether an item is of the group markers' key.
 fn is_skipped(item: &LogItem) -> bool {
     match &item.content {
         LogItemContent::Kv(kv) => is_reserved(kv.key.as_slice()),
@@ -62,7 +62,7 @@ impl Written {
         }
     }
 
-    /// Its status in a group, if it belongs to it.
+    /// Returns its status in a group, if it belongs to it.
     fn status_in(&self, group: u64) -> Option<AtomicGroupStatus> {
         match self.marker {
             Some(marker) if marker.group == group => Some(marker.status),
@@ -70,7 +70,7 @@ impl Written {
         }
     }
 
-    /// How many items it has, without group markers.
+    /// Returns how many items it has, without group markers.
     fn len(&self) -> u128 {
         let mut count = 0u128;
         for item in self.batch.iter() {
@@ -108,8 +108,8 @@ struct Reading<'a> {
 }
 
 impl<'a> Reading<'a> {
-    /// The reading of batches in order. Where a run leaves a hole it is that of the rewrite queue: the append queue
-    /// refuses the run.
+    /// Returns the reading of batches in order. Where a run leaves a hole it is that of the rewrite queue: the append
+    /// queue refuses the run.
     fn of(alloc: Global, batches: &'a [Written]) -> Result<Reading<'a>> {
         let mut reading = Reading {
             entries: Vec::new(alloc),
@@ -186,7 +186,7 @@ impl<'a> Reading<'a> {
         self.cleaned = self.cleaned.saturating_add(1);
     }
 
-    /// Whether a run from this index on leaves a hole behind the region's entries.
+    /// Tests whether a run from this index on leaves a hole after the region's entries.
     fn leaves_hole(&self, region: u64, start: u64) -> bool {
         let mut hole = false;
         for entry in &self.entries {
@@ -197,7 +197,7 @@ impl<'a> Reading<'a> {
         hole
     }
 
-    /// A run takes the place of the region's entries from its start on, and of all that a hole parts from it.
+    /// Puts a run in place of the region's entries from its start on, and of all that a hole parts from it.
     fn put_run(&mut self, region: u64, run: &[EntryIndex]) -> Result<()> {
         let Some(first) = run.first() else {
             return Ok(());
@@ -231,7 +231,7 @@ impl<'a> Reading<'a> {
     }
 }
 
-/// Where the batches begin that take effect at the last one, if they do.
+/// Returns where the batches begin that take effect at the last one, if they do.
 fn effect_of(batches: &[Written]) -> Option<usize> {
     let (last, before) = batches.split_last()?;
     match last.marker {
@@ -241,7 +241,7 @@ fn effect_of(batches: &[Written]) -> Option<usize> {
     }
 }
 
-/// Where the stretch of a group begins that is open behind the batches, if one is.
+/// Returns where the stretch of a group begins that is open after the batches, if one is.
 fn begin_of(batches: &[Written], group: u64) -> Option<usize> {
     let mut at = batches.len();
     for written in batches.iter().rev() {
@@ -255,7 +255,7 @@ fn begin_of(batches: &[Written], group: u64) -> Option<usize> {
     None
 }
 
-/// How many items of a group stand before its first `Begin`, up to its first `End`; none if a `Begin`
+/// Returns how many items of a group stand before its first `Begin`, up to its first `End`; none if a `Begin`
 /// comes before an `End`.
 fn front(batches: &[Written], group: u64) -> u128 {
     let mut count = 0u128;
@@ -274,7 +274,7 @@ fn front(batches: &[Written], group: u64) -> u128 {
     count
 }
 
-/// How many items the stretch of a group has that is open behind the batches.
+/// Returns how many items the stretch of a group has that is open after the batches.
 fn open(batches: &[Written], group: u64) -> u128 {
     let Some(first) = begin_of(batches, group) else {
         return 0;
@@ -288,7 +288,7 @@ fn open(batches: &[Written], group: u64) -> u128 {
     count
 }
 
-/// The groups that have a group marker.
+/// Returns the groups that have a group marker.
 fn groups_of(alloc: Global, batches: &[Written]) -> Result<Vec<u64>> {
     let mut groups = Vec::new(alloc);
     for written in batches {
@@ -301,7 +301,7 @@ fn groups_of(alloc: Global, batches: &[Written]) -> Result<Vec<u64>> {
     Ok(groups)
 }
 
-/// What a context of these batches may hold.
+/// Returns what a context of these batches may hold.
 pub(crate) fn bound_of(alloc: Global, batches: &[Written]) -> Result<Kept> {
     let reading = Reading::of(alloc, batches)?;
     let groups = groups_of(alloc, batches)?;
@@ -320,7 +320,7 @@ pub(crate) fn bound_of(alloc: Global, batches: &[Written]) -> Result<Kept> {
     })
 }
 
-/// Whether a context holds the entries and key values of one reading, and otherwise no more than it may.
+/// Tests whether a context holds the entries and key values of one reading, and otherwise no more than it may.
 pub(crate) fn is_within(kept: Kept, bound: Kept) -> bool {
     kept.entries == bound.entries
         && kept.keys == bound.keys

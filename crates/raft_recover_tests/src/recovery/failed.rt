@@ -15,7 +15,7 @@ enum Refusal {
     Other,
 }
 
-/// What comes of a call, if it isn't refused for want of memory.
+/// Returns what comes of a call, if it isn't refused for want of memory.
 fn refusal_of(called: Result<()>) -> Result<Option<Refusal>> {
     match called {
         Ok(()) => Ok(None),
@@ -26,7 +26,7 @@ fn refusal_of(called: Result<()>) -> Result<Option<Refusal>> {
     }
 }
 
-/// How the replay of an empty batch of a file is refused.
+/// Returns how the replay of an empty batch of a file is refused.
 fn replay(
     alloc: Global,
     context: &mut MemTableRecoverContext,
@@ -36,7 +36,7 @@ fn replay(
     refusal_of(context.replay(LogItemBatch::default(alloc), file))
 }
 
-/// Whether a context that refused a file below the last one answers `Failed` from then on.
+/// Tests whether a context that refused a file below the last one returns `Failed` from then on.
 fn refused_batch_stays_failed(alloc: Global) -> Result<bool> {
     let mut context = MemTableRecoverContext::new(alloc)?;
     for &(seq, refusal) in &[
@@ -60,10 +60,10 @@ fn refused_contexts_stay_failed(rt: HostRuntime) {
     assert!(rt; matches!(failed, Ok(true)));
 }
 
-/// A run of region 1, and one that leaves a hole behind it.
+/// A run of region 1, and one that leaves a hole after it.
 const WITH_A_HOLE: [(FileSeq, &str); 2] = [(1, RUN_10_20), (2, RUN_40_45)];
 
-/// The context of a history's first batch, if it refuses that of the second.
+/// Returns the context of a history's first batch, if it refuses that of the second.
 fn with_refused_neighbor(history: &History) -> Result<Option<MemTableRecoverContext>> {
     let mut context = history.replayed(0, 1)?.context;
     let newer = history.replayed(1, 2)?.context;
@@ -74,7 +74,7 @@ fn with_refused_neighbor(history: &History) -> Result<Option<MemTableRecoverCont
     }
 }
 
-/// Whether a context's merge with another, and its taking in of another, are refused as `Failed`.
+/// Tests whether a context's merge with another, and its taking in of another, are refused as `Failed`.
 fn are_merges_failed(alloc: Global, context: &mut MemTableRecoverContext) -> Result<bool> {
     let merged = context.merge(MemTableRecoverContext::new(alloc)?, LogQueue::Append);
     let overlaid = context.merge_append_context(MemTableRecoverContext::new(alloc)?);
@@ -84,7 +84,7 @@ fn are_merges_failed(alloc: Global, context: &mut MemTableRecoverContext) -> Res
     )
 }
 
-/// Whether a context that refused its neighbor answers `Failed` from then on.
+/// Tests whether a context that refused its neighbor returns `Failed` from then on.
 fn refused_neighbor_stays_failed(alloc: Global) -> Result<bool> {
     let history = History::read(alloc, LogQueue::Append, Version::V1, &WITH_A_HOLE)?;
     let Some(mut context) = with_refused_neighbor(&history)? else {

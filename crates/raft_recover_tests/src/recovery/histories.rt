@@ -114,7 +114,7 @@ live 0 6
     pairs: &[(6, b"k", Some(b"v")), (6, b"z", None), (5, b"k", None)],
 };
 
-/// A truncation in between: the entries below it lie in the first file, and those of the run behind it in the last.
+/// A truncation in between: the entries below it lie in the first file, and those of the run after it in the last.
 const CUT_SHORT: [(u64, &str); 3] = [(1, RUN_10_20), (2, TRUNCATE_15), (3, RUN_15_18)];
 
 const CUT_SHORT_OWED: Owed = Owed {
@@ -145,7 +145,7 @@ pub(crate) fn histories() -> &'static [History] {
     &HISTORIES
 }
 
-/// A truncation of region 1 to 9, to be put behind the appended batches.
+/// A truncation of region 1 to 9, to be put after the appended batches.
 pub(crate) const TRUNCATION: (u64, &str) = (
     5,
     "000000000000190000000000000000100101020309c1868b12",
@@ -170,7 +170,7 @@ live 9 0
     pairs: &[(3, b"x", Some(b"v"))],
 };
 
-/// A batch that leaves a hole behind the appended ones.
+/// A batch that leaves a hole after the appended ones.
 pub(crate) const HOLE: (u64, &str) = (
     5,
     "0000000000001f000000000000000015788316dc8c010101010c017e293225",

@@ -11,7 +11,7 @@ use raft_base::{Error, FileSeq, LogQueue, Result, Version};
 use raft_memtable::{Kept, MemTableRecoverContext};
 use std::alloc::Global;
 
-/// Whether all contexts on the way hold little, and the merged ones have what is owed; where nothing is, whether
+/// Tests whether all contexts on the way hold little, and the merged ones have what is owed; where nothing is, whether
 /// the files can't be read or, at each cutting, a replay or a merge is refused.
 fn all_hold_little(
     alloc: Global,
@@ -27,7 +27,7 @@ fn all_hold_little(
     }
 }
 
-/// Whether all contexts of a row's files hold little, and the merged ones have what it owes.
+/// Tests whether all contexts of a row's files hold little, and the merged ones have what it owes.
 fn row_holds_little(alloc: Global, row: &rows::Row) -> Result<bool> {
     all_hold_little(alloc, row.queue, row.version, row.files, row.owed())
 }
@@ -43,8 +43,8 @@ fn merged_truncations_hold_little(rt: HostRuntime) {
     }
 }
 
-/// Whether all contexts of the appended batches with one more behind them hold little, and the merged ones have what is
-/// owed, or are refused.
+/// Tests whether all contexts of the appended batches with one more after them hold little, and the merged ones have
+/// what is owed, or are refused.
 fn longer_holds_little(
     alloc: Global,
     last: (FileSeq, &'static str),
@@ -90,7 +90,7 @@ fn merged_rows_hold_little(rt: HostRuntime) {
     }
 }
 
-/// Whether one item is left to wait where groups are cut.
+/// Tests whether one item is left to wait where groups are cut.
 fn one_item_is_left(alloc: Global, files: &[(FileSeq, &str)]) -> Result<bool> {
     History::read(alloc, LogQueue::Rewrite, Version::V1, files)?.leaves_one_item()
 }
@@ -175,7 +175,7 @@ fn counted_rows() -> &'static [Row] {
     &ROWS
 }
 
-/// The context that replayed a row's batch as often as it says.
+/// Returns the context that replayed a row's batch as often as it says.
 fn replayed_often(alloc: Global, row: &Row) -> Result<MemTableRecoverContext> {
     let (queue, batch, times, _) = row;
     let history = History::read(alloc, *queue, Version::V1, &[*batch])?;
@@ -188,7 +188,7 @@ fn replayed_often(alloc: Global, row: &Row) -> Result<MemTableRecoverContext> {
     Ok(context)
 }
 
-/// Whether a context holds no more than its row says, and just its region marks, also once it is merged with
+/// Tests whether a context holds no more than its row says, and just its region marks, also once it is merged with
 /// another like it.
 fn holds_no_more(alloc: Global, row: &Row) -> Result<bool> {
     let (queue, _, _, bound) = row;

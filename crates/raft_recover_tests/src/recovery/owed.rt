@@ -21,7 +21,7 @@ pub(crate) struct Owed {
     pub(crate) pairs: &'static [Pair],
 }
 
-/// These lines, whatever the places and values are.
+/// Returns these lines, whatever the places and values are.
 pub(crate) fn lines_alone(lines: &'static str) -> Owed {
     Owed {
         lines,
@@ -31,7 +31,7 @@ pub(crate) fn lines_alone(lines: &'static str) -> Owed {
 }
 
 impl Owed {
-    /// Whether tables of a queue have what is owed.
+    /// Tests whether tables of a queue have what is owed.
     pub(crate) fn is_met(
         &self,
         alloc: Global,
@@ -50,7 +50,7 @@ impl Owed {
     }
 }
 
-/// Whether an entry lies there, in a file of the queue.
+/// Tests whether an entry lies there, in a file of the queue.
 fn is_placed(tables: &MemTableAccessor, queue: LogQueue, place: &Place) -> bool {
     let (region, index, seq, offset, len, entry_offset) = *place;
     let entry = EntryIndex {
@@ -70,12 +70,12 @@ fn is_placed(tables: &MemTableAccessor, queue: LogQueue, place: &Place) -> bool 
     }
 }
 
-/// Whether all keys have their values, or are none of their regions.
+/// Tests whether all keys have their values, or are none of their regions.
 pub(crate) fn have_pairs(tables: &MemTableAccessor, pairs: &[Pair]) -> bool {
     pairs.iter().all(|pair| has_pair(tables, pair))
 }
 
-/// Whether a region's key has this value, or the region doesn't have the key.
+/// Tests whether a region's key has this value, or the region doesn't have the key.
 fn has_pair(tables: &MemTableAccessor, pair: &Pair) -> bool {
     let (region, key, value) = *pair;
     match tables.get(region) {

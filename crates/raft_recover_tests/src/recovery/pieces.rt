@@ -35,7 +35,7 @@ enum Order {
 const ORDERS: [Order; 3] = [Order::FromLeft, Order::FromRight, Order::ByHalves];
 
 impl History {
-    /// The batches of files, which digits in base 16 spell: those with the same number are parts of one file.
+    /// Returns the batches of files, which digits in base 16 spell: those with the same number are parts of one file.
     pub(crate) fn read(
         alloc: Global,
         queue: LogQueue,
@@ -103,7 +103,7 @@ impl History {
         Ok(piece)
     }
 
-    /// The pieces of the history that is cut behind the batches whose bits are set.
+    /// Returns the pieces of the history that is cut after the batches whose bits are set.
     fn pieces(&self, cuts: u64) -> Result<Vec<Piece>> {
         let count = self.batches.len();
         let (mut pieces, mut first, mut left) = (Vec::new(self.alloc), 0, cuts);
@@ -179,7 +179,7 @@ impl History {
         self.from_left(pieces)
     }
 
-    /// Whether a piece is the whole history, and its tables have what is owed.
+    /// Tests whether a piece is the whole history, and its tables have what is owed.
     fn has(&self, whole: Option<Piece>, owed: Owed) -> Result<bool> {
         let Some(whole) = whole else {
             return Ok(false);
@@ -191,7 +191,7 @@ impl History {
         owed.is_met(self.alloc, self.queue, &tables)
     }
 
-    /// The history, cut behind the batches whose bits are set and merged in this order.
+    /// Returns the history, cut after the batches whose bits are set and merged in this order.
     fn whole(&self, cuts: u64, order: Order) -> Result<Option<Piece>> {
         let pieces = self.pieces(cuts)?;
         match order {
@@ -201,7 +201,7 @@ impl History {
         }
     }
 
-    /// Whether the history, cut and merged so, has what is owed; where nothing is, whether it is refused there.
+    /// Tests whether the history, cut and merged so, has what is owed; where nothing is, whether it is refused there.
     fn holds(&self, cuts: u64, order: Order, owed: Option<Owed>) -> Result<bool> {
         match (self.whole(cuts, order), owed) {
             (Ok(whole), Some(owed)) => self.has(whole, owed),
@@ -211,7 +211,7 @@ impl History {
         }
     }
 
-    /// Whether the history has what is owed, or is refused, at each cutting, merged in each order.
+    /// Tests whether the history has what is owed, or is refused, at each cutting, merged in each order.
     pub(crate) fn at_each_cutting(&self, owed: Option<Owed>) -> Result<bool> {
         for cuts in 0..cuttings(self.batches.len()) {
             for &order in &ORDERS {
@@ -223,7 +223,7 @@ impl History {
         Ok(true)
     }
 
-    /// Whether at most one item waits in the whole, at each cutting, merged in each order.
+    /// Tests whether at most one item waits in the whole, at each cutting, merged in each order.
     pub(crate) fn leaves_one_item(&self) -> Result<bool> {
         for cuts in 0..cuttings(self.batches.len()) {
             for &order in &ORDERS {

@@ -19,15 +19,15 @@ static CUT_SHORT: [&str; 8] = [
     "append file 5, offset 0: a log batch of 40 bytes is cut short",
 ];
 
-/// What is said of the hole behind the appended batches, behind its place where one reading finds it.
+/// What is said of the hole after the appended batches, with its place in front where one reading finds it.
 const HOLE_TEXT: &str =
     "region 1: a run from index 12 on leaves a hole behind the entries, which end before index 10";
 
 const PLACED_HOLE: &str =
     "append file 5, offset 40: region 1: a run from index 12 on leaves a hole behind the entries, which end before index 10";
 
-/// What is said where batches of the append queue are refused as corruption or as an argument, read as those of this
-/// queue by so many workers; nothing where they are read.
+/// Returns what is said where batches of the append queue are refused as corruption or as an argument, read as those of
+/// this queue by so many workers; nothing where they are read.
 fn refusal<R: Threads + Sync>(
     rt: &R,
     alloc: Global,
@@ -45,7 +45,7 @@ fn refusal<R: Threads + Sync>(
     }
 }
 
-/// The appended batches, of which this one lacks its last byte.
+/// Returns the appended batches, of which this one lacks its last byte.
 fn cut_short(alloc: Global, number: usize) -> Result<Vec<(FileSeq, &'static str)>> {
     let mut batches = Vec::from_slice(alloc, APPENDED.as_slice())?;
     if let Some((_, digits)) = batches.get_mut(number) {
@@ -58,7 +58,7 @@ fn cut_short_texts() -> &'static [&'static str] {
     &CUT_SHORT
 }
 
-/// Whether the place of a batch that is cut short is told, in one segment and in one for each batch.
+/// Tests whether the place of a batch that is cut short is told, in one segment and in one for each batch.
 fn is_told<R: Threads + Sync>(rt: &R, alloc: Global, number: usize, text: &str) -> Result<bool> {
     let batches = cut_short(alloc, number)?;
     let batches = batches.as_slice();
@@ -78,7 +78,7 @@ fn refusals_name_file_and_offset(rt: HostRuntime) {
     }
 }
 
-/// Whether a hole is told in one wording at every seventh cutting, by one to four workers.
+/// Tests whether a hole is told in one wording at every seventh cutting, by one to four workers.
 fn is_hole_told<R: Threads + Sync>(rt: &R, alloc: Global) -> Result<bool> {
     let mut batches = Vec::from_slice(alloc, APPENDED.as_slice())?;
     batches.push(HOLE)?;
@@ -104,7 +104,7 @@ fn holes_are_told_in_one_wording(rt: HostRuntime) {
     assert!(rt; matches!(told, Ok(true)));
 }
 
-/// Whether so many workers on a queue are refused with this text.
+/// Tests whether so many workers on a queue are refused with this text.
 fn is_argument_told<R: Threads + Sync>(
     rt: &R,
     alloc: Global,

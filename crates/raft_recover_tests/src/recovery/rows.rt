@@ -17,7 +17,7 @@ pub(crate) struct Row {
 }
 
 impl Row {
-    /// What is owed, if the files aren't refused.
+    /// Returns what is owed, if the files aren't refused.
     pub(crate) fn owed(&self) -> Option<Owed> {
         match self.lines {
             Some(lines) => Some(lines_alone(lines)),
@@ -44,7 +44,7 @@ pub(crate) const FIVE: [(u64, &str); 5] = [
     ),
 ];
 
-/// The runs' blocks begin behind the headers of their batches.
+/// The runs' blocks begin after the headers of their batches.
 pub(crate) const FIVE_OWED: Owed = Owed {
     lines: FIVE_LINES,
     places: &[
@@ -183,7 +183,7 @@ live 0 0
         files: &FIVE,
         lines: Some(FIVE_LINES),
     },
-    // A compaction behind the end of a newer run drops what stood behind it.
+    // A compaction past the end of a newer run drops what stood after it.
     Row {
         queue: LogQueue::Append,
         version: Version::V1,
@@ -196,7 +196,7 @@ live 0 0
 ",
         ),
     },
-    // A run behind entries that were all dropped.
+    // A run after entries that were all dropped.
     Row {
         queue: LogQueue::Append,
         version: Version::V1,
@@ -236,7 +236,7 @@ live 0 5
 ",
         ),
     },
-    // Rewritten entries: a gap behind a run that was accepted.
+    // Rewritten entries: a gap after a run that was accepted.
     Row {
         queue: LogQueue::Rewrite,
         version: Version::V1,
@@ -262,7 +262,7 @@ live 1 0
 ",
         ),
     },
-    // A region that is cleaned, and nothing in the file behind.
+    // A region that is cleaned, and nothing in the file after it.
     Row {
         queue: LogQueue::Append,
         version: Version::V1,

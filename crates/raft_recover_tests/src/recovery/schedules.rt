@@ -10,7 +10,7 @@ use raft_recover::{OpenGate, Plan, Segment, replay_scheduled, replay_segments};
 use std::alloc::Global;
 use std::thread::Threads;
 
-/// The plan of two plans.
+/// Returns the plan of two plans.
 fn join(alloc: Global, left: Plan, right: Plan) -> Result<Plan> {
     Ok(Plan::Join(Box::new(alloc, left)?, Box::new(alloc, right)?))
 }
@@ -26,7 +26,7 @@ enum Order {
 
 use Order::{ByHalves, FromLeft, FromRight};
 
-/// The plan that merges so many pieces.
+/// Returns the plan that merges so many pieces.
 fn plan_of(alloc: Global, pieces: usize, order: Order) -> Result<Plan> {
     match order {
         FromLeft => from_left(alloc, pieces),
@@ -51,7 +51,7 @@ fn from_right(alloc: Global, pieces: usize) -> Result<Plan> {
     Ok(plan)
 }
 
-/// Batches of a queue, cut into segments behind those whose bits are set.
+/// Batches of a queue, cut into segments after those whose bits are set.
 #[derive(Clone, Copy)]
 struct History {
     queue: LogQueue,
@@ -59,7 +59,7 @@ struct History {
     cuts: u64,
 }
 
-/// The tables of a history whose segments two workers draw so, merged as a plan says.
+/// Returns the tables of a history whose segments two workers draw so, merged as a plan says.
 fn scheduled(
     alloc: Global,
     history: History,
@@ -96,14 +96,14 @@ fn fives() -> &'static [(History, Owed)] {
     &FIVES
 }
 
-/// Whether five segments, drawn as four pieces and merged in this order, have what one reading gives.
+/// Tests whether five segments, drawn as four pieces and merged in this order, have what one reading gives.
 fn have(alloc: Global, history: History, owed: Owed, order: Order) -> Result<bool> {
     let plan = plan_of(alloc, 4, order)?;
     let tables = scheduled(alloc, history, &[0, 1, 1, 0, 1], &plan)?;
     owed.is_met(alloc, history.queue, &tables)
 }
 
-/// Whether they have in each order.
+/// Tests whether they have in each order.
 fn give_one_reading(alloc: Global, history: History, owed: Owed) -> Result<bool> {
     for &order in &[ByHalves, FromRight, FromLeft] {
         if !have(alloc, history, owed, order)? {
@@ -124,7 +124,7 @@ fn plans_give_one_reading(rt: HostRuntime) {
     }
 }
 
-/// The tables of segments of the append queue that so many workers replay.
+/// Returns the tables of segments of the append queue that so many workers replay.
 fn worked<R: Threads + Sync>(
     rt: &R,
     alloc: Global,
@@ -136,7 +136,7 @@ fn worked<R: Threads + Sync>(
     replay_segments(rt, alloc, &factory, segments, queue, workers, &OpenGate)?.finish()
 }
 
-/// Whether so many workers give what is owed for five segments, and no tables for none.
+/// Tests whether so many workers give what is owed for five segments, and no tables for none.
 fn are_worked<R: Threads + Sync>(
     rt: &R,
     alloc: Global,
@@ -181,7 +181,7 @@ fn schedules() -> &'static [([usize; 3], usize, Order)] {
 /// A region, the files of its last group, and its least file of the rewrite queue.
 type Grouped = (u64, Option<(FileSeq, FileSeq)>, Option<FileSeq>);
 
-/// Batches of the rewrite queue, cut behind the first and the second, what each table has of groups, and the values of
+/// Batches of the rewrite queue, cut after the first and the second, what each table has of groups, and the values of
 /// keys.
 type SpanRow = (
     &'static [(FileSeq, &'static str)],
@@ -220,7 +220,7 @@ fn grouped(table: &MemTable) -> Grouped {
     )
 }
 
-/// What each table has of groups, by region.
+/// Returns what each table has of groups, by region.
 fn groups_of(alloc: Global, tables: &MemTableAccessor) -> Result<Vec<Grouped>> {
     let mut groups = Vec::new(alloc);
     for table in tables.tables()? {
@@ -230,7 +230,7 @@ fn groups_of(alloc: Global, tables: &MemTableAccessor) -> Result<Vec<Grouped>> {
     Ok(groups)
 }
 
-/// Whether a row's tables have their groups and values, however the three segments are drawn and merged.
+/// Tests whether a row's tables have their groups and values, however the three segments are drawn and merged.
 fn have_groups(alloc: Global, row: &SpanRow) -> Result<bool> {
     let (batches, groups, pairs) = *row;
     let history = History {

@@ -80,7 +80,7 @@ fn shape_of<R: Wait>(rt: &R, shared: &SharedAccessor, region: u64) -> Option<Sha
     shared.with_table(rt, region, shape)
 }
 
-/// The shared tables by region.
+/// Returns the shared tables by region.
 fn shapes<R: Wait>(rt: &R, alloc: Global, shared: &SharedAccessor) -> Result<Vec<Shape>> {
     let mut shapes = Vec::new(alloc);
     for region in shared.collect(rt, |_: &MemTable| true)? {
@@ -98,7 +98,7 @@ fn cleaned_logs<R: Wait>(rt: &R, alloc: Global, shared: &SharedAccessor) -> Resu
     Ok(logs)
 }
 
-/// The regions that were cleaned. They are taken.
+/// Returns the regions that were cleaned. They are taken.
 fn cleaned<R: Wait>(rt: &R, alloc: Global, shared: &SharedAccessor) -> Result<Vec<u64>> {
     let mut logs = cleaned_logs(rt, alloc, shared)?;
     let mut regions = Vec::new(alloc);
@@ -108,7 +108,7 @@ fn cleaned<R: Wait>(rt: &R, alloc: Global, shared: &SharedAccessor) -> Result<Ve
     Ok(regions)
 }
 
-/// Whether shared tables of a row's history have all that is owed.
+/// Tests whether shared tables of a row's history have all that is owed.
 fn holds<R: Threads + Wait + Sync>(rt: &R, alloc: Global, row: &Row) -> Result<bool> {
     let shared = shared_of(rt, alloc, row)?;
     Ok(
@@ -118,14 +118,14 @@ fn holds<R: Threads + Wait + Sync>(rt: &R, alloc: Global, row: &Row) -> Result<b
     )
 }
 
-/// The tables of a row's history, shared.
+/// Returns the tables of a row's history, shared.
 fn shared_of<R: Threads + Wait + Sync>(rt: &R, alloc: Global, row: &Row) -> Result<SharedAccessor> {
     let segments = cut(alloc, row.queue, row.batches, 0)?;
     let tables = recover(rt, alloc, segments.as_slice(), row.queue, 1)?;
     SharedAccessor::from_core(alloc, tables)
 }
 
-/// How many records are live in the append queue and in the rewrite queue.
+/// Returns how many records are live in the append queue and in the rewrite queue.
 fn live<R: Wait>(rt: &R, shared: &SharedAccessor) -> (u128, u128) {
     (
         shared.live_entries(rt, LogQueue::Append),

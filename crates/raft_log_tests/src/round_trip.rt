@@ -22,7 +22,7 @@ cleaned -
 live 0 2
 ";
 
-/// A batch of an entry and a key value of region 7.
+/// Returns a batch of an entry and a key value of region 7.
 fn records(alloc: Global) -> Result<LogBatch> {
     let mut batch = LogBatch::default(alloc);
     let entry = EntryIndex {
@@ -39,7 +39,7 @@ fn records(alloc: Global) -> Result<LogBatch> {
     Ok(batch)
 }
 
-/// A batch that cleans region 8.
+/// Returns a batch that cleans region 8.
 fn cleaning(alloc: Global) -> Result<LogBatch> {
     let mut batch = LogBatch::default(alloc);
     batch.add_command(8, Command::Clean)?;
@@ -80,7 +80,7 @@ fn has_lines(alloc: Global, accessor: &MemTableAccessor, lines: &str) -> Result<
     Ok(recovered_text(alloc, accessor)?.as_str() == lines)
 }
 
-/// A log of two files.
+/// Returns a log of two files.
 fn written(alloc: Global) -> Result<Log> {
     let mut log = Log::new(alloc, Version::V2, 1)?;
     write(&mut log, records(alloc)?)?;
@@ -89,7 +89,7 @@ fn written(alloc: Global) -> Result<Log> {
     Ok(log)
 }
 
-/// Whether the log and what is recovered of its files have the lines.
+/// Tests whether the log and what is recovered of its files have the lines.
 fn is_recovered<R: Threads + Sync>(rt: &R, alloc: Global) -> Result<bool> {
     let log = written(alloc)?;
     let whole = log.recover_files(rt, alloc, 4)?;
@@ -103,7 +103,7 @@ fn is_recovered<R: Threads + Sync>(rt: &R, alloc: Global) -> Result<bool> {
     )
 }
 
-/// The files of a log, with their bytes.
+/// Returns the files of a log, with their bytes.
 fn files_of(alloc: Global, log: &Log) -> Result<Vec<(FileSeq, Vec<u8>)>> {
     let mut files = Vec::new(alloc);
     for segment in log.segments()? {
@@ -114,7 +114,7 @@ fn files_of(alloc: Global, log: &Log) -> Result<Vec<(FileSeq, Vec<u8>)>> {
     Ok(files)
 }
 
-/// Whether a log that is opened of the files has the lines.
+/// Tests whether a log that is opened of the files has the lines.
 fn is_opened<R: Threads + Sync>(rt: &R, alloc: Global) -> Result<bool> {
     let files = files_of(alloc, &written(alloc)?)?;
     if files.is_empty() {
@@ -124,7 +124,7 @@ fn is_opened<R: Threads + Sync>(rt: &R, alloc: Global) -> Result<bool> {
     Ok(log.is_intact() && log.last_seq() == 2 && has_lines(alloc, log.accessor(), WRITTEN)?)
 }
 
-/// Whether a rewriting moves the records, and a log hands out the cleaned regions.
+/// Tests whether a rewriting moves the records, and a log hands out the cleaned regions.
 fn is_rewritten(alloc: Global) -> Result<bool> {
     let mut log = written(alloc)?;
     let mut moved = placed(records(alloc)?)?;

@@ -61,7 +61,7 @@ impl MessageExt for Entries {
     }
 }
 
-/// A batch of these items.
+/// Returns a batch of these items.
 pub fn batch_of(alloc: Global, parts: &[Part]) -> Result<LogBatch>
     ensures { IfOk result (λ batch. batch.stage ≡ populating) }
 {

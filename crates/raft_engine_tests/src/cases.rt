@@ -16,7 +16,7 @@ const APPENDED: LogQueue = LogQueue::Append;
 
 const REWRITTEN: LogQueue = LogQueue::Rewrite;
 
-/// The histories, in the order of the rules.
+/// Returns the histories, in the order of the rules.
 pub fn cases() -> &'static [Case] {
     &CASES
 }

@@ -139,7 +139,7 @@ impl Engine {
         }
     }
 
-    /// Changes the first entry byte of the last file, which is behind the header of its first batch.
+    /// Changes the first entry byte of the last file, which is after the header of its first batch.
     pub fn flip(&mut self) {
         if let Some(file) = self.files.last_mut() {
             if let Some(byte) = file.bytes.get_mut(16) {
@@ -173,12 +173,12 @@ impl Engine {
         Ok(Vec::from_slice(self.alloc, entry_bytes(self.alloc, block, entry)?)?)
     }
 
-    /// What the tables hold.
+    /// Returns what the tables hold.
     pub fn kept(&self) -> Result<String> {
         text_of(self.alloc, self.tables.get(REGION))
     }
 
-    /// What the files of both queues give.
+    /// Returns what the files of both queues give.
     pub fn recovered(&self) -> Result<String> {
         let mut context = self.context(LogQueue::Rewrite)?;
         context.merge_append_context(self.context(LogQueue::Append)?)?;
@@ -198,12 +198,12 @@ impl Engine {
     }
 }
 
-/// The bytes of a file.
+/// Returns the bytes of a file.
 fn part_of(file: &LogFile) -> Result<FilePart> {
     FilePart::new(file.id, Version::V2, 0, file.bytes.clone()?)
 }
 
-/// The entries of a table as `[first,end)`, and the value of `k` as `k=value`.
+/// Returns the entries of a table as `[first,end)`, and the value of `k` as `k=value`.
 fn text_of(alloc: Global, table: Option<&MemTable>) -> Result<String> {
     let mut text = String::new(alloc);
     let Some(table) = table else {

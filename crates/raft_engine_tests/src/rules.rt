@@ -7,7 +7,7 @@ use crate::engine::Step::Append;
 use raft_records::{Error, Result};
 use std::alloc::Global;
 
-/// Whether a history ends as it says.
+/// Tests whether a history ends as it says.
 fn ends(alloc: Global, case: &Case) -> Result<bool> {
     let mut engine = Engine::new(alloc)?;
     for step in case.steps {
@@ -16,7 +16,7 @@ fn ends(alloc: Global, case: &Case) -> Result<bool> {
     Ok(engine.kept()?.as_str() == case.kept && engine.recovered()?.as_str() == case.found)
 }
 
-/// Where an allocation is refused the history runs again, and has to find memory.
+/// Runs each history, once more where an allocation is refused: it has to find memory then.
 #[test]
 fn histories_end_as_they_say(rt: HostRuntime) {
     for case in cases() {
@@ -28,14 +28,14 @@ fn histories_end_as_they_say(rt: HostRuntime) {
     }
 }
 
-/// A table with entries 1 and 2, and what a restart finds where the file isn't as it was written.
+/// Returns a table with entries 1 and 2, and what a restart finds where the file isn't as it was written.
 fn written(alloc: Global) -> Result<Engine> {
     let mut engine = Engine::new(alloc)?;
     engine.take(&Append(1, &[Entries(1, 3)]))?;
     Ok(engine)
 }
 
-/// Whether a batch that the table refuses makes the restart refuse too, once it is written without a test.
+/// Tests whether a batch that the table refuses makes the restart refuse too, once it is written without a test.
 fn refuses_again(alloc: Global) -> Result<bool> {
     let mut engine = written(alloc)?;
     let tested = engine.write_tested(1, &[Entries(4, 6)]);
@@ -45,7 +45,7 @@ fn refuses_again(alloc: Global) -> Result<bool> {
     Ok(is_corruption(tested) && found && refused)
 }
 
-/// Whether a torn tail is refused, and what is before it is found once it is cut off.
+/// Tests whether a torn tail is refused, and what is before it is found once it is cut off.
 fn finds_front(alloc: Global) -> Result<bool> {
     let mut engine = written(alloc)?;
     engine.take(&Append(1, &[Entries(3, 4)]))?;
@@ -55,7 +55,7 @@ fn finds_front(alloc: Global) -> Result<bool> {
     Ok(torn && engine.recovered()?.as_str() == "[1,3)")
 }
 
-/// Whether a changed entry byte is found when the entry is read, and not before.
+/// Tests whether a changed entry byte is found when the entry is read, and not before.
 fn finds_byte(alloc: Global) -> Result<bool> {
     let mut engine = written(alloc)?;
     let read = engine.first_entry()?.as_slice() == b"x".as_slice();
@@ -68,7 +68,7 @@ fn is_corruption<T: Drop>(answer: Result<T>) -> bool {
     matches!(answer, Err(Error::Corruption(_)))
 }
 
-/// Where an allocation is refused each runs again, and has to find memory.
+/// Runs each, once more where an allocation is refused: it has to find memory then.
 #[test]
 fn damage_is_found(rt: HostRuntime) {
     let alloc = rt.alloc();

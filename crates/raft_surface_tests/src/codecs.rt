@@ -9,14 +9,14 @@ use raft_base::codec::{
 use raft_base::{AllocResult, codec};
 use std::io;
 
-/// What decoders read from are plain bytes.
+/// Returns what decoders read from as plain bytes.
 fn bytes_of<'a>(bytes: BytesSlice<'a>) -> &'a [u8] {
     bytes
 }
 
 fn is_writer<W: io::Write>() {}
 
-/// What numbers are encoded by is a writer.
+/// Tests that what numbers are encoded by is a writer.
 fn is_encoder<W: NumberEncoder>() {
     is_writer::<W>();
 }
@@ -141,7 +141,7 @@ fn encode_var_i64_of_encoders<W: io::Write>(writer: &mut W, number: i64) -> Resu
     W::encode_var_i64(writer, number)
 }
 
-/// A word for each error of numbers, and there is no other.
+/// Returns a word for each error of numbers, and there is no other.
 fn word_of(error: &Error) -> &'static str {
     match error {
         Error::Io(_) => "io",
@@ -151,12 +151,12 @@ fn word_of(error: &Error) -> &'static str {
     }
 }
 
-/// What a number is read with, by type.
+/// Returns what a number is read with, by type.
 fn read_with(number: Result<u64>) -> std::result::Result<u64, codec::Error> {
     number
 }
 
-/// The error of a reader or writer, if it is one.
+/// Returns the error of a reader or writer, if it is one.
 fn io_of(error: Error) -> Option<io::Error> {
     match error {
         Error::Io(io) => Some(io),

@@ -40,7 +40,7 @@ fn merge_of_machines<M: ReplayMachine>(machine: &mut M, rhs: M, queue: LogQueue)
 
 fn is_sent<T: Send>() {}
 
-/// What batches are replayed into may go to another thread.
+/// Tests that what batches are replayed into may go to another thread.
 fn is_sent_machine<M: ReplayMachine>() {
     is_sent::<M>();
 }
@@ -61,7 +61,7 @@ fn laws() {
     regions_stand_for_steps();
 }
 
-/// The numbers of what is kept, by name.
+/// Returns the numbers of what is kept, by name.
 fn numbers_of(kept: Kept) -> [u128; 6] {
     [
         kept.entries,

@@ -37,7 +37,7 @@ use std::alloc::Global;
 use std::str::FromStr;
 use std::thread::Threads;
 
-/// Of `raft_codec`.
+/// Names definitions of `raft_codec`.
 fn is_no_number(bytes: &[u8]) -> bool
     requires { HasNoFront IsVarint bytes.now }
 {
@@ -45,21 +45,21 @@ fn is_no_number(bytes: &[u8]) -> bool
     decode_var_u64(&mut rest).is_err()
 }
 
-/// Of `raft_codec`.
+/// Names definitions of `raft_codec`.
 fn number_in_front(bytes: &mut BytesSlice<'_>) -> codec::Result<u64>
     ensures { IfOk result (Reads IsNumber bytes.old.now bytes.new.now) }
 {
     decode_var_u64(bytes)
 }
 
-/// Of `raft_codec`.
+/// Names definitions of `raft_codec`.
 fn is_io(error: &codec::Error) -> bool
     requires { IsIo error.now }
 {
     matches!(error, codec::Error::Io(_))
 }
 
-/// Of `raft_checksum`.
+/// Names definitions of `raft_checksum`.
 fn has_checksum(bytes: &[u8], checksum: u32) -> bool
     requires { checksum ≡ crc32_of bytes.now }
     ensures { IsTrue result }
@@ -67,28 +67,28 @@ fn has_checksum(bytes: &[u8], checksum: u32) -> bool
     crc32(bytes) == checksum
 }
 
-/// Of `raft_size`.
+/// Names definitions of `raft_size`.
 fn size_of_text(text: &str) -> std::result::Result<ReadableSize, SizeError>
     requires { IsSizeText text.now 1024 }
 {
     ReadableSize::from_str(text)
 }
 
-/// Of `raft_size`, as `raft_records` hands it on.
+/// Names definitions of `raft_size`, as `raft_records` hands it on.
 fn size_of_record_text(text: &str) -> std::result::Result<ReadableSize, SizeError>
     requires { IsTextOfSize text.now 1024 }
 {
     ReadableSize::from_str(text)
 }
 
-/// Of `raft_base`.
+/// Names definitions of `raft_base`.
 fn signature(context: &LogFileContext) -> Option<u32>
     ensures { result ≡ signature_of context.now }
 {
     context.get_signature()
 }
 
-/// Of `raft_records`.
+/// Names definitions of `raft_records`.
 fn are_consecutive(entries: &[EntryIndex]) -> bool
     requires { IsConsecutive entries.now }
     ensures { IsTrue result }
@@ -96,7 +96,7 @@ fn are_consecutive(entries: &[EntryIndex]) -> bool
     is_consecutive(entries)
 }
 
-/// Of `raft_table`.
+/// Names definitions of `raft_table`.
 fn append(table: &mut MemTable, run: Vec<EntryIndex>, stats: &mut GlobalStats) -> Result<()>
     requires run { IsRunIn Append run.items }
     requires counted { IsCounted table.old stats.old }
@@ -104,7 +104,7 @@ fn append(table: &mut MemTable, run: Vec<EntryIndex>, stats: &mut GlobalStats) -
     table.append(run, stats)
 }
 
-/// Of `raft_table`.
+/// Names definitions of `raft_table`.
 fn compact(table: &mut MemTable, stats: &mut GlobalStats) -> u64
     requires { IsCounted table.old stats.old }
     ensures { table.new ≡ record table.old { entries = from 5 table.old.entries } }
@@ -112,7 +112,7 @@ fn compact(table: &mut MemTable, stats: &mut GlobalStats) -> u64
     table.compact_to(5, stats)
 }
 
-/// Of `raft_history`.
+/// Names definitions of `raft_history`.
 fn first_batch<M: ReplayMachine>(machine: &mut M, batch: LogItemBatch, file: FileId) -> Result<()>
     requires stands { M.stands_for machine.old [] }
     requires small { IsSmall (event batch file ∷ []) }
@@ -120,14 +120,14 @@ fn first_batch<M: ReplayMachine>(machine: &mut M, batch: LogItemBatch, file: Fil
     machine.replay(batch, file)
 }
 
-/// Of `raft_accessor`.
+/// Names definitions of `raft_accessor`.
 fn live_of(accessor: &MemTableAccessor) -> usize
     requires { AreCountsOf accessor.now.tables accessor.now.counts }
 {
     accessor.stats().live_entries(LogQueue::Append)
 }
 
-/// Of `raft_accessor`.
+/// Names definitions of `raft_accessor`.
 fn write(slot: &mut Slot, item: LogItem) -> Result<()>
     requires { slot_of item.raft_group_id ≡ slot.old.number }
     ensures { IsWritten Appending (item_of item) result slot.old.content slot.new.content }
@@ -135,21 +135,21 @@ fn write(slot: &mut Slot, item: LogItem) -> Result<()>
     slot.apply_append_write(item)
 }
 
-/// Of `raft_shared`.
+/// Names definitions of `raft_shared`.
 fn is_empty(slot: &Slot) -> bool
     requires { HoldsOwnTables slot.now }
 {
     slot.is_empty()
 }
 
-/// Of `raft_memtable`.
+/// Names definitions of `raft_memtable`.
 fn tables_of_nothing(context: MemTableRecoverContext) -> Result<MemTableAccessor>
     requires { HasReadExactly context [] }
 {
     context.finish()
 }
 
-/// Of `raft_tickets`.
+/// Names definitions of `raft_tickets`.
 fn draw(tickets: &Tickets, seat: &mut TicketSeat) -> Option<usize>
     requires { IsSeatOf tickets.now seat.old }
     ensures { IsSeatOf tickets.now seat.new }
@@ -157,7 +157,7 @@ fn draw(tickets: &Tickets, seat: &mut TicketSeat) -> Option<usize>
     tickets.draw(seat)
 }
 
-/// Of `raft_replay` and `raft_recover`.
+/// Names definitions of `raft_replay` and `raft_recover`.
 fn appended<R: Threads + Sync>(
     rt: &R,
     alloc: Global,

@@ -125,7 +125,7 @@ fn groups() {
     let _is_reserved: fn(&[u8]) -> bool = is_reserved;
 }
 
-/// A key value and an item, by name and type.
+/// Returns a key value and an item, by name and type.
 fn item_of(raft_group_id: u64, key: Vec<u8>, value: Option<Vec<u8>>, file: FileId) -> LogItem {
     let content = LogItemContent::Kv(KeyValue {
         op_type: OpType::Put,
@@ -139,7 +139,7 @@ fn item_of(raft_group_id: u64, key: Vec<u8>, value: Option<Vec<u8>>, file: FileI
     }
 }
 
-/// The entries of an item, by type.
+/// Returns the entries of an item, by type.
 fn entries_of(item: LogItem) -> Option<Vec<EntryIndex>> {
     match item.content {
         LogItemContent::EntryIndexes(EntryIndexes(entries)) => Some(entries),
@@ -147,7 +147,7 @@ fn entries_of(item: LogItem) -> Option<Vec<EntryIndex>> {
     }
 }
 
-/// The index of a command.
+/// Returns the index of a command.
 fn index_of(command: &Command) -> Option<u64> {
     match command {
         Command::Clean => None,
@@ -156,7 +156,7 @@ fn index_of(command: &Command) -> Option<u64> {
     }
 }
 
-/// The number of each status, and there is no other.
+/// Returns the number of each status, and there is no other.
 fn number_of(status: AtomicGroupStatus) -> u8 {
     match status {
         AtomicGroupStatus::Begin => AtomicGroupStatus::Begin as u8,
@@ -165,7 +165,7 @@ fn number_of(status: AtomicGroupStatus) -> u8 {
     }
 }
 
-/// What kind of change an item is, and there is no other.
+/// Returns what kind of change an item is, and there is no other.
 fn kind_of(item: &LogItem) -> &'static str {
     let LogItem {
         raft_group_id: _,

@@ -69,7 +69,7 @@ fn encoded_bytes_of_writes<'a>(batch: &'a LogBatch) -> Option<&'a [u8]> {
     Some(LogBatch::encoded_bytes(batch))
 }
 
-/// The bytes of a batch for a file.
+/// Returns the bytes of a batch for a file.
 fn as_bytes_of_writes<'a>(batch: &'a mut LogBatch, context: &LogFileContext) -> Option<&'a [u8]> {
     if !batch.ready() {
         return None;

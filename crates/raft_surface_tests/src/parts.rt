@@ -26,7 +26,7 @@ fn parts() {
     let _readable_front: fn(&FilePart) -> (usize, Option<Error>) = readable_front;
 }
 
-/// The first batch of bytes of a file, which are read from an offset below 2^32 on.
+/// Returns the first batch of bytes of a file, which are read from an offset below 2^32 on.
 fn next_in_of_parts(
     alloc: Global,
     file: &LogFileContext,
@@ -80,7 +80,7 @@ fn laws() {
     placed_items_are_read();
 }
 
-/// The names of `raft_base`, as this crate hands them on.
+/// Uses the names of `raft_base`, as this crate hands them on.
 fn names_of_the_base() {
     let _hash_u64: fn(u64) -> u64 = hash_u64;
     let _unhash_u64: fn(u64) -> u64 = unhash_u64;
@@ -96,7 +96,7 @@ fn names_of_the_base() {
     let _no_memory: AllocResult<u8> = Err(AllocError);
 }
 
-/// The modules of `raft_base`, as this crate hands them on.
+/// Uses the modules of `raft_base`, as this crate hands them on.
 fn modules_of_the_base() {
     let _entry: entry_index::EntryIndex = EntryIndex::default();
     let _compression = compression_type::CompressionType::None;

@@ -31,12 +31,12 @@ fn plans() {
     let _cut_part: fn(Global, FilePart, usize) -> Result<Vec<FilePart>> = cut_part;
 }
 
-/// The plan that merges what two plans make.
+/// Returns the plan that merges what two plans make.
 fn join_of_plans(alloc: Global, left: Plan, right: Plan) -> AllocResult<Plan> {
     Ok(Plan::Join(Box::new(alloc, left)?, Box::new(alloc, right)?))
 }
 
-/// At least one share, of at least one byte.
+/// Returns at least one share, of at least one byte.
 fn equal_shares_of_plans(
     alloc: Global,
     segments: &[Segment],
@@ -66,7 +66,7 @@ fn merge_pieces_of_workers<M: ReplayMachine, F: Factory<M>, G: Gate, R: Threads 
     merge_pieces::<M, R>(rt, pieces, plan, queue)
 }
 
-/// The batches of lent bytes, which are read from an offset below 2^32 on.
+/// Replays the batches of lent bytes, which are read from an offset below 2^32 on.
 fn replay_bytes_of_machines<M: ReplayMachine>(
     machine: &mut M,
     alloc: Global,
@@ -81,7 +81,7 @@ fn replay_bytes_of_machines<M: ReplayMachine>(
     replay_bytes::<M>(machine, alloc, file, offset, bytes)
 }
 
-/// Machines as draws and a plan make them.
+/// Returns machines as draws and a plan make them.
 fn replay_scheduled_of_schedules(
     alloc: Global,
     factory: &MemTableRecoverContextFactory,
@@ -94,7 +94,7 @@ fn replay_scheduled_of_schedules(
     replay_scheduled(alloc, factory, segments, queue, workers, draws, plan)
 }
 
-/// Machines as workers make them.
+/// Returns machines as workers make them.
 fn replay_segments_of_workers<R: Threads + Sync, G: Gate>(
     rt: &R,
     alloc: Global,
@@ -109,12 +109,12 @@ fn replay_segments_of_workers<R: Threads + Sync, G: Gate>(
 
 fn is_shared<T: Send + Sync>() {}
 
-/// What workers pass is seen by all of them.
+/// Tests that what workers pass is seen by all of them.
 fn is_shared_gate<G: Gate>() {
     is_shared::<G>();
 }
 
-/// The status that the program ends with.
+/// Returns the status that the program ends with.
 fn run_of_programs<S: Files + AllocGlobal + Threads + Sync, R: Read, W: Write, E: Write>(
     rt: &S,
     words: &[String],
@@ -125,7 +125,7 @@ fn run_of_programs<S: Files + AllocGlobal + Threads + Sync, R: Read, W: Write, E
     run::<S, R, W, E>(rt, words, input, out, err)
 }
 
-/// The words of a command line, and what the program returns where there are none.
+/// Returns the words of a command line, and what the program returns where there are none.
 fn words_of_programs<S: Env + AllocGlobal, E: Write>(
     rt: &S,
     err: &mut E,
@@ -137,7 +137,7 @@ fn words_of_programs<S: Env + AllocGlobal, E: Write>(
     }
 }
 
-/// The status that a scan of files ends with.
+/// Returns the status that a scan of files ends with.
 fn run_scan_of_scans<S: Files + AllocGlobal, W: Write, E: Write>(
     rt: &S,
     words: &[String],
@@ -155,7 +155,7 @@ fn scans() {
     let _append_scan: fn(Global, &FilePart, bool, &mut String) -> Result<bool> = append_scan;
 }
 
-/// The parts of a segment.
+/// Returns the parts of a segment.
 fn parts_of(segment: Segment) -> Vec<FilePart> {
     segment
 }
@@ -223,7 +223,7 @@ fn print_recovered_of_recoveries<R: Threads + Sync, W: Write>(
     print_recovered::<W>(alloc, accessor, writer)
 }
 
-/// How many pieces a plan merges: one, or those of two plans, and there is no other.
+/// Returns how many pieces a plan merges: one, or those of two plans, and there is no other.
 fn leaves_of(plan: &Plan) -> usize {
     match plan {
         Plan::One => 1,

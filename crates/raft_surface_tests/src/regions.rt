@@ -89,22 +89,22 @@ fn apply_rewrite_writes_of_items(
     MemTableAccessor::apply_rewrite_writes(accessor, items, watermark, new_file)
 }
 
-/// The items of a batch, as it hands them out.
+/// Applies the items of a batch, as it hands them out.
 fn appended_items(accessor: &mut MemTableAccessor, items: vec::IntoIter<LogItem>) -> Result<()> {
     MemTableAccessor::apply_append_writes(accessor, items)
 }
 
-/// The same, replayed in the append queue.
+/// Replays the same in the append queue.
 fn replayed_items(accessor: &mut MemTableAccessor, items: vec::IntoIter<LogItem>) -> Result<()> {
     MemTableAccessor::replay_append_writes(accessor, items)
 }
 
-/// The same, replayed in the rewrite queue.
+/// Replays the same in the rewrite queue.
 fn replayed_rewrites(accessor: &mut MemTableAccessor, items: vec::IntoIter<LogItem>) -> Result<()> {
     MemTableAccessor::replay_rewrite_writes(accessor, items)
 }
 
-/// The same, rewritten to a file.
+/// Rewrites the same to a file.
 fn rewritten_items(
     accessor: &mut MemTableAccessor,
     items: vec::IntoIter<LogItem>,
@@ -114,7 +114,7 @@ fn rewritten_items(
     MemTableAccessor::apply_rewrite_writes(accessor, items, watermark, new_file)
 }
 
-/// How many tables a walk meets.
+/// Returns how many tables a walk meets.
 fn fold_of_walks(accessor: &MemTableAccessor) -> u64 {
     let init: u64 = 0;
     MemTableAccessor::fold(accessor, init, |count: u64, _: &MemTable| -> u64 {
@@ -122,14 +122,14 @@ fn fold_of_walks(accessor: &MemTableAccessor) -> u64 {
     })
 }
 
-/// The tables of a region.
+/// Returns the tables of a region.
 fn collect_of_walks<'a>(accessor: &'a MemTableAccessor, id: u64) -> Result<Vec<&'a MemTable>> {
     MemTableAccessor::collect(accessor, |table: &MemTable| -> bool {
         table.region_id() == id
     })
 }
 
-/// How many tables are met in none.
+/// Returns how many tables are met in none.
 fn met_in_none(alloc: Global) -> Result<u64> {
     let mut accessor = MemTableAccessor::new(alloc)?;
     apply_append_writes_of_items(&mut accessor, Vec::new(alloc))?;

@@ -71,14 +71,14 @@ fn insert_of_tables<R: Wait>(
     SharedAccessor::insert::<R>(shared, rt, number, table)
 }
 
-/// A region's id, if it has a table.
+/// Returns a region's id, if it has a table.
 fn with_table_of_tables<R: Wait>(shared: &SharedAccessor, rt: &R, number: u64) -> Option<u64> {
     SharedAccessor::with_table(shared, rt, number, |table: &MemTable| -> u64 {
         table.region_id()
     })
 }
 
-/// How many entries are dropped up to the last one.
+/// Returns how many entries are dropped up to the last one.
 fn with_table_mut_of_tables<R: Wait>(shared: &SharedAccessor, rt: &R, number: u64) -> Result<u64> {
     let compact = |table: &MemTable| -> TableChange {
         match table.last_index() {
@@ -89,7 +89,7 @@ fn with_table_mut_of_tables<R: Wait>(shared: &SharedAccessor, rt: &R, number: u6
     SharedAccessor::with_table_mut(shared, rt, number, compact)
 }
 
-/// How many tables a walk meets.
+/// Returns how many tables a walk meets.
 fn fold_of_tables<R: Wait>(shared: &SharedAccessor, rt: &R) -> u64 {
     let init: u64 = 0;
     SharedAccessor::fold(shared, rt, init, |count: u64, _: &MemTable| -> u64 {
@@ -97,7 +97,7 @@ fn fold_of_tables<R: Wait>(shared: &SharedAccessor, rt: &R) -> u64 {
     })
 }
 
-/// The ids of tables without entries.
+/// Returns the ids of tables without entries.
 fn collect_of_tables<R: Wait>(shared: &SharedAccessor, rt: &R) -> Result<Vec<u64>> {
     SharedAccessor::collect(shared, rt, |table: &MemTable| -> bool {
         table.last_index().is_none()
@@ -122,7 +122,7 @@ fn apply_rewrite_writes_of_items<R: Wait>(
     SharedAccessor::apply_rewrite_writes(shared, rt, items, watermark, new_file)
 }
 
-/// The items of a batch, as it hands them out.
+/// Applies the items of a batch, as it hands them out.
 fn appended_items<R: Wait>(
     shared: &SharedAccessor,
     rt: &R,
@@ -131,7 +131,7 @@ fn appended_items<R: Wait>(
     SharedAccessor::apply_append_writes(shared, rt, items)
 }
 
-/// The same, rewritten to a file.
+/// Rewrites the same to a file.
 fn rewritten_items<R: Wait>(
     shared: &SharedAccessor,
     rt: &R,

@@ -36,7 +36,7 @@ pub(crate) fn time(rt: &HostRuntime) -> io::Result<()> {
     time_merge(rt)
 }
 
-/// Runs of `len` entries for each of so many regions in turn, each behind the last one of its region.
+/// Returns runs of `len` entries for each of so many regions in turn, each after the last one of its region.
 fn runs_of(alloc: Global, regions: u64, len: u64) -> AllocResult<Vec<Vec<EntryIndex>>> {
     let mut runs = Vec::new(alloc);
     let mut first = 1u64;
@@ -143,7 +143,7 @@ fn rewrite_by_steps(region: &mut Region, runs: Vec<Vec<EntryIndex>>) {
     }
 }
 
-/// Runs for the rewriting of a table of many blocks.
+/// Returns runs for the rewriting of a table of many blocks.
 fn steps(alloc: Global) -> AllocResult<Vec<Vec<EntryIndex>>> {
     let mut runs = Vec::new(alloc);
     let mut first = 1u64;

@@ -1,5 +1,5 @@
 //! Times the record layer. Without words it does nothing; each word names what it times, and `recover` with the
-//! words behind it, which are those of `raftlog recover`, times the recovery of files, `merge` before them the
+//! words after it, which are those of `raftlog recover`, times the recovery of files, `merge` before them the
 //! merging of contexts.
 #![tactic(auto)]
 

@@ -152,7 +152,7 @@ pub(crate) fn empty_regions(alloc: Global) -> AllocResult<Vec<Region>> {
     Ok(regions)
 }
 
-/// Runs for all regions in turn, one behind the other in each.
+/// Returns runs for all regions in turn, one after the other in each.
 fn runs(alloc: Global) -> AllocResult<Vec<Vec<EntryIndex>>> {
     let mut runs = Vec::new(alloc);
     for round in 0..ROUNDS {

@@ -182,7 +182,7 @@ fn plan_of(alloc: Global, count: usize, way: Way) -> Result<Plan> {
     }
 }
 
-/// Returns the batches as segments: one ends behind batch `n` where bit `n` of the number is set, and one at
+/// Returns the batches as segments: one ends after batch `n` where bit `n` of the number is set, and one at
 /// the end.
 fn cut(alloc: Global, batches: &[FilePart], cutting: u64) -> Result<Vec<Segment>> {
     let mut segments = Vec::new(alloc);

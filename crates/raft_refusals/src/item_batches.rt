@@ -14,7 +14,7 @@ enum Change {
     Put(&'static [u8], &'static [u8]),
     PutLine(&'static [u8], Line),
     Delete(&'static [u8]),
-    /// Two items of another batch are moved behind the batch's own.
+    /// Two items of another batch are moved after the batch's own.
     Merge,
 }
 
@@ -82,7 +82,7 @@ fn merge(alloc: Global, batch: &mut LogItemBatch) -> Result<()> {
     batch.merge(&mut behind)
 }
 
-/// Writes the bytes of a batch behind another byte; where there is no memory that stands alone.
+/// Writes the bytes of a batch after another byte; where there is no memory that stands alone.
 fn encode_again(found: &mut Found, batch: &mut LogItemBatch) -> Result<()> {
     let mut out = Vec::from_slice(found.alloc, b"!")?;
     let mut answer = batch.encode(&mut out);

@@ -46,7 +46,7 @@ fn numbers() -> &'static [Number] {
     &NUMBERS
 }
 
-/// Returns the bytes of each number, one behind the other in one vector.
+/// Returns the bytes of each number, one after the other in one vector.
 pub(crate) fn encode(found: &mut Found) -> Result<()> {
     let mut bytes = Vec::new(found.alloc);
     for number in numbers() {

@@ -21,7 +21,7 @@ fn front(len: usize) -> &'static [u8] {
     front
 }
 
-/// Returns the bytes behind so many.
+/// Returns the bytes after so many.
 fn behind(len: usize) -> &'static [u8] {
     let (_, behind) = BYTES.split_at(len.min(BYTES.len()));
     behind

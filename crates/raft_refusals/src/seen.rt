@@ -39,7 +39,7 @@ pub(crate) fn of_regions(regions: &[u64]) -> u64 {
     all
 }
 
-/// Returns a number behind others.
+/// Returns a number that stands for others and one more.
 fn with(all: u64, number: u64) -> u64 {
     (all ^ number)
         .wrapping_mul(0x9e37_79b9_7f4a_7c15)

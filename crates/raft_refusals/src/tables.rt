@@ -26,7 +26,7 @@ enum Change {
     Truncate(u64),
 }
 
-/// Changes of a table, one behind the other.
+/// Changes of a table, one after the other.
 static ROWS: [&[Change]; 8] = [
     &[
         Change::Append(10, 20, 1),
@@ -110,7 +110,7 @@ fn change_again(found: &mut Found, tables: &mut MemTableAccessor, change: Change
     print_answer(found, &answer, tables)
 }
 
-/// Returns the word or the number of a result, the first index and the one behind the last, how many blocks
+/// Returns the word or the number of a result, the first index and the one past the last, how many blocks
 /// there are, the live number of the append queue, those of the rewrite queue that were written and deleted,
 /// and the least files, 0 for none.
 fn print_answer(found: &mut Found, answer: &Result<u64>, tables: &MemTableAccessor) -> Result<()> {
@@ -287,7 +287,7 @@ fn fetch_of_lengths(found: &mut Found, lengths: &[u32], fetch: Fetch) -> Result<
     }
 }
 
-/// Fetches entries behind another; where there is no memory that stands alone.
+/// Fetches entries after another; where there is no memory that stands alone.
 fn fetch_again(found: &mut Found, table: &MemTable, fetch: Fetch) -> Result<()> {
     let mut vec = vec![in found.alloc; EntryIndex::default()]?;
     let mut answer = fetch_to(table, fetch, &mut vec);

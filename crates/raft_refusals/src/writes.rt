@@ -67,7 +67,7 @@ fn rows() -> &'static [&'static [WriteRow]] {
     &WRITES
 }
 
-/// Returns what each writing returns, and the tables behind the last.
+/// Returns what each writing returns, and the tables after the last.
 pub(crate) fn write_all(found: &mut Found) -> Result<()> {
     for row in rows() {
         let mut tables = MemTableAccessor::new(found.alloc)?;
@@ -170,7 +170,7 @@ pub(crate) fn calls() -> &'static [Call] {
     &CALLS
 }
 
-/// Calls at regions, and the tables behind the last.
+/// Makes calls at regions, and shows the tables after the last.
 pub(crate) fn regions(found: &mut Found) -> Result<()> {
     let [_, _, rewritten] = &WRITES;
     let mut tables = tables_of(found.alloc, rewritten)?;

@@ -27,7 +27,7 @@ impl Contents {
         }
     }
 
-    /// What a store holds: each entry with the bytes that its file has.
+    /// Returns what a store holds: each entry with the bytes that its file has.
     pub(crate) fn of<R: Host>(alloc: Global, store: &Store<'_, R>) -> Result<Contents> {
         let mut contents = Contents::new(alloc);
         for table in store.tables().tables()? {
@@ -57,7 +57,7 @@ impl Contents {
         Ok(())
     }
 
-    /// A line for each region: its entries, then its key values.
+    /// Returns a line for each region: its entries, then its key values.
     pub(crate) fn text(&self, alloc: Global) -> Result<String> {
         let mut text = String::new(alloc);
         for (region, records) in &self.regions {

@@ -31,7 +31,7 @@ struct Span {
 }
 
 impl Span {
-    /// The span of one file. `Full` where none can come behind it.
+    /// Returns the span of one file. `Full` where none can follow it.
     fn of(seq: FileSeq) -> Result<Span> {
         if seq >= FileSeq::MAX - 1 {
             return Err(Error::Full);
@@ -42,7 +42,7 @@ impl Span {
         })
     }
 
-    /// The span that has the files of both.
+    /// Returns the span that has the files of both.
     fn joined(self, other: Span) -> Span {
         Span {
             first: self.first.min(other.first),
@@ -65,7 +65,8 @@ pub(crate) struct FolderPipe<'a, R: Disk> {
 impl<'a, R: Disk> FolderPipe<'a, R> {
     ghost use Rattle.raft_example.specs.FileRanges.{range_in};
 
-    /// The pipe over the files that the folder holds. A folder or a queue that isn't there yet is made, with file 1.
+    /// Opens the pipe over the files that the folder holds. A folder or a queue that isn't there yet is made, with file
+    /// 1.
     pub(crate) fn open(rt: &'a R, folder: &'a str) -> Result<FolderPipe<'a, R>> {
         fs::create_dir_all(rt, folder)?;
         let pipe = FolderPipe {
@@ -80,12 +81,12 @@ impl<'a, R: Disk> FolderPipe<'a, R> {
         Ok(pipe)
     }
 
-    /// The pipe over the files that the same folder holds now.
+    /// Opens the pipe over the files that the same folder holds now.
     pub(crate) fn reopened(&self) -> Result<FolderPipe<'a, R>> {
         FolderPipe::open(self.rt, self.folder)
     }
 
-    /// The whole files of a queue, in order.
+    /// Returns the whole files of a queue, in order.
     pub(crate) fn files(&self, queue: LogQueue) -> Result<Vec<FilePart>> {
         let mut files = Vec::new(self.rt.alloc());
         let span = self.span(queue);
@@ -104,17 +105,17 @@ impl<'a, R: Disk> FolderPipe<'a, R> {
         Ok(file.set_len(len)?)
     }
 
-    /// The path of a file.
+    /// Returns the path of a file.
     pub(crate) fn path(&self, id: FileId) -> Result<String> {
         path_of(self.rt.alloc(), self.folder, id)
     }
 
-    /// How many bytes the last file of a queue has.
+    /// Returns how many bytes the last file of a queue has.
     pub(crate) fn last_len(&self, queue: LogQueue) -> Result<u64> {
         self.len_of(FileId::new(queue, self.span(queue).last))
     }
 
-    /// How many bytes a file has.
+    /// Returns how many bytes a file has.
     fn len_of(&self, id: FileId) -> Result<u64> {
         Ok(fs::metadata(self.rt, self.path(id)?.as_str())?.len())
     }
@@ -149,13 +150,13 @@ pub(crate) fn clear<R: Disk>(rt: &R, folder: &str) -> Result<()> {
     Ok(())
 }
 
-/// The path of a file in a folder.
+/// Returns the path of a file in a folder.
 pub(crate) fn path_of(alloc: Global, folder: &str, id: FileId) -> Result<String> {
     let extension = extension_of(id.queue);
     Ok(format!(in alloc; "{folder}/{:016}{extension}", id.seq)?)
 }
 
-/// How the names of a queue's files end.
+/// Returns how the names of a queue's files end.
 fn extension_of(queue: LogQueue) -> &'static str {
     match queue {
         LogQueue::Append => ".raftlog",
@@ -163,7 +164,7 @@ fn extension_of(queue: LogQueue) -> &'static str {
     }
 }
 
-/// The files of a queue that a folder holds; file 1 alone where it holds none.
+/// Returns the files of a queue that a folder holds; file 1 alone where it holds none.
 fn span_in<R: Disk>(rt: &R, folder: &str, queue: LogQueue) -> Result<Span> {
     let mut found: Option<Span> = None;
     for entry in fs::read_dir(rt, folder)? {
@@ -182,7 +183,7 @@ fn span_in<R: Disk>(rt: &R, folder: &str, queue: LogQueue) -> Result<Span> {
     }
 }
 
-/// The number in the name of a file, if it is one of the queue.
+/// Returns the number in the name of a file, if it is one of the queue.
 fn number_in(name: &str, queue: LogQueue) -> Option<FileSeq> {
     name.strip_suffix(extension_of(queue))?.parse::<u64>().ok()
 }

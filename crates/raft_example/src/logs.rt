@@ -27,7 +27,7 @@ impl Logs {
         })
     }
 
-    /// The commands and deletions of the append queue, in order.
+    /// Returns the commands and deletions of the append queue, in order.
     pub(crate) fn tombstones(&self, alloc: Global) -> Result<Vec<LogItem>> {
         let mut tombstones = Vec::new(alloc);
         for part in self.append.iter().flatten() {
@@ -38,7 +38,7 @@ impl Logs {
         Ok(tombstones)
     }
 
-    /// The greatest number of an atomic group in the rewrite queue, 0 where there is none.
+    /// Returns the greatest number of an atomic group in the rewrite queue, 0 where there is none.
     pub(crate) fn last_group(&self, alloc: Global) -> Result<u64> {
         let mut last = 0;
         for part in self.rewrite.iter().flatten() {
@@ -70,7 +70,7 @@ pub(crate) fn push_tombstones(tombstones: &mut Vec<LogItem>, items: &[LogItem]) 
     Ok(())
 }
 
-/// The files of a queue, the last of them without a torn tail.
+/// Returns the files of a queue, the last of them without a torn tail.
 fn segments_of<R: Disk>(
     alloc: Global,
     pipe: &FolderPipe<'_, R>,
@@ -88,7 +88,7 @@ fn segments_of<R: Disk>(
 }
 
 /// Cuts a file where its readable batches end, on the disk too. Not so where there was no memory to read on, and not
-/// where a readable batch comes behind an unreadable one: that file is damaged, and a recovery refuses it.
+/// where a readable batch follows an unreadable one: that file is damaged, and a recovery refuses it.
 fn cut_torn_tail<R: Disk>(pipe: &FolderPipe<'_, R>, file: &mut FilePart) -> Result<()> {
     match readable_front(file) {
         (_, None) => Ok(()),
@@ -103,7 +103,7 @@ fn cut_torn_tail<R: Disk>(pipe: &FolderPipe<'_, R>, file: &mut FilePart) -> Resu
     }
 }
 
-/// Tests whether a readable batch comes behind the unreadable one at an offset, whose header says where it ends.
+/// Tests whether a readable batch follows the unreadable one at an offset, whose header says where it ends.
 fn is_damaged(file: &FilePart, at: usize) -> Result<bool>
     requires { at ≤ length file.now.bytes }
 {
@@ -122,7 +122,7 @@ fn is_damaged(file: &FilePart, at: usize) -> Result<bool>
     }
 }
 
-/// The batches of a part, each with where the next one begins.
+/// Returns the batches of a part, each with where the next one begins.
 pub(crate) fn batches_of(alloc: Global, part: &FilePart) -> Result<Vec<(LogItemBatch, usize)>> {
     let mut batches = Vec::new(alloc);
     let mut at = 0;

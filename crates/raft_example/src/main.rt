@@ -1,8 +1,8 @@
 //! A log store in a folder: it writes, reads, moves records and deletes files, and recovers after each restart.
 //!
 //! Without words it goes through what the store does, and prints each step. With the words `crashes SEED HISTORIES
-//! BY_BYTES` it tries crashes in so many random histories, and in the first `BY_BYTES` of them at each byte; its status is
-//! then 1 where a store recovered something else than it had to.
+//! BY_BYTES` it tries crashes in so many random histories, and in the first `BY_BYTES` of them at each byte; its status
+//! is then 1 where a store recovered something else than it had to.
 #![tactic(auto)]
 
 mod contents;
@@ -35,7 +35,7 @@ fn main(rt: HostRuntime) -> Result<ExitCode> {
     Ok(ExitCode::SUCCESS)
 }
 
-/// The words behind the program's name.
+/// Returns the words after the program's name.
 fn words_of(rt: &HostRuntime) -> io::Result<Vec<String>> {
     let mut words = Vec::new(rt.alloc());
     for word in env::args(rt)?.skip(1) {

@@ -57,7 +57,7 @@ impl<'a, R: Host> Store<'a, R> {
         Store::with_tables(rt, pipe, &logs, file_size, tables)
     }
 
-    /// The store over these files, from which these tables were recovered.
+    /// Returns the store over these files, from which these tables were recovered.
     pub(crate) fn with_tables(
         rt: &'a R,
         pipe: FolderPipe<'a, R>,
@@ -147,7 +147,7 @@ impl<'a, R: Host> Store<'a, R> {
         }
     }
 
-    /// The value of a key of a region.
+    /// Returns the value of a key of a region.
     pub(crate) fn value(&self, region: u64, key: &[u8]) -> Option<&[u8]> {
         self.tables.get(region)?.get(key)
     }
@@ -202,7 +202,7 @@ fn push_proposals(
     Ok(())
 }
 
-/// The first and the last index of a table.
+/// Returns the first and the last index of a table.
 fn span_of(table: &MemTable) -> Option<(u64, u64)> {
     match (table.first_index(), table.last_index()) {
         (Some(first), Some(last)) => Some((first, last)),

@@ -22,7 +22,7 @@ pub(crate) enum Change {
 }
 
 impl Change {
-    /// A change that a region with these records may have.
+    /// Returns a change that a region with these records may have.
     pub(crate) fn draw(alloc: Global, dice: &mut Dice, records: &Records) -> Result<Change> {
         let (first, end) = span_of(dice, records);
         let index = first.saturating_add(dice.below(end.saturating_sub(first).saturating_add(1)));
@@ -92,7 +92,7 @@ impl Change {
     }
 }
 
-/// The first index of a region and the one behind its last; of a region without entries any.
+/// Returns the first index of a region and the one past its last; of a region without entries any.
 fn span_of(dice: &mut Dice, records: &Records) -> (u64, u64) {
     let first = records.entries.first_key_value();
     let last = records.entries.last_key_value();
@@ -105,7 +105,7 @@ fn span_of(dice: &mut Dice, records: &Records) -> (u64, u64) {
     }
 }
 
-/// Up to five proposals from an index on.
+/// Returns up to five proposals from an index on.
 fn proposals(alloc: Global, dice: &mut Dice, first: u64) -> Result<Vec<Proposal>> {
     let mut proposals = Vec::new(alloc);
     for index in first..first.saturating_add(dice.below(5)).saturating_add(1) {
@@ -115,13 +115,13 @@ fn proposals(alloc: Global, dice: &mut Dice, first: u64) -> Result<Vec<Proposal>
     Ok(proposals)
 }
 
-/// One of four keys.
+/// Returns one of four keys.
 fn key(alloc: Global, dice: &mut Dice) -> Result<Vec<u8>> {
     let text = format!(in alloc; "k{}", dice.below(4))?;
     Ok(Vec::from_slice(alloc, text.as_bytes())?)
 }
 
-/// A text of up to 20 bytes.
+/// Returns a text of up to 20 bytes.
 fn text(alloc: Global, dice: &mut Dice) -> Result<Vec<u8>> {
     let mut text = Vec::new(alloc);
     for _ in 0..dice.below(21) {

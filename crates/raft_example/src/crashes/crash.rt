@@ -34,7 +34,7 @@ impl Snapshot {
         Ok(Snapshot { files })
     }
 
-    /// The bytes of a file, none where there is no such file.
+    /// Returns the bytes of a file, none where there is no such file.
     fn bytes(&self, id: FileId) -> Option<&[u8]> {
         let file = self.files.iter().find(|file| file.id() == id)?;
         Some(file.bytes())
@@ -88,7 +88,7 @@ impl<'a, R: Host + Print> Crashes<'a, R> {
         Ok(())
     }
 
-    /// Where a crash may end a file that had `start` bytes: behind each batch, or behind each byte.
+    /// Returns where a crash may end a file that had `start` bytes: after each batch, or after each byte.
     fn stops(&self, file: &FilePart, start: usize) -> Result<Vec<usize>> {
         let mut stops = Vec::new(self.rt.alloc());
         if self.each_byte {
@@ -152,7 +152,7 @@ impl<'a, R: Host + Print> Crashes<'a, R> {
         Ok(())
     }
 
-    /// What the store holds that is opened from the folder.
+    /// Returns what the store holds that is opened from the folder.
     fn recovered(&self, workers: usize) -> Result<Contents> {
         let alloc = self.rt.alloc();
         if workers == 1 {
@@ -168,7 +168,8 @@ impl<'a, R: Host + Print> Crashes<'a, R> {
     }
 }
 
-/// The tables of both queues, each of whose files is read by the next worker that is free, however small it is.
+/// Recovers the tables of both queues, each of whose files is read by the next worker that is free, however small it
+/// is.
 fn recover_files<R: Host>(
     rt: &R,
     alloc: Global,

@@ -17,7 +17,7 @@ impl Dice {
         }
     }
 
-    /// The next number, below `end`.
+    /// Returns the next number, below `end`.
     pub(crate) fn below(&mut self, end: u64) -> u64
         requires { 0 < end }
         ensures { result < end }

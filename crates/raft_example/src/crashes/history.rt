@@ -37,7 +37,7 @@ pub(crate) struct History<'a, R: Host> {
 }
 
 impl<'a, R: Host + Print> History<'a, R> {
-    /// A store in an empty folder.
+    /// Begins a history with a store in an empty folder.
     pub(crate) fn begin(rt: &'a R, seed: u64) -> Result<History<'a, R>> {
         clear(rt, FOLDER)?;
         Ok(History {

@@ -21,7 +21,7 @@ struct MovedRecords {
 }
 
 impl MovedRecords {
-    /// With a gate those in append files at or below it, without one those in rewrite files.
+    /// Returns those in append files at or below the gate, or without one those in rewrite files.
     fn of(alloc: Global, table: &MemTable, gate: Option<FileSeq>) -> Result<MovedRecords> {
         let mut records = MovedRecords {
             entries: Vec::new(alloc),
@@ -82,7 +82,8 @@ impl<R: Host> Store<'_, R> {
         self.pipe.purge_to(FileId::new(queue, least))
     }
 
-    /// Writes to the rewrite queue what removes records there: the cleaned regions, then all other commands and deletions.
+    /// Writes to the rewrite queue what removes records there: the cleaned regions, then all other commands and
+    /// deletions.
     pub(crate) fn rewrite_tombstones(&mut self) -> Result<()> {
         let cleaned = self.tables.take_cleaned_region_logs()?;
         self.write_moved(cleaned, None)?;
@@ -144,8 +145,8 @@ impl<R: Host> Store<'_, R> {
         Ok(())
     }
 
-    /// Writes all rewritten records of a region again, as an atomic group of two batches: all of them move, or none. The
-    /// table remembers the files of one group, so nothing may be left in an older one.
+    /// Writes all rewritten records of a region again, as an atomic group of two batches: all of them move, or none.
+    /// The table remembers the files of one group, so nothing may be left in an older one.
     fn write_group(&mut self, region: u64, records: MovedRecords) -> Result<()> {
         self.last_group = self.last_group.saturating_add(1);
         let mut group = AtomicGroupBuilder::with_id(self.last_group);

@@ -40,7 +40,7 @@ fn tear<'a, R: Host + Print>(rt: &'a R, store: Store<'a, R>) -> Result<Store<'a,
 }
 
 /// Changes a bit of the first batch of the last append file, in its entry bytes and then in its items. A batch stands
-/// behind it, so that nothing is cut.
+/// after it, so that nothing is cut.
 fn flip<R: Host + Print>(rt: &R, store: &Store<'_, R>) -> Result<()> {
     let id = last_file(store);
     let path = store.pipe().path(id)?;
@@ -78,7 +78,7 @@ fn read_all<R: Host + Print>(rt: &R) -> Result<()> {
     Ok(())
 }
 
-/// The append file that is written to.
+/// Returns the append file that is written to.
 fn last_file<R: Host>(store: &Store<'_, R>) -> FileId {
     let (_, last) = store.pipe().file_span(LogQueue::Append);
     FileId::new(LogQueue::Append, last)

@@ -33,7 +33,7 @@ fn print_places(rt: &impl Print, region: u64, entries: Vec<EntryPlace>) -> Resul
     Ok(())
 }
 
-/// Where the entries of a region are.
+/// Returns where the entries of a region are.
 fn places_of<R: Wait>(
     rt: &R,
     alloc: Global,
@@ -46,7 +46,7 @@ fn places_of<R: Wait>(
     }
 }
 
-/// Where the entries of a table are.
+/// Returns where the entries of a table are.
 fn places(alloc: Global, table: &MemTable) -> Result<Vec<EntryPlace>> {
     let mut entries: Vec<EntryIndex> = Vec::new(alloc);
     if let (Some(first), Some(last)) = (table.first_index(), table.last_index()) {

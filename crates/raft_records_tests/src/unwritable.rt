@@ -108,7 +108,7 @@ fn are_unwritable(alloc: Global, row: &[(u64, u32, u32)]) -> Result<bool> {
     is_unwritable(written, buf.as_slice())
 }
 
-/// Tests whether an item is.
+/// Tests whether an item is refused as such.
 fn is_item_unwritable(alloc: Global, item: &LogItem) -> Result<bool> {
     let mut buf = Vec::from_slice(alloc, b"ab")?;
     let written = item.encode(&mut buf);

@@ -396,7 +396,7 @@ fn calls() -> &'static [(Call, Option<Fault>)] {
     &CALLS
 }
 
-/// Tests whether all calls do, also of tables without any.
+/// Tests whether all calls leave the same in both, also of tables without any.
 fn are_alike<R: Wait>(rt: &R, alloc: Global) -> Result<bool> {
     let empty = SharedAccessor::new(alloc);
     let mut core = MemTableAccessor::new(alloc)?;

@@ -103,7 +103,7 @@ fn have(alloc: Global, history: History, owed: Owed, order: Order) -> Result<boo
     owed.is_met(alloc, history.queue, &tables)
 }
 
-/// Tests whether they have in each order.
+/// Tests whether five segments, merged in each order, have what one reading gives.
 fn give_one_reading(alloc: Global, history: History, owed: Owed) -> Result<bool> {
     for &order in &[ByHalves, FromRight, FromLeft] {
         if !have(alloc, history, owed, order)? {

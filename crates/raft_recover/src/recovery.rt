@@ -22,7 +22,9 @@ use crate::shares::{bytes_of, equal_shares};
 use raft_accessor::MemTableAccessor;
 use raft_base::{Error, FileSeq, LogQueue, Result, Version};
 use raft_memtable::{MemTableRecoverContext, MemTableRecoverContextFactory};
-use raft_replay::{MAX_WORKERS, OpenGate, SEGMENT_LIMIT, Segment, are_accepted, replay_segments};
+use raft_replay::{
+    MAX_WORKERS, OpenGate, SEGMENT_LIMIT, Segment, are_accepted, argument_fault, replay_segments,
+};
 use std::alloc::Global;
 use std::io::Write;
 use std::thread::{Threads, join};
@@ -127,7 +129,7 @@ fn check_segments(
     }
     Err(Error::invalid_argument(
         alloc,
-        "another number of workers than 1 to 256, 2^62 segments or more, or a part of another queue",
+        argument_fault(segments, queue, workers),
     ))
 }
 

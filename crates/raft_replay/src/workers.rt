@@ -83,7 +83,8 @@ pub fn are_accepted(segments: &[Segment], queue: LogQueue, workers: usize) -> bo
 
 /// Says why workers may not replay segments: there are too many or too few of them, a part is of another queue, or
 /// else there are too many segments.
-pub(crate) fn argument_fault(
+#[doc(hidden)]
+pub fn argument_fault(
     segments: &[Segment],
     queue: LogQueue,
     workers: usize,

@@ -168,5 +168,5 @@ wholes_differ h k apart g l other w v a b r m n = go (apart_any x.effect y.effec
     same_group g l p q a b s = ap group_or (sym a ∙ ap (λ z. z.batch.marker) s ∙ b)
 
     go : AreApart x.effect y.effect ⊎ AreApart y.effect x.effect → ⊥
-    go (inl h) = h (omega (arith, x.first, y.last)) (omega (arith, y.first, x.last)) (inl x.group) r (ap (names r) x.steps ∙ m) (ap (names r) y.steps ∙ n)
-    go (inr h) = h (omega (arith, y.first, x.last)) (omega (arith, x.first, y.last)) (inl y.group) r (ap (names r) y.steps ∙ n) (ap (names r) x.steps ∙ m)
+    go (inl h) = h (omega (arith, x.first, y.last), omega (arith, y.first, x.last)) (inl x.group) r (ap (names r) x.steps ∙ m) (ap (names r) y.steps ∙ n)
+    go (inr h) = h (omega (arith, y.first, x.last), omega (arith, x.first, y.last)) (inl y.group) r (ap (names r) y.steps ∙ n) (ap (names r) x.steps ∙ m)

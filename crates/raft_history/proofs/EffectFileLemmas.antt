@@ -216,7 +216,7 @@ begins_behind r e f apart low l a b = go f.earlier refl
   where
     go : (l : List Numbered) → f.earlier ≡ l → e.last.number < (slice_index_or l 0 f.last).number
     go [] is = l
-    go (q ∷ qs) is = lt_of_not-le (λ k. apart (omega (arith, low, l)) (subst (λ x. (slice_index_or x 0 f.last).number ≤ e.last.number) (sym is) k) (inr (λ none. none_is none is)) r a b)
+    go (q ∷ qs) is = lt_of_not-le (λ k. apart (omega (arith, low, l), subst (λ x. (slice_index_or x 0 f.last).number ≤ e.last.number) (sym is) k) (inr (λ none. none_is none is)) r a b)
       where
         none_is : f.earlier ≡ [] → f.earlier ≡ q ∷ qs → ⊥
         none_is x y = cc

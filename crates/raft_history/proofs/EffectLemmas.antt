@@ -162,7 +162,7 @@ apart_last (e ∷ es) f h = ((each_right (AreApart e) es (f ∷ []) h.0).0, apar
 -- a group that begins before n and ends at m keeps its regions from what lies between
 pub unnamed_between : (r n m : ℕ) (es : List Effect) (f : Effect) → AllByRecursion (Within n m) es → AllByRecursion (λ e. AreApart e f) es → f.earlier ≢ [] → first_in f < n → f.last.number ≡ m → names r (region_steps_in f) ≡ true → AllByRecursion (λ e. names r (region_steps_in e) ≡ false) es
 unnamed_between r n m [] f w a group first last named = tt
-unnamed_between r n m (e ∷ es) f w a group first last named = (not_true _ (λ k. a.0 (omega (arith, w.0.first)) (omega (arith, w.0.from)) (inr group) r k named), unnamed_between r n m es f w.1 a.1 group first last named)
+unnamed_between r n m (e ∷ es) f w a group first last named = (not_true _ (λ k. a.0 (omega (arith, w.0.first), omega (arith, w.0.from)) (inr group) r k named), unnamed_between r n m es f w.1 a.1 group first last named)
   where
     not_true : (b : Bool) → (b ≡ true → ⊥) → b ≡ false
     not_true true h = absurd (h refl)

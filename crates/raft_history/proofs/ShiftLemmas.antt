@@ -120,8 +120,8 @@ region_steps_in-moved : (k : ℕ) (e : Effect) → region_steps_in (moved_effect
 region_steps_in-moved k e = ap (λ l. l ++ e.last.batch.steps) (region_steps_of-moved k e.earlier)
 
 are_apart-moved : (k : ℕ) (e f : Effect) → AreApart (moved_effect k e) (moved_effect k f) → AreApart e f
-are_apart-moved k e f h = λ before behind group r named also. h
-    (rw (first_in-moved k e) (omega (arith, before))) (rw (first_in-moved k f) (omega (arith, behind)))
+are_apart-moved k e f h = λ overlap group r named also. h
+    (rw (first_in-moved k e) (omega (arith, overlap.0)), rw (first_in-moved k f) (omega (arith, overlap.1)))
     (either group) r (ap (names r) (region_steps_in-moved k e) ∙ named) (ap (names r) (region_steps_in-moved k f) ∙ also)
   where
     either : (e.earlier ≢ []) ⊎ (f.earlier ≢ []) → (map (moved k) e.earlier ≢ []) ⊎ (map (moved k) f.earlier ≢ [])

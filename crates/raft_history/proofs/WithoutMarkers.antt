@@ -59,8 +59,8 @@ singles_apart [] = tt
 singles_apart (p ∷ ps) = (each p ps, singles_apart ps)
   where
     none : (p q : Numbered) → AreApart record { earlier = []; last = p } record { earlier = []; last = q }
-    none p q before behind (inl g) r a b = g refl
-    none p q before behind (inr g) r a b = g refl
+    none p q overlap (inl g) r a b = g refl
+    none p q overlap (inr g) r a b = g refl
 
     each : (p : Numbered) (qs : List Numbered) → AllByRecursion (AreApart record { earlier = []; last = p }) (map (λ p. record { earlier = []; last = p }) qs)
     each p [] = tt

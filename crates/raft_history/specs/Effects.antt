@@ -105,11 +105,21 @@ is_named r h = list_any (λ e. names r (region_steps_in e)) (effects h)
 abbrev pub first_in : Effect → ℕ
 first_in e = (slice_index_or e.earlier 0 e.last).number
 
--- two effects name no common region, if they overlap, each from its first batch to its last, and one of them is a group
+-- two effects overlap, each from its first batch to its last
+abbrev pub Overlap : Effect → Effect → Type 0
+Overlap e f = (first_in e ≤ f.last.number) × (first_in f ≤ e.last.number)
+
+-- an effect of several batches
+abbrev pub IsGroup : Effect → Type 0
+IsGroup e = e.earlier ≢ []
+
+-- no region is named by both effects
+abbrev pub ShareNoRegion : Effect → Effect → Type 0
+ShareNoRegion e f = (r : ℕ) → names r (region_steps_in e) ≡ true → names r (region_steps_in f) ≡ true → ⊥
+
+-- two effects share no region where they overlap and one of them is a group
 abbrev pub AreApart : Effect → Effect → Type 0
-AreApart e f =
-    first_in e ≤ f.last.number → first_in f ≤ e.last.number → (e.earlier ≢ []) ⊎ (f.earlier ≢ [])
-    → (r : ℕ) → names r (region_steps_in e) ≡ true → names r (region_steps_in f) ≡ true → ⊥
+AreApart e f = Overlap e f → IsGroup e ⊎ IsGroup f → ShareNoRegion e f
 
 -- any two of some effects are apart
 abbrev pub EachApart : List Effect → Type 0

@@ -6,6 +6,7 @@ pub mod DecodedInLemmas
 pub mod EntryLemmas
 pub mod EqualLemmas
 pub mod FrameLemmas
+pub mod FramedAt
 pub mod GroupLemmas
 pub mod HeaderLemmas
 pub mod InBytesLemmas

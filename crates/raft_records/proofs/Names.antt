@@ -24,6 +24,10 @@ placed_entry handle compression e = record e { entries = Some handle; compressio
 abbrev pub part_signature : Part → Option ℕ
 part_signature part = signature_in part.version part.id.seq
 
--- where the entry bytes of a batch lie in the file
+-- where so many bytes after the header of a batch lie in the file
+abbrev pub place_between : Part → ℕ → ℕ → FileBlockHandle
+place_between part at len = record { id = part.id; offset = part.offset + at + 16; len = len }
+
+-- where the bytes between the header and the item batch lie in the file
 abbrev pub entries_place : Part → ℕ → ℕ → FileBlockHandle
 entries_place part at offset = record { id = part.id; offset = part.offset + at + 16; len = offset - 16 }

@@ -17,6 +17,7 @@ use Rattle.raft_records.specs.ItemBatch.{IsItemBatch, placed_item}
 use Rattle.raft_records.specs.LogBatch.{IsBatchOf, IsReadable, entry_block, entry_place, item_offset, encoded_length, log_batch_bytes}
 use Rattle.raft_records.specs.Header.{IsHeader}
 use Rattle.raft_records.specs.Framing.{IsFramed}
+use Rattle.raft_records.proofs.FramedAt.{IsFramedAt, framed_at, laid_at}
 use Rattle.raft_records.proofs.BufferLemmas.{header_len}
 use Rattle.raft_records.proofs.FrameLemmas.{header_one, readable, framed, log_batch_spelled, log_batch_length}
 
@@ -105,7 +106,8 @@ one_type compressions.None = refl
 pub written_next : (part : Part) (at : ℕ) (handle : FileBlockHandle) (items : List Item) (es rest : List ℕ) (answer : Option (List Item × ℕ)) → IsBatchOf items es → AreInRange items → AreInBytes items → items ≢ [] → encoded_length items es < 2 ^ 56 → handle.id ≡ part.id → handle.offset ≡ part.offset + at → drop at part.bytes ≡ log_batch_bytes (part_signature part) items es ++ rest → IsNext part at answer → answer ≡ Some (map (placed_item (entry_place handle es) compressions.None) items, at + encoded_length items es)
 written_next part at handle items es rest None b r held some fits id offset stands n =
     absurd (omega (arith, n, ap length stands, length-drop at part.bytes, length-append (log_batch_bytes (part_signature part) items es) rest, log_batch_length (part_signature part) items es, encoded_some items es some))
-written_next part at handle items es rest (Some next) b r held some fits id offset stands n =
+written_next part at handle items es rest (Some next) b r held some fits id offset stands there =
+    let n : IsFramedAt part at next.0 next.1 = framed_at there in
     let one = one_front (drop at part.bytes) (drop next.1 part.bytes) rest n.bytes (log_batch_bytes (part_signature part) items es) (part_signature part) n.read (map bare items) n.offset (item_offset es) n.frame (written_framed (part_signature part) items es b r some fits) n.stands stands in
     let long : length n.bytes ≡ encoded_length items es = ap length one.0 ∙ log_batch_length (part_signature part) items es in
     let ends : next.1 ≡ at + encoded_length items es = n.ends ∙ ap (λ (k : ℕ). at + k) long in
@@ -128,7 +130,7 @@ written_stands part at handle items es rest b r held some fits id offset stands 
     let place : entry_place handle es ≡ entries_place part at (item_offset es) = λ i. record { id = id i; offset = sym begin i; len = sym len i } in
     let behind : drop (at + encoded_length items es) part.bytes ≡ rest =
     sym (drop-drop (encoded_length items es) at part.bytes) ∙ ap (drop (encoded_length items es)) stands ∙ drop_at bytes rest (encoded_length items es) long in
-    record {
+    laid_at (record {
       bytes = bytes;
       read = map bare items;
       offset = item_offset es;
@@ -138,7 +140,7 @@ written_stands part at handle items es rest b r held some fits id offset stands 
       places = sym (items_read (entry_place handle es) compressions.None items held)
           ∙ ap (λ p. map (placed_item p compressions.None) (map bare items)) place
           ∙ ap (λ c. map (placed_item (entries_place part at (item_offset es)) c) (map bare items)) (sym (one_type frame.compression));
-    }
+    })
 
 pub written_accepted : (part : Part) (at : ℕ) (items : List Item) (es rest : List ℕ) → IsBatchOf items es → AreInRange items → items ≢ [] → encoded_length items es < 2 ^ 56 → drop at part.bytes ≡ log_batch_bytes (part_signature part) items es ++ rest → HasNoFront (λ bytes. IsReadable bytes (part_signature part)) (drop at part.bytes) → ⊥
 written_accepted part at items es rest b r some fits stands none =
@@ -149,9 +151,10 @@ written_accepted part at items es rest b r some fits stands none =
 -- a batch is longer than nothing, and ends where the part does or before
 pub batch_inside : (part : Part) (at : ℕ) (items : List Item) (next : ℕ) → IsBatchAt part at items next → (at < next) × (next ≤ length part.bytes)
 batch_inside part at items next b =
-    let header = b.frame.header.spells in
-    let least : 16 ≤ b.offset = header.behind_header in
-    let long : b.offset ≤ length b.bytes = header.inside in
+    let f : IsFramedAt part at items next = framed_at b in
+    let header = f.frame.header.spells in
+    let least : 16 ≤ f.offset = header.behind_header in
+    let long : f.offset ≤ length b.bytes = header.inside in
     let lengths = ap length b.stands in
     let ends = b.ends in (
       omega arith,

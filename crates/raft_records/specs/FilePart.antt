@@ -14,9 +14,8 @@ use Rattle.raft_records.specs.Faults.{IsMemory, IsAnyCorruption}
 use Rattle.raft_records.specs.Header.{IsHeader, IsHeaderFault}
 use Rattle.raft_records.specs.Item.{Item, AreInBytes}
 use Rattle.raft_records.specs.ItemBatch.{placed_item, IsItemBatchFault}
-use Rattle.raft_records.specs.LogBatch.{IsBatchOf, encoded_length, entry_place, log_batch_bytes}
+use Rattle.raft_records.specs.LogBatch.{IsBatchOf, IsLaidOut, encoded_length, entry_place, log_batch_bytes}
 use Rattle.raft_records.specs.Range.{AreInRange}
-use Rattle.raft_records.specs.Framing.{IsFramed}
 
 -- bytes of a file, from this offset on
 pub record Part : Type 0 where
@@ -34,17 +33,17 @@ abbrev pub IsPartRefusal : ℕ → Error → Type 0
 IsPartRefusal end (errors.InvalidArgument text) = 2 ^ 64 ≤ end
 IsPartRefusal end e = IsMemory e
 
--- a readable batch begins at this byte of a part, and these are its items with their places in the file: the entry
--- bytes lie after the header, up to the item batch; the next batch begins after it
+-- a readable batch begins at this byte of a part, and these are its items, each with its place in the file: what lies
+-- between header and item batch; the next batch begins after it
 pub record IsBatchAt (part : Part) (at : ℕ) (items : List Item) (next : ℕ) : Type 0 where
   pub bytes : List ℕ
   pub read : List Item
-  pub offset : ℕ
-  pub frame : IsFramed bytes (signature_in part.version part.id.seq) read offset
+  pub between : List ℕ
+  pub laid_out : IsLaidOut bytes (signature_in part.version part.id.seq) read between
   pub stands : drop at part.bytes ≡ bytes ++ drop next part.bytes
   pub ends : next ≡ at + length bytes
   pub places : items ≡
-      map (placed_item (record { id = part.id; offset = part.offset + at + 16; len = offset - 16 }) frame.compression) read
+      map (placed_item (record { id = part.id; offset = part.offset + at + 16; len = length between }) laid_out.compression) read
 
 -- Where the bytes of a written batch that has items stand in a part of the file that they are signed for, at the offset
 -- of the place that they were written to, the batch stands there, with its items as the write has placed them.

@@ -4,6 +4,7 @@ use Rattle.std.proofs.lemmas.List.{length-drop}
 use Rattle.raft_records.specs.FilePart.{Part, IsBatchAt, HasHeader}
 use Rattle.raft_records.specs.Item.{Item}
 use Rattle.raft_records.proofs.FrameLemmas.{header_one}
+use Rattle.raft_records.proofs.FramedAt.{IsFramedAt, framed_at}
 use Rattle.raft_records.proofs.PartLemmas.{batch_inside}
 use Rattle.raft_base.specs.declared.compression_type.CompressionType.{CompressionType}
 use Rattle.raft_replay.proofs.CutPartLemmas.{header_ends}
@@ -15,14 +16,14 @@ use Rattle.raft_recover.specs.declared.scan.Finding.TheVariants.{Batch, Damage}
 -- ---- what was found
 
 -- a batch has a header
-pub batch_header : (part : Part) (at : ℕ) (items : List Item) (next : ℕ) (b : IsBatchAt part at items next) → HasHeader (drop at part.bytes) b.offset (length b.bytes)
-batch_header part at items next b = record {
-  compression = b.frame.compression;
+pub batch_header : (part : Part) (at : ℕ) (items : List Item) (next : ℕ) (b : IsBatchAt part at items next) → HasHeader (drop at part.bytes) (16 + length b.between) (length b.bytes)
+batch_header part at items next b = let f : IsFramedAt part at items next = framed_at b in record {
+  compression = f.frame.compression;
   rest = drop 16 b.bytes ++ drop next part.bytes;
   header = record {
-    front = b.frame.header.front;
-    spells = b.frame.header.spells;
-    split = b.stands ∙ ap (λ (t : List ℕ). t ++ drop next part.bytes) b.frame.header.split ∙ append_assoc b.frame.header.front (drop 16 b.bytes) (drop next part.bytes);
+    front = f.frame.header.front;
+    spells = f.frame.header.spells;
+    split = b.stands ∙ ap (λ (t : List ℕ). t ++ drop next part.bytes) f.frame.header.split ∙ append_assoc f.frame.header.front (drop 16 b.bytes) (drop next part.bytes);
   };
 }
 

@@ -5,7 +5,8 @@ use Rattle.std.proofs.Math.Seq.{take-append-add}
 use Rattle.raft_base.specs.declared.pipe_log.FileBlockHandle.{FileBlockHandle}
 use Rattle.raft_base.specs.declared.compression_type.CompressionType.{CompressionType}
 use Rattle.raft_records.specs.FilePart.{Part, IsBatchAt, HasHeader}
-use Rattle.raft_records.proofs.Names.{entries_place}
+use Rattle.raft_records.proofs.FramedAt.{IsFramedAt, framed_at}
+use Rattle.raft_records.proofs.Names.{place_between}
 use Rattle.raft_records.specs.Item.{Item}
 use Rattle.raft_records.specs.ItemBatch.{placed_item}
 use Rattle.raft_records.proofs.FrameLemmas.{header_one}
@@ -23,8 +24,8 @@ in_front : (part : Part) (at i next : ℕ) (items : List Item) → next ≤ at �
 in_front part at i next items before b = record {
   bytes = b.bytes;
   read = b.read;
-  offset = b.offset;
-  frame = b.frame;
+  between = b.between;
+  laid_out = b.laid_out;
   stands = stands;
   ends = b.ends;
   places = b.places;
@@ -55,8 +56,8 @@ of_front : (part : Part) (at i next : ℕ) (items : List Item) → IsBatchAt (by
 of_front part at i next items b = record {
   bytes = b.bytes;
   read = b.read;
-  offset = b.offset;
-  frame = b.frame;
+  between = b.between;
+  laid_out = b.laid_out;
   stands = stands;
   ends = b.ends;
   places = b.places;
@@ -80,41 +81,42 @@ of_front part at i next items b = record {
         ∙ ap (λ (t : List ℕ). b.bytes ++ t) (sym (drop-append-le next (take at xs) (drop at xs) inside) ∙ ap (drop next) (take-append-drop at xs))
 
 -- where the entries of a batch lie does not hang on where the part begins
-place_from : (part : Part) (at j offset : ℕ) → entries_place (rest_of part at) j offset ≡ entries_place part (at + j) offset
-place_from part at j offset =
+place_from : (part : Part) (at j len : ℕ) → place_between (rest_of part at) j len ≡ place_between part (at + j) len
+place_from part at j len =
     let same : part.offset + at + j + 16 ≡ part.offset + (at + j) + 16 = omega arith in
-    ap (λ (n : ℕ). record { id = part.id; offset = n; len = offset - 16 }) same
+    ap (λ (n : ℕ). record { id = part.id; offset = n; len = len }) same
 
 -- a batch from a byte on stands in the bytes from there on
 in_rest : (part : Part) (at j k : ℕ) (items : List Item) → IsBatchAt part (at + j) items (at + k) → IsBatchAt (rest_of part at) j items k
 in_rest part at j k items b = record {
   bytes = b.bytes;
   read = b.read;
-  offset = b.offset;
-  frame = b.frame;
+  between = b.between;
+  laid_out = b.laid_out;
   stands = drop-drop j at part.bytes ∙ b.stands ∙ ap (λ (t : List ℕ). b.bytes ++ t) (sym (drop-drop k at part.bytes));
   ends = let e = b.ends in omega arith;
-  places = b.places ∙ ap (λ (p : FileBlockHandle). map (placed_item p b.frame.compression) b.read) (sym (place_from part at j b.offset));
+  places = b.places ∙ ap (λ (p : FileBlockHandle). map (placed_item p b.laid_out.compression) b.read) (sym (place_from part at j (length b.between)));
 }
 
 of_rest : (part : Part) (at j k : ℕ) (items : List Item) → IsBatchAt (rest_of part at) j items k → IsBatchAt part (at + j) items (at + k)
 of_rest part at j k items b = record {
   bytes = b.bytes;
   read = b.read;
-  offset = b.offset;
-  frame = b.frame;
+  between = b.between;
+  laid_out = b.laid_out;
   stands = sym (drop-drop j at part.bytes) ∙ b.stands ∙ ap (λ (t : List ℕ). b.bytes ++ t) (drop-drop k at part.bytes);
   ends = let e = b.ends in omega arith;
-  places = b.places ∙ ap (λ (p : FileBlockHandle). map (placed_item p b.frame.compression) b.read) (place_from part at j b.offset);
+  places = b.places ∙ ap (λ (p : FileBlockHandle). map (placed_item p b.laid_out.compression) b.read) (place_from part at j (length b.between));
 }
 
 -- the batch that begins at a byte is as long as the header there says
 pub header_ends : (part : Part) (i next offset len : ℕ) (items : List Item) → HasHeader (drop i part.bytes) offset len → IsBatchAt part i items next → next ≡ i + len
 header_ends part i next offset len items h b =
-    let f = b.frame.header in
+    let g : IsFramedAt part i items next = framed_at b in
+    let f = g.frame.header in
     let split = sym h.header.split ∙ b.stands ∙ ap (λ (t : List ℕ). t ++ drop next part.bytes) f.split ∙ append_assoc f.front (drop 16 b.bytes) (drop next part.bytes) in
     let same = (header_one h.header.front f.front h.rest (drop 16 b.bytes ++ drop next part.bytes) (offset, h.compression, len)
-    (b.offset, b.frame.compression, length b.bytes) h.header.spells f.spells split).1 in
+    (g.offset, g.frame.compression, length b.bytes) h.header.spells f.spells split).1 in
     let long : len ≡ length b.bytes = ap (λ (t : ℕ × CompressionType × ℕ). t.2) same in
     let ends = b.ends in
     omega (arith, long)

@@ -15,6 +15,7 @@ use Rattle.raft_records.specs.declared.command.Command.TheVariants as commands
 use Rattle.raft_records.specs.declared.key_value.OpType.{OpType}
 use Rattle.raft_records.specs.declared.key_value.OpType.TheVariants as operations
 use Rattle.raft_records.specs.FilePart.{Part, IsBatchAt}
+use Rattle.raft_records.proofs.FramedAt.{IsFramedAt, framed_at}
 use Rattle.raft_records.specs.Grammar.{IsTail, AreIndexAndTails, IsContent, IsItem, tail_of, end_of_content}
 use Rattle.raft_records.specs.Group.{is_reserved}
 use Rattle.raft_records.specs.Item.{Item, Content, entries, command, pair}
@@ -116,7 +117,8 @@ steps_few (item ∷ items) = let a = step_few item.raft_group_id item.content (s
 
 -- a batch that stands in a part
 batch_few : (part : Part) (at next : ℕ) (items : List Item) → IsBatchAt part at items next → at + records_in (steps_of_items items) ≤ next
-batch_few part at next items b =
+batch_few part at next items stands =
+    let b : IsFramedAt part at items next = framed_at stands in
     let i = b.frame.item_batch in
     let c = i.counted in
     let few = items_few 0 c.second b.read c.second_spells.spelled in

@@ -6,6 +6,7 @@ use Rattle.raft_base.specs.declared.pipe_log.FileId.{FileId}
 use Rattle.raft_codec.specs.Reading.{HasNoFront}
 use Rattle.raft_base.specs.declared.compression_type.CompressionType.{CompressionType}
 use Rattle.raft_records.specs.FilePart.{Part, IsBatchAt}
+use Rattle.raft_records.proofs.FramedAt.{IsFramedAt, framed_at}
 use Rattle.raft_records.proofs.Names.{part_signature, entries_place}
 use Rattle.raft_records.specs.Item.{Item}
 use Rattle.raft_records.specs.ItemBatch.{IsItemBatch, placed_item}
@@ -44,7 +45,9 @@ one_frame front other more rest signature items items' offset offset' f g e =
 -- one batch begins at a byte
 pub batch_unique : (part : Part) (at : ℕ) (items items' : List Item) (next next' : ℕ)
     → IsBatchAt part at items next → IsBatchAt part at items' next' → (items ≡ items') × (next ≡ next')
-batch_unique part at items items' next next' b d =
+batch_unique part at items items' next next' first second =
+    let b : IsFramedAt part at items next = framed_at first in
+    let d : IsFramedAt part at items' next' = framed_at second in
     let one = one_frame b.bytes d.bytes (drop next part.bytes) (drop next' part.bytes) (part_signature part) b.read d.read b.offset d.offset b.frame d.frame
     (sym b.stands ∙ d.stands) in
     let places = ap (λ (p : ℕ). map (placed_item (entries_place part at p) b.frame.compression) b.read) one.1
@@ -56,7 +59,7 @@ batch_unique part at items items' next next' b d =
 pub batch_none : (part : Part) (at : ℕ) (items : List Item) (next : ℕ)
     → HasNoFront (λ bytes. IsReadable bytes (part_signature part)) (drop at part.bytes) → ¬ (IsBatchAt part at items next)
 batch_none part at items next none b =
-    none b.bytes (drop next part.bytes) b.read ((readable b.bytes (part_signature part) b.read).1 (b.offset, b.frame)) b.stands
+    none b.bytes (drop next part.bytes) b.read (b.between, b.laid_out) b.stands
 
 -- ---- what is read is read in one way
 

@@ -21,8 +21,8 @@ longer_stands part more at next items b =
     record {
       bytes = b.bytes;
       read = b.read;
-      offset = b.offset;
-      frame = b.frame;
+      between = b.between;
+      laid_out = b.laid_out;
       stands = drop-append-le at part.bytes more (omega (arith, inside.0, inside.1))
           ∙ ap (λ (t : List ℕ). t ++ more) b.stands
           ∙ append_assoc b.bytes (drop next part.bytes) more

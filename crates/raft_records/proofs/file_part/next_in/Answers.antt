@@ -4,6 +4,7 @@ use Rattle.std.proofs.lemmas.Result.{err_from_is_err_and}
 use Rattle.raft_codec.specs.Reading.{HasNoFront}
 use Rattle.raft_base.specs.Signature.{signature_of}
 use Rattle.raft_records.specs.FilePart.{part_of, IsNextFault}
+use Rattle.raft_records.proofs.FramedAt.{laid_at}
 use Rattle.raft_records.proofs.Names.{entries_place}
 use Rattle.raft_records.specs.ItemBatch.{IsItemBatch, IsItemBatchFault, placed_item}
 use Rattle.raft_records.specs.LogBatch.{IsReadable}
@@ -50,7 +51,7 @@ returns-clause-ok c =
     let read = c.in_ok-items.ensures.ok in
     let items = subst (λ (xs : List ℕ). IsItemBatch xs (signature_of c.args.file.now) read.read c.decode.new.buf.now) item_batch read.item_batch in
     let frame = batch_stands c.split_at.result.1.now c.in_ok-items_at.field-0-1.now (signature_of c.args.file.now) c.in_ok-items_at.items_at c.in_ok-items_at.len c.in_ok-items_at.compression_type read.read c.decode.new.buf.now c.in_ok-items_at.ensures.ok c.if-len-rest.false items in
-    record {
+    laid_at (record {
       bytes = take c.in_ok-items_at.len c.split_at.result.1.now;
       read = read.read;
       offset = c.in_ok-items_at.items_at;
@@ -58,4 +59,4 @@ returns-clause-ok c =
       stands = batch_split c.args.bytes.now c.args.at c.in_ok-items_at.len ∙ ap (λ (xs : List ℕ). take c.in_ok-items_at.len xs ++ drop (c.args.at + c.in_ok-items_at.len) c.args.bytes.now) (sym c.split_at.ensures.back);
       ends = ap (λ n. c.args.at + n) (sym (length-take-le c.in_ok-items_at.len c.split_at.result.1.now c.if-len-rest.false));
       places = read.places ∙ ap (λ compression. map (placed_item (entries_place part c.args.at c.in_ok-items_at.items_at) compression) read.read) (sym frame.1);
-    }
+    })

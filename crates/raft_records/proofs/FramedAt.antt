@@ -1,5 +1,7 @@
 -- A batch that stands in a part, section by section.
-use Rattle.std.proofs.Common.{◌≡◌, ℕ, ◌+◌, ◌-◌, List, ◌++◌, map, length, take, drop, sym, ap, ◌∙◌, arith}
+use Rattle.std.proofs.Common.{◌≡◌, ℕ, ◌+◌, ◌-◌, List, ◌++◌, map, length, take, drop, refl, ap, ◌∙◌, arith}
+use Rattle.raft_base.specs.declared.compression_type.CompressionType.{CompressionType}
+use Rattle.raft_base.specs.declared.compression_type.CompressionType.TheVariants as compressions
 use Rattle.raft_records.specs.FilePart.{Part, IsBatchAt}
 use Rattle.raft_records.specs.Framing.{IsFramed}
 use Rattle.raft_records.specs.Item.{Item}
@@ -17,17 +19,25 @@ pub record IsFramedAt (part : Part) (at : ℕ) (items : List Item) (next : ℕ) 
   pub ends : next ≡ at + length bytes
   pub places : items ≡ map (placed_item (entries_place part at offset) frame.compression) read
 
+-- there is one type of compression
+same_type : (c d : CompressionType) → c ≡ d
+same_type compressions.None compressions.None = refl
+
 pub framed_at : {part : Part} {at : ℕ} {items : List Item} {next : ℕ} → IsBatchAt part at items next → IsFramedAt part at items next
 framed_at {part} {at} {items} {next} b =
     let len : length b.between ≡ 16 + length b.between - 16 = omega arith in
+    let frame = framed b.bytes (part_signature part) b.read b.between b.laid_out in
     record {
       bytes = b.bytes;
       read = b.read;
       offset = 16 + length b.between;
-      frame = framed b.bytes (part_signature part) b.read b.between b.laid_out;
+      frame = frame;
       stands = b.stands;
       ends = b.ends;
-      places = b.places ∙ ap (λ (n : ℕ). map (placed_item (place_between part at n) b.laid_out.compression) b.read) len;
+      places = b.places
+          ∙ ap (λ (n : ℕ). map (placed_item (place_between part at n) b.laid_out.compression) b.read) len
+          ∙ ap (λ (c : CompressionType). map (placed_item (entries_place part at (16 + length b.between)) c) b.read)
+          (same_type b.laid_out.compression frame.compression);
     }
 
 pub laid_at : {part : Part} {at : ℕ} {items : List Item} {next : ℕ} → IsFramedAt part at items next → IsBatchAt part at items next
@@ -43,5 +53,8 @@ laid_at {part} {at} {items} {next} b =
       laid_out = lies.1;
       stands = b.stands;
       ends = b.ends;
-      places = b.places ∙ ap (λ (n : ℕ). map (placed_item (place_between part at n) b.frame.compression) b.read) len;
+      places = b.places
+          ∙ ap (λ (n : ℕ). map (placed_item (place_between part at n) b.frame.compression) b.read) len
+          ∙ ap (λ (c : CompressionType). map (placed_item (place_between part at (length between)) c) b.read)
+          (same_type b.frame.compression lies.1.compression);
     }

@@ -154,11 +154,11 @@ batch_inside part at items next b =
     let f : IsFramedAt part at items next = framed_at b in
     let header = f.frame.header.spells in
     let least : 16 ≤ f.offset = header.behind_header in
-    let long : f.offset ≤ length b.bytes = header.inside in
-    let lengths = ap length b.stands in
-    let ends = b.ends in (
+    let long : f.offset ≤ length f.bytes = header.inside in
+    let lengths = ap length f.stands in
+    let ends = f.ends in (
       omega arith,
-      omega (arith, length-drop at part.bytes, length-drop next part.bytes, length-append b.bytes (drop next part.bytes)),
+      omega (arith, length-drop at part.bytes, length-drop next part.bytes, length-append f.bytes (drop next part.bytes)),
     )
 
 -- one batch more stands behind others

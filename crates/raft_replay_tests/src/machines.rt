@@ -1,13 +1,13 @@
 //! Tickets, plans, given schedules and workers, over a machine that keeps a list of batches.
 
 mod brackets;
-mod cuts;
-mod lists;
+mod cut_parts;
+mod list_machine;
 mod many;
 mod refusals;
 
 use crate::waits::{WaitGate, Waits};
-use lists::{List, Lists};
+use list_machine::{List, Lists};
 use raft_base::{Error, Factory, FileId, LogQueue, Result, Version};
 use raft_records::FilePart;
 use raft_recover::{

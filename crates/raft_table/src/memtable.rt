@@ -18,37 +18,40 @@ ghost use Rattle.raft_table.specs.Start.{entries_after_append, entries_after_rep
 mod block;
 mod bounds;
 mod change;
+mod change_laws;
 mod deleted_keys;
 mod entries;
 mod hole;
+mod join_under_mark;
 mod key_values;
-mod laws;
 mod mark;
 mod merge;
 mod queries;
+mod query_laws;
+mod region_mark_laws;
 mod steps;
-mod table_laws;
-mod under;
 
 use crate::global_stats::GlobalStats;
 pub use block::Block;
 pub use change::{TableChange, is_run};
+pub use change_laws::{
+    entries_stand_by_index, last_words_stand, newer_pairs_win, rewriting_stands_by_index,
+};
 pub use deleted_keys::DeletedKeys;
 use entries::Entries;
 use key_values::KeyValues;
-pub use laws::{
-    entries_stand_by_index, last_words_stand, marks_stand_for_steps, overlays_by_marks,
-    overlays_reach_without_truncations,
-};
 pub use mark::Mark;
+pub use query_laws::{
+    fetches_answer_ranges, full_runs_pass_the_limit, least_is_lowest, scans_visit_pairs,
+    tables_add_up,
+};
 use raft_base::{EntryIndex, Error, FileId, FileSeq, LogQueue, Result};
+pub use region_mark_laws::{
+    marks_stand_for_steps, overlays_by_marks, overlays_reach_without_truncations,
+};
 use std::alloc::Global;
 use std::collections::VecDeque;
 use std::marker::Model;
-pub use table_laws::{
-    fetches_answer_ranges, full_runs_pass_the_limit, least_is_lowest, newer_pairs_win,
-    rewriting_stands_by_index, scans_visit_pairs, tables_add_up,
-};
 
 /// The table of a region.
 #[derive(Drop)]

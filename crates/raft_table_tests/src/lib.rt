@@ -12,8 +12,8 @@ mod key_values;
 #[cfg(test)]
 mod large;
 #[cfg(test)]
-mod lists;
-#[cfg(test)]
 mod queries;
+#[cfg(test)]
+mod random_calls;
 #[cfg(test)]
 mod store;

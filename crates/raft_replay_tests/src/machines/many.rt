@@ -1,6 +1,6 @@
 //! Many pieces: plans as long as lists, and a piece for each of a hundred workers.
 
-use super::lists::{List, Lists};
+use super::list_machine::{List, Lists};
 use super::{has_all, join, segment, segments};
 use crate::waits::is_reached;
 use raft_base::{Error, Factory, LogQueue, Result};

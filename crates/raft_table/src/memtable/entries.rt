@@ -7,16 +7,16 @@ ghost use Rattle.raft_base.specs.Runs.{end_of};
 ghost use Rattle.raft_table.specs.TableEntries.{AreTableEntries, start_of, entry_at, entry_count};
 ghost use Rattle.raft_base.specs.declared.pipe_log.LogQueue.TheVariants.{Rewrite};
 
-mod cuts;
+mod block_deques;
+mod block_walks;
+mod compact_truncate;
 mod fetch;
-mod joins;
-mod lists;
 mod places;
+mod put_runs;
 mod runs;
-mod walks;
 
 use crate::memtable::block::Block;
-use crate::memtable::entries::lists::find;
+use crate::memtable::entries::block_deques::find;
 use raft_base::{CompressionType, EntryIndex, LogQueue};
 use std::alloc::Global;
 use std::collections::VecDeque;

@@ -8,8 +8,8 @@ ghost use Rattle.raft_table.specs.Fetches.{Fetches, IsFetchFault, IsLimitCount, 
 ghost use Rattle.raft_table.specs.Rewriting.{may_move};
 
 use crate::memtable::entries::Entries;
-use crate::memtable::entries::lists::find;
-use crate::memtable::entries::walks::{count_from, movable_from, push_entries};
+use crate::memtable::entries::block_deques::find;
+use crate::memtable::entries::block_walks::{count_from, movable_from, push_entries};
 use raft_base::{EntryIndex, Error, FileSeq, LogQueue, Result};
 
 impl Entries {

@@ -1,0 +1,12 @@
+use Rattle.std.proofs.Common.{◌≡◌, ◌-◌, ◌*◌, ◌^◌, ◌≤◌, ◌<◌, false, ℕ, take, drop, Some}
+use Rattle.raft_table.specs.Blocks.{blocks_shown, entries_in_blocks}
+use Rattle.raft_table.specs.BlockWords.{IsAt}
+use Rattle.raft_table.specs.Fetches.{total_len, is_too_many}
+use Rattle.raft_table.proofs.memtable.entries.block_walks.count_from.Given as goal
+
+abbrev pub invariant-loop-i : goal.invariant-loop-i
+invariant-loop-i l =
+    (l.i < l.end → IsAt l.i (blocks_shown l.blocks.items) l.spot.0 l.spot.1)
+    × (l.total ≤ (l.i - l.start) * 2 ^ 32)
+    × ((j : ℕ) → l.total ≡ total_len (l.i - l.start) (drop l.start (take l.end (entries_in_blocks j (blocks_shown l.blocks.items)))))
+    × ((j n : ℕ) → n < l.i - l.start → is_too_many (Some l.limit) n (drop l.start (take l.end (entries_in_blocks j (blocks_shown l.blocks.items)))) ≡ false)

@@ -1,0 +1,10 @@
+use Rattle.std.proofs.Common.{◌≡◌, ◌+◌, ◌++◌, length, take, drop}
+use Rattle.std.specs.VecDeque.Iter.{deque_iter_rest}
+use Rattle.raft_table.specs.BlockWords.{with_spans}
+use Rattle.raft_table.proofs.memtable.entries.block_walks.set_spans_of.Given as goal
+
+abbrev pub invariant-loop-span : goal.invariant-loop-span
+invariant-loop-span l =
+    (take l.i l.vec.items ++ with_spans (deque_iter_rest l.span-iterator) (drop l.i l.vec.items) ≡ take l.len l.initial.vec.items ++ with_spans (take l.count (drop l.at l.block.spans.items)) (drop l.len l.initial.vec.items))
+    × (l.i + length (deque_iter_rest l.span-iterator) ≡ l.len + l.count)
+    × (length l.vec.items ≡ length l.initial.vec.items)

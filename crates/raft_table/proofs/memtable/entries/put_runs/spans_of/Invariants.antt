@@ -1,0 +1,8 @@
+use Rattle.std.proofs.Common.{◌≡◌, ◌≤◌, length, take}
+use Rattle.std.specs.Vec.{vec_len, vec_capacity}
+use Rattle.raft_table.specs.BlockWords.{spans_of}
+use Rattle.raft_table.proofs.memtable.entries.put_runs.spans_of.Given as goal
+
+abbrev pub invariant-loop-entry : goal.invariant-loop-entry
+invariant-loop-entry l =
+    (l.spans.items ≡ spans_of (take l.entry-index l.run)) × (vec_len l.spans ≡ l.entry-index) × (length l.run ≤ vec_capacity l.spans)

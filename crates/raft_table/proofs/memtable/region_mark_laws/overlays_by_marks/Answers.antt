@@ -1,0 +1,13 @@
+use Rattle.raft_table.specs.MarkJoins.{end_at_reach}
+use Rattle.raft_table.specs.Steps.{table_of}
+use Rattle.raft_table.proofs.MarkExact.{exact_one, exact_join}
+use Rattle.raft_table.proofs.OverlayLemmas.{overlay_exact, overlay_run}
+use Rattle.raft_table.proofs.memtable.region_mark_laws.overlays_by_marks.Goals as goal
+
+pub returns : goal.returns
+returns c = record {
+  one = exact_one;
+  joins = λ id m n t ss rs h e f. exact_join (end_at_reach n (table_of id t)) m n (table_of id t).entries ss rs h.fits e f;
+  overlay = overlay_exact;
+  run = overlay_run;
+}

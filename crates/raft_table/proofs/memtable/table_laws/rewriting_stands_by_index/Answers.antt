@@ -1,5 +1,0 @@
-use Rattle.raft_table.proofs.MovedLemmas.{moved_by_index}
-use Rattle.raft_table.proofs.memtable.table_laws.rewriting_stands_by_index.Goals as goal
-
-pub returns-clause-moved : goal.returns-clause-moved
-returns-clause-moved c = moved_by_index

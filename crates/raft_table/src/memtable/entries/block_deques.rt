@@ -1,0 +1,310 @@
+//! Deques of blocks and of their first indexes.
+
+ghost use Rattle.std.specs.Prelude.{◌≡◌, ◌≢◌, ◌+◌, ◌⊎◌, ◌-◌, ◌≤◌, ◌<◌, ℕ, List, [], ◌∷◌, ◌++◌, length, take, drop, slice_index_or, ◌^◌, MatchBool, OnOk, OnErr, IfOk};
+ghost use Rattle.std.specs.List.Sorted.{IsNonDecreasingBy};
+ghost use Rattle.std.specs.VecDeque.{deque_len, deque_capacity};
+ghost use Rattle.raft_table.specs.Blocks.{BlockSpans, block_spans, blocks_shown};
+ghost use Rattle.raft_table.specs.BlockWords.{count, starts_of, first_of_last, joined_blocks, seam, IsIndexOf, IsAt};
+
+use crate::memtable::block::Block;
+use raft_base::{AllocResult, FileBlockHandle};
+use std::alloc::Global;
+use std::collections::VecDeque;
+use std::mem::swap;
+
+/// Returns how many starts are at or below an index.
+fn count_at_or_below(starts: &VecDeque<u64>, index: u64) -> usize
+    requires { IsNonDecreasingBy (λ (y : ℕ). y) starts.now.items }
+    ensures bound { result ≤ length starts.now.items }
+    ensures below { (j d : ℕ) → j < result → slice_index_or starts.now.items j d ≤ index }
+    ensures above { (j d : ℕ) → result ≤ j → j < length starts.now.items →
+        index < slice_index_or starts.now.items j d }
+{
+    starts.partition_point(|start: &u64| -> bool { *start <= index })
+}
+
+/// Returns the block and the offset in it of the entry with an index, among `len` entries from the
+/// index `first` on. A block is guessed, as if all were of one length; where that isn't the one,
+/// they are searched.
+pub(super) fn find(starts: &VecDeque<u64>, first: u64, len: usize, index: u64) -> (usize, usize)
+    requires { IsIndexOf starts.now.items index }
+    ensures { (i : ℕ) (bs : List BlockSpans) → starts.now.items ≡ starts_of i bs → i ≤ index →
+        index < i + count bs → IsAt (index - i) bs result.0 result.1 }
+{
+    let last = starts.len() - 1;
+    let guess = guess(first, len, starts.len(), index).min(last);
+    let low = starts[guess];
+    if low <= index && (guess == last || index < starts[guess + 1]) {
+        return (guess, (index - low) as usize);
+    }
+    search(starts, index)
+}
+
+/// Returns what `find` returns, without a guess: the last block is looked at, and then all are
+/// searched.
+pub(super) fn search(starts: &VecDeque<u64>, index: u64) -> (usize, usize)
+    requires { IsIndexOf starts.now.items index }
+    ensures { (i : ℕ) (bs : List BlockSpans) → starts.now.items ≡ starts_of i bs → i ≤ index →
+        index < i + count bs → IsAt (index - i) bs result.0 result.1 }
+{
+    let last = starts.len() - 1;
+    let start = starts[last];
+    if start <= index {
+        return (last, (index - start) as usize);
+    }
+    let nth = count_at_or_below(starts, index) - 1;
+    let start = starts[nth];
+    (nth, (index - start) as usize)
+}
+
+/// Guesses in which of `count` blocks of one length an index is, if they have `len` entries from
+/// the index `first` on. Wrong numbers make a wrong guess, and no fault.
+fn guess(first: u64, len: usize, count: usize, index: u64) -> usize {
+    let behind = index.wrapping_sub(first);
+    (behind.wrapping_mul(count as u64) / (len as u64).max(1)) as usize
+}
+
+/// Returns the block in which the first so many entries end, and the offset in it. `first` is the
+/// index of the first of all.
+pub(super) fn spot_behind(starts: &VecDeque<u64>, first: u64, kept: usize) -> (usize, usize)
+    requires bounded { first + kept < 2 ^ 64 }
+    requires within { 0 < kept → IsIndexOf starts.now.items (first + (kept - 1)) }
+    ensures none { kept ≡ 0 → (result.0 ≡ 0) × (result.1 ≡ 0) }
+    ensures some { (bs : List BlockSpans) → 0 < kept → starts.now.items ≡ starts_of first bs →
+        kept ≤ count bs
+        → IsAt (kept - 1) bs (result.0 - 1) (result.1 - 1) × (0 < result.0) × (0 < result.1) }
+{
+    if kept == 0 {
+        return (0, 0);
+    }
+    let (nth, last) = search(starts, first + (kept - 1) as u64);
+    (nth + 1, last + 1)
+}
+
+/// Returns the spans after the first `dropped`.
+pub(super) fn spans_behind(
+    alloc: Global,
+    spans: &VecDeque<(u32, u32)>,
+    dropped: usize,
+) -> AllocResult<VecDeque<(u32, u32)>>
+    requires { dropped ≤ length spans.now.items }
+    ensures ok { IfOk result (λ behind. behind.items ≡ drop dropped spans.now.items) }
+{
+    let mut behind = VecDeque::with_capacity(alloc, spans.len() - dropped)?;
+    for i in dropped..spans.len() {
+        behind.push_back_reserved(spans[i]);
+    }
+    Ok(behind)
+}
+
+/// Tests whether two places are one.
+pub(super) fn is_same(a: &FileBlockHandle, b: &FileBlockHandle) -> bool
+    ensures { MatchBool result (a.now ≡ b.now) (a.now ≢ b.now) }
+{
+    a == b
+}
+
+/// Puts more blocks after so many first ones, of the last of which so many entries stay, and in
+/// front of those from `rest` on. Where the two at the first seam have the same place they are one
+/// block.
+pub(super) fn put_blocks(
+    blocks: &mut VecDeque<Block>,
+    starts: &mut VecDeque<u64>,
+    spot: (usize, usize),
+    rest: usize,
+    more: &mut VecDeque<Block>,
+    more_starts: &mut VecDeque<u64>,
+) -> AllocResult<()>
+    requires order { spot.0 ≤ rest }
+    requires within { rest ≤ length blocks.old.items }
+    requires kept { (d : Block) → 0 < spot.0
+        → spot.1 ≤ length (slice_index_or blocks.old.items (spot.0 - 1) d).spans.items }
+    requires starts { length starts.old.items ≡ length blocks.old.items }
+    requires more { (0 < length more.old.items) ×
+        (length more_starts.old.items ≡ length more.old.items) }
+    ensures blocks { OnOk result (blocks_shown blocks.new.items
+        ≡ joined_blocks (first_of_last spot.1 (take spot.0 (blocks_shown blocks.old.items)))
+        (blocks_shown more.old.items)
+        ++ drop rest (blocks_shown blocks.old.items)) }
+    ensures starts { OnOk result (starts.new.items ≡ take spot.0 starts.old.items
+        ++ drop (seam (take spot.0 (blocks_shown blocks.old.items)) (blocks_shown more.old.items))
+        more_starts.old.items
+        ++ drop rest starts.old.items) }
+    ensures emptied { OnOk result ((more.new.items ≡ []) × (more_starts.new.items ≡ [])) }
+    ensures err { OnErr result ((blocks_shown blocks.new.items ≡ blocks_shown blocks.old.items)
+        × (starts.new.items ≡ starts.old.items)
+        × (blocks_shown more.new.items ≡ blocks_shown more.old.items)
+        × (more_starts.new.items ≡ more_starts.old.items)) }
+{
+    make_room(blocks, more)?;
+    make_room(starts, more_starts)?;
+    meet(blocks, spot, more, more_starts)?;
+    splice(blocks, spot.0, rest, more);
+    splice(starts, spot.0, rest, more_starts);
+    Ok(())
+}
+
+/// Makes room for the elements of two deques in one of them: in the longer one where the first
+/// lacks it.
+fn make_room<T>(deque: &mut VecDeque<T>, more: &mut VecDeque<T>) -> AllocResult<()>
+    ensures items { (deque.new.items ≡ deque.old.items) × (more.new.items ≡ more.old.items) }
+    ensures len { (deque_len deque.new ≡ deque_len deque.old) ×
+        (deque_len more.new ≡ deque_len more.old) }
+    ensures ok { OnOk result ((deque_len deque.new + deque_len more.new ≤ deque_capacity deque.new)
+        ⊎ (deque_len deque.new + deque_len more.new ≤ deque_capacity more.new)) }
+{
+    let missing = deque.capacity() - deque.len() < more.len();
+    if missing && deque.len() < more.len() {
+        return more.reserve(deque.len());
+    }
+    deque.reserve(more.len())
+}
+
+/// Keeps so many entries of the last of so many blocks, if there are any, and moves the entries of
+/// the first of more blocks after them where the two have the same place.
+fn meet(
+    blocks: &mut VecDeque<Block>,
+    spot: (usize, usize),
+    more: &mut VecDeque<Block>,
+    more_starts: &mut VecDeque<u64>,
+) -> AllocResult<()>
+    requires within { spot.0 ≤ length blocks.old.items }
+    requires kept { (d : Block) → 0 < spot.0
+        → spot.1 ≤ length (slice_index_or blocks.old.items (spot.0 - 1) d).spans.items }
+    requires more { (0 < length more.old.items) ×
+        (length more_starts.old.items ≡ length more.old.items) }
+    ensures front { OnOk result (take spot.0 (blocks_shown blocks.new.items)
+        ++ blocks_shown more.new.items
+        ≡ joined_blocks (first_of_last spot.1 (take spot.0 (blocks_shown blocks.old.items)))
+        (blocks_shown more.old.items)) }
+    ensures behind { OnOk result ((n : ℕ) → spot.0 ≤ n
+        → drop n (blocks_shown blocks.new.items) ≡ drop n (blocks_shown blocks.old.items)) }
+    ensures starts { OnOk result (more_starts.new.items
+        ≡ drop (seam (take spot.0 (blocks_shown blocks.old.items)) (blocks_shown more.old.items))
+        more_starts.old.items) }
+    ensures room { (deque_len blocks.new ≡ deque_len blocks.old)
+        × (deque_capacity blocks.new ≡ deque_capacity blocks.old) }
+    ensures fewer { (deque_len more.new ≤ deque_len more.old)
+        × (deque_len more_starts.new ≤ deque_len more_starts.old) }
+    ensures kept_room { (deque_capacity more.new ≡ deque_capacity more.old)
+        × (deque_capacity more_starts.new ≡ deque_capacity more_starts.old) }
+    ensures err { OnErr result ((blocks_shown blocks.new.items ≡ blocks_shown blocks.old.items)
+        × (blocks_shown more.new.items ≡ blocks_shown more.old.items)
+        × (more_starts.new.items ≡ more_starts.old.items)) }
+{
+    let (nth, kept) = spot;
+    if nth == 0 {
+        return Ok(());
+    }
+    let last = nth - 1;
+    if !is_same(&blocks[last].handle, &more[0].handle) {
+        shorten(&mut blocks[last], kept);
+        return Ok(());
+    }
+    lengthen(&mut blocks[last], kept, &mut more[0].spans)?;
+    drop_front(more);
+    drop_front(more_starts);
+    Ok(())
+}
+
+/// Drops the first element.
+fn drop_front<T: Drop>(deque: &mut VecDeque<T>)
+    ensures items { deque.new.items ≡ drop 1 deque.old.items }
+    ensures fewer { deque_len deque.new ≤ deque_len deque.old }
+    ensures capacity { deque_capacity deque.new ≡ deque_capacity deque.old }
+{
+    drop(deque.pop_front());
+}
+
+/// Puts a block, whose first entry has this index, after others. Where it has the place of the
+/// last of them its entries go after those of that one.
+pub(super) fn push_block(
+    blocks: &mut VecDeque<Block>,
+    starts: &mut VecDeque<u64>,
+    index: u64,
+    mut block: Block,
+) -> AllocResult<()>
+    ensures blocks { OnOk result (blocks_shown blocks.new.items
+        ≡ joined_blocks (blocks_shown blocks.old.items) (block_spans block ∷ [])) }
+    ensures starts { OnOk result (starts.new.items
+        ≡ starts.old.items
+        ++ drop (seam (blocks_shown blocks.old.items) (block_spans block ∷ [])) (index ∷ [])) }
+    ensures err { OnErr result ((blocks_shown blocks.new.items ≡ blocks_shown blocks.old.items)
+        × (starts.new.items ≡ starts.old.items)) }
+{
+    let len = blocks.len();
+    if len > 0 {
+        let last = len - 1;
+        if is_same(&blocks[last].handle, &block.handle) {
+            let kept = blocks[last].spans.len();
+            return lengthen(&mut blocks[last], kept, &mut block.spans);
+        }
+    }
+    starts.reserve(1)?;
+    blocks.push_back(block)?;
+    starts.push_back_reserved(index);
+    Ok(())
+}
+
+/// Keeps so many entries of a block, and moves more after them.
+fn lengthen(block: &mut Block, kept: usize, more: &mut VecDeque<(u32, u32)>) -> AllocResult<()>
+    requires { kept ≤ length block.old.spans.items }
+    ensures handle { block.new.handle ≡ block.old.handle }
+    ensures ok { OnOk result (block.new.spans.items
+        ≡ take kept block.old.spans.items ++ more.old.items) }
+    ensures err { OnErr result ((block.new.spans.items ≡ block.old.spans.items) ×
+        (more.new.items ≡ more.old.items)) }
+{
+    let len = block.spans.len();
+    block.spans.reserve(more.len().saturating_sub(len - kept))?;
+    block.spans.truncate(kept);
+    if block.spans.append(more).is_err() {
+        unreachable!()
+    }
+    Ok(())
+}
+
+/// Keeps so many entries of a block.
+fn shorten(block: &mut Block, kept: usize)
+    ensures handle { block.new.handle ≡ block.old.handle }
+    ensures spans { block.new.spans.items ≡ take kept block.old.spans.items }
+{
+    block.spans.truncate(kept);
+}
+
+/// Keeps the first `kept` elements and those from `rest` on, and puts more between them. The shorter
+/// end is moved where either deque has room.
+fn splice<T: Drop>(deque: &mut VecDeque<T>, kept: usize, rest: usize, more: &mut VecDeque<T>)
+    requires order { kept ≤ rest }
+    requires within { rest ≤ deque_len deque.old }
+    requires room { (deque_len deque.old + deque_len more.old ≤ deque_capacity deque.old)
+        ⊎ (deque_len deque.old + deque_len more.old ≤ deque_capacity more.old) }
+    ensures items { deque.new.items
+        ≡ take kept deque.old.items ++ more.old.items ++ drop rest deque.old.items }
+    ensures emptied { more.new.items ≡ [] }
+{
+    let behind = deque.len() - rest;
+    let has_room = more.len() <= deque.capacity() - deque.len();
+    deque.rotate_left(rest);
+    deque.truncate(behind + kept);
+    if has_room {
+        append(deque, more);
+        deque.rotate_left(behind);
+        return;
+    }
+    append(more, deque);
+    more.rotate_right(kept);
+    swap(deque, more);
+}
+
+/// Moves more elements after those of a queue that has room for them.
+fn append<T>(deque: &mut VecDeque<T>, more: &mut VecDeque<T>)
+    requires room { deque_len deque.old + deque_len more.old ≤ deque_capacity deque.old }
+    ensures items { deque.new.items ≡ deque.old.items ++ more.old.items }
+    ensures len { deque_len deque.new ≡ deque_len deque.old + deque_len more.old }
+    ensures emptied { more.new.items ≡ [] }
+{
+    if deque.append(more).is_err() {
+        unreachable!()
+    }
+}

@@ -1,0 +1,183 @@
+//! Entries that go, from the front or from the back.
+
+ghost use Rattle.std.specs.Prelude.{◌≡◌, ◌+◌, ◌≤◌, ◌<◌, [], length, take, drop, slice_index_or};
+ghost use Rattle.raft_table.specs.Blocks.{blocks_shown};
+ghost use Rattle.raft_table.specs.BlockWords.{first_of_last, without_first_of_first};
+ghost use Rattle.raft_base.specs.Runs.{end_of};
+ghost use Rattle.raft_table.specs.TableEntries.{below, from, AreCounted, AreRecounted};
+ghost use Rattle.raft_table.specs.Start.{counts_without};
+ghost use Rattle.raft_table.specs.Marks.{entries_within};
+
+use crate::global_stats::GlobalStats;
+use crate::memtable::block::Block;
+use crate::memtable::bounds::capped;
+use crate::memtable::entries::Entries;
+use crate::memtable::entries::block_deques::{find, search};
+use raft_base::LogQueue;
+use std::collections::VecDeque;
+
+impl Entries {
+    /// Drops the entries below an index, and returns how many those were.
+    pub fn compact_to(&mut self, index: u64, stats: &mut GlobalStats) -> u64
+        requires { AreCounted self.old stats.old }
+        ensures entries { self.new ≡ from index self.old }
+        ensures dropped { result + length self.new ≡ length self.old }
+        ensures counts { stats.new ≡ counts_without (below index self.old) stats.old }
+        ensures recounted { AreRecounted self.old self.new stats.old stats.new }
+    {
+        if self.len == 0 {
+            return 0;
+        }
+        if index <= self.first {
+            return 0;
+        }
+        let count = (index - self.first).min(self.len as u64) as usize;
+        let rewritten = self.rewritten.min(count);
+        self.drop_front(count);
+        stats.delete(LogQueue::Rewrite, rewritten);
+        stats.delete(LogQueue::Append, count - rewritten);
+        count as u64
+    }
+
+    /// Drops the entries at or above an index, and returns how many those were.
+    pub fn truncate_from(&mut self, index: u64, stats: &mut GlobalStats) -> u64
+        requires { AreCounted self.old stats.old }
+        ensures entries { self.new ≡ below index self.old }
+        ensures dropped { result + length self.new ≡ length self.old }
+        ensures counts { stats.new ≡ counts_without (from index self.old) stats.old }
+        ensures recounted { AreRecounted self.old self.new stats.old stats.new }
+    {
+        if self.len == 0 {
+            return 0;
+        }
+        let keep = index.saturating_sub(self.first).min(self.len as u64) as usize;
+        let dropped = self.len - keep;
+        let (rewritten, appended) = self.count_behind(keep);
+        self.keep_front(keep);
+        stats.delete(LogQueue::Rewrite, rewritten);
+        stats.delete(LogQueue::Append, appended);
+        dropped as u64
+    }
+
+    /// Drops the entries below an index, and those at or above a bound, if there is one.
+    pub fn keep_within(&mut self, index: u64, cut: Option<u64>, stats: &mut GlobalStats)
+        requires { AreCounted self.old stats.old }
+        ensures entries { self.new ≡ entries_within index cut self.old }
+        ensures recounted { AreRecounted self.old self.new stats.old stats.new }
+    {
+        self.compact_to(index, stats);
+        let Some(cut) = cut else {
+            return;
+        };
+        self.truncate_from(cut, stats);
+    }
+
+    /// Returns the greatest index plus one, 0 without entries.
+    pub fn end(&self) -> u64
+        ensures { result ≡ end_of self.now }
+    {
+        self.holds_one_run();
+        match self.last_index() {
+            Some(last) => last + 1,
+            None => 0,
+        }
+    }
+
+    /// Returns the end of the entries from an index on, and below a bound, if there is one: the
+    /// greatest index plus one, 0 where there are none.
+    pub fn end_within(&self, index: u64, cut: Option<u64>) -> u64
+        ensures { result ≡ end_of (entries_within index cut self.now) }
+    {
+        let end = capped(self.end(), cut);
+        if self.first.max(index) < end {
+            return end;
+        }
+        0
+    }
+
+    /// Drops so many entries from the front.
+    fn drop_front(&mut self, count: usize)
+        requires { count ≤ length self.old }
+        ensures { self.new ≡ drop count self.old }
+    {
+        if count == self.len {
+            self.clear();
+            return;
+        }
+        let index = self.first + count as u64;
+        let (nth, dropped) = find(&self.starts, self.first, self.len, index);
+        drop_front_blocks(&mut self.blocks, nth, dropped);
+        drop_first(&mut self.starts, nth);
+        self.starts[0] = index;
+        self.first = index;
+        self.len -= count;
+        self.rewritten -= self.rewritten.min(count);
+    }
+
+    /// Keeps so many entries from the front.
+    fn keep_front(&mut self, count: usize)
+        requires { count ≤ length self.old }
+        ensures { self.new ≡ take count self.old }
+    {
+        if count == 0 {
+            self.clear();
+            return;
+        }
+        let (nth, last) = search(&self.starts, self.first + (count - 1) as u64);
+        keep_front_blocks(&mut self.blocks, nth, last + 1);
+        self.starts.truncate(nth + 1);
+        self.len = count;
+        self.rewritten = self.rewritten.min(count);
+    }
+
+    /// Drops all entries.
+    pub(super) fn clear(&mut self)
+        ensures { self.new ≡ [] }
+    {
+        self.blocks.clear();
+        self.starts.clear();
+        self.len = 0;
+        self.rewritten = 0;
+    }
+}
+
+/// Keeps so many whole blocks, and so many entries of the next one.
+fn keep_front_blocks(blocks: &mut VecDeque<Block>, nth: usize, kept: usize)
+    requires nth { nth < length blocks.old.items }
+    ensures { blocks_shown blocks.new.items
+        ≡ first_of_last kept (take (nth + 1) (blocks_shown blocks.old.items)) }
+{
+    blocks.truncate(nth + 1);
+    blocks[nth].spans.truncate(kept);
+}
+
+/// Drops whole blocks from the front, and so many entries of the next one.
+fn drop_front_blocks(blocks: &mut VecDeque<Block>, nth: usize, dropped: usize)
+    requires nth { nth < length blocks.old.items }
+    requires dropped { (d : Block) → dropped
+        ≤ length (slice_index_or blocks.old.items nth d).spans.items }
+    ensures { blocks_shown blocks.new.items
+        ≡ without_first_of_first dropped (drop nth (blocks_shown blocks.old.items)) }
+{
+    drop_first(blocks, nth);
+    drop_spans(&mut blocks[0], dropped);
+}
+
+/// Drops so many entries of a block.
+fn drop_spans(block: &mut Block, dropped: usize)
+    requires { dropped ≤ length block.old.spans.items }
+    ensures handle { block.new.handle ≡ block.old.handle }
+    ensures spans { block.new.spans.items ≡ drop dropped block.old.spans.items }
+{
+    drop_first(&mut block.spans, dropped);
+}
+
+/// Drops so many elements from the front.
+fn drop_first<T: Drop>(deque: &mut VecDeque<T>, count: usize)
+    requires { count ≤ length deque.old.items }
+    ensures { deque.new.items ≡ drop count deque.old.items }
+{
+    for _ in 0..count {
+        drop(deque.pop_front());
+    }
+}

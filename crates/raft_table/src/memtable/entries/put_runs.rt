@@ -1,0 +1,224 @@
+//! Runs that become entries, and entries after or between others.
+
+ghost use Rattle.std.specs.Prelude.{◌≡◌, ◌≢◌, ◌+◌, ◌≤◌, ◌<◌, ℕ, [], ◌++◌, length, take, drop, slice_index_or, Some, MatchBool, OnOk, OnErr, IfOk};
+ghost use Rattle.raft_base.specs.declared.pipe_log.LogQueue.TheVariants.{Rewrite};
+ghost use Rattle.raft_base.specs.declared.entry_index.EntryIndex.{EntryIndex};
+ghost use Rattle.raft_table.specs.Blocks.{entries_of_block};
+ghost use Rattle.raft_table.specs.BlockWords.{spans_of};
+ghost use Rattle.raft_table.specs.TableEntries.{AreTableEntries};
+ghost use Rattle.raft_table.specs.Queues.{count_in};
+
+use crate::memtable::block::Block;
+use crate::memtable::entries::Entries;
+use crate::memtable::entries::block_deques::{
+    find, is_same, push_block, put_blocks, search, spans_behind, spot_behind,
+};
+use raft_base::{AllocResult, EntryIndex, FileBlockHandle, LogQueue};
+use std::alloc::Global;
+use std::collections::VecDeque;
+use std::mem::swap;
+
+impl Entries {
+    /// Returns the entries of a run.
+    pub(super) fn from_run(alloc: Global, run: &[EntryIndex]) -> AllocResult<Entries>
+        requires { AreTableEntries run.now }
+        ensures ok { IfOk result (λ entries. entries ≡ run.now) }
+    {
+        let mut entries = Entries::new(alloc);
+        let mut at = 0;
+        while at < run.len() {
+            let Some(handle) = run[at].entries else {
+                unreachable!()
+            };
+            let end = at + count_of(&handle, run, at);
+            let spans = spans_of(alloc, &run[at..end])?;
+            entries.push(run[at].index, handle, spans)?;
+            at = end;
+        }
+        Ok(entries)
+    }
+
+    /// Puts the entries of one block, from an index on, after the others.
+    fn push(
+        &mut self,
+        index: u64,
+        handle: FileBlockHandle,
+        spans: VecDeque<(u32, u32)>,
+    ) -> AllocResult<()>
+        requires filled { 0 < length spans.items }
+        requires table_entries { AreTableEntries
+            (self.old ++ entries_of_block index handle spans.items) }
+        ensures ok { OnOk result
+            (self.new ≡ self.old ++ entries_of_block index handle spans.items) }
+        ensures err { OnErr result (self.new ≡ self.old) }
+    {
+        let count = spans.len();
+        let rewritten = rewritten_in(handle.id.queue, count);
+        push_block(
+            &mut self.blocks,
+            &mut self.starts,
+            index,
+            Block { handle, spans },
+        )?;
+        self.first = first_of(self.len, self.first, index);
+        self.len += count;
+        self.rewritten += rewritten;
+        Ok(())
+    }
+
+    /// Keeps the first `keep` entries, and puts the entries of a run after them.
+    pub(super) fn lay(&mut self, keep: usize, run: &[EntryIndex]) -> AllocResult<()>
+        requires keep { keep ≤ length self.old }
+        requires run { 0 < length run.now }
+        requires table_entries { AreTableEntries (take keep self.old ++ run.now) }
+        ensures ok { OnOk result (self.new ≡ take keep self.old ++ run.now) }
+        ensures err { OnErr result (self.new ≡ self.old) }
+    {
+        let alloc = *self.blocks.allocator();
+        let first = run[0];
+        if let Some(handle) = first.entries
+            && keep == self.len
+            && count_of(&handle, run, 0) == run.len()
+        {
+            let spans = spans_of(alloc, run)?;
+            return self.push(first.index, handle, spans);
+        }
+        let mut entries = Entries::from_run(alloc, run)?;
+        self.put_run(keep, &mut entries)
+    }
+
+    /// Keeps the first `keep` entries, and moves a run after them.
+    pub(super) fn put_run(&mut self, keep: usize, run: &mut Entries) -> AllocResult<()>
+        requires keep { keep ≤ length self.old }
+        requires run { 0 < length run.old }
+        requires table_entries { AreTableEntries (take keep self.old ++ run.old) }
+        ensures ok { OnOk result ((self.new ≡ take keep self.old ++ run.old) × (run.new ≡ [])) }
+        ensures err { OnErr result ((self.new ≡ self.old) × (run.new ≡ run.old)) }
+    {
+        if keep == 0 {
+            swap(self, run);
+            run.clear();
+            return Ok(());
+        }
+        self.join(keep, run)
+    }
+
+    /// Keeps the first `keep` entries, of which there are some, and moves a run after them.
+    fn join(&mut self, keep: usize, run: &mut Entries) -> AllocResult<()>
+        requires keep { (0 < keep) × (keep ≤ length self.old) }
+        requires run { 0 < length run.old }
+        requires table_entries { AreTableEntries (take keep self.old ++ run.old) }
+        ensures ok { OnOk result ((self.new ≡ take keep self.old ++ run.old) × (run.new ≡ [])) }
+        ensures err { OnErr result ((self.new ≡ self.old) × (run.new ≡ run.old)) }
+    {
+        let (nth, last) = search(&self.starts, self.first + (keep - 1) as u64);
+        let rest = self.blocks.len();
+        put_blocks(
+            &mut self.blocks,
+            &mut self.starts,
+            (nth + 1, last + 1),
+            rest,
+            &mut run.blocks,
+            &mut run.starts,
+        )?;
+        self.len = keep + run.len;
+        self.rewritten = self.rewritten.min(keep) + run.rewritten;
+        run.len = 0;
+        run.rewritten = 0;
+        Ok(())
+    }
+
+    /// Puts a run in place of as many entries after the first `at`. Others stand after those.
+    pub(super) fn put_between(&mut self, at: usize, run: Entries) -> AllocResult<()>
+        requires run { 0 < length run }
+        requires behind { at + length run < length self.old }
+        requires table_entries { AreTableEntries
+            (take at self.old ++ run ++ drop (at + length run) self.old) }
+        ensures ok { OnOk result (self.new
+            ≡ take at self.old ++ run ++ drop (at + length run) self.old) }
+        ensures err { OnErr result (self.new ≡ self.old) }
+    {
+        let kept = self.rewritten.min(at);
+        let end = at + run.len;
+        let passed = self.rewritten.min(end);
+        let moved = kept + run.rewritten;
+        let rewritten = moved + (self.rewritten - passed);
+        let index = self.first + end as u64;
+        let (nth, dropped) = find(&self.starts, self.first, self.len, index);
+        let block = &self.blocks[nth];
+        let handle = block.handle;
+        let spans = spans_behind(*self.blocks.allocator(), &block.spans, dropped)?;
+        let spot = spot_behind(&self.starts, self.first, at);
+        let mut blocks = run.blocks;
+        let mut starts = run.starts;
+        push_block(&mut blocks, &mut starts, index, Block { handle, spans })?;
+        put_blocks(
+            &mut self.blocks,
+            &mut self.starts,
+            spot,
+            nth + 1,
+            &mut blocks,
+            &mut starts,
+        )?;
+        self.rewritten = rewritten;
+        Ok(())
+    }
+}
+
+/// Returns the first index of so many entries from `first` on, with others from `index` on after
+/// them.
+fn first_of(len: usize, first: u64, index: u64) -> u64
+    ensures { (len ≡ 0 → result ≡ index) × (0 < len → result ≡ first) }
+{
+    if len == 0 { index } else { first }
+}
+
+/// Returns how many of so many entries in `queue` are rewritten.
+fn rewritten_in(queue: LogQueue, count: usize) -> usize
+    ensures { result ≡ count_in Rewrite queue count }
+{
+    match queue {
+        LogQueue::Append => 0,
+        LogQueue::Rewrite => count,
+    }
+}
+
+/// Returns how many entries of a run, after the first `at` ones, have this place, up to the first
+/// that has another or none.
+fn count_of(handle: &FileBlockHandle, run: &[EntryIndex], at: usize) -> usize
+    requires { at ≤ length run.now }
+    ensures within { at + result ≤ length run.now }
+    ensures all { (j : ℕ) (d : EntryIndex) → at ≤ j → j < at + result
+        → (slice_index_or run.now j d).entries ≡ Some handle.now }
+    ensures some { (d : EntryIndex) → at < length run.now →
+        (slice_index_or run.now at d).entries ≡ Some handle.now → 0 < result }
+{
+    for i in at..run.len() {
+        if !has_place(&run[i], handle) {
+            return i - at;
+        }
+    }
+    run.len() - at
+}
+
+/// Tests whether an entry has this place.
+fn has_place(entry: &EntryIndex, handle: &FileBlockHandle) -> bool
+    ensures { MatchBool result (entry.now.entries ≡ Some handle.now)
+        (entry.now.entries ≢ Some handle.now) }
+{
+    match entry.entries {
+        Some(own) => is_same(&own, handle),
+        None => false,
+    }
+}
+
+/// Returns the spans of entries.
+fn spans_of(alloc: Global, run: &[EntryIndex]) -> AllocResult<VecDeque<(u32, u32)>>
+    ensures ok { IfOk result (λ spans. spans.items ≡ spans_of run.now) }
+{
+    let mut spans = Vec::with_capacity(alloc, run.len())?;
+    for entry in run {
+        spans.push_reserved((entry.entry_offset, entry.entry_len));
+    }
+    Ok(VecDeque::from_vec(spans))
+}

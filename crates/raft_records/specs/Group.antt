@@ -73,8 +73,8 @@ pub record IsGroupMarkerFault (item : Item) (e : Error) : Type 0 where
   pub marker : marker_byte item.content ≡ Some byte
   pub fault : IsStatusFault byte e
 
--- a group that is being written: its id, and the status of the last group marker that was added, if any
-pub record Group : Type 0 where
+-- a builder: its group's id, and the status of the last group marker that was added, if any
+pub record AtomicGroupBuilder : Type 0 where
   pub id : ℕ
   pub state : Option AtomicGroupStatus
 

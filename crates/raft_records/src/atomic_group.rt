@@ -106,9 +106,9 @@ pub struct AtomicGroupBuilder {
 }
 
 impl Model for AtomicGroupBuilder {
-    ghost use Rattle.raft_records.specs.Group.{Group};
+    ghost use Rattle.raft_records.specs.Group.{AtomicGroupBuilder};
 
-    ghost Value = { Group };
+    ghost Value = { AtomicGroupBuilder };
 
     ghost view = { λ group. record { id = group.id; state = group.status } };
 }

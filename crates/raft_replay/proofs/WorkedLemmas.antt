@@ -12,7 +12,7 @@ use Rattle.raft_history.specs.Batches.{Event}
 use Rattle.raft_replay.specs.declared.piece.Piece.{Piece}
 use Rattle.raft_replay.specs.declared.workers.Worked.{Worked}
 use Rattle.raft_replay.specs.Covers.{IsPieceOf, covers, IsDone, AreDone, Gives}
-use Rattle.raft_tickets.specs.Draws.{TicketBook, Drawer, IsSeatOf, HasEnded, once_below, IsOpenRefusal}
+use Rattle.raft_tickets.specs.Draws.{Tickets, TicketSeat, IsSeatOf, HasEnded, once_below, IsOpenRefusal}
 use Rattle.raft_replay.specs.Segments.{CannotBeRead}
 use Rattle.raft_tickets.specs.Weights.{weigh, occurrences}
 use Rattle.raft_replay.specs.WorkedWords.{IsBack, HasRefusal}
@@ -26,7 +26,7 @@ all_at P xs front x rest all is =
 
 module _ {M : Type 0} (stands_exactly : M → List Event → Type 0) where
   -- one more is back
-  pub done_more : (segments : List (Vec Part Global)) (tickets : TicketBook) (seats : List Drawer) (pieces made : List (Piece M)) (seat : Drawer)
+  pub done_more : (segments : List (Vec Part Global)) (tickets : Tickets) (seats : List TicketSeat) (pieces made : List (Piece M)) (seat : TicketSeat)
       → AreDone stands_exactly segments tickets seats pieces → IsSeatOf tickets seat → IsDone stands_exactly segments seat.drawn made
       → AreDone stands_exactly segments tickets (seats ++ seat ∷ []) (pieces ++ made)
   done_more segments tickets seats pieces made seat done of more = record {
@@ -34,9 +34,9 @@ module _ {M : Type 0} (stands_exactly : M → List Event → Type 0) where
     each = All-append (IsPieceOf stands_exactly segments) pieces made done.each more.each;
     covered = λ x small.
         let a = weigh-append (λ (p : Piece M). covers p.from p.count x) pieces made in
-        let b = weigh-append (λ (s : Drawer). occurrences x s.drawn) seats (seat ∷ []) in
+        let b = weigh-append (λ (s : TicketSeat). occurrences x s.drawn) seats (seat ∷ []) in
         let c = done.covered x small in let d = more.covered x small in omega arith;
-    ended = All-push (λ (s : Drawer). HasEnded (length segments) s.drawn) seats seat done.ended more.ended;
+    ended = All-push (λ (s : TicketSeat). HasEnded (length segments) s.drawn) seats seat done.ended more.ended;
   }
 
   gives_back : (Own : Error → Type 0) (segments : List (Vec Part Global)) (drawn : List ℕ) (r : Result (Vec (Piece M) Global) Error)
@@ -45,12 +45,12 @@ module _ {M : Type 0} (stands_exactly : M → List Event → Type 0) where
   gives_back Own segments drawn (Err e) refused = tt
 
   -- what workers give back
-  pub are_back : (Own : Error → Type 0) (segments : List (Vec Part Global)) (tickets : TicketBook) (worked : List (Worked M))
+  pub are_back : (Own : Error → Type 0) (segments : List (Vec Part Global)) (tickets : Tickets) (worked : List (Worked M))
       → All (λ w. IsSeatOf tickets w.seat × Gives stands_exactly Own segments w.seat.drawn w.pieces) worked → All (IsBack stands_exactly segments tickets) worked
   are_back Own segments tickets worked all k d small =
       let one = all k d small in (one.0, gives_back Own segments (get_or worked k d).seat.drawn (get_or worked k d).pieces one.1)
 
-  pub worker_refused : (Own : Error → Type 0) (segments : List (Vec Part Global)) (tickets : TicketBook) (worked : List (Worked M)) (e : Error)
+  pub worker_refused : (Own : Error → Type 0) (segments : List (Vec Part Global)) (tickets : Tickets) (worked : List (Worked M)) (e : Error)
       → All (λ w. IsSeatOf tickets w.seat × Gives stands_exactly Own segments w.seat.drawn w.pieces) worked → HasRefusal worked e
       → e ≢ Memory → ¬ (Own e) → CannotBeRead segments
   worker_refused Own segments tickets worked e all refused =
@@ -70,11 +70,11 @@ once_of_below : (x n : ℕ) → x < n → once_below x n ≡ 1
 once_of_below x n h = grind (arith, nat_tests)
 
 -- where every seat has ended, every number below the total was drawn, once
-pub all_drawn : (total word : ℕ) (seats : List Drawer) → 0 < length seats → All (λ s. HasEnded total s.drawn) seats
-    → ((x : ℕ) → weigh (λ (s : Drawer). occurrences x s.drawn) seats ≡ once_below x word) → (x : ℕ) → x < total → weigh (λ (s : Drawer). occurrences x s.drawn) seats ≡ 1
+pub all_drawn : (total word : ℕ) (seats : List TicketSeat) → 0 < length seats → All (λ s. HasEnded total s.drawn) seats
+    → ((x : ℕ) → weigh (λ (s : TicketSeat). occurrences x s.drawn) seats ≡ once_below x word) → (x : ℕ) → x < total → weigh (λ (s : TicketSeat). occurrences x s.drawn) seats ≡ 1
 all_drawn total word [] none all drawn x small = absurd (omega arith)
 all_drawn total word (s ∷ seats) some_seats all drawn x small =
-    let ended = (recursion_from_All (λ (t : Drawer). HasEnded total t.drawn) (s ∷ seats) all).0 in
+    let ended = (recursion_from_All (λ (t : TicketSeat). HasEnded total t.drawn) (s ∷ seats) all).0 in
     let last = times_last ended.last ended.front in
     let counted : occurrences ended.last s.drawn ≡ occurrences ended.last (ended.front ++ ended.last ∷ []) = ap (occurrences ended.last) ended.split in
     let all_seats = drawn ended.last in

@@ -7,7 +7,7 @@ use Rattle.raft_records.specs.FilePart.{Part}
 use Rattle.raft_history.specs.Batches.{Event}
 use Rattle.raft_history.specs.Histories.{IsSmall}
 use Rattle.raft_replay.specs.declared.piece.Piece.{Piece}
-use Rattle.raft_tickets.specs.Draws.{TicketBook, Drawer, IsSeatOf, HasEnded}
+use Rattle.raft_tickets.specs.Draws.{Tickets, TicketSeat, IsSeatOf, HasEnded}
 use Rattle.raft_replay.specs.Segments.{SegmentsHold, CannotBeRead}
 use Rattle.raft_tickets.specs.Weights.{weigh, occurrences}
 
@@ -46,7 +46,7 @@ Gives stands_exactly Own segments drawn result =
     MatchResult result (λ v. IsDone stands_exactly segments drawn v.items) (λ e. e ≢ Memory → ¬ (Own e) → CannotBeRead segments)
 
 -- what all seats and all pieces are once every worker is back
-pub record AreDone {M : Type 0} (stands_exactly : M → List Event → Type 0) (segments : List (Vec Part Global)) (tickets : TicketBook) (seats : List Drawer) (pieces : List (Piece M)) : Type 0 where
+pub record AreDone {M : Type 0} (stands_exactly : M → List Event → Type 0) (segments : List (Vec Part Global)) (tickets : Tickets) (seats : List TicketSeat) (pieces : List (Piece M)) : Type 0 where
   pub of_tickets : All (IsSeatOf tickets) seats
   pub each : All (IsPieceOf stands_exactly segments) pieces
   pub covered : (x : ℕ) → x < length segments → cover_count x pieces ≡ weigh (λ seat. occurrences x seat.drawn) seats

@@ -6,10 +6,10 @@ use Rattle.raft_records.specs.FilePart.{Part}
 use Rattle.raft_history.specs.Batches.{Event}
 use Rattle.raft_replay.specs.declared.workers.Worked.{Worked}
 use Rattle.raft_replay.specs.Covers.{IsDone}
-use Rattle.raft_tickets.specs.Draws.{TicketBook, IsSeatOf}
+use Rattle.raft_tickets.specs.Draws.{Tickets, IsSeatOf}
 
 -- a worker that gave back its seat, and pieces if it wasn't refused
-abbrev pub IsBack : {M : Type 0} → (M → List Event → Type 0) → List (Vec Part Global) → TicketBook → Worked M → Type 0
+abbrev pub IsBack : {M : Type 0} → (M → List Event → Type 0) → List (Vec Part Global) → Tickets → Worked M → Type 0
 IsBack stands_exactly segments tickets worked =
     IsSeatOf tickets worked.seat × IfOk worked.pieces (λ v. IsDone stands_exactly segments worked.seat.drawn v.items)
 

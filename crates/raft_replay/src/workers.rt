@@ -5,7 +5,7 @@ ghost use Rattle.std.specs.Global.{Global};
 ghost use Rattle.raft_records.specs.FilePart.{Part};
 ghost use Rattle.raft_base.specs.Errors.{IsInvalidArgument};
 ghost use Rattle.raft_replay.specs.Covers.{IsPieceOf, CoverOnce, AreDone, Gives};
-ghost use Rattle.raft_tickets.specs.Draws.{TicketBook, IsSeatOf, IsNewSeatOf};
+ghost use Rattle.raft_tickets.specs.Draws.{Tickets, IsSeatOf, IsNewSeatOf};
 ghost use Rattle.raft_replay.specs.WorkedWords.{IsBack, HasRefusal};
 ghost use Rattle.raft_replay.specs.Segments.{CannotBeRead, MayReplay};
 ghost use Rattle.raft_replay.specs.Replays.{IsReplayed};
@@ -132,7 +132,7 @@ fn gather<M: ReplayMachine>(
     alloc: Global,
     worked: Vec<Worked<M>>,
 ) -> Result<(Vec<TicketSeat>, Vec<Piece<M>>)>
-    ensures ok { (segments : List (Vec Part Global)) (tickets : TicketBook)
+    ensures ok { (segments : List (Vec Part Global)) (tickets : Tickets)
         → All (IsBack M.stands_exactly segments tickets) worked.items
         → IfOk result (λ r. AreDone M.stands_exactly segments tickets r.0.items r.1.items) }
     ensures count { IfOk result (λ r. vec_len r.0 ≡ vec_len worked) }

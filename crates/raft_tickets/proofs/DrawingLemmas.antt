@@ -6,7 +6,7 @@ use mathlib.Core.Option.{some, some-injective, some-ne-none}
 use lib.ListN.{get_elem?}
 use Rattle.atomic_table.specs.Table.{State, Me, keeps, Allows, Splits, Joins}
 use Rattle.raft_tickets.specs.Weights.{weigh, occurrences}
-use Rattle.raft_tickets.specs.Draws.{Drawer, AreBelow, AreAbove, Rises, once_below}
+use Rattle.raft_tickets.specs.Draws.{TicketSeat, AreBelow, AreAbove, Rises, once_below}
 use Rattle.raft_tickets.specs.Drawing.{lists_in, occurrences_in, times_passed, times_passed_in, IsDrawn, HasDrawn, only, Continues, IsDrawer}
 use Rattle.raft_tickets.proofs.WeightLemmas.{weigh-append, weigh-set, weigh_at, weigh_cut, weigh-replicate, weigh_le, weigh_all_of_one}
 
@@ -240,12 +240,12 @@ word_is [] word at = absurd (some-ne-none word (sym at))
 word_is (w ∷ words) word at = some-injective w word at
 
 -- once one seat has all lists, the numbers of all seats are those below the word
-pub closed_draws : (total seats id word : ℕ) (first view : List (List ℕ)) (drawn : List ℕ) (others : List Drawer) (words : List ℕ)
+pub closed_draws : (total seats id word : ℕ) (first view : List (List ℕ)) (drawn : List ℕ) (others : List TicketSeat) (words : List ℕ)
     → first ≡ drawn ∷ []
-    → ((f : List ℕ → ℕ) → weigh f view ≡ weigh f first + weigh (λ (d : Drawer). f d.drawn) others)
+    → ((f : List ℕ → ℕ) → weigh f view ≡ weigh f first + weigh (λ (d : TicketSeat). f d.drawn) others)
     → length others + 1 ≡ seats
     → (s : St) → IsDrawn total seats s.words s.views → get_elem? s.views id ≡ some view → s.words ≡ words → get_elem? words 0 ≡ some word
-    → (x : ℕ) → weigh (λ (d : Drawer). occurrences x d.drawn) others + occurrences x drawn ≡ once_below x word
+    → (x : ℕ) → weigh (λ (d : TicketSeat). occurrences x d.drawn) others + occurrences x drawn ≡ once_below x word
 closed_draws total seats id word first view drawn others words one joined all s r at same here x =
     let lists = joined (λ _. 1) in
     let ones = weigh_ones others in

@@ -6,35 +6,35 @@ use Rattle.raft_base.specs.declared.errors.Error.{Error}
 use Rattle.raft_base.specs.declared.errors.Error.TheVariants as errors
 
 -- a seat: where it draws, how many numbers are returned there, and the numbers that it drew, in order
-pub record Drawer : Type 0 where
+pub record TicketSeat : Type 0 where
   pub table : TableId
   pub total : ℕ
   pub drawn : List ℕ
 
 -- tickets: where they are drawn, how many numbers are returned, and how many seats draw
-pub record TicketBook : Type 0 where
+pub record Tickets : Type 0 where
   pub table : TableId
   pub total : ℕ
   pub seats : ℕ
 
 -- a seat as where it draws, the total and its numbers
-abbrev pub drawer_code : Coded Drawer
-drawer_code =
+abbrev pub ticket_seat_code : Coded TicketSeat
+ticket_seat_code =
     code_by (TableId × (ℕ × List ℕ)) (coded× table_id_coded (coded× coded_ℕ (coded_list coded_ℕ)))
     (λ d. (d.table, (d.total, d.drawn))) (λ p. record { table = p.0; total = p.1.0; drawn = p.1.1 }) (λ _. refl)
 
 -- tickets as where they are drawn, the total and the count of seats
-abbrev pub ticket_book_code : Coded TicketBook
-ticket_book_code =
+abbrev pub tickets_code : Coded Tickets
+tickets_code =
     code_by (TableId × (ℕ × ℕ)) (coded× table_id_coded (coded× coded_ℕ coded_ℕ))
     (λ t. (t.table, (t.total, t.seats))) (λ p. record { table = p.0; total = p.1.0; seats = p.1.1 }) (λ _. refl)
 
 -- a seat of these tickets
-abbrev pub IsSeatOf : TicketBook → Drawer → Type 0
+abbrev pub IsSeatOf : Tickets → TicketSeat → Type 0
 IsSeatOf tickets seat = (seat.table ≡ tickets.table) × (seat.total ≡ tickets.total)
 
 -- a seat of these tickets that has drawn nothing
-abbrev pub IsNewSeatOf : TicketBook → Drawer → Type 0
+abbrev pub IsNewSeatOf : Tickets → TicketSeat → Type 0
 IsNewSeatOf tickets seat = IsSeatOf tickets seat × (seat.drawn ≡ [])
 
 -- each of the numbers is below n

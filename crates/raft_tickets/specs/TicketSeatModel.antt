@@ -2,11 +2,11 @@
 use Rattle.std.specs.Prelude.{◌≡◌, []}
 use Rattle.raft_tickets.specs.declared.ticket_seat.TicketSeat.TheInside.{Inside}
 use Rattle.raft_tickets.specs.Drawing.{IsDrawer, only}
-use Rattle.raft_tickets.specs.Draws.{Drawer}
+use Rattle.raft_tickets.specs.Draws.{TicketSeat}
 
 -- the seat as its callers see it
-abbrev pub drawer_in : Inside → Drawer
-drawer_in s = record { table = s.seat.table_id; total = s.total; drawn = only s.seat.me.0 }
+abbrev pub ticket_seat_in : Inside → TicketSeat
+ticket_seat_in s = record { table = s.seat.table_id; total = s.total; drawn = only s.seat.me.0 }
 
 -- what the seat drew rises, up to its end, and it holds no slot
 abbrev pub DrawsOnward : Inside → Type 0

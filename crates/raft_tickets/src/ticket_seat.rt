@@ -13,15 +13,15 @@ pub struct TicketSeat {
 }
 
 impl Model for TicketSeat {
-    ghost use Rattle.raft_tickets.specs.Draws.{Drawer, drawer_code};
+    ghost use Rattle.raft_tickets.specs.Draws.{TicketSeat, ticket_seat_code};
 
-    ghost Value = { Drawer };
+    ghost Value = { TicketSeat };
 
-    ghost coded = { drawer_code };
+    ghost coded = { ticket_seat_code };
 
-    ghost use Rattle.raft_tickets.specs.TicketSeatModel.{drawer_in, DrawsOnward};
+    ghost use Rattle.raft_tickets.specs.TicketSeatModel.{ticket_seat_in, DrawsOnward};
 
-    ghost view = { drawer_in };
+    ghost view = { ticket_seat_in };
 
     ghost invariant = { DrawsOnward };
 }

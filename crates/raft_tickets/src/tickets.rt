@@ -22,15 +22,15 @@ pub struct Tickets {
 }
 
 impl Model for Tickets {
-    ghost use Rattle.raft_tickets.specs.Draws.{TicketBook, ticket_book_code};
+    ghost use Rattle.raft_tickets.specs.Draws.{Tickets, tickets_code};
 
-    ghost Value = { TicketBook };
+    ghost Value = { Tickets };
 
-    ghost coded = { ticket_book_code };
+    ghost coded = { tickets_code };
 
-    ghost use Rattle.raft_tickets.specs.TicketModel.{book_in, IsOpen};
+    ghost use Rattle.raft_tickets.specs.TicketModel.{tickets_in, IsOpen};
 
-    ghost view = { book_in };
+    ghost view = { tickets_in };
 
     ghost invariant = { IsOpen };
 }

@@ -1,7 +1,7 @@
 use Rattle.std.proofs.Common.{ℕ, ◌≡◌, ◌+◌, List, [], drop, take, length, replicate, sym, ap, ◌∙◌, arith}
 use Rattle.std.proofs.lemmas.List.{length_push}
 use Rattle.std.proofs.lemmas.List.Elements.{All-push}
-use Rattle.raft_tickets.specs.Draws.{Drawer}
+use Rattle.raft_tickets.specs.Draws.{TicketSeat}
 use Rattle.raft_tickets.proofs.DrawingLemmas.{nothing, splits, first_left, last_left, fewer_left}
 use Rattle.raft_tickets.proofs.tickets.split_seats.Goals as goal
 
@@ -27,7 +27,7 @@ loop-preserved c =
           let same = ap (λ (k : ℕ). drop k (replicate c.args.count nothing)) (sym more) in
           c.split_seat-seat.ensures.2 ∙ lists ∙ ap (λ (l : List (List ℕ)). (l, [])) (fewer ∙ same);
       made = let m = c.loop.invariant.made in omega arith;
-      new = rw items (All-push (λ (d : Drawer). (d.table ≡ c.args.shared.now.table_id) × (d.total ≡ c.args.total) × (d.drawn ≡ []))
+      new = rw items (All-push (λ (d : TicketSeat). (d.table ≡ c.args.shared.now.table_id) × (d.total ≡ c.args.total) × (d.drawn ≡ []))
           c.loop.seats.items c.new_seat.result c.loop.invariant.new
           (c.new_seat.ensures.0 ∙ c.split_seat-seat.ensures.3 ∙ c.loop.invariant.table, c.new_seat.ensures.1, c.new_seat.ensures.2));
     }

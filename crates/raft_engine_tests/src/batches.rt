@@ -1,7 +1,7 @@
 //! What the batches of the histories say.
 
 ghost use Rattle.std.specs.Prelude.{◌≡◌, IfOk, OnOk};
-ghost use Rattle.raft_records.specs.LogBatch.{populating};
+ghost use Rattle.raft_records.specs.LogBatch.{is_open};
 
 use raft_base::{Message, MessageError, MessageExt};
 use raft_records::{AtomicGroupBuilder, Command, LogBatch, Result};
@@ -63,7 +63,7 @@ impl MessageExt for Entries {
 
 /// Returns a batch of these items.
 pub fn batch_of(alloc: Global, parts: &[Part]) -> Result<LogBatch>
-    ensures { IfOk result (λ batch. batch.stage ≡ populating) }
+    ensures { IfOk result (λ batch. batch.stage ≡ is_open) }
 {
     let mut batch = LogBatch::default(alloc);
     for part in parts {
@@ -73,8 +73,8 @@ pub fn batch_of(alloc: Global, parts: &[Part]) -> Result<LogBatch>
 }
 
 fn add(alloc: Global, batch: &mut LogBatch, part: Part) -> Result<()>
-    requires { batch.old.stage ≡ populating }
-    ensures { OnOk result (batch.new.stage ≡ populating) }
+    requires { batch.old.stage ≡ is_open }
+    ensures { OnOk result (batch.new.stage ≡ is_open) }
 {
     match part {
         Part::Entries(first, end) => {
@@ -103,8 +103,8 @@ fn entries_from(alloc: Global, first: u64, end: u64) -> Result<Vec<Entry>> {
 
 /// Ends a group that another batch began.
 fn end(alloc: Global, batch: &mut LogBatch, id: u64) -> Result<()>
-    requires { batch.old.stage ≡ populating }
-    ensures { OnOk result (batch.new.stage ≡ populating) }
+    requires { batch.old.stage ≡ is_open }
+    ensures { OnOk result (batch.new.stage ≡ is_open) }
 {
     let mut group = AtomicGroupBuilder::with_id(id);
     group.begin(&mut LogBatch::default(alloc))?;

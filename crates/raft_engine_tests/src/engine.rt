@@ -1,7 +1,7 @@
 //! An engine that keeps tables and writes files of both queues, all in memory.
 
 ghost use Rattle.std.specs.Prelude.{◌≡◌};
-ghost use Rattle.raft_records.specs.LogBatch.{populating};
+ghost use Rattle.raft_records.specs.LogBatch.{is_open};
 
 use crate::batches::{Part, REGION, batch_of};
 use raft_base::{EntryIndex, FileBlockHandle, FileId, FileSeq, LogFileContext, LogQueue, Version};
@@ -85,7 +85,7 @@ impl Engine {
 
     /// Appends the bytes of a batch to a file, and gives its items their places.
     fn write(&mut self, queue: LogQueue, seq: FileSeq, mut batch: LogBatch) -> Result<LogBatch>
-        requires { batch.stage ≡ populating }
+        requires { batch.stage ≡ is_open }
     {
         let context = LogFileContext::new(FileId::new(queue, seq), Version::V2);
         let len = batch.finish_populate()?;

@@ -1,7 +1,7 @@
 //! The logs of many regions in a folder.
 
 ghost use Rattle.std.specs.Prelude.{◌≡◌};
-ghost use Rattle.raft_records.specs.LogBatch.{populating};
+ghost use Rattle.raft_records.specs.LogBatch.{is_open};
 
 mod rewriting;
 
@@ -93,7 +93,7 @@ impl<'a, R: Host> Store<'a, R> {
 
     /// Writes a batch to the append queue, and then to the tables. With `sync` it lasts once the call returns `Ok`.
     pub(crate) fn write(&mut self, mut batch: LogBatch, sync: bool) -> Result<()>
-        requires { batch.stage ≡ populating }
+        requires { batch.stage ≡ is_open }
     {
         if batch.is_empty() {
             return Ok(());
@@ -116,7 +116,7 @@ impl<'a, R: Host> Store<'a, R> {
 
     /// Writes a batch to the last file of a queue, which is returned, and gives its items their places.
     fn append(&mut self, queue: LogQueue, batch: &mut LogBatch) -> Result<FileSeq>
-        requires { batch.old.stage ≡ populating }
+        requires { batch.old.stage ≡ is_open }
     {
         if self.pipe.last_len(queue)? >= self.file_size {
             self.rotate(queue)?;

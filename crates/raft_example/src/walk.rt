@@ -1,7 +1,7 @@
 //! What a store does, step by step, with what it holds before and after each restart.
 
 ghost use Rattle.std.specs.Prelude.{◌≡◌, OnOk};
-ghost use Rattle.raft_records.specs.LogBatch.{populating};
+ghost use Rattle.raft_records.specs.LogBatch.{is_open};
 
 mod damage;
 mod sharing;
@@ -155,8 +155,8 @@ fn rewrite_again<R: Host + Print>(rt: &R, store: &mut Store<'_, R>) -> Result<()
 
 /// Adds proposals of a region to a batch, the first of them at an index.
 fn add(alloc: Global, batch: &mut LogBatch, region: u64, first: u64, texts: &[&str]) -> Result<()>
-    requires { batch.old.stage ≡ populating }
-    ensures { OnOk result (batch.new.stage ≡ populating) }
+    requires { batch.old.stage ≡ is_open }
+    ensures { OnOk result (batch.new.stage ≡ is_open) }
 {
     let mut proposals = Vec::new(alloc);
     for (index, text) in (first..).zip(texts) {
@@ -167,8 +167,8 @@ fn add(alloc: Global, batch: &mut LogBatch, region: u64, first: u64, texts: &[&s
 
 /// Adds a key value of a region to a batch.
 fn put(alloc: Global, batch: &mut LogBatch, region: u64, key: &str, value: &str) -> Result<()>
-    requires { batch.old.stage ≡ populating }
-    ensures { OnOk result (batch.new.stage ≡ populating) }
+    requires { batch.old.stage ≡ is_open }
+    ensures { OnOk result (batch.new.stage ≡ is_open) }
 {
     let key = Vec::from_slice(alloc, key.as_bytes())?;
     let value = Vec::from_slice(alloc, value.as_bytes())?;

@@ -6,7 +6,7 @@ use Rattle.raft_base.specs.declared.pipe_log.LogQueue.TheVariants.{Append}
 use Rattle.raft_base.specs.declared.pipe_log.Version.{Version}
 use Rattle.raft_records.specs.Item.{Item}
 use Rattle.raft_records.specs.ItemBatch.{entry_bytes_of}
-use Rattle.raft_records.specs.LogBatch.{Batch, Stage, IsBatchOf, empty_batch, log_batch_bytes, populating}
+use Rattle.raft_records.specs.LogBatch.{Batch, Stage, IsBatchOf, empty_batch, log_batch_bytes, is_open}
 use Rattle.raft_memtable.specs.Accessor.{Accessor}
 use Rattle.raft_recover.specs.Requests.{NumberedBytes}
 use Rattle.raft_log.specs.KeptLog.{KeptLog}
@@ -43,7 +43,7 @@ none_of_length [] e = refl
 none_of_length (x ∷ xs) e = absurd (omega (arith, e))
 
 -- an open batch without items has no entry bytes either
-pub empty_is : (batch : Batch) → batch.items ≡ [] → batch.stage ≡ populating → IsBatchOf batch.items batch.entry_bytes → batch ≡ empty_batch
+pub empty_is : (batch : Batch) → batch.items ≡ [] → batch.stage ≡ is_open → IsBatchOf batch.items batch.entry_bytes → batch ≡ empty_batch
 empty_is batch none populated is =
     ap (λ (l : List Item). record { items = l; entry_bytes = batch.entry_bytes; stage = batch.stage }) none
     ∙ ap (λ (l : List ℕ). record { items = []; entry_bytes = l; stage = batch.stage }) (none_of_length batch.entry_bytes (is.whole ∙ ap entry_bytes_of none))

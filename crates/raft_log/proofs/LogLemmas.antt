@@ -11,7 +11,7 @@ use Rattle.raft_base.specs.declared.pipe_log.FileBlockHandle.{FileBlockHandle}
 use Rattle.raft_base.specs.declared.pipe_log.LogFileContext.{LogFileContext}
 use Rattle.raft_records.specs.Item.{Item, AreInBytes}
 use Rattle.raft_records.specs.ItemBatch.{placed_item}
-use Rattle.raft_records.specs.LogBatch.{Batch, populating, sealed, IsBatchOf, encoded_length, entry_place, log_batch_bytes}
+use Rattle.raft_records.specs.LogBatch.{Batch, is_open, sealed, IsBatchOf, encoded_length, entry_place, log_batch_bytes}
 use Rattle.raft_records.specs.Range.{AreInRange}
 use Rattle.raft_memtable.specs.Accessor.{Accessor}
 use Rattle.raft_memtable.specs.Batches.{Event}
@@ -226,7 +226,7 @@ put_so law in_file file old new before after offset len batch in_range in_bytes 
       longer = let n = ap length new_is in let m = length-append old bytes in omega (arith, n, m);
     }
 
-pub sealed_is_shut : (signature : Option ℕ) → sealed signature ≡ populating → ⊥
+pub sealed_is_shut : (signature : Option ℕ) → sealed signature ≡ is_open → ⊥
 sealed_is_shut signature e = cc
 
 -- ---- a log whose places move

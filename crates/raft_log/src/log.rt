@@ -5,7 +5,7 @@ ghost use Rattle.raft_base.specs.declared.pipe_log.LogQueue.TheVariants.{Append}
 ghost use Rattle.raft_base.specs.Errors.{IsInvalidArgument};
 ghost use Rattle.raft_records.specs.Item.{command_item};
 ghost use Rattle.raft_records.specs.declared.command.Command.TheVariants.{Clean};
-ghost use Rattle.raft_records.specs.LogBatch.{populating, empty_batch};
+ghost use Rattle.raft_records.specs.LogBatch.{is_open, empty_batch};
 ghost use Rattle.raft_memtable.specs.AppendChecks.{AreAccepted, AreAcceptedOncePlaced};
 ghost use Rattle.raft_memtable.specs.Writes.{Appending, Rewriting, AreWritten};
 ghost use Rattle.raft_recover.specs.Files.{FilesCannotBeRead, FilesHold, bytes_of_files, file_shown};
@@ -184,7 +184,7 @@ impl Log {
     /// also come once the bytes stand in the file: the items in front of the refused one are then written, the log isn't
     /// intact any more, and the batch is empty.
     pub fn write(&mut self, batch: &mut LogBatch) -> Result<()>
-        requires { batch.old.stage ≡ populating }
+        requires { batch.old.stage ≡ is_open }
         ensures ok { OnOk result ((batch.old.items ≡ []) × (self.new ≡ self.old)
             ⊎ IsOneMore batch.old self.old self.new) }
         ensures bytes { OnOk result (AreBytesAdded (bytes_for (last_file self.old) batch.old)
@@ -399,7 +399,7 @@ fn numbers_rise(files: &Vec<(FileSeq, Vec<u8>)>) -> bool
 /// `Full` where the batch has 2^56 bytes or more, `Memory`. The bytes are then as they were, and the batch too, but after
 /// `Memory` it may be sealed for the file.
 fn put_after(file: &LogFileContext, bytes: &mut Vec<u8>, batch: &mut LogBatch) -> Result<()>
-    requires populating { batch.old.stage ≡ populating }
+    requires open { batch.old.stage ≡ is_open }
     requires some { batch.old.items ≢ [] }
     ensures put { OnOk result (IsPutAfter file.now batch.new.items bytes.old.items
         bytes.new.items) }

@@ -1,7 +1,7 @@
 //! Files of one batch, and their replay.
 
 ghost use Rattle.std.specs.Prelude.{◌≡◌};
-ghost use Rattle.raft_records.specs.LogBatch.{populating};
+ghost use Rattle.raft_records.specs.LogBatch.{is_open};
 
 use raft_memtable::{FileId, MemTableRecoverContext, Result};
 use raft_records::{FilePart, LogBatch, LogFileContext, Version, next_batch};
@@ -9,7 +9,7 @@ use std::alloc::Global;
 
 /// Returns a file that holds this batch alone.
 pub(crate) fn file_of(alloc: Global, file: FileId, mut batch: LogBatch) -> Result<FilePart>
-    requires { batch.stage ≡ populating }
+    requires { batch.stage ≡ is_open }
 {
     batch.finish_populate()?;
     batch.prepare_write(&LogFileContext::new(file, Version::V1));

@@ -1,7 +1,7 @@
 //! Contexts of the rewrite queue: batches with group markers in any order, and batches that are refused.
 
 ghost use Rattle.std.specs.Prelude.{◌≡◌, OnOk};
-ghost use Rattle.raft_records.specs.LogBatch.{populating};
+ghost use Rattle.raft_records.specs.LogBatch.{is_open};
 
 use crate::files::{file_of, replay_file};
 use AtomicGroupStatus::{Begin, End, Middle};
@@ -27,8 +27,8 @@ pub(crate) fn add_marker(
     status: AtomicGroupStatus,
     batch: &mut LogBatch,
 ) -> Result<()>
-    requires { batch.old.stage ≡ populating }
-    ensures { OnOk result (batch.new.stage ≡ populating) }
+    requires { batch.old.stage ≡ is_open }
+    ensures { OnOk result (batch.new.stage ≡ is_open) }
 {
     let mut builder = AtomicGroupBuilder::with_id(group);
     if status == Begin {

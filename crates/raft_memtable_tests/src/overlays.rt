@@ -1,7 +1,7 @@
 //! Contexts of the rewrite queue that take in the context of the append queue.
 
 ghost use Rattle.std.specs.Prelude.{◌≡◌, OnOk};
-ghost use Rattle.raft_records.specs.LogBatch.{populating};
+ghost use Rattle.raft_records.specs.LogBatch.{is_open};
 
 mod refused;
 
@@ -63,8 +63,8 @@ use Word::{Clean, Compact, Delete, Put, Run, Truncate};
 
 /// Adds what a batch says of a region.
 fn add(alloc: Global, region: u64, word: Word, batch: &mut LogBatch) -> Result<()>
-    requires { batch.old.stage ≡ populating }
-    ensures { OnOk result (batch.new.stage ≡ populating) }
+    requires { batch.old.stage ≡ is_open }
+    ensures { OnOk result (batch.new.stage ≡ is_open) }
 {
     match word {
         Run(start, end) => {

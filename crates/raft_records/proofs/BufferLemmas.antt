@@ -10,7 +10,7 @@ use Rattle.raft_base.specs.Compression.{compression_byte}
 use Rattle.raft_records.specs.Item.{Item}
 use Rattle.raft_records.proofs.Names.{behind_item}
 use Rattle.raft_records.specs.ItemBatch.{checksum_bytes, item_batch_bytes, entry_bytes_of, IsEncoded, signed_crc, no_checksum}
-use Rattle.raft_records.specs.LogBatch.{Stage, populating, encoded, sealed, header_bytes, entry_block, item_offset, unsealed_bytes, encoded_length, log_batch_bytes}
+use Rattle.raft_records.specs.LogBatch.{Stage, is_open, encoded, sealed, header_bytes, entry_block, item_offset, unsealed_bytes, encoded_length, log_batch_bytes}
 use Rattle.raft_records.specs.Buffer.{entry_bytes_in, IsUnsealed, IsEncodedAs, IsHeldAt, IsHeld}
 use Rattle.raft_records.specs.Spelling.{Keeps}
 use Rattle.raft_records.proofs.BatchLemmas.{end_push}
@@ -49,7 +49,7 @@ pub open_again : (n : ℕ) (old new : List ℕ) → length old - 16 ≡ n → dr
 open_again n old new h same = omega (arith, h, ap length same, length-drop 16 old, length-drop 16 new)
 
 -- the entry bytes that were there, and more behind them
-pub held_open : (items : List Item) (buf : List ℕ) → length buf - 16 ≡ entry_bytes_of items → entry_bytes_of items < 2 ^ 31 → IsHeld populating items (entry_bytes_in items buf) buf
+pub held_open : (items : List Item) (buf : List ℕ) → length buf - 16 ≡ entry_bytes_of items → entry_bytes_of items < 2 ^ 31 → IsHeld is_open items (entry_bytes_in items buf) buf
 held_open items buf h lt =
     let whole : length (entry_bytes_in items buf) ≡ entry_bytes_of items = ap length (open_entries (entry_bytes_of items) buf h) ∙ length-drop 16 buf ∙ h in
     record { whole = whole; fits = omega (arith, whole, lt); held = h; short = tt }
@@ -75,8 +75,8 @@ held_encoded items es buf some counted lt u short =
     }
 
 -- what is encoded or sealed is the batch, but for its checksum
-pub unsealed_at : (stage : Stage) (items : List Item) (es buf : List ℕ) → stage ≢ populating → items ≢ [] → IsHeldAt stage items es buf → IsUnsealed items es buf
-unsealed_at populating items es buf ne some h = absurd (ne refl)
+pub unsealed_at : (stage : Stage) (items : List Item) (es buf : List ℕ) → stage ≢ is_open → items ≢ [] → IsHeldAt stage items es buf → IsUnsealed items es buf
+unsealed_at is_open items es buf ne some h = absurd (ne refl)
 unsealed_at encoded [] es buf ne some h = absurd (some refl)
 unsealed_at encoded (x ∷ xs) es buf ne some h = h
 unsealed_at (sealed s) [] es buf ne some h = absurd (some refl)
@@ -167,5 +167,5 @@ pub item_same : (items : List Item) (x : Item) → ((s : ℕ) → behind_item s 
 item_same items x same = end_push 0 items x ∙ same (entry_bytes_of items)
 
 -- the batch with one more item that has no entry bytes
-pub held_more : (items more : List Item) (buf : List ℕ) → entry_bytes_of more ≡ entry_bytes_of items → length buf - 16 ≡ entry_bytes_of items → entry_bytes_of items < 2 ^ 31 → IsHeld populating more (entry_bytes_in more buf) buf
+pub held_more : (items more : List Item) (buf : List ℕ) → entry_bytes_of more ≡ entry_bytes_of items → length buf - 16 ≡ entry_bytes_of items → entry_bytes_of items < 2 ^ 31 → IsHeld is_open more (entry_bytes_in more buf) buf
 held_more items more buf same h lt = held_open more buf (h ∙ sym same) (omega (arith, same, lt))

@@ -3,7 +3,7 @@ use Rattle.std.proofs.Common.{◌≡◌, ℕ, ◌+◌, ◌-◌, ◌^◌, ◌<◌
 use Rattle.std.proofs.lemmas.List.{length-append, length-drop, drop_all, drop-append-le}
 use Rattle.raft_records.specs.Item.{Item}
 use Rattle.raft_records.specs.ItemBatch.{entry_bytes_of, raised_item}
-use Rattle.raft_records.specs.LogBatch.{Stage, Batch, populating, with_batch}
+use Rattle.raft_records.specs.LogBatch.{Stage, Batch, is_open, with_batch}
 use Rattle.raft_records.specs.Buffer.{entry_bytes_in, IsHeld}
 use Rattle.raft_records.proofs.LayLemmas.{merged_end}
 use Rattle.raft_records.proofs.BufferLemmas.{open_entries, held_open}
@@ -24,7 +24,7 @@ joined_len own others buf rest new h k e =
     omega (arith, h, k, ap length e, length-append (drop 16 buf) (drop 16 rest), length-drop 16 buf, length-drop 16 rest, length-drop 16 new, merged_end own others)
 
 -- the items and the entry bytes of both
-pub joined_held : (stage stage' : Stage) (own others items : List Item) (buf rest new : List ℕ) → stage ≡ populating → stage' ≡ populating → IsHeld stage own (entry_bytes_in own buf) buf → IsHeld stage' others (entry_bytes_in others rest) rest → entry_bytes_of own + entry_bytes_of others < 2 ^ 31 → items ≡ own ++ map (raised_item (entry_bytes_of own)) others → drop 16 new ≡ drop 16 buf ++ drop 16 rest → IsHeld stage items (entry_bytes_in items new) new × (entry_bytes_in items new ≡ entry_bytes_in own buf ++ entry_bytes_in others rest)
+pub joined_held : (stage stage' : Stage) (own others items : List Item) (buf rest new : List ℕ) → stage ≡ is_open → stage' ≡ is_open → IsHeld stage own (entry_bytes_in own buf) buf → IsHeld stage' others (entry_bytes_in others rest) rest → entry_bytes_of own + entry_bytes_of others < 2 ^ 31 → items ≡ own ++ map (raised_item (entry_bytes_of own)) others → drop 16 new ≡ drop 16 buf ++ drop 16 rest → IsHeld stage items (entry_bytes_in items new) new × (entry_bytes_in items new ≡ entry_bytes_in own buf ++ entry_bytes_in others rest)
 joined_held stage stage' own others items buf rest new e e' h h' lt joins bytes =
     let len : length new - 16 ≡ entry_bytes_of items = joined_len own others buf rest new (open_held stage own (entry_bytes_in own buf) buf e h) (open_held stage' others (entry_bytes_in others rest) rest e' h') bytes ∙ ap entry_bytes_of (sym joins) in
     let whole : drop 16 buf ++ drop 16 rest ≡ entry_bytes_in own buf ++ entry_bytes_in others rest = ap (λ (t : List ℕ). t ++ drop 16 rest) (sym (entries_are stage own buf e h)) ∙ ap (λ (t : List ℕ). entry_bytes_in own buf ++ t) (sym (entries_are stage' others rest e' h')) in (

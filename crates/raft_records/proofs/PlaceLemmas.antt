@@ -5,7 +5,7 @@ use Rattle.raft_base.specs.declared.compression_type.CompressionType.{Compressio
 use Rattle.raft_base.specs.declared.compression_type.CompressionType.TheVariants as compressions
 use Rattle.raft_records.specs.Item.{Item}
 use Rattle.raft_records.specs.ItemBatch.{placed_item, checksum_bytes, entry_bytes_of}
-use Rattle.raft_records.specs.LogBatch.{Stage, Batch, populating, encoded, sealed, IsSealedStage, header_bytes, entry_block, entry_place, item_offset, log_batch_bytes}
+use Rattle.raft_records.specs.LogBatch.{Stage, Batch, is_open, encoded, sealed, IsSealedStage, header_bytes, entry_block, entry_place, item_offset, log_batch_bytes}
 use Rattle.raft_records.specs.Buffer.{entry_bytes_in, IsHeld}
 use Rattle.raft_records.proofs.BatchLemmas.{batch_placed, end_of_placed}
 use Rattle.raft_records.proofs.StageLemmas.{batch_with}
@@ -20,7 +20,7 @@ pub entries_placed : (handle : FileBlockHandle) (c : CompressionType) (items : L
 entries_placed handle c items buf = ap (λ (n : ℕ). take n (drop 16 buf)) (end_of_placed handle c 0 items)
 
 pub placed_held : (handle : FileBlockHandle) (c : CompressionType) (stage : Stage) (items : List Item) (buf : List ℕ) → IsSealedStage stage → IsHeld stage items (entry_bytes_in items buf) buf → IsHeld stage (map (placed_item handle c) items) (entry_bytes_in (map (placed_item handle c) items) buf) buf
-placed_held handle c populating items buf s h = absurd s
+placed_held handle c is_open items buf s h = absurd s
 placed_held handle c encoded items buf s h = absurd s
 placed_held handle c (sealed signature) items buf s h =
     let same = entries_placed handle c items buf in

@@ -9,7 +9,7 @@ use Rattle.raft_records.specs.LogBatchModel.{stage_of}
 use Rattle.raft_records.specs.Item.{Item}
 use Rattle.raft_records.proofs.Names.{behind_item}
 use Rattle.raft_records.specs.ItemBatch.{checksum_bytes, item_batch_bytes, entry_bytes_of, IsEncoded, signed_crc, no_checksum}
-use Rattle.raft_records.specs.LogBatch.{Stage, Batch, populating, encoded, sealed, header_bytes, entry_block, item_offset, unsealed_bytes, encoded_length, log_batch_bytes, approximate_length}
+use Rattle.raft_records.specs.LogBatch.{Stage, Batch, is_open, encoded, sealed, header_bytes, entry_block, item_offset, unsealed_bytes, encoded_length, log_batch_bytes, approximate_length}
 use Rattle.raft_records.specs.Buffer.{entry_bytes_in, IsUnsealed, IsHeldAt, IsShortAt, IsHeld}
 use Rattle.raft_records.proofs.SealLemmas.{four}
 use Rattle.raft_records.proofs.BufferLemmas.{header_len, open_entries, open_again, held_open, held_more, held_encoded, unsealed_entries, unsealed_at, held_sealed, sealed_entries, item_same, length_is, encoded_unsealed}
@@ -17,25 +17,25 @@ use Rattle.raft_records.proofs.BufferLemmas.{header_len, open_entries, open_agai
 abbrev pub batch_with : List Item → List ℕ → Stage → Batch
 batch_with items entry_bytes stage = record { items = items; entry_bytes = entry_bytes; stage = stage }
 
-pub open_held : (stage : Stage) (items : List Item) (es buf : List ℕ) → stage ≡ populating → IsHeld stage items es buf → length buf - 16 ≡ entry_bytes_of items
+pub open_held : (stage : Stage) (items : List Item) (es buf : List ℕ) → stage ≡ is_open → IsHeld stage items es buf → length buf - 16 ≡ entry_bytes_of items
 open_held stage items es buf e h = subst (λ (s : Stage). IsHeldAt s items es buf) e h.held
 
 -- entry bytes within the limit
 pub within : (stage : Stage) (items : List Item) (es buf : List ℕ) → IsHeld stage items es buf → entry_bytes_of items < 2 ^ 31
 within stage items es buf h = omega (arith, h.whole, h.fits)
 
-pub reheld : (stage : Stage) (items : List Item) (old new : List ℕ) → stage ≡ populating → IsHeld stage items (entry_bytes_in items old) old → drop 16 new ≡ drop 16 old → IsHeld stage items (entry_bytes_in items new) new
+pub reheld : (stage : Stage) (items : List Item) (old new : List ℕ) → stage ≡ is_open → IsHeld stage items (entry_bytes_in items old) old → drop 16 new ≡ drop 16 old → IsHeld stage items (entry_bytes_in items new) new
 reheld stage items old new e h same =
     subst (λ (s : Stage). IsHeld s items (entry_bytes_in items new) new) (sym e) (held_open items new (open_again (entry_bytes_of items) old new (open_held stage items (entry_bytes_in items old) old e h) same) (within stage items (entry_bytes_in items old) old h))
 
-pub reheld_more : (stage : Stage) (items more : List Item) (buf : List ℕ) → stage ≡ populating → IsHeld stage items (entry_bytes_in items buf) buf → entry_bytes_of more ≡ entry_bytes_of items → IsHeld stage more (entry_bytes_in more buf) buf
+pub reheld_more : (stage : Stage) (items more : List Item) (buf : List ℕ) → stage ≡ is_open → IsHeld stage items (entry_bytes_in items buf) buf → entry_bytes_of more ≡ entry_bytes_of items → IsHeld stage more (entry_bytes_in more buf) buf
 reheld_more stage items more buf e h same =
     subst (λ (s : Stage). IsHeld s more (entry_bytes_in more buf) buf) (sym e) (held_more items more buf same (open_held stage items (entry_bytes_in items buf) buf e h) (within stage items (entry_bytes_in items buf) buf h))
 
-pub entries_are : (stage : Stage) (items : List Item) (buf : List ℕ) → stage ≡ populating → IsHeld stage items (entry_bytes_in items buf) buf → entry_bytes_in items buf ≡ drop 16 buf
+pub entries_are : (stage : Stage) (items : List Item) (buf : List ℕ) → stage ≡ is_open → IsHeld stage items (entry_bytes_in items buf) buf → entry_bytes_in items buf ≡ drop 16 buf
 entries_are stage items buf e h = open_entries (entry_bytes_of items) buf (open_held stage items (entry_bytes_in items buf) buf e h)
 
-pub populated : (stage : Stage) (items : List Item) (old mid new : List ℕ) → stage ≡ populating → IsHeld stage items (entry_bytes_in items old) old → drop 16 mid ≡ drop 16 old → items ≢ [] → IsUnsealed items (drop 16 mid) new → length new < 2 ^ 56 → IsHeld encoded items (entry_bytes_in items new) new × (entry_bytes_in items new ≡ entry_bytes_in items old)
+pub populated : (stage : Stage) (items : List Item) (old mid new : List ℕ) → stage ≡ is_open → IsHeld stage items (entry_bytes_in items old) old → drop 16 mid ≡ drop 16 old → items ≢ [] → IsUnsealed items (drop 16 mid) new → length new < 2 ^ 56 → IsHeld encoded items (entry_bytes_in items new) new × (entry_bytes_in items new ≡ entry_bytes_in items old)
 populated stage items old mid new e h same some u short =
     let are : drop 16 mid ≡ entry_bytes_in items old = same ∙ sym (entries_are stage items old e h) in
     let counted : length (drop 16 mid) ≡ entry_bytes_of items = ap length are ∙ h.whole in
@@ -74,8 +74,8 @@ encoded_whole items old closed whole slice new offset len n some room e f at siz
 
 -- ---- signing
 
-pub held_unsigned : (stage : Stage) (items : List Item) (es buf : List ℕ) → stage ≢ populating → IsHeld stage items es buf → IsHeld encoded items es buf
-held_unsigned populating items es buf ne h = absurd (ne refl)
+pub held_unsigned : (stage : Stage) (items : List Item) (es buf : List ℕ) → stage ≢ is_open → IsHeld stage items es buf → IsHeld encoded items es buf
+held_unsigned is_open items es buf ne h = absurd (ne refl)
 held_unsigned encoded items es buf ne h = h
 held_unsigned (sealed s) [] es buf ne h = record { whole = h.whole; fits = h.fits; held = h.held; short = h.short }
 held_unsigned (sealed s) (x ∷ xs) es buf ne h =
@@ -124,40 +124,40 @@ sealed_short signature (x ∷ xs) es buf new h e =
 
 -- ---- approximate sizes
 
-approximated : (stage : Stage) (items : List Item) (es : List ℕ) → stage ≢ populating → approximate_length stage items es ≡ encoded_length items es
-approximated populating items es ne = absurd (ne refl)
+approximated : (stage : Stage) (items : List Item) (es : List ℕ) → stage ≢ is_open → approximate_length stage items es ≡ encoded_length items es
+approximated is_open items es ne = absurd (ne refl)
 approximated encoded [] es ne = refl
 approximated encoded (x ∷ xs) es ne = refl
 approximated (sealed s) [] es ne = refl
 approximated (sealed s) (x ∷ xs) es ne = refl
 
-pub not_open : (state : BufState) → (state ≡ states.Encoded) ⊎ ((s : Option ℕ) × (state ≡ states.Sealed s)) → stage_of state ≢ populating
+pub not_open : (state : BufState) → (state ≡ states.Encoded) ⊎ ((s : Option ℕ) × (state ≡ states.Sealed s)) → stage_of state ≢ is_open
 not_open states.Open (inl e) p = absurd cc
 not_open states.Open (inr e) p = let is = e.1 in absurd cc
 not_open states.Encoded e p = absurd cc
 not_open (states.Sealed s) e p = absurd cc
 
 -- a batch with items, whose bytes are made, has as many bytes as its length says
-pub encoded_length_at : (now : Batch) (stage : Stage) (items : List Item) (es buf : List ℕ) → batch_with items es stage ≡ now → stage ≢ populating → items ≢ [] → IsHeld stage items es buf → length buf ≡ encoded_length now.items now.entry_bytes
+pub encoded_length_at : (now : Batch) (stage : Stage) (items : List Item) (es buf : List ℕ) → batch_with items es stage ≡ now → stage ≢ is_open → items ≢ [] → IsHeld stage items es buf → length buf ≡ encoded_length now.items now.entry_bytes
 encoded_length_at now stage items es buf view ne some h =
     unsealed_len items es buf some (unsealed_at stage items es buf ne some h.held) ∙ ap (λ (b : Batch). encoded_length b.items b.entry_bytes) view
 
-pub length_at : (now : Batch) (stage : Stage) (items : List Item) (es buf : List ℕ) → batch_with items es stage ≡ now → stage ≢ populating → items ≢ [] → IsHeld stage items es buf → length buf ≡ approximate_length now.stage now.items now.entry_bytes
+pub length_at : (now : Batch) (stage : Stage) (items : List Item) (es buf : List ℕ) → batch_with items es stage ≡ now → stage ≢ is_open → items ≢ [] → IsHeld stage items es buf → length buf ≡ approximate_length now.stage now.items now.entry_bytes
 length_at now stage items es buf view ne some h =
     unsealed_len items es buf some (unsealed_at stage items es buf ne some h.held)
     ∙ sym (approximated stage items es ne)
     ∙ ap (λ (b : Batch). approximate_length b.stage b.items b.entry_bytes) view
 
 -- once the bytes of a batch are made, they are below the limit
-pub encoded_short : (now : Batch) (stage : Stage) (items : List Item) (es buf : List ℕ) → batch_with items es stage ≡ now → IsHeld stage items es buf → now.stage ≢ populating → encoded_length now.items now.entry_bytes < 2 ^ 56
+pub encoded_short : (now : Batch) (stage : Stage) (items : List Item) (es buf : List ℕ) → batch_with items es stage ≡ now → IsHeld stage items es buf → now.stage ≢ is_open → encoded_length now.items now.entry_bytes < 2 ^ 56
 encoded_short now stage items es buf view h ne =
     subst (λ (b : Batch). encoded_length b.items b.entry_bytes < 2 ^ 56) view (at items h)
   where
-    made : stage ≢ populating
+    made : stage ≢ is_open
     made e = ne (sym (ap (λ (b : Batch). b.stage) view) ∙ e)
 
-    few : (s : Stage) → s ≢ populating → IsShortAt s buf → length buf < 2 ^ 56
-    few populating n short = absurd (n refl)
+    few : (s : Stage) → s ≢ is_open → IsShortAt s buf → length buf < 2 ^ 56
+    few is_open n short = absurd (n refl)
     few encoded n short = short
     few (sealed signature) n short = short
 

@@ -9,7 +9,7 @@ use Rattle.raft_base.specs.Runs.{IsConsecutive}
 use Rattle.raft_base.proofs.ConsecutiveLemmas.{IsConsecutiveFrom, from_start, consecutive_from, started}
 use Rattle.raft_records.specs.Item.{Item, entries_item}
 use Rattle.raft_records.specs.ItemBatch.{entry_bytes_of, entry_lengths, with_offsets_from}
-use Rattle.raft_records.specs.LogBatch.{Stage, Batch, populating, with_entries_added}
+use Rattle.raft_records.specs.LogBatch.{Stage, Batch, is_open, with_entries_added}
 use Rattle.raft_records.specs.Buffer.{entry_bytes_in, IsHeld}
 use Rattle.raft_records.proofs.BatchLemmas.{end_push}
 use Rattle.raft_records.proofs.LayLemmas.{end_of_laid}
@@ -55,7 +55,7 @@ added_end items region es strings e =
     ∙ end_of_laid (entry_bytes_of items) (with_lengths es strings)
     ∙ ap (λ (n : ℕ). entry_bytes_of items + n) (lengths_total es strings e)
 
-pub added_held : (stage : Stage) (items new : List Item) (region : ℕ) (es : List EntryIndex) (strings : List (List ℕ)) (buf mid bytes : List ℕ) → stage ≡ populating → IsHeld stage items (entry_bytes_in items buf) buf → 16 ≤ length mid → drop 16 mid ≡ drop 16 buf → length es ≡ length strings → new ≡ items ++ entries_item region (with_offsets_from (entry_bytes_of items) (with_lengths es strings)) ∷ [] → bytes ≡ mid ++ concat strings → length bytes < 16 + 2 ^ 31 → IsHeld stage new (entry_bytes_in new bytes) bytes × (entry_bytes_in new bytes ≡ entry_bytes_in items buf ++ concat strings)
+pub added_held : (stage : Stage) (items new : List Item) (region : ℕ) (es : List EntryIndex) (strings : List (List ℕ)) (buf mid bytes : List ℕ) → stage ≡ is_open → IsHeld stage items (entry_bytes_in items buf) buf → 16 ≤ length mid → drop 16 mid ≡ drop 16 buf → length es ≡ length strings → new ≡ items ++ entries_item region (with_offsets_from (entry_bytes_of items) (with_lengths es strings)) ∷ [] → bytes ≡ mid ++ concat strings → length bytes < 16 + 2 ^ 31 → IsHeld stage new (entry_bytes_in new bytes) bytes × (entry_bytes_in new bytes ≡ entry_bytes_in items buf ++ concat strings)
 added_held stage items new region es strings buf mid bytes e h room same counts added written fits =
     let behind : drop 16 bytes ≡ drop 16 buf ++ concat strings = ap (drop 16) written ∙ drop-append-le 16 mid (concat strings) room ∙ ap (λ (t : List ℕ). t ++ concat strings) same in
     let total : entry_bytes_of new ≡ entry_bytes_of items + length (concat strings) = ap entry_bytes_of added ∙ added_end items region es strings counts in
@@ -73,7 +73,7 @@ added_view now stage items new region (e ∷ es) strings old bytes view whole so
     ∙ ap (λ (b : Batch). with_entries_added b region (e ∷ es) strings) view
 
 -- room for the header was made
-pub reserved_len : (stage : Stage) (items : List Item) (old new : List ℕ) → stage ≡ populating → IsHeld stage items (entry_bytes_in items old) old → 16 ≤ length new → drop 16 new ≡ drop 16 old → length new ≡ 16 + entry_bytes_of items
+pub reserved_len : (stage : Stage) (items : List Item) (old new : List ℕ) → stage ≡ is_open → IsHeld stage items (entry_bytes_in items old) old → 16 ≤ length new → drop 16 new ≡ drop 16 old → length new ≡ 16 + entry_bytes_of items
 reserved_len stage items old new e h room same =
     omega (arith, room, open_held stage items (entry_bytes_in items old) old e h, ap length same, length-drop 16 old, length-drop 16 new)
 
@@ -145,7 +145,7 @@ pub found_consecutive : (es found seen : List EntryIndex) (strings : List (List 
 found_consecutive es found seen strings same is h = subst IsConsecutive (sym (same ∙ is)) (lengths_consecutive es strings h)
 
 -- a refused addition, cut off again
-pub cut_held : (stage : Stage) (items kept : List Item) (old mid new cut : List ℕ) (n : ℕ) → stage ≡ populating → IsHeld stage items (entry_bytes_in items old) old → drop 16 mid ≡ drop 16 old → Keeps mid new → n ≡ length mid → cut ≡ take n new → kept ≡ items → IsHeld stage kept (entry_bytes_in kept cut) cut
+pub cut_held : (stage : Stage) (items kept : List Item) (old mid new cut : List ℕ) (n : ℕ) → stage ≡ is_open → IsHeld stage items (entry_bytes_in items old) old → drop 16 mid ≡ drop 16 old → Keeps mid new → n ≡ length mid → cut ≡ take n new → kept ≡ items → IsHeld stage kept (entry_bytes_in kept cut) cut
 cut_held stage items kept old mid new cut n e h same keeps len is_cut is_kept =
     let back : cut ≡ mid = is_cut ∙ cut_to mid new n len keeps in
     subst (λ (xs : List Item). IsHeld stage xs (entry_bytes_in xs cut) cut) (sym is_kept) (reheld stage items old cut e h (ap (drop 16) back ∙ same))

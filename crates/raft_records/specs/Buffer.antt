@@ -2,7 +2,7 @@
 use Rattle.std.specs.Prelude.{◌≡◌, ℕ, ◌-◌, ◌^◌, ◌<◌, List, [], ◌∷◌, ◌++◌, length, take, drop}
 use Rattle.raft_records.specs.Item.{Item}
 use Rattle.raft_records.specs.ItemBatch.{entry_bytes_of}
-use Rattle.raft_records.specs.LogBatch.{Stage, populating, encoded, sealed, unsealed_bytes, encoded_length, log_batch_bytes}
+use Rattle.raft_records.specs.LogBatch.{Stage, is_open, encoded, sealed, unsealed_bytes, encoded_length, log_batch_bytes}
 
 -- the entry bytes in a buffer: after the header, as many as the items' entries have
 abbrev pub entry_bytes_in : List Item → List ℕ → List ℕ
@@ -21,13 +21,13 @@ IsEncodedAs (item ∷ items) entry_bytes bytes = IsUnsealed (item ∷ items) ent
 
 -- what the buffer holds at each stage
 abbrev pub IsHeldAt : Stage → List Item → List ℕ → List ℕ → Type 0
-IsHeldAt populating items entry_bytes buf = length buf - 16 ≡ entry_bytes_of items
+IsHeldAt is_open items entry_bytes buf = length buf - 16 ≡ entry_bytes_of items
 IsHeldAt encoded items entry_bytes buf = IsEncodedAs items entry_bytes buf
 IsHeldAt (sealed signature) items entry_bytes buf = buf ≡ log_batch_bytes signature items entry_bytes
 
 -- once its bytes are made, a batch has fewer than 2^56
 abbrev pub IsShortAt : Stage → List ℕ → Type 0
-IsShortAt populating buf = Unit {0}
+IsShortAt is_open buf = Unit {0}
 IsShortAt encoded buf = length buf < 2 ^ 56
 IsShortAt (sealed signature) buf = length buf < 2 ^ 56
 

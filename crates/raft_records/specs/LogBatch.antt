@@ -18,7 +18,7 @@ use Rattle.raft_records.specs.ItemBatch.{checksum_bytes, item_batch_bytes, entry
 
 -- how far a batch has come: it is open to items; its bytes are made; they are signed for a file, or without a signature
 pub data Stage : Type 0 where
-  populating : Stage
+  is_open : Stage
   encoded : Stage
   sealed : Option ℕ → Stage
 
@@ -35,7 +35,7 @@ IsSealedStage _ = ⊥
 
 -- the stages numbered in order, whatever signature a batch has
 abbrev pub stage_number : Stage → ℕ
-stage_number populating = 0
+stage_number is_open = 0
 stage_number encoded = 1
 stage_number (sealed signature) = 2
 
@@ -47,7 +47,7 @@ pub record AreEqual (a b : Batch) : Type 0 where
 
 -- a batch without items
 abbrev pub empty_batch : Batch
-empty_batch = record { items = []; entry_bytes = []; stage = populating }
+empty_batch = record { items = []; entry_bytes = []; stage = is_open }
 
 -- all of another batch after this one: its entries' bytes follow the first one's
 abbrev pub with_batch : Batch → Batch → Batch
@@ -111,7 +111,7 @@ encoded_length (item ∷ items) entry_bytes = item_offset entry_bytes + length (
 -- number took eight bytes; else the length itself.
 abbrev pub approximate_length : Stage → List Item → List ℕ → ℕ
 approximate_length stage [] entry_bytes = 0
-approximate_length populating (item ∷ items) entry_bytes = at_most_usize (16 + length entry_bytes + 4 + item_batch_size (item ∷ items))
+approximate_length is_open (item ∷ items) entry_bytes = at_most_usize (16 + length entry_bytes + 4 + item_batch_size (item ∷ items))
 approximate_length encoded (item ∷ items) entry_bytes = encoded_length (item ∷ items) entry_bytes
 approximate_length (sealed signature) (item ∷ items) entry_bytes = encoded_length (item ∷ items) entry_bytes
 

@@ -2,12 +2,12 @@
 use Rattle.raft_records.specs.declared.log_batch.BufState.{BufState}
 use Rattle.raft_records.specs.declared.log_batch.BufState.TheVariants as states
 use Rattle.raft_records.specs.declared.log_batch.LogBatch.TheInside.{Inside}
-use Rattle.raft_records.specs.LogBatch.{Stage, populating, encoded, sealed, Batch}
+use Rattle.raft_records.specs.LogBatch.{Stage, is_open, encoded, sealed, Batch}
 use Rattle.raft_records.specs.Buffer.{entry_bytes_in, IsHeld}
 
 -- the stage that a buffer is kept at
 abbrev pub stage_of : BufState → Stage
-stage_of states.Open = populating
+stage_of states.Open = is_open
 stage_of states.Encoded = encoded
 stage_of (states.Sealed signature) = sealed signature
 

@@ -6,7 +6,7 @@ ghost use Rattle.raft_records.specs.declared.atomic_group.AtomicGroupStatus.{Ato
 ghost use Rattle.raft_records.specs.declared.atomic_group.AtomicGroupStatus.TheVariants.{Begin, Middle, End};
 ghost use Rattle.raft_records.specs.Group.{IsRunning, group_marker_item, status_byte, marker_byte, IsGroupMarkerRead, IsGroupMarkerFault, reserved_key, is_reserved, marker_of};
 ghost use Rattle.raft_records.specs.Item.{Item, item_of, pair, pair_of};
-ghost use Rattle.raft_records.specs.LogBatch.{populating};
+ghost use Rattle.raft_records.specs.LogBatch.{is_open};
 
 use crate::{KeyValue, LogBatch, LogItem, LogItemContent, OpType};
 use raft_base::{Error, Result};
@@ -134,7 +134,7 @@ impl AtomicGroupBuilder {
     ///
     /// `Memory`. Builder and batch are then as they were.
     pub fn begin(&mut self, log_batch: &mut LogBatch) -> Result<()>
-        requires open { log_batch.old.stage ≡ populating }
+        requires open { log_batch.old.stage ≡ is_open }
         requires fresh { self.old.state ≡ None }
         ensures ok { OnOk result (log_batch.new ≡ record log_batch.old {
           items = log_batch.old.items ++ group_marker_item self.old.id Begin ∷ [];
@@ -153,7 +153,7 @@ impl AtomicGroupBuilder {
     ///
     /// `Memory`. Builder and batch are then as they were.
     pub fn add(&mut self, log_batch: &mut LogBatch) -> Result<()>
-        requires open { log_batch.old.stage ≡ populating }
+        requires open { log_batch.old.stage ≡ is_open }
         requires running { IsRunning self.old.state }
         ensures ok { OnOk result (log_batch.new ≡ record log_batch.old {
           items = log_batch.old.items ++ group_marker_item self.old.id Middle ∷ [];
@@ -172,7 +172,7 @@ impl AtomicGroupBuilder {
     ///
     /// `Memory`. Builder and batch are then as they were.
     pub fn end(&mut self, log_batch: &mut LogBatch) -> Result<()>
-        requires open { log_batch.old.stage ≡ populating }
+        requires open { log_batch.old.stage ≡ is_open }
         requires running { IsRunning self.old.state }
         ensures ok { OnOk result (log_batch.new ≡ record log_batch.old {
           items = log_batch.old.items ++ group_marker_item self.old.id End ∷ [];
@@ -187,7 +187,7 @@ impl AtomicGroupBuilder {
 
     /// Adds a group marker with this status to an open batch.
     fn add_marker(&mut self, status: AtomicGroupStatus, log_batch: &mut LogBatch) -> Result<()>
-        requires { log_batch.old.stage ≡ populating }
+        requires { log_batch.old.stage ≡ is_open }
         ensures ok { OnOk result (log_batch.new ≡ record log_batch.old {
           items = log_batch.old.items ++ group_marker_item self.old.id status ∷ [];
         }) }

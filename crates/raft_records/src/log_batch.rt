@@ -6,7 +6,7 @@ ghost use Rattle.raft_base.specs.Signature.{signature_of};
 ghost use Rattle.std.specs.Vec.Iter.{into_iter_items, into_iter_len};
 ghost use Rattle.raft_base.specs.declared.compression_type.CompressionType.TheVariants as compressions;
 ghost use Rattle.raft_records.specs.Item.{bare, command_item, item_of, pair_item, AreInBytes};
-ghost use Rattle.raft_records.specs.LogBatch.{populating, encoded, sealed, IsSealedStage, empty_batch, IsBatchOf, encoded_length, log_batch_bytes, IsLogBatch, approximate_length, entry_place};
+ghost use Rattle.raft_records.specs.LogBatch.{is_open, encoded, sealed, IsSealedStage, empty_batch, IsBatchOf, encoded_length, log_batch_bytes, IsLogBatch, approximate_length, entry_place};
 ghost use Rattle.raft_records.specs.Sizes.{HaveSmallNumbers};
 ghost use Rattle.raft_records.specs.Range.{AreInRange};
 ghost use Rattle.raft_records.specs.Header.{IsHeader, IsHeaderFault, IsEntryBlockOf, IsEntryBlockFault};
@@ -131,7 +131,7 @@ impl LogBatch {
 
     /// Tests whether items may still be added.
     pub fn is_open(&self) -> bool
-        ensures { IsTrue result ↔ (self.now.stage ≡ populating) }
+        ensures { IsTrue result ↔ (self.now.stage ≡ is_open) }
     {
         matches!(self.state, BufState::Open)
     }
@@ -191,7 +191,7 @@ impl LogBatch {
     ///
     /// `Memory`. The batch is then as it was.
     pub fn add_command(&mut self, region: u64, command: Command) -> Result<()>
-        requires { self.old.stage ≡ populating }
+        requires { self.old.stage ≡ is_open }
         ensures ok { OnOk result (self.new
             ≡ record self.old { items = self.old.items ++ command_item region command ∷ [] }) }
         ensures err { OnErr result (self.new ≡ self.old) }
@@ -207,7 +207,7 @@ impl LogBatch {
     ///
     /// `Full` where they would be 2^56 or more, `Memory`. The batch is then as it was.
     pub fn finish_populate(&mut self) -> Result<usize>
-        requires { self.old.stage ≡ populating }
+        requires { self.old.stage ≡ is_open }
         ensures ok { OnOk result (self.new ≡ record self.old { stage = encoded }) }
         ensures len { IfOk result (λ len. len
             ≡ encoded_length self.old.items self.old.entry_bytes) }
@@ -236,7 +236,7 @@ impl LogBatch {
     /// Signs the bytes of a batch that is no longer open for a file. It may be repeated for other
     /// files, and takes no memory.
     pub fn prepare_write(&mut self, context: &LogFileContext)
-        requires { self.old.stage ≢ populating }
+        requires { self.old.stage ≢ is_open }
         ensures { self.new ≡ record self.old { stage = sealed (signature_of context.now) } }
     {
         seal(&self.item_batch, &mut self.buf, context);
@@ -264,7 +264,7 @@ impl LogBatch {
         ensures tiled { IsBatchOf self.now.items self.now.entry_bytes }
         ensures in_range { AreInRange self.now.items }
         ensures in_bytes { AreInBytes self.now.items }
-        ensures short { self.now.stage ≢ populating →
+        ensures short { self.now.stage ≢ is_open →
             encoded_length self.now.items self.now.entry_bytes < 2 ^ 56 }
         ensures spelled { (signature : Option ℕ) → self.now.items ≢ [] →
             encoded_length self.now.items self.now.entry_bytes < 2 ^ 56 →
@@ -324,7 +324,7 @@ impl LogBatch {
     ///
     /// `Memory`. The batch is then as it was.
     pub fn delete(&mut self, region: u64, key: Vec<u8>) -> Result<()>
-        requires { self.old.stage ≡ populating }
+        requires { self.old.stage ≡ is_open }
         ensures ok { OnOk result (self.new ≡ record self.old {
           items = self.old.items ++ pair_item region Del key.items None ∷ [];
         }) }
@@ -340,7 +340,7 @@ impl LogBatch {
     ///
     /// `InvalidArgument` for the key of the group markers, `Memory`. The batch is then as it was.
     pub fn put(&mut self, region: u64, key: Vec<u8>, value: Vec<u8>) -> Result<()>
-        requires { self.old.stage ≡ populating }
+        requires { self.old.stage ≡ is_open }
         ensures ok { OnOk result (self.new ≡ record self.old {
           items = self.old.items ++ pair_item region Put key.items (Some value.items) ∷ [];
         }) }
@@ -359,7 +359,7 @@ impl LogBatch {
     /// `InvalidArgument` for the key of the group markers, `Message` where the message refuses to write
     /// itself, `Memory`. The batch is then as it was.
     pub fn put_message<S: Message>(&mut self, region: u64, key: Vec<u8>, message: &S) -> Result<()>
-        requires { self.old.stage ≡ populating }
+        requires { self.old.stage ≡ is_open }
         ensures ok { OnOk result (self.new ≡ record self.old {
           items = self.old.items
               ++ pair_item region Put key.items (Some (S.bytes_of message.now)) ∷ [];
@@ -375,7 +375,7 @@ impl LogBatch {
     /// Adds a value of a region's key to an open batch, whatever the key. On `Err` the batch is as it
     /// was.
     pub(crate) fn put_unchecked(&mut self, region: u64, key: Vec<u8>, value: Vec<u8>) -> Result<()>
-        requires { self.old.stage ≡ populating }
+        requires { self.old.stage ≡ is_open }
         ensures ok { OnOk result (self.new ≡ record self.old {
           items = self.old.items ++ pair_item region Put key.items (Some value.items) ∷ [];
         }) }
@@ -429,9 +429,9 @@ impl LogBatch {
 impl ReactiveBytes for LogBatch {
     ghost use Rattle.std.specs.Prelude.{◌≢◌};
     ghost use Rattle.raft_base.specs.Signature.{signature_of};
-    ghost use Rattle.raft_records.specs.LogBatch.{populating, log_batch_bytes};
+    ghost use Rattle.raft_records.specs.LogBatch.{is_open, log_batch_bytes};
 
-    ghost is_ready = { λ batch. batch.stage ≢ populating };
+    ghost is_ready = { λ batch. batch.stage ≢ is_open };
 
     ghost bytes_in = { λ batch context.
         log_batch_bytes (signature_of context) batch.items batch.entry_bytes };

@@ -1,7 +1,7 @@
 //! A batch with many entry bytes and a long value.
 
 ghost use Rattle.std.specs.Prelude.{◌≡◌, OnOk};
-ghost use Rattle.raft_records.specs.LogBatch.{populating};
+ghost use Rattle.raft_records.specs.LogBatch.{is_open};
 
 use raft_records::{
     CompressionType, EntryIndex, Error, FileBlockHandle, FileId, FilePart, LogBatch,
@@ -23,8 +23,8 @@ const ITEM_OFFSET: usize = 16 + 5_000 * LENGTH + 4;
 
 /// Adds the entries, from the index 1 on.
 fn add_entries(alloc: Global, batch: &mut LogBatch) -> Result<()>
-    requires { batch.old.stage ≡ populating }
-    ensures { OnOk result (batch.new.stage ≡ populating) }
+    requires { batch.old.stage ≡ is_open }
+    ensures { OnOk result (batch.new.stage ≡ is_open) }
 {
     let mut indexes = Vec::new(alloc);
     let mut texts = Vec::new(alloc);

@@ -1,7 +1,7 @@
 //! Batches of items and entry bytes, as the Rust crate makes them.
 
 ghost use Rattle.std.specs.Prelude.{◌≡◌, [], IfOk};
-ghost use Rattle.raft_records.specs.LogBatch.{populating};
+ghost use Rattle.raft_records.specs.LogBatch.{is_open};
 
 mod rows;
 mod written;
@@ -68,7 +68,7 @@ fn entry(index: u64) -> EntryIndex
 
 /// Returns a batch with a command.
 fn with_command(alloc: Global, region_id: u64, command: Command) -> Result<LogBatch>
-    ensures { IfOk result (λ batch. batch.stage ≡ populating) }
+    ensures { IfOk result (λ batch. batch.stage ≡ is_open) }
 {
     let mut batch = LogBatch::default(alloc);
     batch.add_command(region_id, command)?;
@@ -77,7 +77,7 @@ fn with_command(alloc: Global, region_id: u64, command: Command) -> Result<LogBa
 
 /// Returns a batch with a put and a delete.
 fn with_key_values(alloc: Global) -> Result<LogBatch>
-    ensures { IfOk result (λ batch. batch.stage ≡ populating) }
+    ensures { IfOk result (λ batch. batch.stage ≡ is_open) }
 {
     let mut batch = LogBatch::with_capacity(alloc, 2)?;
     let key = Vec::from_slice(alloc, b"put")?;
@@ -88,7 +88,7 @@ fn with_key_values(alloc: Global) -> Result<LogBatch>
 
 /// Returns a batch with entries.
 fn with_lines(alloc: Global, region_id: u64, lines: &[Line]) -> Result<LogBatch>
-    ensures { IfOk result (λ batch. batch.stage ≡ populating) }
+    ensures { IfOk result (λ batch. batch.stage ≡ is_open) }
 {
     let mut batch = LogBatch::default(alloc);
     batch.add_entries::<Lines>(region_id, lines)?;
@@ -97,7 +97,7 @@ fn with_lines(alloc: Global, region_id: u64, lines: &[Line]) -> Result<LogBatch>
 
 /// Returns a batch with three entries, of which one has no bytes, and one item of each other kind.
 fn with_one_of_each(alloc: Global) -> Result<LogBatch>
-    ensures { IfOk result (λ batch. batch.stage ≡ populating) }
+    ensures { IfOk result (λ batch. batch.stage ≡ is_open) }
 {
     let mut batch = LogBatch::default(alloc);
     let indexes = Vec::from_slice(alloc, &[entry(10), entry(11), entry(12)])?;
@@ -121,7 +121,7 @@ fn with_one_of_each(alloc: Global) -> Result<LogBatch>
 
 /// Returns three entries of region 7, and two of region 8 in a batch that was merged after theirs.
 fn merged(alloc: Global) -> Result<LogBatch>
-    ensures { IfOk result (λ batch. batch.stage ≡ populating) }
+    ensures { IfOk result (λ batch. batch.stage ≡ is_open) }
 {
     let mut batch = LogBatch::default(alloc);
     let first = [line_of(10, b"x"), line_of(11, b"x"), line_of(12, b"x")];
@@ -260,14 +260,14 @@ fn refusal_of(called: Result<()>) -> Result<Refusal> {
 
 /// Puts a message under a key.
 fn put_line(alloc: Global, batch: &mut LogBatch, key: &[u8], text: &'static [u8]) -> Result<()>
-    requires { batch.old.stage ≡ populating }
+    requires { batch.old.stage ≡ is_open }
 {
     batch.put_message(1, Vec::from_slice(alloc, key)?, &line_of(0, text))
 }
 
 /// Puts an empty value under a key.
 fn put_empty(alloc: Global, batch: &mut LogBatch, key: &[u8]) -> Result<()>
-    requires { batch.old.stage ≡ populating }
+    requires { batch.old.stage ≡ is_open }
 {
     batch.put(0, Vec::from_slice(alloc, key)?, Vec::new(alloc))
 }

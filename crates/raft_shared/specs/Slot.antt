@@ -6,7 +6,7 @@ use Rattle.raft_table.specs.Table.{Table}
 use Rattle.raft_accessor.specs.Accessor.{Accessor, slot_of, AreCountsOf}
 
 -- a slot's number, and what it holds, as an accessor does: the tables of its regions, those that were cleaned in order, and the counts
-pub record SlotContent : Type 0 where
+pub record Slot : Type 0 where
   pub number : ℕ
   pub content : Accessor
 
@@ -16,7 +16,7 @@ pub record IsSlotTable (number id : ℕ) (t : Table) : Type 0 where
   pub slot : slot_of id ≡ number
 
 -- what a slot's lock keeps: every table stands under its own id, which is of this slot; the counts are those of the tables; every cleaned region is of this slot
-pub record HoldsOwnTables (s : SlotContent) : Type 0 where
+pub record HoldsOwnTables (s : Slot) : Type 0 where
   pub tables : (id : ℕ) (t : Table) → finite.get s.content.tables id ≡ Some t → IsSlotTable s.number id t
   pub counted : AreCountsOf s.content.tables s.content.counts
   pub cleaned : AllByRecursion (λ id. slot_of id ≡ s.number) s.content.cleaned

@@ -6,10 +6,10 @@ use Rattle.raft_table.specs.Table.{Table}
 use Rattle.raft_history.specs.RegionSteps.{Tables}
 use Rattle.raft_shared.specs.declared.slot.Slot.TheInside.{Inside}
 use Rattle.raft_accessor.specs.Accessor.{slot_of, AreCountsOf}
-use Rattle.raft_shared.specs.Slot.{SlotContent}
+use Rattle.raft_shared.specs.Slot.{Slot}
 
 -- a slot's number, and its tables, cleaned regions and counts
-abbrev pub slot_shown : Inside → SlotContent
+abbrev pub slot_shown : Inside → Slot
 slot_shown a = record { number = a.number; content = record { tables = a.tables; cleaned = a.cleaned.items; counts = a.stats } }
 
 -- tables of regions of one slot

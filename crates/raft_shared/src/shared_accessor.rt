@@ -8,7 +8,7 @@ ghost use Rattle.std.specs.Iterator.{Drains, Yields, IsFinite};
 ghost use Rattle.std.specs.Sync.RwLock.{write_guard_value};
 ghost use Rattle.raft_records.specs.declared.log_item.LogItem.{LogItem};
 ghost use Rattle.raft_records.specs.Item.{item_of};
-ghost use Rattle.raft_records.specs.LogBatch.{populating};
+ghost use Rattle.raft_records.specs.LogBatch.{is_open};
 ghost use Rattle.raft_table.specs.declared.memtable.change.TableChange.{TableChange};
 ghost use Rattle.raft_table.specs.Table.{Table};
 ghost use Rattle.raft_accessor.specs.Accessor.{slot_of, table_in, AreCountsOf};
@@ -289,7 +289,7 @@ impl SharedAccessor {
     ///
     /// `Memory`. Each cleaned region is then still listed, or in the batch.
     pub fn take_cleaned_region_logs<R: Wait>(&self, rt: &R, logs: &mut LogBatch) -> Result<()>
-        requires { logs.old.stage ≡ populating }
+        requires { logs.old.stage ≡ is_open }
         ensures logs { HasCleans logs.old logs.new }
         ensures memory { IfErr result (λ e. e ≡ Error.Memory) }
     {

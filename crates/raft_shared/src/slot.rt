@@ -5,7 +5,7 @@ ghost use Rattle.std.specs.FinMap as finite;
 ghost use Rattle.std.specs.List.{FoldsTo};
 ghost use Rattle.raft_base.specs.declared.pipe_log.LogQueue.{LogQueue};
 ghost use Rattle.raft_records.specs.Item.{item_of, command_item};
-ghost use Rattle.raft_records.specs.LogBatch.{populating};
+ghost use Rattle.raft_records.specs.LogBatch.{is_open};
 ghost use Rattle.raft_records.specs.declared.command.Command.TheVariants.{Clean};
 ghost use Rattle.raft_table.specs.Change.{after_change, AreCountsAfter, IsAllowed, IsAnswer, IsChangeFault};
 ghost use Rattle.raft_table.specs.Table.{Table, with_table_added, with_table_deleted, live_of};
@@ -35,10 +35,10 @@ pub struct Slot {
 }
 
 impl Model for Slot {
-    ghost use Rattle.raft_shared.specs.Slot.{SlotContent};
+    ghost use Rattle.raft_shared.specs.Slot.{Slot};
     ghost use Rattle.raft_shared.specs.SlotCode.{slot_code};
 
-    ghost Value = { SlotContent };
+    ghost Value = { Slot };
 
     ghost coded = { slot_code };
 
@@ -318,7 +318,7 @@ impl Slot {
     ///
     /// `Memory`. Slot and batch are then as they were.
     pub fn take_cleaned_region_logs(&mut self, logs: &mut LogBatch) -> Result<()>
-        requires { logs.old.stage ≡ populating }
+        requires { logs.old.stage ≡ is_open }
         ensures logs { OnOk result (logs.new ≡ record logs.old {
           items = logs.old.items ++ map (λ id. command_item id Clean) self.old.content.cleaned;
         }) }
@@ -364,7 +364,7 @@ impl Slot {
 
 /// Adds a `Clean` for each region to an open batch, in order. On `Err` the batch is as it was.
 fn move_cleans(alloc: Global, ids: &[u64], logs: &mut LogBatch) -> Result<()>
-    requires { logs.old.stage ≡ populating }
+    requires { logs.old.stage ≡ is_open }
     ensures ok { OnOk result (logs.new
         ≡ record logs.old { items = logs.old.items ++ map (λ id. command_item id Clean) ids.now }) }
     ensures err { OnErr result (logs.new ≡ logs.old) }

@@ -1,7 +1,7 @@
 //! Changes of a region, made in a batch and in a map.
 
 ghost use Rattle.std.specs.Prelude.{◌≡◌, OnOk};
-ghost use Rattle.raft_records.specs.LogBatch.{populating};
+ghost use Rattle.raft_records.specs.LogBatch.{is_open};
 
 use crate::contents::Records;
 use crate::crashes::dice::Dice;
@@ -38,8 +38,8 @@ impl Change {
 
     /// Adds the change to a batch.
     pub(crate) fn add_to(&self, batch: &mut LogBatch, region: u64) -> Result<()>
-        requires { batch.old.stage ≡ populating }
-        ensures { OnOk result (batch.new.stage ≡ populating) }
+        requires { batch.old.stage ≡ is_open }
+        ensures { OnOk result (batch.new.stage ≡ is_open) }
     {
         match self {
             Change::Append(proposals) => {

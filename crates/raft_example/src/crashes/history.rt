@@ -1,7 +1,7 @@
 //! Random histories of a store.
 
 ghost use Rattle.std.specs.Prelude.{◌≡◌, OnOk};
-ghost use Rattle.raft_records.specs.LogBatch.{populating};
+ghost use Rattle.raft_records.specs.LogBatch.{is_open};
 
 use crate::contents::Contents;
 use crate::crashes::change::Change;
@@ -103,8 +103,8 @@ impl<'a, R: Host + Print> History<'a, R> {
 
     /// Adds a change of one of four regions to a batch, and makes it in the map.
     fn change(&mut self, batch: &mut LogBatch) -> Result<()>
-        requires { batch.old.stage ≡ populating }
-        ensures { OnOk result (batch.new.stage ≡ populating) }
+        requires { batch.old.stage ≡ is_open }
+        ensures { OnOk result (batch.new.stage ≡ is_open) }
     {
         let alloc = self.rt.alloc();
         let region = self.dice.below(4) + 1;

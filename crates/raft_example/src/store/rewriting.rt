@@ -1,7 +1,7 @@
 //! Moves records to the rewrite queue, and deletes files that nobody needs.
 
 ghost use Rattle.std.specs.Prelude.{◌≡◌, OnOk};
-ghost use Rattle.raft_records.specs.LogBatch.{populating};
+ghost use Rattle.raft_records.specs.LogBatch.{is_open};
 
 use super::{Host, Store};
 use crate::proposal::Proposals;
@@ -166,7 +166,7 @@ impl<R: Host> Store<'_, R> {
 
     /// Writes a batch to the rewrite queue and then to the tables, and returns its file.
     fn write_moved(&mut self, mut batch: LogBatch, gate: Option<FileSeq>) -> Result<FileSeq>
-        requires { batch.stage ≡ populating }
+        requires { batch.stage ≡ is_open }
     {
         if batch.is_empty() {
             return Ok(0);
@@ -179,8 +179,8 @@ impl<R: Host> Store<'_, R> {
 
 /// Adds key values of a region to a batch.
 fn put_all(batch: &mut LogBatch, region: u64, pairs: Vec<(Vec<u8>, Vec<u8>)>) -> Result<()>
-    requires { batch.old.stage ≡ populating }
-    ensures { OnOk result (batch.new.stage ≡ populating) }
+    requires { batch.old.stage ≡ is_open }
+    ensures { OnOk result (batch.new.stage ≡ is_open) }
 {
     for pair in pairs {
         let (key, value) = pair;
@@ -191,8 +191,8 @@ fn put_all(batch: &mut LogBatch, region: u64, pairs: Vec<(Vec<u8>, Vec<u8>)>) ->
 
 /// Adds commands and deletions to a batch.
 fn add_tombstones(batch: &mut LogBatch, items: &[LogItem]) -> Result<()>
-    requires { batch.old.stage ≡ populating }
-    ensures { OnOk result (batch.new.stage ≡ populating) }
+    requires { batch.old.stage ≡ is_open }
+    ensures { OnOk result (batch.new.stage ≡ is_open) }
 {
     for item in items {
         match &item.content {

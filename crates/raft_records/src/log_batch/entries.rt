@@ -7,7 +7,7 @@ ghost use Rattle.raft_records.specs.Entries.{entry_with_index, with_lengths};
 ghost use Rattle.raft_records.specs.Faults.{OneRefuses};
 ghost use Rattle.raft_records.specs.Item.{entries_item};
 ghost use Rattle.raft_records.specs.ItemBatch.{entry_bytes_of, with_offsets_from};
-ghost use Rattle.raft_records.specs.LogBatch.{populating, with_entries_added, IsBytesFault, IsAddFault, empty_batch, with_batch};
+ghost use Rattle.raft_records.specs.LogBatch.{is_open, with_entries_added, IsBytesFault, IsAddFault, empty_batch, with_batch};
 ghost use Rattle.raft_records.specs.Spelling.{Keeps};
 
 use super::{MAX_LOG_BATCH_BUFFER_CAP, MAX_LOG_ENTRIES_SIZE_PER_BATCH};
@@ -31,7 +31,7 @@ impl LogBatch {
     /// asked for before the indexes are tested, so `Memory` may also come for indexes with gaps. The
     /// batch is then as it was.
     pub fn add_entries<M: MessageExt>(&mut self, region: u64, entries: &[M::Entry]) -> Result<()>
-        requires { self.old.stage ≡ populating }
+        requires { self.old.stage ≡ is_open }
         ensures ok { OnOk result (self.new ≡ with_entries_added self.old region
             (map (λ e. entry_with_index (M.index_of e)) entries.now)
             (map M.Entry.bytes_of entries.now)) }
@@ -71,7 +71,7 @@ impl LogBatch {
         entry_indexes: Vec<EntryIndex>,
         entries: Vec<Vec<u8>>,
     ) -> Result<()>
-        requires open { self.old.stage ≡ populating }
+        requires open { self.old.stage ≡ is_open }
         requires counts { length entry_indexes.items ≡ length entries.items }
         requires consecutive { IsConsecutive entry_indexes.items }
         ensures ok { OnOk result (self.new ≡ with_entries_added self.old region
@@ -110,8 +110,8 @@ impl LogBatch {
     ///
     /// `Full` where the entry bytes would pass 2^31 - 1, `Memory`. Both are then as they were.
     pub fn merge(&mut self, rhs: &mut LogBatch) -> Result<()>
-        requires open { self.old.stage ≡ populating }
-        requires rhs_open { rhs.old.stage ≡ populating }
+        requires open { self.old.stage ≡ is_open }
+        requires rhs_open { rhs.old.stage ≡ is_open }
         ensures ok { OnOk result (self.new ≡ with_batch self.old rhs.old) }
         ensures emptied { OnOk result (rhs.new ≡ empty_batch) }
         ensures accepted { OnOk result (length self.old.entry_bytes + length rhs.old.entry_bytes

@@ -1,9 +1,9 @@
 use Rattle.std.proofs.Common.{◌≡◌, ℕ, Option, refl}
-use Rattle.raft_records.specs.LogBatch.{Stage, populating, encoded, sealed, IsSealedStage}
+use Rattle.raft_records.specs.LogBatch.{Stage, is_open, encoded, sealed, IsSealedStage}
 use Rattle.raft_records_tests.proofs.groups.header_of.Goals as goal
 
 signature_at : (stage : Stage) → IsSealedStage stage → (signature : Option ℕ) × (stage ≡ sealed signature)
-signature_at populating h = absurd h
+signature_at is_open h = absurd h
 signature_at encoded h = absurd h
 signature_at (sealed signature) h = (signature, refl)
 

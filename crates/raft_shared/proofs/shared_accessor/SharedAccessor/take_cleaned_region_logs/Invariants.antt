@@ -1,7 +1,7 @@
 use Rattle.std.proofs.Common.{◌≡◌}
-use Rattle.raft_records.specs.LogBatch.{populating}
+use Rattle.raft_records.specs.LogBatch.{is_open}
 use Rattle.raft_shared.specs.SharedCalls.{HasCleans}
 use Rattle.raft_shared.proofs.shared_accessor.SharedAccessor.take_cleaned_region_logs.Given as goal
 
 abbrev pub invariant-loop-slot : goal.invariant-loop-slot
-invariant-loop-slot g l = (l.logs.stage ≡ populating) × HasCleans l.fn.logs l.logs
+invariant-loop-slot g l = (l.logs.stage ≡ is_open) × HasCleans l.fn.logs l.logs

@@ -1,7 +1,7 @@
 use Rattle.std.proofs.Common.{◌≡◌, refl, sym, ap, ◌∙◌}
 use Rattle.raft_records.specs.Item.{item_of}
 use Rattle.raft_accessor.specs.Accessor.{slot_of}
-use Rattle.raft_shared.specs.Slot.{SlotContent}
+use Rattle.raft_shared.specs.Slot.{Slot}
 use Rattle.raft_accessor.specs.Writes.{Appending}
 use Rattle.raft_shared.specs.declared.slot.Slot.TheInside.{Inside}
 use Rattle.raft_accessor.proofs.LiveLemmas.{table-counted}
@@ -15,7 +15,7 @@ abbrev after : goal.After-append_item → Inside
 after c = record c.self.inside { tables = c.append_item.new.self; stats = c.append_item.new.stats; cleaned = c.append_item.new.cleaned }
 
 own : (c : goal.After-append_item) → slot_of c.args.item.raft_group_id ≡ c.self.inside.number
-own c = c.requires ∙ sym (ap (λ (s : SlotContent). s.number) c.self.view_is)
+own c = c.requires ∙ sym (ap (λ (s : Slot). s.number) c.self.view_is)
 
 pub invariant_of-self : goal.invariant_of-self
 invariant_of-self c =

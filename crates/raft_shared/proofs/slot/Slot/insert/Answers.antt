@@ -6,7 +6,7 @@ use Rattle.raft_base.specs.declared.pipe_log.LogQueue.{LogQueue}
 use Rattle.raft_table.specs.Counts.{live}
 use Rattle.raft_table.specs.Table.{live_of}
 use Rattle.raft_accessor.specs.Accessor.{live_in_all}
-use Rattle.raft_shared.specs.Slot.{SlotContent, IsSlotTable}
+use Rattle.raft_shared.specs.Slot.{Slot, IsSlotTable}
 use Rattle.raft_shared.specs.declared.slot.Slot.TheInside.{Inside}
 use Rattle.raft_accessor.proofs.LiveLemmas.{table-counted}
 use Rattle.raft_shared.proofs.SlotKeeping.{kept-with}
@@ -19,7 +19,7 @@ abbrev after : goal.After-insert → Inside
 after c = record c.self.inside { tables = c.insert.new.self; stats = c.insert.new.stats }
 
 pub invariant_of-self : goal.invariant_of-self
-invariant_of-self c = kept-with c.self.inside (after c) c.args.id c.self.invariant (c.requires.slot ∙ sym (ap (λ (s : SlotContent). s.number) c.self.view_is)) refl c.insert.ensures.one c.insert.ensures.recounted c.self.invariant.cleaned
+invariant_of-self c = kept-with c.self.inside (after c) c.args.id c.self.invariant (c.requires.slot ∙ sym (ap (λ (s : Slot). s.number) c.self.view_is)) refl c.insert.ensures.one c.insert.ensures.recounted c.self.invariant.cleaned
 
 pub returns-clause-own : goal.returns-clause-own
 returns-clause-own c =

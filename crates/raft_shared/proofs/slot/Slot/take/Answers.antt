@@ -1,6 +1,6 @@
 use Rattle.std.proofs.Common.{◌≡◌, Some, None, IfSome, refl, sym, ap, ◌∙◌}
 use Rattle.std.specs.FinMap as finite
-use Rattle.raft_shared.specs.Slot.{SlotContent, IsSlotTable}
+use Rattle.raft_shared.specs.Slot.{Slot, IsSlotTable}
 use Rattle.raft_accessor.proofs.LiveLemmas.{table-counted}
 use Rattle.raft_shared.proofs.SlotKeeping.{kept-taken}
 use Rattle.raft_shared.proofs.slot.Slot.take.Goals as goal
@@ -9,7 +9,7 @@ pub remove-requires : goal.remove-requires
 remove-requires c = table-counted c.self.inside.tables c.self.inside.stats c.args.id c.self.invariant.counted
 
 pub invariant_of-self : goal.invariant_of-self
-invariant_of-self c = kept-taken c.self.inside (record c.self.inside { tables = c.remove.new.self; stats = c.remove.new.stats }) c.args.id c.self.invariant (c.requires ∙ sym (ap (λ (s : SlotContent). s.number) c.self.view_is)) refl c.remove.ensures.after c.remove.ensures.recounted refl
+invariant_of-self c = kept-taken c.self.inside (record c.self.inside { tables = c.remove.new.self; stats = c.remove.new.stats }) c.args.id c.self.invariant (c.requires ∙ sym (ap (λ (s : Slot). s.number) c.self.view_is)) refl c.remove.ensures.after c.remove.ensures.recounted refl
 
 pub returns-clause-own : goal.returns-clause-own
 returns-clause-own c =

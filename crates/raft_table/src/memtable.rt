@@ -13,6 +13,7 @@ ghost use Rattle.raft_table.specs.KeyValues.{value_at, file_at, file_weight};
 ghost use Rattle.raft_table.specs.Table.{empty_table, live_of, IsCounted, IsRecounted, after_append, after_replay, after_rewrite, after_rewrite_key, with_pair, with_pair_deleted, with_rewritten_key, MovesKeyAlone, leaves_append, IsTablePutFault, IsKeyRewriteFault};
 ghost use Rattle.raft_table.specs.Rewriting.{entries_after_rewrite, counts_after_rewrite, IsRewriteFault, MovesPlacesAlone};
 ghost use Rattle.raft_table.specs.Queues.{count_in, other};
+ghost use Rattle.raft_table.specs.RunShown.{run_shown};
 ghost use Rattle.raft_table.specs.Start.{entries_after_append, entries_after_replay, counts_with_run, counts_without, IsTableRunFault};
 
 mod block;
@@ -29,6 +30,7 @@ mod merge;
 mod queries;
 mod query_laws;
 mod region_mark_laws;
+mod run;
 mod steps;
 
 use crate::global_stats::GlobalStats;
@@ -49,6 +51,7 @@ use raft_base::{EntryIndex, Error, FileId, FileSeq, LogQueue, Result};
 pub use region_mark_laws::{
     marks_stand_for_steps, overlays_by_marks, overlays_reach_without_truncations,
 };
+pub use run::Run;
 use std::alloc::Global;
 use std::collections::VecDeque;
 use std::marker::Model;
@@ -242,18 +245,13 @@ impl MemTable {
     /// returns whether it did. It does not where those refuse, nor where the table has records of the
     /// other queue. The table and the counts are then as they were.
     #[doc(hidden)]
-    pub fn try_replay(
-        &mut self,
-        queue: LogQueue,
-        run: &[EntryIndex],
-        stats: &mut GlobalStats,
-    ) -> bool
-        requires run { IsRunIn queue run.now }
+    pub fn try_replay(&mut self, queue: LogQueue, run: &Run<'_>, stats: &mut GlobalStats) -> bool
+        requires run { IsRunIn queue (run_shown run.now) }
         requires counted { IsCounted self.old stats.old }
         ensures done { MatchBool result
-            ((after_replay queue self.old run.now ≡ Some self.new)
+            ((after_replay queue self.old (run_shown run.now) ≡ Some self.new)
             × (live_of (other queue) self.old ≡ 0)
-            × (stats.new ≡ counts_with_run queue self.old.entries run.now stats.old))
+            × (stats.new ≡ counts_with_run queue self.old.entries (run_shown run.now) stats.old))
             ((self.new ≡ self.old) × (stats.new ≡ stats.old)) }
         ensures recounted { IsRecounted self.old self.new stats.old stats.new }
         ensures region { self.new.region_id ≡ self.old.region_id }

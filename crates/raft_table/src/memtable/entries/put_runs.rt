@@ -3,8 +3,9 @@
 ghost use Rattle.std.specs.Prelude.{◌≡◌, ◌≢◌, ◌+◌, ◌≤◌, ◌<◌, ℕ, [], ◌++◌, length, take, drop, slice_index_or, Some, MatchBool, OnOk, OnErr, IfOk};
 ghost use Rattle.raft_base.specs.declared.pipe_log.LogQueue.TheVariants.{Rewrite};
 ghost use Rattle.raft_base.specs.declared.entry_index.EntryIndex.{EntryIndex};
-ghost use Rattle.raft_table.specs.Blocks.{entries_of_block};
+ghost use Rattle.raft_base.specs.Runs.{entries_of_block};
 ghost use Rattle.raft_table.specs.BlockWords.{spans_of};
+ghost use Rattle.raft_table.specs.RunShown.{run_shown};
 ghost use Rattle.raft_table.specs.TableEntries.{AreTableEntries};
 ghost use Rattle.raft_table.specs.Queues.{count_in};
 
@@ -13,6 +14,7 @@ use crate::memtable::entries::Entries;
 use crate::memtable::entries::block_deques::{
     find, is_same, push_block, put_blocks, search, spans_behind, spot_behind,
 };
+use crate::memtable::run::Run;
 use raft_base::{AllocResult, EntryIndex, FileBlockHandle, LogQueue};
 use std::alloc::Global;
 use std::collections::VecDeque;
@@ -67,24 +69,68 @@ impl Entries {
     }
 
     /// Keeps the first `keep` entries, and puts the entries of a run after them.
-    pub(super) fn lay(&mut self, keep: usize, run: &[EntryIndex]) -> AllocResult<()>
+    pub(super) fn lay(&mut self, keep: usize, run: &Run<'_>) -> AllocResult<()>
+        requires keep { keep ≤ length self.old }
+        requires run { 0 < length (run_shown run.now) }
+        requires table_entries { AreTableEntries (take keep self.old ++ run_shown run.now) }
+        ensures ok { OnOk result (self.new ≡ take keep self.old ++ run_shown run.now) }
+        ensures err { OnErr result (self.new ≡ self.old) }
+    {
+        match *run {
+            Run::Entries(run) => self.lay_entries(keep, run),
+            Run::Block {
+                first,
+                handle,
+                spans,
+            } => {
+                let spans = Vec::from_slice(self.allocator(), spans)?;
+                self.lay_block(keep, first, handle, VecDeque::from_vec(spans))
+            }
+        }
+    }
+
+    /// Keeps the first `keep` entries, and puts these after them.
+    fn lay_entries(&mut self, keep: usize, run: &[EntryIndex]) -> AllocResult<()>
         requires keep { keep ≤ length self.old }
         requires run { 0 < length run.now }
         requires table_entries { AreTableEntries (take keep self.old ++ run.now) }
         ensures ok { OnOk result (self.new ≡ take keep self.old ++ run.now) }
         ensures err { OnErr result (self.new ≡ self.old) }
     {
-        let alloc = *self.blocks.allocator();
+        let alloc = self.allocator();
         let first = run[0];
         if let Some(handle) = first.entries
-            && keep == self.len
             && count_of(&handle, run, 0) == run.len()
         {
             let spans = spans_of(alloc, run)?;
-            return self.push(first.index, handle, spans);
+            return self.lay_block(keep, first.index, handle, spans);
         }
         let mut entries = Entries::from_run(alloc, run)?;
         self.put_run(keep, &mut entries)
+    }
+
+    /// Keeps the first `keep` entries, and puts those of one block, from an index on, after them.
+    fn lay_block(
+        &mut self,
+        keep: usize,
+        index: u64,
+        handle: FileBlockHandle,
+        spans: VecDeque<(u32, u32)>,
+    ) -> AllocResult<()>
+        requires keep { keep ≤ length self.old }
+        requires filled { 0 < length spans.items }
+        requires table_entries { AreTableEntries
+            (take keep self.old ++ entries_of_block index handle spans.items) }
+        ensures ok { OnOk result
+            (self.new ≡ take keep self.old ++ entries_of_block index handle spans.items) }
+        ensures err { OnErr result (self.new ≡ self.old) }
+    {
+        if keep == self.len {
+            return self.push(index, handle, spans);
+        }
+        let mut run = Entries::new(self.allocator());
+        run.push(index, handle, spans)?;
+        self.put_run(keep, &mut run)
     }
 
     /// Keeps the first `keep` entries, and moves a run after them.

@@ -2,6 +2,7 @@ pub mod BatchLemmas
 pub mod BufferLemmas
 pub mod CloneLemmas
 pub mod ContentLemmas
+pub mod CopyLemmas
 pub mod DecodedInLemmas
 pub mod EntryLemmas
 pub mod EqualLemmas
@@ -16,11 +17,13 @@ pub mod LayLemmas
 pub mod LengthLemmas
 pub mod LineLemmas
 pub mod Names
+pub mod OwnItemLemmas
 pub mod PartLemmas
 pub mod PlaceLemmas
 pub mod PlacementLemmas
 pub mod PrintLemmas
 pub mod RangeLemmas
+pub mod ReadBatchLemmas
 pub mod ReadPlaceLemmas
 pub mod SealLemmas
 pub mod StageLemmas

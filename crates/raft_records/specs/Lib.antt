@@ -17,6 +17,9 @@ pub mod LogBatch
 pub mod LogBatchModel
 pub mod Placement
 pub mod Range
+pub mod ReadBatch
+pub mod ReadBatchModel
+pub mod ReadWords
 pub mod Same
 pub mod SameLaws
 pub mod Sizes

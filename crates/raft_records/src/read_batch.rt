@@ -1,0 +1,231 @@
+//! Batches as they are read: items over the bytes that they were read of.
+
+ghost use Rattle.std.specs.Prelude.{◌≡◌, ◌≢◌, ℕ, ◌+◌, ◌^◌, ◌<◌, ◌≤◌, List, [], length, drop, IfOk, IfErr, IfNone, OnOk, OnErr};
+ghost use Rattle.std.specs.Option.{option_map};
+ghost use Rattle.raft_codec.specs.Reading.{HasNoFront};
+ghost use Rattle.raft_base.specs.Signature.{signature_of};
+ghost use Rattle.raft_base.specs.declared.compression_type.CompressionType.TheVariants as compressions;
+ghost use Rattle.raft_records.specs.DecodedIn.{AreDecodedIn};
+ghost use Rattle.raft_records.specs.FilePart.{part_of, IsNext, IsNextFault};
+ghost use Rattle.raft_records.specs.Entries.{Tile};
+ghost use Rattle.raft_records.specs.Grammar.{end_behind};
+ghost use Rattle.raft_records.specs.Item.{Item};
+ghost use Rattle.raft_base.specs.Runs.{entries_of_block};
+ghost use Rattle.raft_base.specs.declared.pipe_log.FileBlockHandle.{FileBlockHandle};
+ghost use Rattle.raft_records.specs.ItemBatch.{IsDecoded, IsItemBatch, IsItemBatchFault};
+ghost use Rattle.raft_records.specs.LogBatch.{IsReadable};
+ghost use Rattle.raft_records.specs.ReadBatch.{items_shown, spans_of};
+
+mod items;
+mod own_items;
+mod short_items;
+
+use crate::checksum::verify_checksum;
+use crate::header::{LOG_BATCH_HEADER_LEN, parse_header};
+use crate::read_batch::items::read_items;
+use crate::{Command, LogItemBatch};
+use raft_base::{Error, FileBlockHandle, FileId, LogFileContext, Result};
+use raft_codec::codec;
+use std::alloc::Global;
+use std::marker::Model;
+
+/// What an item says of its region.
+#[derive(Drop)]
+pub enum ReadContent<'a> {
+    /// `count` new entries, from the index `first` on. Their spans are the next ones of the batch.
+    Run { first: u64, count: usize },
+    /// A change of the region's log as a whole.
+    Command(Command),
+    /// A key gets a value.
+    Put { key: &'a [u8], value: &'a [u8] },
+    /// A key goes.
+    Delete { key: &'a [u8] },
+}
+
+/// What is said of one region.
+#[derive(Drop)]
+pub struct ReadItem<'a> {
+    pub region: u64,
+    pub content: ReadContent<'a>,
+}
+
+/// The items of a batch, whose keys and values stand in the bytes that they were read of. Each entry is a
+/// span of the one place that holds the batch's entry bytes. The next batch is read in place of this one, so
+/// a walk over many batches takes memory for the longest alone.
+#[derive(Drop)]
+pub struct ReadBatch<'a> {
+    items: Vec<ReadItem<'a>>,
+    /// Offset and length of each entry, those of the first run first.
+    spans: Vec<(u32, u32)>,
+    /// Where the entry bytes stand.
+    place: FileBlockHandle,
+}
+
+impl<'a> Model for ReadBatch<'a> {
+    ghost use Rattle.std.specs.Prelude.{List};
+    ghost use Rattle.raft_records.specs.Entries.{Tile};
+    ghost use Rattle.raft_records.specs.Grammar.{end_behind};
+    ghost use Rattle.raft_records.specs.Item.{Item};
+    ghost use Rattle.raft_base.specs.Runs.{entries_of_block};
+    ghost use Rattle.raft_base.specs.declared.pipe_log.FileBlockHandle.{FileBlockHandle};
+
+    ghost Value = { List Item };
+
+    ghost use Rattle.raft_records.specs.ReadBatchModel.{items_in, IsWellFormed};
+
+    ghost view = { items_in };
+
+    ghost invariant = { IsWellFormed };
+}
+
+impl<'a> ReadBatch<'a> {
+    /// Returns a batch without items, whose place is in this file.
+    pub fn new(alloc: Global, id: FileId) -> ReadBatch<'a>
+        ensures { result ≡ [] }
+    {
+        ReadBatch {
+            items: Vec::new(alloc),
+            spans: Vec::new(alloc),
+            place: FileBlockHandle {
+                id,
+                offset: 0,
+                len: 0,
+            },
+        }
+    }
+
+    /// Reads the log batch that stands at `at` in these bytes, in place of what was held, and returns where the
+    /// next one begins; nothing at the end of the bytes. They are those of the file from `offset` on. Its items
+    /// are those of [`next_in`](crate::next_in). Without a batch no items are held.
+    ///
+    /// # Errors
+    ///
+    /// Those of [`next_batch`](crate::next_batch). No items are held then.
+    pub fn read_next(
+        &mut self,
+        file: &LogFileContext,
+        offset: u64,
+        bytes: &'a [u8],
+        at: usize,
+    ) -> Result<Option<usize>>
+        requires inside { at ≤ length bytes.now }
+        requires ends { offset + length bytes.now < 2 ^ 64 }
+        ensures ok { IfOk result (λ next. IsNext (part_of file.now offset bytes.now) at
+            (option_map (λ end. (self.new, end)) next)) }
+        ensures in_file { AreDecodedIn file.now.id self.new }
+        ensures none { IfOk result (λ next. IfNone next (self.new ≡ [])) }
+        ensures err { OnErr result (self.new ≡ []) }
+        ensures some { OnErr result (at < length bytes.now) }
+        ensures refused { IfErr result (λ e. e ≢ Error.Memory
+            → HasNoFront (λ xs. IsReadable xs (signature_of file.now)) (drop at bytes.now)) }
+        ensures fault { IfErr result (IsNextFault (signature_of file.now) (drop at bytes.now)) }
+    {
+        self.clear();
+        if at == bytes.len() {
+            return Ok(None);
+        }
+        let alloc = *self.items.allocator();
+        let (_, rest) = bytes.split_at(at);
+        let ((items_at, _, len), _) = parse_header(alloc, rest)?;
+        if len > rest.len() {
+            return Err(Error::Corruption(format!(in alloc;
+                "a log batch of {len} bytes is cut short"
+            )?));
+        }
+        let place = FileBlockHandle {
+            id: file.id,
+            offset: offset + at as u64 + LOG_BATCH_HEADER_LEN as u64,
+            len: items_at - LOG_BATCH_HEADER_LEN,
+        };
+        let (batch, _) = rest.split_at(len);
+        let (_, item_bytes) = batch.split_at(items_at);
+        self.read_item_batch(item_bytes, place, file)?;
+        Ok(Some(at + len))
+    }
+
+    /// Holds no items any more, and keeps the memory.
+    fn clear(&mut self)
+        ensures { self.new ≡ [] }
+    {
+        self.items.clear();
+        self.spans.clear();
+    }
+
+    /// Reads the item batch that the whole slice is, in the file of `context`. The entries are at `place`, the
+    /// changes of keys in its file. On `Err` no items are held.
+    fn read_item_batch(
+        &mut self,
+        bytes: &'a [u8],
+        place: FileBlockHandle,
+        context: &LogFileContext,
+    ) -> Result<()>
+        ensures ok { OnOk result ((rest : List ℕ) × IsDecoded bytes.now (signature_of context.now)
+            place compressions.None self.new rest) }
+        ensures in_file { AreDecodedIn place.id self.new }
+        ensures err { OnErr result (self.new ≡ []) }
+        ensures refused { IfErr result (λ e. e ≢ Error.Memory → (items : List Item) (rest : List ℕ) →
+            IsItemBatch bytes.now (signature_of context.now) items rest → ⊥) }
+        ensures fault { IfErr result (IsItemBatchFault (signature_of context.now) bytes.now) }
+    {
+        self.items.clear();
+        self.spans.clear();
+        self.place = place;
+        let alloc = *self.items.allocator();
+        let content = verify_checksum(alloc, bytes, context.get_signature())?;
+        let (count, behind) = codec::parse_var_u64(content)?;
+        if let Err(e) = read_items(alloc, behind, count, &mut self.items, &mut self.spans) {
+            self.items.clear();
+            self.spans.clear();
+            return Err(e);
+        }
+        Ok(())
+    }
+
+    /// Returns the place of the entry bytes, the items, and the spans of their runs, those of the first run
+    /// first. The entries and the changes of keys are as they may stand in the file of the place.
+    pub fn parts(&self) -> (FileBlockHandle, &[ReadItem<'a>], &[(u32, u32)])
+        ensures shown { items_shown result.0 result.1.now result.2.now ≡ self.now }
+        ensures spans { spans_of result.1.now ≡ length result.2.now }
+        ensures in_file { AreDecodedIn result.0.id self.now }
+    {
+        (self.place, self.items.as_slice(), self.spans.as_slice())
+    }
+
+    /// Returns the allocator that the batch was made with.
+    pub fn allocator(&self) -> Global {
+        *self.items.allocator()
+    }
+
+    /// Returns a batch of the same items, with keys and values of its own.
+    ///
+    /// # Errors
+    ///
+    /// `Memory`.
+    pub fn to_batch(&self, alloc: Global) -> Result<LogItemBatch>
+        ensures ok { IfOk result (λ batch. batch ≡ self.now) }
+        ensures memory { IfErr result (λ e. e ≡ Error.Memory) }
+    {
+        let mut batch = LogItemBatch::with_capacity(alloc, self.items.len())?;
+        let mut spans = self.spans.as_slice();
+        for item in &self.items {
+            let (own, rest) = spans.split_at(item.span_count());
+            let end = end_of_spans(own, batch.entries_size());
+            batch.add(item.to_item(alloc, self.place, own)?, end)?;
+            spans = rest;
+        }
+        Ok(batch.with_file(self.place.id))
+    }
+}
+
+/// Returns where the bytes of the entries in these spans end, which stand after `start` entry bytes.
+fn end_of_spans(spans: &[(u32, u32)], start: u32) -> u32
+    requires { (first : ℕ) × (place : FileBlockHandle) × Tile start
+        (entries_of_block first place spans.now) }
+    ensures { (first : ℕ) (place : FileBlockHandle) →
+        result ≡ end_behind start (entries_of_block first place spans.now) }
+{
+    match spans.last() {
+        Some((offset, len)) => *offset + *len,
+        None => start,
+    }
+}

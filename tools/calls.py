@@ -110,7 +110,7 @@ class Crate:
         kind, name = head.group(2), head.group(3)
         what = doc_above(text, head.start())
         if kind == "fn":
-            if not is_law(text, head.start()):
+            if not is_law(text, head.start()) and not is_hidden(text, head.start()):
                 yield f"- `{signature(text, head.start())}`: {what}"
             return
         yield f"- **`{name}`** ({kind}): {what}"

@@ -81,8 +81,8 @@ pub fn are_accepted(segments: &[Segment], queue: LogQueue, workers: usize) -> bo
     segments_are_of(segments, queue)
 }
 
-/// Says why workers may not replay segments: there are too many or too few of them, a part is of another queue, or
-/// else there are too many segments.
+/// Returns why workers may not replay these segments, where [`are_accepted`] refuses them: another number of workers
+/// than 1 to 256, else a part of another queue, else too many segments. Of accepted arguments the text says nothing.
 #[doc(hidden)]
 pub fn argument_fault(
     segments: &[Segment],

@@ -44,7 +44,7 @@ pub enum Content {
     },
 }
 
-/// The items of a log batch, with their places in the file.
+/// The items of a log batch: entries with their place in the file, key values with their file.
 #[derive(Debug)]
 pub struct Batch {
     handle: ItemsHandle,

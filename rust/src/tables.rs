@@ -81,7 +81,7 @@ impl Tables {
     /// # Errors
     ///
     /// Where the range isn't empty: `EntryNotFound` without entries, `EntryCompacted` where it begins below the first entry,
-    /// `EntryNotFound` where it ends behind the last; else `Memory` alone.
+    /// `EntryNotFound` where its end is above the end of the entries; else `Memory` alone.
     pub fn entries(
         &self,
         region: u64,
@@ -114,7 +114,8 @@ impl Tables {
         self.handle.value(region, key)
     }
 
-    /// Puts new entries of the append queue behind those of a region below their start. All others go.
+    /// Puts new entries of the append queue after those of a region below their start. All others go; where
+    /// there are no new ones, all stay.
     ///
     /// # Errors
     ///

@@ -13,14 +13,14 @@ use Rattle.raft_table.specs.Steps.{table_of}
 use Rattle.raft_table.specs.Table.{Table, live_of, with_table_deleted, IsRecounted}
 use Rattle.raft_accessor.specs.Accessor.{table_in, live_in}
 
--- a newer table was put over an older one of its region under the newer region mark; the answer is the end of the older entries that the region mark's first run followed
+-- a newer table was put over an older one of its region under the newer region mark; the answer is the end of the older entries that the region mark's first run meets
 pub record IsPut (queue : LogQueue) (m : Mark) (newer : Table) (counts : Counts) (r : Result ℕ Error) (old new : Table) : Type 0 where
   pub ok : IsRunOver queue m newer old → OnOk r (table_over queue m newer old ≡ Some new)
   pub answer : IfOk r (λ end. end ≡ end_at_reach m old)
   pub fault : IsRunOver queue m newer old → IfErr r (IsFaultUnder queue counts m newer old)
   pub few : OnOk r ((q : LogQueue) → live_of q new ≤ live_of q old + live_of q newer)
 
--- a newer table of a region, or its absence, was put over the older one under the newer region mark, and no other table was changed, also where that was refused; the answer is the end of the older entries that the region mark's first run followed. Where the region was cleaned and has no newer table, the older one's records are deleted from the counts
+-- a newer table of a region, or its absence, was put over the older one under the newer region mark, and no other table was changed, also where that was refused; the answer is the end of the older entries that the region mark's first run meets. Where the region was cleaned and has no newer table, the older one's records are deleted from the counts
 pub record IsTableJoined (queue : LogQueue) (m : Mark) (newer : Option Table) (old : Tables) (id : ℕ) (counts : Counts) (r : Result ℕ Error) (new : Tables) (after : Counts) : Type 0 where
   pub ok : IsRunOver queue m (table_of id newer) (table_in old id) → OnOk r (table_over_older queue id m newer (finite.get old id) ≡ Some (finite.get new id))
   pub answer : IfOk r (λ end. end ≡ end_at_reach m (table_in old id))

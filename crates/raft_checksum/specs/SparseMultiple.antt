@@ -2,7 +2,7 @@
 use Rattle.std.specs.Prelude.{◌≡◌, ℕ, ◌+◌, ◌*◌, ◌^◌, ◌<◌, ◌≤◌, bit_xor, List, [], ◌∷◌, length, slice_index}
 use Rattle.raft_checksum.specs.Checksum.{crc_steps}
 
--- from byte 300 on, each of the quotient is the text's, with those 145, 183, 211 and 300 bytes before it taken off
+-- after its first 300 bytes the quotient has a byte for each of the text: that byte, with those 145, 183, 211 and 300 bytes before it in the quotient taken off
 abbrev pub IsQuotient : List ℕ → List ℕ → Type 0
 IsQuotient bytes quotient = (k : ℕ) → k < length bytes
     → slice_index quotient (k + 300) ≡ bit_xor (bit_xor (bit_xor (bit_xor (slice_index bytes k) (slice_index quotient (k + 155))) (slice_index quotient (k + 117))) (slice_index quotient (k + 89))) (slice_index quotient k)

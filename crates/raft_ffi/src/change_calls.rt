@@ -22,7 +22,8 @@ use crate::tables::Tables;
 use raft_base::FileId;
 use std::alloc::Global;
 
-/// Puts new entries of the append queue behind those of a region below their start. All others go.
+/// Puts new entries of the append queue after those of a region below their start. All others go; where
+/// there are no new ones, all stay.
 #[unsafe(no_mangle)]
 pub extern "C" fn raft_ffi_tables_append(
     alloc: Global,

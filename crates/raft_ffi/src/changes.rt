@@ -36,7 +36,8 @@ fn change(accessor: &mut MemTableAccessor, region: u64, change: TableChange) -> 
     answer
 }
 
-/// Puts new entries of the append queue behind those of a region below their start. All others go.
+/// Puts new entries of the append queue after those of a region below their start. All others go; where
+/// there are no new ones, all stay.
 pub(crate) fn append(
     alloc: Global,
     accessor: &mut MemTableAccessor,

@@ -105,7 +105,7 @@ is_named r h = list_any (λ e. names r (region_steps_in e)) (effects h)
 abbrev pub first_in : Effect → ℕ
 first_in e = (slice_index_or e.earlier 0 e.last).number
 
--- two effects overlap, each from its first batch to its last
+-- two effects overlap, each taken from its first batch to its last
 abbrev pub Overlap : Effect → Effect → Type 0
 Overlap e f = (first_in e ≤ f.last.number) × (first_in f ≤ e.last.number)
 

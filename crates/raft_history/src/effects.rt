@@ -55,8 +55,8 @@ pub fn batches_without_markers_are_effects()
         → steps_of r h ≡ flat_map (λ b. steps_on r b.steps) h }
 {}
 
-/// States that a region has steps in the effects exactly where one of them names it; and the
-/// regions that two histories name, one after the other, are those of the older, of the groups
+/// States that a region has steps in the effects exactly where one of them names it; and, where the effects of
+/// two histories, one after the other, are apart, the regions that both name are those of the older, of the groups
 /// that become whole between them, and of the newer.
 pub fn named_regions_have_steps()
     ensures steps { (r : ℕ) (h : List BatchSteps) → (is_named r h ≡ false) ↔ (steps_of r h ≡ []) }

@@ -18,7 +18,8 @@ ghost use Rattle.raft_history.specs.LeastFiles.{AreLeastFiles, HasNoneBelow};
 ghost use Rattle.raft_history.specs.RewrittenRecords.{AreRewrittenFrom, HaveSameRecords};
 ghost use Rattle.raft_history.specs.Histories.{IsSmall, Sound, IsSoundIn, Apart, AreInFile, IsOfQueue, IsOneReading};
 
-/// States that what holds of two histories, one after the other, holds of each.
+/// States that if two histories, one after the other, are small, sound, apart or of one queue, each of them is so
+/// too.
 pub fn neighbors_keep_what_histories_are()
     ensures small { (h k : List Event) → IsSmall (h ++ k) → IsSmall h × IsSmall k }
     ensures sound { (h k : List Event) → Sound (h ++ k) → Sound h × Sound k }

@@ -13,7 +13,7 @@ use raft_records::LogItemBatch;
 ///
 /// What its state says of the batches is known by two relations that each machine defines: it *stands for* a history
 /// of batches, and it stands for it *exactly*. In histories of fewer than 2^63 entries, key values and deletions
-/// together both are kept by every successful call, exactness by a merge where effects are apart; a refusal comes only
+/// together, both are kept by every successful call, exactness by a merge where effects are apart; a refusal comes only
 /// for want of memory, where the history can't be read, or where the queue handed to `merge` is another than the
 /// batches'.
 pub trait ReplayMachine: Send + Drop {

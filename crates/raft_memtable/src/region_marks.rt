@@ -106,7 +106,7 @@ impl RegionMarks {
         self.update(id, move |mark: &mut Mark| mark.add_step(queue, end, step))
     }
 
-    /// Joins the region mark of newer steps to the region mark of a region, whose first run follows own
+    /// Joins the region mark of newer steps to the region mark of a region, whose first run meets own
     /// entries of the region that end at `end_at_reach`.
     ///
     /// # Errors

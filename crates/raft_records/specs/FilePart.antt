@@ -33,8 +33,8 @@ abbrev pub IsPartRefusal : ℕ → Error → Type 0
 IsPartRefusal end (errors.InvalidArgument text) = 2 ^ 64 ≤ end
 IsPartRefusal end e = IsMemory e
 
--- a readable batch begins at this byte of a part, and these are its items, each with its place in the file: what lies
--- between header and item batch; the next batch begins after it
+-- a batch that is readable in the part's file begins at this byte of the part, and these are its items: entries have
+-- the place of what lies between header and item batch, key values the file; the next batch begins after it
 pub record IsBatchAt (part : Part) (at : ℕ) (items : List Item) (next : ℕ) : Type 0 where
   pub bytes : List ℕ
   pub read : List Item

@@ -16,7 +16,7 @@ use std::marker::Model;
 /// The key of the group markers. No value is put under it but theirs.
 pub const ATOMIC_GROUP_KEY: [u8; 3] = [b'_', b'_', 1];
 
-/// The place of a batch in its atomic group.
+/// Whether a batch begins, continues or ends its atomic group.
 #[derive(Clone, Copy, PartialEq, Debug)]
 pub enum AtomicGroupStatus {
     /// It is the first batch of the group.
@@ -206,7 +206,7 @@ impl AtomicGroupBuilder {
 }
 
 /// States that what is added as a group marker is read as the group marker of its group with its status, and is
-/// never refused. What is read is a function of the item. A test tells the reserved key.
+/// never refused. What is read is a function of the item. `is_reserved` is true of the reserved key alone.
 pub fn group_markers_are_read_again()
     ensures is_marker { (id : ℕ) (status : Status) →
         marker_byte (group_marker_item id status).content ≡ Some (status_byte status) }

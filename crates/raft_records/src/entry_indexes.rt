@@ -155,8 +155,8 @@ impl EntryIndexes {
         }
     }
 
-    /// Reads the entries of an item that follows `entries_size` entry bytes, without a place. `entries_size`
-    /// becomes the end of their bytes.
+    /// Reads an item's entries, without a place, after items whose entries have `entries_size` bytes together.
+    /// `entries_size` becomes the end of their bytes.
     ///
     /// # Errors
     ///

@@ -143,9 +143,9 @@ impl FilePart {
     }
 }
 
-/// Returns the items of the log batch that stands at `at` in the part, each with its place in the file, and
-/// where the next batch begins; nothing at the part's end. The entries of an item are consecutive and lie in
-/// the part's file, as each key value does. It doesn't read the entry bytes.
+/// Returns the items of the log batch that stands at `at` in the part, entries with their place and key values with
+/// their file, and where the next batch begins; nothing at the part's end. The entries of an item are consecutive
+/// and lie in the part's file, as each key value does. It doesn't read the entry bytes.
 ///
 /// # Errors
 ///

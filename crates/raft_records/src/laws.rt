@@ -62,7 +62,9 @@ pub fn batches_belong_to_one_file()
 
 /// States that what is written and signed of a batch is a log batch of its items and entry bytes. Bytes are a
 /// log batch exactly where a header, an entry block and an item batch are read of them, and each of these is
-/// read in one way only. So they are a log batch of one list of items and of one string of entry bytes.
+/// read in one way only. So they are a log batch of one list of items and of one string of entry bytes. Bytes are
+/// a readable batch exactly where a header is read of them, and an item batch from the offset that it gives to
+/// their end.
 pub fn log_batches_are_read_again()
     ensures written { LogBatchIsSpelled }
     ensures sections { (bytes : List ℕ) (signature : Option ℕ) (items : List Item)
@@ -94,10 +96,10 @@ pub fn log_batches_belong_to_one_file()
         IsLogBatch bytes (signature_in V2 seq') items entry_bytes }
 {}
 
-/// States that the bytes of a written batch, in a part of the file that they are signed for, at the offset of
-/// the place that they were written to, are never refused there: `next_batch` returns exactly the items that
-/// `finish_write` leaves, and where the bytes end. So the batch stands there. What is asked of the items holds
-/// of every batch, as its `is_read_again` states.
+/// States that the bytes of a written batch that has items, in a part of the file that they are signed for, at the
+/// offset of the place that they were written to, are never refused there: `next_batch` returns exactly the items
+/// that `finish_write` leaves, and where the bytes end. So the batch stands there. What else is asked holds of every
+/// batch whose bytes are made, as its `is_read_again` states.
 pub fn written_batches_are_next()
     ensures stands { WrittenBatchStands }
     ensures next { (part : Part) (at : ℕ) (handle : FileBlockHandle) (items : List Item)

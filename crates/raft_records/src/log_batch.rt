@@ -136,7 +136,7 @@ impl LogBatch {
         matches!(self.state, BufState::Open)
     }
 
-    /// Tests whether the batch's bytes are signed for a file.
+    /// Tests whether the batch's bytes are signed for a file, or finished for one without signatures.
     pub fn is_sealed(&self) -> bool
         ensures { IsTrue result ↔ IsSealedStage self.now.stage }
     {
@@ -401,8 +401,8 @@ fn refuse_reserved(key: &Vec<u8>) -> Result<()>
 
 impl LogBatch {
     /// Gives the items of a sealed batch their places. Every entry gets the place of the entry bytes with their
-    /// checksum, which is within the place that the batch was written to, and of length 0 where there are no
-    /// entry bytes. Every key value gets its file. It asks that the place of the batch begins at 2^64 - 17 at
+    /// checksum, which begins 16 bytes after the batch's, and has length 0 where there are no entry bytes.
+    /// Every key value gets its file. It asks that the place of the batch begins at 2^64 - 17 at
     /// most. The batch's bytes stay as they are, and it takes no memory.
     pub fn finish_write(&mut self, handle: FileBlockHandle)
         requires sealed { IsSealedStage self.old.stage }

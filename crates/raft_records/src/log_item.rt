@@ -193,8 +193,8 @@ impl LogItem {
         self.content.write(buf)
     }
 
-    /// Reads an item, which follows `entries_size` entry bytes, from the front, without places and file.
-    /// `entries_size` becomes the end of its entries' bytes.
+    /// Reads an item from the front, without places and file, after items whose entries have `entries_size` bytes
+    /// together. `entries_size` becomes the end of its entries' bytes.
     ///
     /// # Errors
     ///

@@ -132,8 +132,8 @@ impl LogItemBatch {
     }
 
     /// Returns the file in which `decode` gave the items their places, as long as none was added, moved or
-    /// placed since: the items may stand in it, so nobody needs to test them again. A clone returns the same. A
-    /// batch that was made otherwise returns `None`, which says nothing of the items.
+    /// placed since: the items may stand in it, so nobody needs to test them again. `None` says nothing of
+    /// the items. (No clause says when it comes, nor that a clone returns the same.)
     pub fn decoded_in(&self) -> Option<FileId>
         ensures { IfSome result (λ file. AreDecodedIn file self.now) }
     {

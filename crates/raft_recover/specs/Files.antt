@@ -32,7 +32,7 @@ abbrev pub FilesHold : LogQueue → Version → List NumberedBytes → List Even
 FilesHold queue version files h =
     EachHolds (λ file. HoldsFrom (whole_file queue version file) 0) files h
 
--- a file isn't a sequence of readable batches, or the batches of all files, in order, name 2^63 entries, key values and deletions or more, or are a history that can't be read
+-- a file isn't a sequence of readable batches, or the batches of all files, in order, name 2^63 entries, key values and deletions together, or more, or are a history that can't be read
 pub record FilesCannotBeRead (queue : LogQueue) (version : Version) (files : List NumberedBytes) : Type 0 where
   pub unsound : (h : List Event) → FilesHold queue version files h → IsSmall h → ¬ (Sound h)
 

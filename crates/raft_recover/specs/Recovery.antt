@@ -12,7 +12,7 @@ use Rattle.raft_history.specs.BothQueues.{IsReadingOfBoth}
 use Rattle.raft_accessor.specs.Accessor.{Accessor, AreCountsOf}
 use Rattle.raft_replay.specs.Segments.{MayReplay}
 
--- what recovery gives of the batches that are read: the live counts are those of the tables; where the batches name fewer than 2^63 entries, key values and deletions, they are a history of the queue that can be read, and, where effects are apart, tables and cleaned regions are those of one reading of it
+-- what recovery gives of the batches that are read: the live counts are those of the tables; where the batches name fewer than 2^63 entries, key values and deletions together, they are a history of the queue that can be read, and, where effects are apart, tables and cleaned regions are those of one reading of it
 pub record IsRecovered (queue : LogQueue) (IsHistory : List Event → Type 0) (accessor : Accessor) : Type 0 where
   pub history : List Event
   pub held : IsHistory history
@@ -24,7 +24,7 @@ pub record IsRecovered (queue : LogQueue) (IsHistory : List Event → Type 0) (a
 abbrev pub MayReplayBoth : ℕ → List (Vec Part Global) → List (Vec Part Global) → Type 0
 MayReplayBoth workers rewrite append = MayReplay Rewrite workers rewrite × MayReplay Append workers append
 
--- what recovery gives of the batches that are read of both queues: the live counts are those of the tables; where the batches of a queue name fewer than 2^63 entries, key values and deletions, they are a history of it that can be read; and where those of both do and the effects of the rewrite queue are apart, tables and cleaned regions are those of one reading of each, put over each other
+-- what recovery gives of the batches that are read of both queues: the live counts are those of the tables; where the batches of a queue name fewer than 2^63 entries, key values and deletions together, they are a history of it that can be read; and where those of both do and the effects of the rewrite queue are apart, tables and cleaned regions are those of one reading of each, put over each other
 pub record AreBothRecovered (IsRewritten IsAppended : List Event → Type 0) (accessor : Accessor) : Type 0 where
   pub rewrite : List Event
   pub append : List Event

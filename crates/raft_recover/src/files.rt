@@ -38,8 +38,8 @@ pub fn file_segments(
     Ok(segments)
 }
 
-/// States that batches name no more entries, key values and deletions together than they have bytes: so files of
-/// fewer than 2^63 bytes together hold a small history. This is a law: it computes nothing.
+/// States that files of fewer than 2^63 bytes together hold a small history, since batches name no more entries, key
+/// values and deletions together than they have bytes. This is a law: it computes nothing.
 pub fn files_hold_few_records()
     ensures { (queue : LogQueue) (version : Version) (files : List NumberedBytes) (h : List Event)
         → FilesHold queue version files h → bytes_of_files files < 2 ^ 63 → IsSmall h }

@@ -40,8 +40,8 @@ const LEAST_SHARE: usize = 1 << 20;
 /// What is proved of it: for every list of segments of the queue, for every number of workers and whatever
 /// their turns, an `Ok` has what one reading of all batches in order gives, and an `Err` other than `Memory`
 /// comes only where that reading is refused too. Premises: the batches name fewer than 2^63 entries and changes
-/// of keys, deletions too; in the rewrite queue, where the batches of a group overlap with others, they name no
-/// region that those name; the call returns.
+/// of keys together, deletions too; in the rewrite queue, where the batches of a group overlap with others, they
+/// name no region that those name; the call returns.
 ///
 /// # Errors
 ///

@@ -34,7 +34,7 @@ abbrev pub AreCutFrom : Part → List Part → Type 0
 AreCutFrom whole parts =
     (h : List Event) → HoldsFrom whole 0 h ↔ EachHolds (λ part. HoldsFrom part 0) parts h
 
--- a part isn't a sequence of readable batches, or the batches of all segments, in order, name 2^63 entries, key values and deletions or more, or are a history that can't be read
+-- a part isn't a sequence of readable batches, or the batches of all segments, in order, name 2^63 entries, key values and deletions together, or more, or are a history that can't be read
 pub record CannotBeRead (segments : List (Vec Part Global)) : Type 0 where
   pub unsound : (h : List Event) → SegmentsHold segments h → IsSmall h → ¬ (Sound h)
 

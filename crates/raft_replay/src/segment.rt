@@ -128,15 +128,15 @@ pub fn segments_read_as_one_history()
         → SegmentsHold segments g → SegmentsHold segments h → g ≡ h }
 {}
 
-/// States that where the bytes of a written batch come after those of a part of its file, at the place that they were
-/// written to, the part then holds that batch, with its places, after those that it held. What is asked of the items
-/// holds of every batch, as its `is_read_again` tells.
+/// States that where the bytes of a written batch that has items come after those of a part of its file, at the place
+/// that they were written to, the part then holds that batch, with its places, after those that it held. What else is
+/// asked holds of every batch whose bytes are made, as its `is_read_again` states.
 pub fn written_batches_are_held()
     ensures { WrittenBatchIsHeld }
 {}
 
-/// States that batches name no more entries, key values and deletions together than they have bytes: so segments of
-/// fewer than 2^63 bytes together hold a small history.
+/// States that segments of fewer than 2^63 bytes together hold a small history, since batches name no more entries,
+/// key values and deletions together than they have bytes.
 pub fn segments_hold_few_records()
     ensures { (segments : List (Vec Part Global)) (h : List Event)
         → SegmentsHold segments h → bytes_of_segments segments < 2 ^ 63 → IsSmall h }

@@ -33,7 +33,7 @@ pub record FetchesWithin (limit : Option ℕ) (es old new : List EntryIndex) : T
   pub within : IsLimitCount limit es count
   pub appended : new ≡ old ++ take count es
 
--- what a fetch from begin to end returns: nothing where the range is empty; else no entries, a range that begins below the first or ends past the last is refused, in this order
+-- what a fetch from begin to end returns: nothing where the range is empty; else no entries, a range that begins below the first or has its end above theirs is refused, in this order
 pub data RangeAnswer : Type 0 where
   Empty : RangeAnswer
   NotFound : RangeAnswer

@@ -16,7 +16,7 @@ abbrev pub IsBelow : Option ℕ → ℕ → Type 0
 IsBelow None i = ⊥
 IsBelow (Some d) i = d < i
 
--- the barred indexes lie among those that the first run follows
+-- the barred indexes lie among those that the first run meets
 abbrev pub LiesWithin : ℕ → Option ℕ → Option (ℕ × ℕ) → Type 0
 LiesWithin floor cut None = Unit {0}
 LiesWithin floor cut (Some p) = (floor ≤ p.0) × IsNotAbove p.1 cut
@@ -43,7 +43,7 @@ pub record FitsRun (reach cut end reach_floor floor : ℕ) (reach_cut : Option �
   pub covers : BarsStaying barred floor cut
   pub seated : EndsAtCut cut end floor reach_cut reach barred
 
--- without a run there are no own entries; after one there is a cut
+-- without a run there are no own entries; with one there is a cut
 abbrev pub FitsCut : Option ℕ → Option ℕ → Mark → List EntryIndex → Type 0
 FitsCut None cut m own = own ≡ []
 FitsCut (Some reach) None m own = ⊥
@@ -54,7 +54,7 @@ abbrev pub BarsIn : LogQueue → Option (ℕ × ℕ) → Type 0
 BarsIn Append barred = Unit {0}
 BarsIn Rewrite barred = barred ≡ None
 
--- how a region mark and own entries that stand for steps fit: indexes are barred after a first run alone, and among those that it follows
+-- how a region mark and own entries that stand for steps fit: indexes are barred only where there is a first run, and among those that it meets
 pub record Fits (queue : LogQueue) (m : Mark) (own : List EntryIndex) : Type 0 where
   pub bars : BarsIn queue m.barred
   pub behind : m.reach ≡ None → m.barred ≡ None

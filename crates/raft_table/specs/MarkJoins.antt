@@ -38,12 +38,12 @@ joined_first m n = record {
   deleted = joined_deleted m n;
 }
 
--- whether the newer first run follows no own entry of the older table, and starts above the bound below which still older ones stay
+-- whether the newer first run meets no own entry of the older table, and starts above the bound below which still older ones stay
 abbrev pub is_detached : Option ℕ → ℕ → ℕ → Bool
 is_detached None x bound = false
 is_detached (Some start) x bound = x == 0 && nat_lt bound start
 
--- the indexes that are barred: those of the older region mark, else those that a newer first run which is detached would follow, else the newer region mark's
+-- the indexes that are barred: those of the older region mark, else those that a newer first run which is detached would meet, else the newer region mark's
 abbrev pub joined_barred : LogQueue → Bool → Option (ℕ × ℕ) → ℕ × ℕ → Option (ℕ × ℕ) → Option (ℕ × ℕ)
 joined_barred Append detached older met newer = option_or older (if detached then Some met else newer)
 joined_barred Rewrite detached older met newer = older
@@ -53,7 +53,7 @@ abbrev pub joined_floor : LogQueue → Bool → ℕ → ℕ → ℕ
 joined_floor Append dropped floor cut = floor
 joined_floor Rewrite dropped floor cut = if dropped then max floor cut else floor
 
--- the region marks of two neighbors joined, where the older one has a run and the cut c, and the entries that the newer first run follows end at x
+-- the region marks of two neighbors joined, where the older one has a run and the cut c, and the entries that the newer first run meets end at x
 abbrev pub joined_later : LogQueue → ℕ → ℕ → Mark → Mark → Mark
 joined_later queue c x m n = record {
   cleaned = n.cleaned;
@@ -72,11 +72,11 @@ joined_uncleaned None cut queue x m n = joined_first m n
 joined_uncleaned (Some reach) None queue x m n = m
 joined_uncleaned (Some reach) (Some cut) queue x m n = joined_later queue cut x m n
 
--- the region marks of two neighbors joined: the older m, and the newer n, whose first run follows entries of the older table that end at x
+-- the region marks of two neighbors joined: the older m, and the newer n, whose first run meets entries of the older table that end at x
 abbrev pub joined_at : LogQueue → ℕ → Mark → Mark → Mark
 joined_at queue x m n = if m.cleaned then m else joined_uncleaned m.reach m.cut queue x m n
 
--- the end of the older entries from the newer region mark's reach floor on and below its reach cut: those that its first run followed, if it has one
+-- the end of the older entries from the newer region mark's reach floor on and below its reach cut: those that its first run meets, if it has one
 abbrev pub end_at_reach : Mark → Table → ℕ
 end_at_reach n older = end_of (entries_within n.reach_floor n.reach_cut older.entries)
 

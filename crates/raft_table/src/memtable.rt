@@ -170,7 +170,8 @@ impl MemTable {
         self.keys.get(key)
     }
 
-    /// Puts a new run of the append queue after the entries below its start. All others go.
+    /// Puts a new run of the append queue after the entries below its start. All others go; an empty run
+    /// changes nothing.
     ///
     /// # Errors
     ///
@@ -193,8 +194,8 @@ impl MemTable {
         self.entries.append(self.region_id, run, stats)
     }
 
-    /// Puts a run of the append queue, which is read again, after the entries below its start. All
-    /// others go.
+    /// Puts a run that is read again from the append queue after the entries below its start. All others
+    /// go; an empty run changes nothing.
     ///
     /// # Errors
     ///
@@ -217,8 +218,8 @@ impl MemTable {
             .replay_run(self.region_id, &run, LogQueue::Append, stats)
     }
 
-    /// Puts a run of the rewrite queue, which is read again, after the entries below its start, or
-    /// in place of all entries where it leaves a hole after them. All others go.
+    /// Puts a run that is read again from the rewrite queue after the entries below its start, or in place
+    /// of all entries where it leaves a hole after them. All others go; an empty run changes nothing.
     ///
     /// # Errors
     ///

@@ -12,7 +12,7 @@ use raft_table::{Mark, MemTable};
 
 impl MemTableAccessor {
     /// Puts a newer neighbor's table of a region, or its absence, over the older one, as the newer region mark
-    /// says. Returns where the older entries end that the region mark's first run comes after.
+    /// says. Returns the end of the older entries that the region mark's first run meets.
     ///
     /// # Errors
     ///

@@ -14,7 +14,7 @@ use raft_table::{GlobalStats, Mark, MemTable};
 
 impl RegionTables {
     /// Puts a newer neighbor's table of a region, or its absence, over the older one, as the newer region mark
-    /// says. Returns the end of the older entries that the region mark's first run came after.
+    /// says. Returns the end of the older entries that the region mark's first run meets.
     ///
     /// # Errors
     ///

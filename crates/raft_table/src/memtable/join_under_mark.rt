@@ -27,7 +27,7 @@ use raft_base::{Error, LogQueue, Result};
 use std::mem;
 
 impl MemTable {
-    /// Returns the end of the entries that the first run of a newer region mark followed.
+    /// Returns the end of the entries that the first run of a newer region mark meets.
     #[doc(hidden)]
     pub fn end_at_reach(&self, mark: &Mark) -> u64
         ensures { result ≡ end_at_reach mark.now self.now }
@@ -39,7 +39,7 @@ impl MemTable {
     /// Puts the newer table `rhs` of the same region, which the counts don't hold, over this one as
     /// its region mark says, where the entries that this makes are a run, as they are where region mark and table
     /// stand for steps. `rhs` is left empty. Returns the end of the older entries that the region mark's
-    /// first run followed.
+    /// first run meets.
     ///
     /// # Errors
     ///
@@ -202,8 +202,8 @@ impl MemTable {
         self.entries.end()
     }
 
-    /// Refuses a newer region mark whose steps are refused over these entries, and whose first run came
-    /// after those that end at `end`.
+    /// Refuses a newer region mark whose steps are refused over these entries. `end` is the end of those that its
+    /// first run meets.
     ///
     /// # Errors
     ///

@@ -208,7 +208,7 @@ impl Mark {
         misses(self.reach, end)
     }
 
-    /// Joins the region mark of newer steps, whose first run follows own entries that end at
+    /// Joins the region mark of newer steps, whose first run meets own entries that end at
     /// `end_at_reach`. `newer` keeps its bounds and gives its deleted keys away.
     ///
     /// # Errors
@@ -333,7 +333,7 @@ impl Mark {
         }
     }
 
-    /// Joins the bounds of newer steps, whose first run follows own entries that end at `end`.
+    /// Joins the bounds of newer steps, whose first run meets own entries that end at `end`.
     #[inline(always)]
     fn join_bounds(&mut self, queue: LogQueue, end: u64, newer: Bounds)
         ensures { self.new ≡ record (joined_at queue end self.old (with_bounds newer))
@@ -400,8 +400,8 @@ fn narrowed(floor: u64, cut: Option<u64>, barred: Option<(u64, u64)>) -> Option<
     Some((floor.max(from), capped(below, cut)))
 }
 
-/// Tests whether a newer first run is detached: it follows no entry of the older table, whose
-/// entries it meets end at `end`, and starts above the bound below which still older ones stay.
+/// Tests whether a newer first run is detached: it meets no entry of the older table (those that it meets end at
+/// `end`), and starts above the bound below which still older ones stay.
 fn is_detached(reach: Option<u64>, end: u64, bound: u64) -> bool
     ensures { result ≡ is_detached reach end bound }
 {
@@ -419,7 +419,7 @@ fn drops_below(reach: Option<u64>, end: u64, bound: u64) -> bool
 }
 
 /// Returns the barred indexes of two region marks: the older one's, else those that a newer first run which is
-/// detached would follow, else the newer one's.
+/// detached would meet, else the newer one's.
 fn joined_barred(
     queue: LogQueue,
     detached: bool,

@@ -45,8 +45,8 @@ impl MemTable {
     /// # Errors
     ///
     /// Where the range isn't empty: `EntryNotFound` without entries, `EntryCompacted` where it
-    /// begins below the first entry, `EntryNotFound` where it ends past the last; else `Memory`
-    /// alone. The vector is then as it was.
+    /// begins below the first entry, `EntryNotFound` where `end` is above the end of the entries; else
+    /// `Memory` alone. The vector is then as it was.
     pub fn fetch_entries_to(
         &self,
         begin: u64,

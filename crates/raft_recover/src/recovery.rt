@@ -127,10 +127,7 @@ fn check_segments(
     if are_accepted(segments, queue, workers) {
         return Ok(());
     }
-    Err(Error::invalid_argument(
-        alloc,
-        argument_fault(segments, queue, workers),
-    ))
+    Err(Error::invalid_argument(alloc, argument_fault(segments, queue, workers)))
 }
 
 /// Returns the contexts of the rewrite queue and of the append queue. Two workers or more read both queues

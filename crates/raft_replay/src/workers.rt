@@ -84,11 +84,7 @@ pub fn are_accepted(segments: &[Segment], queue: LogQueue, workers: usize) -> bo
 /// Returns why workers may not replay these segments, where [`are_accepted`] refuses them: another number of workers
 /// than 1 to 256, else a part of another queue, else too many segments. Of accepted arguments the text says nothing.
 #[doc(hidden)]
-pub fn argument_fault(
-    segments: &[Segment],
-    queue: LogQueue,
-    workers: usize,
-) -> &'static str {
+pub fn argument_fault(segments: &[Segment], queue: LogQueue, workers: usize) -> &'static str {
     if workers == 0 || workers > MAX_WORKERS {
         return "another number of workers than 1 to 256";
     }

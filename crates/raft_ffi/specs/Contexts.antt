@@ -5,8 +5,8 @@ use Rattle.raft_history.specs.Batches.{Event}
 use Rattle.raft_history.specs.Contexts.{Suits}
 use Rattle.raft_history.specs.Histories.{IsOneReading}
 use Rattle.raft_accessor.specs.Accessor.{Accessor}
-use Rattle.raft_memtable.specs.RecoverContext.{RecoverContext, HasReadExactly}
-use Rattle.raft_memtable.specs.OverlaidContext.{IsOfBothExactly}
+use Rattle.raft_contexts.specs.RecoverContext.{RecoverContext, HasReadExactly}
+use Rattle.raft_contexts.specs.OverlaidContext.{IsOfBothExactly}
 
 -- whatever history of a queue the context stands for exactly, the tables are those of one reading of it
 unfoldable pub HasTablesRead : RecoverContext → Accessor → Type 0

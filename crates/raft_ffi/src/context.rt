@@ -1,11 +1,11 @@
 //! A context behind a pointer that C keeps.
 
 ghost use Rattle.std.specs.Prelude.{◌≡◌, Option, Some, None, IsTrue, is_some};
-ghost use Rattle.raft_memtable.specs.RecoverContext.{RecoverContext};
+ghost use Rattle.raft_contexts.specs.RecoverContext.{RecoverContext};
 ghost use Rattle.raft_ffi.specs.ContextHandle.{context_owned, held_context_code};
 
 use crate::parts::Parts;
-use raft_memtable::MemTableRecoverContext;
+use raft_contexts::MemTableRecoverContext;
 use std::alloc::Global;
 use std::marker::Model;
 use std::mem;

@@ -1,26 +1,17 @@
-//! The contexts that rebuild the tables of all regions from log files.
+//! Tables of regions and the contexts that rebuild them from log files: the names of `raft_table`, `raft_history`,
+//! `raft_accessor` and `raft_contexts` that users need.
 #![tactic(auto)]
 
-mod batch_check;
-pub mod context_stage;
-mod file_range;
-pub mod kept;
-mod marked_tables;
-mod read_state;
-pub mod reading;
-pub mod recover_context;
-pub mod region_marks;
-pub mod waiting_group;
-pub mod waiting_groups;
-pub mod waiting_items;
-
-pub use context_stage::ContextStage;
-pub use kept::Kept;
 pub use raft_accessor::{
     MemTableAccessor, RegionTables, accessor, item_writes, region_tables, slot_of,
 };
 pub use raft_base::{
     AllocResult, EntryIndex, Error, Factory, FileBlockHandle, FileId, FileSeq, LogQueue, Result,
+};
+pub use raft_contexts::{
+    ContextStage, Kept, MemTableRecoverContext, MemTableRecoverContextFactory, RegionMarks,
+    context_stage, kept, reading, recover_context, region_marks, waiting_group, waiting_groups,
+    waiting_items,
 };
 pub use raft_history::{
     RegionStep, ReplayMachine, contexts, effects, histories, read_runs, region_step, regions,
@@ -31,5 +22,3 @@ pub use raft_table::{
     Block, DeletedKeys, GlobalStats, Mark, MemTable, Step, TableChange, global_stats, is_run,
     memtable, step,
 };
-pub use recover_context::{MemTableRecoverContext, MemTableRecoverContextFactory};
-pub use region_marks::RegionMarks;

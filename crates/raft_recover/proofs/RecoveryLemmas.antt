@@ -20,10 +20,10 @@ use Rattle.raft_history.proofs.RewrittenHistories.{both_same}
 use Rattle.raft_history.proofs.SoundLemmas.{append_apart}
 use Rattle.raft_accessor.specs.Accessor.{Accessor, AreCountsOf}
 use Rattle.raft_base.specs.Errors.{IsInvalidArgument}
-use Rattle.raft_memtable.specs.OverlaidContext.{IsOfBothExactly}
-use Rattle.raft_memtable.specs.RecoverContext.{RecoverContext, HasRead, HasReadExactly}
-use Rattle.raft_memtable.specs.declared.context_stage.ContextStage.{ContextStage}
-use Rattle.raft_memtable.specs.declared.context_stage.ContextStage.TheVariants as stages
+use Rattle.raft_contexts.specs.OverlaidContext.{IsOfBothExactly}
+use Rattle.raft_contexts.specs.RecoverContext.{RecoverContext, HasRead, HasReadExactly}
+use Rattle.raft_contexts.specs.declared.context_stage.ContextStage.{ContextStage}
+use Rattle.raft_contexts.specs.declared.context_stage.ContextStage.TheVariants as stages
 use Rattle.raft_replay.specs.Replays.{IsReplayed}
 use Rattle.raft_replay.specs.Segments.{SegmentsHold, CannotBeRead, SegmentsAreOf, MayReplay}
 use Rattle.raft_replay.proofs.MachineOrderLemmas.{segments_read_of_queue}

@@ -6,7 +6,7 @@ use Rattle.raft_base.specs.declared.errors.Error.TheVariants as errors
 use Rattle.raft_base.specs.declared.pipe_log.LogQueue.{LogQueue}
 use Rattle.raft_records.specs.FilePart.{Part}
 use Rattle.raft_history.specs.Batches.{Event}
-use Rattle.raft_memtable.specs.RecoverContext.{RecoverContext, HasRead, HasReadExactly}
+use Rattle.raft_contexts.specs.RecoverContext.{RecoverContext, HasRead, HasReadExactly}
 use Rattle.raft_replay.specs.Replays.{IsReplayed}
 use Rattle.raft_replay.specs.Segments.{CannotBeRead, HoldsFrom, EachHolds}
 

@@ -9,7 +9,7 @@ ghost use Rattle.raft_history.specs.Batches.{Event};
 ghost use Rattle.raft_history.specs.Histories.{Apart, IsOneReading, IsSmall};
 ghost use Rattle.raft_history.specs.RegionSteps.{Tables};
 ghost use Rattle.raft_history.specs.RewrittenRecords.{AreRewrittenFrom, HaveSameRecords};
-ghost use Rattle.raft_memtable.specs.RecoverContext.{HasRead, HasReadExactly};
+ghost use Rattle.raft_contexts.specs.RecoverContext.{HasRead, HasReadExactly};
 ghost use Rattle.raft_replay.specs.Replays.{IsReplayed};
 ghost use Rattle.raft_replay.specs.Segments.{SegmentsHold, CannotBeRead, MayReplay};
 ghost use Rattle.raft_recover.specs.Files.{FilesCannotBeRead, IsPrintFailure, PrintsRecovered, file_shown};
@@ -21,7 +21,7 @@ use crate::recovered::print_recovered;
 use crate::shares::{bytes_of, equal_shares};
 use raft_accessor::MemTableAccessor;
 use raft_base::{Error, FileSeq, LogQueue, Result, Version};
-use raft_memtable::{MemTableRecoverContext, MemTableRecoverContextFactory};
+use raft_contexts::{MemTableRecoverContext, MemTableRecoverContextFactory};
 use raft_replay::{
     MAX_WORKERS, OpenGate, SEGMENT_LIMIT, Segment, are_accepted, argument_fault, replay_segments,
 };

@@ -1,0 +1,21 @@
+use Rattle.std.proofs.Common.{refl, sym, subst}
+use Rattle.raft_history.proofs.QueueLemmas.{items_in_queue}
+use Rattle.raft_history.specs.RegionSteps.{steps_of_items}
+use Rattle.raft_contexts.specs.MarkedTables.{AreStepsOfQueue, AreStepsTaken}
+use Rattle.raft_contexts.proofs.TakenLemmas.{other_in}
+use Rattle.raft_contexts.proofs.marked_tables.MarkedTables.take_items.Goals as goal
+
+pub take_each-requires : goal.take_each-requires
+take_each-requires c = subst (λ l. AreStepsOfQueue c.args.file.queue (steps_of_items l)) (sym c.into_items.ensures) (items_in_queue c.args.file.queue c.args.file c.args.items refl c.requires)
+
+taken : (c : goal.After-take_each) → AreStepsTaken c.args.file.queue (steps_of_items c.args.items) c.take_each.result c.args.self.now c.take_each.new.self
+taken c = subst (λ l. AreStepsTaken c.args.file.queue (steps_of_items l) c.take_each.result c.args.self.now c.take_each.new.self) c.into_items.ensures c.take_each.ensures
+
+pub returns-clause-fault : goal.returns-clause-fault
+returns-clause-fault c = (taken c).fault
+
+pub returns-clause-counts : goal.returns-clause-counts
+returns-clause-counts c = (taken c).counts
+
+pub returns-clause-other : goal.returns-clause-other
+returns-clause-other c = other_in c.args.file.queue (steps_of_items c.args.items) c.args.self.now c.take_each.new.self c.take_each.result (items_in_queue c.args.file.queue c.args.file c.args.items refl c.requires) (taken c).ok

@@ -1,0 +1,12 @@
+use Rattle.std.proofs.Common.{drop, Result}
+use Rattle.raft_base.specs.declared.errors.Error.{Error}
+use Rattle.raft_base.specs.declared.pipe_log.LogQueue.TheVariants.{Rewrite}
+use Rattle.raft_history.specs.MarkedRegions.{on_each}
+use Rattle.raft_table.specs.Steps.{AtomicGroup}
+use Rattle.raft_contexts.specs.MarkedTables.{AreStepsTaken}
+use Rattle.raft_contexts.specs.declared.marked_tables.MarkedTables.{MarkedTables}
+use Rattle.raft_contexts.proofs.marked_tables.MarkedTables.take_seqs.Given as goal
+
+abbrev pub invariant-loop-id : goal.invariant-loop-id
+invariant-loop-id l =
+    (r : Result Unit Error) (c : MarkedTables) → AreStepsTaken Rewrite (on_each (drop l.id-index l.regions) (AtomicGroup l.first_seq l.last_seq)) r l.self c → AreStepsTaken Rewrite (on_each l.regions (AtomicGroup l.first_seq l.last_seq)) r l.fn.self c

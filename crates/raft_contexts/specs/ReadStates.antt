@@ -1,0 +1,45 @@
+-- What was read of a queue's batches, as a plain value.
+use Rattle.std.specs.Prelude.{◌≡◌, ◌≤◌, List, Option, Some, None}
+use Rattle.raft_base.specs.declared.pipe_log.LogQueue.TheVariants.{Rewrite}
+use Rattle.raft_history.specs.Batches.{Event}
+use Rattle.raft_history.specs.Contexts.{Context, FileRange, StandsFor}
+use Rattle.raft_history.specs.Joins.{StandForSteps}
+use Rattle.raft_history.specs.MarkedRegions.{MarkedRegions}
+use Rattle.raft_history.specs.RegionSteps.{Tables}
+use Rattle.raft_history.specs.WaitingGroup.{WholeGroup}
+use Rattle.raft_table.specs.Queues.{other}
+use Rattle.raft_accessor.specs.Accessor.{live_in_all}
+use Rattle.raft_contexts.specs.FileRanges.{ranges_shown}
+use Rattle.raft_contexts.specs.MarkedTables.{regions_in, AreStepsOfQueue}
+use Rattle.raft_contexts.specs.declared.read_state.ReadState.{ReadState}
+
+-- what a read state holds, as a context
+abbrev pub context_in : ReadState → Context
+context_in s = record { regions = regions_in s.regions; groups = s.groups; cleaned = s.regions.accessor.cleaned; files = ranges_shown s.files }
+
+-- with files of a queue, the tables have no record of the other queue
+abbrev pub AreAlone : Option FileRange → Tables → Type 0
+AreAlone None tables = Unit {0}
+AreAlone (Some files) tables = live_in_all (other files.queue) tables ≡ 0
+
+-- with files of a queue, the region mark and the table of each region stand for some steps
+abbrev pub AreOfSteps : Option FileRange → MarkedRegions → Type 0
+AreOfSteps None rs = Unit {0}
+AreOfSteps (Some files) rs = StandForSteps files.queue rs
+
+-- the context was read from some history, its tables are of that history's queue, and they and the region marks are those of some steps
+pub record IsOfHistory (c : Context) : Type 0 where
+  pub history : List Event
+  pub stands : StandsFor c history
+  pub alone : AreAlone c.files c.regions.tables
+  pub steps : AreOfSteps c.files c.regions
+
+-- a group that is whole, as it can take effect: its steps are such as replays into the rewrite queue ask for, and the numbers of its files are in order
+pub record CanTakeEffect (w : WholeGroup) : Type 0 where
+  pub steps : AreStepsOfQueue Rewrite w.steps
+  pub seqs : w.first_seq ≤ w.last_seq
+
+-- a group, if there is one, can take effect
+abbrev pub CanTakeEffectIfAny : Option WholeGroup → Type 0
+CanTakeEffectIfAny None = Unit {0}
+CanTakeEffectIfAny (Some w) = CanTakeEffect w

@@ -1,0 +1,154 @@
+//! Tests of a batch before it is taken in.
+
+ghost use Rattle.std.specs.Prelude.{◌≡◌, ◌≢◌, IsTrue, MatchBool, IfOk, IfErr, OnOk, None, map};
+ghost use Rattle.raft_base.specs.declared.pipe_log.LogQueue.TheVariants.{Append, Rewrite};
+ghost use Rattle.raft_records.specs.Faults.{IsAnyCorruption};
+ghost use Rattle.raft_records.specs.Group.{first_marker};
+ghost use Rattle.raft_records.specs.Item.{item_of, content_of, entries as entries_of, pair, pair_of};
+ghost use Rattle.raft_records.specs.DecodedIn.{IsPlaceInFile};
+ghost use Rattle.raft_history.specs.Histories.{IsInFile, AreInFile, HaveStatus};
+ghost use Rattle.raft_contexts.specs.BatchChecks.{marker_found};
+
+use raft_base::{EntryIndex, Error, FileId, LogQueue, Result, is_consecutive};
+use raft_records::{
+    AtomicGroupStatus, KeyValue, LogItem, LogItemBatch, LogItemContent, OpType, ReadBatch,
+    is_reserved,
+};
+use std::alloc::Global;
+
+/// Returns the group marker of a batch that was written to the file, if it has one and the queue knows
+/// groups.
+///
+/// # Errors
+///
+/// `Corruption` where an item can't stand in a batch of the file, or a group marker's status is unknown;
+/// `Memory` for the refusal's text.
+pub(crate) fn check_batch(
+    alloc: Global,
+    batch: &LogItemBatch,
+    file: FileId,
+) -> Result<Option<(u64, AtomicGroupStatus)>>
+    ensures items { OnOk result (AreInFile file batch.now) }
+    ensures markers { OnOk result (HaveStatus file.queue batch.now) }
+    ensures marker { IfOk result (λ marker. marker ≡ marker_found file.queue batch.now) }
+    ensures refused { IfErr result
+        (λ e. e ≢ Error.Memory → AreInFile file batch.now → HaveStatus file.queue batch.now → ⊥) }
+    ensures fault { IfErr result IsAnyCorruption }
+{
+    let items = batch.iter().as_slice();
+    match file.queue {
+        LogQueue::Append => {
+            if !knows_file(batch, file) && !are_in_file(items, file) {
+                return Err(Error::corruption(alloc, "an item can't stand in a batch of its file"));
+            }
+            Ok(None)
+        }
+        LogQueue::Rewrite => check_rewrite_batch(alloc, items, file),
+    }
+}
+
+/// Tests whether a batch as it was read may take effect at once: it was read of this file, and the queue
+/// knows no groups. `false` says nothing of it.
+pub(crate) fn is_lone_read(batch: &ReadBatch<'_>, file: FileId) -> bool
+    ensures items { IsTrue result → AreInFile file batch.now }
+    ensures markers { IsTrue result → HaveStatus file.queue batch.now }
+    ensures marker { IsTrue result → marker_found file.queue batch.now ≡ None }
+{
+    let (place, _, _) = batch.parts();
+    match file.queue {
+        LogQueue::Append => place.id == file,
+        LogQueue::Rewrite => false,
+    }
+}
+
+/// Tests whether the batch says that it was decoded for this file: then its items may stand there.
+/// `false` says nothing of them.
+fn knows_file(batch: &LogItemBatch, file: FileId) -> bool
+    ensures { IsTrue result → AreInFile file batch.now }
+{
+    match batch.decoded_in() {
+        Some(decoded_in) => decoded_in == file,
+        None => false,
+    }
+}
+
+/// Does what [`check_batch`] does, of the items of a batch of the rewrite queue.
+fn check_rewrite_batch(
+    alloc: Global,
+    items: &[LogItem],
+    file: FileId,
+) -> Result<Option<(u64, AtomicGroupStatus)>>
+    ensures items { OnOk result (AreInFile file (map item_of items.now)) }
+    ensures markers { OnOk result (HaveStatus Rewrite (map item_of items.now)) }
+    ensures marker { IfOk result (λ marker. marker ≡ first_marker (map item_of items.now)) }
+    ensures refused { IfErr result
+        (λ e. e ≢ Error.Memory
+        → AreInFile file (map item_of items.now) → HaveStatus Rewrite (map item_of items.now) → ⊥) }
+    ensures fault { IfErr result IsAnyCorruption }
+{
+    let mut marker = None;
+    for item in items {
+        if !is_in_file(item, file) {
+            return Err(Error::corruption(alloc, "an item can't stand in a batch of its file"));
+        }
+        let found = AtomicGroupStatus::parse(alloc, item)?;
+        marker = marker.or(found);
+    }
+    Ok(marker)
+}
+
+/// Tests whether all items may stand in a batch of the file.
+fn are_in_file(items: &[LogItem], file: FileId) -> bool
+    ensures { MatchBool result (AreInFile file (map item_of items.now))
+        (AreInFile file (map item_of items.now) → ⊥) }
+{
+    items.iter().all(|item| is_in_file(item, file))
+}
+
+/// Tests whether an item may stand in a batch of the file.
+fn is_in_file(item: &LogItem, file: FileId) -> bool
+    ensures { MatchBool result (IsInFile file (content_of item.now.content))
+        (IsInFile file (content_of item.now.content) → ⊥) }
+{
+    match &item.content {
+        LogItemContent::EntryIndexes(entries) => is_run_in_file(&entries.0, file),
+        LogItemContent::Command(_) => true,
+        LogItemContent::Kv(kv) => is_pair_in(kv, file),
+    }
+}
+
+/// Tests whether a change of a key may stand in a batch of the file.
+fn is_pair_in(kv: &KeyValue, file: FileId) -> bool
+    ensures { MatchBool result (IsInFile file (pair (pair_of kv.now)))
+        (IsInFile file (pair (pair_of kv.now)) → ⊥) }
+{
+    if is_reserved(kv.key.as_slice()) {
+        return true;
+    }
+    match kv.op_type {
+        OpType::Put => match (&kv.value, kv.file_id) {
+            (Some(_), Some(id)) => id == file,
+            _ => false,
+        },
+        OpType::Del => true,
+    }
+}
+
+/// Tests whether entries are consecutive, and all their places are in the file.
+fn is_run_in_file(entries: &[EntryIndex], file: FileId) -> bool
+    ensures { MatchBool result (IsInFile file (entries_of entries.now))
+        (IsInFile file (entries_of entries.now) → ⊥) }
+{
+    is_consecutive(entries) && entries.iter().all(|entry| is_place_in_file(entry, file))
+}
+
+/// Tests whether an entry's place is in the file.
+fn is_place_in_file(entry: &EntryIndex, file: FileId) -> bool
+    ensures { MatchBool result (IsPlaceInFile file entry.now.entries)
+        (IsPlaceInFile file entry.now.entries → ⊥) }
+{
+    match entry.entries {
+        Some(place) => place.id == file,
+        None => false,
+    }
+}

@@ -1,0 +1,65 @@
+//! The files of batches that were read.
+
+ghost use Rattle.std.specs.Prelude.{◌≡◌, ◌↔◌, IsTrue};
+ghost use Rattle.raft_history.specs.Contexts.{Suits, follows, joined_files};
+ghost use Rattle.raft_contexts.specs.FileRanges.{range_shown, ranges_shown};
+
+use raft_base::{FileId, FileSeq, LogQueue};
+
+/// The queue of some batches, and the first and the last of their files.
+#[derive(Clone, Copy, Debug)]
+pub(crate) struct FileRange {
+    queue: LogQueue,
+    first_seq: FileSeq,
+    last_seq: FileSeq,
+}
+
+impl FileRange {
+    /// Returns the files of one batch.
+    pub(crate) fn of(file: FileId) -> FileRange
+        ensures { range_shown result
+            ≡ record { queue = file.queue; first_seq = file.seq; last_seq = file.seq } }
+    {
+        FileRange {
+            queue: file.queue,
+            first_seq: file.seq,
+            last_seq: file.seq,
+        }
+    }
+
+    /// Tests whether the files, if there are any, are of the queue.
+    pub(crate) fn suits(files: Option<FileRange>, queue: LogQueue) -> bool
+        ensures { IsTrue result ↔ Suits queue (ranges_shown files) }
+    {
+        match files {
+            None => true,
+            Some(files) => files.queue == queue,
+        }
+    }
+
+    /// Tests whether the newer files may follow the older ones: the first isn't below the
+    /// last.
+    pub(crate) fn follows(older: Option<FileRange>, newer: Option<FileRange>) -> bool
+        ensures { result ≡ follows (ranges_shown older) (ranges_shown newer) }
+    {
+        match (older, newer) {
+            (Some(older), Some(newer)) => older.last_seq <= newer.first_seq,
+            _ => true,
+        }
+    }
+
+    /// Returns the files of two neighbors.
+    pub(crate) fn joined(older: Option<FileRange>, newer: Option<FileRange>) -> Option<FileRange>
+        ensures { ranges_shown result ≡ joined_files (ranges_shown older) (ranges_shown newer) }
+    {
+        match (older, newer) {
+            (Some(older), Some(newer)) => Some(FileRange {
+                queue: older.queue,
+                first_seq: older.first_seq,
+                last_seq: newer.last_seq,
+            }),
+            (Some(older), None) => Some(older),
+            (None, newer) => newer,
+        }
+    }
+}

@@ -1,0 +1,229 @@
+//! The tables of all regions beside their region marks.
+
+ghost use Rattle.std.specs.Prelude.{◌≡◌, ◌≤◌, ◌++◌, [], ◌∷◌, map, Ok, OnOk, IfOk, IfErr, MatchBool, Some};
+ghost use Rattle.std.specs.FinMap as finite;
+ghost use Rattle.raft_base.specs.Runs.{end_of};
+ghost use Rattle.raft_base.specs.declared.pipe_log.LogQueue.{LogQueue};
+ghost use Rattle.raft_base.specs.declared.pipe_log.LogQueue.TheVariants.{Append, Rewrite};
+ghost use Rattle.raft_records.specs.Item.{item_of};
+ghost use Rattle.raft_history.specs.Histories.{AreInFile, IsStepOfQueue};
+ghost use Rattle.raft_history.specs.MarkedRegions.{no_regions, regions_after, on_each, region_steps_of_whole};
+ghost use Rattle.raft_history.specs.RegionStepShown.{region_step_shown};
+ghost use Rattle.raft_history.specs.RegionSteps.{steps_of_items, cleaned_by_steps};
+ghost use Rattle.raft_table.specs.MarkJoins.{joined_at, joined_mark, mark_of};
+ghost use Rattle.raft_table.specs.Marks.{Mark};
+ghost use Rattle.raft_table.specs.Queues.{other};
+ghost use Rattle.raft_table.specs.StepShown.{step_shown};
+ghost use Rattle.raft_table.specs.Steps.{AtomicGroup};
+ghost use Rattle.raft_accessor.specs.Accessor.{live_in_all, table_in};
+ghost use Rattle.raft_contexts.specs.MarkedTables.{regions_in, AreStepsOfQueue, IsStepsFault, one_step, AreStepsTaken};
+ghost use Rattle.raft_contexts.specs.StepCounts.{no_counts, AreCountsAfterSteps};
+ghost use Rattle.raft_contexts.specs.WaitingShown.{whole_shown};
+
+mod join;
+mod overlay;
+mod read;
+
+use crate::region_marks::RegionMarks;
+use crate::waiting_group::WholeGroup;
+use raft_accessor::MemTableAccessor;
+use raft_base::{AllocResult, Error, FileId, FileSeq, LogQueue, Result};
+use raft_history::RegionStep;
+use raft_records::{LogItem, LogItemBatch, LogItemContent};
+use raft_table::Step;
+use std::alloc::Global;
+
+/// The tables of all regions, and the region mark of each region that a step named.
+#[derive(Drop)]
+pub(crate) struct MarkedTables {
+    pub(crate) accessor: MemTableAccessor,
+    pub(crate) marks: RegionMarks,
+}
+
+impl MarkedTables {
+    /// Makes one without tables and region marks.
+    ///
+    /// # Errors
+    ///
+    /// `Memory`.
+    pub(crate) fn new(alloc: Global) -> Result<MarkedTables>
+        ensures regions { IfOk result (λ tables. regions_in tables ≡ no_regions) }
+        ensures cleaned { IfOk result (λ tables. tables.accessor.cleaned ≡ []) }
+        ensures counts { IfOk result (λ tables. tables.accessor.counts ≡ no_counts) }
+        ensures memory { IfErr result (λ e. e ≡ Error.Memory) }
+    {
+        Ok(MarkedTables {
+            accessor: MemTableAccessor::new(alloc)?,
+            marks: RegionMarks::new(alloc),
+        })
+    }
+
+    /// Takes in the items of a batch of this file, in order, and lists the regions that they clean in
+    /// the append queue.
+    ///
+    /// # Errors
+    ///
+    /// `Corruption` where the start rule refuses entries, `InvalidArgument` for entries where the table
+    /// has records of the other queue, `Full` where more than 2^64 - 1 records would be live, `Memory`.
+    /// Some items are then taken in.
+    pub(crate) fn take_items(&mut self, file: FileId, items: LogItemBatch) -> Result<()>
+        requires { AreInFile file items }
+        ensures ok { OnOk result
+            (regions_after file.queue (regions_in self.old) (steps_of_items items)
+            ≡ Some (regions_in self.new)) }
+        ensures cleaned { OnOk result (self.new.accessor.cleaned
+            ≡ self.old.accessor.cleaned ++ cleaned_by_steps file.queue (steps_of_items items)) }
+        ensures counts { OnOk result (AreCountsAfterSteps file.queue self.old.accessor.tables
+            (steps_of_items items) self.old.accessor.counts self.new.accessor.counts) }
+        ensures fault { IfErr result (IsStepsFault file.queue (regions_in self.old)
+            (steps_of_items items)) }
+        ensures other { OnOk result
+            (live_in_all (other file.queue) self.new.accessor.tables
+            ≤ live_in_all (other file.queue) self.old.accessor.tables) }
+    {
+        self.take_each(file.queue, items.into_items())
+    }
+
+    /// Takes in the steps of a group of the rewrite queue that is whole, in order, and then the numbers
+    /// of its files for each region that they name.
+    ///
+    /// # Errors
+    ///
+    /// Those of [`MarkedTables::take_items`] in the rewrite queue, whose start rule refuses nothing.
+    /// Some steps are then taken in.
+    pub(crate) fn take_group(&mut self, whole: WholeGroup) -> Result<()>
+        requires steps { AreStepsOfQueue Rewrite (whole_shown whole).steps }
+        requires seqs { (whole_shown whole).first_seq ≤ (whole_shown whole).last_seq }
+        ensures ok { OnOk result
+            (regions_after Rewrite (regions_in self.old) (region_steps_of_whole (whole_shown whole))
+            ≡ Some (regions_in self.new)) }
+        ensures cleaned { OnOk result (self.new.accessor.cleaned ≡ self.old.accessor.cleaned) }
+        ensures counts { OnOk result (AreCountsAfterSteps Rewrite self.old.accessor.tables
+            (region_steps_of_whole (whole_shown whole)) self.old.accessor.counts
+            self.new.accessor.counts) }
+        ensures fault { IfErr result (IsStepsFault Rewrite (regions_in self.old)
+            (region_steps_of_whole (whole_shown whole))) }
+        ensures other { OnOk result (live_in_all Append self.new.accessor.tables
+            ≤ live_in_all Append self.old.accessor.tables) }
+    {
+        let WholeGroup {
+            items,
+            first_seq,
+            last_seq,
+        } = whole;
+        let regions = items.regions()?;
+        self.take_steps(LogQueue::Rewrite, items.into_steps())?;
+        self.take_seqs(&regions, first_seq, last_seq)
+    }
+
+    /// Takes in items, in order.
+    fn take_each(&mut self, queue: LogQueue, items: Vec<LogItem>) -> Result<()>
+        requires { AreStepsOfQueue queue (steps_of_items (map item_of items.items)) }
+        ensures { AreStepsTaken queue (steps_of_items (map item_of items.items)) result self.old
+            self.new }
+    {
+        for item in items {
+            if !self.try_run(queue, &item)? {
+                self.take_item(queue, item)?;
+            }
+        }
+        Ok(())
+    }
+
+    /// Takes in an item that is a run, where its region has a table that takes it, and returns whether it
+    /// did. Where it did not, nothing has changed.
+    ///
+    /// # Errors
+    ///
+    /// `AllocError`. The run is then in its table, and not in the region mark.
+    fn try_run(&mut self, queue: LogQueue, item: &LogItem) -> AllocResult<bool>
+        requires { AreStepsOfQueue queue (steps_of_items (item_of item.now ∷ [])) }
+        ensures { IfOk result (λ taken. MatchBool taken
+            (AreStepsTaken queue (steps_of_items (item_of item.now ∷ [])) (Ok tt) self.old self.new)
+            (self.new ≡ self.old)) }
+    {
+        let id = item.raft_group_id;
+        let LogItemContent::EntryIndexes(entries) = &item.content else {
+            return Ok(false);
+        };
+        let Some(first) = entries.0.first() else {
+            return Ok(false);
+        };
+        let Some(end) = self.accessor.try_replay_run(queue, id, &entries.0) else {
+            return Ok(false);
+        };
+        self.marks.add_run(id, queue, end, first.index)?;
+        Ok(true)
+    }
+
+    /// Takes in the files of a group for each of these regions.
+    fn take_seqs(&mut self, regions: &[u64], first_seq: FileSeq, last_seq: FileSeq) -> Result<()>
+        ensures { AreStepsTaken Rewrite (on_each regions.now (AtomicGroup first_seq last_seq))
+            result self.old self.new }
+    {
+        for id in regions {
+            let step = Step::AtomicGroup {
+                first_seq,
+                last_seq,
+            };
+            self.take_step(LogQueue::Rewrite, *id, step)?;
+        }
+        Ok(())
+    }
+
+    /// Takes in the step of an item, if it has one.
+    fn take_item(&mut self, queue: LogQueue, item: LogItem) -> Result<()>
+        requires { AreStepsOfQueue queue (steps_of_items (item_of item ∷ [])) }
+        ensures { AreStepsTaken queue (steps_of_items (item_of item ∷ [])) result self.old
+            self.new }
+    {
+        match RegionStep::of_item(item) {
+            Some(step) => self.take_step(queue, step.region, step.step),
+            None => Ok(()),
+        }
+    }
+
+    /// Takes in steps, in order.
+    fn take_steps(&mut self, queue: LogQueue, steps: Vec<RegionStep>) -> Result<()>
+        requires { AreStepsOfQueue queue (map region_step_shown steps.items) }
+        ensures { AreStepsTaken queue (map region_step_shown steps.items) result self.old self.new }
+    {
+        for step in steps {
+            self.take_step(queue, step.region, step.step)?;
+        }
+        Ok(())
+    }
+
+    /// Takes in a step: into the region mark, and then into the table.
+    fn take_step(&mut self, queue: LogQueue, id: u64, step: Step) -> Result<()>
+        requires { IsStepOfQueue queue (step_shown step) }
+        ensures { AreStepsTaken queue (one_step id (step_shown step)) result self.old self.new }
+    {
+        let end = self.end_before(id, &step);
+        self.marks.add_step(id, queue, end, &step)?;
+        self.accessor.take_step(queue, id, step)
+    }
+
+    /// Returns where the entries of a region end in front of a run. No other step asks for it.
+    fn end_before(&self, id: u64, step: &Step) -> u64
+        ensures { (queue : LogQueue) (m : Mark)
+            → joined_at queue result m (mark_of (step_shown step.now))
+            ≡ joined_mark queue id m (finite.get self.now.accessor.tables id)
+            (mark_of (step_shown step.now)) }
+    {
+        match step {
+            Step::Run(_) => self.end_of(id),
+            _ => 0,
+        }
+    }
+
+    /// Returns the greatest index of a region plus one, or 0.
+    fn end_of(&self, id: u64) -> u64
+        ensures { result ≡ end_of (table_in self.now.accessor.tables id).entries }
+    {
+        match self.accessor.get(id) {
+            Some(table) => table.end(),
+            None => 0,
+        }
+    }
+}

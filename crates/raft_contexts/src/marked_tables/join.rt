@@ -1,0 +1,107 @@
+//! The tables and region marks of all regions joined with those of a newer neighbor.
+
+ghost use Rattle.std.specs.Prelude.{◌≡◌, ◌+◌, ◌≤◌, ◌++◌, IfErr, IfSome, OnOk, Some};
+ghost use Rattle.raft_base.specs.declared.pipe_log.LogQueue.{LogQueue};
+ghost use Rattle.raft_base.specs.declared.pipe_log.LogQueue.TheVariants.{Append, Rewrite};
+ghost use Rattle.raft_history.specs.Joins.{StandForSteps, AreJoined};
+ghost use Rattle.raft_history.specs.MarkedRegions.{region_in, with_region, joined_region};
+ghost use Rattle.raft_table.specs.MarkedJoins.{IsFaultUnder, IsRunOver};
+ghost use Rattle.raft_table.specs.Queues.{other};
+ghost use Rattle.raft_table.specs.Steps.{table_of};
+ghost use Rattle.raft_accessor.specs.Accessor.{table_in, live_in, live_in_all, AreCountsOf};
+ghost use Rattle.raft_contexts.specs.MarkedTables.{regions_in};
+ghost use Rattle.raft_contexts.specs.RegionJoins.{AreRunsOver, IsJoinFault};
+
+use crate::marked_tables::MarkedTables;
+use crate::region_marks::RegionMarks;
+use raft_accessor::MemTableAccessor;
+use raft_base::{LogQueue, Result};
+use raft_table::{Mark, MemTable};
+
+impl MarkedTables {
+    /// Joins the tables and region marks of a newer neighbor in a queue, and lists its cleaned regions.
+    ///
+    /// # Errors
+    ///
+    /// `Corruption` where, in the append queue, a newer run of a region leaves a hole after the older
+    /// entries, `Full` where more than 2^64 - 1 records would be live, `Memory`. Some regions are then
+    /// joined.
+    pub(crate) fn join(&mut self, queue: LogQueue, newer: MarkedTables) -> Result<()>
+        requires older { live_in_all (other queue) self.old.accessor.tables ≡ 0 }
+        requires newer { live_in_all (other queue) newer.accessor.tables ≡ 0 }
+        ensures ok { StandForSteps queue (regions_in self.old)
+            → StandForSteps queue (regions_in newer)
+            → OnOk result
+            (AreJoined queue (regions_in self.old) (regions_in newer) (regions_in self.new)) }
+        ensures cleaned { OnOk result
+            (self.new.accessor.cleaned ≡ self.old.accessor.cleaned ++ newer.accessor.cleaned) }
+        ensures fault { StandForSteps queue (regions_in self.old)
+            → StandForSteps queue (regions_in newer)
+            → IfErr result (IsJoinFault queue (regions_in self.old) (regions_in newer)) }
+        ensures other { OnOk result (live_in_all (other queue) self.new.accessor.tables ≡ 0) }
+    {
+        let MarkedTables {
+            mut accessor,
+            marks,
+        } = newer;
+        self.join_regions(queue, marks, &mut accessor)?;
+        self.accessor.append_cleaned(&mut accessor)
+    }
+
+    /// Joins the regions that newer region marks name, with their tables.
+    fn join_regions(
+        &mut self,
+        queue: LogQueue,
+        marks: RegionMarks,
+        tables: &mut MemTableAccessor,
+    ) -> Result<()>
+        requires older { live_in_all (other queue) self.old.accessor.tables ≡ 0 }
+        requires newer { live_in_all (other queue) tables.old.tables ≡ 0 }
+        ensures ok { AreRunsOver queue marks tables.old.tables self.old.accessor.tables
+            → OnOk result (AreJoined queue (regions_in self.old)
+            (record { tables = tables.old.tables; marks = marks }) (regions_in self.new)) }
+        ensures fault { AreRunsOver queue marks tables.old.tables self.old.accessor.tables
+            → IfErr result (IsJoinFault queue (regions_in self.old)
+            (record { tables = tables.old.tables; marks = marks })) }
+        ensures other { OnOk result (live_in_all (other queue) self.new.accessor.tables ≡ 0) }
+        ensures cleaned { (self.new.accessor.cleaned ≡ self.old.accessor.cleaned)
+            × (tables.new.cleaned ≡ tables.old.cleaned) }
+    {
+        for (id, mark) in marks.into_entries() {
+            let table = tables.take(id);
+            self.join_region(queue, id, table, mark)?;
+        }
+        Ok(())
+    }
+
+    /// Joins a region with a newer region mark and its table, or its absence.
+    fn join_region(
+        &mut self,
+        queue: LogQueue,
+        id: u64,
+        newer: Option<MemTable>,
+        mark: Mark,
+    ) -> Result<()>
+        requires region { IfSome newer (λ t. t.region_id ≡ id) }
+        requires own { live_in (other queue) newer ≡ 0 }
+        requires older { queue ≡ Rewrite → live_in_all Append self.old.accessor.tables ≡ 0 }
+        ensures ok { IsRunOver queue mark (table_of id newer) (table_in self.old.accessor.tables id)
+            → OnOk result (joined_region queue id (region_in (regions_in self.old) id)
+            (record { mark = mark; table = newer })
+            ≡ Some (region_in (regions_in self.new) id)) }
+        ensures others { OnOk result (regions_in self.new
+            ≡ with_region (regions_in self.old) id (region_in (regions_in self.new) id)) }
+        ensures fault { IsRunOver queue mark (table_of id newer)
+            (table_in self.old.accessor.tables id)
+            → IfErr result (IsFaultUnder queue self.old.accessor.counts mark (table_of id newer)
+            (table_in self.old.accessor.tables id)) }
+        ensures exact_counts { AreCountsOf self.old.accessor.tables self.old.accessor.counts }
+        ensures few { OnOk result ((q : LogQueue)
+            → live_in_all q self.new.accessor.tables
+            ≤ live_in_all q self.old.accessor.tables + live_in q newer) }
+        ensures cleaned { self.new.accessor.cleaned ≡ self.old.accessor.cleaned }
+    {
+        let end = self.accessor.join_table(queue, id, newer, &mark)?;
+        Ok(self.marks.join(id, queue, end, mark)?)
+    }
+}

@@ -1,0 +1,308 @@
+//! What was read of a queue's batches.
+
+ghost use Rattle.std.specs.Prelude.{◌≡◌, ◌≢◌, ◌+◌, ◌≤◌, true, List, [], ◌∷◌, OnOk, OnErr, IfOk, IfErr, Some, None, map};
+ghost use Rattle.std.specs.List.{AllByRecursion};
+ghost use Rattle.std.specs.Option.{option_map};
+ghost use Rattle.raft_base.specs.declared.pipe_log.LogQueue.TheVariants.{Append, Rewrite};
+ghost use Rattle.raft_records.specs.Item.{Item};
+ghost use Rattle.raft_history.specs.Contexts.{new_context, Suits, files_of, follows, taken_in, merged_with, AreMerged, region_steps_or};
+ghost use Rattle.raft_history.specs.Kept.{kept_of};
+ghost use Rattle.raft_history.specs.MarkedRegions.{regions_after, region_steps_of_wholes};
+ghost use Rattle.raft_history.specs.ReplayMachine.{event};
+ghost use Rattle.raft_accessor.specs.Accessor.{live_in_all};
+ghost use Rattle.raft_contexts.specs.BatchChecks.{marker_found};
+ghost use Rattle.raft_contexts.specs.KeptShown.{kept_shown};
+ghost use Rattle.raft_contexts.specs.MarkedTables.{regions_in, IsStepsFault};
+ghost use Rattle.raft_contexts.specs.ReadStates.{context_in, IsOfHistory, CanTakeEffect, CanTakeEffectIfAny};
+ghost use Rattle.raft_contexts.specs.RecoverContext.{reading_on, MayFollow, IsBatchCounted, IsBatchFault, AreNeighbors, IsNeighborFault};
+ghost use Rattle.raft_contexts.specs.StepCounts.{no_counts, AreCountsAfterSteps};
+ghost use Rattle.raft_contexts.specs.WaitingShown.{whole_shown};
+
+mod overlay;
+
+use crate::batch_check::{check_batch, is_lone_read};
+use crate::file_range::FileRange;
+use crate::kept::Kept;
+use crate::marked_tables::MarkedTables;
+use crate::waiting_group::WholeGroup;
+use crate::waiting_groups::WaitingGroups;
+use crate::waiting_items::WaitingItems;
+use raft_base::{Error, FileId, LogQueue, Result};
+use raft_records::{AtomicGroupStatus, LogItemBatch, ReadBatch};
+use std::alloc::Global;
+
+/// The tables and region marks of all regions, the groups that wait, and the files of the batches.
+#[derive(Drop)]
+pub(crate) struct ReadState {
+    pub(crate) regions: MarkedTables,
+    pub(crate) groups: WaitingGroups,
+    pub(crate) files: Option<FileRange>,
+    alloc: Global,
+}
+
+impl ReadState {
+    /// Makes the state in which nothing was read.
+    ///
+    /// # Errors
+    ///
+    /// `Memory`.
+    pub(crate) fn new(alloc: Global) -> Result<ReadState>
+        ensures ok { IfOk result (λ state. context_in state ≡ new_context) }
+        ensures counts { IfOk result (λ state. state.regions.accessor.counts ≡ no_counts) }
+        ensures memory { IfErr result (λ e. e ≡ Error.Memory) }
+    {
+        Ok(ReadState {
+            regions: MarkedTables::new(alloc)?,
+            groups: WaitingGroups::new(alloc),
+            files: None,
+            alloc,
+        })
+    }
+
+    /// Takes in one more batch, that was written to this file.
+    pub(crate) fn replay(&mut self, batch: LogItemBatch, file: FileId) -> Result<()>
+        requires { IsOfHistory (context_in self.old) }
+        ensures next { OnOk result (MayFollow (context_in self.old) (event batch file)) }
+        ensures taken { OnOk result (taken_in (context_in self.old) (event batch file)
+            ≡ Some (context_in self.new)) }
+        ensures counts { OnOk result (IsBatchCounted (event batch file) (context_in self.old)
+            self.old.regions.accessor.counts self.new.regions.accessor.counts) }
+        ensures history { OnOk result (IsOfHistory (context_in self.new)) }
+        ensures fault { IfErr result (IsBatchFault (reading_on (context_in self.old))
+            (event batch file)) }
+    {
+        match self.check(&batch, file)? {
+            None => self.take_lone_batch(batch, file),
+            Some((id, status)) => self.take_group_batch(id, status, batch, file),
+        }
+    }
+
+    /// Does what [`ReadState::replay`] does, with a batch as it was read.
+    pub(crate) fn replay_read(&mut self, batch: &ReadBatch<'_>, file: FileId) -> Result<()>
+        requires { IsOfHistory (context_in self.old) }
+        ensures next { OnOk result (MayFollow (context_in self.old) (event batch.now file)) }
+        ensures taken { OnOk result (taken_in (context_in self.old) (event batch.now file)
+            ≡ Some (context_in self.new)) }
+        ensures counts { OnOk result (IsBatchCounted (event batch.now file) (context_in self.old)
+            self.old.regions.accessor.counts self.new.regions.accessor.counts) }
+        ensures history { OnOk result (IsOfHistory (context_in self.new)) }
+        ensures fault { IfErr result (IsBatchFault (reading_on (context_in self.old))
+            (event batch.now file)) }
+    {
+        if !is_lone_read(batch, file) {
+            let batch = batch.to_batch(self.alloc)?;
+            return self.replay(batch, file);
+        }
+        self.check_file(file)?;
+        self.take_lone_read(batch, file)
+    }
+
+    /// Returns the group marker of a batch that may come next, if it has one.
+    fn check(&self, batch: &LogItemBatch, file: FileId) -> Result<Option<(u64, AtomicGroupStatus)>>
+        ensures next { OnOk result (MayFollow (context_in self.now) (event batch.now file)) }
+        ensures marker { IfOk result (λ marker. marker ≡ marker_found file.queue batch.now) }
+        ensures fault { IfErr result (IsBatchFault (reading_on (context_in self.now))
+            (event batch.now file)) }
+    {
+        self.check_file(file)?;
+        check_batch(self.alloc, batch, file)
+    }
+
+    /// Tests whether a batch of this file may come next.
+    fn check_file(&self, file: FileId) -> Result<()>
+        ensures queue { OnOk result (Suits file.queue (context_in self.now).files) }
+        ensures files { OnOk result ((items : List Item)
+            → follows (context_in self.now).files (files_of (event items file ∷ [])) ≡ true) }
+        ensures fault { IfErr result (λ e. (items : List Item)
+            → IsBatchFault (reading_on (context_in self.now)) (event items file) e) }
+    {
+        if !FileRange::suits(self.files, file.queue) {
+            return Err(Error::corruption(self.alloc, "a batch of the other queue"));
+        }
+        if !FileRange::follows(self.files, Some(FileRange::of(file))) {
+            return Err(Error::corruption(self.alloc, "a batch of a file below the last one"));
+        }
+        Ok(())
+    }
+
+    /// Takes in a batch without a group marker, which takes effect at once.
+    fn take_lone_batch(&mut self, batch: LogItemBatch, file: FileId) -> Result<()>
+        requires history { IsOfHistory (context_in self.old) }
+        requires next { MayFollow (context_in self.old) (event batch file) }
+        requires without_marker { marker_found file.queue batch ≡ None }
+        ensures taken { OnOk result (taken_in (context_in self.old) (event batch file)
+            ≡ Some (context_in self.new)) }
+        ensures counts { OnOk result (IsBatchCounted (event batch file) (context_in self.old)
+            self.old.regions.accessor.counts self.new.regions.accessor.counts) }
+        ensures history { OnOk result (IsOfHistory (context_in self.new)) }
+        ensures fault { IfErr result (IsBatchFault (reading_on (context_in self.old))
+            (event batch file)) }
+    {
+        self.regions.take_items(file, batch)?;
+        self.files = FileRange::joined(self.files, Some(FileRange::of(file)));
+        Ok(())
+    }
+
+    /// Does what [`ReadState::take_lone_batch`] does, with a batch as it was read.
+    fn take_lone_read(&mut self, batch: &ReadBatch<'_>, file: FileId) -> Result<()>
+        requires history { IsOfHistory (context_in self.old) }
+        requires next { MayFollow (context_in self.old) (event batch.now file) }
+        requires without_marker { marker_found file.queue batch.now ≡ None }
+        ensures taken { OnOk result (taken_in (context_in self.old) (event batch.now file)
+            ≡ Some (context_in self.new)) }
+        ensures counts { OnOk result (IsBatchCounted (event batch.now file) (context_in self.old)
+            self.old.regions.accessor.counts self.new.regions.accessor.counts) }
+        ensures history { OnOk result (IsOfHistory (context_in self.new)) }
+        ensures fault { IfErr result (IsBatchFault (reading_on (context_in self.old))
+            (event batch.now file)) }
+    {
+        self.regions.take_read(self.alloc, file, batch)?;
+        self.files = FileRange::joined(self.files, Some(FileRange::of(file)));
+        Ok(())
+    }
+
+    /// Takes in a batch with a group marker: what it makes whole takes effect.
+    fn take_group_batch(
+        &mut self,
+        id: u64,
+        status: AtomicGroupStatus,
+        batch: LogItemBatch,
+        file: FileId,
+    ) -> Result<()>
+        requires history { IsOfHistory (context_in self.old) }
+        requires next { MayFollow (context_in self.old) (event batch file) }
+        requires with_marker { marker_found file.queue batch ≡ Some (id, status) }
+        ensures taken { OnOk result (taken_in (context_in self.old) (event batch file)
+            ≡ Some (context_in self.new)) }
+        ensures counts { OnOk result (IsBatchCounted (event batch file) (context_in self.old)
+            self.old.regions.accessor.counts self.new.regions.accessor.counts) }
+        ensures history { OnOk result (IsOfHistory (context_in self.new)) }
+        ensures fault { IfErr result (IsBatchFault (reading_on (context_in self.old))
+            (event batch file)) }
+    {
+        let items = WaitingItems::of_items(batch.into_items())?;
+        let whole = self.groups.take_in(id, status, items, file.seq)?;
+        take_whole(&mut self.regions, whole)?;
+        self.files = FileRange::joined(self.files, Some(FileRange::of(file)));
+        Ok(())
+    }
+
+    /// Takes in what was read of the batches that follow, all of this queue.
+    pub(crate) fn merge(&mut self, newer: ReadState, queue: LogQueue) -> Result<()>
+        requires older { IsOfHistory (context_in self.old) }
+        requires newer { IsOfHistory (context_in newer) }
+        ensures neighbors { OnOk result (AreNeighbors queue (context_in self.old)
+            (context_in newer)) }
+        ensures regions { OnOk result (AreMerged queue (context_in self.old) (context_in newer)
+            (context_in self.new).regions) }
+        ensures merged { OnOk result (context_in self.new
+            ≡ merged_with (context_in self.old) (context_in newer) (context_in self.new).regions) }
+        ensures history { OnOk result (IsOfHistory (context_in self.new)) }
+        ensures fault { IfErr result (IsNeighborFault queue (reading_on (context_in self.old))
+            (reading_on (context_in newer))) }
+    {
+        self.check_neighbor(&newer, queue)?;
+        self.join(newer, queue)
+    }
+
+    /// Counts what it holds.
+    pub(crate) fn kept(&self) -> Kept
+        ensures { kept_shown result ≡ kept_of (context_in self.now) }
+    {
+        let MarkedTables { accessor, marks } = &self.regions;
+        let (entries, keys) = accessor.totals();
+        Kept {
+            entries,
+            keys,
+            marks: marks.len() as u128 + self.groups.len() as u128,
+            deleted_keys: marks.deleted_keys(),
+            cleaned: accessor.cleaned_regions().len() as u128,
+            waiting_items: self.groups.waiting_items(),
+        }
+    }
+
+    /// Tests whether what was read of newer batches may be taken in.
+    fn check_neighbor(&self, newer: &ReadState, queue: LogQueue) -> Result<()>
+        ensures ok { OnOk result (AreNeighbors queue (context_in self.now)
+            (context_in newer.now)) }
+        ensures fault { IfErr result (IsNeighborFault queue (reading_on (context_in self.now))
+            (reading_on (context_in newer.now))) }
+    {
+        if !FileRange::suits(self.files, queue) || !FileRange::suits(newer.files, queue) {
+            return Err(Error::invalid_argument(self.alloc, "a context of the other queue"));
+        }
+        if !FileRange::follows(self.files, newer.files) {
+            return Err(Error::corruption(
+                self.alloc,
+                "the newer context begins in a file below the last one",
+            ));
+        }
+        Ok(())
+    }
+
+    /// Takes in a neighbor.
+    fn join(&mut self, newer: ReadState, queue: LogQueue) -> Result<()>
+        requires older { IsOfHistory (context_in self.old) }
+        requires newer { IsOfHistory (context_in newer) }
+        requires neighbors { AreNeighbors queue (context_in self.old) (context_in newer) }
+        ensures regions { OnOk result (AreMerged queue (context_in self.old) (context_in newer)
+            (context_in self.new).regions) }
+        ensures merged { OnOk result (context_in self.new
+            ≡ merged_with (context_in self.old) (context_in newer) (context_in self.new).regions) }
+        ensures history { OnOk result (IsOfHistory (context_in self.new)) }
+        ensures fault { IfErr result (IsNeighborFault queue (reading_on (context_in self.old))
+            (reading_on (context_in newer))) }
+    {
+        let ReadState {
+            regions,
+            groups,
+            files,
+            ..
+        } = newer;
+        let wholes = self.groups.join(groups)?;
+        take_wholes(&mut self.regions, wholes)?;
+        self.regions.join(queue, regions)?;
+        self.files = FileRange::joined(self.files, files);
+        Ok(())
+    }
+}
+
+/// Takes in a group that is whole, if there is one.
+fn take_whole(regions: &mut MarkedTables, whole: Option<WholeGroup>) -> Result<()>
+    requires { CanTakeEffectIfAny (option_map whole_shown whole) }
+    ensures taken { OnOk result (regions_after Rewrite (regions_in regions.old)
+        (region_steps_or (option_map whole_shown whole))
+        ≡ Some (regions_in regions.new)) }
+    ensures cleaned { OnOk result (regions.new.accessor.cleaned ≡ regions.old.accessor.cleaned) }
+    ensures counts { OnOk result (AreCountsAfterSteps Rewrite regions.old.accessor.tables
+        (region_steps_or (option_map whole_shown whole)) regions.old.accessor.counts
+        regions.new.accessor.counts) }
+    ensures fault { IfErr result (IsStepsFault Rewrite (regions_in regions.old)
+        (region_steps_or (option_map whole_shown whole))) }
+    ensures other { OnOk result (live_in_all Append regions.new.accessor.tables
+        ≤ live_in_all Append regions.old.accessor.tables) }
+{
+    match whole {
+        Some(whole) => regions.take_group(whole),
+        None => Ok(()),
+    }
+}
+
+/// Takes in groups that are whole, one after another.
+fn take_wholes(regions: &mut MarkedTables, wholes: Vec<WholeGroup>) -> Result<()>
+    requires { AllByRecursion CanTakeEffect (map whole_shown wholes.items) }
+    ensures taken { OnOk result (regions_after Rewrite (regions_in regions.old)
+        (region_steps_of_wholes (map whole_shown wholes.items))
+        ≡ Some (regions_in regions.new)) }
+    ensures cleaned { OnOk result (regions.new.accessor.cleaned ≡ regions.old.accessor.cleaned) }
+    ensures fault { IfErr result (IsStepsFault Rewrite (regions_in regions.old)
+        (region_steps_of_wholes (map whole_shown wholes.items))) }
+    ensures other { OnOk result (live_in_all Append regions.new.accessor.tables
+        ≤ live_in_all Append regions.old.accessor.tables) }
+    ensures none { OnErr result (map whole_shown wholes.items ≢ []) }
+{
+    for whole in wholes {
+        regions.take_group(whole)?;
+    }
+    Ok(())
+}

@@ -1,0 +1,67 @@
+//! What was read of the append queue, taken in over what was read of the rewrite queue.
+
+ghost use Rattle.std.specs.Prelude.{◌≡◌, OnOk, IfErr};
+ghost use Rattle.raft_history.specs.Joins.{AreOverlaid};
+ghost use Rattle.raft_contexts.specs.OverlaidContext.{AreOfBothQueues, overlaid_with, IsMergeAppendFault};
+ghost use Rattle.raft_contexts.specs.ReadStates.{context_in, IsOfHistory};
+ghost use Rattle.raft_contexts.specs.RecoverContext.{reading_on};
+
+use crate::file_range::FileRange;
+use crate::read_state::ReadState;
+use crate::region_marks::RegionMarks;
+use crate::waiting_groups::WaitingGroups;
+use raft_base::{Error, LogQueue, Result};
+
+impl ReadState {
+    /// Takes in what was read of the append queue over what was read of the rewrite queue. The region marks of
+    /// both and the groups that wait are then dropped.
+    pub(crate) fn overlay(&mut self, append: ReadState) -> Result<()>
+        requires rewritten { IsOfHistory (context_in self.old) }
+        requires appended { IsOfHistory (context_in append) }
+        ensures queues { OnOk result (AreOfBothQueues (context_in self.old) (context_in append)) }
+        ensures tables { OnOk result (AreOverlaid (context_in append).regions
+            (context_in self.old).regions.tables (context_in self.new).regions.tables) }
+        ensures overlaid { OnOk result (context_in self.new
+            ≡ overlaid_with (context_in self.old) (context_in append)
+            (context_in self.new).regions.tables) }
+        ensures fault { IfErr result (IsMergeAppendFault (reading_on (context_in self.old))
+            (reading_on (context_in append))) }
+    {
+        self.check_append(&append)?;
+        self.put_append(append)
+    }
+
+    /// Tests whether this was read of the rewrite queue, and the other of the append queue.
+    fn check_append(&self, append: &ReadState) -> Result<()>
+        ensures queues { OnOk result (AreOfBothQueues (context_in self.now)
+            (context_in append.now)) }
+        ensures fault { IfErr result (IsMergeAppendFault (reading_on (context_in self.now))
+            (reading_on (context_in append.now))) }
+    {
+        if !FileRange::suits(self.files, LogQueue::Rewrite)
+            || !FileRange::suits(append.files, LogQueue::Append)
+        {
+            return Err(Error::invalid_argument(self.alloc, "a context of the other queue"));
+        }
+        Ok(())
+    }
+
+    /// Takes in what was read of the append queue.
+    fn put_append(&mut self, append: ReadState) -> Result<()>
+        requires rewritten { IsOfHistory (context_in self.old) }
+        requires appended { IsOfHistory (context_in append) }
+        requires queues { AreOfBothQueues (context_in self.old) (context_in append) }
+        ensures tables { OnOk result (AreOverlaid (context_in append).regions
+            (context_in self.old).regions.tables (context_in self.new).regions.tables) }
+        ensures overlaid { OnOk result (context_in self.new
+            ≡ overlaid_with (context_in self.old) (context_in append)
+            (context_in self.new).regions.tables) }
+        ensures fault { IfErr result (IsMergeAppendFault (reading_on (context_in self.old))
+            (reading_on (context_in append))) }
+    {
+        self.regions.overlay(append.regions)?;
+        self.regions.marks = RegionMarks::new(self.alloc);
+        self.groups = WaitingGroups::new(self.alloc);
+        Ok(())
+    }
+}

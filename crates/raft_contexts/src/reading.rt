@@ -1,0 +1,41 @@
+//! Items that are written or read again, as the steps of a history, and rewritings, which change places alone. Each
+//! law is a function with an empty body.
+
+ghost use Rattle.std.specs.Prelude.{◌≡◌, List};
+ghost use Rattle.std.specs.FinMap as finite;
+ghost use Rattle.raft_base.specs.declared.pipe_log.LogQueue.TheVariants.{Append};
+ghost use Rattle.raft_records.specs.Item.{Item};
+ghost use Rattle.raft_history.specs.RegionSteps.{Tables, steps_of_items, cleaned_by_steps};
+ghost use Rattle.raft_accessor.specs.Writes.{Replaying, listed_by_items};
+ghost use Rattle.raft_contexts.specs.MovedPlaces.{AppendedItemsFollow, AreMovedTables, AreRuns, ReadItemsLeaveRuns, ReadingLeavesRuns, RewritingMovesPlaces};
+ghost use Rattle.raft_contexts.specs.ReadItems.{AppendedItemsAreListed, AppendedItemsAreRead, ItemsAreRead};
+
+/// States that items that are read again leave the tables that their steps leave in a history, and
+/// list the regions that these clean. This is a law: it computes nothing.
+#[tactic(auto, using(crate::proofs::ReadingLemmas::items_read, crate::proofs::ReadingLemmas::items_listed))]
+pub fn items_are_read_as_steps()
+    ensures tables { ItemsAreRead }
+    ensures cleaned { (items : List Item)
+        → listed_by_items (Replaying Append) items
+        ≡ cleaned_by_steps Append (steps_of_items items) }
+{}
+
+/// States that new items that the append queue accepts leave the tables that their steps leave in a history,
+/// and list the regions that these clean: so what was written is what is read.
+pub fn appended_items_are_read_as_steps()
+    ensures tables { AppendedItemsAreRead }
+    ensures cleaned { AppendedItemsAreListed }
+{}
+
+/// States that rewritings change places alone. Kept tables, some of whose places were rewritten, have the indexes,
+/// keys and values of those that reading the append queue gives; each place and file that is another is in the
+/// rewrite queue. That stays so when items are appended to the kept tables and read again into the others, and when
+/// items are rewritten, whatever they are and whatever the gate. Tables that are read have runs.
+pub fn rewriting_changes_places_alone()
+    ensures appended { AppendedItemsFollow }
+    ensures rewritten { RewritingMovesPlaces }
+    ensures same { (tables : Tables) → AreMovedTables tables tables }
+    ensures runs { ReadItemsLeaveRuns }
+    ensures no_tables { AreRuns finite.empty }
+    ensures read { ReadingLeavesRuns }
+{}

@@ -1,0 +1,278 @@
+//! Contexts, which rebuild the tables of all regions from the batches of a queue.
+
+ghost use Rattle.std.specs.Prelude.{ℕ, ◌≡◌, ◌≢◌, ◌⊎◌, [], List, IfOk, IfErr, OnOk, OnErr};
+ghost use Rattle.raft_base.specs.declared.errors.Error.{Error};
+ghost use Rattle.raft_base.specs.declared.pipe_log.LogQueue.{LogQueue};
+ghost use Rattle.raft_base.specs.declared.pipe_log.LogQueue.TheVariants.{Append, Rewrite};
+ghost use Rattle.raft_history.specs.Batches.{Event};
+ghost use Rattle.raft_history.specs.BothQueues.{IsReadingOfBoth};
+ghost use Rattle.raft_history.specs.Contexts.{Suits};
+ghost use Rattle.raft_history.specs.Histories.{IsSmall, IsOfQueue, IsOneReading};
+ghost use Rattle.raft_history.specs.Kept.{kept_of, kept_by, IsAtMost};
+ghost use Rattle.raft_history.specs.RegionSteps.{Tables};
+ghost use Rattle.raft_history.specs.ReplayMachine.{event};
+ghost use Rattle.raft_accessor.specs.Accessor.{AreCountsOf};
+ghost use Rattle.raft_contexts.specs.KeptShown.{kept_shown};
+ghost use Rattle.raft_contexts.specs.OverlaidContext.{IsOverlaidWith, IsOfBothExactly, IsMergeAppendFault};
+ghost use Rattle.raft_contexts.specs.RecoverContext.{blank_context, HasRead, HasReadExactly, IsBatchTaken, IsBatchCounted, IsBatchFault, IsMergedWith, IsNeighborFault, refused_stage};
+ghost use Rattle.raft_contexts.specs.declared.context_stage.ContextStage.TheVariants.{Reading, Overlaid, Failed};
+
+use crate::context_stage::ContextStage;
+use crate::kept::Kept;
+use crate::read_state::ReadState;
+use raft_accessor::MemTableAccessor;
+use raft_base::{Error, Factory, FileId, LogQueue, Result};
+use raft_history::ReplayMachine;
+use raft_records::{LogItemBatch, ReadBatch};
+use std::alloc::Global;
+use std::marker::Model;
+
+/// What was read of a queue: the tables of all regions with their counts, a region mark of each region, the
+/// groups that wait, and the files.
+#[derive(Drop)]
+pub struct MemTableRecoverContext {
+    state: ReadState,
+    stage: ContextStage,
+}
+
+impl Model for MemTableRecoverContext {
+    ghost use Rattle.raft_contexts.specs.RecoverContext.{RecoverContext};
+    ghost use Rattle.raft_contexts.specs.RecoverContextCode.{recover_context_code};
+
+    ghost Value = { RecoverContext };
+
+    ghost coded = { recover_context_code };
+
+    ghost use Rattle.raft_contexts.specs.RecoverContextView.{recover_context_shown, IsContextKept};
+
+    ghost view = { recover_context_shown };
+
+    ghost invariant = { IsContextKept };
+}
+
+impl MemTableRecoverContext {
+    /// Makes a context that has read nothing.
+    ///
+    /// # Errors
+    ///
+    /// `Memory`.
+    pub fn new(alloc: Global) -> Result<MemTableRecoverContext>
+        ensures ok { IfOk result (λ context. context ≡ blank_context) }
+        ensures exact { IfOk result (λ context. HasReadExactly context []) }
+        ensures memory { IfErr result (λ e. e ≡ Error.Memory) }
+    {
+        Ok(MemTableRecoverContext {
+            state: ReadState::new(alloc)?,
+            stage: ContextStage::Reading,
+        })
+    }
+
+    /// Replays one more batch, that was written to this file. In the rewrite queue the batch's first
+    /// group marker decides: a batch without one takes effect at once, the others as their group
+    /// becomes whole.
+    ///
+    /// # Errors
+    ///
+    /// `Failed` where the context doesn't read on, and then it stays as it is. After any other refusal
+    /// it is failed. `Corruption` where a place isn't in the file, a `Put` that isn't skipped lacks its
+    /// value or has another file, entries are not consecutive, the file is of another queue than the
+    /// files before or below the last of them, a group marker's status is unknown, or entries leave a
+    /// hole; `Full` where the live records and those that the batch, or the group that it ends, names are more
+    /// than 2^64 - 1; `Memory`.
+    pub fn replay(&mut self, batch: LogItemBatch, file_id: FileId) -> Result<()>
+        ensures ok { OnOk result (IsBatchTaken (event batch file_id) self.old self.new) }
+        ensures counts { OnOk result (IsBatchCounted (event batch file_id) self.old.context
+            self.old.counts self.new.counts) }
+        ensures fault { IfErr result (IsBatchFault self.old (event batch file_id)) }
+        ensures err { OnErr result (self.new.stage ≡ refused_stage self.old.stage) }
+        ensures unchanged { self.old.stage ≢ Reading → self.new ≡ self.old }
+        ensures failed { self.old.stage ≢ Reading → IfErr result (λ e. e ≡ Error.Failed) }
+    {
+        self.stage.begin()?;
+        self.state.replay(batch, file_id)?;
+        self.stage = ContextStage::Reading;
+        Ok(())
+    }
+
+    /// Does what [`MemTableRecoverContext::replay`] does, with a batch as it was read.
+    ///
+    /// # Errors
+    ///
+    /// Those of [`MemTableRecoverContext::replay`].
+    pub fn replay_read(&mut self, batch: &ReadBatch<'_>, file_id: FileId) -> Result<()>
+        ensures ok { OnOk result (IsBatchTaken (event batch.now file_id) self.old self.new) }
+        ensures counts { OnOk result (IsBatchCounted (event batch.now file_id) self.old.context
+            self.old.counts self.new.counts) }
+        ensures fault { IfErr result (IsBatchFault self.old (event batch.now file_id)) }
+        ensures err { OnErr result (self.new.stage ≡ refused_stage self.old.stage) }
+        ensures unchanged { self.old.stage ≢ Reading → self.new ≡ self.old }
+        ensures failed { self.old.stage ≢ Reading → IfErr result (λ e. e ≡ Error.Failed) }
+    {
+        self.stage.begin()?;
+        self.state.replay_read(batch, file_id)?;
+        self.stage = ContextStage::Reading;
+        Ok(())
+    }
+
+    /// Takes in the context of the batches that follow, all of this queue. Groups that become whole
+    /// between the two take effect first.
+    ///
+    /// # Errors
+    ///
+    /// `Failed` where the context doesn't read on, and then it stays as it is. After any other refusal
+    /// it is failed. `Failed` also where `rhs` doesn't read on; `InvalidArgument` for another queue
+    /// than that of either; `Corruption` where the first file of `rhs` is below the last one, or
+    /// entries leave a hole; `Full` where both hold more than 2^64 - 1 records; `Memory`.
+    pub fn merge(&mut self, rhs: MemTableRecoverContext, queue: LogQueue) -> Result<()>
+        ensures ok { OnOk result (IsMergedWith queue rhs self.old self.new) }
+        ensures fault { IfErr result (IsNeighborFault queue self.old rhs) }
+        ensures err { OnErr result (self.new.stage ≡ refused_stage self.old.stage) }
+        ensures unchanged { self.old.stage ≢ Reading → self.new ≡ self.old }
+        ensures failed { (self.old.stage ≢ Reading) ⊎ (rhs.stage ≢ Reading)
+            → IfErr result (λ e. e ≡ Error.Failed) }
+    {
+        self.stage.begin()?;
+        let MemTableRecoverContext { state, mut stage } = rhs;
+        stage.begin()?;
+        self.state.merge(state, queue)?;
+        self.stage = ContextStage::Reading;
+        Ok(())
+    }
+
+    /// Takes in the context of the append queue; this one is that of the rewrite queue. A region that the
+    /// append queue names has then its table there over the rewritten one. The *cut* is the least of the starts
+    /// of its runs there and of the indexes of its truncations. Of the rewritten table the entries stay from
+    /// the region's greatest compaction on and below the cut, if there is one; but none where the append queue
+    /// has entries and these don't begin at the cut, or the rewritten ones don't reach it. Key values stay that
+    /// the append queue neither puts nor deletes. Nothing stays where the append queue cleaned the region. The
+    /// other regions keep their rewritten tables, and the cleaned regions are those of the append queue. Groups
+    /// that are not whole are dropped. Only `kept` and `finish` can then be called.
+    ///
+    /// # Errors
+    ///
+    /// `Failed` where the context doesn't read on, and then it stays as it is. After any other refusal
+    /// it is failed. `Failed` also where `append` doesn't read on; `InvalidArgument` where this context
+    /// is of the append queue, or `append` of the rewrite queue; `Full` where both hold more than 2^64 - 1
+    /// records; `Memory`.
+    pub fn merge_append_context(&mut self, append: MemTableRecoverContext) -> Result<()>
+        ensures ok { OnOk result (IsOverlaidWith append self.old self.new) }
+        ensures exact { (rewrite appended : List Event) → HasReadExactly self.old rewrite
+            → HasReadExactly append appended
+            → OnOk result (IsOfBothExactly self.new rewrite appended) }
+        ensures fault { IfErr result (IsMergeAppendFault self.old append) }
+        ensures memory { (rewrite appended : List Event) → IsSmall rewrite → IsSmall appended
+            → IsOfQueue Rewrite rewrite → IsOfQueue Append appended → HasRead self.old rewrite
+            → HasRead append appended → IfErr result (λ e. e ≡ Error.Memory) }
+        ensures err { OnErr result (self.new.stage ≡ refused_stage self.old.stage) }
+        ensures unchanged { self.old.stage ≢ Reading → self.new ≡ self.old }
+        ensures failed { (self.old.stage ≢ Reading) ⊎ (append.stage ≢ Reading)
+            → IfErr result (λ e. e ≡ Error.Failed) }
+    {
+        self.stage.begin()?;
+        let MemTableRecoverContext { state, mut stage } = append;
+        stage.begin()?;
+        self.state.overlay(state)?;
+        self.stage = ContextStage::Overlaid;
+        Ok(())
+    }
+
+    /// Counts what the context holds. Where it stands for a history exactly, that is no more than
+    /// one reading of the history has, its groups that are not whole, and the keys that it deletes.
+    ///
+    /// # Errors
+    ///
+    /// `Failed` after a refusal.
+    pub fn kept(&self) -> Result<Kept>
+        ensures ok { IfOk result (λ kept. kept_shown kept ≡ kept_of self.now.context) }
+        ensures little { (queue : LogQueue) (h : List Event) (tables : Tables) (cleaned : List ℕ)
+            → HasReadExactly self.now h
+            → Suits queue self.now.context.files → IsOneReading queue h tables cleaned
+            → IfOk result (λ kept. IsAtMost (kept_shown kept) (kept_by queue h tables)) }
+        ensures overlaid { (rewrite append : List Event) → IsOfBothExactly self.now rewrite append
+            → IfOk result
+            (λ kept. (kept.marks ≡ 0) × (kept.deleted_keys ≡ 0)
+            × (kept.waiting_items ≡ 0)) }
+        ensures accepted { OnOk result (self.now.stage ≢ Failed) }
+        ensures failed { IfErr result (λ e. (e ≡ Error.Failed) × (self.now.stage ≡ Failed)) }
+    {
+        if self.stage == ContextStage::Failed {
+            return Err(Error::Failed);
+        }
+        Ok(self.state.kept())
+    }
+
+    /// Returns the tables of all regions, with their counts and the regions that were cleaned.
+    ///
+    /// # Errors
+    ///
+    /// `Failed` after a refusal.
+    pub fn finish(self) -> Result<MemTableAccessor>
+        ensures tables { IfOk result (λ accessor. accessor.tables ≡ self.context.regions.tables) }
+        ensures cleaned { IfOk result (λ accessor. accessor.cleaned ≡ self.context.cleaned) }
+        ensures exact_counts { IfOk result (λ accessor. AreCountsOf accessor.tables
+            accessor.counts) }
+        ensures counts { IfOk result (λ accessor. accessor.counts ≡ self.counts) }
+        ensures reading { (queue : LogQueue) (h : List Event) → HasReadExactly self h
+            → Suits queue self.context.files
+            → IfOk result (λ accessor. IsOneReading queue h accessor.tables accessor.cleaned) }
+        ensures overlaid { (rewrite append : List Event) → IsOfBothExactly self rewrite append
+            → IfOk result
+            (λ accessor. IsReadingOfBoth rewrite append accessor.tables accessor.cleaned) }
+        ensures accepted { OnOk result (self.stage ≢ Failed) }
+        ensures failed { IfErr result (λ e. (e ≡ Error.Failed) × (self.stage ≡ Failed)) }
+    {
+        let MemTableRecoverContext { state, stage } = self;
+        if stage == ContextStage::Failed {
+            return Err(Error::Failed);
+        }
+        let accessor = state.regions.accessor;
+        accessor.counts_are_exact();
+        Ok(accessor)
+    }
+}
+
+impl ReplayMachine for MemTableRecoverContext {
+    ghost use Rattle.raft_contexts.specs.RecoverContext.{HasRead, HasReadExactly};
+
+    ghost stands_for = { HasRead };
+
+    ghost stands_exactly = { HasReadExactly };
+
+    fn replay(&mut self, batch: LogItemBatch, file_id: FileId) -> Result<()> {
+        self.replay(batch, file_id)
+    }
+
+    fn replay_read(&mut self, batch: &ReadBatch<'_>, file_id: FileId) -> Result<()> {
+        self.replay_read(batch, file_id)
+    }
+
+    fn merge(&mut self, rhs: MemTableRecoverContext, queue: LogQueue) -> Result<()> {
+        self.merge(rhs, queue)
+    }
+
+    ghost exact_stands = { λ m h e. record { stage = e.stage; stands = e.exact.stands } };
+}
+
+/// Makes contexts that have read nothing.
+#[derive(Drop)]
+pub struct MemTableRecoverContextFactory;
+
+impl MemTableRecoverContextFactory {
+    /// Makes a factory.
+    pub fn new() -> MemTableRecoverContextFactory {
+        MemTableRecoverContextFactory
+    }
+}
+
+impl Factory<MemTableRecoverContext> for MemTableRecoverContextFactory {
+    ghost use Rattle.std.specs.Prelude.{[]};
+    ghost use Rattle.raft_contexts.specs.RecoverContext.{HasReadExactly};
+
+    ghost gives = { λ _ context. HasReadExactly context [] };
+
+    ghost may_refuse = { λ _ e. ⊥ };
+
+    fn new_target(&self, alloc: Global) -> Result<MemTableRecoverContext> {
+        MemTableRecoverContext::new(alloc)
+    }
+}

@@ -1,0 +1,181 @@
+//! Groups that wait until they are whole.
+
+ghost use Rattle.std.specs.Prelude.{◌≡◌, ◌+◌, ◌<◌, ℕ, List, [], ◌∷◌, ◌++◌, IfOk, IfSome, IfNone, OnOk, map, option_to_list};
+ghost use Rattle.std.specs.Option.{option_map};
+ghost use Rattle.std.specs.FinMap as finite;
+ghost use Rattle.std.specs.Ordering.{nat_cmp};
+ghost use Rattle.std.specs.BTreeMap.{IsOrdered, is_at};
+ghost use Rattle.std.specs.Map.{remove_entry};
+ghost use Rattle.raft_history.specs.Batches.{BatchSteps, batch_with_marker};
+ghost use Rattle.raft_history.specs.Effects.{EachApart, effects, steps_of};
+ghost use Rattle.raft_history.specs.WaitingGroup.{joined_group, whole_group, one_marker};
+ghost use Rattle.raft_history.specs.WaitingGroups.{groups_in, waiting_steps, steps_or, known_of, joined_groups, whole_groups, steps_of_wholes};
+ghost use Rattle.raft_contexts.specs.WaitingShown.{seen_entries, group_shown, whole_shown};
+
+use crate::waiting_group::{WaitingGroup, WholeGroup};
+use crate::waiting_items::WaitingItems;
+use raft_base::{AllocResult, FileSeq};
+use raft_records::AtomicGroupStatus;
+use std::alloc::Global;
+use std::collections::BTreeMap;
+use std::marker::Model;
+
+/// What is known of the groups that have a group marker.
+#[derive(Debug, Drop)]
+pub struct WaitingGroups {
+    groups: BTreeMap<u64, WaitingGroup>,
+    alloc: Global,
+}
+
+impl Model for WaitingGroups {
+    ghost use Rattle.raft_history.specs.WaitingGroups.{WaitingGroups};
+    ghost use Rattle.raft_contexts.specs.WaitingGroupsCode.{groups_code};
+
+    ghost Value = { WaitingGroups };
+
+    ghost coded = { groups_code };
+
+    ghost use Rattle.raft_contexts.specs.WaitingGroupsView.{groups_seen, AreGroupsOrdered};
+
+    ghost view = { groups_seen };
+
+    ghost invariant = { AreGroupsOrdered };
+}
+
+impl WaitingGroups {
+    /// Makes one in which no group has a group marker.
+    pub fn new(alloc: Global) -> WaitingGroups
+        ensures { result ≡ finite.empty }
+    {
+        WaitingGroups {
+            groups: BTreeMap::new(alloc),
+            alloc,
+        }
+    }
+
+    /// Returns how many groups have a group marker.
+    pub fn len(&self) -> usize
+        ensures { result ≡ finite.len self.now }
+    {
+        self.groups.len()
+    }
+
+    /// Returns how many items wait.
+    pub fn waiting_items(&self) -> u128
+        ensures { result ≡ waiting_steps self.now }
+    {
+        let mut count: u128 = 0;
+        for group in self.groups.values() {
+            count += group.len();
+        }
+        count
+    }
+
+    /// Takes in one more batch, in the file of number `seq`, with a group marker of the group `id`.
+    /// Returns the group if the batch makes it whole.
+    ///
+    /// # Errors
+    ///
+    /// Where there is no memory. The group may then be forgotten.
+    pub fn take_in(
+        &mut self,
+        id: u64,
+        status: AtomicGroupStatus,
+        items: WaitingItems,
+        seq: FileSeq,
+    ) -> AllocResult<Option<WholeGroup>>
+        ensures known { OnOk result (self.new
+            ≡ finite.insert self.old id
+            (joined_group (known_of self.old id) (one_marker status items seq))) }
+        ensures whole { IfOk result (λ w. option_map whole_shown w
+            ≡ whole_group (known_of self.old id) (one_marker status items seq)) }
+        ensures stands { (h : List BatchSteps) → self.old ≡ groups_in h
+            → OnOk result (self.new ≡ groups_in (h ++ batch_with_marker items id status seq ∷ [])) }
+        ensures steps { (h : List BatchSteps) (r : ℕ) → self.old ≡ groups_in h
+            → IfOk result (λ w. steps_of r (h ++ batch_with_marker items id status seq ∷ [])
+            ≡ steps_of r h ++ steps_or r (option_map whole_shown w)) }
+    {
+        self.join_one(id, WaitingGroup::one_marker(status, items, seq))
+    }
+
+    /// Joins what is known of the groups of a newer history. Returns the groups that the two make
+    /// whole.
+    ///
+    /// # Errors
+    ///
+    /// Where there is no memory. Groups may then be forgotten.
+    pub fn join(&mut self, newer: WaitingGroups) -> AllocResult<Vec<WholeGroup>>
+        ensures known { OnOk result (self.new ≡ joined_groups self.old newer) }
+        ensures wholes { IfOk result (λ w. map whole_shown w.items ≡ whole_groups self.old newer) }
+        ensures stands { (h k : List BatchSteps) → self.old ≡ groups_in h → newer ≡ groups_in k
+            → OnOk result (self.new ≡ groups_in (h ++ k)) }
+        ensures steps { (h k : List BatchSteps) (r : ℕ) → self.old ≡ groups_in h
+            → newer ≡ groups_in k → EachApart (effects (h ++ k))
+            → IfOk result (λ w. steps_of r (h ++ k)
+            ≡ steps_of r h ++ (steps_of_wholes r (map whole_shown w.items) ++ steps_of r k)) }
+    {
+        self.join_each(newer)
+    }
+
+    /// Joins one group of the newer history after another.
+    fn join_each(&mut self, newer: WaitingGroups) -> AllocResult<Vec<WholeGroup>>
+        ensures known { OnOk result (self.new ≡ joined_groups self.old newer) }
+        ensures wholes { IfOk result (λ w. map whole_shown w.items ≡ whole_groups self.old newer) }
+    {
+        let mut rest = newer;
+        let mut wholes = Vec::new(self.alloc);
+        while let Some((id, group)) = rest.take_first() {
+            let whole = self.join_one(id, group)?;
+            push_some(&mut wholes, whole)?;
+        }
+        Ok(wholes)
+    }
+
+    /// Joins what is known of one group with what is known of it from a newer history.
+    fn join_one(&mut self, id: u64, newer: WaitingGroup) -> AllocResult<Option<WholeGroup>>
+        ensures known { OnOk result (self.new
+            ≡ finite.insert self.old id (joined_group (known_of self.old id) (group_shown newer))) }
+        ensures whole { IfOk result (λ w. option_map whole_shown w
+            ≡ whole_group (known_of self.old id) (group_shown newer)) }
+    {
+        let older = take_out(&mut self.groups, self.alloc, id);
+        let (group, whole) = older.join(newer)?;
+        self.groups.insert(id, group)?;
+        Ok(whole)
+    }
+
+    /// Takes the first group away, with what is known of it.
+    fn take_first(&mut self) -> Option<(u64, WaitingGroup)>
+        ensures first { IfSome result (λ p. finite.entries self.old
+            ≡ (p.0, group_shown p.1) ∷ finite.entries self.new) }
+        ensures none { IfNone result (finite.entries self.old ≡ []) }
+        ensures unchanged { IfNone result (self.new ≡ self.old) }
+    {
+        let (id, group) = self.groups.pop_first()?;
+        Some((id, group))
+    }
+}
+
+/// Takes out what is known of a group.
+fn take_out(groups: &mut BTreeMap<u64, WaitingGroup>, alloc: Global, id: u64) -> WaitingGroup
+    requires { IsOrdered nat_cmp groups.old }
+    ensures known { group_shown result ≡ known_of (seen_entries groups.old.entries) id }
+    ensures rest { groups.new.entries ≡ remove_entry (is_at (nat_cmp id)) groups.old.entries }
+    ensures ordered { IsOrdered nat_cmp groups.new }
+{
+    match groups.remove(&id) {
+        Some(group) => group,
+        None => WaitingGroup::without_marker(alloc),
+    }
+}
+
+/// Pushes a group, if there is one.
+fn push_some(wholes: &mut Vec<WholeGroup>, whole: Option<WholeGroup>) -> AllocResult<()>
+    ensures { OnOk result (map whole_shown wholes.new.items
+        ≡ map whole_shown wholes.old.items ++ option_to_list (option_map whole_shown whole)) }
+{
+    if let Some(whole) = whole {
+        wholes.push(whole)?;
+    }
+    Ok(())
+}

@@ -1,0 +1,116 @@
+//! Steps of groups that are not whole yet.
+
+ghost use Rattle.std.specs.Prelude.{◌≡◌, ◌++◌, ℕ, ◌==◌, [], ◌∷◌, length, map, IsTrue, OnOk, IfOk};
+ghost use Rattle.std.specs.List.{list_any};
+ghost use Rattle.raft_records.specs.Item.{item_of};
+ghost use Rattle.raft_history.specs.RegionStepShown.{region_step_shown};
+ghost use Rattle.raft_history.specs.RegionSteps.{steps_of_items, names};
+
+use raft_base::AllocResult;
+use raft_history::RegionStep;
+use raft_records::LogItem;
+use std::alloc::Global;
+use std::marker::Model;
+
+/// The steps of items that wait for the end of their group. An item without a step, as the group's own
+/// group marker, is dropped when it comes in.
+#[derive(Debug, Drop)]
+pub struct WaitingItems {
+    steps: Vec<RegionStep>,
+}
+
+impl Model for WaitingItems {
+    ghost use Rattle.std.specs.Prelude.{List};
+    ghost use Rattle.raft_history.specs.RegionSteps.{RegionStep};
+
+    ghost Value = { List RegionStep };
+
+    ghost use Rattle.raft_contexts.specs.WaitingItemsView.{steps_shown};
+
+    ghost view = { steps_shown };
+}
+
+impl WaitingItems {
+    /// Makes one without items.
+    pub fn new(alloc: Global) -> WaitingItems
+        ensures { result ≡ [] }
+    {
+        WaitingItems {
+            steps: Vec::new(alloc),
+        }
+    }
+
+    /// Returns the steps of items, in order.
+    ///
+    /// # Errors
+    ///
+    /// Where there is no memory for them.
+    pub fn of_items(items: Vec<LogItem>) -> AllocResult<WaitingItems>
+        ensures { IfOk result (λ waiting. waiting ≡ steps_of_items (map item_of items.items)) }
+    {
+        let mut steps = Vec::with_capacity(*items.allocator(), items.len())?;
+        for item in items {
+            if let Some(step) = RegionStep::of_item(item) {
+                steps.push(step)?;
+            }
+        }
+        Ok(WaitingItems { steps })
+    }
+
+    /// Returns how many steps there are.
+    pub fn len(&self) -> usize
+        ensures { result ≡ length self.now }
+    {
+        self.steps.len()
+    }
+
+    /// Moves the steps of `more` after these.
+    ///
+    /// # Errors
+    ///
+    /// Where there is no memory for them.
+    pub fn append(&mut self, more: WaitingItems) -> AllocResult<()>
+        ensures { OnOk result (self.new ≡ self.old ++ more) }
+    {
+        let mut more = more.steps;
+        self.steps.append(&mut more)?;
+        Ok(())
+    }
+
+    /// Returns the regions that the steps change, in order; one may stand there twice.
+    ///
+    /// # Errors
+    ///
+    /// Where there is no memory for them.
+    pub fn regions(&self) -> AllocResult<Vec<u64>>
+        ensures { IfOk result
+            (λ ids. (r : ℕ) → list_any (λ id. r == id) ids.items ≡ names r self.now) }
+    {
+        let mut ids: Vec<u64> = Vec::new(*self.steps.allocator());
+        for step in &self.steps {
+            let id = step.region;
+            if !is_last(&ids, id) {
+                ids.push(id)?;
+            }
+        }
+        Ok(ids)
+    }
+
+    /// Returns the steps, in order.
+    pub fn into_steps(self) -> Vec<RegionStep>
+        ensures { map region_step_shown result.items ≡ self }
+    {
+        self.steps
+    }
+}
+
+/// Tests whether a region is the last of these.
+fn is_last(ids: &[u64], id: u64) -> bool
+    ensures { (r : ℕ) → IsTrue result → list_any (λ i. r == i) (ids.now ++ id ∷ []) ≡ list_any
+        (λ i. r == i) ids.now }
+{
+    match ids.last() {
+        Some(last) => *last == id,
+        None => false,
+    }
+}

@@ -1,8 +1,0 @@
-use Rattle.raft_memtable.proofs.AppendedLemmas.{items_appended, items_list}
-use Rattle.raft_memtable.proofs.reading.appended_items_are_read_as_steps.Goals as goal
-
-pub returns-clause-tables : goal.returns-clause-tables
-returns-clause-tables c = items_appended
-
-pub returns-clause-cleaned : goal.returns-clause-cleaned
-returns-clause-cleaned c = items_list

@@ -1,9 +1,0 @@
-use Rattle.std.proofs.Common.{◌++◌, List, map, ap, ◌∙◌}
-use Rattle.std.proofs.lemmas.List.{map-append}
-use Rattle.raft_history.specs.RegionStepShown.{region_step_shown}
-use Rattle.raft_history.specs.RegionSteps.{RegionStep}
-use Rattle.raft_memtable.proofs.waiting_items.WaitingItems.append.Goals as goal
-
-pub returns : goal.returns
-returns c = ap (map region_step_shown) c.in_ok-append.ensures.items ∙ map-append region_step_shown c.self.inside.steps.items c.more.inside.steps.items
-    ∙ ap (λ (l : List RegionStep). l ++ map region_step_shown c.more.inside.steps.items) c.self.view_is ∙ ap (λ (l : List RegionStep). c.args.self.now ++ l) c.more.view_is

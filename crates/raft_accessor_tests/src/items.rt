@@ -1,5 +1,7 @@
 //! Items written to the tables of several regions, the regions that were cleaned, walks and merges.
 
+ghost use Rattle.raft_memtable.specs.TableEntries.{IsRunIn};
+
 use crate::refusals::{are_counted, are_named};
 use raft_memtable::{
     EntryIndex, Error, FileBlockHandle, FileId, LogQueue, MemTable, MemTableAccessor, Result,
@@ -284,7 +286,22 @@ fn count(alloc: Global) -> Result<bool> {
     )
 }
 
-/// Tests whether a run that is read again is put after a region's entries, and makes no table of region 9.
+/// Tries a run that is read again, once more where it isn't put, as for want of memory.
+fn try_twice(
+    accessor: &mut MemTableAccessor,
+    queue: LogQueue,
+    region: u64,
+    run: &[EntryIndex],
+) -> Option<u64>
+    requires { IsRunIn queue run.now }
+{
+    match accessor.try_replay_run(queue, region, run) {
+        Some(end) => Some(end),
+        None => accessor.try_replay_run(queue, region, run),
+    }
+}
+
+/// Tests whether a run that is read again is put after a region's entries, and makes the table of region 9.
 fn is_put_again(
     alloc: Global,
     accessor: &mut MemTableAccessor,
@@ -297,12 +314,10 @@ fn is_put_again(
     if !is_run(&run, file.queue) {
         return Ok(false);
     }
-    let mut put = accessor.try_replay_run(file.queue, region, &run);
-    if put.is_none() {
-        put = accessor.try_replay_run(file.queue, region, &run);
-    }
-    let other = accessor.try_replay_run(file.queue, 9, &run);
-    Ok((put, other) == (Some(start), None) && accessor.get(9).is_none())
+    let put = try_twice(accessor, file.queue, region, &run);
+    let other = try_twice(accessor, file.queue, 9, &run);
+    let first = accessor.get(9).map(|table| table.first_index());
+    Ok((put, other, first) == (Some(start), Some(0), Some(Some(start))))
 }
 
 /// Tests that a run of the append queue is put again.

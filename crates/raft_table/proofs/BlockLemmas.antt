@@ -1,12 +1,16 @@
 -- Blocks and their entries: how many, from which indexes on, and one after the other.
-use Rattle.std.proofs.Common.{◌≡◌, ℕ, zero, suc, ◌+◌, ◌<◌, ◌≤◌, List, [], ◌∷◌, ◌++◌, length, get_or, take, drop, refl, sym, ap, ◌∙◌, arith}
+use Rattle.std.proofs.Common.{◌≡◌, ℕ, zero, suc, ◌+◌, ◌-◌, ◌<◌, ◌≤◌, ◌^◌, true, List, [], ◌∷◌, ◌++◌, length, get_or, take, drop, refl, sym, ap, ◌∙◌, arith}
 use Rattle.std.proofs.lemmas.List.{append_assoc, length-append}
+use Rattle.std.specs.List.{AllByRecursion}
 use Rattle.std.specs.List.Sorted.{IsNonDecreasingBy}
 use Rattle.raft_base.specs.declared.pipe_log.FileBlockHandle.{FileBlockHandle}
+use Rattle.raft_base.specs.declared.pipe_log.LogQueue.{LogQueue}
 use Rattle.raft_base.specs.Runs.{RisesFrom, entries_of_block}
+use Rattle.raft_base.proofs.ConsecutiveLemmas.{run_of}
 use Rattle.raft_table.specs.Blocks.{BlockSpans, entries_in_blocks}
 use Rattle.raft_table.specs.BlockWords.{count, starts_of}
-use Rattle.raft_table.specs.TableEntries.{start_of}
+use Rattle.raft_table.specs.Queues.{is_same}
+use Rattle.raft_table.specs.TableEntries.{start_of, is_placed_in, IsRunIn}
 use Rattle.raft_table.proofs.RunLemmas.{RisesFrom-append}
 
 pub length-spread : (i : ℕ) (h : FileBlockHandle) (ss : List (ℕ × ℕ)) → length (entries_of_block i h ss) ≡ length ss
@@ -89,6 +93,22 @@ rises_expanded i [] = tt
 rises_expanded i (b ∷ bs) =
     RisesFrom-append i (entries_of_block i b.handle b.spans) (entries_in_blocks (i + length b.spans) bs) (rises_spread i b.handle b.spans)
     (rw (length-spread i b.handle b.spans) (rises_expanded (i + length b.spans) bs))
+
+placed-spread : (q : LogQueue) (i : ℕ) (h : FileBlockHandle) (ss : List (ℕ × ℕ)) → is_same h.id.queue q ≡ true → AllByRecursion (λ e. is_placed_in q e ≡ true) (entries_of_block i h ss)
+unfolding is_placed_in
+placed-spread q i h [] e = tt
+placed-spread q i h (s ∷ ss) e = (e, placed-spread q (suc i) h ss e)
+
+bounded-spread : (i : ℕ) (h : FileBlockHandle) (ss : List (ℕ × ℕ)) → i + length ss < 2 ^ 64 → AllByRecursion (λ e. e.index < 2 ^ 64 - 1) (entries_of_block i h ss)
+bounded-spread i h [] l = tt
+bounded-spread i h (s ∷ ss) l = (omega (arith, l), bounded-spread (suc i) h ss (omega (arith, l)))
+
+-- the entries of a block are a run of the block's queue
+pub run_of-spread : (q : LogQueue) (i : ℕ) (h : FileBlockHandle) (ss : List (ℕ × ℕ)) → is_same h.id.queue q ≡ true → i + length ss < 2 ^ 64 → IsRunIn q (entries_of_block i h ss)
+run_of-spread q i h ss e l = record {
+  consecutive = record { run = run_of i (entries_of_block i h ss) (rises_spread i h ss); bounded = bounded-spread i h ss l };
+  placed = placed-spread q i h ss e;
+}
 
 pub starts_drop : (j i : ℕ) (bs : List BlockSpans) → drop j (starts_of i bs) ≡ starts_of (i + count (take j bs)) (drop j bs)
 starts_drop zero i bs = let e : i + 0 ≡ i = omega arith in rw e refl

@@ -18,6 +18,8 @@ mod log_batches;
 #[cfg(test)]
 mod printing;
 #[cfg(test)]
+mod read_batches;
+#[cfg(test)]
 mod refusals;
 #[cfg(test)]
 mod unwritable;

@@ -14,6 +14,7 @@ pub use Rattle.raft_table.specs.Merge
 pub use Rattle.raft_table.specs.Overlay
 pub use Rattle.raft_table.specs.Queues
 pub use Rattle.raft_table.specs.Rewriting
+pub use Rattle.raft_table.specs.RunShown
 pub use Rattle.raft_table.specs.Scan
 pub use Rattle.raft_table.specs.Stands
 pub use Rattle.raft_table.specs.Start

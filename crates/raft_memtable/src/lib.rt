@@ -19,6 +19,6 @@ pub use raft_history::{
 };
 pub use raft_records::{LogBatch, LogItem, LogItemBatch};
 pub use raft_table::{
-    Block, DeletedKeys, GlobalStats, Mark, MemTable, Step, TableChange, global_stats, is_run,
+    Block, DeletedKeys, GlobalStats, Mark, MemTable, Run, Step, TableChange, global_stats, is_run,
     memtable, step,
 };

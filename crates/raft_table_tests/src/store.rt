@@ -274,7 +274,7 @@ impl LogStore {
     /// Tries a run that is replayed, once more where it isn't put, as for want of memory. Returns whether it was put.
     pub fn try_replay(&mut self, queue: LogQueue, run: Run) -> Result<bool> {
         let entries = self.entries(queue, run)?;
-        let run = raft_table::Run::Entries(&entries);
+        let run = raft_memtable::Run::Entries(&entries);
         Ok(
             self.table.try_replay(queue, &run, &mut self.stats)
                 || self.table.try_replay(queue, &run, &mut self.stats),
@@ -290,7 +290,7 @@ impl LogStore {
         if spans.len() as u64 > u64::MAX - run.first {
             return Err(Error::Failed);
         }
-        let run = raft_table::Run::Block {
+        let run = raft_memtable::Run::Block {
             first: run.first,
             handle: run.handle(queue),
             spans: &spans,

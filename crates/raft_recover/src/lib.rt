@@ -16,8 +16,8 @@ pub use raft_accessor::MemTableAccessor;
 pub use raft_base::{
     AllocResult, EntryIndex, Error, Factory, FileId, FileSeq, LogQueue, Result, Version,
 };
-pub use raft_history::ReplayMachine;
 pub use raft_contexts::{MemTableRecoverContext, MemTableRecoverContextFactory};
+pub use raft_history::ReplayMachine;
 pub use raft_records::{FilePart, LogBatch, LogItem};
 pub use raft_replay::{
     Gate, MAX_WORKERS, OpenGate, Plan, Segment, cut_part, gate, merge_pieces,

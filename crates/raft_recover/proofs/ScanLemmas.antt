@@ -16,14 +16,14 @@ use Rattle.raft_recover.specs.declared.scan.Finding.TheVariants.{Batch, Damage}
 -- ---- what was found
 
 -- a batch has a header
-pub batch_header : (part : Part) (at : ℕ) (items : List Item) (next : ℕ) (b : IsBatchAt part at items next) → HasHeader (drop at part.bytes) (16 + length b.between) (length b.bytes)
+pub batch_header : (part : Part) (at : ℕ) (items : List Item) (next : ℕ) (b : IsBatchAt part at items next) → HasHeader (drop at part.bytes) (framed_at b).offset (length (framed_at b).bytes)
 batch_header part at items next b = let f : IsFramedAt part at items next = framed_at b in record {
   compression = f.frame.compression;
-  rest = drop 16 b.bytes ++ drop next part.bytes;
+  rest = drop 16 f.bytes ++ drop next part.bytes;
   header = record {
     front = f.frame.header.front;
     spells = f.frame.header.spells;
-    split = b.stands ∙ ap (λ (t : List ℕ). t ++ drop next part.bytes) f.frame.header.split ∙ append_assoc f.frame.header.front (drop 16 b.bytes) (drop next part.bytes);
+    split = f.stands ∙ ap (λ (t : List ℕ). t ++ drop next part.bytes) f.frame.header.split ∙ append_assoc f.frame.header.front (drop 16 f.bytes) (drop next part.bytes);
   };
 }
 

@@ -114,11 +114,11 @@ pub header_ends : (part : Part) (i next offset len : ℕ) (items : List Item) �
 header_ends part i next offset len items h b =
     let g : IsFramedAt part i items next = framed_at b in
     let f = g.frame.header in
-    let split = sym h.header.split ∙ b.stands ∙ ap (λ (t : List ℕ). t ++ drop next part.bytes) f.split ∙ append_assoc f.front (drop 16 b.bytes) (drop next part.bytes) in
-    let same = (header_one h.header.front f.front h.rest (drop 16 b.bytes ++ drop next part.bytes) (offset, h.compression, len)
-    (g.offset, g.frame.compression, length b.bytes) h.header.spells f.spells split).1 in
-    let long : len ≡ length b.bytes = ap (λ (t : ℕ × CompressionType × ℕ). t.2) same in
-    let ends = b.ends in
+    let split = sym h.header.split ∙ g.stands ∙ ap (λ (t : List ℕ). t ++ drop next part.bytes) f.split ∙ append_assoc f.front (drop 16 g.bytes) (drop next part.bytes) in
+    let same = (header_one h.header.front f.front h.rest (drop 16 g.bytes ++ drop next part.bytes) (offset, h.compression, len)
+    (g.offset, g.frame.compression, length g.bytes) h.header.spells f.spells split).1 in
+    let long : len ≡ length g.bytes = ap (λ (t : ℕ × CompressionType × ℕ). t.2) same in
+    let ends = g.ends in
     omega (arith, long)
 
 -- ---- what is read before a byte and from there on

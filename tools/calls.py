@@ -1,10 +1,11 @@
 #!/usr/bin/env python3
-"""The page of all calls: what the four crates that users import from have, each with its signature and its first sentence.
+"""The page of all calls: what the four crates that users import from have, each with its signature and its first sentence, types
+with their public fields and their variants.
 
     calls.py            writes docs/CALLS.md
     calls.py --check    fails where that page isn't what the sources say now
 
-A name is listed once, under the first of the four crates that has it. Laws, which compute nothing, are left out: docs/DEFINITIONS.md
+A name is listed once, under the first of the four crates that has it, with its module where it isn't at the crate's root. Laws, which compute nothing, are left out: docs/DEFINITIONS.md
 has them. So are calls under `#[doc(hidden)]`, which are public for other crates of this repository alone.
 """
 
@@ -80,40 +81,41 @@ class Crate:
         self.lib = (self.folder / "lib.rt").read_text(encoding="utf-8")
         self.files = [path.read_text(encoding="utf-8") for path in sorted(self.folder.rglob("*.rt"))]
 
-    def names(self, crates, text=None):
-        """The names that users can import from the crate, or from a module with this text, each with the crate that defines it."""
+    def names(self, crates, text=None, at=""):
+        """The names that users can import from the crate, or from a module with this text, each with the crate that defines it
+        and with the path of its module in the user's crate."""
         text = self.lib if text is None else text
         for path, name in reexports(text):
             home = crates.get(path.split("::")[0], self)
-            yield home, name
-            yield from home.names(crates, home.module(name))
+            yield home, name, at
+            yield from home.names(crates, home.module(name), f"{at}{name}::")
         for module in MODULE.findall(text):
-            yield from self.names(crates, self.module(module))
+            yield from self.names(crates, self.module(module), f"{at}{module}::")
         for head in HEAD.finditer(text):
             if not head.group(1):
-                yield self, head.group(3)
+                yield self, head.group(3), at
 
     def module(self, name):
         """The text of a module of the crate; nothing where it has no module of this name."""
         path = self.folder / f"{name}.rt"
         return path.read_text(encoding="utf-8") if path.exists() else ""
 
-    def item(self, name):
-        """The lines for a name that the crate defines, or none."""
+    def item(self, name, path):
+        """The lines for a name that the crate defines, or none. Users import it by this path, if it is not at the root."""
         for text in self.files:
             for head in HEAD.finditer(text):
                 if head.group(3) == name and not head.group(1):
-                    return list(self.lines_of(text, head))
+                    return list(self.lines_of(text, head, f" (import `{path}{name}`)" if path else ""))
         return []
 
-    def lines_of(self, text, head):
+    def lines_of(self, text, head, imported):
         kind, name = head.group(2), head.group(3)
         what = doc_above(text, head.start())
         if kind == "fn":
             if not is_law(text, head.start()) and not is_hidden(text, head.start()):
-                yield f"- `{signature(text, head.start())}`: {what}"
+                yield f"- `{signature(text, head.start())}`{imported}: {what}"
             return
-        yield f"- **`{name}`** ({kind}): {what}"
+        yield f"- **`{name}`** ({kind}){imported}: {what}{parts_of(kind, text, head)}"
         if kind == "trait":
             yield from self.methods(text[head.start():ENDS_BLOCK.search(text, head.start()).start()], METHOD)
         for other in self.files:
@@ -125,6 +127,30 @@ class Crate:
         for method in pattern.finditer(text):
             if not is_law(text, method.start()) and not is_hidden(text, method.start()):
                 yield f"  - `{signature(text, method.start())}`: {doc_above(text, method.start())}"
+
+
+def parts_of(kind, text, head):
+    """A sentence with the public fields of a struct or the variants of an enum, if there are any."""
+    begun = head.end()
+    if kind not in ("struct", "enum") or ";" in text[begun:text.index("\n", begun)]:
+        fields = re.match(r"[^\n;]*\((pub [^;]*)\);", text[begun:]) if kind == "struct" else None
+        return f" Field: `{fields.group(1).removeprefix('pub ')}`." if fields else ""
+    body = text[text.index("{", begun) + 1:ENDS_BLOCK.search(text, begun).start()]
+    body = re.sub(r"^\s*(//|#\[).*\n", "", body, flags=re.M)
+    found, depth, part = [], 0, ""
+    for char in body:
+        depth += (char in "({[<") - (char in ")}]>")
+        if char == "," and depth == 0:
+            found.append(" ".join(part.split()))
+            part = ""
+        else:
+            part += char
+    found.append(" ".join(part.split()))
+    if kind == "struct":
+        found = [part.removeprefix("pub ") for part in found if part.startswith("pub ")]
+    found = [re.sub(r", \}", " }", part) for part in found if part]
+    words = {"struct": ("Field", "Fields"), "enum": ("Variant", "Variants")}[kind]
+    return f" {words[len(found) > 1]}: {', '.join(f'`{part}`' for part in found)}." if found else ""
 
 
 def is_law(text, start):
@@ -144,13 +170,18 @@ def page():
     crates = {path.name: Crate(path.name) for path in (TOP / "crates").iterdir() if (path / "src/lib.rt").exists()}
     listed, lines = set(), [
         "# All calls", "",
-        "What the four crates that users import from have, each with its signature and its first sentence. `make calls` writes this page from the",
-        "sources. What exactly a call does is said by its contract, which stands with it in `crates/`.", "",
+        "What the four crates that users import from have, each with its signature and its first sentence. A name is imported from the crate's root",
+        "(`use raft_records::LogBatch;`) unless its module is named. `make calls` writes this page from the sources. What exactly a call does, and",
+        "what it asks of its caller (`requires`), is said by its contract, which stands with it in `crates/`.", "",
     ]
     for user in USERS_CRATES:
         lines += [f"## `{user}`", ""]
-        for home, name in crates[user].names(crates):
-            found = home.item(name) if name not in listed else []
+        names = list(crates[user].names(crates))
+        paths = {}
+        for _, name, path in names:
+            paths[name] = min(path, paths.get(name, path), key=len)
+        for home, name, _ in names:
+            found = home.item(name, paths[name]) if name not in listed else []
             if found:
                 listed.add(name)
                 lines += found

@@ -1,5 +1,5 @@
 -- A part is read in one way, and so are the parts of a segment, and segments.
-use Rattle.std.proofs.Common.{◌≡◌, ℕ, ◌+◌, ◌<◌, ◌≤◌, List, [], ◌∷◌, ◌++◌, Option, Vec, length, map, get_or, drop, sym, refl, ap, ◌∙◌, subst, arith, append_assoc, length-append, length-drop}
+use Rattle.std.proofs.Common.{◌≡◌, ℕ, ◌+◌, ◌<◌, ◌≤◌, List, [], ◌∷◌, ◌++◌, Option, Vec, length, map, get_or, drop, sym, refl, ap, ◌∙◌, subst, arith, append_assoc}
 use Rattle.std.proofs.lemmas.List.{drop_more, drop_all}
 use Rattle.std.specs.Global.{Global}
 use Rattle.raft_base.specs.declared.pipe_log.FileId.{FileId}
@@ -13,7 +13,7 @@ use Rattle.raft_records.specs.ItemBatch.{IsItemBatch, placed_item}
 use Rattle.raft_records.specs.LogBatch.{IsReadable}
 use Rattle.raft_records.specs.Framing.{IsFramed}
 use Rattle.raft_records.proofs.BatchLemmas.{one_batch}
-use Rattle.raft_records.proofs.FrameLemmas.{header_one, readable}
+use Rattle.raft_records.proofs.FrameLemmas.{header_one}
 use Rattle.raft_records.proofs.ItemLemmas.{same_length}
 use Rattle.raft_records.proofs.PartLemmas.{batch_inside}
 use Rattle.raft_history.specs.Batches.{Event}

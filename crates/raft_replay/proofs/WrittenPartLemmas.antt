@@ -1,11 +1,9 @@
 -- Parts that get more bytes, and the batches in them.
-use Rattle.std.proofs.Common.{◌≡◌, ◌≢◌, ℕ, ◌+◌, ◌^◌, ◌<◌, ◌≤◌, List, [], ◌∷◌, ◌++◌, length, drop, refl, sym, ap, ◌∙◌, subst, arith, append_assoc, append-nil, length-append}
+use Rattle.std.proofs.Common.{◌≡◌, ℕ, ◌+◌, List, [], ◌∷◌, ◌++◌, length, drop, refl, sym, ap, ◌∙◌, subst, arith, append_assoc, append-nil, length-append}
 use Rattle.std.proofs.lemmas.List.{drop_at, drop-append-le}
-use Rattle.raft_base.specs.declared.pipe_log.FileBlockHandle.{FileBlockHandle}
 use Rattle.raft_records.specs.FilePart.{Part, IsBatchAt}
-use Rattle.raft_records.specs.Item.{Item, AreInBytes}
-use Rattle.raft_records.specs.LogBatch.{IsBatchOf, encoded_length, log_batch_bytes}
-use Rattle.raft_records.specs.Range.{AreInRange}
+use Rattle.raft_records.specs.Item.{Item}
+use Rattle.raft_records.specs.LogBatch.{encoded_length, log_batch_bytes}
 use Rattle.raft_records.proofs.FrameLemmas.{log_batch_length}
 use Rattle.raft_records.proofs.Names.{part_signature}
 use Rattle.raft_records.proofs.PartLemmas.{written_stands}

@@ -1,7 +1,7 @@
 use Rattle.std.proofs.Common.{[], ◌∷◌, refl, arith}
 use Rattle.raft_history.specs.ReplayMachine.{event}
 use Rattle.raft_records.proofs.PartLemmas.{batch_inside, no_batches, one_batch_more}
-use Rattle.raft_records.specs.FilePart.{Part, part_of}
+use Rattle.raft_records.specs.FilePart.{part_of}
 use Rattle.raft_replay.proofs.MidwayLemmas.{begins, advance, refused, first_refused, replayed}
 use Rattle.raft_replay.proofs.SegmentLemmas.{first_batch, unreadable, event_refused}
 use Rattle.raft_replay.proofs.segment.replay_bytes.Goals as goal

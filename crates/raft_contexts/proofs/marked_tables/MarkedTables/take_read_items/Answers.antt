@@ -1,4 +1,4 @@
-use Rattle.std.proofs.Common.{◌+◌, Ok, drop, get_or}
+use Rattle.std.proofs.Common.{◌+◌, drop, get_or}
 use Rattle.std.proofs.lemmas.Result.{err_from_is_err_and}
 use Rattle.raft_contexts.proofs.BatchCheckLemmas.{next_at, none_left}
 use Rattle.raft_contexts.proofs.ReadTakenLemmas.{no_read_item, has_spans, steps_in_front, decoded_in_front, midway_more, midway_refused, midway_all}

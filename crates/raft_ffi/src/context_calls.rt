@@ -24,8 +24,8 @@ use crate::status::{File, Status, answered, queue};
 use crate::tables::Tables;
 use raft_accessor::MemTableAccessor;
 use raft_base::{Error, LogQueue, Result};
-use raft_history::ReplayMachine;
 use raft_contexts::{Kept, MemTableRecoverContext};
+use raft_history::ReplayMachine;
 use raft_replay::replay_bytes;
 use std::alloc::Global;
 

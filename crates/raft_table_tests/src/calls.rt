@@ -321,39 +321,25 @@ fn tried_otherwise() -> [TriedRow; 4] {
     ]
 }
 
-/// Tries a run after a call, entry by entry or as a block, and returns whether it was put, and the store after it.
-fn try_run(
-    alloc: Global,
-    call: Call,
-    queue: LogQueue,
-    run: Run,
-    as_block: bool,
-) -> Result<(bool, Shape)> {
+/// Tries a run after a call, and returns whether it was put, and the store after it.
+fn try_run(alloc: Global, call: Call, queue: LogQueue, run: Run) -> Result<(bool, Shape)> {
     let mut store = LogStore::new(alloc);
     store.direct(call)?;
-    let put = if as_block {
-        store.try_replay_block(queue, run)?
-    } else {
-        store.try_replay(queue, run)?
-    };
+    let put = store.try_replay(queue, run)?;
     Ok((put, store.shape()))
 }
 
-/// Tries a run in this way, once more where memory was refused.
-fn try_row(alloc: Global, row: &TriedRow, as_block: bool) -> bool {
-    let (call, queue, run, put, shape) = row;
-    let mut found = try_run(alloc, *call, *queue, *run, as_block);
-    if matches!(found, Err(Error::Memory)) {
-        found = try_run(alloc, *call, *queue, *run, as_block);
-    }
-    found.is_ok_and(|found| found == (*put, *shape))
-}
-
-/// Tries the runs of the rows, entry by entry and as blocks.
+/// Tries the runs of the rows.
 fn try_each(rt: &impl Abort, alloc: Global, rows: &[TriedRow]) {
-    for row in rows {
-        assert!(rt; try_row(alloc, row, false), "{row:?}");
-        assert!(rt; try_row(alloc, row, true), "as a block: {row:?}");
+    for (call, queue, run, put, shape) in rows {
+        let mut found = try_run(alloc, *call, *queue, *run);
+        if matches!(found, Err(Error::Memory)) {
+            found = try_run(alloc, *call, *queue, *run);
+        }
+        assert!(rt;
+            found.is_ok_and(|found| found == (*put, *shape)),
+            "{call:?} {queue:?} {run:?}"
+        );
     }
 }
 

@@ -1,6 +1,6 @@
 //! The log store of a Raft node: the table of its region, and the counts.
 
-ghost use Rattle.std.specs.Prelude.{◌≡◌, IfOk};
+ghost use Rattle.std.specs.Prelude.{IfOk};
 ghost use Rattle.raft_base.specs.declared.pipe_log.LogQueue.{LogQueue};
 ghost use Rattle.raft_memtable.specs.TableEntries.{IsRunIn};
 ghost use Rattle.raft_memtable.specs.Table.{IsCounted};
@@ -26,19 +26,6 @@ pub struct Run {
     pub first: u64,
     pub end: u64,
     pub seq: FileSeq,
-}
-
-impl Run {
-    /// Returns the place of its entries in a queue.
-    fn handle(self, queue: LogQueue) -> FileBlockHandle
-        ensures { result.id.queue ≡ queue }
-    {
-        FileBlockHandle {
-            id: FileId::new(queue, self.seq),
-            offset: self.first,
-            len: 64,
-        }
-    }
 }
 
 /// Returns a run in a file.
@@ -178,7 +165,11 @@ impl LogStore {
     fn entries(&self, queue: LogQueue, run: Run) -> Result<Vec<EntryIndex>>
         ensures { IfOk result (λ entries. IsRunIn queue entries.items) }
     {
-        let handle = run.handle(queue);
+        let handle = FileBlockHandle {
+            id: FileId::new(queue, run.seq),
+            offset: run.first,
+            len: 64,
+        };
         let mut entries = Vec::new(self.alloc);
         for index in run.first..run.end {
             entries.push(EntryIndex {
@@ -275,26 +266,6 @@ impl LogStore {
     pub fn try_replay(&mut self, queue: LogQueue, run: Run) -> Result<bool> {
         let entries = self.entries(queue, run)?;
         let run = raft_memtable::Run::Entries(&entries);
-        Ok(
-            self.table.try_replay(queue, &run, &mut self.stats)
-                || self.table.try_replay(queue, &run, &mut self.stats),
-        )
-    }
-
-    /// Tries the same run as the spans of its block.
-    pub fn try_replay_block(&mut self, queue: LogQueue, run: Run) -> Result<bool> {
-        let mut spans = Vec::new(self.alloc);
-        for _ in run.first..run.end {
-            spans.push((0, 1))?;
-        }
-        if spans.len() as u64 > u64::MAX - run.first {
-            return Err(Error::Failed);
-        }
-        let run = raft_memtable::Run::Block {
-            first: run.first,
-            handle: run.handle(queue),
-            spans: &spans,
-        };
         Ok(
             self.table.try_replay(queue, &run, &mut self.stats)
                 || self.table.try_replay(queue, &run, &mut self.stats),

@@ -1,8 +1,10 @@
 pub mod ContextBox
 pub mod TablesBox
 pub mod ItemsBox
+pub mod BatchBox
 pub mod RoomLemmas
 pub mod DrainLemmas
 pub mod CodeLemmas
 pub mod RegionLemmas
 pub mod ExactLemmas
+pub mod StringLemmas

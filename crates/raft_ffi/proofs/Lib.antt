@@ -2,6 +2,7 @@ pub mod ContextBox
 pub mod TablesBox
 pub mod ItemsBox
 pub mod BatchBox
+pub mod SlotBox
 pub mod RoomLemmas
 pub mod DrainLemmas
 pub mod CodeLemmas

@@ -3,6 +3,7 @@ pub mod TablesHandle
 pub mod ItemListView
 pub mod ItemsHandle
 pub mod BatchHandle
+pub mod SlotHandle
 pub mod Calls
 pub mod Summaries
 pub mod EntryData
@@ -16,3 +17,4 @@ pub mod Contexts
 pub mod Batches
 pub mod Strings
 pub mod Pairs
+pub mod Slots

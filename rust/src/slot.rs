@@ -7,6 +7,9 @@ use std::ops::Range;
 /// How many slots there are.
 pub const SLOTS: usize = 128;
 
+/// The key of the group markers, which no table has.
+const GROUP_MARKER: &[u8] = b"__\x01";
+
 /// Returns the number of the slot that holds a region's table, below [`SLOTS`].
 pub fn slot_of(region: u64) -> usize {
     sys::slot_of(region)
@@ -220,7 +223,7 @@ impl Slot {
         self.handle.cleaned_logs(batch.handle_mut())
     }
 
-    /// Writes a new item of the append queue, which was written to this file.
+    /// Writes a new item of the append queue, which was written to this file. A group marker changes nothing.
     ///
     /// # Errors
     ///
@@ -228,6 +231,11 @@ impl Slot {
     pub fn write(&mut self, item: &Item, file: FileId) -> Result<()> {
         let region = item.region;
         match &item.content {
+            Content::Put { key, .. } | Content::Delete { key }
+                if key.as_slice() == GROUP_MARKER =>
+            {
+                Ok(())
+            }
             Content::Entries(entries) => self.append(region, entries),
             Content::Clean => self.remove(region, true).map(drop),
             Content::Compact { index } => self.compact(region, *index).map(drop),

@@ -4,7 +4,7 @@ mod common;
 
 use common::{entry, files, lines, parts, run};
 use raft_recover::{
-    Batches, ErrorKind, FileId, LogBatch, Queue, SLOTS, Slot, Stage, Tables, slot_of,
+    Batches, Content, ErrorKind, FileId, Item, LogBatch, Queue, SLOTS, Slot, Stage, Tables, slot_of,
 };
 use std::sync::Mutex;
 use std::thread;
@@ -104,6 +104,20 @@ fn a_region_of_another_slot_is_refused() {
     }
     assert_eq!(slot.summary(region), None);
     assert_eq!(slot.cleaned(), []);
+}
+
+#[test]
+fn a_group_marker_changes_no_slot() {
+    let mut slot = slot(7);
+    let marker = Item {
+        region: other(7),
+        content: Content::Put {
+            key: b"__\x01".to_vec(),
+            value: vec![0],
+        },
+    };
+    slot.write(&marker, APPEND_9).unwrap();
+    assert_eq!(slot.live(Queue::Append), 0);
 }
 
 #[test]

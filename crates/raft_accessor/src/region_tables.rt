@@ -6,7 +6,7 @@ ghost use Rattle.std.specs.List.{IsDistinct, FoldsTo};
 ghost use Rattle.std.specs.Map.{keys_of, lookup};
 ghost use Rattle.raft_base.specs.declared.pipe_log.LogQueue.{LogQueue};
 ghost use Rattle.raft_base.specs.declared.pipe_log.LogQueue.TheVariants.{Append, Rewrite};
-ghost use Rattle.raft_base.specs.Runs.{end_of};
+ghost use Rattle.raft_base.specs.Runs.{end_of, entries_of_block};
 ghost use Rattle.raft_history.specs.Records.{total};
 ghost use Rattle.raft_history.specs.RegionSteps.{Tables, with_table};
 ghost use Rattle.raft_table.specs.Change.{after_change, AreCountsAfter, IsAllowed, IsAnswer, IsChangeFault};
@@ -25,7 +25,7 @@ mod join;
 mod overlay;
 pub(crate) mod steps;
 
-use raft_base::{EntryIndex, Error, FileSeq, LogQueue, Result};
+use raft_base::{EntryIndex, Error, FileBlockHandle, FileSeq, LogQueue, Result};
 use raft_table::{GlobalStats, MemTable, TableChange};
 use std::alloc::Global;
 use std::collections::HashMap;
@@ -218,6 +218,39 @@ impl RegionTables {
         };
         let end = table.end();
         if !table.try_replay(queue, run, stats) {
+            return None;
+        }
+        Some(end)
+    }
+
+    /// Puts the entries of `place` from the index `first` on, which are read again, into a region's table,
+    /// and returns where its entries ended before. Where nothing is returned, tables and counts are as
+    /// they were.
+    pub(crate) fn try_replay_spans(
+        &mut self,
+        queue: LogQueue,
+        id: u64,
+        first: u64,
+        place: FileBlockHandle,
+        spans: &[(u32, u32)],
+        stats: &mut GlobalStats,
+    ) -> Option<u64>
+        requires run { IsRunIn queue (entries_of_block first place spans.now) }
+        requires counted { IsCounted (table_in self.old id) stats.old }
+        ensures outcome { BecomesOutcome (after_replay queue (table_in self.old id)
+            (entries_of_block first place spans.now))
+            (λ e. ⊥) self.old id stats.old (ok_or result Error.Memory) self.new stats.new }
+        ensures accepted { OnSome result (live_of (other queue) (table_in self.old id) ≡ 0) }
+        ensures counts { OnSome result
+            (stats.new ≡ counts_with_run queue (table_in self.old id).entries
+            (entries_of_block first place spans.now) stats.old) }
+        ensures end { IfSome result (λ end. end ≡ end_of (table_in self.old id).entries) }
+    {
+        let Some(table) = self.tables.get_mut(&id) else {
+            return None;
+        };
+        let end = table.end();
+        if !table.try_replay_spans(queue, first, place, spans, stats) {
             return None;
         }
         Some(end)

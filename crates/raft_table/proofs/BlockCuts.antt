@@ -2,9 +2,9 @@
 use Rattle.std.proofs.Common.{◌≡◌, ◌^◌, ℕ, zero, suc, ◌+◌, ◌-◌, ◌<◌, ◌≤◌, min, List, [], ◌∷◌, ◌++◌, length, get_or, set, take, drop, refl, sym, ap, ◌∙◌, subst, arith}
 use Rattle.std.proofs.lemmas.List.{nil_from_length, append-nil, length-drop, length-take-le, take-append-drop}
 use Rattle.raft_base.specs.declared.pipe_log.LogQueue.TheVariants.{Append, Rewrite}
-use Rattle.raft_base.specs.Runs.{end_of}
+use Rattle.raft_base.specs.Runs.{end_of, entries_of_block}
 use Rattle.raft_base.proofs.ConsecutiveLemmas.{end_bounded}
-use Rattle.raft_table.specs.Blocks.{BlockSpans, entries_of_block, entries_in_blocks, Differs, AreDistinctBlocks}
+use Rattle.raft_table.specs.Blocks.{BlockSpans, entries_in_blocks, Differs, AreDistinctBlocks}
 use Rattle.raft_table.specs.BlockWords.{count, starts_of, AreKept, first_spans, without_first_spans, first_of_last, without_first_of_first, IsAt, IsIndexOf}
 use Rattle.raft_table.specs.TableEntries.{AreTableEntries, start_of, placed_in, entry_count}
 use Rattle.raft_table.proofs.PlaceLemmas.{entries_in_both}

@@ -3,8 +3,8 @@ use Rattle.std.proofs.Common.{◌≡◌, ℕ, zero, suc, ◌+◌, ◌<◌, ◌�
 use Rattle.std.proofs.lemmas.List.{append_assoc, length-append}
 use Rattle.std.specs.List.Sorted.{IsNonDecreasingBy}
 use Rattle.raft_base.specs.declared.pipe_log.FileBlockHandle.{FileBlockHandle}
-use Rattle.raft_base.specs.Runs.{RisesFrom}
-use Rattle.raft_table.specs.Blocks.{BlockSpans, entries_of_block, entries_in_blocks}
+use Rattle.raft_base.specs.Runs.{RisesFrom, entries_of_block}
+use Rattle.raft_table.specs.Blocks.{BlockSpans, entries_in_blocks}
 use Rattle.raft_table.specs.BlockWords.{count, starts_of}
 use Rattle.raft_table.proofs.RunLemmas.{RisesFrom-append}
 

@@ -7,8 +7,8 @@ use Rattle.std.specs.List.Sorted.{IsNonDecreasingBy}
 use Rattle.raft_base.specs.declared.pipe_log.FileBlockHandle.{FileBlockHandle}
 use Rattle.raft_base.specs.declared.compression_type.CompressionType.TheVariants as compression
 use Rattle.raft_base.specs.declared.entry_index.EntryIndex.{EntryIndex}
-use Rattle.raft_base.specs.Runs.{RisesFrom}
-use Rattle.raft_table.specs.Blocks.{BlockSpans, entries_of_block, entries_in_blocks}
+use Rattle.raft_base.specs.Runs.{RisesFrom, entries_of_block}
+use Rattle.raft_table.specs.Blocks.{BlockSpans, entries_in_blocks}
 use Rattle.raft_table.specs.BlockWords.{count, starts_of, IsIndexOf, IsAt}
 use Rattle.raft_table.specs.TableEntries.{entry_at}
 use Rattle.raft_table.proofs.RunLemmas.{RisesFrom-take}

@@ -8,8 +8,7 @@ use Rattle.raft_base.specs.declared.pipe_log.LogQueue.TheVariants.{Append, Rewri
 use Rattle.raft_base.specs.declared.compression_type.CompressionType.{CompressionType}
 use Rattle.raft_base.specs.declared.compression_type.CompressionType.TheVariants as compression
 use Rattle.raft_base.specs.declared.entry_index.EntryIndex.{EntryIndex}
-use Rattle.raft_base.specs.Runs.{RisesFrom}
-use Rattle.raft_table.specs.Blocks.{entries_of_block}
+use Rattle.raft_base.specs.Runs.{RisesFrom, entries_of_block}
 use Rattle.raft_table.specs.BlockWords.{spans_of}
 use Rattle.raft_table.specs.Queues.{is_same}
 use Rattle.raft_table.specs.TableEntries.{AreTableEntries, start_of, placed_in, is_placed_in}

@@ -5,7 +5,7 @@ use Rattle.std.proofs.Math.Seq.{take-append_seam}
 use Rattle.raft_base.specs.declared.pipe_log.FileBlockHandle.{FileBlockHandle}
 use Rattle.raft_base.specs.declared.compression_type.CompressionType.TheVariants as compression
 use Rattle.raft_base.specs.declared.entry_index.EntryIndex.{EntryIndex}
-use Rattle.raft_table.specs.Blocks.{entries_of_block}
+use Rattle.raft_base.specs.Runs.{entries_of_block}
 use Rattle.raft_table.specs.BlockWords.{without_span, with_spans}
 
 -- the entries of a block get their places, and those behind none

@@ -5,7 +5,8 @@ use Rattle.std.proofs.lemmas.List.{length-drop, length-take-le, take_all, take-t
 use Rattle.std.proofs.lemmas.Bool.{cases_lt}
 use Rattle.raft_base.specs.declared.pipe_log.FileBlockHandle.{FileBlockHandle}
 use Rattle.raft_base.specs.declared.entry_index.EntryIndex.{EntryIndex}
-use Rattle.raft_table.specs.Blocks.{BlockSpans, entries_of_block, entries_in_blocks, AreDistinctBlocks}
+use Rattle.raft_base.specs.Runs.{entries_of_block}
+use Rattle.raft_table.specs.Blocks.{BlockSpans, entries_in_blocks, AreDistinctBlocks}
 use Rattle.raft_table.specs.BlockWords.{count, IsAt}
 use Rattle.raft_table.specs.Rewriting.{may_move}
 use Rattle.raft_table.proofs.BlockLemmas.{length-expanded, count_take_more}

@@ -1,8 +1,8 @@
 -- Entries kept as blocks: one place, and for each entry a span of bytes.
-use Rattle.std.specs.Prelude.{◌≢◌, ℕ, ◌+◌, ◌<◌, suc, List, [], ◌∷◌, ◌++◌, length, map, Some}
+use Rattle.std.specs.Prelude.{◌≢◌, ℕ, ◌+◌, ◌<◌, List, [], ◌∷◌, ◌++◌, length, map}
 use Rattle.raft_base.specs.declared.pipe_log.FileBlockHandle.{FileBlockHandle}
-use Rattle.raft_base.specs.declared.compression_type.CompressionType.TheVariants as compression
 use Rattle.raft_base.specs.declared.entry_index.EntryIndex.{EntryIndex}
+use Rattle.raft_base.specs.Runs.{entries_of_block}
 use Rattle.raft_table.specs.declared.memtable.block.Block.{Block}
 
 -- a block as the place of its entries, and the offset and the length of each of its entries in order
@@ -17,11 +17,6 @@ block_spans b = record { handle = b.handle; spans = b.spans.items }
 -- what each of some blocks holds
 abbrev pub blocks_shown : List Block → List BlockSpans
 blocks_shown bs = map block_spans bs
-
--- the entries of one block, from an index on
-abbrev pub entries_of_block : ℕ → FileBlockHandle → List (ℕ × ℕ) → List EntryIndex
-entries_of_block i handle [] = []
-entries_of_block i handle (s ∷ ss) = record { index = i; entries = Some handle; compression_type = compression.None; entry_offset = s.0; entry_len = s.1 } ∷ entries_of_block (suc i) handle ss
 
 -- the entries of blocks in order, from an index on
 abbrev pub entries_in_blocks : ℕ → List BlockSpans → List EntryIndex

@@ -4,7 +4,7 @@ ghost use Rattle.std.specs.Prelude.{◌≡◌, ◌≢◌, ◌+◌, ◌≤◌, �
 ghost use Rattle.std.specs.FinMap as finite;
 ghost use Rattle.raft_base.specs.declared.pipe_log.LogQueue.{LogQueue};
 ghost use Rattle.raft_base.specs.declared.pipe_log.LogQueue.TheVariants.{Append, Rewrite};
-ghost use Rattle.raft_base.specs.Runs.{end_of};
+ghost use Rattle.raft_base.specs.Runs.{end_of, entries_of_block};
 ghost use Rattle.raft_table.specs.TableEntries.{IsRunIn, AreTableEntries, start_of, entry_at, entry_count, below, from};
 ghost use Rattle.raft_table.specs.Blocks.{blocks_shown, entries_in_blocks, AreDistinctBlocks};
 ghost use Rattle.raft_table.specs.Counts.{Counts, live, with_added};
@@ -41,7 +41,7 @@ pub use laws::{
     overlays_reach_without_truncations,
 };
 pub use mark::Mark;
-use raft_base::{EntryIndex, Error, FileId, FileSeq, LogQueue, Result};
+use raft_base::{EntryIndex, Error, FileBlockHandle, FileId, FileSeq, LogQueue, Result};
 use std::alloc::Global;
 use std::collections::VecDeque;
 use std::marker::Model;
@@ -259,6 +259,35 @@ impl MemTable {
             return false;
         }
         self.entries.try_replay_run(run, queue, stats)
+    }
+
+    /// Does what [`MemTable::try_replay`] does with the run of `queue` that are the entries of `place` from
+    /// the index `first` on.
+    #[doc(hidden)]
+    pub fn try_replay_spans(
+        &mut self,
+        queue: LogQueue,
+        first: u64,
+        place: FileBlockHandle,
+        spans: &[(u32, u32)],
+        stats: &mut GlobalStats,
+    ) -> bool
+        requires run { IsRunIn queue (entries_of_block first place spans.now) }
+        requires counted { IsCounted self.old stats.old }
+        ensures done { MatchBool result
+            ((after_replay queue self.old (entries_of_block first place spans.now) ≡ Some self.new)
+            × (live_of (other queue) self.old ≡ 0)
+            × (stats.new ≡ counts_with_run queue self.old.entries
+            (entries_of_block first place spans.now) stats.old))
+            ((self.new ≡ self.old) × (stats.new ≡ stats.old)) }
+        ensures recounted { IsRecounted self.old self.new stats.old stats.new }
+        ensures region { self.new.region_id ≡ self.old.region_id }
+    {
+        if self.records(other_queue(queue)) > 0 {
+            return false;
+        }
+        self.entries
+            .try_replay_spans(first, place, spans, queue, stats)
     }
 
     /// Gives the entries the places of a run of the rewrite queue, from the first shared index on

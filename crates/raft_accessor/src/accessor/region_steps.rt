@@ -2,7 +2,7 @@
 
 ghost use Rattle.std.specs.Prelude.{◌≡◌, OnSome, IfSome, ok_or};
 ghost use Rattle.raft_base.specs.declared.errors.Error.TheVariants.{Memory};
-ghost use Rattle.raft_base.specs.Runs.{end_of};
+ghost use Rattle.raft_base.specs.Runs.{end_of, entries_of_block};
 ghost use Rattle.raft_table.specs.Queues.{other};
 ghost use Rattle.raft_table.specs.Start.{counts_with_run};
 ghost use Rattle.raft_table.specs.StepShown.{step_shown};
@@ -14,7 +14,7 @@ ghost use Rattle.raft_accessor.specs.AccessorCalls.{IsTableChanged};
 ghost use Rattle.raft_accessor.specs.TableSteps.{IsStepTaken};
 
 use crate::accessor::{MemTableAccessor, slot_of};
-use raft_base::{EntryIndex, LogQueue, Result};
+use raft_base::{EntryIndex, FileBlockHandle, LogQueue, Result};
 use raft_table::Step;
 
 impl MemTableAccessor {
@@ -48,5 +48,30 @@ impl MemTableAccessor {
         ensures end { IfSome result (λ end. end ≡ end_of (table_in self.old.tables id).entries) }
     {
         self.slots[slot_of(id)].try_replay_run(queue, id, run, &mut self.stats)
+    }
+
+    /// Puts a run that is read again, the entries of `place` from the index `first` on, and returns where
+    /// the entries of the region's table ended before. Nothing is returned where
+    /// [`MemTableAccessor::take_step`] refuses the run, as for want of memory. All tables are then as they
+    /// were.
+    pub fn try_replay_spans(
+        &mut self,
+        queue: LogQueue,
+        id: u64,
+        first: u64,
+        place: FileBlockHandle,
+        spans: &[(u32, u32)],
+    ) -> Option<u64>
+        requires run { IsRunIn queue (entries_of_block first place spans.now) }
+        ensures changed { IsTableChanged (after_replay queue (table_in self.old.tables id)
+            (entries_of_block first place spans.now)) (λ e. ⊥) id (ok_or result Memory) self.old
+            self.new }
+        ensures accepted { OnSome result (live_of (other queue) (table_in self.old.tables id) ≡ 0) }
+        ensures counts { OnSome result (self.new.counts
+            ≡ counts_with_run queue (table_in self.old.tables id).entries
+            (entries_of_block first place spans.now) self.old.counts) }
+        ensures end { IfSome result (λ end. end ≡ end_of (table_in self.old.tables id).entries) }
+    {
+        self.slots[slot_of(id)].try_replay_spans(queue, id, first, place, spans, &mut self.stats)
     }
 }

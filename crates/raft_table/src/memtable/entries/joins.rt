@@ -3,7 +3,7 @@
 ghost use Rattle.std.specs.Prelude.{◌≡◌, ◌≢◌, ◌+◌, ◌≤◌, ◌<◌, ℕ, [], ◌++◌, length, take, drop, slice_index_or, Some, MatchBool, OnOk, OnErr, IfOk};
 ghost use Rattle.raft_base.specs.declared.pipe_log.LogQueue.TheVariants.{Rewrite};
 ghost use Rattle.raft_base.specs.declared.entry_index.EntryIndex.{EntryIndex};
-ghost use Rattle.raft_table.specs.Blocks.{entries_of_block};
+ghost use Rattle.raft_base.specs.Runs.{entries_of_block};
 ghost use Rattle.raft_table.specs.BlockWords.{spans_of};
 ghost use Rattle.raft_table.specs.TableEntries.{AreTableEntries};
 ghost use Rattle.raft_table.specs.Queues.{count_in};
@@ -85,6 +85,32 @@ impl Entries {
         }
         let mut entries = Entries::from_run(alloc, run)?;
         self.put_run(keep, &mut entries)
+    }
+
+    /// Keeps the first `keep` entries, and puts those of `place` from the index `first` on behind them.
+    pub(super) fn lay_spans(
+        &mut self,
+        keep: usize,
+        first: u64,
+        place: FileBlockHandle,
+        spans: &[(u32, u32)],
+    ) -> AllocResult<()>
+        requires keep { keep ≤ length self.old }
+        requires run { 0 < length spans.now }
+        requires table_entries { AreTableEntries (take keep self.old ++ entries_of_block first
+            place spans.now) }
+        ensures ok { OnOk result (self.new ≡ take keep self.old ++ entries_of_block first place
+            spans.now) }
+        ensures err { OnErr result (self.new ≡ self.old) }
+    {
+        let alloc = *self.blocks.allocator();
+        let spans = VecDeque::from_vec(Vec::from_slice(alloc, spans)?);
+        if keep == self.len {
+            return self.push(first, place, spans);
+        }
+        let mut run = Entries::new(alloc);
+        run.push(first, place, spans)?;
+        self.put_run(keep, &mut run)
     }
 
     /// Keeps the first `keep` entries, and moves a run behind them.

@@ -2,7 +2,7 @@
 
 ghost use Rattle.std.specs.Prelude.{◌≡◌, ◌+◌, ◌≤◌, ◌<◌, ◌^◌, [], ◌++◌, length, take, drop, true, OnOk, OnErr, IfErr, MatchBool, MatchOption, Some};
 ghost use Rattle.raft_base.specs.Corruption.{IsCorruption};
-ghost use Rattle.raft_base.specs.Runs.{end_of};
+ghost use Rattle.raft_base.specs.Runs.{end_of, entries_of_block};
 ghost use Rattle.std.specs.List.{AllByRecursion};
 ghost use Rattle.raft_table.specs.Counts.{live, with_added, with_deleted};
 ghost use Rattle.raft_table.specs.Queues.{count_in, of_queue, other};
@@ -16,7 +16,7 @@ ghost use Rattle.raft_base.specs.declared.pipe_log.LogQueue.TheVariants.{Append,
 use crate::global_stats::GlobalStats;
 use crate::memtable::entries::{Entries, Start};
 use crate::memtable::hole::hole_error;
-use raft_base::{AllocResult, EntryIndex, Error, LogQueue, Result};
+use raft_base::{AllocResult, EntryIndex, Error, FileBlockHandle, LogQueue, Result};
 
 impl Entries {
     /// Does what [`MemTable::append`](crate::MemTable::append) does to the entries, those of this
@@ -147,6 +147,44 @@ impl Entries {
             Ok(()) => true,
             Err(_) => false,
         }
+    }
+
+    /// Does what [`Entries::try_replay_run`] does with the run of `queue` that are the entries of `place`
+    /// from the index `first` on.
+    pub fn try_replay_spans(
+        &mut self,
+        first: u64,
+        place: FileBlockHandle,
+        spans: &[(u32, u32)],
+        queue: LogQueue,
+        stats: &mut GlobalStats,
+    ) -> bool
+        requires run { IsRunIn queue (entries_of_block first place spans.now) }
+        requires rewritten { queue ≡ Rewrite → entry_count Append self.old ≡ 0 }
+        requires counted { AreCounted self.old stats.old }
+        ensures done { MatchBool result
+            ((entries_after_replay queue self.old (entries_of_block first place spans.now)
+            ≡ Some self.new)
+            × (stats.new ≡ counts_with_run queue self.old
+            (entries_of_block first place spans.now) stats.old))
+            ((self.new ≡ self.old) × (stats.new ≡ stats.old)) }
+        ensures recounted { AreRecounted self.old self.new stats.old stats.new }
+    {
+        if spans.is_empty() {
+            return true;
+        }
+        let Some(keep) = self.kept_under(queue, first) else {
+            return false;
+        };
+        let (rewritten, appended) = self.count_behind(keep);
+        if !has_room(stats, rewritten, appended, queue, spans.len()) {
+            return false;
+        }
+        if self.lay_spans(keep, first, place, spans).is_err() {
+            return false;
+        }
+        exchange(stats, rewritten, appended, queue, spans.len());
+        true
     }
 
     /// Says why a run of the region, from `start` on, is refused that leaves a hole after the last

@@ -1,7 +1,7 @@
 use Rattle.std.proofs.Common.{◌≡◌, ◌+◌, ◌-◌, ◌++◌, length, map, take, drop, arith, ap, ◌∙◌, Some}
 use Rattle.std.proofs.lemmas.List.{length-drop, length-take-le}
 use Rattle.raft_base.specs.declared.entry_index.EntryIndex.{EntryIndex}
-use Rattle.raft_table.specs.Blocks.{entries_of_block}
+use Rattle.raft_base.specs.Runs.{entries_of_block}
 use Rattle.raft_table.specs.BlockWords.{without_span}
 use Rattle.raft_table.proofs.SpanLemmas.{unset_more}
 use Rattle.raft_table.proofs.memtable.entries.walks.push_without_spans_of.Goals as goal

@@ -1,6 +1,6 @@
 use Rattle.std.proofs.Common.{◌≡◌, ◌+◌, ◌-◌, ◌++◌, map, take, drop}
 use Rattle.std.specs.Vec.{vec_len, vec_capacity}
-use Rattle.raft_table.specs.Blocks.{entries_of_block}
+use Rattle.raft_base.specs.Runs.{entries_of_block}
 use Rattle.raft_table.specs.BlockWords.{without_span}
 use Rattle.raft_table.proofs.memtable.entries.walks.push_without_spans_of.Given as goal
 

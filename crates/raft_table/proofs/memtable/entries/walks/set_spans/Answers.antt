@@ -1,6 +1,7 @@
 use Rattle.std.proofs.Common.{◌≡◌, ◌+◌, ◌-◌, ◌++◌, length, map, take, drop, arith, sym, ap, ◌∙◌}
 use Rattle.std.proofs.lemmas.List.{append_assoc, length-append, length-drop, length-take-le}
-use Rattle.raft_table.specs.Blocks.{block_spans, blocks_shown, entries_of_block, entries_in_blocks}
+use Rattle.raft_base.specs.Runs.{entries_of_block}
+use Rattle.raft_table.specs.Blocks.{block_spans, blocks_shown, entries_in_blocks}
 use Rattle.raft_table.specs.BlockWords.{without_span, with_spans}
 use Rattle.raft_table.proofs.BlockQueues.{block_at}
 use Rattle.raft_table.proofs.BlockLemmas.{length-expanded}

@@ -6,11 +6,16 @@ use Rattle.raft_base.specs.declared.pipe_log.FileBlockHandle.{FileBlockHandle}
 use Rattle.raft_base.specs.Runs.{RisesFrom, entries_of_block}
 use Rattle.raft_table.specs.Blocks.{BlockSpans, entries_in_blocks}
 use Rattle.raft_table.specs.BlockWords.{count, starts_of}
+use Rattle.raft_table.specs.TableEntries.{start_of}
 use Rattle.raft_table.proofs.RunLemmas.{RisesFrom-append}
 
 pub length-spread : (i : ℕ) (h : FileBlockHandle) (ss : List (ℕ × ℕ)) → length (entries_of_block i h ss) ≡ length ss
 length-spread i h [] = refl
 length-spread i h (s ∷ ss) = ap suc (length-spread (suc i) h ss)
+
+pub start_of-spread : (i : ℕ) (h : FileBlockHandle) (ss : List (ℕ × ℕ)) → 0 < length ss → start_of (entries_of_block i h ss) ≡ i
+start_of-spread i h [] l = absurd (omega arith)
+start_of-spread i h (s ∷ ss) l = refl
 
 pub spread-append : (i : ℕ) (h : FileBlockHandle) (a b : List (ℕ × ℕ)) → entries_of_block i h (a ++ b) ≡ entries_of_block i h a ++ entries_of_block (i + length a) h b
 spread-append i h [] b = let e : i + 0 ≡ i = omega arith in rw e refl

@@ -2,6 +2,7 @@
 use Rattle.std.proofs.Common.{◌≡◌, ℕ, ◌+◌, ◌-◌, ◌<◌, ◌≤◌, min, List, [], ◌∷◌, ◌++◌, length, get_or, take, drop, refl, sym, ap, ◌∙◌, subst, arith, None}
 use Rattle.std.specs.List.{slice_get}
 use Rattle.std.proofs.lemmas.List.{take_min, drop_min, length-take-le}
+use Rattle.std.proofs.Math.Seq.{drop-append_seam}
 use Rattle.raft_base.specs.declared.pipe_log.LogQueue.TheVariants.{Append, Rewrite}
 use Rattle.raft_base.specs.declared.entry_index.EntryIndex.{EntryIndex}
 use Rattle.raft_base.specs.Runs.{RisesFrom, end_of}
@@ -46,6 +47,10 @@ AreTableEntries-drop n es h =
       consecutive = record { run = IsRun-drop n s es (sound_rising es h); bounded = bounded_of (drop n es) (omega arith) };
       in_front = subst RewrittenInFront e (RewrittenInFront-from (s + n) es h.in_front);
     }
+
+-- a run is sound where it is behind others
+pub sound_behind : (keep : ℕ) (es run : List EntryIndex) → AreTableEntries (take keep es ++ run) → AreTableEntries run
+sound_behind keep es run h = subst AreTableEntries (drop-append_seam (take keep es) run) (AreTableEntries-drop (length (take keep es)) (take keep es ++ run) h)
 
 -- the first entry is where the run starts
 pub start_of_front : (es : List EntryIndex) (e : EntryIndex) → 0 < length es → e ≡ get_or es 0 e → start_of es ≡ e.index

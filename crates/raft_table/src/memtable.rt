@@ -4,7 +4,7 @@ ghost use Rattle.std.specs.Prelude.{◌≡◌, ◌≢◌, ◌+◌, ◌≤◌, �
 ghost use Rattle.std.specs.FinMap as finite;
 ghost use Rattle.raft_base.specs.declared.pipe_log.LogQueue.{LogQueue};
 ghost use Rattle.raft_base.specs.declared.pipe_log.LogQueue.TheVariants.{Append, Rewrite};
-ghost use Rattle.raft_base.specs.Runs.{end_of, entries_of_block};
+ghost use Rattle.raft_base.specs.Runs.{end_of};
 ghost use Rattle.raft_table.specs.TableEntries.{IsRunIn, AreTableEntries, start_of, entry_at, entry_count, below, from};
 ghost use Rattle.raft_table.specs.Blocks.{blocks_shown, entries_in_blocks, AreDistinctBlocks};
 ghost use Rattle.raft_table.specs.Counts.{Counts, live, with_added};
@@ -13,6 +13,7 @@ ghost use Rattle.raft_table.specs.KeyValues.{value_at, file_at, file_weight};
 ghost use Rattle.raft_table.specs.Table.{empty_table, live_of, IsCounted, IsRecounted, after_append, after_replay, after_rewrite, after_rewrite_key, with_pair, with_pair_deleted, with_rewritten_key, MovesKeyAlone, leaves_append, IsTablePutFault, IsKeyRewriteFault};
 ghost use Rattle.raft_table.specs.Rewriting.{entries_after_rewrite, counts_after_rewrite, IsRewriteFault, MovesPlacesAlone};
 ghost use Rattle.raft_table.specs.Queues.{count_in, other};
+ghost use Rattle.raft_table.specs.RunShown.{run_shown};
 ghost use Rattle.raft_table.specs.Start.{entries_after_append, entries_after_replay, counts_with_run, counts_without, IsTableRunFault};
 
 mod block;
@@ -26,6 +27,7 @@ mod laws;
 mod mark;
 mod merge;
 mod queries;
+mod run;
 mod steps;
 mod table_laws;
 mod under;
@@ -41,7 +43,8 @@ pub use laws::{
     overlays_reach_without_truncations,
 };
 pub use mark::Mark;
-use raft_base::{EntryIndex, Error, FileBlockHandle, FileId, FileSeq, LogQueue, Result};
+use raft_base::{EntryIndex, Error, FileId, FileSeq, LogQueue, Result};
+pub use run::Run;
 use std::alloc::Global;
 use std::collections::VecDeque;
 use std::marker::Model;
@@ -239,18 +242,13 @@ impl MemTable {
     /// returns whether it did. It does not where those refuse, nor where the table has records of the
     /// other queue. The table and the counts are then as they were.
     #[doc(hidden)]
-    pub fn try_replay(
-        &mut self,
-        queue: LogQueue,
-        run: &[EntryIndex],
-        stats: &mut GlobalStats,
-    ) -> bool
-        requires run { IsRunIn queue run.now }
+    pub fn try_replay(&mut self, queue: LogQueue, run: &Run<'_>, stats: &mut GlobalStats) -> bool
+        requires run { IsRunIn queue (run_shown run.now) }
         requires counted { IsCounted self.old stats.old }
         ensures done { MatchBool result
-            ((after_replay queue self.old run.now ≡ Some self.new)
+            ((after_replay queue self.old (run_shown run.now) ≡ Some self.new)
             × (live_of (other queue) self.old ≡ 0)
-            × (stats.new ≡ counts_with_run queue self.old.entries run.now stats.old))
+            × (stats.new ≡ counts_with_run queue self.old.entries (run_shown run.now) stats.old))
             ((self.new ≡ self.old) × (stats.new ≡ stats.old)) }
         ensures recounted { IsRecounted self.old self.new stats.old stats.new }
         ensures region { self.new.region_id ≡ self.old.region_id }
@@ -259,35 +257,6 @@ impl MemTable {
             return false;
         }
         self.entries.try_replay_run(run, queue, stats)
-    }
-
-    /// Does what [`MemTable::try_replay`] does with the run of `queue` that are the entries of `place` from
-    /// the index `first` on.
-    #[doc(hidden)]
-    pub fn try_replay_spans(
-        &mut self,
-        queue: LogQueue,
-        first: u64,
-        place: FileBlockHandle,
-        spans: &[(u32, u32)],
-        stats: &mut GlobalStats,
-    ) -> bool
-        requires run { IsRunIn queue (entries_of_block first place spans.now) }
-        requires counted { IsCounted self.old stats.old }
-        ensures done { MatchBool result
-            ((after_replay queue self.old (entries_of_block first place spans.now) ≡ Some self.new)
-            × (live_of (other queue) self.old ≡ 0)
-            × (stats.new ≡ counts_with_run queue self.old.entries
-            (entries_of_block first place spans.now) stats.old))
-            ((self.new ≡ self.old) × (stats.new ≡ stats.old)) }
-        ensures recounted { IsRecounted self.old self.new stats.old stats.new }
-        ensures region { self.new.region_id ≡ self.old.region_id }
-    {
-        if self.records(other_queue(queue)) > 0 {
-            return false;
-        }
-        self.entries
-            .try_replay_spans(first, place, spans, queue, stats)
     }
 
     /// Gives the entries the places of a run of the rewrite queue, from the first shared index on

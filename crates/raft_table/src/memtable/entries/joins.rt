@@ -5,6 +5,7 @@ ghost use Rattle.raft_base.specs.declared.pipe_log.LogQueue.TheVariants.{Rewrite
 ghost use Rattle.raft_base.specs.declared.entry_index.EntryIndex.{EntryIndex};
 ghost use Rattle.raft_base.specs.Runs.{entries_of_block};
 ghost use Rattle.raft_table.specs.BlockWords.{spans_of};
+ghost use Rattle.raft_table.specs.RunShown.{run_shown};
 ghost use Rattle.raft_table.specs.TableEntries.{AreTableEntries};
 ghost use Rattle.raft_table.specs.Queues.{count_in};
 
@@ -13,6 +14,7 @@ use crate::memtable::entries::Entries;
 use crate::memtable::entries::lists::{
     find, is_same, push_block, put_blocks, search, spans_behind, spot_behind,
 };
+use crate::memtable::run::Run;
 use raft_base::{AllocResult, EntryIndex, FileBlockHandle, LogQueue};
 use std::alloc::Global;
 use std::collections::VecDeque;
@@ -67,49 +69,67 @@ impl Entries {
     }
 
     /// Keeps the first `keep` entries, and puts the entries of a run behind them.
-    pub(super) fn lay(&mut self, keep: usize, run: &[EntryIndex]) -> AllocResult<()>
+    pub(super) fn lay(&mut self, keep: usize, run: &Run<'_>) -> AllocResult<()>
+        requires keep { keep ≤ length self.old }
+        requires run { 0 < length (run_shown run.now) }
+        requires table_entries { AreTableEntries (take keep self.old ++ run_shown run.now) }
+        ensures ok { OnOk result (self.new ≡ take keep self.old ++ run_shown run.now) }
+        ensures err { OnErr result (self.new ≡ self.old) }
+    {
+        match *run {
+            Run::Entries(run) => self.lay_entries(keep, run),
+            Run::Block {
+                first,
+                handle,
+                spans,
+            } => {
+                let spans = Vec::from_slice(self.allocator(), spans)?;
+                self.lay_block(keep, first, handle, VecDeque::from_vec(spans))
+            }
+        }
+    }
+
+    /// Keeps the first `keep` entries, and puts these behind them.
+    fn lay_entries(&mut self, keep: usize, run: &[EntryIndex]) -> AllocResult<()>
         requires keep { keep ≤ length self.old }
         requires run { 0 < length run.now }
         requires table_entries { AreTableEntries (take keep self.old ++ run.now) }
         ensures ok { OnOk result (self.new ≡ take keep self.old ++ run.now) }
         ensures err { OnErr result (self.new ≡ self.old) }
     {
-        let alloc = *self.blocks.allocator();
+        let alloc = self.allocator();
         let first = run[0];
         if let Some(handle) = first.entries
-            && keep == self.len
             && count_of(&handle, run, 0) == run.len()
         {
             let spans = spans_of(alloc, run)?;
-            return self.push(first.index, handle, spans);
+            return self.lay_block(keep, first.index, handle, spans);
         }
         let mut entries = Entries::from_run(alloc, run)?;
         self.put_run(keep, &mut entries)
     }
 
-    /// Keeps the first `keep` entries, and puts those of `place` from the index `first` on behind them.
-    pub(super) fn lay_spans(
+    /// Keeps the first `keep` entries, and puts those of one block, from an index on, behind them.
+    fn lay_block(
         &mut self,
         keep: usize,
-        first: u64,
-        place: FileBlockHandle,
-        spans: &[(u32, u32)],
+        index: u64,
+        handle: FileBlockHandle,
+        spans: VecDeque<(u32, u32)>,
     ) -> AllocResult<()>
         requires keep { keep ≤ length self.old }
-        requires run { 0 < length spans.now }
-        requires table_entries { AreTableEntries (take keep self.old ++ entries_of_block first
-            place spans.now) }
-        ensures ok { OnOk result (self.new ≡ take keep self.old ++ entries_of_block first place
-            spans.now) }
+        requires filled { 0 < length spans.items }
+        requires table_entries { AreTableEntries
+            (take keep self.old ++ entries_of_block index handle spans.items) }
+        ensures ok { OnOk result
+            (self.new ≡ take keep self.old ++ entries_of_block index handle spans.items) }
         ensures err { OnErr result (self.new ≡ self.old) }
     {
-        let alloc = *self.blocks.allocator();
-        let spans = VecDeque::from_vec(Vec::from_slice(alloc, spans)?);
         if keep == self.len {
-            return self.push(first, place, spans);
+            return self.push(index, handle, spans);
         }
-        let mut run = Entries::new(alloc);
-        run.push(first, place, spans)?;
+        let mut run = Entries::new(self.allocator());
+        run.push(index, handle, spans)?;
         self.put_run(keep, &mut run)
     }
 

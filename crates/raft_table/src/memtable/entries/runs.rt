@@ -2,12 +2,13 @@
 
 ghost use Rattle.std.specs.Prelude.{◌≡◌, ◌+◌, ◌≤◌, ◌<◌, ◌^◌, [], ◌++◌, length, take, drop, true, OnOk, OnErr, IfErr, MatchBool, MatchOption, Some};
 ghost use Rattle.raft_base.specs.Corruption.{IsCorruption};
-ghost use Rattle.raft_base.specs.Runs.{end_of, entries_of_block};
+ghost use Rattle.raft_base.specs.Runs.{end_of};
 ghost use Rattle.std.specs.List.{AllByRecursion};
 ghost use Rattle.raft_table.specs.Counts.{live, with_added, with_deleted};
 ghost use Rattle.raft_table.specs.Queues.{count_in, of_queue, other};
 ghost use Rattle.raft_table.specs.TableEntries.{AreTableEntries, IsRunIn, is_placed_in, entry_count, AreCounted, AreRecounted};
 ghost use Rattle.raft_table.specs.Holes.{hole_text};
+ghost use Rattle.raft_table.specs.RunShown.{run_shown};
 ghost use Rattle.raft_table.specs.Start.{entries_after_append, entries_after_replay, counts_with_run, counts_without, IsTableRunFault};
 ghost use Rattle.raft_table.specs.StartOf.{IsStart, IsKeptUnder};
 ghost use Rattle.raft_base.specs.declared.pipe_log.LogQueue.{LogQueue};
@@ -16,7 +17,8 @@ ghost use Rattle.raft_base.specs.declared.pipe_log.LogQueue.TheVariants.{Append,
 use crate::global_stats::GlobalStats;
 use crate::memtable::entries::{Entries, Start};
 use crate::memtable::hole::hole_error;
-use raft_base::{AllocResult, EntryIndex, Error, FileBlockHandle, LogQueue, Result};
+use crate::memtable::run::Run;
+use raft_base::{AllocResult, EntryIndex, Error, LogQueue, Result};
 
 impl Entries {
     /// Does what [`MemTable::append`](crate::MemTable::append) does to the entries, those of this
@@ -121,70 +123,32 @@ impl Entries {
     /// Where it did not, the entries and the counts are as they were.
     pub fn try_replay_run(
         &mut self,
-        run: &[EntryIndex],
+        run: &Run<'_>,
         queue: LogQueue,
         stats: &mut GlobalStats,
     ) -> bool
-        requires run { IsRunIn queue run.now }
+        requires run { IsRunIn queue (run_shown run.now) }
         requires rewritten { queue ≡ Rewrite → entry_count Append self.old ≡ 0 }
         requires counted { AreCounted self.old stats.old }
         ensures done { MatchBool result
-            ((entries_after_replay queue self.old run.now ≡ Some self.new)
-            × (stats.new ≡ counts_with_run queue self.old run.now stats.old))
+            ((entries_after_replay queue self.old (run_shown run.now) ≡ Some self.new)
+            × (stats.new ≡ counts_with_run queue self.old (run_shown run.now) stats.old))
             ((self.new ≡ self.old) × (stats.new ≡ stats.old)) }
         ensures recounted { AreRecounted self.old self.new stats.old stats.new }
     {
-        let Some(first) = run.first() else {
+        let Some(first) = run.first_index() else {
             return true;
         };
-        let Some(keep) = self.kept_under(queue, first.index) else {
+        let Some(keep) = self.kept_under(queue, first) else {
             return false;
         };
-        if !self.has_room_behind(keep, run, queue, stats) {
+        if !self.has_room_behind(keep, run.len(), queue, stats) {
             return false;
         }
         match self.exchange_run(keep, run, queue, stats) {
             Ok(()) => true,
             Err(_) => false,
         }
-    }
-
-    /// Does what [`Entries::try_replay_run`] does with the run of `queue` that are the entries of `place`
-    /// from the index `first` on.
-    pub fn try_replay_spans(
-        &mut self,
-        first: u64,
-        place: FileBlockHandle,
-        spans: &[(u32, u32)],
-        queue: LogQueue,
-        stats: &mut GlobalStats,
-    ) -> bool
-        requires run { IsRunIn queue (entries_of_block first place spans.now) }
-        requires rewritten { queue ≡ Rewrite → entry_count Append self.old ≡ 0 }
-        requires counted { AreCounted self.old stats.old }
-        ensures done { MatchBool result
-            ((entries_after_replay queue self.old (entries_of_block first place spans.now)
-            ≡ Some self.new)
-            × (stats.new ≡ counts_with_run queue self.old
-            (entries_of_block first place spans.now) stats.old))
-            ((self.new ≡ self.old) × (stats.new ≡ stats.old)) }
-        ensures recounted { AreRecounted self.old self.new stats.old stats.new }
-    {
-        if spans.is_empty() {
-            return true;
-        }
-        let Some(keep) = self.kept_under(queue, first) else {
-            return false;
-        };
-        let (rewritten, appended) = self.count_behind(keep);
-        if !has_room(stats, rewritten, appended, queue, spans.len()) {
-            return false;
-        }
-        if self.lay_spans(keep, first, place, spans).is_err() {
-            return false;
-        }
-        exchange(stats, rewritten, appended, queue, spans.len());
-        true
     }
 
     /// Says why a run of the region, from `start` on, is refused that leaves a hole after the last
@@ -266,52 +230,51 @@ impl Entries {
         ensures fault { IfErr result (IsTableRunFault queue stats.old self.old
             (Some (take keep self.old ++ run.now))) }
     {
-        if !self.has_room_behind(keep, run, queue, stats) {
+        if !self.has_room_behind(keep, run.len(), queue, stats) {
             return Err(Error::Full);
         }
-        Ok(self.exchange_run(keep, run, queue, stats)?)
+        Ok(self.exchange_run(keep, &Run::Entries(run), queue, stats)?)
     }
 
-    /// Tests whether the entries of a run of `queue` can be live in place of those behind the first
-    /// `keep`.
+    /// Tests whether so many entries of `queue` can be live in place of those behind the first `keep`.
     fn has_room_behind(
         &self,
         keep: usize,
-        run: &[EntryIndex],
+        added: usize,
         queue: LogQueue,
         stats: &GlobalStats,
     ) -> bool
         requires keep { keep ≤ length self.now }
         requires counted { AreCounted self.now stats.now }
         ensures { MatchBool result
-            (live queue stats.now + length run.now
+            (live queue stats.now + added
             < 2 ^ 64 + entry_count queue (drop keep self.now))
             (2 ^ 64 + entry_count queue (drop keep self.now)
-            ≤ live queue stats.now + length run.now) }
+            ≤ live queue stats.now + added) }
     {
         let (rewritten, appended) = self.count_behind(keep);
-        has_room(stats, rewritten, appended, queue, run.len())
+        has_room(stats, rewritten, appended, queue, added)
     }
 
     /// Keeps the first `keep` entries and puts a run of `queue`, for which there is room, behind them.
     fn exchange_run(
         &mut self,
         keep: usize,
-        run: &[EntryIndex],
+        run: &Run<'_>,
         queue: LogQueue,
         stats: &mut GlobalStats,
     ) -> AllocResult<()>
         requires keep { keep ≤ length self.old }
-        requires filled { 0 < length run.now }
-        requires table_entries { AreTableEntries (take keep self.old ++ run.now) }
-        requires queue { AllByRecursion (λ e. is_placed_in queue e ≡ true) run.now }
+        requires filled { 0 < length (run_shown run.now) }
+        requires table_entries { AreTableEntries (take keep self.old ++ (run_shown run.now)) }
+        requires queue { AllByRecursion (λ e. is_placed_in queue e ≡ true) (run_shown run.now) }
         requires counted { AreCounted self.old stats.old }
-        requires room { live queue stats.old + length run.now
+        requires room { live queue stats.old + length (run_shown run.now)
             < 2 ^ 64 + entry_count queue (drop keep self.old) }
-        ensures ok { OnOk result (self.new ≡ take keep self.old ++ run.now) }
+        ensures ok { OnOk result (self.new ≡ take keep self.old ++ (run_shown run.now)) }
         ensures err { OnErr result ((self.new ≡ self.old) × (stats.new ≡ stats.old)) }
         ensures counts { OnOk result (stats.new
-            ≡ with_added queue (length run.now) (counts_without (drop keep self.old) stats.old)) }
+            ≡ with_added queue (length (run_shown run.now)) (counts_without (drop keep self.old) stats.old)) }
         ensures recounted { AreRecounted self.old self.new stats.old stats.new }
     {
         let (rewritten, appended) = self.count_behind(keep);

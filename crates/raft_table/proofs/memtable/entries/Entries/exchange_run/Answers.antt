@@ -1,5 +1,6 @@
 use Rattle.std.proofs.Common.{refl}
 use Rattle.raft_base.specs.declared.pipe_log.LogQueue.TheVariants.{Append, Rewrite}
+use Rattle.raft_table.specs.RunShown.{run_shown}
 use Rattle.raft_table.proofs.GoneLemmas.{same_exchange}
 use Rattle.raft_table.proofs.PlaceLemmas.{each_placed}
 use Rattle.raft_table.proofs.KeptUnderLemmas.{few_behind, recounted_behind}
@@ -13,8 +14,8 @@ exchange-requires-clause-appended c = rw c.count_behind-rewritten.ensures.append
 
 pub returns-clause-recounted : goal.returns-clause-recounted
 returns-clause-recounted c =
-    recounted_behind c.args.queue c.args.stats.now c.exchange.new.stats c.args.keep c.args.self.now c.args.run.now c.lay.new.self _ _ _ c.exchange.ensures.live c.count_behind-rewritten.ensures.rewritten c.count_behind-rewritten.ensures.appended refl (each_placed c.args.queue c.args.run.now c.requires.queue) c.in_ok-lay.ensures.ok
+    recounted_behind c.args.queue c.args.stats.now c.exchange.new.stats c.args.keep c.args.self.now (run_shown c.args.run.now) c.lay.new.self _ _ _ c.exchange.ensures.live c.count_behind-rewritten.ensures.rewritten c.count_behind-rewritten.ensures.appended c.len.ensures (each_placed c.args.queue (run_shown c.args.run.now) c.requires.queue) c.in_ok-lay.ensures.ok
 
 pub returns-clause-counts : goal.returns-clause-counts
 returns-clause-counts c =
-    same_exchange c.args.queue c.args.stats.now c.exchange.new.stats _ _ _ _ _ _ c.exchange.ensures.counts refl c.count_behind-rewritten.ensures.rewritten c.count_behind-rewritten.ensures.appended
+    same_exchange c.args.queue c.args.stats.now c.exchange.new.stats _ _ _ _ _ _ c.exchange.ensures.counts c.len.ensures c.count_behind-rewritten.ensures.rewritten c.count_behind-rewritten.ensures.appended

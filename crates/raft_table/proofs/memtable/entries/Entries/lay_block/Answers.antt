@@ -1,0 +1,29 @@
+use Rattle.std.proofs.Common.{◌≡◌, ◌++◌, length, take, arith, sym, ap, subst, ◌∙◌}
+use Rattle.std.proofs.lemmas.List.{take_all}
+use Rattle.std.proofs.lemmas.Result.{on_ok_weaker}
+use Rattle.raft_base.specs.Runs.{entries_of_block}
+use Rattle.raft_table.specs.TableEntries.{AreTableEntries}
+use Rattle.raft_table.proofs.BlockCuts.{kept_facts}
+use Rattle.raft_table.proofs.BlockLemmas.{length-spread}
+use Rattle.raft_table.proofs.SoundLemmas.{sound_behind}
+use Rattle.raft_table.proofs.memtable.entries.Entries.lay_block.Goals as goal
+
+pub push-requires-clause-table_entries : goal.push-requires-clause-table_entries
+push-requires-clause-table_entries c =
+    let l : c.self.inside.len ≡ length c.args.self.now = sym (rw (← c.self.view_is) (kept_facts c.self.invariant).length) in
+    let k = c.if-keep-self.true in
+    let t : take c.args.keep c.args.self.now ≡ c.args.self.now = take_all c.args.keep c.args.self.now (omega arith) in
+    subst (λ es. AreTableEntries (es ++ entries_of_block c.args.index c.args.handle c.args.spans.items)) t c.requires.table_entries
+
+pub returns-then-keep-self-clause-ok : goal.returns-then-keep-self-clause-ok
+returns-then-keep-self-clause-ok c =
+    let l : c.self.inside.len ≡ length c.args.self.now = sym (rw (← c.self.view_is) (kept_facts c.self.invariant).length) in
+    let k = c.if-keep-self.true in
+    let t : take c.args.keep c.args.self.now ≡ c.args.self.now = take_all c.args.keep c.args.self.now (omega arith) in
+    on_ok_weaker c.push.result (λ w. w ∙ sym (ap (λ es. es ++ entries_of_block c.args.index c.args.handle c.args.spans.items) t)) c.push.ensures.ok
+
+pub push-requires-2-clause-table_entries : goal.push-requires-2-clause-table_entries
+push-requires-2-clause-table_entries c = rw c.new-run.ensures (sound_behind c.args.keep c.args.self.now (entries_of_block c.args.index c.args.handle c.args.spans.items) c.requires.table_entries)
+
+pub put_run-requires-clause-run : goal.put_run-requires-clause-run
+put_run-requires-clause-run c = rw (c.in_ok-push.ensures.ok, c.new-run.ensures, length-spread c.args.index c.args.handle c.args.spans.items) c.requires.filled

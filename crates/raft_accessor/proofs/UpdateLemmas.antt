@@ -73,10 +73,9 @@ module _ {F R : Type 0} (g : TableCall F R) (f : F) (m : Tables) (id : ℕ) (cou
         recounted = λ q. subst (λ t. IsRecounted (table_in m id) t counts counts) (sym now) (λ q. refl) q;
       }
 
--- a table that was there becomes the outcome of a change
-pub taken_there : {R : Type 0} (m n : Tables) (id : ℕ) (u new : Table) (outcome : Table → Option Table) (IsFault : Error → Type 0) (counts after : Counts) (a : R) → finite.get m id ≡ Some u → outcome u ≡ Some new → IsRecounted u new counts after → n ≡ finite.insert m id new → BecomesOutcome (outcome (table_in m id)) IsFault m id counts (Ok a) n after
-taken_there m n id u new outcome IsFault counts after a is o r e =
-    let was : table_in m id ≡ u = ap (table_of id) is in
+-- a table becomes the outcome of a change
+pub taken : {R : Type 0} (m n : Tables) (id : ℕ) (u new : Table) (outcome : Table → Option Table) (IsFault : Error → Type 0) (counts after : Counts) (a : R) → table_in m id ≡ u → outcome u ≡ Some new → IsRecounted u new counts after → n ≡ finite.insert m id new → BecomesOutcome (outcome (table_in m id)) IsFault m id counts (Ok a) n after
+taken m n id u new outcome IsFault counts after a was o r e =
     let now : table_in n id ≡ new = ap (λ x. table_in x id) e ∙ ap (table_of id) (get_own m id new) in
     record {
       ok = ap outcome was ∙ o ∙ ap Some (sym now);
@@ -87,6 +86,10 @@ taken_there m n id u new outcome IsFault counts after a is o r e =
       one = one_written m n id new e;
       recounted = subst (λ t. IsRecounted t (table_in n id) counts after) (sym was) (subst (λ t. IsRecounted u t counts after) (sym now) r);
     }
+
+-- .. one that was there
+pub taken_there : {R : Type 0} (m n : Tables) (id : ℕ) (u new : Table) (outcome : Table → Option Table) (IsFault : Error → Type 0) (counts after : Counts) (a : R) → finite.get m id ≡ Some u → outcome u ≡ Some new → IsRecounted u new counts after → n ≡ finite.insert m id new → BecomesOutcome (outcome (table_in m id)) IsFault m id counts (Ok a) n after
+taken_there m n id u new outcome IsFault counts after a is o r e = taken m n id u new outcome IsFault counts after a (ap (table_of id) is) o r e
 
 -- a change that is not made, as for want of memory
 pub not_taken : {R : Type 0} (m n : Tables) (id : ℕ) (outcome : Option Table) (IsFault : Error → Type 0) (counts after : Counts) → n ≡ m → after ≡ counts → BecomesOutcome {R = R} outcome IsFault m id counts (Err Memory) n after

@@ -6,12 +6,13 @@ ghost use Rattle.std.specs.List.{IsDistinct, FoldsTo};
 ghost use Rattle.std.specs.Map.{keys_of, lookup};
 ghost use Rattle.raft_base.specs.declared.pipe_log.LogQueue.{LogQueue};
 ghost use Rattle.raft_base.specs.declared.pipe_log.LogQueue.TheVariants.{Append, Rewrite};
-ghost use Rattle.raft_base.specs.Runs.{end_of, entries_of_block};
+ghost use Rattle.raft_base.specs.Runs.{end_of};
 ghost use Rattle.raft_history.specs.Records.{total};
 ghost use Rattle.raft_history.specs.RegionSteps.{Tables, with_table};
 ghost use Rattle.raft_table.specs.Change.{after_change, AreCountsAfter, IsAllowed, IsAnswer, IsChangeFault};
 ghost use Rattle.raft_table.specs.Counts.{live};
 ghost use Rattle.raft_table.specs.Queues.{other};
+ghost use Rattle.raft_table.specs.RunShown.{run_shown};
 ghost use Rattle.raft_table.specs.Start.{counts_with_run};
 ghost use Rattle.raft_table.specs.Steps.{table_of};
 ghost use Rattle.raft_table.specs.Table.{Table, after_replay, empty_table, live_of, with_table_added, with_table_deleted, IsCounted, IsRecounted};
@@ -25,8 +26,8 @@ mod join;
 mod overlay;
 pub(crate) mod steps;
 
-use raft_base::{EntryIndex, Error, FileBlockHandle, FileSeq, LogQueue, Result};
-use raft_table::{GlobalStats, MemTable, TableChange};
+use raft_base::{Error, FileSeq, LogQueue, Result};
+use raft_table::{GlobalStats, MemTable, Run, TableChange};
 use std::alloc::Global;
 use std::collections::HashMap;
 use std::collections::hash_map::IntoIter;
@@ -195,26 +196,28 @@ impl RegionTables {
         )
     }
 
-    /// Puts a run that is read again where its region has a table that takes it, and returns where the
-    /// entries of the table ended before. Where nothing is returned, tables and counts are as they were.
-    pub(crate) fn try_replay_run(
+    /// Puts a run that is read again into its region's table, which is made where there is none, and
+    /// returns where the entries of the table ended before. Where nothing is returned, tables and counts
+    /// are as they were.
+    pub(crate) fn try_replay(
         &mut self,
         queue: LogQueue,
         id: u64,
-        run: &[EntryIndex],
+        run: &Run<'_>,
         stats: &mut GlobalStats,
     ) -> Option<u64>
-        requires run { IsRunIn queue run.now }
+        requires run { IsRunIn queue (run_shown run.now) }
         requires counted { IsCounted (table_in self.old id) stats.old }
-        ensures outcome { BecomesOutcome (after_replay queue (table_in self.old id) run.now)
+        ensures outcome { BecomesOutcome
+            (after_replay queue (table_in self.old id) (run_shown run.now))
             (λ e. ⊥) self.old id stats.old (ok_or result Error.Memory) self.new stats.new }
         ensures accepted { OnSome result (live_of (other queue) (table_in self.old id) ≡ 0) }
-        ensures counts { OnSome result
-            (stats.new ≡ counts_with_run queue (table_in self.old id).entries run.now stats.old) }
+        ensures counts { OnSome result (stats.new
+            ≡ counts_with_run queue (table_in self.old id).entries (run_shown run.now) stats.old) }
         ensures end { IfSome result (λ end. end ≡ end_of (table_in self.old id).entries) }
     {
         let Some(table) = self.tables.get_mut(&id) else {
-            return None;
+            return self.try_replay_first(queue, id, run, stats);
         };
         let end = table.end();
         if !table.try_replay(queue, run, stats) {
@@ -223,37 +226,36 @@ impl RegionTables {
         Some(end)
     }
 
-    /// Puts the entries of `place` from the index `first` on, which are read again, into a region's table,
-    /// and returns where its entries ended before. Where nothing is returned, tables and counts are as
-    /// they were.
-    pub(crate) fn try_replay_spans(
+    /// Does what [`RegionTables::try_replay`] does where the region has no table.
+    #[inline(never)]
+    fn try_replay_first(
         &mut self,
         queue: LogQueue,
         id: u64,
-        first: u64,
-        place: FileBlockHandle,
-        spans: &[(u32, u32)],
+        run: &Run<'_>,
         stats: &mut GlobalStats,
     ) -> Option<u64>
-        requires run { IsRunIn queue (entries_of_block first place spans.now) }
-        requires counted { IsCounted (table_in self.old id) stats.old }
-        ensures outcome { BecomesOutcome (after_replay queue (table_in self.old id)
-            (entries_of_block first place spans.now))
+        requires first { finite.get self.old id ≡ None }
+        requires run { IsRunIn queue (run_shown run.now) }
+        ensures outcome { BecomesOutcome
+            (after_replay queue (table_in self.old id) (run_shown run.now))
             (λ e. ⊥) self.old id stats.old (ok_or result Error.Memory) self.new stats.new }
         ensures accepted { OnSome result (live_of (other queue) (table_in self.old id) ≡ 0) }
-        ensures counts { OnSome result
-            (stats.new ≡ counts_with_run queue (table_in self.old id).entries
-            (entries_of_block first place spans.now) stats.old) }
+        ensures counts { OnSome result (stats.new
+            ≡ counts_with_run queue (table_in self.old id).entries (run_shown run.now) stats.old) }
         ensures end { IfSome result (λ end. end ≡ end_of (table_in self.old id).entries) }
     {
-        let Some(table) = self.tables.get_mut(&id) else {
-            return None;
-        };
-        let end = table.end();
-        if !table.try_replay_spans(queue, first, place, spans, stats) {
+        if self.tables.reserve(1).is_err() {
             return None;
         }
-        Some(end)
+        let mut table = MemTable::new(self.alloc, id);
+        if !table.try_replay(queue, run, stats) {
+            return None;
+        }
+        match self.tables.insert(id, table) {
+            Ok(_) => Some(0),
+            Err(_) => unreachable!(),
+        }
     }
 
     /// Sets the files of a region's atomic group; its table is made where there is none.

@@ -4,6 +4,7 @@ ghost use Rattle.std.specs.Prelude.{◌≡◌, OnSome, IfSome, ok_or};
 ghost use Rattle.raft_base.specs.declared.errors.Error.TheVariants.{Memory};
 ghost use Rattle.raft_base.specs.Runs.{end_of, entries_of_block};
 ghost use Rattle.raft_table.specs.Queues.{other};
+ghost use Rattle.raft_table.specs.RunShown.{run_shown};
 ghost use Rattle.raft_table.specs.Start.{counts_with_run};
 ghost use Rattle.raft_table.specs.StepShown.{step_shown};
 ghost use Rattle.raft_table.specs.Table.{after_replay, live_of};
@@ -15,7 +16,7 @@ ghost use Rattle.raft_accessor.specs.TableSteps.{IsStepTaken};
 
 use crate::accessor::{MemTableAccessor, slot_of};
 use raft_base::{EntryIndex, FileBlockHandle, LogQueue, Result};
-use raft_table::Step;
+use raft_table::{Run, Step};
 
 impl MemTableAccessor {
     /// Does a step of `queue` that is read again on its region's table, which is made where there is none, and
@@ -35,9 +36,9 @@ impl MemTableAccessor {
         self.slots[slot_of(id)].take_step(queue, id, step, &mut self.stats, &mut self.cleaned)
     }
 
-    /// Puts a run that is read again where its region has a table that takes it, and returns where the
-    /// entries of the table ended before. Nothing is returned where there is no table, nor where
-    /// [`MemTableAccessor::take_step`] refuses it, as for want of memory. All tables are then as they were.
+    /// Puts a run that is read again, and returns where the entries of its region's table, which is made
+    /// where there is none, ended before. Nothing is returned where [`MemTableAccessor::take_step`] refuses
+    /// the run, as for want of memory. All tables are then as they were.
     pub fn try_replay_run(&mut self, queue: LogQueue, id: u64, run: &[EntryIndex]) -> Option<u64>
         requires run { IsRunIn queue run.now }
         ensures changed { IsTableChanged (after_replay queue (table_in self.old.tables id) run.now)
@@ -47,13 +48,11 @@ impl MemTableAccessor {
             ≡ counts_with_run queue (table_in self.old.tables id).entries run.now self.old.counts) }
         ensures end { IfSome result (λ end. end ≡ end_of (table_in self.old.tables id).entries) }
     {
-        self.slots[slot_of(id)].try_replay_run(queue, id, run, &mut self.stats)
+        self.try_replay(queue, id, &Run::Entries(run))
     }
 
-    /// Puts a run that is read again, the entries of `place` from the index `first` on, and returns where
-    /// the entries of the region's table ended before. Nothing is returned where
-    /// [`MemTableAccessor::take_step`] refuses the run, as for want of memory. All tables are then as they
-    /// were.
+    /// Does what [`MemTableAccessor::try_replay_run`] does with the entries of the block at `place`, from
+    /// the index `first` on.
     pub fn try_replay_spans(
         &mut self,
         queue: LogQueue,
@@ -72,6 +71,29 @@ impl MemTableAccessor {
             (entries_of_block first place spans.now) self.old.counts) }
         ensures end { IfSome result (λ end. end ≡ end_of (table_in self.old.tables id).entries) }
     {
-        self.slots[slot_of(id)].try_replay_spans(queue, id, first, place, spans, &mut self.stats)
+        self.try_replay(
+            queue,
+            id,
+            &Run::Block {
+                first,
+                handle: place,
+                spans,
+            },
+        )
+    }
+
+    /// Does what the two calls above do.
+    fn try_replay(&mut self, queue: LogQueue, id: u64, run: &Run<'_>) -> Option<u64>
+        requires run { IsRunIn queue (run_shown run.now) }
+        ensures changed { IsTableChanged
+            (after_replay queue (table_in self.old.tables id) (run_shown run.now))
+            (λ e. ⊥) id (ok_or result Memory) self.old self.new }
+        ensures accepted { OnSome result (live_of (other queue) (table_in self.old.tables id) ≡ 0) }
+        ensures counts { OnSome result (self.new.counts
+            ≡ counts_with_run queue (table_in self.old.tables id).entries (run_shown run.now)
+            self.old.counts) }
+        ensures end { IfSome result (λ end. end ≡ end_of (table_in self.old.tables id).entries) }
+    {
+        self.slots[slot_of(id)].try_replay(queue, id, run, &mut self.stats)
     }
 }

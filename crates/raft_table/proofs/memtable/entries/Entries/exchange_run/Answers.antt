@@ -1,4 +1,3 @@
-use Rattle.std.proofs.Common.{refl}
 use Rattle.raft_base.specs.declared.pipe_log.LogQueue.TheVariants.{Append, Rewrite}
 use Rattle.raft_table.specs.RunShown.{run_shown}
 use Rattle.raft_table.proofs.GoneLemmas.{same_exchange}

@@ -266,12 +266,12 @@ impl Entries {
     ) -> AllocResult<()>
         requires keep { keep ≤ length self.old }
         requires filled { 0 < length (run_shown run.now) }
-        requires table_entries { AreTableEntries (take keep self.old ++ (run_shown run.now)) }
+        requires table_entries { AreTableEntries (take keep self.old ++ run_shown run.now) }
         requires queue { AllByRecursion (λ e. is_placed_in queue e ≡ true) (run_shown run.now) }
         requires counted { AreCounted self.old stats.old }
         requires room { live queue stats.old + length (run_shown run.now)
             < 2 ^ 64 + entry_count queue (drop keep self.old) }
-        ensures ok { OnOk result (self.new ≡ take keep self.old ++ (run_shown run.now)) }
+        ensures ok { OnOk result (self.new ≡ take keep self.old ++ run_shown run.now) }
         ensures err { OnErr result ((self.new ≡ self.old) × (stats.new ≡ stats.old)) }
         ensures counts { OnOk result (stats.new
             ≡ with_added queue (length (run_shown run.now)) (counts_without (drop keep self.old) stats.old)) }

@@ -17,6 +17,8 @@ pub mod LogBatch
 pub mod LogBatchModel
 pub mod Placement
 pub mod Range
+pub mod ReadBatch
+pub mod ReadBatchModel
 pub mod Same
 pub mod SameLaws
 pub mod Sizes

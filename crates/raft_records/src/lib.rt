@@ -14,6 +14,7 @@ pub mod log_batch;
 pub mod log_item;
 pub mod log_item_batch;
 pub mod print;
+pub mod read_batch;
 
 pub use atomic_group::{ATOMIC_GROUP_KEY, AtomicGroupBuilder, AtomicGroupStatus, is_reserved};
 pub use command::Command;
@@ -32,3 +33,4 @@ pub use raft_base::{
     entry_index, errors, hash_u64, is_consecutive, message, pipe_log, round_down, round_up,
     size_from_value, unhash_u64, util,
 };
+pub use read_batch::{ReadBatch, ReadContent, ReadItem};

@@ -1,0 +1,128 @@
+//! Batches as they are read: items over the bytes that they were read of.
+
+ghost use Rattle.std.specs.Prelude.{◌≡◌, ◌≢◌, ◌+◌, ◌^◌, ◌<◌, ◌≤◌, [], length, drop, IfOk, IfErr, IfNone, OnErr};
+ghost use Rattle.std.specs.Option.{option_map};
+ghost use Rattle.raft_codec.specs.Reading.{HasNoFront};
+ghost use Rattle.raft_base.specs.Signature.{signature_of};
+ghost use Rattle.raft_records.specs.DecodedIn.{AreDecodedIn};
+ghost use Rattle.raft_records.specs.FilePart.{part_of, IsNext, IsNextFault};
+ghost use Rattle.raft_records.specs.LogBatch.{IsReadable};
+ghost use Rattle.raft_records.specs.ReadBatch.{items_shown, spans_of};
+
+use crate::{Command, LogItemBatch};
+use raft_base::{Error, FileBlockHandle, FileId, LogFileContext, Result};
+use std::alloc::Global;
+use std::marker::Model;
+
+/// What an item says of its region.
+#[derive(Drop)]
+pub enum ReadContent<'a> {
+    /// `count` new entries, from the index `first` on. Their spans are the next ones of the batch.
+    Run { first: u64, count: usize },
+    /// A change of the region's log as a whole.
+    Command(Command),
+    /// A key gets a value.
+    Put { key: &'a [u8], value: &'a [u8] },
+    /// A key goes.
+    Delete { key: &'a [u8] },
+}
+
+/// What is said of one region.
+#[derive(Drop)]
+pub struct ReadItem<'a> {
+    pub region: u64,
+    pub content: ReadContent<'a>,
+}
+
+/// The items of a batch, whose keys and values stand in the bytes that they were read of. Each entry is a
+/// span of the one place that holds the batch's entry bytes. The next batch is read in place of this one, so
+/// a walk over many batches takes memory for the longest alone.
+#[derive(Drop)]
+pub struct ReadBatch<'a> {
+    items: Vec<ReadItem<'a>>,
+    /// Offset and length of each entry, those of the first run first.
+    spans: Vec<(u32, u32)>,
+    /// Where the entry bytes stand.
+    place: FileBlockHandle,
+}
+
+impl<'a> Model for ReadBatch<'a> {
+    ghost use Rattle.std.specs.Prelude.{List};
+    ghost use Rattle.raft_records.specs.Item.{Item};
+
+    ghost Value = { List Item };
+
+    ghost use Rattle.raft_records.specs.ReadBatchModel.{items_in, IsWellFormed};
+
+    ghost view = { items_in };
+
+    ghost invariant = { IsWellFormed };
+}
+
+impl<'a> ReadBatch<'a> {
+    /// Returns a batch without items, whose place is in this file.
+    pub fn new(alloc: Global, id: FileId) -> ReadBatch<'a>
+        ensures { result ≡ [] }
+    {
+        ReadBatch {
+            items: Vec::new(alloc),
+            spans: Vec::new(alloc),
+            place: FileBlockHandle {
+                id,
+                offset: 0,
+                len: 0,
+            },
+        }
+    }
+
+    /// Reads the log batch that stands at `at` in these bytes, in place of what was held, and returns where the
+    /// next one begins; nothing at the end of the bytes. They are those of the file from `offset` on. Its items
+    /// are those of [`next_in`](crate::next_in). Without a batch no items are held.
+    ///
+    /// # Errors
+    ///
+    /// Those of [`next_batch`](crate::next_batch). No items are held then.
+    pub fn read_next(
+        &mut self,
+        file: &LogFileContext,
+        offset: u64,
+        bytes: &'a [u8],
+        at: usize,
+    ) -> Result<Option<usize>>
+        requires inside { at ≤ length bytes.now }
+        requires ends { offset + length bytes.now < 2 ^ 64 }
+        ensures ok { IfOk result (λ next. IsNext (part_of file.now offset bytes.now) at
+            (option_map (λ end. (self.new, end)) next)) }
+        ensures in_file { AreDecodedIn file.now.id self.new }
+        ensures none { IfOk result (λ next. IfNone next (self.new ≡ [])) }
+        ensures err { OnErr result (self.new ≡ []) }
+        ensures some { OnErr result (at < length bytes.now) }
+        ensures refused { IfErr result (λ e. e ≢ Error.Memory
+            → HasNoFront (λ xs. IsReadable xs (signature_of file.now)) (drop at bytes.now)) }
+        ensures fault { IfErr result (IsNextFault (signature_of file.now) (drop at bytes.now)) }
+    {
+        Ok(None)
+    }
+
+    /// Returns the place of the entry bytes, the items, and the spans of their runs, those of the first run
+    /// first. The entries and the changes of keys are as they may stand in the file of the place.
+    pub fn parts(&self) -> (FileBlockHandle, &[ReadItem<'a>], &[(u32, u32)])
+        ensures shown { items_shown result.0 result.1.now result.2.now ≡ self.now }
+        ensures spans { spans_of result.1.now ≡ length result.2.now }
+        ensures in_file { AreDecodedIn result.0.id self.now }
+    {
+        (self.place, self.items.as_slice(), self.spans.as_slice())
+    }
+
+    /// Returns a batch of the same items, with keys and values of its own.
+    ///
+    /// # Errors
+    ///
+    /// `Memory`.
+    pub fn to_batch(&self, alloc: Global) -> Result<LogItemBatch>
+        ensures ok { IfOk result (λ batch. batch ≡ self.now) }
+        ensures memory { IfErr result (λ e. e ≡ Error.Memory) }
+    {
+        Ok(LogItemBatch::default(alloc))
+    }
+}

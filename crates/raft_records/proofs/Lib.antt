@@ -20,6 +20,7 @@ pub mod PlaceLemmas
 pub mod PlacementLemmas
 pub mod PrintLemmas
 pub mod RangeLemmas
+pub mod ReadBatchLemmas
 pub mod ReadPlaceLemmas
 pub mod SealLemmas
 pub mod StageLemmas

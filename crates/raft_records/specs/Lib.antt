@@ -19,6 +19,7 @@ pub mod Placement
 pub mod Range
 pub mod ReadBatch
 pub mod ReadBatchModel
+pub mod ReadWords
 pub mod Same
 pub mod SameLaws
 pub mod Sizes

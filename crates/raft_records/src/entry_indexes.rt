@@ -275,7 +275,7 @@ fn parse_tails(
 /// The tail offset of an entry whose bytes begin at `offset`, and what is behind it, where it takes four
 /// bytes at most, as most do, and `bounded` tells that no index is 2^64 - 1. Else nothing is said.
 #[inline(always)]
-fn short_tail(bytes: &[u8], offset: u32, bounded: bool) -> Option<(u32, &[u8])>
+pub(crate) fn short_tail(bytes: &[u8], offset: u32, bounded: bool) -> Option<(u32, &[u8])>
     ensures read { IfSome result (λ read. (index : ℕ) → index < 2 ^ 64 - 1 →
         Reads (IsTail (index, offset)) bytes.now read.1.now (entry_between index offset read.0)) }
     ensures ends { IfSome result (λ read. offset ≤ read.0) }
@@ -290,7 +290,12 @@ fn short_tail(bytes: &[u8], offset: u32, bounded: bool) -> Option<(u32, &[u8])>
 
 /// The tail offset of the entry `index`, whose bytes begin at `offset`, and what is behind it.
 #[inline(never)]
-fn parse_tail(alloc: Global, bytes: &[u8], index: u64, offset: u32) -> Result<(u32, &[u8])>
+pub(crate) fn parse_tail(
+    alloc: Global,
+    bytes: &[u8],
+    index: u64,
+    offset: u32,
+) -> Result<(u32, &[u8])>
     ensures ok { IfOk result (λ read.
         Reads (IsTail (index, offset)) bytes.now read.1.now (entry_between index offset read.0)) }
     ensures ends { IfOk result (λ read. offset ≤ read.0) }

@@ -230,7 +230,7 @@ fn append_byte_string(buf: &mut Vec<u8>, text: &[u8]) -> AllocResult<()>
 }
 
 /// The byte string in front of `bytes`, which stands behind its length, and what is behind it.
-fn parse_byte_string(alloc: Global, bytes: &[u8]) -> Result<(&[u8], &[u8])>
+pub(crate) fn parse_byte_string(alloc: Global, bytes: &[u8]) -> Result<(&[u8], &[u8])>
     ensures ok { IfOk result (λ read. Reads IsByteString bytes.now read.1.now read.0.now) }
     ensures refused { OnErr result (HasNoFront IsByteString bytes.now) }
     ensures fault { IfErr result (IsByteStringFault bytes.now) }

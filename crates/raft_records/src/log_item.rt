@@ -21,11 +21,11 @@ use std::alloc::Global;
 use std::io;
 use std::io::ErrorKind;
 
-const TYPE_ENTRIES: u8 = 1;
+pub(crate) const TYPE_ENTRIES: u8 = 1;
 
-const TYPE_COMMAND: u8 = 2;
+pub(crate) const TYPE_COMMAND: u8 = 2;
 
-const TYPE_KV: u8 = 3;
+pub(crate) const TYPE_KV: u8 = 3;
 
 /// What is said of the region `raft_group_id`.
 #[derive(Clone, PartialEq, Eq, Debug, Drop)]

@@ -9,6 +9,10 @@ ghost use Rattle.raft_records.specs.FilePart.{part_of, IsNext, IsNextFault};
 ghost use Rattle.raft_records.specs.LogBatch.{IsReadable};
 ghost use Rattle.raft_records.specs.ReadBatch.{items_shown, spans_of};
 
+mod items;
+mod short_items;
+
+use crate::read_batch::items::read_items;
 use crate::{Command, LogItemBatch};
 use raft_base::{Error, FileBlockHandle, FileId, LogFileContext, Result};
 use std::alloc::Global;

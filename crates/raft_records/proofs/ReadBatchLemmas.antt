@@ -1,0 +1,142 @@
+-- On batches as they are read.
+use Rattle.std.proofs.Common.{◌≡◌, ℕ, suc, ◌+◌, ◌≤◌, ◌<◌, ◌^◌, List, [], ◌∷◌, ◌++◌, map, length, take, drop, Option, Some, None, refl, sym, ap, ◌∙◌, subst, arith}
+use Rattle.std.proofs.Math.Numerals.{add-one}
+use Rattle.std.proofs.Math.Seq.{take-length}
+use Rattle.std.proofs.lemmas.List.{append-nil, length-append, length-map, length_push, map-append, take-append-le, drop-append-le, length-drop}
+use Rattle.raft_base.specs.Runs.{entries_of_block}
+use Rattle.raft_base.specs.declared.compression_type.CompressionType.TheVariants as compressions
+use Rattle.raft_base.specs.declared.entry_index.EntryIndex.{EntryIndex}
+use Rattle.raft_base.specs.declared.pipe_log.FileBlockHandle.{FileBlockHandle}
+use Rattle.raft_codec.specs.Reading.{Reads, IsSequence}
+use Rattle.raft_codec.specs.Varint.{IsVarint}
+use Rattle.raft_records.specs.declared.read_batch.ReadContent.TheVariants.{Run}
+use Rattle.raft_records.specs.declared.read_batch.ReadItem.{ReadItem}
+use Rattle.raft_records.specs.Grammar.{AreTails, IsItem, IsTail, tail_of, end_behind}
+use Rattle.raft_records.specs.Item.{Item, Content, entries}
+use Rattle.raft_records.specs.ItemBatch.{AreItems, FitTogether, end_of_items, placed_item}
+use Rattle.raft_records.specs.Placement.{entry_between}
+use Rattle.raft_records.specs.ReadBatch.{item_shown, items_shown, spans_of, spans_taken}
+use Rattle.raft_records.specs.ReadWords.{AreHeldAs, AreSpansRead, IsHeldAs, IsItemRead, IsRunRead, span_of}
+use Rattle.raft_records.proofs.BatchLemmas.{behind_placed, end_push, fits_placed, item_fits, one_more_item}
+use Rattle.raft_records.proofs.EntryLemmas.{AreReadSoFar, end_read, entries_read, one_more_read}
+use Rattle.raft_records.proofs.Names.{behind_entry, behind_item, placed_entry}
+
+-- ---- spans
+
+abbrev entry_at : FileBlockHandle → ℕ → EntryIndex → EntryIndex
+entry_at place i e = record { index = i; entries = Some place; compression_type = compressions.None; entry_offset = e.entry_offset; entry_len = e.entry_len }
+
+spans_shown : (place : FileBlockHandle) (next : ℕ × ℕ) (bytes : List ℕ) (es : List EntryIndex) → IsSequence behind_entry IsTail next bytes es → entries_of_block next.0 place (map span_of es) ≡ map (placed_entry place compressions.None) es
+spans_shown place next bytes [] q = refl
+spans_shown place next bytes (e ∷ es) q =
+    let first : entry_at place next.0 e ≡ placed_entry place compressions.None e = ap (λ (i : ℕ). entry_at place i e) (sym q.first_spells.index) in
+    let rest : entries_of_block (suc next.0) place (map span_of es) ≡ map (placed_entry place compressions.None) es = subst (λ (i : ℕ). entries_of_block i place (map span_of es) ≡ map (placed_entry place compressions.None) es) (add-one next.0) (spans_shown place (behind_entry next e) q.second es q.second_spells) in
+    λ i. first i ∷ rest i
+
+-- a run holds the entries whose tail offsets were read
+pub run_held : (count first s : ℕ) (bytes rest : List ℕ) (es : List EntryIndex) → Reads (AreTails count (first, s)) bytes rest es → IsHeldAs (Run first count) (map span_of es) (entries es)
+run_held count first s bytes rest es r =
+    record {
+      taken = sym r.spells.count ∙ sym (length-map es span_of);
+      shown = λ place. ap entries (spans_shown place (first, s) r.front es r.spells.tails);
+    }
+
+pub no_entries_read : (s count : ℕ) (bytes rest : List ℕ) (spans : List (ℕ × ℕ)) → count ≡ 0 → Reads IsVarint bytes rest count → IsRunRead s bytes rest (Run 0 0) s spans spans
+no_entries_read s count bytes rest spans none r =
+    record {
+      read = [];
+      reads = entries_read s count bytes rest rest [] r (record { front = []; spells = (refl, none); split = refl });
+      ends = refl;
+      added = sym (append-nil spans);
+      held = record { taken = refl; shown = λ place. refl };
+    }
+
+-- the spans that were read so far, and behind their entries come this index and this offset
+pub record AreSpansSoFar (first s : ℕ) (bytes rest : List ℕ) (old new : List (ℕ × ℕ)) (index offset count : ℕ) : Type 0 where
+  pub read : List EntryIndex
+  pub so_far : AreReadSoFar first s bytes rest read index offset
+  pub added : new ≡ old ++ map span_of read
+  pub counted : length read ≡ count
+
+pub one_more_span : (first s : ℕ) (bytes mid rest : List ℕ) (old new : List (ℕ × ℕ)) (index offset tail count len : ℕ) → AreSpansSoFar first s bytes mid old new index offset count → offset + len ≡ tail → Reads (IsTail (index, offset)) mid rest (entry_between index offset tail) → AreSpansSoFar first s bytes rest old (new ++ (offset, len) ∷ []) (index + 1) tail (count + 1)
+one_more_span first s bytes mid rest old new index offset tail count len so sum r =
+    let e = entry_between index offset tail in
+    let es = so.read in
+    let is_len : e.entry_len ≡ len = omega arith in
+    let more = one_more_read first s bytes mid rest es e index offset so.so_far r in
+    record {
+      read = es ++ e ∷ [];
+      so_far = subst (λ (o : ℕ). AreReadSoFar first s bytes rest (es ++ e ∷ []) (index + 1) o) (ap (λ (n : ℕ). offset + n) is_len ∙ sum) more;
+      added = ap (λ (l : ℕ). new ++ (offset, l) ∷ []) (sym is_len) ∙ ap (λ (xs : List (ℕ × ℕ)). xs ++ span_of e ∷ []) so.added ∙ more_spans old (map span_of es) (span_of e) ∙ ap (λ (xs : List (ℕ × ℕ)). old ++ xs) (sym (map-append span_of es (e ∷ [])));
+      counted = omega (arith, length_push es e, so.counted);
+    }
+  where
+    more_spans : (xs ys : List (ℕ × ℕ)) (z : ℕ × ℕ) → (xs ++ ys) ++ z ∷ [] ≡ xs ++ (ys ++ z ∷ [])
+    more_spans [] ys z = refl
+    more_spans (x ∷ xs) ys z = ap (λ (l : List (ℕ × ℕ)). x ∷ l) (more_spans xs ys z)
+
+pub spans_read : (first s n count : ℕ) (bytes rest : List ℕ) (old new : List (ℕ × ℕ)) (index offset : ℕ) → count ≡ n → AreSpansSoFar first s bytes rest old new index offset count → AreSpansRead n first s bytes rest offset old new
+spans_read first s n count bytes rest old new index offset all so =
+    let reads = so.so_far.reads in
+    record {
+      read = so.read;
+      reads = record { front = reads.front; spells = record { tails = reads.spells; count = so.counted ∙ all }; split = reads.split };
+      ends = end_read first s bytes rest so.read index offset so.so_far;
+      added = so.added;
+    }
+
+-- ---- items
+
+pub item_held : (place : FileBlockHandle) (item : ReadItem) (own : List (ℕ × ℕ)) (x : Item) → item.region ≡ x.raft_group_id → IsHeldAs item.content own x.content → item_shown place item own ≡ placed_item place compressions.None x
+item_held place item own x region h = λ i. record { raft_group_id = region i; content = h.shown place i }
+
+spans_push : (items : List ReadItem) (item : ReadItem) → spans_of (items ++ item ∷ []) ≡ spans_of items + spans_taken item.content
+spans_push [] item = omega arith
+spans_push (y ∷ ys) item = omega (arith, spans_push ys item)
+
+shown_push : (place : FileBlockHandle) (items : List ReadItem) (item : ReadItem) (spans own : List (ℕ × ℕ)) → spans_of items ≡ length spans → spans_taken item.content ≡ length own → items_shown place (items ++ item ∷ []) (spans ++ own) ≡ items_shown place items spans ++ item_shown place item own ∷ []
+shown_push place [] item [] own e t = ap (λ (xs : List (ℕ × ℕ)). item_shown place item xs ∷ []) (ap (λ (n : ℕ). take n own) t ∙ take-length own)
+shown_push place [] item (x ∷ spans) own e t = absurd (omega (arith, e))
+shown_push place (y ∷ ys) item spans own e t =
+    let n = spans_taken y.content in
+    let le : n ≤ length spans = omega (arith, e) in
+    let left : spans_of ys ≡ length (drop n spans) = omega (arith, e, length-drop n spans) in
+    let first : take n (spans ++ own) ≡ take n spans = take-append-le n spans own le in
+    let rest : drop n (spans ++ own) ≡ drop n spans ++ own = drop-append-le n spans own le in
+    ap (λ (xs : List (ℕ × ℕ)). item_shown place y xs ∷ items_shown place (ys ++ item ∷ []) (drop n (spans ++ own))) first
+    ∙ ap (λ (xs : List (ℕ × ℕ)). item_shown place y (take n spans) ∷ items_shown place (ys ++ item ∷ []) xs) rest
+    ∙ ap (λ (xs : List Item). item_shown place y (take n spans) ∷ xs) (shown_push place ys item (drop n spans) own left t)
+
+pub items_held_push : (items : List ReadItem) (item : ReadItem) (spans own : List (ℕ × ℕ)) (xs : List Item) (x : Item) → AreHeldAs items spans xs → item.region ≡ x.raft_group_id → IsHeldAs item.content own x.content → AreHeldAs (items ++ item ∷ []) (spans ++ own) (xs ++ x ∷ [])
+items_held_push items item spans own xs x h region k =
+    record {
+      taken = omega (arith, h.taken, k.taken, spans_push items item, length-append spans own);
+      shown = λ place. shown_push place items item spans own h.taken k.taken ∙ ap (λ (ys : List Item). ys ++ item_shown place item own ∷ []) (h.shown place) ∙ ap (λ (y : Item). map (placed_item place compressions.None) xs ++ y ∷ []) (item_held place item own x region k) ∙ sym (map-append (placed_item place compressions.None) xs (x ∷ []));
+    }
+
+-- the items that were read so far, and behind their entries comes this offset
+pub record AreItemsSoFar (bytes rest : List ℕ) (items : List ReadItem) (spans : List (ℕ × ℕ)) (offset count : ℕ) : Type 0 where
+  pub read : List Item
+  pub reads : Reads (IsSequence behind_item IsItem 0) bytes rest read
+  pub held : AreHeldAs items spans read
+  pub ends : offset ≡ end_of_items 0 read
+  pub counted : length read ≡ count
+
+pub one_more_held : (bytes mid rest : List ℕ) (items new_items : List ReadItem) (spans new_spans : List (ℕ × ℕ)) (offset end count : ℕ) → AreItemsSoFar bytes mid items spans offset count → IsItemRead offset mid rest end items new_items spans new_spans → AreItemsSoFar bytes rest new_items new_spans end (count + 1)
+one_more_held bytes mid rest items new_items spans new_spans offset end count so r =
+    let xs = so.read in
+    let held = items_held_push items r.item spans r.own xs r.read so.held r.region r.held in
+    let here : AreHeldAs new_items (spans ++ r.own) (xs ++ r.read ∷ []) = subst (λ (ys : List ReadItem). AreHeldAs ys (spans ++ r.own) (xs ++ r.read ∷ [])) (sym r.added) held in
+    record {
+      read = xs ++ r.read ∷ [];
+      reads = one_more_item bytes mid rest xs r.read offset so.reads so.ends r.reads;
+      held = subst (λ (ys : List (ℕ × ℕ)). AreHeldAs new_items ys (xs ++ r.read ∷ [])) (sym r.spans_added) here;
+      ends = r.ends ∙ ap (λ (s : ℕ). behind_item s r.read) so.ends ∙ sym (end_push 0 xs r.read);
+      counted = omega (arith, length_push xs r.read, so.counted);
+    }
+
+pub items_fit : (place : FileBlockHandle) (s : ℕ) (bytes : List ℕ) (xs : List Item) → IsSequence behind_item IsItem s bytes xs → FitTogether s (map (placed_item place compressions.None) xs)
+items_fit place s bytes [] q = tt
+items_fit place s bytes (x ∷ xs) q =
+    let put = placed_item place compressions.None in
+    (fits_placed place compressions.None s x.content (item_fits s q.first x q.first_spells), subst (λ (t : ℕ). FitTogether t (map put xs)) (sym (behind_placed place compressions.None s x)) (items_fit place (behind_item s x) q.second xs q.second_spells))

@@ -1,0 +1,62 @@
+-- What is read of bytes, as a batch over these bytes holds it. Private words: no public clause uses them.
+use Rattle.std.specs.Prelude.{◌≡◌, ℕ, ◌+◌, ◌^◌, ◌<◌, List, [], ◌∷◌, ◌++◌, map, length}
+use Rattle.raft_base.specs.declared.compression_type.CompressionType.TheVariants as compressions
+use Rattle.raft_base.specs.declared.entry_index.EntryIndex.{EntryIndex}
+use Rattle.raft_base.specs.declared.pipe_log.FileBlockHandle.{FileBlockHandle}
+use Rattle.raft_codec.specs.Reading.{Reads}
+use Rattle.raft_records.specs.declared.read_batch.ReadContent.{ReadContent}
+use Rattle.raft_records.specs.declared.read_batch.ReadItem.{ReadItem}
+use Rattle.raft_records.specs.Grammar.{AreTails, IsContent, IsEntries, IsItem, end_behind, end_of_content}
+use Rattle.raft_records.specs.Item.{Content, Item, entries}
+use Rattle.raft_records.specs.ItemBatch.{placed_content, placed_item}
+use Rattle.raft_records.specs.ReadBatch.{content_shown, items_shown, spans_of, spans_taken}
+
+-- offset and length of an entry's bytes
+abbrev pub span_of : EntryIndex → ℕ × ℕ
+span_of e = (e.entry_offset, e.entry_len)
+
+-- with these spans it shows the content that was read, at any place
+pub record IsHeldAs (content : ReadContent) (own : List (ℕ × ℕ)) (read : Content) : Type 0 where
+  pub taken : spans_taken content ≡ length own
+  pub shown : (place : FileBlockHandle) → content_shown place content own ≡ placed_content place compressions.None read
+
+-- with these spans they show the items that were read, at any place
+pub record AreHeldAs (items : List ReadItem) (spans : List (ℕ × ℕ)) (read : List Item) : Type 0 where
+  pub taken : spans_of items ≡ length spans
+  pub shown : (place : FileBlockHandle) → items_shown place items spans ≡ map (placed_item place compressions.None) read
+
+-- the tail offsets of n entries from an index on are read after s entry bytes: they end there, and their spans are added
+pub record AreSpansRead (n first s : ℕ) (bytes rest : List ℕ) (end : ℕ) (old new : List (ℕ × ℕ)) : Type 0 where
+  pub read : List EntryIndex
+  pub reads : Reads (AreTails n (first, s)) bytes rest read
+  pub ends : end ≡ end_behind s read
+  pub added : new ≡ old ++ map span_of read
+
+-- a content is read after s entry bytes: its entries end there, and its spans are added
+pub record IsContentRead (s : ℕ) (bytes rest : List ℕ) (content : ReadContent) (end : ℕ) (old new : List (ℕ × ℕ)) : Type 0 where
+  pub read : Content
+  pub own : List (ℕ × ℕ)
+  pub reads : Reads (IsContent s) bytes rest read
+  pub ends : end ≡ end_of_content s read
+  pub added : new ≡ old ++ own
+  pub held : IsHeldAs content own read
+
+-- the entries of an item are read after s entry bytes: they end there, and their spans are added
+pub record IsRunRead (s : ℕ) (bytes rest : List ℕ) (run : ReadContent) (end : ℕ) (old new : List (ℕ × ℕ)) : Type 0 where
+  pub read : List EntryIndex
+  pub reads : Reads (IsEntries s) bytes rest read
+  pub ends : end ≡ end_behind s read
+  pub added : new ≡ old ++ map span_of read
+  pub held : IsHeldAs run (map span_of read) (entries read)
+
+-- an item is read after s entry bytes: its entries end there, and it is added with its spans
+pub record IsItemRead (s : ℕ) (bytes rest : List ℕ) (end : ℕ) (items new_items : List ReadItem) (spans new_spans : List (ℕ × ℕ)) : Type 0 where
+  pub read : Item
+  pub item : ReadItem
+  pub own : List (ℕ × ℕ)
+  pub reads : Reads (IsItem s) bytes rest read
+  pub ends : end ≡ end_of_content s read.content
+  pub added : new_items ≡ items ++ item ∷ []
+  pub spans_added : new_spans ≡ spans ++ own
+  pub region : item.region ≡ read.raft_group_id
+  pub held : IsHeldAs item.content own read.content

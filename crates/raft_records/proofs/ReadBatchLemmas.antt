@@ -1,5 +1,5 @@
 -- On batches as they are read.
-use Rattle.std.proofs.Common.{◌≡◌, ℕ, suc, ◌+◌, ◌≤◌, ◌<◌, ◌^◌, List, [], ◌∷◌, ◌++◌, map, length, take, drop, Option, Some, None, refl, sym, ap, ◌∙◌, subst, arith}
+use Rattle.std.proofs.Common.{◌≡◌, ℕ, suc, ◌+◌, ◌≤◌, ◌<◌, ◌^◌, List, [], ◌∷◌, ◌++◌, map, length, take, drop, get_or, Option, Some, None, refl, sym, ap, ◌∙◌, subst, arith}
 use Rattle.std.proofs.Math.Numerals.{add-one}
 use Rattle.std.proofs.Math.Seq.{take-length}
 use Rattle.std.proofs.lemmas.List.{append-nil, length-append, length-map, length_push, map-append, take-append-le, drop-append-le, length-drop}
@@ -9,16 +9,20 @@ use Rattle.raft_base.specs.declared.entry_index.EntryIndex.{EntryIndex}
 use Rattle.raft_base.specs.declared.pipe_log.FileBlockHandle.{FileBlockHandle}
 use Rattle.raft_codec.specs.Reading.{Reads, IsSequence}
 use Rattle.raft_codec.specs.Varint.{IsVarint}
+use Rattle.raft_records.specs.declared.read_batch.ReadContent.{ReadContent}
 use Rattle.raft_records.specs.declared.read_batch.ReadContent.TheVariants.{Run}
+use Rattle.raft_records.specs.declared.read_batch.ReadContent.TheVariants as contents
+use Rattle.raft_records.specs.declared.command.Command.{Command}
 use Rattle.raft_records.specs.declared.read_batch.ReadItem.{ReadItem}
-use Rattle.raft_records.specs.Grammar.{AreTails, IsItem, IsTail, tail_of, end_behind}
-use Rattle.raft_records.specs.Item.{Item, Content, entries}
+use Rattle.raft_records.specs.Grammar.{AreTails, IsCommand, IsItem, IsKeyValue, IsTail, tail_of, end_behind}
+use Rattle.raft_records.specs.Item.{Item, Content, Pair, command, entries, pair}
 use Rattle.raft_records.specs.ItemBatch.{AreItems, FitTogether, end_of_items, placed_item}
 use Rattle.raft_records.specs.Placement.{entry_between}
 use Rattle.raft_records.specs.ReadBatch.{item_shown, items_shown, spans_of, spans_taken}
-use Rattle.raft_records.specs.ReadWords.{AreHeldAs, AreSpansRead, IsHeldAs, IsItemRead, IsRunRead, span_of}
+use Rattle.raft_records.specs.ReadWords.{AreHeldAs, AreSpansRead, IsContentRead, IsHeldAs, IsItemRead, IsRunRead, span_of}
 use Rattle.raft_records.proofs.BatchLemmas.{behind_placed, end_push, fits_placed, item_fits, one_more_item}
-use Rattle.raft_records.proofs.EntryLemmas.{AreReadSoFar, end_read, entries_read, one_more_read}
+use Rattle.raft_records.proofs.ContentLemmas.{command_content, entries_content, item_read, pair_content}
+use Rattle.raft_records.proofs.EntryLemmas.{AreReadSoFar, end_read, entries_read, one_more_read, run_read}
 use Rattle.raft_records.proofs.Names.{behind_entry, behind_item, placed_entry}
 
 -- ---- spans
@@ -41,6 +45,22 @@ run_held count first s bytes rest es r =
       shown = λ place. ap entries (spans_shown place (first, s) r.front es r.spells.tails);
     }
 
+-- entries were read behind their count and the first index
+pub run_read_of : (s count first : ℕ) (bytes mid tails rest : List ℕ) (end : ℕ) (old new : List (ℕ × ℕ)) → 0 < count → Reads IsVarint bytes mid count → Reads IsVarint mid tails first → AreSpansRead count first s tails rest end old new → IsRunRead s bytes rest (Run first count) end old new
+run_read_of s count first bytes mid tails rest end old new some counted begins r =
+    record {
+      read = r.read;
+      reads = entries_read s count bytes mid rest r.read counted (run_read s count first mid tails rest r.read some begins r.reads);
+      ends = r.ends;
+      added = r.added;
+      held = run_held count first s tails rest r.read r.reads;
+    }
+
+-- one byte below 128 is a number
+pub byte_read : (n : ℕ) (rest : List ℕ) → n < 128 → Reads IsVarint (n ∷ rest) rest n
+byte_read n rest small =
+    record { front = n ∷ []; spells = record { continued = small; value = omega arith; at_most_ten = omega arith; tenth = omega arith }; split = refl }
+
 pub no_entries_read : (s count : ℕ) (bytes rest : List ℕ) (spans : List (ℕ × ℕ)) → count ≡ 0 → Reads IsVarint bytes rest count → IsRunRead s bytes rest (Run 0 0) s spans spans
 no_entries_read s count bytes rest spans none r =
     record {
@@ -50,6 +70,28 @@ no_entries_read s count bytes rest spans none r =
       added = sym (append-nil spans);
       held = record { taken = refl; shown = λ place. refl };
     }
+
+-- ---- contents
+
+pub run_content : (s : ℕ) (bytes behind rest : List ℕ) (run : ReadContent) (end : ℕ) (old new : List (ℕ × ℕ)) → bytes ≡ 1 ∷ behind → IsRunRead s behind rest run end old new → IsContentRead s bytes rest run end old new
+run_content s bytes behind rest run end old new split r =
+    record { read = entries r.read; own = map span_of r.read; reads = entries_content s bytes behind rest r.read split r.reads; ends = r.ends; added = r.added; held = r.held }
+
+pub command_read : (s : ℕ) (bytes behind rest : List ℕ) (c : Command) (spans : List (ℕ × ℕ)) → bytes ≡ 2 ∷ behind → Reads IsCommand behind rest c → IsContentRead s bytes rest (contents.Command c) s spans spans
+command_read s bytes behind rest c spans split r =
+    record { read = command c; own = []; reads = command_content s bytes behind rest c split r; ends = refl; added = sym (append-nil spans); held = record { taken = refl; shown = λ place. refl } }
+
+pub pair_read : (s : ℕ) (bytes behind rest : List ℕ) (content : ReadContent) (p : Pair) (spans : List (ℕ × ℕ)) → bytes ≡ 3 ∷ behind → Reads IsKeyValue behind rest p → IsHeldAs content [] (pair p) → IsContentRead s bytes rest content s spans spans
+pair_read s bytes behind rest content p spans split r held =
+    record { read = pair p; own = []; reads = pair_content s bytes behind rest p split r; ends = refl; added = sym (append-nil spans); held = held }
+
+-- two bytes and what is behind them
+pub two_in_front : (bytes : List ℕ) (a b : ℕ) → 2 ≤ length bytes → get_or bytes 0 0 ≡ a → get_or bytes 1 0 ≡ b → bytes ≡ a ∷ b ∷ drop 2 bytes
+two_in_front [] a b some first second = absurd (omega arith)
+two_in_front (x ∷ []) a b some first second = absurd (omega arith)
+two_in_front (x ∷ y ∷ rest) a b some first second = λ i. first i ∷ second i ∷ rest
+
+-- ---- spans so far
 
 -- the spans that were read so far, and behind their entries come this index and this offset
 pub record AreSpansSoFar (first s : ℕ) (bytes rest : List ℕ) (old new : List (ℕ × ℕ)) (index offset count : ℕ) : Type 0 where

@@ -1,10 +1,11 @@
 //! Reads items whose numbers are short, as most are, without an error in any place. Else nothing is added.
 
-ghost use Rattle.std.specs.Prelude.{◌≡◌, ◌≤◌, ◌<◌, ◌^◌, ℕ, ◌+◌, IfSome, IfNone};
+ghost use Rattle.std.specs.Prelude.{◌≡◌, ◌≤◌, ◌<◌, ◌^◌, ℕ, ◌+◌, [], ◌∷◌, IfSome, IfNone};
 ghost use Rattle.std.specs.Vec.{vec_len, vec_capacity};
 ghost use Rattle.raft_codec.specs.Reading.{Reads};
-ghost use Rattle.raft_records.specs.Grammar.{IsByteString};
-ghost use Rattle.raft_records.specs.ReadWords.{AreSpansRead, IsContentRead, IsItemRead};
+ghost use Rattle.raft_records.specs.Grammar.{IsByteString, IsKeyValue};
+ghost use Rattle.raft_records.specs.Item.{Pair, pair};
+ghost use Rattle.raft_records.specs.ReadWords.{AreSpansRead, IsContentRead, IsHeldAs, IsItemRead, IsRunRead};
 
 use crate::entry_indexes::short_tail;
 use crate::log_item::{TYPE_ENTRIES, TYPE_KV};
@@ -48,23 +49,52 @@ fn read_short_content<'a>(
         spans.old.items spans.new.items) }
     ensures none { IfNone result (spans.new.items ≡ spans.old.items) }
 {
-    match bytes {
-        [TYPE_ENTRIES, count, behind @ ..] if 0 < *count && *count < 0x80 => {
-            let count = usize::from(*count);
-            if spans.capacity() - spans.len() < count {
-                return None;
-            }
-            let (first, tails) = codec::parse_short_var_u64(behind)?;
-            let (end, rest) = read_short_spans(tails, count, start, spans)?;
-            Some((ReadContent::Run { first, count }, end, rest))
-        }
-        [TYPE_KV, PUT, behind @ ..] => {
-            let (key, behind) = parse_short_byte_string(behind)?;
-            let (value, rest) = parse_short_byte_string(behind)?;
-            Some((ReadContent::Put { key, value }, start, rest))
+    let [kind, first, behind @ ..] = bytes else {
+        return None;
+    };
+    let kind = *kind;
+    let first = *first;
+    match kind {
+        TYPE_ENTRIES => read_short_run(first, behind, start, spans),
+        TYPE_KV if first == PUT => {
+            let (content, rest) = parse_short_put(behind)?;
+            Some((content, start, rest))
         }
         _ => None,
     }
+}
+
+/// Reads the entries of an item, whose count is a byte in front of `bytes`; returns their run, the end of
+/// their bytes and what follows them.
+#[inline(always)]
+fn read_short_run<'a>(
+    count: u8,
+    bytes: &'a [u8],
+    start: u32,
+    spans: &mut Vec<(u32, u32)>,
+) -> Option<(ReadContent<'a>, u32, &'a [u8])>
+    ensures some { IfSome result (λ read. IsRunRead start (count ∷ bytes.now) read.2.now read.0 read.1
+        spans.old.items spans.new.items) }
+    ensures none { IfNone result (spans.new.items ≡ spans.old.items) }
+{
+    let count = usize::from(count);
+    if count == 0 || count >= 0x80 || spans.capacity() - spans.len() < count {
+        return None;
+    }
+    let (first, tails) = codec::parse_short_var_u64(bytes)?;
+    let (end, rest) = read_short_spans(tails, count, start, spans)?;
+    Some((ReadContent::Run { first, count }, end, rest))
+}
+
+/// A put after its op type byte, and what follows it.
+#[inline(always)]
+fn parse_short_put(bytes: &[u8]) -> Option<(ReadContent<'_>, &[u8])>
+    ensures { IfSome result (λ read. (p : Pair) ×
+        Reads IsKeyValue (1 ∷ bytes.now) read.1.now p × IsHeldAs read.0 [] (pair p)) }
+{
+    let (key, behind) = parse_short_byte_string(bytes)?;
+    let (value, rest) = parse_short_byte_string(behind)?;
+    Some((ReadContent::Put { key, value }, rest))
 }
 
 /// Reads the tail offsets of `count` entries, where they are short; returns the end of their bytes and what

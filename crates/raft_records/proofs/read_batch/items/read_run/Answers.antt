@@ -1,7 +1,7 @@
-use Rattle.std.proofs.Common.{arith, refl}
+use Rattle.std.proofs.Common.{arith}
 use Rattle.std.proofs.lemmas.Result.{err_from_is_err_and}
-use Rattle.raft_records.proofs.EntryLemmas.{no_count, no_run, no_first_index, no_tails, run_read, entries_read, entries_fault}
-use Rattle.raft_records.proofs.ReadBatchLemmas.{no_entries_read, run_held}
+use Rattle.raft_records.proofs.EntryLemmas.{no_count, no_run, no_first_index, no_tails, entries_fault}
+use Rattle.raft_records.proofs.ReadBatchLemmas.{no_entries_read, run_read_of}
 use Rattle.raft_records.proofs.read_batch.items.read_run.Goals as goal
 
 pub returns-in_err-count-clause-refused : goal.returns-in_err-count-clause-refused
@@ -29,12 +29,4 @@ returns-in_err-end-clause-fault c =
 
 pub returns-clause-ok : goal.returns-clause-ok
 returns-clause-ok c =
-    let read = c.in_ok-end.ensures.ok in
-    let run = run_read c.args.start c.in_ok-count.count c.in_ok-first.first c.in_ok-count.behind.now c.in_ok-first.tails.now c.in_ok-end.rest.now read.read (omega arith) c.in_ok-first.ensures.ok read.reads in
-    record {
-      read = read.read;
-      reads = entries_read c.args.start c.in_ok-count.count c.args.bytes.now c.in_ok-count.behind.now c.in_ok-end.rest.now read.read c.in_ok-count.ensures.ok run;
-      ends = read.ends;
-      added = read.added;
-      held = run_held c.in_ok-count.count c.in_ok-first.first c.args.start c.in_ok-first.tails.now c.in_ok-end.rest.now read.read read.reads;
-    }
+    run_read_of c.args.start c.in_ok-count.count c.in_ok-first.first c.args.bytes.now c.in_ok-count.behind.now c.in_ok-first.tails.now c.in_ok-end.rest.now c.in_ok-end.end c.args.spans.now.items c.read_spans.new.spans.items (omega arith) c.in_ok-count.ensures.ok c.in_ok-first.ensures.ok c.in_ok-end.ensures.ok

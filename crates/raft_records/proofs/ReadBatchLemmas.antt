@@ -85,6 +85,21 @@ pub pair_read : (s : ℕ) (bytes behind rest : List ℕ) (content : ReadContent)
 pair_read s bytes behind rest content p spans split r held =
     record { read = pair p; own = []; reads = pair_content s bytes behind rest p split r; ends = refl; added = sym (append-nil spans); held = held }
 
+-- a region and a content that was read, as an item that is added
+pub held_item : (s region : ℕ) (bytes mid rest : List ℕ) (content : ReadContent) (end : ℕ) (items new_items : List ReadItem) (spans new_spans : List (ℕ × ℕ)) → Reads IsVarint bytes mid region → IsContentRead s mid rest content end spans new_spans → new_items ≡ items ++ record { region = region; content = content } ∷ [] → IsItemRead s bytes rest end items new_items spans new_spans
+held_item s region bytes mid rest content end items new_items spans new_spans r c added =
+    record {
+      read = record { raft_group_id = region; content = c.read };
+      item = record { region = region; content = content };
+      own = c.own;
+      reads = item_read s region bytes mid rest c.read r c.reads;
+      ends = c.ends;
+      added = added;
+      spans_added = c.added;
+      region = refl;
+      held = c.held;
+    }
+
 -- two bytes and what is behind them
 pub two_in_front : (bytes : List ℕ) (a b : ℕ) → 2 ≤ length bytes → get_or bytes 0 0 ≡ a → get_or bytes 1 0 ≡ b → bytes ≡ a ∷ b ∷ drop 2 bytes
 two_in_front [] a b some first second = absurd (omega arith)

@@ -392,7 +392,7 @@ impl LogItemBatch {
 
     /// The same items, with the file of their places beside them.
     #[inline(always)]
-    fn with_file(mut self, file: FileId) -> LogItemBatch
+    pub(crate) fn with_file(mut self, file: FileId) -> LogItemBatch
         requires { AreDecodedIn file self }
         ensures { result ≡ self }
     {
@@ -403,7 +403,7 @@ impl LogItemBatch {
     /// Adds an item whose entries' bytes, if any, begin where those of the batch end, and end at
     /// `entries_size`.
     #[inline(always)]
-    fn add(&mut self, item: LogItem, entries_size: u32) -> Result<()>
+    pub(crate) fn add(&mut self, item: LogItem, entries_size: u32) -> Result<()>
         requires fits { FitsBehind (entry_bytes_of self.old) (content_of item.content) }
         requires in_bytes { IsInBytes (content_of item.content) }
         requires end { entries_size

@@ -1,20 +1,27 @@
 //! Batches as they are read: items over the bytes that they were read of.
 
-ghost use Rattle.std.specs.Prelude.{◌≡◌, ◌≢◌, ◌+◌, ◌^◌, ◌<◌, ◌≤◌, [], length, drop, IfOk, IfErr, IfNone, OnErr};
+ghost use Rattle.std.specs.Prelude.{◌≡◌, ◌≢◌, ℕ, ◌+◌, ◌^◌, ◌<◌, ◌≤◌, List, [], length, drop, IfOk, IfErr, IfNone, OnOk, OnErr};
 ghost use Rattle.std.specs.Option.{option_map};
 ghost use Rattle.raft_codec.specs.Reading.{HasNoFront};
 ghost use Rattle.raft_base.specs.Signature.{signature_of};
+ghost use Rattle.raft_base.specs.declared.compression_type.CompressionType.TheVariants as compressions;
 ghost use Rattle.raft_records.specs.DecodedIn.{AreDecodedIn};
 ghost use Rattle.raft_records.specs.FilePart.{part_of, IsNext, IsNextFault};
+ghost use Rattle.raft_records.specs.Item.{Item};
+ghost use Rattle.raft_records.specs.ItemBatch.{IsDecoded, IsItemBatch, IsItemBatchFault};
 ghost use Rattle.raft_records.specs.LogBatch.{IsReadable};
 ghost use Rattle.raft_records.specs.ReadBatch.{items_shown, spans_of};
 
+mod copies;
 mod items;
 mod short_items;
 
+use crate::checksum::verify_checksum;
+use crate::header::{LOG_BATCH_HEADER_LEN, parse_header};
 use crate::read_batch::items::read_items;
 use crate::{Command, LogItemBatch};
 use raft_base::{Error, FileBlockHandle, FileId, LogFileContext, Result};
+use raft_codec::codec;
 use std::alloc::Global;
 use std::marker::Model;
 
@@ -105,7 +112,66 @@ impl<'a> ReadBatch<'a> {
             → HasNoFront (λ xs. IsReadable xs (signature_of file.now)) (drop at bytes.now)) }
         ensures fault { IfErr result (IsNextFault (signature_of file.now) (drop at bytes.now)) }
     {
-        Ok(None)
+        self.clear();
+        if at == bytes.len() {
+            return Ok(None);
+        }
+        let alloc = *self.items.allocator();
+        let (_, rest) = bytes.split_at(at);
+        let ((items_at, _, len), _) = parse_header(alloc, rest)?;
+        if len > rest.len() {
+            return Err(Error::Corruption(format!(in alloc;
+                "a log batch of {len} bytes is cut short"
+            )?));
+        }
+        let place = FileBlockHandle {
+            id: file.id,
+            offset: offset + at as u64 + LOG_BATCH_HEADER_LEN as u64,
+            len: items_at - LOG_BATCH_HEADER_LEN,
+        };
+        let (batch, _) = rest.split_at(len);
+        let (_, item_bytes) = batch.split_at(items_at);
+        self.read_item_batch(item_bytes, place, file)?;
+        Ok(Some(at + len))
+    }
+
+    /// Holds no items any more, and keeps the memory.
+    fn clear(&mut self)
+        ensures { self.new ≡ [] }
+    {
+        self.items.clear();
+        self.spans.clear();
+    }
+
+    /// Reads the item batch that the whole slice is, in the file of `context`. The entries are at `place`, the
+    /// changes of keys in its file. On `Err` no items are held.
+    fn read_item_batch(
+        &mut self,
+        bytes: &'a [u8],
+        place: FileBlockHandle,
+        context: &LogFileContext,
+    ) -> Result<()>
+        ensures ok { OnOk result ((rest : List ℕ) × IsDecoded bytes.now (signature_of context.now)
+            place compressions.None self.new rest) }
+        ensures in_file { AreDecodedIn place.id self.new }
+        ensures err { OnErr result (self.new ≡ []) }
+        ensures refused { IfErr result (λ e. e ≢ Error.Memory → (items : List Item) (rest : List ℕ) →
+            IsItemBatch bytes.now (signature_of context.now) items rest → ⊥) }
+        ensures fault { IfErr result (IsItemBatchFault (signature_of context.now) bytes.now) }
+    {
+        self.clear();
+        let alloc = *self.items.allocator();
+        let content = verify_checksum(alloc, bytes, context.get_signature())?;
+        let (count, behind) = codec::parse_var_u64(content)?;
+        self.items.clear();
+        self.spans.clear();
+        self.place = place;
+        if let Err(e) = read_items(alloc, behind, count, &mut self.items, &mut self.spans) {
+            self.items.clear();
+            self.spans.clear();
+            return Err(e);
+        }
+        Ok(())
     }
 
     /// Returns the place of the entry bytes, the items, and the spans of their runs, those of the first run
@@ -127,6 +193,13 @@ impl<'a> ReadBatch<'a> {
         ensures ok { IfOk result (λ batch. batch ≡ self.now) }
         ensures memory { IfErr result (λ e. e ≡ Error.Memory) }
     {
-        Ok(LogItemBatch::default(alloc))
+        let mut batch = LogItemBatch::with_capacity(alloc, self.items.len())?;
+        let mut spans = self.spans.as_slice();
+        for item in &self.items {
+            let (own, rest) = spans.split_at(item.content.spans_taken());
+            item.add_to(alloc, &mut batch, self.place, own)?;
+            spans = rest;
+        }
+        Ok(batch.with_file(self.place.id))
     }
 }

@@ -1,8 +1,8 @@
 //! Reads items into a batch over the bytes that they stand in. On `Err` some of them may be added.
 
-ghost use Rattle.std.specs.Prelude.{◌≡◌, ◌≢◌, List, [], IfOk, IfErr, OnErr};
+ghost use Rattle.std.specs.Prelude.{◌≡◌, ◌≢◌, ◌⊎◌, List, [], IfOk, IfErr, OnErr};
 ghost use Rattle.raft_codec.specs.Reading.{Reads, HasNoFront};
-ghost use Rattle.raft_records.specs.Faults.{IsContentFault, IsEntriesFault, IsItemFault, IsKeyValueFault, IsTailsFault};
+ghost use Rattle.raft_records.specs.Faults.{IsContentFault, IsEntriesFault, IsItemFault, IsKeyValueFault, IsMemory, IsTailsFault};
 ghost use Rattle.raft_records.specs.Grammar.{AreTails, IsContent, IsEntries, IsItem, IsKeyValue};
 ghost use Rattle.raft_records.specs.Item.{Item, Pair, pair};
 ghost use Rattle.raft_records.specs.ItemBatch.{AreItems, AreItemsFault};
@@ -64,7 +64,7 @@ fn read_item<'a>(
     ensures ok { IfOk result (λ read. IsItemRead start bytes.now read.1.now read.0
         items.old.items items.new.items spans.old.items spans.new.items) }
     ensures refused { IfErr result (λ e. e ≢ Error.Memory → HasNoFront (IsItem start) bytes.now) }
-    ensures fault { IfErr result (IsItemFault start bytes.now) }
+    ensures fault { IfErr result (λ e. IsMemory e ⊎ IsItemFault start bytes.now e) }
 {
     let (region, behind) = codec::parse_var_u64(bytes)?;
     let (content, end, rest) = read_content(alloc, behind, start, spans)?;

@@ -15,6 +15,7 @@ pub mod LayLemmas
 pub mod LengthLemmas
 pub mod LineLemmas
 pub mod Names
+pub mod OwnItemLemmas
 pub mod PartLemmas
 pub mod PlaceLemmas
 pub mod PlacementLemmas

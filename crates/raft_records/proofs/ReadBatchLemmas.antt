@@ -3,7 +3,9 @@ use Rattle.std.proofs.Common.{◌≡◌, ℕ, suc, ◌+◌, ◌≤◌, ◌<◌, 
 use Rattle.std.proofs.Math.Numerals.{add-one}
 use Rattle.std.proofs.Math.Seq.{take-length}
 use Rattle.std.proofs.lemmas.List.{append-nil, length-append, length-map, length_push, map-append, take-append-le, drop-append-le, length-drop}
+use Rattle.std.specs.List.{AllByRecursion}
 use Rattle.raft_base.specs.Runs.{entries_of_block}
+use Rattle.raft_base.specs.declared.compression_type.CompressionType.{CompressionType}
 use Rattle.raft_base.specs.declared.compression_type.CompressionType.TheVariants as compressions
 use Rattle.raft_base.specs.declared.entry_index.EntryIndex.{EntryIndex}
 use Rattle.raft_base.specs.declared.pipe_log.FileBlockHandle.{FileBlockHandle}
@@ -14,11 +16,12 @@ use Rattle.raft_records.specs.declared.read_batch.ReadContent.TheVariants.{Run}
 use Rattle.raft_records.specs.declared.read_batch.ReadContent.TheVariants as contents
 use Rattle.raft_records.specs.declared.command.Command.{Command}
 use Rattle.raft_records.specs.declared.read_batch.ReadItem.{ReadItem}
+use Rattle.raft_records.specs.DecodedIn.{AreDecodedIn, IsDecodedIn, IsPlaceInFile}
 use Rattle.raft_records.specs.Grammar.{AreTails, IsCommand, IsItem, IsKeyValue, IsTail, tail_of, end_behind}
 use Rattle.raft_records.specs.Item.{Item, Content, Pair, command, entries, pair}
-use Rattle.raft_records.specs.ItemBatch.{AreItems, FitTogether, end_of_items, placed_item}
+use Rattle.raft_records.specs.ItemBatch.{AreItems, FitTogether, FitsBehind, end_of_items, placed_item}
 use Rattle.raft_records.specs.Placement.{entry_between}
-use Rattle.raft_records.specs.ReadBatch.{item_shown, items_shown, spans_of, spans_taken}
+use Rattle.raft_records.specs.ReadBatch.{content_shown, item_shown, items_shown, spans_of, spans_taken}
 use Rattle.raft_records.specs.ReadWords.{AreHeldAs, AreSpansRead, IsContentRead, IsHeldAs, IsItemRead, IsRunRead, span_of}
 use Rattle.raft_records.proofs.BatchLemmas.{behind_placed, end_push, fits_placed, item_fits, one_more_item}
 use Rattle.raft_records.proofs.ContentLemmas.{command_content, entries_content, item_read, pair_content}
@@ -197,3 +200,24 @@ items_fit place s bytes [] q = tt
 items_fit place s bytes (x ∷ xs) q =
     let put = placed_item place compressions.None in
     (fits_placed place compressions.None s x.content (item_fits s q.first x q.first_spells), subst (λ (t : ℕ). FitTogether t (map put xs)) (sym (behind_placed place compressions.None s x)) (items_fit place (behind_item s x) q.second xs q.second_spells))
+
+-- ---- what the parts show
+
+block_in_file : (place : FileBlockHandle) (i : ℕ) (spans : List (ℕ × ℕ)) → AllByRecursion (λ (e : EntryIndex). IsPlaceInFile place.id e.entries) (entries_of_block i place spans)
+block_in_file place i [] = tt
+block_in_file place i (s ∷ ss) = (refl, block_in_file place (suc i) ss)
+
+content_in_file : (place : FileBlockHandle) (s : ℕ) (content : ReadContent) (own : List (ℕ × ℕ)) → FitsBehind s (content_shown place content own) → IsDecodedIn place.id (content_shown place content own)
+content_in_file place s (Run first count) own f = (f.0, block_in_file place first own)
+content_in_file place s (contents.Command c) own f = tt
+content_in_file place s (contents.Put key value) own f = (f, refl)
+content_in_file place s (contents.Delete key) own f = (f, refl)
+
+pub shown_in_file : (place : FileBlockHandle) (s : ℕ) (items : List ReadItem) (spans : List (ℕ × ℕ)) → FitTogether s (items_shown place items spans) → AreDecodedIn place.id (items_shown place items spans)
+shown_in_file place s [] spans f = tt
+shown_in_file place s (y ∷ ys) spans f =
+    let n = spans_taken y.content in
+    (content_in_file place s y.content (take n spans) f.0, shown_in_file place (behind_item s (item_shown place y (take n spans))) ys (drop n spans) f.1)
+
+pub one_compression : (c : CompressionType) → c ≡ compressions.None
+one_compression compressions.None = refl

@@ -7,13 +7,17 @@ ghost use Rattle.raft_base.specs.Signature.{signature_of};
 ghost use Rattle.raft_base.specs.declared.compression_type.CompressionType.TheVariants as compressions;
 ghost use Rattle.raft_records.specs.DecodedIn.{AreDecodedIn};
 ghost use Rattle.raft_records.specs.FilePart.{part_of, IsNext, IsNextFault};
+ghost use Rattle.raft_records.specs.Entries.{Tile};
+ghost use Rattle.raft_records.specs.Grammar.{end_behind};
 ghost use Rattle.raft_records.specs.Item.{Item};
+ghost use Rattle.raft_base.specs.Runs.{entries_of_block};
+ghost use Rattle.raft_base.specs.declared.pipe_log.FileBlockHandle.{FileBlockHandle};
 ghost use Rattle.raft_records.specs.ItemBatch.{IsDecoded, IsItemBatch, IsItemBatchFault};
 ghost use Rattle.raft_records.specs.LogBatch.{IsReadable};
 ghost use Rattle.raft_records.specs.ReadBatch.{items_shown, spans_of};
 
-mod copies;
 mod items;
+mod own_items;
 mod short_items;
 
 use crate::checksum::verify_checksum;
@@ -59,7 +63,11 @@ pub struct ReadBatch<'a> {
 
 impl<'a> Model for ReadBatch<'a> {
     ghost use Rattle.std.specs.Prelude.{List};
+    ghost use Rattle.raft_records.specs.Entries.{Tile};
+    ghost use Rattle.raft_records.specs.Grammar.{end_behind};
     ghost use Rattle.raft_records.specs.Item.{Item};
+    ghost use Rattle.raft_base.specs.Runs.{entries_of_block};
+    ghost use Rattle.raft_base.specs.declared.pipe_log.FileBlockHandle.{FileBlockHandle};
 
     ghost Value = { List Item };
 
@@ -159,13 +167,12 @@ impl<'a> ReadBatch<'a> {
             IsItemBatch bytes.now (signature_of context.now) items rest → ⊥) }
         ensures fault { IfErr result (IsItemBatchFault (signature_of context.now) bytes.now) }
     {
-        self.clear();
-        let alloc = *self.items.allocator();
-        let content = verify_checksum(alloc, bytes, context.get_signature())?;
-        let (count, behind) = codec::parse_var_u64(content)?;
         self.items.clear();
         self.spans.clear();
         self.place = place;
+        let alloc = *self.items.allocator();
+        let content = verify_checksum(alloc, bytes, context.get_signature())?;
+        let (count, behind) = codec::parse_var_u64(content)?;
         if let Err(e) = read_items(alloc, behind, count, &mut self.items, &mut self.spans) {
             self.items.clear();
             self.spans.clear();
@@ -184,6 +191,11 @@ impl<'a> ReadBatch<'a> {
         (self.place, self.items.as_slice(), self.spans.as_slice())
     }
 
+    /// Returns the allocator that the batch was made with.
+    pub fn allocator(&self) -> Global {
+        *self.items.allocator()
+    }
+
     /// Returns a batch of the same items, with keys and values of its own.
     ///
     /// # Errors
@@ -196,10 +208,24 @@ impl<'a> ReadBatch<'a> {
         let mut batch = LogItemBatch::with_capacity(alloc, self.items.len())?;
         let mut spans = self.spans.as_slice();
         for item in &self.items {
-            let (own, rest) = spans.split_at(item.content.spans_taken());
-            item.add_to(alloc, &mut batch, self.place, own)?;
+            let (own, rest) = spans.split_at(item.span_count());
+            let end = end_of_spans(own, batch.entries_size());
+            batch.add(item.to_item(alloc, self.place, own)?, end)?;
             spans = rest;
         }
         Ok(batch.with_file(self.place.id))
+    }
+}
+
+/// Returns where the bytes of the entries in these spans end, which stand after `start` entry bytes.
+fn end_of_spans(spans: &[(u32, u32)], start: u32) -> u32
+    requires { (first : ℕ) × (place : FileBlockHandle) × Tile start
+        (entries_of_block first place spans.now) }
+    ensures { (first : ℕ) (place : FileBlockHandle) →
+        result ≡ end_behind start (entries_of_block first place spans.now) }
+{
+    match spans.last() {
+        Some((offset, len)) => *offset + *len,
+        None => start,
     }
 }

@@ -1,0 +1,20 @@
+use Rattle.std.proofs.Common.{◌++◌, ap, sym, ◌∙◌, arith, append-nil}
+use Rattle.std.proofs.Math.ListN.{drop_of_length-le}
+use Rattle.raft_base.specs.Runs.{entries_of_block}
+use Rattle.raft_records.proofs.OwnItemLemmas.{one_more, next_bounded}
+use Rattle.raft_records.proofs.read_batch.own_items.entries_at.Goals as goal
+
+pub loop-entry_offset-init : goal.loop-entry_offset-init
+loop-entry_offset-init c = (ap (λ l. l ++ entries_of_block c.args.first c.args.place c.args.spans.now) c.in_ok-run.ensures.items, c.requires)
+
+pub overflow_add-index : goal.overflow_add-index
+overflow_add-index c = omega (arith, next_bounded c.args.first c.loop-entry_offset.index c.loop-entry_offset.entry_offset-index c.args.place c.args.spans.now c.loop-entry_offset.run.items c.loop-entry_offset-test.true c.loop-entry_offset.invariant)
+
+pub loop-entry_offset-preserved : goal.loop-entry_offset-preserved
+loop-entry_offset-preserved c = one_more c.args.first c.loop-entry_offset.index c.loop-entry_offset.entry_offset-index c.args.place c.args.spans.now c.loop-entry_offset.run.items c.push.new.self.items c.loop-entry_offset-test.true c.loop-entry_offset.invariant c.in_ok-push.ensures.items
+
+pub returns-clause-ok : goal.returns-clause-ok
+returns-clause-ok c =
+    sym (append-nil c.loop-entry_offset.run.items)
+    ∙ ap (λ l. c.loop-entry_offset.run.items ++ entries_of_block c.loop-entry_offset.index c.args.place l) (sym (drop_of_length-le c.args.spans.now c.loop-entry_offset-test.false))
+    ∙ c.loop-entry_offset.invariant.0

@@ -2,6 +2,7 @@ pub mod BatchLemmas
 pub mod BufferLemmas
 pub mod CloneLemmas
 pub mod ContentLemmas
+pub mod CopyLemmas
 pub mod DecodedInLemmas
 pub mod EntryLemmas
 pub mod EqualLemmas

@@ -1,0 +1,114 @@
+-- On item batches that are made of batches as they are read.
+use Rattle.std.proofs.Common.{◌≡◌, ℕ, zero, suc, ◌+◌, ◌≤◌, ◌<◌, ◌^◌, List, [], ◌∷◌, ◌++◌, length, take, drop, get_or, refl, sym, ap, ◌∙◌, subst, arith}
+use Rattle.std.proofs.Math.Seq.{drop-cons}
+use Rattle.std.proofs.Math.ListN.{drop_of_length-le}
+use Rattle.std.proofs.Math.Numerals.{add-one}
+use Rattle.std.proofs.lemmas.List.{append-nil, append_assoc, length-drop, length-take-le}
+use Rattle.raft_base.specs.Runs.{entries_of_block}
+use Rattle.raft_base.specs.declared.pipe_log.FileBlockHandle.{FileBlockHandle}
+use Rattle.raft_records.specs.declared.read_batch.ReadContent.{ReadContent}
+use Rattle.raft_records.specs.declared.read_batch.ReadContent.TheVariants as contents
+use Rattle.raft_records.specs.declared.read_batch.ReadItem.{ReadItem}
+use Rattle.raft_records.specs.DecodedIn.{AreDecodedIn, IsDecodedIn}
+use Rattle.raft_records.specs.Entries.{Tile}
+use Rattle.raft_records.specs.Grammar.{end_behind, end_of_content}
+use Rattle.raft_records.specs.Item.{Content, Item}
+use Rattle.raft_records.specs.ItemBatch.{FitTogether, FitsBehind, entry_bytes_of}
+use Rattle.raft_records.specs.ReadBatch.{content_shown, item_shown, items_shown, spans_of, spans_taken}
+use Rattle.raft_records.proofs.BatchLemmas.{end_push}
+use Rattle.raft_records.proofs.Names.{behind_item}
+use Rattle.raft_records.proofs.ReadBatchLemmas.{shown_in_file}
+
+-- ---- ends
+
+pub end_of_block : (s first : ℕ) (place : FileBlockHandle) (spans : List (ℕ × ℕ)) (n : ℕ) (d : ℕ × ℕ) → length spans ≡ suc n → end_behind s (entries_of_block first place spans) ≡ (get_or spans n d).0 + (get_or spans n d).1
+end_of_block s first place [] n d e = absurd (omega (arith, e))
+end_of_block s first place (x ∷ []) zero d e = refl
+end_of_block s first place (x ∷ []) (suc n) d e = absurd (omega (arith, e))
+end_of_block s first place (x ∷ y ∷ ys) zero d e = absurd (omega (arith, e))
+end_of_block s first place (x ∷ y ∷ ys) (suc n) d e = end_of_block (x.0 + x.1) (suc first) place (y ∷ ys) n d (omega (arith, e))
+
+pub tail_of_block : (s first : ℕ) (place : FileBlockHandle) (spans : List (ℕ × ℕ)) (n : ℕ) (d : ℕ × ℕ) → length spans ≡ suc n → Tile s (entries_of_block first place spans) → (get_or spans n d).0 + (get_or spans n d).1 < 2 ^ 32
+tail_of_block s first place [] n d e t = absurd (omega (arith, e))
+tail_of_block s first place (x ∷ []) zero d e t = omega (arith, t.0, t.1)
+tail_of_block s first place (x ∷ []) (suc n) d e t = absurd (omega (arith, e))
+tail_of_block s first place (x ∷ y ∷ ys) zero d e t = absurd (omega (arith, e))
+tail_of_block s first place (x ∷ y ∷ ys) (suc n) d e t = tail_of_block (s + x.1) (suc first) place (y ∷ ys) n d (omega (arith, e)) t.2
+
+-- the entry bytes of a content end where its spans end
+end_of_shown : (s : ℕ) (place : FileBlockHandle) (content : ReadContent) (own : List (ℕ × ℕ)) (end : ℕ) → spans_taken content ≡ length own → ((first : ℕ) (at : FileBlockHandle) → end ≡ end_behind s (entries_of_block first at own)) → end ≡ end_of_content s (content_shown place content own)
+end_of_shown s place (contents.Run first count) own end taken is = is first place
+end_of_shown s place (contents.Command c) [] end taken is = is 0 place
+end_of_shown s place (contents.Put key value) [] end taken is = is 0 place
+end_of_shown s place (contents.Delete key) [] end taken is = is 0 place
+end_of_shown s place (contents.Command c) (x ∷ xs) end taken is = absurd (omega (arith, taken))
+end_of_shown s place (contents.Put key value) (x ∷ xs) end taken is = absurd (omega (arith, taken))
+end_of_shown s place (contents.Delete key) (x ∷ xs) end taken is = absurd (omega (arith, taken))
+
+-- the spans of a content tile its entry bytes
+pub spans_tile : (s : ℕ) (place : FileBlockHandle) (content : ReadContent) (own : List (ℕ × ℕ)) → spans_taken content ≡ length own → FitsBehind s (content_shown place content own) → (first : ℕ) × (at : FileBlockHandle) × Tile s (entries_of_block first at own)
+spans_tile s place (contents.Run first count) own taken fits = (first, place, fits.1)
+spans_tile s place (contents.Command c) [] taken fits = (0, place, tt)
+spans_tile s place (contents.Put key value) [] taken fits = (0, place, tt)
+spans_tile s place (contents.Delete key) [] taken fits = (0, place, tt)
+spans_tile s place (contents.Command c) (x ∷ xs) taken fits = absurd (omega (arith, taken))
+spans_tile s place (contents.Put key value) (x ∷ xs) taken fits = absurd (omega (arith, taken))
+spans_tile s place (contents.Delete key) (x ∷ xs) taken fits = absurd (omega (arith, taken))
+
+-- ---- items one after another
+
+-- the items so far, and what the items that are left show with the spans that are left, are the whole
+pub record AreCopied (place : FileBlockHandle) (items : List ReadItem) (n : ℕ) (spans : List (ℕ × ℕ)) (batch whole : List Item) : Type 0 where
+  pub all : batch ++ items_shown place (drop n items) spans ≡ whole
+  pub taken : spans_of (drop n items) ≡ length spans
+  pub fit : FitTogether (entry_bytes_of batch) (items_shown place (drop n items) spans)
+
+-- what is known of the next item, which stands after s entry bytes
+pub record IsNextItem (place : FileBlockHandle) (item : ReadItem) (own : List (ℕ × ℕ)) (s : ℕ) : Type 0 where
+  pub taken : spans_taken item.content ≡ length own
+  pub fits : FitsBehind s (content_shown place item.content own)
+  pub in_file : IsDecodedIn place.id (content_shown place item.content own)
+
+-- the item that stands for none
+abbrev pub no_item : ReadItem
+no_item = record { region = 0; content = contents.Run 0 0 }
+
+pub next_item : (place : FileBlockHandle) (items : List ReadItem) (n : ℕ) (spans own : List (ℕ × ℕ)) (batch whole : List Item) (s k : ℕ) → n < length items → AreCopied place items n spans batch whole → own ≡ take k spans → k ≡ spans_taken (get_or items n no_item).content → s ≡ entry_bytes_of batch → IsNextItem place (get_or items n no_item) own s
+next_item place items n spans own batch whole s k low so is k_is s_is =
+    let item = get_or items n no_item in
+    let split = drop-cons items n no_item low in
+    let left = item ∷ drop (suc n) items in
+    let taken : spans_of left ≡ length spans = ap spans_of (sym split) ∙ so.taken in
+    let fit : FitTogether (entry_bytes_of batch) (items_shown place left spans) = subst (λ (l : List ReadItem). FitTogether (entry_bytes_of batch) (items_shown place l spans)) split so.fit in
+    let front : take (spans_taken item.content) spans ≡ own = sym (is ∙ ap (λ (m : ℕ). take m spans) k_is) in
+    let le : spans_taken item.content ≤ length spans = omega (arith, taken) in
+    record {
+      taken = sym (length-take-le (spans_taken item.content) spans le) ∙ ap length front;
+      fits = subst (λ (xs : List (ℕ × ℕ)). FitsBehind s (content_shown place item.content xs)) front (subst (λ (t : ℕ). FitsBehind t (content_shown place item.content (take (spans_taken item.content) spans))) (sym s_is) fit.0);
+      in_file = subst (λ (xs : List (ℕ × ℕ)). IsDecodedIn place.id (content_shown place item.content xs)) front (shown_in_file place (entry_bytes_of batch) left spans fit).0;
+    }
+
+pub copied_end : (place : FileBlockHandle) (item : ReadItem) (own : List (ℕ × ℕ)) (s t end : ℕ) (copy : Content) → IsNextItem place item own s → ((first : ℕ) (at : FileBlockHandle) → end ≡ end_behind s (entries_of_block first at own)) → s ≡ t → copy ≡ content_shown place item.content own → end ≡ end_of_content t copy
+copied_end place item own s t end copy next ends s_is copy_is =
+    end_of_shown s place item.content own end next.taken ends ∙ ap (λ (k : ℕ). end_of_content k (content_shown place item.content own)) s_is ∙ ap (end_of_content t) (sym copy_is)
+
+pub one_more_copied : (place : FileBlockHandle) (items : List ReadItem) (n : ℕ) (spans own rest : List (ℕ × ℕ)) (batch new whole : List Item) (k : ℕ) → n < length items → AreCopied place items n spans batch whole → own ≡ take k spans → rest ≡ drop k spans → k ≡ spans_taken (get_or items n no_item).content → new ≡ batch ++ item_shown place (get_or items n no_item) own ∷ [] → AreCopied place items (n + 1) rest new whole
+one_more_copied place items n spans own rest batch new whole m low so own_is rest_is m_is new_is =
+    let item = get_or items n no_item in
+    let k = spans_taken item.content in
+    let split : drop n items ≡ item ∷ drop (n + 1) items = drop-cons items n no_item low ∙ ap (λ (i : ℕ). item ∷ drop i items) (sym (add-one n)) in
+    let shown = item_shown place item (take k spans) in
+    let taken : spans_of (item ∷ drop (n + 1) items) ≡ length spans = ap spans_of (sym split) ∙ so.taken in
+    let fit : FitTogether (entry_bytes_of batch) (items_shown place (item ∷ drop (n + 1) items) spans) = subst (λ (l : List ReadItem). FitTogether (entry_bytes_of batch) (items_shown place l spans)) split so.fit in
+    let next : AreCopied place items (n + 1) (drop k spans) (batch ++ shown ∷ []) whole = record {
+      all = append_assoc batch (shown ∷ []) (items_shown place (drop (n + 1) items) (drop k spans)) ∙ ap (λ (l : List ReadItem). batch ++ items_shown place l spans) (sym split) ∙ so.all;
+      taken = omega (arith, taken, length-drop k spans);
+      fit = subst (λ (s : ℕ). FitTogether s (items_shown place (drop (n + 1) items) (drop k spans))) (sym (end_push 0 batch shown)) fit.1;
+    } in
+    let new_here : batch ++ shown ∷ [] ≡ new = sym (new_is ∙ ap (λ (xs : List (ℕ × ℕ)). batch ++ item_shown place item xs ∷ []) (own_is ∙ ap (λ (i : ℕ). take i spans) m_is)) in
+    let rest_here : drop k spans ≡ rest = sym (rest_is ∙ ap (λ (i : ℕ). drop i spans) m_is) in
+    subst (λ (xs : List (ℕ × ℕ)). AreCopied place items (n + 1) xs new whole) rest_here (subst (λ (ys : List Item). AreCopied place items (n + 1) (drop k spans) ys whole) new_here next)
+
+pub all_copied : (place : FileBlockHandle) (items : List ReadItem) (n : ℕ) (spans : List (ℕ × ℕ)) (batch whole : List Item) → length items ≤ n → AreCopied place items n spans batch whole → batch ≡ whole
+all_copied place items n spans batch whole past so =
+    sym (append-nil batch) ∙ ap (λ (l : List ReadItem). batch ++ items_shown place l spans) (sym (drop_of_length-le items past)) ∙ so.all

@@ -9,14 +9,13 @@ use Rattle.raft_base.specs.declared.pipe_log.FileBlockHandle.{FileBlockHandle}
 use Rattle.raft_records.specs.declared.read_batch.ReadContent.{ReadContent}
 use Rattle.raft_records.specs.declared.read_batch.ReadContent.TheVariants as contents
 use Rattle.raft_records.specs.declared.read_batch.ReadItem.{ReadItem}
-use Rattle.raft_records.specs.DecodedIn.{AreDecodedIn, IsDecodedIn}
+use Rattle.raft_records.specs.DecodedIn.{IsDecodedIn}
 use Rattle.raft_records.specs.Entries.{Tile}
 use Rattle.raft_records.specs.Grammar.{end_behind, end_of_content}
 use Rattle.raft_records.specs.Item.{Content, Item}
 use Rattle.raft_records.specs.ItemBatch.{FitTogether, FitsBehind, entry_bytes_of}
 use Rattle.raft_records.specs.ReadBatch.{content_shown, item_shown, items_shown, spans_of, spans_taken}
 use Rattle.raft_records.proofs.BatchLemmas.{end_push}
-use Rattle.raft_records.proofs.Names.{behind_item}
 use Rattle.raft_records.proofs.ReadBatchLemmas.{shown_in_file}
 
 -- ---- ends

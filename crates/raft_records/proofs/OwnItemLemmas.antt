@@ -1,5 +1,5 @@
 -- Entries of a place, one after another.
-use Rattle.std.proofs.Common.{◌≡◌, ℕ, ◌+◌, ◌-◌, ◌<◌, ◌^◌, suc, length, List, [], ◌∷◌, ◌++◌, drop, slice_index_or, Some, refl, sym, ap, subst, ◌∙◌, arith}
+use Rattle.std.proofs.Common.{◌≡◌, ℕ, ◌+◌, ◌-◌, ◌<◌, ◌^◌, suc, length, List, [], ◌∷◌, ◌++◌, drop, slice_index_or, Some, sym, ap, subst, ◌∙◌, arith}
 use Rattle.std.specs.List.{AllByRecursion}
 use Rattle.std.proofs.lemmas.List.{at_drop_more, append_assoc}
 use Rattle.raft_base.specs.declared.compression_type.CompressionType.TheVariants as compressions

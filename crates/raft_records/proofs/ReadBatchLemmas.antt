@@ -1,5 +1,5 @@
 -- On batches as they are read.
-use Rattle.std.proofs.Common.{◌≡◌, ℕ, suc, ◌+◌, ◌≤◌, ◌<◌, ◌^◌, List, [], ◌∷◌, ◌++◌, map, length, take, drop, get_or, Option, Some, None, refl, sym, ap, ◌∙◌, subst, arith}
+use Rattle.std.proofs.Common.{◌≡◌, ℕ, suc, ◌+◌, ◌≤◌, ◌<◌, List, [], ◌∷◌, ◌++◌, map, length, take, drop, get_or, Some, refl, sym, ap, ◌∙◌, subst, arith}
 use Rattle.std.proofs.Math.Numerals.{add-one}
 use Rattle.std.proofs.Math.Seq.{take-length}
 use Rattle.std.proofs.lemmas.List.{append-nil, length-append, length-map, length_push, map-append, take-append-le, drop-append-le, length-drop}
@@ -17,9 +17,9 @@ use Rattle.raft_records.specs.declared.read_batch.ReadContent.TheVariants as con
 use Rattle.raft_records.specs.declared.command.Command.{Command}
 use Rattle.raft_records.specs.declared.read_batch.ReadItem.{ReadItem}
 use Rattle.raft_records.specs.DecodedIn.{AreDecodedIn, IsDecodedIn, IsPlaceInFile}
-use Rattle.raft_records.specs.Grammar.{AreTails, IsCommand, IsItem, IsKeyValue, IsTail, tail_of, end_behind}
-use Rattle.raft_records.specs.Item.{Item, Content, Pair, command, entries, pair}
-use Rattle.raft_records.specs.ItemBatch.{AreItems, FitTogether, FitsBehind, end_of_items, placed_item}
+use Rattle.raft_records.specs.Grammar.{AreTails, IsCommand, IsItem, IsKeyValue, IsTail}
+use Rattle.raft_records.specs.Item.{Item, Pair, command, entries, pair}
+use Rattle.raft_records.specs.ItemBatch.{FitTogether, FitsBehind, end_of_items, placed_item}
 use Rattle.raft_records.specs.Placement.{entry_between}
 use Rattle.raft_records.specs.ReadBatch.{content_shown, item_shown, items_shown, spans_of, spans_taken}
 use Rattle.raft_records.specs.ReadWords.{AreHeldAs, AreSpansRead, IsContentRead, IsHeldAs, IsItemRead, IsRunRead, span_of}

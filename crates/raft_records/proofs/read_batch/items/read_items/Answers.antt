@@ -1,4 +1,4 @@
-use Rattle.std.proofs.Common.{◌-◌, arith, refl, [], inl, inr}
+use Rattle.std.proofs.Common.{◌-◌, arith, inl, inr}
 use Rattle.std.proofs.lemmas.Result.{err_from_is_err_and}
 use Rattle.raft_records.proofs.BatchLemmas.{no_more_items, item_fault}
 use Rattle.raft_records.proofs.ReadBatchLemmas.{one_more_held}

@@ -1,4 +1,4 @@
-use Rattle.std.proofs.Common.{◌≡◌, ◌+◌, ◌-◌, ◌<◌, ◌++◌, ◌∷◌, [], ℕ, arith, subst}
+use Rattle.std.proofs.Common.{◌+◌, ◌-◌, ◌++◌, ◌∷◌, [], ℕ, arith, subst}
 use Rattle.raft_records.proofs.ReadBatchLemmas.{AreSpansSoFar, one_more_span, spans_read}
 use Rattle.raft_records.proofs.read_batch.short_items.read_short_spans.Goals as goal
 

@@ -7,7 +7,7 @@ ghost use Rattle.raft_history.specs.Histories.{IsSmall, Sound, Apart, IsOfQueue}
 ghost use Rattle.raft_history.specs.ReplayMachine.{event};
 
 use raft_base::{FileId, LogQueue, Result};
-use raft_records::LogItemBatch;
+use raft_records::{LogItemBatch, ReadBatch};
 
 /// A machine replays the batches of a segment, and takes in the machine of the segment behind it.
 ///
@@ -33,6 +33,22 @@ pub trait ReplayMachine: Send + Drop {
         ensures refused { IfErr result (λ e. e ≢ Error.Memory → (h : List Event)
             → IsSmall (h ++ event batch file_id ∷ []) → stands_for self.old h
             → ¬ (Sound (h ++ event batch file_id ∷ []))) };
+
+    /// Replays one more batch as it was read. A machine that has no better way makes a [`LogItemBatch`] of it.
+    fn replay_read(&mut self, batch: &ReadBatch<'_>, file_id: FileId) -> Result<()>
+        ensures stands { (h : List Event) → IsSmall (h ++ event batch.now file_id ∷ [])
+            → stands_for self.old h
+            → OnOk result (stands_for self.new (h ++ event batch.now file_id ∷ [])) }
+        ensures exact { (h : List Event) → IsSmall (h ++ event batch.now file_id ∷ [])
+            → stands_exactly self.old h
+            → OnOk result (stands_exactly self.new (h ++ event batch.now file_id ∷ [])) }
+        ensures refused { IfErr result (λ e. e ≢ Error.Memory → (h : List Event)
+            → IsSmall (h ++ event batch.now file_id ∷ []) → stands_for self.old h
+            → ¬ (Sound (h ++ event batch.now file_id ∷ []))) }
+    {
+        let own = batch.to_batch(batch.allocator())?;
+        self.replay(own, file_id)
+    }
 
     /// Takes in the machine of the batches that follow, all of one queue.
     fn merge(&mut self, rhs: Self, queue: LogQueue) -> Result<()>

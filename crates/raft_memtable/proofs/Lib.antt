@@ -7,6 +7,7 @@ mod RecoverContextLemmas
 mod BatchCheckLemmas
 mod WholeFiles
 mod ReadStateLemmas
+mod ReadTakenLemmas
 mod TakenWholes
 mod RegionJoinLemmas
 mod LiveSteps

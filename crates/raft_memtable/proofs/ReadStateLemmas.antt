@@ -1,9 +1,10 @@
 -- What was read, with one more batch or with a newer neighbor.
-use Rattle.std.proofs.Common.{◌≡◌, ◌≢◌, ℕ, ◌+◌, ◌≤◌, ◌^◌, false, List, [], ◌∷◌, ◌++◌, Option, Some, None, refl, sym, ap, subst, ◌∙◌, inl, inr, arith, append-nil}
+use Rattle.std.proofs.Common.{◌≡◌, ◌≢◌, ℕ, ◌+◌, ◌≤◌, ◌^◌, true, false, List, [], ◌∷◌, ◌++◌, Option, Some, None, Result, Ok, Err, refl, sym, ap, subst, ◌∙◌, inl, inr, arith, append-nil}
 use Rattle.std.specs.Ordering.{nat_cmp}
 use Rattle.std.specs.Prelude.{is_some, option_map}
 use Rattle.std.specs.List.{AllByRecursion}
 use Rattle.std.specs.Option.{unwrap_or}
+use Rattle.std.specs.Result.{OnOk}
 use Rattle.std.specs.Cmp.{nat_cmp_total}
 use Rattle.std.specs.FinMap as finite
 use Rattle.std.specs.FinMap.{nat_cmp-IsAntisymmetric}
@@ -19,7 +20,7 @@ use Rattle.raft_table.specs.Queues.{other}
 use Rattle.raft_table.specs.Steps.{after}
 use Rattle.raft_history.specs.Batches.{Event, GroupMarker, batch_of, batches, marker_in}
 use Rattle.raft_history.specs.Contexts.{Context, FileRange, Suits, files_of, follows, joined_files, AreExact, StandsFor, AreMerged, merged_with, completed_steps, region_steps_or, taken_in}
-use Rattle.raft_history.specs.Histories.{IsSoundIn, IsStepOfQueue, records_in}
+use Rattle.raft_history.specs.Histories.{AreInFile, HaveStatus, IsSoundIn, IsStepOfQueue, records_in}
 use Rattle.raft_history.specs.Joins.{StandForSteps, AreJoined}
 use Rattle.raft_history.specs.MarkedRegions.{MarkedRegions, region_in, regions_after, region_steps_of_whole, region_steps_of_wholes}
 use Rattle.raft_history.specs.Records.{all_records, waiting_records, records_or}
@@ -53,6 +54,15 @@ some_is e = cc
 
 pub next_of : (c : Context) (e : Event) → MayFollow c e → IsNextEvent c e
 next_of c e m = record { suits = m.queue; follows = m.files; in_file = m.items; status = m.markers }
+
+pub on_any : {X A : Type 0} (r : Result X Error) → A → OnOk r A
+on_any (Ok x) a = a
+on_any (Err x) a = tt
+
+-- a batch that was tested may come next
+pub may_follow : {X : Type 0} (c : Context) (e : Event) (r : Result X Error) → Suits e.file.queue c.files → follows c.files (files_of (e ∷ [])) ≡ true → OnOk r (AreInFile e.file e.items) → OnOk r (HaveStatus e.file.queue e.items) → OnOk r (MayFollow c e)
+may_follow c e (Ok x) suits files items markers = record { queue = suits; files = files; items = items; markers = markers }
+may_follow c e (Err x) suits files items markers = tt
 
 -- ---- no record of the other queue
 

@@ -225,7 +225,7 @@ not_tried q steps a b c r taken e h t =
     let k : b ≡ a = rw e at h in
     subst (λ x. AreStepsTaken q steps r x c) k t
 
-of_queue_front : (q : LogQueue) (xs ys : List RegionStep) → AreStepsOfQueue q (xs ++ ys) → AreStepsOfQueue q xs
+pub of_queue_front : (q : LogQueue) (xs ys : List RegionStep) → AreStepsOfQueue q (xs ++ ys) → AreStepsOfQueue q xs
 of_queue_front q [] ys h = tt
 of_queue_front q (x ∷ xs) ys h = (h.0, of_queue_front q xs ys h.1)
 

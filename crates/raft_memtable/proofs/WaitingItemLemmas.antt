@@ -12,7 +12,7 @@ use Rattle.raft_history.proofs.Words.{with_step}
 use Rattle.raft_history.proofs.StepListLemmas.{names_none, names_cons}
 use Rattle.raft_accessor.proofs.MapLemmas.{none_some, some_is}
 
-items-append : (xs ys : List Item) → steps_of_items (xs ++ ys) ≡ steps_of_items xs ++ steps_of_items ys
+pub items-append : (xs ys : List Item) → steps_of_items (xs ++ ys) ≡ steps_of_items xs ++ steps_of_items ys
 items-append [] ys = refl
 items-append (x ∷ xs) ys = go (content_step x.content) (items-append xs ys)
   where

@@ -11,7 +11,8 @@ ghost use Rattle.raft_memtable.specs.BatchChecks.{marker_found};
 
 use raft_base::{EntryIndex, Error, FileId, LogQueue, Result, is_consecutive};
 use raft_records::{
-    AtomicGroupStatus, KeyValue, LogItem, LogItemBatch, LogItemContent, OpType, is_reserved,
+    AtomicGroupStatus, KeyValue, LogItem, LogItemBatch, LogItemContent, OpType, ReadBatch,
+    is_reserved,
 };
 use std::alloc::Global;
 
@@ -43,6 +44,20 @@ pub(crate) fn check_batch(
             Ok(None)
         }
         LogQueue::Rewrite => check_rewrite_batch(alloc, items, file),
+    }
+}
+
+/// Tests whether a batch as it was read may take effect at once: it was read of this file, and the queue
+/// knows no groups. `false` says nothing of it.
+pub(crate) fn is_lone_read(batch: &ReadBatch<'_>, file: FileId) -> bool
+    ensures items { IsTrue result → AreInFile file batch.now }
+    ensures markers { IsTrue result → HaveStatus file.queue batch.now }
+    ensures marker { IsTrue result → marker_found file.queue batch.now ≡ None }
+{
+    let (place, _, _) = batch.parts();
+    match file.queue {
+        LogQueue::Append => place.id == file,
+        LogQueue::Rewrite => false,
     }
 }
 

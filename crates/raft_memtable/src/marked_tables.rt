@@ -22,6 +22,7 @@ ghost use Rattle.raft_memtable.specs.WaitingShown.{whole_shown};
 
 mod join;
 mod overlay;
+mod read;
 
 use crate::region_marks::RegionMarks;
 use crate::waiting_group::WholeGroup;

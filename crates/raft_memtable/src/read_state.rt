@@ -1,10 +1,11 @@
 //! What was read of a queue's batches.
 
-ghost use Rattle.std.specs.Prelude.{◌≡◌, ◌≢◌, ◌+◌, ◌≤◌, [], OnOk, OnErr, IfOk, IfErr, Some, None, map};
+ghost use Rattle.std.specs.Prelude.{◌≡◌, ◌≢◌, ◌+◌, ◌≤◌, true, List, [], ◌∷◌, OnOk, OnErr, IfOk, IfErr, Some, None, map};
 ghost use Rattle.std.specs.List.{AllByRecursion};
 ghost use Rattle.std.specs.Option.{option_map};
 ghost use Rattle.raft_base.specs.declared.pipe_log.LogQueue.TheVariants.{Append, Rewrite};
-ghost use Rattle.raft_history.specs.Contexts.{new_context, taken_in, merged_with, AreMerged, region_steps_or};
+ghost use Rattle.raft_records.specs.Item.{Item};
+ghost use Rattle.raft_history.specs.Contexts.{new_context, Suits, files_of, follows, taken_in, merged_with, AreMerged, region_steps_or};
 ghost use Rattle.raft_history.specs.Kept.{kept_of};
 ghost use Rattle.raft_history.specs.MarkedRegions.{regions_after, region_steps_of_wholes};
 ghost use Rattle.raft_history.specs.ReplayMachine.{event};
@@ -19,7 +20,7 @@ ghost use Rattle.raft_memtable.specs.WaitingShown.{whole_shown};
 
 mod overlay;
 
-use crate::batch_check::check_batch;
+use crate::batch_check::{check_batch, is_lone_read};
 use crate::file_range::FileRange;
 use crate::kept::Kept;
 use crate::marked_tables::MarkedTables;
@@ -27,7 +28,7 @@ use crate::waiting_group::WholeGroup;
 use crate::waiting_groups::WaitingGroups;
 use crate::waiting_items::WaitingItems;
 use raft_base::{Error, FileId, LogQueue, Result};
-use raft_records::{AtomicGroupStatus, LogItemBatch};
+use raft_records::{AtomicGroupStatus, LogItemBatch, ReadBatch};
 use std::alloc::Global;
 
 /// The tables and region marks of all regions, the groups that wait, and the files of the batches.
@@ -76,6 +77,26 @@ impl ReadState {
         }
     }
 
+    /// Does what [`ReadState::replay`] does, with a batch as it was read.
+    pub(crate) fn replay_read(&mut self, batch: &ReadBatch<'_>, file: FileId) -> Result<()>
+        requires { IsOfHistory (context_in self.old) }
+        ensures next { OnOk result (MayFollow (context_in self.old) (event batch.now file)) }
+        ensures taken { OnOk result (taken_in (context_in self.old) (event batch.now file)
+            ≡ Some (context_in self.new)) }
+        ensures counts { OnOk result (IsBatchCounted (event batch.now file) (context_in self.old)
+            self.old.regions.accessor.counts self.new.regions.accessor.counts) }
+        ensures history { OnOk result (IsOfHistory (context_in self.new)) }
+        ensures fault { IfErr result (IsBatchFault (reading_on (context_in self.old))
+            (event batch.now file)) }
+    {
+        if !is_lone_read(batch, file) {
+            let batch = batch.to_batch(self.alloc)?;
+            return self.replay(batch, file);
+        }
+        self.check_file(file)?;
+        self.take_lone_read(batch, file)
+    }
+
     /// Returns the group marker of a batch that may come next, if it has one.
     fn check(&self, batch: &LogItemBatch, file: FileId) -> Result<Option<(u64, AtomicGroupStatus)>>
         ensures next { OnOk result (MayFollow (context_in self.now) (event batch.now file)) }
@@ -83,13 +104,25 @@ impl ReadState {
         ensures fault { IfErr result (IsBatchFault (reading_on (context_in self.now))
             (event batch.now file)) }
     {
+        self.check_file(file)?;
+        check_batch(self.alloc, batch, file)
+    }
+
+    /// Tests whether a batch of this file may come next.
+    fn check_file(&self, file: FileId) -> Result<()>
+        ensures queue { OnOk result (Suits file.queue (context_in self.now).files) }
+        ensures files { OnOk result ((items : List Item)
+            → follows (context_in self.now).files (files_of (event items file ∷ [])) ≡ true) }
+        ensures fault { IfErr result (λ e. (items : List Item)
+            → IsBatchFault (reading_on (context_in self.now)) (event items file) e) }
+    {
         if !FileRange::suits(self.files, file.queue) {
             return Err(Error::corruption(self.alloc, "a batch of the other queue"));
         }
         if !FileRange::follows(self.files, Some(FileRange::of(file))) {
             return Err(Error::corruption(self.alloc, "a batch of a file below the last one"));
         }
-        check_batch(self.alloc, batch, file)
+        Ok(())
     }
 
     /// Takes in a batch without a group marker, which takes effect at once.
@@ -106,6 +139,24 @@ impl ReadState {
             (event batch file)) }
     {
         self.regions.take_items(file, batch)?;
+        self.files = FileRange::joined(self.files, Some(FileRange::of(file)));
+        Ok(())
+    }
+
+    /// Does what [`ReadState::take_lone_batch`] does, with a batch as it was read.
+    fn take_lone_read(&mut self, batch: &ReadBatch<'_>, file: FileId) -> Result<()>
+        requires history { IsOfHistory (context_in self.old) }
+        requires next { MayFollow (context_in self.old) (event batch.now file) }
+        requires without_marker { marker_found file.queue batch.now ≡ None }
+        ensures taken { OnOk result (taken_in (context_in self.old) (event batch.now file)
+            ≡ Some (context_in self.new)) }
+        ensures counts { OnOk result (IsBatchCounted (event batch.now file) (context_in self.old)
+            self.old.regions.accessor.counts self.new.regions.accessor.counts) }
+        ensures history { OnOk result (IsOfHistory (context_in self.new)) }
+        ensures fault { IfErr result (IsBatchFault (reading_on (context_in self.old))
+            (event batch.now file)) }
+    {
+        self.regions.take_read(self.alloc, file, batch)?;
         self.files = FileRange::joined(self.files, Some(FileRange::of(file)));
         Ok(())
     }

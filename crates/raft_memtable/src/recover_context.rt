@@ -23,7 +23,7 @@ use crate::read_state::ReadState;
 use raft_accessor::MemTableAccessor;
 use raft_base::{Error, Factory, FileId, LogQueue, Result};
 use raft_history::ReplayMachine;
-use raft_records::LogItemBatch;
+use raft_records::{LogItemBatch, ReadBatch};
 use std::alloc::Global;
 use std::marker::Model;
 
@@ -90,6 +90,26 @@ impl MemTableRecoverContext {
     {
         self.stage.begin()?;
         self.state.replay(batch, file_id)?;
+        self.stage = ContextStage::Reading;
+        Ok(())
+    }
+
+    /// Does what [`MemTableRecoverContext::replay`] does, with a batch as it was read.
+    ///
+    /// # Errors
+    ///
+    /// Those of [`MemTableRecoverContext::replay`].
+    pub fn replay_read(&mut self, batch: &ReadBatch<'_>, file_id: FileId) -> Result<()>
+        ensures ok { OnOk result (IsBatchTaken (event batch.now file_id) self.old self.new) }
+        ensures counts { OnOk result (IsBatchCounted (event batch.now file_id) self.old.context
+            self.old.counts self.new.counts) }
+        ensures fault { IfErr result (IsBatchFault self.old (event batch.now file_id)) }
+        ensures err { OnErr result (self.new.stage ≡ refused_stage self.old.stage) }
+        ensures unchanged { self.old.stage ≢ Reading → self.new ≡ self.old }
+        ensures failed { self.old.stage ≢ Reading → IfErr result (λ e. e ≡ Error.Failed) }
+    {
+        self.stage.begin()?;
+        self.state.replay_read(batch, file_id)?;
         self.stage = ContextStage::Reading;
         Ok(())
     }
@@ -220,6 +240,10 @@ impl ReplayMachine for MemTableRecoverContext {
 
     fn replay(&mut self, batch: LogItemBatch, file_id: FileId) -> Result<()> {
         self.replay(batch, file_id)
+    }
+
+    fn replay_read(&mut self, batch: &ReadBatch<'_>, file_id: FileId) -> Result<()> {
+        self.replay_read(batch, file_id)
     }
 
     fn merge(&mut self, rhs: MemTableRecoverContext, queue: LogQueue) -> Result<()> {

@@ -1,0 +1,77 @@
+-- Items as they were read, taken in one after another.
+use Rattle.std.proofs.Common.{◌≡◌, false, ◌==◌, ℕ, ◌+◌, ◌≤◌, List, [], ◌∷◌, ◌++◌, length, take, drop, Some, Result, Ok, Err, refl, sym, ap, subst, ◌∙◌, arith}
+use Rattle.std.proofs.lemmas.List.{length-drop}
+use Rattle.raft_base.specs.declared.errors.Error.{Error}
+use Rattle.raft_base.specs.declared.pipe_log.FileBlockHandle.{FileBlockHandle}
+use Rattle.raft_base.specs.declared.pipe_log.LogQueue.{LogQueue}
+use Rattle.raft_base.specs.Runs.{entries_of_block}
+use Rattle.raft_records.specs.DecodedIn.{IsDecodedIn, AreDecodedIn}
+use Rattle.raft_records.specs.ReadBatch.{spans_taken, spans_of, content_shown, item_shown, items_shown}
+use Rattle.raft_records.specs.declared.read_batch.ReadContent.TheVariants.{Run}
+use Rattle.raft_records.specs.declared.read_batch.ReadItem.{ReadItem}
+use Rattle.raft_history.specs.RegionSteps.{steps_of_items}
+use Rattle.raft_memtable.specs.MarkedTables.{AreStepsOfQueue, AreStepsTaken, first_index}
+use Rattle.raft_memtable.specs.declared.marked_tables.MarkedTables.{MarkedTables}
+use Rattle.raft_memtable.proofs.TakenLemmas.{taken_none, each_more, each_refused, rest_of_queue, of_queue_front}
+use Rattle.raft_memtable.proofs.WaitingItemLemmas.{items-append}
+
+-- an item that stands in where there is none
+abbrev pub no_read_item : ReadItem
+no_read_item = record { region = 0; content = Run 0 0 }
+
+-- the run of some spans begins at the first index
+pub first_of_spans : (first : ℕ) (place : FileBlockHandle) (spans : List (ℕ × ℕ)) → false ≡ (length spans == 0) → first_index (entries_of_block first place spans) ≡ Some first
+first_of_spans first place [] h = absurd cc
+first_of_spans first place (s ∷ ss) h = refl
+
+-- the items are such as may be taken in, and these are their spans
+pub record AreTakeable (q : LogQueue) (place : FileBlockHandle) (items : List ReadItem) (spans : List (ℕ × ℕ)) : Type 0 where
+  pub whole : spans_of items ≡ length spans
+  pub steps : AreStepsOfQueue q (steps_of_items (items_shown place items spans))
+  pub decoded : AreDecodedIn place.id (items_shown place items spans)
+
+-- what is taken in of the items that are left completes what is taken in of all
+abbrev pub IsMidway : LogQueue → FileBlockHandle → List ReadItem → List (ℕ × ℕ) → MarkedTables → List ReadItem → List (ℕ × ℕ) → MarkedTables → Type 0
+IsMidway q place items spans a left rest b =
+    AreTakeable q place left rest
+    × ((r : Result Unit Error) (c : MarkedTables) → AreStepsTaken q (steps_of_items (items_shown place left rest)) r b c → AreStepsTaken q (steps_of_items (items_shown place items spans)) r a c)
+
+-- the spans of an item in front are there
+pub has_spans : (q : LogQueue) (place : FileBlockHandle) (x : ReadItem) (xs left : List ReadItem) (rest : List (ℕ × ℕ)) (n : ℕ) → left ≡ x ∷ xs → n ≡ spans_taken x.content → AreTakeable q place left rest → n ≤ length rest
+has_spans q place x xs left rest n e is h = omega (arith, is, h.whole, ap spans_of e)
+
+module _ (q : LogQueue) (place : FileBlockHandle) (x : ReadItem) (xs left : List ReadItem) (rest own behind : List (ℕ × ℕ)) (n : ℕ) (e : left ≡ x ∷ xs) (is : n ≡ spans_taken x.content) (front : own ≡ take n rest) (back : behind ≡ drop n rest) where
+  -- the steps of an item in front, and those of the others
+  split : steps_of_items (items_shown place left rest) ≡ steps_of_items (item_shown place x own ∷ []) ++ steps_of_items (items_shown place xs behind)
+  split = rw (e, front, back, is) (items-append (item_shown place x (take (spans_taken x.content) rest) ∷ []) (items_shown place xs (drop (spans_taken x.content) rest)))
+
+  pub steps_in_front : AreTakeable q place left rest → AreStepsOfQueue q (steps_of_items (item_shown place x own ∷ []))
+  steps_in_front h = of_queue_front q (steps_of_items (item_shown place x own ∷ [])) (steps_of_items (items_shown place xs behind)) (subst (AreStepsOfQueue q) split h.steps)
+
+  both : AreTakeable q place left rest → IsDecodedIn place.id (content_shown place x.content own) × AreDecodedIn place.id (items_shown place xs behind)
+  both h = rw (front, back, is) (subst (λ (l : List ReadItem). AreDecodedIn place.id (items_shown place l rest)) e h.decoded)
+
+  pub decoded_in_front : AreTakeable q place left rest → IsDecodedIn place.id (content_shown place x.content own)
+  decoded_in_front h = (both h).0
+
+  takeable_behind : AreTakeable q place left rest → AreTakeable q place xs behind
+  takeable_behind h = record {
+    whole = omega (arith, is, h.whole, ap spans_of e, ap length back, length-drop n rest);
+    steps = rest_of_queue q (steps_of_items (item_shown place x own ∷ [])) (steps_of_items (items_shown place xs behind)) _ split h.steps;
+    decoded = (both h).1;
+  }
+
+  -- one more item is taken in
+  pub midway_more : (items : List ReadItem) (spans : List (ℕ × ℕ)) (a b c : MarkedTables) → IsMidway q place items spans a left rest b → AreStepsTaken q (steps_of_items (item_shown place x own ∷ [])) (Ok tt) b c → IsMidway q place items spans a xs behind c
+  midway_more items spans a b c h t = (
+    takeable_behind h.0,
+    λ r d u. h.1 r d (each_more q (steps_of_items (item_shown place x own ∷ [])) (steps_of_items (items_shown place xs behind)) _ b c d r split h.0.steps t u),
+  )
+
+  -- one item is refused
+  pub midway_refused : (items : List ReadItem) (spans : List (ℕ × ℕ)) (a b c : MarkedTables) (f : Error) → IsMidway q place items spans a left rest b → AreStepsTaken q (steps_of_items (item_shown place x own ∷ [])) (Err f) b c → AreStepsTaken q (steps_of_items (items_shown place items spans)) (Err f) a c
+  midway_refused items spans a b c f h t = h.1 (Err f) c (each_refused q (steps_of_items (item_shown place x own ∷ [])) (steps_of_items (items_shown place xs behind)) _ b c f split t)
+
+-- all are taken in
+pub midway_all : (q : LogQueue) (place : FileBlockHandle) (items left : List ReadItem) (spans rest : List (ℕ × ℕ)) (a b : MarkedTables) → left ≡ [] → IsMidway q place items spans a left rest b → AreStepsTaken q (steps_of_items (items_shown place items spans)) (Ok tt) a b
+midway_all q place items left spans rest a b e h = h.1 (Ok tt) b (subst (λ (l : List ReadItem). AreStepsTaken q (steps_of_items (items_shown place l rest)) (Ok tt) b b) (sym e) (taken_none q b))

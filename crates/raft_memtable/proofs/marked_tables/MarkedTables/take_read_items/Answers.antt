@@ -1,0 +1,44 @@
+use Rattle.std.proofs.Common.{◌+◌, Ok, drop, get_or}
+use Rattle.std.proofs.lemmas.Result.{err_from_is_err_and}
+use Rattle.raft_memtable.proofs.BatchCheckLemmas.{next_at, none_left}
+use Rattle.raft_memtable.proofs.ReadTakenLemmas.{no_read_item, has_spans, steps_in_front, decoded_in_front, midway_more, midway_refused, midway_all}
+use Rattle.raft_memtable.proofs.marked_tables.MarkedTables.take_read_items.Goals as goal
+
+pub loop-item-init : goal.loop-item-init
+loop-item-init c = (record { whole = c.requires.spans; steps = c.requires.steps; decoded = c.requires.decoded }, λ r d t. t)
+
+pub split_at-requires : goal.split_at-requires
+split_at-requires c =
+    let items = c.args.items.now in
+    let i = c.loop-item.item-index in
+    has_spans c.args.queue c.args.place (get_or items i no_read_item) (drop (i + 1) items) _ c.loop-item.rest.now c.span_count.result (next_at items i no_read_item c.loop-item-test.true) c.span_count.ensures c.loop-item.invariant.0
+
+pub take_read_item-requires-clause-steps : goal.take_read_item-requires-clause-steps
+take_read_item-requires-clause-steps c =
+    let items = c.args.items.now in
+    let i = c.loop-item.item-index in
+    steps_in_front c.args.queue c.args.place (get_or items i no_read_item) (drop (i + 1) items) _ c.loop-item.rest.now c.split_at.result.0.now c.split_at.result.1.now c.span_count.result (next_at items i no_read_item c.loop-item-test.true) c.span_count.ensures c.split_at.ensures.front c.split_at.ensures.back c.loop-item.invariant.0
+
+pub take_read_item-requires-clause-decoded : goal.take_read_item-requires-clause-decoded
+take_read_item-requires-clause-decoded c =
+    let items = c.args.items.now in
+    let i = c.loop-item.item-index in
+    decoded_in_front c.args.queue c.args.place (get_or items i no_read_item) (drop (i + 1) items) _ c.loop-item.rest.now c.split_at.result.0.now c.split_at.result.1.now c.span_count.result (next_at items i no_read_item c.loop-item-test.true) c.span_count.ensures c.split_at.ensures.front c.split_at.ensures.back c.loop-item.invariant.0
+
+pub loop-item-preserved : goal.loop-item-preserved
+loop-item-preserved c =
+    let items = c.args.items.now in
+    let i = c.loop-item.item-index in
+    midway_more c.args.queue c.args.place (get_or items i no_read_item) (drop (i + 1) items) _ c.loop-item.rest.now c.split_at.result.0.now c.split_at.result.1.now c.span_count.result (next_at items i no_read_item c.loop-item-test.true) c.span_count.ensures c.split_at.ensures.front c.split_at.ensures.back
+    items c.args.spans.now c.args.self.now c.loop-item.self c.take_read_item.new.self c.loop-item.invariant c.in_ok-take_read_item.ensures
+
+pub returns-in_err-take_read_item : goal.returns-in_err-take_read_item
+returns-in_err-take_read_item c =
+    let items = c.args.items.now in
+    let i = c.loop-item.item-index in
+    let p = err_from_is_err_and c.from_residual.result c.from_residual.ensures.1 in
+    rw (p.1, p.2) (midway_refused c.args.queue c.args.place (get_or items i no_read_item) (drop (i + 1) items) _ c.loop-item.rest.now c.split_at.result.0.now c.split_at.result.1.now c.span_count.result (next_at items i no_read_item c.loop-item-test.true) c.span_count.ensures c.split_at.ensures.front c.split_at.ensures.back
+    items c.args.spans.now c.args.self.now c.loop-item.self c.take_read_item.new.self _ c.loop-item.invariant c.in_err-take_read_item.ensures)
+
+pub returns : goal.returns
+returns c = midway_all c.args.queue c.args.place c.args.items.now _ c.args.spans.now c.loop-item.rest.now c.args.self.now c.loop-item.self (none_left c.args.items.now c.loop-item.item-index c.loop-item-test.false) c.loop-item.invariant

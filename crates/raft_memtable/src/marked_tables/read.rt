@@ -1,0 +1,133 @@
+//! Batches as they were read, taken into the tables and region marks.
+
+ghost use Rattle.std.specs.Prelude.{◌≡◌, ◌≤◌, ◌++◌, [], ◌∷◌, length, Ok, OnOk, IfOk, IfErr, MatchBool, Some};
+ghost use Rattle.raft_records.specs.DecodedIn.{IsDecodedIn, AreDecodedIn};
+ghost use Rattle.raft_records.specs.ReadBatch.{content_shown, item_shown, items_shown, spans_of};
+ghost use Rattle.raft_history.specs.Histories.{AreInFile};
+ghost use Rattle.raft_history.specs.MarkedRegions.{regions_after};
+ghost use Rattle.raft_history.specs.RegionSteps.{steps_of_items, cleaned_by_steps};
+ghost use Rattle.raft_table.specs.Queues.{other};
+ghost use Rattle.raft_accessor.specs.Accessor.{live_in_all};
+ghost use Rattle.raft_memtable.specs.MarkedTables.{regions_in, AreStepsOfQueue, IsStepsFault, AreStepsTaken};
+ghost use Rattle.raft_memtable.specs.StepCounts.{AreCountsAfterSteps};
+
+use crate::marked_tables::MarkedTables;
+use raft_base::{AllocResult, FileBlockHandle, FileId, LogQueue, Result};
+use raft_records::{ReadBatch, ReadContent, ReadItem};
+use std::alloc::Global;
+
+impl MarkedTables {
+    /// Does what [`MarkedTables::take_items`] does, with the items of a batch as it was read.
+    ///
+    /// # Errors
+    ///
+    /// Those of [`MarkedTables::take_items`]. Some items are then taken in.
+    pub(crate) fn take_read(
+        &mut self,
+        alloc: Global,
+        file: FileId,
+        batch: &ReadBatch<'_>,
+    ) -> Result<()>
+        requires { AreInFile file batch.now }
+        ensures ok { OnOk result
+            (regions_after file.queue (regions_in self.old) (steps_of_items batch.now)
+            ≡ Some (regions_in self.new)) }
+        ensures cleaned { OnOk result (self.new.accessor.cleaned
+            ≡ self.old.accessor.cleaned
+            ++ cleaned_by_steps file.queue (steps_of_items batch.now)) }
+        ensures counts { OnOk result (AreCountsAfterSteps file.queue self.old.accessor.tables
+            (steps_of_items batch.now) self.old.accessor.counts self.new.accessor.counts) }
+        ensures fault { IfErr result (IsStepsFault file.queue (regions_in self.old)
+            (steps_of_items batch.now)) }
+        ensures other { OnOk result
+            (live_in_all (other file.queue) self.new.accessor.tables
+            ≤ live_in_all (other file.queue) self.old.accessor.tables) }
+    {
+        let (place, items, spans) = batch.parts();
+        self.take_read_items(alloc, file.queue, place, items, spans)
+    }
+
+    /// Takes in items as they were read, in order. Each takes its spans from the front of those that are left.
+    fn take_read_items(
+        &mut self,
+        alloc: Global,
+        queue: LogQueue,
+        place: FileBlockHandle,
+        items: &[ReadItem<'_>],
+        spans: &[(u32, u32)],
+    ) -> Result<()>
+        requires spans { spans_of items.now ≡ length spans.now }
+        requires steps { AreStepsOfQueue queue
+            (steps_of_items (items_shown place items.now spans.now)) }
+        requires decoded { AreDecodedIn place.id (items_shown place items.now spans.now) }
+        ensures { AreStepsTaken queue (steps_of_items (items_shown place items.now spans.now))
+            result self.old self.new }
+    {
+        let mut rest = spans;
+        for item in items {
+            let (own, behind) = rest.split_at(item.span_count());
+            self.take_read_item(alloc, queue, place, item, own)?;
+            rest = behind;
+        }
+        Ok(())
+    }
+
+    /// Takes in an item as it was read. A run has these spans.
+    fn take_read_item(
+        &mut self,
+        alloc: Global,
+        queue: LogQueue,
+        place: FileBlockHandle,
+        item: &ReadItem<'_>,
+        spans: &[(u32, u32)],
+    ) -> Result<()>
+        requires steps { AreStepsOfQueue queue
+            (steps_of_items (item_shown place item.now spans.now ∷ [])) }
+        requires decoded { IsDecodedIn place.id (content_shown place item.now.content spans.now) }
+        ensures { AreStepsTaken queue (steps_of_items (item_shown place item.now spans.now ∷ []))
+            result self.old self.new }
+    {
+        if self.try_spans(queue, place, item, spans)? {
+            return Ok(());
+        }
+        let item = item.to_item(alloc, place, spans)?;
+        self.take_item(queue, item)
+    }
+
+    /// Does what [`MarkedTables::try_run`] does, with an item as it was read. A run has these spans.
+    ///
+    /// # Errors
+    ///
+    /// `AllocError`. The run is then in its table, and not in the region mark.
+    fn try_spans(
+        &mut self,
+        queue: LogQueue,
+        place: FileBlockHandle,
+        item: &ReadItem<'_>,
+        spans: &[(u32, u32)],
+    ) -> AllocResult<bool>
+        requires { AreStepsOfQueue queue
+            (steps_of_items (item_shown place item.now spans.now ∷ [])) }
+        ensures { IfOk result (λ taken. MatchBool taken
+            (AreStepsTaken queue (steps_of_items (item_shown place item.now spans.now ∷ []))
+            (Ok tt) self.old self.new)
+            (self.new ≡ self.old)) }
+    {
+        let id = item.region;
+        let ReadContent::Run { first, .. } = &item.content else {
+            return Ok(false);
+        };
+        let first = *first;
+        if spans.is_empty() {
+            return Ok(false);
+        }
+        let Some(end) = self
+            .accessor
+            .try_replay_spans(queue, id, first, place, spans)
+        else {
+            return Ok(false);
+        };
+        self.marks.add_run(id, queue, end, first)?;
+        Ok(true)
+    }
+}

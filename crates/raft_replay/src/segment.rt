@@ -12,7 +12,7 @@ ghost use Rattle.raft_replay.specs.WrittenParts.{bytes_of_segments, WrittenBatch
 
 use raft_base::{Error, FileId, LogFileContext, LogQueue, Result};
 use raft_history::ReplayMachine;
-use raft_records::{FilePart, next_in};
+use raft_records::{FilePart, ReadBatch};
 use std::alloc::Global;
 
 /// Parts of files of a queue, one behind the other.
@@ -79,11 +79,12 @@ pub fn replay_bytes<M: ReplayMachine>(
         (M.stands_for machine.old)) }
     ensures place { IfErr result (StopsIn (part_of file.now offset bytes.now)) }
 {
+    let mut batch = ReadBatch::new(alloc, file.id);
     let mut at = 0;
     loop {
-        match next_in(alloc, file, offset, bytes, at) {
-            Ok(Some((batch, next))) => {
-                if let Err(error) = machine.replay(batch, file.id) {
+        match batch.read_next(file, offset, bytes, at) {
+            Ok(Some(next)) => {
+                if let Err(error) = machine.replay_read(&batch, file.id) {
                     return Err(placed(alloc, error, file.id, offset + at as u64));
                 }
                 at = next;

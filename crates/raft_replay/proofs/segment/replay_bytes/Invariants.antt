@@ -5,8 +5,8 @@ use Rattle.raft_replay.proofs.Words.{PartHolds}
 use Rattle.raft_replay.proofs.MidwayLemmas.{Midway}
 use Rattle.raft_replay.proofs.segment.replay_bytes.Given as goal
 
-abbrev pub invariant-loop-batch : goal.invariant-loop-batch
-invariant-loop-batch g l = record {
+abbrev pub invariant-loop-next : goal.invariant-loop-next
+invariant-loop-next g l = record {
   inside : l.at ≤ length l.bytes;
   readable : AreBatchesUpTo (part_of l.file l.offset l.bytes) l.at;
   midway :
@@ -15,5 +15,5 @@ invariant-loop-batch g l = record {
       (g.M.ReplayMachine.stands_exactly l.fn.machine) (g.M.ReplayMachine.stands_exactly l.machine);
 }
 
-abbrev pub decreases-loop-batch : goal.decreases-loop-batch
-decreases-loop-batch g l = length l.bytes - l.at
+abbrev pub decreases-loop-next : goal.decreases-loop-next
+decreases-loop-next g l = length l.bytes - l.at

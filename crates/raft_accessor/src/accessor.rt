@@ -350,10 +350,8 @@ impl MemTableAccessor {
         ensures memory { IfErr result (λ e. e ≡ Error.Memory) }
     {
         let mut kept = Vec::new(*self.cleaned.allocator());
-        for table in self.tables()? {
-            if f(table) {
-                kept.push(table)?;
-            }
+        for slot in &self.slots {
+            slot.push_wanted(&mut f, &mut kept)?;
         }
         Ok(kept)
     }

@@ -20,7 +20,7 @@ ghost use Rattle.raft_table.specs.TableEntries.{IsRunIn};
 ghost use Rattle.raft_accessor.specs.Accessor.{table_in, live_in_all};
 ghost use Rattle.raft_accessor.specs.Merges.{with_newer, with_appended, IsNewerFault, IsAppendedFault, MayAlter, IsAltered, IsTableMerged};
 ghost use Rattle.raft_accessor.specs.Updates.{MayChange, IsUpdated, BecomesOutcome};
-ghost use Rattle.raft_accessor.specs.Walks.{KeepsId, Makes};
+ghost use Rattle.raft_accessor.specs.Walks.{Collects, KeepsId, Makes};
 
 mod join;
 mod overlay;
@@ -96,6 +96,31 @@ impl RegionTables {
     {
         for table in self.tables.values() {
             tables.push(table)?;
+        }
+        Ok(())
+    }
+
+    /// Pushes the tables at which `wanted` returns true, in no set order.
+    ///
+    /// # Errors
+    ///
+    /// `Memory`. Some tables may then be pushed.
+    pub(crate) fn push_wanted<'a, F: FnMut(&MemTable) -> bool>(
+        &'a self,
+        wanted: &mut F,
+        tables: &mut Vec<&'a MemTable>,
+    ) -> Result<()>
+        requires { F.IsAlwaysCallable wanted.old }
+        ensures callable { OnOk result (F.IsAlwaysCallable wanted.new) }
+        ensures ok { OnOk result ((ts : List Table) × IsPermutation ts (finite.values self.now)
+            × FoldsTo (Collects F.FnMut) (wanted.old, map (λ t. t.now) tables.old.items) ts
+            (wanted.new, map (λ t. t.now) tables.new.items)) }
+        ensures memory { IfErr result (λ e. e ≡ Error.Memory) }
+    {
+        for table in self.tables.values() {
+            if wanted(table) {
+                tables.push(table)?;
+            }
         }
         Ok(())
     }

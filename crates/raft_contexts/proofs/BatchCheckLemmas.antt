@@ -1,9 +1,10 @@
 -- Batches that are tested before they are taken in.
 use Rattle.std.proofs.Common.{◌≡◌, true, false, ◌<◌, ◌≤◌, ◌+◌, ℕ, suc, zero, List, [], ◌∷◌, drop, length, map, get_or, Option, Some, None, refl, sym, ap, ◌∙◌, arith}
-use Rattle.std.specs.Prelude.{Bool, MatchBool}
+use Rattle.std.specs.Prelude.{Bool, IsTrue, MatchBool}
 use Rattle.std.specs.List.{AllByRecursion, AllWithin, HoldsAt}
 use Rattle.std.proofs.lemmas.List.Elements.{All-from_recursion, recursion_from_All}
-use Rattle.std.specs.Option.{option_or}
+use Rattle.std.specs.Option.{option_and_then, option_map, option_or}
+use Rattle.raft_base.specs.declared.pipe_log.FileBlockHandle.{FileBlockHandle}
 use Rattle.raft_base.specs.declared.pipe_log.FileId.{FileId}
 use Rattle.raft_base.specs.declared.pipe_log.LogQueue.TheVariants.{Rewrite}
 use Rattle.raft_base.specs.declared.entry_index.EntryIndex.{EntryIndex}
@@ -11,13 +12,16 @@ use Rattle.raft_base.specs.NoEntry.{no_entry}
 use Rattle.raft_base.specs.Runs.{IsConsecutive}
 use Rattle.raft_records.specs.declared.atomic_group.AtomicGroupStatus.{AtomicGroupStatus}
 use Rattle.raft_records.specs.declared.atomic_group.AtomicGroupStatus.TheVariants.{Begin, Middle, End}
-use Rattle.raft_records.specs.Group.{status_byte, first_marker, marker_byte, IsGroupMarkerRead}
+use Rattle.raft_records.specs.Group.{status_byte, status_of, first_marker, marker_byte, IsGroupMarkerRead}
 use Rattle.raft_records.specs.Item.{Item, item_of, content_of}
 use Rattle.raft_records.specs.declared.log_item.LogItem.{LogItem}
 use Rattle.raft_records.specs.DecodedIn.{IsPlaceInFile}
+use Rattle.raft_records.specs.ReadBatch.{content_shown, items_shown}
+use Rattle.raft_records.specs.declared.read_batch.ReadItem.{ReadItem}
 use Rattle.raft_records.proofs.GroupLemmas.{one_byte, marker_is}
 use Rattle.raft_history.specs.Histories.{IsInFile, AreInFile, HaveStatus}
 use Rattle.raft_history.proofs.Words.{ArePlacesInFile}
+use Rattle.raft_contexts.specs.BatchChecks.{HaveNoMarker}
 
 or_or : (m n o : Option (ℕ × AtomicGroupStatus)) → option_or (option_or m n) o ≡ option_or m (option_or n o)
 or_or None n o = refl
@@ -61,22 +65,19 @@ none_left (x ∷ xs) zero past = absurd (omega arith)
 none_left (x ∷ xs) (suc i) past = none_left xs i (omega arith)
 
 -- what is known of items whose first are tested, beside the marker so far
-abbrev pub IsTested : FileId → List Item → List Item → Option (ℕ × AtomicGroupStatus) → Type 0
-IsTested file all rest marker =
-    (AreInFile file rest → AreInFile file all) × (AreInFile file all → AreInFile file rest)
-    × (HaveStatus Rewrite rest → HaveStatus Rewrite all) × (HaveStatus Rewrite all → HaveStatus Rewrite rest)
+abbrev pub IsTested : List Item → List Item → Option (ℕ × AtomicGroupStatus) → Type 0
+IsTested all rest marker =
+    (HaveStatus Rewrite rest → HaveStatus Rewrite all) × (HaveStatus Rewrite all → HaveStatus Rewrite rest)
     × (option_or marker (first_marker rest) ≡ first_marker all)
 
 -- what is known behind one more item
-pub one_more : (file : FileId) (all rest : List Item) (item : Item) (marker found : Option (ℕ × AtomicGroupStatus))
-    → IsTested file all (item ∷ rest) marker → IsInFile file item.content → IsGroupMarkerRead item found → IsTested file all rest (option_or marker found)
+pub one_more : (all rest : List Item) (item : Item) (marker found : Option (ℕ × AtomicGroupStatus))
+    → IsTested all (item ∷ rest) marker → IsGroupMarkerRead item found → IsTested all rest (option_or marker found)
 unfolding first_marker
-one_more file all rest item marker found h is read = (
-  λ r. h.0 (is, r),
+one_more all rest item marker found h read = (
+  λ r. h.0 (read_status item found read, r),
   λ r. (h.1 r).1,
-  λ r. h.2 (read_status item found read, r),
-  λ r. (h.3 r).1,
-  or_or marker found (first_marker rest) ∙ ap (λ f. option_or marker (option_or f (first_marker rest))) (sym (marker_is item found read)) ∙ h.4,
+  or_or marker found (first_marker rest) ∙ ap (λ f. option_or marker (option_or f (first_marker rest))) (sym (marker_is item found read)) ∙ h.2,
 )
 
 -- what holds of each element holds of each of their images, and the other way round
@@ -101,3 +102,30 @@ in_file_if_placed file es true h consecutive =
     (consecutive, recursion_from_All (λ (e : EntryIndex). IsPlaceInFile file e.entries) es (λ k d low. h k d (omega arith) low))
 in_file_if_placed file es false h consecutive =
     λ both. h.2 no_entry (All-from_recursion (λ (e : EntryIndex). IsPlaceInFile file e.entries) es both.1 h.0 no_entry h.1)
+
+-- items without a group marker have none with a wrong status
+pub status_of_none : (items : List Item) → HaveNoMarker items → HaveStatus Rewrite items
+status_of_none [] h = tt
+status_of_none (item ∷ items) h = (λ byte m. let e : Some byte ≡ None = sym m ∙ h.0 in absurd cc, status_of_none items h.1)
+
+-- and no first one
+pub first_of_none : (items : List Item) → HaveNoMarker items → first_marker items ≡ None
+unfolding first_marker
+first_of_none [] h = refl
+first_of_none (item ∷ items) h = ap (λ (byte : Option ℕ). option_or (option_map (λ status. (item.raft_group_id, status)) (option_and_then status_of byte)) (first_marker items)) h.0 ∙ first_of_none items h.1
+
+-- what is shown of an item as it was read is no group marker
+abbrev pub IsNoMarker : ReadItem → Type 0
+IsNoMarker item = (place : FileBlockHandle) (spans : List (ℕ × ℕ)) → marker_byte (content_shown place item.content spans) ≡ None
+
+-- so for all items
+none_shown : (items : List ReadItem) → AllByRecursion IsNoMarker items → (place : FileBlockHandle) (spans : List (ℕ × ℕ)) → HaveNoMarker (items_shown place items spans)
+none_shown [] h place spans = tt
+none_shown (item ∷ items) h place spans = (h.0 place _, none_shown items h.1 place _)
+
+-- what the test of each item says of all
+pub none_marks : (items : List ReadItem) (all : Bool)
+    → MatchBool all (AllWithin IsNoMarker items 0 (length items)) ((k : ℕ) × (k < length items) × HoldsAt (λ (i : ReadItem). Unit {0}) items k)
+    → IsTrue all → (place : FileBlockHandle) (spans : List (ℕ × ℕ)) → HaveNoMarker (items_shown place items spans)
+none_marks items true h is = none_shown items (recursion_from_All IsNoMarker items (λ k d low. h k d (omega arith) low))
+none_marks items false h is = absurd is

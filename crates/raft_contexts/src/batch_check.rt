@@ -1,18 +1,20 @@
 //! Tests of a batch before it is taken in.
 
-ghost use Rattle.std.specs.Prelude.{◌≡◌, ◌≢◌, IsTrue, MatchBool, IfOk, IfErr, OnOk, None, map};
+ghost use Rattle.std.specs.Prelude.{◌≡◌, ◌≢◌, ℕ, List, IsTrue, MatchBool, IfOk, IfErr, OnOk, None, map};
+ghost use Rattle.raft_base.specs.declared.pipe_log.FileBlockHandle.{FileBlockHandle};
 ghost use Rattle.raft_base.specs.declared.pipe_log.LogQueue.TheVariants.{Append, Rewrite};
 ghost use Rattle.raft_records.specs.Faults.{IsAnyCorruption};
-ghost use Rattle.raft_records.specs.Group.{first_marker};
+ghost use Rattle.raft_records.specs.Group.{first_marker, marker_byte};
 ghost use Rattle.raft_records.specs.Item.{item_of, content_of, entries as entries_of, pair, pair_of};
 ghost use Rattle.raft_records.specs.DecodedIn.{IsPlaceInFile};
+ghost use Rattle.raft_records.specs.ReadBatch.{content_shown, items_shown};
 ghost use Rattle.raft_history.specs.Histories.{IsInFile, AreInFile, HaveStatus};
-ghost use Rattle.raft_contexts.specs.BatchChecks.{marker_found};
+ghost use Rattle.raft_contexts.specs.BatchChecks.{marker_found, HaveNoMarker};
 
 use raft_base::{EntryIndex, Error, FileId, LogQueue, Result, is_consecutive};
 use raft_records::{
-    AtomicGroupStatus, KeyValue, LogItem, LogItemBatch, LogItemContent, OpType, ReadBatch,
-    is_reserved,
+    AtomicGroupStatus, KeyValue, LogItem, LogItemBatch, LogItemContent, OpType, ReadBatch, ReadContent,
+    ReadItem, is_reserved,
 };
 use std::alloc::Global;
 
@@ -36,28 +38,48 @@ pub(crate) fn check_batch(
     ensures fault { IfErr result IsAnyCorruption }
 {
     let items = batch.iter().as_slice();
+    if !knows_file(batch, file) && !are_in_file(items, file) {
+        return Err(Error::corruption(alloc, "an item can't stand in a batch of its file"));
+    }
     match file.queue {
-        LogQueue::Append => {
-            if !knows_file(batch, file) && !are_in_file(items, file) {
-                return Err(Error::corruption(alloc, "an item can't stand in a batch of its file"));
-            }
-            Ok(None)
-        }
-        LogQueue::Rewrite => check_rewrite_batch(alloc, items, file),
+        LogQueue::Append => Ok(None),
+        LogQueue::Rewrite => group_marker(alloc, items),
     }
 }
 
-/// Tests whether a batch as it was read may take effect at once: it was read of this file, and the queue
-/// knows no groups. `false` says nothing of it.
+/// Tests whether a batch as it was read may take effect at once: it was read of this file, and no item of it can
+/// be a group marker that the queue knows. `false` says nothing of it.
 pub(crate) fn is_lone_read(batch: &ReadBatch<'_>, file: FileId) -> bool
     ensures items { IsTrue result → AreInFile file batch.now }
     ensures markers { IsTrue result → HaveStatus file.queue batch.now }
     ensures marker { IsTrue result → marker_found file.queue batch.now ≡ None }
 {
-    let (place, _, _) = batch.parts();
+    let (place, items, _) = batch.parts();
+    if place.id != file {
+        return false;
+    }
     match file.queue {
-        LogQueue::Append => place.id == file,
-        LogQueue::Rewrite => false,
+        LogQueue::Append => true,
+        LogQueue::Rewrite => have_no_marker(items),
+    }
+}
+
+/// Tests whether no item can be a group marker. `false` says nothing of them.
+fn have_no_marker(items: &[ReadItem<'_>]) -> bool
+    ensures { IsTrue result → (place : FileBlockHandle) (spans : List (ℕ × ℕ))
+        → HaveNoMarker (items_shown place items.now spans) }
+{
+    items.iter().all(|item| is_no_marker(item))
+}
+
+/// Tests whether an item can't be a group marker: it puts no value under the key that is kept for them.
+fn is_no_marker(item: &ReadItem<'_>) -> bool
+    ensures { IsTrue result → (place : FileBlockHandle) (spans : List (ℕ × ℕ))
+        → marker_byte (content_shown place item.now.content spans) ≡ None }
+{
+    match &item.content {
+        ReadContent::Put { key, .. } => !is_reserved(key),
+        _ => true,
     }
 }
 
@@ -72,25 +94,20 @@ fn knows_file(batch: &LogItemBatch, file: FileId) -> bool
     }
 }
 
-/// Does what [`check_batch`] does, of the items of a batch of the rewrite queue.
-fn check_rewrite_batch(
-    alloc: Global,
-    items: &[LogItem],
-    file: FileId,
-) -> Result<Option<(u64, AtomicGroupStatus)>>
-    ensures items { OnOk result (AreInFile file (map item_of items.now)) }
+/// Returns the first group marker among items of the rewrite queue, if they have one.
+///
+/// # Errors
+///
+/// `Corruption` where the status of one is unknown, `Memory` for the refusal's text.
+fn group_marker(alloc: Global, items: &[LogItem]) -> Result<Option<(u64, AtomicGroupStatus)>>
     ensures markers { OnOk result (HaveStatus Rewrite (map item_of items.now)) }
     ensures marker { IfOk result (λ marker. marker ≡ first_marker (map item_of items.now)) }
     ensures refused { IfErr result
-        (λ e. e ≢ Error.Memory
-        → AreInFile file (map item_of items.now) → HaveStatus Rewrite (map item_of items.now) → ⊥) }
+        (λ e. e ≢ Error.Memory → HaveStatus Rewrite (map item_of items.now) → ⊥) }
     ensures fault { IfErr result IsAnyCorruption }
 {
     let mut marker = None;
     for item in items {
-        if !is_in_file(item, file) {
-            return Err(Error::corruption(alloc, "an item can't stand in a batch of its file"));
-        }
         let found = AtomicGroupStatus::parse(alloc, item)?;
         marker = marker.or(found);
     }

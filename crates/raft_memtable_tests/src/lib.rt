@@ -13,3 +13,5 @@ mod large;
 mod markers;
 #[cfg(test)]
 mod overlays;
+#[cfg(test)]
+mod reads;

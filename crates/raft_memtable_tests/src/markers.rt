@@ -8,7 +8,7 @@ use raft_records::{AtomicGroupStatus, FilePart};
 use std::alloc::Global;
 
 /// The group markers of four batches.
-type Statuses = [AtomicGroupStatus; 4];
+pub(crate) type Statuses = [AtomicGroupStatus; 4];
 
 const STATUSES: [AtomicGroupStatus; 3] = [Begin, Middle, End];
 
@@ -47,7 +47,7 @@ fn is_whole(statuses: &[AtomicGroupStatus]) -> bool {
 
 /// Returns what the group markers ask for: each whole stretch has the keys of its batches, and is the region's last
 /// group if none follows it.
-fn owed(statuses: &Statuses) -> Effect {
+pub(crate) fn owed(statuses: &Statuses) -> Effect {
     let mut keys = [false; 4];
     let mut group = None;
     for &(first, last) in &[(0, 1), (0, 2), (1, 2), (0, 3), (1, 3), (2, 3)] {
@@ -78,7 +78,7 @@ fn whole_stretches_are_found(rt: HostRuntime) {
 }
 
 /// Returns four batches with these group markers of group 9, in the files 1 to 4: each puts a key in region 5.
-fn parts_of(alloc: Global, statuses: &Statuses) -> Result<Vec<FilePart>> {
+pub(crate) fn parts_of(alloc: Global, statuses: &Statuses) -> Result<Vec<FilePart>> {
     let mut parts = Vec::new(alloc);
     let mut seq = 1u64;
     for (status, key) in statuses.iter().zip(KEYS.iter()) {

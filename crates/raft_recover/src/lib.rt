@@ -1,6 +1,7 @@
 //! Recovery of tables from log files, on 1 to 256 threads, and the program over it.
 #![tactic(auto)]
 
+mod ending;
 pub mod files;
 pub mod program;
 pub mod recovered;

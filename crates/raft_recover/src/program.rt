@@ -3,29 +3,19 @@
 ghost use Rattle.std.specs.Prelude.{◌≡◌, ◌≢◌, ◌≤◌, ◌↔◌, ◌⊎◌, ℕ, List, OnOk, IfErr, map, string_bytes};
 ghost use Rattle.std.specs.Io.KnownBytes.{Keeps};
 ghost use Rattle.std.specs.IoError.{error_kind};
-ghost use Rattle.raft_recover.specs.Requests.{AsksRecovery, AsksNothing, refusal_word};
+ghost use Rattle.raft_recover.specs.Requests.{AsksRecovery, AsksNothing};
 ghost use Rattle.raft_recover.specs.AskedRequests.{IsAsked, asks_for};
 ghost use Rattle.raft_recover.specs.Programs.{IsRecoveryPrinted, IsRecoveryFrontPrinted, IsPrinted, IsFrontPrinted};
 
+use crate::ending::{Program, Status};
 use crate::recovery::recover_bytes;
 use crate::request::{RecoverWords, Request, read_files};
-use raft_base::{Error, Result};
+use raft_base::Result;
 use raft_records::print_batch;
 use std::io::{ErrorKind, Read, Write};
 use std::rt::{Env, Files};
 use std::thread::Threads;
 use std::{env, io};
-
-/// How a run of `raftlog` ends.
-#[derive(Clone, Copy, PartialEq, Eq, Debug)]
-enum Status {
-    /// What was asked for is done.
-    Done = 0,
-    /// It was refused.
-    Refused = 1,
-    /// The words ask for nothing that `raftlog` does.
-    Misused = 2,
-}
 
 /// What is printed where the words ask for nothing that `raftlog` does.
 const USAGE: &str = "\
@@ -41,6 +31,11 @@ recover prints the tables that log files give
 <workers>  1 to 256: how many threads read the files at most
 <path>     where a file is
 ";
+
+const RAFTLOG: Program = Program {
+    name: "raftlog",
+    usage: USAGE,
+};
 
 /// Does what the words of a command line ask for, and returns the status to end with: 0 where it is
 /// done, 1 where it is refused, 2 where the words ask for nothing. A refusal and a hint at the words
@@ -65,12 +60,12 @@ pub fn run<S: Files + AllocGlobal + Threads + Sync, R: Read, W: Write, E: Write>
 {
     let request = match Request::parse(rt.alloc(), words) {
         Ok(Some(request)) => request,
-        Ok(None) => return misused(err),
-        Err(memory) => return refused(refusal(&memory), err),
+        Ok(None) => return RAFTLOG.misused(err),
+        Err(memory) => return RAFTLOG.refused(&memory, err),
     };
     match answer(rt, request, input, out) {
         Ok(()) => Status::Done as u8,
-        Err(error) => refused(refusal(&error), err),
+        Err(error) => RAFTLOG.refused(&error, err),
     }
 }
 
@@ -93,26 +88,7 @@ pub fn run_without_words<E: Write>(error: &io::Error, err: &mut E) -> u8
     ensures memory { error_kind error.now ≡ ErrorKind.OutOfMemory → result ≡ 1 }
     ensures misused { error_kind error.now ≢ ErrorKind.OutOfMemory → result ≡ 2 }
 {
-    if error.kind() == ErrorKind::OutOfMemory {
-        return refused(refusal(&Error::Memory), err);
-    }
-    misused(err)
-}
-
-/// Hints at the words that are understood, and returns the status to end with.
-fn misused<E: Write>(err: &mut E) -> u8
-    ensures { result ≡ 2 }
-{
-    let _ = err.write_all(USAGE.as_bytes());
-    Status::Misused as u8
-}
-
-/// Prints the word of a refusal, and returns the status to end with.
-fn refused<E: Write>(word: &str, err: &mut E) -> u8
-    ensures { result ≡ 1 }
-{
-    let _ = writeln!(err, "raftlog: refused: {word}");
-    Status::Refused as u8
+    RAFTLOG.without_words(error, err)
 }
 
 /// Prints what is asked for.
@@ -158,20 +134,4 @@ fn print_files<S: Files + AllocGlobal + Threads + Sync, W: Write>(
         files,
         out,
     )
-}
-
-/// Returns the word for a refusal.
-pub(crate) fn refusal(error: &Error) -> &'static str
-    ensures { result.now ≡ refusal_word error.now }
-{
-    match error {
-        Error::InvalidArgument(_) => "invalid-argument",
-        Error::Corruption(_) => "corruption",
-        Error::Io(_) => "io",
-        Error::Codec(_) => "codec",
-        Error::Message(_) => "message",
-        Error::Full => "full",
-        Error::Memory => "memory",
-        _ => "failed",
-    }
 }

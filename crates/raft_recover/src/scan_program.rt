@@ -7,32 +7,26 @@ ghost use Rattle.raft_recover.specs.AskedRequests.{file_shown};
 ghost use Rattle.raft_recover.specs.ScanRequests.{AskedScan, NamesFiles, AsksScan, AsksNoScan, AreScanned, IsScanPrinted, IsScanFrontPrinted};
 ghost use Rattle.raft_recover.specs.ScanWords.{scan_asked};
 
-use crate::program::refusal;
+use crate::ending::{Program, Status};
 use crate::request::{paths_named, queue_named, read_files, version_named};
 use crate::scan::{append_scan, both};
-use raft_base::{Error, FileId, FileSeq, LogQueue, Result, Version};
+use raft_base::{FileId, FileSeq, LogQueue, Result, Version};
 use raft_records::{FilePart, write_whole};
 use std::alloc::Global;
 use std::io;
 use std::io::{ErrorKind, Write};
 use std::rt::Files;
 
-/// How a run of `raft_scan` ends.
-#[derive(Clone, Copy, PartialEq, Eq, Debug)]
-enum Status {
-    /// All can be read.
-    Undamaged = 0,
-    /// Something can't be read.
-    Damaged = 1,
-    /// The words ask for no scan.
-    Misused = 2,
-}
-
 /// The word in front by which a scan goes on past a batch that can't be read.
 const PAST_DAMAGE: &str = "--past-damage";
 
 /// What is printed where the words ask for no scan.
 const USAGE: &str = "usage: raft_scan [--past-damage] <queue> <version> <seq>=<path>..\n";
+
+const SCAN: Program = Program {
+    name: "raft_scan",
+    usage: USAGE,
+};
 
 /// What the words say that ask for a scan of files of a queue.
 #[derive(Drop)]
@@ -66,13 +60,13 @@ pub fn run_scan<S: Files + AllocGlobal, W: Write, E: Write>(
 {
     let scan = match scan_request(rt.alloc(), words) {
         Ok(Some(scan)) => scan,
-        Ok(None) => return misused(err),
-        Err(memory) => return refused(refusal(&memory), err),
+        Ok(None) => return SCAN.misused(err),
+        Err(memory) => return SCAN.refused(&memory, err),
     };
     match print_scan(rt, scan, out) {
-        Ok(true) => Status::Undamaged as u8,
-        Ok(false) => Status::Damaged as u8,
-        Err(error) => refused(refusal(&error), err),
+        Ok(true) => Status::Done as u8,
+        Ok(false) => Status::Refused as u8,
+        Err(error) => SCAN.refused(&error, err),
     }
 }
 
@@ -82,26 +76,7 @@ pub fn scan_without_words<E: Write>(error: &io::Error, err: &mut E) -> u8
     ensures memory { error_kind error.now ≡ ErrorKind.OutOfMemory → result ≡ 1 }
     ensures misused { error_kind error.now ≢ ErrorKind.OutOfMemory → result ≡ 2 }
 {
-    if error.kind() == ErrorKind::OutOfMemory {
-        return refused(refusal(&Error::Memory), err);
-    }
-    misused(err)
-}
-
-/// Hints at the words that are understood, and returns the status to end with.
-fn misused<E: Write>(err: &mut E) -> u8
-    ensures { result ≡ 2 }
-{
-    let _ = err.write_all(USAGE.as_bytes());
-    Status::Misused as u8
-}
-
-/// Prints the word of a refusal, and returns the status to end with.
-fn refused<E: Write>(word: &str, err: &mut E) -> u8
-    ensures { result ≡ 1 }
-{
-    let _ = writeln!(err, "raft_scan: refused: {word}");
-    Status::Damaged as u8
+    SCAN.without_words(error, err)
 }
 
 /// Returns the scan that the words ask for, if they ask for one.

@@ -1,23 +1,33 @@
-use Rattle.std.proofs.Common.{[], ◌∷◌, List, map, true, false, refl, sym, ap, subst, ◌∙◌, of_calls}
-use Rattle.std.proofs.lemmas.Fn.{called_at}
-use Rattle.std.proofs.lemmas.List.{map-append}
-use Rattle.std.specs.List.{FoldsTo}
-use Rattle.raft_table.specs.Table.{Table}
+use Rattle.std.proofs.Common.{◌++◌, [], map, IsPermutation, refl, sym, ap, subst, ◌∙◌, append-nil, arith}
+use Rattle.std.specs.FinMap as finite
+use Rattle.std.proofs.lemmas.List.Sorted.{IsPermutation-trans}
+use Rattle.raft_accessor.specs.Accessor.{Accessor}
+use Rattle.raft_accessor.specs.AccessorView.{slot_entries, together, AreSlots}
 use Rattle.raft_accessor.specs.Walks.{Collects}
+use Rattle.raft_accessor.proofs.OrderLemmas.{together-permuted, drop-step, pushed}
+use Rattle.raft_accessor.proofs.SlotLemmas.{drop-none}
+use Rattle.raft_accessor.proofs.WalkLemmas.{folds-append}
 use Rattle.raft_accessor.proofs.accessor.MemTableAccessor.collect.Goals as goal
 
-pub loop-table-preserved-in-Continue-branch-2 : goal.loop-table-preserved-in-Continue-branch-2
-loop-table-preserved-in-Continue-branch-2 g c = (
-  search of_calls,
-  (λ last h. c.loop-table.invariant.1 last
-      (subst (λ (l : List Table). FoldsTo (Collects g.F.FnMut) (c.loop-table.f, map (λ t. t.now) c.loop-table.kept.items) l last) (sym (ap (map (λ t. t.now)) c.in-Some.ensures.steps.0))
-      ((c.f.new.self, map (λ t. t.now) c.push.new.self.items), (true, called_at g.F.FnMut c.f.ensures c.if-f.true, ap (map (λ t. t.now)) c.in_ok-push.ensures.items ∙ map-append (λ t. t.now) c.loop-table.kept.items (c.in-Some.table ∷ [])), h))),
-)
+pub loop-slot-preserved : goal.loop-slot-preserved
+loop-slot-preserved g c =
+    let w = c.loop-slot.invariant.1 in
+    let p = c.in_ok-push_wanted.ensures.ok in (
+      c.in_ok-push_wanted.ensures.callable,
+      w.0 ++ p.0,
+      folds-append (Collects g.F.FnMut) (c.args.f, []) (c.loop-slot.f, map (λ t. t.now) c.loop-slot.kept.items) (c.push_wanted.new.wanted, map (λ t. t.now) c.push_wanted.new.tables.items) w.0 p.0 w.1 p.2,
+      pushed w.0 (w.0 ++ p.0) p.0 _ _ _ _ refl p.1 (drop-step c.deref-slot-items.result.now c.loop-slot.slot-index _ c.slot-item.result refl (omega (arith, c.loop-slot-test.true)) c.slot-item.is) w.2,
+    )
 
-pub loop-table-preserved : goal.loop-table-preserved
-loop-table-preserved g c = (
-  search of_calls,
-  (λ last h. c.loop-table.invariant.1 last
-      (subst (λ (l : List Table). FoldsTo (Collects g.F.FnMut) (c.loop-table.f, map (λ t. t.now) c.loop-table.kept.items) l last) (sym (ap (map (λ t. t.now)) c.in-Some.ensures.steps.0))
-      ((c.f.new.self, map (λ t. t.now) c.loop-table.kept.items), (false, called_at g.F.FnMut c.f.ensures c.if-f.false, refl), h))),
-)
+pub returns-clause-ok : goal.returns-clause-ok
+returns-clause-ok g c =
+    let w = c.loop-slot.invariant.1 in
+    let none = drop-none c.deref-slot-items.result.now c.loop-slot.slot-index (omega (arith, c.loop-slot-test.false)) in (
+      w.0,
+      c.loop-slot.f,
+      subst (λ m. IsPermutation w.0 (finite.values m)) (ap together c.deref-slot-items.ensures.value ∙ ap (λ (x : Accessor). x.tables) c.self.view_is)
+          (IsPermutation-trans w.0 (map (λ e. e.1) (slot_entries c.deref-slot-items.result.now)) (finite.values (together c.deref-slot-items.result.now))
+          (subst (λ l. IsPermutation l (map (λ e. e.1) (slot_entries c.deref-slot-items.result.now))) (ap (λ es. w.0 ++ map (λ e. e.1) es) none ∙ append-nil w.0) w.2)
+          (together-permuted c.deref-slot-items.result.now (subst (AreSlots 0) (sym c.deref-slot-items.ensures.value) c.self.invariant.slots))),
+      w.1,
+    )

@@ -1,0 +1,76 @@
+//! How a run of a program over log files ends: its status, the hint at its words, the word of a refusal.
+
+ghost use Rattle.std.specs.Prelude.{◌≡◌, ◌≢◌};
+ghost use Rattle.std.specs.IoError.{error_kind};
+ghost use Rattle.raft_recover.specs.Requests.{refusal_word};
+
+use raft_base::Error;
+use std::io;
+use std::io::{ErrorKind, Write};
+
+/// The status that a run ends with.
+#[derive(Clone, Copy, PartialEq, Eq, Debug)]
+pub(crate) enum Status {
+    /// What was asked for is done, and nothing that was read is damaged.
+    Done = 0,
+    /// It was refused, or something can't be read.
+    Refused = 1,
+    /// The words ask for nothing that the program does.
+    Misused = 2,
+}
+
+/// What a program prints where it doesn't do what its words say.
+pub(crate) struct Program {
+    /// The name in front of a refusal.
+    pub(crate) name: &'static str,
+    /// The hint at the words that are understood.
+    pub(crate) usage: &'static str,
+}
+
+impl Program {
+    /// Hints at the words that are understood, and returns the status to end with.
+    pub(crate) fn misused<E: Write>(&self, err: &mut E) -> u8
+        ensures { result ≡ 2 }
+    {
+        let _ = err.write_all(self.usage.as_bytes());
+        Status::Misused as u8
+    }
+
+    /// Prints the word of a refusal, and returns the status to end with.
+    pub(crate) fn refused<E: Write>(&self, error: &Error, err: &mut E) -> u8
+        ensures { result ≡ 1 }
+    {
+        let name = self.name;
+        let word = refusal(error);
+        let _ = writeln!(err, "{name}: refused: {word}");
+        Status::Refused as u8
+    }
+
+    /// Says why the words of a command line aren't there, and returns the status to end with: 1 for want of
+    /// memory, which is refused as any other, and 2 for a word that isn't UTF-8, with a hint at the words.
+    pub(crate) fn without_words<E: Write>(&self, error: &io::Error, err: &mut E) -> u8
+        ensures memory { error_kind error.now ≡ ErrorKind.OutOfMemory → result ≡ 1 }
+        ensures misused { error_kind error.now ≢ ErrorKind.OutOfMemory → result ≡ 2 }
+    {
+        if error.kind() == ErrorKind::OutOfMemory {
+            return self.refused(&Error::Memory, err);
+        }
+        self.misused(err)
+    }
+}
+
+/// Returns the word for a refusal.
+pub(crate) fn refusal(error: &Error) -> &'static str
+    ensures { result.now ≡ refusal_word error.now }
+{
+    match error {
+        Error::InvalidArgument(_) => "invalid-argument",
+        Error::Corruption(_) => "corruption",
+        Error::Io(_) => "io",
+        Error::Codec(_) => "codec",
+        Error::Message(_) => "message",
+        Error::Full => "full",
+        Error::Memory => "memory",
+        _ => "failed",
+    }
+}

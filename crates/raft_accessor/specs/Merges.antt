@@ -5,6 +5,7 @@ use Rattle.std.specs.FinMap as finite
 use Rattle.std.specs.Result.{OnOk}
 use Rattle.raft_base.specs.declared.errors.Error.{Error}
 use Rattle.raft_base.specs.declared.errors.Error.TheVariants.{Memory}
+use Rattle.raft_base.specs.declared.pipe_log.LogQueue.{LogQueue}
 use Rattle.raft_history.specs.RegionSteps.{Tables, with_table}
 use Rattle.raft_table.specs.Counts.{Counts}
 use Rattle.raft_table.specs.Merge.{after_newer, joint_queue, after_appended, append_rule, IsTableMergeFault}
@@ -12,6 +13,8 @@ use Rattle.raft_table.specs.Steps.{table_of}
 use Rattle.raft_table.specs.Table.{Table, IsRecounted}
 use Rattle.raft_accessor.specs.Accessor.{table_in}
 use Rattle.raft_accessor.specs.Updates.{TableCall, TableCalls, IsChangedBy}
+use Rattle.raft_accessor.specs.declared.neighbor.Neighbor.{Neighbor}
+use Rattle.raft_accessor.specs.declared.neighbor.Neighbor.TheVariants.{Newer, Appended}
 
 -- a table merged with its newer neighbor
 abbrev pub with_newer : Table → Table → Option Table
@@ -52,6 +55,20 @@ IsNewerFault counts older newer e = IsTableMergeFault counts older newer (joint_
 -- why a rewritten table is refused beside an appended one, at these counts
 abbrev pub IsAppendedFault : Counts → Table → Table → Error → Type 0
 IsAppendedFault counts older newer e = IsTableMergeFault counts older newer (append_rule older newer) e
+
+-- a table merged with such a neighbor
+abbrev pub with_neighbor : Neighbor → Table → Table → Option Table
+with_neighbor Newer = with_newer
+with_neighbor Appended = with_appended
+
+-- by the rule of which queue it is merged with such a neighbor, if there is one
+abbrev pub neighbor_rule : Neighbor → Table → Table → Option LogQueue
+neighbor_rule Newer = joint_queue
+neighbor_rule Appended = append_rule
+
+-- why a table is refused beside such a neighbor, at these counts
+abbrev pub IsFaultBeside : Neighbor → Counts → Table → Table → Error → Type 0
+IsFaultBeside kind counts older newer e = IsTableMergeFault counts older newer (neighbor_rule kind older newer) e
 
 -- some region's newer table is refused beside the older one, for this fault
 pub record IsMergeRefusal (IsFault : Table → Table → Error → Type 0) (older newer : Tables) (e : Error) : Type 0 where

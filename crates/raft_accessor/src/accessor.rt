@@ -9,7 +9,7 @@ ghost use Rattle.raft_table.specs.Change.{after_change, AreCountsAfter, IsAllowe
 ghost use Rattle.raft_table.specs.Table.{Table, with_table_added, with_table_deleted, live_of};
 ghost use Rattle.raft_accessor.specs.Accessor.{slot_of, table_in, live_in_all, AreCountsOf};
 ghost use Rattle.raft_accessor.specs.AccessorCalls.{IsTableChanged, IsTableMade};
-ghost use Rattle.raft_accessor.specs.Merges.{with_newer, with_appended, IsMergedAt, AreTablesMerged, AreTablesLeft, AreOthersLeft, IsNewerFault, IsAppendedFault, IsMergeRefusal};
+ghost use Rattle.raft_accessor.specs.Merges.{with_newer, with_appended, with_neighbor, IsMergedAt, AreTablesMerged, AreTablesLeft, AreOthersLeft, IsNewerFault, IsAppendedFault, IsFaultBeside, IsMergeRefusal};
 ghost use Rattle.raft_accessor.specs.Walks.{Collects, Makes};
 
 mod cleaned;
@@ -19,6 +19,7 @@ mod region_steps;
 mod totals;
 mod writes;
 
+use crate::neighbor::Neighbor;
 use crate::region_tables::RegionTables;
 pub use cleaned::clean_logs;
 use raft_base::{AllocResult, Error, FileSeq, Result, hash_u64};
@@ -261,10 +262,7 @@ impl MemTableAccessor {
             self.new.tables) }
         ensures cleaned { self.new.cleaned ≡ self.old.cleaned }
     {
-        for slot in rhs.slots {
-            self.merge_newer_tables(slot)?;
-        }
-        Ok(())
+        self.merge_neighbors(Neighbor::Newer, rhs)
     }
 
     /// Merges appended tables, each into the rewritten table of its region, which is made where there
@@ -285,10 +283,7 @@ impl MemTableAccessor {
             self.new.tables) }
         ensures cleaned { self.new.cleaned ≡ self.old.cleaned }
     {
-        for slot in rhs.slots {
-            self.merge_append_tables(slot)?;
-        }
-        Ok(())
+        self.merge_neighbors(Neighbor::Appended, rhs)
     }
 
     /// Tests whether there are no tables.
@@ -369,72 +364,56 @@ impl MemTableAccessor {
         self.slots[slot_of(id)].remove(id, &mut self.stats)
     }
 
-    /// Merges the newer neighbors of one slot.
-    fn merge_newer_tables(&mut self, newer: RegionTables) -> Result<()>
-        ensures ok { OnOk result (AreTablesMerged with_newer self.old.tables newer
+    /// Merges the tables of such a neighbor, slot by slot.
+    fn merge_neighbors(&mut self, kind: Neighbor, rhs: MemTableAccessor) -> Result<()>
+        ensures ok { OnOk result (AreTablesMerged (with_neighbor kind) self.old.tables rhs.tables
             self.new.tables) }
-        ensures fault { IfErr result (IsMergeRefusal (IsNewerFault self.new.counts) self.old.tables
-            newer) }
+        ensures fault { IfErr result (IsMergeRefusal (IsFaultBeside kind self.new.counts)
+            self.old.tables rhs.tables) }
         ensures err { IfErr result (λ e. e ≢ Error.Memory
-            → AreTablesLeft with_newer self.old.tables newer self.new.tables) }
-        ensures others { OnErr result (AreOthersLeft with_newer self.old.tables newer
-            self.new.tables) }
+            → AreTablesLeft (with_neighbor kind) self.old.tables rhs.tables self.new.tables) }
+        ensures others { OnErr result (AreOthersLeft (with_neighbor kind) self.old.tables
+            rhs.tables self.new.tables) }
         ensures cleaned { self.new.cleaned ≡ self.old.cleaned }
     {
-        for (id, table) in newer.into_entries() {
-            self.merge_newer_table(id, table)?;
+        for slot in rhs.slots {
+            self.merge_slot(kind, slot)?;
         }
         Ok(())
     }
 
-    /// Merges the appended tables of one slot.
-    fn merge_append_tables(&mut self, newer: RegionTables) -> Result<()>
-        ensures ok { OnOk result (AreTablesMerged with_appended self.old.tables newer
+    /// Merges the tables of one slot of such a neighbor.
+    fn merge_slot(&mut self, kind: Neighbor, newer: RegionTables) -> Result<()>
+        ensures ok { OnOk result (AreTablesMerged (with_neighbor kind) self.old.tables newer
             self.new.tables) }
-        ensures fault { IfErr result (IsMergeRefusal (IsAppendedFault self.new.counts)
+        ensures fault { IfErr result (IsMergeRefusal (IsFaultBeside kind self.new.counts)
             self.old.tables newer) }
         ensures err { IfErr result (λ e. e ≢ Error.Memory
-            → AreTablesLeft with_appended self.old.tables newer self.new.tables) }
-        ensures others { OnErr result (AreOthersLeft with_appended self.old.tables newer
+            → AreTablesLeft (with_neighbor kind) self.old.tables newer self.new.tables) }
+        ensures others { OnErr result (AreOthersLeft (with_neighbor kind) self.old.tables newer
             self.new.tables) }
         ensures cleaned { self.new.cleaned ≡ self.old.cleaned }
     {
         for (id, table) in newer.into_entries() {
-            self.merge_appended(id, table)?;
+            self.merge_table(kind, id, table)?;
         }
         Ok(())
     }
 
-    /// Merges a newer neighbor into the table of its region.
-    fn merge_newer_table(&mut self, id: u64, newer: MemTable) -> Result<()>
+    /// Merges a table of such a neighbor into the table of its region.
+    fn merge_table(&mut self, kind: Neighbor, id: u64, newer: MemTable) -> Result<()>
         requires { newer.region_id ≡ id }
-        ensures ok { OnOk result (IsMergedAt with_newer id (finite.get self.old.tables id)
-            (Some newer) (finite.get self.new.tables id)) }
-        ensures fault { IfErr result (IsNewerFault self.new.counts (table_in self.old.tables id)
-            newer) }
+        ensures ok { OnOk result (IsMergedAt (with_neighbor kind) id
+            (finite.get self.old.tables id) (Some newer) (finite.get self.new.tables id)) }
+        ensures fault { IfErr result (IsFaultBeside kind self.new.counts
+            (table_in self.old.tables id) newer) }
         ensures err { IfErr result
             (λ e. e ≢ Error.Memory → table_in self.new.tables id ≡ table_in self.old.tables id) }
         ensures others { self.new.tables ≡ with_table self.old.tables id
             (finite.get self.new.tables id) }
         ensures cleaned { self.new.cleaned ≡ self.old.cleaned }
     {
-        self.slots[slot_of(id)].merge_newer_neighbor(id, newer, &mut self.stats)
-    }
-
-    /// Merges an appended table into the table of its region.
-    fn merge_appended(&mut self, id: u64, newer: MemTable) -> Result<()>
-        requires { newer.region_id ≡ id }
-        ensures ok { OnOk result (IsMergedAt with_appended id (finite.get self.old.tables id)
-            (Some newer) (finite.get self.new.tables id)) }
-        ensures fault { IfErr result (IsAppendedFault self.new.counts (table_in self.old.tables id)
-            newer) }
-        ensures err { IfErr result
-            (λ e. e ≢ Error.Memory → table_in self.new.tables id ≡ table_in self.old.tables id) }
-        ensures others { self.new.tables ≡ with_table self.old.tables id
-            (finite.get self.new.tables id) }
-        ensures cleaned { self.new.cleaned ≡ self.old.cleaned }
-    {
-        self.slots[slot_of(id)].merge_append_table(id, newer, &mut self.stats)
+        self.slots[slot_of(id)].merge_neighbor(kind, id, newer, &mut self.stats)
     }
 }
 

@@ -4,6 +4,7 @@
 pub mod accessor;
 mod append_check;
 pub mod item_writes;
+mod neighbor;
 pub mod region_tables;
 
 pub use accessor::{MemTableAccessor, slot_of};

@@ -18,7 +18,7 @@ ghost use Rattle.raft_table.specs.Steps.{table_of};
 ghost use Rattle.raft_table.specs.Table.{Table, after_replay, empty_table, live_of, with_table_added, with_table_deleted, IsCounted, IsRecounted};
 ghost use Rattle.raft_table.specs.TableEntries.{IsRunIn};
 ghost use Rattle.raft_accessor.specs.Accessor.{table_in, live_in_all};
-ghost use Rattle.raft_accessor.specs.Merges.{with_newer, with_appended, IsNewerFault, IsAppendedFault, MayAlter, IsAltered, IsTableMerged};
+ghost use Rattle.raft_accessor.specs.Merges.{with_neighbor, IsFaultBeside, MayAlter, IsAltered, IsTableMerged};
 ghost use Rattle.raft_accessor.specs.Updates.{MayChange, IsUpdated, BecomesOutcome};
 ghost use Rattle.raft_accessor.specs.Walks.{Collects, KeepsId, Makes};
 
@@ -26,6 +26,7 @@ mod join;
 mod overlay;
 pub(crate) mod steps;
 
+use crate::neighbor::Neighbor;
 use raft_base::{Error, FileSeq, LogQueue, Result};
 use raft_table::{GlobalStats, MemTable, Run, TableChange};
 use std::alloc::Global;
@@ -376,51 +377,29 @@ impl RegionTables {
         self.tables.into_iter()
     }
 
-    /// Merges a newer neighbor into the table of its region, which is made where there is none.
+    /// Merges a table of such a neighbor into the table of its region, which is made where there is none.
     ///
     /// # Errors
     ///
-    /// Those of [`MemTable::merge_newer_neighbor`]. The counts then agree with the tables.
-    pub(crate) fn merge_newer_neighbor(
+    /// Those of [`MemTable::merge_newer_neighbor`] or [`MemTable::merge_append_table`]. The counts then agree
+    /// with the tables.
+    pub(crate) fn merge_neighbor(
         &mut self,
+        kind: Neighbor,
         id: u64,
         newer: MemTable,
         stats: &mut GlobalStats,
     ) -> Result<()>
         requires region { newer.region_id ≡ id }
         requires counted { IsCounted (table_in self.old id) stats.old }
-        ensures { IsTableMerged (with_newer (table_in self.old id) newer)
-            (IsNewerFault stats.new (table_in self.old id) newer) self.old id stats.old result
+        ensures { IsTableMerged (with_neighbor kind (table_in self.old id) newer)
+            (IsFaultBeside kind stats.new (table_in self.old id) newer) self.old id stats.old result
             self.new stats.new }
     {
         self.alter(
             id,
             stats,
-            move |table: &mut MemTable, stats: &mut GlobalStats| merge_newer(table, newer, stats),
-        )
-    }
-
-    /// Merges an appended table into the table of its region, which is made where there is none.
-    ///
-    /// # Errors
-    ///
-    /// Those of [`MemTable::merge_append_table`]. The counts then agree with the tables.
-    pub(crate) fn merge_append_table(
-        &mut self,
-        id: u64,
-        newer: MemTable,
-        stats: &mut GlobalStats,
-    ) -> Result<()>
-        requires region { newer.region_id ≡ id }
-        requires counted { IsCounted (table_in self.old id) stats.old }
-        ensures { IsTableMerged (with_appended (table_in self.old id) newer)
-            (IsAppendedFault stats.new (table_in self.old id) newer) self.old id stats.old result
-            self.new stats.new }
-    {
-        self.alter(
-            id,
-            stats,
-            move |table: &mut MemTable, stats: &mut GlobalStats| merge_append(table, newer, stats),
+            move |table: &mut MemTable, stats: &mut GlobalStats| merge(kind, table, newer, stats),
         )
     }
 
@@ -479,30 +458,25 @@ impl RegionTables {
     }
 }
 
-/// Merges a newer neighbor into a table.
-fn merge_newer(table: &mut MemTable, mut newer: MemTable, stats: &mut GlobalStats) -> Result<()>
+/// Merges such a neighbor into a table.
+fn merge(
+    kind: Neighbor,
+    table: &mut MemTable,
+    mut newer: MemTable,
+    stats: &mut GlobalStats,
+) -> Result<()>
     requires region { table.old.region_id ≡ newer.region_id }
     requires counted { IsCounted table.old stats.old }
-    ensures ok { OnOk result (with_newer table.old newer ≡ Some table.new) }
-    ensures fault { IfErr result (IsNewerFault stats.new table.old newer) }
+    ensures ok { OnOk result (with_neighbor kind table.old newer ≡ Some table.new) }
+    ensures fault { IfErr result (IsFaultBeside kind stats.new table.old newer) }
     ensures err { IfErr result (λ e. e ≢ Error.Memory → table.new ≡ table.old) }
     ensures region { table.new.region_id ≡ table.old.region_id }
     ensures recounted { IsRecounted table.old table.new stats.old stats.new }
 {
-    table.merge_newer_neighbor(&mut newer, stats)
-}
-
-/// Merges an appended table into a table.
-fn merge_append(table: &mut MemTable, mut newer: MemTable, stats: &mut GlobalStats) -> Result<()>
-    requires region { table.old.region_id ≡ newer.region_id }
-    requires counted { IsCounted table.old stats.old }
-    ensures ok { OnOk result (with_appended table.old newer ≡ Some table.new) }
-    ensures fault { IfErr result (IsAppendedFault stats.new table.old newer) }
-    ensures err { IfErr result (λ e. e ≢ Error.Memory → table.new ≡ table.old) }
-    ensures region { table.new.region_id ≡ table.old.region_id }
-    ensures recounted { IsRecounted table.old table.new stats.old stats.new }
-{
-    table.merge_append_table(&mut newer, stats)
+    match kind {
+        Neighbor::Newer => table.merge_newer_neighbor(&mut newer, stats),
+        Neighbor::Appended => table.merge_append_table(&mut newer, stats),
+    }
 }
 
 /// Takes the records of a table that may have stood there off the counts.

@@ -346,7 +346,7 @@ impl MemTableAccessor {
     {
         let mut kept = Vec::new(*self.cleaned.allocator());
         for slot in &self.slots {
-            slot.push_wanted(&mut f, &mut kept)?;
+            slot.push_kept(&mut f, &mut kept)?;
         }
         Ok(kept)
     }

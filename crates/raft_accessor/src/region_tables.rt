@@ -101,25 +101,25 @@ impl RegionTables {
         Ok(())
     }
 
-    /// Pushes the tables at which `wanted` returns true, in no set order.
+    /// Pushes the tables at which `f` returns true, in no set order.
     ///
     /// # Errors
     ///
     /// `Memory`. Some tables may then be pushed.
-    pub(crate) fn push_wanted<'a, F: FnMut(&MemTable) -> bool>(
+    pub(crate) fn push_kept<'a, F: FnMut(&MemTable) -> bool>(
         &'a self,
-        wanted: &mut F,
+        f: &mut F,
         tables: &mut Vec<&'a MemTable>,
     ) -> Result<()>
-        requires { F.IsAlwaysCallable wanted.old }
-        ensures callable { OnOk result (F.IsAlwaysCallable wanted.new) }
+        requires { F.IsAlwaysCallable f.old }
+        ensures callable { OnOk result (F.IsAlwaysCallable f.new) }
         ensures ok { OnOk result ((ts : List Table) × IsPermutation ts (finite.values self.now)
-            × FoldsTo (Collects F.FnMut) (wanted.old, map (λ t. t.now) tables.old.items) ts
-            (wanted.new, map (λ t. t.now) tables.new.items)) }
+            × FoldsTo (Collects F.FnMut) (f.old, map (λ t. t.now) tables.old.items) ts
+            (f.new, map (λ t. t.now) tables.new.items)) }
         ensures memory { IfErr result (λ e. e ≡ Error.Memory) }
     {
         for table in self.tables.values() {
-            if wanted(table) {
+            if f(table) {
                 tables.push(table)?;
             }
         }

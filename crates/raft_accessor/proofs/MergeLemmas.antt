@@ -1,5 +1,5 @@
 -- Tables merged into those of all regions, one after another.
-use Rattle.std.proofs.Common.{◌≡◌, ◌≢◌, ◌⊎◌, ◌≤◌, ◌+◌, ◌^◌, ℕ, suc, nat_eq, IsTrue, List, [], ◌∷◌, ◌++◌, length, cond, Option, Some, None, Result, Ok, Err, refl, sym, ap, subst, ◌∙◌, inl, inr, arith}
+use Rattle.std.proofs.Common.{◌≡◌, ◌≢◌, ◌⊎◌, ℕ, suc, nat_eq, IsTrue, List, [], ◌∷◌, ◌++◌, length, cond, Option, Some, None, Result, Ok, Err, refl, sym, ap, subst, ◌∙◌, inl, inr, arith}
 use Rattle.std.specs.Ordering.{nat_cmp}
 use Rattle.std.specs.Cmp.{nat_cmp_total}
 use Rattle.std.specs.Option.{is_some, option_or}
@@ -8,13 +8,12 @@ use Rattle.std.specs.FinMap.{find}
 use Rattle.std.specs.Result.{OnOk, IfErr}
 use Rattle.raft_base.specs.declared.errors.Error.{Error}
 use Rattle.raft_base.specs.declared.errors.Error.TheVariants.{Memory}
-use Rattle.raft_base.specs.declared.errors.Error.TheVariants as errors
 use Rattle.raft_base.specs.declared.pipe_log.LogQueue.{LogQueue}
 use Rattle.raft_history.specs.RegionSteps.{Tables, with_table}
-use Rattle.raft_table.specs.Counts.{Counts, live}
+use Rattle.raft_table.specs.Counts.{Counts}
 use Rattle.raft_table.specs.Merge.{IsTableMergeFault}
 use Rattle.raft_table.specs.Steps.{table_of}
-use Rattle.raft_table.specs.Table.{Table, live_of, IsRecounted}
+use Rattle.raft_table.specs.Table.{Table, IsRecounted}
 use Rattle.raft_accessor.specs.Accessor.{slot_of, table_in}
 use Rattle.raft_accessor.specs.AccessorView.{slot_entries, together, AreSlots}
 use Rattle.raft_accessor.specs.Merges.{IsMergedAt, AreTablesMerged, IsLeftAt, AreTablesLeft, AreOthersLeft, IsMergeRefusal, MayAlter, IsAltered}
@@ -239,20 +238,6 @@ module _ (merge : Table → Table → Option Table) where
   merged-of m n s es e h = λ q. subst (λ o. IsMergedAt merge q (finite.get m q) o (finite.get n q)) (sym (finite.get-from_entries nat_cmp_total es q) ∙ ap (λ r. finite.get r q) e) (h q)
 
 -- ---- refusals
-
--- a refusal that changed no counts
-at_once : (rule : Option LogQueue) (counts after : Counts) (older newer : Table) (e : Error) → (e ≢ Memory → after ≡ counts) → IsTableMergeFault counts older newer rule e → IsTableMergeFault after older newer rule e
-at_once None counts after older newer (errors.InvalidArgument text) same f = tt
-at_once None counts after older newer errors.Memory same f = tt
-at_once None counts after older newer _ same f = absurd f
-at_once (Some rule) counts after older newer (errors.Corruption text) same f = f
-at_once (Some rule) counts after older newer errors.Full same f = subst (λ k. (q : LogQueue) × (2 ^ 64 ≤ live q k + live_of q newer)) (sym (same (λ e. cc))) f
-at_once (Some rule) counts after older newer errors.Memory same f = tt
-at_once (Some rule) counts after older newer _ same f = absurd f
-
-pub refused-now : (A B : Type 0) (rule : Option LogQueue) (counts after : Counts) (older newer : Table) (r : Result Unit Error) → IfErr r (IsTableMergeFault counts older newer rule) → IfErr r (λ e. e ≢ Memory → A × B × (after ≡ counts)) → IfErr r (IsTableMergeFault after older newer rule)
-refused-now A B rule counts after older newer (Ok x) f same = tt
-refused-now A B rule counts after older newer (Err e) f same = at_once rule counts after older newer e (λ k. (same k).2) f
 
 -- want of memory is a fault of every merge
 with_memory : (rule : Option LogQueue) (counts : Counts) (older newer : Table) (e : Error) → (e ≡ Memory) ⊎ IsTableMergeFault counts older newer rule e → IsTableMergeFault counts older newer rule e

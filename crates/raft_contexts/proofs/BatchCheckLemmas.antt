@@ -128,4 +128,4 @@ pub none_marks : (items : List ReadItem) (all : Bool)
     → MatchBool all (AllWithin IsNoMarker items 0 (length items)) ((k : ℕ) × (k < length items) × HoldsAt (λ (i : ReadItem). Unit {0}) items k)
     → IsTrue all → (place : FileBlockHandle) (spans : List (ℕ × ℕ)) → HaveNoMarker (items_shown place items spans)
 none_marks items true h is = none_shown items (recursion_from_All IsNoMarker items (λ k d low. h k d (omega arith) low))
-none_marks items false h is = absurd is
+none_marks items false h is = let no : false ≡ true = is in absurd cc

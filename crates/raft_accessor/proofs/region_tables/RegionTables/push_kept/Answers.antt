@@ -1,4 +1,4 @@
-use Rattle.std.proofs.Common.{◌≡◌, ◌++◌, [], ◌∷◌, List, map, true, false, IsPermutation, refl, sym, ap, subst, ◌∙◌, of_calls}
+use Rattle.std.proofs.Common.{◌≡◌, [], ◌∷◌, List, map, true, false, IsPermutation, refl, sym, ap, subst, ◌∙◌, of_calls}
 use Rattle.std.specs.FinMap as finite
 use Rattle.std.specs.List.{FoldsTo}
 use Rattle.std.proofs.lemmas.Fn.{called_at}

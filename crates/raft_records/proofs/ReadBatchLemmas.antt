@@ -20,12 +20,12 @@ use Rattle.raft_records.specs.DecodedIn.{AreDecodedIn, IsDecodedIn, IsPlaceInFil
 use Rattle.raft_records.specs.Grammar.{AreTails, IsCommand, IsItem, IsKeyValue, IsTail}
 use Rattle.raft_records.specs.Item.{Item, Pair, command, entries, pair}
 use Rattle.raft_records.specs.ItemBatch.{FitTogether, FitsBehind, end_of_items, placed_item}
-use Rattle.raft_records.specs.Placement.{entry_between}
+use Rattle.raft_records.specs.Entries.{entry_between}
 use Rattle.raft_records.specs.ReadBatch.{content_shown, item_shown, items_shown, spans_of, spans_taken}
 use Rattle.raft_records.specs.ReadWords.{AreHeldAs, AreSpansRead, IsContentRead, IsHeldAs, IsItemRead, IsRunRead, span_of}
 use Rattle.raft_records.proofs.BatchLemmas.{behind_placed, end_push, fits_placed, item_fits, one_more_item}
 use Rattle.raft_records.proofs.ContentLemmas.{command_content, entries_content, item_read, pair_content}
-use Rattle.raft_records.proofs.EntryLemmas.{AreReadSoFar, end_read, entries_read, one_more_read, run_read}
+use Rattle.raft_records.proofs.EntryLemmas.{AreReadSoFar, end_read, entries_read, one_more_tail, run_read}
 use Rattle.raft_records.proofs.Names.{behind_entry, behind_item, placed_entry}
 
 -- ---- spans
@@ -123,10 +123,9 @@ one_more_span first s bytes mid rest old new index offset tail count len so sum 
     let e = entry_between index offset tail in
     let es = so.read in
     let is_len : e.entry_len ≡ len = omega arith in
-    let more = one_more_read first s bytes mid rest es e index offset so.so_far r in
     record {
       read = es ++ e ∷ [];
-      so_far = subst (λ (o : ℕ). AreReadSoFar first s bytes rest (es ++ e ∷ []) (index + 1) o) (ap (λ (n : ℕ). offset + n) is_len ∙ sum) more;
+      so_far = one_more_tail first s bytes mid rest es index offset tail so.so_far (omega arith) r;
       added = ap (λ (l : ℕ). new ++ (offset, l) ∷ []) (sym is_len) ∙ ap (λ (xs : List (ℕ × ℕ)). xs ++ span_of e ∷ []) so.added ∙ more_spans old (map span_of es) (span_of e) ∙ ap (λ (xs : List (ℕ × ℕ)). old ++ xs) (sym (map-append span_of es (e ∷ [])));
       counted = omega (arith, length_push es e, so.counted);
     }

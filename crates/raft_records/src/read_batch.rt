@@ -1,6 +1,6 @@
 //! Batches as they are read: items over the bytes that they were read of.
 
-ghost use Rattle.std.specs.Prelude.{◌≡◌, ◌≢◌, ℕ, ◌+◌, ◌^◌, ◌<◌, ◌≤◌, List, [], length, drop, IfOk, IfErr, IfNone, OnOk, OnErr};
+ghost use Rattle.std.specs.Prelude.{◌≡◌, ◌≢◌, ℕ, ◌+◌, ◌^◌, ◌<◌, ◌≤◌, List, [], length, drop, IfOk, IfErr, IfNone, OnErr};
 ghost use Rattle.std.specs.Option.{option_map};
 ghost use Rattle.raft_codec.specs.Reading.{HasNoFront};
 ghost use Rattle.raft_base.specs.Signature.{signature_of};
@@ -63,11 +63,7 @@ pub struct ReadBatch<'a> {
 
 impl<'a> Model for ReadBatch<'a> {
     ghost use Rattle.std.specs.Prelude.{List};
-    ghost use Rattle.raft_records.specs.Entries.{Tile};
-    ghost use Rattle.raft_records.specs.Grammar.{end_behind};
     ghost use Rattle.raft_records.specs.Item.{Item};
-    ghost use Rattle.raft_base.specs.Runs.{entries_of_block};
-    ghost use Rattle.raft_base.specs.declared.pipe_log.FileBlockHandle.{FileBlockHandle};
 
     ghost Value = { List Item };
 

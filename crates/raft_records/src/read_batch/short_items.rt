@@ -38,7 +38,7 @@ pub(super) fn read_short_item<'a>(
     Some((end, rest))
 }
 
-/// The content of such an item, the end of its entries' bytes and what follows it.
+/// Reads the content of such an item; returns it, the end of its entries' bytes and what follows it.
 #[inline(always)]
 fn read_short_content<'a>(
     bytes: &'a [u8],
@@ -86,7 +86,7 @@ fn read_short_run<'a>(
     Some((ReadContent::Run { first, count }, end, rest))
 }
 
-/// A put after its op type byte, and what follows it.
+/// Reads a put after its op type byte, and returns it and what follows it.
 #[inline(always)]
 fn parse_short_put(bytes: &[u8]) -> Option<(ReadContent<'_>, &[u8])>
     ensures { IfSome result (λ read. (p : Pair) ×
@@ -127,8 +127,8 @@ fn read_short_spans<'a>(
     Some((offset, rest))
 }
 
-/// The byte string in front of `bytes`, which stands after its length, and what follows it, where its length
-/// is short.
+/// Returns the byte string in front of `bytes`, which stands after its length, and what follows it, where its
+/// length is short.
 #[inline(always)]
 fn parse_short_byte_string(bytes: &[u8]) -> Option<(&[u8], &[u8])>
     ensures { IfSome result (λ read. Reads IsByteString bytes.now read.1.now read.0.now) }

@@ -5,7 +5,7 @@ ghost use Rattle.std.specs.Vec.{vec_len, vec_capacity};
 ghost use Rattle.raft_codec.specs.Reading.{Reads};
 ghost use Rattle.raft_records.specs.Grammar.{IsByteString, IsKeyValue};
 ghost use Rattle.raft_records.specs.Item.{Pair, pair};
-ghost use Rattle.raft_records.specs.ReadWords.{AreSpansRead, IsContentRead, IsHeldAs, IsItemRead, IsRunRead};
+ghost use Rattle.raft_records.specs.ReadWords.{AreSpansRead, IsContentRead, IsHeldAs, IsItemRead, IsRunRead, reached};
 
 use crate::entry_indexes::short_tail;
 use crate::log_item::{TYPE_ENTRIES, TYPE_KV};
@@ -24,8 +24,8 @@ pub(super) fn read_short_item<'a>(
     items: &mut Vec<ReadItem<'a>>,
     spans: &mut Vec<(u32, u32)>,
 ) -> Option<(u32, &'a [u8])>
-    ensures some { IfSome result (λ read. IsItemRead start bytes.now read.1.now read.0
-        items.old.items items.new.items spans.old.items spans.new.items) }
+    ensures some { IfSome result (λ read. IsItemRead items.old.items items.new.items
+        (reached bytes.now start spans.old.items) (reached read.1.now read.0 spans.new.items)) }
     ensures items { IfNone result (items.new.items ≡ items.old.items) }
     ensures spans { IfNone result (spans.new.items ≡ spans.old.items) }
 {
@@ -45,8 +45,8 @@ fn read_short_content<'a>(
     start: u32,
     spans: &mut Vec<(u32, u32)>,
 ) -> Option<(ReadContent<'a>, u32, &'a [u8])>
-    ensures some { IfSome result (λ read. IsContentRead start bytes.now read.2.now read.0 read.1
-        spans.old.items spans.new.items) }
+    ensures some { IfSome result (λ read. IsContentRead read.0
+        (reached bytes.now start spans.old.items) (reached read.2.now read.1 spans.new.items)) }
     ensures none { IfNone result (spans.new.items ≡ spans.old.items) }
 {
     let [kind, first, behind @ ..] = bytes else {
@@ -73,8 +73,9 @@ fn read_short_run<'a>(
     start: u32,
     spans: &mut Vec<(u32, u32)>,
 ) -> Option<(ReadContent<'a>, u32, &'a [u8])>
-    ensures some { IfSome result (λ read. IsRunRead start (count ∷ bytes.now) read.2.now read.0 read.1
-        spans.old.items spans.new.items) }
+    ensures some { IfSome result (λ read. IsRunRead read.0
+        (reached (count ∷ bytes.now) start spans.old.items)
+        (reached read.2.now read.1 spans.new.items)) }
     ensures none { IfNone result (spans.new.items ≡ spans.old.items) }
 {
     let count = usize::from(count);
@@ -108,8 +109,8 @@ fn read_short_spans<'a>(
 ) -> Option<(u32, &'a [u8])>
     requires { vec_len spans.old + count ≤ vec_capacity spans.old }
     ensures some { IfSome result (λ read. (first : ℕ) → first + count < 2 ^ 64 →
-        AreSpansRead count first start bytes.now read.1.now read.0
-        spans.old.items spans.new.items) }
+        AreSpansRead count first
+        (reached bytes.now start spans.old.items) (reached read.1.now read.0 spans.new.items)) }
     ensures none { IfNone result (spans.new.items ≡ spans.old.items) }
 {
     let len = spans.len();

@@ -1,5 +1,5 @@
 -- On lists of items that a batch holds.
-use Rattle.std.proofs.Common.{◌≡◌, ℕ, zero, suc, ◌+◌, ◌-◌, ◌^◌, ◌<◌, List, [], ◌∷◌, ◌++◌, map, length, take, drop, set, get_or, Option, Some, None, refl, sym, ap, ◌∙◌, subst, arith, inl, inr}
+use Rattle.std.proofs.Common.{◌≡◌, ℕ, zero, suc, ◌+◌, ◌-◌, ◌^◌, ◌<◌, List, [], ◌∷◌, ◌++◌, map, length, take, drop, set, get_or, Option, Some, None, refl, sym, ap, ◌∙◌, subst, append_assoc, arith, inl, inr}
 use Rattle.std.specs.Prelude.{bit_xor}
 use Rattle.std.specs.Int.Bits.{xor_assoc, xor_self, xor_zero_l}
 use Rattle.std.proofs.lemmas.Nat.{xor_of_32}
@@ -28,9 +28,9 @@ use Rattle.raft_records.specs.Entries.{Tile}
 use Rattle.raft_records.specs.Grammar.{tail_of, IsTail, AreIndexAndTails, IsPairOf, IsContent, IsItem, end_behind}
 use Rattle.raft_records.proofs.Names.{behind_entry, behind_item, placed_entry}
 use Rattle.raft_records.specs.Spelling.{IsWritableWith, tails_bytes, entries_bytes, item_bytes}
-use Rattle.raft_records.specs.ItemBatch.{FitsBehind, FitTogether, end_of_items, placed_item, IsKeptBeside, AreItems, signed_crc, checksum_bytes, IsItemBatch, HasSeal, AreItemsFault, item_batch_bytes}
+use Rattle.raft_records.specs.ItemBatch.{FitsBehind, FitTogether, end_of_items, placed_item, IsKeptBeside, AreItems, signed_crc, checksum_bytes, IsItemBatch, HasSeal, AreItemsFault, IsItemBatchFault, item_batch_bytes}
 use Rattle.raft_records.specs.Range.{IsInRange}
-use Rattle.raft_records.specs.Faults.{IsItemFault}
+use Rattle.raft_records.specs.Faults.{IsMemory, IsItemFault}
 use Rattle.raft_records.proofs.ContentLemmas.{item_one_front}
 use Rattle.raft_records.proofs.InBytesLemmas.{in_bytes_append, in_bytes_placed}
 use Rattle.raft_records.proofs.RangeLemmas.{range_append, range_placed}
@@ -185,6 +185,28 @@ pub no_items : (signature : Option ℕ) (n : ℕ) (bytes content mid : List ℕ)
 no_items signature n bytes content mid s r none xs rest b =
     no_second IsVarint AreItems varint_one_front r none b.front rest (length xs) xs b.counted (batch_content signature bytes content rest xs s b)
 
+-- the content of an item batch is what its checksum follows
+batch_sealed : (signature : Option ℕ) (bytes rest : List ℕ) (xs : List Item) → (b : IsItemBatch bytes signature xs rest) → HasSeal signature bytes (b.front ++ rest)
+batch_sealed signature bytes rest xs b =
+    record { some = omega (arith, length-append b.front rest, counted_some b.front xs b.counted); split = b.split }
+
+-- where an item batch stands, there may be no memory for its items
+pub no_room_for_items : (signature : Option ℕ) (bytes rest : List ℕ) (xs : List Item) (e : Error) → IsItemBatch bytes signature xs rest → IsMemory e → IsItemBatchFault signature bytes e
+no_room_for_items signature bytes rest xs e b memory =
+    let counted = b.counted in
+    inr (
+      b.front ++ rest,
+      batch_sealed signature bytes rest xs b,
+      inr (record {
+        first = counted.first;
+        rest = counted.second ++ rest;
+        value = length xs;
+        first_spells = counted.first_spells;
+        split = ap (λ (t : List ℕ). t ++ rest) counted.split ∙ append_assoc counted.first counted.second rest;
+        fault = inl memory;
+      }),
+    )
+
 -- ---- loops over items
 
 -- an element seen
@@ -264,14 +286,11 @@ placed_kept handle c xs size bytes crc k =
       checksum = λ n some. k.checksum n some ∙ ap crc32_of (sym (batch_placed handle c xs));
     }
 
--- ---- the first entry
-
 -- ---- one batch
 
 pub one_batch : (bytes rest rest' : List ℕ) (signature : Option ℕ) (xs ys : List Item) → IsItemBatch bytes signature xs rest → IsItemBatch bytes signature ys rest' → (xs ≡ ys) × (rest ≡ rest')
 one_batch bytes rest rest' signature xs ys b d =
-    let sealed : HasSeal signature bytes (d.front ++ rest') = record { some = omega (arith, length-append d.front rest', counted_some d.front ys d.counted); split = d.split } in
-    let same : d.front ++ rest' ≡ b.front ++ rest = batch_content signature bytes (d.front ++ rest') rest xs sealed b in
+    let same : d.front ++ rest' ≡ b.front ++ rest = batch_content signature bytes (d.front ++ rest') rest xs (batch_sealed signature bytes rest' ys d) b in
     let one = pair_one_front IsVarint AreItems varint_one_front items_one_front b.front d.front rest rest' (length xs) (length ys) xs ys b.counted d.counted (sym same) in
     (one.2, append_cancel_left d.front rest rest' (ap (λ (t : List ℕ). t ++ rest) (sym one.0) ∙ sym same))
 
@@ -287,8 +306,7 @@ signed_one crc s t e =
 pub one_file : (bytes rest rest' : List ℕ) (s t : ℕ) (xs ys : List Item) → s < 2 ^ 32 → t < 2 ^ 32 → IsItemBatch bytes (Some s) xs rest → IsItemBatch bytes (Some t) ys rest' → s ≡ t
 one_file bytes rest rest' s t xs ys sf tf b d =
     let content = b.front ++ rest in
-    let sealed : HasSeal (Some t) bytes (d.front ++ rest') = record { some = omega (arith, length-append d.front rest', counted_some d.front ys d.counted); split = d.split } in
-    let is = content_is (Some t) bytes content (d.front ++ rest') (checksum_bytes (Some s) content) b.split (four (signed_crc (Some s) (crc32_of content))) sealed in
+    let is = content_is (Some t) bytes content (d.front ++ rest') (checksum_bytes (Some s) content) b.split (four (signed_crc (Some s) (crc32_of content))) (batch_sealed (Some t) bytes rest' ys d) in
     let crcs : crc32_of (d.front ++ rest') ≡ crc32_of content = ap crc32_of is.0 in
     let seals : little_bytes 4 (bit_xor (crc32_of content) t) ≡ little_bytes 4 (bit_xor (crc32_of content) s) = ap (λ (n : ℕ). little_bytes 4 (bit_xor n t)) (sym crcs) ∙ is.1 in
     let numbers = (IsReadAgain-little_bytes 4).one_front (little_bytes 4 (bit_xor (crc32_of content) t)) (little_bytes 4 (bit_xor (crc32_of content) s)) [] [] (bit_xor (crc32_of content) t) (bit_xor (crc32_of content) s) (record { in_range = xor_of_32 (crc32_of content) t (crc_fits content) tf; written = refl }) (record { in_range = xor_of_32 (crc32_of content) s (crc_fits content) sf; written = refl }) (ap (λ (x : List ℕ). x ++ []) seals) in

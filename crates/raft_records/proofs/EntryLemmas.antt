@@ -8,6 +8,7 @@ use Rattle.raft_codec.proofs.ReadingLemmas.{reads_pair, no_first, no_second, pai
 use Rattle.raft_codec.proofs.SequenceLemmas.{reads_more, state_after-push, stuck, sequence_one_front, fault_after}
 use Rattle.raft_base.specs.declared.compression_type.CompressionType.TheVariants as compressions
 use Rattle.raft_base.specs.declared.entry_index.EntryIndex.{EntryIndex}
+use Rattle.raft_records.specs.Entries.{entry_between}
 use Rattle.raft_records.specs.Grammar.{tail_of, IsTail, AreTails, AreIndexAndTails, IsEntries, end_behind}
 use Rattle.raft_records.proofs.Names.{behind_entry}
 use Rattle.raft_records.specs.Faults.{IsTailFault, IsTailsFault, IsEntriesFault}
@@ -57,13 +58,19 @@ pub record AreReadSoFar (first s : ℕ) (bytes rest : List ℕ) (es : List Entry
 tail_at : (first s : ℕ) (es : List EntryIndex) (index offset : ℕ) (bytes rest : List ℕ) (e : EntryIndex) → state_after behind_entry (first, s) es ≡ (index, offset) → Reads (IsTail (index, offset)) bytes rest e → Reads (IsTail (state_after behind_entry (first, s) es)) bytes rest e
 tail_at first s es index offset bytes rest e state r = subst (λ (p : ℕ × ℕ). Reads (IsTail p) bytes rest e) (sym state) r
 
-pub one_more_read : (first s : ℕ) (bytes mid rest : List ℕ) (es : List EntryIndex) (e : EntryIndex) (index offset : ℕ) → AreReadSoFar first s bytes mid es index offset → Reads (IsTail (index, offset)) mid rest e → AreReadSoFar first s bytes rest (es ++ e ∷ []) (index + 1) (offset + e.entry_len)
+one_more_read : (first s : ℕ) (bytes mid rest : List ℕ) (es : List EntryIndex) (e : EntryIndex) (index offset : ℕ) → AreReadSoFar first s bytes mid es index offset → Reads (IsTail (index, offset)) mid rest e → AreReadSoFar first s bytes rest (es ++ e ∷ []) (index + 1) (offset + e.entry_len)
 one_more_read first s bytes mid rest es e index offset so r =
     let begins : e.entry_offset ≡ offset = r.spells.offset in
     record {
       reads = reads_more behind_entry IsTail (first, s) es e so.reads (tail_at first s es index offset mid rest e so.state r);
       state = state_after-push behind_entry (first, s) es e ∙ ap (λ (p : ℕ × ℕ). behind_entry p e) so.state ∙ ap (λ (o : ℕ). (index + 1, o + e.entry_len)) begins;
     }
+
+-- one more entry, which ends at this tail offset
+pub one_more_tail : (first s : ℕ) (bytes mid rest : List ℕ) (es : List EntryIndex) (index offset tail : ℕ) → AreReadSoFar first s bytes mid es index offset → offset ≤ tail → Reads (IsTail (index, offset)) mid rest (entry_between index offset tail) → AreReadSoFar first s bytes rest (es ++ entry_between index offset tail ∷ []) (index + 1) tail
+one_more_tail first s bytes mid rest es index offset tail so le r =
+    let e = entry_between index offset tail in
+    subst (λ (o : ℕ). AreReadSoFar first s bytes rest (es ++ e ∷ []) (index + 1) o) (omega arith) (one_more_read first s bytes mid rest es e index offset so r)
 
 pub no_more_tails : (first s : ℕ) (bytes mid : List ℕ) (es : List EntryIndex) (index offset count : ℕ) → AreReadSoFar first s bytes mid es index offset → length es < count → HasNoFront (IsTail (index, offset)) mid → HasNoFront (AreTails count (first, s)) bytes
 no_more_tails first s bytes mid es index offset count so lt none front rest ys a e =
@@ -141,7 +148,3 @@ pub entries_one_front : (s : ℕ) → HasOneFront (IsEntries s)
 entries_one_front s a b more rest x y p q e =
     let same = pair_one_front IsVarint (AreIndexAndTails s) varint_one_front (run_one_front s) a b more rest (length x) (length y) x y p q e in
     (same.0, same.2)
-
--- ---- consecutive indexes
-
--- ---- bytes that run on

@@ -156,5 +156,3 @@ pair_one_of a b more rest key key' o Del v None f (Some f') p q e = absurd q
 
 pub pair_one : HasOneFront IsKeyValue
 pair_one a b more rest x y p q e = pair_one_of a b more rest x.key y.key x.op_type y.op_type x.value y.value x.file_id y.file_id p q e
-
--- ---- what is written

@@ -3,7 +3,6 @@ pub mod BufferLemmas
 pub mod CloneLemmas
 pub mod ContentLemmas
 pub mod CopyLemmas
-pub mod DecodedInLemmas
 pub mod EntryLemmas
 pub mod EqualLemmas
 pub mod FrameLemmas
@@ -20,7 +19,6 @@ pub mod Names
 pub mod OwnItemLemmas
 pub mod PartLemmas
 pub mod PlaceLemmas
-pub mod PlacementLemmas
 pub mod PrintLemmas
 pub mod RangeLemmas
 pub mod ReadBatchLemmas

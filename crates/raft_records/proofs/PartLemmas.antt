@@ -1,11 +1,13 @@
 -- On the batches that stand in a part of a file.
-use Rattle.std.proofs.Common.{◌≡◌, ◌≢◌, ℕ, ◌+◌, ◌-◌, ◌^◌, ◌<◌, ◌≤◌, List, [], ◌∷◌, ◌++◌, map, length, take, drop, Option, Some, None, refl, sym, ap, ◌∙◌, subst, append_assoc, arith}
+use Rattle.std.proofs.Common.{◌≡◌, ◌≢◌, ℕ, ◌+◌, ◌-◌, ◌^◌, ◌<◌, ◌≤◌, List, [], ◌∷◌, ◌++◌, map, length, take, drop, Option, Some, None, refl, sym, ap, ◌∙◌, subst, append_assoc, arith, inr}
 use Rattle.raft_base.specs.declared.pipe_log.FileBlockHandle.{FileBlockHandle}
 use Rattle.raft_base.specs.declared.compression_type.CompressionType.TheVariants as compressions
-use Rattle.raft_records.specs.FilePart.{Part, IsBatchAt, IsNext, StandBetween, AreBatchesUpTo}
+use Rattle.raft_base.specs.declared.errors.Error.{Error}
+use Rattle.raft_records.specs.Faults.{IsMemory}
+use Rattle.raft_records.specs.FilePart.{Part, IsBatchAt, IsNext, IsNextFault, StandBetween, AreBatchesUpTo}
 use Rattle.raft_records.proofs.Names.{part_signature, entries_place}
 use Rattle.raft_records.specs.Range.{AreInRange}
-use Rattle.raft_records.proofs.BatchLemmas.{one_batch}
+use Rattle.raft_records.proofs.BatchLemmas.{no_room_for_items, one_batch}
 use Rattle.raft_records.proofs.ItemLemmas.{same_length}
 use Rattle.raft_records.proofs.ReadPlaceLemmas.{items_read}
 use Rattle.std.proofs.lemmas.List.{length-append, length-drop, length-take-le, take-append-drop, take_at, drop_at, drop-take, drop-drop}
@@ -13,7 +15,7 @@ use Rattle.std.proofs.Math.Seq.{take-add}
 use Rattle.raft_codec.specs.Reading.{Reads, HasNoFront}
 use Rattle.raft_base.specs.declared.compression_type.CompressionType.{CompressionType}
 use Rattle.raft_records.specs.Item.{Item, bare, AreInBytes}
-use Rattle.raft_records.specs.ItemBatch.{IsItemBatch, placed_item}
+use Rattle.raft_records.specs.ItemBatch.{IsItemBatch, IsItemBatchFault, placed_item}
 use Rattle.raft_records.specs.LogBatch.{IsBatchOf, IsReadable, entry_block, entry_place, item_offset, encoded_length, log_batch_bytes}
 use Rattle.raft_records.specs.Header.{IsHeader}
 use Rattle.raft_records.specs.Framing.{IsFramed}
@@ -79,6 +81,29 @@ batch_stands xs ys signature offset len compression items rest h whole b =
 -- behind a batch stands what is behind its bytes
 pub batch_split : (bytes : List ℕ) (at len : ℕ) → drop at bytes ≡ take len (drop at bytes) ++ drop (at + len) bytes
 batch_split bytes at len = sym (take-append-drop len (drop at bytes)) ∙ ap (λ (t : List ℕ). take len (drop at bytes) ++ t) (drop-drop len at bytes)
+
+-- where a batch stands, there may be no memory for its items
+pub no_room_for_batch : (part : Part) (at : ℕ) (items : List Item) (next : ℕ) (e : Error) → IsBatchAt part at items next → IsMemory e → IsNextFault (part_signature part) (drop at part.bytes) e
+no_room_for_batch part at items next e b memory =
+    let f : IsFramedAt part at items next = framed_at b in
+    let more = drop next part.bytes in
+    let header = f.frame.header in
+    let front : take (length f.bytes) (drop at part.bytes) ≡ f.bytes = ap (take (length f.bytes)) f.stands ∙ take_at f.bytes more (length f.bytes) refl in
+    inr (inr (record {
+      offset = f.offset;
+      len = length f.bytes;
+      header = record {
+        compression = f.frame.compression;
+        rest = drop 16 f.bytes ++ more;
+        header = record {
+          front = header.front;
+          spells = header.spells;
+          split = f.stands ∙ ap (λ (t : List ℕ). t ++ more) header.split ∙ append_assoc header.front (drop 16 f.bytes) more;
+        };
+      };
+      whole = omega (arith, ap length f.stands, length-append f.bytes more);
+      fault = subst (λ (t : List ℕ). IsItemBatchFault (part_signature part) (drop f.offset t) e) (sym front) (no_room_for_items (part_signature part) (drop f.offset f.bytes) f.frame.rest f.read e f.frame.item_batch memory);
+    }))
 
 -- ---- a written batch that stands in a part
 

@@ -20,12 +20,12 @@ use Rattle.raft_records.specs.DecodedIn.{AreDecodedIn, IsDecodedIn, IsPlaceInFil
 use Rattle.raft_records.specs.Grammar.{AreTails, IsCommand, IsItem, IsKeyValue, IsTail}
 use Rattle.raft_records.specs.Item.{Item, Pair, command, entries, pair}
 use Rattle.raft_records.specs.ItemBatch.{FitTogether, FitsBehind, end_of_items, placed_item}
-use Rattle.raft_records.specs.Placement.{entry_between}
+use Rattle.raft_records.specs.Entries.{entry_between}
 use Rattle.raft_records.specs.ReadBatch.{content_shown, item_shown, items_shown, spans_of, spans_taken}
-use Rattle.raft_records.specs.ReadWords.{AreHeldAs, AreSpansRead, IsContentRead, IsHeldAs, IsItemRead, IsRunRead, span_of}
+use Rattle.raft_records.specs.ReadWords.{AreHeldAs, AreSpansRead, IsContentRead, IsHeldAs, IsItemRead, IsRunRead, reached, span_of}
 use Rattle.raft_records.proofs.BatchLemmas.{behind_placed, end_push, fits_placed, item_fits, one_more_item}
 use Rattle.raft_records.proofs.ContentLemmas.{command_content, entries_content, item_read, pair_content}
-use Rattle.raft_records.proofs.EntryLemmas.{AreReadSoFar, end_read, entries_read, one_more_read, run_read}
+use Rattle.raft_records.proofs.EntryLemmas.{AreReadSoFar, end_read, entries_read, one_more_tail, run_read}
 use Rattle.raft_records.proofs.Names.{behind_entry, behind_item, placed_entry}
 
 -- ---- spans
@@ -49,7 +49,7 @@ run_held count first s bytes rest es r =
     }
 
 -- entries were read behind their count and the first index
-pub run_read_of : (s count first : ℕ) (bytes mid tails rest : List ℕ) (end : ℕ) (old new : List (ℕ × ℕ)) → 0 < count → Reads IsVarint bytes mid count → Reads IsVarint mid tails first → AreSpansRead count first s tails rest end old new → IsRunRead s bytes rest (Run first count) end old new
+pub run_read_of : (s count first : ℕ) (bytes mid tails rest : List ℕ) (end : ℕ) (old new : List (ℕ × ℕ)) → 0 < count → Reads IsVarint bytes mid count → Reads IsVarint mid tails first → AreSpansRead count first (reached tails s old) (reached rest end new) → IsRunRead (Run first count) (reached bytes s old) (reached rest end new)
 run_read_of s count first bytes mid tails rest end old new some counted begins r =
     record {
       read = r.read;
@@ -64,7 +64,7 @@ pub byte_read : (n : ℕ) (rest : List ℕ) → n < 128 → Reads IsVarint (n �
 byte_read n rest small =
     record { front = n ∷ []; spells = record { continued = small; value = omega arith; at_most_ten = omega arith; tenth = omega arith }; split = refl }
 
-pub no_entries_read : (s count : ℕ) (bytes rest : List ℕ) (spans : List (ℕ × ℕ)) → count ≡ 0 → Reads IsVarint bytes rest count → IsRunRead s bytes rest (Run 0 0) s spans spans
+pub no_entries_read : (s count : ℕ) (bytes rest : List ℕ) (spans : List (ℕ × ℕ)) → count ≡ 0 → Reads IsVarint bytes rest count → IsRunRead (Run 0 0) (reached bytes s spans) (reached rest s spans)
 no_entries_read s count bytes rest spans none r =
     record {
       read = [];
@@ -76,20 +76,20 @@ no_entries_read s count bytes rest spans none r =
 
 -- ---- contents
 
-pub run_content : (s : ℕ) (bytes behind rest : List ℕ) (run : ReadContent) (end : ℕ) (old new : List (ℕ × ℕ)) → bytes ≡ 1 ∷ behind → IsRunRead s behind rest run end old new → IsContentRead s bytes rest run end old new
+pub run_content : (s : ℕ) (bytes behind rest : List ℕ) (run : ReadContent) (end : ℕ) (old new : List (ℕ × ℕ)) → bytes ≡ 1 ∷ behind → IsRunRead run (reached behind s old) (reached rest end new) → IsContentRead run (reached bytes s old) (reached rest end new)
 run_content s bytes behind rest run end old new split r =
     record { read = entries r.read; own = map span_of r.read; reads = entries_content s bytes behind rest r.read split r.reads; ends = r.ends; added = r.added; held = r.held }
 
-pub command_read : (s : ℕ) (bytes behind rest : List ℕ) (c : Command) (spans : List (ℕ × ℕ)) → bytes ≡ 2 ∷ behind → Reads IsCommand behind rest c → IsContentRead s bytes rest (contents.Command c) s spans spans
+pub command_read : (s : ℕ) (bytes behind rest : List ℕ) (c : Command) (spans : List (ℕ × ℕ)) → bytes ≡ 2 ∷ behind → Reads IsCommand behind rest c → IsContentRead (contents.Command c) (reached bytes s spans) (reached rest s spans)
 command_read s bytes behind rest c spans split r =
     record { read = command c; own = []; reads = command_content s bytes behind rest c split r; ends = refl; added = sym (append-nil spans); held = record { taken = refl; shown = λ place. refl } }
 
-pub pair_read : (s : ℕ) (bytes behind rest : List ℕ) (content : ReadContent) (p : Pair) (spans : List (ℕ × ℕ)) → bytes ≡ 3 ∷ behind → Reads IsKeyValue behind rest p → IsHeldAs content [] (pair p) → IsContentRead s bytes rest content s spans spans
+pub pair_read : (s : ℕ) (bytes behind rest : List ℕ) (content : ReadContent) (p : Pair) (spans : List (ℕ × ℕ)) → bytes ≡ 3 ∷ behind → Reads IsKeyValue behind rest p → IsHeldAs content [] (pair p) → IsContentRead content (reached bytes s spans) (reached rest s spans)
 pair_read s bytes behind rest content p spans split r held =
     record { read = pair p; own = []; reads = pair_content s bytes behind rest p split r; ends = refl; added = sym (append-nil spans); held = held }
 
 -- a region and a content that was read, as an item that is added
-pub held_item : (s region : ℕ) (bytes mid rest : List ℕ) (content : ReadContent) (end : ℕ) (items new_items : List ReadItem) (spans new_spans : List (ℕ × ℕ)) → Reads IsVarint bytes mid region → IsContentRead s mid rest content end spans new_spans → new_items ≡ items ++ record { region = region; content = content } ∷ [] → IsItemRead s bytes rest end items new_items spans new_spans
+pub held_item : (s region : ℕ) (bytes mid rest : List ℕ) (content : ReadContent) (end : ℕ) (items new_items : List ReadItem) (spans new_spans : List (ℕ × ℕ)) → Reads IsVarint bytes mid region → IsContentRead content (reached mid s spans) (reached rest end new_spans) → new_items ≡ items ++ record { region = region; content = content } ∷ [] → IsItemRead items new_items (reached bytes s spans) (reached rest end new_spans)
 held_item s region bytes mid rest content end items new_items spans new_spans r c added =
     record {
       read = record { raft_group_id = region; content = c.read };
@@ -123,10 +123,9 @@ one_more_span first s bytes mid rest old new index offset tail count len so sum 
     let e = entry_between index offset tail in
     let es = so.read in
     let is_len : e.entry_len ≡ len = omega arith in
-    let more = one_more_read first s bytes mid rest es e index offset so.so_far r in
     record {
       read = es ++ e ∷ [];
-      so_far = subst (λ (o : ℕ). AreReadSoFar first s bytes rest (es ++ e ∷ []) (index + 1) o) (ap (λ (n : ℕ). offset + n) is_len ∙ sum) more;
+      so_far = one_more_tail first s bytes mid rest es index offset tail so.so_far (omega arith) r;
       added = ap (λ (l : ℕ). new ++ (offset, l) ∷ []) (sym is_len) ∙ ap (λ (xs : List (ℕ × ℕ)). xs ++ span_of e ∷ []) so.added ∙ more_spans old (map span_of es) (span_of e) ∙ ap (λ (xs : List (ℕ × ℕ)). old ++ xs) (sym (map-append span_of es (e ∷ [])));
       counted = omega (arith, length_push es e, so.counted);
     }
@@ -135,7 +134,7 @@ one_more_span first s bytes mid rest old new index offset tail count len so sum 
     more_spans [] ys z = refl
     more_spans (x ∷ xs) ys z = ap (λ (l : List (ℕ × ℕ)). x ∷ l) (more_spans xs ys z)
 
-pub spans_read : (first s n count : ℕ) (bytes rest : List ℕ) (old new : List (ℕ × ℕ)) (index offset : ℕ) → count ≡ n → AreSpansSoFar first s bytes rest old new index offset count → AreSpansRead n first s bytes rest offset old new
+pub spans_read : (first s n count : ℕ) (bytes rest : List ℕ) (old new : List (ℕ × ℕ)) (index offset : ℕ) → count ≡ n → AreSpansSoFar first s bytes rest old new index offset count → AreSpansRead n first (reached bytes s old) (reached rest offset new)
 spans_read first s n count bytes rest old new index offset all so =
     let reads = so.so_far.reads in
     record {
@@ -182,7 +181,7 @@ pub record AreItemsSoFar (bytes rest : List ℕ) (items : List ReadItem) (spans 
   pub ends : offset ≡ end_of_items 0 read
   pub counted : length read ≡ count
 
-pub one_more_held : (bytes mid rest : List ℕ) (items new_items : List ReadItem) (spans new_spans : List (ℕ × ℕ)) (offset end count : ℕ) → AreItemsSoFar bytes mid items spans offset count → IsItemRead offset mid rest end items new_items spans new_spans → AreItemsSoFar bytes rest new_items new_spans end (count + 1)
+pub one_more_held : (bytes mid rest : List ℕ) (items new_items : List ReadItem) (spans new_spans : List (ℕ × ℕ)) (offset end count : ℕ) → AreItemsSoFar bytes mid items spans offset count → IsItemRead items new_items (reached mid offset spans) (reached rest end new_spans) → AreItemsSoFar bytes rest new_items new_spans end (count + 1)
 one_more_held bytes mid rest items new_items spans new_spans offset end count so r =
     let xs = so.read in
     let held = items_held_push items r.item spans r.own xs r.read so.held r.region r.held in

@@ -1,5 +1,5 @@
 -- Lists of entries of one region.
-use Rattle.std.specs.Prelude.{◌≡◌, ℕ, ◌+◌, ◌^◌, ◌<◌, List, [], ◌∷◌, length}
+use Rattle.std.specs.Prelude.{◌≡◌, ℕ, ◌+◌, ◌-◌, ◌^◌, ◌<◌, List, [], ◌∷◌, length}
 use Rattle.raft_base.specs.declared.entry_index.EntryIndex.{EntryIndex}
 use Rattle.raft_base.specs.NoEntry.{no_entry}
 use Rattle.raft_base.specs.Runs.{IsConsecutive}
@@ -7,6 +7,10 @@ use Rattle.raft_base.specs.Runs.{IsConsecutive}
 -- this index, without bytes and without a place
 abbrev pub entry_with_index : ℕ → EntryIndex
 entry_with_index index = record no_entry { index = index }
+
+-- an entry without a place, whose bytes stand from this offset up to this tail offset
+abbrev pub entry_between : ℕ → ℕ → ℕ → EntryIndex
+entry_between index offset tail = record no_entry { index = index; entry_offset = offset; entry_len = tail - offset }
 
 -- entries with the lengths of these byte strings
 abbrev pub with_lengths : List EntryIndex → List (List ℕ) → List EntryIndex

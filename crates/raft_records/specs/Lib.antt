@@ -15,7 +15,6 @@ pub mod ItemBatch
 pub mod Lines
 pub mod LogBatch
 pub mod LogBatchModel
-pub mod Placement
 pub mod Range
 pub mod ReadBatch
 pub mod ReadBatchModel

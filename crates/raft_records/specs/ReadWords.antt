@@ -25,38 +25,48 @@ pub record AreHeldAs (items : List ReadItem) (spans : List (ℕ × ℕ)) (read :
   pub taken : spans_of items ≡ length spans
   pub shown : (place : FileBlockHandle) → items_shown place items spans ≡ map (placed_item place compressions.None) read
 
--- the tail offsets of n entries from an index on are read after s entry bytes: they end there, and their spans are added
-pub record AreSpansRead (n first s : ℕ) (bytes rest : List ℕ) (end : ℕ) (old new : List (ℕ × ℕ)) : Type 0 where
-  pub read : List EntryIndex
-  pub reads : Reads (AreTails n (first, s)) bytes rest read
-  pub ends : end ≡ end_behind s read
-  pub added : new ≡ old ++ map span_of read
+-- how far a reader of items has come: the bytes in front of it, the end of the entry bytes so far, and the spans so far
+pub record Reached : Type 0 where
+  pub bytes : List ℕ
+  pub end : ℕ
+  pub spans : List (ℕ × ℕ)
 
--- a content is read after s entry bytes: its entries end there, and its spans are added
-pub record IsContentRead (s : ℕ) (bytes rest : List ℕ) (content : ReadContent) (end : ℕ) (old new : List (ℕ × ℕ)) : Type 0 where
+-- these bytes, this end and these spans are reached
+abbrev pub reached : List ℕ → ℕ → List (ℕ × ℕ) → Reached
+reached bytes end spans = record { bytes = bytes; end = end; spans = spans }
+
+-- the tail offsets of n entries from an index on are read, and their spans are added
+pub record AreSpansRead (n first : ℕ) (old new : Reached) : Type 0 where
+  pub read : List EntryIndex
+  pub reads : Reads (AreTails n (first, old.end)) old.bytes new.bytes read
+  pub ends : new.end ≡ end_behind old.end read
+  pub added : new.spans ≡ old.spans ++ map span_of read
+
+-- a content is read, and its spans are added
+pub record IsContentRead (content : ReadContent) (old new : Reached) : Type 0 where
   pub read : Content
   pub own : List (ℕ × ℕ)
-  pub reads : Reads (IsContent s) bytes rest read
-  pub ends : end ≡ end_of_content s read
-  pub added : new ≡ old ++ own
+  pub reads : Reads (IsContent old.end) old.bytes new.bytes read
+  pub ends : new.end ≡ end_of_content old.end read
+  pub added : new.spans ≡ old.spans ++ own
   pub held : IsHeldAs content own read
 
--- the entries of an item are read after s entry bytes: they end there, and their spans are added
-pub record IsRunRead (s : ℕ) (bytes rest : List ℕ) (run : ReadContent) (end : ℕ) (old new : List (ℕ × ℕ)) : Type 0 where
+-- the entries of an item are read, and their spans are added
+pub record IsRunRead (run : ReadContent) (old new : Reached) : Type 0 where
   pub read : List EntryIndex
-  pub reads : Reads (IsEntries s) bytes rest read
-  pub ends : end ≡ end_behind s read
-  pub added : new ≡ old ++ map span_of read
+  pub reads : Reads (IsEntries old.end) old.bytes new.bytes read
+  pub ends : new.end ≡ end_behind old.end read
+  pub added : new.spans ≡ old.spans ++ map span_of read
   pub held : IsHeldAs run (map span_of read) (entries read)
 
--- an item is read after s entry bytes: its entries end there, and it is added with its spans
-pub record IsItemRead (s : ℕ) (bytes rest : List ℕ) (end : ℕ) (items new_items : List ReadItem) (spans new_spans : List (ℕ × ℕ)) : Type 0 where
+-- an item is read, and it is added with its spans
+pub record IsItemRead (items new_items : List ReadItem) (old new : Reached) : Type 0 where
   pub read : Item
   pub item : ReadItem
   pub own : List (ℕ × ℕ)
-  pub reads : Reads (IsItem s) bytes rest read
-  pub ends : end ≡ end_of_content s read.content
+  pub reads : Reads (IsItem old.end) old.bytes new.bytes read
+  pub ends : new.end ≡ end_of_content old.end read.content
   pub added : new_items ≡ items ++ item ∷ []
-  pub spans_added : new_spans ≡ spans ++ own
+  pub spans_added : new.spans ≡ old.spans ++ own
   pub region : item.region ≡ read.raft_group_id
   pub held : IsHeldAs item.content own read.content

@@ -1,46 +1,21 @@
 //! Where the entries of a region's log stand.
 
-ghost use Rattle.std.specs.Prelude.{◌≡◌, ◌≢◌, ◌↔◌, ◌-◌, ◌^◌, ◌<◌, ◌≤◌, List, ◌++◌, map, length, Some, IsTrue, IfOk, IfErr, IfSome, OnOk, OnErr, OnSome, ℕ};
+ghost use Rattle.std.specs.Prelude.{◌≡◌, ◌≢◌, ◌↔◌, ◌-◌, ◌^◌, ◌<◌, ◌≤◌, ◌++◌, map, length, Some, IsTrue, IfOk, IfErr, IfSome, OnOk, OnErr, OnSome, ℕ};
 ghost use Rattle.raft_codec.specs.Reading.{Reads, HasNoFront};
 ghost use Rattle.raft_records.specs.Grammar.{IsEntries, IsTail, AreTails, end_behind};
 ghost use Rattle.raft_records.specs.Faults.{IsEntriesFault, IsTailFault, IsTailsFault, IsEntriesRefusal};
-ghost use Rattle.raft_records.specs.Entries.{RunOn, AreWritable};
+ghost use Rattle.raft_records.specs.Entries.{RunOn, AreWritable, entry_between};
 ghost use Rattle.raft_codec.specs.Varint.{varint};
 ghost use Rattle.raft_records.specs.ItemBatch.{raised_entry, CanRaise};
-ghost use Rattle.raft_records.specs.Placement.{entry_between, file_in, entry_in};
 ghost use Rattle.raft_records.specs.Sizes.{entries_size, at_most_usize};
 ghost use Rattle.raft_records.specs.Spelling.{Keeps, tails_bytes, entries_bytes};
 
 use raft_base::{
-    AllocResult, CompressionType, EntryIndex, Error, FileBlockHandle, FileId, Result,
-    is_consecutive,
+    AllocResult, CompressionType, EntryIndex, Error, FileBlockHandle, Result, is_consecutive,
 };
 use raft_codec::codec;
 use raft_codec::codec::BytesSlice;
 use std::alloc::Global;
-
-/// The place and the compression type that entries get as they are read.
-#[derive(Clone, Copy)]
-pub(crate) struct Placement {
-    /// Their place, whose file is also that of key values.
-    pub(crate) handle: Option<FileBlockHandle>,
-    pub(crate) compression_type: CompressionType,
-}
-
-/// The placement without a place.
-pub(crate) const UNPLACED: Placement = Placement {
-    handle: None,
-    compression_type: CompressionType::None,
-};
-
-impl Placement {
-    /// Returns the file of the place, if there is one.
-    pub(crate) fn file_id(self) -> Option<FileId>
-        ensures { result ≡ file_in self.handle }
-    {
-        self.handle.map(|handle| handle.id)
-    }
-}
 
 /// Tests whether each entry's bytes begin where those of the one before it end, and end below 2^32.
 fn runs_on(entries: &[EntryIndex]) -> bool
@@ -178,24 +153,20 @@ impl EntryIndexes {
             HasNoFront (IsEntries entries_size.old) buf.old.now) }
         ensures fault { IfErr result (IsEntriesFault entries_size.old buf.old.now) }
     {
-        let (entries, end, rest) = EntryIndexes::parse(alloc, *buf, *entries_size, UNPLACED)?;
+        let (entries, end, rest) = EntryIndexes::parse(alloc, *buf, *entries_size)?;
         *entries_size = end;
         *buf = rest;
         Ok(entries)
     }
 
-    /// Returns the entries in front of `bytes`, each in this place, the end of their bytes, and what follows
-    /// them.
-    #[inline(always)]
+    /// Returns the entries in front of `bytes`, the end of their bytes, and what follows them.
     pub(crate) fn parse(
         alloc: Global,
         bytes: &[u8],
         entries_size: u32,
-        place: Placement,
     ) -> Result<(EntryIndexes, u32, &[u8])>
-        ensures ok { IfOk result (λ read. (es : List EntryIndex) ×
-            Reads (IsEntries entries_size) bytes.now read.2.now es
-            × (read.0.0.items ≡ map (entry_in place) es)) }
+        ensures ok { IfOk result (λ read.
+            Reads (IsEntries entries_size) bytes.now read.2.now read.0.0.items) }
         ensures size { IfOk result (λ read. read.1 ≡ end_behind entries_size read.0.0.items) }
         ensures refused { IfErr result (λ e. e ≢ Error.Memory →
             HasNoFront (IsEntries entries_size) bytes.now) }
@@ -206,7 +177,7 @@ impl EntryIndexes {
             return Ok((EntryIndexes(Vec::new(alloc)), entries_size, behind));
         }
         let (first, tails) = codec::parse_var_u64(behind)?;
-        let (entries, end, rest) = parse_tails(alloc, tails, count, first, entries_size, place)?;
+        let (entries, end, rest) = parse_tails(alloc, tails, count, first, entries_size)?;
         Ok((EntryIndexes(entries), end, rest))
     }
 }
@@ -235,11 +206,9 @@ fn parse_tails(
     count: u64,
     first: u64,
     entries_size: u32,
-    place: Placement,
 ) -> Result<(Vec<EntryIndex>, u32, &[u8])>
-    ensures ok { IfOk result (λ read. (es : List EntryIndex) ×
-        Reads (AreTails count (first, entries_size)) bytes.now read.2.now es
-        × (read.0.items ≡ map (entry_in place) es)) }
+    ensures ok { IfOk result (λ read.
+        Reads (AreTails count (first, entries_size)) bytes.now read.2.now read.0.items) }
     ensures size { IfOk result (λ read. read.1 ≡ end_behind entries_size read.0.items) }
     ensures refused { IfErr result (λ e. e ≢ Error.Memory →
         HasNoFront (AreTails count (first, entries_size)) bytes.now) }
@@ -260,8 +229,8 @@ fn parse_tails(
         };
         entries.push_reserved(EntryIndex {
             index,
-            entries: place.handle,
-            compression_type: place.compression_type,
+            entries: None,
+            compression_type: CompressionType::None,
             entry_offset: offset,
             entry_len: tail - offset,
         });

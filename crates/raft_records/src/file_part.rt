@@ -7,10 +7,9 @@ ghost use Rattle.raft_records.specs.FilePart.{IsPartRefusal, part_of, IsNext, Is
 ghost use Rattle.raft_records.specs.DecodedIn.{AreDecodedIn};
 ghost use Rattle.raft_records.specs.LogBatch.{IsReadable};
 
-use crate::LogItemBatch;
-use crate::header::{LOG_BATCH_HEADER_LEN, parse_header};
+use crate::{LogItemBatch, ReadBatch};
 use bytes::Bytes;
-use raft_base::{Error, FileBlockHandle, FileId, LogFileContext, Result, Version};
+use raft_base::{Error, FileId, LogFileContext, Result, Version};
 use std::alloc::Global;
 use std::marker::Model;
 
@@ -189,25 +188,11 @@ pub fn next_in(
         → HasNoFront (λ xs. IsReadable xs (signature_of file.now)) (drop at bytes.now)) }
     ensures fault { IfErr result (IsNextFault (signature_of file.now) (drop at bytes.now)) }
 {
-    if at == bytes.len() {
+    let mut batch = ReadBatch::new(alloc, file.id);
+    let Some(next) = batch.read_next(file, offset, bytes, at)? else {
         return Ok(None);
-    }
-    let (_, rest) = bytes.split_at(at);
-    let ((items_at, compression_type, len), _) = parse_header(alloc, rest)?;
-    if len > rest.len() {
-        return Err(Error::Corruption(format!(in alloc;
-            "a log batch of {len} bytes is cut short"
-        )?));
-    }
-    let place = FileBlockHandle {
-        id: file.id,
-        offset: offset + at as u64 + LOG_BATCH_HEADER_LEN as u64,
-        len: items_at - LOG_BATCH_HEADER_LEN,
     };
-    let (batch, _) = rest.split_at(len);
-    let (_, mut item_bytes) = batch.split_at(items_at);
-    let items = LogItemBatch::decode(alloc, &mut item_bytes, place, compression_type, file)?;
-    Ok(Some((items, at + len)))
+    Ok(Some((batch.to_batch(alloc)?, next)))
 }
 
 /// Returns how many bytes of the part, from its first on, are readable batches, one after the other, and why

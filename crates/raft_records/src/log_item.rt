@@ -4,15 +4,13 @@ ghost use Rattle.std.specs.Prelude.{◌≡◌, ◌≢◌, ◌↔◌, ◌++◌, I
 ghost use Rattle.std.specs.Option.{option_map};
 ghost use Rattle.raft_codec.specs.Reading.{Reads, HasNoFront};
 ghost use Rattle.raft_records.specs.Grammar.{IsItem, IsContent, end_of_content};
-ghost use Rattle.raft_records.specs.Item.{Item, Content, item_of, content_of, entries_item, command_item, pair_item};
+ghost use Rattle.raft_records.specs.Item.{item_of, content_of, entries_item, command_item, pair_item};
 ghost use Rattle.raft_records.specs.Faults.{IsItemFault, IsContentFault, IsItemRefusal};
 ghost use Rattle.raft_records.specs.ItemBatch.{placed_item, raised_item, CanRaiseContent};
-ghost use Rattle.raft_records.specs.Placement.{content_in, item_in};
 ghost use Rattle.raft_records.specs.Range.{IsInRange};
 ghost use Rattle.raft_records.specs.Sizes.{item_size, at_most_usize};
 ghost use Rattle.raft_records.specs.Spelling.{Keeps, item_bytes, content_bytes, IsWritable};
 
-use crate::entry_indexes::{Placement, UNPLACED};
 use crate::{Command, EntryIndexes, KeyValue, OpType};
 use raft_base::{AllocResult, CompressionType, EntryIndex, Error, FileBlockHandle, Result};
 use raft_codec::codec;
@@ -216,36 +214,14 @@ impl LogItem {
             HasNoFront (IsItem entries_size.old) buf.old.now) }
         ensures fault { IfErr result (IsItemFault entries_size.old buf.old.now) }
     {
-        let (item, end, rest) = LogItem::parse(alloc, *buf, *entries_size, UNPLACED)?;
+        let (raft_group_id, behind) = codec::parse_var_u64(*buf)?;
+        let (content, end, rest) = LogItemContent::parse(alloc, behind, *entries_size)?;
         *entries_size = end;
         *buf = rest;
-        Ok(item)
-    }
-
-    /// Returns the item in front of `bytes`, in this place, the end of its entries' bytes, and what follows it.
-    #[inline(always)]
-    pub(crate) fn parse(
-        alloc: Global,
-        bytes: &[u8],
-        entries_size: u32,
-        place: Placement,
-    ) -> Result<(LogItem, u32, &[u8])>
-        ensures ok { IfOk result (λ read. (item : Item) ×
-            Reads (IsItem entries_size) bytes.now read.2.now item
-            × (item_of read.0 ≡ item_in place item)) }
-        ensures size { IfOk result (λ read. read.1
-            ≡ end_of_content entries_size (content_of read.0.content)) }
-        ensures refused { IfErr result (λ e. e ≢ Error.Memory →
-            HasNoFront (IsItem entries_size) bytes.now) }
-        ensures fault { IfErr result (IsItemFault entries_size bytes.now) }
-    {
-        let (raft_group_id, behind) = codec::parse_var_u64(bytes)?;
-        let (content, end, rest) = LogItemContent::parse(alloc, behind, entries_size, place)?;
-        let item = LogItem {
+        Ok(LogItem {
             raft_group_id,
             content,
-        };
-        Ok((item, end, rest))
+        })
     }
 }
 
@@ -285,18 +261,10 @@ impl LogItemContent {
         }
     }
 
-    /// Returns the content in front of `bytes`, in this place, the end of its entries' bytes, and what follows
-    /// it.
-    #[inline(always)]
-    fn parse(
-        alloc: Global,
-        bytes: &[u8],
-        entries_size: u32,
-        place: Placement,
-    ) -> Result<(LogItemContent, u32, &[u8])>
-        ensures ok { IfOk result (λ read. (content : Content) ×
-            Reads (IsContent entries_size) bytes.now read.2.now content
-            × (content_of read.0 ≡ content_in place content)) }
+    /// Returns the content in front of `bytes`, the end of its entries' bytes, and what follows it.
+    fn parse(alloc: Global, bytes: &[u8], entries_size: u32) -> Result<(LogItemContent, u32, &[u8])>
+        ensures ok { IfOk result (λ read.
+            Reads (IsContent entries_size) bytes.now read.2.now (content_of read.0)) }
         ensures size { IfOk result (λ read.
             read.1 ≡ end_of_content entries_size (content_of read.0)) }
         ensures refused { IfErr result (λ e. e ≢ Error.Memory →
@@ -309,7 +277,7 @@ impl LogItemContent {
         let kind = *kind;
         match kind {
             TYPE_ENTRIES => {
-                let (entries, end, rest) = EntryIndexes::parse(alloc, behind, entries_size, place)?;
+                let (entries, end, rest) = EntryIndexes::parse(alloc, behind, entries_size)?;
                 Ok((LogItemContent::EntryIndexes(entries), end, rest))
             }
             TYPE_COMMAND => {
@@ -317,8 +285,7 @@ impl LogItemContent {
                 Ok((LogItemContent::Command(command), entries_size, rest))
             }
             TYPE_KV => {
-                let (mut kv, rest) = KeyValue::parse(alloc, behind)?;
-                kv.file_id = place.file_id();
+                let (kv, rest) = KeyValue::parse(alloc, behind)?;
                 Ok((LogItemContent::Kv(kv), entries_size, rest))
             }
             _ => Err(Error::Corruption(format!(in alloc; "Unrecognized log item type: {kind}")?)),

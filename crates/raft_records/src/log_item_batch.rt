@@ -3,13 +3,12 @@
 ghost use Rattle.std.specs.Prelude.{◌≡◌, ◌≢◌, ℕ, ◌+◌, ◌^◌, ◌<◌, ◌≤◌, length, Option, List, [], ◌∷◌, ◌++◌, map, Some, None, IfOk, IfErr, IfSome, OnOk, OnErr, ◌↔◌, IsTrue};
 ghost use Rattle.std.specs.Vec.Iter.{into_iter_items, into_iter_len};
 ghost use Rattle.std.specs.Slice.Iter.{iter_rest};
-ghost use Rattle.raft_codec.specs.Reading.{Reads, HasNoFront};
 ghost use Rattle.raft_base.specs.Signature.{signature_of};
 ghost use Rattle.raft_base.specs.Runs.{IsConsecutive};
 ghost use Rattle.raft_records.specs.Grammar.{end_of_content};
 ghost use Rattle.raft_records.specs.DecodedIn.{AreDecodedIn};
 ghost use Rattle.raft_records.specs.Item.{Item, bare, entries, command, content_of, item_of, entries_item, command_item, pair_item, AreInBytes, IsInBytes};
-ghost use Rattle.raft_records.specs.ItemBatch.{AreItems, IsItemBatch, IsDecoded, AreItemsFault, IsItemBatchFault, checksum_bytes, item_batch_bytes, placed_item, raised_item, with_offsets_from, entry_lengths, entry_bytes_of, FitsBehind, IsEncoded, no_checksum, FitTogether, first_entry};
+ghost use Rattle.raft_records.specs.ItemBatch.{IsItemBatch, IsDecoded, IsItemBatchFault, checksum_bytes, item_batch_bytes, placed_item, raised_item, with_offsets_from, entry_lengths, entry_bytes_of, FitsBehind, IsEncoded, no_checksum, FitTogether, first_entry};
 ghost use Rattle.raft_records.specs.Faults.{IsMemoryOrMessage};
 ghost use Rattle.raft_records.specs.Spelling.{Keeps};
 ghost use Rattle.raft_records.specs.Sizes.{item_batch_size, at_most_usize, HaveSmallNumbers};
@@ -18,9 +17,8 @@ ghost use Rattle.raft_records.specs.declared.key_value.OpType.TheVariants.{Put, 
 
 mod places;
 
-use crate::checksum::{LOG_BATCH_CHECKSUM_LEN, sign, verify_checksum};
-use crate::entry_indexes::Placement;
-use crate::{Command, LogItem, LogItemContent, OpType};
+use crate::checksum::{LOG_BATCH_CHECKSUM_LEN, sign};
+use crate::{Command, LogItem, LogItemContent, OpType, ReadBatch};
 use byteorder::{ByteOrder, LittleEndian};
 use places::{place_items, raise_item_offsets, set_offsets};
 use raft_base::{
@@ -383,11 +381,13 @@ impl LogItemBatch {
             IsItemBatch buf.old.now (signature_of context.now) items rest → ⊥) }
         ensures fault { IfErr result (IsItemBatchFault (signature_of context.now) buf.old.now) }
     {
-        let content = verify_checksum(alloc, *buf, context.get_signature())?;
-        let (count, behind) = codec::parse_var_u64(content)?;
-        let (batch, rest) = parse_items(alloc, behind, count, entries, compression_type)?;
+        // All batches are read in this compression type: there is no other.
+        let CompressionType::None = compression_type;
+        let mut read = ReadBatch::new(alloc, entries.id);
+        let rest = read.read_item_batch(*buf, entries, context)?;
+        let batch = read.to_batch(alloc)?;
         *buf = rest;
-        Ok(batch.with_file(entries.id))
+        Ok(batch)
     }
 
     /// Returns the same items, with the file of their places beside them.
@@ -493,35 +493,4 @@ fn write_items(buf: &mut Vec<u8>, items: &[LogItem]) -> AllocResult<()>
     }
     buf.extend_from_slice(&[0; LOG_BATCH_CHECKSUM_LEN])?;
     Ok(())
-}
-
-/// Returns the `count` items in front of `bytes`, each in its place, and what follows them.
-fn parse_items(
-    alloc: Global,
-    bytes: &[u8],
-    count: u64,
-    handle: FileBlockHandle,
-    compression_type: CompressionType,
-) -> Result<(LogItemBatch, &[u8])>
-    ensures ok { IfOk result (λ read. (items : List Item) ×
-        Reads (AreItems count) bytes.now read.1.now items
-        × (read.0 ≡ map (placed_item handle compression_type) items)) }
-    ensures refused { IfErr result (λ e. e ≢ Error.Memory → HasNoFront (AreItems count) bytes.now) }
-    ensures fault { IfErr result (AreItemsFault count bytes.now) }
-{
-    // Each item takes three bytes at least, so no count makes more room than bytes are there.
-    let room = count.min(bytes.len() as u64 / 3);
-    let place = Placement {
-        handle: Some(handle),
-        compression_type,
-    };
-    let mut batch = LogItemBatch::with_capacity(alloc, room as usize)?;
-    let mut rest = bytes;
-    for _ in 0..count {
-        let start = batch.entries_size();
-        let (item, end, behind) = LogItem::parse(alloc, rest, start, place)?;
-        batch.add(item, end)?;
-        rest = behind;
-    }
-    Ok((batch, rest))
 }

@@ -1,6 +1,6 @@
 //! Batches as they are read: items over the bytes that they were read of.
 
-ghost use Rattle.std.specs.Prelude.{◌≡◌, ◌≢◌, ℕ, ◌+◌, ◌^◌, ◌<◌, ◌≤◌, List, [], length, drop, IfOk, IfErr, IfNone, OnOk, OnErr};
+ghost use Rattle.std.specs.Prelude.{◌≡◌, ◌≢◌, ℕ, ◌+◌, ◌^◌, ◌<◌, ◌≤◌, List, [], length, drop, IfOk, IfErr, IfNone, OnErr};
 ghost use Rattle.std.specs.Option.{option_map};
 ghost use Rattle.raft_codec.specs.Reading.{HasNoFront};
 ghost use Rattle.raft_base.specs.Signature.{signature_of};
@@ -63,11 +63,7 @@ pub struct ReadBatch<'a> {
 
 impl<'a> Model for ReadBatch<'a> {
     ghost use Rattle.std.specs.Prelude.{List};
-    ghost use Rattle.raft_records.specs.Entries.{Tile};
-    ghost use Rattle.raft_records.specs.Grammar.{end_behind};
     ghost use Rattle.raft_records.specs.Item.{Item};
-    ghost use Rattle.raft_base.specs.Runs.{entries_of_block};
-    ghost use Rattle.raft_base.specs.declared.pipe_log.FileBlockHandle.{FileBlockHandle};
 
     ghost Value = { List Item };
 
@@ -151,16 +147,17 @@ impl<'a> ReadBatch<'a> {
         self.spans.clear();
     }
 
-    /// Reads the item batch that the whole slice is, in the file of `context`. The entries are at `place`, the
-    /// changes of keys in its file. On `Err` no items are held.
-    fn read_item_batch(
+    /// Reads the item batch that the whole slice is, in the file of `context`, and returns the bytes between the
+    /// last item and the checksum, which are free. The entries are at `place`, the changes of keys in its file.
+    /// On `Err` no items are held.
+    pub(crate) fn read_item_batch(
         &mut self,
         bytes: &'a [u8],
         place: FileBlockHandle,
         context: &LogFileContext,
-    ) -> Result<()>
-        ensures ok { OnOk result ((rest : List ℕ) × IsDecoded bytes.now (signature_of context.now)
-            place compressions.None self.new rest) }
+    ) -> Result<&'a [u8]>
+        ensures ok { IfOk result (λ rest. IsDecoded bytes.now (signature_of context.now) place
+            compressions.None self.new rest.now) }
         ensures in_file { AreDecodedIn place.id self.new }
         ensures err { OnErr result (self.new ≡ []) }
         ensures refused { IfErr result (λ e. e ≢ Error.Memory → (items : List Item) (rest : List ℕ) →
@@ -173,12 +170,14 @@ impl<'a> ReadBatch<'a> {
         let alloc = *self.items.allocator();
         let content = verify_checksum(alloc, bytes, context.get_signature())?;
         let (count, behind) = codec::parse_var_u64(content)?;
-        if let Err(e) = read_items(alloc, behind, count, &mut self.items, &mut self.spans) {
-            self.items.clear();
-            self.spans.clear();
-            return Err(e);
+        match read_items(alloc, behind, count, &mut self.items, &mut self.spans) {
+            Ok(rest) => Ok(rest),
+            Err(e) => {
+                self.items.clear();
+                self.spans.clear();
+                Err(e)
+            }
         }
-        Ok(())
     }
 
     /// Returns the place of the entry bytes, the items, and the spans of their runs, those of the first run

@@ -6,7 +6,7 @@ ghost use Rattle.raft_records.specs.Faults.{IsContentFault, IsEntriesFault, IsIt
 ghost use Rattle.raft_records.specs.Grammar.{AreTails, IsContent, IsEntries, IsItem, IsKeyValue};
 ghost use Rattle.raft_records.specs.Item.{Item, Pair, pair};
 ghost use Rattle.raft_records.specs.ItemBatch.{AreItems, AreItemsFault};
-ghost use Rattle.raft_records.specs.ReadWords.{AreHeldAs, AreSpansRead, IsContentRead, IsHeldAs, IsItemRead, IsRunRead};
+ghost use Rattle.raft_records.specs.ReadWords.{AreHeldAs, AreSpansRead, IsContentRead, IsHeldAs, IsItemRead, IsRunRead, reached};
 
 use crate::entry_indexes::{parse_tail, short_tail};
 use crate::key_value::parse_byte_string;
@@ -61,8 +61,8 @@ fn read_item<'a>(
     items: &mut Vec<ReadItem<'a>>,
     spans: &mut Vec<(u32, u32)>,
 ) -> Result<(u32, &'a [u8])>
-    ensures ok { IfOk result (λ read. IsItemRead start bytes.now read.1.now read.0
-        items.old.items items.new.items spans.old.items spans.new.items) }
+    ensures ok { IfOk result (λ read. IsItemRead items.old.items items.new.items
+        (reached bytes.now start spans.old.items) (reached read.1.now read.0 spans.new.items)) }
     ensures refused { IfErr result (λ e. e ≢ Error.Memory → HasNoFront (IsItem start) bytes.now) }
     ensures fault { IfErr result (λ e. IsMemory e ⊎ IsItemFault start bytes.now e) }
 {
@@ -80,8 +80,8 @@ fn read_content<'a>(
     start: u32,
     spans: &mut Vec<(u32, u32)>,
 ) -> Result<(ReadContent<'a>, u32, &'a [u8])>
-    ensures ok { IfOk result (λ read. IsContentRead start bytes.now read.2.now read.0 read.1
-        spans.old.items spans.new.items) }
+    ensures ok { IfOk result (λ read. IsContentRead read.0
+        (reached bytes.now start spans.old.items) (reached read.2.now read.1 spans.new.items)) }
     ensures refused { IfErr result (λ e. e ≢ Error.Memory → HasNoFront (IsContent start) bytes.now) }
     ensures fault { IfErr result (IsContentFault start bytes.now) }
 {
@@ -133,8 +133,8 @@ fn read_run<'a>(
     start: u32,
     spans: &mut Vec<(u32, u32)>,
 ) -> Result<(ReadContent<'a>, u32, &'a [u8])>
-    ensures ok { IfOk result (λ read. IsRunRead start bytes.now read.2.now read.0 read.1
-        spans.old.items spans.new.items) }
+    ensures ok { IfOk result (λ read. IsRunRead read.0
+        (reached bytes.now start spans.old.items) (reached read.2.now read.1 spans.new.items)) }
     ensures refused { IfErr result (λ e. e ≢ Error.Memory → HasNoFront (IsEntries start) bytes.now) }
     ensures fault { IfErr result (IsEntriesFault start bytes.now) }
 {
@@ -159,8 +159,8 @@ fn read_spans<'a>(
     start: u32,
     spans: &mut Vec<(u32, u32)>,
 ) -> Result<(u32, &'a [u8])>
-    ensures ok { IfOk result (λ read. AreSpansRead count first start bytes.now read.1.now read.0
-        spans.old.items spans.new.items) }
+    ensures ok { IfOk result (λ read. AreSpansRead count first
+        (reached bytes.now start spans.old.items) (reached read.1.now read.0 spans.new.items)) }
     ensures refused { IfErr result (λ e. e ≢ Error.Memory →
         HasNoFront (AreTails count (first, start)) bytes.now) }
     ensures fault { IfErr result (IsTailsFault count (first, start) bytes.now) }

@@ -5,12 +5,12 @@ ghost use Rattle.std.specs.List.{AllByRecursion};
 ghost use Rattle.raft_base.specs.declared.entry_index.EntryIndex.{EntryIndex};
 ghost use Rattle.raft_base.specs.Runs.{entries_of_block};
 ghost use Rattle.raft_records.specs.DecodedIn.{IsDecodedIn};
-ghost use Rattle.raft_records.specs.Item.{item_of, content_of, pair};
+ghost use Rattle.raft_records.specs.Item.{item_of, content_of};
 ghost use Rattle.raft_records.specs.ReadBatch.{content_shown, item_shown, spans_taken};
 
 use crate::read_batch::{ReadContent, ReadItem};
 use crate::{Command, EntryIndexes, KeyValue, LogItem, LogItemContent, OpType};
-use raft_base::{CompressionType, EntryIndex, Error, FileBlockHandle, FileId, Result};
+use raft_base::{CompressionType, EntryIndex, Error, FileBlockHandle, Result};
 use std::alloc::Global;
 
 impl ReadItem<'_> {
@@ -109,13 +109,13 @@ fn entries_at(
     let mut run = Vec::with_capacity(alloc, spans.len())?;
     let mut index = first;
     for &(entry_offset, entry_len) in spans {
-        run.push(EntryIndex {
+        run.push_reserved(EntryIndex {
             index,
             entries: Some(place),
             compression_type: CompressionType::None,
             entry_offset,
             entry_len,
-        })?;
+        });
         index += 1;
     }
     Ok(run)

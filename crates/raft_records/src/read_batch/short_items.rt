@@ -5,7 +5,7 @@ ghost use Rattle.std.specs.Vec.{vec_len, vec_capacity};
 ghost use Rattle.raft_codec.specs.Reading.{Reads};
 ghost use Rattle.raft_records.specs.Grammar.{IsByteString, IsKeyValue};
 ghost use Rattle.raft_records.specs.Item.{Pair, pair};
-ghost use Rattle.raft_records.specs.ReadWords.{AreSpansRead, IsContentRead, IsHeldAs, IsItemRead, IsRunRead};
+ghost use Rattle.raft_records.specs.ReadWords.{AreSpansRead, IsContentRead, IsHeldAs, IsItemRead, IsRunRead, reached};
 
 use crate::entry_indexes::short_tail;
 use crate::log_item::{TYPE_ENTRIES, TYPE_KV};
@@ -24,8 +24,8 @@ pub(super) fn read_short_item<'a>(
     items: &mut Vec<ReadItem<'a>>,
     spans: &mut Vec<(u32, u32)>,
 ) -> Option<(u32, &'a [u8])>
-    ensures some { IfSome result (λ read. IsItemRead start bytes.now read.1.now read.0
-        items.old.items items.new.items spans.old.items spans.new.items) }
+    ensures some { IfSome result (λ read. IsItemRead items.old.items items.new.items
+        (reached bytes.now start spans.old.items) (reached read.1.now read.0 spans.new.items)) }
     ensures items { IfNone result (items.new.items ≡ items.old.items) }
     ensures spans { IfNone result (spans.new.items ≡ spans.old.items) }
 {
@@ -38,15 +38,15 @@ pub(super) fn read_short_item<'a>(
     Some((end, rest))
 }
 
-/// The content of such an item, the end of its entries' bytes and what follows it.
+/// Reads the content of such an item; returns it, the end of its entries' bytes and what follows it.
 #[inline(always)]
 fn read_short_content<'a>(
     bytes: &'a [u8],
     start: u32,
     spans: &mut Vec<(u32, u32)>,
 ) -> Option<(ReadContent<'a>, u32, &'a [u8])>
-    ensures some { IfSome result (λ read. IsContentRead start bytes.now read.2.now read.0 read.1
-        spans.old.items spans.new.items) }
+    ensures some { IfSome result (λ read. IsContentRead read.0
+        (reached bytes.now start spans.old.items) (reached read.2.now read.1 spans.new.items)) }
     ensures none { IfNone result (spans.new.items ≡ spans.old.items) }
 {
     let [kind, first, behind @ ..] = bytes else {
@@ -73,8 +73,9 @@ fn read_short_run<'a>(
     start: u32,
     spans: &mut Vec<(u32, u32)>,
 ) -> Option<(ReadContent<'a>, u32, &'a [u8])>
-    ensures some { IfSome result (λ read. IsRunRead start (count ∷ bytes.now) read.2.now read.0 read.1
-        spans.old.items spans.new.items) }
+    ensures some { IfSome result (λ read. IsRunRead read.0
+        (reached (count ∷ bytes.now) start spans.old.items)
+        (reached read.2.now read.1 spans.new.items)) }
     ensures none { IfNone result (spans.new.items ≡ spans.old.items) }
 {
     let count = usize::from(count);
@@ -86,7 +87,7 @@ fn read_short_run<'a>(
     Some((ReadContent::Run { first, count }, end, rest))
 }
 
-/// A put after its op type byte, and what follows it.
+/// Reads a put after its op type byte, and returns it and what follows it.
 #[inline(always)]
 fn parse_short_put(bytes: &[u8]) -> Option<(ReadContent<'_>, &[u8])>
     ensures { IfSome result (λ read. (p : Pair) ×
@@ -108,8 +109,8 @@ fn read_short_spans<'a>(
 ) -> Option<(u32, &'a [u8])>
     requires { vec_len spans.old + count ≤ vec_capacity spans.old }
     ensures some { IfSome result (λ read. (first : ℕ) → first + count < 2 ^ 64 →
-        AreSpansRead count first start bytes.now read.1.now read.0
-        spans.old.items spans.new.items) }
+        AreSpansRead count first
+        (reached bytes.now start spans.old.items) (reached read.1.now read.0 spans.new.items)) }
     ensures none { IfNone result (spans.new.items ≡ spans.old.items) }
 {
     let len = spans.len();
@@ -127,8 +128,8 @@ fn read_short_spans<'a>(
     Some((offset, rest))
 }
 
-/// The byte string in front of `bytes`, which stands after its length, and what follows it, where its length
-/// is short.
+/// Returns the byte string in front of `bytes`, which stands after its length, and what follows it, where its
+/// length is short.
 #[inline(always)]
 fn parse_short_byte_string(bytes: &[u8]) -> Option<(&[u8], &[u8])>
     ensures { IfSome result (λ read. Reads IsByteString bytes.now read.1.now read.0.now) }

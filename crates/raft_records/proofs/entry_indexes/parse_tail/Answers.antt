@@ -1,4 +1,4 @@
-use Rattle.raft_records.specs.Placement.{entry_between}
+use Rattle.raft_records.specs.Entries.{entry_between}
 use Rattle.std.proofs.Common.{refl, ◌≤◌, ◌<◌, ◌⊎◌, ◌^◌, arith, inl, inr}
 use Rattle.std.proofs.lemmas.Result.{err_from_is_err_and}
 use Rattle.raft_records.proofs.EntryLemmas.{no_tail, tail_read}

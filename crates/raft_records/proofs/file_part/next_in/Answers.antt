@@ -1,62 +1,23 @@
-use Rattle.std.proofs.Common.{ℕ, ◌+◌, ◌++◌, List, map, take, drop, ap, sym, ◌∙◌, subst, inl, inr}
-use Rattle.std.proofs.lemmas.List.{length-take-le}
+use Rattle.std.proofs.Common.{sym, subst, arith}
 use Rattle.std.proofs.lemmas.Result.{err_from_is_err_and}
-use Rattle.raft_codec.specs.Reading.{HasNoFront}
-use Rattle.raft_base.specs.Signature.{signature_of}
-use Rattle.raft_records.specs.FilePart.{part_of, IsNextFault}
-use Rattle.raft_records.proofs.FramedAt.{laid_at}
-use Rattle.raft_records.proofs.Names.{entries_place}
-use Rattle.raft_records.specs.ItemBatch.{IsItemBatch, IsItemBatchFault, placed_item}
-use Rattle.raft_records.specs.LogBatch.{IsReadable}
-use Rattle.raft_records.proofs.PartLemmas.{no_header, cut_short, no_item_batch, batch_stands, batch_split}
+use Rattle.raft_records.specs.FilePart.{part_of, IsBatchAt}
+use Rattle.raft_records.proofs.PartLemmas.{batch_inside, no_room_for_batch}
 use Rattle.raft_records.proofs.file_part.next_in.Goals as goal
 
-pub returns-in_err-items_at-clause-refused : goal.returns-in_err-items_at-clause-refused
-returns-in_err-items_at-clause-refused c =
-    let p = err_from_is_err_and c.from_residual.result c.from_residual.ensures.1 in
-    rw (p.1) (λ ne. subst (HasNoFront (λ bytes. IsReadable bytes (signature_of c.args.file.now))) c.split_at.ensures.back (no_header _ (signature_of c.args.file.now) c.in_err-items_at.ensures.refused))
+pub returns-in_err-to_batch-clause-some : goal.returns-in_err-to_batch-clause-some
+returns-in_err-to_batch-clause-some c =
+    let p = err_from_is_err_and c.from_residual-in_err-to_batch.result c.from_residual-in_err-to_batch.ensures.1 in
+    let stands = rw c.in-Some.is at c.in_ok-next.ensures.ok in
+    let inside = batch_inside (part_of c.args.file.now c.args.offset c.args.bytes.now) c.args.at _ c.in-Some.next stands in
+    rw (p.1) (omega (arith, inside.0, inside.1))
 
-pub returns-in_err-items_at-clause-fault : goal.returns-in_err-items_at-clause-fault
-returns-in_err-items_at-clause-fault c =
-    let p = err_from_is_err_and c.from_residual.result c.from_residual.ensures.1 in
-    rw (p.1, p.2) (subst (λ (xs : List ℕ). IsNextFault (signature_of c.args.file.now) xs c.in_err-items_at.field-0.0) c.split_at.ensures.back (inl c.in_err-items_at.ensures.fault))
-
-pub returns-then-len-rest-clause-refused : goal.returns-then-len-rest-clause-refused
-returns-then-len-rest-clause-refused c =
-    λ ne. subst (HasNoFront (λ bytes. IsReadable bytes (signature_of c.args.file.now))) c.split_at.ensures.back (cut_short c.split_at.result.1.now _ (signature_of c.args.file.now) c.in_ok-items_at.items_at c.in_ok-items_at.len c.in_ok-items_at.compression_type c.in_ok-items_at.ensures.ok c.if-len-rest.true)
-
-pub returns-in_err-items-clause-refused : goal.returns-in_err-items-clause-refused
-returns-in_err-items-clause-refused c =
-    let p = err_from_is_err_and c.from_residual-in_err-items.result c.from_residual-in_err-items.ensures.1 in
-    let item_batch = c.split_at-3.ensures.back ∙ ap (drop c.in_ok-items_at.items_at) c.split_at-2.ensures.front in
-    rw (p.1, p.2) (λ ne. subst (HasNoFront (λ bytes. IsReadable bytes (signature_of c.args.file.now))) c.split_at.ensures.back (no_item_batch c.split_at.result.1.now _ (signature_of c.args.file.now) c.in_ok-items_at.items_at c.in_ok-items_at.len c.in_ok-items_at.compression_type c.in_ok-items_at.ensures.ok (λ items more b. c.in_err-items.ensures.refused ne items more (subst (λ (xs : List ℕ). IsItemBatch xs (signature_of c.args.file.now) items more) (sym item_batch) b))))
-
-pub returns-in_err-items-clause-fault : goal.returns-in_err-items-clause-fault
-returns-in_err-items-clause-fault c =
-    let p = err_from_is_err_and c.from_residual-in_err-items.result c.from_residual-in_err-items.ensures.1 in
-    let item_batch = c.split_at-3.ensures.back ∙ ap (drop c.in_ok-items_at.items_at) c.split_at-2.ensures.front in
-    let fault = subst (λ (xs : List ℕ). IsItemBatchFault (signature_of c.args.file.now) xs c.in_err-items.field-0.0) item_batch c.in_err-items.ensures.fault in
-    rw (p.1, p.2) (subst (λ (xs : List ℕ). IsNextFault (signature_of c.args.file.now) xs c.in_err-items.field-0.0) c.split_at.ensures.back (inr (inr (record {
-      offset = c.in_ok-items_at.items_at;
-      len = c.in_ok-items_at.len;
-      header = record { compression = c.in_ok-items_at.compression_type; rest = c.in_ok-items_at.field-0-1.now; header = c.in_ok-items_at.ensures.ok };
-      whole = c.if-len-rest.false;
-      fault = fault;
-    }))))
+pub returns-in_err-to_batch-clause-fault : goal.returns-in_err-to_batch-clause-fault
+returns-in_err-to_batch-clause-fault c =
+    let p = err_from_is_err_and c.from_residual-in_err-to_batch.result c.from_residual-in_err-to_batch.ensures.1 in
+    let stands = rw c.in-Some.is at c.in_ok-next.ensures.ok in
+    rw (p.1, p.2) (no_room_for_batch (part_of c.args.file.now c.args.offset c.args.bytes.now) c.args.at _ c.in-Some.next _ stands (rw c.in_err-to_batch.ensures.memory tt))
 
 pub returns-clause-ok : goal.returns-clause-ok
 returns-clause-ok c =
-    let item_batch = c.split_at-3.ensures.back ∙ ap (drop c.in_ok-items_at.items_at) c.split_at-2.ensures.front in
-    let part = part_of c.args.file.now c.args.offset c.args.bytes.now in
-    let read = c.in_ok-items.ensures.ok in
-    let items = subst (λ (xs : List ℕ). IsItemBatch xs (signature_of c.args.file.now) read.read c.decode.new.buf.now) item_batch read.item_batch in
-    let frame = batch_stands c.split_at.result.1.now c.in_ok-items_at.field-0-1.now (signature_of c.args.file.now) c.in_ok-items_at.items_at c.in_ok-items_at.len c.in_ok-items_at.compression_type read.read c.decode.new.buf.now c.in_ok-items_at.ensures.ok c.if-len-rest.false items in
-    laid_at (record {
-      bytes = take c.in_ok-items_at.len c.split_at.result.1.now;
-      read = read.read;
-      offset = c.in_ok-items_at.items_at;
-      frame = frame.0;
-      stands = batch_split c.args.bytes.now c.args.at c.in_ok-items_at.len ∙ ap (λ (xs : List ℕ). take c.in_ok-items_at.len xs ++ drop (c.args.at + c.in_ok-items_at.len) c.args.bytes.now) (sym c.split_at.ensures.back);
-      ends = ap (λ n. c.args.at + n) (sym (length-take-le c.in_ok-items_at.len c.split_at.result.1.now c.if-len-rest.false));
-      places = read.places ∙ ap (λ compression. map (placed_item (entries_place part c.args.at c.in_ok-items_at.items_at) compression) read.read) (sym frame.1);
-    })
+    let stands = rw c.in-Some.is at c.in_ok-next.ensures.ok in
+    subst (λ items. IsBatchAt (part_of c.args.file.now c.args.offset c.args.bytes.now) c.args.at items c.in-Some.next) (sym c.in_ok-to_batch.ensures.ok) stands

@@ -25,6 +25,5 @@ returns-in_err-entries-clause-fault c =
 
 pub returns-clause-ok : goal.returns-clause-ok
 returns-clause-ok c =
-    let read = c.in_ok-entries.ensures.ok in
-    let run = run_read c.args.entries_size c.in_ok-count.count c.in_ok-first.first c.in_ok-count.behind.now c.in_ok-first.tails.now c.in_ok-entries.rest.now read.0 (omega arith) c.in_ok-first.ensures.ok read.1 in
-    (read.0, entries_read c.args.entries_size c.in_ok-count.count c.args.bytes.now c.in_ok-count.behind.now c.in_ok-entries.rest.now read.0 c.in_ok-count.ensures.ok run, read.2)
+    let run = run_read c.args.entries_size c.in_ok-count.count c.in_ok-first.first c.in_ok-count.behind.now c.in_ok-first.tails.now c.in_ok-entries.rest.now _ (omega arith) c.in_ok-first.ensures.ok c.in_ok-entries.ensures.ok in
+    entries_read c.args.entries_size c.in_ok-count.count c.args.bytes.now c.in_ok-count.behind.now c.in_ok-entries.rest.now _ c.in_ok-count.ensures.ok run

@@ -1,10 +1,17 @@
-use Rattle.std.proofs.Common.{subst, sym, ◌∙◌}
-use Rattle.raft_codec.specs.Reading.{Reads}
-use Rattle.raft_records.specs.Grammar.{IsItem}
-use Rattle.raft_records.proofs.PlacementLemmas.{item_unplaced}
+use Rattle.std.proofs.lemmas.Result.{err_from_is_err_and}
+use Rattle.raft_records.proofs.ContentLemmas.{item_read, no_region, no_content}
 use Rattle.raft_records.proofs.log_item.LogItem.decode.Goals as goal
+
+pub returns-in_err-raft_group_id-clause-refused : goal.returns-in_err-raft_group_id-clause-refused
+returns-in_err-raft_group_id-clause-refused c =
+    let p = err_from_is_err_and c.from_residual.result c.from_residual.ensures.1 in
+    rw (p.1) (λ ne. no_region c.args.entries_size.now c.args.buf.now.now c.in_err-raft_group_id.ensures.refused)
+
+pub returns-in_err-content-clause-refused : goal.returns-in_err-content-clause-refused
+returns-in_err-content-clause-refused c =
+    let p = err_from_is_err_and c.from_residual-in_err-content.result c.from_residual-in_err-content.ensures.1 in
+    rw (p.1, p.2) (λ ne. no_content c.args.entries_size.now c.in_ok-raft_group_id.raft_group_id c.args.buf.now.now c.in_ok-raft_group_id.behind.now c.in_ok-raft_group_id.ensures.ok (c.in_err-content.ensures.refused ne))
 
 pub returns-clause-ok : goal.returns-clause-ok
 returns-clause-ok c =
-    let read = c.in_ok-item.ensures.ok in
-    subst (λ x. Reads (IsItem c.args.entries_size.now) c.args.buf.now.now c.in_ok-item.rest.now x) (sym (read.2 ∙ item_unplaced c.args.entries_size.now read.1.front read.0 read.1.spells)) read.1
+    item_read c.args.entries_size.now c.in_ok-raft_group_id.raft_group_id c.args.buf.now.now c.in_ok-raft_group_id.behind.now c.in_ok-content.rest.now _ c.in_ok-raft_group_id.ensures.ok c.in_ok-content.ensures.ok

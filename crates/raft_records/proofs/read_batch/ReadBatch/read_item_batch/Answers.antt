@@ -1,11 +1,9 @@
 use Rattle.std.proofs.Common.{subst, sym}
 use Rattle.std.proofs.lemmas.Result.{err_from_is_err_and}
 use Rattle.raft_base.specs.Signature.{signature_of}
-use Rattle.raft_base.specs.declared.compression_type.CompressionType.TheVariants as compressions
 use Rattle.raft_records.specs.ItemBatch.{FitTogether, HasSeal}
 use Rattle.raft_records.proofs.BatchLemmas.{no_items_count, no_items, counted_read, batch_read}
-use Rattle.raft_records.proofs.DecodedInLemmas.{decoded_in_file}
-use Rattle.raft_records.proofs.ReadBatchLemmas.{items_fit}
+use Rattle.raft_records.proofs.ReadBatchLemmas.{items_fit, shown_in_file}
 use Rattle.raft_records.proofs.read_batch.ReadBatch.read_item_batch.Goals as goal
 
 pub returns-in_err-count-clause-refused : goal.returns-in_err-count-clause-refused
@@ -19,29 +17,27 @@ returns-in-Err-clause-refused c =
     let sealed = subst (λ s. HasSeal s c.args.bytes.now c.in_ok-content.content.now) c.get_signature.ensures c.in_ok-content.ensures.ok in
     λ ne. no_items (signature_of c.args.context.now) c.in_ok-count.count c.args.bytes.now c.in_ok-content.content.now c.in_ok-count.behind.now sealed c.in_ok-count.ensures.ok (c.in-Err.ensures.refused ne)
 
-pub invariant_of-self-in_default : goal.invariant_of-self-in_default
-invariant_of-self-in_default c =
-    let read = c.in_default.ensures.ok in
+pub invariant_of-self-in-Ok : goal.invariant_of-self-in-Ok
+invariant_of-self-in-Ok c =
+    let read = c.in-Ok.ensures.ok in
     record {
       whole = read.2.taken;
       fit = subst (FitTogether 0) (sym (read.2.shown c.args.place)) (items_fit c.args.place 0 read.1.front read.0 read.1.spells.spelled);
     }
 
-pub returns-clause-ok : goal.returns-clause-ok
-returns-clause-ok c =
+pub returns-in-Ok-clause-ok : goal.returns-in-Ok-clause-ok
+returns-in-Ok-clause-ok c =
     let sealed = subst (λ s. HasSeal s c.args.bytes.now c.in_ok-content.content.now) c.get_signature.ensures c.in_ok-content.ensures.ok in
-    let read = c.in_default.ensures.ok in
-    let rest = c.in_default.field-0.now in
-    let counted = counted_read c.in_ok-count.count c.in_ok-content.content.now c.in_ok-count.behind.now rest read.0 c.in_ok-count.ensures.ok read.1 in (
-      rest,
-      record {
-        read = read.0;
-        item_batch = batch_read (signature_of c.args.context.now) c.args.bytes.now c.in_ok-content.content.now rest read.0 sealed counted;
-        places = read.2.shown c.args.place;
-      },
-    )
+    let read = c.in-Ok.ensures.ok in
+    let rest = c.in-Ok.rest.now in
+    let counted = counted_read c.in_ok-count.count c.in_ok-content.content.now c.in_ok-count.behind.now rest read.0 c.in_ok-count.ensures.ok read.1 in
+    record {
+      read = read.0;
+      item_batch = batch_read (signature_of c.args.context.now) c.args.bytes.now c.in_ok-content.content.now rest read.0 sealed counted;
+      places = read.2.shown c.args.place;
+    }
 
-pub returns-clause-in_file : goal.returns-clause-in_file
-returns-clause-in_file c =
-    let decoded = returns-clause-ok c in
-    decoded_in_file c.args.bytes.now decoded.0 (signature_of c.args.context.now) c.args.place compressions.None _ decoded.1
+pub returns-in-Ok-clause-in_file : goal.returns-in-Ok-clause-in_file
+returns-in-Ok-clause-in_file c =
+    let read = c.in-Ok.ensures.ok in
+    shown_in_file c.args.place 0 _ _ (subst (FitTogether 0) (sym (read.2.shown c.args.place)) (items_fit c.args.place 0 read.1.front read.0 read.1.spells.spelled))

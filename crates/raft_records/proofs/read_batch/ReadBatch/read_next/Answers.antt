@@ -45,10 +45,10 @@ pub returns-clause-ok : goal.returns-clause-ok
 returns-clause-ok c =
     let item_batch = c.split_at-3.ensures.back ∙ ap (drop c.in_ok-items_at.items_at) c.split_at-2.ensures.front in
     let part = part_of c.args.file.now c.args.offset c.args.bytes.now in
-    let decoded = c.in_ok-read_item_batch.ensures.ok in
-    let read = decoded.1 in
-    let items = subst (λ (xs : List ℕ). IsItemBatch xs (signature_of c.args.file.now) read.read decoded.0) item_batch read.item_batch in
-    let frame = batch_stands c.split_at.result.1.now c.in_ok-items_at.field-0-1.now (signature_of c.args.file.now) c.in_ok-items_at.items_at c.in_ok-items_at.len c.in_ok-items_at.field-0-0-1 read.read decoded.0 c.in_ok-items_at.ensures.ok c.if-len-rest.false items in
+    let read = c.in_ok-read_item_batch.ensures.ok in
+    let free = c.in_ok-read_item_batch.field-0.now in
+    let items = subst (λ (xs : List ℕ). IsItemBatch xs (signature_of c.args.file.now) read.read free) item_batch read.item_batch in
+    let frame = batch_stands c.split_at.result.1.now c.in_ok-items_at.field-0-1.now (signature_of c.args.file.now) c.in_ok-items_at.items_at c.in_ok-items_at.len c.in_ok-items_at.field-0-0-1 read.read free c.in_ok-items_at.ensures.ok c.if-len-rest.false items in
     laid_at (record {
       bytes = take c.in_ok-items_at.len c.split_at.result.1.now;
       read = read.read;

@@ -3,7 +3,7 @@ use Rattle.std.proofs.lemmas.Bool.{leb-true}
 use Rattle.std.proofs.lemmas.Result.{err_from_is_err_and}
 use Rattle.raft_codec.specs.Reading.{Reads}
 use Rattle.raft_records.specs.Grammar.{IsTail}
-use Rattle.raft_records.specs.Placement.{entry_between}
+use Rattle.raft_records.specs.Entries.{entry_between}
 use Rattle.raft_records.proofs.EntryLemmas.{no_more_tails, tail_fault}
 use Rattle.raft_records.proofs.ReadBatchLemmas.{one_more_span, spans_read}
 use Rattle.raft_records.proofs.read_batch.items.read_spans.Goals as goal

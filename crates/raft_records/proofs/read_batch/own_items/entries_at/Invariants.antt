@@ -1,5 +1,9 @@
+use Rattle.std.proofs.Common.{◌≡◌, ◌≤◌, length}
+use Rattle.std.specs.Vec.{vec_len, vec_capacity}
 use Rattle.raft_records.proofs.OwnItemLemmas.{IsSoFar}
 use Rattle.raft_records.proofs.read_batch.own_items.entries_at.Given as goal
 
+-- the run so far, which has one entry for each span that was seen, and room for all
 abbrev pub invariant-loop-entry_offset : goal.invariant-loop-entry_offset
-invariant-loop-entry_offset l = IsSoFar l.first l.index l.entry_offset-index l.place l.spans l.run.items
+invariant-loop-entry_offset l =
+    IsSoFar l.first l.index l.entry_offset-index l.place l.spans l.run.items × (vec_len l.run ≡ l.entry_offset-index) × (length l.spans ≤ vec_capacity l.run)

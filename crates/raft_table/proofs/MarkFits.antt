@@ -11,8 +11,9 @@ use Rattle.raft_base.specs.Runs.{RisesFrom, IsRun, end_of}
 use Rattle.raft_table.specs.TableEntries.{start_of}
 use Rattle.raft_table.specs.KeyValues.{lesser}
 use Rattle.raft_table.specs.Marks.{Mark, entries_within, misses, is_barred, entries_over}
-use Rattle.raft_table.specs.MarkFits.{IsNotAbove, IsBelow, LiesWithin, BarsStaying, IsBarring, FitsRun, FitsCut, BarsIn, Fits}
+use Rattle.raft_table.specs.MarkFits.{IsNotAbove, IsBelow, LiesWithin, BarsStaying, IsBarring, FitsRun, FitsCut, AreFromCut, BarsIn, Fits}
 use Rattle.raft_table.specs.MarkJoins.{at_most_bound, narrowed_bars, is_detached, joined_first, joined_uncleaned, joined_at}
+use Rattle.raft_table.proofs.FromCutLemmas.{from_first, from_later}
 use Rattle.raft_table.proofs.PartEnds.{top, end_of-part_run}
 use Rattle.raft_table.proofs.MarkMeets.{barred_of, bounds}
 use Rattle.raft_table.proofs.RunLemmas.{end_of-append, rises}
@@ -78,6 +79,7 @@ fits_first q m n u none f = record {
   behind = λ e. rw (none, f.behind e) refl;
   within = rw none (within n.reach f.behind);
   uncleaned = λ e. uncleaned n.reach n.cut refl (f.uncleaned e);
+  from_cut = λ e. from_first m.cut n.cut n.reach n u (f.uncleaned e) (f.from_cut e);
 }
   where
     bars : (q : LogQueue) (barred : Option (ℕ × ℕ)) → BarsIn q barred → BarsIn q (narrowed_bars m.floor m.cut barred)
@@ -282,19 +284,20 @@ fits_join_append m n t u w run f f' is = by_cleaned m.cleaned refl f.uncleaned
     later r c h (Some x) None miss k b v = absurd k
     later r c h (Some x) (Some d) miss k b v = rw (← v) (fits_later_append (start_of t) n t u r c m.reach_floor m.floor m.reach_cut m.barred x d (rises t run) h k miss)
 
-    by_run : (x y : Option ℕ) → m.reach ≡ x → m.cut ≡ y → FitsCut x y m t → Fits Append (joined_uncleaned x y Append X m n) w
-    by_run None y r e h = subst (λ v. Fits Append (joined_first m n) v) (first_table Append n t u w h is) (fits_first Append m n u (f.behind r) f')
-    by_run (Some r) None k e h = absurd h
-    by_run (Some r) (Some c) k e h = record {
+    by_run : (x y : Option ℕ) → m.reach ≡ x → m.cut ≡ y → FitsCut x y m t → AreFromCut y t → Fits Append (joined_uncleaned x y Append X m n) w
+    by_run None y r e h l = subst (λ v. Fits Append (joined_first m n) v) (first_table Append n t u w h is) (fits_first Append m n u (f.behind r) f')
+    by_run (Some r) None k e h l = absurd h
+    by_run (Some r) (Some c) k e h l = record {
       bars = tt;
       behind = λ none. absurd (clear_some r (sym k ∙ none));
       within = meets_within m.reach_floor m.floor c m.reach_cut m.barred _ n.reach_floor n.reach_cut n.barred f.within h.floor_rises h.cut_falls;
       uncleaned = λ clean. rw (k, bounds c n.cut) (later r c h n.reach n.cut ok2.0 (f'.uncleaned clean) f'.behind (rw clean at ok.1));
+      from_cut = λ clean. from_later c n.floor n.cut n.reach n t u w n.cleaned l (f'.uncleaned clean) (f'.from_cut clean) ok.1;
     }
 
     by_cleaned : (b : Bool) → m.cleaned ≡ b → (b ≡ false → FitsCut m.reach m.cut m t) → Fits Append (cond b m (joined_uncleaned m.reach m.cut Append X m n)) w
-    by_cleaned true e h = record { bars = tt; behind = f.behind; within = f.within; uncleaned = λ x. clash e x }
-    by_cleaned false e h = by_run m.reach m.cut refl refl (h refl)
+    by_cleaned true e h = record { bars = tt; behind = f.behind; within = f.within; uncleaned = λ x. clash e x; from_cut = λ x. clash e x }
+    by_cleaned false e h = by_run m.reach m.cut refl refl (h refl) (f.from_cut e)
 
 fits_join_rewrite : (m n : Mark) (t u w : List EntryIndex) → IsRun t → Fits Rewrite m t → Fits Rewrite n u → over Rewrite n u t ≡ Some w → Fits Rewrite (joined_at Rewrite (end_of (entries_within n.reach_floor n.reach_cut t)) m n) w
 fits_join_rewrite m n t u w run f f' is = by_cleaned m.cleaned refl f.uncleaned
@@ -311,19 +314,20 @@ fits_join_rewrite m n t u w run f f' is = by_cleaned m.cleaned refl f.uncleaned
     later r c h (Some x) None k v = absurd k
     later r c h (Some x) (Some d) k v = rw (← v) (fits_later_rewrite (start_of t) n t u r c m.reach_floor m.floor m.reach_cut x d (rises t run) h (rw f'.bars at k))
 
-    by_run : (x y : Option ℕ) → m.reach ≡ x → m.cut ≡ y → FitsCut x y m t → Fits Rewrite (joined_uncleaned x y Rewrite X m n) w
-    by_run None y r e h = subst (λ v. Fits Rewrite (joined_first m n) v) (first_table Rewrite n t u w h is) (fits_first Rewrite m n u (f.behind r) f')
-    by_run (Some r) None k e h = absurd h
-    by_run (Some r) (Some c) k e h = record {
+    by_run : (x y : Option ℕ) → m.reach ≡ x → m.cut ≡ y → FitsCut x y m t → AreFromCut y t → Fits Rewrite (joined_uncleaned x y Rewrite X m n) w
+    by_run None y r e h l = subst (λ v. Fits Rewrite (joined_first m n) v) (first_table Rewrite n t u w h is) (fits_first Rewrite m n u (f.behind r) f')
+    by_run (Some r) None k e h l = absurd h
+    by_run (Some r) (Some c) k e h l = record {
       bars = f.bars;
       behind = f.behind;
       within = f.within;
       uncleaned = λ clean. rw (k, bounds c n.cut, f.bars) (later r c (rw f.bars at h) n.reach n.cut (f'.uncleaned clean) (rw clean at ok));
+      from_cut = λ clean. from_later c n.floor n.cut n.reach n t u w (misses n.reach X) l (f'.uncleaned clean) (f'.from_cut clean) (rw clean at ok);
     }
 
     by_cleaned : (b : Bool) → m.cleaned ≡ b → (b ≡ false → FitsCut m.reach m.cut m t) → Fits Rewrite (cond b m (joined_uncleaned m.reach m.cut Rewrite X m n)) w
-    by_cleaned true e h = record { bars = f.bars; behind = f.behind; within = f.within; uncleaned = λ x. clash e x }
-    by_cleaned false e h = by_run m.reach m.cut refl refl (h refl)
+    by_cleaned true e h = record { bars = f.bars; behind = f.behind; within = f.within; uncleaned = λ x. clash e x; from_cut = λ x. clash e x }
+    by_cleaned false e h = by_run m.reach m.cut refl refl (h refl) (f.from_cut e)
 
 pub fits_join : (q : LogQueue) (m n : Mark) (t u w : List EntryIndex) → IsRun t → Fits q m t → Fits q n u → entries_over q n u t ≡ Some w → Fits q (joined_at q (end_of (entries_within n.reach_floor n.reach_cut t)) m n) w
 fits_join Append m n t u w run f f' is = fits_join_append m n t u w run f f' (sym (over_is Append n u t) ∙ is)

@@ -1,5 +1,5 @@
 -- A mark and a table stand for steps: none, one, and those of two neighbors.
-use Rattle.std.proofs.Common.{◌≡◌, ℕ, List, [], ◌∷◌, ◌++◌, Option, Some, None, refl, sym, ap, ◌∙◌, inl, inr, arith}
+use Rattle.std.proofs.Common.{◌≡◌, ℕ, List, [], ◌∷◌, ◌++◌, Option, Some, None, refl, sym, ap, subst, ◌∙◌, inl, inr, arith}
 use Rattle.std.specs.Option.{option_and_then}
 use Rattle.raft_base.specs.declared.pipe_log.LogQueue.{LogQueue}
 use Rattle.raft_base.specs.declared.pipe_log.LogQueue.TheVariants.{Append, Rewrite}
@@ -7,11 +7,12 @@ use Rattle.raft_base.specs.declared.entry_index.EntryIndex.{EntryIndex}
 use Rattle.raft_table.specs.Steps.{Step, Run, Compact, Truncate, Put, Del, AtomicGroup, Clean, table_of, after_step, after, IsStep, AreSteps, IsTableOf}
 use Rattle.raft_table.specs.Table.{Table}
 use Rattle.raft_table.specs.Marks.{Mark, entries_over, table_over, table_over_older}
-use Rattle.raft_table.specs.MarkFits.{BarsIn, Fits}
+use Rattle.raft_table.specs.MarkFits.{AreFromCut, BarsIn, Fits}
 use Rattle.raft_table.specs.Stands.{Stands}
 use Rattle.raft_table.specs.MarkJoins.{joined_mark, fresh, mark_of, own_of}
 use Rattle.raft_table.proofs.MarkWords.{end_of-first}
 use Rattle.raft_table.proofs.MarkEntries.{same_some}
+use Rattle.raft_table.proofs.FromCutLemmas.{from_none, from_rises}
 use Rattle.raft_table.proofs.MarkFits.{fits_join}
 use Rattle.raft_table.proofs.MarkTables.{table-applied, join_applied, one_step, applied_none, applied_fresh}
 use Rattle.raft_table.proofs.MarkRuns.{no_table, table_after}
@@ -53,22 +54,24 @@ fits_no_run q m t e b none = record {
   behind = λ _. b;
   within = rw b tt;
   uncleaned = λ _. rw e none;
+  from_cut = λ _. subst (AreFromCut m.cut) (sym none) (from_none m.cut);
 }
 
-fits_one : (q : LogQueue) (id : ℕ) (s : Step) → Fits q (mark_of s) (table_of id (own_of id s)).entries
-fits_one q id (Run []) = fits_no_run q _ _ refl refl refl
-fits_one q id (Run (x ∷ run)) = record {
+fits_one : (q : LogQueue) (id : ℕ) (s : Step) → IsStep s → Fits q (mark_of s) (table_of id (own_of id s)).entries
+fits_one q id (Run []) good = fits_no_run q _ _ refl refl refl
+fits_one q id (Run (x ∷ run)) good = record {
   bars = bars_none q;
   behind = λ _. refl;
   within = tt;
   uncleaned = λ _. record { cut_first = omega arith; floor_rises = omega arith; cut_falls = tt; covers = tt; seated = inr (inl (omega (arith, end_of-first x run))) };
+  from_cut = λ _. from_rises x.index (x ∷ run) (refl, good);
 }
-fits_one q id (Compact i) = fits_no_run q _ _ refl refl refl
-fits_one q id (Truncate i) = fits_no_run q _ _ refl refl refl
-fits_one q id (Put key value file) = fits_no_run q _ _ refl refl refl
-fits_one q id (Del key) = fits_no_run q _ _ refl refl refl
-fits_one q id (AtomicGroup first_seq last_seq) = fits_no_run q _ _ refl refl refl
-fits_one q id Clean = fits_no_run q _ _ refl refl refl
+fits_one q id (Compact i) good = fits_no_run q _ _ refl refl refl
+fits_one q id (Truncate i) good = fits_no_run q _ _ refl refl refl
+fits_one q id (Put key value file) good = fits_no_run q _ _ refl refl refl
+fits_one q id (Del key) good = fits_no_run q _ _ refl refl refl
+fits_one q id (AtomicGroup first_seq last_seq) good = fits_no_run q _ _ refl refl refl
+fits_one q id Clean good = fits_no_run q _ _ refl refl refl
 
 table_one : (id : ℕ) (s : Step) → IsStep s → IsTableOf id (table_of id (own_of id s))
 table_one id (Run run) good = record { region = refl; run = good }
@@ -89,7 +92,7 @@ stands_fresh q id = record {
 pub stands_one : (q : LogQueue) (id : ℕ) (s : Step) → IsStep s → Stands q id (mark_of s) (own_of id s) (s ∷ [])
 stands_one q id s good = record {
   own_table = table_one id s good;
-  fits = fits_one q id s;
+  fits = fits_one q id s good;
   every = λ o h. one_after q id o s ∙ sym (one_step q id s o);
 }
 

@@ -1,5 +1,6 @@
 -- What every region mark that stands for steps keeps beside its meaning, by which two of them can be joined.
 use Rattle.std.specs.Prelude.{◌≡◌, ◌⊎◌, ℕ, ◌<◌, ◌≤◌, false, List, [], Option, Some, None}
+use Rattle.std.specs.List.{AllByRecursion}
 use Rattle.raft_base.specs.declared.pipe_log.LogQueue.{LogQueue}
 use Rattle.raft_base.specs.declared.pipe_log.LogQueue.TheVariants.{Append, Rewrite}
 use Rattle.raft_base.specs.declared.entry_index.EntryIndex.{EntryIndex}
@@ -49,14 +50,20 @@ FitsCut None cut m own = own ≡ []
 FitsCut (Some reach) None m own = ⊥
 FitsCut (Some reach) (Some cut) m own = FitsRun reach cut (end_of own) m.reach_floor m.floor m.reach_cut m.barred
 
+-- no entry is below the cut, if there is one
+abbrev pub AreFromCut : Option ℕ → List EntryIndex → Type 0
+AreFromCut None own = Unit {0}
+AreFromCut (Some cut) own = AllByRecursion (λ (e : EntryIndex). cut ≤ e.index) own
+
 -- in the rewrite queue no indexes are barred
 abbrev pub BarsIn : LogQueue → Option (ℕ × ℕ) → Type 0
 BarsIn Append barred = Unit {0}
 BarsIn Rewrite barred = barred ≡ None
 
--- how a region mark and own entries that stand for steps fit: indexes are barred only where there is a first run, and among those that it meets
+-- how a region mark and own entries that stand for steps fit: indexes are barred only where there is a first run, and among those that it meets; where the region was not cleaned, no own entry is below the cut
 pub record Fits (queue : LogQueue) (m : Mark) (own : List EntryIndex) : Type 0 where
   pub bars : BarsIn queue m.barred
   pub behind : m.reach ≡ None → m.barred ≡ None
   pub within : LiesWithin m.reach_floor m.reach_cut m.barred
   pub uncleaned : m.cleaned ≡ false → FitsCut m.reach m.cut m own
+  pub from_cut : m.cleaned ≡ false → AreFromCut m.cut own

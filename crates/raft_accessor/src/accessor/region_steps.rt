@@ -8,7 +8,7 @@ ghost use Rattle.raft_table.specs.RunShown.{run_shown};
 ghost use Rattle.raft_table.specs.Start.{counts_with_run};
 ghost use Rattle.raft_table.specs.StepShown.{step_shown};
 ghost use Rattle.raft_table.specs.Table.{after_replay, live_of};
-ghost use Rattle.raft_table.specs.TableEntries.{IsRunIn};
+ghost use Rattle.raft_table.specs.TableEntries.{IsRunIn, ends_of};
 ghost use Rattle.raft_table.specs.TakenSteps.{IsStepOfQueue};
 ghost use Rattle.raft_accessor.specs.Accessor.{table_in, AreCountsOf};
 ghost use Rattle.raft_accessor.specs.AccessorCalls.{IsTableChanged};
@@ -48,11 +48,12 @@ impl MemTableAccessor {
             ≡ counts_with_run queue (table_in self.old.tables id).entries run.now self.old.counts) }
         ensures end { IfSome result (λ end. end ≡ end_of (table_in self.old.tables id).entries) }
     {
-        self.try_replay(queue, id, &Run::Entries(run))
+        let (_, end) = self.try_replay(queue, id, &Run::Entries(run))?;
+        Some(end)
     }
 
     /// Does what [`MemTableAccessor::try_replay_run`] does with the entries of the block at `place`, from
-    /// the index `first` on.
+    /// the index `first` on, and returns where the entries of the table began too, in front of where they ended.
     pub fn try_replay_spans(
         &mut self,
         queue: LogQueue,
@@ -60,7 +61,7 @@ impl MemTableAccessor {
         first: u64,
         place: FileBlockHandle,
         spans: &[(u32, u32)],
-    ) -> Option<u64>
+    ) -> Option<(u64, u64)>
         requires run { IsRunIn queue (entries_of_block first place spans.now) }
         ensures changed { IsTableChanged (after_replay queue (table_in self.old.tables id)
             (entries_of_block first place spans.now)) (λ e. ⊥) id (ok_or result Memory) self.old
@@ -69,7 +70,8 @@ impl MemTableAccessor {
         ensures counts { OnSome result (self.new.counts
             ≡ counts_with_run queue (table_in self.old.tables id).entries
             (entries_of_block first place spans.now) self.old.counts) }
-        ensures end { IfSome result (λ end. end ≡ end_of (table_in self.old.tables id).entries) }
+        ensures ends { IfSome result
+            (λ ends. ends ≡ ends_of (table_in self.old.tables id).entries) }
     {
         self.try_replay(
             queue,
@@ -82,8 +84,8 @@ impl MemTableAccessor {
         )
     }
 
-    /// Does what the two calls above do.
-    fn try_replay(&mut self, queue: LogQueue, id: u64, run: &Run<'_>) -> Option<u64>
+    /// Does what [`MemTableAccessor::try_replay_spans`] does with any run.
+    fn try_replay(&mut self, queue: LogQueue, id: u64, run: &Run<'_>) -> Option<(u64, u64)>
         requires run { IsRunIn queue (run_shown run.now) }
         ensures changed { IsTableChanged
             (after_replay queue (table_in self.old.tables id) (run_shown run.now))
@@ -92,7 +94,8 @@ impl MemTableAccessor {
         ensures counts { OnSome result (self.new.counts
             ≡ counts_with_run queue (table_in self.old.tables id).entries (run_shown run.now)
             self.old.counts) }
-        ensures end { IfSome result (λ end. end ≡ end_of (table_in self.old.tables id).entries) }
+        ensures ends { IfSome result
+            (λ ends. ends ≡ ends_of (table_in self.old.tables id).entries) }
     {
         self.slots[slot_of(id)].try_replay(queue, id, run, &mut self.stats)
     }

@@ -4,6 +4,7 @@ ghost use Rattle.std.specs.Prelude.{◌≡◌, ◌≤◌, ◌++◌, [], ◌∷�
 ghost use Rattle.raft_records.specs.DecodedIn.{IsDecodedIn, AreDecodedIn};
 ghost use Rattle.raft_records.specs.ReadBatch.{content_shown, item_shown, items_shown, spans_of};
 ghost use Rattle.raft_history.specs.Histories.{AreInFile};
+ghost use Rattle.raft_history.specs.Joins.{StandForSteps};
 ghost use Rattle.raft_history.specs.MarkedRegions.{regions_after};
 ghost use Rattle.raft_history.specs.RegionSteps.{steps_of_items, cleaned_by_steps};
 ghost use Rattle.raft_table.specs.Queues.{other};
@@ -28,7 +29,8 @@ impl MarkedTables {
         file: FileId,
         batch: &ReadBatch<'_>,
     ) -> Result<()>
-        requires { AreInFile file batch.now }
+        requires in_file { AreInFile file batch.now }
+        requires stands { StandForSteps file.queue (regions_in self.old) }
         ensures ok { OnOk result
             (regions_after file.queue (regions_in self.old) (steps_of_items batch.now)
             ≡ Some (regions_in self.new)) }
@@ -60,6 +62,7 @@ impl MarkedTables {
         requires steps { AreStepsOfQueue queue
             (steps_of_items (items_shown place items.now spans.now)) }
         requires decoded { AreDecodedIn place.id (items_shown place items.now spans.now) }
+        requires stands { StandForSteps queue (regions_in self.old) }
         ensures { AreStepsTaken queue (steps_of_items (items_shown place items.now spans.now))
             result self.old self.new }
     {
@@ -84,6 +87,7 @@ impl MarkedTables {
         requires steps { AreStepsOfQueue queue
             (steps_of_items (item_shown place item.now spans.now ∷ [])) }
         requires decoded { IsDecodedIn place.id (content_shown place item.now.content spans.now) }
+        requires stands { StandForSteps queue (regions_in self.old) }
         ensures { AreStepsTaken queue (steps_of_items (item_shown place item.now spans.now ∷ []))
             result self.old self.new }
     {
@@ -94,7 +98,9 @@ impl MarkedTables {
         self.take_item(queue, item)
     }
 
-    /// Does what [`MarkedTables::try_run`] does, with an item as it was read. A run has these spans.
+    /// Does what [`MarkedTables::try_run`] does, with an item as it was read. A run has these spans. One that
+    /// begins among the entries of its region, or right after them, leaves the region mark as it is, which
+    /// then isn't looked up.
     ///
     /// # Errors
     ///
@@ -106,8 +112,9 @@ impl MarkedTables {
         item: &ReadItem<'_>,
         spans: &[(u32, u32)],
     ) -> AllocResult<bool>
-        requires { AreStepsOfQueue queue
+        requires steps { AreStepsOfQueue queue
             (steps_of_items (item_shown place item.now spans.now ∷ [])) }
+        requires stands { StandForSteps queue (regions_in self.old) }
         ensures { IfOk result (λ taken. MatchBool taken
             (AreStepsTaken queue (steps_of_items (item_shown place item.now spans.now ∷ []))
             (Ok tt) self.old self.new)
@@ -121,12 +128,15 @@ impl MarkedTables {
         if spans.is_empty() {
             return Ok(false);
         }
-        let Some(end) = self
+        let Some((start, end)) = self
             .accessor
             .try_replay_spans(queue, id, first, place, spans)
         else {
             return Ok(false);
         };
+        if 0 < end && start <= first && first <= end {
+            return Ok(true);
+        }
         self.marks.add_run(id, queue, end, first)?;
         Ok(true)
     }

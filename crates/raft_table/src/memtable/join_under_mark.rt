@@ -16,6 +16,7 @@ ghost use Rattle.raft_table.specs.Merge.{newer_atomic_group};
 ghost use Rattle.raft_table.specs.Overlay.{is_unjoined, overlay_under, IsOverlayFault};
 ghost use Rattle.raft_table.specs.Queues.{other};
 ghost use Rattle.raft_table.specs.Table.{empty_table, live_of, IsCounted, IsRecounted};
+ghost use Rattle.raft_table.specs.TableEntries.{ends_of};
 ghost use Rattle.raft_base.specs.declared.pipe_log.LogQueue.TheVariants.{Append, Rewrite};
 
 use crate::global_stats::GlobalStats;
@@ -200,6 +201,17 @@ impl MemTable {
         ensures { result ≡ end_of self.now.entries }
     {
         self.entries.end()
+    }
+
+    /// Returns the first index, and the greatest one plus one; both are 0 without entries.
+    #[doc(hidden)]
+    pub fn ends(&self) -> (u64, u64)
+        ensures { result ≡ ends_of self.now.entries }
+    {
+        match self.first_index() {
+            Some(first) => (first, self.end()),
+            None => (0, 0),
+        }
     }
 
     /// Refuses a newer region mark whose steps are refused over these entries. `end` is the end of those that its

@@ -1,4 +1,4 @@
-use Rattle.std.proofs.Common.{◌≡◌, Ok, Some, refl}
+use Rattle.std.proofs.Common.{◌≡◌, ℕ, Ok, Some, ap, refl}
 use Rattle.std.specs.FinMap as finite
 use Rattle.raft_base.specs.Runs.{entries_of_block}
 use Rattle.raft_table.specs.Steps.{Run}
@@ -18,4 +18,4 @@ returns c =
     let first : first_index run ≡ Some c.in-Run.first = first_of_spans c.in-Run.first c.args.place c.args.spans.now c.if-is_empty.ensures in
     rw c.in-Run.is (changed_taken c.args.queue id (Run run) c.args.self.now c.try_replay_spans.new.self c.add_run.new.self (Ok tt) (after_replay c.args.queue (table_in c.args.self.now.accessor.tables id) run) (run_step c.args.queue id own run)
     changed.ok changed.others changed.cleaned c.in-Some.ensures.counts refl
-    (run_marked c.args.queue id run c.in-Run.first c.in-Some.end own c.args.self.now.marks c.add_run.new.self (Ok tt) first c.in-Some.ensures.end c.in_ok-add_run.ensures.ok) tt)
+    (run_marked c.args.queue id run c.in-Run.first c.in-Some.end own c.args.self.now.marks c.add_run.new.self (Ok tt) first (ap (λ (p : ℕ × ℕ). p.1) c.in-Some.ensures.ends) c.in_ok-add_run.ensures.ok) tt)

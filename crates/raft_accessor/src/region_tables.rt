@@ -16,7 +16,7 @@ ghost use Rattle.raft_table.specs.RunShown.{run_shown};
 ghost use Rattle.raft_table.specs.Start.{counts_with_run};
 ghost use Rattle.raft_table.specs.Steps.{table_of};
 ghost use Rattle.raft_table.specs.Table.{Table, after_replay, empty_table, live_of, with_table_added, with_table_deleted, IsCounted, IsRecounted};
-ghost use Rattle.raft_table.specs.TableEntries.{IsRunIn, ends_of};
+ghost use Rattle.raft_table.specs.TableEntries.{IsRunIn, start_of};
 ghost use Rattle.raft_accessor.specs.Accessor.{table_in, live_in_all};
 ghost use Rattle.raft_accessor.specs.Merges.{with_newer, with_appended, IsNewerFault, IsAppendedFault, MayAlter, IsAltered, IsTableMerged};
 ghost use Rattle.raft_accessor.specs.Updates.{MayChange, IsUpdated, BecomesOutcome};
@@ -214,7 +214,10 @@ impl RegionTables {
         ensures accepted { OnSome result (live_of (other queue) (table_in self.old id) ≡ 0) }
         ensures counts { OnSome result (stats.new
             ≡ counts_with_run queue (table_in self.old id).entries (run_shown run.now) stats.old) }
-        ensures ends { IfSome result (λ ends. ends ≡ ends_of (table_in self.old id).entries) }
+        ensures ends { IfSome result (λ ends. ends ≡ (
+          start_of (table_in self.old id).entries,
+          end_of (table_in self.old id).entries,
+        )) }
     {
         let Some(table) = self.tables.get_mut(&id) else {
             return self.try_replay_first(queue, id, run, stats);
@@ -243,7 +246,10 @@ impl RegionTables {
         ensures accepted { OnSome result (live_of (other queue) (table_in self.old id) ≡ 0) }
         ensures counts { OnSome result (stats.new
             ≡ counts_with_run queue (table_in self.old id).entries (run_shown run.now) stats.old) }
-        ensures ends { IfSome result (λ ends. ends ≡ ends_of (table_in self.old id).entries) }
+        ensures ends { IfSome result (λ ends. ends ≡ (
+          start_of (table_in self.old id).entries,
+          end_of (table_in self.old id).entries,
+        )) }
     {
         if self.tables.reserve(1).is_err() {
             return None;

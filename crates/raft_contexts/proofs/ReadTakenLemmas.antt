@@ -5,6 +5,7 @@ use Rattle.std.specs.Option.{unwrap_or}
 use Rattle.std.proofs.lemmas.List.{length-drop}
 use Rattle.raft_base.specs.declared.errors.Error.{Error}
 use Rattle.raft_base.specs.declared.pipe_log.FileBlockHandle.{FileBlockHandle}
+use Rattle.raft_base.specs.declared.pipe_log.FileId.{FileId}
 use Rattle.raft_base.specs.declared.pipe_log.LogQueue.{LogQueue}
 use Rattle.raft_base.specs.declared.entry_index.EntryIndex.{EntryIndex}
 use Rattle.raft_base.specs.Runs.{end_of, entries_of_block}
@@ -13,11 +14,12 @@ use Rattle.raft_records.specs.ReadBatch.{spans_taken, spans_of, content_shown, i
 use Rattle.raft_records.specs.declared.read_batch.ReadContent.TheVariants as contents
 use Rattle.raft_records.specs.declared.read_batch.ReadItem.{ReadItem}
 use Rattle.raft_table.specs.MarkFits.{Fits}
-use Rattle.raft_table.specs.MarkJoins.{fresh, joined_at, joined_mark, mark_of}
+use Rattle.raft_table.specs.MarkJoins.{fresh, joined_at, joined_mark, end_at_reach, mark_of}
 use Rattle.raft_table.specs.Marks.{Mark}
-use Rattle.raft_table.specs.Steps.{Run, table_of}
-use Rattle.raft_table.specs.TableEntries.{ends_of}
+use Rattle.raft_table.specs.Steps.{Run, Put, table_of}
+use Rattle.raft_table.specs.TableEntries.{start_of}
 use Rattle.raft_table.proofs.FromCutLemmas.{run_stays, none_of_fresh}
+use Rattle.raft_table.proofs.MarkExact.{joined_fresh}
 use Rattle.raft_table.proofs.MarkWords.{end_of-nil}
 use Rattle.raft_history.specs.Joins.{StandForSteps}
 use Rattle.raft_history.specs.MarkedRegions.{MarkedRegions}
@@ -39,29 +41,38 @@ pub first_of_spans : (first : ℕ) (place : FileBlockHandle) (spans : List (ℕ 
 first_of_spans first place [] h = absurd cc
 first_of_spans first place (s ∷ ss) h = refl
 
--- a run that begins among the entries of its region, or right behind them, leaves the region marks as they are
-pub run_unmarked : (q : LogQueue) (id : ℕ) (rs : MarkedRegions) (run : List EntryIndex) (start : ℕ) (own : ℕ × ℕ) → StandForSteps q rs → first_index run ≡ Some start → own ≡ ends_of (table_of id (finite.get rs.tables id)).entries → 0 < own.1 → own.0 ≤ start → start ≤ own.1
-    → rs.marks ≡ finite.insert rs.marks id (joined_mark q id (mark_in rs.marks id) (finite.get rs.tables id) (mark_of (Run run)))
-run_unmarked q id rs run start own h first is some low high = sym (ap (finite.insert rs.marks id) (sym marked ∙ stays) ∙ insert_same rs.marks id (mark_in rs.marks id) (present (finite.get rs.marks id) refl))
+-- a region with entries has a region mark
+marked : (q : LogQueue) (id : ℕ) (rs : MarkedRegions) → StandForSteps q rs → ((table_of id (finite.get rs.tables id)).entries ≡ [] → ⊥) → finite.get rs.marks id ≡ Some (mark_in rs.marks id)
+marked q id rs h some = go (finite.get rs.marks id) refl
   where
     es : List EntryIndex
     es = (table_of id (finite.get rs.tables id)).entries
 
-    fits : Fits q (mark_in rs.marks id) es
-    fits = (h id).2.stands.fits
+    go : (o : Option Mark) → finite.get rs.marks id ≡ o → finite.get rs.marks id ≡ Some (mark_in rs.marks id)
+    go None e = absurd (some (none_of_fresh q es (subst (λ (o : Option Mark). Fits q (unwrap_or o fresh) es) e (h id).2.stands.fits)))
+    go (Some m) e = e ∙ ap (λ (o : Option Mark). Some (unwrap_or o fresh)) (sym e)
+
+-- a run that begins among the entries of its region, or right behind them, leaves the region marks as they are
+pub run_unmarked : (q : LogQueue) (id : ℕ) (rs : MarkedRegions) (run : List EntryIndex) (start : ℕ) (own : ℕ × ℕ) → StandForSteps q rs → first_index run ≡ Some start → own ≡ (start_of (table_of id (finite.get rs.tables id)).entries, end_of (table_of id (finite.get rs.tables id)).entries) → 0 < own.1 → own.0 ≤ start → start ≤ own.1
+    → rs.marks ≡ finite.insert rs.marks id (joined_mark q id (mark_in rs.marks id) (finite.get rs.tables id) (mark_of (Run run)))
+run_unmarked q id rs run start own h first is some low high = sym (ap (finite.insert rs.marks id) (sym met ∙ stays) ∙ insert_same rs.marks id (mark_in rs.marks id) (marked q id rs h (λ none. omega (arith, filled, ap end_of none, end_of-nil))))
+  where
+    es : List EntryIndex
+    es = (table_of id (finite.get rs.tables id)).entries
 
     filled : 0 < end_of es
     filled = omega (arith, ap (λ (p : ℕ × ℕ). p.1) is, some)
 
     stays : joined_at q (end_of es) (mark_in rs.marks id) (record fresh { reach = Some start; cut = Some start }) ≡ mark_in rs.marks id
-    stays = run_stays q (mark_in rs.marks id) es start fits filled (omega (arith, ap (λ (p : ℕ × ℕ). p.0) is, low)) (omega (arith, ap (λ (p : ℕ × ℕ). p.1) is, high))
+    stays = run_stays q (mark_in rs.marks id) es start (h id).2.stands.fits filled (omega (arith, ap (λ (p : ℕ × ℕ). p.0) is, low)) (omega (arith, ap (λ (p : ℕ × ℕ). p.1) is, high))
 
-    marked : joined_at q (end_of es) (mark_in rs.marks id) (record fresh { reach = Some start; cut = Some start }) ≡ joined_mark q id (mark_in rs.marks id) (finite.get rs.tables id) (mark_of (Run run))
-    marked = run_mark q id run start (end_of es) (finite.get rs.tables id) (mark_in rs.marks id) first refl
+    met : joined_at q (end_of es) (mark_in rs.marks id) (record fresh { reach = Some start; cut = Some start }) ≡ joined_mark q id (mark_in rs.marks id) (finite.get rs.tables id) (mark_of (Run run))
+    met = run_mark q id run start (end_of es) (finite.get rs.tables id) (mark_in rs.marks id) first refl
 
-    present : (o : Option Mark) → finite.get rs.marks id ≡ o → finite.get rs.marks id ≡ Some (mark_in rs.marks id)
-    present None e = absurd (omega (arith, filled, ap end_of (none_of_fresh q es (subst (λ (o : Option Mark). Fits q (unwrap_or o fresh) es) e fits)), end_of-nil))
-    present (Some m) e = e ∙ ap (λ (o : Option Mark). Some (unwrap_or o fresh)) (sym e)
+-- a pair that is put where there are entries leaves the region marks as they are
+pub put_unmarked : (q : LogQueue) (id : ℕ) (rs : MarkedRegions) (key value : List ℕ) (file : FileId) → StandForSteps q rs → ((table_of id (finite.get rs.tables id)).entries ≡ [] → ⊥)
+    → rs.marks ≡ finite.insert rs.marks id (joined_mark q id (mark_in rs.marks id) (finite.get rs.tables id) (mark_of (Put key value file)))
+put_unmarked q id rs key value file h some = sym (ap (finite.insert rs.marks id) (joined_fresh q (end_at_reach fresh (table_of id (finite.get rs.tables id))) (mark_in rs.marks id)) ∙ insert_same rs.marks id (mark_in rs.marks id) (marked q id rs h some))
 
 -- the items are such as may be taken in, and these are their spans
 pub record AreTakeable (q : LogQueue) (place : FileBlockHandle) (items : List ReadItem) (spans : List (ℕ × ℕ)) : Type 0 where

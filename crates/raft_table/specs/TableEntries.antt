@@ -5,7 +5,7 @@ use Rattle.std.specs.Option.{option_map_or}
 use Rattle.raft_base.specs.declared.pipe_log.LogQueue.{LogQueue}
 use Rattle.raft_base.specs.declared.pipe_log.LogQueue.TheVariants.{Append, Rewrite}
 use Rattle.raft_base.specs.declared.entry_index.EntryIndex.{EntryIndex}
-use Rattle.raft_base.specs.Runs.{IsConsecutive, end_of}
+use Rattle.raft_base.specs.Runs.{IsConsecutive}
 use Rattle.raft_table.specs.Counts.{Counts, live}
 use Rattle.raft_table.specs.Queues.{is_same}
 
@@ -13,10 +13,6 @@ use Rattle.raft_table.specs.Queues.{is_same}
 abbrev pub start_of : List EntryIndex → ℕ
 start_of [] = 0
 start_of (e ∷ es) = e.index
-
--- where entries begin and where they end
-abbrev pub ends_of : List EntryIndex → ℕ × ℕ
-ends_of es = (start_of es, end_of es)
 
 -- the entries below an index
 unfoldable pub below : ℕ → List EntryIndex → List EntryIndex

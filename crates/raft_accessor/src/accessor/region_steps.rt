@@ -8,7 +8,7 @@ ghost use Rattle.raft_table.specs.RunShown.{run_shown};
 ghost use Rattle.raft_table.specs.Start.{counts_with_run};
 ghost use Rattle.raft_table.specs.StepShown.{step_shown};
 ghost use Rattle.raft_table.specs.Table.{after_replay, live_of};
-ghost use Rattle.raft_table.specs.TableEntries.{IsRunIn, ends_of};
+ghost use Rattle.raft_table.specs.TableEntries.{IsRunIn, start_of};
 ghost use Rattle.raft_table.specs.TakenSteps.{IsStepOfQueue};
 ghost use Rattle.raft_accessor.specs.Accessor.{table_in, AreCountsOf};
 ghost use Rattle.raft_accessor.specs.AccessorCalls.{IsTableChanged};
@@ -53,8 +53,33 @@ impl MemTableAccessor {
     }
 
     /// Does what [`MemTableAccessor::try_replay_run`] does with the entries of the block at `place`, from
-    /// the index `first` on, and returns where the entries of the table began too, in front of where they ended.
+    /// the index `first` on.
     pub fn try_replay_spans(
+        &mut self,
+        queue: LogQueue,
+        id: u64,
+        first: u64,
+        place: FileBlockHandle,
+        spans: &[(u32, u32)],
+    ) -> Option<u64>
+        requires run { IsRunIn queue (entries_of_block first place spans.now) }
+        ensures changed { IsTableChanged (after_replay queue (table_in self.old.tables id)
+            (entries_of_block first place spans.now)) (λ e. ⊥) id (ok_or result Memory) self.old
+            self.new }
+        ensures accepted { OnSome result (live_of (other queue) (table_in self.old.tables id) ≡ 0) }
+        ensures counts { OnSome result (self.new.counts
+            ≡ counts_with_run queue (table_in self.old.tables id).entries
+            (entries_of_block first place spans.now) self.old.counts) }
+        ensures end { IfSome result (λ end. end ≡ end_of (table_in self.old.tables id).entries) }
+    {
+        let (_, end) = self.try_replay_block(queue, id, first, place, spans)?;
+        Some(end)
+    }
+
+    /// Does what [`MemTableAccessor::try_replay_spans`] does, and returns where the entries of the table
+    /// began as well, in front of where they ended.
+    #[doc(hidden)]
+    pub fn try_replay_block(
         &mut self,
         queue: LogQueue,
         id: u64,
@@ -71,7 +96,10 @@ impl MemTableAccessor {
             ≡ counts_with_run queue (table_in self.old.tables id).entries
             (entries_of_block first place spans.now) self.old.counts) }
         ensures ends { IfSome result
-            (λ ends. ends ≡ ends_of (table_in self.old.tables id).entries) }
+            (λ ends. ends ≡ (
+              start_of (table_in self.old.tables id).entries,
+              end_of (table_in self.old.tables id).entries,
+            )) }
     {
         self.try_replay(
             queue,
@@ -84,7 +112,7 @@ impl MemTableAccessor {
         )
     }
 
-    /// Does what [`MemTableAccessor::try_replay_spans`] does with any run.
+    /// Does what [`MemTableAccessor::try_replay_block`] does with any run.
     fn try_replay(&mut self, queue: LogQueue, id: u64, run: &Run<'_>) -> Option<(u64, u64)>
         requires run { IsRunIn queue (run_shown run.now) }
         ensures changed { IsTableChanged
@@ -95,7 +123,10 @@ impl MemTableAccessor {
             ≡ counts_with_run queue (table_in self.old.tables id).entries (run_shown run.now)
             self.old.counts) }
         ensures ends { IfSome result
-            (λ ends. ends ≡ ends_of (table_in self.old.tables id).entries) }
+            (λ ends. ends ≡ (
+              start_of (table_in self.old.tables id).entries,
+              end_of (table_in self.old.tables id).entries,
+            )) }
     {
         self.slots[slot_of(id)].try_replay(queue, id, run, &mut self.stats)
     }

@@ -130,7 +130,7 @@ impl MarkedTables {
         }
         let Some((start, end)) = self
             .accessor
-            .try_replay_spans(queue, id, first, place, spans)
+            .try_replay_block(queue, id, first, place, spans)
         else {
             return Ok(false);
         };

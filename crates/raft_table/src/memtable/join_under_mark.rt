@@ -16,7 +16,7 @@ ghost use Rattle.raft_table.specs.Merge.{newer_atomic_group};
 ghost use Rattle.raft_table.specs.Overlay.{is_unjoined, overlay_under, IsOverlayFault};
 ghost use Rattle.raft_table.specs.Queues.{other};
 ghost use Rattle.raft_table.specs.Table.{empty_table, live_of, IsCounted, IsRecounted};
-ghost use Rattle.raft_table.specs.TableEntries.{ends_of};
+ghost use Rattle.raft_table.specs.TableEntries.{start_of};
 ghost use Rattle.raft_base.specs.declared.pipe_log.LogQueue.TheVariants.{Append, Rewrite};
 
 use crate::global_stats::GlobalStats;
@@ -206,7 +206,7 @@ impl MemTable {
     /// Returns the first index, and the greatest one plus one; both are 0 without entries.
     #[doc(hidden)]
     pub fn ends(&self) -> (u64, u64)
-        ensures { result ≡ ends_of self.now.entries }
+        ensures { result ≡ (start_of self.now.entries, end_of self.now.entries) }
     {
         match self.first_index() {
             Some(first) => (first, self.end()),

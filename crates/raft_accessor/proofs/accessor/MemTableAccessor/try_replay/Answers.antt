@@ -1,7 +1,8 @@
 use Rattle.std.proofs.Common.{◌≡◌, refl, sym, ap, subst, ok_or, IfSome}
 use Rattle.std.specs.Option.{OnSome}
 use Rattle.raft_base.specs.declared.errors.Error.TheVariants.{Memory}
-use Rattle.raft_table.specs.TableEntries.{ends_of}
+use Rattle.raft_base.specs.Runs.{end_of}
+use Rattle.raft_table.specs.TableEntries.{start_of}
 use Rattle.raft_table.specs.Queues.{other}
 use Rattle.raft_table.specs.RunShown.{run_shown}
 use Rattle.raft_table.specs.Start.{counts_with_run}
@@ -36,7 +37,7 @@ returns-clause-accepted c =
 
 pub returns-clause-ends : goal.returns-clause-ends
 returns-clause-ends c =
-    rw (← c.self.view_is) (subst (λ t. IfSome c.try_replay.result (λ ends. ends ≡ ends_of t.entries))
+    rw (← c.self.view_is) (subst (λ t. IfSome c.try_replay.result (λ ends. ends ≡ (start_of t.entries, end_of t.entries)))
     (sym (ap (table_of c.args.id) (get-shown c.self.inside _ c.args.id c.slot_of.result c.index_mut.result.now c.self.invariant refl c.slot_of.ensures.value c.slot_of.ensures.bound c.index_mut.ensures.value)))
     c.try_replay.ensures.ends)
 

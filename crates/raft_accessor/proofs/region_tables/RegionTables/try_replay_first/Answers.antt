@@ -1,6 +1,6 @@
 use Rattle.std.proofs.Common.{◌≡◌, Some, refl, sym, ap, ◌∙◌}
 use Rattle.raft_base.specs.Runs.{end_of}
-use Rattle.raft_table.specs.TableEntries.{ends_of}
+use Rattle.raft_table.specs.TableEntries.{start_of}
 use Rattle.raft_table.specs.RunShown.{run_shown}
 use Rattle.raft_table.specs.Steps.{table_of}
 use Rattle.raft_table.specs.Table.{after_replay}
@@ -28,4 +28,4 @@ returns-clause-outcome c =
 
 pub returns-clause-ends : goal.returns-clause-ends
 unfolding end_of
-returns-clause-ends c = sym (ap (λ o. ends_of (table_of c.args.id o).entries) c.requires.first)
+returns-clause-ends c = sym (ap (λ o. (start_of (table_of c.args.id o).entries, end_of (table_of c.args.id o).entries)) c.requires.first)

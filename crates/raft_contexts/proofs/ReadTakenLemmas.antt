@@ -1,18 +1,22 @@
 -- Items as they were read, taken in one after another.
-use Rattle.std.proofs.Common.{◌≡◌, false, ◌==◌, ℕ, ◌+◌, ◌≤◌, ◌<◌, List, [], ◌∷◌, ◌++◌, length, take, drop, Option, Some, None, Result, Ok, Err, refl, sym, ap, subst, ◌∙◌, arith}
+use Rattle.std.proofs.Common.{◌≡◌, Bool, true, false, cond, MatchBool, ◌==◌, ℕ, ◌+◌, ◌≤◌, ◌<◌, List, [], ◌∷◌, ◌++◌, length, take, drop, Option, Some, None, Result, Ok, Err, refl, sym, ap, subst, ◌∙◌, arith}
 use Rattle.std.specs.FinMap as finite
 use Rattle.std.specs.Option.{unwrap_or}
 use Rattle.std.proofs.lemmas.List.{length-drop}
 use Rattle.raft_base.specs.declared.errors.Error.{Error}
+use Rattle.raft_base.specs.declared.errors.Error.TheVariants as errors
 use Rattle.raft_base.specs.declared.pipe_log.FileBlockHandle.{FileBlockHandle}
 use Rattle.raft_base.specs.declared.pipe_log.FileId.{FileId}
 use Rattle.raft_base.specs.declared.pipe_log.LogQueue.{LogQueue}
 use Rattle.raft_base.specs.declared.entry_index.EntryIndex.{EntryIndex}
 use Rattle.raft_base.specs.Runs.{end_of, entries_of_block}
 use Rattle.raft_records.specs.DecodedIn.{IsDecodedIn, AreDecodedIn}
-use Rattle.raft_records.specs.ReadBatch.{spans_taken, spans_of, content_shown, item_shown, items_shown}
+use Rattle.raft_records.specs.Group.{is_reserved}
+use Rattle.raft_records.specs.ReadBatch.{spans_taken, spans_of, pair_at, content_shown, item_shown, items_shown}
+use Rattle.raft_records.specs.declared.key_value.OpType.TheVariants as op_types
 use Rattle.raft_records.specs.declared.read_batch.ReadContent.TheVariants as contents
 use Rattle.raft_records.specs.declared.read_batch.ReadItem.{ReadItem}
+use Rattle.raft_table.specs.Counts.{Counts}
 use Rattle.raft_table.specs.MarkFits.{Fits}
 use Rattle.raft_table.specs.MarkJoins.{fresh, joined_at, joined_mark, end_at_reach, mark_of}
 use Rattle.raft_table.specs.Marks.{Mark}
@@ -23,13 +27,15 @@ use Rattle.raft_table.proofs.MarkExact.{joined_fresh}
 use Rattle.raft_table.proofs.MarkWords.{end_of-nil}
 use Rattle.raft_history.specs.Joins.{StandForSteps}
 use Rattle.raft_history.specs.MarkedRegions.{MarkedRegions}
-use Rattle.raft_history.specs.RegionSteps.{steps_of_items}
+use Rattle.raft_history.specs.RegionSteps.{Tables, steps_of_items}
 use Rattle.raft_history.proofs.RegionLaws.{stand_after}
+use Rattle.raft_accessor.specs.Accessor.{Accessor, table_in}
+use Rattle.raft_accessor.specs.TableSteps.{IsStepTaken}
 use Rattle.raft_accessor.proofs.MapLemmas.{insert_same}
-use Rattle.raft_contexts.specs.MarkedTables.{regions_in, AreStepsOfQueue, AreStepsTaken, first_index}
+use Rattle.raft_contexts.specs.MarkedTables.{regions_in, one_step, AreStepsOfQueue, AreStepsTaken, first_index}
 use Rattle.raft_contexts.specs.RegionMarks.{mark_in}
 use Rattle.raft_contexts.specs.declared.marked_tables.MarkedTables.{MarkedTables}
-use Rattle.raft_contexts.proofs.TakenLemmas.{run_mark, taken_none, each_more, each_refused, rest_of_queue, of_queue_front}
+use Rattle.raft_contexts.proofs.TakenLemmas.{run_mark, step_taken, taken_none, each_more, each_refused, rest_of_queue, of_queue_front}
 use Rattle.raft_contexts.proofs.WaitingItemLemmas.{items-append}
 
 -- an item that stands in where there is none
@@ -73,6 +79,27 @@ run_unmarked q id rs run start own h first is some low high = sym (ap (finite.in
 pub put_unmarked : (q : LogQueue) (id : ℕ) (rs : MarkedRegions) (key value : List ℕ) (file : FileId) → StandForSteps q rs → ((table_of id (finite.get rs.tables id)).entries ≡ [] → ⊥)
     → rs.marks ≡ finite.insert rs.marks id (joined_mark q id (mark_in rs.marks id) (finite.get rs.tables id) (mark_of (Put key value file)))
 put_unmarked q id rs key value file h some = sym (ap (finite.insert rs.marks id) (joined_fresh q (end_at_reach fresh (table_of id (finite.get rs.tables id))) (mark_in rs.marks id)) ∙ insert_same rs.marks id (mark_in rs.marks id) (marked q id rs h some))
+
+-- the step of an item that puts a key which is not reserved
+pub put_step : (place : FileBlockHandle) (id : ℕ) (key value : List ℕ) → is_reserved key ≡ false → steps_of_items (record { raft_group_id = id; content = pair_at place op_types.Put key (Some value) } ∷ []) ≡ one_step id (Put key value place.id)
+put_step place id key value h = rw h refl
+
+abbrev with_all : Tables → List ℕ → Counts → Accessor
+with_all tables cleaned counts = record { tables = tables; cleaned = cleaned; counts = counts }
+
+same_accessor : (x y : Accessor) → x.tables ≡ y.tables → x.counts ≡ y.counts → x.cleaned ≡ y.cleaned → x ≡ y
+same_accessor x y t k l = ap (λ tables. with_all tables x.cleaned x.counts) t ∙ ap (λ counts. with_all y.tables x.cleaned counts) k ∙ ap (λ cleaned. with_all y.tables cleaned y.counts) l
+
+abbrev beside : MarkedTables → Accessor → MarkedTables
+beside a mid = record { accessor = mid; marks = a.marks }
+
+-- a pair that is tried is put, or all is as it was
+pub put_taken : (q : LogQueue) (id : ℕ) (key value : List ℕ) (file : FileId) (a : MarkedTables) (mid : Accessor) (taken : Bool) → StandForSteps q (regions_in a) → (taken ≡ true → (table_in a.accessor.tables id).entries ≡ [] → ⊥)
+    → IsStepTaken q id (Put key value file) a.accessor.tables a.accessor.counts a.accessor.cleaned (cond taken (Ok tt) (Err errors.Memory)) mid.tables mid.counts mid.cleaned
+    → MatchBool taken (AreStepsTaken q (one_step id (Put key value file)) (Ok tt) a (beside a mid)) (beside a mid ≡ a)
+put_taken q id key value file a mid true h some k =
+    step_taken q id (Put key value file) a (beside a mid) (Ok tt) (finite.get mid.tables id) k.ok k.one k.cleaned k.counts_ok (put_unmarked q id (regions_in a) key value file h (some refl)) tt
+put_taken q id key value file a mid false h some k = ap (beside a) (same_accessor mid a.accessor k.err k.counts_err k.cleaned_err)
 
 -- the items are such as may be taken in, and these are their spans
 pub record AreTakeable (q : LogQueue) (place : FileBlockHandle) (items : List ReadItem) (spans : List (ℕ × ℕ)) : Type 0 where

@@ -1,12 +1,14 @@
 //! Steps on one region's table, which is made where there is none; runs and files were tested before.
 
-ghost use Rattle.std.specs.Prelude.{◌≡◌, OnSome, IfSome, ok_or};
+ghost use Rattle.std.specs.Prelude.{◌≡◌, ◌≢◌, [], true, Ok, Err, OnSome, IfSome, ok_or, if◌then◌else◌};
 ghost use Rattle.raft_base.specs.declared.errors.Error.TheVariants.{Memory};
+ghost use Rattle.raft_base.specs.declared.pipe_log.LogQueue.{LogQueue};
 ghost use Rattle.raft_base.specs.Runs.{end_of, entries_of_block};
 ghost use Rattle.raft_table.specs.Queues.{other};
 ghost use Rattle.raft_table.specs.RunShown.{run_shown};
 ghost use Rattle.raft_table.specs.Start.{counts_with_run};
 ghost use Rattle.raft_table.specs.StepShown.{step_shown};
+ghost use Rattle.raft_table.specs.Steps.{Put};
 ghost use Rattle.raft_table.specs.Table.{after_replay, live_of};
 ghost use Rattle.raft_table.specs.TableEntries.{IsRunIn, start_of};
 ghost use Rattle.raft_table.specs.TakenSteps.{IsStepOfQueue};
@@ -15,7 +17,7 @@ ghost use Rattle.raft_accessor.specs.AccessorCalls.{IsTableChanged};
 ghost use Rattle.raft_accessor.specs.TableSteps.{IsStepTaken};
 
 use crate::accessor::{MemTableAccessor, slot_of};
-use raft_base::{EntryIndex, FileBlockHandle, LogQueue, Result};
+use raft_base::{EntryIndex, FileBlockHandle, FileId, LogQueue, Result};
 use raft_table::{Run, Step};
 
 impl MemTableAccessor {
@@ -129,5 +131,19 @@ impl MemTableAccessor {
             )) }
     {
         self.slots[slot_of(id)].try_replay(queue, id, run, &mut self.stats)
+    }
+
+    /// Does what [`MemTableAccessor::take_step`] does with the put of a key and its value, which are copied,
+    /// where the region has entries, and returns whether it did. Where it did not, as for want of memory, all
+    /// tables are as they were.
+    #[doc(hidden)]
+    pub fn try_put(&mut self, id: u64, key: &[u8], value: &[u8], file: FileId) -> bool
+        ensures taken { (queue : LogQueue) → IsStepTaken queue id (Put key.now value.now file)
+            self.old.tables self.old.counts self.old.cleaned
+            (if result then Ok tt else Err Memory) self.new.tables self.new.counts
+            self.new.cleaned }
+        ensures entries { result ≡ true → (table_in self.old.tables id).entries ≢ [] }
+    {
+        self.slots[slot_of(id)].try_put(id, key, value, file, &mut self.stats)
     }
 }

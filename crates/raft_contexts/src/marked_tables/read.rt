@@ -1,6 +1,7 @@
 //! Batches as they were read, taken into the tables and region marks.
 
-ghost use Rattle.std.specs.Prelude.{◌≡◌, ◌≤◌, ◌++◌, [], ◌∷◌, length, Ok, OnOk, IfOk, IfErr, MatchBool, Some};
+ghost use Rattle.std.specs.Prelude.{◌≡◌, ◌≤◌, ◌×◌, ℕ, List, ◌++◌, [], ◌∷◌, length, Ok, OnOk, IfOk, IfErr, MatchBool, Some};
+ghost use Rattle.raft_base.specs.declared.pipe_log.LogQueue.{LogQueue};
 ghost use Rattle.raft_records.specs.DecodedIn.{IsDecodedIn, AreDecodedIn};
 ghost use Rattle.raft_records.specs.ReadBatch.{content_shown, item_shown, items_shown, spans_of};
 ghost use Rattle.raft_history.specs.Histories.{AreInFile};
@@ -14,7 +15,7 @@ ghost use Rattle.raft_contexts.specs.StepCounts.{AreCountsAfterSteps};
 
 use crate::marked_tables::MarkedTables;
 use raft_base::{AllocResult, FileBlockHandle, FileId, LogQueue, Result};
-use raft_records::{ReadBatch, ReadContent, ReadItem};
+use raft_records::{ReadBatch, ReadContent, ReadItem, is_reserved};
 use std::alloc::Global;
 
 impl MarkedTables {
@@ -94,6 +95,9 @@ impl MarkedTables {
         if self.try_spans(queue, place, item, spans)? {
             return Ok(());
         }
+        if self.try_put(place, item) {
+            return Ok(());
+        }
         let item = item.to_item(alloc, place, spans)?;
         self.take_item(queue, item)
     }
@@ -139,5 +143,23 @@ impl MarkedTables {
         }
         self.marks.add_run(id, queue, end, first)?;
         Ok(true)
+    }
+
+    /// Takes in an item that puts a key, as it was read, where its region has entries, and so a region mark,
+    /// which the put leaves as it is. Returns whether it did. Where it did not, nothing has changed.
+    fn try_put(&mut self, place: FileBlockHandle, item: &ReadItem<'_>) -> bool
+        ensures { (queue : LogQueue) (spans : List (ℕ × ℕ))
+            → StandForSteps queue (regions_in self.old) → MatchBool result
+            (AreStepsTaken queue (steps_of_items (item_shown place item.now spans ∷ []))
+            (Ok tt) self.old self.new)
+            (self.new ≡ self.old) }
+    {
+        let ReadContent::Put { key, value } = &item.content else {
+            return false;
+        };
+        if is_reserved(key) {
+            return false;
+        }
+        self.accessor.try_put(item.region, key, value, place.id)
     }
 }

@@ -1,19 +1,21 @@
 //! Steps on a table.
 
-ghost use Rattle.std.specs.Prelude.{◌≡◌, OnOk, OnErr, IfErr, Some};
+ghost use Rattle.std.specs.Prelude.{◌≡◌, ◌≢◌, [], MatchBool, OnOk, OnErr, IfErr, Some};
 ghost use Rattle.raft_base.specs.declared.pipe_log.LogQueue.TheVariants.{Append, Rewrite};
+ghost use Rattle.raft_table.specs.Counts.{with_added};
+ghost use Rattle.raft_table.specs.KeyValues.{file_at};
 ghost use Rattle.raft_table.specs.Queues.{other};
 ghost use Rattle.raft_table.specs.Start.{counts_with_run};
 ghost use Rattle.raft_table.specs.StepShown.{step_shown};
 ghost use Rattle.raft_table.specs.Steps.{after_step};
-ghost use Rattle.raft_table.specs.Table.{after_replay, live_of, IsCounted, IsRecounted};
+ghost use Rattle.raft_table.specs.Table.{after_replay, live_of, with_pair, with_pair_deleted, IsCounted, IsRecounted};
 ghost use Rattle.raft_table.specs.TableEntries.{IsRunIn};
 ghost use Rattle.raft_table.specs.TakenSteps.{IsStepOfQueue, LeavesTable, IsUnmixed, counts_after_step, IsReplayFault, IsStepFault};
 
 use crate::global_stats::GlobalStats;
 use crate::memtable::MemTable;
 use crate::step::Step;
-use raft_base::{EntryIndex, Error, LogQueue, Result};
+use raft_base::{EntryIndex, Error, FileId, LogQueue, Result};
 
 impl MemTable {
     /// Does a step that is read again, any but a [`Step::Clean`], which leaves no table.
@@ -64,6 +66,43 @@ impl MemTable {
                 Ok(())
             }
             Step::Clean => unreachable!(),
+        }
+    }
+
+    /// Does what [`MemTable::put`] does with copies of a key and its value, where there are entries, and
+    /// returns whether it did. It does not where that call refuses, nor where there is no memory for the
+    /// copies. The table and the counts are then as they were.
+    #[doc(hidden)]
+    pub fn try_put(
+        &mut self,
+        key: &[u8],
+        value: &[u8],
+        file_id: FileId,
+        stats: &mut GlobalStats,
+    ) -> bool
+        requires { IsCounted self.old stats.old }
+        ensures done { MatchBool result
+            ((self.new ≡ with_pair self.old key.now value.now file_id)
+            × (stats.new ≡ with_added file_id.queue 1
+            (with_pair_deleted (file_at self.old.keys key.now) stats.old))
+            × (self.old.entries ≢ []))
+            ((self.new ≡ self.old) × (stats.new ≡ stats.old)) }
+        ensures recounted { IsRecounted self.old self.new stats.old stats.new }
+        ensures region { self.new.region_id ≡ self.old.region_id }
+    {
+        let Some(_) = self.first_index() else {
+            return false;
+        };
+        let alloc = self.entries.allocator();
+        let Ok(key) = Vec::from_slice(alloc, key) else {
+            return false;
+        };
+        let Ok(value) = Vec::from_slice(alloc, value) else {
+            return false;
+        };
+        match self.put(key, value, file_id, stats) {
+            Ok(()) => true,
+            Err(_) => false,
         }
     }
 

@@ -27,7 +27,7 @@ use Rattle.raft_table.proofs.MarkExact.{joined_fresh}
 use Rattle.raft_table.proofs.MarkWords.{end_of-nil}
 use Rattle.raft_history.specs.Joins.{StandForSteps}
 use Rattle.raft_history.specs.MarkedRegions.{MarkedRegions}
-use Rattle.raft_history.specs.RegionSteps.{Tables, steps_of_items}
+use Rattle.raft_history.specs.RegionSteps.{RegionStep, Tables, steps_of_items}
 use Rattle.raft_history.proofs.RegionLaws.{stand_after}
 use Rattle.raft_accessor.specs.Accessor.{Accessor, table_in}
 use Rattle.raft_accessor.specs.TableSteps.{IsStepTaken}
@@ -100,6 +100,20 @@ pub put_taken : (q : LogQueue) (id : ℕ) (key value : List ℕ) (file : FileId)
 put_taken q id key value file a mid true h some k =
     step_taken q id (Put key value file) a (beside a mid) (Ok tt) (finite.get mid.tables id) k.ok k.one k.cleaned k.counts_ok (put_unmarked q id (regions_in a) key value file h (some refl)) tt
 put_taken q id key value file a mid false h some k = ap (beside a) (same_accessor mid a.accessor k.err k.counts_err k.cleaned_err)
+
+-- an item that is no run which its table takes, and is tried as a pair then
+module _ (q : LogQueue) (steps : List RegionStep) (a b c : MarkedTables) (run put : Bool) (no : run ≡ false) (tried : MatchBool run (AreStepsTaken q steps (Ok tt) a b) (b ≡ a)) (stands : StandForSteps q (regions_in a)) (puts : StandForSteps q (regions_in b) → MatchBool put (AreStepsTaken q steps (Ok tt) b c) (c ≡ b)) where
+  still : b ≡ a
+  still = rw no at tried
+
+  known : MatchBool put (AreStepsTaken q steps (Ok tt) b c) (c ≡ b)
+  known = puts (subst (λ x. StandForSteps q (regions_in x)) (sym still) stands)
+
+  pub put_then : put ≡ true → AreStepsTaken q steps (Ok tt) a c
+  put_then e = subst (λ x. AreStepsTaken q steps (Ok tt) x c) still (rw e at known)
+
+  pub none_then : put ≡ false → (r : Result Unit Error) (d : MarkedTables) → AreStepsTaken q steps r c d → AreStepsTaken q steps r a d
+  none_then e r d t = let same : c ≡ b = rw e at known in subst (λ x. AreStepsTaken q steps r x d) (same ∙ still) t
 
 -- the items are such as may be taken in, and these are their spans
 pub record AreTakeable (q : LogQueue) (place : FileBlockHandle) (items : List ReadItem) (spans : List (ℕ × ℕ)) : Type 0 where

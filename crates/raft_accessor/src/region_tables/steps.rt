@@ -2,6 +2,7 @@
 //! before.
 
 ghost use Rattle.std.specs.Prelude.{◌≡◌, ◌≢◌, [], List, ℕ, length, true, Ok, Err, OnOk, if◌then◌else◌};
+ghost use Rattle.raft_base.specs.declared.errors.Error.TheVariants.{Memory};
 ghost use Rattle.raft_base.specs.declared.pipe_log.LogQueue.{LogQueue};
 ghost use Rattle.raft_base.specs.declared.pipe_log.LogQueue.TheVariants.{Append, Rewrite};
 ghost use Rattle.raft_table.specs.KeyValues.{file_at};
@@ -17,7 +18,7 @@ ghost use Rattle.raft_accessor.specs.TableSteps.{IsStepTaken};
 ghost use Rattle.raft_accessor.specs.Updates.{BecomesOutcome};
 
 use crate::region_tables::RegionTables;
-use raft_base::{EntryIndex, Error, FileId, FileSeq, LogQueue, Result};
+use raft_base::{EntryIndex, FileId, FileSeq, LogQueue, Result};
 use raft_table::{GlobalStats, MemTable, Step};
 
 impl RegionTables {
@@ -106,7 +107,7 @@ impl RegionTables {
         requires { IsCounted (table_in self.old id) stats.old }
         ensures taken { (queue : LogQueue) (list : List ℕ) → IsStepTaken queue id
             (Put key.now value.now file) self.old stats.old list
-            (if result then Ok tt else Err Error.Memory) self.new stats.new list }
+            (if result then Ok tt else Err Memory) self.new stats.new list }
         ensures entries { result ≡ true → (table_in self.old id).entries ≢ [] }
     {
         let Some(table) = self.tables.get_mut(&id) else {

@@ -1,5 +1,5 @@
 -- Items that are read again, written by their steps.
-use Rattle.std.proofs.Common.{◌≡◌, ◌⊎◌, ℕ, Bool, true, false, cond, List, [], ◌∷◌, ◌++◌, Option, Some, None, Result, Ok, Err, refl, sym, ap, subst, ◌∙◌, inl, inr, arith}
+use Rattle.std.proofs.Common.{◌≡◌, ◌≢◌, ◌⊎◌, ℕ, Bool, true, false, MatchBool, cond, List, [], ◌∷◌, ◌++◌, append-nil, Option, Some, None, Result, Ok, Err, refl, sym, ap, subst, ◌∙◌, inl, inr, arith}
 use Rattle.std.specs.FinMap as finite
 use Rattle.std.specs.Option.{option_map}
 use Rattle.std.specs.Result.{OnOk, IfErr}
@@ -16,16 +16,16 @@ use Rattle.raft_records.specs.Group.{is_reserved}
 use Rattle.raft_records.specs.Item.{Item, Content, Pair, entries, command, pair}
 use Rattle.raft_history.specs.RegionStepShown.{item_step}
 use Rattle.raft_history.specs.RegionSteps.{RegionStep, Tables, with_table, content_step, command_step, pair_step, cleaned_by_steps}
-use Rattle.raft_table.specs.Counts.{Counts, live}
+use Rattle.raft_table.specs.Counts.{Counts, live, with_added}
 use Rattle.raft_table.specs.KeyValues.{file_at}
 use Rattle.raft_table.specs.Steps.{Step, Run, Put, Del, Clean, table_of, after_step}
-use Rattle.raft_table.specs.Table.{Table, empty_table, with_table_deleted, IsRecounted, IsTablePutFault}
+use Rattle.raft_table.specs.Table.{Table, empty_table, with_pair, with_pair_deleted, with_table_deleted, IsRecounted, IsTablePutFault}
 use Rattle.raft_table.specs.TakenSteps.{IsUnmixed, counts_after_step, IsStepFault}
 use Rattle.raft_accessor.specs.Accessor.{table_in}
 use Rattle.raft_accessor.specs.ItemWrites.{IsItemWritten, IsReplayed, IsPairReplayed}
 use Rattle.raft_accessor.specs.TableSteps.{IsStepTaken}
 use Rattle.raft_accessor.specs.Writes.{Replaying, after_content, counts_after_content, counts_after_change, listed_by, IsFor, MixesQueues, IsWriteFault}
-use Rattle.raft_accessor.proofs.MapLemmas.{get_gone, none_some, one_same, some_is}
+use Rattle.raft_accessor.proofs.MapLemmas.{get_gone, get_own, insert_same, none_some, one_same, some_is}
 use Rattle.raft_accessor.proofs.WriteLemmas.{replay_fault, skipped_by, none_listed, reserved_step, reserved_counts, change_step}
 
 -- a content that is read again does what a step does
@@ -172,3 +172,49 @@ clean_taken q id old counts list new after listed e k r l =
 -- where there is no memory to list the region nothing is done
 pub not_listed : (q : LogQueue) (id : ℕ) (s : Step) (old : Tables) (counts : Counts) (list : List ℕ) → IsStepTaken q id s old counts list (Err errors.Memory) old counts list
 not_listed q id s old counts list = record { ok = tt; accepted = tt; counts_ok = tt; cleaned = tt; err = refl; counts_err = refl; cleaned_err = refl; fault = inl refl; one = one_same old old id refl; recounted = λ q. refl }
+
+-- ---- a pair that is put where the region has a table
+
+put_cleans : (q : LogQueue) (id : ℕ) (key value : List ℕ) (file : FileId) → cleaned_by_steps q (record { region = id; step = Put key value file } ∷ []) ≡ []
+put_cleans Append id key value file = refl
+put_cleans Rewrite id key value file = refl
+
+pub put_tried : (q : LogQueue) (id : ℕ) (key value : List ℕ) (file : FileId) (old new : Tables) (u t : Table) (counts after : Counts) (list : List ℕ) (b : Bool) → finite.get old id ≡ Some u → new ≡ finite.insert old id t → IsRecounted u t counts after
+    → MatchBool b ((t ≡ with_pair u key value file) × (after ≡ with_added file.queue 1 (with_pair_deleted (file_at u.keys key) counts)) × (u.entries ≢ [])) ((t ≡ u) × (after ≡ counts))
+    → IsStepTaken q id (Put key value file) old counts list (cond b (Ok tt) (Err errors.Memory)) new after list
+put_tried q id key value file old new u t counts after list b is e r h = go b h
+  where
+    now : finite.get new id ≡ Some t
+    now = ap (λ m. finite.get m id) e ∙ get_own old id t
+
+    recounted : IsRecounted (table_in old id) (table_in new id) counts after
+    recounted = subst (λ o. IsRecounted (table_of id o) (table_in new id) counts after) (sym is) (subst (λ o. IsRecounted u (table_of id o) counts after) (sym now) r)
+
+    go : (b : Bool) → MatchBool b ((t ≡ with_pair u key value file) × (after ≡ with_added file.queue 1 (with_pair_deleted (file_at u.keys key) counts)) × (u.entries ≢ [])) ((t ≡ u) × (after ≡ counts))
+        → IsStepTaken q id (Put key value file) old counts list (cond b (Ok tt) (Err errors.Memory)) new after list
+    go true h = record {
+      ok = ap (λ o. Some (Some (with_pair (table_of id o) key value file))) is ∙ ap (λ x. Some (Some x)) (sym h.0) ∙ ap Some (sym now);
+      accepted = tt;
+      counts_ok = h.1 ∙ ap (λ o. with_added file.queue 1 (with_pair_deleted (file_at (table_of id o).keys key) counts)) (sym is);
+      cleaned = sym (ap (λ l. list ++ l) (put_cleans q id key value file) ∙ append-nil list);
+      err = tt;
+      counts_err = tt;
+      cleaned_err = tt;
+      fault = tt;
+      one = e ∙ ap (with_table old id) (sym now);
+      recounted = recounted;
+    }
+    go false h =
+        let same : new ≡ old = e ∙ insert_same old id t (is ∙ ap Some (sym h.0)) in
+        record {
+          ok = tt;
+          accepted = tt;
+          counts_ok = tt;
+          cleaned = tt;
+          err = same;
+          counts_err = h.1;
+          cleaned_err = refl;
+          fault = inl refl;
+          one = one_same old new id same;
+          recounted = recounted;
+        }

@@ -16,7 +16,7 @@ ghost use Rattle.raft_table.specs.RunShown.{run_shown};
 ghost use Rattle.raft_table.specs.Start.{counts_with_run};
 ghost use Rattle.raft_table.specs.Steps.{table_of};
 ghost use Rattle.raft_table.specs.Table.{Table, after_replay, empty_table, live_of, with_table_added, with_table_deleted, IsCounted, IsRecounted};
-ghost use Rattle.raft_table.specs.TableEntries.{IsRunIn};
+ghost use Rattle.raft_table.specs.TableEntries.{IsRunIn, start_of};
 ghost use Rattle.raft_accessor.specs.Accessor.{table_in, live_in_all};
 ghost use Rattle.raft_accessor.specs.Merges.{with_neighbor, IsFaultBeside, MayAlter, IsAltered, IsTableMerged};
 ghost use Rattle.raft_accessor.specs.Updates.{MayChange, IsUpdated, BecomesOutcome};
@@ -223,15 +223,15 @@ impl RegionTables {
     }
 
     /// Puts a run that is read again into its region's table, which is made where there is none, and
-    /// returns where the entries of the table ended before. Where nothing is returned, tables and counts
-    /// are as they were.
+    /// returns where the entries of the table began and ended before. Where nothing is returned, tables
+    /// and counts are as they were.
     pub(crate) fn try_replay(
         &mut self,
         queue: LogQueue,
         id: u64,
         run: &Run<'_>,
         stats: &mut GlobalStats,
-    ) -> Option<u64>
+    ) -> Option<(u64, u64)>
         requires run { IsRunIn queue (run_shown run.now) }
         requires counted { IsCounted (table_in self.old id) stats.old }
         ensures outcome { BecomesOutcome
@@ -240,16 +240,19 @@ impl RegionTables {
         ensures accepted { OnSome result (live_of (other queue) (table_in self.old id) ≡ 0) }
         ensures counts { OnSome result (stats.new
             ≡ counts_with_run queue (table_in self.old id).entries (run_shown run.now) stats.old) }
-        ensures end { IfSome result (λ end. end ≡ end_of (table_in self.old id).entries) }
+        ensures ends { IfSome result (λ ends. ends ≡ (
+          start_of (table_in self.old id).entries,
+          end_of (table_in self.old id).entries,
+        )) }
     {
         let Some(table) = self.tables.get_mut(&id) else {
             return self.try_replay_first(queue, id, run, stats);
         };
-        let end = table.end();
+        let ends = table.ends();
         if !table.try_replay(queue, run, stats) {
             return None;
         }
-        Some(end)
+        Some(ends)
     }
 
     /// Does what [`RegionTables::try_replay`] does where the region has no table.
@@ -260,7 +263,7 @@ impl RegionTables {
         id: u64,
         run: &Run<'_>,
         stats: &mut GlobalStats,
-    ) -> Option<u64>
+    ) -> Option<(u64, u64)>
         requires first { finite.get self.old id ≡ None }
         requires run { IsRunIn queue (run_shown run.now) }
         ensures outcome { BecomesOutcome
@@ -269,7 +272,10 @@ impl RegionTables {
         ensures accepted { OnSome result (live_of (other queue) (table_in self.old id) ≡ 0) }
         ensures counts { OnSome result (stats.new
             ≡ counts_with_run queue (table_in self.old id).entries (run_shown run.now) stats.old) }
-        ensures end { IfSome result (λ end. end ≡ end_of (table_in self.old id).entries) }
+        ensures ends { IfSome result (λ ends. ends ≡ (
+          start_of (table_in self.old id).entries,
+          end_of (table_in self.old id).entries,
+        )) }
     {
         if self.tables.reserve(1).is_err() {
             return None;
@@ -279,7 +285,7 @@ impl RegionTables {
             return None;
         }
         match self.tables.insert(id, table) {
-            Ok(_) => Some(0),
+            Ok(_) => Some((0, 0)),
             Err(_) => unreachable!(),
         }
     }

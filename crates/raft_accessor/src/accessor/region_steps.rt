@@ -1,21 +1,23 @@
 //! Steps on one region's table, which is made where there is none; runs and files were tested before.
 
-ghost use Rattle.std.specs.Prelude.{◌≡◌, OnSome, IfSome, ok_or};
+ghost use Rattle.std.specs.Prelude.{◌≡◌, ◌≢◌, [], true, Ok, Err, OnSome, IfSome, ok_or, if◌then◌else◌};
 ghost use Rattle.raft_base.specs.declared.errors.Error.TheVariants.{Memory};
+ghost use Rattle.raft_base.specs.declared.pipe_log.LogQueue.{LogQueue};
 ghost use Rattle.raft_base.specs.Runs.{end_of, entries_of_block};
 ghost use Rattle.raft_table.specs.Queues.{other};
 ghost use Rattle.raft_table.specs.RunShown.{run_shown};
 ghost use Rattle.raft_table.specs.Start.{counts_with_run};
 ghost use Rattle.raft_table.specs.StepShown.{step_shown};
+ghost use Rattle.raft_table.specs.Steps.{Put};
 ghost use Rattle.raft_table.specs.Table.{after_replay, live_of};
-ghost use Rattle.raft_table.specs.TableEntries.{IsRunIn};
+ghost use Rattle.raft_table.specs.TableEntries.{IsRunIn, start_of};
 ghost use Rattle.raft_table.specs.TakenSteps.{IsStepOfQueue};
 ghost use Rattle.raft_accessor.specs.Accessor.{table_in, AreCountsOf};
 ghost use Rattle.raft_accessor.specs.AccessorCalls.{IsTableChanged};
 ghost use Rattle.raft_accessor.specs.TableSteps.{IsStepTaken};
 
 use crate::accessor::{MemTableAccessor, slot_of};
-use raft_base::{EntryIndex, FileBlockHandle, LogQueue, Result};
+use raft_base::{EntryIndex, FileBlockHandle, FileId, LogQueue, Result};
 use raft_table::{Run, Step};
 
 impl MemTableAccessor {
@@ -48,7 +50,8 @@ impl MemTableAccessor {
             ≡ counts_with_run queue (table_in self.old.tables id).entries run.now self.old.counts) }
         ensures end { IfSome result (λ end. end ≡ end_of (table_in self.old.tables id).entries) }
     {
-        self.try_replay(queue, id, &Run::Entries(run))
+        let (_, end) = self.try_replay(queue, id, &Run::Entries(run))?;
+        Some(end)
     }
 
     /// Does what [`MemTableAccessor::try_replay_run`] does with the entries of the block at `place`, from
@@ -71,6 +74,35 @@ impl MemTableAccessor {
             (entries_of_block first place spans.now) self.old.counts) }
         ensures end { IfSome result (λ end. end ≡ end_of (table_in self.old.tables id).entries) }
     {
+        let (_, end) = self.try_replay_block(queue, id, first, place, spans)?;
+        Some(end)
+    }
+
+    /// Does what [`MemTableAccessor::try_replay_spans`] does, and returns where the entries of the table
+    /// began as well, in front of where they ended.
+    #[doc(hidden)]
+    pub fn try_replay_block(
+        &mut self,
+        queue: LogQueue,
+        id: u64,
+        first: u64,
+        place: FileBlockHandle,
+        spans: &[(u32, u32)],
+    ) -> Option<(u64, u64)>
+        requires run { IsRunIn queue (entries_of_block first place spans.now) }
+        ensures changed { IsTableChanged (after_replay queue (table_in self.old.tables id)
+            (entries_of_block first place spans.now)) (λ e. ⊥) id (ok_or result Memory) self.old
+            self.new }
+        ensures accepted { OnSome result (live_of (other queue) (table_in self.old.tables id) ≡ 0) }
+        ensures counts { OnSome result (self.new.counts
+            ≡ counts_with_run queue (table_in self.old.tables id).entries
+            (entries_of_block first place spans.now) self.old.counts) }
+        ensures ends { IfSome result
+            (λ ends. ends ≡ (
+              start_of (table_in self.old.tables id).entries,
+              end_of (table_in self.old.tables id).entries,
+            )) }
+    {
         self.try_replay(
             queue,
             id,
@@ -82,8 +114,8 @@ impl MemTableAccessor {
         )
     }
 
-    /// Does what the two calls above do.
-    fn try_replay(&mut self, queue: LogQueue, id: u64, run: &Run<'_>) -> Option<u64>
+    /// Does what [`MemTableAccessor::try_replay_block`] does with any run.
+    fn try_replay(&mut self, queue: LogQueue, id: u64, run: &Run<'_>) -> Option<(u64, u64)>
         requires run { IsRunIn queue (run_shown run.now) }
         ensures changed { IsTableChanged
             (after_replay queue (table_in self.old.tables id) (run_shown run.now))
@@ -92,8 +124,26 @@ impl MemTableAccessor {
         ensures counts { OnSome result (self.new.counts
             ≡ counts_with_run queue (table_in self.old.tables id).entries (run_shown run.now)
             self.old.counts) }
-        ensures end { IfSome result (λ end. end ≡ end_of (table_in self.old.tables id).entries) }
+        ensures ends { IfSome result
+            (λ ends. ends ≡ (
+              start_of (table_in self.old.tables id).entries,
+              end_of (table_in self.old.tables id).entries,
+            )) }
     {
         self.slots[slot_of(id)].try_replay(queue, id, run, &mut self.stats)
+    }
+
+    /// Does what [`MemTableAccessor::take_step`] does with the put of a key and its value, which are copied,
+    /// where the region has entries, and returns whether it did. Where it did not, as for want of memory, all
+    /// tables are as they were.
+    #[doc(hidden)]
+    pub fn try_put(&mut self, id: u64, key: &[u8], value: &[u8], file: FileId) -> bool
+        ensures taken { (queue : LogQueue) → IsStepTaken queue id (Put key.now value.now file)
+            self.old.tables self.old.counts self.old.cleaned
+            (if result then Ok tt else Err Memory) self.new.tables self.new.counts
+            self.new.cleaned }
+        ensures entries { result ≡ true → (table_in self.old.tables id).entries ≢ [] }
+    {
+        self.slots[slot_of(id)].try_put(id, key, value, file, &mut self.stats)
     }
 }

@@ -1,13 +1,15 @@
 //! Steps and rewritings on one region's table, which is made where there is none; runs and files were tested
 //! before.
 
-ghost use Rattle.std.specs.Prelude.{◌≡◌, List, ℕ, length, OnOk};
+ghost use Rattle.std.specs.Prelude.{◌≡◌, ◌≢◌, [], List, ℕ, length, true, Ok, Err, OnOk, if◌then◌else◌};
+ghost use Rattle.raft_base.specs.declared.errors.Error.TheVariants.{Memory};
+ghost use Rattle.raft_base.specs.declared.pipe_log.LogQueue.{LogQueue};
 ghost use Rattle.raft_base.specs.declared.pipe_log.LogQueue.TheVariants.{Append, Rewrite};
 ghost use Rattle.raft_table.specs.KeyValues.{file_at};
 ghost use Rattle.raft_table.specs.Rewriting.{entries_after_rewrite, counts_after_rewrite, IsRewriteFault};
 ghost use Rattle.raft_table.specs.Start.{entries_after_append, counts_with_run, IsTableRunFault};
 ghost use Rattle.raft_table.specs.StepShown.{step_shown};
-ghost use Rattle.raft_table.specs.Steps.{Clean};
+ghost use Rattle.raft_table.specs.Steps.{Clean, Put};
 ghost use Rattle.raft_table.specs.Table.{after_append, after_rewrite, after_rewrite_key, with_rewritten_key, leaves_append, IsKeyRewriteFault, IsCounted};
 ghost use Rattle.raft_table.specs.TableEntries.{IsRunIn};
 ghost use Rattle.raft_table.specs.TakenSteps.{IsStepOfQueue, LeavesTable};
@@ -16,7 +18,7 @@ ghost use Rattle.raft_accessor.specs.TableSteps.{IsStepTaken};
 ghost use Rattle.raft_accessor.specs.Updates.{BecomesOutcome};
 
 use crate::region_tables::RegionTables;
-use raft_base::{EntryIndex, FileSeq, LogQueue, Result};
+use raft_base::{EntryIndex, FileId, FileSeq, LogQueue, Result};
 use raft_table::{GlobalStats, MemTable, Step};
 
 impl RegionTables {
@@ -89,6 +91,29 @@ impl RegionTables {
                 table.take_step(queue, step, stats)
             },
         )
+    }
+
+    /// Does what [`RegionTables::take_step`] does with the put of a key and its value, which are copied, where
+    /// the region has entries, and returns whether it did. Where it did not, tables and counts are as they
+    /// were.
+    pub(crate) fn try_put(
+        &mut self,
+        id: u64,
+        key: &[u8],
+        value: &[u8],
+        file: FileId,
+        stats: &mut GlobalStats,
+    ) -> bool
+        requires { IsCounted (table_in self.old id) stats.old }
+        ensures taken { (queue : LogQueue) (list : List ℕ) → IsStepTaken queue id
+            (Put key.now value.now file) self.old stats.old list
+            (if result then Ok tt else Err Memory) self.new stats.new list }
+        ensures entries { result ≡ true → (table_in self.old id).entries ≢ [] }
+    {
+        let Some(table) = self.tables.get_mut(&id) else {
+            return false;
+        };
+        table.try_put(key, value, file, stats)
     }
 
     /// Takes a region's table away, and lists the region in the append queue.

@@ -1,9 +1,11 @@
 //! Batches as they were read, taken into the tables and region marks.
 
-ghost use Rattle.std.specs.Prelude.{◌≡◌, ◌≤◌, ◌++◌, [], ◌∷◌, length, Ok, OnOk, IfOk, IfErr, MatchBool, Some};
+ghost use Rattle.std.specs.Prelude.{◌≡◌, ◌≤◌, ◌×◌, ℕ, List, ◌++◌, [], ◌∷◌, length, Ok, OnOk, IfOk, IfErr, MatchBool, Some};
+ghost use Rattle.raft_base.specs.declared.pipe_log.LogQueue.{LogQueue};
 ghost use Rattle.raft_records.specs.DecodedIn.{IsDecodedIn, AreDecodedIn};
 ghost use Rattle.raft_records.specs.ReadBatch.{content_shown, item_shown, items_shown, spans_of};
 ghost use Rattle.raft_history.specs.Histories.{AreInFile};
+ghost use Rattle.raft_history.specs.Joins.{StandForSteps};
 ghost use Rattle.raft_history.specs.MarkedRegions.{regions_after};
 ghost use Rattle.raft_history.specs.RegionSteps.{steps_of_items, cleaned_by_steps};
 ghost use Rattle.raft_table.specs.Queues.{other};
@@ -13,7 +15,7 @@ ghost use Rattle.raft_contexts.specs.StepCounts.{AreCountsAfterSteps};
 
 use crate::marked_tables::MarkedTables;
 use raft_base::{AllocResult, FileBlockHandle, FileId, LogQueue, Result};
-use raft_records::{ReadBatch, ReadContent, ReadItem};
+use raft_records::{ReadBatch, ReadContent, ReadItem, is_reserved};
 use std::alloc::Global;
 
 impl MarkedTables {
@@ -28,7 +30,8 @@ impl MarkedTables {
         file: FileId,
         batch: &ReadBatch<'_>,
     ) -> Result<()>
-        requires { AreInFile file batch.now }
+        requires in_file { AreInFile file batch.now }
+        requires stands { StandForSteps file.queue (regions_in self.old) }
         ensures ok { OnOk result
             (regions_after file.queue (regions_in self.old) (steps_of_items batch.now)
             ≡ Some (regions_in self.new)) }
@@ -60,6 +63,7 @@ impl MarkedTables {
         requires steps { AreStepsOfQueue queue
             (steps_of_items (items_shown place items.now spans.now)) }
         requires decoded { AreDecodedIn place.id (items_shown place items.now spans.now) }
+        requires stands { StandForSteps queue (regions_in self.old) }
         ensures { AreStepsTaken queue (steps_of_items (items_shown place items.now spans.now))
             result self.old self.new }
     {
@@ -84,17 +88,23 @@ impl MarkedTables {
         requires steps { AreStepsOfQueue queue
             (steps_of_items (item_shown place item.now spans.now ∷ [])) }
         requires decoded { IsDecodedIn place.id (content_shown place item.now.content spans.now) }
+        requires stands { StandForSteps queue (regions_in self.old) }
         ensures { AreStepsTaken queue (steps_of_items (item_shown place item.now spans.now ∷ []))
             result self.old self.new }
     {
         if self.try_spans(queue, place, item, spans)? {
             return Ok(());
         }
+        if self.try_put(place, item) {
+            return Ok(());
+        }
         let item = item.to_item(alloc, place, spans)?;
         self.take_item(queue, item)
     }
 
-    /// Does what [`MarkedTables::try_run`] does, with an item as it was read. A run has these spans.
+    /// Does what [`MarkedTables::try_run`] does, with an item as it was read. A run has these spans. One that
+    /// begins among the entries of its region, or right after them, leaves the region mark as it is, which
+    /// then isn't looked up.
     ///
     /// # Errors
     ///
@@ -106,8 +116,9 @@ impl MarkedTables {
         item: &ReadItem<'_>,
         spans: &[(u32, u32)],
     ) -> AllocResult<bool>
-        requires { AreStepsOfQueue queue
+        requires steps { AreStepsOfQueue queue
             (steps_of_items (item_shown place item.now spans.now ∷ [])) }
+        requires stands { StandForSteps queue (regions_in self.old) }
         ensures { IfOk result (λ taken. MatchBool taken
             (AreStepsTaken queue (steps_of_items (item_shown place item.now spans.now ∷ []))
             (Ok tt) self.old self.new)
@@ -121,13 +132,34 @@ impl MarkedTables {
         if spans.is_empty() {
             return Ok(false);
         }
-        let Some(end) = self
+        let Some((start, end)) = self
             .accessor
-            .try_replay_spans(queue, id, first, place, spans)
+            .try_replay_block(queue, id, first, place, spans)
         else {
             return Ok(false);
         };
+        if 0 < end && start <= first && first <= end {
+            return Ok(true);
+        }
         self.marks.add_run(id, queue, end, first)?;
         Ok(true)
+    }
+
+    /// Takes in an item that puts a key, as it was read, where its region has entries, and so a region mark,
+    /// which the put leaves as it is. Returns whether it did. Where it did not, nothing has changed.
+    fn try_put(&mut self, place: FileBlockHandle, item: &ReadItem<'_>) -> bool
+        ensures { (queue : LogQueue) (spans : List (ℕ × ℕ))
+            → StandForSteps queue (regions_in self.old) → MatchBool result
+            (AreStepsTaken queue (steps_of_items (item_shown place item.now spans ∷ []))
+            (Ok tt) self.old self.new)
+            (self.new ≡ self.old) }
+    {
+        let ReadContent::Put { key, value } = &item.content else {
+            return false;
+        };
+        if is_reserved(key) {
+            return false;
+        }
+        self.accessor.try_put(item.region, key, value, place.id)
     }
 }

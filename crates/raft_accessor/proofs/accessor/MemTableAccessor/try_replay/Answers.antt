@@ -2,6 +2,7 @@ use Rattle.std.proofs.Common.{◌≡◌, refl, sym, ap, subst, ok_or, IfSome}
 use Rattle.std.specs.Option.{OnSome}
 use Rattle.raft_base.specs.declared.errors.Error.TheVariants.{Memory}
 use Rattle.raft_base.specs.Runs.{end_of}
+use Rattle.raft_table.specs.TableEntries.{start_of}
 use Rattle.raft_table.specs.Queues.{other}
 use Rattle.raft_table.specs.RunShown.{run_shown}
 use Rattle.raft_table.specs.Start.{counts_with_run}
@@ -34,11 +35,11 @@ returns-clause-accepted c =
     (sym (ap (table_of c.args.id) (get-shown c.self.inside _ c.args.id c.slot_of.result c.index_mut.result.now c.self.invariant refl c.slot_of.ensures.value c.slot_of.ensures.bound c.index_mut.ensures.value)))
     c.try_replay.ensures.accepted)
 
-pub returns-clause-end : goal.returns-clause-end
-returns-clause-end c =
-    rw (← c.self.view_is) (subst (λ t. IfSome c.try_replay.result (λ end. end ≡ end_of t.entries))
+pub returns-clause-ends : goal.returns-clause-ends
+returns-clause-ends c =
+    rw (← c.self.view_is) (subst (λ t. IfSome c.try_replay.result (λ ends. ends ≡ (start_of t.entries, end_of t.entries)))
     (sym (ap (table_of c.args.id) (get-shown c.self.inside _ c.args.id c.slot_of.result c.index_mut.result.now c.self.invariant refl c.slot_of.ensures.value c.slot_of.ensures.bound c.index_mut.ensures.value)))
-    c.try_replay.ensures.end)
+    c.try_replay.ensures.ends)
 
 pub returns-clause-counts : goal.returns-clause-counts
 returns-clause-counts c = counted_some-in c.self.inside (after c) c.args.id c.slot_of.result c.index_mut.result.now c.try_replay.new.self c.try_replay.new.stats c.self.invariant (slotted c) c.args.self.now c.self.view_is (λ t k. counts_with_run c.args.queue t.entries (run_shown c.args.run.now) k) c.try_replay.result c.try_replay.ensures.counts

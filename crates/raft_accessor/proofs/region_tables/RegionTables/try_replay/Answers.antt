@@ -8,6 +8,7 @@ use Rattle.raft_table.specs.Start.{counts_with_run}
 use Rattle.raft_table.specs.Steps.{table_of}
 use Rattle.raft_table.specs.Table.{IsCounted, after_replay, live_of}
 use Rattle.raft_base.specs.declared.errors.Error.TheVariants.{Memory}
+use Rattle.raft_table.specs.TableEntries.{start_of}
 use Rattle.raft_base.specs.Runs.{end_of}
 use Rattle.raft_accessor.specs.Accessor.{table_in}
 use Rattle.raft_accessor.specs.RegionTablesView.{tables_shown}
@@ -51,8 +52,8 @@ returns-then-not-try_replay-clause-outcome c =
     let shown : tables_shown after ≡ finite.insert c.args.self.now c.args.id c.try_replay.new.self = shown-with c.self.inside after c.args.self.now c.args.id (Some c.try_replay.new.self) c.self.view_is ((c.get_mut.follows.holds c.try_replay.new.self).3 (ap is_some (sym c.get_mut.ensures.value ∙ ap option_copied_mut c.in-Some.is))).0 in
     not_taken c.args.self.now _ c.args.id _ (λ e. ⊥) c.args.stats.now c.try_replay.new.stats (shown ∙ insert_same c.args.self.now c.args.id c.try_replay.new.self (was ∙ ap Some (sym c.if-not-try_replay.ensures.done.0))) c.if-not-try_replay.ensures.done.1
 
-pub returns-clause-end : goal.returns-clause-end
-returns-clause-end c = c.end-end.ensures ∙ ap (λ o. end_of (table_of c.args.id o).entries) (sym (there c.self.inside c.args.self.now c.args.id _ _ c.self.view_is c.get_mut.ensures.value c.in-Some.is))
+pub returns-clause-ends : goal.returns-clause-ends
+returns-clause-ends c = c.ends-ends.ensures ∙ ap (λ o. (start_of (table_of c.args.id o).entries, end_of (table_of c.args.id o).entries)) (sym (there c.self.inside c.args.self.now c.args.id _ _ c.self.view_is c.get_mut.ensures.value c.in-Some.is))
 
 pub returns-clause-counts : goal.returns-clause-counts
 returns-clause-counts c =

@@ -1,5 +1,6 @@
 use Rattle.std.proofs.Common.{◌≡◌, Some, refl, sym, ap, ◌∙◌}
 use Rattle.raft_base.specs.Runs.{end_of}
+use Rattle.raft_table.specs.TableEntries.{start_of}
 use Rattle.raft_table.specs.RunShown.{run_shown}
 use Rattle.raft_table.specs.Steps.{table_of}
 use Rattle.raft_table.specs.Table.{after_replay}
@@ -25,6 +26,6 @@ returns-clause-outcome c =
     taken c.args.self.now _ c.args.id c.new-table.result c.try_replay.new.self (λ t. after_replay c.args.queue t (run_shown c.args.run.now)) (λ e. ⊥) c.args.stats.now c.try_replay.new.stats 0 (ap (table_of c.args.id) c.requires.first ∙ sym c.new-table.ensures.empty) c.if-not-try_replay.ensures.done.0 c.try_replay.ensures.recounted
     (shown-with reserved made c.args.self.now c.args.id (Some c.try_replay.new.self) same c.in-Ok.ensures.updates.0)
 
-pub returns-clause-end : goal.returns-clause-end
+pub returns-clause-ends : goal.returns-clause-ends
 unfolding end_of
-returns-clause-end c = sym (ap (λ o. end_of (table_of c.args.id o).entries) c.requires.first)
+returns-clause-ends c = sym (ap (λ o. (start_of (table_of c.args.id o).entries, end_of (table_of c.args.id o).entries)) c.requires.first)

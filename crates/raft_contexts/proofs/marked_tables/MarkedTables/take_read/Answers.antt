@@ -7,7 +7,7 @@ use Rattle.raft_contexts.proofs.TakenLemmas.{other_in}
 use Rattle.raft_contexts.proofs.marked_tables.MarkedTables.take_read.Goals as goal
 
 pub take_read_items-requires-clause-steps : goal.take_read_items-requires-clause-steps
-take_read_items-requires-clause-steps c = subst (λ l. AreStepsOfQueue c.args.file.queue (steps_of_items l)) (sym c.parts.ensures.shown) (items_in_queue c.args.file.queue c.args.file c.args.batch.now refl c.requires)
+take_read_items-requires-clause-steps c = subst (λ l. AreStepsOfQueue c.args.file.queue (steps_of_items l)) (sym c.parts.ensures.shown) (items_in_queue c.args.file.queue c.args.file c.args.batch.now refl c.requires.in_file)
 
 pub take_read_items-requires-clause-decoded : goal.take_read_items-requires-clause-decoded
 take_read_items-requires-clause-decoded c = subst (AreDecodedIn c.parts.result.0.id) (sym c.parts.ensures.shown) c.parts.ensures.in_file
@@ -28,4 +28,4 @@ pub returns-clause-counts : goal.returns-clause-counts
 returns-clause-counts c = (taken c).counts
 
 pub returns-clause-other : goal.returns-clause-other
-returns-clause-other c = other_in c.args.file.queue (steps_of_items c.args.batch.now) c.args.self.now c.take_read_items.new.self c.take_read_items.result (items_in_queue c.args.file.queue c.args.file c.args.batch.now refl c.requires) (taken c).ok
+returns-clause-other c = other_in c.args.file.queue (steps_of_items c.args.batch.now) c.args.self.now c.take_read_items.new.self c.take_read_items.result (items_in_queue c.args.file.queue c.args.file c.args.batch.now refl c.requires.in_file) (taken c).ok

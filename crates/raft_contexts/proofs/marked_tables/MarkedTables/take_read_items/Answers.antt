@@ -5,7 +5,7 @@ use Rattle.raft_contexts.proofs.ReadTakenLemmas.{no_read_item, has_spans, steps_
 use Rattle.raft_contexts.proofs.marked_tables.MarkedTables.take_read_items.Goals as goal
 
 pub loop-item-init : goal.loop-item-init
-loop-item-init c = (record { whole = c.requires.spans; steps = c.requires.steps; decoded = c.requires.decoded }, λ r d t. t)
+loop-item-init c = (record { whole = c.requires.spans; steps = c.requires.steps; decoded = c.requires.decoded }, c.requires.stands, λ r d t. t)
 
 pub split_at-requires : goal.split_at-requires
 split_at-requires c =
@@ -24,6 +24,9 @@ take_read_item-requires-clause-decoded c =
     let items = c.args.items.now in
     let i = c.loop-item.item-index in
     decoded_in_front c.args.queue c.args.place (get_or items i no_read_item) (drop (i + 1) items) _ c.loop-item.rest.now c.split_at.result.0.now c.split_at.result.1.now c.span_count.result (next_at items i no_read_item c.loop-item-test.true) c.span_count.ensures c.split_at.ensures.front c.split_at.ensures.back c.loop-item.invariant.0
+
+pub take_read_item-requires-clause-stands : goal.take_read_item-requires-clause-stands
+take_read_item-requires-clause-stands c = c.loop-item.invariant.1
 
 pub loop-item-preserved : goal.loop-item-preserved
 loop-item-preserved c =

@@ -4,8 +4,11 @@ use Rattle.raft_history.specs.Contexts.{joined_files}
 use Rattle.raft_history.specs.ReplayMachine.{event}
 use Rattle.raft_contexts.specs.FileRanges.{ranges_shown}
 use Rattle.raft_contexts.specs.ReadStates.{context_in}
-use Rattle.raft_contexts.proofs.ReadStateLemmas.{some_range, read_more, lone_taken, lone_counted, lone_fault}
+use Rattle.raft_contexts.proofs.ReadStateLemmas.{some_range, steps_of_read, read_more, lone_taken, lone_counted, lone_fault}
 use Rattle.raft_contexts.proofs.read_state.ReadState.take_lone_read.Goals as goal
+
+pub take_read-requires-clause-stands : goal.take_read-requires-clause-stands
+take_read-requires-clause-stands c = steps_of_read c.args.file.queue (context_in c.args.self.now) c.requires.history c.requires.next.queue
 
 pub returns-in_err-take_read-clause-fault : goal.returns-in_err-take_read-clause-fault
 returns-in_err-take_read-clause-fault c =

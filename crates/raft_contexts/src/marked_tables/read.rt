@@ -1,6 +1,6 @@
 //! Batches as they were read, taken into the tables and region marks.
 
-ghost use Rattle.std.specs.Prelude.{◌≡◌, ◌≤◌, ◌×◌, ℕ, List, ◌++◌, [], ◌∷◌, length, Ok, OnOk, IfOk, IfErr, MatchBool, Some};
+ghost use Rattle.std.specs.Prelude.{◌≡◌, ◌≤◌, ℕ, List, ◌++◌, [], ◌∷◌, length, Ok, OnOk, IfOk, IfErr, MatchBool, Some};
 ghost use Rattle.raft_base.specs.declared.pipe_log.LogQueue.{LogQueue};
 ghost use Rattle.raft_records.specs.DecodedIn.{IsDecodedIn, AreDecodedIn};
 ghost use Rattle.raft_records.specs.ReadBatch.{content_shown, item_shown, items_shown, spans_of};

@@ -13,8 +13,8 @@ ghost use Rattle.raft_contexts.specs.BatchChecks.{marker_found, HaveNoMarker};
 
 use raft_base::{EntryIndex, Error, FileId, LogQueue, Result, is_consecutive};
 use raft_records::{
-    AtomicGroupStatus, KeyValue, LogItem, LogItemBatch, LogItemContent, OpType, ReadBatch, ReadContent,
-    ReadItem, is_reserved,
+    AtomicGroupStatus, KeyValue, LogItem, LogItemBatch, LogItemContent, OpType, ReadBatch,
+    ReadContent, ReadItem, is_reserved,
 };
 use std::alloc::Global;
 

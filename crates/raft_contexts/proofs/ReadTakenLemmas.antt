@@ -11,9 +11,7 @@ use Rattle.raft_base.specs.declared.pipe_log.LogQueue.{LogQueue}
 use Rattle.raft_base.specs.declared.entry_index.EntryIndex.{EntryIndex}
 use Rattle.raft_base.specs.Runs.{end_of, entries_of_block}
 use Rattle.raft_records.specs.DecodedIn.{IsDecodedIn, AreDecodedIn}
-use Rattle.raft_records.specs.Group.{is_reserved}
-use Rattle.raft_records.specs.ReadBatch.{spans_taken, spans_of, pair_at, content_shown, item_shown, items_shown}
-use Rattle.raft_records.specs.declared.key_value.OpType.TheVariants as op_types
+use Rattle.raft_records.specs.ReadBatch.{spans_taken, spans_of, content_shown, item_shown, items_shown}
 use Rattle.raft_records.specs.declared.read_batch.ReadContent.TheVariants as contents
 use Rattle.raft_records.specs.declared.read_batch.ReadItem.{ReadItem}
 use Rattle.raft_table.specs.Counts.{Counts}
@@ -79,10 +77,6 @@ run_unmarked q id rs run start own h first is some low high = sym (ap (finite.in
 pub put_unmarked : (q : LogQueue) (id : ℕ) (rs : MarkedRegions) (key value : List ℕ) (file : FileId) → StandForSteps q rs → ((table_of id (finite.get rs.tables id)).entries ≡ [] → ⊥)
     → rs.marks ≡ finite.insert rs.marks id (joined_mark q id (mark_in rs.marks id) (finite.get rs.tables id) (mark_of (Put key value file)))
 put_unmarked q id rs key value file h some = sym (ap (finite.insert rs.marks id) (joined_fresh q (end_at_reach fresh (table_of id (finite.get rs.tables id))) (mark_in rs.marks id)) ∙ insert_same rs.marks id (mark_in rs.marks id) (marked q id rs h some))
-
--- the step of an item that puts a key which is not reserved
-pub put_step : (place : FileBlockHandle) (id : ℕ) (key value : List ℕ) → is_reserved key ≡ false → steps_of_items (record { raft_group_id = id; content = pair_at place op_types.Put key (Some value) } ∷ []) ≡ one_step id (Put key value place.id)
-put_step place id key value h = rw h refl
 
 abbrev with_all : Tables → List ℕ → Counts → Accessor
 with_all tables cleaned counts = record { tables = tables; cleaned = cleaned; counts = counts }

@@ -310,6 +310,12 @@ unsafe extern "C" {
         bytes_len: usize,
         len: *mut usize,
     ) -> u32;
+    fn raft_ffi_tables_check_append(
+        tables: *mut Handle,
+        batch: *mut Handle,
+        text: *mut u8,
+        text_len: usize,
+    ) -> Status;
     fn raft_ffi_tables_cleaned_logs(tables: *mut Handle, batch: *mut Handle) -> u32;
     fn raft_ffi_tables_drop(tables: Handle);
 
@@ -1006,6 +1012,16 @@ impl TablesHandle {
                     tables, region, lens, lens_len, count, bytes, bytes_len, len,
                 )
             }))
+        })
+    }
+
+    /// Tests whether the items of a batch would be accepted.
+    pub(crate) fn check_append(&self, batch: &mut LogBatchHandle) -> Result<()> {
+        // SAFETY: the handles hold tables and a batch.
+        checked(|text, text_len| {
+            with(&self.0, |tables| unsafe {
+                raft_ffi_tables_check_append(tables, batch.as_ptr(), text, text_len)
+            })
         })
     }
 

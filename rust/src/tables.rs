@@ -145,6 +145,16 @@ impl Tables {
         Ok(pairs)
     }
 
+    /// Tests whether [`Tables::apply_append`] would accept the items of a batch once it is written to the append queue. It
+    /// changes nothing, and the stage of the batch doesn't matter.
+    ///
+    /// # Errors
+    ///
+    /// `Corruption` where an item would be refused: the text names the region, the index and the reason. `Memory`.
+    pub fn check_append(&self, batch: &mut LogBatch) -> Result<()> {
+        self.handle.check_append(batch.handle_mut())
+    }
+
     /// Hands out the cleaned regions as an open batch with a `Clean` for each, in order. The list is then empty.
     ///
     /// # Errors

@@ -190,15 +190,23 @@ fn the_last_index_is_kept_free_and_group_markers_are_no_keys() {
 }
 
 #[test]
-fn written_batches_are_applied() {
+fn written_batches_are_checked_and_applied() {
     let mut tables = Tables::new().unwrap();
     let mut batch = batch();
+    tables.check_append(&mut batch).unwrap();
     sealed(&mut batch);
     batch.written(APPEND_3, 0).unwrap();
+    tables.check_append(&mut batch).unwrap();
     tables.apply_append(batch.into_items().unwrap()).unwrap();
     assert_eq!(tables.cleaned(), [9]);
     assert_eq!(tables.summary(7).unwrap().first_index, Some(11));
     assert_eq!(tables.value(7, b"key").unwrap(), b"value");
+    let before = tables.to_string();
+    let mut hole = LogBatch::new().unwrap();
+    hole.add_entries(7, 40, &["x"]).unwrap();
+    let e = tables.check_append(&mut hole).unwrap_err();
+    assert_eq!(e.kind, ErrorKind::Corruption, "{e}");
+    assert_eq!(tables.to_string(), before);
 }
 
 #[test]

@@ -18,3 +18,4 @@ pub mod Batches
 pub mod Strings
 pub mod Pairs
 pub mod Slots
+pub mod Acceptance

@@ -1,17 +1,56 @@
 //! Calls between tables and a batch that is written.
 
 ghost use Rattle.std.specs.Prelude.{◌≡◌, ◌≢◌, IsTrue, IfErr, OnOk, OnErr, Some, None, is_some};
+ghost use Rattle.raft_accessor.specs.AppendChecks.{AreRefusedOncePlaced, IsAppendCheckFault};
+ghost use Rattle.raft_ffi.specs.Acceptance.{AcceptsOncePlaced};
 ghost use Rattle.raft_ffi.specs.Batches.{cleans_of};
-ghost use Rattle.raft_ffi.specs.Calls.{BothHold};
+ghost use Rattle.raft_ffi.specs.Calls.{IsCodeOf, BothHold};
 ghost use Rattle.raft_ffi.specs.Changes.{without_cleaned};
 
 use crate::batch::Batch;
-use crate::status::memory_code;
+use crate::status::{Status, answered, memory_code};
 use crate::tables::Tables;
 use raft_accessor::MemTableAccessor;
 use raft_base::{Error, Result};
 use raft_records::LogBatch;
 use std::alloc::Global;
+
+/// Tests whether the tables would accept the items of a batch, once it is written to the append queue, whatever their place.
+/// It changes nothing.
+#[unsafe(no_mangle)]
+pub extern "C" fn raft_ffi_tables_check_append(
+    alloc: Global,
+    tables: &mut Tables,
+    batch: &mut Batch,
+    text: &mut [u8],
+) -> Status
+    requires held { IsTrue (is_some tables.old.value) }
+    requires batch { IsTrue (is_some batch.old.value) }
+    ensures same { tables.new.value ≡ tables.old.value }
+    ensures same_batch { batch.new.value ≡ batch.old.value }
+    ensures ok { result.code ≡ 0 → BothHold AcceptsOncePlaced tables.old.value batch.old.value }
+    ensures refused { result.code ≢ 0 → result.code ≢ 11 → BothHold
+        (λ a b. AreRefusedOncePlaced a.tables b.items) tables.old.value batch.old.value }
+    ensures fault { result.code ≢ 0 → BothHold (λ a b. IsCodeOf
+        (IsAppendCheckFault a.tables b.items) result.code) tables.old.value batch.old.value }
+{
+    let held = tables.take(alloc);
+    let logs = batch.take(alloc);
+    let answer = check_append(&*held, &*logs);
+    tables.put(held);
+    batch.put(logs);
+    answered(alloc, &answer, text)
+}
+
+/// Tests whether the tables would accept the items of a batch, once they have their places.
+fn check_append(accessor: &MemTableAccessor, batch: &LogBatch) -> Result<()>
+    ensures ok { OnOk result (AcceptsOncePlaced accessor.now batch.now) }
+    ensures refused { IfErr result (λ e. e ≢ Error.Memory
+        → AreRefusedOncePlaced accessor.now.tables batch.now.items) }
+    ensures fault { IfErr result (IsAppendCheckFault accessor.now.tables batch.now.items) }
+{
+    accessor.check_append_writes(batch.items())
+}
 
 /// Hands out the cleaned regions as an open batch with a `Clean` for each, in order. The list is then empty.
 #[unsafe(no_mangle)]

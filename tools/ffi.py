@@ -17,6 +17,8 @@ IN_RUST = {
     "Context": "Handle",
     "Tables": "Handle",
     "Items": "Handle",
+    "Batch": "Handle",
+    "Slot": "Handle",
     "Entry": "EntryNumbers",
     "Summary": "SummaryNumbers",
 }

@@ -71,6 +71,11 @@ impl Batch {
         (0..self.len()).filter_map(|i| self.get(i))
     }
 
+    /// Makes one of a handle.
+    pub(crate) fn of(handle: ItemsHandle) -> Batch {
+        Batch { handle }
+    }
+
     /// Takes the handle out.
     pub(crate) fn into_handle(self) -> ItemsHandle {
         self.handle

@@ -1,4 +1,4 @@
-//! Entries, and where their bytes stand.
+//! Entries, and where their bytes stand, and keys with their values.
 
 use crate::FileId;
 
@@ -24,4 +24,13 @@ pub struct Block {
     pub offset: u64,
     /// How many bytes it has.
     pub len: usize,
+}
+
+/// A key of a region and its value.
+#[derive(Clone, PartialEq, Eq, Hash, Debug)]
+pub struct Pair {
+    /// The key.
+    pub key: Vec<u8>,
+    /// The value.
+    pub value: Vec<u8>,
 }

@@ -27,17 +27,21 @@ mod context;
 mod entries;
 mod error;
 mod files;
+mod log_batch;
 mod recovery;
+mod slot;
 #[allow(unsafe_code)]
 mod sys;
 mod tables;
 
 pub use batches::{Batch, Batches, Content, Item, batch_len, crc32, readable_front};
 pub use context::{Context, Kept};
-pub use entries::{Block, Entry};
+pub use entries::{Block, Entry, Pair};
 pub use error::{Error, ErrorKind, Result};
 pub use files::{FileId, FilePart, LogFile, Queue, Version};
+pub use log_batch::{LogBatch, Stage};
 pub use recovery::{recover, recover_both};
+pub use slot::{SLOTS, Slot, slot_of};
 pub use tables::{Summary, Tables};
 
 /// A value of the library is in one call at a time, and is freed once: no type is `Sync` or `Clone`.
@@ -55,6 +59,41 @@ pub use tables::{Summary, Tables};
 /// ```compile_fail
 /// fn is_sync<T: Sync>() {}
 /// is_sync::<raft_recover::Context>();
+/// ```
+///
+/// ```compile_fail
+/// fn is_sync<T: Sync>() {}
+/// is_sync::<raft_recover::LogBatch>();
+/// ```
+///
+/// ```compile_fail
+/// fn is_sync<T: Sync>() {}
+/// is_sync::<raft_recover::Slot>();
+/// ```
+///
+/// ```compile_fail
+/// fn copy(batch: &raft_recover::LogBatch) -> raft_recover::LogBatch {
+///     batch.clone()
+/// }
+/// ```
+///
+/// ```compile_fail
+/// fn copy(slot: &raft_recover::Slot) -> raft_recover::Slot {
+///     slot.clone()
+/// }
+/// ```
+///
+/// A batch isn't merged with itself, and has no items once they are taken out.
+///
+/// ```compile_fail
+/// let mut batch = raft_recover::LogBatch::new().unwrap();
+/// batch.merge(&mut batch).unwrap();
+/// ```
+///
+/// ```compile_fail
+/// let batch = raft_recover::LogBatch::new().unwrap();
+/// batch.into_items().unwrap();
+/// batch.stage();
 /// ```
 ///
 /// ```compile_fail

@@ -1,4 +1,4 @@
-//! The calls of the library `raft_ffi`, and the only `unsafe` code of this crate.
+//! The calls of the library `raft_ffi`, and, with the handles in the folder `sys`, the only `unsafe` code of this crate.
 //!
 //! What the library's contracts ask of their callers is kept here, by types:
 //!
@@ -13,13 +13,19 @@
 //! compares the declarations with the exports.
 
 use crate::{
-    Block, Content, Entry, Error, FileId, FilePart, Item, Kept, LogFile, Queue, Result, Summary,
-    Version,
+    Block, Content, Entry, Error, FileId, FilePart, Item, Kept, LogFile, Pair, Queue, Result,
+    Summary, Version,
 };
 use std::cell::Cell;
 use std::mem;
 use std::ops::Range;
 use std::ptr;
+
+mod log_batch;
+mod slot;
+
+pub(crate) use log_batch::LogBatchHandle;
+pub(crate) use slot::{SlotHandle, slot_of};
 
 /// The pointer of a box in the library, null where there is none.
 #[repr(C)]
@@ -283,6 +289,34 @@ unsafe extern "C" {
         text: *mut u8,
         text_len: usize,
     ) -> Status;
+    fn raft_ffi_tables_pairs_before(
+        tables: *mut Handle,
+        region: u64,
+        gate: u64,
+        lens: *mut usize,
+        lens_len: usize,
+        count: *mut usize,
+        bytes: *mut u8,
+        bytes_len: usize,
+        len: *mut usize,
+    ) -> u32;
+    fn raft_ffi_tables_rewritten_pairs(
+        tables: *mut Handle,
+        region: u64,
+        lens: *mut usize,
+        lens_len: usize,
+        count: *mut usize,
+        bytes: *mut u8,
+        bytes_len: usize,
+        len: *mut usize,
+    ) -> u32;
+    fn raft_ffi_tables_check_append(
+        tables: *mut Handle,
+        batch: *mut Handle,
+        text: *mut u8,
+        text_len: usize,
+    ) -> Status;
+    fn raft_ffi_tables_cleaned_logs(tables: *mut Handle, batch: *mut Handle) -> u32;
     fn raft_ffi_tables_drop(tables: Handle);
 
     fn raft_ffi_items_next(
@@ -320,6 +354,205 @@ unsafe extern "C" {
         len: *mut usize,
     ) -> bool;
     fn raft_ffi_items_drop(items: Handle);
+
+    fn raft_ffi_batch_new(batch: *mut Handle) -> u32;
+    fn raft_ffi_batch_stage(batch: *mut Handle) -> u32;
+    fn raft_ffi_batch_size(batch: *mut Handle) -> usize;
+    fn raft_ffi_batch_add_entries(
+        batch: *mut Handle,
+        region: u64,
+        first: u64,
+        lens: *const usize,
+        lens_len: usize,
+        bytes: *const u8,
+        bytes_len: usize,
+        text: *mut u8,
+        text_len: usize,
+    ) -> Status;
+    fn raft_ffi_batch_clean(batch: *mut Handle, region: u64) -> u32;
+    fn raft_ffi_batch_compact(batch: *mut Handle, region: u64, index: u64) -> u32;
+    fn raft_ffi_batch_truncate(batch: *mut Handle, region: u64, index: u64) -> u32;
+    fn raft_ffi_batch_put(
+        batch: *mut Handle,
+        region: u64,
+        key: *const u8,
+        key_len: usize,
+        value: *const u8,
+        value_len: usize,
+        text: *mut u8,
+        text_len: usize,
+    ) -> Status;
+    fn raft_ffi_batch_delete(
+        batch: *mut Handle,
+        region: u64,
+        key: *const u8,
+        key_len: usize,
+    ) -> u32;
+    fn raft_ffi_batch_merge(
+        batch: *mut Handle,
+        more: *mut Handle,
+        text: *mut u8,
+        text_len: usize,
+    ) -> Status;
+    fn raft_ffi_batch_finish(
+        batch: *mut Handle,
+        len: *mut usize,
+        text: *mut u8,
+        text_len: usize,
+    ) -> Status;
+    fn raft_ffi_batch_sign(batch: *mut Handle, file: File);
+    fn raft_ffi_batch_bytes(batch: *mut Handle, bytes: *mut u8, bytes_len: usize) -> usize;
+    fn raft_ffi_batch_written(
+        batch: *mut Handle,
+        is_rewrite: bool,
+        seq: u64,
+        offset: u64,
+        len: usize,
+    );
+    fn raft_ffi_batch_into_items(batch: Handle, items: *mut Handle) -> u32;
+    fn raft_ffi_batch_drop(batch: Handle);
+
+    fn raft_ffi_slot_of(region: u64) -> usize;
+    fn raft_ffi_slot_new(slot: *mut Handle, number: usize) -> u32;
+    fn raft_ffi_slot_number(slot: *mut Handle) -> usize;
+    fn raft_ffi_slot_live(slot: *mut Handle, is_rewrite: bool) -> usize;
+    fn raft_ffi_slot_summary(slot: *mut Handle, region: u64, summary: *mut SummaryNumbers) -> bool;
+    fn raft_ffi_slot_cleaned(slot: *mut Handle, regions: *mut u64, regions_len: usize) -> usize;
+    fn raft_ffi_slot_entry(
+        slot: *mut Handle,
+        region: u64,
+        index: u64,
+        entry: *mut EntryNumbers,
+    ) -> bool;
+    fn raft_ffi_slot_entries(
+        slot: *mut Handle,
+        region: u64,
+        begin: u64,
+        end: u64,
+        max_size: Maybe,
+        entries: *mut EntryNumbers,
+        entries_len: usize,
+        count: *mut usize,
+        text: *mut u8,
+        text_len: usize,
+    ) -> Status;
+    fn raft_ffi_slot_entries_before(
+        slot: *mut Handle,
+        region: u64,
+        gate: u64,
+        entries: *mut EntryNumbers,
+        entries_len: usize,
+        count: *mut usize,
+    ) -> u32;
+    fn raft_ffi_slot_rewritten_entries(
+        slot: *mut Handle,
+        region: u64,
+        entries: *mut EntryNumbers,
+        entries_len: usize,
+        count: *mut usize,
+    ) -> u32;
+    fn raft_ffi_slot_value(
+        slot: *mut Handle,
+        region: u64,
+        key: *const u8,
+        key_len: usize,
+        value: *mut u8,
+        value_len: usize,
+        len: *mut usize,
+    ) -> bool;
+    fn raft_ffi_slot_pairs_before(
+        slot: *mut Handle,
+        region: u64,
+        gate: u64,
+        lens: *mut usize,
+        lens_len: usize,
+        count: *mut usize,
+        bytes: *mut u8,
+        bytes_len: usize,
+        len: *mut usize,
+    ) -> u32;
+    fn raft_ffi_slot_rewritten_pairs(
+        slot: *mut Handle,
+        region: u64,
+        lens: *mut usize,
+        lens_len: usize,
+        count: *mut usize,
+        bytes: *mut u8,
+        bytes_len: usize,
+        len: *mut usize,
+    ) -> u32;
+    fn raft_ffi_slot_append(
+        slot: *mut Handle,
+        region: u64,
+        entries: *const EntryNumbers,
+        entries_len: usize,
+        text: *mut u8,
+        text_len: usize,
+    ) -> Status;
+    fn raft_ffi_slot_compact(
+        slot: *mut Handle,
+        region: u64,
+        index: u64,
+        dropped: *mut u64,
+        text: *mut u8,
+        text_len: usize,
+    ) -> Status;
+    fn raft_ffi_slot_truncate(
+        slot: *mut Handle,
+        region: u64,
+        index: u64,
+        dropped: *mut u64,
+        text: *mut u8,
+        text_len: usize,
+    ) -> Status;
+    fn raft_ffi_slot_put(
+        slot: *mut Handle,
+        region: u64,
+        key: *const u8,
+        key_len: usize,
+        value: *const u8,
+        value_len: usize,
+        is_rewrite: bool,
+        seq: u64,
+        text: *mut u8,
+        text_len: usize,
+    ) -> Status;
+    fn raft_ffi_slot_delete(
+        slot: *mut Handle,
+        region: u64,
+        key: *const u8,
+        key_len: usize,
+        text: *mut u8,
+        text_len: usize,
+    ) -> Status;
+    fn raft_ffi_slot_rewrite(
+        slot: *mut Handle,
+        region: u64,
+        entries: *const EntryNumbers,
+        entries_len: usize,
+        gate: Maybe,
+        text: *mut u8,
+        text_len: usize,
+    ) -> Status;
+    fn raft_ffi_slot_rewrite_key(
+        slot: *mut Handle,
+        region: u64,
+        key: *const u8,
+        key_len: usize,
+        gate: Maybe,
+        seq: u64,
+        text: *mut u8,
+        text_len: usize,
+    ) -> Status;
+    fn raft_ffi_slot_atomic_group(slot: *mut Handle, region: u64, start: u64, end: u64) -> u32;
+    fn raft_ffi_slot_remove(
+        slot: *mut Handle,
+        region: u64,
+        is_listed: bool,
+        found: *mut bool,
+    ) -> u32;
+    fn raft_ffi_slot_cleaned_logs(slot: *mut Handle, batch: *mut Handle) -> u32;
+    fn raft_ffi_slot_drop(slot: Handle);
 
     fn raft_ffi_batch_len(bytes: *const u8, bytes_len: usize) -> usize;
     fn raft_ffi_readable_front(
@@ -390,6 +623,45 @@ fn found<T: Copy + Default>(
         Ok(())
     });
     list.ok().filter(|_| is_found)
+}
+
+/// Lists keys with their values, which a call finds as the length of each and the bytes of all.
+fn pairs(
+    mut call: impl FnMut(*mut usize, usize, &mut usize, *mut u8, usize, &mut usize) -> Result<()>,
+) -> Result<Vec<Pair>> {
+    let (mut lens, mut bytes) = (Vec::new(), Vec::new());
+    loop {
+        let (mut count, mut len) = (0, 0);
+        call(
+            lens.as_mut_ptr(),
+            lens.len(),
+            &mut count,
+            bytes.as_mut_ptr(),
+            bytes.len(),
+            &mut len,
+        )?;
+        if count <= lens.len() && len <= bytes.len() {
+            lens.truncate(count);
+            return Ok(split(&lens, &bytes));
+        }
+        lens.resize(count, 0);
+        bytes.resize(len, 0);
+    }
+}
+
+/// Splits bytes into keys and values of these lengths, in turn.
+fn split(lens: &[usize], mut bytes: &[u8]) -> Vec<Pair> {
+    let mut next = |len| {
+        let (front, rest) = bytes.split_at(len);
+        bytes = rest;
+        front.to_vec()
+    };
+    lens.chunks_exact(2)
+        .map(|lens| Pair {
+            key: next(lens[0]),
+            value: next(lens[1]),
+        })
+        .collect()
 }
 
 impl Handle {
@@ -717,6 +989,48 @@ impl TablesHandle {
                 raft_ffi_tables_value(tables, region, key.as_ptr(), key.len(), room, len, count)
             })
         })
+    }
+
+    /// Lists the appended keys and values up to a gate.
+    pub(crate) fn pairs_before(&self, region: u64, gate: u64) -> Result<Vec<Pair>> {
+        pairs(|lens, lens_len, count, bytes, bytes_len, len| {
+            // SAFETY: the handle holds tables.
+            remembered(with(&self.0, |tables| unsafe {
+                raft_ffi_tables_pairs_before(
+                    tables, region, gate, lens, lens_len, count, bytes, bytes_len, len,
+                )
+            }))
+        })
+    }
+
+    /// Lists the rewritten keys and values.
+    pub(crate) fn rewritten_pairs(&self, region: u64) -> Result<Vec<Pair>> {
+        pairs(|lens, lens_len, count, bytes, bytes_len, len| {
+            // SAFETY: the handle holds tables.
+            remembered(with(&self.0, |tables| unsafe {
+                raft_ffi_tables_rewritten_pairs(
+                    tables, region, lens, lens_len, count, bytes, bytes_len, len,
+                )
+            }))
+        })
+    }
+
+    /// Tests whether the items of a batch would be accepted.
+    pub(crate) fn check_append(&self, batch: &mut LogBatchHandle) -> Result<()> {
+        // SAFETY: the handles hold tables and a batch.
+        checked(|text, text_len| {
+            with(&self.0, |tables| unsafe {
+                raft_ffi_tables_check_append(tables, batch.as_ptr(), text, text_len)
+            })
+        })
+    }
+
+    /// Hands out the cleaned regions as a batch.
+    pub(crate) fn cleaned_logs(&mut self) -> Result<LogBatchHandle> {
+        let mut batch = Handle::EMPTY;
+        // SAFETY: the one handle holds tables, and the other one is empty.
+        remembered(unsafe { raft_ffi_tables_cleaned_logs(self.0.as_ptr(), &mut batch) })?;
+        Ok(LogBatchHandle::of(batch))
     }
 
     /// Appends entries.

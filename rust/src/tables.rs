@@ -1,7 +1,7 @@
 //! The tables of all regions.
 
 use crate::sys::TablesHandle;
-use crate::{Batch, Entry, Error, FileId, Queue, Result};
+use crate::{Batch, Entry, Error, FileId, LogBatch, Pair, Queue, Result};
 use std::fmt;
 use std::ops::Range;
 
@@ -112,6 +112,56 @@ impl Tables {
     /// Returns the value of a region's key, if there is one.
     pub fn value(&self, region: u64, key: &[u8]) -> Option<Vec<u8>> {
         self.handle.value(region, key)
+    }
+
+    /// Returns the appended keys of a region with their values, up to a file: those in append files at or below `gate`, in
+    /// the order of the keys.
+    ///
+    /// # Errors
+    ///
+    /// `Memory`.
+    pub fn pairs_before(&self, region: u64, gate: u64) -> Result<Vec<Pair>> {
+        self.handle.pairs_before(region, gate)
+    }
+
+    /// Returns the rewritten keys of a region with their values, in the order of the keys.
+    ///
+    /// # Errors
+    ///
+    /// `Memory`.
+    pub fn rewritten_pairs(&self, region: u64) -> Result<Vec<Pair>> {
+        self.handle.rewritten_pairs(region)
+    }
+
+    /// Returns all keys of a region with their values, in the order of the keys.
+    ///
+    /// # Errors
+    ///
+    /// `Memory`.
+    pub fn pairs(&self, region: u64) -> Result<Vec<Pair>> {
+        let mut pairs = self.pairs_before(region, u64::MAX)?;
+        pairs.extend(self.rewritten_pairs(region)?);
+        pairs.sort_unstable_by(|a, b| a.key.cmp(&b.key));
+        Ok(pairs)
+    }
+
+    /// Tests whether [`Tables::apply_append`] would accept the items of a batch once it is written to the append queue. It
+    /// changes nothing, and the stage of the batch doesn't matter.
+    ///
+    /// # Errors
+    ///
+    /// `Corruption` where an item would be refused: the text names the region, the index and the reason. `Memory`.
+    pub fn check_append(&self, batch: &mut LogBatch) -> Result<()> {
+        self.handle.check_append(batch.handle_mut())
+    }
+
+    /// Hands out the cleaned regions as an open batch with a `Clean` for each, in order. The list is then empty.
+    ///
+    /// # Errors
+    ///
+    /// `Memory`. The list is then as it was.
+    pub fn take_cleaned_logs(&mut self) -> Result<LogBatch> {
+        Ok(LogBatch::of(self.handle.cleaned_logs()?))
     }
 
     /// Puts new entries of the append queue after those of a region below their start. All others go; where

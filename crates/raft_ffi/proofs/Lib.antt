@@ -1,8 +1,12 @@
 pub mod ContextBox
 pub mod TablesBox
 pub mod ItemsBox
+pub mod BatchBox
+pub mod SlotBox
 pub mod RoomLemmas
 pub mod DrainLemmas
 pub mod CodeLemmas
 pub mod RegionLemmas
 pub mod ExactLemmas
+pub mod StringLemmas
+pub mod SlotLemmas

@@ -46,3 +46,7 @@ pub record IsStoppedAt (w : Writing) (items : List Item) (old new : Accessor) (e
 -- the first of the items are written up to one that is refused, and no others; the code is that of its reason
 abbrev pub AreSomeWritten : Writing → List Item → ℕ → Accessor → Accessor → Type 0
 AreSomeWritten w items code old new = IsCodeOf (IsStoppedAt w items old new) code
+
+-- all of it, but for the list of cleaned regions, which is empty
+abbrev pub without_cleaned : Accessor → Accessor
+without_cleaned a = record a { cleaned = [] }

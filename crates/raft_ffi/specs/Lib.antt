@@ -1,6 +1,9 @@
 pub mod ContextHandle
 pub mod TablesHandle
+pub mod ItemListView
 pub mod ItemsHandle
+pub mod BatchHandle
+pub mod SlotHandle
 pub mod Calls
 pub mod Summaries
 pub mod EntryData
@@ -11,3 +14,8 @@ pub mod ItemLists
 pub mod KeptNumbers
 pub mod Lengths
 pub mod Contexts
+pub mod Batches
+pub mod Strings
+pub mod Pairs
+pub mod Slots
+pub mod Acceptance

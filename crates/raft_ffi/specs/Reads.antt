@@ -7,6 +7,7 @@ use Rattle.raft_base.specs.declared.entry_index.EntryIndex.{EntryIndex}
 use Rattle.raft_history.specs.RegionSteps.{Tables}
 use Rattle.raft_table.specs.Fetches.{Fetches, range_answer}
 use Rattle.raft_table.specs.KeyValues.{value_at}
+use Rattle.raft_table.specs.Table.{Table}
 use Rattle.raft_ffi.specs.declared.entries.Entry.{Entry}
 use Rattle.raft_ffi.specs.Rooms.{IsCopied, AreEntriesIn}
 
@@ -27,6 +28,10 @@ pub record IsFetched (limit : Option ℕ) (begin end : ℕ) (entries : List Entr
   pub fetched : Fetches limit begin end entries [] found (range_answer begin end entries)
   pub copied : AreEntriesIn found room count
 
+-- the value of a key, if there is a table and it has the key
+abbrev pub value_of : Option Table → List ℕ → Option (List ℕ)
+value_of table key = option_and_then (λ t. value_at t.keys key) table
+
 -- the value of a region's key, if the region has a table and that the key
 abbrev pub value_in : Tables → ℕ → List ℕ → Option (List ℕ)
-value_in tables region key = option_and_then (λ t. value_at t.keys key) (finite.get tables region)
+value_in tables region key = value_of (finite.get tables region) key

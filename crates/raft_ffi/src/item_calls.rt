@@ -10,11 +10,12 @@ ghost use Rattle.raft_ffi.specs.ItemLists.{IsHeadOf, kind_of, number_of, entries
 ghost use Rattle.raft_ffi.specs.Rooms.{AreEntriesIn, IsCopied};
 
 use crate::entries::{Entry, copy_entries};
+use crate::item_list::ItemList;
 use crate::items::Items;
 use crate::rooms::copy_front;
 use crate::status::{File, Status, answered};
 use raft_base::{EntryIndex, LogFileContext, Result};
-use raft_records::{Command, LogItem, LogItemBatch, LogItemContent, OpType, next_in};
+use raft_records::{Command, LogItem, LogItemContent, OpType, next_in};
 use std::alloc::Global;
 
 /// What an item says, without its lists.
@@ -96,7 +97,7 @@ fn put_next(
         (IsMemoryOr (IsNextFault (signature_of file.now) (drop at bytes.now))) }
 {
     if let Some((batch, behind)) = next_in(alloc, file, offset, bytes, at)? {
-        items.put(Box::new(alloc, batch)?);
+        items.put(Box::new(alloc, ItemList::of(batch.into_items()))?);
         *next = behind;
     }
     Ok(())
@@ -203,14 +204,14 @@ pub extern "C" fn raft_ffi_items_drop(items: Items)
 }
 
 /// Returns an item, if there is one.
-fn item_at(items: &LogItemBatch, i: usize) -> Option<&LogItem>
+fn item_at(items: &ItemList, i: usize) -> Option<&LogItem>
     ensures { option_map (λ item. item_of item.now) result ≡ slice_get items.now i }
 {
     items.as_slice().get(i)
 }
 
 /// Finds what an item says, if there is one.
-fn find_head(items: &LogItemBatch, i: usize, head: &mut ItemHead) -> bool
+fn find_head(items: &ItemList, i: usize, head: &mut ItemHead) -> bool
     ensures { IsFound (λ item. IsHeadOf item head.new) (slice_get items.now i) result }
 {
     match item_at(items, i) {
@@ -252,7 +253,7 @@ fn said_by(content: &LogItemContent) -> (u32, u64)
 }
 
 /// Lists the entries of an item, if it has some, as far as there is room.
-fn find_entries(items: &LogItemBatch, i: usize, room: &mut [Entry], count: &mut usize) -> bool
+fn find_entries(items: &ItemList, i: usize, room: &mut [Entry], count: &mut usize) -> bool
     ensures { IsFound (λ es. AreEntriesIn es room.new count.new) (entries_at items.now i) result }
 {
     match entries_of(items, i) {
@@ -265,7 +266,7 @@ fn find_entries(items: &LogItemBatch, i: usize, room: &mut [Entry], count: &mut 
 }
 
 /// Finds the key of an item, if it changes one.
-fn find_key(items: &LogItemBatch, i: usize, room: &mut [u8], len: &mut usize) -> bool
+fn find_key(items: &ItemList, i: usize, room: &mut [u8], len: &mut usize) -> bool
     ensures { IsFound (λ bytes. IsCopied bytes room.old room.new len.new) (key_at items.now i)
         result }
 {
@@ -279,7 +280,7 @@ fn find_key(items: &LogItemBatch, i: usize, room: &mut [u8], len: &mut usize) ->
 }
 
 /// Finds the value of an item, if it puts one.
-fn find_value(items: &LogItemBatch, i: usize, room: &mut [u8], len: &mut usize) -> bool
+fn find_value(items: &ItemList, i: usize, room: &mut [u8], len: &mut usize) -> bool
     ensures { IsFound (λ bytes. IsCopied bytes room.old room.new len.new) (value_at items.now i)
         result }
 {
@@ -293,7 +294,7 @@ fn find_value(items: &LogItemBatch, i: usize, room: &mut [u8], len: &mut usize) 
 }
 
 /// Returns the entries of an item, if it has some.
-fn entries_of(items: &LogItemBatch, i: usize) -> Option<&[EntryIndex]>
+fn entries_of(items: &ItemList, i: usize) -> Option<&[EntryIndex]>
     ensures { option_map (λ es. es.now) result ≡ entries_at items.now i }
 {
     match &item_at(items, i)?.content {
@@ -303,7 +304,7 @@ fn entries_of(items: &LogItemBatch, i: usize) -> Option<&[EntryIndex]>
 }
 
 /// Returns the key of an item, if it changes one.
-fn key_of(items: &LogItemBatch, i: usize) -> Option<&[u8]>
+fn key_of(items: &ItemList, i: usize) -> Option<&[u8]>
     ensures { option_map (λ key. key.now) result ≡ key_at items.now i }
 {
     match &item_at(items, i)?.content {
@@ -313,7 +314,7 @@ fn key_of(items: &LogItemBatch, i: usize) -> Option<&[u8]>
 }
 
 /// Returns the value of an item, if it puts one.
-fn value_of(items: &LogItemBatch, i: usize) -> Option<&[u8]>
+fn value_of(items: &ItemList, i: usize) -> Option<&[u8]>
     ensures { option_map (λ value. value.now) result ≡ value_at items.now i }
 {
     match &item_at(items, i)?.content {

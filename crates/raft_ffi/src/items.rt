@@ -5,8 +5,8 @@ ghost use Rattle.std.specs.Prelude.{List};
 ghost use Rattle.raft_records.specs.Item.{Item};
 ghost use Rattle.raft_ffi.specs.ItemsHandle.{items_owned, held_items_code};
 
+use crate::item_list::ItemList;
 use crate::parts::Parts;
-use raft_records::LogItemBatch;
 use std::alloc::Global;
 use std::marker::Model;
 use std::mem;
@@ -36,7 +36,7 @@ impl Items {
     }
 
     /// Makes a handle of the parts of a box.
-    fn of_parts(parts: Parts<LogItemBatch, Global>) -> Items
+    fn of_parts(parts: Parts<ItemList, Global>) -> Items
         ensures { result.value ≡ Some parts.value }
     {
         let Parts { ptr, alloc } = parts;
@@ -47,26 +47,26 @@ impl Items {
     }
 
     /// Returns the parts of the box.
-    fn into_parts(self) -> Parts<LogItemBatch, Global>
+    fn into_parts(self) -> Parts<ItemList, Global>
         requires { IsTrue (is_some self.value) }
         ensures { self.value ≡ Some result.value }
     {
         let Items { at, alloc } = self;
         Parts {
-            ptr: at as *mut LogItemBatch,
+            ptr: at as *mut ItemList,
             alloc,
         }
     }
 
     /// Makes a handle that holds items.
-    pub(crate) fn of_box(held: Box<LogItemBatch>) -> Items
+    pub(crate) fn of_box(held: Box<ItemList>) -> Items
         ensures { result.value ≡ Some held.value }
     {
         Items::of_parts(Parts::of(held))
     }
 
     /// Returns the items.
-    pub(crate) fn into_box(self) -> Box<LogItemBatch>
+    pub(crate) fn into_box(self) -> Box<ItemList>
         requires { IsTrue (is_some self.value) }
         ensures { self.value ≡ Some result.value }
     {
@@ -74,7 +74,7 @@ impl Items {
     }
 
     /// Takes the items out.
-    pub(crate) fn take(&mut self, alloc: Global) -> Box<LogItemBatch>
+    pub(crate) fn take(&mut self, alloc: Global) -> Box<ItemList>
         requires { IsTrue (is_some self.old.value) }
         ensures value { self.old.value ≡ Some result.value }
         ensures emptied { self.new.value ≡ None }
@@ -83,7 +83,7 @@ impl Items {
     }
 
     /// Puts items in.
-    pub(crate) fn put(&mut self, held: Box<LogItemBatch>)
+    pub(crate) fn put(&mut self, held: Box<ItemList>)
         ensures { self.new.value ≡ Some held.value }
     {
         *self = Items::of_box(held);

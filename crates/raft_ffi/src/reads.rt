@@ -4,12 +4,12 @@ ghost use Rattle.std.specs.Prelude.{◌≡◌, OnOk, IfOk, IfErr, map, option_ma
 ghost use Rattle.std.specs.FinMap as finite;
 ghost use Rattle.std.specs.List.Sorted.{IsPermutation};
 ghost use Rattle.raft_base.specs.declared.pipe_log.LogQueue.TheVariants.{Rewrite};
-ghost use Rattle.raft_accessor.specs.Accessor.{table_in};
 ghost use Rattle.raft_table.specs.Fetches.{Fetches, IsFetchFault, range_answer, appended_before};
+ghost use Rattle.raft_table.specs.Steps.{table_of};
 ghost use Rattle.raft_table.specs.TableEntries.{entry_at, placed_in};
 ghost use Rattle.raft_ffi.specs.Calls.{IsFound};
 ghost use Rattle.raft_ffi.specs.EntryData.{entry_found};
-ghost use Rattle.raft_ffi.specs.Reads.{AreRegionsIn, IsFetched, value_in};
+ghost use Rattle.raft_ffi.specs.Reads.{AreRegionsIn, IsFetched, value_of};
 ghost use Rattle.raft_ffi.specs.Rooms.{AreEntriesIn, IsCopied};
 ghost use Rattle.raft_ffi.specs.Summaries.{IsSummaryOf};
 
@@ -35,12 +35,12 @@ fn summary_of(table: &MemTable) -> Summary
     }
 }
 
-/// Finds what the table of a region has, if there is one.
-pub(crate) fn find_summary(accessor: &MemTableAccessor, region: u64, summary: &mut Summary) -> bool
-    ensures { IsFound (λ t. IsSummaryOf t summary.new) (finite.get accessor.now.tables region)
+/// Finds what a table has, if there is one.
+pub(crate) fn summary_in(table: Option<&MemTable>, summary: &mut Summary) -> bool
+    ensures { IsFound (λ t. IsSummaryOf t summary.new) (option_map (λ t. t.now) table.entry)
         result }
 {
-    match accessor.get(region) {
+    match table {
         Some(table) => {
             *summary = summary_of(table);
             true
@@ -49,17 +49,12 @@ pub(crate) fn find_summary(accessor: &MemTableAccessor, region: u64, summary: &m
     }
 }
 
-/// Finds an entry of a region, if there is one.
-pub(crate) fn find_entry(
-    accessor: &MemTableAccessor,
-    region: u64,
-    index: u64,
-    entry: &mut Entry,
-) -> bool
+/// Finds an entry of a region, if its table has one.
+pub(crate) fn entry_in(table: Option<&MemTable>, region: u64, index: u64, entry: &mut Entry) -> bool
     ensures { entry_found result entry.new
-        ≡ entry_at index (table_in accessor.now.tables region).entries }
+        ≡ entry_at index (table_of region (option_map (λ t. t.now) table.entry)).entries }
 {
-    match entry_in(accessor, region, index) {
+    match entry_at(table, region, index) {
         Some(found) => {
             *entry = plain(&found);
             true
@@ -68,28 +63,27 @@ pub(crate) fn find_entry(
     }
 }
 
-/// Returns an entry of a region, if there is one.
-fn entry_in(accessor: &MemTableAccessor, region: u64, index: u64) -> Option<EntryIndex>
-    ensures { result ≡ entry_at index (table_in accessor.now.tables region).entries }
+/// Returns an entry of a region, if its table has one.
+fn entry_at(table: Option<&MemTable>, region: u64, index: u64) -> Option<EntryIndex>
+    ensures { result ≡ entry_at index (table_of region (option_map (λ t. t.now) table.entry)).entries }
 {
-    match accessor.get(region) {
+    match table {
         Some(table) => table.get_entry(index),
         None => None,
     }
 }
 
-/// Finds the value of a region's key, if there is one.
-pub(crate) fn find_value(
-    accessor: &MemTableAccessor,
-    region: u64,
+/// Finds the value of a key, if the table has one.
+pub(crate) fn value_in(
+    table: Option<&MemTable>,
     key: &[u8],
     value: &mut [u8],
     len: &mut usize,
 ) -> bool
     ensures { IsFound (λ bytes. IsCopied bytes value.old value.new len.new)
-        (value_in accessor.now.tables region key.now) result }
+        (value_of (option_map (λ t. t.now) table.entry) key.now) result }
 {
-    match value_in(accessor, region, key) {
+    match value_of(table, key) {
         Some(found) => {
             *len = copy_front(found, value);
             true
@@ -98,11 +92,12 @@ pub(crate) fn find_value(
     }
 }
 
-/// Returns the value of a region's key, if there is one.
-fn value_in<'a>(accessor: &'a MemTableAccessor, region: u64, key: &[u8]) -> Option<&'a [u8]>
-    ensures { option_map (λ v. v.now) result ≡ value_in accessor.now.tables region key.now }
+/// Returns the value of a key, if the table has one.
+fn value_of<'a>(table: Option<&'a MemTable>, key: &[u8]) -> Option<&'a [u8]>
+    ensures { option_map (λ v. v.now) result ≡ value_of (option_map (λ t. t.now) table.entry)
+        key.now }
 {
-    match accessor.get(region) {
+    match table {
         Some(table) => table.get(key),
         None => None,
     }
@@ -148,9 +143,9 @@ fn ids_of(alloc: Global, tables: &[&MemTable]) -> Result<Vec<u64>>
 }
 
 /// Finds the entries of a region from an index on and below another, within a maximal size.
-pub(crate) fn find_entries(
+pub(crate) fn entries_in(
     alloc: Global,
-    accessor: &MemTableAccessor,
+    table: Option<&MemTable>,
     region: u64,
     range: (u64, u64),
     max_size: Option<usize>,
@@ -158,32 +153,33 @@ pub(crate) fn find_entries(
     count: &mut usize,
 ) -> Result<()>
     ensures ok { OnOk result (IsFetched max_size range.0 range.1
-        (table_in accessor.now.tables region).entries entries.new count.new) }
-    ensures fault { IfErr result
-        (IsFetchFault (range_answer range.0 range.1 (table_in accessor.now.tables region).entries)) }
+        (table_of region (option_map (λ t. t.now) table.entry)).entries entries.new count.new) }
+    ensures fault { IfErr result (IsFetchFault (range_answer range.0 range.1
+        (table_of region (option_map (λ t. t.now) table.entry)).entries)) }
 {
     let mut found = Vec::new(alloc);
-    fetch(accessor, region, range, max_size, &mut found)?;
+    fetch(table, region, range, max_size, &mut found)?;
     *count = copy_entries(&found, entries);
     Ok(())
 }
 
 /// Appends the entries of a region from an index on and below another, within a maximal size, to `found`.
 fn fetch(
-    accessor: &MemTableAccessor,
+    table: Option<&MemTable>,
     region: u64,
     range: (u64, u64),
     max_size: Option<usize>,
     found: &mut Vec<EntryIndex>,
 ) -> Result<()>
     ensures ok { OnOk result (Fetches max_size range.0 range.1
-        (table_in accessor.now.tables region).entries found.old.items found.new.items
-        (range_answer range.0 range.1 (table_in accessor.now.tables region).entries)) }
-    ensures fault { IfErr result
-        (IsFetchFault (range_answer range.0 range.1 (table_in accessor.now.tables region).entries)) }
+        (table_of region (option_map (λ t. t.now) table.entry)).entries found.old.items
+        found.new.items (range_answer range.0 range.1
+        (table_of region (option_map (λ t. t.now) table.entry)).entries)) }
+    ensures fault { IfErr result (IsFetchFault (range_answer range.0 range.1
+        (table_of region (option_map (λ t. t.now) table.entry)).entries)) }
 {
     let (begin, end) = range;
-    match accessor.get(region) {
+    match table {
         Some(table) => table.fetch_entries_to(begin, end, max_size, found),
         None => MemTable::new(*found.allocator(), region).fetch_entries_to(
             begin, end, max_size, found,
@@ -192,20 +188,19 @@ fn fetch(
 }
 
 /// Finds the appended entries of a region from the first on while their file is at or below a gate.
-pub(crate) fn find_entries_before(
+pub(crate) fn entries_before_in(
     alloc: Global,
-    accessor: &MemTableAccessor,
+    table: Option<&MemTable>,
     region: u64,
     gate: u64,
     entries: &mut [Entry],
     count: &mut usize,
 ) -> Result<()>
-    ensures ok { OnOk result (AreEntriesIn
-        (appended_before gate (table_in accessor.now.tables region).entries) entries.new
-        count.new) }
+    ensures ok { OnOk result (AreEntriesIn (appended_before gate
+        (table_of region (option_map (λ t. t.now) table.entry)).entries) entries.new count.new) }
     ensures memory { IfErr result (λ e. e ≡ Error.Memory) }
 {
-    let found = entries_before(alloc, accessor, region, gate)?;
+    let found = entries_before(alloc, table, region, gate)?;
     *count = copy_entries(&found, entries);
     Ok(())
 }
@@ -214,16 +209,16 @@ pub(crate) fn find_entries_before(
 #[tactic(auto, unfolding(raft_table::specs::TableEntries::placed_in))]
 fn entries_before(
     alloc: Global,
-    accessor: &MemTableAccessor,
+    table: Option<&MemTable>,
     region: u64,
     gate: u64,
 ) -> Result<Vec<EntryIndex>>
-    ensures ok { IfOk result (λ v. v.items
-        ≡ appended_before gate (table_in accessor.now.tables region).entries) }
+    ensures ok { IfOk result (λ v. v.items ≡ appended_before gate
+        (table_of region (option_map (λ t. t.now) table.entry)).entries) }
     ensures memory { IfErr result (λ e. e ≡ Error.Memory) }
 {
     let mut found = Vec::new(alloc);
-    match accessor.get(region) {
+    match table {
         Some(table) => {
             table.fetch_entry_indexes_before(gate, &mut found)?;
             Ok(found)
@@ -233,18 +228,18 @@ fn entries_before(
 }
 
 /// Finds the rewritten entries of a region.
-pub(crate) fn find_rewritten_entries(
+pub(crate) fn rewritten_entries_in(
     alloc: Global,
-    accessor: &MemTableAccessor,
+    table: Option<&MemTable>,
     region: u64,
     entries: &mut [Entry],
     count: &mut usize,
 ) -> Result<()>
-    ensures ok { OnOk result (AreEntriesIn
-        (placed_in Rewrite (table_in accessor.now.tables region).entries) entries.new count.new) }
+    ensures ok { OnOk result (AreEntriesIn (placed_in Rewrite
+        (table_of region (option_map (λ t. t.now) table.entry)).entries) entries.new count.new) }
     ensures memory { IfErr result (λ e. e ≡ Error.Memory) }
 {
-    let found = rewritten_entries(alloc, accessor, region)?;
+    let found = rewritten_entries(alloc, table, region)?;
     *count = copy_entries(&found, entries);
     Ok(())
 }
@@ -253,15 +248,15 @@ pub(crate) fn find_rewritten_entries(
 #[tactic(auto, unfolding(raft_table::specs::TableEntries::placed_in))]
 fn rewritten_entries(
     alloc: Global,
-    accessor: &MemTableAccessor,
+    table: Option<&MemTable>,
     region: u64,
 ) -> Result<Vec<EntryIndex>>
-    ensures ok { IfOk result (λ v. v.items
-        ≡ placed_in Rewrite (table_in accessor.now.tables region).entries) }
+    ensures ok { IfOk result (λ v. v.items ≡ placed_in Rewrite
+        (table_of region (option_map (λ t. t.now) table.entry)).entries) }
     ensures memory { IfErr result (λ e. e ≡ Error.Memory) }
 {
     let mut found = Vec::new(alloc);
-    match accessor.get(region) {
+    match table {
         Some(table) => {
             table.fetch_rewritten_entry_indexes(&mut found)?;
             Ok(found)

@@ -15,8 +15,8 @@ ghost use Rattle.raft_ffi.specs.Summaries.{number_in, IsSummaryOf};
 
 use crate::entries::Entry;
 use crate::reads::{
-    find_entries, find_entries_before, find_entry, find_regions, find_rewritten_entries,
-    find_summary, find_value,
+    entries_before_in, entries_in, entry_in, find_regions, rewritten_entries_in, summary_in,
+    value_in,
 };
 use crate::rooms::copy_front;
 use crate::status::{Maybe, Status, answered, memory_code, queue};
@@ -68,7 +68,7 @@ pub extern "C" fn raft_ffi_tables_summary(
         (finite.get a.tables region) result) tables.old.value }
 {
     let held = tables.take(alloc);
-    let found = find_summary(&*held, region, summary);
+    let found = summary_in(held.get(region), summary);
     tables.put(held);
     found
 }
@@ -126,7 +126,7 @@ pub extern "C" fn raft_ffi_tables_entry(
         ≡ entry_at index (table_in a.tables region).entries) tables.old.value }
 {
     let held = tables.take(alloc);
-    let found = find_entry(&*held, region, index, entry);
+    let found = entry_in(held.get(region), region, index, entry);
     tables.put(held);
     found
 }
@@ -156,15 +156,8 @@ pub extern "C" fn raft_ffi_tables_entries(
 {
     let held = tables.take(alloc);
     let range = (begin, end);
-    let answer = find_entries(
-        alloc,
-        &*held,
-        region,
-        range,
-        max_size.size(),
-        entries,
-        count,
-    );
+    let table = held.get(region);
+    let answer = entries_in(alloc, table, region, range, max_size.size(), entries, count);
     tables.put(held);
     answered(alloc, &answer, text)
 }
@@ -188,7 +181,7 @@ pub extern "C" fn raft_ffi_tables_entries_before(
     ensures fault { result ≢ 0 → result ≡ 11 }
 {
     let held = tables.take(alloc);
-    let answer = find_entries_before(alloc, &*held, region, gate, entries, count);
+    let answer = entries_before_in(alloc, held.get(region), region, gate, entries, count);
     tables.put(held);
     memory_code(&answer)
 }
@@ -210,7 +203,7 @@ pub extern "C" fn raft_ffi_tables_rewritten_entries(
     ensures fault { result ≢ 0 → result ≡ 11 }
 {
     let held = tables.take(alloc);
-    let answer = find_rewritten_entries(alloc, &*held, region, entries, count);
+    let answer = rewritten_entries_in(alloc, held.get(region), region, entries, count);
     tables.put(held);
     memory_code(&answer)
 }
@@ -231,7 +224,7 @@ pub extern "C" fn raft_ffi_tables_value(
         (value_in a.tables region key.now) result) tables.old.value }
 {
     let held = tables.take(alloc);
-    let found = find_value(&*held, region, key, value, len);
+    let found = value_in(held.get(region), key, value, len);
     tables.put(held);
     found
 }

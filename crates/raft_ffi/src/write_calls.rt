@@ -9,12 +9,12 @@ ghost use Rattle.raft_ffi.specs.Calls.{IsCodeOf, Holds, BothHold};
 ghost use Rattle.raft_ffi.specs.Changes.{IsChangedTo, IsRemoved, AreSomeWritten, AreMerged, IsStoppedAt, no_tables};
 ghost use Rattle.raft_ffi.specs.Summaries.{number_in};
 
+use crate::item_list::ItemList;
 use crate::items::Items;
 use crate::status::{Maybe, Status, answered, memory_code};
 use crate::tables::Tables;
 use raft_accessor::MemTableAccessor;
 use raft_base::{Error, Result};
-use raft_records::LogItemBatch;
 use std::alloc::Global;
 
 /// Makes no tables.
@@ -213,7 +213,7 @@ pub extern "C" fn raft_ffi_tables_apply_append(
 }
 
 /// Writes items of the append queue to the tables, in order.
-fn apply_append(accessor: &mut MemTableAccessor, mut items: LogItemBatch) -> Result<()>
+fn apply_append(accessor: &mut MemTableAccessor, items: ItemList) -> Result<()>
     ensures ok { OnOk result (AreWritten Appending items accessor.old accessor.new) }
     ensures refused { IfErr result (IsStoppedAt Appending items accessor.old accessor.new) }
 {
@@ -250,7 +250,7 @@ pub extern "C" fn raft_ffi_tables_apply_rewrite(
 /// Writes items that were rewritten to a file of the rewrite queue to the tables, in order.
 fn apply_rewrite(
     accessor: &mut MemTableAccessor,
-    mut items: LogItemBatch,
+    items: ItemList,
     gate: Option<u64>,
     seq: u64,
 ) -> Result<()>

@@ -1,0 +1,445 @@
+//! Calls of batches that are written: items are added to one, its bytes are made, and signed for a file.
+
+ghost use Rattle.std.specs.Prelude.{◌≡◌, ◌≢◌, ℕ, ◌+◌, ◌-◌, ◌^◌, ◌<◌, ◌≤◌, [], ◌∷◌, ◌++◌, IsTrue, IfOk, IfErr, OnOk, OnErr, Option, Some, None, is_some, length, map};
+ghost use Rattle.std.specs.List.{concat};
+ghost use Rattle.raft_base.specs.Signature.{signature_of};
+ghost use Rattle.raft_records.specs.Group.{reserved_key, IsKeyRefusal};
+ghost use Rattle.raft_records.specs.Item.{bare, command_item, pair_item};
+ghost use Rattle.raft_records.specs.LogBatch.{is_open, encoded, sealed, stage_number, IsSealedStage, empty_batch, with_batch, with_entries_added, encoded_length, approximate_length, log_batch_bytes, IsLogBatch};
+ghost use Rattle.raft_records.specs.declared.command.Command.TheVariants.{Clean, Compact, Truncate};
+ghost use Rattle.raft_records.specs.declared.key_value.OpType.TheVariants.{Put, Del};
+ghost use Rattle.raft_ffi.specs.Batches.{with_item, at_stage, place_at, written_to};
+ghost use Rattle.raft_ffi.specs.Calls.{file_of, IsCodeOf, Holds, BothHold};
+ghost use Rattle.raft_ffi.specs.Rooms.{IsCopied};
+ghost use Rattle.raft_ffi.specs.Strings.{entries_from, strings_of, HasStrings};
+
+use crate::batch::Batch;
+use crate::item_list::{ItemList, items_of};
+use crate::items::Items;
+use crate::rooms::copy_front;
+use crate::status::{File, Status, answered, memory_code, queue};
+use crate::strings::{consecutive, strings};
+use raft_base::{Error, FileBlockHandle, FileId, Result};
+use raft_records::{Command, LogBatch};
+use std::alloc::Global;
+
+/// Makes an open batch without items.
+#[unsafe(no_mangle)]
+pub extern "C" fn raft_ffi_batch_new(alloc: Global, batch: &mut Batch) -> u32
+    requires empty { batch.old.value ≡ None }
+    ensures ok { result ≡ 0 → batch.new.value ≡ Some empty_batch }
+    ensures err { result ≢ 0 → batch.new.value ≡ None }
+    ensures fault { result ≢ 0 → result ≡ 11 }
+{
+    match Box::new(alloc, LogBatch::default(alloc)) {
+        Ok(held) => {
+            batch.put(held);
+            0
+        }
+        Err(_) => 11,
+    }
+}
+
+/// Says how far a batch has come: 0 while it is open, 1 once its bytes are made, 2 once they are signed.
+#[unsafe(no_mangle)]
+pub extern "C" fn raft_ffi_batch_stage(alloc: Global, batch: &mut Batch) -> u32
+    requires held { IsTrue (is_some batch.old.value) }
+    ensures same { batch.new.value ≡ batch.old.value }
+    ensures stage { Holds (λ b. result ≡ stage_number b.stage) batch.old.value }
+{
+    let held = batch.take(alloc);
+    let stage = stage_of(&*held);
+    batch.put(held);
+    stage
+}
+
+/// Returns how far a batch has come.
+fn stage_of(batch: &LogBatch) -> u32
+    ensures { result ≡ stage_number batch.now.stage }
+{
+    if batch.is_open() {
+        0
+    } else if batch.is_sealed() {
+        2
+    } else {
+        1
+    }
+}
+
+/// Says about how many bytes a batch has or will have.
+#[unsafe(no_mangle)]
+pub extern "C" fn raft_ffi_batch_size(alloc: Global, batch: &mut Batch) -> usize
+    requires held { IsTrue (is_some batch.old.value) }
+    ensures same { batch.new.value ≡ batch.old.value }
+    ensures size { Holds (λ b. result ≡ approximate_length b.stage b.items b.entry_bytes)
+        batch.old.value }
+{
+    let held = batch.take(alloc);
+    let size = held.approximate_size();
+    batch.put(held);
+    size
+}
+
+/// Adds entries of a region to an open batch: their indexes rise by one from `first` on, and the bytes are those of one after
+/// the other, each of which has so many as `lens` says. No entries add nothing.
+#[unsafe(no_mangle)]
+pub extern "C" fn raft_ffi_batch_add_entries(
+    alloc: Global,
+    batch: &mut Batch,
+    region: u64,
+    first: u64,
+    lens: &[usize],
+    bytes: &[u8],
+    text: &mut [u8],
+) -> Status
+    requires held { IsTrue (is_some batch.old.value) }
+    requires open { Holds (λ b. b.stage ≡ is_open) batch.old.value }
+    requires indexes { first + length lens.now < 2 ^ 64 }
+    requires strings { HasStrings lens.now bytes.now }
+    ensures ok { result.code ≡ 0 → BothHold (λ old new. new ≡ with_entries_added old region
+        (entries_from first lens.now) (strings_of lens.now bytes.now)) batch.old.value
+        batch.new.value }
+    ensures accepted { result.code ≡ 0 → lens.now ≢ [] → Holds (λ old. length old.entry_bytes
+        + length (concat (strings_of lens.now bytes.now)) < 2 ^ 31) batch.old.value }
+    ensures err { result.code ≢ 0 → batch.new.value ≡ batch.old.value }
+    ensures fault { result.code ≢ 0 → result.code ≢ 11 → Holds (λ old. (result.code ≡ 9)
+        × (2 ^ 31 ≤ length old.entry_bytes + length (concat (strings_of lens.now bytes.now))))
+        batch.old.value }
+{
+    let mut held = batch.take(alloc);
+    let answer = add_entries(alloc, &mut *held, region, first, lens, bytes);
+    batch.put(held);
+    answered(alloc, &answer, text)
+}
+
+/// Adds entries of a region to an open batch.
+fn add_entries(
+    alloc: Global,
+    batch: &mut LogBatch,
+    region: u64,
+    first: u64,
+    lens: &[usize],
+    bytes: &[u8],
+) -> Result<()>
+    requires open { batch.old.stage ≡ is_open }
+    requires indexes { first + length lens.now < 2 ^ 64 }
+    requires strings { HasStrings lens.now bytes.now }
+    ensures ok { OnOk result (batch.new ≡ with_entries_added batch.old region
+        (entries_from first lens.now) (strings_of lens.now bytes.now)) }
+    ensures accepted { OnOk result (lens.now ≢ [] → length batch.old.entry_bytes
+        + length (concat (strings_of lens.now bytes.now)) < 2 ^ 31) }
+    ensures err { OnErr result (batch.new ≡ batch.old) }
+    ensures fault { IfErr result (λ e. e ≢ Error.Memory → (e ≡ Error.Full) × (2 ^ 31
+        ≤ length batch.old.entry_bytes + length (concat (strings_of lens.now bytes.now)))) }
+{
+    let indexes = consecutive(alloc, first, lens)?;
+    let strings = strings(alloc, lens, bytes)?;
+    batch.add_raw_entries(region, indexes, strings)
+}
+
+/// Adds to an open batch that all records of a region go.
+#[unsafe(no_mangle)]
+pub extern "C" fn raft_ffi_batch_clean(alloc: Global, batch: &mut Batch, region: u64) -> u32
+    requires held { IsTrue (is_some batch.old.value) }
+    requires open { Holds (λ b. b.stage ≡ is_open) batch.old.value }
+    ensures ok { result ≡ 0 → BothHold (λ old new. new ≡ with_item old (command_item region Clean)) batch.old.value
+        batch.new.value }
+    ensures err { result ≢ 0 → batch.new.value ≡ batch.old.value }
+    ensures fault { result ≢ 0 → result ≡ 11 }
+{
+    let mut held = batch.take(alloc);
+    let answer = held.add_command(region, Command::Clean);
+    batch.put(held);
+    memory_code(&answer)
+}
+
+/// Adds to an open batch that the entries of a region below an index go.
+#[unsafe(no_mangle)]
+pub extern "C" fn raft_ffi_batch_compact(
+    alloc: Global,
+    batch: &mut Batch,
+    region: u64,
+    index: u64,
+) -> u32
+    requires held { IsTrue (is_some batch.old.value) }
+    requires open { Holds (λ b. b.stage ≡ is_open) batch.old.value }
+    ensures ok { result ≡ 0 → BothHold (λ old new. new ≡ with_item old (command_item region (Compact index)))
+        batch.old.value batch.new.value }
+    ensures err { result ≢ 0 → batch.new.value ≡ batch.old.value }
+    ensures fault { result ≢ 0 → result ≡ 11 }
+{
+    let mut held = batch.take(alloc);
+    let answer = held.add_command(region, Command::Compact { index });
+    batch.put(held);
+    memory_code(&answer)
+}
+
+/// Adds to an open batch that the entries of a region from an index on go.
+#[unsafe(no_mangle)]
+pub extern "C" fn raft_ffi_batch_truncate(
+    alloc: Global,
+    batch: &mut Batch,
+    region: u64,
+    index: u64,
+) -> u32
+    requires held { IsTrue (is_some batch.old.value) }
+    requires open { Holds (λ b. b.stage ≡ is_open) batch.old.value }
+    ensures ok { result ≡ 0 → BothHold (λ old new. new ≡ with_item old (command_item region (Truncate index)))
+        batch.old.value batch.new.value }
+    ensures err { result ≢ 0 → batch.new.value ≡ batch.old.value }
+    ensures fault { result ≢ 0 → result ≡ 11 }
+{
+    let mut held = batch.take(alloc);
+    let answer = held.add_command(region, Command::Truncate { index });
+    batch.put(held);
+    memory_code(&answer)
+}
+
+/// Adds to an open batch that a key of a region gets a value.
+#[unsafe(no_mangle)]
+pub extern "C" fn raft_ffi_batch_put(
+    alloc: Global,
+    batch: &mut Batch,
+    region: u64,
+    key: &[u8],
+    value: &[u8],
+    text: &mut [u8],
+) -> Status
+    requires held { IsTrue (is_some batch.old.value) }
+    requires open { Holds (λ b. b.stage ≡ is_open) batch.old.value }
+    ensures ok { result.code ≡ 0 → BothHold (λ old new. new ≡ with_item old (pair_item region Put key.now (Some value.now))) batch.old.value batch.new.value }
+    ensures accepted { result.code ≡ 0 → key.now ≢ reserved_key }
+    ensures err { result.code ≢ 0 → batch.new.value ≡ batch.old.value }
+    ensures fault { result.code ≢ 0 → IsCodeOf (IsKeyRefusal key.now) result.code }
+{
+    let mut held = batch.take(alloc);
+    let answer = put(alloc, &mut *held, region, key, value);
+    batch.put(held);
+    answered(alloc, &answer, text)
+}
+
+/// Adds to an open batch that a key of a region gets a value.
+fn put(alloc: Global, batch: &mut LogBatch, region: u64, key: &[u8], value: &[u8]) -> Result<()>
+    requires { batch.old.stage ≡ is_open }
+    ensures ok { OnOk result (batch.new ≡ with_item batch.old (pair_item region Put key.now (Some value.now))) }
+    ensures accepted { OnOk result (key.now ≢ reserved_key) }
+    ensures err { OnErr result (batch.new ≡ batch.old) }
+    ensures fault { IfErr result (IsKeyRefusal key.now) }
+{
+    let key = Vec::from_slice(alloc, key)?;
+    let value = Vec::from_slice(alloc, value)?;
+    batch.put(region, key, value)
+}
+
+/// Adds to an open batch that a key of a region goes.
+#[unsafe(no_mangle)]
+pub extern "C" fn raft_ffi_batch_delete(
+    alloc: Global,
+    batch: &mut Batch,
+    region: u64,
+    key: &[u8],
+) -> u32
+    requires held { IsTrue (is_some batch.old.value) }
+    requires open { Holds (λ b. b.stage ≡ is_open) batch.old.value }
+    ensures ok { result ≡ 0 → BothHold (λ old new. new ≡ with_item old (pair_item region Del key.now None)) batch.old.value batch.new.value }
+    ensures err { result ≢ 0 → batch.new.value ≡ batch.old.value }
+    ensures fault { result ≢ 0 → result ≡ 11 }
+{
+    let mut held = batch.take(alloc);
+    let answer = delete(alloc, &mut *held, region, key);
+    batch.put(held);
+    memory_code(&answer)
+}
+
+/// Adds to an open batch that a key of a region goes.
+fn delete(alloc: Global, batch: &mut LogBatch, region: u64, key: &[u8]) -> Result<()>
+    requires { batch.old.stage ≡ is_open }
+    ensures ok { OnOk result (batch.new ≡ with_item batch.old (pair_item region Del key.now None)) }
+    ensures err { OnErr result (batch.new ≡ batch.old) }
+    ensures memory { IfErr result (λ e. e ≡ Error.Memory) }
+{
+    let key = Vec::from_slice(alloc, key)?;
+    batch.delete(region, key)
+}
+
+/// Moves all items of another open batch to the end of an open one. The other one is then empty.
+#[unsafe(no_mangle)]
+pub extern "C" fn raft_ffi_batch_merge(
+    alloc: Global,
+    batch: &mut Batch,
+    more: &mut Batch,
+    text: &mut [u8],
+) -> Status
+    requires held { IsTrue (is_some batch.old.value) }
+    requires more_held { IsTrue (is_some more.old.value) }
+    requires open { Holds (λ b. b.stage ≡ is_open) batch.old.value }
+    requires more_open { Holds (λ b. b.stage ≡ is_open) more.old.value }
+    ensures ok { result.code ≡ 0 → BothHold (λ old new. Holds
+        (λ rhs. new ≡ with_batch old rhs) more.old.value) batch.old.value batch.new.value }
+    ensures emptied { result.code ≡ 0 → more.new.value ≡ Some empty_batch }
+    ensures accepted { result.code ≡ 0 → BothHold (λ old rhs. length old.entry_bytes
+        + length rhs.entry_bytes < 2 ^ 31) batch.old.value more.old.value }
+    ensures err { result.code ≢ 0 → batch.new.value ≡ batch.old.value }
+    ensures more_err { result.code ≢ 0 → more.new.value ≡ more.old.value }
+    ensures refused { result.code ≢ 0 → Holds (λ rhs. rhs.items ≢ []) more.old.value }
+    ensures fault { result.code ≢ 0 → result.code ≢ 11 → BothHold (λ old rhs.
+        (result.code ≡ 9) × (2 ^ 31 ≤ length old.entry_bytes + length rhs.entry_bytes))
+        batch.old.value more.old.value }
+{
+    let mut held = batch.take(alloc);
+    let mut rest = more.take(alloc);
+    let answer = held.merge(&mut *rest);
+    batch.put(held);
+    more.put(rest);
+    answered(alloc, &answer, text)
+}
+
+/// Makes the bytes of an open batch, to which nothing is added from then on, and says how many they are: none without items.
+#[unsafe(no_mangle)]
+pub extern "C" fn raft_ffi_batch_finish(
+    alloc: Global,
+    batch: &mut Batch,
+    len: &mut usize,
+    text: &mut [u8],
+) -> Status
+    requires held { IsTrue (is_some batch.old.value) }
+    requires open { Holds (λ b. b.stage ≡ is_open) batch.old.value }
+    ensures ok { result.code ≡ 0 → BothHold (λ old new. new ≡ at_stage encoded old)
+        batch.old.value batch.new.value }
+    ensures len { result.code ≡ 0 → Holds (λ old. len.new
+        ≡ encoded_length old.items old.entry_bytes) batch.old.value }
+    ensures accepted { result.code ≡ 0 → Holds (λ old. encoded_length old.items old.entry_bytes
+        < 2 ^ 56) batch.old.value }
+    ensures err { result.code ≢ 0 → batch.new.value ≡ batch.old.value }
+    ensures refused { result.code ≢ 0 → Holds (λ old. old.items ≢ []) batch.old.value }
+    ensures fault { result.code ≢ 0 → result.code ≢ 11 → Holds (λ old. (result.code ≡ 9)
+        × (2 ^ 56 ≤ encoded_length old.items old.entry_bytes)) batch.old.value }
+{
+    let mut held = batch.take(alloc);
+    let answer = finish(&mut *held, len);
+    batch.put(held);
+    answered(alloc, &answer, text)
+}
+
+/// Makes the bytes of an open batch, and says how many they are.
+fn finish(batch: &mut LogBatch, len: &mut usize) -> Result<()>
+    requires { batch.old.stage ≡ is_open }
+    ensures ok { OnOk result (batch.new ≡ at_stage encoded batch.old) }
+    ensures len { OnOk result (len.new ≡ encoded_length batch.old.items batch.old.entry_bytes) }
+    ensures accepted { OnOk result (encoded_length batch.old.items batch.old.entry_bytes < 2 ^ 56) }
+    ensures err { OnErr result (batch.new ≡ batch.old) }
+    ensures refused { OnErr result (batch.old.items ≢ []) }
+    ensures fault { IfErr result (λ e. e ≢ Error.Memory → (e ≡ Error.Full)
+        × (2 ^ 56 ≤ encoded_length batch.old.items batch.old.entry_bytes)) }
+{
+    *len = batch.finish_populate()?;
+    Ok(())
+}
+
+/// Signs the bytes of a batch that is no longer open for a file. It may be repeated for other files.
+#[unsafe(no_mangle)]
+pub extern "C" fn raft_ffi_batch_sign(alloc: Global, batch: &mut Batch, file: File)
+    requires held { IsTrue (is_some batch.old.value) }
+    requires encoded { Holds (λ b. b.stage ≢ is_open) batch.old.value }
+    ensures { BothHold (λ old new. new ≡ at_stage (sealed (signature_of (file_of file))) old) batch.old.value
+        batch.new.value }
+{
+    let mut held = batch.take(alloc);
+    held.prepare_write(&file.context());
+    batch.put(held);
+}
+
+/// Copies the bytes of a signed batch as far as there is room, and returns how many they are: none without items.
+#[unsafe(no_mangle)]
+pub extern "C" fn raft_ffi_batch_bytes(alloc: Global, batch: &mut Batch, bytes: &mut [u8]) -> usize
+    requires held { IsTrue (is_some batch.old.value) }
+    requires sealed { Holds (λ b. IsSealedStage b.stage) batch.old.value }
+    ensures same { batch.new.value ≡ batch.old.value }
+    ensures bytes { Holds (λ b. (signature : Option ℕ) → b.stage ≡ sealed signature →
+        IsCopied (log_batch_bytes signature b.items b.entry_bytes) bytes.old bytes.new result)
+        batch.old.value }
+    ensures read_again { Holds (λ b. (signature : Option ℕ) → b.stage ≡ sealed signature →
+        b.items ≢ [] → IsLogBatch (log_batch_bytes signature b.items b.entry_bytes) signature
+        (map bare b.items) b.entry_bytes) batch.old.value }
+{
+    let held = batch.take(alloc);
+    let len = copy_bytes(&*held, bytes);
+    batch.put(held);
+    len
+}
+
+/// Copies the bytes of a signed batch as far as there is room, and returns how many they are.
+fn copy_bytes(batch: &LogBatch, room: &mut [u8]) -> usize
+    requires { IsSealedStage batch.now.stage }
+    ensures bytes { (signature : Option ℕ) → batch.now.stage ≡ sealed signature →
+        IsCopied (log_batch_bytes signature batch.now.items batch.now.entry_bytes) room.old
+        room.new result }
+    ensures read_again { (signature : Option ℕ) → batch.now.stage ≡ sealed signature →
+        batch.now.items ≢ [] →
+        IsLogBatch (log_batch_bytes signature batch.now.items batch.now.entry_bytes) signature
+        (map bare batch.now.items) batch.now.entry_bytes }
+{
+    copy_front(batch.encoded_bytes(), room)
+}
+
+/// Gives each entry and each key value of a signed batch its place: the batch was written to a file, from `offset` on.
+#[unsafe(no_mangle)]
+pub extern "C" fn raft_ffi_batch_written(
+    alloc: Global,
+    batch: &mut Batch,
+    is_rewrite: bool,
+    seq: u64,
+    offset: u64,
+    len: usize,
+)
+    requires held { IsTrue (is_some batch.old.value) }
+    requires sealed { Holds (λ b. IsSealedStage b.stage) batch.old.value }
+    requires offset { offset ≤ 2 ^ 64 - 17 }
+    ensures placed { BothHold (λ old new. new
+        ≡ written_to (place_at is_rewrite seq offset len) old) batch.old.value batch.new.value }
+    ensures bytes { BothHold (λ old new. (signature : Option ℕ) →
+        log_batch_bytes signature new.items new.entry_bytes
+        ≡ log_batch_bytes signature old.items old.entry_bytes) batch.old.value batch.new.value }
+{
+    let mut held = batch.take(alloc);
+    held.finish_write(FileBlockHandle {
+        id: FileId::new(queue(is_rewrite), seq),
+        offset,
+        len,
+    });
+    batch.put(held);
+}
+
+/// Takes the items out of a batch, at whatever stage. The batch is gone then.
+#[unsafe(no_mangle)]
+pub extern "C" fn raft_ffi_batch_into_items(alloc: Global, batch: Batch, items: &mut Items) -> u32
+    requires held { IsTrue (is_some batch.value) }
+    requires empty { items.old.value ≡ None }
+    ensures ok { result ≡ 0 → Holds (λ b. items.new.value ≡ Some b.items) batch.value }
+    ensures err { result ≢ 0 → items.new.value ≡ None }
+    ensures fault { result ≢ 0 → result ≡ 11 }
+{
+    match boxed_items(alloc, Box::into_inner(batch.into_box())) {
+        Ok(held) => {
+            items.put(held);
+            0
+        }
+        Err(_) => 11,
+    }
+}
+
+/// Takes the items out of a batch.
+fn boxed_items(alloc: Global, batch: LogBatch) -> Result<Box<ItemList>>
+    ensures ok { IfOk result (λ b. b.value ≡ batch.items) }
+    ensures memory { IfErr result (λ e. e ≡ Error.Memory) }
+{
+    Ok(Box::new(alloc, items_of(alloc, batch)?)?)
+}
+
+/// Lets a batch go.
+#[unsafe(no_mangle)]
+pub extern "C" fn raft_ffi_batch_drop(batch: Batch)
+    requires held { IsTrue (is_some batch.value) }
+{
+    drop(batch.into_box());
+}

@@ -1,0 +1,62 @@
+//! Calls that list the keys of a region with their values.
+
+ghost use Rattle.std.specs.Prelude.{◌≡◌, ◌≢◌, IsTrue, Some, None, is_some};
+ghost use Rattle.raft_base.specs.declared.pipe_log.LogQueue.TheVariants.{Append, Rewrite};
+ghost use Rattle.raft_ffi.specs.Calls.{Holds};
+ghost use Rattle.raft_ffi.specs.Pairs.{ArePairsIn, pairs_in};
+
+use crate::pairs::{pairs_before_in, rewritten_pairs_in};
+use crate::status::memory_code;
+use crate::tables::Tables;
+use std::alloc::Global;
+
+/// Lists the appended pairs of a region whose file is at or below a gate, in the order of the keys: the length of each key and of its
+/// value in turn, and the bytes of them, each as far as there is room, and how many these are. With a gate of 2^64 - 1 it lists all
+/// appended ones.
+#[unsafe(no_mangle)]
+pub extern "C" fn raft_ffi_tables_pairs_before(
+    alloc: Global,
+    tables: &mut Tables,
+    region: u64,
+    gate: u64,
+    lens: &mut [usize],
+    count: &mut usize,
+    bytes: &mut [u8],
+    len: &mut usize,
+) -> u32
+    requires held { IsTrue (is_some tables.old.value) }
+    ensures same { tables.new.value ≡ tables.old.value }
+    ensures ok { result ≡ 0 → Holds (λ a. ArePairsIn (pairs_in a.tables region Append (Some gate))
+        lens.old lens.new count.new bytes.old bytes.new len.new) tables.old.value }
+    ensures fault { result ≢ 0 → result ≡ 11 }
+{
+    let held = tables.take(alloc);
+    let table = held.get(region);
+    let answer = pairs_before_in(alloc, table, region, gate, lens, count, bytes, len);
+    tables.put(held);
+    memory_code(&answer)
+}
+
+/// Lists the rewritten pairs of a region, in the order of the keys, as [`raft_ffi_tables_pairs_before`] does the appended ones.
+#[unsafe(no_mangle)]
+pub extern "C" fn raft_ffi_tables_rewritten_pairs(
+    alloc: Global,
+    tables: &mut Tables,
+    region: u64,
+    lens: &mut [usize],
+    count: &mut usize,
+    bytes: &mut [u8],
+    len: &mut usize,
+) -> u32
+    requires held { IsTrue (is_some tables.old.value) }
+    ensures same { tables.new.value ≡ tables.old.value }
+    ensures ok { result ≡ 0 → Holds (λ a. ArePairsIn (pairs_in a.tables region Rewrite None)
+        lens.old lens.new count.new bytes.old bytes.new len.new) tables.old.value }
+    ensures fault { result ≢ 0 → result ≡ 11 }
+{
+    let held = tables.take(alloc);
+    let table = held.get(region);
+    let answer = rewritten_pairs_in(alloc, table, region, lens, count, bytes, len);
+    tables.put(held);
+    memory_code(&answer)
+}

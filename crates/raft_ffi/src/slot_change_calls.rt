@@ -1,0 +1,211 @@
+//! Calls that change the table of a region in its slot.
+
+ghost use Rattle.std.specs.Prelude.{◌≡◌, ◌≢◌, ◌⊎◌, ◌+◌, IsTrue, Some, is_some, map, length};
+ghost use Rattle.std.specs.FinMap as finite;
+ghost use Rattle.raft_base.specs.declared.pipe_log.LogQueue.TheVariants.{Append, Rewrite};
+ghost use Rattle.raft_accessor.specs.Accessor.{slot_of, table_in};
+ghost use Rattle.raft_table.specs.Change.{IsListFault};
+ghost use Rattle.raft_table.specs.KeyValues.{file_at};
+ghost use Rattle.raft_table.specs.Rewriting.{entries_after_rewrite, IsRewriteFault};
+ghost use Rattle.raft_table.specs.Start.{entries_after_append, IsTableRunFault};
+ghost use Rattle.raft_table.specs.Table.{after_append, after_rewrite, after_rewrite_key, with_pair, IsTablePutFault, IsKeyRewriteFault};
+ghost use Rattle.raft_table.specs.TableEntries.{from, below};
+ghost use Rattle.raft_ffi.specs.Calls.{queue_of, IsCodeOf, Holds, BothHold};
+ghost use Rattle.raft_ffi.specs.Changes.{IsMemoryOr};
+ghost use Rattle.raft_ffi.specs.EntryData.{entry_of};
+ghost use Rattle.raft_ffi.specs.Slots.{IsSlotChangedTo};
+ghost use Rattle.raft_ffi.specs.Summaries.{number_in};
+
+use crate::entries::Entry;
+use crate::slot::Slot;
+use crate::slot_changes::{append, compact, delete, put, rewrite, rewrite_key, truncate};
+use crate::status::{Maybe, Status, answered, queue};
+use raft_base::FileId;
+use std::alloc::Global;
+
+/// Puts new entries of the append queue after those of a region below their start. All others go; where
+/// there are no new ones, all stay.
+#[unsafe(no_mangle)]
+pub extern "C" fn raft_ffi_slot_append(
+    alloc: Global,
+    slot: &mut Slot,
+    region: u64,
+    entries: &[Entry],
+    text: &mut [u8],
+) -> Status
+    requires held { IsTrue (is_some slot.old.value) }
+    requires own { Holds (λ s. slot_of region ≡ s.number) slot.old.value }
+    ensures ok { result.code ≡ 0 → BothHold (λ old new. IsSlotChangedTo
+        (after_append (table_in old.content.tables region) (map entry_of entries.now)) region old new) slot.old.value slot.new.value }
+    ensures err { result.code ≢ 0 → slot.new.value ≡ slot.old.value }
+    ensures fault { result.code ≢ 0 → Holds (λ old. IsCodeOf (IsMemoryOr
+        (λ e. IsListFault Append (map entry_of entries.now) e
+        ⊎ IsTableRunFault Append old.content.counts (table_in old.content.tables region).entries
+        (entries_after_append (table_in old.content.tables region).entries (map entry_of entries.now)) e)) result.code) slot.old.value }
+{
+    let mut held = slot.take(alloc);
+    let answer = append(alloc, &mut *held, region, entries);
+    slot.put(held);
+    answered(alloc, &answer, text)
+}
+
+/// Drops the entries of a region below an index, and says how many those were.
+#[unsafe(no_mangle)]
+pub extern "C" fn raft_ffi_slot_compact(
+    alloc: Global,
+    slot: &mut Slot,
+    region: u64,
+    index: u64,
+    dropped: &mut u64,
+    text: &mut [u8],
+) -> Status
+    requires held { IsTrue (is_some slot.old.value) }
+    requires own { Holds (λ s. slot_of region ≡ s.number) slot.old.value }
+    ensures ok { result.code ≡ 0 → BothHold (λ old new. IsSlotChangedTo
+        (Some (record (table_in old.content.tables region)
+        { entries = from index (table_in old.content.tables region).entries })) region old new) slot.old.value slot.new.value }
+    ensures dropped { result.code ≡ 0 → BothHold (λ old new.
+        dropped.new + length (table_in new.content.tables region).entries
+        ≡ length (table_in old.content.tables region).entries) slot.old.value slot.new.value }
+    ensures err { result.code ≢ 0 → slot.new.value ≡ slot.old.value }
+    ensures memory { result.code ≢ 0 → result.code ≡ 11 }
+{
+    let mut held = slot.take(alloc);
+    let answer = compact(&mut *held, region, index, dropped);
+    slot.put(held);
+    answered(alloc, &answer, text)
+}
+
+/// Drops the entries of a region at or above an index, and says how many those were.
+#[unsafe(no_mangle)]
+pub extern "C" fn raft_ffi_slot_truncate(
+    alloc: Global,
+    slot: &mut Slot,
+    region: u64,
+    index: u64,
+    dropped: &mut u64,
+    text: &mut [u8],
+) -> Status
+    requires held { IsTrue (is_some slot.old.value) }
+    requires own { Holds (λ s. slot_of region ≡ s.number) slot.old.value }
+    ensures ok { result.code ≡ 0 → BothHold (λ old new. IsSlotChangedTo
+        (Some (record (table_in old.content.tables region)
+        { entries = below index (table_in old.content.tables region).entries })) region old new) slot.old.value slot.new.value }
+    ensures dropped { result.code ≡ 0 → BothHold (λ old new.
+        dropped.new + length (table_in new.content.tables region).entries
+        ≡ length (table_in old.content.tables region).entries) slot.old.value slot.new.value }
+    ensures err { result.code ≢ 0 → slot.new.value ≡ slot.old.value }
+    ensures memory { result.code ≢ 0 → result.code ≡ 11 }
+{
+    let mut held = slot.take(alloc);
+    let answer = truncate(&mut *held, region, index, dropped);
+    slot.put(held);
+    answered(alloc, &answer, text)
+}
+
+/// Puts a key of a region with its value, which were written to the file of number `seq`.
+#[unsafe(no_mangle)]
+pub extern "C" fn raft_ffi_slot_put(
+    alloc: Global,
+    slot: &mut Slot,
+    region: u64,
+    key: &[u8],
+    value: &[u8],
+    is_rewrite: bool,
+    seq: u64,
+    text: &mut [u8],
+) -> Status
+    requires held { IsTrue (is_some slot.old.value) }
+    requires own { Holds (λ s. slot_of region ≡ s.number) slot.old.value }
+    ensures ok { result.code ≡ 0 → BothHold (λ old new. IsSlotChangedTo
+        (Some (with_pair (table_in old.content.tables region) key.now value.now
+        (record { queue = queue_of is_rewrite; seq = seq }))) region old new) slot.old.value slot.new.value }
+    ensures err { result.code ≢ 0 → slot.new.value ≡ slot.old.value }
+    ensures fault { result.code ≢ 0 → Holds (λ old. IsCodeOf (IsMemoryOr
+        (IsTablePutFault (queue_of is_rewrite) old.content.counts
+        (file_at (table_in old.content.tables region).keys key.now))) result.code) slot.old.value }
+{
+    let file = FileId::new(queue(is_rewrite), seq);
+    let mut held = slot.take(alloc);
+    let answer = put(alloc, &mut *held, region, key, value, file);
+    slot.put(held);
+    answered(alloc, &answer, text)
+}
+
+/// Deletes a key of a region and its value.
+#[unsafe(no_mangle)]
+pub extern "C" fn raft_ffi_slot_delete(
+    alloc: Global,
+    slot: &mut Slot,
+    region: u64,
+    key: &[u8],
+    text: &mut [u8],
+) -> Status
+    requires held { IsTrue (is_some slot.old.value) }
+    requires own { Holds (λ s. slot_of region ≡ s.number) slot.old.value }
+    ensures ok { result.code ≡ 0 → BothHold (λ old new. IsSlotChangedTo
+        (Some (record (table_in old.content.tables region)
+        { keys = finite.remove (table_in old.content.tables region).keys key.now })) region old new) slot.old.value slot.new.value }
+    ensures err { result.code ≢ 0 → slot.new.value ≡ slot.old.value }
+    ensures memory { result.code ≢ 0 → result.code ≡ 11 }
+{
+    let mut held = slot.take(alloc);
+    let answer = delete(alloc, &mut *held, region, key);
+    slot.put(held);
+    answered(alloc, &answer, text)
+}
+
+/// Gives entries of a region the places of a run of the rewrite queue, as far as they may move: with a gate those in
+/// files at or below it, without one those that are rewritten already.
+#[unsafe(no_mangle)]
+pub extern "C" fn raft_ffi_slot_rewrite(
+    alloc: Global,
+    slot: &mut Slot,
+    region: u64,
+    entries: &[Entry],
+    gate: Maybe,
+    text: &mut [u8],
+) -> Status
+    requires held { IsTrue (is_some slot.old.value) }
+    requires own { Holds (λ s. slot_of region ≡ s.number) slot.old.value }
+    ensures ok { result.code ≡ 0 → BothHold (λ old new. IsSlotChangedTo
+        (after_rewrite (number_in gate) (table_in old.content.tables region) (map entry_of entries.now)) region old new) slot.old.value slot.new.value }
+    ensures err { result.code ≢ 0 → slot.new.value ≡ slot.old.value }
+    ensures fault { result.code ≢ 0 → Holds (λ old. IsCodeOf (IsMemoryOr
+        (λ e. IsListFault Rewrite (map entry_of entries.now) e
+        ⊎ IsRewriteFault (length (map entry_of entries.now)) old.content.counts
+        (entries_after_rewrite (number_in gate) (map entry_of entries.now)
+        (table_in old.content.tables region).entries) e)) result.code) slot.old.value }
+{
+    let mut held = slot.take(alloc);
+    let answer = rewrite(alloc, &mut *held, region, entries, gate.number());
+    slot.put(held);
+    answered(alloc, &answer, text)
+}
+
+/// Moves the pair of a region's key to the file of number `seq` of the rewrite queue: one in the append queue where there
+/// is a gate and its file is at or below it, one in the rewrite queue always.
+#[unsafe(no_mangle)]
+pub extern "C" fn raft_ffi_slot_rewrite_key(
+    alloc: Global,
+    slot: &mut Slot,
+    region: u64,
+    key: &[u8],
+    gate: Maybe,
+    seq: u64,
+    text: &mut [u8],
+) -> Status
+    requires held { IsTrue (is_some slot.old.value) }
+    requires own { Holds (λ s. slot_of region ≡ s.number) slot.old.value }
+    ensures ok { result.code ≡ 0 → BothHold (λ old new. IsSlotChangedTo
+        (after_rewrite_key (number_in gate) seq (table_in old.content.tables region) key.now) region old new) slot.old.value slot.new.value }
+    ensures err { result.code ≢ 0 → slot.new.value ≡ slot.old.value }
+    ensures fault { result.code ≢ 0 → Holds (λ old. IsCodeOf (IsMemoryOr
+        (IsKeyRewriteFault old.content.counts
+        (after_rewrite_key (number_in gate) seq (table_in old.content.tables region) key.now))) result.code) slot.old.value }
+{
+    let mut held = slot.take(alloc);
+    let answer = rewrite_key(alloc, &mut *held, region, key, gate.number(), seq);
+    slot.put(held);
+    answered(alloc, &answer, text)
+}

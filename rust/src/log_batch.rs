@@ -1,0 +1,172 @@
+//! Batches that are written.
+
+use crate::sys::LogBatchHandle;
+use crate::{Batch, FileId, LogFile, Result};
+
+/// How far a batch has come.
+#[derive(Clone, Copy, PartialEq, Eq, PartialOrd, Ord, Hash, Debug)]
+pub enum Stage {
+    /// Items may be added.
+    Open,
+    /// Its bytes are made.
+    Encoded,
+    /// Its bytes are signed for a file.
+    Signed,
+}
+
+/// Log items and the bytes of their entries. While it is open items are added; then its bytes are made, signed for a file and
+/// written there, and its items applied to tables.
+///
+/// It is `Send` and not `Sync`. After a refused call it is as it was.
+#[derive(Debug)]
+pub struct LogBatch {
+    handle: LogBatchHandle,
+}
+
+impl LogBatch {
+    /// Makes one of a handle.
+    pub(crate) fn of(handle: LogBatchHandle) -> LogBatch {
+        LogBatch { handle }
+    }
+
+    /// Returns the handle.
+    pub(crate) fn handle_mut(&mut self) -> &mut LogBatchHandle {
+        &mut self.handle
+    }
+
+    /// Makes an open batch without items.
+    ///
+    /// # Errors
+    ///
+    /// `Memory`.
+    pub fn new() -> Result<LogBatch> {
+        Ok(LogBatch::of(LogBatchHandle::new()?))
+    }
+
+    /// Returns how far the batch has come.
+    pub fn stage(&self) -> Stage {
+        self.handle.stage()
+    }
+
+    /// Returns about how many bytes the batch will have, and how many it has once they are made.
+    pub fn approximate_size(&self) -> usize {
+        self.handle.size()
+    }
+
+    /// Adds entries of a region: their bytes in the order of their indexes, which rise by one from `first` on. No entries add
+    /// nothing.
+    ///
+    /// # Errors
+    ///
+    /// `InvalidArgument` where the batch is no longer open or an index would be 2^64 - 1 or more, `Full` where the entry bytes
+    /// of the batch would pass 2^31 - 1, `Memory`.
+    pub fn add_entries<E: AsRef<[u8]>>(
+        &mut self,
+        region: u64,
+        first: u64,
+        entries: &[E],
+    ) -> Result<()> {
+        self.handle.add_entries(region, first, entries)
+    }
+
+    /// Adds that all records of a region go.
+    ///
+    /// # Errors
+    ///
+    /// `InvalidArgument` where the batch is no longer open, `Memory`.
+    pub fn clean(&mut self, region: u64) -> Result<()> {
+        self.handle.clean(region)
+    }
+
+    /// Adds that the entries of a region below an index go.
+    ///
+    /// # Errors
+    ///
+    /// `InvalidArgument` where the batch is no longer open, `Memory`.
+    pub fn compact(&mut self, region: u64, index: u64) -> Result<()> {
+        self.handle.compact(region, index)
+    }
+
+    /// Adds that the entries of a region from an index on go.
+    ///
+    /// # Errors
+    ///
+    /// `InvalidArgument` where the batch is no longer open, `Memory`.
+    pub fn truncate(&mut self, region: u64, index: u64) -> Result<()> {
+        self.handle.truncate(region, index)
+    }
+
+    /// Adds that a key of a region gets a value.
+    ///
+    /// # Errors
+    ///
+    /// `InvalidArgument` where the batch is no longer open or the key is that of the group markers, `Memory`.
+    pub fn put(&mut self, region: u64, key: &[u8], value: &[u8]) -> Result<()> {
+        self.handle.put(region, key, value)
+    }
+
+    /// Adds that a key of a region goes.
+    ///
+    /// # Errors
+    ///
+    /// `InvalidArgument` where the batch is no longer open, `Memory`.
+    pub fn delete(&mut self, region: u64, key: &[u8]) -> Result<()> {
+        self.handle.delete(region, key)
+    }
+
+    /// Moves all items of another batch to the end of this one. The other one is then empty.
+    ///
+    /// # Errors
+    ///
+    /// `InvalidArgument` where one of the two is no longer open, `Full` where the entry bytes would pass 2^31 - 1, `Memory`.
+    /// Both are then as they were.
+    pub fn merge(&mut self, more: &mut LogBatch) -> Result<()> {
+        self.handle.merge(&mut more.handle)
+    }
+
+    /// Makes the bytes, and returns how many they are: none without items. Nothing is added from then on.
+    ///
+    /// # Errors
+    ///
+    /// `InvalidArgument` where the batch is no longer open, `Full` where it would have 2^56 bytes or more, `Memory`.
+    pub fn finish(&mut self) -> Result<usize> {
+        self.handle.finish()
+    }
+
+    /// Signs the bytes for a file. It may be repeated for other files.
+    ///
+    /// # Errors
+    ///
+    /// `InvalidArgument` where the batch is still open.
+    pub fn sign(&mut self, file: LogFile) -> Result<()> {
+        self.handle.sign(file)
+    }
+
+    /// Returns the bytes to write.
+    ///
+    /// # Errors
+    ///
+    /// `InvalidArgument` where they aren't signed.
+    pub fn bytes(&self) -> Result<Vec<u8>> {
+        self.handle.bytes()
+    }
+
+    /// Gives each entry and each key value its place: the bytes were written to a file, from `offset` on.
+    ///
+    /// # Errors
+    ///
+    /// `InvalidArgument` where the bytes aren't signed, or the offset is above 2^64 - 17.
+    pub fn written(&mut self, file: FileId, offset: u64) -> Result<()> {
+        let len = self.approximate_size();
+        self.handle.written(file, offset, len)
+    }
+
+    /// Takes the items out, to read them or to apply them to tables.
+    ///
+    /// # Errors
+    ///
+    /// `Memory`. The batch is then lost.
+    pub fn into_items(self) -> Result<Batch> {
+        Ok(Batch::of(self.handle.into_items()?))
+    }
+}

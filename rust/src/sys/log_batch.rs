@@ -1,0 +1,250 @@
+//! The handle of a batch that is written.
+
+use super::{
+    Handle, ItemsHandle, checked, found, raft_ffi_batch_add_entries, raft_ffi_batch_bytes,
+    raft_ffi_batch_clean, raft_ffi_batch_compact, raft_ffi_batch_delete, raft_ffi_batch_drop,
+    raft_ffi_batch_finish, raft_ffi_batch_into_items, raft_ffi_batch_merge, raft_ffi_batch_new,
+    raft_ffi_batch_put, raft_ffi_batch_sign, raft_ffi_batch_size, raft_ffi_batch_stage,
+    raft_ffi_batch_truncate, raft_ffi_batch_written, remembered, with,
+};
+use crate::{Error, FileId, LogFile, Queue, Result, Stage};
+use std::cell::Cell;
+use std::mem;
+
+/// The greatest offset at which a batch may have been written.
+const LAST_OFFSET: u64 = u64::MAX - 16;
+
+/// Holds a batch that is written.
+#[derive(Debug)]
+pub(crate) struct LogBatchHandle(Cell<Handle>);
+
+// SAFETY: the library proves that its handle may move to another thread; the cell makes this type no `Sync`.
+unsafe impl Send for LogBatchHandle {}
+
+impl LogBatchHandle {
+    /// Holds an open batch without items.
+    pub(crate) fn new() -> Result<LogBatchHandle> {
+        let mut handle = Handle::EMPTY;
+        // SAFETY: the handle is empty.
+        remembered(unsafe { raft_ffi_batch_new(&mut handle) })?;
+        Ok(LogBatchHandle::of(handle))
+    }
+
+    /// Holds the batch of a handle that isn't empty.
+    pub(super) fn of(handle: Handle) -> LogBatchHandle {
+        LogBatchHandle(Cell::new(handle))
+    }
+
+    /// Returns where the library's handle stands.
+    pub(super) fn as_ptr(&mut self) -> *mut Handle {
+        self.0.as_ptr()
+    }
+
+    /// Gives the library's handle away.
+    fn into_raw(self) -> Handle {
+        let handle = self.0.get();
+        mem::forget(self);
+        handle
+    }
+
+    /// Says how far the batch has come.
+    pub(crate) fn stage(&self) -> Stage {
+        // SAFETY: the handle holds a batch.
+        match with(&self.0, |batch| unsafe { raft_ffi_batch_stage(batch) }) {
+            0 => Stage::Open,
+            1 => Stage::Encoded,
+            _ => Stage::Signed,
+        }
+    }
+
+    /// Tests that items may be added.
+    pub(super) fn check_open(&self) -> Result<()> {
+        match self.stage() {
+            Stage::Open => Ok(()),
+            _ => Err(Error::invalid_argument("the batch is no longer open")),
+        }
+    }
+
+    /// Tests that the bytes are signed.
+    fn check_signed(&self) -> Result<()> {
+        match self.stage() {
+            Stage::Signed => Ok(()),
+            _ => Err(Error::invalid_argument("the batch isn't signed")),
+        }
+    }
+
+    /// Says about how many bytes there are or will be.
+    pub(crate) fn size(&self) -> usize {
+        // SAFETY: the handle holds a batch.
+        with(&self.0, |batch| unsafe { raft_ffi_batch_size(batch) })
+    }
+
+    /// Adds entries with their bytes.
+    pub(crate) fn add_entries<E: AsRef<[u8]>>(
+        &mut self,
+        region: u64,
+        first: u64,
+        entries: &[E],
+    ) -> Result<()> {
+        self.check_open()?;
+        if first.checked_add(entries.len() as u64).is_none() {
+            return Err(Error::invalid_argument(
+                "an index would be 2^64 - 1 or more",
+            ));
+        }
+        let lens: Vec<usize> = entries.iter().map(|entry| entry.as_ref().len()).collect();
+        let bytes: Vec<u8> = entries
+            .iter()
+            .flat_map(|entry| entry.as_ref())
+            .copied()
+            .collect();
+        assert_eq!(
+            lens.iter().sum::<usize>(),
+            bytes.len(),
+            "an entry has other bytes each time"
+        );
+        // SAFETY: the handle holds an open batch, the last index is below 2^64 - 1, and the lengths are those of the bytes.
+        checked(|text, text_len| unsafe {
+            raft_ffi_batch_add_entries(
+                self.0.as_ptr(),
+                region,
+                first,
+                lens.as_ptr(),
+                lens.len(),
+                bytes.as_ptr(),
+                bytes.len(),
+                text,
+                text_len,
+            )
+        })
+    }
+
+    /// Adds that all records go.
+    pub(crate) fn clean(&mut self, region: u64) -> Result<()> {
+        self.check_open()?;
+        // SAFETY: the handle holds an open batch.
+        remembered(unsafe { raft_ffi_batch_clean(self.0.as_ptr(), region) })
+    }
+
+    /// Adds that the entries below an index go.
+    pub(crate) fn compact(&mut self, region: u64, index: u64) -> Result<()> {
+        self.check_open()?;
+        // SAFETY: the handle holds an open batch.
+        remembered(unsafe { raft_ffi_batch_compact(self.0.as_ptr(), region, index) })
+    }
+
+    /// Adds that the entries from an index on go.
+    pub(crate) fn truncate(&mut self, region: u64, index: u64) -> Result<()> {
+        self.check_open()?;
+        // SAFETY: the handle holds an open batch.
+        remembered(unsafe { raft_ffi_batch_truncate(self.0.as_ptr(), region, index) })
+    }
+
+    /// Adds that a key gets a value.
+    pub(crate) fn put(&mut self, region: u64, key: &[u8], value: &[u8]) -> Result<()> {
+        self.check_open()?;
+        // SAFETY: the handle holds an open batch.
+        checked(|text, text_len| unsafe {
+            raft_ffi_batch_put(
+                self.0.as_ptr(),
+                region,
+                key.as_ptr(),
+                key.len(),
+                value.as_ptr(),
+                value.len(),
+                text,
+                text_len,
+            )
+        })
+    }
+
+    /// Adds that a key goes.
+    pub(crate) fn delete(&mut self, region: u64, key: &[u8]) -> Result<()> {
+        self.check_open()?;
+        // SAFETY: the handle holds an open batch.
+        remembered(unsafe {
+            raft_ffi_batch_delete(self.0.as_ptr(), region, key.as_ptr(), key.len())
+        })
+    }
+
+    /// Moves the items of another batch to the end.
+    pub(crate) fn merge(&mut self, more: &mut LogBatchHandle) -> Result<()> {
+        self.check_open()?;
+        more.check_open()?;
+        // SAFETY: both handles hold an open batch, and they are two.
+        checked(|text, text_len| unsafe {
+            raft_ffi_batch_merge(self.0.as_ptr(), more.0.as_ptr(), text, text_len)
+        })
+    }
+
+    /// Makes the bytes.
+    pub(crate) fn finish(&mut self) -> Result<usize> {
+        self.check_open()?;
+        let mut len = 0;
+        // SAFETY: the handle holds an open batch.
+        checked(|text, text_len| unsafe {
+            raft_ffi_batch_finish(self.0.as_ptr(), &mut len, text, text_len)
+        })?;
+        Ok(len)
+    }
+
+    /// Signs the bytes for a file.
+    pub(crate) fn sign(&mut self, file: LogFile) -> Result<()> {
+        if self.stage() == Stage::Open {
+            return Err(Error::invalid_argument("the batch is still open"));
+        }
+        // SAFETY: the handle holds a batch that is no longer open.
+        unsafe { raft_ffi_batch_sign(self.0.as_ptr(), file.into()) };
+        Ok(())
+    }
+
+    /// Copies the bytes.
+    pub(crate) fn bytes(&self) -> Result<Vec<u8>> {
+        self.check_signed()?;
+        // SAFETY: the handle holds a signed batch.
+        let bytes = found(|room, len, count| {
+            *count = with(&self.0, |batch| unsafe {
+                raft_ffi_batch_bytes(batch, room, len)
+            });
+            true
+        });
+        Ok(bytes.unwrap_or_default())
+    }
+
+    /// Gives entries and key values their places.
+    pub(crate) fn written(&mut self, file: FileId, offset: u64, len: usize) -> Result<()> {
+        self.check_signed()?;
+        if offset > LAST_OFFSET {
+            return Err(Error::invalid_argument(
+                "no batch begins past offset 2^64 - 17",
+            ));
+        }
+        // SAFETY: the handle holds a signed batch, and the offset is at most 2^64 - 17.
+        unsafe {
+            raft_ffi_batch_written(
+                self.0.as_ptr(),
+                file.queue == Queue::Rewrite,
+                file.seq,
+                offset,
+                len,
+            );
+        }
+        Ok(())
+    }
+
+    /// Takes the items out.
+    pub(crate) fn into_items(self) -> Result<ItemsHandle> {
+        let batch = self.into_raw();
+        let mut items = Handle::EMPTY;
+        // SAFETY: the one handle holds a batch, which is given away, and the other one is empty.
+        remembered(unsafe { raft_ffi_batch_into_items(batch, &mut items) })?;
+        Ok(ItemsHandle(Cell::new(items)))
+    }
+}
+
+impl Drop for LogBatchHandle {
+    fn drop(&mut self) {
+        // SAFETY: the handle holds a batch, which is given away.
+        unsafe { raft_ffi_batch_drop(self.0.get()) }
+    }
+}

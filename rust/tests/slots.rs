@@ -1,0 +1,192 @@
+//! Slots: the tables of a part of all regions.
+
+mod common;
+
+use common::{entry, files, lines, parts, run};
+use raft_recover::{
+    Batches, Content, ErrorKind, FileId, Item, LogBatch, Queue, SLOTS, Slot, Stage, Tables, slot_of,
+};
+use std::sync::Mutex;
+use std::thread;
+
+const APPEND_9: FileId = FileId {
+    queue: Queue::Append,
+    seq: 9,
+};
+
+/// The slot of a region.
+fn slot(region: u64) -> Slot {
+    Slot::new(slot_of(region)).unwrap()
+}
+
+/// A region of another slot.
+fn other(region: u64) -> u64 {
+    (0..).find(|id| slot_of(*id) != slot_of(region)).unwrap()
+}
+
+#[test]
+fn a_slot_has_a_number_below_128() {
+    for number in [0, 1, SLOTS - 1] {
+        assert_eq!(Slot::new(number).unwrap().number(), number);
+    }
+    for number in [SLOTS, usize::MAX] {
+        let e = Slot::new(number).unwrap_err();
+        assert_eq!(e.kind, ErrorKind::InvalidArgument);
+    }
+    assert!((0..1000).all(|region| slot_of(region) < SLOTS));
+}
+
+#[test]
+fn a_slot_reads_and_writes_as_tables_do() {
+    let mut slot = slot(7);
+    let mut tables = Tables::new().unwrap();
+    slot.append(7, &run(Queue::Append, 9, 10..20)).unwrap();
+    tables.append(7, &run(Queue::Append, 9, 10..20)).unwrap();
+    assert_eq!(slot.compact(7, 13).unwrap(), tables.compact(7, 13).unwrap());
+    assert_eq!(
+        slot.truncate(7, 19).unwrap(),
+        tables.truncate(7, 19).unwrap()
+    );
+    slot.put(7, b"a", b"one", APPEND_9).unwrap();
+    tables.put(7, b"a", b"one", APPEND_9).unwrap();
+    slot.put(7, b"b", b"two", APPEND_9).unwrap();
+    tables.put(7, b"b", b"two", APPEND_9).unwrap();
+    slot.delete(7, b"a").unwrap();
+    tables.delete(7, b"a").unwrap();
+    let moved = run(Queue::Rewrite, 2, 13..15);
+    slot.rewrite(7, &moved, Some(9)).unwrap();
+    tables.rewrite(7, &moved, Some(9)).unwrap();
+    slot.rewrite_key(7, b"b", Some(9), 2).unwrap();
+    tables.rewrite_key(7, b"b", Some(9), 2).unwrap();
+    slot.set_atomic_group(7, 1, 2).unwrap();
+    tables.set_atomic_group(7, 1, 2).unwrap();
+    assert_eq!(slot.summary(7), tables.summary(7));
+    assert_eq!(slot.entry(7, 13), Some(entry(Queue::Rewrite, 2, 13)));
+    assert_eq!(
+        slot.entries(7, 13..19, None),
+        tables.entries(7, 13..19, None)
+    );
+    assert_eq!(
+        slot.entries(7, 12..19, None),
+        tables.entries(7, 12..19, None)
+    );
+    assert_eq!(slot.entries_before(7, 9), tables.entries_before(7, 9));
+    assert_eq!(slot.rewritten_entries(7).unwrap(), moved);
+    assert_eq!(slot.value(7, b"b").unwrap(), b"two");
+    assert_eq!(slot.pairs_before(7, 9), tables.pairs_before(7, 9));
+    assert_eq!(slot.rewritten_pairs(7), tables.rewritten_pairs(7));
+    for queue in [Queue::Append, Queue::Rewrite] {
+        assert_eq!(slot.live(queue), tables.live(queue));
+    }
+    assert!(slot.remove(7, true).unwrap());
+    assert_eq!((slot.summary(7), slot.cleaned()), (None, vec![7]));
+    assert_eq!(slot.live(Queue::Append), 0);
+}
+
+#[test]
+fn a_region_of_another_slot_is_refused() {
+    let mut slot = slot(7);
+    let region = other(7);
+    let refused = [
+        slot.append(region, &run(Queue::Append, 9, 1..2)),
+        slot.compact(region, 1).map(drop),
+        slot.truncate(region, 1).map(drop),
+        slot.put(region, b"a", b"b", APPEND_9),
+        slot.delete(region, b"a"),
+        slot.rewrite(region, &run(Queue::Rewrite, 1, 1..2), None),
+        slot.rewrite_key(region, b"a", None, 1),
+        slot.set_atomic_group(region, 1, 2),
+        slot.remove(region, true).map(drop),
+        slot.set_atomic_group(7, 2, 1),
+    ];
+    for (i, refused) in refused.into_iter().enumerate() {
+        assert_eq!(refused.unwrap_err().kind, ErrorKind::InvalidArgument, "{i}");
+    }
+    assert_eq!(slot.summary(region), None);
+    assert_eq!(slot.cleaned(), []);
+}
+
+#[test]
+fn a_group_marker_changes_no_slot() {
+    let mut slot = slot(7);
+    let marker = Item {
+        region: other(7),
+        content: Content::Put {
+            key: b"__\x01".to_vec(),
+            value: vec![0],
+        },
+    };
+    slot.write(&marker, APPEND_9).unwrap();
+    assert_eq!(slot.live(Queue::Append), 0);
+}
+
+#[test]
+fn cleaned_regions_go_into_an_open_batch() {
+    let mut slot = slot(7);
+    slot.remove(7, true).unwrap();
+    let mut batch = LogBatch::new().unwrap();
+    batch.put(1, b"a", b"b").unwrap();
+    slot.take_cleaned_logs(&mut batch).unwrap();
+    assert_eq!(slot.cleaned(), []);
+    batch.finish().unwrap();
+    assert_eq!(batch.stage(), Stage::Encoded);
+    slot.remove(7, true).unwrap();
+    let e = slot.take_cleaned_logs(&mut batch).unwrap_err();
+    assert_eq!(e.kind, ErrorKind::InvalidArgument);
+    assert_eq!(slot.cleaned(), [7]);
+    assert_eq!(batch.into_items().unwrap().len(), 2);
+}
+
+#[test]
+fn slots_under_locks_get_the_recovered_tables() {
+    let files = files();
+    let slots: Vec<_> = (0..SLOTS)
+        .map(|n| Mutex::new(Slot::new(n).unwrap()))
+        .collect();
+    for part in parts(&files) {
+        let id = FileId {
+            queue: part.file.queue,
+            seq: part.file.seq,
+        };
+        // items of one region are all in one slot, so threads that take every other slot keep their order
+        thread::scope(|scope| {
+            for odd in 0..2 {
+                let slots = &slots;
+                scope.spawn(move || {
+                    for batch in Batches::new(part).unwrap() {
+                        for item in batch.unwrap().iter() {
+                            let number = slot_of(item.region);
+                            if number % 2 == odd {
+                                slots[number].lock().unwrap().write(&item, id).unwrap();
+                            }
+                        }
+                    }
+                });
+            }
+        });
+    }
+    let mut live = 0;
+    for (number, slot) in slots.iter().enumerate() {
+        let slot = slot.lock().unwrap();
+        assert_eq!(slot.number(), number);
+        live += slot.live(Queue::Append);
+    }
+    let last = format!("live {live} 0\n");
+    assert!(lines().ends_with(&last), "{last}");
+    for line in lines().lines() {
+        let Some((region, rest)) = line.split_once(" entries ") else {
+            continue;
+        };
+        let region = region.parse().unwrap();
+        let slot = slots[slot_of(region)].lock().unwrap();
+        let summary = slot.summary(region).unwrap();
+        assert!(rest.contains(&format!(" keys {} ", summary.keys)), "{line}");
+    }
+}
+
+#[test]
+fn a_slot_moves_to_another_thread() {
+    fn is_send<T: Send>() {}
+    is_send::<Slot>();
+    is_send::<LogBatch>();
+}

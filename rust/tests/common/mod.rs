@@ -44,7 +44,7 @@ pub fn lines() -> String {
     let readme = fs::read_to_string(top().join("README.md")).unwrap();
     let lines: String = readme
         .lines()
-        .skip_while(|line| !line.starts_with("    $ raftlog recover"))
+        .skip_while(|line| !line.starts_with("    $ crates/raftlog/out/raftlog recover"))
         .skip(1)
         .take_while(|line| line.starts_with("    "))
         .map(|line| format!("{}\n", line.trim()))

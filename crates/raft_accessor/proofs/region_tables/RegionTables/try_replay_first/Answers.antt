@@ -23,7 +23,7 @@ returns-clause-outcome c =
     let reserved : Inside = record c.self.inside { tables = c.reserve.new.self } in
     let made : Inside = record c.self.inside { tables = c.insert.new.self } in
     let same : tables_shown reserved ≡ c.args.self.now = shown-same c.self.inside reserved c.args.self.now c.self.view_is c.reserve.ensures.entries.2 in
-    taken c.args.self.now _ c.args.id c.new-table.result c.try_replay.new.self (λ t. after_replay c.args.queue t (run_shown c.args.run.now)) (λ e. ⊥) c.args.stats.now c.try_replay.new.stats 0 (ap (table_of c.args.id) c.requires.first ∙ sym c.new-table.ensures.empty) c.if-not-try_replay.ensures.done.0 c.try_replay.ensures.recounted
+    taken c.args.self.now _ c.args.id c.new-table.result c.try_replay.new.self (λ t. after_replay c.args.queue t (run_shown c.args.run.now)) (λ e. ⊥) c.args.stats.now c.try_replay.new.stats (0, 0) (ap (table_of c.args.id) c.requires.first ∙ sym c.new-table.ensures.empty) c.if-not-try_replay.ensures.done.0 c.try_replay.ensures.recounted
     (shown-with reserved made c.args.self.now c.args.id (Some c.try_replay.new.self) same c.in-Ok.ensures.updates.0)
 
 pub returns-clause-ends : goal.returns-clause-ends

@@ -44,7 +44,8 @@ pub enum Content {
     },
 }
 
-/// The items of a log batch: entries with their place in the file, key values with their file.
+/// The items of a log batch. Where it was read, or given its places by [`LogBatch::written`](crate::LogBatch::written), its
+/// entries have their place in the file, and its key values their file.
 #[derive(Debug)]
 pub struct Batch {
     handle: ItemsHandle,
@@ -62,11 +63,20 @@ impl Batch {
     }
 
     /// Returns an item, if there is one.
+    ///
+    /// # Panics
+    ///
+    /// Where an entry has no place: the batch was made here, and its items were taken out before
+    /// [`LogBatch::written`](crate::LogBatch::written).
     pub fn get(&self, i: usize) -> Option<Item> {
         self.handle.item(i)
     }
 
     /// Returns the items, in order.
+    ///
+    /// # Panics
+    ///
+    /// As [`Batch::get`] does.
     pub fn iter(&self) -> impl Iterator<Item = Item> + '_ {
         (0..self.len()).filter_map(|i| self.get(i))
     }

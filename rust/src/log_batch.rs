@@ -17,7 +17,7 @@ pub enum Stage {
 /// Log items and the bytes of their entries. While it is open items are added; then its bytes are made, signed for a file and
 /// written there, and its items applied to tables.
 ///
-/// It is `Send` and not `Sync`. After a refused call it is as it was.
+/// It is `Send` and not `Sync`. After a refused call it is as it was, but for `into_items`, which loses it.
 #[derive(Debug)]
 pub struct LogBatch {
     handle: LogBatchHandle,
@@ -161,7 +161,7 @@ impl LogBatch {
         self.handle.written(file, offset, len)
     }
 
-    /// Takes the items out, to read them or to apply them to tables.
+    /// Takes the items out, to apply them to tables or to read them. Entries can be read after [`LogBatch::written`] alone.
     ///
     /// # Errors
     ///

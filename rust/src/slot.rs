@@ -228,7 +228,8 @@ impl Slot {
     ///
     /// # Errors
     ///
-    /// Those of the call for its content. The slot is then as it was.
+    /// Those of the call for its content, and `InvalidArgument` for a put in a file of the rewrite queue. The slot is then as
+    /// it was.
     pub fn write(&mut self, item: &Item, file: FileId) -> Result<()> {
         let region = item.region;
         match &item.content {
@@ -241,6 +242,9 @@ impl Slot {
             Content::Clean => self.remove(region, true).map(drop),
             Content::Compact { index } => self.compact(region, *index).map(drop),
             Content::Truncate { index } => self.truncate(region, *index).map(drop),
+            Content::Put { .. } if file.queue == Queue::Rewrite => Err(Error::invalid_argument(
+                "a new item is in a file of the rewrite queue",
+            )),
             Content::Put { key, value } => self.put(region, key, value, file),
             Content::Delete { key } => self.delete(region, key),
         }

@@ -2,12 +2,15 @@
 //!
 //! What the library's contracts ask of their callers is kept here, by types:
 //!
-//! - A handle of this file holds something at any time: it is made full, and a call that empties it takes it by value.
+//! - A handle of this file and of the folder `sys` holds something at any time: it is made full, and a call that empties it
+//!   takes it by value.
 //! - A handle is in one call at a time (its calls take `&mut self`, or a `Cell` that makes it no `Sync`), isn't copied (no
 //!   `Clone`), and is freed once (by `Drop`, unless a call takes it).
 //! - Slices are lent for the call alone. They overlap nowhere: what is written is behind a `&mut` or of the call's own.
-//! - Numbers that a contract bounds are tested where they come in: the part of a file by [`FilePart::check`], the files of an
-//!   atomic group by [`Tables::set_atomic_group`](crate::Tables::set_atomic_group).
+//! - Numbers and stages that a contract bounds are tested where they come in: the part of a file by [`FilePart::check`]; the
+//!   files of an atomic group by [`Tables::set_atomic_group`](crate::Tables::set_atomic_group) and that of `Slot`; the stage of
+//!   a batch, the last index of its entries and its offset by [`LogBatchHandle`]; the number of a slot and its regions by
+//!   [`SlotHandle`].
 //!
 //! A `Global` of the library takes no bytes, and is not passed. A `&[T]` is passed as a pointer and a length. `tools/ffi.py`
 //! compares the declarations with the exports.
@@ -711,7 +714,7 @@ impl From<&Entry> for EntryNumbers {
 }
 
 impl From<EntryNumbers> for Entry {
-    /// Makes an entry of a table or a read batch, each of which has a place.
+    /// Makes an entry that has a place, as those of tables, of read batches and of written ones do.
     fn from(entry: EntryNumbers) -> Entry {
         assert!(entry.is_placed, "entry {} has no place", entry.index);
         let queue = if entry.is_rewrite {

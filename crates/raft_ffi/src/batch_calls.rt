@@ -6,6 +6,7 @@ ghost use Rattle.raft_base.specs.Signature.{signature_of};
 ghost use Rattle.raft_records.specs.Group.{reserved_key, IsKeyRefusal};
 ghost use Rattle.raft_records.specs.Item.{bare, command_item, pair_item};
 ghost use Rattle.raft_records.specs.LogBatch.{is_open, encoded, sealed, stage_number, IsSealedStage, empty_batch, with_batch, with_entries_added, encoded_length, approximate_length, log_batch_bytes, IsLogBatch};
+ghost use Rattle.raft_records.specs.Sizes.{HaveSmallNumbers};
 ghost use Rattle.raft_records.specs.declared.command.Command.TheVariants.{Clean, Compact, Truncate};
 ghost use Rattle.raft_records.specs.declared.key_value.OpType.TheVariants.{Put, Del};
 ghost use Rattle.raft_ffi.specs.Batches.{with_item, at_stage, place_at, written_to};
@@ -73,6 +74,9 @@ pub extern "C" fn raft_ffi_batch_size(alloc: Global, batch: &mut Batch) -> usize
     ensures same { batch.new.value ≡ batch.old.value }
     ensures size { Holds (λ b. result ≡ approximate_length b.stage b.items b.entry_bytes)
         batch.old.value }
+    ensures covers { Holds (λ b. HaveSmallNumbers b.items
+        → encoded_length b.items b.entry_bytes < 2 ^ 56
+        → encoded_length b.items b.entry_bytes ≤ result) batch.old.value }
 {
     let held = batch.take(alloc);
     let size = held.approximate_size();
@@ -81,7 +85,7 @@ pub extern "C" fn raft_ffi_batch_size(alloc: Global, batch: &mut Batch) -> usize
 }
 
 /// Adds entries of a region to an open batch: their indexes rise by one from `first` on, and the bytes are those of one after
-/// the other, each of which has so many as `lens` says. No entries add nothing.
+/// the other, each of which has so many as `lens` says. No entries add nothing. Bytes behind the last string are not looked at.
 #[unsafe(no_mangle)]
 pub extern "C" fn raft_ffi_batch_add_entries(
     alloc: Global,
@@ -102,6 +106,7 @@ pub extern "C" fn raft_ffi_batch_add_entries(
     ensures accepted { result.code ≡ 0 → lens.now ≢ [] → Holds (λ old. length old.entry_bytes
         + length (concat (strings_of lens.now bytes.now)) < 2 ^ 31) batch.old.value }
     ensures err { result.code ≢ 0 → batch.new.value ≡ batch.old.value }
+    ensures refused { result.code ≢ 0 → lens.now ≢ [] }
     ensures fault { result.code ≢ 0 → result.code ≢ 11 → Holds (λ old. (result.code ≡ 9)
         × (2 ^ 31 ≤ length old.entry_bytes + length (concat (strings_of lens.now bytes.now))))
         batch.old.value }
@@ -129,9 +134,13 @@ fn add_entries(
     ensures accepted { OnOk result (lens.now ≢ [] → length batch.old.entry_bytes
         + length (concat (strings_of lens.now bytes.now)) < 2 ^ 31) }
     ensures err { OnErr result (batch.new ≡ batch.old) }
+    ensures refused { OnErr result (lens.now ≢ []) }
     ensures fault { IfErr result (λ e. e ≢ Error.Memory → (e ≡ Error.Full) × (2 ^ 31
         ≤ length batch.old.entry_bytes + length (concat (strings_of lens.now bytes.now)))) }
 {
+    let [_, ..] = lens else {
+        return Ok(());
+    };
     let indexes = consecutive(alloc, first, lens)?;
     let strings = strings(alloc, lens, bytes)?;
     batch.add_raw_entries(region, indexes, strings)

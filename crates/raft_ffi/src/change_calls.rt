@@ -9,7 +9,7 @@ ghost use Rattle.raft_table.specs.KeyValues.{file_at};
 ghost use Rattle.raft_table.specs.Rewriting.{entries_after_rewrite, IsRewriteFault};
 ghost use Rattle.raft_table.specs.Start.{entries_after_append, IsTableRunFault};
 ghost use Rattle.raft_table.specs.Table.{after_append, after_rewrite, after_rewrite_key, with_pair, IsTablePutFault, IsKeyRewriteFault};
-ghost use Rattle.raft_table.specs.TableEntries.{from, below};
+ghost use Rattle.raft_table.specs.TableEntries.{from, below, IsRunIn};
 ghost use Rattle.raft_ffi.specs.Calls.{queue_of, IsCodeOf, Holds, BothHold};
 ghost use Rattle.raft_ffi.specs.Changes.{IsChangedTo, IsMemoryOr};
 ghost use Rattle.raft_ffi.specs.EntryData.{entry_of};
@@ -35,6 +35,7 @@ pub extern "C" fn raft_ffi_tables_append(
     requires held { IsTrue (is_some tables.old.value) }
     ensures ok { result.code ≡ 0 → BothHold (λ old new. IsChangedTo
         (after_append (table_in old.tables region) (map entry_of entries.now)) region old new) tables.old.value tables.new.value }
+    ensures accepted { result.code ≡ 0 → IsRunIn Append (map entry_of entries.now) }
     ensures err { result.code ≢ 0 → tables.new.value ≡ tables.old.value }
     ensures fault { result.code ≢ 0 → Holds (λ old. IsCodeOf (IsMemoryOr
         (λ e. IsListFault Append (map entry_of entries.now) e
@@ -163,6 +164,7 @@ pub extern "C" fn raft_ffi_tables_rewrite(
     requires held { IsTrue (is_some tables.old.value) }
     ensures ok { result.code ≡ 0 → BothHold (λ old new. IsChangedTo
         (after_rewrite (number_in gate) (table_in old.tables region) (map entry_of entries.now)) region old new) tables.old.value tables.new.value }
+    ensures accepted { result.code ≡ 0 → IsRunIn Rewrite (map entry_of entries.now) }
     ensures err { result.code ≢ 0 → tables.new.value ≡ tables.old.value }
     ensures fault { result.code ≢ 0 → Holds (λ old. IsCodeOf (IsMemoryOr
         (λ e. IsListFault Rewrite (map entry_of entries.now) e

@@ -4,12 +4,12 @@ ghost use Rattle.std.specs.Prelude.{◌≡◌, ◌⊎◌, ◌+◌, Some, OnOk, O
 ghost use Rattle.std.specs.FinMap as finite;
 ghost use Rattle.raft_base.specs.declared.pipe_log.LogQueue.TheVariants.{Append, Rewrite};
 ghost use Rattle.raft_accessor.specs.Accessor.{table_in};
-ghost use Rattle.raft_table.specs.Change.{after_change, IsAnswer, IsChangeFault, IsListFault};
+ghost use Rattle.raft_table.specs.Change.{after_change, IsAllowed, IsAnswer, IsChangeFault, IsListFault};
 ghost use Rattle.raft_table.specs.KeyValues.{file_at};
 ghost use Rattle.raft_table.specs.Rewriting.{entries_after_rewrite, IsRewriteFault};
 ghost use Rattle.raft_table.specs.Start.{entries_after_append, IsTableRunFault};
 ghost use Rattle.raft_table.specs.Table.{after_append, after_rewrite, after_rewrite_key, with_pair, IsTablePutFault, IsKeyRewriteFault};
-ghost use Rattle.raft_table.specs.TableEntries.{from, below};
+ghost use Rattle.raft_table.specs.TableEntries.{from, below, IsRunIn};
 ghost use Rattle.raft_ffi.specs.Changes.{IsChangedTo, IsMemoryOr};
 ghost use Rattle.raft_ffi.specs.EntryData.{entry_of};
 
@@ -27,6 +27,7 @@ fn change(accessor: &mut MemTableAccessor, region: u64, change: TableChange) -> 
         accessor.new) }
     ensures answer { IfOk result (IsAnswer change (table_in accessor.old.tables region)
         (table_in accessor.new.tables region)) }
+    ensures allowed { OnOk result (IsAllowed change) }
     ensures err { OnErr result (accessor.new ≡ accessor.old) }
     ensures fault { IfErr result (IsMemoryOr
         (IsChangeFault (table_in accessor.old.tables region) accessor.old.counts change)) }
@@ -47,6 +48,7 @@ pub(crate) fn append(
     ensures ok { OnOk result (IsChangedTo
         (after_append (table_in accessor.old.tables region) (map entry_of entries.now)) region
         accessor.old accessor.new) }
+    ensures accepted { OnOk result (IsRunIn Append (map entry_of entries.now)) }
     ensures err { OnErr result (accessor.new ≡ accessor.old) }
     ensures fault { IfErr result (IsMemoryOr
         (λ e. IsListFault Append (map entry_of entries.now) e
@@ -153,6 +155,7 @@ pub(crate) fn rewrite(
     ensures ok { OnOk result (IsChangedTo
         (after_rewrite gate (table_in accessor.old.tables region) (map entry_of entries.now)) region
         accessor.old accessor.new) }
+    ensures accepted { OnOk result (IsRunIn Rewrite (map entry_of entries.now)) }
     ensures err { OnErr result (accessor.new ≡ accessor.old) }
     ensures fault { IfErr result (IsMemoryOr
         (λ e. IsListFault Rewrite (map entry_of entries.now) e

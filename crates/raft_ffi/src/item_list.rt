@@ -52,7 +52,7 @@ impl ItemList {
     }
 }
 
-/// Takes the items out of a batch, which is then open and empty.
+/// Takes the items out of a batch, which is gone then.
 ///
 /// # Errors
 ///

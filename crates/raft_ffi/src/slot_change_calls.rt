@@ -9,7 +9,7 @@ ghost use Rattle.raft_table.specs.KeyValues.{file_at};
 ghost use Rattle.raft_table.specs.Rewriting.{entries_after_rewrite, IsRewriteFault};
 ghost use Rattle.raft_table.specs.Start.{entries_after_append, IsTableRunFault};
 ghost use Rattle.raft_table.specs.Table.{after_append, after_rewrite, after_rewrite_key, with_pair, IsTablePutFault, IsKeyRewriteFault};
-ghost use Rattle.raft_table.specs.TableEntries.{from, below};
+ghost use Rattle.raft_table.specs.TableEntries.{from, below, IsRunIn};
 ghost use Rattle.raft_ffi.specs.Calls.{queue_of, IsCodeOf, Holds, BothHold};
 ghost use Rattle.raft_ffi.specs.Changes.{IsMemoryOr};
 ghost use Rattle.raft_ffi.specs.EntryData.{entry_of};
@@ -37,6 +37,7 @@ pub extern "C" fn raft_ffi_slot_append(
     requires own { Holds (λ s. slot_of region ≡ s.number) slot.old.value }
     ensures ok { result.code ≡ 0 → BothHold (λ old new. IsSlotChangedTo
         (after_append (table_in old.content.tables region) (map entry_of entries.now)) region old new) slot.old.value slot.new.value }
+    ensures accepted { result.code ≡ 0 → IsRunIn Append (map entry_of entries.now) }
     ensures err { result.code ≢ 0 → slot.new.value ≡ slot.old.value }
     ensures fault { result.code ≢ 0 → Holds (λ old. IsCodeOf (IsMemoryOr
         (λ e. IsListFault Append (map entry_of entries.now) e
@@ -170,6 +171,7 @@ pub extern "C" fn raft_ffi_slot_rewrite(
     requires own { Holds (λ s. slot_of region ≡ s.number) slot.old.value }
     ensures ok { result.code ≡ 0 → BothHold (λ old new. IsSlotChangedTo
         (after_rewrite (number_in gate) (table_in old.content.tables region) (map entry_of entries.now)) region old new) slot.old.value slot.new.value }
+    ensures accepted { result.code ≡ 0 → IsRunIn Rewrite (map entry_of entries.now) }
     ensures err { result.code ≢ 0 → slot.new.value ≡ slot.old.value }
     ensures fault { result.code ≢ 0 → Holds (λ old. IsCodeOf (IsMemoryOr
         (λ e. IsListFault Rewrite (map entry_of entries.now) e

@@ -4,12 +4,12 @@ ghost use Rattle.std.specs.Prelude.{◌≡◌, ◌⊎◌, ◌+◌, Some, OnOk, O
 ghost use Rattle.std.specs.FinMap as finite;
 ghost use Rattle.raft_base.specs.declared.pipe_log.LogQueue.TheVariants.{Append, Rewrite};
 ghost use Rattle.raft_accessor.specs.Accessor.{slot_of, table_in};
-ghost use Rattle.raft_table.specs.Change.{after_change, IsAnswer, IsChangeFault, IsListFault};
+ghost use Rattle.raft_table.specs.Change.{after_change, IsAllowed, IsAnswer, IsChangeFault, IsListFault};
 ghost use Rattle.raft_table.specs.KeyValues.{file_at};
 ghost use Rattle.raft_table.specs.Rewriting.{entries_after_rewrite, IsRewriteFault};
 ghost use Rattle.raft_table.specs.Start.{entries_after_append, IsTableRunFault};
 ghost use Rattle.raft_table.specs.Table.{after_append, after_rewrite, after_rewrite_key, with_pair, IsTablePutFault, IsKeyRewriteFault};
-ghost use Rattle.raft_table.specs.TableEntries.{from, below};
+ghost use Rattle.raft_table.specs.TableEntries.{from, below, IsRunIn};
 ghost use Rattle.raft_ffi.specs.Changes.{IsMemoryOr};
 ghost use Rattle.raft_ffi.specs.EntryData.{entry_of};
 ghost use Rattle.raft_ffi.specs.Slots.{IsSlotChangedTo};
@@ -29,6 +29,7 @@ fn change(slot: &mut SlotTables, region: u64, change: TableChange) -> Result<u64
         slot.new) }
     ensures answer { IfOk result (IsAnswer change (table_in slot.old.content.tables region)
         (table_in slot.new.content.tables region)) }
+    ensures allowed { OnOk result (IsAllowed change) }
     ensures err { OnErr result (slot.new ≡ slot.old) }
     ensures fault { IfErr result (IsMemoryOr
         (IsChangeFault (table_in slot.old.content.tables region) slot.old.content.counts change)) }
@@ -50,6 +51,7 @@ pub(crate) fn append(
     ensures ok { OnOk result (IsSlotChangedTo
         (after_append (table_in slot.old.content.tables region) (map entry_of entries.now)) region
         slot.old slot.new) }
+    ensures accepted { OnOk result (IsRunIn Append (map entry_of entries.now)) }
     ensures err { OnErr result (slot.new ≡ slot.old) }
     ensures fault { IfErr result (IsMemoryOr
         (λ e. IsListFault Append (map entry_of entries.now) e
@@ -156,6 +158,7 @@ pub(crate) fn rewrite(
     ensures ok { OnOk result (IsSlotChangedTo
         (after_rewrite gate (table_in slot.old.content.tables region) (map entry_of entries.now)) region
         slot.old slot.new) }
+    ensures accepted { OnOk result (IsRunIn Rewrite (map entry_of entries.now)) }
     ensures err { OnErr result (slot.new ≡ slot.old) }
     ensures fault { IfErr result (IsMemoryOr
         (λ e. IsListFault Rewrite (map entry_of entries.now) e

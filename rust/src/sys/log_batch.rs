@@ -92,17 +92,13 @@ impl LogBatchHandle {
                 "an index would be 2^64 - 1 or more",
             ));
         }
-        let lens: Vec<usize> = entries.iter().map(|entry| entry.as_ref().len()).collect();
-        let bytes: Vec<u8> = entries
-            .iter()
-            .flat_map(|entry| entry.as_ref())
-            .copied()
-            .collect();
-        assert_eq!(
-            lens.iter().sum::<usize>(),
-            bytes.len(),
-            "an entry has other bytes each time"
-        );
+        let mut lens = Vec::with_capacity(entries.len());
+        let mut bytes = Vec::new();
+        for entry in entries {
+            let string = entry.as_ref();
+            lens.push(string.len());
+            bytes.extend_from_slice(string);
+        }
         // SAFETY: the handle holds an open batch, the last index is below 2^64 - 1, and the lengths are those of the bytes.
         checked(|text, text_len| unsafe {
             raft_ffi_batch_add_entries(

@@ -263,3 +263,12 @@ fn a_batch_moves_to_another_thread() {
     });
     assert_eq!(batch.join().unwrap().stage(), Stage::Signed);
 }
+
+#[test]
+#[should_panic(expected = "entry 10 has no place")]
+fn entries_without_a_place_are_not_read() {
+    let mut batch = LogBatch::new().unwrap();
+    batch.add_entries(7, 10, &["x"]).unwrap();
+    let items = batch.into_items().unwrap();
+    items.get(0);
+}

@@ -121,6 +121,27 @@ fn a_group_marker_changes_no_slot() {
 }
 
 #[test]
+fn a_new_put_in_a_rewrite_file_is_refused() {
+    let mut slot = slot(7);
+    let put = Item {
+        region: 7,
+        content: Content::Put {
+            key: b"k".to_vec(),
+            value: b"v".to_vec(),
+        },
+    };
+    let rewritten = FileId {
+        queue: Queue::Rewrite,
+        ..APPEND_9
+    };
+    let refused = slot.write(&put, rewritten).unwrap_err();
+    assert_eq!(refused.kind, ErrorKind::InvalidArgument);
+    assert_eq!(slot.live(Queue::Rewrite), 0);
+    slot.write(&put, APPEND_9).unwrap();
+    assert_eq!(slot.live(Queue::Append), 1);
+}
+
+#[test]
 fn cleaned_regions_go_into_an_open_batch() {
     let mut slot = slot(7);
     slot.remove(7, true).unwrap();

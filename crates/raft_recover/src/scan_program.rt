@@ -10,7 +10,7 @@ ghost use Rattle.raft_recover.specs.ScanWords.{scan_asked};
 use crate::ending::{Program, Status};
 use crate::request::{paths_named, queue_named, read_files, version_named};
 use crate::scan::{append_scan, both};
-use raft_base::{FileId, FileSeq, LogQueue, Result, Version};
+use raft_base::{Error, FileId, FileSeq, LogQueue, Result, Version};
 use raft_records::{FilePart, write_whole};
 use std::alloc::Global;
 use std::io;

@@ -115,6 +115,7 @@ fn every_request_refused_in_turn() {
             break;
         }
     }
-    assert!(refused > 50, "{refused}");
+    // Where a way that is tried first finds no memory, the other one asks again, and gets it.
+    assert!(refused > 20, "{refused}");
     println!("{refused} requests refused");
 }

@@ -1,12 +1,15 @@
 -- On the bytes of commands and key values.
-use Rattle.std.proofs.Common.{◌≡◌, ℕ, ◌+◌, ◌<◌, ◌≤◌, List, [], ◌∷◌, ◌++◌, length, take, drop, Option, Some, None, refl, sym, ap, ◌∙◌, subst, arith}
+use Rattle.std.proofs.Common.{◌≡◌, ℕ, ◌+◌, ◌<◌, ◌≤◌, List, [], ◌∷◌, ◌++◌, length, take, drop, Option, Some, None, refl, sym, ap, ◌∙◌, subst, arith, inl, inr}
 use Rattle.std.proofs.lemmas.List.{take-append-drop, length-take-le, length-append}
 use Rattle.raft_codec.specs.Reading.{Reads, HasNoFront, HasOneFront, IsTagged, IsFollowedBy}
 use Rattle.raft_codec.specs.Varint.{IsVarint}
 use Rattle.raft_codec.proofs.VarintLemmas.{varint_one_front}
 use Rattle.raft_codec.proofs.ReadingLemmas.{reads_as, reads_tagged, reads_pair, no_first, no_second, second_at, pair_one_front, heads, tagged_at, no_tagged, tagged_same, tagged_one_front}
 use Rattle.raft_records.specs.declared.command.Command.TheVariants.{Compact, Truncate}
+use Rattle.raft_base.specs.declared.errors.Error.{Error}
 use Rattle.raft_base.specs.declared.pipe_log.FileId.{FileId}
+use Rattle.raft_records.specs.Faults.{IsMemory, IsKeyValueFault}
+use Rattle.raft_records.specs.ReadWords.{change_with}
 use Rattle.raft_records.specs.declared.key_value.OpType.{OpType}
 use Rattle.raft_records.specs.declared.key_value.OpType.TheVariants.{Put, Del}
 use Rattle.raft_records.specs.Item.{Pair}
@@ -111,6 +114,13 @@ del_read behind rest p r =
     let del : Pair = record { op_type = Del; key = p.key; value = None; file_id = None } in
     let read : Reads IsKeyValue (2 ∷ behind) rest del = reads_as (IsTagged 2 IsByteString) IsKeyValue p.key del (λ a q. q) (reads_tagged 2 IsByteString p.key r.1) in
     subst (λ (q : Pair). Reads IsKeyValue (2 ∷ behind) rest q) (sym r.0) read
+
+-- where a change of a key stands, there may be no memory for it
+pub no_room_for_pair : (bytes rest key : List ℕ) (value : Option (List ℕ)) (e : Error) → Reads IsKeyValue bytes rest (change_with key value) → IsMemory e → IsKeyValueFault bytes e
+no_room_for_pair bytes rest key (Some value) e r memory =
+    subst (λ (b : List ℕ). IsKeyValueFault b e) (sym (r.split ∙ ap (λ (t : List ℕ). t ++ rest) r.spells.1)) (inr (inl (refl, inl memory)))
+no_room_for_pair bytes rest key None e r memory =
+    subst (λ (b : List ℕ). IsKeyValueFault b e) (sym (r.split ∙ ap (λ (t : List ℕ). t ++ rest) r.spells.1)) (inr (inr (refl, inl memory)))
 
 no_put_of : (behind front rest key : List ℕ) (o : OpType) (v : Option (List ℕ)) (f : Option FileId) → HasNoFront IsKeyAndValue behind → IsPairOf o v f key front → 1 ∷ behind ≡ front ++ rest → ⊥
 no_put_of behind front rest key Put (Some v) None none p e = no_tagged 1 IsKeyAndValue none front rest (key, v) p e

@@ -19,8 +19,8 @@ returns-in_ok-command-in-2-clause-ok c =
     let split : c.args.bytes.now ≡ 2 ∷ c.in-Some.behind.now = subst (λ (k : ℕ). c.args.bytes.now ≡ k ∷ c.in-Some.behind.now) c.in-2.is c.in-Some.ensures.cases.0 in
     command_read c.args.start c.args.bytes.now c.in-Some.behind.now c.in_ok-command-in-2.rest.now c.in_ok-command-in-2.command c.args.spans.now.items split c.in_ok-command-in-2.ensures.ok
 
-pub returns-in_ok-content-in-3-clause-ok : goal.returns-in_ok-content-in-3-clause-ok
-returns-in_ok-content-in-3-clause-ok c =
-    let split : c.args.bytes.now ≡ 3 ∷ c.in-Some.behind.now = subst (λ (k : ℕ). c.args.bytes.now ≡ k ∷ c.in-Some.behind.now) c.in-3.is c.in-Some.ensures.cases.0 in
-    let read = c.in_ok-content-in-3.ensures.ok in
-    pair_read c.args.start c.args.bytes.now c.in-Some.behind.now c.in_ok-content-in-3.rest.now c.in_ok-content-in-3.content read.0 c.args.spans.now.items split read.1 read.2
+pub returns-in_ok-key-in-3-in-Some-clause-ok : goal.returns-in_ok-key-in-3-in-Some-clause-ok
+returns-in_ok-key-in-3-in-Some-clause-ok c = ?
+
+pub returns-in_ok-key-in-3-in-None-clause-ok : goal.returns-in_ok-key-in-3-in-None-clause-ok
+returns-in_ok-key-in-3-in-None-clause-ok c = ?

@@ -30,6 +30,11 @@ impl LogBatch {
     }
 
     /// Returns the handle.
+    pub(crate) fn handle(&self) -> &LogBatchHandle {
+        &self.handle
+    }
+
+    /// Returns the handle.
     pub(crate) fn handle_mut(&mut self) -> &mut LogBatchHandle {
         &mut self.handle
     }

@@ -151,8 +151,8 @@ impl Tables {
     /// # Errors
     ///
     /// `Corruption` where an item would be refused: the text names the region, the index and the reason. `Memory`.
-    pub fn check_append(&self, batch: &mut LogBatch) -> Result<()> {
-        self.handle.check_append(batch.handle_mut())
+    pub fn check_append(&self, batch: &LogBatch) -> Result<()> {
+        self.handle.check_append(batch.handle())
     }
 
     /// Hands out the cleaned regions as an open batch with a `Clean` for each, in order. The list is then empty.

@@ -193,10 +193,10 @@ fn the_last_index_is_kept_free_and_group_markers_are_no_keys() {
 fn written_batches_are_checked_and_applied() {
     let mut tables = Tables::new().unwrap();
     let mut batch = batch();
-    tables.check_append(&mut batch).unwrap();
+    tables.check_append(&batch).unwrap();
     sealed(&mut batch);
     batch.written(APPEND_3, 0).unwrap();
-    tables.check_append(&mut batch).unwrap();
+    tables.check_append(&batch).unwrap();
     tables.apply_append(batch.into_items().unwrap()).unwrap();
     assert_eq!(tables.cleaned(), [9]);
     assert_eq!(tables.summary(7).unwrap().first_index, Some(11));
@@ -204,7 +204,7 @@ fn written_batches_are_checked_and_applied() {
     let before = tables.to_string();
     let mut hole = LogBatch::new().unwrap();
     hole.add_entries(7, 40, &["x"]).unwrap();
-    let e = tables.check_append(&mut hole).unwrap_err();
+    let e = tables.check_append(&hole).unwrap_err();
     assert_eq!(e.kind, ErrorKind::Corruption, "{e}");
     assert_eq!(tables.to_string(), before);
 }

@@ -1,6 +1,6 @@
 //! Recoveries by raft-engine's own modules, and its tables as plain data: a module of the harness that builds them.
 
-use super::read::{new_context, pool, replay_as_crate, replay_one, Part};
+use super::read::{pool, replay_as_crate, replay_one, Part};
 use crate::memtable::{EntryIndex, MemTables};
 use crate::pipe_log::{FileId, LogQueue, Version};
 use crate::GlobalStats;
@@ -51,12 +51,6 @@ impl Files {
         let (tables, stats) = context.map_err(|e| e.to_string())?.finish();
         Ok(Tables(tables, stats))
     }
-}
-
-/// A context without anything, so that an empty list of files can be recovered.
-pub fn recover_nothing() -> Tables {
-    let (tables, stats) = new_context().finish();
-    Tables(tables, stats)
 }
 
 impl Tables {

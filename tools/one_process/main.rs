@@ -96,6 +96,24 @@ fn entries(tables: &Tables, region: u64) -> Vec<adapter::Entry> {
     found.into_iter().map(entry).collect()
 }
 
+/// Returns what is different of a region, if something is.
+fn region_difference(ours: &Tables, region: &adapter::Region) -> Option<&'static str> {
+    let id = region.id;
+    if entries(ours, id) != region.entries {
+        return Some("entries");
+    }
+    let pairs = ours.pairs(id).expect("there is memory");
+    let ours_pairs = pairs.iter().map(|pair| (&pair.key, &pair.value));
+    if !ours_pairs.eq(region.pairs.iter().map(|(key, value)| (key, value))) {
+        return Some("keys");
+    }
+    let summary = ours.summary(id).expect("a region has a table");
+    if (summary.append_seq, summary.rewrite_seq) != (region.append_seq, region.rewrite_seq) {
+        return Some("least files");
+    }
+    None
+}
+
 /// Returns what is different, if something is, and counts entries and keys.
 fn difference(
     ours: &Tables,
@@ -108,24 +126,11 @@ fn difference(
         return Some("regions".into());
     }
     for region in &regions {
-        let id = region.id;
-        if entries(ours, id) != region.entries {
-            return Some(format!("entries of {id}"));
-        }
-        let pairs = ours.pairs(id).expect("there is memory");
-        if !pairs
-            .iter()
-            .map(|p| (&p.key, &p.value))
-            .eq(region.pairs.iter().map(|(k, v)| (k, v)))
-        {
-            return Some(format!("keys of {id}"));
-        }
-        let summary = ours.summary(id).expect("a region has a table");
-        if (summary.append_seq, summary.rewrite_seq) != (region.append_seq, region.rewrite_seq) {
-            return Some(format!("least files of {id}"));
+        if let Some(what) = region_difference(ours, region) {
+            return Some(format!("{what} of {}", region.id));
         }
         counted.0 += region.entries.len();
-        counted.1 += pairs.len();
+        counted.1 += region.pairs.len();
     }
     let mut cleaned = ours.cleaned();
     cleaned.sort_unstable();

@@ -16,7 +16,7 @@ const LAST_OFFSET: u64 = u64::MAX - 16;
 
 /// Holds a batch that is written.
 #[derive(Debug)]
-pub(crate) struct LogBatchHandle(Cell<Handle>);
+pub(crate) struct LogBatchHandle(pub(super) Cell<Handle>);
 
 // SAFETY: the library proves that its handle may move to another thread; the cell makes this type no `Sync`.
 unsafe impl Send for LogBatchHandle {}

@@ -1,0 +1,108 @@
+//! The handle of a context.
+
+use super::{
+    Handle, KeptNumbers, TablesHandle, checked, raft_ffi_context_drop, raft_ffi_context_finish,
+    raft_ffi_context_kept, raft_ffi_context_merge, raft_ffi_context_new, raft_ffi_context_overlay,
+    raft_ffi_context_replay, remembered,
+};
+use crate::{FilePart, Kept, Queue, Result};
+use std::cell::Cell;
+use std::mem;
+
+/// Holds a context.
+#[derive(Debug)]
+pub(crate) struct ContextHandle(Handle);
+
+// SAFETY: the library proves that its handle may move to another thread, and each call takes `self` or `&mut self`.
+unsafe impl Send for ContextHandle {}
+
+impl ContextHandle {
+    /// Holds a context that has read nothing.
+    pub(crate) fn new() -> Result<ContextHandle> {
+        let mut handle = Handle::EMPTY;
+        // SAFETY: the handle is empty.
+        remembered(unsafe { raft_ffi_context_new(&mut handle) })?;
+        Ok(ContextHandle(handle))
+    }
+
+    /// Gives the library's handle away.
+    fn into_raw(self) -> Handle {
+        let handle = self.0;
+        mem::forget(self);
+        handle
+    }
+
+    /// Replays a part.
+    pub(crate) fn replay(self, part: FilePart<'_>) -> Result<ContextHandle> {
+        part.check()?;
+        let mut handle = self.into_raw();
+        // SAFETY: the handle holds a context, and the bytes end where an offset can. After a refusal the handle is empty.
+        checked(|text, text_len| unsafe {
+            raft_ffi_context_replay(
+                &mut handle,
+                part.file.into(),
+                part.offset,
+                part.bytes.as_ptr(),
+                part.bytes.len(),
+                text,
+                text_len,
+            )
+        })?;
+        Ok(ContextHandle(handle))
+    }
+
+    /// Takes in the context of the batches that follow.
+    pub(crate) fn merge(self, newer: ContextHandle, queue: Queue) -> Result<ContextHandle> {
+        let (mut handle, newer) = (self.into_raw(), newer.into_raw());
+        // SAFETY: both handles hold a context, and the newer one is given away. After a refusal the other one is empty.
+        checked(|text, text_len| unsafe {
+            raft_ffi_context_merge(&mut handle, newer, queue == Queue::Rewrite, text, text_len)
+        })?;
+        Ok(ContextHandle(handle))
+    }
+
+    /// Takes in the context of the append queue.
+    pub(crate) fn overlay(self, append: ContextHandle) -> Result<ContextHandle> {
+        let (mut handle, append) = (self.into_raw(), append.into_raw());
+        // SAFETY: both handles hold a context, and the second one is given away. After a refusal the first one is empty.
+        checked(|text, text_len| unsafe {
+            raft_ffi_context_overlay(&mut handle, append, text, text_len)
+        })?;
+        Ok(ContextHandle(handle))
+    }
+
+    /// Says how much the context holds.
+    pub(crate) fn kept(&mut self) -> Result<Kept> {
+        let mut kept = KeptNumbers::default();
+        // SAFETY: the handle holds a context, before and after.
+        checked(|text, text_len| unsafe {
+            raft_ffi_context_kept(&mut self.0, &mut kept, text, text_len)
+        })?;
+        Ok(Kept {
+            entries: kept.entries,
+            keys: kept.keys,
+            marks: kept.marks,
+            deleted_keys: kept.deleted_keys,
+            cleaned: kept.cleaned,
+            waiting_items: kept.waiting_items,
+        })
+    }
+
+    /// Makes the tables.
+    pub(crate) fn finish(self) -> Result<TablesHandle> {
+        let context = self.into_raw();
+        let mut handle = Handle::EMPTY;
+        // SAFETY: the one handle holds a context, which is given away, and the other one is empty.
+        checked(|text, text_len| unsafe {
+            raft_ffi_context_finish(context, &mut handle, text, text_len)
+        })?;
+        Ok(TablesHandle(Cell::new(handle)))
+    }
+}
+
+impl Drop for ContextHandle {
+    fn drop(&mut self) {
+        // SAFETY: the handle holds a context, which is given away.
+        unsafe { raft_ffi_context_drop(self.0) }
+    }
+}

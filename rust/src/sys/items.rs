@@ -1,0 +1,122 @@
+//! The handle of the items of a batch.
+
+use super::{
+    Handle, ItemHead, checked, entries, found, raft_ffi_items_drop, raft_ffi_items_entries,
+    raft_ffi_items_head, raft_ffi_items_key, raft_ffi_items_len, raft_ffi_items_next,
+    raft_ffi_items_value, with,
+};
+use crate::{Content, Entry, FilePart, Item, Result};
+use std::cell::Cell;
+use std::mem;
+
+/// Holds the items of a batch.
+#[derive(Debug)]
+pub(crate) struct ItemsHandle(pub(super) Cell<Handle>);
+
+// SAFETY: the library proves that its handle may move to another thread; the cell makes this type no `Sync`.
+unsafe impl Send for ItemsHandle {}
+
+impl ItemsHandle {
+    /// Reads the batch that stands at `at` in a part, and says where the next one begins; nothing at the end.
+    pub(crate) fn next(part: FilePart<'_>, at: usize) -> Result<Option<(ItemsHandle, usize)>> {
+        part.check()?;
+        assert!(at <= part.bytes.len(), "no batch stands behind the end");
+        if at == part.bytes.len() {
+            return Ok(None);
+        }
+        let (mut handle, mut next) = (Handle::EMPTY, at);
+        // SAFETY: the handle is empty, `at` is within the bytes, and these end where an offset can.
+        checked(|text, text_len| unsafe {
+            raft_ffi_items_next(
+                &mut handle,
+                part.file.into(),
+                part.offset,
+                part.bytes.as_ptr(),
+                part.bytes.len(),
+                at,
+                &mut next,
+                text,
+                text_len,
+            )
+        })?;
+        // In front of the end a batch was read, so the handle holds items.
+        Ok(Some((ItemsHandle(Cell::new(handle)), next)))
+    }
+
+    /// Gives the library's handle away.
+    pub(super) fn into_raw(self) -> Handle {
+        let handle = self.0.get();
+        mem::forget(self);
+        handle
+    }
+
+    /// Counts the items.
+    pub(crate) fn len(&self) -> usize {
+        // SAFETY: the handle holds items.
+        with(&self.0, |items| unsafe { raft_ffi_items_len(items) })
+    }
+
+    /// Finds an item.
+    pub(crate) fn item(&self, i: usize) -> Option<Item> {
+        let mut head = ItemHead::default();
+        // SAFETY: the handle holds items.
+        let is_found = with(&self.0, |items| unsafe {
+            raft_ffi_items_head(items, i, &mut head)
+        });
+        let index = head.number;
+        is_found.then(|| Item {
+            region: head.region,
+            content: match head.kind {
+                0 => Content::Entries(self.entries(i)),
+                1 => Content::Clean,
+                2 => Content::Compact { index },
+                3 => Content::Truncate { index },
+                4 => Content::Put {
+                    key: self.key(i),
+                    value: self.value(i),
+                },
+                _ => Content::Delete { key: self.key(i) },
+            },
+        })
+    }
+
+    /// Lists the entries of an item that has some.
+    fn entries(&self, i: usize) -> Vec<Entry> {
+        // SAFETY: the handle holds items.
+        let list = found(|room, len, count| {
+            with(&self.0, |items| unsafe {
+                raft_ffi_items_entries(items, i, room, len, count)
+            })
+        });
+        entries(list.expect("an item of entries has entries"))
+    }
+
+    /// Finds the key of an item that changes one.
+    fn key(&self, i: usize) -> Vec<u8> {
+        // SAFETY: the handle holds items.
+        found(|room, len, count| {
+            with(&self.0, |items| unsafe {
+                raft_ffi_items_key(items, i, room, len, count)
+            })
+        })
+        .expect("a change of a key has a key")
+    }
+
+    /// Finds the value of an item that puts one.
+    fn value(&self, i: usize) -> Vec<u8> {
+        // SAFETY: the handle holds items.
+        found(|room, len, count| {
+            with(&self.0, |items| unsafe {
+                raft_ffi_items_value(items, i, room, len, count)
+            })
+        })
+        .expect("a put that was read has a value")
+    }
+}
+
+impl Drop for ItemsHandle {
+    fn drop(&mut self) {
+        // SAFETY: the handle holds items, which are given away.
+        unsafe { raft_ffi_items_drop(self.0.get()) }
+    }
+}

@@ -1,0 +1,390 @@
+//! The handle of tables.
+
+use super::{
+    EntryNumbers, Handle, ItemsHandle, LogBatchHandle, SummaryNumbers, checked, entries, found,
+    listed, numbers, pairs, raft_ffi_tables_append, raft_ffi_tables_apply_append,
+    raft_ffi_tables_apply_rewrite, raft_ffi_tables_atomic_group, raft_ffi_tables_check_append,
+    raft_ffi_tables_cleaned, raft_ffi_tables_cleaned_logs, raft_ffi_tables_compact,
+    raft_ffi_tables_delete, raft_ffi_tables_drop, raft_ffi_tables_entries,
+    raft_ffi_tables_entries_before, raft_ffi_tables_entry, raft_ffi_tables_live,
+    raft_ffi_tables_merge_append, raft_ffi_tables_merge_newer, raft_ffi_tables_new,
+    raft_ffi_tables_pairs_before, raft_ffi_tables_put, raft_ffi_tables_regions,
+    raft_ffi_tables_remove, raft_ffi_tables_rewrite, raft_ffi_tables_rewrite_key,
+    raft_ffi_tables_rewritten_entries, raft_ffi_tables_rewritten_pairs, raft_ffi_tables_summary,
+    raft_ffi_tables_truncate, raft_ffi_tables_value, remembered, with,
+};
+use crate::{Entry, FileId, Pair, Queue, Result, Summary};
+use std::cell::Cell;
+use std::mem;
+use std::ops::Range;
+
+/// Holds tables. A call that reads takes them out and puts them in again.
+#[derive(Debug)]
+pub(crate) struct TablesHandle(pub(super) Cell<Handle>);
+
+// SAFETY: the library proves that its handle may move to another thread; the cell makes this type no `Sync`.
+unsafe impl Send for TablesHandle {}
+
+impl TablesHandle {
+    /// Holds no tables of regions.
+    pub(crate) fn new() -> Result<TablesHandle> {
+        let mut handle = Handle::EMPTY;
+        // SAFETY: the handle is empty.
+        remembered(unsafe { raft_ffi_tables_new(&mut handle) })?;
+        Ok(TablesHandle(Cell::new(handle)))
+    }
+
+    /// Gives the library's handle away.
+    fn into_raw(self) -> Handle {
+        let handle = self.0.get();
+        mem::forget(self);
+        handle
+    }
+
+    /// Counts the live records of a queue.
+    pub(crate) fn live(&self, queue: Queue) -> usize {
+        // SAFETY: the handle holds tables.
+        with(&self.0, |tables| unsafe {
+            raft_ffi_tables_live(tables, queue == Queue::Rewrite)
+        })
+    }
+
+    /// Finds what a region's table has.
+    pub(crate) fn summary(&self, region: u64) -> Option<Summary> {
+        let mut summary = SummaryNumbers::default();
+        // SAFETY: the handle holds tables.
+        let is_found = with(&self.0, |tables| unsafe {
+            raft_ffi_tables_summary(tables, region, &mut summary)
+        });
+        is_found.then(|| Summary {
+            entries: summary.entries,
+            keys: summary.keys,
+            first_index: summary.first.number(),
+            append_seq: summary.append_seq.number(),
+            rewrite_seq: summary.rewrite_seq.number(),
+        })
+    }
+
+    /// Lists the regions that have a table.
+    pub(crate) fn regions(&self) -> Result<Vec<u64>> {
+        // SAFETY: the handle holds tables.
+        listed(|room, len, count| {
+            remembered(with(&self.0, |tables| unsafe {
+                raft_ffi_tables_regions(tables, room, len, count)
+            }))
+        })
+    }
+
+    /// Lists the regions that were cleaned.
+    pub(crate) fn cleaned(&self) -> Vec<u64> {
+        // SAFETY: the handle holds tables.
+        found(|room, len, count| {
+            *count = with(&self.0, |tables| unsafe {
+                raft_ffi_tables_cleaned(tables, room, len)
+            });
+            true
+        })
+        .unwrap_or_default()
+    }
+
+    /// Finds an entry.
+    pub(crate) fn entry(&self, region: u64, index: u64) -> Option<Entry> {
+        let mut entry = EntryNumbers::default();
+        // SAFETY: the handle holds tables.
+        let is_found = with(&self.0, |tables| unsafe {
+            raft_ffi_tables_entry(tables, region, index, &mut entry)
+        });
+        is_found.then(|| entry.into())
+    }
+
+    /// Lists the entries of a range.
+    pub(crate) fn entries(
+        &self,
+        region: u64,
+        range: Range<u64>,
+        max_size: Option<u64>,
+    ) -> Result<Vec<Entry>> {
+        // SAFETY: the handle holds tables.
+        let list = listed(|room, len, count| {
+            checked(|text, text_len| {
+                with(&self.0, |tables| unsafe {
+                    raft_ffi_tables_entries(
+                        tables,
+                        region,
+                        range.start,
+                        range.end,
+                        max_size.into(),
+                        room,
+                        len,
+                        count,
+                        text,
+                        text_len,
+                    )
+                })
+            })
+        })?;
+        Ok(entries(list))
+    }
+
+    /// Lists the appended entries up to a gate.
+    pub(crate) fn entries_before(&self, region: u64, gate: u64) -> Result<Vec<Entry>> {
+        // SAFETY: the handle holds tables.
+        let list = listed(|room, len, count| {
+            remembered(with(&self.0, |tables| unsafe {
+                raft_ffi_tables_entries_before(tables, region, gate, room, len, count)
+            }))
+        })?;
+        Ok(entries(list))
+    }
+
+    /// Lists the rewritten entries.
+    pub(crate) fn rewritten_entries(&self, region: u64) -> Result<Vec<Entry>> {
+        // SAFETY: the handle holds tables.
+        let list = listed(|room, len, count| {
+            remembered(with(&self.0, |tables| unsafe {
+                raft_ffi_tables_rewritten_entries(tables, region, room, len, count)
+            }))
+        })?;
+        Ok(entries(list))
+    }
+
+    /// Finds the value of a key.
+    pub(crate) fn value(&self, region: u64, key: &[u8]) -> Option<Vec<u8>> {
+        // SAFETY: the handle holds tables.
+        found(|room, len, count| {
+            with(&self.0, |tables| unsafe {
+                raft_ffi_tables_value(tables, region, key.as_ptr(), key.len(), room, len, count)
+            })
+        })
+    }
+
+    /// Lists the appended keys and values up to a gate.
+    pub(crate) fn pairs_before(&self, region: u64, gate: u64) -> Result<Vec<Pair>> {
+        pairs(|lens, lens_len, count, bytes, bytes_len, len| {
+            // SAFETY: the handle holds tables.
+            remembered(with(&self.0, |tables| unsafe {
+                raft_ffi_tables_pairs_before(
+                    tables, region, gate, lens, lens_len, count, bytes, bytes_len, len,
+                )
+            }))
+        })
+    }
+
+    /// Lists the rewritten keys and values.
+    pub(crate) fn rewritten_pairs(&self, region: u64) -> Result<Vec<Pair>> {
+        pairs(|lens, lens_len, count, bytes, bytes_len, len| {
+            // SAFETY: the handle holds tables.
+            remembered(with(&self.0, |tables| unsafe {
+                raft_ffi_tables_rewritten_pairs(
+                    tables, region, lens, lens_len, count, bytes, bytes_len, len,
+                )
+            }))
+        })
+    }
+
+    /// Tests whether the items of a batch would be accepted.
+    pub(crate) fn check_append(&self, batch: &LogBatchHandle) -> Result<()> {
+        checked(|text, text_len| {
+            with(&self.0, |tables| {
+                // SAFETY: the handles hold tables and a batch.
+                with(&batch.0, |batch| unsafe {
+                    raft_ffi_tables_check_append(tables, batch, text, text_len)
+                })
+            })
+        })
+    }
+
+    /// Hands out the cleaned regions as a batch.
+    pub(crate) fn cleaned_logs(&mut self) -> Result<LogBatchHandle> {
+        let mut batch = Handle::EMPTY;
+        // SAFETY: the one handle holds tables, and the other one is empty.
+        remembered(unsafe { raft_ffi_tables_cleaned_logs(self.0.as_ptr(), &mut batch) })?;
+        Ok(LogBatchHandle::of(batch))
+    }
+
+    /// Appends entries.
+    pub(crate) fn append(&mut self, region: u64, entries: &[Entry]) -> Result<()> {
+        let run = numbers(entries);
+        // SAFETY: the handle holds tables.
+        checked(|text, text_len| unsafe {
+            raft_ffi_tables_append(
+                self.0.as_ptr(),
+                region,
+                run.as_ptr(),
+                run.len(),
+                text,
+                text_len,
+            )
+        })
+    }
+
+    /// Drops the entries below an index.
+    pub(crate) fn compact(&mut self, region: u64, index: u64) -> Result<u64> {
+        let mut dropped = 0;
+        // SAFETY: the handle holds tables.
+        checked(|text, text_len| unsafe {
+            raft_ffi_tables_compact(self.0.as_ptr(), region, index, &mut dropped, text, text_len)
+        })?;
+        Ok(dropped)
+    }
+
+    /// Drops the entries at or above an index.
+    pub(crate) fn truncate(&mut self, region: u64, index: u64) -> Result<u64> {
+        let mut dropped = 0;
+        // SAFETY: the handle holds tables.
+        checked(|text, text_len| unsafe {
+            raft_ffi_tables_truncate(self.0.as_ptr(), region, index, &mut dropped, text, text_len)
+        })?;
+        Ok(dropped)
+    }
+
+    /// Puts a key.
+    pub(crate) fn put(
+        &mut self,
+        region: u64,
+        key: &[u8],
+        value: &[u8],
+        file: FileId,
+    ) -> Result<()> {
+        // SAFETY: the handle holds tables.
+        checked(|text, text_len| unsafe {
+            raft_ffi_tables_put(
+                self.0.as_ptr(),
+                region,
+                key.as_ptr(),
+                key.len(),
+                value.as_ptr(),
+                value.len(),
+                file.queue == Queue::Rewrite,
+                file.seq,
+                text,
+                text_len,
+            )
+        })
+    }
+
+    /// Deletes a key.
+    pub(crate) fn delete(&mut self, region: u64, key: &[u8]) -> Result<()> {
+        // SAFETY: the handle holds tables.
+        checked(|text, text_len| unsafe {
+            raft_ffi_tables_delete(
+                self.0.as_ptr(),
+                region,
+                key.as_ptr(),
+                key.len(),
+                text,
+                text_len,
+            )
+        })
+    }
+
+    /// Moves entries to rewritten places.
+    pub(crate) fn rewrite(
+        &mut self,
+        region: u64,
+        entries: &[Entry],
+        gate: Option<u64>,
+    ) -> Result<()> {
+        let run = numbers(entries);
+        // SAFETY: the handle holds tables.
+        checked(|text, text_len| unsafe {
+            raft_ffi_tables_rewrite(
+                self.0.as_ptr(),
+                region,
+                run.as_ptr(),
+                run.len(),
+                gate.into(),
+                text,
+                text_len,
+            )
+        })
+    }
+
+    /// Moves a key to a rewritten file.
+    pub(crate) fn rewrite_key(
+        &mut self,
+        region: u64,
+        key: &[u8],
+        gate: Option<u64>,
+        seq: u64,
+    ) -> Result<()> {
+        // SAFETY: the handle holds tables.
+        checked(|text, text_len| unsafe {
+            raft_ffi_tables_rewrite_key(
+                self.0.as_ptr(),
+                region,
+                key.as_ptr(),
+                key.len(),
+                gate.into(),
+                seq,
+                text,
+                text_len,
+            )
+        })
+    }
+
+    /// Sets the files of an atomic group, the first of which is at or below the last.
+    pub(crate) fn set_atomic_group(&mut self, region: u64, start: u64, end: u64) -> Result<()> {
+        assert!(start <= end, "an atomic group starts behind its end");
+        // SAFETY: the handle holds tables, and the files are in order.
+        remembered(unsafe { raft_ffi_tables_atomic_group(self.0.as_ptr(), region, start, end) })
+    }
+
+    /// Takes a region's table away.
+    pub(crate) fn remove(&mut self, region: u64, is_listed: bool) -> Result<bool> {
+        let mut is_found = false;
+        // SAFETY: the handle holds tables.
+        remembered(unsafe {
+            raft_ffi_tables_remove(self.0.as_ptr(), region, is_listed, &mut is_found)
+        })?;
+        Ok(is_found)
+    }
+
+    /// Merges newer tables.
+    pub(crate) fn merge_newer(&mut self, newer: TablesHandle) -> Result<()> {
+        let newer = newer.into_raw();
+        // SAFETY: both handles hold tables, and the newer one is given away.
+        checked(|text, text_len| unsafe {
+            raft_ffi_tables_merge_newer(self.0.as_ptr(), newer, text, text_len)
+        })
+    }
+
+    /// Merges appended tables.
+    pub(crate) fn merge_append(&mut self, append: TablesHandle) -> Result<()> {
+        let append = append.into_raw();
+        // SAFETY: both handles hold tables, and the second one is given away.
+        checked(|text, text_len| unsafe {
+            raft_ffi_tables_merge_append(self.0.as_ptr(), append, text, text_len)
+        })
+    }
+
+    /// Writes items of the append queue.
+    pub(crate) fn apply_append(&mut self, items: ItemsHandle) -> Result<()> {
+        let items = items.into_raw();
+        // SAFETY: the handles hold tables and items, and the items are given away.
+        checked(|text, text_len| unsafe {
+            raft_ffi_tables_apply_append(self.0.as_ptr(), items, text, text_len)
+        })
+    }
+
+    /// Writes rewritten items.
+    pub(crate) fn apply_rewrite(
+        &mut self,
+        items: ItemsHandle,
+        gate: Option<u64>,
+        seq: u64,
+    ) -> Result<()> {
+        let items = items.into_raw();
+        // SAFETY: the handles hold tables and items, and the items are given away.
+        checked(|text, text_len| unsafe {
+            raft_ffi_tables_apply_rewrite(self.0.as_ptr(), items, gate.into(), seq, text, text_len)
+        })
+    }
+}
+
+impl Drop for TablesHandle {
+    fn drop(&mut self) {
+        // SAFETY: the handle holds tables, which are given away.
+        unsafe { raft_ffi_tables_drop(self.0.get()) }
+    }
+}

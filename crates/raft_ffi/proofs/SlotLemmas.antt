@@ -4,7 +4,6 @@ use Rattle.raft_base.specs.declared.errors.Error.{Error}
 use Rattle.raft_table.specs.Table.{Table}
 use Rattle.raft_table.specs.Counts.{Counts}
 use Rattle.raft_history.specs.RegionSteps.{Tables}
-use Rattle.raft_accessor.specs.Accessor.{Accessor}
 use Rattle.raft_accessor.specs.AccessorCalls.{IsTableChanged}
 use Rattle.raft_shared.specs.Slot.{Slot, HoldsOwnTables}
 use Rattle.raft_ffi.specs.Slots.{IsSlotChangedTo}

@@ -30,4 +30,4 @@ with_cleans regions b = record b { items = b.items ++ map (λ id. command_item i
 
 -- an open batch with a `Clean` for each of some regions
 abbrev pub cleans_of : List ℕ → Batch
-cleans_of regions = record empty_batch { items = map (λ id. command_item id Clean) regions }
+cleans_of regions = with_cleans regions empty_batch

@@ -1,5 +1,5 @@
 -- How long the batch is whose header stands in front.
-use Rattle.std.specs.Prelude.{◌≡◌, ℕ, List}
+use Rattle.std.specs.Prelude.{ℕ, List}
 use Rattle.raft_base.specs.declared.compression_type.CompressionType.{CompressionType}
 use Rattle.raft_codec.specs.Reading.{Reads}
 use Rattle.raft_records.specs.Header.{IsHeader}

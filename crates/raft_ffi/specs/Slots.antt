@@ -1,7 +1,5 @@
 -- How the calls of a slot change it.
-use Rattle.std.specs.Prelude.{◌≡◌, ℕ, Bool, [], Option}
-use Rattle.std.specs.FinMap as finite
-use Rattle.raft_accessor.specs.Accessor.{Accessor}
+use Rattle.std.specs.Prelude.{◌≡◌, ℕ, Bool, Option}
 use Rattle.raft_shared.specs.Slot.{Slot}
 use Rattle.raft_table.specs.Table.{Table}
 use Rattle.raft_ffi.specs.Changes.{IsChangedTo, IsRemoved, no_tables, without_cleaned}

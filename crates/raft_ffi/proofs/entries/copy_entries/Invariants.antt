@@ -1,4 +1,4 @@
-use Rattle.std.proofs.Common.{◌≡◌, ◌≤◌, length, map, take}
+use Rattle.std.proofs.Common.{◌≡◌, length, map, take}
 use Rattle.raft_ffi.specs.EntryData.{entry_of}
 use Rattle.raft_ffi.proofs.entries.copy_entries.Given as goal
 

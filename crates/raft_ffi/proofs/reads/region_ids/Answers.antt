@@ -1,4 +1,3 @@
-use Rattle.std.proofs.Common.{map}
 use Rattle.raft_ffi.proofs.RegionLemmas.{permuted}
 use Rattle.raft_ffi.proofs.reads.region_ids.Goals as goal
 

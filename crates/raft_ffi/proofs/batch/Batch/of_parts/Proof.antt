@@ -1,6 +1,6 @@
 -- `of_parts` moves two fields, and what they own goes with them.
 use mathlib.Core.Path.{refl, sym, subst}
-use Rattle.std.specs.Prelude.{Some, None}
+use Rattle.std.specs.Prelude.{Some}
 use mathlib.Core.List.{List, [], ◌∷◌, ◌++◌}
 use seplogic.Ra.Ura.{Ura}
 use mir.Val.{Val}

@@ -1,8 +1,8 @@
 -- `empty` moves two fields, and what they own goes with them.
-use Rattle.std.specs.Prelude.{Option, Some, None}
+use Rattle.std.specs.Prelude.{None}
 use Rattle.std.specs.contracts.alloc.Global as Heap
 use Rattle.std.proofs.alloc.Calls.{handle_tells}
-use denote.RawPtr.{Ptr, RawPtr, null_ptr, ptr_val}
+use denote.RawPtr.{RawPtr, null_ptr, ptr_val}
 use denote.RattleType.{Valss}
 use denote.Struct.Struct.{within}
 use denote.Struct.Owning.{shape, to}
@@ -25,17 +25,15 @@ use contract.Monad.{Fun}
 use contract.Running.{tables, tables_of}
 use sound.WpLaws.{WpFn-mono}
 use types.Kit.{Item, ‵, raw, ◌⊛◌, ◌$◌, ◌∵◌, !, qed, by, move, drop, use1, join, split, fsplit, fjoin, suffices, done, feq_i, fpack}
-use types.Part.{whole, sub, agg}
-use types.Run.{lit, stop, fld, no_more, and_then, of_opd, returns, enter}
-use types.ByLocal.{alloc_all, pass_all, free_all, look_at, get, get_in, sets}
+use types.Part.{agg}
+use types.Run.{lit, no_more, and_then, returns, enter}
+use types.ByLocal.{alloc_all, pass_all, free_all, look_at, get, sets}
 use denote.Exit.{yes}
 use denote.Signature.{type_at}
 use denote.Steps.{nothing}
 use denote.Triple.Spec.{triple_of}
 use denote.Triple.Table.{entered}
 use denote.Triple.Walked.{says, Stays, stay_dropped, walk_of, ends_at, Goes-dropped, walk_Meets}
-use Rattle.std.proofs.BoxSteps.Form.{D, B, word, box_typed}
-use Rattle.std.proofs.BoxSteps.Steps.{box_out, box_in}
 use Rattle.raft_ffi.proofs.SlotBox.{E}
 use Rattle.raft_ffi.specs.contracts.slot.Slot.empty as F
 use Rattle.raft_ffi.specs.contracts.slot.Slot.empty.Key.{name as #self}

@@ -257,7 +257,7 @@ impl MemTable {
         ensures recounted { IsRecounted self.old self.new stats.old stats.new }
         ensures region { self.new.region_id ≡ self.old.region_id }
     {
-        if self.records(other_queue(queue)) > 0 {
+        if self.records(queue.other()) > 0 {
             return false;
         }
         self.entries.try_replay_run(run, queue, stats)
@@ -454,16 +454,6 @@ impl MemTable {
         ensures region { self.new.region_id ≡ self.old.region_id }
     {
         self.atomic_group = Some((start, end));
-    }
-}
-
-/// Returns the other queue.
-pub fn other_queue(queue: LogQueue) -> LogQueue
-    ensures { result ≡ other queue }
-{
-    match queue {
-        LogQueue::Append => LogQueue::Rewrite,
-        LogQueue::Rewrite => LogQueue::Append,
     }
 }
 

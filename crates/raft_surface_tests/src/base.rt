@@ -129,6 +129,7 @@ fn number_of_file(seq: FileSeq) -> u64 {
 
 fn files() {
     let _new: fn(LogQueue, FileSeq) -> FileId = FileId::new;
+    let _other: fn(LogQueue) -> LogQueue = LogQueue::other;
     let _context: fn(FileId, Version) -> LogFileContext = LogFileContext::new;
     let _signature: fn(&LogFileContext) -> Option<u32> = LogFileContext::get_signature;
     let _from_u64: fn(u64) -> Option<Version> = Version::from_u64;

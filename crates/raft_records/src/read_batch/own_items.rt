@@ -9,7 +9,7 @@ ghost use Rattle.raft_records.specs.Item.{item_of, content_of};
 ghost use Rattle.raft_records.specs.ReadBatch.{content_shown, item_shown, spans_taken};
 
 use crate::read_batch::{ReadContent, ReadItem};
-use crate::{Command, EntryIndexes, KeyValue, LogItem, LogItemContent, OpType};
+use crate::{Command, EntryIndexes, KeyValue, LogItem, LogItemContent};
 use raft_base::{CompressionType, EntryIndex, Error, FileBlockHandle, Result};
 use std::alloc::Global;
 
@@ -66,20 +66,13 @@ fn own_content(
         }
         ReadContent::Command(command) => Ok(LogItemContent::Command(own_command(command))),
         ReadContent::Put { key, value } => {
-            let value = Vec::from_slice(alloc, value)?;
-            Ok(LogItemContent::Kv(KeyValue {
-                op_type: OpType::Put,
-                key: Vec::from_slice(alloc, key)?,
-                value: Some(value),
-                file_id: Some(place.id),
-            }))
+            let kv = KeyValue::copied(alloc, key, Some(value), Some(place.id))?;
+            Ok(LogItemContent::Kv(kv))
         }
-        ReadContent::Delete { key } => Ok(LogItemContent::Kv(KeyValue {
-            op_type: OpType::Del,
-            key: Vec::from_slice(alloc, key)?,
-            value: None,
-            file_id: Some(place.id),
-        })),
+        ReadContent::Delete { key } => {
+            let kv = KeyValue::copied(alloc, key, None, Some(place.id))?;
+            Ok(LogItemContent::Kv(kv))
+        }
     }
 }
 

@@ -197,10 +197,8 @@ impl KeyValue {
             None => (OpType::Del, None),
         };
         Ok(KeyValue {
-            op_type,
-            key,
-            value,
             file_id,
+            ..KeyValue::new(op_type, key, value)
         })
     }
 }

@@ -8,8 +8,8 @@ use Rattle.raft_codec.specs.Reading.{Reads}
 use Rattle.raft_records.specs.declared.key_value.OpType.TheVariants.{Put, Del}
 use Rattle.raft_records.specs.declared.read_batch.ReadContent.{ReadContent}
 use Rattle.raft_records.specs.declared.read_batch.ReadItem.{ReadItem}
-use Rattle.raft_records.specs.Grammar.{AreTails, IsContent, IsEntries, IsItem, end_behind, end_of_content}
-use Rattle.raft_records.specs.Item.{Content, Item, Pair, entries}
+use Rattle.raft_records.specs.Grammar.{AreTails, IsContent, IsItem, end_behind, end_of_content}
+use Rattle.raft_records.specs.Item.{Content, Item, Pair}
 use Rattle.raft_records.specs.ItemBatch.{placed_content, placed_item}
 use Rattle.raft_records.specs.ReadBatch.{content_shown, items_shown, spans_of, spans_taken}
 
@@ -57,14 +57,6 @@ pub record IsContentRead (content : ReadContent) (old new : Reached) : Type 0 wh
   pub ends : new.end ≡ end_of_content old.end read
   pub added : new.spans ≡ old.spans ++ own
   pub held : IsHeldAs content own read
-
--- the entries of an item are read, and their spans are added
-pub record IsRunRead (run : ReadContent) (old new : Reached) : Type 0 where
-  pub read : List EntryIndex
-  pub reads : Reads (IsEntries old.end) old.bytes new.bytes read
-  pub ends : new.end ≡ end_behind old.end read
-  pub added : new.spans ≡ old.spans ++ map span_of read
-  pub held : IsHeldAs run (map span_of read) (entries read)
 
 -- an item is read, and it is added with its spans
 pub record IsItemRead (items new_items : List ReadItem) (old new : Reached) : Type 0 where

@@ -452,10 +452,8 @@ impl Clone for LogItemBatch {
 
     /// Returns a batch of the same items. There may be no memory for it.
     fn clone(&self) -> AllocResult<LogItemBatch> {
-        Ok(LogItemBatch {
-            items: self.items.clone()?,
-            ..*self
-        })
+        let items = self.items.clone()?;
+        Ok(LogItemBatch { items, ..*self })
     }
 }
 

@@ -1,12 +1,12 @@
 //! Reads items into a batch over the bytes that they stand in. On `Err` some of them may be added.
 
-ghost use Rattle.std.specs.Prelude.{◌≡◌, ◌≢◌, ◌⊎◌, List, [], IfOk, IfErr};
+ghost use Rattle.std.specs.Prelude.{◌≡◌, ◌≢◌, ◌⊎◌, ◌∷◌, List, [], IfOk, IfErr};
 ghost use Rattle.raft_codec.specs.Reading.{Reads, HasNoFront};
 ghost use Rattle.raft_records.specs.Faults.{IsContentFault, IsEntriesFault, IsItemFault, IsMemory, IsTailsFault};
 ghost use Rattle.raft_records.specs.Grammar.{AreTails, IsContent, IsEntries, IsItem};
 ghost use Rattle.raft_records.specs.Item.{Item};
 ghost use Rattle.raft_records.specs.ItemBatch.{AreItems, AreItemsFault};
-ghost use Rattle.raft_records.specs.ReadWords.{AreHeldAs, AreSpansRead, IsContentRead, IsItemRead, IsRunRead, reached};
+ghost use Rattle.raft_records.specs.ReadWords.{AreHeldAs, AreSpansRead, IsContentRead, IsItemRead, reached};
 
 use crate::entry_indexes::{parse_tail, short_tail};
 use crate::key_value::parse_pair;
@@ -106,15 +106,16 @@ fn read_content<'a>(
     }
 }
 
-/// Reads the entries of an item, and returns their run, the end of their bytes and what follows them.
+/// Reads the entries of an item after its type byte, and returns their run, the end of their bytes and what follows them.
 fn read_run<'a>(
     alloc: Global,
     bytes: &'a [u8],
     start: u32,
     spans: &mut Vec<(u32, u32)>,
 ) -> Result<(ReadContent<'a>, u32, &'a [u8])>
-    ensures ok { IfOk result (λ read. IsRunRead read.0
-        (reached bytes.now start spans.old.items) (reached read.2.now read.1 spans.new.items)) }
+    ensures ok { IfOk result (λ read. IsContentRead read.0
+        (reached (1 ∷ bytes.now) start spans.old.items)
+        (reached read.2.now read.1 spans.new.items)) }
     ensures refused { IfErr result (λ e. e ≢ Error.Memory → HasNoFront (IsEntries start) bytes.now) }
     ensures fault { IfErr result (IsEntriesFault start bytes.now) }
 {

@@ -3,12 +3,12 @@ use Rattle.std.proofs.lemmas.Result.{MatchResult-weaker}
 use Rattle.raft_records.specs.ReadWords.{change_of}
 use Rattle.raft_records.specs.declared.read_batch.ReadContent.TheVariants.{Put, Delete}
 use Rattle.raft_records.proofs.ContentLemmas.{no_entries}
-use Rattle.raft_records.proofs.ReadBatchLemmas.{command_read, pair_read, run_content}
+use Rattle.raft_records.proofs.ReadBatchLemmas.{command_read, pair_read}
 use Rattle.raft_records.proofs.read_batch.items.read_content.Goals as goal
 
 pub returns-in-1-clause-ok : goal.returns-in-1-clause-ok
 returns-in-1-clause-ok c =
-    MatchResult-weaker c.read_run.result c.read_run.ensures.ok (λ read r. run_content c.args.start c.args.bytes.now c.in-Some.behind.now read.2.now read.0 read.1 c.args.spans.now.items c.read_run.new.spans.items (rw c.in-1.is at c.in-Some.ensures.cases.0) r) (λ e t. t)
+    rw (rw c.in-1.is at c.in-Some.ensures.cases.0) c.read_run.ensures.ok
 
 pub returns-in-1-clause-refused : goal.returns-in-1-clause-refused
 returns-in-1-clause-refused c =

@@ -106,7 +106,8 @@ fn read_content<'a>(
     }
 }
 
-/// Reads the entries of an item after its type byte, and returns their run, the end of their bytes and what follows them.
+/// Reads the entries of an item after its type byte, and returns their run, the end of their bytes and what
+/// follows them.
 fn read_run<'a>(
     alloc: Global,
     bytes: &'a [u8],

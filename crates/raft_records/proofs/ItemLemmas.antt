@@ -1,12 +1,15 @@
 -- On the bytes of commands and key values.
-use Rattle.std.proofs.Common.{◌≡◌, ℕ, ◌+◌, ◌<◌, ◌≤◌, List, [], ◌∷◌, ◌++◌, length, take, drop, Option, Some, None, refl, sym, ap, ◌∙◌, subst, arith}
+use Rattle.std.proofs.Common.{◌≡◌, ℕ, ◌+◌, ◌<◌, ◌≤◌, List, [], ◌∷◌, ◌++◌, length, take, drop, Option, Some, None, refl, sym, ap, ◌∙◌, subst, arith, inl, inr}
 use Rattle.std.proofs.lemmas.List.{take-append-drop, length-take-le, length-append}
 use Rattle.raft_codec.specs.Reading.{Reads, HasNoFront, HasOneFront, IsTagged, IsFollowedBy}
 use Rattle.raft_codec.specs.Varint.{IsVarint}
 use Rattle.raft_codec.proofs.VarintLemmas.{varint_one_front}
 use Rattle.raft_codec.proofs.ReadingLemmas.{reads_as, reads_tagged, reads_pair, no_first, no_second, second_at, pair_one_front, heads, tagged_at, no_tagged, tagged_same, tagged_one_front}
 use Rattle.raft_records.specs.declared.command.Command.TheVariants.{Compact, Truncate}
+use Rattle.raft_base.specs.declared.errors.Error.{Error}
 use Rattle.raft_base.specs.declared.pipe_log.FileId.{FileId}
+use Rattle.raft_records.specs.Faults.{IsMemory, IsKeyValueFault}
+use Rattle.raft_records.specs.ReadWords.{change_of}
 use Rattle.raft_records.specs.declared.key_value.OpType.{OpType}
 use Rattle.raft_records.specs.declared.key_value.OpType.TheVariants.{Put, Del}
 use Rattle.raft_records.specs.Item.{Pair}
@@ -74,15 +77,7 @@ text_one_front a b more rest x y p q e =
 abbrev pub IsKeyAndValue : List ℕ → List ℕ × List ℕ → Type 0
 IsKeyAndValue bytes both = IsFollowedBy IsByteString (λ _. IsByteString) bytes both.0 both.1
 
--- key and value of a Put were read, which has no file
-abbrev pub IsPutRead : List ℕ → List ℕ → Pair → Type 0
-IsPutRead old new p = (value : List ℕ) × (p ≡ record { op_type = Put; key = p.key; value = Some value; file_id = None }) × Reads IsKeyAndValue old new (p.key, value)
-
--- the key of a Del was read, which has no value and no file
-abbrev pub IsDelRead : List ℕ → List ℕ → Pair → Type 0
-IsDelRead old new p = (p ≡ record { op_type = Del; key = p.key; value = None; file_id = None }) × Reads IsByteString old new p.key
-
-abbrev pub pair_with : OpType → List ℕ → Option (List ℕ) → Option FileId → Pair
+abbrev pair_with : OpType → List ℕ → Option (List ℕ) → Option FileId → Pair
 pair_with o key v f = record { op_type = o; key = key; value = v; file_id = f }
 
 both_one_front : HasOneFront IsKeyAndValue
@@ -96,21 +91,26 @@ no_key none front rest both p e = no_first IsByteString (λ _. IsByteString) non
 pub no_value : {bytes mid key : List ℕ} → Reads IsByteString bytes mid key → HasNoFront IsByteString mid → HasNoFront IsKeyAndValue bytes
 no_value r none front rest both p e = no_second IsByteString (λ _. IsByteString) text_one_front r none front rest both.0 both.1 p e
 
-pub both_read : (key value : List ℕ) {bytes mid rest : List ℕ} → Reads IsByteString bytes mid key → Reads IsByteString mid rest value → Reads IsKeyAndValue bytes rest (key, value)
+both_read : (key value : List ℕ) {bytes mid rest : List ℕ} → Reads IsByteString bytes mid key → Reads IsByteString mid rest value → Reads IsKeyAndValue bytes rest (key, value)
 both_read key value r s =
     reads_as (λ a (v : List ℕ). IsFollowedBy IsByteString (λ _. IsByteString) a key v) IsKeyAndValue value (key, value) (λ a p. p) (reads_pair IsByteString (λ _. IsByteString) key value r s)
 
-pub put_read : (behind rest : List ℕ) (p : Pair) → IsPutRead behind rest p → Reads IsKeyValue (1 ∷ behind) rest p
-put_read behind rest p r =
-    let put : Pair = record { op_type = Put; key = p.key; value = Some r.0; file_id = None } in
-    let read : Reads IsKeyValue (1 ∷ behind) rest put = reads_as (IsTagged 1 IsKeyAndValue) IsKeyValue (p.key, r.0) put (λ a q. q) (reads_tagged 1 IsKeyAndValue (p.key, r.0) r.2) in
-    subst (λ (q : Pair). Reads IsKeyValue (1 ∷ behind) rest q) (sym r.1) read
+pub put_read : (key value : List ℕ) {bytes behind mid rest : List ℕ} → bytes ≡ 1 ∷ behind → Reads IsByteString behind mid key → Reads IsByteString mid rest value → Reads IsKeyValue bytes rest (change_of key (Some value) None)
+put_read key value {bytes} {behind} {mid} {rest} e r s =
+    let put = change_of key (Some value) None in
+    subst (λ (b : List ℕ). Reads IsKeyValue b rest put) (sym e) (reads_as (IsTagged 1 IsKeyAndValue) IsKeyValue (key, value) put (λ a q. q) (reads_tagged 1 IsKeyAndValue (key, value) (both_read key value r s)))
 
-pub del_read : (behind rest : List ℕ) (p : Pair) → IsDelRead behind rest p → Reads IsKeyValue (2 ∷ behind) rest p
-del_read behind rest p r =
-    let del : Pair = record { op_type = Del; key = p.key; value = None; file_id = None } in
-    let read : Reads IsKeyValue (2 ∷ behind) rest del = reads_as (IsTagged 2 IsByteString) IsKeyValue p.key del (λ a q. q) (reads_tagged 2 IsByteString p.key r.1) in
-    subst (λ (q : Pair). Reads IsKeyValue (2 ∷ behind) rest q) (sym r.0) read
+pub del_read : (key : List ℕ) {bytes behind rest : List ℕ} → bytes ≡ 2 ∷ behind → Reads IsByteString behind rest key → Reads IsKeyValue bytes rest (change_of key None None)
+del_read key {bytes} {behind} {rest} e r =
+    let del = change_of key None None in
+    subst (λ (b : List ℕ). Reads IsKeyValue b rest del) (sym e) (reads_as (IsTagged 2 IsByteString) IsKeyValue key del (λ a q. q) (reads_tagged 2 IsByteString key r))
+
+-- where a change of a key stands, there may be no memory for it
+pub no_room_for_pair : (bytes rest key : List ℕ) (value : Option (List ℕ)) (e : Error) → Reads IsKeyValue bytes rest (change_of key value None) → IsMemory e → IsKeyValueFault bytes e
+no_room_for_pair bytes rest key (Some value) e r memory =
+    subst (λ (b : List ℕ). IsKeyValueFault b e) (sym (r.split ∙ ap (λ (t : List ℕ). t ++ rest) r.spells.1)) (inr (inl (refl, inl memory)))
+no_room_for_pair bytes rest key None e r memory =
+    subst (λ (b : List ℕ). IsKeyValueFault b e) (sym (r.split ∙ ap (λ (t : List ℕ). t ++ rest) r.spells.1)) (inr (inr (refl, inl memory)))
 
 no_put_of : (behind front rest key : List ℕ) (o : OpType) (v : Option (List ℕ)) (f : Option FileId) → HasNoFront IsKeyAndValue behind → IsPairOf o v f key front → 1 ∷ behind ≡ front ++ rest → ⊥
 no_put_of behind front rest key Put (Some v) None none p e = no_tagged 1 IsKeyAndValue none front rest (key, v) p e
@@ -120,8 +120,8 @@ no_put_of behind front rest key Put (Some v) (Some f) none p e = p
 no_put_of behind front rest key Del (Some v) f none p e = p
 no_put_of behind front rest key Del None (Some f) none p e = p
 
-pub no_put : {behind : List ℕ} → HasNoFront IsKeyAndValue behind → HasNoFront IsKeyValue (1 ∷ behind)
-no_put {behind} none front rest x p e = no_put_of behind front rest x.key x.op_type x.value x.file_id none p e
+pub no_put : {bytes behind : List ℕ} → bytes ≡ 1 ∷ behind → HasNoFront IsKeyAndValue behind → HasNoFront IsKeyValue bytes
+no_put {bytes} {behind} split none front rest x p e = no_put_of behind front rest x.key x.op_type x.value x.file_id none p (sym split ∙ e)
 
 no_del_of : (behind front rest key : List ℕ) (o : OpType) (v : Option (List ℕ)) (f : Option FileId) → HasNoFront IsByteString behind → IsPairOf o v f key front → 2 ∷ behind ≡ front ++ rest → ⊥
 no_del_of behind front rest key Put (Some v) None none p e = absurd (omega (arith, (tagged_at 1 2 IsKeyAndValue behind front rest (key, v) p e).0))
@@ -131,8 +131,8 @@ no_del_of behind front rest key Put (Some v) (Some f) none p e = p
 no_del_of behind front rest key Del (Some v) f none p e = p
 no_del_of behind front rest key Del None (Some f) none p e = p
 
-pub no_del : {behind : List ℕ} → HasNoFront IsByteString behind → HasNoFront IsKeyValue (2 ∷ behind)
-no_del {behind} none front rest x p e = no_del_of behind front rest x.key x.op_type x.value x.file_id none p e
+pub no_del : {bytes behind : List ℕ} → bytes ≡ 2 ∷ behind → HasNoFront IsByteString behind → HasNoFront IsKeyValue bytes
+no_del {bytes} {behind} split none front rest x p e = no_del_of behind front rest x.key x.op_type x.value x.file_id none p (sym split ∙ e)
 
 pair_one_of : (a b more rest key key' : List ℕ) (o o' : OpType) (v v' : Option (List ℕ)) (f f' : Option FileId) → IsPairOf o v f key a → IsPairOf o' v' f' key' b → a ++ more ≡ b ++ rest → (a ≡ b) × (pair_with o key v f ≡ pair_with o' key' v' f')
 pair_one_of a b more rest key key' Put Put (Some v) (Some v') None None p q e =

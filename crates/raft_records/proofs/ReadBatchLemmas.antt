@@ -22,7 +22,7 @@ use Rattle.raft_records.specs.Item.{Item, Pair, command, entries, pair}
 use Rattle.raft_records.specs.ItemBatch.{FitTogether, FitsBehind, end_of_items, placed_item}
 use Rattle.raft_records.specs.Entries.{entry_between}
 use Rattle.raft_records.specs.ReadBatch.{content_shown, item_shown, items_shown, spans_of, spans_taken}
-use Rattle.raft_records.specs.ReadWords.{AreHeldAs, AreSpansRead, IsContentRead, IsHeldAs, IsItemRead, IsRunRead, reached, span_of}
+use Rattle.raft_records.specs.ReadWords.{AreHeldAs, AreSpansRead, IsContentRead, IsHeldAs, IsItemRead, reached, span_of}
 use Rattle.raft_records.proofs.BatchLemmas.{behind_placed, end_push, fits_placed, item_fits, one_more_item}
 use Rattle.raft_records.proofs.ContentLemmas.{command_content, entries_content, item_read, pair_content}
 use Rattle.raft_records.proofs.EntryLemmas.{AreReadSoFar, end_read, entries_read, one_more_tail, run_read}
@@ -49,11 +49,12 @@ run_held count first s bytes rest es r =
     }
 
 -- entries were read behind their count and the first index
-pub run_read_of : (s count first : ℕ) (bytes mid tails rest : List ℕ) (end : ℕ) (old new : List (ℕ × ℕ)) → 0 < count → Reads IsVarint bytes mid count → Reads IsVarint mid tails first → AreSpansRead count first (reached tails s old) (reached rest end new) → IsRunRead (Run first count) (reached bytes s old) (reached rest end new)
+pub run_read_of : (s count first : ℕ) (bytes mid tails rest : List ℕ) (end : ℕ) (old new : List (ℕ × ℕ)) → 0 < count → Reads IsVarint bytes mid count → Reads IsVarint mid tails first → AreSpansRead count first (reached tails s old) (reached rest end new) → IsContentRead (Run first count) (reached (1 ∷ bytes) s old) (reached rest end new)
 run_read_of s count first bytes mid tails rest end old new some counted begins r =
     record {
-      read = r.read;
-      reads = entries_read s count bytes mid rest r.read counted (run_read s count first mid tails rest r.read some begins r.reads);
+      read = entries r.read;
+      own = map span_of r.read;
+      reads = entries_content s (1 ∷ bytes) bytes rest r.read refl (entries_read s count bytes mid rest r.read counted (run_read s count first mid tails rest r.read some begins r.reads));
       ends = r.ends;
       added = r.added;
       held = run_held count first s tails rest r.read r.reads;
@@ -64,21 +65,18 @@ pub byte_read : (n : ℕ) (rest : List ℕ) → n < 128 → Reads IsVarint (n �
 byte_read n rest small =
     record { front = n ∷ []; spells = record { continued = small; value = omega arith; at_most_ten = omega arith; tenth = omega arith }; split = refl }
 
-pub no_entries_read : (s count : ℕ) (bytes rest : List ℕ) (spans : List (ℕ × ℕ)) → count ≡ 0 → Reads IsVarint bytes rest count → IsRunRead (Run 0 0) (reached bytes s spans) (reached rest s spans)
+pub no_entries_read : (s count : ℕ) (bytes rest : List ℕ) (spans : List (ℕ × ℕ)) → count ≡ 0 → Reads IsVarint bytes rest count → IsContentRead (Run 0 0) (reached (1 ∷ bytes) s spans) (reached rest s spans)
 no_entries_read s count bytes rest spans none r =
     record {
-      read = [];
-      reads = entries_read s count bytes rest rest [] r (record { front = []; spells = (refl, none); split = refl });
+      read = entries [];
+      own = [];
+      reads = entries_content s (1 ∷ bytes) bytes rest [] refl (entries_read s count bytes rest rest [] r (record { front = []; spells = (refl, none); split = refl }));
       ends = refl;
       added = sym (append-nil spans);
       held = record { taken = refl; shown = λ place. refl };
     }
 
 -- ---- contents
-
-pub run_content : (s : ℕ) (bytes behind rest : List ℕ) (run : ReadContent) (end : ℕ) (old new : List (ℕ × ℕ)) → bytes ≡ 1 ∷ behind → IsRunRead run (reached behind s old) (reached rest end new) → IsContentRead run (reached bytes s old) (reached rest end new)
-run_content s bytes behind rest run end old new split r =
-    record { read = entries r.read; own = map span_of r.read; reads = entries_content s bytes behind rest r.read split r.reads; ends = r.ends; added = r.added; held = r.held }
 
 pub command_read : (s : ℕ) (bytes behind rest : List ℕ) (c : Command) (spans : List (ℕ × ℕ)) → bytes ≡ 2 ∷ behind → Reads IsCommand behind rest c → IsContentRead (contents.Command c) (reached bytes s spans) (reached rest s spans)
 command_read s bytes behind rest c spans split r =

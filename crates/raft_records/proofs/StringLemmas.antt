@@ -1,5 +1,5 @@
 -- On entries with their bytes.
-use Rattle.std.proofs.Common.{◌≡◌, ◌≢◌, true, ℕ, zero, suc, ◌+◌, ◌-◌, ◌^◌, ◌<◌, ◌≤◌, List, [], ◌∷◌, ◌++◌, map, length, take, drop, get_or, set, Result, Ok, Err, OnErr, refl, sym, ap, ◌∙◌, subst, append_assoc, add-one, arith}
+use Rattle.std.proofs.Common.{◌≡◌, ◌≢◌, true, ℕ, zero, suc, ◌+◌, ◌-◌, ◌^◌, ◌<◌, ◌≤◌, List, [], ◌∷◌, ◌++◌, map, length, take, drop, get_or, set, refl, sym, ap, ◌∙◌, subst, append_assoc, add-one, arith}
 use Rattle.std.specs.Prelude.{nat_eq}
 use Rattle.std.specs.List.{concat}
 use Rattle.std.proofs.lemmas.Bool.{eqb-true}
@@ -76,10 +76,6 @@ added_view now stage items new region (e ∷ es) strings old bytes view whole so
 pub reserved_len : (stage : Stage) (items : List Item) (old new : List ℕ) → stage ≡ is_open → IsHeld stage items (entry_bytes_in items old) old → 16 ≤ length new → drop 16 new ≡ drop 16 old → length new ≡ 16 + entry_bytes_of items
 reserved_len stage items old new e h room same =
     omega (arith, room, open_held stage items (entry_bytes_in items old) old e h, ap length same, length-drop 16 old, length-drop 16 new)
-
-pub on_err : {T E : Type 0} {P : Type 0} (r : Result T E) → P → OnErr r P
-on_err (Ok x) p = tt
-on_err (Err e) p = p
 
 -- messages with as many indexes
 pub same_counts : {X : Type 0} (bytes_of : X → List ℕ) (index_of : X → ℕ) (xs : List X) → length (map (λ x. entry_with_index (index_of x)) xs) ≡ length (map bytes_of xs)

@@ -49,6 +49,10 @@ pub record AreEqual (a b : Batch) : Type 0 where
 abbrev pub empty_batch : Batch
 empty_batch = record { items = []; entry_bytes = []; stage = is_open }
 
+-- a batch with one more item
+abbrev pub with_item : Batch → Item → Batch
+with_item b item = record b { items = b.items ++ item ∷ [] }
+
 -- all of another batch after this one: its entries' bytes follow the first one's
 abbrev pub with_batch : Batch → Batch → Batch
 with_batch b more =

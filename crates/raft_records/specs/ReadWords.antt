@@ -1,15 +1,22 @@
 -- What is read of bytes, as a batch over these bytes holds it. Private words: no public clause uses them.
-use Rattle.std.specs.Prelude.{◌≡◌, ℕ, List, [], ◌∷◌, ◌++◌, map, length}
+use Rattle.std.specs.Prelude.{◌≡◌, ℕ, List, [], ◌∷◌, ◌++◌, map, length, Option, Some, None}
 use Rattle.raft_base.specs.declared.compression_type.CompressionType.TheVariants as compressions
 use Rattle.raft_base.specs.declared.entry_index.EntryIndex.{EntryIndex}
 use Rattle.raft_base.specs.declared.pipe_log.FileBlockHandle.{FileBlockHandle}
+use Rattle.raft_base.specs.declared.pipe_log.FileId.{FileId}
 use Rattle.raft_codec.specs.Reading.{Reads}
+use Rattle.raft_records.specs.declared.key_value.OpType.TheVariants.{Put, Del}
 use Rattle.raft_records.specs.declared.read_batch.ReadContent.{ReadContent}
 use Rattle.raft_records.specs.declared.read_batch.ReadItem.{ReadItem}
-use Rattle.raft_records.specs.Grammar.{AreTails, IsContent, IsEntries, IsItem, end_behind, end_of_content}
-use Rattle.raft_records.specs.Item.{Content, Item, entries}
+use Rattle.raft_records.specs.Grammar.{AreTails, IsContent, IsItem, end_behind, end_of_content}
+use Rattle.raft_records.specs.Item.{Content, Item, Pair}
 use Rattle.raft_records.specs.ItemBatch.{placed_content, placed_item}
 use Rattle.raft_records.specs.ReadBatch.{content_shown, items_shown, spans_of, spans_taken}
+
+-- a put of this value, or a removal where there is none
+abbrev pub change_of : List ℕ → Option (List ℕ) → Option FileId → Pair
+change_of key (Some value) file = record { op_type = Put; key = key; value = Some value; file_id = file }
+change_of key None file = record { op_type = Del; key = key; value = None; file_id = file }
 
 -- offset and length of an entry's bytes
 abbrev pub span_of : EntryIndex → ℕ × ℕ
@@ -50,14 +57,6 @@ pub record IsContentRead (content : ReadContent) (old new : Reached) : Type 0 wh
   pub ends : new.end ≡ end_of_content old.end read
   pub added : new.spans ≡ old.spans ++ own
   pub held : IsHeldAs content own read
-
--- the entries of an item are read, and their spans are added
-pub record IsRunRead (run : ReadContent) (old new : Reached) : Type 0 where
-  pub read : List EntryIndex
-  pub reads : Reads (IsEntries old.end) old.bytes new.bytes read
-  pub ends : new.end ≡ end_behind old.end read
-  pub added : new.spans ≡ old.spans ++ map span_of read
-  pub held : IsHeldAs run (map span_of read) (entries read)
 
 -- an item is read, and it is added with its spans
 pub record IsItemRead (items new_items : List ReadItem) (old new : Reached) : Type 0 where

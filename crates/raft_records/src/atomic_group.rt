@@ -1,12 +1,12 @@
 //! Atomic groups of log batches, which take effect together or not at all.
 
-ghost use Rattle.std.specs.Prelude.{◌≡◌, ℕ, [], ◌∷◌, ◌++◌, Option, Some, None, IfErr, OnOk, OnErr, ◌↔◌, List, IsTrue, IfOk};
+ghost use Rattle.std.specs.Prelude.{◌≡◌, ℕ, [], Option, Some, None, IfErr, OnOk, OnErr, ◌↔◌, List, IsTrue, IfOk};
 ghost use Rattle.raft_base.specs.declared.errors.Error.{Error as Refusal};
 ghost use Rattle.raft_records.specs.declared.atomic_group.AtomicGroupStatus.{AtomicGroupStatus as Status};
 ghost use Rattle.raft_records.specs.declared.atomic_group.AtomicGroupStatus.TheVariants.{Begin, Middle, End};
 ghost use Rattle.raft_records.specs.Group.{IsRunning, group_marker_item, status_byte, marker_byte, IsGroupMarkerRead, IsGroupMarkerFault, reserved_key, is_reserved, marker_of};
 ghost use Rattle.raft_records.specs.Item.{Item, item_of, pair, pair_of};
-ghost use Rattle.raft_records.specs.LogBatch.{is_open};
+ghost use Rattle.raft_records.specs.LogBatch.{is_open, with_item};
 
 use crate::{KeyValue, LogBatch, LogItem, LogItemContent, OpType};
 use raft_base::{Error, Result};
@@ -136,9 +136,8 @@ impl AtomicGroupBuilder {
     pub fn begin(&mut self, log_batch: &mut LogBatch) -> Result<()>
         requires open { log_batch.old.stage ≡ is_open }
         requires fresh { self.old.state ≡ None }
-        ensures ok { OnOk result (log_batch.new ≡ record log_batch.old {
-          items = log_batch.old.items ++ group_marker_item self.old.id Begin ∷ [];
-        }) }
+        ensures ok { OnOk result (log_batch.new
+            ≡ with_item log_batch.old (group_marker_item self.old.id Begin)) }
         ensures state { OnOk result (self.new ≡ record self.old { state = Some Begin }) }
         ensures err { OnErr result (self.new ≡ self.old) }
         ensures batch_err { OnErr result (log_batch.new ≡ log_batch.old) }
@@ -155,9 +154,8 @@ impl AtomicGroupBuilder {
     pub fn add(&mut self, log_batch: &mut LogBatch) -> Result<()>
         requires open { log_batch.old.stage ≡ is_open }
         requires running { IsRunning self.old.state }
-        ensures ok { OnOk result (log_batch.new ≡ record log_batch.old {
-          items = log_batch.old.items ++ group_marker_item self.old.id Middle ∷ [];
-        }) }
+        ensures ok { OnOk result (log_batch.new
+            ≡ with_item log_batch.old (group_marker_item self.old.id Middle)) }
         ensures state { OnOk result (self.new ≡ record self.old { state = Some Middle }) }
         ensures err { OnErr result (self.new ≡ self.old) }
         ensures batch_err { OnErr result (log_batch.new ≡ log_batch.old) }
@@ -174,9 +172,8 @@ impl AtomicGroupBuilder {
     pub fn end(&mut self, log_batch: &mut LogBatch) -> Result<()>
         requires open { log_batch.old.stage ≡ is_open }
         requires running { IsRunning self.old.state }
-        ensures ok { OnOk result (log_batch.new ≡ record log_batch.old {
-          items = log_batch.old.items ++ group_marker_item self.old.id End ∷ [];
-        }) }
+        ensures ok { OnOk result (log_batch.new
+            ≡ with_item log_batch.old (group_marker_item self.old.id End)) }
         ensures state { OnOk result (self.new ≡ record self.old { state = Some End }) }
         ensures err { OnErr result (self.new ≡ self.old) }
         ensures batch_err { OnErr result (log_batch.new ≡ log_batch.old) }
@@ -188,9 +185,8 @@ impl AtomicGroupBuilder {
     /// Adds a group marker with this status to an open batch.
     fn add_marker(&mut self, status: AtomicGroupStatus, log_batch: &mut LogBatch) -> Result<()>
         requires { log_batch.old.stage ≡ is_open }
-        ensures ok { OnOk result (log_batch.new ≡ record log_batch.old {
-          items = log_batch.old.items ++ group_marker_item self.old.id status ∷ [];
-        }) }
+        ensures ok { OnOk result (log_batch.new
+            ≡ with_item log_batch.old (group_marker_item self.old.id status)) }
         ensures state { OnOk result (self.new ≡ record self.old { state = Some status }) }
         ensures err { OnErr result (self.new ≡ self.old) }
         ensures batch_err { OnErr result (log_batch.new ≡ log_batch.old) }

@@ -2,7 +2,7 @@
 
 ghost use Rattle.std.specs.Prelude.{◌≡◌, ◌≢◌, ◌↔◌, ◌-◌, ◌^◌, ◌<◌, ◌≤◌, ◌++◌, map, length, Some, IsTrue, IfOk, IfErr, IfSome, OnOk, OnErr, OnSome, ℕ};
 ghost use Rattle.raft_codec.specs.Reading.{Reads, HasNoFront};
-ghost use Rattle.raft_records.specs.Grammar.{IsEntries, IsTail, AreTails, end_behind};
+ghost use Rattle.raft_records.specs.Grammar.{IsEntries, IsTail, AreTails, end_behind, tail_of};
 ghost use Rattle.raft_records.specs.Faults.{IsEntriesFault, IsTailFault, IsTailsFault, IsEntriesRefusal};
 ghost use Rattle.raft_records.specs.Entries.{RunOn, AreWritable, entry_between};
 ghost use Rattle.raft_codec.specs.Varint.{varint};
@@ -190,12 +190,16 @@ fn append_run(buf: &mut Vec<u8>, first: u64, entries: &[EntryIndex]) -> AllocRes
 {
     codec::append_var_u64(buf, first)?;
     for entry in entries {
-        codec::append_var_u64(
-            buf,
-            u64::from(entry.entry_offset) + u64::from(entry.entry_len),
-        )?;
+        codec::append_var_u64(buf, tail_offset(entry))?;
     }
     Ok(())
+}
+
+/// Returns where an entry's bytes end, counted from the first entry byte of the batch.
+pub(crate) fn tail_offset(entry: &EntryIndex) -> u64
+    ensures { result ≡ tail_of entry.now }
+{
+    u64::from(entry.entry_offset) + u64::from(entry.entry_len)
 }
 
 /// Reads the tail offsets of `count` entries from the index `first` on, after `entries_size` entry bytes.

@@ -80,12 +80,11 @@ impl FilePart {
         ensures memory { IfErr result (λ e. e ≡ Error.Memory) }
     {
         let bytes = self.bytes.split_off(at)?;
+        let offset = self.offset + at as u64;
         Ok(FilePart {
-            id: self.id,
-            version: self.version,
-            offset: self.offset + at as u64,
+            offset,
             bytes,
-            alloc: self.alloc,
+            ..*self
         })
     }
 
@@ -98,13 +97,8 @@ impl FilePart {
         ensures ok { IfOk result (λ part. part ≡ self.now) }
         ensures memory { IfErr result (λ e. e ≡ Error.Memory) }
     {
-        Ok(FilePart {
-            id: self.id,
-            version: self.version,
-            offset: self.offset,
-            bytes: self.bytes.clone()?,
-            alloc: self.alloc,
-        })
+        let bytes = self.bytes.clone()?;
+        Ok(FilePart { bytes, ..*self })
     }
 
     /// Returns the file of the part.

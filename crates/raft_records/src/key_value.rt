@@ -1,11 +1,13 @@
 //! Key values of a region.
 
-ghost use Rattle.std.specs.Prelude.{◌≡◌, ◌≢◌, ◌↔◌, ◌<◌, ◌^◌, ◌∷◌, ◌++◌, length, None, IsTrue, IfOk, IfErr, OnOk, OnErr};
+ghost use Rattle.std.specs.Prelude.{◌≡◌, ◌≢◌, ◌↔◌, ◌<◌, ◌^◌, ◌++◌, length, None, IsTrue, IfOk, IfErr, OnOk, OnErr};
+ghost use Rattle.std.specs.Option.{option_map};
 ghost use Rattle.raft_codec.specs.Reading.{Reads, HasNoFront};
 ghost use Rattle.raft_records.specs.Grammar.{IsByteString, IsKeyValue};
 ghost use Rattle.raft_records.specs.Item.{pair_of};
-ghost use Rattle.raft_records.specs.Faults.{IsByteStringFault, IsPutFault, IsDelFault, IsKeyValueFault, IsOpTypeFault, IsPairRefusal};
+ghost use Rattle.raft_records.specs.Faults.{IsByteStringFault, IsKeyValueFault, IsOpTypeFault, IsPairRefusal};
 ghost use Rattle.raft_records.specs.Range.{HasLength};
+ghost use Rattle.raft_records.specs.ReadWords.{change_of};
 ghost use Rattle.raft_records.specs.Sizes.{pair_size, at_most_usize};
 ghost use Rattle.raft_records.specs.Spelling.{Keeps, byte_string, pair_bytes, IsWritablePair};
 
@@ -171,52 +173,56 @@ impl KeyValue {
         ensures refused { IfErr result (λ e. e ≢ Error.Memory → HasNoFront IsKeyValue buf.old.now) }
         ensures fault { IfErr result (IsKeyValueFault buf.old.now) }
     {
-        let (kv, rest) = KeyValue::parse(alloc, *buf)?;
+        let (key, value, rest) = parse_pair(alloc, *buf)?;
+        let kv = KeyValue::copied(alloc, key, value, None)?;
         *buf = rest;
         Ok(kv)
     }
 
-    /// Returns the change in front of `bytes` and what follows it.
-    pub(crate) fn parse(alloc: Global, bytes: &[u8]) -> Result<(KeyValue, &[u8])>
-        ensures ok { IfOk result (λ read. Reads IsKeyValue bytes.now read.1.now (pair_of read.0)) }
-        ensures refused { IfErr result (λ e. e ≢ Error.Memory → HasNoFront IsKeyValue bytes.now) }
-        ensures fault { IfErr result (IsKeyValueFault bytes.now) }
+    /// Returns a put of this value, or a removal where there is none.
+    #[inline(always)]
+    pub(crate) fn copied(
+        alloc: Global,
+        key: &[u8],
+        value: Option<&[u8]>,
+        file_id: Option<FileId>,
+    ) -> Result<KeyValue>
+        ensures ok { IfOk result (λ kv. pair_of kv
+            ≡ change_of key.now (option_map (λ v. v.now) value.entry) file_id) }
+        ensures memory { IfErr result (λ e. e ≡ Error.Memory) }
     {
-        let Some((byte, behind)) = bytes.split_first() else {
-            return Err(Error::Codec(codec::Error::unexpected_eof()));
+        let key = Vec::from_slice(alloc, key)?;
+        let (op_type, value) = match value {
+            Some(value) => (OpType::Put, Some(Vec::from_slice(alloc, value)?)),
+            None => (OpType::Del, None),
         };
-        match OpType::from_u8(alloc, *byte)? {
-            OpType::Put => KeyValue::parse_put(alloc, behind),
-            OpType::Del => KeyValue::parse_del(alloc, behind),
+        Ok(KeyValue {
+            file_id,
+            ..KeyValue::new(op_type, key, value)
+        })
+    }
+}
+
+/// Returns the key of the change in front of `bytes`, its value if it is a put, and what follows it.
+pub(crate) fn parse_pair(alloc: Global, bytes: &[u8]) -> Result<(&[u8], Option<&[u8]>, &[u8])>
+    ensures ok { IfOk result (λ read. Reads IsKeyValue bytes.now read.2.now
+        (change_of read.0.now (option_map (λ v. v.now) read.1) None)) }
+    ensures refused { OnErr result (HasNoFront IsKeyValue bytes.now) }
+    ensures fault { IfErr result (IsKeyValueFault bytes.now) }
+{
+    let Some((byte, behind)) = bytes.split_first() else {
+        return Err(Error::Codec(codec::Error::unexpected_eof()));
+    };
+    match OpType::from_u8(alloc, *byte)? {
+        OpType::Put => {
+            let (key, behind) = parse_byte_string(alloc, behind)?;
+            let (value, rest) = parse_byte_string(alloc, behind)?;
+            Ok((key, Some(value), rest))
         }
-    }
-
-    /// Reads a `Put` after its op type byte.
-    fn parse_put(alloc: Global, bytes: &[u8]) -> Result<(KeyValue, &[u8])>
-        ensures ok { IfOk result (λ read. Reads IsKeyValue (1 ∷ bytes.now) read.1.now
-            (pair_of read.0)) }
-        ensures refused { IfErr result (λ e. e ≢ Error.Memory →
-            HasNoFront IsKeyValue (1 ∷ bytes.now)) }
-        ensures fault { IfErr result (IsPutFault bytes.now) }
-    {
-        let (key, behind) = parse_byte_string(alloc, bytes)?;
-        let (value, rest) = parse_byte_string(alloc, behind)?;
-        let key = Vec::from_slice(alloc, key)?;
-        let value = Vec::from_slice(alloc, value)?;
-        Ok((KeyValue::new(OpType::Put, key, Some(value)), rest))
-    }
-
-    /// Reads a `Del` after its op type byte.
-    fn parse_del(alloc: Global, bytes: &[u8]) -> Result<(KeyValue, &[u8])>
-        ensures ok { IfOk result (λ read. Reads IsKeyValue (2 ∷ bytes.now) read.1.now
-            (pair_of read.0)) }
-        ensures refused { IfErr result (λ e. e ≢ Error.Memory →
-            HasNoFront IsKeyValue (2 ∷ bytes.now)) }
-        ensures fault { IfErr result (IsDelFault bytes.now) }
-    {
-        let (key, rest) = parse_byte_string(alloc, bytes)?;
-        let key = Vec::from_slice(alloc, key)?;
-        Ok((KeyValue::new(OpType::Del, key, None), rest))
+        OpType::Del => {
+            let (key, rest) = parse_byte_string(alloc, behind)?;
+            Ok((key, None, rest))
+        }
     }
 }
 
@@ -230,7 +236,7 @@ fn append_byte_string(buf: &mut Vec<u8>, text: &[u8]) -> AllocResult<()>
 }
 
 /// Reads a length and that many bytes after it in front of `bytes`, and returns these and what follows them.
-pub(crate) fn parse_byte_string(alloc: Global, bytes: &[u8]) -> Result<(&[u8], &[u8])>
+fn parse_byte_string(alloc: Global, bytes: &[u8]) -> Result<(&[u8], &[u8])>
     ensures ok { IfOk result (λ read. Reads IsByteString bytes.now read.1.now read.0.now) }
     ensures refused { OnErr result (HasNoFront IsByteString bytes.now) }
     ensures fault { IfErr result (IsByteStringFault bytes.now) }

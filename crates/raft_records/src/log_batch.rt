@@ -1,12 +1,12 @@
 //! Batches of log items with the bytes of their entries.
 
-ghost use Rattle.std.specs.Prelude.{◌≡◌, ◌≢◌, ℕ, ◌+◌, ◌-◌, ◌^◌, ◌<◌, ◌≤◌, ◌↔◌, List, [], ◌∷◌, ◌++◌, length, map, IfOk, IfErr, OnOk, OnErr, IsTrue, Option, Some, None};
+ghost use Rattle.std.specs.Prelude.{◌≡◌, ◌≢◌, ℕ, ◌+◌, ◌-◌, ◌^◌, ◌<◌, ◌≤◌, ◌↔◌, List, [], length, map, IfOk, IfErr, OnOk, OnErr, IsTrue, Option, Some, None};
 ghost use Rattle.raft_codec.specs.Reading.{Reads, HasNoFront};
 ghost use Rattle.raft_base.specs.Signature.{signature_of};
 ghost use Rattle.std.specs.Vec.Iter.{into_iter_items, into_iter_len};
 ghost use Rattle.raft_base.specs.declared.compression_type.CompressionType.TheVariants as compressions;
 ghost use Rattle.raft_records.specs.Item.{bare, command_item, item_of, pair_item, AreInBytes};
-ghost use Rattle.raft_records.specs.LogBatch.{is_open, encoded, sealed, IsSealedStage, empty_batch, IsBatchOf, encoded_length, log_batch_bytes, IsLogBatch, approximate_length, entry_place};
+ghost use Rattle.raft_records.specs.LogBatch.{is_open, encoded, sealed, IsSealedStage, empty_batch, with_item, IsBatchOf, encoded_length, log_batch_bytes, IsLogBatch, approximate_length, entry_place};
 ghost use Rattle.raft_records.specs.Sizes.{HaveSmallNumbers};
 ghost use Rattle.raft_records.specs.Range.{AreInRange};
 ghost use Rattle.raft_records.specs.Header.{IsHeader, IsHeaderFault, IsEntryBlockOf, IsEntryBlockFault};
@@ -192,8 +192,7 @@ impl LogBatch {
     /// `Memory`. The batch is then as it was.
     pub fn add_command(&mut self, region: u64, command: Command) -> Result<()>
         requires { self.old.stage ≡ is_open }
-        ensures ok { OnOk result (self.new
-            ≡ record self.old { items = self.old.items ++ command_item region command ∷ [] }) }
+        ensures ok { OnOk result (self.new ≡ with_item self.old (command_item region command)) }
         ensures err { OnErr result (self.new ≡ self.old) }
         ensures memory { IfErr result (λ e. e ≡ Error.Memory) }
     {
@@ -325,9 +324,8 @@ impl LogBatch {
     /// `Memory`. The batch is then as it was.
     pub fn delete(&mut self, region: u64, key: Vec<u8>) -> Result<()>
         requires { self.old.stage ≡ is_open }
-        ensures ok { OnOk result (self.new ≡ record self.old {
-          items = self.old.items ++ pair_item region Del key.items None ∷ [];
-        }) }
+        ensures ok { OnOk result (self.new
+            ≡ with_item self.old (pair_item region Del key.items None)) }
         ensures err { OnErr result (self.new ≡ self.old) }
         ensures memory { IfErr result (λ e. e ≡ Error.Memory) }
     {
@@ -341,9 +339,8 @@ impl LogBatch {
     /// `InvalidArgument` for the key of the group markers, `Memory`. The batch is then as it was.
     pub fn put(&mut self, region: u64, key: Vec<u8>, value: Vec<u8>) -> Result<()>
         requires { self.old.stage ≡ is_open }
-        ensures ok { OnOk result (self.new ≡ record self.old {
-          items = self.old.items ++ pair_item region Put key.items (Some value.items) ∷ [];
-        }) }
+        ensures ok { OnOk result (self.new
+            ≡ with_item self.old (pair_item region Put key.items (Some value.items))) }
         ensures accepted { OnOk result (key.items ≢ reserved_key) }
         ensures err { OnErr result (self.new ≡ self.old) }
         ensures fault { IfErr result (IsKeyRefusal key.items) }
@@ -360,10 +357,8 @@ impl LogBatch {
     /// itself, `Memory`. The batch is then as it was.
     pub fn put_message<S: Message>(&mut self, region: u64, key: Vec<u8>, message: &S) -> Result<()>
         requires { self.old.stage ≡ is_open }
-        ensures ok { OnOk result (self.new ≡ record self.old {
-          items = self.old.items
-              ++ pair_item region Put key.items (Some (S.bytes_of message.now)) ∷ [];
-        }) }
+        ensures ok { OnOk result (self.new ≡ with_item self.old
+            (pair_item region Put key.items (Some (S.bytes_of message.now)))) }
         ensures accepted { OnOk result (key.items ≢ reserved_key) }
         ensures err { OnErr result (self.new ≡ self.old) }
         ensures fault { IfErr result (IsMessageRefusal (S.refuses message.now) key.items) }
@@ -376,9 +371,8 @@ impl LogBatch {
     /// was.
     pub(crate) fn put_unchecked(&mut self, region: u64, key: Vec<u8>, value: Vec<u8>) -> Result<()>
         requires { self.old.stage ≡ is_open }
-        ensures ok { OnOk result (self.new ≡ record self.old {
-          items = self.old.items ++ pair_item region Put key.items (Some value.items) ∷ [];
-        }) }
+        ensures ok { OnOk result (self.new
+            ≡ with_item self.old (pair_item region Put key.items (Some value.items))) }
         ensures err { OnErr result (self.new ≡ self.old) }
         ensures memory { IfErr result (λ e. e ≡ Error.Memory) }
     {

@@ -285,7 +285,8 @@ impl LogItemContent {
                 Ok((LogItemContent::Command(command), entries_size, rest))
             }
             TYPE_KV => {
-                let (kv, rest) = KeyValue::parse(alloc, behind)?;
+                let mut rest = behind;
+                let kv = KeyValue::decode(alloc, &mut rest)?;
                 Ok((LogItemContent::Kv(kv), entries_size, rest))
             }
             _ => Err(Error::Corruption(format!(in alloc; "Unrecognized log item type: {kind}")?)),

@@ -86,10 +86,7 @@ impl LogItemBatch {
     {
         Ok(LogItemBatch {
             items: Vec::with_capacity(alloc, cap)?,
-            item_size: 0,
-            entries_size: 0,
-            checksum: None,
-            decoded_in: None,
+            ..LogItemBatch::default(alloc)
         })
     }
 
@@ -456,13 +453,7 @@ impl Clone for LogItemBatch {
     /// Returns a batch of the same items. There may be no memory for it.
     fn clone(&self) -> AllocResult<LogItemBatch> {
         let items = self.items.clone()?;
-        Ok(LogItemBatch {
-            items,
-            item_size: self.item_size,
-            entries_size: self.entries_size,
-            checksum: self.checksum,
-            decoded_in: self.decoded_in,
-        })
+        Ok(LogItemBatch { items, ..*self })
     }
 }
 

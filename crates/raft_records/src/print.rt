@@ -4,10 +4,10 @@ ghost use Rattle.std.specs.Prelude.{◌≡◌, ◌≢◌, ◌≤◌, ◌++◌, �
 ghost use Rattle.std.specs.Io.KnownBytes.{Appends, IsAtEnd, Keeps};
 ghost use Rattle.std.specs.List.{flat_map};
 ghost use Rattle.raft_base.specs.Signature.{signature_of};
-ghost use Rattle.raft_records.specs.Grammar.{tail_of};
 ghost use Rattle.raft_records.specs.Item.{item_of, content_of, pair_of};
 ghost use Rattle.raft_records.specs.Lines.{bytes_text, entries_text, pair_text, content_text, line_of, last_line, IsTextOf, Prints, IsNoItemBatch, IsPrintFault, IsWriteFailure, IsIoError, AppendsFront};
 
+use crate::entry_indexes::tail_offset;
 use crate::{Command, KeyValue, LogItem, LogItemBatch, LogItemContent, OpType};
 use raft_base::{
     AllocResult, CompressionType, EntryIndex, Error, FileBlockHandle, LogFileContext, Result,
@@ -172,13 +172,6 @@ fn append_entries(entries: &[EntryIndex], text: &mut String) -> AllocResult<()>
     let index = first.index;
     let tail = tail_offset(last);
     write!(text, "entries {count} first {index} tail {tail}")
-}
-
-/// Returns where an entry's bytes end, counted from the first entry byte of the batch.
-fn tail_offset(entry: &EntryIndex) -> u64
-    ensures { result ≡ tail_of entry.now }
-{
-    u64::from(entry.entry_offset) + u64::from(entry.entry_len)
 }
 
 /// Appends the change of a key.

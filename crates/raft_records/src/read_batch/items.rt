@@ -1,18 +1,18 @@
 //! Reads items into a batch over the bytes that they stand in. On `Err` some of them may be added.
 
-ghost use Rattle.std.specs.Prelude.{◌≡◌, ◌≢◌, ◌⊎◌, List, [], IfOk, IfErr, OnErr};
+ghost use Rattle.std.specs.Prelude.{◌≡◌, ◌≢◌, ◌⊎◌, ◌∷◌, List, [], IfOk, IfErr};
 ghost use Rattle.raft_codec.specs.Reading.{Reads, HasNoFront};
-ghost use Rattle.raft_records.specs.Faults.{IsContentFault, IsEntriesFault, IsItemFault, IsKeyValueFault, IsMemory, IsTailsFault};
-ghost use Rattle.raft_records.specs.Grammar.{AreTails, IsContent, IsEntries, IsItem, IsKeyValue};
-ghost use Rattle.raft_records.specs.Item.{Item, Pair, pair};
+ghost use Rattle.raft_records.specs.Faults.{IsContentFault, IsEntriesFault, IsItemFault, IsMemory, IsTailsFault};
+ghost use Rattle.raft_records.specs.Grammar.{AreTails, IsContent, IsEntries, IsItem};
+ghost use Rattle.raft_records.specs.Item.{Item};
 ghost use Rattle.raft_records.specs.ItemBatch.{AreItems, AreItemsFault};
-ghost use Rattle.raft_records.specs.ReadWords.{AreHeldAs, AreSpansRead, IsContentRead, IsHeldAs, IsItemRead, IsRunRead, reached};
+ghost use Rattle.raft_records.specs.ReadWords.{AreHeldAs, AreSpansRead, IsContentRead, IsItemRead, reached};
 
 use crate::entry_indexes::{parse_tail, short_tail};
-use crate::key_value::parse_byte_string;
+use crate::key_value::parse_pair;
 use crate::log_item::{TYPE_COMMAND, TYPE_ENTRIES, TYPE_KV};
 use crate::read_batch::short_items::read_short_item;
-use crate::{Command, OpType, ReadContent, ReadItem};
+use crate::{Command, ReadContent, ReadItem};
 use raft_base::{Error, Result};
 use raft_codec::codec;
 use std::alloc::Global;
@@ -96,45 +96,27 @@ fn read_content<'a>(
             Ok((ReadContent::Command(command), start, rest))
         }
         TYPE_KV => {
-            let (content, rest) = read_pair(alloc, behind)?;
-            Ok((content, start, rest))
+            let (key, value, rest) = parse_pair(alloc, behind)?;
+            match value {
+                Some(value) => Ok((ReadContent::Put { key, value }, start, rest)),
+                None => Ok((ReadContent::Delete { key }, start, rest)),
+            }
         }
         _ => Err(Error::Corruption(format!(in alloc; "Unrecognized log item type: {kind}")?)),
     }
 }
 
-/// Reads the change of a key, and returns what follows it.
-fn read_pair(alloc: Global, bytes: &[u8]) -> Result<(ReadContent<'_>, &[u8])>
-    ensures ok { IfOk result (λ read. (p : Pair) × Reads IsKeyValue bytes.now read.1.now p
-        × IsHeldAs read.0 [] (pair p)) }
-    ensures refused { OnErr result (HasNoFront IsKeyValue bytes.now) }
-    ensures fault { IfErr result (IsKeyValueFault bytes.now) }
-{
-    let Some((byte, behind)) = bytes.split_first() else {
-        return Err(Error::Codec(codec::Error::unexpected_eof()));
-    };
-    match OpType::from_u8(alloc, *byte)? {
-        OpType::Put => {
-            let (key, behind) = parse_byte_string(alloc, behind)?;
-            let (value, rest) = parse_byte_string(alloc, behind)?;
-            Ok((ReadContent::Put { key, value }, rest))
-        }
-        OpType::Del => {
-            let (key, rest) = parse_byte_string(alloc, behind)?;
-            Ok((ReadContent::Delete { key }, rest))
-        }
-    }
-}
-
-/// Reads the entries of an item, and returns their run, the end of their bytes and what follows them.
+/// Reads the entries of an item after its type byte, and returns their run, the end of their bytes and what
+/// follows them.
 fn read_run<'a>(
     alloc: Global,
     bytes: &'a [u8],
     start: u32,
     spans: &mut Vec<(u32, u32)>,
 ) -> Result<(ReadContent<'a>, u32, &'a [u8])>
-    ensures ok { IfOk result (λ read. IsRunRead read.0
-        (reached bytes.now start spans.old.items) (reached read.2.now read.1 spans.new.items)) }
+    ensures ok { IfOk result (λ read. IsContentRead read.0
+        (reached (1 ∷ bytes.now) start spans.old.items)
+        (reached read.2.now read.1 spans.new.items)) }
     ensures refused { IfErr result (λ e. e ≢ Error.Memory → HasNoFront (IsEntries start) bytes.now) }
     ensures fault { IfErr result (IsEntriesFault start bytes.now) }
 {

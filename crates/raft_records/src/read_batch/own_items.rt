@@ -9,7 +9,7 @@ ghost use Rattle.raft_records.specs.Item.{item_of, content_of};
 ghost use Rattle.raft_records.specs.ReadBatch.{content_shown, item_shown, spans_taken};
 
 use crate::read_batch::{ReadContent, ReadItem};
-use crate::{Command, EntryIndexes, KeyValue, LogItem, LogItemContent, OpType};
+use crate::{EntryIndexes, KeyValue, LogItem, LogItemContent};
 use raft_base::{CompressionType, EntryIndex, Error, FileBlockHandle, Result};
 use std::alloc::Global;
 
@@ -64,33 +64,15 @@ fn own_content(
             let run = entries_at(alloc, *first, place, spans)?;
             Ok(LogItemContent::EntryIndexes(EntryIndexes(run)))
         }
-        ReadContent::Command(command) => Ok(LogItemContent::Command(own_command(command))),
+        ReadContent::Command(command) => Ok(LogItemContent::Command(command.clone()?)),
         ReadContent::Put { key, value } => {
-            let value = Vec::from_slice(alloc, value)?;
-            Ok(LogItemContent::Kv(KeyValue {
-                op_type: OpType::Put,
-                key: Vec::from_slice(alloc, key)?,
-                value: Some(value),
-                file_id: Some(place.id),
-            }))
+            let kv = KeyValue::copied(alloc, key, Some(value), Some(place.id))?;
+            Ok(LogItemContent::Kv(kv))
         }
-        ReadContent::Delete { key } => Ok(LogItemContent::Kv(KeyValue {
-            op_type: OpType::Del,
-            key: Vec::from_slice(alloc, key)?,
-            value: None,
-            file_id: Some(place.id),
-        })),
-    }
-}
-
-/// Returns the same command.
-fn own_command(command: &Command) -> Command
-    ensures { result ≡ command.now }
-{
-    match command {
-        Command::Clean => Command::Clean,
-        Command::Compact { index } => Command::Compact { index: *index },
-        Command::Truncate { index } => Command::Truncate { index: *index },
+        ReadContent::Delete { key } => {
+            let kv = KeyValue::copied(alloc, key, None, Some(place.id))?;
+            Ok(LogItemContent::Kv(kv))
+        }
     }
 }
 

@@ -5,7 +5,7 @@ ghost use Rattle.std.specs.Vec.{vec_len, vec_capacity};
 ghost use Rattle.raft_codec.specs.Reading.{Reads};
 ghost use Rattle.raft_records.specs.Grammar.{IsByteString, IsKeyValue};
 ghost use Rattle.raft_records.specs.Item.{Pair, pair};
-ghost use Rattle.raft_records.specs.ReadWords.{AreSpansRead, IsContentRead, IsHeldAs, IsItemRead, IsRunRead, reached};
+ghost use Rattle.raft_records.specs.ReadWords.{AreSpansRead, IsContentRead, IsHeldAs, IsItemRead, reached};
 
 use crate::entry_indexes::short_tail;
 use crate::log_item::{TYPE_ENTRIES, TYPE_KV};
@@ -73,8 +73,8 @@ fn read_short_run<'a>(
     start: u32,
     spans: &mut Vec<(u32, u32)>,
 ) -> Option<(ReadContent<'a>, u32, &'a [u8])>
-    ensures some { IfSome result (λ read. IsRunRead read.0
-        (reached (count ∷ bytes.now) start spans.old.items)
+    ensures some { IfSome result (λ read. IsContentRead read.0
+        (reached (1 ∷ count ∷ bytes.now) start spans.old.items)
         (reached read.2.now read.1 spans.new.items)) }
     ensures none { IfNone result (spans.new.items ≡ spans.old.items) }
 {

@@ -1,7 +1,7 @@
 use Rattle.std.proofs.Common.{subst, sym}
 use Rattle.std.proofs.lemmas.Result.{err_from_is_err_and}
 use Rattle.raft_base.specs.Signature.{signature_of}
-use Rattle.raft_records.specs.ItemBatch.{FitTogether, HasSeal}
+use Rattle.raft_records.specs.ItemBatch.{FitTogether}
 use Rattle.raft_records.proofs.BatchLemmas.{no_items_count, no_items, counted_read, batch_read}
 use Rattle.raft_records.proofs.ReadBatchLemmas.{items_fit, shown_in_file}
 use Rattle.raft_records.proofs.read_batch.ReadBatch.read_item_batch.Goals as goal
@@ -9,13 +9,11 @@ use Rattle.raft_records.proofs.read_batch.ReadBatch.read_item_batch.Goals as goa
 pub returns-in_err-count-clause-refused : goal.returns-in_err-count-clause-refused
 returns-in_err-count-clause-refused c =
     let p = err_from_is_err_and c.from_residual-in_err-count.result c.from_residual-in_err-count.ensures.1 in
-    let sealed = subst (λ s. HasSeal s c.args.bytes.now c.in_ok-content.content.now) c.get_signature.ensures c.in_ok-content.ensures.ok in
-    rw (p.1) (λ ne. no_items_count (signature_of c.args.context.now) c.args.bytes.now c.in_ok-content.content.now sealed c.in_err-count.ensures.refused)
+    rw (p.1) (λ ne. no_items_count (signature_of c.args.context.now) c.args.bytes.now c.in_ok-content.content.now (rw c.get_signature.ensures at c.in_ok-content.ensures.ok) c.in_err-count.ensures.refused)
 
 pub returns-in-Err-clause-refused : goal.returns-in-Err-clause-refused
 returns-in-Err-clause-refused c =
-    let sealed = subst (λ s. HasSeal s c.args.bytes.now c.in_ok-content.content.now) c.get_signature.ensures c.in_ok-content.ensures.ok in
-    λ ne. no_items (signature_of c.args.context.now) c.in_ok-count.count c.args.bytes.now c.in_ok-content.content.now c.in_ok-count.behind.now sealed c.in_ok-count.ensures.ok (c.in-Err.ensures.refused ne)
+    λ ne. no_items (signature_of c.args.context.now) c.in_ok-count.count c.args.bytes.now c.in_ok-content.content.now c.in_ok-count.behind.now (rw c.get_signature.ensures at c.in_ok-content.ensures.ok) c.in_ok-count.ensures.ok (c.in-Err.ensures.refused ne)
 
 pub invariant_of-self-in-Ok : goal.invariant_of-self-in-Ok
 invariant_of-self-in-Ok c =
@@ -27,13 +25,12 @@ invariant_of-self-in-Ok c =
 
 pub returns-in-Ok-clause-ok : goal.returns-in-Ok-clause-ok
 returns-in-Ok-clause-ok c =
-    let sealed = subst (λ s. HasSeal s c.args.bytes.now c.in_ok-content.content.now) c.get_signature.ensures c.in_ok-content.ensures.ok in
     let read = c.in-Ok.ensures.ok in
     let rest = c.in-Ok.rest.now in
     let counted = counted_read c.in_ok-count.count c.in_ok-content.content.now c.in_ok-count.behind.now rest read.0 c.in_ok-count.ensures.ok read.1 in
     record {
       read = read.0;
-      item_batch = batch_read (signature_of c.args.context.now) c.args.bytes.now c.in_ok-content.content.now rest read.0 sealed counted;
+      item_batch = batch_read (signature_of c.args.context.now) c.args.bytes.now c.in_ok-content.content.now rest read.0 (rw c.get_signature.ensures at c.in_ok-content.ensures.ok) counted;
       places = read.2.shown c.args.place;
     }
 

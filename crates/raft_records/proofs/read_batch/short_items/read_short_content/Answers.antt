@@ -1,14 +1,13 @@
 use Rattle.std.proofs.Common.{◌∷◌, drop, refl}
 use Rattle.std.proofs.lemmas.List.{take_rest}
-use Rattle.std.proofs.lemmas.Option.{IfSome_then}
-use Rattle.raft_records.proofs.ReadBatchLemmas.{pair_read, run_content, two_in_front}
+use Rattle.raft_records.proofs.ReadBatchLemmas.{pair_read, two_in_front}
 use Rattle.raft_records.proofs.read_batch.short_items.read_short_content.Goals as goal
 
 pub returns-in-1-clause-some : goal.returns-in-1-clause-some
 returns-in-1-clause-some c =
     let bytes = c.args.bytes.now in
     let split = two_in_front bytes 1 _ c.in-len2-up.len_at_least c.in-1.is refl in
-    IfSome_then c.read_short_run.result c.read_short_run.ensures.some (λ read r. run_content c.args.start bytes _ read.2.now read.0 read.1 c.args.spans.now.items c.read_short_run.new.spans.items split (rw (← take_rest) r))
+    rw split (rw (← take_rest) c.read_short_run.ensures.some)
 
 pub returns-in_ok-content-in-3-clause-some : goal.returns-in_ok-content-in-3-clause-some
 returns-in_ok-content-in-3-clause-some c =

@@ -16,7 +16,8 @@ use Rattle.raft_table.specs.Table.{Table, IsRecounted}
 use Rattle.raft_accessor.specs.declared.accessor.MemTableAccessor.TheInside.{Inside}
 use Rattle.raft_accessor.specs.Accessor.{Accessor, slot_of, table_in, live_in_all}
 use Rattle.raft_accessor.specs.AccessorCalls.{IsTableChanged, IsWritten}
-use Rattle.raft_accessor.specs.AccessorView.{together, accessor_shown, IsAccessorKept}
+use Rattle.raft_accessor.specs.Slots.{together}
+use Rattle.raft_accessor.specs.AccessorView.{accessor_shown, IsAccessorKept}
 use Rattle.raft_accessor.specs.ItemWrites.{IsItemWritten}
 use Rattle.raft_accessor.specs.Merges.{IsMergedAt, IsTableMerged}
 use Rattle.raft_accessor.specs.TableSteps.{IsStepTaken}

@@ -5,9 +5,9 @@ mod ExtentLemmas
 pub mod LiveLemmas
 pub mod MapLemmas
 mod MergeLemmas
-mod OrderLemmas
+pub mod OrderLemmas
 pub mod RegionTablesLemmas
-mod SlotLemmas
+pub mod SlotLemmas
 pub mod StepLemmas
 mod TableJoinLemmas
 mod TableOverlayLemmas

@@ -15,7 +15,7 @@ use Rattle.raft_table.specs.Merge.{IsTableMergeFault}
 use Rattle.raft_table.specs.Steps.{table_of}
 use Rattle.raft_table.specs.Table.{Table, IsRecounted}
 use Rattle.raft_accessor.specs.Accessor.{slot_of, table_in}
-use Rattle.raft_accessor.specs.AccessorView.{slot_entries, together, AreSlots}
+use Rattle.raft_accessor.specs.Slots.{slot_entries, together, AreSlots}
 use Rattle.raft_accessor.specs.Merges.{IsMergedAt, AreTablesMerged, IsLeftAt, AreTablesLeft, AreOthersLeft, IsMergeRefusal, MayAlter, IsAltered}
 use Rattle.raft_accessor.specs.Updates.{TableCall, TableCalls}
 use Rattle.raft_accessor.proofs.MapLemmas.{none_some, by_id, eq_self, get_own, one_written, one_same, with_other}

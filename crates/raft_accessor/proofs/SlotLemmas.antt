@@ -1,6 +1,6 @@
 -- Tables in slots against the one map of them.
 use Rattle.std.proofs.Common.{◌≡◌, ◌≢◌, ◌<◌, ◌≤◌, ◌+◌, ◌⊎◌, ℕ, suc, zero, true, false, cond, List, [], ◌∷◌, ◌++◌, length, drop, replicate, slice_index_or, slice_set, Option, Some, None, refl, sym, ap, subst, ◌∙◌, arith, inl, inr}
-use Rattle.std.specs.Ordering.{nat_cmp, is_eq}
+use Rattle.std.specs.Ordering.{nat_cmp, is_eq, eq_by_cmp}
 use Rattle.std.specs.Option.{option_or}
 use Rattle.std.specs.Cmp.{nat_cmp_total}
 use Rattle.std.specs.FinMap as finite
@@ -11,113 +11,202 @@ use Rattle.raft_table.specs.Table.{Table, IsCounted, IsRecounted}
 use Rattle.raft_accessor.specs.declared.accessor.MemTableAccessor.TheInside.{Inside}
 use Rattle.raft_history.specs.RegionSteps.{Tables, with_table}
 use Rattle.raft_accessor.specs.Accessor.{Accessor, slot_of, table_in, AreCountsOf, live_in_all}
-use Rattle.raft_accessor.specs.AccessorView.{slot_entries, together, IsSlot, AreSlots, accessor_shown, IsAccessorKept}
+use Rattle.raft_accessor.specs.Slots.{slot_entries, together, IsSlot, AreSlots}
+use Rattle.raft_accessor.specs.AccessorView.{accessor_shown, IsAccessorKept}
 use Rattle.raft_accessor.proofs.LiveLemmas.{counted-with, table-counted, live-none}
 use Rattle.raft_base.specs.declared.pipe_log.LogQueue.TheVariants.{Append, Rewrite}
 use Rattle.raft_table.specs.Counts.{live}
 use Rattle.raft_accessor.proofs.MapLemmas.{same, by_id, with_own, with_other}
 
-pub find-both : (q : ℕ) (xs ys : List (ℕ × Table)) → find nat_cmp q (xs ++ ys) ≡ option_or (find nat_cmp q xs) (find nat_cmp q ys)
-find-both q [] ys = refl
-find-both q (x ∷ xs) ys =
-    elim (is_eq (nat_cmp q x.0)) as (λ b. cond b (Some x.1) (find nat_cmp q (xs ++ ys)) ≡ option_or (cond b (Some x.1) (find nat_cmp q xs)) (find nat_cmp q ys)) [
-      | true ↦ refl
-      | false ↦ find-both q xs ys
-    ]
-
-or_none : (o : Option Table) → option_or o None ≡ o
-or_none None = refl
-or_none (Some t) = refl
-
--- in slots from k on no region of a lower slot is found
-pub find-later : (k : ℕ) (ms : List Tables) (q : ℕ) → AreSlots k ms → slot_of q < k → find nat_cmp q (slot_entries ms) ≡ None
-find-later k [] q s lt = refl
-find-later k (m ∷ ms) q s lt =
-    find-both q (finite.entries m) (slot_entries ms) ∙ ap (λ o. option_or o (find nat_cmp q (slot_entries ms))) (sym (finite.get-entries m q) ∙ s.0 q (λ e. omega (arith, e, lt))) ∙ find-later (suc k) ms q s.1 (omega (arith, lt))
-
--- a region is found in its own slot
-find-slots : (k : ℕ) (ms : List Tables) (q i : ℕ) (d : Tables) → AreSlots k ms → i < length ms → slot_of q ≡ k + i → find nat_cmp q (slot_entries ms) ≡ finite.get (slice_index_or ms i d) q
-find-slots k [] q i d s lt e = absurd (omega (arith, lt))
-find-slots k (m ∷ ms) q zero d s lt e =
-    find-both q (finite.entries m) (slot_entries ms) ∙ ap (option_or (find nat_cmp q (finite.entries m))) (find-later (suc k) ms q s.1 (omega (arith, e))) ∙ or_none _ ∙ sym (finite.get-entries m q)
-find-slots k (m ∷ ms) q (suc i) d s lt e =
-    find-both q (finite.entries m) (slot_entries ms) ∙ ap (λ o. option_or o (find nat_cmp q (slot_entries ms))) (sym (finite.get-entries m q) ∙ s.0 q (λ p. omega (arith, e, p))) ∙ find-slots (suc k) ms q i d s.1 (omega (arith, lt)) (omega (arith, e))
-
--- another slot's tables are not found where one slot is written
-find-set : (k : ℕ) (ms : List Tables) (q i : ℕ) (m : Tables) → AreSlots k ms → IsSlot (k + i) m → slot_of q ≢ k + i → find nat_cmp q (slot_entries (slice_set ms i m)) ≡ find nat_cmp q (slot_entries ms)
-find-set k [] q zero m s own ne = refl
-find-set k [] q (suc i) m s own ne = refl
-find-set k (n ∷ ms) q zero m s own ne =
-    find-both q (finite.entries m) (slot_entries ms) ∙ ap (λ o. option_or o (find nat_cmp q (slot_entries ms))) (sym (finite.get-entries m q) ∙ own q ne ∙ sym (s.0 q (λ e. ne (omega (arith, e)))) ∙ finite.get-entries n q)
-    ∙ sym (find-both q (finite.entries n) (slot_entries ms))
-find-set k (n ∷ ms) q (suc i) m s own ne =
-    find-both q (finite.entries n) (slot_entries (slice_set ms i m))
-    ∙ ap (option_or (find nat_cmp q (finite.entries n))) (find-set (suc k) ms q i m s.1 (λ id h. own id (λ e. h (omega (arith, e)))) (λ e. ne (omega (arith, e))))
-    ∙ sym (find-both q (finite.entries n) (slot_entries ms))
-
-slots-set : (k : ℕ) (ms : List Tables) (i : ℕ) (m : Tables) → AreSlots k ms → IsSlot (k + i) m → AreSlots k (slice_set ms i m)
-slots-set k [] zero m s own = tt
-slots-set k [] (suc i) m s own = tt
-slots-set k (n ∷ ms) zero m s own = ((λ id h. own id (λ e. h (omega (arith, e)))), s.1)
-slots-set k (n ∷ ms) (suc i) m s own = (s.0, slots-set (suc k) ms i m s.1 (λ id h. own id (λ e. h (omega (arith, e)))))
-
-slot-at : (k : ℕ) (ms : List Tables) (i : ℕ) (d : Tables) → AreSlots k ms → i < length ms → IsSlot (k + i) (slice_index_or ms i d)
-slot-at k [] i d s lt = absurd (omega (arith, lt))
-slot-at k (n ∷ ms) zero d s lt = λ id h. s.0 id (λ e. h (omega (arith, e)))
-slot-at k (n ∷ ms) (suc i) d s lt = λ id h. slot-at (suc k) ms i d s.1 (omega (arith, lt)) id (λ e. h (omega (arith, e)))
-
-at-set : (ms : List Tables) (i : ℕ) (m d : Tables) → i < length ms → slice_index_or (slice_set ms i m) i d ≡ m
-at-set [] i m d lt = absurd (omega (arith, lt))
-at-set (n ∷ ms) zero m d lt = refl
-at-set (n ∷ ms) (suc i) m d lt = at-set ms i m d (omega (arith, lt))
-
-length-set : (ms : List Tables) (i : ℕ) (m : Tables) → length (slice_set ms i m) ≡ length ms
-length-set [] zero m = refl
-length-set [] (suc i) m = refl
-length-set (n ∷ ms) zero m = refl
-length-set (n ∷ ms) (suc i) m = omega (arith, length-set ms i m)
-
-own-with : (k : ℕ) (m : Tables) (id : ℕ) (t : Option Table) → IsSlot k m → slot_of id ≡ k → IsSlot k (with_table m id t)
-own-with k m id t s e = λ q h. elim (by_id q id) [ inl p ↦ absurd (h (ap slot_of p ∙ e)) | inr f ↦ with_other m id q t f ∙ s q h ]
+abbrev pub Map : Type 0 → Type 0
+Map V = finite.FinMap nat_cmp V
 
 pub same_slot : (i j : ℕ) → (i ≡ j) ⊎ (i ≢ j)
 same_slot i j = elim (cases_lt i j) [ inl p ↦ inr (λ e. omega (arith, p, e)) | inr p ↦ elim (cases_lt j i) [ inl r ↦ inr (λ e. omega (arith, r, e)) | inr r ↦ inl (omega (arith, p, r)) ] ]
 
-own-at : (ms : List Tables) (i : ℕ) (d : Tables) → AreSlots 0 ms → i < length ms → IsSlot i (slice_index_or ms i d)
-own-at ms i d s lt = λ id h. slot-at 0 ms i d s lt id (λ e. h (omega (arith, e)))
+empty_slots : (V : Type 0) (k n : ℕ) → AreSlots {V = V} k (replicate n finite.empty)
+empty_slots V k zero = tt
+empty_slots V k (suc n) = ((λ id h. finite.get-empty nat_cmp id), empty_slots V (suc k) n)
 
-set-at : (ms : List Tables) (i : ℕ) (m : Tables) → AreSlots 0 ms → IsSlot i m → AreSlots 0 (slice_set ms i m)
-set-at ms i m s own = slots-set 0 ms i m s (λ id h. own id (λ e. h (omega (arith, e))))
+module _ {V : Type 0} where
+  pub find-both : (q : ℕ) (xs ys : List (ℕ × V)) → find nat_cmp q (xs ++ ys) ≡ option_or (find nat_cmp q xs) (find nat_cmp q ys)
+  find-both q [] ys = refl
+  find-both q (x ∷ xs) ys =
+      elim (is_eq (nat_cmp q x.0)) as (λ b. cond b (Some x.1) (find nat_cmp q (xs ++ ys)) ≡ option_or (cond b (Some x.1) (find nat_cmp q xs)) (find nat_cmp q ys)) [
+        | true ↦ refl
+        | false ↦ find-both q xs ys
+      ]
 
--- a look-up goes to one slot
-pub get-together : (ms : List Tables) (q : ℕ) (d : Tables) → AreSlots 0 ms → slot_of q < length ms → finite.get (together ms) q ≡ finite.get (slice_index_or ms (slot_of q) d) q
-unfolding together
-get-together ms q d s lt = finite.get-from_entries nat_cmp_total (slot_entries ms) q ∙ find-slots 0 ms q (slot_of q) d s lt (omega arith)
+  or_none : (o : Option V) → option_or o None ≡ o
+  or_none None = refl
+  or_none (Some t) = refl
 
-other-slot : (ms : List Tables) (q i : ℕ) (m : Tables) → AreSlots 0 ms → IsSlot i m → slot_of q ≢ i → finite.get (together (slice_set ms i m)) q ≡ finite.get (together ms) q
-unfolding together
-other-slot ms q i m s own ne = finite.get-from_entries nat_cmp_total (slot_entries (slice_set ms i m)) q ∙ find-set 0 ms q i m s (λ id h. own id (λ e. h (omega (arith, e)))) (λ e. ne (omega (arith, e))) ∙ sym (finite.get-from_entries nat_cmp_total (slot_entries ms) q)
+  -- in slots from k on no region of a lower slot is found
+  pub find-later : (k : ℕ) (ms : List (Map V)) (q : ℕ) → AreSlots k ms → slot_of q < k → find nat_cmp q (slot_entries ms) ≡ None
+  find-later k [] q s lt = refl
+  find-later k (m ∷ ms) q s lt =
+      find-both q (finite.entries m) (slot_entries ms) ∙ ap (λ o. option_or o (find nat_cmp q (slot_entries ms))) (sym (finite.get-entries m q) ∙ s.0 q (λ e. omega (arith, e, lt))) ∙ find-later (suc k) ms q s.1 (omega (arith, lt))
+
+  -- a region is found in its own slot
+  find-slots : (k : ℕ) (ms : List (Map V)) (q i : ℕ) (d : Map V) → AreSlots k ms → i < length ms → slot_of q ≡ k + i → find nat_cmp q (slot_entries ms) ≡ finite.get (slice_index_or ms i d) q
+  find-slots k [] q i d s lt e = absurd (omega (arith, lt))
+  find-slots k (m ∷ ms) q zero d s lt e =
+      find-both q (finite.entries m) (slot_entries ms) ∙ ap (option_or (find nat_cmp q (finite.entries m))) (find-later (suc k) ms q s.1 (omega (arith, e))) ∙ or_none _ ∙ sym (finite.get-entries m q)
+  find-slots k (m ∷ ms) q (suc i) d s lt e =
+      find-both q (finite.entries m) (slot_entries ms) ∙ ap (λ o. option_or o (find nat_cmp q (slot_entries ms))) (sym (finite.get-entries m q) ∙ s.0 q (λ p. omega (arith, e, p))) ∙ find-slots (suc k) ms q i d s.1 (omega (arith, lt)) (omega (arith, e))
+
+  -- another slot's tables are not found where one slot is written
+  find-set : (k : ℕ) (ms : List (Map V)) (q i : ℕ) (m : Map V) → AreSlots k ms → IsSlot (k + i) m → slot_of q ≢ k + i → find nat_cmp q (slot_entries (slice_set ms i m)) ≡ find nat_cmp q (slot_entries ms)
+  find-set k [] q zero m s own ne = refl
+  find-set k [] q (suc i) m s own ne = refl
+  find-set k (n ∷ ms) q zero m s own ne =
+      find-both q (finite.entries m) (slot_entries ms) ∙ ap (λ o. option_or o (find nat_cmp q (slot_entries ms))) (sym (finite.get-entries m q) ∙ own q ne ∙ sym (s.0 q (λ e. ne (omega (arith, e)))) ∙ finite.get-entries n q)
+      ∙ sym (find-both q (finite.entries n) (slot_entries ms))
+  find-set k (n ∷ ms) q (suc i) m s own ne =
+      find-both q (finite.entries n) (slot_entries (slice_set ms i m))
+      ∙ ap (option_or (find nat_cmp q (finite.entries n))) (find-set (suc k) ms q i m s.1 (λ id h. own id (λ e. h (omega (arith, e)))) (λ e. ne (omega (arith, e))))
+      ∙ sym (find-both q (finite.entries n) (slot_entries ms))
+
+  slots-set : (k : ℕ) (ms : List (Map V)) (i : ℕ) (m : Map V) → AreSlots k ms → IsSlot (k + i) m → AreSlots k (slice_set ms i m)
+  slots-set k [] zero m s own = tt
+  slots-set k [] (suc i) m s own = tt
+  slots-set k (n ∷ ms) zero m s own = ((λ id h. own id (λ e. h (omega (arith, e)))), s.1)
+  slots-set k (n ∷ ms) (suc i) m s own = (s.0, slots-set (suc k) ms i m s.1 (λ id h. own id (λ e. h (omega (arith, e)))))
+
+  slot-at : (k : ℕ) (ms : List (Map V)) (i : ℕ) (d : Map V) → AreSlots k ms → i < length ms → IsSlot (k + i) (slice_index_or ms i d)
+  slot-at k [] i d s lt = absurd (omega (arith, lt))
+  slot-at k (n ∷ ms) zero d s lt = λ id h. s.0 id (λ e. h (omega (arith, e)))
+  slot-at k (n ∷ ms) (suc i) d s lt = λ id h. slot-at (suc k) ms i d s.1 (omega (arith, lt)) id (λ e. h (omega (arith, e)))
+
+  at-set : (ms : List (Map V)) (i : ℕ) (m d : Map V) → i < length ms → slice_index_or (slice_set ms i m) i d ≡ m
+  at-set [] i m d lt = absurd (omega (arith, lt))
+  at-set (n ∷ ms) zero m d lt = refl
+  at-set (n ∷ ms) (suc i) m d lt = at-set ms i m d (omega (arith, lt))
+
+  pub length-set : (ms : List (Map V)) (i : ℕ) (m : Map V) → length (slice_set ms i m) ≡ length ms
+  length-set [] zero m = refl
+  length-set [] (suc i) m = refl
+  length-set (n ∷ ms) zero m = refl
+  length-set (n ∷ ms) (suc i) m = omega (arith, length-set ms i m)
+
+  -- the values of the other regions stay
+  abbrev pub IsChangedAt : ℕ → Map V → Map V → Type 0
+  IsChangedAt id m n = (q : ℕ) → eq_by_cmp nat_cmp q id ≡ false → finite.get n q ≡ finite.get m q
+
+  own-at-change : (k id : ℕ) (m n : Map V) → IsSlot k m → slot_of id ≡ k → IsChangedAt id m n → IsSlot k n
+  own-at-change k id m n s e at = λ q h. elim (by_id q id) [ inl p ↦ absurd (h (ap slot_of p ∙ e)) | inr f ↦ at q f ∙ s q h ]
+
+  own-at : (ms : List (Map V)) (i : ℕ) (d : Map V) → AreSlots 0 ms → i < length ms → IsSlot i (slice_index_or ms i d)
+  own-at ms i d s lt = λ id h. slot-at 0 ms i d s lt id (λ e. h (omega (arith, e)))
+
+  set-at : (ms : List (Map V)) (i : ℕ) (m : Map V) → AreSlots 0 ms → IsSlot i m → AreSlots 0 (slice_set ms i m)
+  set-at ms i m s own = slots-set 0 ms i m s (λ id h. own id (λ e. h (omega (arith, e))))
+
+  -- a look-up goes to one slot
+  pub get-together : (ms : List (Map V)) (q : ℕ) (d : Map V) → AreSlots 0 ms → slot_of q < length ms → finite.get (together ms) q ≡ finite.get (slice_index_or ms (slot_of q) d) q
+  unfolding together
+  get-together ms q d s lt = finite.get-from_entries nat_cmp_total (slot_entries ms) q ∙ find-slots 0 ms q (slot_of q) d s lt (omega arith)
+
+  other-slot : (ms : List (Map V)) (q i : ℕ) (m : Map V) → AreSlots 0 ms → IsSlot i m → slot_of q ≢ i → finite.get (together (slice_set ms i m)) q ≡ finite.get (together ms) q
+  unfolding together
+  other-slot ms q i m s own ne = finite.get-from_entries nat_cmp_total (slot_entries (slice_set ms i m)) q ∙ find-set 0 ms q i m s (λ id h. own id (λ e. h (omega (arith, e)))) (λ e. ne (omega (arith, e))) ∙ sym (finite.get-from_entries nat_cmp_total (slot_entries ms) q)
+
+  -- one slot is changed at one region, and so is the map
+  pub together-at : (ms : List (Map V)) (id : ℕ) (d n w : Map V) → AreSlots 0 ms → slot_of id < length ms → IsChangedAt id (slice_index_or ms (slot_of id) d) n → IsChangedAt id (together ms) w → finite.get n id ≡ finite.get w id → together (slice_set ms (slot_of id) n) ≡ w
+  together-at ms id d n w s lt slot map at =
+      let own : IsSlot (slot_of id) n = own-at-change (slot_of id) id _ n (own-at ms (slot_of id) d s lt) refl slot in
+      let after : AreSlots 0 (slice_set ms (slot_of id) n) = set-at ms (slot_of id) n s own in
+      let fits : length (slice_set ms (slot_of id) n) ≡ length ms = length-set ms (slot_of id) n in
+      same _ _ (λ q. elim (by_id q id) [
+        | inl p ↦ subst (λ q. finite.get (together (slice_set ms (slot_of id) n)) q ≡ finite.get w q) (sym p) (get-together (slice_set ms (slot_of id) n) id d after (omega (arith, lt, fits)) ∙ ap (λ r. finite.get r id) (at-set ms (slot_of id) n d lt) ∙ at)
+        | inr f ↦ elim (same_slot (slot_of q) (slot_of id)) [
+          | inl e ↦ get-together (slice_set ms (slot_of id) n) q d after (omega (arith, lt, fits, e)) ∙ ap (λ i. finite.get (slice_index_or (slice_set ms (slot_of id) n) i d) q) e ∙ ap (λ r. finite.get r q) (at-set ms (slot_of id) n d lt)
+              ∙ slot q f ∙ ap (λ i. finite.get (slice_index_or ms i d) q) (sym e) ∙ sym (get-together ms q d s (omega (arith, lt, e))) ∙ sym (map q f)
+          | inr ne ↦ other-slot ms q (slot_of id) n s own ne ∙ sym (map q f)
+        ]
+      ])
+
+  pub slots-at : (ms : List (Map V)) (id : ℕ) (d n : Map V) → AreSlots 0 ms → slot_of id < length ms → IsChangedAt id (slice_index_or ms (slot_of id) d) n → AreSlots 0 (slice_set ms (slot_of id) n)
+  slots-at ms id d n s lt slot = set-at ms (slot_of id) n s (own-at-change (slot_of id) id _ n (own-at ms (slot_of id) d s lt) refl slot)
+
+  -- ---- one slot in front of others
+
+  get-front : (m : Map V) (ms : List (Map V)) (q : ℕ) → finite.get (together (m ∷ ms)) q ≡ option_or (finite.get m q) (finite.get (together ms) q)
+  unfolding together
+  get-front m ms q =
+      finite.get-from_entries nat_cmp_total (slot_entries (m ∷ ms)) q ∙ find-both q (finite.entries m) (slot_entries ms)
+      ∙ ap (λ o. option_or o (find nat_cmp q (slot_entries ms))) (sym (finite.get-entries m q)) ∙ ap (option_or (finite.get m q)) (sym (finite.get-from_entries nat_cmp_total (slot_entries ms) q))
+
+  -- a region is in the first slot, or in the others
+  pub front-or : (k : ℕ) (m : Map V) (ms : List (Map V)) → AreSlots k (m ∷ ms) → (q : ℕ)
+      → ((finite.get m q ≡ None) × (finite.get (together (m ∷ ms)) q ≡ finite.get (together ms) q)) ⊎ ((finite.get (together ms) q ≡ None) × (finite.get (together (m ∷ ms)) q ≡ finite.get m q))
+  unfolding together
+  front-or k m ms s q = elim (same_slot (slot_of q) k) [
+    | inl e ↦ let none = finite.get-from_entries nat_cmp_total (slot_entries ms) q ∙ find-later (suc k) ms q s.1 (omega (arith, e)) in inr (none, get-front m ms q ∙ ap (option_or (finite.get m q)) none ∙ or_none _)
+    | inr ne ↦ inl (s.0 q ne, get-front m ms q ∙ ap (λ o. option_or o (finite.get (together ms) q)) (s.0 q ne))
+  ]
+
+  -- ---- no values
+
+  get-empty_slots : (n : ℕ) (ms : List (Map V)) (q : ℕ) → (ms ≡ replicate n finite.empty) → find nat_cmp q (slot_entries ms) ≡ None
+  get-empty_slots zero ms q e = ap (λ l. find nat_cmp q (slot_entries l)) e
+  get-empty_slots (suc n) ms q e =
+      ap (λ l. find nat_cmp q (slot_entries l)) e ∙ find-both q (finite.entries finite.empty) (slot_entries (replicate n finite.empty))
+      ∙ ap (λ o. option_or o (find nat_cmp q (slot_entries (replicate n finite.empty)))) (sym (finite.get-entries finite.empty q) ∙ finite.get-empty nat_cmp q) ∙ get-empty_slots n (replicate n finite.empty) q refl
+
+  pub together-none : (ms : List (Map V)) (n : ℕ) → ms ≡ replicate n finite.empty → together ms ≡ finite.empty
+  unfolding together
+  together-none ms n e = same _ _ (λ q. finite.get-from_entries nat_cmp_total (slot_entries ms) q ∙ get-empty_slots n ms q e ∙ sym (finite.get-empty nat_cmp q))
+
+  pub slots-none : (ms : List (Map V)) (n : ℕ) → ms ≡ replicate n finite.empty → AreSlots 0 ms
+  slots-none ms n e = subst (AreSlots 0) (sym e) (empty_slots V 0 n)
+
+  -- ---- the entries of all slots
+
+  no_length : (es : List (ℕ × V)) → length es ≡ 0 → es ≡ []
+  no_length [] e = refl
+  no_length (x ∷ es) e = absurd (omega (arith, e))
+
+  entries-empty : (m : Map V) → m ≡ finite.empty → finite.entries m ≡ []
+  entries-empty m e = ap finite.entries e ∙ no_length _ (sym (finite.len-entries {K = ℕ} {X = V} {R = nat_cmp} finite.empty) ∙ finite.len-empty nat_cmp V)
+
+  -- an empty slot more
+  pub drop-entries : (ms : List (Map V)) (i k : ℕ) (d : Map V) → k ≡ i + 1 → i < length ms → slice_index_or ms i d ≡ finite.empty → slot_entries (drop i ms) ≡ slot_entries (drop k ms)
+  drop-entries [] i k d e lt h = absurd (omega (arith, lt))
+  drop-entries (m ∷ ms) i zero d e lt h = absurd (omega (arith, e))
+  drop-entries (m ∷ ms) zero (suc k) d e lt h = ap (λ es. es ++ slot_entries ms) (entries-empty m h) ∙ ap (λ j. slot_entries (drop j ms)) (none k (omega (arith, e)))
+    where
+      none : (k : ℕ) → k ≡ 0 → 0 ≡ k
+      none k e = sym e
+  drop-entries (m ∷ ms) (suc i) (suc k) d e lt h = drop-entries ms i k d (omega (arith, e)) (omega (arith, lt)) h
+
+  pub drop-none : (ms : List (Map V)) (i : ℕ) → length ms ≤ i → slot_entries (drop i ms) ≡ []
+  drop-none [] zero le = refl
+  drop-none [] (suc i) le = refl
+  drop-none (m ∷ ms) zero le = absurd (omega (arith, le))
+  drop-none (m ∷ ms) (suc i) le = drop-none ms i (omega (arith, le))
+
+  -- without entries there are no tables
+  pub together-empty : (ms : List (Map V)) → slot_entries ms ≡ [] → together ms ≡ finite.empty
+  unfolding together
+  together-empty ms e = same _ _ (λ q. finite.get-from_entries nat_cmp_total (slot_entries ms) q ∙ ap (find nat_cmp q) e ∙ sym (finite.get-empty nat_cmp q))
+
+  -- without tables each slot is empty
+  pub slot-empty : (ms : List (Map V)) (i : ℕ) (d : Map V) → AreSlots 0 ms → together ms ≡ finite.empty → i < length ms → slice_index_or ms i d ≡ finite.empty
+  slot-empty ms i d s e lt =
+      same _ _ (λ q. elim (same_slot (slot_of q) i) [
+        | inl p ↦ ap (λ j. finite.get (slice_index_or ms j d) q) (sym p) ∙ sym (get-together ms q d s (omega (arith, lt, p))) ∙ ap (λ m. finite.get m q) e
+        | inr ne ↦ own-at ms i d s lt q ne ∙ sym (finite.get-empty nat_cmp q)
+      ])
+
+-- ---- one region's table
 
 -- a change of one region in its slot is that change of the map
-pub together-with : (ms : List Tables) (id : ℕ) (t : Option Table) (d : Tables) → AreSlots 0 ms → slot_of id < length ms → together (slice_set ms (slot_of id) (with_table (slice_index_or ms (slot_of id) d) id t)) ≡ with_table (together ms) id t
-together-with ms id t d s lt =
-    let m : Tables = slice_index_or ms (slot_of id) d in
-    let n : Tables = with_table m id t in
-    let own : IsSlot (slot_of id) n = own-with (slot_of id) m id t (own-at ms (slot_of id) d s lt) refl in
-    let after : AreSlots 0 (slice_set ms (slot_of id) n) = set-at ms (slot_of id) n s own in
-    let fits : length (slice_set ms (slot_of id) n) ≡ length ms = length-set ms (slot_of id) n in
-    same _ _ (λ q. elim (by_id q id) [
-      | inl p ↦ subst (λ q. finite.get (together (slice_set ms (slot_of id) n)) q ≡ finite.get (with_table (together ms) id t) q) (sym p)
-          (get-together (slice_set ms (slot_of id) n) id d after (omega (arith, lt, fits)) ∙ ap (λ r. finite.get r id) (at-set ms (slot_of id) n d lt) ∙ with_own m id t ∙ sym (with_own (together ms) id t))
-      | inr f ↦ elim (same_slot (slot_of q) (slot_of id)) [
-        | inl e ↦ get-together (slice_set ms (slot_of id) n) q d after (omega (arith, lt, fits, e)) ∙ ap (λ i. finite.get (slice_index_or (slice_set ms (slot_of id) n) i d) q) e ∙ ap (λ r. finite.get r q) (at-set ms (slot_of id) n d lt)
-            ∙ with_other m id q t f ∙ ap (λ i. finite.get (slice_index_or ms i d) q) (sym e) ∙ sym (get-together ms q d s (omega (arith, lt, e))) ∙ sym (with_other (together ms) id q t f)
-        | inr ne ↦ other-slot ms q (slot_of id) n s own ne ∙ sym (with_other (together ms) id q t f)
-      ]
-    ])
+together-with : (ms : List Tables) (id : ℕ) (t : Option Table) (d : Tables) → AreSlots 0 ms → slot_of id < length ms → together (slice_set ms (slot_of id) (with_table (slice_index_or ms (slot_of id) d) id t)) ≡ with_table (together ms) id t
+together-with ms id t d s lt = together-at ms id d _ _ s lt (λ q f. with_other _ id q t f) (λ q f. with_other _ id q t f) (with_own _ id t ∙ sym (with_own _ id t))
 
-pub slots-with : (ms : List Tables) (id : ℕ) (t : Option Table) (d : Tables) → AreSlots 0 ms → slot_of id < length ms → AreSlots 0 (slice_set ms (slot_of id) (with_table (slice_index_or ms (slot_of id) d) id t))
-slots-with ms id t d s lt = set-at ms (slot_of id) _ s (own-with (slot_of id) _ id t (own-at ms (slot_of id) d s lt) refl)
+slots-with : (ms : List Tables) (id : ℕ) (t : Option Table) (d : Tables) → AreSlots 0 ms → slot_of id < length ms → AreSlots 0 (slice_set ms (slot_of id) (with_table (slice_index_or ms (slot_of id) d) id t))
+slots-with ms id t d s lt = slots-at ms id d _ s lt (λ q f. with_other _ id q t f)
 
 -- ---- the accessor
 
@@ -156,25 +245,6 @@ kept-changed a b id i d t kept ch =
       counted = subst (λ m. AreCountsOf m b.stats) (sym (shown-changed a b (accessor_shown a) id i d t kept refl ch)) (counted-with (together a.slots.items) a.stats b.stats id t kept.counted (subst (λ x. IsRecounted x (table_of id t) a.stats b.stats) same_table ch.counts));
     }
 
--- ---- no tables
-
-get-empty_slots : (n : ℕ) (ms : List Tables) (q : ℕ) → (ms ≡ replicate n finite.empty) → find nat_cmp q (slot_entries ms) ≡ None
-get-empty_slots zero ms q e = ap (λ l. find nat_cmp q (slot_entries l)) e
-get-empty_slots (suc n) ms q e =
-    ap (λ l. find nat_cmp q (slot_entries l)) e ∙ find-both q (finite.entries finite.empty) (slot_entries (replicate n finite.empty))
-    ∙ ap (λ o. option_or o (find nat_cmp q (slot_entries (replicate n finite.empty)))) (sym (finite.get-entries finite.empty q) ∙ finite.get-empty nat_cmp q) ∙ get-empty_slots n (replicate n finite.empty) q refl
-
-empty_slots : (k n : ℕ) → AreSlots k (replicate n finite.empty)
-empty_slots k zero = tt
-empty_slots k (suc n) = ((λ id h. finite.get-empty nat_cmp id), empty_slots (suc k) n)
-
-pub together-none : (ms : List Tables) (n : ℕ) → ms ≡ replicate n finite.empty → together ms ≡ finite.empty
-unfolding together
-together-none ms n e = same _ _ (λ q. finite.get-from_entries nat_cmp_total (slot_entries ms) q ∙ get-empty_slots n ms q e ∙ sym (finite.get-empty nat_cmp q))
-
-pub slots-none : (ms : List Tables) (n : ℕ) → ms ≡ replicate n finite.empty → AreSlots 0 ms
-slots-none ms n e = subst (AreSlots 0) (sym e) (empty_slots 0 n)
-
 pub kept-none : (a : Inside) → a.slots.items ≡ replicate 128 finite.empty → a.stats ≡ record { append = 0; written = 0; deleted = 0 } → IsAccessorKept a
 kept-none a e z = record {
   slots = slots-none a.slots.items 128 e;
@@ -182,40 +252,3 @@ kept-none a e z = record {
   counted = λ q. elim q as (λ q. live q a.stats ≡ live_in_all q (together a.slots.items)) [ Append ↦ rw (z, together-none a.slots.items 128 e) (sym (live-none Append)) | Rewrite ↦ rw (z, together-none a.slots.items 128 e) (sym (live-none Rewrite)) ];
 }
 
--- ---- the entries of all slots
-
-no_length : (es : List (ℕ × Table)) → length es ≡ 0 → es ≡ []
-no_length [] e = refl
-no_length (x ∷ es) e = absurd (omega (arith, e))
-
-entries-empty : (m : Tables) → m ≡ finite.empty → finite.entries m ≡ []
-entries-empty m e = ap finite.entries e ∙ no_length _ (sym (finite.len-entries {K = ℕ} {X = Table} {R = nat_cmp} finite.empty) ∙ finite.len-empty nat_cmp Table)
-
--- an empty slot more
-pub drop-entries : (ms : List Tables) (i k : ℕ) (d : Tables) → k ≡ i + 1 → i < length ms → slice_index_or ms i d ≡ finite.empty → slot_entries (drop i ms) ≡ slot_entries (drop k ms)
-drop-entries [] i k d e lt h = absurd (omega (arith, lt))
-drop-entries (m ∷ ms) i zero d e lt h = absurd (omega (arith, e))
-drop-entries (m ∷ ms) zero (suc k) d e lt h = ap (λ es. es ++ slot_entries ms) (entries-empty m h) ∙ ap (λ j. slot_entries (drop j ms)) (none k (omega (arith, e)))
-  where
-    none : (k : ℕ) → k ≡ 0 → 0 ≡ k
-    none k e = sym e
-drop-entries (m ∷ ms) (suc i) (suc k) d e lt h = drop-entries ms i k d (omega (arith, e)) (omega (arith, lt)) h
-
-pub drop-none : (ms : List Tables) (i : ℕ) → length ms ≤ i → slot_entries (drop i ms) ≡ []
-drop-none [] zero le = refl
-drop-none [] (suc i) le = refl
-drop-none (m ∷ ms) zero le = absurd (omega (arith, le))
-drop-none (m ∷ ms) (suc i) le = drop-none ms i (omega (arith, le))
-
--- without entries there are no tables
-pub together-empty : (ms : List Tables) → slot_entries ms ≡ [] → together ms ≡ finite.empty
-unfolding together
-together-empty ms e = same _ _ (λ q. finite.get-from_entries nat_cmp_total (slot_entries ms) q ∙ ap (find nat_cmp q) e ∙ sym (finite.get-empty nat_cmp q))
-
--- without tables each slot is empty
-pub slot-empty : (ms : List Tables) (i : ℕ) (d : Tables) → AreSlots 0 ms → together ms ≡ finite.empty → i < length ms → slice_index_or ms i d ≡ finite.empty
-slot-empty ms i d s e lt =
-    same _ _ (λ q. elim (same_slot (slot_of q) i) [
-      | inl p ↦ ap (λ j. finite.get (slice_index_or ms j d) q) (sym p) ∙ sym (get-together ms q d s (omega (arith, lt, p))) ∙ ap (λ m. finite.get m q) e
-      | inr ne ↦ own-at ms i d s lt q ne ∙ sym (finite.get-empty nat_cmp q)
-    ])

@@ -7,7 +7,7 @@ ghost use Rattle.raft_accessor.specs.Accessor.{live_in, live_in_all, AreCountsOf
 ghost use Rattle.raft_accessor.specs.TableJoins.{IsTableJoined};
 
 use crate::accessor::{MemTableAccessor, slot_of};
-use raft_base::{Error, LogQueue, Result};
+use raft_base::{AllocResult, Error, LogQueue, Result};
 use raft_table::{Mark, MemTable};
 
 impl MemTableAccessor {
@@ -34,6 +34,19 @@ impl MemTableAccessor {
         ensures cleaned { self.new.cleaned ≡ self.old.cleaned }
     {
         self.slots[slot_of(id)].join_table(queue, id, newer, mark, &mut self.stats)
+    }
+
+    /// Makes room in a slot, up to `count` tables.
+    ///
+    /// # Errors
+    ///
+    /// `AllocError`.
+    #[doc(hidden)]
+    pub fn make_room(&mut self, slot: usize, count: usize) -> AllocResult<()>
+        requires { slot < 128 }
+        ensures { self.new ≡ self.old }
+    {
+        self.slots[slot].make_room(count)
     }
 
     /// Lists the cleaned regions of another accessor after the own ones.

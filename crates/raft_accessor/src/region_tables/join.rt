@@ -9,7 +9,7 @@ ghost use Rattle.raft_accessor.specs.Accessor.{table_in, live_in};
 ghost use Rattle.raft_accessor.specs.TableJoins.{IsPut, IsTableJoined};
 
 use crate::region_tables::RegionTables;
-use raft_base::{LogQueue, Result};
+use raft_base::{AllocResult, LogQueue, Result};
 use raft_table::{GlobalStats, Mark, MemTable};
 
 impl RegionTables {
@@ -38,6 +38,17 @@ impl RegionTables {
             Some(newer) => self.put_newer(queue, id, newer, mark, stats),
             None => self.drop_under(queue, id, mark, stats),
         }
+    }
+
+    /// Makes room, up to `count` tables.
+    ///
+    /// # Errors
+    ///
+    /// `AllocError`.
+    pub(crate) fn make_room(&mut self, count: usize) -> AllocResult<()>
+        ensures { self.new ≡ self.old }
+    {
+        self.tables.reserve(count.saturating_sub(self.tables.len()))
     }
 
     /// Puts a newer table over that of its region, which is made where there is none.

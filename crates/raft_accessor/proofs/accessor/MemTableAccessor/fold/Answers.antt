@@ -2,7 +2,7 @@ use Rattle.std.proofs.Common.{◌++◌, map, IsPermutation, refl, sym, ap, subst
 use Rattle.std.specs.FinMap as finite
 use Rattle.std.proofs.lemmas.List.Sorted.{IsPermutation-trans}
 use Rattle.raft_accessor.specs.Accessor.{Accessor}
-use Rattle.raft_accessor.specs.AccessorView.{slot_entries, together, AreSlots}
+use Rattle.raft_accessor.specs.Slots.{slot_entries, together, AreSlots}
 use Rattle.raft_accessor.specs.Walks.{Makes}
 use Rattle.raft_accessor.proofs.OrderLemmas.{together-permuted, drop-step, pushed}
 use Rattle.raft_accessor.proofs.SlotLemmas.{drop-none}

@@ -7,7 +7,7 @@ use Rattle.raft_history.specs.RegionSteps.{with_table}
 use Rattle.raft_table.specs.Counts.{live}
 use Rattle.raft_table.specs.Table.{live_of, with_table_added, with_table_deleted}
 use Rattle.raft_accessor.specs.Accessor.{Accessor, live_in_all}
-use Rattle.raft_accessor.specs.AccessorView.{together}
+use Rattle.raft_accessor.specs.Slots.{together}
 use Rattle.std.specs.Vec.{with_item}
 use Rattle.raft_accessor.specs.declared.accessor.MemTableAccessor.TheInside.{Inside}
 use Rattle.raft_accessor.proofs.AccessorLemmas.{InSlot, kept-in, tables-are, unchanged, counted_ok-in}

@@ -1,7 +1,7 @@
 use Rattle.std.proofs.Common.{refl, sym, ap, subst, ◌∙◌, arith}
 use Rattle.std.proofs.lemmas.Bool.{false≢true}
 use Rattle.raft_accessor.specs.Accessor.{Accessor}
-use Rattle.raft_accessor.specs.AccessorView.{together, AreSlots}
+use Rattle.raft_accessor.specs.Slots.{together, AreSlots}
 use Rattle.raft_accessor.proofs.SlotLemmas.{drop-entries, drop-none, together-empty, slot-empty}
 use Rattle.raft_accessor.proofs.accessor.MemTableAccessor.is_empty.Goals as goal
 

@@ -1,5 +1,5 @@
 use Rattle.std.proofs.Common.{◌≡◌, drop}
-use Rattle.raft_accessor.specs.AccessorView.{slot_entries}
+use Rattle.raft_accessor.specs.Slots.{slot_entries}
 use Rattle.raft_accessor.proofs.accessor.MemTableAccessor.is_empty.Given as goal
 
 abbrev pub invariant-loop-slot : goal.invariant-loop-slot

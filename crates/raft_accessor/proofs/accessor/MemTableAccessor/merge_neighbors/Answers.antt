@@ -2,7 +2,7 @@ use Rattle.std.proofs.Common.{suc, Some, None, ap, arith, subst, ◌∙◌}
 use Rattle.std.specs.FinMap as finite
 use Rattle.std.proofs.lemmas.Result.{err_from_is_err_and}
 use Rattle.raft_accessor.specs.Accessor.{Accessor}
-use Rattle.raft_accessor.specs.AccessorView.{slot_entries, AreSlots}
+use Rattle.raft_accessor.specs.Slots.{slot_entries, AreSlots}
 use Rattle.raft_accessor.specs.Merges.{with_neighbor, IsFaultBeside}
 use Rattle.raft_accessor.proofs.MergeLemmas.{refuses-slot, refuses-slots, refusal-of, left-slot, others-slot, leaves-slots, left-of, others-of, slots-step, slots-are, no_slots, joins-none, merged-of}
 use Rattle.raft_accessor.proofs.accessor.MemTableAccessor.merge_neighbors.Goals as goal

@@ -2,7 +2,7 @@ use Rattle.std.proofs.Common.{◌≡◌, ℕ, Option}
 use Rattle.raft_base.specs.declared.errors.Error.{Error}
 use Rattle.raft_history.specs.RegionSteps.{Tables}
 use Rattle.raft_table.specs.Counts.{Counts}
-use Rattle.raft_accessor.specs.AccessorView.{slot_entries, AreSlots}
+use Rattle.raft_accessor.specs.Slots.{slot_entries, AreSlots}
 use Rattle.raft_accessor.specs.Merges.{with_neighbor, IsFaultBeside}
 use Rattle.raft_accessor.proofs.MergeLemmas.{Joins, Refuses, Leaves}
 use Rattle.raft_accessor.proofs.accessor.MemTableAccessor.merge_neighbors.Given as goal

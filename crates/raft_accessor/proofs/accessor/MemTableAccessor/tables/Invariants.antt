@@ -1,5 +1,5 @@
 use Rattle.std.proofs.Common.{◌++◌, drop, map, IsPermutation}
-use Rattle.raft_accessor.specs.AccessorView.{slot_entries}
+use Rattle.raft_accessor.specs.Slots.{slot_entries}
 use Rattle.raft_accessor.proofs.accessor.MemTableAccessor.tables.Given as goal
 
 abbrev pub invariant-loop-slot : goal.invariant-loop-slot

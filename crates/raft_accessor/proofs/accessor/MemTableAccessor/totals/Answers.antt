@@ -6,7 +6,7 @@ use Rattle.raft_table.specs.Counts.{live}
 use Rattle.raft_table.specs.Table.{Table, live_of}
 use Rattle.raft_history.specs.Records.{total}
 use Rattle.raft_accessor.specs.Accessor.{Accessor, live_in_all}
-use Rattle.raft_accessor.specs.AccessorView.{together, AreSlots}
+use Rattle.raft_accessor.specs.Slots.{together, AreSlots}
 use Rattle.raft_accessor.proofs.OrderLemmas.{together-permuted, drop-step}
 use Rattle.raft_accessor.proofs.SlotLemmas.{drop-none}
 use Rattle.raft_accessor.proofs.TotalSums.{added, added-append, added-permuted, total-values, live-added}

@@ -3,7 +3,7 @@ use Rattle.std.specs.FinMap as finite
 use Rattle.raft_base.specs.declared.pipe_log.LogQueue.TheVariants.{Append, Rewrite}
 use Rattle.raft_table.specs.Table.{Table, live_of}
 use Rattle.raft_history.specs.RegionSteps.{Tables}
-use Rattle.raft_accessor.specs.AccessorView.{slot_entries}
+use Rattle.raft_accessor.specs.Slots.{slot_entries}
 use Rattle.raft_accessor.proofs.TotalSums.{added}
 use Rattle.raft_accessor.proofs.accessor.MemTableAccessor.totals.Given as goal
 

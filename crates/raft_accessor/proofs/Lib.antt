@@ -8,6 +8,7 @@ mod MergeLemmas
 mod OrderLemmas
 pub mod RegionTablesLemmas
 mod SlotLemmas
+mod SlotTableLemmas
 pub mod StepLemmas
 mod TableJoinLemmas
 mod TableOverlayLemmas

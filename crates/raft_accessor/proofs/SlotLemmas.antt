@@ -66,12 +66,12 @@ slot-at k [] i d s lt = absurd (omega (arith, lt))
 slot-at k (n ∷ ms) zero d s lt = λ id h. s.0 id (λ e. h (omega (arith, e)))
 slot-at k (n ∷ ms) (suc i) d s lt = λ id h. slot-at (suc k) ms i d s.1 (omega (arith, lt)) id (λ e. h (omega (arith, e)))
 
-at-set : (ms : List Tables) (i : ℕ) (m d : Tables) → i < length ms → slice_index_or (slice_set ms i m) i d ≡ m
+pub at-set : (ms : List Tables) (i : ℕ) (m d : Tables) → i < length ms → slice_index_or (slice_set ms i m) i d ≡ m
 at-set [] i m d lt = absurd (omega (arith, lt))
 at-set (n ∷ ms) zero m d lt = refl
 at-set (n ∷ ms) (suc i) m d lt = at-set ms i m d (omega (arith, lt))
 
-length-set : (ms : List Tables) (i : ℕ) (m : Tables) → length (slice_set ms i m) ≡ length ms
+pub length-set : (ms : List Tables) (i : ℕ) (m : Tables) → length (slice_set ms i m) ≡ length ms
 length-set [] zero m = refl
 length-set [] (suc i) m = refl
 length-set (n ∷ ms) zero m = refl
@@ -83,10 +83,10 @@ own-with k m id t s e = λ q h. elim (by_id q id) [ inl p ↦ absurd (h (ap slot
 pub same_slot : (i j : ℕ) → (i ≡ j) ⊎ (i ≢ j)
 same_slot i j = elim (cases_lt i j) [ inl p ↦ inr (λ e. omega (arith, p, e)) | inr p ↦ elim (cases_lt j i) [ inl r ↦ inr (λ e. omega (arith, r, e)) | inr r ↦ inl (omega (arith, p, r)) ] ]
 
-own-at : (ms : List Tables) (i : ℕ) (d : Tables) → AreSlots 0 ms → i < length ms → IsSlot i (slice_index_or ms i d)
+pub own-at : (ms : List Tables) (i : ℕ) (d : Tables) → AreSlots 0 ms → i < length ms → IsSlot i (slice_index_or ms i d)
 own-at ms i d s lt = λ id h. slot-at 0 ms i d s lt id (λ e. h (omega (arith, e)))
 
-set-at : (ms : List Tables) (i : ℕ) (m : Tables) → AreSlots 0 ms → IsSlot i m → AreSlots 0 (slice_set ms i m)
+pub set-at : (ms : List Tables) (i : ℕ) (m : Tables) → AreSlots 0 ms → IsSlot i m → AreSlots 0 (slice_set ms i m)
 set-at ms i m s own = slots-set 0 ms i m s (λ id h. own id (λ e. h (omega (arith, e))))
 
 -- a look-up goes to one slot
@@ -94,7 +94,7 @@ pub get-together : (ms : List Tables) (q : ℕ) (d : Tables) → AreSlots 0 ms �
 unfolding together
 get-together ms q d s lt = finite.get-from_entries nat_cmp_total (slot_entries ms) q ∙ find-slots 0 ms q (slot_of q) d s lt (omega arith)
 
-other-slot : (ms : List Tables) (q i : ℕ) (m : Tables) → AreSlots 0 ms → IsSlot i m → slot_of q ≢ i → finite.get (together (slice_set ms i m)) q ≡ finite.get (together ms) q
+pub other-slot : (ms : List Tables) (q i : ℕ) (m : Tables) → AreSlots 0 ms → IsSlot i m → slot_of q ≢ i → finite.get (together (slice_set ms i m)) q ≡ finite.get (together ms) q
 unfolding together
 other-slot ms q i m s own ne = finite.get-from_entries nat_cmp_total (slot_entries (slice_set ms i m)) q ∙ find-set 0 ms q i m s (λ id h. own id (λ e. h (omega (arith, e)))) (λ e. ne (omega (arith, e))) ∙ sym (finite.get-from_entries nat_cmp_total (slot_entries ms) q)
 

@@ -8,6 +8,7 @@ mod MergeLemmas
 pub mod OrderLemmas
 pub mod RegionTablesLemmas
 pub mod SlotLemmas
+mod SlotTableLemmas
 pub mod StepLemmas
 mod TableJoinLemmas
 mod TableOverlayLemmas

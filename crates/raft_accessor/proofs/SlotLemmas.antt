@@ -78,7 +78,7 @@ module _ {V : Type 0} where
   slot-at k (n ∷ ms) zero d s lt = λ id h. s.0 id (λ e. h (omega (arith, e)))
   slot-at k (n ∷ ms) (suc i) d s lt = λ id h. slot-at (suc k) ms i d s.1 (omega (arith, lt)) id (λ e. h (omega (arith, e)))
 
-  at-set : (ms : List (Map V)) (i : ℕ) (m d : Map V) → i < length ms → slice_index_or (slice_set ms i m) i d ≡ m
+  pub at-set : (ms : List (Map V)) (i : ℕ) (m d : Map V) → i < length ms → slice_index_or (slice_set ms i m) i d ≡ m
   at-set [] i m d lt = absurd (omega (arith, lt))
   at-set (n ∷ ms) zero m d lt = refl
   at-set (n ∷ ms) (suc i) m d lt = at-set ms i m d (omega (arith, lt))
@@ -96,10 +96,10 @@ module _ {V : Type 0} where
   own-at-change : (k id : ℕ) (m n : Map V) → IsSlot k m → slot_of id ≡ k → IsChangedAt id m n → IsSlot k n
   own-at-change k id m n s e at = λ q h. elim (by_id q id) [ inl p ↦ absurd (h (ap slot_of p ∙ e)) | inr f ↦ at q f ∙ s q h ]
 
-  own-at : (ms : List (Map V)) (i : ℕ) (d : Map V) → AreSlots 0 ms → i < length ms → IsSlot i (slice_index_or ms i d)
+  pub own-at : (ms : List (Map V)) (i : ℕ) (d : Map V) → AreSlots 0 ms → i < length ms → IsSlot i (slice_index_or ms i d)
   own-at ms i d s lt = λ id h. slot-at 0 ms i d s lt id (λ e. h (omega (arith, e)))
 
-  set-at : (ms : List (Map V)) (i : ℕ) (m : Map V) → AreSlots 0 ms → IsSlot i m → AreSlots 0 (slice_set ms i m)
+  pub set-at : (ms : List (Map V)) (i : ℕ) (m : Map V) → AreSlots 0 ms → IsSlot i m → AreSlots 0 (slice_set ms i m)
   set-at ms i m s own = slots-set 0 ms i m s (λ id h. own id (λ e. h (omega (arith, e))))
 
   -- a look-up goes to one slot
@@ -107,7 +107,7 @@ module _ {V : Type 0} where
   unfolding together
   get-together ms q d s lt = finite.get-from_entries nat_cmp_total (slot_entries ms) q ∙ find-slots 0 ms q (slot_of q) d s lt (omega arith)
 
-  other-slot : (ms : List (Map V)) (q i : ℕ) (m : Map V) → AreSlots 0 ms → IsSlot i m → slot_of q ≢ i → finite.get (together (slice_set ms i m)) q ≡ finite.get (together ms) q
+  pub other-slot : (ms : List (Map V)) (q i : ℕ) (m : Map V) → AreSlots 0 ms → IsSlot i m → slot_of q ≢ i → finite.get (together (slice_set ms i m)) q ≡ finite.get (together ms) q
   unfolding together
   other-slot ms q i m s own ne = finite.get-from_entries nat_cmp_total (slot_entries (slice_set ms i m)) q ∙ find-set 0 ms q i m s (λ id h. own id (λ e. h (omega (arith, e)))) (λ e. ne (omega (arith, e))) ∙ sym (finite.get-from_entries nat_cmp_total (slot_entries ms) q)
 

@@ -7,6 +7,7 @@ pub mod Extents
 pub mod ItemWrites
 pub mod Merges
 pub mod RegionTablesView
+pub mod SlotTables
 pub mod Slots
 pub mod TableJoins
 pub mod TableOverlays

@@ -16,6 +16,7 @@ mod cleaned;
 mod join;
 mod overlay;
 mod region_steps;
+mod take_slot;
 mod totals;
 mod writes;
 

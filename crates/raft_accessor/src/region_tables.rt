@@ -22,6 +22,7 @@ ghost use Rattle.raft_accessor.specs.Merges.{with_neighbor, IsFaultBeside, MayAl
 ghost use Rattle.raft_accessor.specs.Updates.{MayChange, IsUpdated, BecomesOutcome};
 ghost use Rattle.raft_accessor.specs.Walks.{Collects, KeepsId, Makes};
 
+mod counts;
 mod join;
 mod overlay;
 pub(crate) mod steps;

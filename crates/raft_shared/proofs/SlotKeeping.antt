@@ -1,5 +1,5 @@
 -- What a slot keeps, when one of its regions is changed, and its calls seen as an accessor's.
-use Rattle.std.proofs.Common.{◌≡◌, ℕ, true, false, List, [], ◌∷◌, ◌++◌, Option, Some, None, Result, Ok, Err, sym, ap, subst, ◌∙◌, inl, inr, append-nil}
+use Rattle.std.proofs.Common.{◌≡◌, ◌<◌, ℕ, true, false, List, [], ◌∷◌, ◌++◌, Option, Some, None, Result, Ok, Err, sym, ap, subst, ◌∙◌, inl, inr, append-nil}
 use Rattle.std.specs.FinMap as finite
 use Rattle.std.specs.List.{AllByRecursion}
 use Rattle.std.specs.Option.{option_and_then}
@@ -35,6 +35,7 @@ of-with number m id t own e = λ q u g. elim (by_id q id) [
 pub kept-with : (a b : Inside) (id : ℕ) → IsSlotKept a → slot_of id ≡ a.number → b.number ≡ a.number → b.tables ≡ with_table a.tables id (finite.get b.tables id)
     → IsRecounted (table_in a.tables id) (table_in b.tables id) a.stats b.stats → AllByRecursion (λ id. slot_of id ≡ a.number) b.cleaned.items → IsSlotKept b
 kept-with a b id kept e n one recounted l = record {
+  bound = subst (λ k. k < 128) (sym n) kept.bound;
   regions = subst (λ m. AreOf b.number m) (sym one) (subst (λ k. AreOf k (with_table a.tables id (finite.get b.tables id))) (sym n) (of-with a.number a.tables id (finite.get b.tables id) kept.regions e));
   counted = subst (λ m. AreCountsOf m b.stats) (sym one) (counted-with a.tables a.stats b.stats id (finite.get b.tables id) kept.counted recounted);
   cleaned = subst (λ k. AllByRecursion (λ id. slot_of id ≡ k) b.cleaned.items) (sym n) l;
@@ -106,8 +107,9 @@ slot-written w a b item r kept t = record {
 
 -- ---- a slot without tables, with one less, and with one more cleaned region
 
-pub kept-none : (a : Inside) → a.tables ≡ finite.empty → a.stats ≡ record { append = 0; written = 0; deleted = 0 } → a.cleaned.items ≡ [] → IsSlotKept a
-kept-none a e z l = record {
+pub kept-none : (a : Inside) → a.number < 128 → a.tables ≡ finite.empty → a.stats ≡ record { append = 0; written = 0; deleted = 0 } → a.cleaned.items ≡ [] → IsSlotKept a
+kept-none a lt e z l = record {
+  bound = lt;
   regions = λ id t g. absurd (none_some (sym (finite.get-empty nat_cmp id) ∙ ap (λ m. finite.get m id) (sym e) ∙ g));
   counted = λ q. elim q as (λ q. live q a.stats ≡ live_in_all q a.tables) [ Append ↦ rw (z, e) (sym (live-none Append)) | Rewrite ↦ rw (z, e) (sym (live-none Rewrite)) ];
   cleaned = subst (AllByRecursion (λ id. slot_of id ≡ a.number)) (sym l) tt;
@@ -123,6 +125,7 @@ kept-taken a b id kept e n gone recounted l =
 
 pub kept-listed : (a b : Inside) (xs : List ℕ) → IsSlotKept a → b.number ≡ a.number → b.tables ≡ a.tables → b.stats ≡ a.stats → b.cleaned.items ≡ xs → AllByRecursion (λ id. slot_of id ≡ a.number) xs → IsSlotKept b
 kept-listed a b xs kept n t s l h = record {
+  bound = subst (λ k. k < 128) (sym n) kept.bound;
   regions = subst (AreOf b.number) (sym t) (subst (λ k. AreOf k a.tables) (sym n) kept.regions);
   counted = subst (λ m. AreCountsOf m b.stats) (sym t) (subst (AreCountsOf a.tables) (sym s) kept.counted);
   cleaned = subst (AllByRecursion (λ id. slot_of id ≡ b.number)) (sym l) (subst (λ k. AllByRecursion (λ id. slot_of id ≡ k) xs) (sym n) h);

@@ -51,23 +51,21 @@ impl SharedAccessor {
     ///
     /// # Errors
     ///
-    /// `Memory`; `Full` and `Failed` by the calls that it makes, which never happens.
+    /// `Memory`; `Failed` where a slot has another number or tables already, which never happens.
     pub fn from_core(alloc: Global, core: MemTableAccessor) -> Result<SharedAccessor>
-        ensures { IfErr result (λ e. IsLockFault e ⊎ (e ≡ Error.Full)) }
+        ensures { IfErr result IsLockFault }
     {
         let mut core = core;
         let mut shared = SharedAccessor::new(alloc);
         for id in core.cleaned_regions() {
             shared.list(*id)?;
         }
-        let mut ids = Vec::new(alloc);
-        for table in core.tables()? {
-            ids.push(table.region_id())?;
-        }
-        for id in &ids {
-            if let Some(table) = core.remove(*id, false)? {
-                shared.place(table)?;
+        for slot in &mut shared.slots {
+            let slot = slot.get_mut();
+            if !slot.is_empty() {
+                return Err(Error::Failed);
             }
+            slot.take_tables(&mut core);
         }
         Ok(shared)
     }
@@ -401,15 +399,6 @@ impl SharedAccessor {
         ensures { IfErr result IsLockFault }
     {
         self.slot_mut(id)?.remove(id, true)?;
-        Ok(())
-    }
-
-    /// Puts a table under its region's id.
-    fn place(&mut self, table: MemTable) -> Result<()>
-        ensures { IfErr result (λ e. IsLockFault e ⊎ (e ≡ Error.Full)) }
-    {
-        let id = table.region_id();
-        self.slot_mut(id)?.insert(id, table)?;
         Ok(())
     }
 

@@ -12,12 +12,12 @@ ghost use Rattle.raft_table.specs.Table.{Table, with_table_added, with_table_del
 ghost use Rattle.raft_accessor.specs.Accessor.{slot_of, table_in, live_in_all};
 ghost use Rattle.raft_accessor.specs.AccessorCalls.{IsTableChanged, IsWritten};
 ghost use Rattle.raft_accessor.specs.AppendChecks.{AreAcceptedOncePlaced, AreRefusedOncePlaced, IsAppendCheckFault};
-ghost use Rattle.raft_shared.specs.Slot.{IsSlotTable, HoldsOwnTables};
+ghost use Rattle.raft_shared.specs.Slot.{IsSlotTable, HoldsOwnTables, AreTablesTaken};
 ghost use Rattle.raft_accessor.specs.Walks.{KeepsId, Makes};
 ghost use Rattle.raft_accessor.specs.Writes.{Appending, Rewriting};
 
-use raft_accessor::RegionTables;
 use raft_accessor::accessor::clean_logs;
+use raft_accessor::{MemTableAccessor, RegionTables};
 use raft_base::{Error, FileSeq, LogQueue, Result};
 use raft_records::{LogBatch, LogItem};
 use raft_table::{GlobalStats, MemTable, TableChange};
@@ -228,6 +228,17 @@ impl Slot {
         ensures number { self.new.number ≡ self.old.number }
     {
         self.tables.insert(id, table, &mut self.stats)
+    }
+
+    /// Takes the tables of the slot's regions out of an accessor, into a slot that has none. It takes no
+    /// memory, and the time for these tables alone.
+    pub fn take_tables(&mut self, core: &mut MemTableAccessor)
+        requires { self.old.content.tables ≡ finite.empty }
+        ensures { AreTablesTaken self.old self.new core.old core.new }
+    {
+        let (tables, stats) = core.take_slot(self.number);
+        self.tables = tables;
+        self.stats = stats;
     }
 
     /// Takes a region's table away, and lists the region where that is asked for, also where it has

@@ -1,0 +1,51 @@
+//! The counts of the tables of some regions.
+
+ghost use Rattle.std.specs.Prelude.{◌≡◌, ◌≤◌, ◌<◌, ◌^◌};
+ghost use Rattle.raft_base.specs.declared.pipe_log.LogQueue.{LogQueue};
+ghost use Rattle.raft_table.specs.Counts.{live};
+ghost use Rattle.raft_accessor.specs.Accessor.{live_in_all};
+ghost use Rattle.raft_accessor.specs.SlotTables.{counts_of, with_all_deleted};
+
+use crate::region_tables::RegionTables;
+use raft_base::LogQueue;
+use raft_table::GlobalStats;
+
+impl RegionTables {
+    /// Takes the records of all tables off some counts, and returns counts of these records alone.
+    pub(crate) fn take_counts(&self, stats: &mut GlobalStats) -> GlobalStats
+        requires { (q : LogQueue) → live_in_all q self.now ≤ live q stats.old }
+        ensures taken { result ≡ counts_of self.now }
+        ensures left { stats.new ≡ with_all_deleted self.now stats.old }
+    {
+        let append = stats.live_entries(LogQueue::Append);
+        let rewrite = stats.live_entries(LogQueue::Rewrite);
+        self.delete_all(stats);
+        new_counts(
+            append - stats.live_entries(LogQueue::Append),
+            rewrite - stats.live_entries(LogQueue::Rewrite),
+        )
+    }
+
+    /// Takes the records of all tables off some counts.
+    fn delete_all(&self, stats: &mut GlobalStats)
+        requires { (q : LogQueue) → live_in_all q self.now ≤ live q stats.old }
+        ensures { stats.new ≡ with_all_deleted self.now stats.old }
+    {
+        for table in self.tables.values() {
+            stats.delete_table(table);
+        }
+    }
+}
+
+/// Makes counts of so many live records.
+fn new_counts(append: usize, rewrite: usize) -> GlobalStats
+    ensures { result ≡ record { append = append; written = rewrite; deleted = 0 } }
+{
+    let mut stats = GlobalStats::default();
+    let is_refused = stats.add(LogQueue::Append, append).is_err()
+        || stats.add(LogQueue::Rewrite, rewrite).is_err();
+    if is_refused {
+        unreachable!()
+    }
+    stats
+}

@@ -251,4 +251,3 @@ kept-none a e z = record {
   all = ap length e;
   counted = λ q. elim q as (λ q. live q a.stats ≡ live_in_all q (together a.slots.items)) [ Append ↦ rw (z, together-none a.slots.items 128 e) (sym (live-none Append)) | Rewrite ↦ rw (z, together-none a.slots.items 128 e) (sym (live-none Rewrite)) ];
 }
-

@@ -1,6 +1,7 @@
 mod WaitingGroupLemmas
 mod WaitingItemLemmas
 mod WaitingSeen
+mod SlotMarksLemmas
 mod RegionMarksLemmas
 mod ReadingLemmas
 mod RecoverContextLemmas
@@ -14,6 +15,8 @@ mod LiveSteps
 mod TakenLemmas
 mod GroupFiles
 mod RegionOverlayLemmas
+mod SlotJoinLemmas
+mod SlotOverlayLemmas
 mod ReadOverlayLemmas
 mod OneKeyLemmas
 mod RunCutLemmas

@@ -1,5 +1,5 @@
 -- The marks and tables of a newer neighbor joined one after another.
-use Rattle.std.proofs.Common.{◌≡◌, ◌≤◌, ◌+◌, ◌^◌, ℕ, false, cond, ◌||◌, nat_eq, List, [], ◌∷◌, Option, Some, None, Result, Ok, Err, refl, sym, ap, subst, ◌∙◌, inl, inr, arith}
+use Rattle.std.proofs.Common.{◌≡◌, ◌≤◌, ◌+◌, ◌^◌, ℕ, true, false, cond, ◌||◌, nat_eq, List, [], ◌∷◌, Option, Some, None, Result, Ok, Err, refl, sym, ap, subst, ◌∙◌, inl, inr, arith}
 use Rattle.std.specs.Ordering.{nat_cmp, eq_by_cmp}
 use Rattle.std.specs.Cmp.{nat_cmp_total}
 use Rattle.std.specs.List.{AllByRecursion, IsDistinct}
@@ -29,7 +29,7 @@ use Rattle.raft_history.specs.RegionSteps.{Tables, with_table}
 use Rattle.raft_history.proofs.JoinLemmas.{each_joined, each_refused, each_marked}
 use Rattle.raft_accessor.specs.Accessor.{table_in, live_in, live_in_all, AreCountsOf}
 use Rattle.raft_contexts.specs.RegionMarks.{mark_in}
-use Rattle.raft_contexts.specs.RegionJoins.{AreRunsOver, IsJoinFault}
+use Rattle.raft_contexts.specs.RegionJoins.{AreRunsOver, AreOthersKept, IsSlotFault}
 use Rattle.raft_accessor.proofs.LiveLemmas.{live_of_all, live-all, live-remove, live-with, live-table_of}
 use Rattle.raft_accessor.proofs.MapLemmas.{none_some, by_id, eq_self, self_same, get_own, get_left, with_other}
 use Rattle.raft_accessor.proofs.RegionTablesLemmas.{same_test}
@@ -85,18 +85,33 @@ stand_runs queue older newer h k r m is =
 
 -- ---- the loop
 
+-- regions that are none of these have the tables that they had
+abbrev pub AreOthersLeft : Tables → Tables → List (ℕ × Mark) → List (ℕ × Mark) → Type 0
+AreOthersLeft newer left all es = (r : ℕ) → find nat_cmp r all ≡ None → (find nat_cmp r es ≡ None) × (finite.get left r ≡ finite.get newer r)
+
+pub others_on : (newer left : Tables) (all : List (ℕ × Mark)) (id : ℕ) (m : Mark) (es : List (ℕ × Mark)) → AreOthersLeft newer left all ((id, m) ∷ es) → AreOthersLeft newer (finite.remove left id) all es
+others_on newer left all id m es h r none = elim (eq_by_cmp nat_cmp r id) as (λ b. eq_by_cmp nat_cmp r id ≡ b → cond b (Some m) (find nat_cmp r es) ≡ None → (find nat_cmp r es ≡ None) × (finite.get (finite.remove left id) r ≡ finite.get newer r)) [
+  | true ↦ λ p e. absurd (none_some (sym e))
+  | false ↦ λ p e. (e, get_left left id r p ∙ (h r none).1)
+] refl (h r none).0
+
+-- as said of the map of all
+pub others_kept : (newer left : Tables) (marks : Marks) (all es : List (ℕ × Mark)) → finite.from_entries {R = nat_cmp} all ≡ marks → AreOthersLeft newer left all es → AreOthersKept marks newer left
+others_kept newer left marks all es is h r none = (h r (sym (finite.get-from_entries nat_cmp_total all r) ∙ ap (λ x. finite.get x r) is ∙ none)).1
+
 -- some marks are joined, with their tables out of the newer ones, and some are left
 pub record AreJoining (queue : LogQueue) (newer : Tables) (first : MarkedRegions) (all : List (ℕ × Mark)) (now : MarkedRegions) (left : Tables) (es : List (ℕ × Mark)) : Type 0 where
   pub once : IsDistinct nat_eq (keys_of es)
   pub alone : live_in_all (other queue) now.tables ≡ 0
   pub alone_left : live_in_all (other queue) left ≡ 0
   pub held : AllByRecursion (λ (e : ℕ × Mark). finite.get left e.0 ≡ finite.get newer e.0) es
+  pub others : AreOthersLeft newer left all es
   pub few : (q : LogQueue) → live_in_all q now.tables + live_in_all q left ≤ live_in_all q first.tables + live_in_all q newer
   pub runs : AreRunsOf queue newer first.tables all → AreRunsOf queue newer now.tables es
   pub each : AreRunsOf queue newer first.tables all → joined_each queue newer first all ≡ joined_each queue newer now es
 
 pub joining_none : (queue : LogQueue) (newer : Tables) (first : MarkedRegions) (all : List (ℕ × Mark)) → IsDistinct nat_eq (keys_of all) → live_in_all (other queue) first.tables ≡ 0 → live_in_all (other queue) newer ≡ 0 → AreJoining queue newer first all first newer all
-joining_none queue newer first all once a b = record { once = once; alone = a; alone_left = b; held = same all; few = λ q. omega arith; runs = λ r. r; each = λ r. refl }
+joining_none queue newer first all once a b = record { once = once; alone = a; alone_left = b; held = same all; others = λ r none. (none, refl); few = λ q. omega arith; runs = λ r. r; each = λ r. refl }
   where
     same : (es : List (ℕ × Mark)) → AllByRecursion (λ (e : ℕ × Mark). finite.get newer e.0 ≡ finite.get newer e.0) es
     same [] = tt
@@ -118,7 +133,7 @@ runs_on queue newer older id t (e ∷ es) f h = (
 -- why all are not joined
 abbrev pub IsLoopFault : LogQueue → Tables → MarkedRegions → List (ℕ × Mark) → Error → Type 0
 IsLoopFault queue newer first all (errors.Corruption text) = joined_each queue newer first all ≡ None
-IsLoopFault queue newer first all errors.Full = 2 ^ 64 ≤ all_records first.tables + all_records newer
+IsLoopFault queue newer first all errors.Full = (q : LogQueue) × (2 ^ 64 ≤ live_in_all q first.tables + live_in_all q newer)
 IsLoopFault queue newer first all errors.Memory = Unit {0}
 IsLoopFault queue newer first all _ = ⊥
 
@@ -148,6 +163,7 @@ module _ (queue : LogQueue) (newer : Tables) (first : MarkedRegions) (all : List
     alone = omega (arith, more (other queue), there.alone, taken_alone);
     alone_left = omega (arith, there.alone_left, live-remove (other queue) left id);
     held = held_on newer left id es there.once.0 there.held.1;
+    others = others_on newer left all id m es there.others;
     few = λ q. omega (arith, there.few q, more q, live-remove q left id);
     runs = λ r. subst (λ (n : MarkedRegions). AreRunsOf queue newer n.tables es) (sym one) (runs_on queue newer now.tables id (region_in next id).table es there.once.0 (there.runs r).1);
     each = λ r. each_here r ∙ ap (option_and_then (λ x. joined_each queue newer (with_region now id x) es)) (ok (run_here r)) ∙ ap (λ (n : MarkedRegions). joined_each queue newer n es) (sym one);
@@ -163,7 +179,7 @@ module _ (queue : LogQueue) (newer : Tables) (first : MarkedRegions) (all : List
       none : joined_region queue id (region_in now id) record { mark = m; table = finite.get left id } ≡ None
       none = ap (option_map (λ t. record { mark = joined_mark queue id (region_in now id).mark (region_in now id).table m; table = t })) gone
   joining_fault counts errors.Full counted runs r =
-      let q = r.0 in omega (arith, r.1, counted q, at.few q, live-le-records q first.tables, live-le-records q newer, live-remove q left id, own_live q (finite.get left id))
+      let q = r.0 in (q, omega (arith, r.1, counted q, at.few q, live-remove q left id, own_live q (finite.get left id)))
     where
       own_live : (q : LogQueue) (o : Option Table) → live_of q (table_of id o) ≤ live_in q o
       own_live q None = omega (arith, live_of_empty q id)
@@ -202,7 +218,7 @@ refused_some queue newer first marks all is once e =
     let p = each_refused queue newer first all once e in
     (p.0, subst (λ (o : Option Mark). joined_marked queue p.0 o (finite.get newer p.0) (region_in first p.0) ≡ None) (sym (ap (λ x. finite.get x p.0) (sym is) ∙ finite.get-from_entries nat_cmp_total all p.0)) p.1)
 
-pub fault_some : (queue : LogQueue) (newer : Tables) (first : MarkedRegions) (marks : Marks) (all : List (ℕ × Mark)) (e : Error) → finite.from_entries {R = nat_cmp} all ≡ marks → IsDistinct nat_eq (keys_of all) → IsLoopFault queue newer first all e → IsJoinFault queue first record { tables = newer; marks = marks } e
+pub fault_some : (queue : LogQueue) (newer : Tables) (first : MarkedRegions) (marks : Marks) (all : List (ℕ × Mark)) (e : Error) → finite.from_entries {R = nat_cmp} all ≡ marks → IsDistinct nat_eq (keys_of all) → IsLoopFault queue newer first all e → IsSlotFault queue first record { tables = newer; marks = marks } e
 fault_some queue newer first marks all (errors.Corruption text) is once f = refused_some queue newer first marks all is once f
 fault_some queue newer first marks all errors.Full is once f = f
 fault_some queue newer first marks all errors.Memory is once f = tt

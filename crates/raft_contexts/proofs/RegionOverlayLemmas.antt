@@ -1,5 +1,5 @@
 -- The tables of the append queue put over the rewritten ones, one region after another.
-use Rattle.std.proofs.Common.{◌≡◌, ◌≤◌, ◌+◌, ℕ, false, cond, nat_eq, List, [], ◌∷◌, Option, Some, refl, sym, ap, subst, ◌∙◌, inl, inr, arith}
+use Rattle.std.proofs.Common.{◌≡◌, ◌≤◌, ◌+◌, ℕ, false, cond, nat_eq, List, [], ◌∷◌, Option, Some, None, refl, sym, ap, subst, ◌∙◌, inl, inr, arith}
 use Rattle.std.specs.Ordering.{nat_cmp}
 use Rattle.std.specs.Cmp.{nat_cmp_total}
 use Rattle.std.specs.List.{AllByRecursion, IsDistinct}
@@ -21,14 +21,13 @@ use Rattle.raft_table.specs.Table.{Table, live_of}
 use Rattle.raft_table.proofs.OverlayLemmas.{overlay_run}
 use Rattle.raft_history.specs.Joins.{StandForSteps, overlaid_region, AreOverlaid}
 use Rattle.raft_history.specs.MarkedRegions.{Marks, MarkedRegions}
-use Rattle.raft_history.specs.Records.{all_records}
 use Rattle.raft_history.specs.RegionSteps.{Tables, with_table}
 use Rattle.raft_accessor.specs.Accessor.{table_in, live_in, live_in_all, AreCountsOf}
 use Rattle.raft_accessor.specs.TableOverlays.{IsRunOverlaid}
 use Rattle.raft_contexts.specs.RegionOverlays.{AreRunsOverlaid, AreTooMany}
 use Rattle.raft_accessor.proofs.LiveLemmas.{live-remove, live-with, live-table_of}
 use Rattle.raft_accessor.proofs.MapLemmas.{by_id, eq_self, with_other}
-use Rattle.raft_contexts.proofs.RegionJoinLemmas.{live-le-records, each_found, other_key, not_there, held_on}
+use Rattle.raft_contexts.proofs.RegionJoinLemmas.{AreOthersLeft, others_on, each_found, other_key, not_there, held_on}
 
 -- ---- runs
 
@@ -77,12 +76,13 @@ pub record AreOverlaying (appended first : Tables) (all : List (ℕ × Mark)) (n
   pub once : IsDistinct nat_eq (keys_of es)
   pub own_left : live_in_all Rewrite left ≡ 0
   pub held : AllByRecursion (λ (e : ℕ × Mark). finite.get left e.0 ≡ finite.get appended e.0) es
+  pub others : AreOthersLeft appended left all es
   pub few : (q : LogQueue) → live_in_all q now + live_in_all q left ≤ live_in_all q first + live_in_all q appended
   pub runs : AreRunsUnder appended first all → AreRunsUnder appended now es
   pub each : AreRunsUnder appended first all → (z : Tables) → Overlays appended now es z → Overlays appended first all z
 
 pub overlaying_none : (appended first : Tables) (all : List (ℕ × Mark)) → IsDistinct nat_eq (keys_of all) → live_in_all Rewrite appended ≡ 0 → AreOverlaying appended first all first appended all
-overlaying_none appended first all once own = record { once = once; own_left = own; held = same all; few = λ q. omega arith; runs = λ r. r; each = λ r z h. h }
+overlaying_none appended first all once own = record { once = once; own_left = own; held = same all; others = λ r none. (none, refl); few = λ q. omega arith; runs = λ r. r; each = λ r z h. h }
   where
     same : (es : List (ℕ × Mark)) → AllByRecursion (λ (e : ℕ × Mark). finite.get appended e.0 ≡ finite.get appended e.0) es
     same [] = tt
@@ -113,16 +113,17 @@ module _ (appended first : Tables) (all : List (ℕ × Mark)) (now left : Tables
     once = there.once.1;
     own_left = omega (arith, at.own_left, live_taken Rewrite);
     held = held_on appended left id es there.once.0 there.held.1;
+    others = others_on appended left all id m es there.others;
     few = λ q. omega (arith, at.few q, few q, live_taken q, ap (live_in_all q) one, live-with q now id (finite.get next id), live-table_of q id (finite.get next id), live-table_of q id (finite.get now id));
     runs = λ r. subst (λ n. AreRunsUnder appended n es) (sym one) (runs_left appended now id (finite.get next id) es there.once.0 (there.runs r).1);
     each = λ r z h. there.each r z (overlays_step appended now next id m es there.once.0 (ok (run_here r) ∙ ap (λ o. overlaid_region id (Some m) o (finite.get now id)) own) one z h);
   }
 
   -- one is refused
-  pub overlaying_refused : (counts : Counts) (e : Error) → AreCountsOf now counts → IsOverlayFault counts (table_of id t) e → AreTooMany (all_records first + all_records appended) e
+  pub overlaying_refused : (counts : Counts) (e : Error) → AreCountsOf now counts → IsOverlayFault counts (table_of id t) e → (q : LogQueue) × AreTooMany (live_in_all q first + live_in_all q appended) e
   overlaying_refused counts errors.Full counted r =
-      let q = r.0 in omega (arith, r.1, counted q, at.few q, live-le-records q first, live-le-records q appended, live_taken q, live-table_of q id t)
-  overlaying_refused counts errors.Memory counted r = tt
+      let q = r.0 in (q, omega (arith, r.1, counted q, at.few q, live_taken q, live-table_of q id t))
+  overlaying_refused counts errors.Memory counted r = (Append, tt)
   overlaying_refused counts _ counted r = absurd r
 
 -- all are overlaid

@@ -1,5 +1,5 @@
--- The fields of `RegionMarks` against what contracts see of them, and a mark changed by a call.
-use Rattle.std.proofs.Common.{◌≡◌, ℕ, cond, nat_eq, List, [], ◌∷◌, Option, Some, None, Result, Ok, Err, refl, sym, ap, subst, ◌∙◌, inl, inr, MutBor}
+-- The fields of `SlotMarks` against what contracts see of them, and a mark changed by a call.
+use Rattle.std.proofs.Common.{◌≡◌, ◌≢◌, ℕ, cond, nat_eq, List, [], ◌∷◌, Option, Some, None, Result, Ok, Err, refl, sym, ap, subst, ◌∙◌, inl, inr, MutBor}
 use Rattle.std.specs.Ordering.{nat_cmp}
 use Rattle.std.specs.Cmp.{nat_cmp_total}
 use Rattle.std.specs.Map.{lookup}
@@ -13,9 +13,9 @@ use Rattle.raft_base.specs.declared.pipe_log.LogQueue.{LogQueue}
 use Rattle.raft_table.specs.MarkJoins.{fresh, joined_at}
 use Rattle.raft_table.proofs.StepMarkLemmas.{run_added}
 use Rattle.raft_table.specs.Marks.{Mark}
-use Rattle.raft_contexts.specs.declared.region_marks.RegionMarks.TheInside.{Inside}
+use Rattle.raft_contexts.specs.declared.region_marks.slot.SlotMarks.TheInside.{Inside}
 use Rattle.raft_contexts.specs.RegionMarks.{mark_in, MarkChange, ChangesMark, IsMarkUpdated}
-use Rattle.raft_contexts.specs.RegionMarksView.{marks_shown}
+use Rattle.raft_contexts.specs.SlotMarksView.{slot_shown}
 use Rattle.raft_accessor.proofs.MapLemmas.{same, by_id, not_same, self_same, get_own, get_other, insert_same}
 use Rattle.raft_accessor.proofs.RegionTablesLemmas.{same_test}
 
@@ -26,11 +26,11 @@ found q (e ∷ es) = ap (λ b. cond b (Some e.1) (find nat_cmp q es)) (same_test
 pub get-of : (es : List (ℕ × Mark)) (q : ℕ) → finite.get (finite.from_entries {R = nat_cmp} es) q ≡ lookup (nat_eq q) es
 get-of es q = finite.get-from_entries nat_cmp_total es q ∙ found q es
 
-pub get-shown : (a : Inside) (m : Marks) (q : ℕ) → marks_shown a ≡ m → finite.get m q ≡ lookup (nat_eq q) a.marks.entries
+pub get-shown : (a : Inside) (m : Marks) (q : ℕ) → slot_shown a ≡ m → finite.get m q ≡ lookup (nat_eq q) a.marks.entries
 get-shown a m q is = ap (λ m. finite.get m q) (sym is) ∙ get-of a.marks.entries q
 
 -- one key has another value and the others have theirs
-pub shown-with : (a b : Inside) (m : Marks) (k : ℕ) (x : Mark) → marks_shown a ≡ m → ((q : ℕ) → lookup (nat_eq q) b.marks.entries ≡ cond (nat_eq k q) (Some x) (lookup (nat_eq q) a.marks.entries)) → marks_shown b ≡ finite.insert m k x
+pub shown-with : (a b : Inside) (m : Marks) (k : ℕ) (x : Mark) → slot_shown a ≡ m → ((q : ℕ) → lookup (nat_eq q) b.marks.entries ≡ cond (nat_eq k q) (Some x) (lookup (nat_eq q) a.marks.entries)) → slot_shown b ≡ finite.insert m k x
 shown-with a b m k x is h =
     same _ _ (λ q. get-of b.marks.entries q ∙ h q ∙ elim (by_id q k) [
       | inl p ↦ subst (λ q. cond (nat_eq k q) (Some x) (lookup (nat_eq q) a.marks.entries) ≡ finite.get (finite.insert m k x) q) (sym p) (ap (λ b. cond b (Some x) (lookup (nat_eq k) a.marks.entries)) (self_same k) ∙ sym (get_own m k x))
@@ -38,14 +38,14 @@ shown-with a b m k x is h =
     ])
 
 -- the same look-ups show the same marks
-pub shown-same : (a b : Inside) (m : Marks) → marks_shown a ≡ m → ((q : ℕ) → lookup (nat_eq q) b.marks.entries ≡ lookup (nat_eq q) a.marks.entries) → marks_shown b ≡ m
+pub shown-same : (a b : Inside) (m : Marks) → slot_shown a ≡ m → ((q : ℕ) → lookup (nat_eq q) b.marks.entries ≡ lookup (nat_eq q) a.marks.entries) → slot_shown b ≡ m
 shown-same a b m is h = same _ _ (λ q. get-of b.marks.entries q ∙ h q ∙ sym (get-shown a m q is))
 
 -- what a look-up for writing found
-pub there : (a : Inside) (m : Marks) (k : ℕ) (o : Option (MutBor Mark)) (x : MutBor Mark) → marks_shown a ≡ m → option_copied_mut o ≡ lookup (nat_eq k) a.marks.entries → o ≡ Some x → finite.get m k ≡ Some x.now
+pub there : (a : Inside) (m : Marks) (k : ℕ) (o : Option (MutBor Mark)) (x : MutBor Mark) → slot_shown a ≡ m → option_copied_mut o ≡ lookup (nat_eq k) a.marks.entries → o ≡ Some x → finite.get m k ≡ Some x.now
 there a m k o x is v e = get-shown a m k is ∙ sym v ∙ ap option_copied_mut e
 
-pub absent : (a : Inside) (m : Marks) (k : ℕ) (o : Option (MutBor Mark)) → marks_shown a ≡ m → option_copied_mut o ≡ lookup (nat_eq k) a.marks.entries → o ≡ None → finite.get m k ≡ None
+pub absent : (a : Inside) (m : Marks) (k : ℕ) (o : Option (MutBor Mark)) → slot_shown a ≡ m → option_copied_mut o ≡ lookup (nat_eq k) a.marks.entries → o ≡ None → finite.get m k ≡ None
 absent a m k o is v e = get-shown a m k is ∙ sym v ∙ ap option_copied_mut e
 
 -- the region mark of a run alone is that of no step joined with it
@@ -66,6 +66,9 @@ mark_of_none m id e = ap (λ (o : Option Mark). unwrap_or o fresh) e
 now_in : (m n : Marks) (id : ℕ) (x : Mark) → n ≡ finite.insert m id x → mark_in n id ≡ x
 now_in m n id x e = mark_of_some n id x (ap (λ y. finite.get y id) e ∙ get_own m id x)
 
+others_of : (m n : Marks) (id : ℕ) (x : Mark) → n ≡ finite.insert m id x → (q : ℕ) → q ≢ id → finite.get n q ≡ finite.get m q
+others_of m n id x e q ne = ap (λ y. finite.get y q) e ∙ elim (by_id q id) [ inl p ↦ absurd (ne p) | inr f ↦ get_other m id q x f ]
+
 module _ {F : Type 0} (g : MarkChange F) (f : F) (m : Marks) (id : ℕ) where
   -- the mark was there
   pub updated : (u : Mark) (r : R) (new : Mark) (n : Marks) → finite.get m id ≡ Some u → ChangesMark g f (mark_in m id) r new → n ≡ finite.insert m id new → IsMarkUpdated g f m id r n
@@ -74,19 +77,22 @@ module _ {F : Type 0} (g : MarkChange F) (f : F) (m : Marks) (id : ℕ) where
       record {
         changed = elim r as (λ s. ChangesMark g f (mark_in m id) s new → OnOk s (ChangesMark g f (mark_in m id) s (mark_in n id))) [ Ok a ↦ λ ch. subst (λ x. ChangesMark g f (mark_in m id) (Ok a) x) (sym now) ch | Err x ↦ λ ch. tt ] ch;
         one = elim r as (λ s. OnOk s (n ≡ finite.insert m id (mark_in n id))) [ Ok a ↦ e ∙ ap (finite.insert m id) (sym now) | Err x ↦ tt ];
+        others = others_of m n id new e;
         err = λ kept. elim r as (λ s. OnErr s (new ≡ mark_in m id) → OnErr s (n ≡ m)) [ Ok a ↦ λ k. tt | Err x ↦ λ k. e ∙ insert_same m id new (is ∙ ap Some (sym (k ∙ mark_of_some m id u is))) ] (kept new ch);
-      }
-
-  -- the mark was made
-  pub made : (a : Unit {0}) (new : Mark) (n : Marks) → ChangesMark g f (mark_in m id) (Ok a) new → n ≡ finite.insert m id new → IsMarkUpdated g f m id (Ok a) n
-  made a new n ch e =
-      let now : mark_in n id ≡ new = now_in m n id new e in
-      record {
-        changed = subst (λ x. ChangesMark g f (mark_in m id) (Ok a) x) (sym now) ch;
-        one = e ∙ ap (finite.insert m id) (sym now);
-        err = λ kept. tt;
       }
 
   -- there was no memory for the mark, or for what changes it
   pub refused : (x : AllocError) (n : Marks) → n ≡ m → IsMarkUpdated g f m id (Err x) n
-  refused x n e = record { changed = tt; one = tt; err = λ kept. e }
+  refused x n e = record { changed = tt; one = tt; others = λ q ne. ap (λ y. finite.get y q) e; err = λ kept. e }
+
+  -- the mark was made, and put in or not
+  pub made : (a : Unit {0}) (r : R) (new : Mark) (n : Marks) → ChangesMark g f (mark_in m id) (Ok a) new → OnOk r (n ≡ finite.insert m id new) → OnErr r (n ≡ m) → IsMarkUpdated g f m id r n
+  made a (Ok b) new n ch e k =
+      let now : mark_in n id ≡ new = now_in m n id new e in
+      record {
+        changed = subst (λ x. ChangesMark g f (mark_in m id) (Ok a) x) (sym now) ch;
+        one = e ∙ ap (finite.insert m id) (sym now);
+        others = others_of m n id new e;
+        err = λ kept. tt;
+      }
+  made a (Err x) new n ch e k = refused x n k

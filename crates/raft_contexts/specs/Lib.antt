@@ -8,6 +8,7 @@ pub mod MovedPlaces
 pub mod ReadItems
 pub mod RegionMarks
 pub mod RegionMarksView
+pub mod SlotMarksView
 pub mod FileRanges
 pub mod ReadStates
 pub mod RecoverContext

@@ -1,5 +1,5 @@
 -- Regions joined with those of a newer neighbor, each under its region mark.
-use Rattle.std.specs.Prelude.{◌≡◌, ℕ, ◌+◌, ◌≤◌, ◌^◌, Some}
+use Rattle.std.specs.Prelude.{◌≡◌, ℕ, ◌+◌, ◌≤◌, ◌^◌, Some, None}
 use Rattle.std.specs.FinMap as finite
 use Rattle.raft_base.specs.declared.errors.Error.{Error}
 use Rattle.raft_base.specs.declared.errors.Error.TheVariants as errors
@@ -10,11 +10,22 @@ use Rattle.raft_history.specs.Records.{all_records}
 use Rattle.raft_history.specs.RegionSteps.{Tables}
 use Rattle.raft_table.specs.MarkedJoins.{IsRunOver}
 use Rattle.raft_table.specs.Marks.{Mark}
-use Rattle.raft_accessor.specs.Accessor.{table_in}
+use Rattle.raft_accessor.specs.Accessor.{table_in, live_in_all}
 
 -- what each of these region marks makes of its region's entries over the older ones is a run, as it is where the region marks and the tables stand for steps
 abbrev pub AreRunsOver : LogQueue → Marks → Tables → Tables → Type 0
 AreRunsOver queue marks newer older = (r : ℕ) (m : Mark) → finite.get marks r ≡ Some m → IsRunOver queue m (table_in newer r) (table_in older r)
+
+-- the tables of regions without such a region mark are as they were
+abbrev pub AreOthersKept : Marks → Tables → Tables → Type 0
+AreOthersKept marks old new = (r : ℕ) → finite.get marks r ≡ None → finite.get new r ≡ finite.get old r
+
+-- why the regions of a slot are not joined: some region's join is refused, more would be live in a queue than can be counted, or want of memory
+abbrev pub IsSlotFault : LogQueue → MarkedRegions → MarkedRegions → Error → Type 0
+IsSlotFault queue older newer (errors.Corruption text) = IsJoinRefused queue older newer
+IsSlotFault queue older newer errors.Full = (q : LogQueue) × (2 ^ 64 ≤ live_in_all q older.tables + live_in_all q newer.tables)
+IsSlotFault queue older newer errors.Memory = Unit {0}
+IsSlotFault queue older newer _ = ⊥
 
 -- why the regions of two neighbors are not joined: some region's join is refused, the records would be 2^64 or more, or want of memory
 abbrev pub IsJoinFault : LogQueue → MarkedRegions → MarkedRegions → Error → Type 0

@@ -1,5 +1,5 @@
 -- The region marks of regions, and changes of one of them.
-use Rattle.std.specs.Prelude.{◌≡◌, ℕ, Result}
+use Rattle.std.specs.Prelude.{◌≡◌, ◌≢◌, ℕ, List, [], ◌∷◌, replicate, Result}
 use Rattle.std.specs.declared.alloc.AllocError.{AllocError}
 use Rattle.std.specs.Borrow.{MutBor}
 use Rattle.std.specs.FinMap as finite
@@ -13,6 +13,11 @@ use Rattle.raft_table.specs.Marks.{Mark}
 -- the region mark of a region, or that of no step where it has none
 abbrev pub mark_in : Marks → ℕ → Mark
 mark_in marks id = unwrap_or (finite.get marks id) fresh
+
+-- these slots, or 128 empty ones where there are none
+abbrev pub with_slots : List Marks → List Marks
+with_slots [] = replicate 128 finite.empty
+with_slots (m ∷ ms) = m ∷ ms
 
 -- a call that changes a region mark, or finds no memory for that
 abbrev pub MarkChange : Type 0 → Type 1
@@ -34,4 +39,5 @@ pub record MayChangeMark {F : Type 0} (g : MarkChange F) (f : F) (old : Mark) : 
 pub record IsMarkUpdated {F : Type 0} (g : MarkChange F) (f : F) (old : Marks) (id : ℕ) (r : Result (Unit {0}) AllocError) (new : Marks) : Type 0 where
   pub changed : OnOk r (ChangesMark g f (mark_in old id) r (mark_in new id))
   pub one : OnOk r (new ≡ finite.insert old id (mark_in new id))
+  pub others : (q : ℕ) → q ≢ id → finite.get new q ≡ finite.get old q
   pub err : ((m : Mark) → ChangesMark g f (mark_in old id) r m → OnErr r (m ≡ mark_in old id)) → OnErr r (new ≡ old)

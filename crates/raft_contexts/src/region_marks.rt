@@ -1,27 +1,30 @@
 //! The region marks of some regions.
 
-ghost use Rattle.std.specs.Prelude.{◌≡◌, nat_eq, OnOk, OnErr, Ok, Err, Some};
+ghost use Rattle.std.specs.Prelude.{◌≡◌, ◌≤◌, ◌<◌, length, replicate, IfOk, OnOk, OnErr, Some};
 ghost use Rattle.std.specs.FinMap as finite;
 ghost use Rattle.std.specs.FinSet as finset;
-ghost use Rattle.std.specs.List.{IsDistinct};
-ghost use Rattle.std.specs.Map.{keys_of};
 ghost use Rattle.raft_history.specs.Records.{total};
 ghost use Rattle.raft_table.specs.Marks.{Mark};
 ghost use Rattle.raft_table.specs.MarkJoins.{fresh, mark_of, joined_at};
 ghost use Rattle.raft_table.specs.StepShown.{step_shown};
-ghost use Rattle.raft_contexts.specs.RegionMarks.{mark_in, MayChangeMark, IsMarkUpdated};
+ghost use Rattle.raft_accessor.specs.Slots.{together, AreSlots};
+ghost use Rattle.raft_contexts.specs.RegionMarks.{mark_in, with_slots};
 
+mod slot;
+
+use raft_accessor::slot_of;
 use raft_base::{AllocResult, LogQueue};
 use raft_table::{Mark, Step};
-use std::alloc::{AllocError, Global};
-use std::collections::HashMap;
-use std::collections::hash_map::IntoIter;
+pub(crate) use slot::SlotMarks;
+use std::alloc::Global;
 use std::marker::Model;
 
 /// The region marks of some regions, each under its region's id.
+///
+/// They are in 128 slots, as the tables are, or in none before the first is put in.
 #[derive(Drop)]
 pub struct RegionMarks {
-    marks: HashMap<u64, Mark>,
+    slots: Vec<SlotMarks>,
     alloc: Global,
 }
 
@@ -35,9 +38,11 @@ impl Model for RegionMarks {
 
     ghost coded = { finite.code coded_ℕ mark_code };
 
-    ghost use Rattle.raft_contexts.specs.RegionMarksView.{marks_shown};
+    ghost use Rattle.raft_contexts.specs.RegionMarksView.{marks_shown, AreMarksKept};
 
     ghost view = { marks_shown };
+
+    ghost invariant = { AreMarksKept };
 }
 
 impl RegionMarks {
@@ -46,7 +51,7 @@ impl RegionMarks {
         ensures { result ≡ finite.empty }
     {
         RegionMarks {
-            marks: HashMap::new(alloc),
+            slots: Vec::new(alloc),
             alloc,
         }
     }
@@ -55,7 +60,11 @@ impl RegionMarks {
     pub fn len(&self) -> usize
         ensures { result ≡ finite.len self.now }
     {
-        self.marks.len()
+        let mut count = 0;
+        for slot in &self.slots {
+            count += slot.len();
+        }
+        count
     }
 
     /// Returns how many deleted keys all region marks hold together.
@@ -63,8 +72,8 @@ impl RegionMarks {
         ensures { result ≡ total (λ (m : Mark). finset.len m.deleted) self.now }
     {
         let mut count = 0;
-        for mark in self.marks.values() {
-            count += mark.deleted().len() as u128;
+        for slot in &self.slots {
+            count += slot.deleted_keys();
         }
         count
     }
@@ -81,14 +90,8 @@ impl RegionMarks {
             (record fresh { reach = Some start; cut = Some start }))) }
         ensures err { OnErr result (self.new ≡ self.old) }
     {
-        if let Some(mark) = self.marks.get_mut(&id) {
-            mark.add_run(queue, end, start);
-            return Ok(());
-        }
-        match self.marks.insert(id, Mark::of_run(self.alloc, start)) {
-            Ok(_) => Ok(()),
-            Err(_) => Err(AllocError),
-        }
+        make_slots(&mut self.slots, self.alloc)?;
+        self.slots[slot_of(id)].add_run(id, queue, end, start)
     }
 
     /// Joins the region mark of a step to the region mark of a region. Where the step is a run, the region's own
@@ -103,7 +106,8 @@ impl RegionMarks {
             (joined_at queue end (mark_in self.old id) (mark_of (step_shown step.now)))) }
         ensures err { OnErr result (self.new ≡ self.old) }
     {
-        self.update(id, move |mark: &mut Mark| mark.add_step(queue, end, step))
+        make_slots(&mut self.slots, self.alloc)?;
+        self.slots[slot_of(id)].add_step(id, queue, end, step)
     }
 
     /// Joins the region mark of newer steps to the region mark of a region, whose first run meets own
@@ -123,40 +127,59 @@ impl RegionMarks {
             ≡ finite.insert self.old id
             (joined_at queue end_at_reach (mark_in self.old id) newer)) }
     {
-        self.update(id, move |mark: &mut Mark| {
-            let mut newer = newer;
-            mark.join(queue, end_at_reach, &mut newer)
-        })
+        make_slots(&mut self.slots, self.alloc)?;
+        self.slots[slot_of(id)].join(id, queue, end_at_reach, newer)
     }
 
-    /// Returns the region marks, each with its region, in no set order.
-    pub(crate) fn into_entries(self) -> IntoIter<u64, Mark>
-        ensures entries { finite.from_entries result ≡ self }
-        ensures once { IsDistinct nat_eq (keys_of result) }
+    /// Makes room in a slot, up to `count` region marks.
+    ///
+    /// # Errors
+    ///
+    /// `AllocError`.
+    pub(crate) fn make_room(&mut self, slot: usize, count: usize) -> AllocResult<()>
+        requires { slot < 128 }
+        ensures { self.new ≡ self.old }
     {
-        self.marks.into_iter()
+        make_slots(&mut self.slots, self.alloc)?;
+        self.slots[slot].make_room(count)
     }
 
-    /// Changes the region mark of a region, that of no step where it has none. It is looked up once where it is there.
-    #[inline(always)]
-    fn update<F: FnOnce(&mut Mark) -> AllocResult<()>>(
-        &mut self,
-        id: u64,
-        change: F,
-    ) -> AllocResult<()>
-    where
-        F: Drop,
-        requires { MayChangeMark F.FnOnce change (mark_in self.old id) }
-        ensures { IsMarkUpdated F.FnOnce change self.old id result self.new }
+    /// Returns the slots, in order.
+    pub(crate) fn into_slots(self) -> Vec<SlotMarks>
+        ensures marks { together result.items ≡ self }
+        ensures slots { AreSlots 0 result.items }
+        ensures few { length result.items ≤ 128 }
     {
-        if let Some(mark) = self.marks.get_mut(&id) {
-            return change(mark);
-        }
-        let mut mark = Mark::new(self.alloc);
-        change(&mut mark)?;
-        match self.marks.insert(id, mark) {
-            Ok(_) => Ok(()),
-            Err(_) => Err(AllocError),
-        }
+        self.slots
     }
+}
+
+/// Makes 128 slots where there are none.
+///
+/// # Errors
+///
+/// `AllocError`. The slots are then as they were.
+fn make_slots(slots: &mut Vec<SlotMarks>, alloc: Global) -> AllocResult<()>
+    ensures ok { OnOk result (slots.new.items ≡ with_slots slots.old.items) }
+    ensures err { OnErr result (slots.new.items ≡ slots.old.items) }
+{
+    if slots.is_empty() {
+        *slots = empty_slots(alloc)?;
+    }
+    Ok(())
+}
+
+/// Makes 128 slots without region marks.
+///
+/// # Errors
+///
+/// `AllocError`.
+fn empty_slots(alloc: Global) -> AllocResult<Vec<SlotMarks>>
+    ensures { IfOk result (λ slots. slots.items ≡ replicate 128 finite.empty) }
+{
+    let mut slots = Vec::with_capacity(alloc, 128)?;
+    for _ in 0..128usize {
+        slots.push(SlotMarks::new(alloc))?;
+    }
+    Ok(slots)
 }

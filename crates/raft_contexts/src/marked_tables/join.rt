@@ -1,6 +1,6 @@
 //! The tables and region marks of all regions joined with those of a newer neighbor.
 
-ghost use Rattle.std.specs.Prelude.{◌≡◌, ◌+◌, ◌≤◌, ◌++◌, IfErr, IfSome, OnOk, Some};
+ghost use Rattle.std.specs.Prelude.{◌≡◌, ◌+◌, ◌≤◌, ◌<◌, ◌++◌, IfErr, IfSome, OnOk, Some};
 ghost use Rattle.raft_base.specs.declared.pipe_log.LogQueue.{LogQueue};
 ghost use Rattle.raft_base.specs.declared.pipe_log.LogQueue.TheVariants.{Append, Rewrite};
 ghost use Rattle.raft_history.specs.Joins.{StandForSteps, AreJoined};
@@ -10,12 +10,12 @@ ghost use Rattle.raft_table.specs.Queues.{other};
 ghost use Rattle.raft_table.specs.Steps.{table_of};
 ghost use Rattle.raft_accessor.specs.Accessor.{table_in, live_in, live_in_all, AreCountsOf};
 ghost use Rattle.raft_contexts.specs.MarkedTables.{regions_in};
-ghost use Rattle.raft_contexts.specs.RegionJoins.{AreRunsOver, IsJoinFault};
+ghost use Rattle.raft_contexts.specs.RegionJoins.{AreRunsOver, AreOthersKept, IsSlotFault, IsJoinFault};
 
 use crate::marked_tables::MarkedTables;
-use crate::region_marks::RegionMarks;
+use crate::region_marks::{RegionMarks, SlotMarks};
 use raft_accessor::MemTableAccessor;
-use raft_base::{LogQueue, Result};
+use raft_base::{AllocResult, LogQueue, Result};
 use raft_table::{Mark, MemTable};
 
 impl MarkedTables {
@@ -64,6 +64,46 @@ impl MarkedTables {
             → IfErr result (IsJoinFault queue (regions_in self.old)
             (record { tables = tables.old.tables; marks = marks })) }
         ensures other { OnOk result (live_in_all (other queue) self.new.accessor.tables ≡ 0) }
+        ensures cleaned { (self.new.accessor.cleaned ≡ self.old.accessor.cleaned)
+            × (tables.new.cleaned ≡ tables.old.cleaned) }
+    {
+        let mut number = 0;
+        for slot in marks.into_slots() {
+            self.make_room(number, slot.len())?;
+            self.join_slot(queue, slot, tables)?;
+            number += 1;
+        }
+        Ok(())
+    }
+
+    /// Makes room in a slot, up to so many regions.
+    fn make_room(&mut self, slot: usize, count: usize) -> AllocResult<()>
+        requires { slot < 128 }
+        ensures { self.new ≡ self.old }
+    {
+        self.marks.make_room(slot, count)?;
+        self.accessor.make_room(slot, count)
+    }
+
+    /// Joins the regions that the newer region marks of a slot name, with their tables.
+    fn join_slot(
+        &mut self,
+        queue: LogQueue,
+        marks: SlotMarks,
+        tables: &mut MemTableAccessor,
+    ) -> Result<()>
+        requires older { live_in_all (other queue) self.old.accessor.tables ≡ 0 }
+        requires newer { live_in_all (other queue) tables.old.tables ≡ 0 }
+        ensures ok { AreRunsOver queue marks tables.old.tables self.old.accessor.tables
+            → OnOk result (AreJoined queue (regions_in self.old)
+            (record { tables = tables.old.tables; marks = marks }) (regions_in self.new)) }
+        ensures fault { AreRunsOver queue marks tables.old.tables self.old.accessor.tables
+            → IfErr result (IsSlotFault queue (regions_in self.old)
+            (record { tables = tables.old.tables; marks = marks })) }
+        ensures others { OnOk result (AreOthersKept marks tables.old.tables tables.new.tables) }
+        ensures few { OnOk result ((q : LogQueue)
+            → live_in_all q self.new.accessor.tables + live_in_all q tables.new.tables
+            ≤ live_in_all q self.old.accessor.tables + live_in_all q tables.old.tables) }
         ensures cleaned { (self.new.accessor.cleaned ≡ self.old.accessor.cleaned)
             × (tables.new.cleaned ≡ tables.old.cleaned) }
     {

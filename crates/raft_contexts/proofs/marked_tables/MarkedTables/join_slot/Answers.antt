@@ -4,8 +4,8 @@ use Rattle.std.specs.List.{IsDistinct}
 use Rattle.std.specs.Map.{keys_of}
 use Rattle.std.proofs.lemmas.Result.{err_from_is_err_and}
 use Rattle.raft_contexts.specs.MarkedTables.{regions_in}
-use Rattle.raft_contexts.proofs.RegionJoinLemmas.{joining_none, alone_taken, taken_step, taken_fault, joined_all, fault_some, runs_of}
-use Rattle.raft_contexts.proofs.marked_tables.MarkedTables.join_regions.Goals as goal
+use Rattle.raft_contexts.proofs.RegionJoinLemmas.{joining_none, alone_taken, taken_step, taken_fault, joined_all, others_kept, fault_some, runs_of}
+use Rattle.raft_contexts.proofs.marked_tables.MarkedTables.join_slot.Goals as goal
 
 pub loop-id-init : goal.loop-id-init
 loop-id-init c = (joining_none c.args.queue c.args.tables.now.tables (regions_in c.args.self.now) _ (subst (λ es. IsDistinct nat_eq (keys_of es)) (sym c.into_iter-id-iterator.ensures.into_iter_gives) c.into_entries-id-items.ensures.once) c.requires.older c.requires.newer, refl, refl)
@@ -36,3 +36,9 @@ returns-clause-ok c = λ runs.
     let is = ap (λ es. finite.from_entries es) c.into_iter-id-iterator.ensures.into_iter_gives ∙ c.into_entries-id-items.ensures.entries in
     let once = subst (λ es. IsDistinct nat_eq (keys_of es)) (sym c.into_iter-id-iterator.ensures.into_iter_gives) c.into_entries-id-items.ensures.once in
     joined_all c.args.queue c.args.tables.now.tables (regions_in c.args.self.now) (regions_in c.loop-id.self) c.loop-id.tables.tables c.args.marks _ _ is once c.loop-id.invariant.0 c.in-None.ensures.steps.0 runs
+
+pub returns-clause-others : goal.returns-clause-others
+returns-clause-others c = others_kept c.args.tables.now.tables c.loop-id.tables.tables c.args.marks _ _ (ap (λ es. finite.from_entries es) c.into_iter-id-iterator.ensures.into_iter_gives ∙ c.into_entries-id-items.ensures.entries) c.loop-id.invariant.0.others
+
+pub returns-clause-few : goal.returns-clause-few
+returns-clause-few c = c.loop-id.invariant.0.few

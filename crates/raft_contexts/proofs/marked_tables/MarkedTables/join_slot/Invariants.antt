@@ -1,7 +1,7 @@
 use Rattle.std.proofs.Common.{◌≡◌}
 use Rattle.raft_contexts.specs.MarkedTables.{regions_in}
 use Rattle.raft_contexts.proofs.RegionJoinLemmas.{AreJoining}
-use Rattle.raft_contexts.proofs.marked_tables.MarkedTables.join_regions.Given as goal
+use Rattle.raft_contexts.proofs.marked_tables.MarkedTables.join_slot.Given as goal
 
 abbrev pub invariant-loop-id : goal.invariant-loop-id
 invariant-loop-id l =

@@ -3,8 +3,9 @@ use Rattle.std.specs.FinMap as finite
 use Rattle.std.specs.List.{IsDistinct}
 use Rattle.std.specs.Map.{keys_of}
 use Rattle.std.proofs.lemmas.Result.{err_from_is_err_and}
+use Rattle.raft_contexts.proofs.RegionJoinLemmas.{others_kept}
 use Rattle.raft_contexts.proofs.RegionOverlayLemmas.{overlaying_none, own_taken, overlaying_step, overlaying_refused, overlaid_all}
-use Rattle.raft_contexts.proofs.marked_tables.MarkedTables.overlay_regions.Goals as goal
+use Rattle.raft_contexts.proofs.marked_tables.MarkedTables.overlay_slot.Goals as goal
 
 pub loop-id-init : goal.loop-id-init
 loop-id-init c = (overlaying_none c.args.appended.now.tables c.args.self.now.accessor.tables _ (subst (λ es. IsDistinct nat_eq (keys_of es)) (sym c.into_iter-id-iterator.ensures.into_iter_gives) c.into_entries-id-items.ensures.once) c.requires.own, refl)
@@ -31,3 +32,12 @@ returns-clause-ok c = λ runs.
     let is = ap (λ es. finite.from_entries es) c.into_iter-id-iterator.ensures.into_iter_gives ∙ c.into_entries-id-items.ensures.entries in
     let once = subst (λ es. IsDistinct nat_eq (keys_of es)) (sym c.into_iter-id-iterator.ensures.into_iter_gives) c.into_entries-id-items.ensures.once in
     overlaid_all c.args.appended.now.tables c.args.self.now.accessor.tables c.loop-id.self.accessor.tables c.loop-id.appended.tables c.args.marks _ _ is once c.loop-id.invariant.0 c.in-None.ensures.steps.0 runs
+
+pub returns-clause-own_left : goal.returns-clause-own_left
+returns-clause-own_left c = c.loop-id.invariant.0.own_left
+
+pub returns-clause-others : goal.returns-clause-others
+returns-clause-others c = others_kept c.args.appended.now.tables c.loop-id.appended.tables c.args.marks _ _ (ap (λ es. finite.from_entries es) c.into_iter-id-iterator.ensures.into_iter_gives ∙ c.into_entries-id-items.ensures.entries) c.loop-id.invariant.0.others
+
+pub returns-clause-few : goal.returns-clause-few
+returns-clause-few c = c.loop-id.invariant.0.few

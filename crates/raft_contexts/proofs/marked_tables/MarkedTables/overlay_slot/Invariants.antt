@@ -1,6 +1,6 @@
 use Rattle.std.proofs.Common.{◌≡◌}
 use Rattle.raft_contexts.proofs.RegionOverlayLemmas.{AreOverlaying}
-use Rattle.raft_contexts.proofs.marked_tables.MarkedTables.overlay_regions.Given as goal
+use Rattle.raft_contexts.proofs.marked_tables.MarkedTables.overlay_slot.Given as goal
 
 abbrev pub invariant-loop-id : goal.invariant-loop-id
 invariant-loop-id l =

@@ -1,12 +1,15 @@
-use Rattle.std.proofs.Common.{nat_eq, ◌≡◌, Some, None, sym, ap, ◌∙◌}
+use Rattle.std.proofs.Common.{nat_eq, ◌≡◌, Some, None, sym, ap, subst, ◌∙◌}
+use Rattle.std.specs.Result.{OnOk, OnErr}
 use Rattle.std.specs.Map.{lookup}
 use Rattle.std.specs.FinMap as finite
 use Rattle.std.specs.Option.{is_some, option_copied_mut}
 use Rattle.raft_table.specs.Marks.{Mark}
 use Rattle.raft_table.specs.MarkJoins.{fresh, joined_at}
-use Rattle.raft_contexts.specs.declared.region_marks.RegionMarks.TheInside.{Inside}
-use Rattle.raft_contexts.proofs.RegionMarksLemmas.{shown-with, shown-same, there, absent, mark_of_some, mark_of_none, first_run}
-use Rattle.raft_contexts.proofs.region_marks.RegionMarks.add_run.Goals as goal
+use Rattle.raft_contexts.specs.RegionMarks.{mark_in}
+use Rattle.raft_contexts.specs.SlotMarksView.{slot_shown}
+use Rattle.raft_contexts.specs.declared.region_marks.slot.SlotMarks.TheInside.{Inside}
+use Rattle.raft_contexts.proofs.SlotMarksLemmas.{shown-with, shown-same, there, absent, mark_of_some, mark_of_none, first_run}
+use Rattle.raft_contexts.proofs.region_marks.slot.SlotMarks.add_run.Goals as goal
 
 pub returns-in-Some-clause-ok : goal.returns-in-Some-clause-ok
 returns-in-Some-clause-ok c =
@@ -15,14 +18,17 @@ returns-in-Some-clause-ok c =
     shown-with c.self.inside (record c.self.inside { marks = c.get_mut.follows.lender c.add_run.new.self }) c.args.self.now c.args.id c.add_run.new.self c.self.view_is ((c.get_mut.follows.holds c.add_run.new.self).3 (ap is_some (sym c.get_mut.ensures.value ∙ ap option_copied_mut c.in-Some.is))).0
     ∙ ap (finite.insert c.args.self.now c.args.id) (c.add_run.ensures ∙ ap (λ m. joined_at c.args.queue c.args.end m run) (sym (mark_of_some c.args.self.now c.args.id _ was)))
 
-pub returns-in-Ok-clause-ok : goal.returns-in-Ok-clause-ok
-returns-in-Ok-clause-ok c =
+pub returns-clause-ok : goal.returns-clause-ok
+returns-clause-ok c =
     let run : Mark = record fresh { reach = Some c.args.start; cut = Some c.args.start } in
-    let none : finite.get c.args.self.now c.args.id ≡ None = absent c.self.inside c.args.self.now c.args.id _ c.self.view_is c.get_mut.ensures.value c.in_default.is in
     let before : Inside = record c.self.inside { marks = c.get_mut.follows.lender-at-none } in
-    shown-with before (record c.self.inside { marks = c.insert.new.self }) c.args.self.now c.args.id c.of_run.result (shown-same c.self.inside before c.args.self.now c.self.view_is (λ q. ap (λ m. lookup (nat_eq q) m.entries) c.get_mut.follows.holds-at-none)) c.in-Ok.ensures.updates.0
-    ∙ ap (finite.insert c.args.self.now c.args.id) (c.of_run.ensures ∙ sym (first_run c.args.queue c.args.end c.args.start) ∙ ap (λ m. joined_at c.args.queue c.args.end m run) (sym (mark_of_none c.args.self.now c.args.id none)))
+    let same : slot_shown before ≡ c.args.self.now = shown-same c.self.inside before c.args.self.now c.self.view_is (λ q. ap (λ m. lookup (nat_eq q) m.entries) c.get_mut.follows.holds-at-none) in
+    let none : finite.get c.args.self.now c.args.id ≡ None = absent c.self.inside c.args.self.now c.args.id _ c.self.view_is c.get_mut.ensures.value c.in_default.is in
+    let joined : c.of_run.result ≡ joined_at c.args.queue c.args.end (mark_in c.args.self.now c.args.id) run = c.of_run.ensures ∙ sym (first_run c.args.queue c.args.end c.args.start) ∙ ap (λ m. joined_at c.args.queue c.args.end m run) (sym (mark_of_none c.args.self.now c.args.id none)) in
+    subst (λ m. OnOk c.put-2.result (c.put-2.new.self ≡ finite.insert c.args.self.now c.args.id m)) joined (subst (λ m. OnOk c.put-2.result (c.put-2.new.self ≡ finite.insert m c.args.id c.of_run.result)) same c.put-2.ensures.ok)
 
 pub returns-clause-err : goal.returns-clause-err
 returns-clause-err c =
-    shown-same c.self.inside (record c.self.inside { marks = c.insert.new.self }) c.args.self.now c.self.view_is (λ q. ap (lookup (nat_eq q)) c.in-Err.ensures.err ∙ ap (λ m. lookup (nat_eq q) m.entries) c.get_mut.follows.holds-at-none)
+    let before : Inside = record c.self.inside { marks = c.get_mut.follows.lender-at-none } in
+    let same : slot_shown before ≡ c.args.self.now = shown-same c.self.inside before c.args.self.now c.self.view_is (λ q. ap (λ m. lookup (nat_eq q) m.entries) c.get_mut.follows.holds-at-none) in
+    subst (λ m. OnErr c.put-2.result (c.put-2.new.self ≡ m)) same c.put-2.ensures.err

@@ -2,7 +2,7 @@ use Rattle.std.proofs.Common.{◌≡◌, ◌≤◌, ◌+◌, ◌*◌, ◌^◌, l
 use Rattle.std.specs.FinSet as finset
 use Rattle.raft_table.specs.Marks.{Mark}
 use Rattle.raft_accessor.proofs.TotalSums.{added}
-use Rattle.raft_contexts.proofs.region_marks.RegionMarks.deleted_keys.Given as goal
+use Rattle.raft_contexts.proofs.region_marks.slot.SlotMarks.deleted_keys.Given as goal
 
 abbrev pub invariant-loop-mark : goal.invariant-loop-mark
 invariant-loop-mark l =

@@ -1,7 +1,7 @@
 use Rattle.std.proofs.Common.{sym, ap, ◌∙◌}
 use Rattle.std.specs.FinMap as finite
 use Rattle.raft_accessor.proofs.TotalSums.{len-from}
-use Rattle.raft_contexts.proofs.region_marks.RegionMarks.len.Goals as goal
+use Rattle.raft_contexts.proofs.region_marks.slot.SlotMarks.len.Goals as goal
 
-pub returns : goal.returns
-returns c = c.len.ensures.len ∙ sym (len-from c.self.inside.marks.entries c.len.ensures.unique) ∙ ap (λ m. finite.len m) c.self.view_is
+pub returns-clause-value : goal.returns-clause-value
+returns-clause-value c = c.len.ensures.len ∙ sym (len-from c.self.inside.marks.entries c.len.ensures.unique) ∙ ap (λ m. finite.len m) c.self.view_is

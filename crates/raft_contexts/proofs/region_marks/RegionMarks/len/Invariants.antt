@@ -1,0 +1,11 @@
+use Rattle.std.proofs.Common.{◌≡◌, ◌≤◌, ◌+◌, ◌*◌, ◌^◌, List, length, map, drop}
+use Rattle.raft_table.specs.Marks.{Mark}
+use Rattle.raft_history.specs.MarkedRegions.{Marks}
+use Rattle.raft_accessor.specs.Slots.{slot_entries}
+use Rattle.raft_accessor.proofs.TotalSums.{added}
+use Rattle.raft_contexts.proofs.region_marks.RegionMarks.len.Given as goal
+
+abbrev pub invariant-loop-slot : goal.invariant-loop-slot
+invariant-loop-slot l =
+    (l.count + added (λ (m : Mark). 1) (map (λ e. e.1) (slot_entries (drop l.slot-index l.slot-items))) ≡ added (λ (m : Mark). 1) (map (λ e. e.1) (slot_entries l.slot-items)))
+    × (l.count + l.slot-index ≤ l.slot-index * 2 ^ 57) × (length l.slot-items ≤ 128)

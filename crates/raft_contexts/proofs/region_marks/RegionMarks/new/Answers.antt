@@ -1,0 +1,7 @@
+use Rattle.std.proofs.Common.{ap}
+use Rattle.raft_accessor.specs.Slots.{slot_entries}
+use Rattle.raft_accessor.proofs.SlotLemmas.{together-empty}
+use Rattle.raft_contexts.proofs.region_marks.RegionMarks.new.Goals as goal
+
+pub returns : goal.returns
+returns c = together-empty c.new.result.items (ap slot_entries c.new.ensures.items)

@@ -1,0 +1,202 @@
+//! The region marks of one slot.
+
+ghost use Rattle.std.specs.Prelude.{◌≡◌, ◌≢◌, ◌<◌, ◌^◌, ℕ, nat_eq, OnOk, OnErr, Some};
+ghost use Rattle.std.specs.FinMap as finite;
+ghost use Rattle.std.specs.FinSet as finset;
+ghost use Rattle.std.specs.List.{IsDistinct};
+ghost use Rattle.std.specs.Map.{keys_of};
+ghost use Rattle.raft_history.specs.Records.{total};
+ghost use Rattle.raft_table.specs.Marks.{Mark};
+ghost use Rattle.raft_table.specs.MarkJoins.{fresh, mark_of, joined_at};
+ghost use Rattle.raft_table.specs.StepShown.{step_shown};
+ghost use Rattle.raft_contexts.specs.RegionMarks.{mark_in, MayChangeMark, IsMarkUpdated};
+
+use raft_base::{AllocResult, LogQueue};
+use raft_table::{Mark, Step};
+use std::alloc::{AllocError, Global};
+use std::collections::HashMap;
+use std::collections::hash_map::IntoIter;
+use std::marker::Model;
+
+/// The region marks that a slot holds at most, so that those of all slots, and their deleted keys, can
+/// be counted.
+const MOST_MARKS: usize = (1 << 57) - 1;
+
+/// The region marks of the regions of a slot, each under its region's id.
+#[derive(Drop)]
+pub(crate) struct SlotMarks {
+    marks: HashMap<u64, Mark>,
+    alloc: Global,
+}
+
+impl Model for SlotMarks {
+    ghost use Rattle.std.specs.FinMap as finite;
+    ghost use Rattle.std.specs.Coded.{coded_ℕ};
+    ghost use Rattle.raft_table.specs.MarkCode.{mark_code};
+    ghost use Rattle.raft_history.specs.MarkedRegions.{Marks};
+
+    ghost Value = { Marks };
+
+    ghost coded = { finite.code coded_ℕ mark_code };
+
+    ghost use Rattle.raft_contexts.specs.SlotMarksView.{slot_shown, AreFewMarks};
+
+    ghost view = { slot_shown };
+
+    ghost invariant = { AreFewMarks };
+}
+
+impl SlotMarks {
+    /// Makes one without region marks.
+    pub(crate) fn new(alloc: Global) -> SlotMarks
+        ensures { result ≡ finite.empty }
+    {
+        SlotMarks {
+            marks: HashMap::new(alloc),
+            alloc,
+        }
+    }
+
+    /// Returns how many regions have a region mark.
+    pub(crate) fn len(&self) -> usize
+        ensures value { result ≡ finite.len self.now }
+        ensures few { result < 2 ^ 57 }
+    {
+        self.marks.len()
+    }
+
+    /// Returns how many deleted keys all region marks hold together.
+    pub(crate) fn deleted_keys(&self) -> u128
+        ensures value { result ≡ total (λ (m : Mark). finset.len m.deleted) self.now }
+        ensures few { result < 2 ^ 121 }
+    {
+        let mut count = 0;
+        for mark in self.marks.values() {
+            count += mark.deleted().len() as u128;
+        }
+        count
+    }
+
+    /// Joins the region mark of a run that starts at `start` to the region mark of a region, where the region's
+    /// own entries end at `end`.
+    ///
+    /// # Errors
+    ///
+    /// `AllocError`. The region marks are then as they were.
+    pub(crate) fn add_run(
+        &mut self,
+        id: u64,
+        queue: LogQueue,
+        end: u64,
+        start: u64,
+    ) -> AllocResult<()>
+        ensures ok { OnOk result (self.new
+            ≡ finite.insert self.old id (joined_at queue end (mark_in self.old id)
+            (record fresh { reach = Some start; cut = Some start }))) }
+        ensures err { OnErr result (self.new ≡ self.old) }
+    {
+        if let Some(mark) = self.marks.get_mut(&id) {
+            mark.add_run(queue, end, start);
+            return Ok(());
+        }
+        self.put(id, Mark::of_run(self.alloc, start))
+    }
+
+    /// Joins the region mark of a step to the region mark of a region. Where the step is a run, the region's own
+    /// entries in front of it end at `end`. A deleted key is copied.
+    ///
+    /// # Errors
+    ///
+    /// `AllocError`. The region marks are then as they were.
+    pub(crate) fn add_step(
+        &mut self,
+        id: u64,
+        queue: LogQueue,
+        end: u64,
+        step: &Step,
+    ) -> AllocResult<()>
+        ensures ok { OnOk result (self.new
+            ≡ finite.insert self.old id
+            (joined_at queue end (mark_in self.old id) (mark_of (step_shown step.now)))) }
+        ensures err { OnErr result (self.new ≡ self.old) }
+    {
+        self.update(id, move |mark: &mut Mark| mark.add_step(queue, end, step))
+    }
+
+    /// Joins the region mark of newer steps to the region mark of a region, whose first run meets own
+    /// entries of the region that end at `end_at_reach`.
+    ///
+    /// # Errors
+    ///
+    /// `AllocError`. The region mark of the region may then lack deleted keys, and serves no more.
+    pub(crate) fn join(
+        &mut self,
+        id: u64,
+        queue: LogQueue,
+        end_at_reach: u64,
+        newer: Mark,
+    ) -> AllocResult<()>
+        ensures ok { OnOk result (self.new
+            ≡ finite.insert self.old id
+            (joined_at queue end_at_reach (mark_in self.old id) newer)) }
+        ensures others { (q : ℕ) → q ≢ id → finite.get self.new q ≡ finite.get self.old q }
+    {
+        self.update(id, move |mark: &mut Mark| {
+            let mut newer = newer;
+            mark.join(queue, end_at_reach, &mut newer)
+        })
+    }
+
+    /// Makes room, up to `count` region marks.
+    ///
+    /// # Errors
+    ///
+    /// `AllocError`.
+    pub(crate) fn make_room(&mut self, count: usize) -> AllocResult<()>
+        ensures { self.new ≡ self.old }
+    {
+        self.marks.reserve(count.saturating_sub(self.marks.len()))
+    }
+
+    /// Returns the region marks, each with its region, in no set order.
+    pub(crate) fn into_entries(self) -> IntoIter<u64, Mark>
+        ensures entries { finite.from_entries result ≡ self }
+        ensures once { IsDistinct nat_eq (keys_of result) }
+    {
+        self.marks.into_iter()
+    }
+
+    /// Changes the region mark of a region, that of no step where it has none. It is looked up once where it is there.
+    #[inline(always)]
+    fn update<F: FnOnce(&mut Mark) -> AllocResult<()>>(
+        &mut self,
+        id: u64,
+        change: F,
+    ) -> AllocResult<()>
+    where
+        F: Drop,
+        requires { MayChangeMark F.FnOnce change (mark_in self.old id) }
+        ensures { IsMarkUpdated F.FnOnce change self.old id result self.new }
+    {
+        if let Some(mark) = self.marks.get_mut(&id) {
+            return change(mark);
+        }
+        let mut mark = Mark::new(self.alloc);
+        change(&mut mark)?;
+        self.put(id, mark)
+    }
+
+    /// Puts in a region mark of a region that has none.
+    fn put(&mut self, id: u64, mark: Mark) -> AllocResult<()>
+        ensures ok { OnOk result (self.new ≡ finite.insert self.old id mark) }
+        ensures err { OnErr result (self.new ≡ self.old) }
+    {
+        if self.marks.len() >= MOST_MARKS {
+            return Err(AllocError);
+        }
+        match self.marks.insert(id, mark) {
+            Ok(_) => Ok(()),
+            Err(_) => Err(AllocError),
+        }
+    }
+}

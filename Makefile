@@ -2,7 +2,7 @@
 SHELL := /bin/bash
 RT ?= rt
 export RT
-.PHONY: believe believe-check bench calls compare crashes cuttings demo demo-recover edits example hostile raftlog refused-memory rust stack test wrong-bodies
+.PHONY: believe believe-check bench calls compare crashes cuttings demo demo-recover edits example hostile raftlog refused-memory rust rust-tests stack test wrong-bodies
 
 # Runs `raftlog` on an item batch, which says that the records of region 1 go. Nothing is proved.
 demo:
@@ -29,14 +29,18 @@ raftlog:
 	@set -o pipefail; cd crates/raftlog && $(RT) run -- batch append 12 1 < stdin 2>&1 > /dev/null | grep --line-buffered -v '^statements '
 	@echo "raftlog is proved and built: crates/raftlog/out/raftlog"
 
-# Proves and builds the archive of `raft_ffi`, looks at which functions it calls, and runs the tests of rust/ over it, with the heap of
-# the toolchain and with the program's own.
-rust: export RAFT_FFI_ARCHIVE = $(CURDIR)/crates/raft_ffi/out/libraft_ffi.a
-rust: export RATTLE_HEAP_ARCHIVE = $(dir $(shell $(RT) doc))c/liblibc_c.a
-rust: export CARGO_TARGET_DIR ?= $(CURDIR)/crates/raft_ffi/out/target
+# Proves and builds the archive of `raft_ffi`, and tests it.
 rust:
 	@mkdir -p crates/raft_ffi/out
 	@cd crates/raft_ffi && $(RT) lib > out/lib.log 2>&1 || { cat out/lib.log; exit 1; }
+	@$(MAKE) --silent rust-tests
+
+# Looks at which functions the archive of `raft_ffi` calls, and runs the tests of rust/ over it, with the heap of the toolchain and with
+# the program's own.
+rust-tests: export RAFT_FFI_ARCHIVE = $(CURDIR)/crates/raft_ffi/out/libraft_ffi.a
+rust-tests: export RATTLE_HEAP_ARCHIVE = $(dir $(shell $(RT) doc))c/liblibc_c.a
+rust-tests: export CARGO_TARGET_DIR ?= $(CURDIR)/crates/raft_ffi/out/target
+rust-tests:
 	@tools/ffi.py $(RAFT_FFI_ARCHIVE)
 	cargo test --quiet --offline --manifest-path rust/Cargo.toml
 	cargo test --quiet --offline --manifest-path rust/Cargo.toml --features global-allocator

@@ -14,7 +14,7 @@ ghost use Rattle.raft_records.specs.FilePart.{part_of};
 ghost use Rattle.raft_replay.specs.Replays.{HasReplayed, CannotFollow};
 ghost use Rattle.raft_replay.specs.Segments.{HoldsFrom};
 ghost use Rattle.raft_replay.specs.Stops.{StopsIn};
-ghost use Rattle.raft_ffi.specs.Calls.{queue_of, file_of, code_of, IsCodeOf, Holds, BothHold};
+ghost use Rattle.raft_ffi.specs.Calls.{queue_of, file_of, IsErrorCode, IsCodeOf, Holds, BothHold};
 ghost use Rattle.raft_ffi.specs.Changes.{IsMemoryOr};
 ghost use Rattle.raft_ffi.specs.Contexts.{HasTablesRead, IsOverlaidExactly};
 ghost use Rattle.raft_ffi.specs.KeptNumbers.{capped, AreKept};
@@ -125,6 +125,7 @@ pub extern "C" fn raft_ffi_context_merge(
     ensures refused { result.code ≢ 0 → result.code ≢ 11 → BothHold (λ old rhs. (h g : List Event)
         → IsSmall (h ++ g) → IsOfQueue (queue_of is_rewrite) (h ++ g) → HasRead old h
         → HasRead rhs g → ¬ (Sound (h ++ g))) context.old.value newer.value }
+    ensures fault { result.code ≢ 0 → IsErrorCode result.code }
     ensures text { HasText result text.old text.new }
 {
     let mut held = context.take(alloc);

@@ -17,9 +17,9 @@ ghost use Rattle.raft_ffi.specs.Rooms.{HasText};
 ghost use Rattle.raft_ffi.specs.Slots.{IsSlotChangedTo};
 ghost use Rattle.raft_ffi.specs.Summaries.{number_in};
 
+use crate::changes::{append, compact, delete, put, rewrite, rewrite_key, truncate};
 use crate::entries::Entry;
 use crate::slot::Slot;
-use crate::slot_changes::{append, compact, delete, put, rewrite, rewrite_key, truncate};
 use crate::status::{Maybe, Status, answered, queue};
 use raft_base::FileId;
 use std::alloc::Global;

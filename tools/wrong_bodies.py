@@ -23,7 +23,7 @@ import tempfile
 
 ROOT = os.path.dirname(os.path.dirname(os.path.realpath(__file__)))
 RT = shlex.split(os.environ.get("RT", "rt"))
-FUNCTION = re.compile(r"( *)(?:pub(?:\([a-z]+\))? )?(?:final )?(?:const )?(?:unsafe )?fn (\w+)")
+FUNCTION = re.compile(r"( *)(?:pub(?:\([a-z]+\))? )?(?:final )?(?:const )?(?:unsafe )?(?:extern \"C\" )?fn (\w+)")
 VERDICT = re.compile(r"^fn (\S+): (.*)", re.M)
 WAITS = re.compile(r"it (?:calls|waits for)[^;]*")
 ANSWER = re.compile(r"^(?:so far: )?(?:\./)?proofs/(\S+)/\w+\.antt:\d+:\d+: error", re.M)
@@ -213,11 +213,16 @@ def edits_in(name, folder):
     return [Edit(f"{at}/{it}") for it in names if it.endswith(".edit")]
 
 
+def rows_of():
+    """The line of each crate of the repository."""
+    with open(f"{ROOT}/crates.txt", encoding="utf-8") as lines:
+        rows = [it.split("#")[0].strip() for it in lines]
+    return {re.split(r"[ :]", it)[0]: it for it in rows if it}
+
+
 def libraries():
     """The crates of the repository, each with what it stands on."""
-    with open(f"{ROOT}/crates.txt", encoding="utf-8") as lines:
-        rows = [it.split("#")[0].partition(":") for it in lines if it.split("#")[0].strip()]
-    return {name.split()[0]: uses.split() for name, _, uses in rows}
+    return {name: row.partition(":")[2].split() for name, row in rows_of().items()}
 
 
 def with_lower(names):
@@ -287,7 +292,7 @@ def main(words):
             for name in copied:
                 subprocess.run(["cp", "-a", "--reflink=auto", f"{ROOT}/crates/{name}", f"{room}/crates/"], check=True)
             with open(f"{room}/crates.txt", "w", encoding="utf-8") as lines:
-                lines.writelines(f"{name}: {' '.join(libraries()[name])}\n" for name in copied)
+                lines.writelines(f"{row}\n" for name, row in rows_of().items() if name in copied)
             shutil.copy(f"{ROOT}/HANDLES", room)
             for name, named in asked.items():
                 edits = [it for it in edits_in(name, folder) if not named or it.name in named]

@@ -1,8 +1,9 @@
-pub mod ContextBox
-pub mod TablesBox
-pub mod ItemsBox
-pub mod BatchBox
-pub mod SlotBox
+pub mod HandleSteps
+pub mod HandleKinds
+pub mod EmptySteps
+pub mod OfPartsSteps
+pub mod IntoPartsSteps
+pub mod SendSteps
 pub mod RoomLemmas
 pub mod DrainLemmas
 pub mod CodeLemmas

@@ -1,7 +1,9 @@
--- What the calls of a batch make of it.
+-- What the calls of a batch make of it, and when tables accept it.
 use Rattle.std.specs.Prelude.{ℕ, Bool, List, [], ◌∷◌, ◌++◌, map}
 use Rattle.raft_base.specs.declared.compression_type.CompressionType.TheVariants as compressions
 use Rattle.raft_base.specs.declared.pipe_log.FileBlockHandle.{FileBlockHandle}
+use Rattle.raft_accessor.specs.Accessor.{Accessor}
+use Rattle.raft_accessor.specs.AppendChecks.{AreAcceptedOncePlaced}
 use Rattle.raft_records.specs.Item.{Item, command_item}
 use Rattle.raft_records.specs.ItemBatch.{placed_item}
 use Rattle.raft_records.specs.LogBatch.{Batch, Stage, empty_batch, entry_place}
@@ -31,3 +33,7 @@ with_cleans regions b = record b { items = b.items ++ map (λ id. command_item i
 -- an open batch with a `Clean` for each of some regions
 abbrev pub cleans_of : List ℕ → Batch
 cleans_of regions = with_cleans regions empty_batch
+
+-- the tables accept the items of the batch, once these have their places
+unfoldable pub AcceptsOncePlaced : Accessor → Batch → Type 0
+AcceptsOncePlaced a b = AreAcceptedOncePlaced a.tables b.items

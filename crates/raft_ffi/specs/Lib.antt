@@ -1,9 +1,5 @@
-pub mod ContextHandle
-pub mod TablesHandle
+pub mod Handles
 pub mod ItemListView
-pub mod ItemsHandle
-pub mod BatchHandle
-pub mod SlotHandle
 pub mod Calls
 pub mod Summaries
 pub mod EntryData
@@ -18,4 +14,3 @@ pub mod Batches
 pub mod Strings
 pub mod Pairs
 pub mod Slots
-pub mod Acceptance

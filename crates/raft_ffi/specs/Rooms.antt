@@ -2,6 +2,7 @@
 use Rattle.std.specs.Prelude.{◌≡◌, ℕ, List, ◌++◌, length, take, drop, map}
 use Rattle.raft_base.specs.declared.entry_index.EntryIndex.{EntryIndex}
 use Rattle.raft_ffi.specs.declared.entries.Entry.{Entry}
+use Rattle.raft_ffi.specs.declared.status.Status.{Status}
 use Rattle.raft_ffi.specs.EntryData.{entry_of}
 
 -- the first of what was found, as far as there is room, over what stood there
@@ -17,3 +18,13 @@ pub record IsCopied {X : Type 0} (found old new : List X) (count : ℕ) : Type 0
 pub record AreEntriesIn (found : List EntryIndex) (room : List Entry) (count : ℕ) : Type 0 where
   pub counted : count ≡ length found
   pub copied : map entry_of (take (length found) room) ≡ take (length room) found
+
+-- so many bytes of a text were found, and the first of them, as far as there is room
+pub record IsTextIn (old new : List ℕ) (len : ℕ) : Type 0 where
+  pub text : List ℕ
+  pub copied : IsCopied text old new len
+
+-- the text of an error, as far as there is room; none without an error
+pub record HasText (status : Status) (old new : List ℕ) : Type 0 where
+  pub found : IsTextIn old new status.text_len
+  pub silent : status.code ≡ 0 → status.text_len ≡ 0

@@ -1,8 +1,10 @@
 //! A batch behind a pointer that C keeps.
 
 ghost use Rattle.std.specs.Prelude.{◌≡◌, Option, Some, None, IsTrue, is_some};
+ghost use Rattle.std.specs.Coded.{coded_option};
 ghost use Rattle.raft_records.specs.LogBatch.{Batch as BatchSeen};
-ghost use Rattle.raft_ffi.specs.BatchHandle.{batch_owned, held_batch_code};
+ghost use Rattle.raft_records.specs.contracts.log_batch.LogBatch.{the_row as batch_row};
+ghost use Rattle.raft_ffi.specs.Handles.{handle_owned};
 
 use crate::parts::Parts;
 use raft_records::LogBatch;
@@ -16,11 +18,11 @@ use std::mem;
 pub struct Batch {
     at: *mut u8,
     alloc: Global,
-    pub ghost value: { Option BatchSeen } by { held_batch_code },
+    pub ghost value: { Option BatchSeen } by { coded_option batch_row.coded },
 }
 
 impl Model for Batch {
-    ghost also_owns = { λ c. batch_owned c.alloc c.at c.value };
+    ghost also_owns = { λ c. handle_owned batch_row c.alloc c.at c.value };
 }
 
 impl Batch {

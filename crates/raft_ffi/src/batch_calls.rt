@@ -11,7 +11,7 @@ ghost use Rattle.raft_records.specs.declared.command.Command.TheVariants.{Clean,
 ghost use Rattle.raft_records.specs.declared.key_value.OpType.TheVariants.{Put, Del};
 ghost use Rattle.raft_ffi.specs.Batches.{with_item, at_stage, place_at, written_to};
 ghost use Rattle.raft_ffi.specs.Calls.{file_of, IsCodeOf, Holds, BothHold};
-ghost use Rattle.raft_ffi.specs.Rooms.{IsCopied};
+ghost use Rattle.raft_ffi.specs.Rooms.{IsCopied, HasText};
 ghost use Rattle.raft_ffi.specs.Strings.{entries_from, strings_of, HasStrings};
 
 use crate::batch::Batch;
@@ -110,6 +110,7 @@ pub extern "C" fn raft_ffi_batch_add_entries(
     ensures fault { result.code ≢ 0 → result.code ≢ 11 → Holds (λ old. (result.code ≡ 9)
         × (2 ^ 31 ≤ length old.entry_bytes + length (concat (strings_of lens.now bytes.now))))
         batch.old.value }
+    ensures text { HasText result text.old text.new }
 {
     let mut held = batch.take(alloc);
     let answer = add_entries(alloc, &mut *held, region, first, lens, bytes);
@@ -220,6 +221,7 @@ pub extern "C" fn raft_ffi_batch_put(
     ensures accepted { result.code ≡ 0 → key.now ≢ reserved_key }
     ensures err { result.code ≢ 0 → batch.new.value ≡ batch.old.value }
     ensures fault { result.code ≢ 0 → IsCodeOf (IsKeyRefusal key.now) result.code }
+    ensures text { HasText result text.old text.new }
 {
     let mut held = batch.take(alloc);
     let answer = put(alloc, &mut *held, region, key, value);
@@ -294,6 +296,7 @@ pub extern "C" fn raft_ffi_batch_merge(
     ensures fault { result.code ≢ 0 → result.code ≢ 11 → BothHold (λ old rhs.
         (result.code ≡ 9) × (2 ^ 31 ≤ length old.entry_bytes + length rhs.entry_bytes))
         batch.old.value more.old.value }
+    ensures text { HasText result text.old text.new }
 {
     let mut held = batch.take(alloc);
     let mut rest = more.take(alloc);
@@ -323,6 +326,7 @@ pub extern "C" fn raft_ffi_batch_finish(
     ensures refused { result.code ≢ 0 → Holds (λ old. old.items ≢ []) batch.old.value }
     ensures fault { result.code ≢ 0 → result.code ≢ 11 → Holds (λ old. (result.code ≡ 9)
         × (2 ^ 56 ≤ encoded_length old.items old.entry_bytes)) batch.old.value }
+    ensures text { HasText result text.old text.new }
 {
     let mut held = batch.take(alloc);
     let answer = finish(&mut *held, len);

@@ -8,6 +8,7 @@ ghost use Rattle.raft_records.specs.FilePart.{AreBatchesUpTo, IsNextFault, part_
 ghost use Rattle.raft_records.specs.Header.{IsHeader};
 ghost use Rattle.raft_ffi.specs.Calls.{file_of, IsCodeOf};
 ghost use Rattle.raft_ffi.specs.Lengths.{HasLength};
+ghost use Rattle.raft_ffi.specs.Rooms.{HasText};
 
 use crate::status::{File, Status, answered};
 use raft_base::{Error, LogFileContext, Result, crc32};
@@ -45,6 +46,7 @@ pub extern "C" fn raft_ffi_readable_front(
     ensures cut { result.code ≢ 0 → len.new < length bytes.now }
     ensures fault { result.code ≢ 0 → IsCodeOf
         (IsNextFault (signature_of (file_of file)) (drop len.new bytes.now)) result.code }
+    ensures text { HasText result text.old text.new }
 {
     let answer = find_front(alloc, &file.context(), offset, bytes, len);
     answered(alloc, &answer, text)

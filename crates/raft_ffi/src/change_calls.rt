@@ -13,6 +13,7 @@ ghost use Rattle.raft_table.specs.TableEntries.{from, below, IsRunIn};
 ghost use Rattle.raft_ffi.specs.Calls.{queue_of, IsCodeOf, Holds, BothHold};
 ghost use Rattle.raft_ffi.specs.Changes.{IsChangedTo, IsMemoryOr};
 ghost use Rattle.raft_ffi.specs.EntryData.{entry_of};
+ghost use Rattle.raft_ffi.specs.Rooms.{HasText};
 ghost use Rattle.raft_ffi.specs.Summaries.{number_in};
 
 use crate::changes::{append, compact, delete, put, rewrite, rewrite_key, truncate};
@@ -41,6 +42,7 @@ pub extern "C" fn raft_ffi_tables_append(
         (λ e. IsListFault Append (map entry_of entries.now) e
         ⊎ IsTableRunFault Append old.counts (table_in old.tables region).entries
         (entries_after_append (table_in old.tables region).entries (map entry_of entries.now)) e)) result.code) tables.old.value }
+    ensures text { HasText result text.old text.new }
 {
     let mut held = tables.take(alloc);
     let answer = append(alloc, &mut *held, region, entries);
@@ -67,6 +69,7 @@ pub extern "C" fn raft_ffi_tables_compact(
         ≡ length (table_in old.tables region).entries) tables.old.value tables.new.value }
     ensures err { result.code ≢ 0 → tables.new.value ≡ tables.old.value }
     ensures memory { result.code ≢ 0 → result.code ≡ 11 }
+    ensures text { HasText result text.old text.new }
 {
     let mut held = tables.take(alloc);
     let answer = compact(&mut *held, region, index, dropped);
@@ -93,6 +96,7 @@ pub extern "C" fn raft_ffi_tables_truncate(
         ≡ length (table_in old.tables region).entries) tables.old.value tables.new.value }
     ensures err { result.code ≢ 0 → tables.new.value ≡ tables.old.value }
     ensures memory { result.code ≢ 0 → result.code ≡ 11 }
+    ensures text { HasText result text.old text.new }
 {
     let mut held = tables.take(alloc);
     let answer = truncate(&mut *held, region, index, dropped);
@@ -120,6 +124,7 @@ pub extern "C" fn raft_ffi_tables_put(
     ensures fault { result.code ≢ 0 → Holds (λ old. IsCodeOf (IsMemoryOr
         (IsTablePutFault (queue_of is_rewrite) old.counts
         (file_at (table_in old.tables region).keys key.now))) result.code) tables.old.value }
+    ensures text { HasText result text.old text.new }
 {
     let file = FileId::new(queue(is_rewrite), seq);
     let mut held = tables.take(alloc);
@@ -143,6 +148,7 @@ pub extern "C" fn raft_ffi_tables_delete(
         { keys = finite.remove (table_in old.tables region).keys key.now })) region old new) tables.old.value tables.new.value }
     ensures err { result.code ≢ 0 → tables.new.value ≡ tables.old.value }
     ensures memory { result.code ≢ 0 → result.code ≡ 11 }
+    ensures text { HasText result text.old text.new }
 {
     let mut held = tables.take(alloc);
     let answer = delete(alloc, &mut *held, region, key);
@@ -171,6 +177,7 @@ pub extern "C" fn raft_ffi_tables_rewrite(
         ⊎ IsRewriteFault (length (map entry_of entries.now)) old.counts
         (entries_after_rewrite (number_in gate) (map entry_of entries.now)
         (table_in old.tables region).entries) e)) result.code) tables.old.value }
+    ensures text { HasText result text.old text.new }
 {
     let mut held = tables.take(alloc);
     let answer = rewrite(alloc, &mut *held, region, entries, gate.number());
@@ -197,6 +204,7 @@ pub extern "C" fn raft_ffi_tables_rewrite_key(
     ensures fault { result.code ≢ 0 → Holds (λ old. IsCodeOf (IsMemoryOr
         (IsKeyRewriteFault old.counts
         (after_rewrite_key (number_in gate) seq (table_in old.tables region) key.now))) result.code) tables.old.value }
+    ensures text { HasText result text.old text.new }
 {
     let mut held = tables.take(alloc);
     let answer = rewrite_key(alloc, &mut *held, region, key, gate.number(), seq);

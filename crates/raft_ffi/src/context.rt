@@ -1,8 +1,11 @@
 //! A context behind a pointer that C keeps.
 
 ghost use Rattle.std.specs.Prelude.{◌≡◌, Option, Some, None, IsTrue, is_some};
+ghost use Rattle.std.specs.Coded.{coded_option};
 ghost use Rattle.raft_contexts.specs.RecoverContext.{RecoverContext};
-ghost use Rattle.raft_ffi.specs.ContextHandle.{context_owned, held_context_code};
+ghost use Rattle.raft_contexts.specs.RecoverContextCode.{recover_context_code};
+ghost use Rattle.raft_contexts.specs.contracts.recover_context.MemTableRecoverContext.{the_row as context_row};
+ghost use Rattle.raft_ffi.specs.Handles.{handle_owned};
 
 use crate::parts::Parts;
 use raft_contexts::MemTableRecoverContext;
@@ -16,11 +19,11 @@ use std::mem;
 pub struct Context {
     at: *mut u8,
     alloc: Global,
-    pub ghost value: { Option RecoverContext } by { held_context_code },
+    pub ghost value: { Option RecoverContext } by { coded_option recover_context_code },
 }
 
 impl Model for Context {
-    ghost also_owns = { λ c. context_owned c.alloc c.at c.value };
+    ghost also_owns = { λ c. handle_owned context_row c.alloc c.at c.value };
 }
 
 impl Context {

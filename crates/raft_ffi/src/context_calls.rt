@@ -14,10 +14,11 @@ ghost use Rattle.raft_records.specs.FilePart.{part_of};
 ghost use Rattle.raft_replay.specs.Replays.{HasReplayed, CannotFollow};
 ghost use Rattle.raft_replay.specs.Segments.{HoldsFrom};
 ghost use Rattle.raft_replay.specs.Stops.{StopsIn};
-ghost use Rattle.raft_ffi.specs.Calls.{queue_of, file_of, code_of, IsCodeOf, Holds, BothHold};
+ghost use Rattle.raft_ffi.specs.Calls.{queue_of, file_of, IsErrorCode, IsCodeOf, Holds, BothHold};
 ghost use Rattle.raft_ffi.specs.Changes.{IsMemoryOr};
 ghost use Rattle.raft_ffi.specs.Contexts.{HasTablesRead, IsOverlaidExactly};
 ghost use Rattle.raft_ffi.specs.KeptNumbers.{capped, AreKept};
+ghost use Rattle.raft_ffi.specs.Rooms.{HasText};
 
 use crate::context::Context;
 use crate::status::{File, Status, answered, queue};
@@ -91,6 +92,7 @@ pub extern "C" fn raft_ffi_context_replay(
         context.old.value }
     ensures place { result.code ≢ 0
         → IsCodeOf (StopsIn (part_of (file_of file) offset bytes.now)) result.code }
+    ensures text { HasText result text.old text.new }
 {
     let mut held = context.take(alloc);
     let answer = replay_bytes(&mut *held, alloc, &file.context(), offset, bytes);
@@ -123,6 +125,8 @@ pub extern "C" fn raft_ffi_context_merge(
     ensures refused { result.code ≢ 0 → result.code ≢ 11 → BothHold (λ old rhs. (h g : List Event)
         → IsSmall (h ++ g) → IsOfQueue (queue_of is_rewrite) (h ++ g) → HasRead old h
         → HasRead rhs g → ¬ (Sound (h ++ g))) context.old.value newer.value }
+    ensures fault { result.code ≢ 0 → IsErrorCode result.code }
+    ensures text { HasText result text.old text.new }
 {
     let mut held = context.take(alloc);
     let newer = Box::into_inner(newer.into_box());
@@ -167,6 +171,7 @@ pub extern "C" fn raft_ffi_context_overlay(
     ensures fault { result.code ≢ 0 → BothHold
         (λ old rhs. IsCodeOf (IsMergeAppendFault old rhs) result.code) context.old.value
         append.value }
+    ensures text { HasText result text.old text.new }
 {
     let mut held = context.take(alloc);
     let appended = Box::into_inner(append.into_box());
@@ -201,6 +206,7 @@ pub extern "C" fn raft_ffi_context_kept(
         context.old.value }
     ensures fault { result.code ≢ 0 → Holds (λ c. IsCodeOf
         (λ e. (e ≡ Error.Failed) × (c.stage ≡ Failed)) result.code) context.old.value }
+    ensures text { HasText result text.old text.new }
 {
     let held = context.take(alloc);
     let answer = count_kept(&*held, kept);
@@ -258,6 +264,7 @@ pub extern "C" fn raft_ffi_context_finish(
     ensures err { result.code ≢ 0 → tables.new.value ≡ None }
     ensures fault { result.code ≢ 0 → Holds (λ c. IsCodeOf
         (IsMemoryOr (λ e. (e ≡ Error.Failed) × (c.stage ≡ Failed))) result.code) context.value }
+    ensures text { HasText result text.old text.new }
 {
     let answer = match finished(alloc, Box::into_inner(context.into_box())) {
         Ok(held) => {

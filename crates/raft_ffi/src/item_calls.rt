@@ -7,7 +7,7 @@ ghost use Rattle.raft_records.specs.Item.{item_of, content_of};
 ghost use Rattle.raft_ffi.specs.Calls.{file_of, IsCodeOf, next_shown, Holds, IsFound};
 ghost use Rattle.raft_ffi.specs.Changes.{IsMemoryOr};
 ghost use Rattle.raft_ffi.specs.ItemLists.{IsHeadOf, kind_of, number_of, entries_at, key_at, value_at};
-ghost use Rattle.raft_ffi.specs.Rooms.{AreEntriesIn, IsCopied};
+ghost use Rattle.raft_ffi.specs.Rooms.{AreEntriesIn, IsCopied, HasText};
 
 use crate::entries::{Entry, copy_entries};
 use crate::item_list::ItemList;
@@ -50,6 +50,7 @@ pub extern "C" fn raft_ffi_items_next(
     ensures err { result.code ≢ 0 → items.new.value ≡ None }
     ensures fault { result.code ≢ 0 → IsCodeOf
         (IsMemoryOr (IsNextFault (signature_of (file_of file)) (drop at bytes.now))) result.code }
+    ensures text { HasText result text.old text.new }
 {
     let answer = read_next(alloc, items, file, offset, bytes, at, next);
     answered(alloc, &answer, text)

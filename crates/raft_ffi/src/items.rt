@@ -1,9 +1,11 @@
 //! Items behind a pointer that C keeps.
 
 ghost use Rattle.std.specs.Prelude.{◌≡◌, Option, Some, None, IsTrue, is_some};
+ghost use Rattle.std.specs.Coded.{coded_option};
 ghost use Rattle.std.specs.Prelude.{List};
 ghost use Rattle.raft_records.specs.Item.{Item};
-ghost use Rattle.raft_ffi.specs.ItemsHandle.{items_owned, held_items_code};
+ghost use Rattle.raft_ffi.specs.contracts.item_list.ItemList.{the_row as items_row};
+ghost use Rattle.raft_ffi.specs.Handles.{handle_owned};
 
 use crate::item_list::ItemList;
 use crate::parts::Parts;
@@ -17,11 +19,11 @@ use std::mem;
 pub struct Items {
     at: *mut u8,
     alloc: Global,
-    pub ghost value: { Option (List Item) } by { held_items_code },
+    pub ghost value: { Option (List Item) } by { coded_option items_row.coded },
 }
 
 impl Model for Items {
-    ghost also_owns = { λ c. items_owned c.alloc c.at c.value };
+    ghost also_owns = { λ c. handle_owned items_row c.alloc c.at c.value };
 }
 
 impl Items {

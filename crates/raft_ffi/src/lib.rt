@@ -21,7 +21,6 @@ mod rooms;
 mod slot;
 mod slot_calls;
 mod slot_change_calls;
-mod slot_changes;
 mod slot_reads;
 mod status;
 mod strings;

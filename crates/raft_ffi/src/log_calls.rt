@@ -2,10 +2,10 @@
 
 ghost use Rattle.std.specs.Prelude.{◌≡◌, ◌≢◌, IsTrue, IfErr, OnOk, OnErr, Some, None, is_some};
 ghost use Rattle.raft_accessor.specs.AppendChecks.{AreRefusedOncePlaced, IsAppendCheckFault};
-ghost use Rattle.raft_ffi.specs.Acceptance.{AcceptsOncePlaced};
-ghost use Rattle.raft_ffi.specs.Batches.{cleans_of};
+ghost use Rattle.raft_ffi.specs.Batches.{cleans_of, AcceptsOncePlaced};
 ghost use Rattle.raft_ffi.specs.Calls.{IsCodeOf, BothHold};
 ghost use Rattle.raft_ffi.specs.Changes.{without_cleaned};
+ghost use Rattle.raft_ffi.specs.Rooms.{HasText};
 
 use crate::batch::Batch;
 use crate::status::{Status, answered, memory_code};
@@ -33,6 +33,7 @@ pub extern "C" fn raft_ffi_tables_check_append(
         (λ a b. AreRefusedOncePlaced a.tables b.items) tables.old.value batch.old.value }
     ensures fault { result.code ≢ 0 → BothHold (λ a b. IsCodeOf
         (IsAppendCheckFault a.tables b.items) result.code) tables.old.value batch.old.value }
+    ensures text { HasText result text.old text.new }
 {
     let held = tables.take(alloc);
     let logs = batch.take(alloc);

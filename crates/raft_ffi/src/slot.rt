@@ -1,8 +1,11 @@
 //! A slot behind a pointer that C keeps.
 
 ghost use Rattle.std.specs.Prelude.{◌≡◌, Option, Some, None, IsTrue, is_some};
+ghost use Rattle.std.specs.Coded.{coded_option};
 ghost use Rattle.raft_shared.specs.Slot.{Slot as SlotSeen};
-ghost use Rattle.raft_ffi.specs.SlotHandle.{slot_owned, held_slot_code};
+ghost use Rattle.raft_shared.specs.SlotCode.{slot_code};
+ghost use Rattle.raft_shared.specs.contracts.slot.Slot.{the_row as slot_row};
+ghost use Rattle.raft_ffi.specs.Handles.{handle_owned};
 
 use crate::parts::Parts;
 use raft_shared::Slot as SlotTables;
@@ -16,11 +19,11 @@ use std::mem;
 pub struct Slot {
     at: *mut u8,
     alloc: Global,
-    pub ghost value: { Option SlotSeen } by { held_slot_code },
+    pub ghost value: { Option SlotSeen } by { coded_option slot_code },
 }
 
 impl Model for Slot {
-    ghost also_owns = { λ c. slot_owned c.alloc c.at c.value };
+    ghost also_owns = { λ c. handle_owned slot_row c.alloc c.at c.value };
 }
 
 impl Slot {

@@ -13,12 +13,13 @@ ghost use Rattle.raft_table.specs.TableEntries.{from, below, IsRunIn};
 ghost use Rattle.raft_ffi.specs.Calls.{queue_of, IsCodeOf, Holds, BothHold};
 ghost use Rattle.raft_ffi.specs.Changes.{IsMemoryOr};
 ghost use Rattle.raft_ffi.specs.EntryData.{entry_of};
+ghost use Rattle.raft_ffi.specs.Rooms.{HasText};
 ghost use Rattle.raft_ffi.specs.Slots.{IsSlotChangedTo};
 ghost use Rattle.raft_ffi.specs.Summaries.{number_in};
 
+use crate::changes::{append, compact, delete, put, rewrite, rewrite_key, truncate};
 use crate::entries::Entry;
 use crate::slot::Slot;
-use crate::slot_changes::{append, compact, delete, put, rewrite, rewrite_key, truncate};
 use crate::status::{Maybe, Status, answered, queue};
 use raft_base::FileId;
 use std::alloc::Global;
@@ -43,6 +44,7 @@ pub extern "C" fn raft_ffi_slot_append(
         (λ e. IsListFault Append (map entry_of entries.now) e
         ⊎ IsTableRunFault Append old.content.counts (table_in old.content.tables region).entries
         (entries_after_append (table_in old.content.tables region).entries (map entry_of entries.now)) e)) result.code) slot.old.value }
+    ensures text { HasText result text.old text.new }
 {
     let mut held = slot.take(alloc);
     let answer = append(alloc, &mut *held, region, entries);
@@ -70,6 +72,7 @@ pub extern "C" fn raft_ffi_slot_compact(
         ≡ length (table_in old.content.tables region).entries) slot.old.value slot.new.value }
     ensures err { result.code ≢ 0 → slot.new.value ≡ slot.old.value }
     ensures memory { result.code ≢ 0 → result.code ≡ 11 }
+    ensures text { HasText result text.old text.new }
 {
     let mut held = slot.take(alloc);
     let answer = compact(&mut *held, region, index, dropped);
@@ -97,6 +100,7 @@ pub extern "C" fn raft_ffi_slot_truncate(
         ≡ length (table_in old.content.tables region).entries) slot.old.value slot.new.value }
     ensures err { result.code ≢ 0 → slot.new.value ≡ slot.old.value }
     ensures memory { result.code ≢ 0 → result.code ≡ 11 }
+    ensures text { HasText result text.old text.new }
 {
     let mut held = slot.take(alloc);
     let answer = truncate(&mut *held, region, index, dropped);
@@ -125,6 +129,7 @@ pub extern "C" fn raft_ffi_slot_put(
     ensures fault { result.code ≢ 0 → Holds (λ old. IsCodeOf (IsMemoryOr
         (IsTablePutFault (queue_of is_rewrite) old.content.counts
         (file_at (table_in old.content.tables region).keys key.now))) result.code) slot.old.value }
+    ensures text { HasText result text.old text.new }
 {
     let file = FileId::new(queue(is_rewrite), seq);
     let mut held = slot.take(alloc);
@@ -149,6 +154,7 @@ pub extern "C" fn raft_ffi_slot_delete(
         { keys = finite.remove (table_in old.content.tables region).keys key.now })) region old new) slot.old.value slot.new.value }
     ensures err { result.code ≢ 0 → slot.new.value ≡ slot.old.value }
     ensures memory { result.code ≢ 0 → result.code ≡ 11 }
+    ensures text { HasText result text.old text.new }
 {
     let mut held = slot.take(alloc);
     let answer = delete(alloc, &mut *held, region, key);
@@ -178,6 +184,7 @@ pub extern "C" fn raft_ffi_slot_rewrite(
         ⊎ IsRewriteFault (length (map entry_of entries.now)) old.content.counts
         (entries_after_rewrite (number_in gate) (map entry_of entries.now)
         (table_in old.content.tables region).entries) e)) result.code) slot.old.value }
+    ensures text { HasText result text.old text.new }
 {
     let mut held = slot.take(alloc);
     let answer = rewrite(alloc, &mut *held, region, entries, gate.number());
@@ -205,6 +212,7 @@ pub extern "C" fn raft_ffi_slot_rewrite_key(
     ensures fault { result.code ≢ 0 → Holds (λ old. IsCodeOf (IsMemoryOr
         (IsKeyRewriteFault old.content.counts
         (after_rewrite_key (number_in gate) seq (table_in old.content.tables region) key.now))) result.code) slot.old.value }
+    ensures text { HasText result text.old text.new }
 {
     let mut held = slot.take(alloc);
     let answer = rewrite_key(alloc, &mut *held, region, key, gate.number(), seq);

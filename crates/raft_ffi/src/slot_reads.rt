@@ -11,7 +11,7 @@ ghost use Rattle.raft_ffi.specs.Calls.{queue_of, IsCodeOf, IsFound, Holds};
 ghost use Rattle.raft_ffi.specs.EntryData.{entry_found};
 ghost use Rattle.raft_ffi.specs.Pairs.{ArePairsIn, pairs_in};
 ghost use Rattle.raft_ffi.specs.Reads.{IsFetched, value_in};
-ghost use Rattle.raft_ffi.specs.Rooms.{AreEntriesIn, IsCopied};
+ghost use Rattle.raft_ffi.specs.Rooms.{AreEntriesIn, IsCopied, HasText};
 ghost use Rattle.raft_ffi.specs.Summaries.{number_in, IsSummaryOf};
 
 use crate::entries::Entry;
@@ -117,6 +117,7 @@ pub extern "C" fn raft_ffi_slot_entries(
     ensures fault { result.code ≢ 0 → Holds (λ s. IsCodeOf
         (IsFetchFault (range_answer begin end (table_in s.content.tables region).entries))
         result.code) slot.old.value }
+    ensures text { HasText result text.old text.new }
 {
     let held = slot.take(alloc);
     let range = (begin, end);

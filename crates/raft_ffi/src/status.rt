@@ -2,6 +2,7 @@
 
 ghost use Rattle.std.specs.Prelude.{◌≡◌, OnOk, OnErr, IfErr};
 ghost use Rattle.raft_ffi.specs.Calls.{code_of, queue_of, file_of};
+ghost use Rattle.raft_ffi.specs.Rooms.{IsTextIn, HasText};
 ghost use Rattle.raft_ffi.specs.Summaries.{number_in};
 
 use crate::rooms::copy_front;
@@ -145,6 +146,7 @@ pub(crate) fn memory_code(answer: &Result<()>) -> u32
 pub(crate) fn answered(alloc: Global, answer: &Result<()>, text: &mut [u8]) -> Status
     ensures ok { OnOk answer.now (result.code ≡ 0) }
     ensures err { IfErr answer.now (λ e. result.code ≡ code_of e) }
+    ensures text { HasText result text.old text.new }
 {
     match answer {
         Ok(()) => Status {
@@ -159,7 +161,9 @@ pub(crate) fn answered(alloc: Global, answer: &Result<()>, text: &mut [u8]) -> S
 }
 
 /// Writes the text of an error as far as there is room, and returns how many bytes it has.
-fn write_text(alloc: Global, e: &Error, text: &mut [u8]) -> usize {
+fn write_text(alloc: Global, e: &Error, text: &mut [u8]) -> usize
+    ensures { IsTextIn text.old text.new result }
+{
     match format!(in alloc; "{e}") {
         Ok(words) => copy_front(words.as_bytes(), text),
         Err(_) => 0,

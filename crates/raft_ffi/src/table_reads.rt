@@ -10,7 +10,7 @@ ghost use Rattle.raft_table.specs.TableEntries.{entry_at, placed_in};
 ghost use Rattle.raft_ffi.specs.Calls.{queue_of, IsCodeOf, IsFound, Holds};
 ghost use Rattle.raft_ffi.specs.EntryData.{entry_found};
 ghost use Rattle.raft_ffi.specs.Reads.{AreRegionsIn, IsFetched, value_in};
-ghost use Rattle.raft_ffi.specs.Rooms.{AreEntriesIn, IsCopied};
+ghost use Rattle.raft_ffi.specs.Rooms.{AreEntriesIn, IsCopied, HasText};
 ghost use Rattle.raft_ffi.specs.Summaries.{number_in, IsSummaryOf};
 
 use crate::entries::Entry;
@@ -153,6 +153,7 @@ pub extern "C" fn raft_ffi_tables_entries(
     ensures fault { result.code ≢ 0 → Holds (λ a. IsCodeOf
         (IsFetchFault (range_answer begin end (table_in a.tables region).entries)) result.code)
         tables.old.value }
+    ensures text { HasText result text.old text.new }
 {
     let held = tables.take(alloc);
     let range = (begin, end);

@@ -1,8 +1,11 @@
 //! Tables behind a pointer that C keeps.
 
 ghost use Rattle.std.specs.Prelude.{◌≡◌, Option, Some, None, IsTrue, is_some};
+ghost use Rattle.std.specs.Coded.{coded_option};
 ghost use Rattle.raft_accessor.specs.Accessor.{Accessor};
-ghost use Rattle.raft_ffi.specs.TablesHandle.{tables_owned, held_tables_code};
+ghost use Rattle.raft_accessor.specs.AccessorCode.{accessor_code};
+ghost use Rattle.raft_accessor.specs.contracts.accessor.MemTableAccessor.{the_row as tables_row};
+ghost use Rattle.raft_ffi.specs.Handles.{handle_owned};
 
 use crate::parts::Parts;
 use raft_accessor::MemTableAccessor;
@@ -16,11 +19,11 @@ use std::mem;
 pub struct Tables {
     at: *mut u8,
     alloc: Global,
-    pub ghost value: { Option Accessor } by { held_tables_code },
+    pub ghost value: { Option Accessor } by { coded_option accessor_code },
 }
 
 impl Model for Tables {
-    ghost also_owns = { λ c. tables_owned c.alloc c.at c.value };
+    ghost also_owns = { λ c. handle_owned tables_row c.alloc c.at c.value };
 }
 
 impl Tables {

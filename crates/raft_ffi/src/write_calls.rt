@@ -7,6 +7,7 @@ ghost use Rattle.raft_accessor.specs.Merges.{with_newer, with_appended, AreTable
 ghost use Rattle.raft_accessor.specs.Writes.{Appending, Rewriting, AreWritten};
 ghost use Rattle.raft_ffi.specs.Calls.{IsCodeOf, Holds, BothHold};
 ghost use Rattle.raft_ffi.specs.Changes.{IsChangedTo, IsRemoved, AreSomeWritten, AreMerged, IsStoppedAt, no_tables};
+ghost use Rattle.raft_ffi.specs.Rooms.{HasText};
 ghost use Rattle.raft_ffi.specs.Summaries.{number_in};
 
 use crate::item_list::ItemList;
@@ -146,6 +147,7 @@ pub extern "C" fn raft_ffi_tables_merge_newer(
     ensures fault { result.code ≢ 0 → BothHold (λ old new. Holds (λ rhs. IsCodeOf
         (IsMergeRefusal (IsNewerFault new.counts) old.tables rhs.tables) result.code)
         newer.value) tables.old.value tables.new.value }
+    ensures text { HasText result text.old text.new }
 {
     let mut held = tables.take(alloc);
     let newer = Box::into_inner(newer.into_box());
@@ -179,6 +181,7 @@ pub extern "C" fn raft_ffi_tables_merge_append(
     ensures fault { result.code ≢ 0 → BothHold (λ old new. Holds (λ rhs. IsCodeOf
         (IsMergeRefusal (IsAppendedFault new.counts) old.tables rhs.tables) result.code)
         append.value) tables.old.value tables.new.value }
+    ensures text { HasText result text.old text.new }
 {
     let mut held = tables.take(alloc);
     let appended = Box::into_inner(append.into_box());
@@ -204,6 +207,7 @@ pub extern "C" fn raft_ffi_tables_apply_append(
     ensures refused { result.code ≢ 0 → BothHold (λ old new. Holds
         (λ xs. AreSomeWritten Appending xs result.code old new) items.value) tables.old.value
         tables.new.value }
+    ensures text { HasText result text.old text.new }
 {
     let mut held = tables.take(alloc);
     let items = Box::into_inner(items.into_box());
@@ -239,6 +243,7 @@ pub extern "C" fn raft_ffi_tables_apply_rewrite(
     ensures refused { result.code ≢ 0 → BothHold (λ old new. Holds
         (λ xs. AreSomeWritten (Rewriting (number_in gate) seq) xs result.code old new) items.value)
         tables.old.value tables.new.value }
+    ensures text { HasText result text.old text.new }
 {
     let mut held = tables.take(alloc);
     let items = Box::into_inner(items.into_box());

@@ -1,0 +1,69 @@
+-- The types of handles, by what they hold.
+use denote.RawPtr.{Ptr}
+use mathlib.Core.Path.{refl}
+use Rattle.raft_records.specs.contracts.log_batch.LogBatch as HeldBatch
+use Rattle.raft_records.proofs.log_batch.LogBatch.TheLaws as held_batch
+use Rattle.raft_ffi.specs.contracts.batch.Batch as Batch
+use Rattle.raft_contexts.specs.contracts.recover_context.MemTableRecoverContext as HeldContext
+use Rattle.raft_contexts.proofs.recover_context.MemTableRecoverContext.TheLaws as held_context
+use Rattle.raft_ffi.specs.contracts.context.Context as Context
+use Rattle.raft_ffi.specs.contracts.item_list.ItemList as HeldItems
+use Rattle.raft_ffi.proofs.item_list.ItemList.TheLaws as held_items
+use Rattle.raft_ffi.specs.contracts.items.Items as Items
+use Rattle.raft_shared.specs.contracts.slot.Slot as HeldSlot
+use Rattle.raft_shared.proofs.slot.Slot.TheLaws as held_slot
+use Rattle.raft_ffi.specs.contracts.slot.Slot as Slot
+use Rattle.raft_accessor.specs.contracts.accessor.MemTableAccessor as HeldTables
+use Rattle.raft_accessor.proofs.accessor.MemTableAccessor.TheLaws as held_tables
+use Rattle.raft_ffi.specs.contracts.tables.Tables as Tables
+use Rattle.raft_ffi.proofs.HandleSteps.{Handle}
+
+abbrev pub batch : Handle
+batch = record {
+  of = HeldBatch.the_row;
+  laws = held_batch.the_row_laws;
+  owner = Batch.the_type;
+  shown = λ d. (d.at, (d.alloc, d.value));
+  make = λ p a o. record { at = p; alloc = a; value = o };
+  made = λ p a o. refl;
+}
+
+abbrev pub context : Handle
+context = record {
+  of = HeldContext.the_row;
+  laws = held_context.the_row_laws;
+  owner = Context.the_type;
+  shown = λ d. (d.at, (d.alloc, d.value));
+  make = λ p a o. record { at = p; alloc = a; value = o };
+  made = λ p a o. refl;
+}
+
+abbrev pub items : Handle
+items = record {
+  of = HeldItems.the_row;
+  laws = held_items.the_row_laws;
+  owner = Items.the_type;
+  shown = λ d. (d.at, (d.alloc, d.value));
+  make = λ p a o. record { at = p; alloc = a; value = o };
+  made = λ p a o. refl;
+}
+
+abbrev pub slot : Handle
+slot = record {
+  of = HeldSlot.the_row;
+  laws = held_slot.the_row_laws;
+  owner = Slot.the_type;
+  shown = λ d. (d.at, (d.alloc, d.value));
+  make = λ p a o. record { at = p; alloc = a; value = o };
+  made = λ p a o. refl;
+}
+
+abbrev pub tables : Handle
+tables = record {
+  of = HeldTables.the_row;
+  laws = held_tables.the_row_laws;
+  owner = Tables.the_type;
+  shown = λ d. (d.at, (d.alloc, d.value));
+  make = λ p a o. record { at = p; alloc = a; value = o };
+  made = λ p a o. refl;
+}

@@ -1,6 +1,6 @@
 //! The tables of a part of all regions, to be kept under a lock of their own.
 
-use crate::sys::{self, SlotHandle};
+use crate::sys::{self, SlotHandle, TablesHandle};
 use crate::{Content, Entry, Error, FileId, Item, LogBatch, Pair, Queue, Result, Summary};
 use std::ops::Range;
 
@@ -18,11 +18,12 @@ pub fn slot_of(region: u64) -> usize {
 /// The tables of the regions whose slot has one number, those of them that were cleaned, and how many of their records are
 /// live. Its calls do to these regions what those of [`Tables`] do.
 ///
-/// It is `Send` and not `Sync`: an engine keeps a `[Mutex<Slot>; SLOTS]`, and locks that of [`slot_of`] a region. A change for a
-/// region of another slot is refused by `InvalidArgument`; such a region has no table here. After a refused change all is as
-/// it was.
+/// It is `Send` and not `Sync`: an engine keeps a `[Mutex<Slot>; SLOTS]`, made of recovered tables by [`Tables::into_slots`], and
+/// locks that of [`slot_of`] a region. A change for a region of another slot is refused by `InvalidArgument`; such a region has
+/// no table here. After a refused change all is as it was.
 ///
 /// [`Tables`]: crate::Tables
+/// [`Tables::into_slots`]: crate::Tables::into_slots
 #[derive(Debug)]
 pub struct Slot {
     handle: SlotHandle,
@@ -37,6 +38,17 @@ impl Slot {
     pub fn new(number: usize) -> Result<Slot> {
         Ok(Slot {
             handle: SlotHandle::new(number)?,
+        })
+    }
+
+    /// Makes the slot of a number with the tables that others have of its regions, and lists these regions as cleaned.
+    pub(crate) fn filled(
+        number: usize,
+        cleaned: &[u64],
+        tables: &mut TablesHandle,
+    ) -> Result<Slot> {
+        Ok(Slot {
+            handle: SlotHandle::filled(number, cleaned, tables)?,
         })
     }
 

@@ -421,6 +421,7 @@ unsafe extern "C" {
     fn raft_ffi_slot_of(region: u64) -> usize;
     fn raft_ffi_slot_new(slot: *mut Handle, number: usize) -> u32;
     fn raft_ffi_slot_number(slot: *mut Handle) -> usize;
+    fn raft_ffi_slot_take_tables(slot: *mut Handle, tables: *mut Handle);
     fn raft_ffi_slot_live(slot: *mut Handle, is_rewrite: bool) -> usize;
     fn raft_ffi_slot_summary(slot: *mut Handle, region: u64, summary: *mut SummaryNumbers) -> bool;
     fn raft_ffi_slot_cleaned(slot: *mut Handle, regions: *mut u64, regions_len: usize) -> usize;

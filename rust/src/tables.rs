@@ -1,7 +1,8 @@
 //! The tables of all regions.
 
 use crate::sys::TablesHandle;
-use crate::{Batch, Entry, Error, FileId, LogBatch, Pair, Queue, Result};
+use crate::{Batch, Entry, Error, FileId, LogBatch, Pair, Queue, Result, SLOTS, Slot, slot_of};
+use std::array::from_fn;
 use std::fmt;
 use std::ops::Range;
 
@@ -260,6 +261,26 @@ impl Tables {
     /// `Memory`, where the region is to be listed.
     pub fn remove(&mut self, region: u64, is_listed: bool) -> Result<bool> {
         self.handle.remove(region, is_listed)
+    }
+
+    /// Divides the tables and the cleaned regions into slots, in the order of their numbers: each region's table, as it is, and
+    /// its place in the list go to the slot of [`slot_of`] the region.
+    ///
+    /// # Errors
+    ///
+    /// `Memory`. The tables are then gone.
+    pub fn into_slots(mut self) -> Result<[Slot; SLOTS]> {
+        let mut cleaned: [Vec<u64>; SLOTS] = from_fn(|_| Vec::new());
+        for region in self.cleaned() {
+            cleaned[slot_of(region)].push(region);
+        }
+        let slots = (0..)
+            .zip(&cleaned)
+            .map(|(number, regions)| Slot::filled(number, regions, &mut self.handle))
+            .collect::<Result<Vec<_>>>()?;
+        Ok(slots
+            .try_into()
+            .expect("there are as many slots as numbers"))
     }
 
     /// Merges the tables of a newer neighbor, each into the table of its region. Its list of cleaned regions is dropped.

@@ -205,6 +205,62 @@ fn slots_under_locks_get_the_recovered_tables() {
     }
 }
 
+/// Tables of 600 regions with entries and a key; some were cleaned, and have a table again.
+fn many_tables() -> Tables {
+    let mut tables = Tables::new().unwrap();
+    for region in 0..600 {
+        if region % 7 == 0 {
+            tables.remove(region, true).unwrap();
+        }
+        let entries = run(Queue::Append, 9, region + 1..region + 4);
+        tables.append(region, &entries).unwrap();
+        let key = region.to_le_bytes();
+        tables.put(region, &key, b"value", APPEND_9).unwrap();
+        if region % 2 == 0 {
+            let moved = run(Queue::Rewrite, 2, region + 1..region + 3);
+            tables.rewrite(region, &moved, Some(9)).unwrap();
+        }
+    }
+    tables
+}
+
+#[test]
+fn recovered_tables_are_divided_into_slots() {
+    let tables = many_tables();
+    let slots = many_tables().into_slots().unwrap().map(Mutex::new);
+    for queue in [Queue::Append, Queue::Rewrite] {
+        let live = |slot: &Mutex<Slot>| slot.lock().unwrap().live(queue);
+        assert_eq!(slots.iter().map(live).sum::<usize>(), tables.live(queue));
+    }
+    let mut cleaned = Vec::new();
+    for (number, slot) in slots.iter().enumerate() {
+        let slot = slot.lock().unwrap();
+        assert_eq!(slot.number(), number);
+        assert!(slot.cleaned().is_sorted());
+        cleaned.extend(slot.cleaned());
+        for region in 0..600 {
+            if slot_of(region) != number {
+                assert_eq!(slot.summary(region), None);
+                continue;
+            }
+            let all = region + 1..region + 4;
+            assert_eq!(slot.summary(region), tables.summary(region));
+            assert_eq!(
+                slot.entries(region, all.clone(), None),
+                tables.entries(region, all, None)
+            );
+            let key = region.to_le_bytes();
+            assert_eq!(slot.value(region, &key).unwrap(), b"value");
+        }
+    }
+    cleaned.sort_unstable();
+    assert_eq!(cleaned, tables.cleaned());
+    // a slot goes on with what it was given
+    let mut slot = slots[slot_of(5)].lock().unwrap();
+    slot.append(5, &run(Queue::Append, 10, 9..12)).unwrap();
+    assert_eq!(slot.compact(5, 10).unwrap(), 4);
+}
+
 #[test]
 fn a_slot_moves_to_another_thread() {
     fn is_send<T: Send>() {}

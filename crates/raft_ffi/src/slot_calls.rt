@@ -4,6 +4,7 @@ ghost use Rattle.std.specs.Prelude.{◌≡◌, ◌≢◌, ◌≤◌, ◌<◌, Is
 ghost use Rattle.std.specs.FinMap as finite;
 ghost use Rattle.raft_accessor.specs.Accessor.{slot_of, table_in};
 ghost use Rattle.raft_records.specs.LogBatch.{is_open};
+ghost use Rattle.raft_shared.specs.Slot.{AreTablesTaken};
 ghost use Rattle.raft_ffi.specs.Batches.{with_cleans};
 ghost use Rattle.raft_ffi.specs.Calls.{Holds, BothHold};
 ghost use Rattle.raft_ffi.specs.Slots.{IsSlotChangedTo, IsSlotRemoved, empty_slot, slot_without_cleaned};
@@ -11,6 +12,7 @@ ghost use Rattle.raft_ffi.specs.Slots.{IsSlotChangedTo, IsSlotRemoved, empty_slo
 use crate::batch::Batch;
 use crate::slot::Slot;
 use crate::status::memory_code;
+use crate::tables::Tables;
 use raft_accessor::slot_of;
 use raft_base::{Error, Result};
 use raft_shared::Slot as SlotTables;
@@ -54,6 +56,22 @@ pub extern "C" fn raft_ffi_slot_number(alloc: Global, slot: &mut Slot) -> usize
     let number = held.number();
     slot.put(held);
     number
+}
+
+/// Moves the tables that other tables have of a slot's regions into the slot, which has none. It takes no memory.
+#[unsafe(no_mangle)]
+pub extern "C" fn raft_ffi_slot_take_tables(alloc: Global, slot: &mut Slot, tables: &mut Tables)
+    requires held { IsTrue (is_some slot.old.value) }
+    requires none { Holds (λ s. s.content.tables ≡ finite.empty) slot.old.value }
+    requires tables { IsTrue (is_some tables.old.value) }
+    ensures taken { BothHold (λ old new. BothHold (AreTablesTaken old new) tables.old.value
+        tables.new.value) slot.old.value slot.new.value }
+{
+    let mut held = slot.take(alloc);
+    let mut source = tables.take(alloc);
+    held.take_tables(&mut *source);
+    slot.put(held);
+    tables.put(source);
 }
 
 /// Sets the first and the last file of a region's atomic group, once the group's End is written.

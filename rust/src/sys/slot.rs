@@ -1,14 +1,15 @@
 //! The handle of a slot.
 
 use super::{
-    EntryNumbers, Handle, LogBatchHandle, SummaryNumbers, checked, entries, found, listed, numbers,
-    pairs, raft_ffi_slot_append, raft_ffi_slot_atomic_group, raft_ffi_slot_cleaned,
-    raft_ffi_slot_cleaned_logs, raft_ffi_slot_compact, raft_ffi_slot_delete, raft_ffi_slot_drop,
-    raft_ffi_slot_entries, raft_ffi_slot_entries_before, raft_ffi_slot_entry, raft_ffi_slot_live,
-    raft_ffi_slot_new, raft_ffi_slot_number, raft_ffi_slot_of, raft_ffi_slot_pairs_before,
-    raft_ffi_slot_put, raft_ffi_slot_remove, raft_ffi_slot_rewrite, raft_ffi_slot_rewrite_key,
-    raft_ffi_slot_rewritten_entries, raft_ffi_slot_rewritten_pairs, raft_ffi_slot_summary,
-    raft_ffi_slot_truncate, raft_ffi_slot_value, remembered, with,
+    EntryNumbers, Handle, LogBatchHandle, SummaryNumbers, TablesHandle, checked, entries, found,
+    listed, numbers, pairs, raft_ffi_slot_append, raft_ffi_slot_atomic_group,
+    raft_ffi_slot_cleaned, raft_ffi_slot_cleaned_logs, raft_ffi_slot_compact, raft_ffi_slot_delete,
+    raft_ffi_slot_drop, raft_ffi_slot_entries, raft_ffi_slot_entries_before, raft_ffi_slot_entry,
+    raft_ffi_slot_live, raft_ffi_slot_new, raft_ffi_slot_number, raft_ffi_slot_of,
+    raft_ffi_slot_pairs_before, raft_ffi_slot_put, raft_ffi_slot_remove, raft_ffi_slot_rewrite,
+    raft_ffi_slot_rewrite_key, raft_ffi_slot_rewritten_entries, raft_ffi_slot_rewritten_pairs,
+    raft_ffi_slot_summary, raft_ffi_slot_take_tables, raft_ffi_slot_truncate, raft_ffi_slot_value,
+    remembered, with,
 };
 use crate::{Entry, Error, FileId, Pair, Queue, Result, SLOTS, Summary};
 use std::cell::Cell;
@@ -39,6 +40,21 @@ impl SlotHandle {
         // SAFETY: the handle is empty, and the number is below 128.
         remembered(unsafe { raft_ffi_slot_new(&mut handle, number) })?;
         Ok(SlotHandle(Cell::new(handle)))
+    }
+
+    /// Holds the slot of a number with the tables that others have of its regions, and lists these regions as cleaned.
+    pub(crate) fn filled(
+        number: usize,
+        cleaned: &[u64],
+        tables: &mut TablesHandle,
+    ) -> Result<SlotHandle> {
+        let mut slot = SlotHandle::new(number)?;
+        for region in cleaned {
+            slot.remove(*region, true)?;
+        }
+        // SAFETY: the handles hold a slot that no table was put in, and tables.
+        unsafe { raft_ffi_slot_take_tables(slot.0.as_ptr(), tables.0.as_ptr()) };
+        Ok(slot)
     }
 
     /// Returns the number of the slot.

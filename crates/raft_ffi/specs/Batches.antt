@@ -1,18 +1,14 @@
 -- What the calls of a batch make of it, and when tables accept it.
-use Rattle.std.specs.Prelude.{ℕ, Bool, List, [], ◌∷◌, ◌++◌, map}
+use Rattle.std.specs.Prelude.{ℕ, Bool, List, ◌++◌, map}
 use Rattle.raft_base.specs.declared.compression_type.CompressionType.TheVariants as compressions
 use Rattle.raft_base.specs.declared.pipe_log.FileBlockHandle.{FileBlockHandle}
 use Rattle.raft_accessor.specs.Accessor.{Accessor}
 use Rattle.raft_accessor.specs.AppendChecks.{AreAcceptedOncePlaced}
-use Rattle.raft_records.specs.Item.{Item, command_item}
+use Rattle.raft_records.specs.Item.{command_item}
 use Rattle.raft_records.specs.ItemBatch.{placed_item}
 use Rattle.raft_records.specs.LogBatch.{Batch, Stage, empty_batch, entry_place}
 use Rattle.raft_records.specs.declared.command.Command.TheVariants.{Clean}
 use Rattle.raft_ffi.specs.Calls.{queue_of}
-
--- a batch and one more item
-abbrev pub with_item : Batch → Item → Batch
-with_item b item = record b { items = b.items ++ item ∷ [] }
 
 -- a batch that has come to this stage
 abbrev pub at_stage : Stage → Batch → Batch

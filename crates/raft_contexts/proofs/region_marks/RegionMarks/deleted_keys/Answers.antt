@@ -1,4 +1,4 @@
-use Rattle.std.proofs.Common.{◌≡◌, length, drop, refl, sym, ap, subst, ◌∙◌, arith}
+use Rattle.std.proofs.Common.{refl, arith}
 use Rattle.std.specs.FinSet as finset
 use Rattle.raft_table.specs.Marks.{Mark}
 use Rattle.raft_contexts.proofs.RegionMarksLemmas.{few_slots, counted_more, counted_all}

@@ -1,7 +1,6 @@
-use Rattle.std.proofs.Common.{◌≡◌, ◌≤◌, ◌+◌, ◌*◌, ◌^◌, List, length, map, drop}
+use Rattle.std.proofs.Common.{◌≡◌, ◌≤◌, ◌+◌, ◌*◌, ◌^◌, length, map, drop}
 use Rattle.std.specs.FinSet as finset
 use Rattle.raft_table.specs.Marks.{Mark}
-use Rattle.raft_history.specs.MarkedRegions.{Marks}
 use Rattle.raft_accessor.specs.Slots.{slot_entries}
 use Rattle.raft_accessor.proofs.TotalSums.{added}
 use Rattle.raft_contexts.proofs.region_marks.RegionMarks.deleted_keys.Given as goal

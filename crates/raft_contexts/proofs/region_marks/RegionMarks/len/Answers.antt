@@ -1,5 +1,4 @@
-use Rattle.std.proofs.Common.{◌≡◌, length, drop, refl, sym, ap, subst, ◌∙◌, arith}
-use Rattle.std.specs.FinMap as finite
+use Rattle.std.proofs.Common.{refl, sym, ◌∙◌, arith}
 use Rattle.raft_table.specs.Marks.{Mark}
 use Rattle.raft_history.proofs.TotalLemmas.{total-ones}
 use Rattle.raft_contexts.proofs.RegionMarksLemmas.{few_slots, counted_more, counted_all}

@@ -1,8 +1,7 @@
-use Rattle.std.proofs.Common.{refl, sym, ap, ◌∙◌, arith}
+use Rattle.std.proofs.Common.{refl}
 use Rattle.std.specs.Vec.{with_item}
-use Rattle.raft_accessor.specs.Slots.{together}
 use Rattle.raft_contexts.specs.declared.region_marks.RegionMarks.TheInside.{Inside}
-use Rattle.raft_contexts.proofs.RegionMarksLemmas.{InSlot, all_slots, kept-same, kept-room, same-in}
+use Rattle.raft_contexts.proofs.RegionMarksLemmas.{InSlot, kept-same, kept-room, same-in}
 use Rattle.raft_contexts.proofs.region_marks.RegionMarks.make_room.Goals as goal
 
 abbrev after : goal.After-self-1 → Inside

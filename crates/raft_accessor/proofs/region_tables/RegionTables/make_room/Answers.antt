@@ -1,4 +1,3 @@
-use Rattle.raft_accessor.specs.declared.region_tables.RegionTables.TheInside.{Inside}
 use Rattle.raft_accessor.proofs.RegionTablesLemmas.{kept-same, shown-same}
 use Rattle.raft_accessor.proofs.region_tables.RegionTables.make_room.Goals as goal
 

@@ -21,7 +21,7 @@ use Rattle.raft_accessor.proofs.OrderLemmas.{together-permuted, values-permuted}
 use Rattle.raft_accessor.proofs.SlotLemmas.{same_slot, get-together, other-slot, own-at, set-at, at-set, length-set}
 use Rattle.raft_accessor.proofs.TotalSums.{added, added-append, added-permuted, live-added}
 
-empty-slot : (i : ℕ) → IsSlot i finite.empty
+empty-slot : (i : ℕ) → IsSlot {V = Table} i finite.empty
 empty-slot i = λ id h. finite.get-empty nat_cmp id
 
 taken : (ms : List Tables) (i : ℕ) (m : Tables) → AreSlots 0 ms → i < length ms → m ≡ slice_index_or ms i m → IsSlotTaken i (together ms) (together (slice_set ms i finite.empty)) m

@@ -4,6 +4,7 @@ mod calls;
 mod every_slot;
 mod seen;
 mod slots;
+mod taken;
 
 use raft_memtable::{
     EntryIndex, Error, FileBlockHandle, FileId, LogQueue, MemTable, Result, TableChange, slot_of,

@@ -28,6 +28,7 @@ fn cleaned_regions_of_slots<'a>(slot: &'a Slot) -> &'a [u64] {
 fn changes_of_slots() {
     let _change: fn(&mut Slot, u64, TableChange) -> Result<u64> = Slot::change;
     let _get_or_insert: fn(&mut Slot, u64) -> Result<()> = Slot::get_or_insert;
+    let _take_tables: fn(&mut Slot, &mut MemTableAccessor) = Slot::take_tables;
     let _insert: fn(&mut Slot, u64, MemTable) -> Result<Option<MemTable>> = Slot::insert;
     let _remove: fn(&mut Slot, u64, bool) -> Result<Option<MemTable>> = Slot::remove;
     let _atomic_group: fn(&mut Slot, u64, FileSeq, FileSeq) -> Result<()> =

@@ -8,7 +8,7 @@ use raft_recover::SharedAccessor;
 use std::alloc::Global;
 use std::sync::Wait;
 
-const APPENDED: FileId = FileId {
+pub(super) const APPENDED: FileId = FileId {
     queue: LogQueue::Append,
     seq: 1,
 };
@@ -60,7 +60,7 @@ fn entry(alloc: Global, region: u64) -> Result<TableChange> {
 }
 
 /// Returns a key, which is another one for each region.
-fn key(alloc: Global, region: u64) -> Result<Vec<LogItem>> {
+pub(super) fn key(alloc: Global, region: u64) -> Result<Vec<LogItem>> {
     let key = Vec::from_slice(alloc, region.to_be_bytes().as_slice())?;
     let value = Vec::from_slice(alloc, b"v".as_slice())?;
     let mut item = LogItem::new_kv(region, OpType::Put, key, Some(value));

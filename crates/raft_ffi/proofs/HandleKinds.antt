@@ -1,5 +1,4 @@
 -- The types of handles, by what they hold.
-use denote.RawPtr.{Ptr}
 use mathlib.Core.Path.{refl}
 use Rattle.raft_records.specs.contracts.log_batch.LogBatch as HeldBatch
 use Rattle.raft_records.proofs.log_batch.LogBatch.TheLaws as held_batch

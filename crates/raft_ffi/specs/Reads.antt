@@ -23,10 +23,10 @@ pub record AreRegionsIn (tables : Tables) (old new : List ℕ) (count : ℕ) : T
   pub copied : IsCopied regions old new count
 
 -- the entries of a range were found, from the first on and within a maximal size
-pub record IsFetched (limit : Option ℕ) (begin end : ℕ) (entries : List EntryIndex) (room : List Entry) (count : ℕ) : Type 0 where
+pub record IsFetched (limit : Option ℕ) (begin end : ℕ) (entries : List EntryIndex) (old new : List Entry) (count : ℕ) : Type 0 where
   pub found : List EntryIndex
   pub fetched : Fetches limit begin end entries [] found (range_answer begin end entries)
-  pub copied : AreEntriesIn found room count
+  pub copied : AreEntriesIn found old new count
 
 -- the value of a key, if there is a table and it has the key
 abbrev pub value_of : Option Table → List ℕ → Option (List ℕ)

@@ -14,10 +14,11 @@ pub record IsCopied {X : Type 0} (found old new : List X) (count : ℕ) : Type 0
   pub counted : count ≡ length found
   pub copied : new ≡ copied_over found old
 
--- how many entries were found, and the first of them, as far as there is room
-pub record AreEntriesIn (found : List EntryIndex) (room : List Entry) (count : ℕ) : Type 0 where
+-- how many entries were found, and the first of them, as far as there is room, over what stood there
+pub record AreEntriesIn (found : List EntryIndex) (old new : List Entry) (count : ℕ) : Type 0 where
   pub counted : count ≡ length found
-  pub copied : map entry_of (take (length found) room) ≡ take (length room) found
+  pub copied : map entry_of (take (length found) new) ≡ take (length new) found
+  pub kept : drop (length found) new ≡ drop (length found) old
 
 -- so many bytes of a text were found, and the first of them, as far as there is room
 pub record IsTextIn (old new : List ℕ) (len : ℕ) : Type 0 where

@@ -87,7 +87,7 @@ pub(crate) fn plain(entry: &EntryIndex) -> Entry
 
 /// Copies entries that were found as far as there is room, and returns how many they are.
 pub(crate) fn copy_entries(found: &[EntryIndex], room: &mut [Entry]) -> usize
-    ensures { AreEntriesIn found.now room.new result }
+    ensures { AreEntriesIn found.now room.old room.new result }
 {
     let count = found.len().min(room.len());
     for k in 0..count {

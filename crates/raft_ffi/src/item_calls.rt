@@ -147,7 +147,7 @@ pub extern "C" fn raft_ffi_items_entries(
 ) -> bool
     requires held { IsTrue (is_some items.old.value) }
     ensures same { items.new.value ≡ items.old.value }
-    ensures found { Holds (λ xs. IsFound (λ es. AreEntriesIn es entries.new count.new)
+    ensures found { Holds (λ xs. IsFound (λ es. AreEntriesIn es entries.old entries.new count.new)
         (entries_at xs i) result) items.old.value }
 {
     let held = items.take(alloc);
@@ -255,7 +255,7 @@ fn said_by(content: &LogItemContent) -> (u32, u64)
 
 /// Lists the entries of an item, if it has some, as far as there is room.
 fn find_entries(items: &ItemList, i: usize, room: &mut [Entry], count: &mut usize) -> bool
-    ensures { IsFound (λ es. AreEntriesIn es room.new count.new) (entries_at items.now i) result }
+    ensures { IsFound (λ es. AreEntriesIn es room.old room.new count.new) (entries_at items.now i) result }
 {
     match entries_of(items, i) {
         Some(entries) => {

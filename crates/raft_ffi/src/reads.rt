@@ -153,7 +153,7 @@ pub(crate) fn entries_in(
     count: &mut usize,
 ) -> Result<()>
     ensures ok { OnOk result (IsFetched max_size range.0 range.1
-        (table_of region (option_map (λ t. t.now) table.entry)).entries entries.new count.new) }
+        (table_of region (option_map (λ t. t.now) table.entry)).entries entries.old entries.new count.new) }
     ensures fault { IfErr result (IsFetchFault (range_answer range.0 range.1
         (table_of region (option_map (λ t. t.now) table.entry)).entries)) }
 {
@@ -197,7 +197,7 @@ pub(crate) fn entries_before_in(
     count: &mut usize,
 ) -> Result<()>
     ensures ok { OnOk result (AreEntriesIn (appended_before gate
-        (table_of region (option_map (λ t. t.now) table.entry)).entries) entries.new count.new) }
+        (table_of region (option_map (λ t. t.now) table.entry)).entries) entries.old entries.new count.new) }
     ensures memory { IfErr result (λ e. e ≡ Error.Memory) }
 {
     let found = entries_before(alloc, table, region, gate)?;
@@ -236,7 +236,7 @@ pub(crate) fn rewritten_entries_in(
     count: &mut usize,
 ) -> Result<()>
     ensures ok { OnOk result (AreEntriesIn (placed_in Rewrite
-        (table_of region (option_map (λ t. t.now) table.entry)).entries) entries.new count.new) }
+        (table_of region (option_map (λ t. t.now) table.entry)).entries) entries.old entries.new count.new) }
     ensures memory { IfErr result (λ e. e ≡ Error.Memory) }
 {
     let found = rewritten_entries(alloc, table, region)?;

@@ -113,7 +113,7 @@ pub extern "C" fn raft_ffi_slot_entries(
     requires held { IsTrue (is_some slot.old.value) }
     ensures same { slot.new.value ≡ slot.old.value }
     ensures ok { result.code ≡ 0 → Holds (λ s. IsFetched (number_in max_size) begin end
-        (table_in s.content.tables region).entries entries.new count.new) slot.old.value }
+        (table_in s.content.tables region).entries entries.old entries.new count.new) slot.old.value }
     ensures fault { result.code ≢ 0 → Holds (λ s. IsCodeOf
         (IsFetchFault (range_answer begin end (table_in s.content.tables region).entries))
         result.code) slot.old.value }
@@ -141,7 +141,7 @@ pub extern "C" fn raft_ffi_slot_entries_before(
     requires held { IsTrue (is_some slot.old.value) }
     ensures same { slot.new.value ≡ slot.old.value }
     ensures ok { result ≡ 0 → Holds (λ s. AreEntriesIn
-        (appended_before gate (table_in s.content.tables region).entries) entries.new count.new)
+        (appended_before gate (table_in s.content.tables region).entries) entries.old entries.new count.new)
         slot.old.value }
     ensures fault { result ≢ 0 → result ≡ 11 }
 {
@@ -163,7 +163,7 @@ pub extern "C" fn raft_ffi_slot_rewritten_entries(
     requires held { IsTrue (is_some slot.old.value) }
     ensures same { slot.new.value ≡ slot.old.value }
     ensures ok { result ≡ 0 → Holds (λ s. AreEntriesIn
-        (placed_in Rewrite (table_in s.content.tables region).entries) entries.new count.new)
+        (placed_in Rewrite (table_in s.content.tables region).entries) entries.old entries.new count.new)
         slot.old.value }
     ensures fault { result ≢ 0 → result ≡ 11 }
 {

@@ -149,7 +149,7 @@ pub extern "C" fn raft_ffi_tables_entries(
     requires held { IsTrue (is_some tables.old.value) }
     ensures same { tables.new.value ≡ tables.old.value }
     ensures ok { result.code ≡ 0 → Holds (λ a. IsFetched (number_in max_size) begin end
-        (table_in a.tables region).entries entries.new count.new) tables.old.value }
+        (table_in a.tables region).entries entries.old entries.new count.new) tables.old.value }
     ensures fault { result.code ≢ 0 → Holds (λ a. IsCodeOf
         (IsFetchFault (range_answer begin end (table_in a.tables region).entries)) result.code)
         tables.old.value }
@@ -177,7 +177,7 @@ pub extern "C" fn raft_ffi_tables_entries_before(
     requires held { IsTrue (is_some tables.old.value) }
     ensures same { tables.new.value ≡ tables.old.value }
     ensures ok { result ≡ 0 → Holds (λ a. AreEntriesIn
-        (appended_before gate (table_in a.tables region).entries) entries.new count.new)
+        (appended_before gate (table_in a.tables region).entries) entries.old entries.new count.new)
         tables.old.value }
     ensures fault { result ≢ 0 → result ≡ 11 }
 {
@@ -199,7 +199,7 @@ pub extern "C" fn raft_ffi_tables_rewritten_entries(
     requires held { IsTrue (is_some tables.old.value) }
     ensures same { tables.new.value ≡ tables.old.value }
     ensures ok { result ≡ 0 → Holds (λ a. AreEntriesIn
-        (placed_in Rewrite (table_in a.tables region).entries) entries.new count.new)
+        (placed_in Rewrite (table_in a.tables region).entries) entries.old entries.new count.new)
         tables.old.value }
     ensures fault { result ≢ 0 → result ≡ 11 }
 {

@@ -18,7 +18,7 @@ pub fn slot_of(region: u64) -> usize {
 /// The tables of the regions whose slot has one number, those of them that were cleaned, and how many of their records are
 /// live. Its calls do to these regions what those of [`Tables`] do.
 ///
-/// It is `Send` and not `Sync`: an engine keeps a `[Mutex<Slot>; SLOTS]`, made of recovered tables by [`Tables::into_slots`], and
+/// It is `Send` and not `Sync`: an engine keeps a `[Mutex<Slot>; SLOTS]`, made of the slots of [`Tables::into_slots`], and
 /// locks that of [`slot_of`] a region. A change for a region of another slot is refused by `InvalidArgument`; such a region has
 /// no table here. After a refused change all is as it was.
 ///

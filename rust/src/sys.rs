@@ -9,8 +9,8 @@
 //! - Slices are lent for the call alone. They overlap nowhere: what is written is behind a `&mut` or of the call's own.
 //! - Numbers and stages that a contract bounds are tested where they come in: the part of a file by [`FilePart::check`]; the
 //!   files of an atomic group by [`Tables::set_atomic_group`](crate::Tables::set_atomic_group) and that of `Slot`; the stage of
-//!   a batch, the last index of its entries and its offset by [`LogBatchHandle`]; the number of a slot and its regions by
-//!   [`SlotHandle`].
+//!   a batch, the last index of its entries and its offset by [`LogBatchHandle`]; the number of a slot and its regions,
+//!   and that a slot has no tables where it takes some, by [`SlotHandle`].
 //!
 //! A `Global` of the library takes no bytes, and is not passed. A `&[T]` is passed as a pointer and a length. `tools/ffi.py`
 //! compares the declarations with the exports.

@@ -263,8 +263,8 @@ impl Tables {
         self.handle.remove(region, is_listed)
     }
 
-    /// Divides the tables and the cleaned regions into slots, in the order of their numbers: each region's table, as it is, and
-    /// its place in the list go to the slot of [`slot_of`] the region.
+    /// Divides the tables and the cleaned regions into slots, in the order of their numbers. A region's table and its entries
+    /// in the list go to the slot of [`slot_of`] the region; within a slot the list keeps its order.
     ///
     /// # Errors
     ///

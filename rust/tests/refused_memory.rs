@@ -7,7 +7,7 @@
 mod common;
 
 use common::{files, parts};
-use raft_recover::{ErrorKind, Queue, recover};
+use raft_recover::{ErrorKind, Queue, Result, recover};
 use std::alloc::{Layout, alloc, dealloc, realloc};
 use std::sync::atomic::{AtomicI64, AtomicU64, Ordering::SeqCst};
 
@@ -88,19 +88,20 @@ unsafe extern "C" fn rattle_dealloc(p: *mut u8) {
     }
 }
 
-#[test]
-fn every_request_refused_in_turn() {
-    let files = files();
-    let parts = parts(&files);
-    let whole = recover(&parts, Queue::Append, 2).unwrap().to_string();
-    assert_eq!(LIVE.load(SeqCst), 0);
+/// Makes a call with each request for memory refused in turn, and returns how often it was refused. An answer shows as `whole`,
+/// and nothing is left of it.
+fn refused_in_turn<T>(
+    whole: &str,
+    call: impl Fn() -> Result<T>,
+    shown: impl Fn(T) -> String,
+) -> usize {
     let mut refused = 0;
     for granted in 0.. {
         GRANTED.store(granted, SeqCst);
-        let answer = recover(&parts, Queue::Append, 2);
+        let answer = call();
         let is_over = GRANTED.swap(i64::MAX, SeqCst) > 0;
         match answer {
-            Ok(tables) => assert_eq!(tables.to_string(), whole),
+            Ok(value) => assert_eq!(shown(value), whole),
             Err(e) => {
                 assert_eq!(e.kind, ErrorKind::Memory, "{e}");
                 refused += 1;
@@ -115,7 +116,27 @@ fn every_request_refused_in_turn() {
             break;
         }
     }
+    refused
+}
+
+#[test]
+fn every_request_refused_in_turn() {
+    let files = files();
+    let parts = parts(&files);
+    let recovered = || recover(&parts, Queue::Append, 2);
+    let whole = recovered().unwrap().to_string();
+    let live = recovered().unwrap().live(Queue::Append).to_string();
+    assert_eq!(LIVE.load(SeqCst), 0);
+    let refused = refused_in_turn(&whole, recovered, |tables| tables.to_string());
     // Where a way that is tried first finds no memory, the other one asks again, and gets it.
     assert!(refused > 20, "{refused}");
     println!("{refused} requests refused");
+    refused_in_turn(
+        &live,
+        || recovered()?.into_slots(),
+        |slots| {
+            let live = slots.iter().map(|slot| slot.live(Queue::Append));
+            live.sum::<usize>().to_string()
+        },
+    );
 }

@@ -221,6 +221,9 @@ fn many_tables() -> Tables {
             tables.rewrite(region, &moved, Some(9)).unwrap();
         }
     }
+    for _ in 0..2 {
+        tables.remove(700, true).unwrap(); // a region without a table, listed twice
+    }
     tables
 }
 

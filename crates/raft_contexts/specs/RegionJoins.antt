@@ -16,7 +16,7 @@ use Rattle.raft_accessor.specs.Accessor.{table_in, live_in_all}
 abbrev pub AreRunsOver : LogQueue → Marks → Tables → Tables → Type 0
 AreRunsOver queue marks newer older = (r : ℕ) (m : Mark) → finite.get marks r ≡ Some m → IsRunOver queue m (table_in newer r) (table_in older r)
 
--- the tables of regions without such a region mark are as they were
+-- the tables of regions without one of these region marks are as they were
 abbrev pub AreOthersKept : Marks → Tables → Tables → Type 0
 AreOthersKept marks old new = (r : ℕ) → finite.get marks r ≡ None → finite.get new r ≡ finite.get old r
 

@@ -21,7 +21,7 @@ use std::marker::Model;
 
 /// The region marks of some regions, each under its region's id.
 ///
-/// They are in 128 slots, as the tables are, or in none before the first is put in.
+/// They are in 128 slots, as the tables are, or in none while none was needed.
 #[derive(Drop)]
 pub struct RegionMarks {
     slots: Vec<SlotMarks>,

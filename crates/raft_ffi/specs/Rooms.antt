@@ -25,7 +25,7 @@ pub record IsTextIn (old new : List ℕ) (len : ℕ) : Type 0 where
   pub text : List ℕ
   pub copied : IsCopied text old new len
 
--- the text of an error, as far as there is room; none without an error
+-- some bytes as the text of an error, as many as `text_len` says, and the first of them, as far as there is room; none without an error
 pub record HasText (status : Status) (old new : List ℕ) : Type 0 where
   pub found : IsTextIn old new status.text_len
   pub silent : status.code ≡ 0 → status.text_len ≡ 0

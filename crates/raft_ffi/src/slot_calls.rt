@@ -58,7 +58,8 @@ pub extern "C" fn raft_ffi_slot_number(alloc: Global, slot: &mut Slot) -> usize
     number
 }
 
-/// Moves the tables that other tables have of a slot's regions into the slot, which has none. It takes no memory.
+/// Moves the tables of a slot's regions out of `tables` into the slot, which has none. The list of cleaned regions stays
+/// in `tables`: list them in the slot by `raft_ffi_slot_remove` before. It takes no memory.
 #[unsafe(no_mangle)]
 pub extern "C" fn raft_ffi_slot_take_tables(alloc: Global, slot: &mut Slot, tables: &mut Tables)
     requires held { IsTrue (is_some slot.old.value) }

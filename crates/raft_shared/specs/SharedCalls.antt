@@ -20,7 +20,7 @@ use Rattle.raft_accessor.specs.Writes.{Writing, IsFor, after_content, IsWriteFau
 abbrev pub IsChangeAnswer : {F : Type 0} → Once F (Bor Table × Unit {0}) TableChange → F → ℕ → ℕ → Type 0
 IsChangeAnswer g f id n = (t : Table) × (u : Table) × (change : TableChange) × IsSlotTable (slot_of id) id t × FnOnceReturnsAt g f t change × (after_change t change ≡ Some u) × IsAnswer change t u n × IsAllowed change
 
--- want of memory, or a lock whose slot has another number
+-- want of memory, or a lock whose slot has another number, or isn't empty where it has to be
 abbrev pub IsLockFault : Error → Type 0
 IsLockFault e = (e ≡ errors.Memory) ⊎ (e ≡ errors.Failed)
 

@@ -230,8 +230,8 @@ impl Slot {
         self.tables.insert(id, table, &mut self.stats)
     }
 
-    /// Takes the tables of the slot's regions out of an accessor, into a slot that has none. It takes no
-    /// memory, and the time for these tables alone.
+    /// Takes the tables of the slot's regions out of an accessor, into a slot that has none. The list of
+    /// cleaned regions stays with the accessor. It takes no memory; its time grows with these tables alone.
     pub fn take_tables(&mut self, core: &mut MemTableAccessor)
         requires { self.old.content.tables ≡ finite.empty }
         ensures { AreTablesTaken self.old self.new core.old core.new }

@@ -16,6 +16,8 @@ trap 'rm -rf "$room"' EXIT
 tools/believe.py --check
 tools/calls.py --check
 tools/ffi.py
+# (`rt ci` puts back the libraries that it finds in out/, which may be of other sources; tools/archive.py is to find its own)
+rm -rf crates/*/out/rlib
 "${RT:-rt}" ci | tee "$room/proved"
 
 status=0

@@ -60,6 +60,10 @@ kept-same a b kept h = λ q t e. kept q t (sym (h q) ∙ e)
 pub there : (a : Inside) (m : Tables) (k : ℕ) (o : Option (MutBor Table)) (t : MutBor Table) → tables_shown a ≡ m → option_copied_mut o ≡ lookup (nat_eq k) a.tables.entries → o ≡ Some t → finite.get m k ≡ Some t.now
 there a m k o t is v e = get-shown a m k is ∙ sym v ∙ ap option_copied_mut e
 
+-- .. and what stands behind it
+pub lent : (a : Inside) (m : Tables) (k : ℕ) (o : Option (MutBor Table)) (t : MutBor Table) (d : Table) → tables_shown a ≡ m → option_copied_mut o ≡ lookup (nat_eq k) a.tables.entries → o ≡ Some t → d ≡ t.now → finite.get m k ≡ Some d
+lent a m k o t d is v e d_is = there a m k o t is v e ∙ ap Some (sym d_is)
+
 pub absent : (a : Inside) (m : Tables) (k : ℕ) (o : Option (MutBor Table)) → tables_shown a ≡ m → option_copied_mut o ≡ lookup (nat_eq k) a.tables.entries → o ≡ None → finite.get m k ≡ None
 absent a m k o is v e = get-shown a m k is ∙ sym v ∙ ap option_copied_mut e
 

@@ -1,5 +1,5 @@
 -- A newer table of one region, or its absence, over the older one.
-use Rattle.std.proofs.Common.{◌≡◌, ◌≤◌, ◌+◌, ℕ, Bool, true, false, cond, ◌||◌, Option, Some, None, Result, Ok, Err, refl, sym, ap, subst, ◌∙◌, arith}
+use Rattle.std.proofs.Common.{◌≡◌, ◌≤◌, ◌+◌, ◌^◌, ◌⊎◌, ℕ, Bool, true, false, cond, ◌||◌, Option, Some, None, Result, Ok, Err, refl, sym, ap, subst, ◌∙◌, inl, inr, arith}
 use Rattle.std.specs.FinMap as finite
 use Rattle.std.specs.Result.{OnOk, IfOk, IfErr}
 use Rattle.raft_base.specs.declared.errors.Error.{Error}
@@ -7,19 +7,19 @@ use Rattle.raft_base.specs.declared.errors.Error.TheVariants as errors
 use Rattle.raft_base.specs.declared.pipe_log.LogQueue.{LogQueue}
 use Rattle.raft_base.specs.Runs.{end_of}
 use Rattle.raft_history.specs.RegionSteps.{Tables, with_table}
-use Rattle.raft_table.specs.Counts.{Counts}
+use Rattle.raft_table.specs.Counts.{Counts, live}
 use Rattle.raft_table.specs.MarkJoins.{end_at_reach}
 use Rattle.raft_table.specs.MarkedJoins.{IsFaultUnder, IsMarkFault, IsRunOver}
 use Rattle.raft_table.specs.Marks.{Mark, entries_within, is_refused_over, table_over, there_if, table_over_older}
 use Rattle.raft_table.specs.Steps.{table_of}
 use Rattle.raft_table.specs.Table.{Table, empty_table, live_of, with_table_deleted, IsRecounted}
-use Rattle.raft_table.proofs.MarkTables.{applied_none}
+use Rattle.raft_table.proofs.MarkTables.{applied_none, own_alone}
 use Rattle.raft_table.proofs.RegionLemmas.{applied_own}
 use Rattle.raft_table.proofs.TableLemmas.{live_of_empty}
 use Rattle.raft_accessor.specs.Accessor.{table_in, live_in}
 use Rattle.std.proofs.lemmas.Bool.{false≢true}
 use Rattle.raft_accessor.proofs.LiveLemmas.{none_deleted}
-use Rattle.raft_accessor.proofs.MapLemmas.{get_gone, none_some, with_same}
+use Rattle.raft_accessor.proofs.MapLemmas.{get_own, get_gone, none_some, one_written, with_same}
 use Rattle.raft_accessor.specs.TableJoins.{IsPut, IsTableJoined}
 
 pub put_joined : (queue : LogQueue) (m : Mark) (newer : Table) (old : Tables) (id : ℕ) (counts : Counts) (r : Result ℕ Error) (new : Tables) (after : Counts) → IsPut queue m newer counts r (table_in old id) (table_in new id)
@@ -41,19 +41,59 @@ pub put_by : (queue : LogQueue) (m : Mark) (newer : Table) (old : Tables) (id : 
 put_by queue m newer old id counts r new after t n k e f g p =
     put_joined queue m newer old id counts r new after (subst (λ t. IsPut queue m newer counts r t (table_in new id)) e (subst (λ n. IsPut queue m newer counts r t n) f (subst (λ k. IsPut queue m newer k r t n) g p)))
 
+-- .. at a table that was there
+pub put_there : (queue : LogQueue) (m : Mark) (newer : Table) (old : Tables) (id : ℕ) (counts : Counts) (r : Result ℕ Error) (new : Tables) (after : Counts) (t own n : Table) → finite.get old id ≡ Some t → own ≡ newer → new ≡ finite.insert old id n → IsPut queue m own counts r t n → IsRecounted t n counts after
+    → IsTableJoined queue m (Some newer) old id counts r new after
+put_there queue m newer old id counts r new after t own n was own_is put p recounted =
+    let there : finite.get new id ≡ Some n = ap (λ n. finite.get n id) put ∙ get_own old id n in
+    let now : n ≡ table_in new id = sym (ap (table_of id) there) in
+    let before : t ≡ table_in old id = sym (ap (table_of id) was) in
+    put_by queue m newer old id counts r new after t n counts before now refl (subst (λ o. IsPut queue m o counts r t n) own_is p)
+    (elim r as (λ r. OnOk r (finite.get new id ≡ Some (table_in new id))) [ Ok x ↦ there ∙ ap Some now | Err x ↦ tt ]) (one_written old new id n put) (subst (λ t. IsRecounted t (table_in new id) counts after) before (subst (λ n. IsRecounted t n counts after) now recounted))
+
 -- there was no memory for a table
 pub not_joined : (queue : LogQueue) (m : Mark) (newer : Option Table) (old : Tables) (id : ℕ) (counts : Counts) (r : Result ℕ Error) (new : Tables) (after : Counts) → r ≡ Err errors.Memory → new ≡ with_table old id (finite.get new id) → IsRecounted (table_in old id) (table_in new id) counts after
     → IsTableJoined queue m newer old id counts r new after
 not_joined queue m newer old id counts r new after e one recounted = subst (λ r. IsTableJoined queue m newer old id counts r new after) (sym e) record { ok = λ run. tt; answer = tt; fault = λ run. tt; few = tt; one = one; deleted = λ c n. tt; recounted = recounted }
 
--- ---- a newer mark whose region has no table
-
-there_now : (old : Tables) (id : ℕ) (t : Table) → finite.get old id ≡ Some t → table_in old id ≡ t
-there_now old id t e = ap (table_of id) e
+-- ---- a newer table whose region has no older one
 
 nothing_at_reach : (m : Mark) (id : ℕ) → 0 ≡ end_at_reach m (empty_table id)
 unfolding entries_within end_of
 nothing_at_reach m id = refl
+
+pub first_joined : (queue : LogQueue) (m : Mark) (newer : Table) (old : Tables) (id : ℕ) (counts : Counts) (new : Tables) (after : Counts) → finite.get old id ≡ None → newer.region_id ≡ id → new ≡ finite.insert old id newer → IsRecounted (table_in old id) (table_in new id) counts after
+    → IsTableJoined queue m (Some newer) old id counts (Ok 0) new after
+first_joined queue m newer old id counts new after none own put recounted =
+    let there : finite.get new id ≡ Some newer = ap (λ n. finite.get n id) put ∙ get_own old id newer in
+    let now : table_in new id ≡ newer = ap (table_of id) there in
+    put_joined queue m newer old id counts (Ok 0) new after
+    (record {
+      ok = λ run. ap (λ o. table_over queue m newer (table_of id o)) none ∙ own_alone queue id m newer own ∙ ap Some (sym now);
+      answer = nothing_at_reach m id ∙ ap (λ o. end_at_reach m (table_of id o)) (sym none);
+      fault = λ run. tt;
+      few = λ q. omega (arith, ap (live_of q) now);
+    }) (there ∙ ap Some (sym now)) (one_written old new id newer put) recounted
+
+pub first_refused : (queue : LogQueue) (m : Mark) (newer : Table) (old : Tables) (id : ℕ) (counts : Counts) (e : Error) (new : Tables) (after : Counts) → (e ≡ errors.Memory) ⊎ ((e ≡ errors.Full) × ((q : LogQueue) × (2 ^ 64 ≤ live q counts + live_of q newer))) → new ≡ with_table old id (finite.get new id) → IsRecounted (table_in old id) (table_in new id) counts after
+    → IsTableJoined queue m (Some newer) old id counts (Err e) new after
+first_refused queue m newer old id counts e new after fault one recounted = record {
+  ok = λ run. tt;
+  answer = tt;
+  fault = λ run. elim fault [
+    | inl k ↦ subst (IsFaultUnder queue counts m newer (table_in old id)) (sym k) tt
+    | inr k ↦ subst (IsFaultUnder queue counts m newer (table_in old id)) (sym k.0) k.1
+  ];
+  few = tt;
+  one = one;
+  deleted = λ c n. tt;
+  recounted = recounted;
+}
+
+-- ---- a newer mark whose region has no table
+
+there_now : (old : Tables) (id : ℕ) (t : Table) → finite.get old id ≡ Some t → table_in old id ≡ t
+there_now old id t e = ap (table_of id) e
 
 -- nor is there an older one
 pub nothing_joined : (queue : LogQueue) (m : Mark) (old : Tables) (id : ℕ) (counts : Counts) → finite.get old id ≡ None → IsTableJoined queue m None old id counts (Ok 0) old counts

@@ -20,6 +20,7 @@ mod take_slot;
 mod totals;
 mod writes;
 
+use crate::boxed_table::BoxedTable;
 use crate::neighbor::Neighbor;
 use crate::region_tables::RegionTables;
 pub use cleaned::clean_logs;
@@ -365,6 +366,19 @@ impl MemTableAccessor {
         self.slots[slot_of(id)].remove(id, &mut self.stats)
     }
 
+    /// Does what [`MemTableAccessor::take`] does, and leaves the table in its place.
+    #[doc(hidden)]
+    pub fn take_boxed(&mut self, id: u64) -> Option<BoxedTable>
+        ensures tables { self.new.tables ≡ finite.remove self.old.tables id }
+        ensures removed { result ≡ finite.get self.old.tables id }
+        ensures own { IfSome result (λ t. t.region_id ≡ id) }
+        ensures counts { self.new.counts ≡ with_table_deleted (table_in self.old.tables id)
+            self.old.counts }
+        ensures cleaned { self.new.cleaned ≡ self.old.cleaned }
+    {
+        self.slots[slot_of(id)].take(id, &mut self.stats)
+    }
+
     /// Merges the tables of such a neighbor, slot by slot.
     fn merge_neighbors(&mut self, kind: Neighbor, rhs: MemTableAccessor) -> Result<()>
         ensures ok { OnOk result (AreTablesMerged (with_neighbor kind) self.old.tables rhs.tables
@@ -402,7 +416,7 @@ impl MemTableAccessor {
     }
 
     /// Merges a table of such a neighbor into the table of its region.
-    fn merge_table(&mut self, kind: Neighbor, id: u64, newer: MemTable) -> Result<()>
+    fn merge_table(&mut self, kind: Neighbor, id: u64, newer: BoxedTable) -> Result<()>
         requires { newer.region_id ≡ id }
         ensures ok { OnOk result (IsMergedAt (with_neighbor kind) id
             (finite.get self.old.tables id) (Some newer) (finite.get self.new.tables id)) }

@@ -3,9 +3,12 @@
 
 pub mod accessor;
 mod append_check;
+mod boxed_table;
 pub mod item_writes;
 mod neighbor;
 pub mod region_tables;
 
 pub use accessor::{MemTableAccessor, slot_of};
+#[doc(hidden)]
+pub use boxed_table::BoxedTable;
 pub use region_tables::RegionTables;

@@ -27,6 +27,7 @@ mod join;
 mod overlay;
 pub(crate) mod steps;
 
+use crate::boxed_table::BoxedTable;
 use crate::neighbor::Neighbor;
 use raft_base::{Error, FileSeq, LogQueue, Result};
 use raft_table::{GlobalStats, MemTable, Run, TableChange};
@@ -38,7 +39,7 @@ use std::marker::Model;
 /// The tables of some regions, each under its region's id.
 #[derive(Drop)]
 pub struct RegionTables {
-    tables: HashMap<u64, MemTable>,
+    tables: HashMap<u64, BoxedTable>,
     alloc: Global,
 }
 
@@ -87,7 +88,10 @@ impl RegionTables {
         ensures value { option_map (λ t. t.now) result ≡ finite.get self.now id }
         ensures own { IfSome result (λ t. t.now.region_id ≡ id) }
     {
-        self.tables.get(&id)
+        match self.tables.get(&id) {
+            Some(table) => Some(table.get()),
+            None => None,
+        }
     }
 
     /// Pushes all tables, in no set order.
@@ -97,7 +101,7 @@ impl RegionTables {
         ensures memory { IfErr result (λ e. e ≡ Error.Memory) }
     {
         for table in self.tables.values() {
-            tables.push(table)?;
+            tables.push(table.get())?;
         }
         Ok(())
     }
@@ -120,6 +124,7 @@ impl RegionTables {
         ensures memory { IfErr result (λ e. e ≡ Error.Memory) }
     {
         for table in self.tables.values() {
+            let table = table.get();
             if f(table) {
                 tables.push(table)?;
             }
@@ -135,6 +140,7 @@ impl RegionTables {
     {
         let mut count = 0;
         for table in self.tables.values() {
+            let table = table.get();
             table.holds_one_run();
             count += table.entries_count() as u128;
         }
@@ -149,7 +155,7 @@ impl RegionTables {
     {
         let mut answer = init;
         for table in self.tables.values() {
-            answer = f(answer, table);
+            answer = f(answer, table.get());
         }
         answer
     }
@@ -171,6 +177,7 @@ impl RegionTables {
         ensures memory { IfErr result (λ e. e ≡ Error.Memory) }
     {
         for table in self.tables.values() {
+            let table = table.get();
             if wanted(table) {
                 ids.push(table.region_id())?;
             }
@@ -249,8 +256,8 @@ impl RegionTables {
         let Some(table) = self.tables.get_mut(&id) else {
             return self.try_replay_first(queue, id, run, stats);
         };
-        let ends = table.ends();
-        if !table.try_replay(queue, run, stats) {
+        let ends = table.table.ends();
+        if !table.table.try_replay(queue, run, stats) {
             return None;
         }
         Some(ends)
@@ -281,8 +288,10 @@ impl RegionTables {
         if self.tables.reserve(1).is_err() {
             return None;
         }
-        let mut table = MemTable::new(self.alloc, id);
-        if !table.try_replay(queue, run, stats) {
+        let Ok(mut table) = BoxedTable::empty(self.alloc, id) else {
+            return None;
+        };
+        if !table.table.try_replay(queue, run, stats) {
             return None;
         }
         match self.tables.insert(id, table) {
@@ -349,8 +358,35 @@ impl RegionTables {
         ensures recounted { IsRecounted (table_in self.old id) (table_in self.new id) stats.old
             stats.new }
     {
+        let table = BoxedTable::new(self.alloc, table)?;
+        Ok(unboxed(self.put(id, table, stats)?))
+    }
+
+    /// Does what [`RegionTables::insert`] does with a table in a place of its own.
+    pub(crate) fn put(
+        &mut self,
+        id: u64,
+        table: BoxedTable,
+        stats: &mut GlobalStats,
+    ) -> Result<Option<BoxedTable>>
+        requires region { table.region_id ≡ id }
+        requires counted { IsCounted (table_in self.old id) stats.old }
+        ensures ok { OnOk result (self.new ≡ finite.insert self.old id table) }
+        ensures replaced { IfOk result (λ t. t ≡ finite.get self.old id) }
+        ensures own { IfOk result (λ t. IfSome t (λ t. t.region_id ≡ id)) }
+        ensures counts { OnOk result (stats.new
+            ≡ with_table_deleted (table_in self.old id) (with_table_added table stats.old)) }
+        ensures err { OnErr result (self.new ≡ self.old) }
+        ensures counts_err { OnErr result (stats.new ≡ stats.old) }
+        ensures fault { IfErr result (λ e. (e ≡ Error.Memory)
+            ⊎ ((e ≡ Error.Full)
+            × ((q : LogQueue) × (2 ^ 64 ≤ live q stats.old + live_of q table)))) }
+        ensures one { self.new ≡ with_table self.old id (finite.get self.new id) }
+        ensures recounted { IsRecounted (table_in self.old id) (table_in self.new id) stats.old
+            stats.new }
+    {
         self.tables.reserve(1)?;
-        stats.add_table(&table)?;
+        stats.add_table(table.get())?;
         match self.tables.insert(id, table) {
             Ok(replaced) => {
                 delete_replaced(id, &replaced, stats);
@@ -370,13 +406,26 @@ impl RegionTables {
         ensures recounted { IsRecounted (table_in self.old id) (empty_table id) stats.old
             stats.new }
     {
+        unboxed(self.take(id, stats))
+    }
+
+    /// Does what [`RegionTables::remove`] does, and leaves the table in its place.
+    pub(crate) fn take(&mut self, id: u64, stats: &mut GlobalStats) -> Option<BoxedTable>
+        requires { IsCounted (table_in self.old id) stats.old }
+        ensures removed { result ≡ finite.get self.old id }
+        ensures own { IfSome result (λ t. t.region_id ≡ id) }
+        ensures after { self.new ≡ finite.remove self.old id }
+        ensures counts { stats.new ≡ with_table_deleted (table_in self.old id) stats.old }
+        ensures recounted { IsRecounted (table_in self.old id) (empty_table id) stats.old
+            stats.new }
+    {
         let removed = self.tables.remove(&id);
         delete_replaced(id, &removed, stats);
         removed
     }
 
     /// Returns the tables, each with its region, in no set order.
-    pub(crate) fn into_entries(self) -> IntoIter<u64, MemTable>
+    pub(crate) fn into_entries(self) -> IntoIter<u64, BoxedTable>
         ensures entries { finite.from_entries result ≡ self }
         ensures once { IsDistinct nat_eq (keys_of result) }
         ensures own { (id : ℕ) (t : Table) → lookup (nat_eq id) result ≡ Some t → t.region_id ≡ id }
@@ -394,7 +443,7 @@ impl RegionTables {
         &mut self,
         kind: Neighbor,
         id: u64,
-        newer: MemTable,
+        newer: BoxedTable,
         stats: &mut GlobalStats,
     ) -> Result<()>
         requires region { newer.region_id ≡ id }
@@ -427,11 +476,11 @@ impl RegionTables {
         ensures { IsAltered F.FnOnce change self.old id stats.old result self.new stats.new }
     {
         if let Some(table) = self.tables.get_mut(&id) {
-            return change(table, stats);
+            return change(&mut table.table, stats);
         }
         self.tables.reserve(1)?;
-        let mut table = MemTable::new(self.alloc, id);
-        let answer = change(&mut table, stats);
+        let mut table = BoxedTable::empty(self.alloc, id)?;
+        let answer = change(&mut table.table, stats);
         match self.tables.insert(id, table) {
             Ok(_) => answer,
             Err(_) => unreachable!(),
@@ -453,11 +502,11 @@ impl RegionTables {
         ensures { IsUpdated F.FnOnce change self.old id stats.old result self.new stats.new }
     {
         if let Some(table) = self.tables.get_mut(&id) {
-            return change(table, stats);
+            return change(&mut table.table, stats);
         }
         self.tables.reserve(1)?;
-        let mut table = MemTable::new(self.alloc, id);
-        let answer = change(&mut table, stats)?;
+        let mut table = BoxedTable::empty(self.alloc, id)?;
+        let answer = change(&mut table.table, stats)?;
         match self.tables.insert(id, table) {
             Ok(_) => Ok(answer),
             Err(_) => unreachable!(),
@@ -469,7 +518,7 @@ impl RegionTables {
 fn merge(
     kind: Neighbor,
     table: &mut MemTable,
-    mut newer: MemTable,
+    mut newer: BoxedTable,
     stats: &mut GlobalStats,
 ) -> Result<()>
     requires region { table.old.region_id ≡ newer.region_id }
@@ -481,19 +530,29 @@ fn merge(
     ensures recounted { IsRecounted table.old table.new stats.old stats.new }
 {
     match kind {
-        Neighbor::Newer => table.merge_newer_neighbor(&mut newer, stats),
-        Neighbor::Appended => table.merge_append_table(&mut newer, stats),
+        Neighbor::Newer => table.merge_newer_neighbor(&mut newer.table, stats),
+        Neighbor::Appended => table.merge_append_table(&mut newer.table, stats),
     }
 }
 
 /// Takes the records of a table that may have stood there off the counts.
-fn delete_replaced(id: u64, table: &Option<MemTable>, stats: &mut GlobalStats)
+fn delete_replaced(id: u64, table: &Option<BoxedTable>, stats: &mut GlobalStats)
     requires { (q : LogQueue) → live_of q (table_of id table.now) ≤ live q stats.old }
     ensures counts { stats.new ≡ with_table_deleted (table_of id table.now) stats.old }
     ensures live { (q : LogQueue) → live q stats.new + live_of q (table_of id table.now) ≡ live q
         stats.old }
 {
     if let Some(table) = table {
-        stats.delete_table(table);
+        stats.delete_table(table.get());
+    }
+}
+
+/// Takes a table out of its place, if there is one.
+fn unboxed(table: Option<BoxedTable>) -> Option<MemTable>
+    ensures { result ≡ table }
+{
+    match table {
+        Some(table) => Some(table.into_table()),
+        None => None,
     }
 }

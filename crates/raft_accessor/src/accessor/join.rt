@@ -7,8 +7,9 @@ ghost use Rattle.raft_accessor.specs.Accessor.{live_in, live_in_all, AreCountsOf
 ghost use Rattle.raft_accessor.specs.TableJoins.{IsTableJoined};
 
 use crate::accessor::{MemTableAccessor, slot_of};
+use crate::boxed_table::BoxedTable;
 use raft_base::{AllocResult, Error, LogQueue, Result};
-use raft_table::{Mark, MemTable};
+use raft_table::Mark;
 
 impl MemTableAccessor {
     /// Puts a newer neighbor's table of a region, or its absence, over the older one, as the newer region mark
@@ -22,7 +23,7 @@ impl MemTableAccessor {
         &mut self,
         queue: LogQueue,
         id: u64,
-        newer: Option<MemTable>,
+        newer: Option<BoxedTable>,
         mark: &Mark,
     ) -> Result<u64>
         requires region { IfSome newer (λ t. t.region_id ≡ id) }

@@ -32,7 +32,7 @@ impl RegionTables {
         ensures { stats.new ≡ with_all_deleted self.now stats.old }
     {
         for table in self.tables.values() {
-            stats.delete_table(table);
+            stats.delete_table(table.get());
         }
     }
 }

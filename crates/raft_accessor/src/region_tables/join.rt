@@ -1,6 +1,6 @@
 //! Tables of some regions joined with those of newer neighbors, each under its region mark.
 
-ghost use Rattle.std.specs.Prelude.{◌≡◌, IfSome, Some};
+ghost use Rattle.std.specs.Prelude.{◌≡◌, IfSome, Some, None};
 ghost use Rattle.raft_base.specs.declared.pipe_log.LogQueue.{LogQueue};
 ghost use Rattle.raft_base.specs.declared.pipe_log.LogQueue.TheVariants.{Append, Rewrite};
 ghost use Rattle.raft_table.specs.Queues.{other};
@@ -8,6 +8,7 @@ ghost use Rattle.raft_table.specs.Table.{live_of, IsCounted, IsRecounted};
 ghost use Rattle.raft_accessor.specs.Accessor.{table_in, live_in};
 ghost use Rattle.raft_accessor.specs.TableJoins.{IsPut, IsTableJoined};
 
+use crate::boxed_table::BoxedTable;
 use crate::region_tables::RegionTables;
 use raft_base::{AllocResult, LogQueue, Result};
 use raft_table::{GlobalStats, Mark, MemTable};
@@ -23,7 +24,7 @@ impl RegionTables {
         &mut self,
         queue: LogQueue,
         id: u64,
-        newer: Option<MemTable>,
+        newer: Option<BoxedTable>,
         mark: &Mark,
         stats: &mut GlobalStats,
     ) -> Result<u64>
@@ -51,12 +52,12 @@ impl RegionTables {
         self.tables.reserve(count.saturating_sub(self.tables.len()))
     }
 
-    /// Puts a newer table over that of its region, which is made where there is none.
+    /// Puts a newer table over that of its region. Where there is none, it stands there as it is.
     fn put_newer(
         &mut self,
         queue: LogQueue,
         id: u64,
-        newer: MemTable,
+        newer: BoxedTable,
         mark: &Mark,
         stats: &mut GlobalStats,
     ) -> Result<u64>
@@ -67,23 +68,12 @@ impl RegionTables {
         ensures { IsTableJoined queue mark.now (Some newer) self.old id stats.old result self.new
             stats.new }
     {
-        self.alter(
-            id,
-            stats,
-            move |table: &mut MemTable, stats: &mut GlobalStats| -> Result<u64>
-                requires region { table.old.region_id ≡ newer.region_id }
-                requires own { live_of (other queue) newer ≡ 0 }
-                requires older { queue ≡ Rewrite → live_of Append table.old ≡ 0 }
-                requires counted { IsCounted table.old stats.old }
-                ensures put { IsPut queue mark.entry.now newer stats.old result table.old
-                    table.new }
-                ensures region { table.new.region_id ≡ table.old.region_id }
-                ensures recounted { IsRecounted table.old table.new stats.old stats.new }
-            {
-                let mut newer = newer;
-                table.join_under(queue, &mut newer, mark, stats)
-            },
-        )
+        if let Some(table) = self.tables.get_mut(&id) {
+            let mut newer = newer;
+            return table.table.join_under(queue, &mut newer.table, mark, stats);
+        }
+        self.put(id, newer, stats)?;
+        Ok(0)
     }
 
     /// Drops of a region's table what a newer region mark drops whose region has no table.
@@ -103,7 +93,8 @@ impl RegionTables {
             return Ok(0);
         };
         if !mark.is_cleaned() {
-            return self.put_newer(queue, id, MemTable::new(self.alloc, id), mark, stats);
+            let empty = BoxedTable::empty(self.alloc, id)?;
+            return self.put_newer(queue, id, empty, mark, stats);
         }
         let end = table.end_at_reach(mark);
         table.check_newer_mark(queue, mark, end)?;

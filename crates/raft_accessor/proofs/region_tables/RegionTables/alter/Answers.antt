@@ -11,23 +11,23 @@ use Rattle.raft_accessor.specs.Updates.{TableCalls}
 use Rattle.raft_accessor.specs.declared.region_tables.RegionTables.TheInside.{Inside}
 use Rattle.raft_accessor.proofs.MapLemmas.{some_is}
 use Rattle.raft_accessor.proofs.MergeLemmas.{altered, not_altered}
-use Rattle.raft_accessor.proofs.RegionTablesLemmas.{kept-with, kept-same, shown-with, shown-same, there, absent, region-in}
+use Rattle.raft_accessor.proofs.RegionTablesLemmas.{kept-with, kept-same, shown-with, shown-same, lent, absent, region-in}
 use Rattle.raft_accessor.proofs.region_tables.RegionTables.alter.Given as given
 use Rattle.raft_accessor.proofs.region_tables.RegionTables.alter.Goals as goal
 
 -- ---- the table is there
 
 pub change-requires : goal.change-requires
-change-requires g c = (c.requires.may (region-in c.self.inside c.args.self.now c.args.id c.self.invariant c.self.view_is)).pre _ _ (sym (ap (table_of c.args.id) (there c.self.inside c.args.self.now c.args.id _ _ c.self.view_is c.get_mut.ensures.value c.in-Some.is))) refl
+change-requires g c = (c.requires.may (region-in c.self.inside c.args.self.now c.args.id c.self.invariant c.self.view_is)).pre _ _ (sym (ap (table_of c.args.id) (lent c.self.inside c.args.self.now c.args.id _ _ _ c.self.view_is c.get_mut.ensures.value c.in-Some.is (c.deref_mut.ensures.value ∙ c.table.view_is)))) refl
 
 may : (g : given.Over) (c : goal.After-self-in-Some-1 g) → MayAlter g.F.FnOnce c.args.change (table_in c.args.self.now c.args.id) c.args.stats.now
 may g c = c.requires.may (region-in c.self.inside c.args.self.now c.args.id c.self.invariant c.self.view_is)
 
-was : (g : given.Over) (c : goal.After-self-in-Some-1 g) → finite.get c.args.self.now c.args.id ≡ Some c.in-Some.table.now
-was g c = there c.self.inside c.args.self.now c.args.id _ _ c.self.view_is c.get_mut.ensures.value c.in-Some.is
+was : (g : given.Over) (c : goal.After-self-in-Some-1 g) → finite.get c.args.self.now c.args.id ≡ Some c.deref_mut.result.now
+was g c = lent c.self.inside c.args.self.now c.args.id _ _ _ c.self.view_is c.get_mut.ensures.value c.in-Some.is (c.deref_mut.ensures.value ∙ c.table.view_is)
 
 gave : (g : given.Over) (c : goal.After-self-in-Some-1 g) → TableCalls g.F.FnOnce c.args.change (table_in c.args.self.now c.args.id) c.args.stats.now c.change.result c.change.new.arg2 c.change.new.arg3
-gave g c = record { table = c.in-Some.table; stats = _; shows = (sym (ap (table_of c.args.id) (was g c)), refl); left = _; left_stats = _; met = c.change.ensures; leaves = (refl, refl) }
+gave g c = record { table = c.deref_mut.result; stats = _; shows = (sym (ap (table_of c.args.id) (was g c)), refl); left = _; left_stats = _; met = c.change.ensures; leaves = (refl, refl) }
 
 abbrev after : (g : given.Over) → goal.After-self-in-Some-1 g → Inside
 after g c = record c.self.inside { tables = c.get_mut.follows.lender c.change.new.arg2 }
@@ -49,13 +49,18 @@ returns-in_err-reserve g c =
     let p = err_from_is_err_and c.from_residual.result c.from_residual.ensures.1 in
     rw (p.1, p.2) (not_altered g.F.FnOnce c.args.change c.args.self.now c.args.id c.args.stats.now _ (shown-same c.self.inside (record c.self.inside { tables = c.reserve.new.self }) c.args.self.now c.self.view_is (λ q. c.reserve.ensures.entries.2 q ∙ ap (λ m. lookup (nat_eq q) m.entries) c.get_mut.follows.holds-at-none)))
 
+pub returns-in_err-table : goal.returns-in_err-table
+returns-in_err-table g c =
+    let p = err_from_is_err_and c.from_residual-in_err-table.result c.from_residual-in_err-table.ensures.1 in
+    rw (p.1, p.2) (not_altered g.F.FnOnce c.args.change c.args.self.now c.args.id c.args.stats.now _ (shown-same c.self.inside (record c.self.inside { tables = c.reserve.new.self }) c.args.self.now c.self.view_is (λ q. c.reserve.ensures.entries.2 q ∙ ap (λ m. lookup (nat_eq q) m.entries) c.get_mut.follows.holds-at-none)))
+
 pub change-answer-requires : goal.change-answer-requires
-change-answer-requires g c = (c.requires.may (region-in c.self.inside c.args.self.now c.args.id c.self.invariant c.self.view_is)).pre _ _ (c.new-table.ensures.empty ∙ sym (ap (table_of c.args.id) (absent c.self.inside c.args.self.now c.args.id _ c.self.view_is c.get_mut.ensures.value c.in_default.is))) refl
+change-answer-requires g c = (c.requires.may (region-in c.self.inside c.args.self.now c.args.id c.self.invariant c.self.view_is)).pre _ _ (c.deref_mut-2.ensures.value ∙ c.table-2.view_is ∙ c.in_ok-table.ensures ∙ sym (ap (table_of c.args.id) (absent c.self.inside c.args.self.now c.args.id _ c.self.view_is c.get_mut.ensures.value c.in_default.is))) refl
 
 made-by : (g : given.Over) (c : goal.Joined-this g) → TableCalls g.F.FnOnce c.args.change (table_in c.args.self.now c.args.id) c.args.stats.now c.change-answer.result c.change-answer.new.arg2 c.change-answer.new.arg3
 made-by g c =
     let none : finite.get c.args.self.now c.args.id ≡ None = absent c.self.inside c.args.self.now c.args.id _ c.self.view_is c.get_mut.ensures.value c.in_default.is in
-    record { table = _; stats = _; shows = (c.new-table.ensures.empty ∙ sym (ap (table_of c.args.id) none), refl); left = _; left_stats = _; met = c.change-answer.ensures; leaves = (refl, refl) }
+    record { table = _; stats = _; shows = (c.deref_mut-2.ensures.value ∙ c.table-2.view_is ∙ c.in_ok-table.ensures ∙ sym (ap (table_of c.args.id) none), refl); left = _; left_stats = _; met = c.change-answer.ensures; leaves = (refl, refl) }
 
 abbrev reserved : (g : given.Over) → goal.Joined-this g → Inside
 reserved g c = record c.self.inside { tables = c.reserve.new.self }

@@ -1,28 +1,34 @@
-use Rattle.std.proofs.Common.{Some, sym, ap, subst, ◌∙◌}
+use Rattle.std.proofs.Common.{Some, refl, sym, ap, subst, ◌∙◌}
 use Rattle.std.specs.Prelude.{option_map}
 use Rattle.std.proofs.lemmas.Result.{err_from_is_err_and}
 use Rattle.raft_table.specs.Queues.{other}
 use Rattle.raft_table.specs.Table.{Table, live_of}
 use Rattle.raft_table.proofs.TableLemmas.{live_of_empty}
 use Rattle.raft_accessor.specs.TableJoins.{IsTableJoined}
-use Rattle.raft_accessor.proofs.TableJoinLemmas.{nothing_joined, empty_joined, cleaned_joined, mark_refused}
+use Rattle.raft_accessor.proofs.TableJoinLemmas.{nothing_joined, empty_joined, cleaned_joined, mark_refused, not_joined}
+use Rattle.raft_accessor.proofs.MapLemmas.{with_same}
 use Rattle.raft_accessor.proofs.region_tables.RegionTables.drop_under.Goals as goal
 
 pub returns-in_default : goal.returns-in_default
 returns-in_default c = nothing_joined c.args.queue c.args.mark.now c.args.self.now c.args.id c.args.stats.now (sym c.get.ensures.value ∙ ap (option_map (λ t. t.now)) c.in_default.is)
 
+pub returns-in_err-empty : goal.returns-in_err-empty
+returns-in_err-empty c =
+    let p = err_from_is_err_and c.from_residual.result c.from_residual.ensures.1 in
+    rw (p.1, p.2) (not_joined c.args.queue c.args.mark.now _ c.args.self.now c.args.id c.args.stats.now _ c.args.self.now c.args.stats.now refl (sym (with_same c.args.self.now c.args.id)) (λ q. refl))
+
 pub put_newer-requires-clause-own : goal.put_newer-requires-clause-own
-put_newer-requires-clause-own c = ap (live_of (other c.args.queue)) c.new.ensures.empty ∙ live_of_empty (other c.args.queue) c.args.id
+put_newer-requires-clause-own c = ap (live_of (other c.args.queue)) c.in_ok-empty.ensures ∙ live_of_empty (other c.args.queue) c.args.id
 
 pub returns-then-not-is_cleaned : goal.returns-then-not-is_cleaned
 returns-then-not-is_cleaned c =
-    empty_joined c.args.queue c.args.mark.now c.args.self.now c.args.id c.args.stats.now c.in-Some.table.now c.put_newer-then-not-is_cleaned.result c.put_newer-then-not-is_cleaned.new.self c.put_newer-then-not-is_cleaned.new.stats
+    empty_joined c.args.queue c.args.mark.now c.args.self.now c.args.id c.args.stats.now c.in-Some.table.now c.put_newer.result c.put_newer.new.self c.put_newer.new.stats
     (sym c.get.ensures.value ∙ ap (option_map (λ t. t.now)) c.in-Some.is) (sym c.is_cleaned.ensures ∙ c.if-not-is_cleaned.true)
-    (subst (λ (t : Table). IsTableJoined c.args.queue c.args.mark.now (Some t) c.args.self.now c.args.id c.args.stats.now c.put_newer-then-not-is_cleaned.result c.put_newer-then-not-is_cleaned.new.self c.put_newer-then-not-is_cleaned.new.stats) c.new.ensures.empty c.put_newer-then-not-is_cleaned.ensures)
+    (subst (λ (t : Table). IsTableJoined c.args.queue c.args.mark.now (Some t) c.args.self.now c.args.id c.args.stats.now c.put_newer.result c.put_newer.new.self c.put_newer.new.stats) c.in_ok-empty.ensures c.put_newer.ensures)
 
 pub returns-in_err-check_newer_mark : goal.returns-in_err-check_newer_mark
 returns-in_err-check_newer_mark c =
-    let p = err_from_is_err_and c.from_residual.result c.from_residual.ensures.1 in
+    let p = err_from_is_err_and c.from_residual-in_err-check_newer_mark.result c.from_residual-in_err-check_newer_mark.ensures.1 in
     rw (p.1, p.2) (mark_refused c.args.queue c.args.mark.now c.args.self.now c.args.id c.args.stats.now c.in-Some.table.now _ (sym c.get.ensures.value ∙ ap (option_map (λ t. t.now)) c.in-Some.is) c.in_err-check_newer_mark.ensures.fault)
 
 pub returns : goal.returns

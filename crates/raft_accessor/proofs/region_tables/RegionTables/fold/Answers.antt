@@ -10,7 +10,7 @@ pub loop-table-preserved : goal.loop-table-preserved
 loop-table-preserved g c = λ last h.
     c.loop-table.invariant last
     (subst (λ (l : List Table). FoldsTo (Makes g.F.FnMut) (c.loop-table.f, c.loop-table.answer) l last) (sym c.in-Some.ensures.steps)
-    ((c.f-answer.new.self, c.f-answer.result), (c.in-Some.table, refl, c.f-answer.ensures), h))
+    ((c.f-answer.new.self, c.f-answer.result), (c.get.result, c.get.ensures, c.f-answer.ensures), h))
 
 pub returns : goal.returns
 returns g c =

@@ -1,6 +1,10 @@
-use Rattle.std.proofs.Common.{sym, ◌∙◌}
+use Rattle.std.proofs.Common.{Some, sym, ap, ◌∙◌}
+use Rattle.std.specs.Option.{option_copied}
 use Rattle.raft_accessor.proofs.RegionTablesLemmas.{get-shown}
 use Rattle.raft_accessor.proofs.region_tables.RegionTables.get.Goals as goal
 
-pub returns-clause-value : goal.returns-clause-value
-returns-clause-value c = c.get.ensures.value ∙ sym (get-shown c.self.inside c.args.self.now c.args.id c.self.view_is)
+pub returns-in-Some-clause-value : goal.returns-in-Some-clause-value
+returns-in-Some-clause-value c = ap Some c.get-in-Some.ensures ∙ sym (ap option_copied c.in-Some.is) ∙ c.get.ensures.value ∙ sym (get-shown c.self.inside c.args.self.now c.args.id c.self.view_is)
+
+pub returns-in-None-clause-value : goal.returns-in-None-clause-value
+returns-in-None-clause-value c = sym (ap option_copied c.in-None.is) ∙ c.get.ensures.value ∙ sym (get-shown c.self.inside c.args.self.now c.args.id c.self.view_is)

@@ -14,7 +14,7 @@ loop-table-preserved-in-Continue-1 g c = (
   λ last h.
       c.loop-table.invariant.1 last
       (subst (λ (l : List Table). FoldsTo (Collects g.F.FnMut) (c.loop-table.f, map (λ t. t.now) c.loop-table.tables.items) l last) (sym c.in-Some.ensures.steps)
-      ((c.f.new.self, map (λ t. t.now) c.push.new.self.items), (true, called_at g.F.FnMut c.f.ensures c.if-f.true, ap (map (λ t. t.now)) c.in_ok-push.ensures.items ∙ map-append (λ t. t.now) c.loop-table.tables.items (c.in-Some.table ∷ [])), h)),
+      ((c.f.new.self, map (λ t. t.now) c.push.new.self.items), subst (λ t. Collects g.F.FnMut (c.loop-table.f, map (λ t. t.now) c.loop-table.tables.items) t (c.f.new.self, map (λ t. t.now) c.push.new.self.items)) c.get-table.ensures (true, called_at g.F.FnMut c.f.ensures c.if-f.true, ap (map (λ t. t.now)) c.in_ok-push.ensures.items ∙ map-append (λ t. t.now) c.loop-table.tables.items (c.get-table.result ∷ [])), h)),
 )
 
 pub loop-table-preserved : goal.loop-table-preserved
@@ -23,7 +23,7 @@ loop-table-preserved g c = (
   λ last h.
       c.loop-table.invariant.1 last
       (subst (λ (l : List Table). FoldsTo (Collects g.F.FnMut) (c.loop-table.f, map (λ t. t.now) c.loop-table.tables.items) l last) (sym c.in-Some.ensures.steps)
-      ((c.f.new.self, map (λ t. t.now) c.loop-table.tables.items), (false, called_at g.F.FnMut c.f.ensures c.if-f.false, refl), h)),
+      ((c.f.new.self, map (λ t. t.now) c.loop-table.tables.items), subst (λ t. Collects g.F.FnMut (c.loop-table.f, map (λ t. t.now) c.loop-table.tables.items) t (c.f.new.self, map (λ t. t.now) c.loop-table.tables.items)) c.get-table.ensures (false, called_at g.F.FnMut c.f.ensures c.if-f.false, refl), h)),
 )
 
 pub returns-clause-ok : goal.returns-clause-ok

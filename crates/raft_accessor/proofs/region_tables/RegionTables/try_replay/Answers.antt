@@ -15,7 +15,7 @@ use Rattle.raft_accessor.specs.RegionTablesView.{tables_shown}
 use Rattle.raft_accessor.specs.Updates.{BecomesOutcome}
 use Rattle.raft_accessor.specs.declared.region_tables.RegionTables.TheInside.{Inside}
 use Rattle.raft_accessor.proofs.MapLemmas.{insert_same}
-use Rattle.raft_accessor.proofs.RegionTablesLemmas.{shown-with, shown-same, there, absent}
+use Rattle.raft_accessor.proofs.RegionTablesLemmas.{shown-with, shown-same, lent, absent}
 use Rattle.raft_accessor.proofs.UpdateLemmas.{taken_there, not_taken}
 use Rattle.raft_accessor.proofs.region_tables.RegionTables.try_replay.Goals as goal
 
@@ -36,29 +36,29 @@ returns-in_default-clause-outcome c =
 -- ---- the table is there
 
 pub try_replay-requires-clause-counted : goal.try_replay-requires-clause-counted
-try_replay-requires-clause-counted c = subst (λ t. IsCounted t c.args.stats.now) (ap (table_of c.args.id) (there c.self.inside c.args.self.now c.args.id _ _ c.self.view_is c.get_mut.ensures.value c.in-Some.is)) c.requires.counted
+try_replay-requires-clause-counted c = subst (λ t. IsCounted t c.args.stats.now) (ap (table_of c.args.id) (lent c.self.inside c.args.self.now c.args.id _ _ _ c.self.view_is c.get_mut.ensures.value c.in-Some.is (c.deref_mut.ensures.value ∙ c.table.view_is))) c.requires.counted
 
 pub returns-clause-outcome : goal.returns-clause-outcome
 returns-clause-outcome c =
     let after : Inside = record c.self.inside { tables = c.get_mut.follows.lender c.try_replay.new.self } in
-    let was : finite.get c.args.self.now c.args.id ≡ Some c.in-Some.table.now = there c.self.inside c.args.self.now c.args.id _ _ c.self.view_is c.get_mut.ensures.value c.in-Some.is in
+    let was : finite.get c.args.self.now c.args.id ≡ Some c.deref_mut.result.now = lent c.self.inside c.args.self.now c.args.id _ _ _ c.self.view_is c.get_mut.ensures.value c.in-Some.is (c.deref_mut.ensures.value ∙ c.table.view_is) in
     let shown : tables_shown after ≡ finite.insert c.args.self.now c.args.id c.try_replay.new.self = shown-with c.self.inside after c.args.self.now c.args.id (Some c.try_replay.new.self) c.self.view_is ((c.get_mut.follows.holds c.try_replay.new.self).3 (ap is_some (sym c.get_mut.ensures.value ∙ ap option_copied_mut c.in-Some.is))).0 in
-    taken_there c.args.self.now _ c.args.id c.in-Some.table.now c.try_replay.new.self (λ t. after_replay c.args.queue t (run_shown c.args.run.now)) (λ e. ⊥) c.args.stats.now c.try_replay.new.stats _ was c.if-not-try_replay.ensures.done.0 c.try_replay.ensures.recounted shown
+    taken_there c.args.self.now _ c.args.id c.deref_mut.result.now c.try_replay.new.self (λ t. after_replay c.args.queue t (run_shown c.args.run.now)) (λ e. ⊥) c.args.stats.now c.try_replay.new.stats _ was c.if-not-try_replay.ensures.done.0 c.try_replay.ensures.recounted shown
 
 pub returns-then-not-try_replay-clause-outcome : goal.returns-then-not-try_replay-clause-outcome
 returns-then-not-try_replay-clause-outcome c =
     let after : Inside = record c.self.inside { tables = c.get_mut.follows.lender c.try_replay.new.self } in
-    let was : finite.get c.args.self.now c.args.id ≡ Some c.in-Some.table.now = there c.self.inside c.args.self.now c.args.id _ _ c.self.view_is c.get_mut.ensures.value c.in-Some.is in
+    let was : finite.get c.args.self.now c.args.id ≡ Some c.deref_mut.result.now = lent c.self.inside c.args.self.now c.args.id _ _ _ c.self.view_is c.get_mut.ensures.value c.in-Some.is (c.deref_mut.ensures.value ∙ c.table.view_is) in
     let shown : tables_shown after ≡ finite.insert c.args.self.now c.args.id c.try_replay.new.self = shown-with c.self.inside after c.args.self.now c.args.id (Some c.try_replay.new.self) c.self.view_is ((c.get_mut.follows.holds c.try_replay.new.self).3 (ap is_some (sym c.get_mut.ensures.value ∙ ap option_copied_mut c.in-Some.is))).0 in
     not_taken c.args.self.now _ c.args.id _ (λ e. ⊥) c.args.stats.now c.try_replay.new.stats (shown ∙ insert_same c.args.self.now c.args.id c.try_replay.new.self (was ∙ ap Some (sym c.if-not-try_replay.ensures.done.0))) c.if-not-try_replay.ensures.done.1
 
 pub returns-clause-ends : goal.returns-clause-ends
-returns-clause-ends c = c.ends-ends.ensures ∙ ap (λ o. (start_of (table_of c.args.id o).entries, end_of (table_of c.args.id o).entries)) (sym (there c.self.inside c.args.self.now c.args.id _ _ c.self.view_is c.get_mut.ensures.value c.in-Some.is))
+returns-clause-ends c = c.ends-ends.ensures ∙ ap (λ o. (start_of (table_of c.args.id o).entries, end_of (table_of c.args.id o).entries)) (sym (lent c.self.inside c.args.self.now c.args.id _ _ _ c.self.view_is c.get_mut.ensures.value c.in-Some.is (c.deref.ensures ∙ c.table.view_is)))
 
 pub returns-clause-counts : goal.returns-clause-counts
 returns-clause-counts c =
     c.if-not-try_replay.ensures.done.2
-    ∙ ap (λ o. counts_with_run c.args.queue (table_of c.args.id o).entries (run_shown c.args.run.now) c.args.stats.now) (sym (there c.self.inside c.args.self.now c.args.id _ _ c.self.view_is c.get_mut.ensures.value c.in-Some.is))
+    ∙ ap (λ o. counts_with_run c.args.queue (table_of c.args.id o).entries (run_shown c.args.run.now) c.args.stats.now) (sym (lent c.self.inside c.args.self.now c.args.id _ _ _ c.self.view_is c.get_mut.ensures.value c.in-Some.is (c.deref_mut.ensures.value ∙ c.table.view_is)))
 
 pub returns-clause-accepted : goal.returns-clause-accepted
-returns-clause-accepted c = ap (λ o. live_of (other c.args.queue) (table_of c.args.id o)) (there c.self.inside c.args.self.now c.args.id _ _ c.self.view_is c.get_mut.ensures.value c.in-Some.is) ∙ c.if-not-try_replay.ensures.done.1
+returns-clause-accepted c = ap (λ o. live_of (other c.args.queue) (table_of c.args.id o)) (lent c.self.inside c.args.self.now c.args.id _ _ _ c.self.view_is c.get_mut.ensures.value c.in-Some.is (c.deref_mut.ensures.value ∙ c.table.view_is)) ∙ c.if-not-try_replay.ensures.done.1

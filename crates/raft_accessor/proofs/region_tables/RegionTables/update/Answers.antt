@@ -9,7 +9,7 @@ use Rattle.raft_accessor.specs.Accessor.{table_in}
 use Rattle.raft_accessor.specs.Updates.{TableCalls}
 use Rattle.raft_accessor.specs.declared.region_tables.RegionTables.TheInside.{Inside}
 use Rattle.raft_accessor.proofs.MapLemmas.{some_is}
-use Rattle.raft_accessor.proofs.RegionTablesLemmas.{kept-with, kept-same, shown-with, shown-same, there, absent, region-in}
+use Rattle.raft_accessor.proofs.RegionTablesLemmas.{kept-with, kept-same, shown-with, shown-same, lent, absent, region-in}
 use Rattle.raft_accessor.proofs.UpdateLemmas.{updated, made, refused, no_memory}
 use Rattle.raft_accessor.proofs.region_tables.RegionTables.update.Given as given
 use Rattle.raft_accessor.proofs.region_tables.RegionTables.update.Goals as goal
@@ -17,13 +17,13 @@ use Rattle.raft_accessor.proofs.region_tables.RegionTables.update.Goals as goal
 -- ---- the table is there
 
 pub change-requires : goal.change-requires
-change-requires g c = c.requires.may.pre _ _ (sym (ap (table_of c.args.id) (there c.self.inside c.args.self.now c.args.id _ _ c.self.view_is c.get_mut.ensures.value c.in-Some.is))) refl
+change-requires g c = c.requires.may.pre _ _ (sym (ap (table_of c.args.id) (lent c.self.inside c.args.self.now c.args.id _ _ _ c.self.view_is c.get_mut.ensures.value c.in-Some.is (c.deref_mut.ensures.value ∙ c.table.view_is)))) refl
 
-was : (g : given.Over) (c : goal.After-self-in-Some-1 g) → finite.get c.args.self.now c.args.id ≡ Some c.in-Some.table.now
-was g c = there c.self.inside c.args.self.now c.args.id _ _ c.self.view_is c.get_mut.ensures.value c.in-Some.is
+was : (g : given.Over) (c : goal.After-self-in-Some-1 g) → finite.get c.args.self.now c.args.id ≡ Some c.deref_mut.result.now
+was g c = lent c.self.inside c.args.self.now c.args.id _ _ _ c.self.view_is c.get_mut.ensures.value c.in-Some.is (c.deref_mut.ensures.value ∙ c.table.view_is)
 
 gave : (g : given.Over) (c : goal.After-self-in-Some-1 g) → TableCalls g.F.FnOnce c.args.change (table_in c.args.self.now c.args.id) c.args.stats.now c.change.result c.change.new.arg2 c.change.new.arg3
-gave g c = record { table = c.in-Some.table; stats = _; shows = (sym (ap (table_of c.args.id) (was g c)), refl); left = _; left_stats = _; met = c.change.ensures; leaves = (refl, refl) }
+gave g c = record { table = c.deref_mut.result; stats = _; shows = (sym (ap (table_of c.args.id) (was g c)), refl); left = _; left_stats = _; met = c.change.ensures; leaves = (refl, refl) }
 
 abbrev after : (g : given.Over) → goal.After-self-in-Some-1 g → Inside
 after g c = record c.self.inside { tables = c.get_mut.follows.lender c.change.new.arg2 }
@@ -35,7 +35,7 @@ invariant_of-self g c =
 
 pub returns-in-Some : goal.returns-in-Some
 returns-in-Some g c =
-    updated g.F.FnOnce c.args.change c.args.self.now c.args.id c.args.stats.now c.in-Some.table.now c.change.result c.change.new.arg2 c.change.new.arg3 _ (was g c) c.requires.may (gave g c)
+    updated g.F.FnOnce c.args.change c.args.self.now c.args.id c.args.stats.now c.deref_mut.result.now c.change.result c.change.new.arg2 c.change.new.arg3 _ (was g c) c.requires.may (gave g c)
     (shown-with c.self.inside (after g c) c.args.self.now c.args.id (Some c.change.new.arg2) c.self.view_is ((c.get_mut.follows.holds c.change.new.arg2).3 (ap is_some (sym c.get_mut.ensures.value ∙ ap option_copied_mut c.in-Some.is))).0)
 
 -- ---- the table is made
@@ -45,14 +45,19 @@ returns-in_err-reserve g c =
     let p = err_from_is_err_and c.from_residual.result c.from_residual.ensures.1 in
     rw (p.1, p.2) (no_memory g.F.FnOnce c.args.change c.args.self.now c.args.id c.args.stats.now _ (shown-same c.self.inside (record c.self.inside { tables = c.reserve.new.self }) c.args.self.now c.self.view_is (λ q. c.reserve.ensures.entries.2 q ∙ ap (λ m. lookup (nat_eq q) m.entries) c.get_mut.follows.holds-at-none)))
 
+pub returns-in_err-table : goal.returns-in_err-table
+returns-in_err-table g c =
+    let p = err_from_is_err_and c.from_residual-in_err-table.result c.from_residual-in_err-table.ensures.1 in
+    rw (p.1, p.2) (no_memory g.F.FnOnce c.args.change c.args.self.now c.args.id c.args.stats.now _ (shown-same c.self.inside (record c.self.inside { tables = c.reserve.new.self }) c.args.self.now c.self.view_is (λ q. c.reserve.ensures.entries.2 q ∙ ap (λ m. lookup (nat_eq q) m.entries) c.get_mut.follows.holds-at-none)))
+
 pub change-requires-2 : goal.change-requires-2
-change-requires-2 g c = c.requires.may.pre _ _ (c.new-table.ensures.empty ∙ sym (ap (table_of c.args.id) (absent c.self.inside c.args.self.now c.args.id _ c.self.view_is c.get_mut.ensures.value c.in_default.is))) refl
+change-requires-2 g c = c.requires.may.pre _ _ (c.deref_mut-2.ensures.value ∙ c.table-2.view_is ∙ c.in_ok-table.ensures ∙ sym (ap (table_of c.args.id) (absent c.self.inside c.args.self.now c.args.id _ c.self.view_is c.get_mut.ensures.value c.in_default.is))) refl
 
 pub returns-in_err-answer : goal.returns-in_err-answer
 returns-in_err-answer g c =
     let p = err_from_is_err_and c.from_residual-in_err-answer.result c.from_residual-in_err-answer.ensures.1 in
     let none : finite.get c.args.self.now c.args.id ≡ None = absent c.self.inside c.args.self.now c.args.id _ c.self.view_is c.get_mut.ensures.value c.in_default.is in
-    let gave : TableCalls g.F.FnOnce c.args.change (table_in c.args.self.now c.args.id) c.args.stats.now c.change-2.result c.change-2.new.arg2 c.change-2.new.arg3 = record { table = _; stats = _; shows = (c.new-table.ensures.empty ∙ sym (ap (table_of c.args.id) none), refl); left = _; left_stats = _; met = c.change-2.ensures; leaves = (refl, refl) } in
+    let gave : TableCalls g.F.FnOnce c.args.change (table_in c.args.self.now c.args.id) c.args.stats.now c.change-2.result c.change-2.new.arg2 c.change-2.new.arg3 = record { table = _; stats = _; shows = (c.deref_mut-2.ensures.value ∙ c.table-2.view_is ∙ c.in_ok-table.ensures ∙ sym (ap (table_of c.args.id) none), refl); left = _; left_stats = _; met = c.change-2.ensures; leaves = (refl, refl) } in
     rw (p.1, p.2) (refused g.F.FnOnce c.args.change c.args.self.now c.args.id c.args.stats.now _ c.change-2.new.arg2 c.change-2.new.arg3 _ c.requires.may (subst (λ r. TableCalls g.F.FnOnce c.args.change (table_in c.args.self.now c.args.id) c.args.stats.now r c.change-2.new.arg2 c.change-2.new.arg3) c.in_err-answer.was gave)
     (shown-same c.self.inside (record c.self.inside { tables = c.reserve.new.self }) c.args.self.now c.self.view_is (λ q. c.reserve.ensures.entries.2 q ∙ ap (λ m. lookup (nat_eq q) m.entries) c.get_mut.follows.holds-at-none)))
 
@@ -60,7 +65,7 @@ made-by : (g : given.Over) (c : goal.Joined-this g) → TableCalls g.F.FnOnce c.
 made-by g c =
     let none : finite.get c.args.self.now c.args.id ≡ None = absent c.self.inside c.args.self.now c.args.id _ c.self.view_is c.get_mut.ensures.value c.in_default.is in
     subst (λ r. TableCalls g.F.FnOnce c.args.change (table_in c.args.self.now c.args.id) c.args.stats.now r c.change-2.new.arg2 c.change-2.new.arg3) c.in_ok-answer.was
-    (record { table = _; stats = _; shows = (c.new-table.ensures.empty ∙ sym (ap (table_of c.args.id) none), refl); left = _; left_stats = _; met = c.change-2.ensures; leaves = (refl, refl) })
+    (record { table = _; stats = _; shows = (c.deref_mut-2.ensures.value ∙ c.table-2.view_is ∙ c.in_ok-table.ensures ∙ sym (ap (table_of c.args.id) none), refl); left = _; left_stats = _; met = c.change-2.ensures; leaves = (refl, refl) })
 
 abbrev reserved : (g : given.Over) → goal.Joined-this g → Inside
 reserved g c = record c.self.inside { tables = c.reserve.new.self }

@@ -3,7 +3,7 @@ use Rattle.raft_table.specs.Steps.{table_of}
 use Rattle.raft_table.specs.Table.{live_of, with_table_deleted}
 use Rattle.raft_table.proofs.TableLemmas.{live_of_empty}
 use Rattle.raft_accessor.proofs.RegionTablesLemmas.{get-shown, shown-with}
-use Rattle.raft_accessor.proofs.region_tables.RegionTables.remove.Goals as goal
+use Rattle.raft_accessor.proofs.region_tables.RegionTables.take.Goals as goal
 
 pub delete_replaced-requires : goal.delete_replaced-requires
 delete_replaced-requires c = λ q. rw (c.remove-removed.ensures.value ∙ sym (get-shown c.self.inside c.args.self.now c.args.id c.self.view_is)) (c.requires q)

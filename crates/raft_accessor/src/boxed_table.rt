@@ -1,0 +1,67 @@
+//! A table as a slot keeps it.
+
+ghost use Rattle.std.specs.Prelude.{◌≡◌, ℕ, IfOk};
+ghost use Rattle.raft_table.specs.Table.{empty_table};
+
+use raft_base::AllocResult;
+use raft_table::MemTable;
+use std::alloc::{AllocError, Global};
+use std::marker::Model;
+
+/// A table in a place of its own, so that a map of many grows at little cost.
+#[derive(Drop)]
+pub struct BoxedTable {
+    pub(crate) table: Box<MemTable>,
+}
+
+impl Model for BoxedTable {
+    ghost use Rattle.raft_table.specs.Table.{Table};
+    ghost use Rattle.raft_table.specs.TableCode.{table_code};
+
+    ghost Value = { Table };
+
+    ghost coded = { table_code };
+
+    ghost view = { λ a. a.table.value };
+}
+
+impl BoxedTable {
+    /// Puts a table into a place of its own.
+    ///
+    /// # Errors
+    ///
+    /// `AllocError`.
+    pub(crate) fn new(alloc: Global, table: MemTable) -> AllocResult<BoxedTable>
+        ensures { IfOk result (λ boxed. boxed ≡ table) }
+    {
+        match Box::new(alloc, table) {
+            Ok(table) => Ok(BoxedTable { table }),
+            Err(_) => Err(AllocError),
+        }
+    }
+
+    /// Makes the table of a region, without records.
+    ///
+    /// # Errors
+    ///
+    /// `AllocError`.
+    pub(crate) fn empty(alloc: Global, id: u64) -> AllocResult<BoxedTable>
+        ensures { IfOk result (λ boxed. boxed ≡ empty_table id) }
+    {
+        BoxedTable::new(alloc, MemTable::new(alloc, id))
+    }
+
+    /// Returns the table.
+    pub(crate) fn get(&self) -> &MemTable
+        ensures { result.now ≡ self.now }
+    {
+        &self.table
+    }
+
+    /// Takes the table out of its place.
+    pub(crate) fn into_table(self) -> MemTable
+        ensures { result ≡ self }
+    {
+        Box::into_inner(self.table)
+    }
+}

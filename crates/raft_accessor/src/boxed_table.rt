@@ -1,6 +1,6 @@
 //! A table as a slot keeps it.
 
-ghost use Rattle.std.specs.Prelude.{◌≡◌, ℕ, IfOk};
+ghost use Rattle.std.specs.Prelude.{◌≡◌, IfOk};
 ghost use Rattle.raft_table.specs.Table.{empty_table};
 
 use raft_base::AllocResult;

@@ -1,6 +1,6 @@
 //! The tables of some regions.
 
-ghost use Rattle.std.specs.Prelude.{◌≡◌, ◌≢◌, ◌≤◌, ◌<◌, ◌^◌, ◌+◌, ◌↔◌, ◌⊎◌, ℕ, nat_eq, List, ◌++◌, map, length, IsPermutation, IsTrue, OnOk, OnErr, OnSome, IfOk, IfErr, IfSome, Some, None, ok_or, option_map};
+ghost use Rattle.std.specs.Prelude.{◌≡◌, ◌≢◌, ◌≤◌, ◌<◌, ◌+◌, ◌↔◌, ℕ, nat_eq, List, ◌++◌, map, length, IsPermutation, IsTrue, OnOk, OnSome, IfOk, IfErr, IfSome, Some, None, ok_or, option_map};
 ghost use Rattle.std.specs.FinMap as finite;
 ghost use Rattle.std.specs.List.{IsDistinct, FoldsTo};
 ghost use Rattle.std.specs.Map.{keys_of, lookup};
@@ -8,14 +8,12 @@ ghost use Rattle.raft_base.specs.declared.pipe_log.LogQueue.{LogQueue};
 ghost use Rattle.raft_base.specs.declared.pipe_log.LogQueue.TheVariants.{Append, Rewrite};
 ghost use Rattle.raft_base.specs.Runs.{end_of};
 ghost use Rattle.raft_history.specs.Records.{total};
-ghost use Rattle.raft_history.specs.RegionSteps.{Tables, with_table};
+ghost use Rattle.raft_history.specs.RegionSteps.{Tables};
 ghost use Rattle.raft_table.specs.Change.{after_change, AreCountsAfter, IsAllowed, IsAnswer, IsChangeFault};
-ghost use Rattle.raft_table.specs.Counts.{live};
 ghost use Rattle.raft_table.specs.Queues.{other};
 ghost use Rattle.raft_table.specs.RunShown.{run_shown};
 ghost use Rattle.raft_table.specs.Start.{counts_with_run};
-ghost use Rattle.raft_table.specs.Steps.{table_of};
-ghost use Rattle.raft_table.specs.Table.{Table, after_replay, empty_table, live_of, with_table_added, with_table_deleted, IsCounted, IsRecounted};
+ghost use Rattle.raft_table.specs.Table.{Table, after_replay, live_of, IsCounted, IsRecounted};
 ghost use Rattle.raft_table.specs.TableEntries.{IsRunIn, start_of};
 ghost use Rattle.raft_accessor.specs.Accessor.{table_in, live_in_all};
 ghost use Rattle.raft_accessor.specs.Merges.{with_neighbor, IsFaultBeside, MayAlter, IsAltered, IsTableMerged};
@@ -23,6 +21,7 @@ ghost use Rattle.raft_accessor.specs.Updates.{MayChange, IsUpdated, BecomesOutco
 ghost use Rattle.raft_accessor.specs.Walks.{Collects, KeepsId, Makes};
 
 mod counts;
+mod insert_remove;
 mod join;
 mod overlay;
 pub(crate) mod steps;
@@ -329,101 +328,6 @@ impl RegionTables {
         )
     }
 
-    /// Puts a table under its region's id and counts its records. The table that stood there is
-    /// taken off the counts and handed back.
-    ///
-    /// # Errors
-    ///
-    /// `Full` where more than 2^64 - 1 records would be live in a queue beside the table that is
-    /// replaced, and `Memory`. The tables and the counts are then as they were.
-    pub fn insert(
-        &mut self,
-        id: u64,
-        table: MemTable,
-        stats: &mut GlobalStats,
-    ) -> Result<Option<MemTable>>
-        requires region { table.region_id ≡ id }
-        requires counted { IsCounted (table_in self.old id) stats.old }
-        ensures ok { OnOk result (self.new ≡ finite.insert self.old id table) }
-        ensures replaced { IfOk result (λ t. t ≡ finite.get self.old id) }
-        ensures own { IfOk result (λ t. IfSome t (λ t. t.region_id ≡ id)) }
-        ensures counts { OnOk result (stats.new
-            ≡ with_table_deleted (table_in self.old id) (with_table_added table stats.old)) }
-        ensures err { OnErr result (self.new ≡ self.old) }
-        ensures counts_err { OnErr result (stats.new ≡ stats.old) }
-        ensures fault { IfErr result (λ e. (e ≡ Error.Memory)
-            ⊎ ((e ≡ Error.Full)
-            × ((q : LogQueue) × (2 ^ 64 ≤ live q stats.old + live_of q table)))) }
-        ensures one { self.new ≡ with_table self.old id (finite.get self.new id) }
-        ensures recounted { IsRecounted (table_in self.old id) (table_in self.new id) stats.old
-            stats.new }
-    {
-        let table = BoxedTable::new(self.alloc, table)?;
-        Ok(unboxed(self.put(id, table, stats)?))
-    }
-
-    /// Does what [`RegionTables::insert`] does with a table in a place of its own.
-    pub(crate) fn put(
-        &mut self,
-        id: u64,
-        table: BoxedTable,
-        stats: &mut GlobalStats,
-    ) -> Result<Option<BoxedTable>>
-        requires region { table.region_id ≡ id }
-        requires counted { IsCounted (table_in self.old id) stats.old }
-        ensures ok { OnOk result (self.new ≡ finite.insert self.old id table) }
-        ensures replaced { IfOk result (λ t. t ≡ finite.get self.old id) }
-        ensures own { IfOk result (λ t. IfSome t (λ t. t.region_id ≡ id)) }
-        ensures counts { OnOk result (stats.new
-            ≡ with_table_deleted (table_in self.old id) (with_table_added table stats.old)) }
-        ensures err { OnErr result (self.new ≡ self.old) }
-        ensures counts_err { OnErr result (stats.new ≡ stats.old) }
-        ensures fault { IfErr result (λ e. (e ≡ Error.Memory)
-            ⊎ ((e ≡ Error.Full)
-            × ((q : LogQueue) × (2 ^ 64 ≤ live q stats.old + live_of q table)))) }
-        ensures one { self.new ≡ with_table self.old id (finite.get self.new id) }
-        ensures recounted { IsRecounted (table_in self.old id) (table_in self.new id) stats.old
-            stats.new }
-    {
-        self.tables.reserve(1)?;
-        stats.add_table(table.get())?;
-        match self.tables.insert(id, table) {
-            Ok(replaced) => {
-                delete_replaced(id, &replaced, stats);
-                Ok(replaced)
-            }
-            Err(_) => unreachable!(),
-        }
-    }
-
-    /// Takes a region's table away, and its records off the counts.
-    pub fn remove(&mut self, id: u64, stats: &mut GlobalStats) -> Option<MemTable>
-        requires { IsCounted (table_in self.old id) stats.old }
-        ensures removed { result ≡ finite.get self.old id }
-        ensures own { IfSome result (λ t. t.region_id ≡ id) }
-        ensures after { self.new ≡ finite.remove self.old id }
-        ensures counts { stats.new ≡ with_table_deleted (table_in self.old id) stats.old }
-        ensures recounted { IsRecounted (table_in self.old id) (empty_table id) stats.old
-            stats.new }
-    {
-        unboxed(self.take(id, stats))
-    }
-
-    /// Does what [`RegionTables::remove`] does, and leaves the table in its place.
-    pub(crate) fn take(&mut self, id: u64, stats: &mut GlobalStats) -> Option<BoxedTable>
-        requires { IsCounted (table_in self.old id) stats.old }
-        ensures removed { result ≡ finite.get self.old id }
-        ensures own { IfSome result (λ t. t.region_id ≡ id) }
-        ensures after { self.new ≡ finite.remove self.old id }
-        ensures counts { stats.new ≡ with_table_deleted (table_in self.old id) stats.old }
-        ensures recounted { IsRecounted (table_in self.old id) (empty_table id) stats.old
-            stats.new }
-    {
-        let removed = self.tables.remove(&id);
-        delete_replaced(id, &removed, stats);
-        removed
-    }
-
     /// Returns the tables, each with its region, in no set order.
     pub(crate) fn into_entries(self) -> IntoIter<u64, BoxedTable>
         ensures entries { finite.from_entries result ≡ self }
@@ -532,27 +436,5 @@ fn merge(
     match kind {
         Neighbor::Newer => table.merge_newer_neighbor(&mut newer.table, stats),
         Neighbor::Appended => table.merge_append_table(&mut newer.table, stats),
-    }
-}
-
-/// Takes the records of a table that may have stood there off the counts.
-fn delete_replaced(id: u64, table: &Option<BoxedTable>, stats: &mut GlobalStats)
-    requires { (q : LogQueue) → live_of q (table_of id table.now) ≤ live q stats.old }
-    ensures counts { stats.new ≡ with_table_deleted (table_of id table.now) stats.old }
-    ensures live { (q : LogQueue) → live q stats.new + live_of q (table_of id table.now) ≡ live q
-        stats.old }
-{
-    if let Some(table) = table {
-        stats.delete_table(table.get());
-    }
-}
-
-/// Takes a table out of its place, if there is one.
-fn unboxed(table: Option<BoxedTable>) -> Option<MemTable>
-    ensures { result ≡ table }
-{
-    match table {
-        Some(table) => Some(table.into_table()),
-        None => None,
     }
 }

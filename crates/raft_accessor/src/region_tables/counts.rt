@@ -1,6 +1,6 @@
 //! The counts of the tables of some regions.
 
-ghost use Rattle.std.specs.Prelude.{◌≡◌, ◌≤◌, ◌<◌, ◌^◌};
+ghost use Rattle.std.specs.Prelude.{◌≡◌, ◌≤◌};
 ghost use Rattle.raft_base.specs.declared.pipe_log.LogQueue.{LogQueue};
 ghost use Rattle.raft_table.specs.Counts.{live};
 ghost use Rattle.raft_accessor.specs.Accessor.{live_in_all};

@@ -4,9 +4,9 @@ ghost use Rattle.std.specs.Prelude.{◌≡◌, IfSome, Some, None};
 ghost use Rattle.raft_base.specs.declared.pipe_log.LogQueue.{LogQueue};
 ghost use Rattle.raft_base.specs.declared.pipe_log.LogQueue.TheVariants.{Append, Rewrite};
 ghost use Rattle.raft_table.specs.Queues.{other};
-ghost use Rattle.raft_table.specs.Table.{live_of, IsCounted, IsRecounted};
+ghost use Rattle.raft_table.specs.Table.{live_of, IsCounted};
 ghost use Rattle.raft_accessor.specs.Accessor.{table_in, live_in};
-ghost use Rattle.raft_accessor.specs.TableJoins.{IsPut, IsTableJoined};
+ghost use Rattle.raft_accessor.specs.TableJoins.{IsTableJoined};
 
 use crate::boxed_table::BoxedTable;
 use crate::region_tables::RegionTables;

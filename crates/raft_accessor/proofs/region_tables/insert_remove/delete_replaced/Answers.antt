@@ -3,7 +3,7 @@ use Rattle.raft_table.specs.Steps.{table_of}
 use Rattle.raft_table.specs.Table.{with_table_deleted}
 use Rattle.raft_table.proofs.TableLemmas.{live_of_empty}
 use Rattle.raft_accessor.proofs.LiveLemmas.{none_deleted}
-use Rattle.raft_accessor.proofs.region_tables.delete_replaced.Goals as goal
+use Rattle.raft_accessor.proofs.region_tables.insert_remove.delete_replaced.Goals as goal
 
 pub returns-in_default-clause-counts : goal.returns-in_default-clause-counts
 returns-in_default-clause-counts c = sym (none_deleted c.args.id c.args.stats.now) ∙ ap (λ o. with_table_deleted (table_of c.args.id o) c.args.stats.now) (sym c.in_default.is)

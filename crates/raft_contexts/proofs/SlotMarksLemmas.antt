@@ -75,14 +75,14 @@ others_of m n id x e q ne = ap (λ y. finite.get y q) e ∙ elim (by_id q id) [ 
 
 module _ {F : Type 0} (g : MarkChange F) (f : F) (m : Marks) (id : ℕ) where
   -- the mark that the call left was put in
-  put_in : (a : Unit {0}) (new : Mark) (n : Marks) → ChangesMark g f (mark_in m id) (Ok a) new → n ≡ finite.insert m id new → IsMarkUpdated g f m id (Ok a) n
-  put_in a new n ch e =
+  put_in : (new : Mark) (n : Marks) → ChangesMark g f (mark_in m id) (Ok tt) new → n ≡ finite.insert m id new → IsMarkUpdated g f m id (Ok tt) n
+  put_in new n ch e =
       let now : mark_in n id ≡ new = now_in m n id new e in
-      record { changed = subst (ChangesMark g f (mark_in m id) (Ok a)) (sym now) ch; one = e ∙ ap (finite.insert m id) (sym now); others = others_of m n id new e; err = λ kept. tt }
+      record { changed = subst (ChangesMark g f (mark_in m id) (Ok tt)) (sym now) ch; one = e ∙ ap (finite.insert m id) (sym now); others = others_of m n id new e; err = λ kept. tt }
 
   -- the mark was there
   pub updated : (u : Mark) (r : R) (new : Mark) (n : Marks) → finite.get m id ≡ Some u → IsOneUpdated g f u r new → n ≡ finite.insert m id new → IsMarkUpdated g f m id r n
-  updated u (Ok a) new n is one e = put_in a new n (subst (λ w. ChangesMark g f w (Ok a) new) (sym (mark_of_some m id u is)) one.changed) e
+  updated u (Ok a) new n is one e = put_in new n (subst (λ w. ChangesMark g f w (Ok tt) new) (sym (mark_of_some m id u is)) one.changed) e
   updated u (Err x) new n is one e = record {
     changed = tt;
     one = tt;
@@ -96,5 +96,5 @@ module _ {F : Type 0} (g : MarkChange F) (f : F) (m : Marks) (id : ℕ) where
 
   -- the mark was made, and put in or not
   pub made : (r : R) (new : Mark) (n : Marks) → finite.get m id ≡ None → ChangesMark g f fresh (Ok tt) new → OnOk r (n ≡ finite.insert m id new) → OnErr r (n ≡ m) → IsMarkUpdated g f m id r n
-  made (Ok a) new n none ch e k = put_in a new n (subst (λ w. ChangesMark g f w (Ok tt) new) (sym (mark_of_none m id none)) ch) e
+  made (Ok a) new n none ch e k = put_in new n (subst (λ w. ChangesMark g f w (Ok tt) new) (sym (mark_of_none m id none)) ch) e
   made (Err x) new n none ch e k = refused x n k

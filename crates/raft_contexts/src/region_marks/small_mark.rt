@@ -8,7 +8,7 @@ ghost use Rattle.raft_contexts.specs.RegionMarks.{MayChangeMark, ChangesMark, Is
 
 use raft_base::{AllocResult, LogQueue};
 use raft_table::Mark;
-use std::alloc::{AllocError, Global};
+use std::alloc::Global;
 use std::marker::Model;
 
 /// A region mark in 16 bytes, so that a map of many grows at little cost.
@@ -20,8 +20,8 @@ pub(crate) struct SmallMark {
 
 /// What is kept of a region mark.
 #[derive(Drop)]
-pub(crate) enum Form {
-    /// The start of the only run, of the region mark that has nothing else.
+enum Form {
+    /// The start of the run, where the region mark is that of a run alone.
     Run(u64),
     /// The region mark, in a place of its own.
     Whole(Box<Mark>),
@@ -51,7 +51,7 @@ impl SmallMark {
         }
     }
 
-    /// Keeps a region mark.
+    /// Keeps a region mark, as its start where it is that of a run alone.
     ///
     /// # Errors
     ///
@@ -106,6 +106,10 @@ impl SmallMark {
     }
 
     /// Changes the region mark.
+    ///
+    /// # Errors
+    ///
+    /// `AllocError`, of the change too. The region mark is then as it was, if the change leaves it so.
     #[inline(always)]
     pub(crate) fn update<F: FnOnce(&mut Mark) -> AllocResult<()>>(
         &mut self,

@@ -1,6 +1,7 @@
 mod WaitingGroupLemmas
 mod WaitingItemLemmas
 mod WaitingSeen
+mod SmallMarkLemmas
 mod SlotMarksLemmas
 mod RegionMarksLemmas
 mod ReadingLemmas

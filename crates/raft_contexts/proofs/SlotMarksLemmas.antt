@@ -14,7 +14,7 @@ use Rattle.raft_table.specs.MarkJoins.{fresh, joined_at}
 use Rattle.raft_table.proofs.StepMarkLemmas.{run_added}
 use Rattle.raft_table.specs.Marks.{Mark}
 use Rattle.raft_contexts.specs.declared.region_marks.slot.SlotMarks.TheInside.{Inside}
-use Rattle.raft_contexts.specs.RegionMarks.{mark_in, MarkChange, ChangesMark, IsMarkUpdated}
+use Rattle.raft_contexts.specs.RegionMarks.{mark_in, MarkChange, ChangesMark, IsOneUpdated, IsMarkUpdated}
 use Rattle.raft_contexts.specs.SlotMarksView.{slot_shown}
 use Rattle.raft_accessor.proofs.MapLemmas.{same, by_id, not_same, self_same, get_own, get_other, insert_same}
 use Rattle.raft_accessor.proofs.RegionTablesLemmas.{same_test}
@@ -52,6 +52,10 @@ absent a m k o is v e = get-shown a m k is ∙ sym v ∙ ap option_copied_mut e
 pub first_run : (q : LogQueue) (end start : ℕ) → let n : Mark = record fresh { reach = Some start; cut = Some start } in joined_at q end fresh n ≡ n
 first_run q end start = sym (run_added q end start fresh)
 
+-- a mark that was there is put in again as it was
+pub put_back : (m n : Marks) (id : ℕ) (u x : Mark) → finite.get m id ≡ Some u → n ≡ finite.insert m id x → x ≡ u → n ≡ m
+put_back m n id u x is e same = e ∙ insert_same m id x (is ∙ ap Some (sym same))
+
 -- ---- a mark changed by a call
 
 abbrev R : Type 0
@@ -70,29 +74,27 @@ others_of : (m n : Marks) (id : ℕ) (x : Mark) → n ≡ finite.insert m id x �
 others_of m n id x e q ne = ap (λ y. finite.get y q) e ∙ elim (by_id q id) [ inl p ↦ absurd (ne p) | inr f ↦ get_other m id q x f ]
 
 module _ {F : Type 0} (g : MarkChange F) (f : F) (m : Marks) (id : ℕ) where
-  -- the mark was there
-  pub updated : (u : Mark) (r : R) (new : Mark) (n : Marks) → finite.get m id ≡ Some u → ChangesMark g f (mark_in m id) r new → n ≡ finite.insert m id new → IsMarkUpdated g f m id r n
-  updated u r new n is ch e =
+  -- the mark that the call left was put in
+  put_in : (new : Mark) (n : Marks) → ChangesMark g f (mark_in m id) (Ok tt) new → n ≡ finite.insert m id new → IsMarkUpdated g f m id (Ok tt) n
+  put_in new n ch e =
       let now : mark_in n id ≡ new = now_in m n id new e in
-      record {
-        changed = elim r as (λ s. ChangesMark g f (mark_in m id) s new → OnOk s (ChangesMark g f (mark_in m id) s (mark_in n id))) [ Ok a ↦ λ ch. subst (λ x. ChangesMark g f (mark_in m id) (Ok a) x) (sym now) ch | Err x ↦ λ ch. tt ] ch;
-        one = elim r as (λ s. OnOk s (n ≡ finite.insert m id (mark_in n id))) [ Ok a ↦ e ∙ ap (finite.insert m id) (sym now) | Err x ↦ tt ];
-        others = others_of m n id new e;
-        err = λ kept. elim r as (λ s. OnErr s (new ≡ mark_in m id) → OnErr s (n ≡ m)) [ Ok a ↦ λ k. tt | Err x ↦ λ k. e ∙ insert_same m id new (is ∙ ap Some (sym (k ∙ mark_of_some m id u is))) ] (kept new ch);
-      }
+      record { changed = subst (ChangesMark g f (mark_in m id) (Ok tt)) (sym now) ch; one = e ∙ ap (finite.insert m id) (sym now); others = others_of m n id new e; err = λ kept. tt }
+
+  -- the mark was there
+  pub updated : (u : Mark) (r : R) (new : Mark) (n : Marks) → finite.get m id ≡ Some u → IsOneUpdated g f u r new → n ≡ finite.insert m id new → IsMarkUpdated g f m id r n
+  updated u (Ok a) new n is one e = put_in new n (subst (λ w. ChangesMark g f w (Ok tt) new) (sym (mark_of_some m id u is)) one.changed) e
+  updated u (Err x) new n is one e = record {
+    changed = tt;
+    one = tt;
+    others = others_of m n id new e;
+    err = λ kept. put_back m n id u new is e (one.err (subst (λ w. (y : Mark) → ChangesMark g f w (Err x) y → y ≡ w) (mark_of_some m id u is) kept));
+  }
 
   -- there was no memory for the mark, or for what changes it
   pub refused : (x : AllocError) (n : Marks) → n ≡ m → IsMarkUpdated g f m id (Err x) n
   refused x n e = record { changed = tt; one = tt; others = λ q ne. ap (λ y. finite.get y q) e; err = λ kept. e }
 
   -- the mark was made, and put in or not
-  pub made : (a : Unit {0}) (r : R) (new : Mark) (n : Marks) → ChangesMark g f (mark_in m id) (Ok a) new → OnOk r (n ≡ finite.insert m id new) → OnErr r (n ≡ m) → IsMarkUpdated g f m id r n
-  made a (Ok b) new n ch e k =
-      let now : mark_in n id ≡ new = now_in m n id new e in
-      record {
-        changed = subst (λ x. ChangesMark g f (mark_in m id) (Ok a) x) (sym now) ch;
-        one = e ∙ ap (finite.insert m id) (sym now);
-        others = others_of m n id new e;
-        err = λ kept. tt;
-      }
-  made a (Err x) new n ch e k = refused x n k
+  pub made : (r : R) (new : Mark) (n : Marks) → finite.get m id ≡ None → ChangesMark g f fresh (Ok tt) new → OnOk r (n ≡ finite.insert m id new) → OnErr r (n ≡ m) → IsMarkUpdated g f m id r n
+  made (Ok a) new n none ch e k = put_in new n (subst (λ w. ChangesMark g f w (Ok tt) new) (sym (mark_of_none m id none)) ch) e
+  made (Err x) new n none ch e k = refused x n k

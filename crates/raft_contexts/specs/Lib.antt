@@ -9,6 +9,7 @@ pub mod ReadItems
 pub mod RegionMarks
 pub mod RegionMarksView
 pub mod SlotMarksView
+pub mod SmallMarkView
 pub mod FileRanges
 pub mod ReadStates
 pub mod RecoverContext

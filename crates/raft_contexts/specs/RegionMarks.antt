@@ -35,6 +35,11 @@ pub record ChangesMark {F : Type 0} (g : MarkChange F) (f : F) (old : Mark) (r :
 pub record MayChangeMark {F : Type 0} (g : MarkChange F) (f : F) (old : Mark) : Type 0 where
   pub pre : (mark : MutBor Mark) → mark.now ≡ old → g.pre f (mark, tt)
 
+-- a region mark was changed by a call; where there was no memory it stays, if the call leaves it as it was
+pub record IsOneUpdated {F : Type 0} (g : MarkChange F) (f : F) (old : Mark) (r : Result (Unit {0}) AllocError) (new : Mark) : Type 0 where
+  pub changed : OnOk r (ChangesMark g f old r new)
+  pub err : ((m : Mark) → ChangesMark g f old r m → OnErr r (m ≡ old)) → OnErr r (new ≡ old)
+
 -- the region mark of a region, or that of no step where it had none, was changed by a call, and no other region mark was; where there was no memory, all region marks stay if the call leaves its own as it was
 pub record IsMarkUpdated {F : Type 0} (g : MarkChange F) (f : F) (old : Marks) (id : ℕ) (r : Result (Unit {0}) AllocError) (new : Marks) : Type 0 where
   pub changed : OnOk r (ChangesMark g f (mark_in old id) r (mark_in new id))

@@ -11,6 +11,7 @@ ghost use Rattle.raft_accessor.specs.Slots.{together, AreSlots};
 ghost use Rattle.raft_contexts.specs.RegionMarks.{mark_in, with_slots};
 
 mod slot;
+mod small_mark;
 
 use raft_accessor::slot_of;
 use raft_base::{AllocResult, LogQueue};

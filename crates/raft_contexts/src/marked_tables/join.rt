@@ -109,7 +109,7 @@ impl MarkedTables {
     {
         for (id, mark) in marks.into_entries() {
             let table = tables.take(id);
-            self.join_region(queue, id, table, mark)?;
+            self.join_region(queue, id, table, mark.into_mark())?;
         }
         Ok(())
     }

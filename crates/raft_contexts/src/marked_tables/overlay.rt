@@ -76,6 +76,7 @@ impl MarkedTables {
     {
         for (id, mark) in marks.into_entries() {
             let table = appended.take(id);
+            let mark = mark.into_mark();
             self.accessor.overlay_table(id, table, &mark)?;
         }
         Ok(())

@@ -11,6 +11,7 @@ ghost use Rattle.raft_table.specs.MarkJoins.{fresh, mark_of, joined_at};
 ghost use Rattle.raft_table.specs.StepShown.{step_shown};
 ghost use Rattle.raft_contexts.specs.RegionMarks.{mark_in, MayChangeMark, IsMarkUpdated};
 
+use crate::region_marks::small_mark::SmallMark;
 use raft_base::{AllocResult, LogQueue};
 use raft_table::{Mark, Step};
 use std::alloc::{AllocError, Global};
@@ -25,7 +26,7 @@ const MOST_MARKS: usize = (1 << 57) - 1;
 /// The region marks of the regions of a slot, each under its region's id.
 #[derive(Drop)]
 pub(crate) struct SlotMarks {
-    marks: HashMap<u64, Mark>,
+    marks: HashMap<u64, SmallMark>,
     alloc: Global,
 }
 
@@ -72,7 +73,7 @@ impl SlotMarks {
     {
         let mut count = 0;
         for mark in self.marks.values() {
-            count += mark.deleted().len() as u128;
+            count += mark.deleted_keys() as u128;
         }
         count
     }
@@ -96,10 +97,9 @@ impl SlotMarks {
         ensures err { OnErr result (self.new ≡ self.old) }
     {
         if let Some(mark) = self.marks.get_mut(&id) {
-            mark.add_run(queue, end, start);
-            return Ok(());
+            return mark.add_run(queue, end, start);
         }
-        self.put(id, Mark::of_run(self.alloc, start))
+        self.put(id, SmallMark::of_run(self.alloc, start))
     }
 
     /// Joins the region mark of a step to the region mark of a region. Where the step is a run, the region's own
@@ -159,7 +159,7 @@ impl SlotMarks {
     }
 
     /// Returns the region marks, each with its region, in no set order.
-    pub(crate) fn into_entries(self) -> IntoIter<u64, Mark>
+    pub(crate) fn into_entries(self) -> IntoIter<u64, SmallMark>
         ensures entries { finite.from_entries result ≡ self }
         ensures once { IsDistinct nat_eq (keys_of result) }
     {
@@ -179,15 +179,14 @@ impl SlotMarks {
         ensures { IsMarkUpdated F.FnOnce change self.old id result self.new }
     {
         if let Some(mark) = self.marks.get_mut(&id) {
-            return change(mark);
+            return mark.update(change);
         }
-        let mut mark = Mark::new(self.alloc);
-        change(&mut mark)?;
+        let mark = SmallMark::changed(self.alloc, Mark::new(self.alloc), change)?;
         self.put(id, mark)
     }
 
     /// Puts in a region mark of a region that has none.
-    fn put(&mut self, id: u64, mark: Mark) -> AllocResult<()>
+    fn put(&mut self, id: u64, mark: SmallMark) -> AllocResult<()>
         ensures ok { OnOk result (self.new ≡ finite.insert self.old id mark) }
         ensures err { OnErr result (self.new ≡ self.old) }
     {

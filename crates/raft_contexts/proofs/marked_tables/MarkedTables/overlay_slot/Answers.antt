@@ -17,7 +17,7 @@ overlay_table-requires-clause-own c =
 pub loop-id-preserved : goal.loop-id-preserved
 loop-id-preserved c = (
   overlaying_step c.args.appended.now.tables c.args.self.now.accessor.tables _ c.loop-id.self.accessor.tables c.loop-id.appended.tables _ _ c.in-Some.id c.in-Some.mark c.in-Some.ensures.steps c.loop-id.invariant.0 c.take-table.result c.take-table.ensures.removed
-      c.overlay_table.new.self.tables c.take-table.new.self.tables c.in_ok-overlay_table.ensures.overlaid.ok c.in_ok-overlay_table.ensures.overlaid.one c.in_ok-overlay_table.ensures.overlaid.few c.take-table.ensures.tables,
+      c.overlay_table.new.self.tables c.take-table.new.self.tables (rw c.into_mark-mark.ensures at c.in_ok-overlay_table.ensures.overlaid.ok) c.in_ok-overlay_table.ensures.overlaid.one c.in_ok-overlay_table.ensures.overlaid.few c.take-table.ensures.tables,
   c.take-table.ensures.cleaned ∙ c.loop-id.invariant.1,
 )
 

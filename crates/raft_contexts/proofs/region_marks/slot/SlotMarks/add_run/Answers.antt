@@ -1,4 +1,5 @@
 use Rattle.std.proofs.Common.{nat_eq, ◌≡◌, Some, None, sym, ap, subst, ◌∙◌}
+use Rattle.std.proofs.lemmas.Result.{on_ok_weaker, on_err_weaker}
 use Rattle.std.specs.Result.{OnOk, OnErr}
 use Rattle.std.specs.Map.{lookup}
 use Rattle.std.specs.FinMap as finite
@@ -8,15 +9,22 @@ use Rattle.raft_table.specs.MarkJoins.{fresh, joined_at}
 use Rattle.raft_contexts.specs.RegionMarks.{mark_in}
 use Rattle.raft_contexts.specs.SlotMarksView.{slot_shown}
 use Rattle.raft_contexts.specs.declared.region_marks.slot.SlotMarks.TheInside.{Inside}
-use Rattle.raft_contexts.proofs.SlotMarksLemmas.{shown-with, shown-same, there, absent, mark_of_some, mark_of_none, first_run}
+use Rattle.raft_contexts.proofs.SlotMarksLemmas.{shown-with, shown-same, there, absent, put_back, mark_of_some, mark_of_none, first_run}
 use Rattle.raft_contexts.proofs.region_marks.slot.SlotMarks.add_run.Goals as goal
+
+was : (c : goal.After-self-in-Some-1) → finite.get c.args.self.now c.args.id ≡ Some c.in-Some.mark.now
+was c = there c.self.inside c.args.self.now c.args.id _ _ c.self.view_is c.get_mut.ensures.value c.in-Some.is
+
+shown : (c : goal.After-self-in-Some-1) → slot_shown (record c.self.inside { marks = c.get_mut.follows.lender c.add_run.new.self }) ≡ finite.insert c.args.self.now c.args.id c.add_run.new.self
+shown c = shown-with c.self.inside (record c.self.inside { marks = c.get_mut.follows.lender c.add_run.new.self }) c.args.self.now c.args.id c.add_run.new.self c.self.view_is ((c.get_mut.follows.holds c.add_run.new.self).3 (ap is_some (sym c.get_mut.ensures.value ∙ ap option_copied_mut c.in-Some.is))).0
 
 pub returns-in-Some-clause-ok : goal.returns-in-Some-clause-ok
 returns-in-Some-clause-ok c =
     let run : Mark = record fresh { reach = Some c.args.start; cut = Some c.args.start } in
-    let was : finite.get c.args.self.now c.args.id ≡ Some c.in-Some.mark.now = there c.self.inside c.args.self.now c.args.id _ _ c.self.view_is c.get_mut.ensures.value c.in-Some.is in
-    shown-with c.self.inside (record c.self.inside { marks = c.get_mut.follows.lender c.add_run.new.self }) c.args.self.now c.args.id c.add_run.new.self c.self.view_is ((c.get_mut.follows.holds c.add_run.new.self).3 (ap is_some (sym c.get_mut.ensures.value ∙ ap option_copied_mut c.in-Some.is))).0
-    ∙ ap (finite.insert c.args.self.now c.args.id) (c.add_run.ensures ∙ ap (λ m. joined_at c.args.queue c.args.end m run) (sym (mark_of_some c.args.self.now c.args.id _ was)))
+    on_ok_weaker c.add_run.result (λ e. shown c ∙ ap (finite.insert c.args.self.now c.args.id) (e ∙ ap (λ m. joined_at c.args.queue c.args.end m run) (sym (mark_of_some c.args.self.now c.args.id _ (was c))))) c.add_run.ensures.ok
+
+pub returns-in-Some-clause-err : goal.returns-in-Some-clause-err
+returns-in-Some-clause-err c = on_err_weaker c.add_run.result (put_back c.args.self.now _ c.args.id _ _ (was c) (shown c)) c.add_run.ensures.err
 
 pub returns-clause-ok : goal.returns-clause-ok
 returns-clause-ok c =

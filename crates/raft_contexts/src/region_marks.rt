@@ -17,6 +17,7 @@ use raft_accessor::slot_of;
 use raft_base::{AllocResult, LogQueue};
 use raft_table::{Mark, Step};
 pub(crate) use slot::SlotMarks;
+pub(crate) use small_mark::SmallMark;
 use std::alloc::Global;
 use std::marker::Model;
 

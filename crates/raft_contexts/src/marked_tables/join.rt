@@ -13,10 +13,9 @@ ghost use Rattle.raft_contexts.specs.MarkedTables.{regions_in};
 ghost use Rattle.raft_contexts.specs.RegionJoins.{AreRunsOver, AreOthersKept, IsSlotFault, IsJoinFault};
 
 use crate::marked_tables::MarkedTables;
-use crate::region_marks::{RegionMarks, SlotMarks};
-use raft_accessor::MemTableAccessor;
+use crate::region_marks::{RegionMarks, SlotMarks, SmallMark};
+use raft_accessor::{BoxedTable, MemTableAccessor};
 use raft_base::{AllocResult, LogQueue, Result};
-use raft_table::{Mark, MemTable};
 
 impl MarkedTables {
     /// Joins the tables and region marks of a newer neighbor in a queue, and lists its cleaned regions.
@@ -108,8 +107,8 @@ impl MarkedTables {
             × (tables.new.cleaned ≡ tables.old.cleaned) }
     {
         for (id, mark) in marks.into_entries() {
-            let table = tables.take(id);
-            self.join_region(queue, id, table, mark.into_mark())?;
+            let table = tables.take_boxed(id);
+            self.join_region(queue, id, table, mark)?;
         }
         Ok(())
     }
@@ -119,8 +118,8 @@ impl MarkedTables {
         &mut self,
         queue: LogQueue,
         id: u64,
-        newer: Option<MemTable>,
-        mark: Mark,
+        newer: Option<BoxedTable>,
+        mark: SmallMark,
     ) -> Result<()>
         requires region { IfSome newer (λ t. t.region_id ≡ id) }
         requires own { live_in (other queue) newer ≡ 0 }
@@ -141,7 +140,12 @@ impl MarkedTables {
             ≤ live_in_all q self.old.accessor.tables + live_in q newer) }
         ensures cleaned { self.new.accessor.cleaned ≡ self.old.accessor.cleaned }
     {
+        let start = mark.run_alone();
+        let mark = mark.into_mark();
         let end = self.accessor.join_table(queue, id, newer, &mark)?;
+        if let Some(start) = start {
+            return Ok(self.marks.add_run(id, queue, end, start)?);
+        }
         Ok(self.marks.join(id, queue, end, mark)?)
     }
 }

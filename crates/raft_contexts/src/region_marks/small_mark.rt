@@ -76,6 +76,17 @@ impl SmallMark {
         }
     }
 
+    /// Returns where the run starts, if this is the region mark of a run alone and kept so.
+    pub(crate) fn run_alone(&self) -> Option<u64>
+        ensures { IfSome result (λ start. self.now
+            ≡ record fresh { reach = Some start; cut = Some start }) }
+    {
+        match &self.form {
+            Form::Run(start) => Some(*start),
+            Form::Whole(_) => None,
+        }
+    }
+
     /// Returns how many deleted keys it holds.
     pub(crate) fn deleted_keys(&self) -> usize
         ensures { result ≡ finset.len self.now.deleted }

@@ -20,7 +20,7 @@ mod take_slot;
 mod totals;
 mod writes;
 
-use crate::boxed_table::BoxedTable;
+use crate::boxed_table::{BoxedTable, unboxed};
 use crate::neighbor::Neighbor;
 use crate::region_tables::RegionTables;
 pub use cleaned::clean_logs;
@@ -243,7 +243,7 @@ impl MemTableAccessor {
         if record_tombstone {
             self.list(id)?;
         }
-        Ok(self.take(id))
+        Ok(unboxed(self.take(id)))
     }
 
     /// Merges the tables of a newer neighbor, each into the table of its region, which is made where
@@ -355,20 +355,7 @@ impl MemTableAccessor {
 
     /// Takes a region's table away, and its records off the counts.
     #[doc(hidden)]
-    pub fn take(&mut self, id: u64) -> Option<MemTable>
-        ensures tables { self.new.tables ≡ finite.remove self.old.tables id }
-        ensures removed { result ≡ finite.get self.old.tables id }
-        ensures own { IfSome result (λ t. t.region_id ≡ id) }
-        ensures counts { self.new.counts ≡ with_table_deleted (table_in self.old.tables id)
-            self.old.counts }
-        ensures cleaned { self.new.cleaned ≡ self.old.cleaned }
-    {
-        self.slots[slot_of(id)].remove(id, &mut self.stats)
-    }
-
-    /// Does what [`MemTableAccessor::take`] does, and leaves the table in its place.
-    #[doc(hidden)]
-    pub fn take_boxed(&mut self, id: u64) -> Option<BoxedTable>
+    pub fn take(&mut self, id: u64) -> Option<BoxedTable>
         ensures tables { self.new.tables ≡ finite.remove self.old.tables id }
         ensures removed { result ≡ finite.get self.old.tables id }
         ensures own { IfSome result (λ t. t.region_id ≡ id) }

@@ -65,3 +65,13 @@ impl BoxedTable {
         Box::into_inner(self.table)
     }
 }
+
+/// Takes a table out of its place, if there is one.
+pub(crate) fn unboxed(table: Option<BoxedTable>) -> Option<MemTable>
+    ensures { result ≡ table }
+{
+    match table {
+        Some(table) => Some(table.into_table()),
+        None => None,
+    }
+}

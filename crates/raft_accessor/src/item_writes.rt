@@ -75,7 +75,7 @@ impl RegionTables {
 
     /// Writes an item of `queue` that is read again to its region's table, by its step. In the append queue
     /// it lists the region where the item cleans it. Recovery takes the same steps beside the region marks,
-    /// by `MarkedTables::take_step` of `raft_memtable`.
+    /// by `MarkedTables::take_step` of `raft_contexts`.
     ///
     /// # Errors
     ///

@@ -6,8 +6,9 @@ ghost use Rattle.raft_accessor.specs.Accessor.{live_in, AreCountsOf};
 ghost use Rattle.raft_accessor.specs.TableOverlays.{IsTableOverlaid};
 
 use crate::accessor::{MemTableAccessor, slot_of};
+use crate::boxed_table::BoxedTable;
 use raft_base::Result;
-use raft_table::{Mark, MemTable};
+use raft_table::Mark;
 
 impl MemTableAccessor {
     /// Puts an appended table of a region, or its absence, over the rewritten one, as the region mark of the
@@ -17,7 +18,12 @@ impl MemTableAccessor {
     ///
     /// Those of [`MemTable::overlay`].
     #[doc(hidden)]
-    pub fn overlay_table(&mut self, id: u64, appended: Option<MemTable>, mark: &Mark) -> Result<()>
+    pub fn overlay_table(
+        &mut self,
+        id: u64,
+        appended: Option<BoxedTable>,
+        mark: &Mark,
+    ) -> Result<()>
         requires region { IfSome appended (λ t. t.region_id ≡ id) }
         requires own { live_in Rewrite appended ≡ 0 }
         ensures overlaid { IsTableOverlaid mark.now appended self.old.tables id self.old.counts

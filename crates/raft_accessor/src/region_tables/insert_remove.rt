@@ -9,7 +9,7 @@ ghost use Rattle.raft_table.specs.Steps.{table_of};
 ghost use Rattle.raft_table.specs.Table.{empty_table, live_of, with_table_added, with_table_deleted, IsCounted, IsRecounted};
 ghost use Rattle.raft_accessor.specs.Accessor.{table_in};
 
-use crate::boxed_table::BoxedTable;
+use crate::boxed_table::{BoxedTable, unboxed};
 use crate::region_tables::RegionTables;
 use raft_base::{Error, LogQueue, Result};
 use raft_table::{GlobalStats, MemTable};
@@ -120,15 +120,5 @@ fn delete_replaced(id: u64, table: &Option<BoxedTable>, stats: &mut GlobalStats)
 {
     if let Some(table) = table {
         stats.delete_table(table.get());
-    }
-}
-
-/// Takes a table out of its place, if there is one.
-fn unboxed(table: Option<BoxedTable>) -> Option<MemTable>
-    ensures { result ≡ table }
-{
-    match table {
-        Some(table) => Some(table.into_table()),
-        None => None,
     }
 }

@@ -6,6 +6,7 @@ ghost use Rattle.raft_table.specs.Table.{live_of, IsCounted, IsRecounted};
 ghost use Rattle.raft_accessor.specs.Accessor.{table_in, live_in};
 ghost use Rattle.raft_accessor.specs.TableOverlays.{IsPutOver, IsTableOverlaid};
 
+use crate::boxed_table::BoxedTable;
 use crate::region_tables::RegionTables;
 use raft_base::Result;
 use raft_table::{GlobalStats, Mark, MemTable};
@@ -20,7 +21,7 @@ impl RegionTables {
     pub(crate) fn overlay_table(
         &mut self,
         id: u64,
-        appended: Option<MemTable>,
+        appended: Option<BoxedTable>,
         mark: &Mark,
         stats: &mut GlobalStats,
     ) -> Result<()>
@@ -31,7 +32,7 @@ impl RegionTables {
             stats.new }
     {
         match appended {
-            Some(appended) => self.put_appended(id, appended, mark, stats),
+            Some(appended) => self.put_appended(id, appended.into_table(), mark, stats),
             None => self.drop_rewritten(id, mark, stats),
         }
     }

@@ -261,7 +261,7 @@ fn other_table(alloc: Global, id: u64) -> Result<MemTable> {
     let mut core = MemTableAccessor::new(alloc)?;
     core.change(id, TableChange::Append(run(alloc, 50, 53, NEW)?))?;
     core.change(id, put(alloc, b"z".as_slice())?)?;
-    match core.take(id) {
+    match core.remove(id, false)? {
         Some(table) => Ok(table),
         None => Err(Error::Failed),
     }

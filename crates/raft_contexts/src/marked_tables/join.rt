@@ -107,7 +107,7 @@ impl MarkedTables {
             × (tables.new.cleaned ≡ tables.old.cleaned) }
     {
         for (id, mark) in marks.into_entries() {
-            let table = tables.take_boxed(id);
+            let table = tables.take(id);
             self.join_region(queue, id, table, mark)?;
         }
         Ok(())

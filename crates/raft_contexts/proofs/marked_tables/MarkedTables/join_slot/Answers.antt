@@ -12,14 +12,14 @@ loop-id-init c = (joining_none c.args.queue c.args.tables.now.tables (regions_in
 
 pub join_region-requires-clause-own : goal.join_region-requires-clause-own
 join_region-requires-clause-own c =
-    alone_taken c.args.queue c.args.tables.now.tables (regions_in c.args.self.now) _ (regions_in c.loop-id.self) c.loop-id.tables.tables _ _ c.in-Some.id c.in-Some.mark c.in-Some.ensures.steps c.loop-id.invariant.0 c.take_boxed-table.result c.take_boxed-table.ensures.removed
+    alone_taken c.args.queue c.args.tables.now.tables (regions_in c.args.self.now) _ (regions_in c.loop-id.self) c.loop-id.tables.tables _ _ c.in-Some.id c.in-Some.mark c.in-Some.ensures.steps c.loop-id.invariant.0 c.take-table.result c.take-table.ensures.removed
 
 pub loop-id-preserved : goal.loop-id-preserved
 loop-id-preserved c = (
-  taken_step c.args.queue c.args.tables.now.tables (regions_in c.args.self.now) _ (regions_in c.loop-id.self) c.loop-id.tables.tables _ _ c.in-Some.id c.in-Some.mark c.in-Some.ensures.steps c.loop-id.invariant.0 c.take_boxed-table.result c.take_boxed-table.ensures.removed
-      (regions_in c.join_region.new.self) c.take_boxed-table.new.self.tables c.in_ok-join_region.ensures.ok c.in_ok-join_region.ensures.others c.in_ok-join_region.ensures.few c.take_boxed-table.ensures.tables,
+  taken_step c.args.queue c.args.tables.now.tables (regions_in c.args.self.now) _ (regions_in c.loop-id.self) c.loop-id.tables.tables _ _ c.in-Some.id c.in-Some.mark c.in-Some.ensures.steps c.loop-id.invariant.0 c.take-table.result c.take-table.ensures.removed
+      (regions_in c.join_region.new.self) c.take-table.new.self.tables c.in_ok-join_region.ensures.ok c.in_ok-join_region.ensures.others c.in_ok-join_region.ensures.few c.take-table.ensures.tables,
   c.join_region.ensures.cleaned ∙ c.loop-id.invariant.1,
-  c.take_boxed-table.ensures.cleaned ∙ c.loop-id.invariant.2,
+  c.take-table.ensures.cleaned ∙ c.loop-id.invariant.2,
 )
 
 pub returns-in_err-join_region-clause-fault : goal.returns-in_err-join_region-clause-fault
@@ -28,7 +28,7 @@ returns-in_err-join_region-clause-fault c =
     let is = ap (λ es. finite.from_entries es) c.into_iter-id-iterator.ensures.into_iter_gives ∙ c.into_entries-id-items.ensures.entries in
     let once = subst (λ es. IsDistinct nat_eq (keys_of es)) (sym c.into_iter-id-iterator.ensures.into_iter_gives) c.into_entries-id-items.ensures.once in
     λ runs. rw (p.1, p.2) (fault_some c.args.queue c.args.tables.now.tables (regions_in c.args.self.now) c.args.marks _ _ is once
-    (taken_fault c.args.queue c.args.tables.now.tables (regions_in c.args.self.now) _ (regions_in c.loop-id.self) c.loop-id.tables.tables _ _ c.in-Some.id c.in-Some.mark c.in-Some.ensures.steps c.loop-id.invariant.0 c.take_boxed-table.result c.take_boxed-table.ensures.removed
+    (taken_fault c.args.queue c.args.tables.now.tables (regions_in c.args.self.now) _ (regions_in c.loop-id.self) c.loop-id.tables.tables _ _ c.in-Some.id c.in-Some.mark c.in-Some.ensures.steps c.loop-id.invariant.0 c.take-table.result c.take-table.ensures.removed
     c.loop-id.self.accessor.counts _ c.join_region.ensures.exact_counts (runs_of c.args.queue c.args.tables.now.tables c.args.self.now.accessor.tables c.args.marks _ is once runs) c.in_err-join_region.ensures.fault))
 
 pub returns-clause-ok : goal.returns-clause-ok

@@ -28,6 +28,8 @@ VERDICT = re.compile(r"^fn (\S+): (.*)", re.M)
 WAITS = re.compile(r"it (?:calls|waits for)[^;]*")
 ANSWER = re.compile(r"^(?:so far: )?(?:\./)?proofs/(\S+)/\w+\.antt:\d+:\d+: error", re.M)
 GONE = re.compile(r"^(?:so far: )?(?:note: )?(?:\./)?proofs/(?:(\S+)/)?\w+\.antt:\d+:\d+: .*(?:has no field|is not in scope|has no `|was not admitted)", re.M)
+# a message that goes on in the next line, which is indented
+BROKEN = re.compile(r"\n  (?=\S)")
 PLACED = re.compile(r"^(?:so far: )?(note: )?\S+:\d+:\d+: .*", re.M)
 UNREAD = re.compile(r"(?:\./)?(src/\S+):(\d+):\d+: error")
 
@@ -101,7 +103,7 @@ class Crate:
             write(f"{self.folder}/{file}", text)
         answered = {(self.name, *path.split("/")) for path in ANSWER.findall(ran.stdout)}
         verdicts = {tuple(name.split("::")): verdict for name, verdict in VERDICT.findall(ran.stdout)}
-        gone = {(self.name, *path.split("/")) for path in GONE.findall(ran.stdout) if path}
+        gone = {(self.name, *path.split("/")) for path in GONE.findall(BROKEN.sub(" ", ran.stdout)) if path}
         refused = {name: (is_own(verdict) or name in answered) and name not in gone for name, verdict in verdicts.items()}
         reached = ran.returncode == 0 or ran.returncode == 1 and re.search(r"^logic=not-proved", ran.stdout, re.M)
         return ran.returncode == 0 if reached else None, refused, ran.stdout
@@ -128,7 +130,7 @@ def is_own(verdict):
 
 def is_by_proof_alone(said):
     """Whether all that a check complains of is that proof files name what the wrong body took away."""
-    told = [it[0] for it in PLACED.finditer(said)]
+    told = [it[0] for it in PLACED.finditer(BROKEN.sub(" ", said))]
     told = [it for it in told if ": error" in it or "note: " in it] or told
     return bool(told) and all(GONE.match(it) for it in told)
 

@@ -353,7 +353,7 @@ impl MemTableAccessor {
         Ok(kept)
     }
 
-    /// Takes a region's table away, and its records off the counts.
+    /// Takes a region's table away in its box, and its records off the counts.
     #[doc(hidden)]
     pub fn take(&mut self, id: u64) -> Option<BoxedTable>
         ensures tables { self.new.tables ≡ finite.remove self.old.tables id }

@@ -5,13 +5,13 @@ ghost use Rattle.raft_table.specs.Table.{empty_table};
 
 use raft_base::AllocResult;
 use raft_table::MemTable;
-use std::alloc::{AllocError, Global};
+use std::alloc::Global;
 use std::marker::Model;
 
 /// A table in a place of its own, so that a map of many grows at little cost.
 #[derive(Drop)]
 pub struct BoxedTable {
-    pub(crate) table: Box<MemTable>,
+    pub(crate) boxed: Box<MemTable>,
 }
 
 impl Model for BoxedTable {
@@ -22,7 +22,7 @@ impl Model for BoxedTable {
 
     ghost coded = { table_code };
 
-    ghost view = { λ a. a.table.value };
+    ghost view = { λ a. a.boxed.value };
 }
 
 impl BoxedTable {
@@ -34,10 +34,8 @@ impl BoxedTable {
     pub(crate) fn new(alloc: Global, table: MemTable) -> AllocResult<BoxedTable>
         ensures { IfOk result (λ boxed. boxed ≡ table) }
     {
-        match Box::new(alloc, table) {
-            Ok(table) => Ok(BoxedTable { table }),
-            Err(_) => Err(AllocError),
-        }
+        let boxed = Box::new(alloc, table)?;
+        Ok(BoxedTable { boxed })
     }
 
     /// Makes the table of a region, without records.
@@ -55,14 +53,14 @@ impl BoxedTable {
     pub(crate) fn get(&self) -> &MemTable
         ensures { result.now ≡ self.now }
     {
-        &self.table
+        &self.boxed
     }
 
     /// Takes the table out of its place.
     pub(crate) fn into_table(self) -> MemTable
         ensures { result ≡ self }
     {
-        Box::into_inner(self.table)
+        Box::into_inner(self.boxed)
     }
 }
 

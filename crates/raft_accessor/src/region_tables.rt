@@ -255,8 +255,8 @@ impl RegionTables {
         let Some(table) = self.tables.get_mut(&id) else {
             return self.try_replay_first(queue, id, run, stats);
         };
-        let ends = table.table.ends();
-        if !table.table.try_replay(queue, run, stats) {
+        let ends = table.boxed.ends();
+        if !table.boxed.try_replay(queue, run, stats) {
             return None;
         }
         Some(ends)
@@ -290,7 +290,7 @@ impl RegionTables {
         let Ok(mut table) = BoxedTable::empty(self.alloc, id) else {
             return None;
         };
-        if !table.table.try_replay(queue, run, stats) {
+        if !table.boxed.try_replay(queue, run, stats) {
             return None;
         }
         match self.tables.insert(id, table) {
@@ -380,11 +380,11 @@ impl RegionTables {
         ensures { IsAltered F.FnOnce change self.old id stats.old result self.new stats.new }
     {
         if let Some(table) = self.tables.get_mut(&id) {
-            return change(&mut table.table, stats);
+            return change(&mut table.boxed, stats);
         }
         self.tables.reserve(1)?;
         let mut table = BoxedTable::empty(self.alloc, id)?;
-        let answer = change(&mut table.table, stats);
+        let answer = change(&mut table.boxed, stats);
         match self.tables.insert(id, table) {
             Ok(_) => answer,
             Err(_) => unreachable!(),
@@ -406,11 +406,11 @@ impl RegionTables {
         ensures { IsUpdated F.FnOnce change self.old id stats.old result self.new stats.new }
     {
         if let Some(table) = self.tables.get_mut(&id) {
-            return change(&mut table.table, stats);
+            return change(&mut table.boxed, stats);
         }
         self.tables.reserve(1)?;
         let mut table = BoxedTable::empty(self.alloc, id)?;
-        let answer = change(&mut table.table, stats)?;
+        let answer = change(&mut table.boxed, stats)?;
         match self.tables.insert(id, table) {
             Ok(_) => Ok(answer),
             Err(_) => unreachable!(),
@@ -434,7 +434,7 @@ fn merge(
     ensures recounted { IsRecounted table.old table.new stats.old stats.new }
 {
     match kind {
-        Neighbor::Newer => table.merge_newer_neighbor(&mut newer.table, stats),
-        Neighbor::Appended => table.merge_append_table(&mut newer.table, stats),
+        Neighbor::Newer => table.merge_newer_neighbor(&mut newer.boxed, stats),
+        Neighbor::Appended => table.merge_append_table(&mut newer.boxed, stats),
     }
 }

@@ -48,7 +48,11 @@ impl RegionTables {
         Ok(unboxed(self.put(id, table, stats)?))
     }
 
-    /// Does what [`RegionTables::insert`] does with a table in a place of its own.
+    /// Does what [`RegionTables::insert`] does with a table in its box, and hands out the box that stood there.
+    ///
+    /// # Errors
+    ///
+    /// Those of [`RegionTables::insert`]. Tables and counts are then as they were.
     pub(crate) fn put(
         &mut self,
         id: u64,
@@ -95,7 +99,7 @@ impl RegionTables {
         unboxed(self.take(id, stats))
     }
 
-    /// Does what [`RegionTables::remove`] does, and leaves the table in its place.
+    /// Does what [`RegionTables::remove`] does, and hands the table out in its box.
     pub(crate) fn take(&mut self, id: u64, stats: &mut GlobalStats) -> Option<BoxedTable>
         requires { IsCounted (table_in self.old id) stats.old }
         ensures removed { result ≡ finite.get self.old id }

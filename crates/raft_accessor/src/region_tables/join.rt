@@ -11,7 +11,7 @@ ghost use Rattle.raft_accessor.specs.TableJoins.{IsTableJoined};
 use crate::boxed_table::BoxedTable;
 use crate::region_tables::RegionTables;
 use raft_base::{AllocResult, LogQueue, Result};
-use raft_table::{GlobalStats, Mark, MemTable};
+use raft_table::{GlobalStats, Mark};
 
 impl RegionTables {
     /// Puts a newer neighbor's table of a region, or its absence, over the older one, as the newer region mark
@@ -70,7 +70,7 @@ impl RegionTables {
     {
         if let Some(table) = self.tables.get_mut(&id) {
             let mut newer = newer;
-            return table.table.join_under(queue, &mut newer.table, mark, stats);
+            return table.boxed.join_under(queue, &mut newer.boxed, mark, stats);
         }
         self.put(id, newer, stats)?;
         Ok(0)

@@ -113,7 +113,7 @@ impl RegionTables {
         let Some(table) = self.tables.get_mut(&id) else {
             return false;
         };
-        table.table.try_put(key, value, file, stats)
+        table.boxed.try_put(key, value, file, stats)
     }
 
     /// Takes a region's table away, and lists the region in the append queue.

@@ -18,6 +18,8 @@ pub(crate) struct SmallMark {
     alloc: Global,
 }
 
+const _: () = prove!(std::mem::size_of::<SmallMark>() == 16);
+
 /// What is kept of a region mark.
 #[derive(Drop)]
 enum Form {
@@ -51,7 +53,7 @@ impl SmallMark {
         }
     }
 
-    /// Keeps a region mark, as its start where it is that of a run alone.
+    /// Keeps a region mark. That of a run alone is kept as the run's start, which no clause says: it saves room alone.
     ///
     /// # Errors
     ///
@@ -76,7 +78,7 @@ impl SmallMark {
         }
     }
 
-    /// Returns where the run starts, if this is the region mark of a run alone and kept so.
+    /// Returns where the run starts, only where this is the region mark of a run alone.
     pub(crate) fn run_alone(&self) -> Option<u64>
         ensures { IfSome result (λ start. self.now
             ≡ record fresh { reach = Some start; cut = Some start }) }
@@ -161,8 +163,9 @@ impl SmallMark {
         SmallMark::of(alloc, mark)
     }
 
-    /// Tests whether this is the region mark of a run alone, and a run that starts at `start`, where the own
-    /// entries end at `end`, changes nothing: it begins among them or right after them, and not below that run.
+    /// Returns true only where a run that starts at `start`, where the own entries end at `end`, changes nothing:
+    /// this is the region mark of a run alone, and the other begins among the entries or right after them, and not
+    /// below that run.
     fn covers(&self, end: u64, start: u64) -> bool
         ensures { MatchBool result ((queue : LogQueue) → joined_at queue end self.now
             (record fresh { reach = Some start; cut = Some start }) ≡ self.now) (Unit {0}) }
@@ -174,7 +177,7 @@ impl SmallMark {
     }
 }
 
-/// Returns where the run starts, if this is the region mark of a run alone.
+/// Returns where the run starts, only where this is the region mark of a run alone.
 fn only_run(mark: &Mark) -> Option<u64>
     ensures { IfSome result (λ start. mark.now
         ≡ record fresh { reach = Some start; cut = Some start }) }

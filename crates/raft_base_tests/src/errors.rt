@@ -5,13 +5,15 @@ use std::alloc::Global;
 use std::io;
 use std::io::ErrorKind;
 
-/// Tests whether the error is printed so. Memory is refused once in a test at most.
+/// Tests whether the error is printed so, or begins so where the text has no end after a colon. Memory is refused once
+/// in a test at most.
 fn is_text_of(alloc: Global, text: &str, error: &Error) -> bool {
     let mut printed = error.to_string(alloc);
     if printed.is_err() {
         printed = error.to_string(alloc);
     }
-    matches!(&printed, Ok(printed) if printed.as_str() == text)
+    matches!(&printed, Ok(printed) if printed.as_str() == text
+        || text.ends_with(": ") && printed.starts_with(text))
 }
 
 #[test]
@@ -42,37 +44,40 @@ fn texts(rt: HostRuntime) {
             Error::Codec(codec::Error::unexpected_eof()),
             "Codec Error: eof",
         ),
+        (
+            Error::Io(io::Error::new(ErrorKind::UnexpectedEof, "eof")),
+            "IO Error: ",
+        ),
     ] {
         assert!(rt; is_text_of(rt.alloc(), text, error));
     }
 }
 
+/// Returns one of four errors with this text.
+fn error_of(number: usize, text: String) -> Error {
+    match number {
+        0 => Error::InvalidArgument(text),
+        1 => Error::Corruption(text),
+        2 => Error::TryAgain(text),
+        _ => Error::Other(text),
+    }
+}
+
 #[test]
 fn texts_with_a_reason(rt: HostRuntime) {
-    let reasons: [(fn(String) -> Error, &str); 4] = [
-        (Error::InvalidArgument, "Invalid Argument: why"),
-        (Error::Corruption, "Corruption: why"),
-        (Error::TryAgain, "TryAgain Error: why"),
-        (Error::Other, "Other Error: why"),
-    ];
-    for &(error_of, text) in &reasons {
+    for &(number, text) in &[
+        (0, "Invalid Argument: why"),
+        (1, "Corruption: why"),
+        (2, "TryAgain Error: why"),
+        (3, "Other Error: why"),
+    ] {
         let mut why = String::from_str(rt.alloc(), "why");
         if why.is_err() {
             why = String::from_str(rt.alloc(), "why");
         }
         match why {
-            Ok(why) => assert!(rt; is_text_of(rt.alloc(), text, &error_of(why))),
+            Ok(why) => assert!(rt; is_text_of(rt.alloc(), text, &error_of(number, why))),
             Err(_) => assert!(rt; false),
         }
     }
-}
-
-#[test]
-fn text_of_an_io_error(rt: HostRuntime) {
-    let error = Error::Io(io::Error::new(ErrorKind::UnexpectedEof, "eof"));
-    let mut text = error.to_string(rt.alloc());
-    if text.is_err() {
-        text = error.to_string(rt.alloc());
-    }
-    assert!(rt; matches!(&text, Ok(text) if text.starts_with("IO Error: ")));
 }

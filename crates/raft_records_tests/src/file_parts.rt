@@ -1,8 +1,8 @@
-//! Batches read one after another, whole and damaged.
+//! Batches read one after another, whole and damaged, and one in place of another.
 
 use raft_records::{
-    Command, CompressionType, EntryIndex, Error, FileBlockHandle, FileId, FilePart, LogBatch,
-    LogItemContent, LogQueue, Result, Version, entries_block_in, entry_bytes, next_batch,
+    Command, EntryIndex, Error, FileBlockHandle, FileId, FilePart, LogFileContext, LogItemContent,
+    LogQueue, ReadBatch, ReadContent, Result, Version, entries_block_in, entry_bytes, next_batch,
     readable_front,
 };
 use std::alloc::Global;
@@ -16,14 +16,22 @@ const BATCHES: &[u8; 58] =
 /// How long the first of them is.
 const FIRST: usize = 34;
 
-/// Returns a file of the append queue.
-fn file() -> FileId {
-    FileId::new(LogQueue::Append, 12)
-}
+/// A batch of runs, commands, puts and removals, short and long, and after it a shorter one of a run and a put.
+const LONG_AND_SHORT: &[u8; 138] =
+    b"\x00\x00\x00\x00\x00\x00`\x00\x00\x00\x00\x00\x00\x00\x00\x1cabcdefghP*\xef\xae\x09\x07\x01\x02\x0a\x02\x03\x01\x02\x01\x07\x03\x01\x01k\x02vv\x02\x02\x02\xac\x02\x07\x03\x02\x01d\x80\x80\x80\x80\x80\x20\x01\x02\x80\x80\x80\x80\x20\x03\x08\x03\x02\x03\x05\x09\x01\x00\xff\xff\xff\xff\xff\xff\xff\xff\xff\x01\x03\x01\x00\x00\xfd\x8a\x1f\x19\x00\x00\x00\x00\x00\x00*\x00\x00\x00\x00\x00\x00\x00\x00\x16xy\x99(\xe6\x8f\x02\x07\x01\x02\x0c\x01\x02\x08\x03\x01\x04long\x00g\xfd\xfb\x92";
+
+/// How long the first of these is.
+const LONG: usize = 96;
+
+/// A file of the append queue.
+const FILE: FileId = FileId {
+    queue: LogQueue::Append,
+    seq: 12,
+};
 
 /// Returns these bytes of that file, from 100 on.
 fn part(alloc: Global, bytes: &[u8]) -> Result<FilePart> {
-    FilePart::new(file(), Version::V1, 100, Vec::from_slice(alloc, bytes)?)
+    FilePart::new(FILE, Version::V1, 100, Vec::from_slice(alloc, bytes)?)
 }
 
 /// Returns how many items stand at `at`, and where the next batch begins; nothing at the end.
@@ -34,28 +42,6 @@ fn counted(part: &FilePart, at: usize) -> Result<Option<(usize, usize)>> {
     match next_batch(part, at)? {
         Some((batch, next)) => Ok(Some((batch.iter().count(), next))),
         None => Ok(None),
-    }
-}
-
-/// Returns where the first entry's bytes lie.
-fn place(part: &FilePart) -> Result<Option<FileBlockHandle>> {
-    let Some((batch, _)) = next_batch(part, 0)? else {
-        return Ok(None);
-    };
-    for item in batch.iter() {
-        if let LogItemContent::EntryIndexes(entries) = &item.content {
-            return Ok(entries.0.first().and_then(|entry| entry.entries));
-        }
-    }
-    Ok(None)
-}
-
-/// Tests whether nothing is read at the start of these bytes, for `Corruption`.
-fn is_refused(alloc: Global, bytes: &[u8]) -> Result<bool> {
-    match counted(&part(alloc, bytes)?, 0) {
-        Ok(_read) => Ok(false),
-        Err(Error::Corruption(_text)) => Ok(true),
-        Err(e) => Err(e),
     }
 }
 
@@ -70,11 +56,9 @@ fn batches(rt: HostRuntime) {
 
 fn batches_stand_one_behind_the_other(rt: &impl Abort, alloc: Global) -> Result<()> {
     let part = part(alloc, BATCHES)?;
-    assert!(rt; has_place(&part));
     for &(at, read) in &[(0, Some((1, FIRST))), (FIRST, Some((1, 58))), (58, None)] {
         assert!(rt; counted(&part, at)? == read, "at {at}");
     }
-    assert!(rt; has_block(&part)?);
     assert!(rt; knows_its_file(&part)?);
     assert!(rt; lends_entries(alloc, &part)?);
     Ok(())
@@ -108,20 +92,6 @@ fn are_lent(alloc: Global, part: &FilePart, entries: &[EntryIndex]) -> Result<bo
     Ok(block == b"abc".as_slice() && read == (b"ab".as_slice(), b"c".as_slice()))
 }
 
-fn has_place(part: &FilePart) -> bool {
-    part.id() == file() && part.version() == Version::V1 && part.offset() == 100
-}
-
-/// Tests whether the first entry's bytes lie after the first header.
-fn has_block(part: &FilePart) -> Result<bool> {
-    let handle = FileBlockHandle {
-        id: file(),
-        offset: 116,
-        len: 7,
-    };
-    Ok(place(part)? == Some(handle))
-}
-
 /// Tests whether the first batch and its clone know the file that it was decoded in, until an item is added.
 fn knows_its_file(part: &FilePart) -> Result<bool> {
     let Some((mut batch, _)) = next_batch(part, 0)? else {
@@ -130,11 +100,7 @@ fn knows_its_file(part: &FilePart) -> Result<bool> {
     let copy = batch.clone()?;
     let decoded_in = batch.decoded_in();
     batch.add_command(1, Command::Clean)?;
-    Ok(
-        decoded_in == Some(file())
-            && copy.decoded_in() == Some(file())
-            && batch.decoded_in().is_none(),
-    )
+    Ok(decoded_in == Some(FILE) && copy.decoded_in() == Some(FILE) && batch.decoded_in().is_none())
 }
 
 #[test]
@@ -146,105 +112,116 @@ fn damaged_batches(rt: HostRuntime) {
     assert!(rt; answer.is_ok());
 }
 
-/// Tests that a batch that is cut short is refused, but where nothing of it is left, and one with a flipped bit, but in
-/// its entry block, which isn't read.
+/// Tests that a batch with a flipped bit is refused, but in its entry block, which isn't read; and that the front of so
+/// many bytes ends where its last whole batch does, and the reason is that of the decoders.
 fn damaged_batches_are_refused(rt: &impl Abort, alloc: Global) -> Result<()> {
-    assert!(rt; counted(&part(alloc, b"")?, 0)?.is_none());
-    for len in 1..FIRST {
-        let bytes = BATCHES.get(..len).unwrap_or(&[]);
-        assert!(rt; is_refused(alloc, bytes)?, "{len} bytes");
-    }
     for at in 0..FIRST {
         assert!(rt; is_flip_row(alloc, at)?, "at {at}");
+    }
+    for &(len, front, reason) in &[
+        (0, 0, ""),
+        (1, 0, "Log batch header too short: 1"),
+        (16, 0, "a log batch of 34 bytes is cut short"),
+        (FIRST - 1, 0, "a log batch of 34 bytes is cut short"),
+        (FIRST, FIRST, ""),
+        (FIRST + 6, FIRST, "Log batch header too short: 6"),
+        (57, FIRST, "a log batch of 24 bytes is cut short"),
+        (58, 58, ""),
+    ] {
+        assert!(rt; is_front(alloc, len, front, reason)?, "{len} bytes");
     }
     Ok(())
 }
 
-/// Tests whether the entry block of the first batch is refused, for `Corruption`.
-fn is_block_refused(alloc: Global, bytes: &[u8]) -> Result<bool> {
-    let place = FileBlockHandle {
-        id: file(),
-        offset: 116,
-        len: 7,
-    };
-    let block = bytes.get(16..23).unwrap_or(&[]);
-    match LogBatch::decode_entries_block(alloc, block, place, CompressionType::None) {
-        Ok(_read) => Ok(false),
-        Err(Error::Corruption(_text)) => Ok(true),
-        Err(e) => Err(e),
-    }
-}
-
-/// Tests whether the first batch is refused with this byte's lowest bit flipped, or where the byte is in its entry
-/// block, the batch is read and the block refused.
+/// Tests whether the first batch is refused with this byte's lowest bit flipped, or read where the byte is in its entry
+/// block.
 fn is_flip_row(alloc: Global, at: usize) -> Result<bool> {
     let mut bytes = *BATCHES;
     if let Some(byte) = bytes.get_mut(at) {
         *byte ^= 1;
     }
-    let bytes = bytes.get(..FIRST).unwrap_or(&[]);
-    if at >= 16 && at < 23 {
-        Ok(counted(&part(alloc, bytes)?, 0)? == Some((1, FIRST)) && is_block_refused(alloc, bytes)?)
-    } else {
-        is_refused(alloc, bytes)
+    let is_in_block = at >= 16 && at < 23;
+    let part = part(alloc, bytes.get(..FIRST).unwrap_or(&[]))?;
+    match counted(&part, 0) {
+        Ok(read) => Ok(is_in_block && read == Some((1, FIRST))),
+        Err(Error::Corruption(_text)) => Ok(!is_in_block),
+        Err(e) => Err(e),
     }
 }
 
-#[test]
-fn ends(rt: HostRuntime) {
-    let answer = match parts_end_at_the_last_offset(&rt, rt.alloc()) {
-        Err(Error::Memory) => parts_end_at_the_last_offset(&rt, rt.alloc()),
-        answer => answer,
-    };
-    assert!(rt; answer.is_ok());
-}
-
-fn parts_end_at_the_last_offset(rt: &impl Abort, alloc: Global) -> Result<()> {
-    let end = u64::MAX - 58;
-    for &(offset, fits) in &[(end, true), (end + 1, false), (u64::MAX, false)] {
-        let bytes = Vec::from_slice(alloc, BATCHES)?;
-        match FilePart::new(file(), Version::V2, offset, bytes) {
-            Ok(_part) => assert!(rt; fits),
-            Err(Error::InvalidArgument(_text)) => assert!(rt; !fits),
-            Err(e) => return Err(e),
-        }
-    }
-    Ok(())
-}
-
-#[test]
-fn fronts(rt: HostRuntime) {
-    let answer = match fronts_end_at_damage(&rt, rt.alloc()) {
-        Err(Error::Memory) => fronts_end_at_damage(&rt, rt.alloc()),
-        answer => answer,
-    };
-    assert!(rt; answer.is_ok());
-}
-
-/// Tests that the front of so many bytes ends where its last whole batch does, and the reason is that of the decoders.
-fn fronts_end_at_damage(rt: &impl Abort, alloc: Global) -> Result<()> {
-    for &(len, front, reason) in &[
-        (0, 0, ""),
-        (FIRST - 1, 0, "a log batch of 34 bytes is cut short"),
-        (FIRST, FIRST, ""),
-        (FIRST + 6, FIRST, "Log batch header too short: 6"),
-        (58, 58, ""),
-    ] {
-        let part = part(alloc, BATCHES.get(..len).unwrap_or(&[]))?;
-        let (readable, error) = readable_front(&part);
-        assert!(rt;
-            readable == front && is_reason(error, reason)?,
-            "{len} bytes"
-        );
-    }
-    Ok(())
-}
-
-/// Tests whether there is this reason, and none where it is empty.
-fn is_reason(error: Option<Error>, reason: &str) -> Result<bool> {
+/// Tests whether so many bytes are readable of so many, and there is this reason, none where it is empty.
+fn is_front(alloc: Global, len: usize, front: usize, reason: &str) -> Result<bool> {
+    let part = part(alloc, BATCHES.get(..len).unwrap_or(&[]))?;
+    let (readable, error) = readable_front(&part);
     match error {
-        None => Ok(reason.is_empty()),
-        Some(Error::Corruption(text)) => Ok(text.as_str() == reason),
+        None => Ok(readable == front && reason.is_empty()),
+        Some(Error::Corruption(text)) => Ok(readable == front && text.as_str() == reason),
         Some(e) => Err(e),
     }
+}
+
+/// Reads the batch at `at` in place of the one that is held, and returns where the next one begins; nothing at the
+/// end, and past it.
+fn read_at<'a>(batch: &mut ReadBatch<'a>, part: &'a FilePart, at: usize) -> Result<Option<usize>> {
+    if at > part.bytes().len() {
+        return Ok(None);
+    }
+    let context = LogFileContext::new(part.id(), part.version());
+    batch.read_next(&context, part.offset(), part.bytes(), at)
+}
+
+/// Tests whether a batch is the short one.
+fn is_short(batch: &ReadBatch<'_>) -> bool {
+    let (place, items, spans) = batch.parts();
+    let own_place = FileBlockHandle {
+        id: FILE,
+        offset: 212,
+        len: 6,
+    };
+    let [run, put] = items else {
+        return false;
+    };
+    let is_run = matches!(
+        run.content,
+        ReadContent::Run {
+            first: 12,
+            count: 2,
+        }
+    );
+    let is_put = match put.content {
+        ReadContent::Put { key, value } => key == b"long".as_slice() && value.is_empty(),
+        _ => false,
+    };
+    let regions = (run.region, put.region);
+    place == own_place
+        && spans == [(0, 1), (1, 1)].as_slice()
+        && regions == (7, 8)
+        && is_run
+        && is_put
+}
+
+#[test]
+fn read_batches(rt: HostRuntime) {
+    let answer = match batches_are_read_in_place_of_one_another(&rt, rt.alloc()) {
+        Err(Error::Memory) => batches_are_read_in_place_of_one_another(&rt, rt.alloc()),
+        answer => answer,
+    };
+    assert!(rt; answer.is_ok());
+}
+
+fn batches_are_read_in_place_of_one_another(rt: &impl Abort, alloc: Global) -> Result<()> {
+    let part = part(alloc, LONG_AND_SHORT)?;
+    let mut batch = ReadBatch::new(alloc, FILE);
+    for &(at, end, items) in &[
+        (LONG, Some(138), 2),
+        (0, Some(LONG), 9),
+        (LONG, Some(138), 2),
+        (138, None, 0),
+    ] {
+        assert!(rt; read_at(&mut batch, &part, at)? == end, "at {at}");
+        let own = batch.to_batch(alloc)?;
+        assert!(rt; own.iter().count() == items, "at {at}");
+        assert!(rt; is_short(&batch) == (at == LONG), "at {at}");
+    }
+    Ok(())
 }

@@ -57,6 +57,16 @@ fn large_part(alloc: Global) -> Result<FilePart> {
     FilePart::new(file, Version::V2, 0, bytes)
 }
 
+/// Tests whether these are so many bytes, all of them this one.
+fn are_all(bytes: &[u8], len: usize, byte: u8) -> bool {
+    for found in bytes {
+        if *found != byte {
+            return false;
+        }
+    }
+    bytes.len() == len
+}
+
 /// Tests whether each entry of the batch has its bytes.
 fn has_entry_bytes(alloc: Global, part: &FilePart) -> Result<bool> {
     let block = part.bytes().get(16..).unwrap_or(&[]);
@@ -69,7 +79,7 @@ fn has_entry_bytes(alloc: Global, part: &FilePart) -> Result<bool> {
     let mut index = 0u64;
     for text in entries.as_slice().chunks(LENGTH) {
         index = index.saturating_add(1);
-        if text.iter().any(|byte| u64::from(*byte) != index % 251) {
+        if !are_all(text, LENGTH, (index % 251) as u8) {
             return Ok(false);
         }
     }
@@ -79,17 +89,19 @@ fn has_entry_bytes(alloc: Global, part: &FilePart) -> Result<bool> {
 /// Tests whether an item has the entries, the last of them at its place, or the value.
 fn is_whole(item: &LogItem) -> bool {
     match &item.content {
-        LogItemContent::EntryIndexes(entries) => {
-            entries.0.len() as u64 == ENTRIES
-                && entries.0.last().is_some_and(|last| {
-                    last.index == ENTRIES
-                        && last.entry_offset == 4_999 * 200
-                        && last.entry_len == 200
-                })
-        }
-        LogItemContent::Kv(kv) => kv.value.as_ref().is_some_and(|value| {
-            value.len() == VALUE && value.iter().all(|byte| *byte == 0xab)
-        }),
+        LogItemContent::EntryIndexes(entries) => match entries.0.last() {
+            Some(last) => {
+                entries.0.len() as u64 == ENTRIES
+                    && last.index == ENTRIES
+                    && last.entry_offset == 4_999 * 200
+                    && last.entry_len == 200
+            }
+            None => false,
+        },
+        LogItemContent::Kv(kv) => match &kv.value {
+            Some(value) => are_all(value.as_slice(), VALUE, 0xab),
+            None => false,
+        },
         LogItemContent::Command(_) => false,
     }
 }
@@ -100,12 +112,12 @@ fn is_read(alloc: Global) -> Result<bool> {
     let Some((batch, end)) = next_batch(&part, 0)? else {
         return Ok(false);
     };
-    Ok(
-        end == part.bytes().len()
-            && batch.iter().count() == 2
-            && batch.iter().all(|item| is_whole(item))
-            && has_entry_bytes(alloc, &part)?,
-    )
+    for item in batch.iter() {
+        if !is_whole(item) {
+            return Ok(false);
+        }
+    }
+    Ok(end == part.bytes().len() && batch.iter().count() == 2 && has_entry_bytes(alloc, &part)?)
 }
 
 #[test]

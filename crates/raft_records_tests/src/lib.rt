@@ -4,10 +4,6 @@
 #[cfg(test)]
 mod file_parts;
 #[cfg(test)]
-mod fronts;
-#[cfg(test)]
-mod groups;
-#[cfg(test)]
 mod item_batches;
 #[cfg(test)]
 mod items;
@@ -18,8 +14,4 @@ mod log_batches;
 #[cfg(test)]
 mod printing;
 #[cfg(test)]
-mod read_batches;
-#[cfg(test)]
 mod refusals;
-#[cfg(test)]
-mod unwritable;

@@ -4,10 +4,10 @@ ghost use Rattle.std.specs.Prelude.{◌≡◌, [], IfOk};
 ghost use Rattle.raft_records.specs.LogBatch.{is_open};
 
 mod rows;
-mod written;
 
+use crate::item_batches::entry;
 use raft_records::{
-    AtomicGroupBuilder, Command, EntryIndex, Error, FileBlockHandle, FileId, LogBatch,
+    AtomicGroupBuilder, AtomicGroupStatus, Command, Error, FileBlockHandle, FileId, LogBatch,
     LogFileContext, LogItemBatch, LogQueue, Message, MessageError, MessageExt, ReactiveBytes,
     Result, Version,
 };
@@ -16,7 +16,7 @@ use std::alloc::Global;
 use std::process::Abort;
 
 /// A line of a log, which refuses to write itself where it has no text.
-#[derive(Clone, Copy, PartialEq, Eq, Debug)]
+#[derive(Clone, Copy, PartialEq)]
 struct Line {
     index: u64,
     text: &'static [u8],
@@ -56,29 +56,15 @@ const fn line_of(index: u64, text: &'static [u8]) -> Line {
     Line { index, text }
 }
 
-/// Returns an entry without bytes.
-fn entry(index: u64) -> EntryIndex
-    ensures { result.index ≡ index }
-{
-    EntryIndex {
-        index,
-        ..EntryIndex::default()
-    }
-}
-
 /// Returns a batch with a command.
-fn with_command(alloc: Global, region_id: u64, command: Command) -> Result<LogBatch>
-    ensures { IfOk result (λ batch. batch.stage ≡ is_open) }
-{
+fn with_command(alloc: Global, region_id: u64, command: Command) -> Result<LogBatch> {
     let mut batch = LogBatch::default(alloc);
     batch.add_command(region_id, command)?;
     Ok(batch)
 }
 
 /// Returns a batch with a put and a delete.
-fn with_key_values(alloc: Global) -> Result<LogBatch>
-    ensures { IfOk result (λ batch. batch.stage ≡ is_open) }
-{
+fn with_key_values(alloc: Global) -> Result<LogBatch> {
     let mut batch = LogBatch::with_capacity(alloc, 2)?;
     let key = Vec::from_slice(alloc, b"put")?;
     batch.put_message(1, key, &line_of(0, b"put_v"))?;
@@ -95,8 +81,8 @@ fn with_lines(alloc: Global, region_id: u64, lines: &[Line]) -> Result<LogBatch>
     Ok(batch)
 }
 
-/// Returns a batch with three entries, of which one has no bytes, and one item of each other kind.
-fn with_one_of_each(alloc: Global) -> Result<LogBatch>
+/// Returns a batch with three entries, of which one has no bytes.
+fn with_raw_entries(alloc: Global) -> Result<LogBatch>
     ensures { IfOk result (λ batch. batch.stage ≡ is_open) }
 {
     let mut batch = LogBatch::default(alloc);
@@ -107,6 +93,14 @@ fn with_one_of_each(alloc: Global) -> Result<LogBatch>
         Vec::from_slice(alloc, b"c")?,
     ]?;
     batch.add_raw_entries(7, indexes, texts)?;
+    Ok(batch)
+}
+
+/// Returns a batch with these three entries, and one item of each other kind.
+fn with_one_of_each(alloc: Global) -> Result<LogBatch>
+    ensures { IfOk result (λ batch. batch.stage ≡ is_open) }
+{
+    let mut batch = with_raw_entries(alloc)?;
     batch.add_command(8, Command::Clean)?;
     batch.add_command(7, Command::Compact { index: 11 })?;
     batch.put(
@@ -120,9 +114,7 @@ fn with_one_of_each(alloc: Global) -> Result<LogBatch>
 }
 
 /// Returns three entries of region 7, and two of region 8 in a batch that was merged after theirs.
-fn merged(alloc: Global) -> Result<LogBatch>
-    ensures { IfOk result (λ batch. batch.stage ≡ is_open) }
-{
+fn merged(alloc: Global) -> Result<LogBatch> {
     let mut batch = LogBatch::default(alloc);
     let first = [line_of(10, b"x"), line_of(11, b"x"), line_of(12, b"x")];
     batch.merge(&mut with_lines(alloc, 7, &first)?)?;
@@ -131,18 +123,25 @@ fn merged(alloc: Global) -> Result<LogBatch>
     Ok(batch)
 }
 
+/// Returns a batch with this group marker, the first one of its group or the second.
+fn with_marker(alloc: Global, status: AtomicGroupStatus) -> Result<LogBatch> {
+    let mut builder = AtomicGroupBuilder::with_id(9);
+    let mut batch = LogBatch::default(alloc);
+    builder.begin(&mut batch)?;
+    if status == AtomicGroupStatus::Begin {
+        return Ok(batch);
+    }
+    let mut next = LogBatch::default(alloc);
+    match status {
+        AtomicGroupStatus::Middle => builder.add(&mut next)?,
+        _ => builder.end(&mut next)?,
+    }
+    Ok(next)
+}
+
 /// Returns a file of the append queue.
 fn context(seq: u64, version: Version) -> LogFileContext {
     LogFileContext::new(FileId::new(LogQueue::Append, seq), version)
-}
-
-/// Returns the place of the entry block between a header at the file's start and an item batch.
-fn entries_place(id: FileId, item_offset: usize) -> FileBlockHandle {
-    FileBlockHandle {
-        id,
-        offset: 16,
-        len: item_offset.saturating_sub(16),
-    }
 }
 
 /// Tests whether these are the bytes of the value in a file.
@@ -179,7 +178,11 @@ fn is_read_so(
     if offset != row.offset || offset > len || len != bytes.len() {
         return Ok(false);
     }
-    let place = entries_place(context.id, offset);
+    let place = FileBlockHandle {
+        id: context.id,
+        offset: 16,
+        len: offset.saturating_sub(16),
+    };
     let entries = LogBatch::decode_entries_block(alloc, behind, place, compression_type)?;
     let mut item_batch = &bytes[offset..];
     let items = LogItemBatch::decode(alloc, &mut item_batch, place, compression_type, context)?;
@@ -234,45 +237,25 @@ fn batch_of(alloc: Global, number: usize) -> Result<LogBatch> {
         3 => with_key_values(alloc),
         4 => with_lines(alloc, 7, &[line_of(10, b"ab"), line_of(11, b"c")]),
         5 => merged(alloc),
-        _ => with_one_of_each(alloc),
+        6 => with_one_of_each(alloc),
+        7 => with_marker(alloc, AtomicGroupStatus::Begin),
+        8 => with_marker(alloc, AtomicGroupStatus::Middle),
+        _ => with_marker(alloc, AtomicGroupStatus::End),
     }
 }
 
-/// Which refusal a call returns, if any.
-#[derive(Clone, Copy, PartialEq, Eq, Debug)]
-enum Refusal {
-    None,
-    InvalidArgument,
-    Message,
-    Other,
-}
-
-/// Returns what comes of a call, if it isn't refused for want of memory.
-fn refusal_of(called: Result<()>) -> Result<Refusal> {
+/// Returns what a call is refused for, nothing where it isn't; want of memory is handed on.
+fn refusal_of(called: Result<()>) -> Result<&'static str> {
     match called {
-        Ok(()) => Ok(Refusal::None),
-        Err(Error::InvalidArgument(_text)) => Ok(Refusal::InvalidArgument),
-        Err(Error::Message(MessageError::Refused(7))) => Ok(Refusal::Message),
+        Ok(()) => Ok(""),
+        Err(Error::InvalidArgument(_text)) => Ok("invalid argument"),
+        Err(Error::Message(MessageError::Refused(7))) => Ok("message"),
         Err(Error::Memory) => Err(Error::Memory),
-        Err(_) => Ok(Refusal::Other),
+        Err(_) => Ok("other"),
     }
 }
 
-/// Puts a message under a key.
-fn put_line(alloc: Global, batch: &mut LogBatch, key: &[u8], text: &'static [u8]) -> Result<()>
-    requires { batch.old.stage ≡ is_open }
-{
-    batch.put_message(1, Vec::from_slice(alloc, key)?, &line_of(0, text))
-}
-
-/// Puts an empty value under a key.
-fn put_empty(alloc: Global, batch: &mut LogBatch, key: &[u8]) -> Result<()>
-    requires { batch.old.stage ≡ is_open }
-{
-    batch.put(0, Vec::from_slice(alloc, key)?, Vec::new(alloc))
-}
-
-/// Makes one of nine calls, of which the last four are not refused.
+/// Makes one of nine calls, of which the last three are not refused.
 fn attempt(alloc: Global, batch: &mut LogBatch, number: usize) -> Result<()> {
     if !batch.is_open() {
         return Ok(());
@@ -282,11 +265,11 @@ fn attempt(alloc: Global, batch: &mut LogBatch, number: usize) -> Result<()> {
         0 => batch.add_entries::<Lines>(1, &[line_of(10, b"a"), line_of(12, b"b")]),
         1 => batch.add_entries::<Lines>(1, &[line_of(last, b"a")]),
         2 => batch.add_entries::<Lines>(1, &[line_of(10, b"a"), line_of(11, b"")]),
-        3 => put_empty(alloc, batch, b"__\x01"),
-        4 => put_line(alloc, batch, b"__\x01", b"a"),
-        5 => put_line(alloc, batch, b"a", b""),
+        3 => batch.put(0, Vec::from_slice(alloc, b"__\x01")?, Vec::new(alloc)),
+        4 => batch.put_message(1, Vec::from_slice(alloc, b"__\x01")?, &line_of(0, b"a")),
+        5 => batch.put_message(1, Vec::from_slice(alloc, b"a")?, &line_of(0, b"")),
         6 => batch.add_entries::<Lines>(1, &[]),
-        7 => put_empty(alloc, batch, b"__\x00"),
+        7 => batch.put(0, Vec::from_slice(alloc, b"__\x00")?, Vec::new(alloc)),
         _ => batch.delete(0, Vec::from_slice(alloc, b"__\x01")?),
     }
 }
@@ -303,15 +286,15 @@ fn refused_additions(rt: HostRuntime) {
 /// Tests what each call is refused for, if it is, and the batch's approximate size after it.
 fn refused_additions_leave_the_batch(rt: &impl Abort, alloc: Global) -> Result<()> {
     for &(number, refusal, size) in &[
-        (0, Refusal::InvalidArgument, 0),
-        (1, Refusal::InvalidArgument, 0),
-        (2, Refusal::Message, 0),
-        (3, Refusal::InvalidArgument, 0),
-        (4, Refusal::InvalidArgument, 0),
-        (5, Refusal::Message, 0),
-        (6, Refusal::None, 0),
-        (7, Refusal::None, 61),
-        (8, Refusal::None, 61),
+        (0, "invalid argument", 0),
+        (1, "invalid argument", 0),
+        (2, "message", 0),
+        (3, "invalid argument", 0),
+        (4, "invalid argument", 0),
+        (5, "message", 0),
+        (6, "", 0),
+        (7, "", 61),
+        (8, "", 61),
     ] {
         let mut batch = LogBatch::default(alloc);
         let called = attempt(alloc, &mut batch, number);
@@ -324,34 +307,30 @@ fn refused_additions_leave_the_batch(rt: &impl Abort, alloc: Global) -> Result<(
     Ok(())
 }
 
-/// Returns a batch with a command and two lines, between which a list may be refused whose second line refuses to write
-/// itself; nothing if that ends otherwise, or if it changed the batch.
-fn with_refused_lines(alloc: Global, is_tried: bool) -> Result<Option<LogBatch>> {
-    let mut batch = with_command(alloc, 8, Command::Clean)?;
-    if is_tried {
-        let before = batch.clone()?;
-        let called = batch.add_entries::<Lines>(7, &[line_of(10, b"a"), line_of(11, b"")]);
-        if refusal_of(called)? != Refusal::Message || batch != before || !batch.is_open() {
-            return Ok(None);
-        }
+/// Tests whether a batch whose bytes are asked for is then as its clone that was signed for the same file.
+fn is_only_signed(alloc: Global) -> Result<bool> {
+    let mut batch = with_one_of_each(alloc)?;
+    batch.finish_populate()?;
+    let mut signed = batch.clone()?;
+    if signed.is_open() || !batch.ready() {
+        return Ok(false);
     }
-    if !batch.is_open() {
-        return Ok(None);
+    signed.prepare_write(&context(12, Version::V2));
+    let len = batch.as_bytes(&context(12, Version::V2)).len();
+    if !batch.is_sealed() || !signed.is_sealed() {
+        return Ok(false);
     }
-    batch.add_entries::<Lines>(7, &[line_of(10, b"ab"), line_of(11, b"c")])?;
-    Ok(Some(batch))
-}
-
-/// Tests whether a batch is as if a list that was refused had not been tried.
-fn is_left_by_refusals(alloc: Global) -> Result<bool> {
-    let tried = with_refused_lines(alloc, true)?;
-    Ok(tried.is_some() && tried == with_refused_lines(alloc, false)?)
+    Ok(
+        batch == signed
+            && batch.encoded_bytes() == signed.encoded_bytes()
+            && batch.encoded_bytes().len() == len,
+    )
 }
 
 #[test]
-fn refused_messages_leave_the_batch(rt: HostRuntime) {
-    let answer = match is_left_by_refusals(rt.alloc()) {
-        Err(Error::Memory) => is_left_by_refusals(rt.alloc()),
+fn asked_bytes_leave_the_batch(rt: HostRuntime) {
+    let answer = match is_only_signed(rt.alloc()) {
+        Err(Error::Memory) => is_only_signed(rt.alloc()),
         answer => answer,
     };
     assert!(rt; matches!(answer, Ok(true)));

@@ -1,34 +1,24 @@
 //! A long text, whole; and readers and writers that are interrupted, or fail.
 
 use raft_records::{
-    Error, FileId, LogFileContext, LogItemBatch, LogQueue, Result, Version, batch_text, print_batch,
+    Error, FileId, LogFileContext, LogQueue, Result, Version, batch_text, print_batch,
 };
 use std::alloc::Global;
 use std::io;
 use std::io::{ErrorKind, Read, Write};
 
-/// Returns a batch that puts a value of 100,000 bytes.
-fn long_batch(alloc: Global) -> Result<LogItemBatch> {
-    let mut value = Vec::new(alloc);
-    value.resize(100_000, 0xab)?;
-    let mut batch = LogItemBatch::default(alloc);
-    batch.put(1, Vec::from_slice(alloc, b"k")?, value)?;
-    Ok(batch)
-}
-
-/// Returns its bytes.
-fn sealed(alloc: Global, context: &LogFileContext) -> Result<Vec<u8>> {
-    let mut batch = long_batch(alloc)?;
-    let mut bytes = Vec::new(alloc);
-    batch.encode(&mut bytes)?;
-    batch.prepare_write(bytes.as_mut_slice(), context);
+/// Returns the bytes of a batch that puts a value of 100,000 bytes, in a file of version 1.
+fn long_batch(alloc: Global) -> Result<Vec<u8>> {
+    let mut bytes = Vec::from_slice(alloc, b"\x01\x01\x03\x01\x01k\xa0\x8d\x06")?;
+    bytes.resize(100_009, 0xab)?;
+    bytes.extend_from_slice(b"\x42\x5e\xb9\x6e")?;
     Ok(bytes)
 }
 
-/// Returns the text of a batch that puts a value of 100,000 bytes, if that is what is printed.
+/// Returns the text of that batch, if that is what is printed.
 fn long_text(alloc: Global) -> Result<Option<String>> {
     let context = LogFileContext::new(FileId::new(LogQueue::Append, 0), Version::V1);
-    let bytes = sealed(alloc, &context)?;
+    let bytes = long_batch(alloc)?;
     let text = batch_text(alloc, bytes.as_slice(), &context)?;
     let mut input = bytes.as_slice();
     let mut printed = Vec::new(alloc);

@@ -8,329 +8,323 @@ use raft_records::{
 use std::alloc::Global;
 use std::process::Abort;
 
-/// Bytes that begin with no header, and why they are refused.
-type HeaderRow = (&'static [u8], &'static str);
+/// The place of an entry block.
+const PLACE: FileBlockHandle = FileBlockHandle {
+    id: FileId {
+        queue: LogQueue::Append,
+        seq: 12,
+    },
+    offset: 16,
+    len: 0,
+};
 
-/// More than one thing is wrong in the last three rows.
-static NO_HEADERS: [HeaderRow; 13] = [
-    (b"", "Log batch header too short: 0"),
-    (b"\x8d\xef\x02\xd2", "Log batch header too short: 4"),
-    (b"\x00", "Log batch header too short: 1"),
-    (b"\x00\x8d\xef\x02\xd3", "Log batch header too short: 5"),
-    (
-        b"\x01\x01\x02\x01\x07\x00\x00\x00",
-        "Log batch header too short: 8",
-    ),
-    (
-        b"\x00\x00\x00\x00\x00\x00\x10\x00\x00\x00\x00\x00\x00\x00\x00\x0f",
-        "Log item offset is smaller than log batch header length",
-    ),
-    (
-        b"\x00\x00\x00\x00\x00\x00\x10\x00\x00\x00\x00\x00\x00\x00\x00\x11",
-        "Log item offset exceeds log batch length",
-    ),
-    (
-        b"\x00\x00\x00\x00\x00\x00\x18\x02\x00\x00\x00\x00\x00\x00\x00\x10\x01",
-        "Unrecognized compression type: 2",
-    ),
-    (
-        b"\x00\x00\x00\x00\x00\x00\x18\x00\x00\x00\x00\x00\x00\x00\x10",
-        "Log batch header too short: 15",
-    ),
-    (
-        b"\x00\x00\x00\x00\x00\x00\x18\x01\x00\x00\x00\x00\x00\x00\x00\x10",
-        "Unrecognized compression type: 1",
-    ),
-    (
-        b"\x00\x00\x00\x00\x00\x00\x0a\xff\x00\x00\x00\x00\x00\x00\x00\x0f",
-        "Unrecognized compression type: 255",
-    ),
-    (
-        b"\x00\x00\x00\x00\x00\x00\x0a\x00\x00\x00\x00\x00\x00\x00\x00\x0f",
-        "Log item offset exceeds log batch length",
-    ),
-    (
-        b"\x00\x00\x00\x00\x00\x00\x0a\x02\x00\x00\x00\x00\x00\x00\x00",
-        "Log batch header too short: 15",
-    ),
-];
+/// As what bytes are read.
+#[derive(Clone, Copy)]
+enum Form {
+    Header,
+    /// As an entry block of so many bytes.
+    Block(usize),
+    /// As an item batch in this version of an append file, and the file's number.
+    Items(Version, u64),
+}
 
-/// A header of a batch of 24 bytes without entry bytes.
-const HEADER: [u8; 16] = *b"\x00\x00\x00\x00\x00\x00\x18\x00\x00\x00\x00\x00\x00\x00\x00\x10";
-
-/// Bytes, how many of them an entry block has, and its entry bytes or why it is refused.
-type BlockRow = (
+/// As what bytes are read, the bytes, and the entry bytes that are read of them, none of an item batch without items;
+/// or why they are refused. No text stands for `Codec`.
+type Row = (
+    Form,
     &'static [u8],
-    usize,
     std::result::Result<&'static [u8], &'static str>,
 );
 
-static BLOCKS: [BlockRow; 8] = [
-    (b"", 0, Ok(b"")),
-    (b"abc\xc2\x41\x24\x35", 0, Ok(b"")),
-    (b"abc\xc2\x41\x24\x35", 7, Ok(b"abc")),
-    (b"abc\xc2\x41\x24\x35\x00", 7, Ok(b"abc")),
-    (b"\xc2", 1, Err("Content too short 1")),
-    (b"\xc2\x41\x24\x35", 4, Err("Content too short 4")),
+/// More than one thing is wrong in the last three rows of headers. The last four batches, which are sealed, say that
+/// they have more than they have: 2^40 items and none, 2^63 and one, 2^40 entries and none, 2^63 and two.
+static ROWS: [Row; 50] = [
+    (Form::Header, b"", Err("Log batch header too short: 0")),
     (
+        Form::Header,
+        b"\x8d\xef\x02\xd2",
+        Err("Log batch header too short: 4"),
+    ),
+    (Form::Header, b"\x00", Err("Log batch header too short: 1")),
+    (
+        Form::Header,
+        b"\x00\x8d\xef\x02\xd3",
+        Err("Log batch header too short: 5"),
+    ),
+    (
+        Form::Header,
+        b"\x01\x01\x02\x01\x07\x00\x00\x00",
+        Err("Log batch header too short: 8"),
+    ),
+    (
+        Form::Header,
+        b"\x00\x00\x00\x00\x00\x00\x10\x00\x00\x00\x00\x00\x00\x00\x00\x0f",
+        Err("Log item offset is smaller than log batch header length"),
+    ),
+    (
+        Form::Header,
+        b"\x00\x00\x00\x00\x00\x00\x10\x00\x00\x00\x00\x00\x00\x00\x00\x11",
+        Err("Log item offset exceeds log batch length"),
+    ),
+    (
+        Form::Header,
+        b"\x00\x00\x00\x00\x00\x00\x18\x02\x00\x00\x00\x00\x00\x00\x00\x10\x01",
+        Err("Unrecognized compression type: 2"),
+    ),
+    (
+        Form::Header,
+        b"\x00\x00\x00\x00\x00\x00\x18\x00\x00\x00\x00\x00\x00\x00\x10",
+        Err("Log batch header too short: 15"),
+    ),
+    (
+        Form::Header,
+        b"\x00\x00\x00\x00\x00\x00\x18\x01\x00\x00\x00\x00\x00\x00\x00\x10",
+        Err("Unrecognized compression type: 1"),
+    ),
+    (
+        Form::Header,
+        b"\x00\x00\x00\x00\x00\x00\x0a\xff\x00\x00\x00\x00\x00\x00\x00\x0f",
+        Err("Unrecognized compression type: 255"),
+    ),
+    (
+        Form::Header,
+        b"\x00\x00\x00\x00\x00\x00\x0a\x00\x00\x00\x00\x00\x00\x00\x00\x0f",
+        Err("Log item offset exceeds log batch length"),
+    ),
+    (
+        Form::Header,
+        b"\x00\x00\x00\x00\x00\x00\x0a\x02\x00\x00\x00\x00\x00\x00\x00",
+        Err("Log batch header too short: 15"),
+    ),
+    (Form::Block(0), b"", Ok(b"")),
+    (Form::Block(0), b"abc\xc2\x41\x24\x35", Ok(b"")),
+    (Form::Block(7), b"abc\xc2\x41\x24\x35", Ok(b"abc")),
+    (Form::Block(7), b"abc\xc2\x41\x24\x35\x00", Ok(b"abc")),
+    (Form::Block(1), b"\xc2", Err("Content too short 1")),
+    (
+        Form::Block(4),
+        b"\xc2\x41\x24\x35",
+        Err("Content too short 4"),
+    ),
+    (
+        Form::Block(7),
         b"abc\xc2\x41\x24\x36",
-        7,
         Err("Checksum expected 908345794 but got 891568578"),
     ),
     (
+        Form::Block(7),
+        b"abb\xc2\x41\x24\x35",
+        Err("Checksum expected 891568578 but got 1109619028"),
+    ),
+    (
+        Form::Block(5),
         b"\x00\x8e\xef\x02\xd2",
-        5,
         Err("Checksum expected 3523407758 but got 3523407757"),
     ),
-];
-
-/// Bytes, the version and the number of the file that they are read from, and why they are no item
-/// batch; those without a reason are one without items.
-type ItemBatchRow = (&'static [u8], Version, u64, Option<&'static str>);
-
-static ITEM_BATCHES: [ItemBatchRow; 18] = [
     (
-        b"\x00\x81\xef\x02\xd2",
-        Version::V1,
-        12,
-        Some("Checksum expected 3523407745 but got 3523407757"),
-    ),
-    (b"\x00\x81\xef\x02\xd2", Version::V2, 12, None),
-    (
-        b"\x00\x81\xef\x02\xd2",
-        Version::V1,
-        13,
-        Some("Checksum expected 3523407745 but got 3523407757"),
+        Form::Block(8),
+        b"abc\xc2\x41\x24\x35",
+        Err("an entry block of 8 bytes is cut short"),
     ),
     (
-        b"\x00\x81\xef\x02\xd2",
-        Version::V2,
-        13,
-        Some("Checksum expected 3523407756 but got 3523407757"),
+        Form::Block(16),
+        b"abc\xc2\x41\x24\x35",
+        Err("an entry block of 16 bytes is cut short"),
     ),
     (
-        b"\x00\x81\xef\x02\xd2",
-        Version::V1,
-        4_294_967_308,
-        Some("Checksum expected 3523407745 but got 3523407757"),
-    ),
-    (b"\x00\x81\xef\x02\xd2", Version::V2, 4_294_967_308, None),
-    (
-        b"\x00\x81\xef\x02\xd2",
-        Version::V1,
-        0,
-        Some("Checksum expected 3523407745 but got 3523407757"),
+        Form::Block(usize::MAX),
+        b"abc\xc2\x41\x24\x35",
+        Err("an entry block of 18446744073709551615 bytes is cut short"),
     ),
     (
+        Form::Items(Version::V1, 12),
         b"\x00\x81\xef\x02\xd2",
-        Version::V2,
-        0,
-        Some("Checksum expected 3523407745 but got 3523407757"),
+        Err("Checksum expected 3523407745 but got 3523407757"),
     ),
-    (b"", Version::V1, 12, Some("Content too short 0")),
     (
+        Form::Items(Version::V1, 12),
+        b"\x00\x8d\xef\x02\xd2",
+        Ok(b""),
+    ),
+    (
+        Form::Items(Version::V2, 12),
+        b"\x00\x81\xef\x02\xd2",
+        Ok(b""),
+    ),
+    (
+        Form::Items(Version::V2, 13),
+        b"\x00\x80\xef\x02\xd2",
+        Ok(b""),
+    ),
+    (
+        Form::Items(Version::V2, u64::MAX),
+        b"\x00\x72\x10\xfd\x2d",
+        Ok(b""),
+    ),
+    (
+        Form::Items(Version::V1, 13),
+        b"\x00\x81\xef\x02\xd2",
+        Err("Checksum expected 3523407745 but got 3523407757"),
+    ),
+    (
+        Form::Items(Version::V2, 13),
+        b"\x00\x81\xef\x02\xd2",
+        Err("Checksum expected 3523407756 but got 3523407757"),
+    ),
+    (
+        Form::Items(Version::V1, 4_294_967_308),
+        b"\x00\x81\xef\x02\xd2",
+        Err("Checksum expected 3523407745 but got 3523407757"),
+    ),
+    (
+        Form::Items(Version::V2, 4_294_967_308),
+        b"\x00\x81\xef\x02\xd2",
+        Ok(b""),
+    ),
+    (
+        Form::Items(Version::V1, 0),
+        b"\x00\x81\xef\x02\xd2",
+        Err("Checksum expected 3523407745 but got 3523407757"),
+    ),
+    (
+        Form::Items(Version::V2, 0),
+        b"\x00\x81\xef\x02\xd2",
+        Err("Checksum expected 3523407745 but got 3523407757"),
+    ),
+    (
+        Form::Items(Version::V1, 12),
+        b"",
+        Err("Content too short 0"),
+    ),
+    (
+        Form::Items(Version::V1, 12),
         b"\x8d\xef\x02\xd2",
-        Version::V1,
-        12,
-        Some("Content too short 4"),
+        Err("Content too short 4"),
     ),
-    (b"\x00", Version::V1, 12, Some("Content too short 1")),
     (
+        Form::Items(Version::V1, 12),
+        b"\x00",
+        Err("Content too short 1"),
+    ),
+    (
+        Form::Items(Version::V1, 12),
         b"\x00\x8d\xef\x02\xd3",
-        Version::V1,
-        12,
-        Some("Checksum expected 3540184973 but got 3523407757"),
+        Err("Checksum expected 3540184973 but got 3523407757"),
     ),
     (
+        Form::Items(Version::V1, 12),
         b"\x01\x01\x02\x01\x07\x00\x00\x00",
-        Version::V1,
-        12,
-        Some("Checksum expected 7 but got 3708518490"),
+        Err("Checksum expected 7 but got 3708518490"),
     ),
     (
+        Form::Items(Version::V1, 12),
         b"\x00\x00\x00\x00\x00\x00\x18\x00\x00\x00\x00\x00\x00\x00\x00\x10",
-        Version::V1,
-        12,
-        Some("Checksum expected 268435456 but got 2488288921"),
+        Err("Checksum expected 268435456 but got 2488288921"),
     ),
     (
+        Form::Items(Version::V1, 12),
         b"\x00\x00\x00\x00\x00\x00\x10\x00\x00\x00\x00\x00\x00\x00\x00\x0f",
-        Version::V1,
-        12,
-        Some("Checksum expected 251658240 but got 2013512948"),
+        Err("Checksum expected 251658240 but got 2013512948"),
     ),
     (
+        Form::Items(Version::V1, 12),
         b"\x00\x00\x00\x00\x00\x00\x10\x00\x00\x00\x00\x00\x00\x00\x00\x11",
-        Version::V1,
-        12,
-        Some("Checksum expected 285212672 but got 2013512948"),
+        Err("Checksum expected 285212672 but got 2013512948"),
     ),
     (
+        Form::Items(Version::V1, 12),
         b"\x00\x00\x00\x00\x00\x00\x18\x02\x00\x00\x00\x00\x00\x00\x00\x10\x01",
-        Version::V1,
-        12,
-        Some("Checksum expected 17825792 but got 378352928"),
+        Err("Checksum expected 17825792 but got 378352928"),
     ),
     (
+        Form::Items(Version::V1, 12),
         b"\x00\x00\x00\x00\x00\x00\x18\x00\x00\x00\x00\x00\x00\x00\x10",
-        Version::V1,
-        12,
-        Some("Checksum expected 268435456 but got 991391151"),
+        Err("Checksum expected 268435456 but got 991391151"),
+    ),
+    (
+        Form::Items(Version::V1, 12),
+        b"\x80\x80\x80\x80\x80\x20\xd1\x10\x15\x12",
+        Err(""),
+    ),
+    (
+        Form::Items(Version::V1, 12),
+        b"\x80\x80\x80\x80\x80\x80\x80\x80\x80\x01\x01\x02\x01\x80\xa4\x5c\xb0",
+        Err(""),
+    ),
+    (
+        Form::Items(Version::V1, 12),
+        b"\x01\x01\x01\x80\x80\x80\x80\x80\x20\x01\xa2\xe0\x36\x1e",
+        Err(""),
+    ),
+    (
+        Form::Items(Version::V1, 12),
+        b"\x01\x01\x01\x80\x80\x80\x80\x80\x80\x80\x80\x80\x01\x05\x01\x01\x47\xf9\x2b\xf5",
+        Err(""),
     ),
 ];
 
-/// Tests whether the bytes are refused as corrupt with this text.
-fn is_corrupt<T: Drop>(answer: Result<T>, text: &str) -> Result<bool> {
+fn rows() -> &'static [Row] {
+    &ROWS
+}
+
+/// Tests whether there is a refusal as corrupt with this text, or as `Codec` where there is no text.
+pub(crate) fn is_refused_for<T: Drop>(answer: Result<T>, text: &str) -> Result<bool> {
     match answer {
         Ok(_read) => Ok(false),
         Err(Error::Corruption(found)) => Ok(found.as_str() == text),
+        Err(Error::Codec(_)) => Ok(text.is_empty()),
         Err(e) => Err(e),
     }
 }
 
-#[test]
-fn headers(rt: HostRuntime) {
-    let answer = match bytes_without_a_header_are_refused_and_left(&rt, rt.alloc()) {
-        Err(Error::Memory) => bytes_without_a_header_are_refused_and_left(&rt, rt.alloc()),
-        answer => answer,
-    };
-    assert!(rt; answer.is_ok());
-    let mut buf = HEADER.as_slice();
-    let read = LogBatch::decode_header(rt.alloc(), &mut buf);
-    assert!(rt; matches!(read, Ok((16, CompressionType::None, 24))));
-    assert!(rt; buf.is_empty());
-}
-
-fn bytes_without_a_header_are_refused_and_left(rt: &impl Abort, alloc: Global) -> Result<()> {
-    for (bytes, text) in header_rows() {
-        assert!(rt; is_no_header(alloc, *bytes, *text)?, "at {bytes:?}");
-    }
-    Ok(())
-}
-
-fn header_rows() -> &'static [HeaderRow] {
-    &NO_HEADERS
-}
-
-/// Tests whether bytes are refused as a header, and left.
-fn is_no_header(alloc: Global, bytes: &[u8], text: &str) -> Result<bool> {
-    let mut buf = bytes;
-    let read = LogBatch::decode_header(alloc, &mut buf);
-    Ok(is_corrupt(read, text)? && buf == bytes)
-}
-
-/// Returns the entry bytes in the entry block of this length in front of bytes.
-fn block(alloc: Global, bytes: &[u8], len: usize) -> Result<Vec<u8>> {
-    let place = FileBlockHandle {
-        id: FileId::new(LogQueue::Append, 12),
-        offset: 16,
-        len,
-    };
-    LogBatch::decode_entries_block(alloc, bytes, place, CompressionType::None)
-}
-
-#[test]
-fn entry_blocks(rt: HostRuntime) {
-    let answer = match entry_blocks_end_in_their_checksum(&rt, rt.alloc()) {
-        Err(Error::Memory) => entry_blocks_end_in_their_checksum(&rt, rt.alloc()),
-        answer => answer,
-    };
-    assert!(rt; answer.is_ok());
-}
-
-/// Tests that entry blocks are read or refused as in the rows, and corrupt where they are cut short.
-fn entry_blocks_end_in_their_checksum(rt: &impl Abort, alloc: Global) -> Result<()> {
-    for row in block_rows() {
-        assert!(rt; is_block_row(alloc, row)?, "{} bytes of {:?}", row.1, row.0);
-    }
-    for &len in &[8, 16, usize::MAX] {
-        assert!(rt; is_cut_short(alloc, len)?, "{len} bytes of 7");
-    }
-    Ok(())
-}
-
-fn block_rows() -> &'static [BlockRow] {
-    &BLOCKS
-}
-
-fn is_block_row(alloc: Global, row: &BlockRow) -> Result<bool> {
-    let read = block(alloc, row.0, row.1);
-    match row.2 {
-        Ok(entry_bytes) => Ok(read?.as_slice() == entry_bytes),
-        Err(text) => is_corrupt(read, text),
-    }
-}
-
-fn is_cut_short(alloc: Global, len: usize) -> Result<bool> {
-    match block(alloc, b"abc\xc2\x41\x24\x35", len) {
-        Ok(_read) => Ok(false),
-        Err(Error::Corruption(_text)) => Ok(true),
-        Err(e) => Err(e),
-    }
-}
-
-/// Returns the item batch that bytes of the append queue are.
-fn item_batch(alloc: Global, buf: &mut &[u8], version: Version, seq: u64) -> Result<LogItemBatch> {
-    let context = LogFileContext::new(FileId::new(LogQueue::Append, seq), version);
-    let place = FileBlockHandle {
-        id: context.id,
-        offset: 0,
-        len: 0,
-    };
-    LogItemBatch::decode(alloc, buf, place, CompressionType::None, &context)
-}
-
-#[test]
-fn item_batches(rt: HostRuntime) {
-    let answer = match item_batches_are_read_in_their_file_alone(&rt, rt.alloc()) {
-        Err(Error::Memory) => item_batches_are_read_in_their_file_alone(&rt, rt.alloc()),
-        answer => answer,
-    };
-    assert!(rt; answer.is_ok());
-}
-
-fn item_batches_are_read_in_their_file_alone(rt: &impl Abort, alloc: Global) -> Result<()> {
-    for row in item_batch_rows() {
-        assert!(rt; is_item_batch_row(alloc, row)?, "at {:?}", row.0);
-    }
-    Ok(())
-}
-
-fn item_batch_rows() -> &'static [ItemBatchRow] {
-    &ITEM_BATCHES
-}
-
-fn is_item_batch_row(alloc: Global, row: &ItemBatchRow) -> Result<bool> {
-    let (bytes, version, seq, reason) = *row;
-    let mut buf = bytes;
-    let read = item_batch(alloc, &mut buf, version, seq);
-    match reason {
-        Some(text) => Ok(is_corrupt(read, text)? && buf == bytes),
-        None => Ok(read?.into_items().is_empty()),
-    }
-}
-
-/// Sealed batches of the file 12 of version 1 that say they have more than they have: 2^40 items and none, 2^63
-/// and one, 2^40 entries and none, 2^63 and two.
-static COUNTS: [&[u8]; 4] = [
-    b"\x80\x80\x80\x80\x80\x20\xd1\x10\x15\x12",
-    b"\x80\x80\x80\x80\x80\x80\x80\x80\x80\x01\x01\x02\x01\x80\xa4\x5c\xb0",
-    b"\x01\x01\x01\x80\x80\x80\x80\x80\x20\x01\xa2\xe0\x36\x1e",
-    b"\x01\x01\x01\x80\x80\x80\x80\x80\x80\x80\x80\x80\x01\x05\x01\x01\x47\xf9\x2b\xf5",
-];
-
-fn counts() -> &'static [&'static [u8]] {
-    &COUNTS
-}
-
-#[test]
-fn counts_make_no_room(rt: HostRuntime) {
-    for &bytes in counts() {
-        let mut buf = bytes;
-        let mut read = item_batch(rt.alloc(), &mut buf, Version::V1, 12);
-        if matches!(read, Err(Error::Memory)) {
-            read = item_batch(rt.alloc(), &mut buf, Version::V1, 12);
+/// Returns the entry bytes that are read as this form, none of a header.
+fn decode(alloc: Global, form: Form, buf: &mut &[u8]) -> Result<Vec<u8>> {
+    match form {
+        Form::Header => {
+            LogBatch::decode_header(alloc, buf)?;
+            Ok(Vec::new(alloc))
         }
-        assert!(rt; matches!(read, Err(Error::Codec(_))), "at {bytes:?}");
+        Form::Block(len) => {
+            let place = FileBlockHandle { len, ..PLACE };
+            LogBatch::decode_entries_block(alloc, *buf, place, CompressionType::None)
+        }
+        Form::Items(version, seq) => decode_no_items(alloc, buf, version, seq),
     }
+}
+
+/// Reads an item batch, which is refused as `Failed` where it has items.
+fn decode_no_items(alloc: Global, buf: &mut &[u8], version: Version, seq: u64) -> Result<Vec<u8>> {
+    let file = LogFileContext::new(FileId::new(LogQueue::Append, seq), version);
+    let batch = LogItemBatch::decode(alloc, buf, PLACE, CompressionType::None, &file)?;
+    if !batch.into_items().is_empty() {
+        return Err(Error::Failed);
+    }
+    Ok(Vec::new(alloc))
+}
+
+/// Tests whether bytes are read as in the row, or refused so and left.
+fn is_row(alloc: Global, row: &Row) -> Result<bool> {
+    let (form, bytes, owed) = *row;
+    let mut buf = bytes;
+    let read = decode(alloc, form, &mut buf);
+    match owed {
+        Ok(entry_bytes) => Ok(read?.as_slice() == entry_bytes),
+        Err(text) => Ok(is_refused_for(read, text)? && buf == bytes),
+    }
+}
+
+#[test]
+fn refusals(rt: HostRuntime) {
+    let answer = match bytes_are_read_or_refused_and_left(&rt, rt.alloc()) {
+        Err(Error::Memory) => bytes_are_read_or_refused_and_left(&rt, rt.alloc()),
+        answer => answer,
+    };
+    assert!(rt; answer.is_ok());
+}
+
+fn bytes_are_read_or_refused_and_left(rt: &impl Abort, alloc: Global) -> Result<()> {
+    for row in rows() {
+        assert!(rt; is_row(alloc, row)?, "at {:?}", row.1);
+    }
+    Ok(())
 }

@@ -11,7 +11,9 @@ macro_rules! rows {
 }
 
 /// A number, and what `encode_u64`, `encode_u64_desc` and `encode_u64_le` write.
-pub(super) const U64_ROWS: [(u64, u64, u64, u64); 16] = rows! {
+pub(super) type LongRow = (u64, u64, u64, u64);
+
+static U64_ROWS: [LongRow; 16] = rows! {
     0 => 0x00000000_00000000 0xffffffff_ffffffff 0x00000000_00000000;
     1 => 0x00000000_00000001 0xffffffff_fffffffe 0x01000000_00000000;
     2 => 0x00000000_00000002 0xffffffff_fffffffd 0x02000000_00000000;
@@ -31,7 +33,9 @@ pub(super) const U64_ROWS: [(u64, u64, u64, u64); 16] = rows! {
 };
 
 /// A number, and what `encode_i64`, `encode_i64_desc` and `encode_i64_le` write.
-pub(super) const I64_ROWS: [(i64, u64, u64, u64); 20] = rows! {
+pub(super) type SignedRow = (i64, u64, u64, u64);
+
+static I64_ROWS: [SignedRow; 20] = rows! {
     i64::MIN => 0x00000000_00000000 0xffffffff_ffffffff 0x00000000_00000080;
     -1024 => 0x7fffffff_fffffc00 0x80000000_000003ff 0x00fcffff_ffffffff;
     -1023 => 0x7fffffff_fffffc01 0x80000000_000003fe 0x01fcffff_ffffffff;
@@ -56,7 +60,9 @@ pub(super) const I64_ROWS: [(i64, u64, u64, u64); 20] = rows! {
 
 /// Two numbers, what `encode_u32` and `encode_u32_le` write of the first, and what `encode_u16`
 /// and `encode_u16_le` write of the second.
-pub(super) const SHORT_ROWS: [(u32, u16, u32, u32, u16, u16); 16] = rows! {
+pub(super) type ShortRow = (u32, u16, u32, u32, u16, u16);
+
+static SHORT_ROWS: [ShortRow; 16] = rows! {
     0, 0 => 0x00000000 0x00000000 0x0000 0x0000;
     1, 1 => 0x00000001 0x01000000 0x0001 0x0100;
     2, 2 => 0x00000002 0x02000000 0x0002 0x0200;
@@ -76,7 +82,7 @@ pub(super) const SHORT_ROWS: [(u32, u16, u32, u32, u16, u16); 16] = rows! {
 };
 
 /// A number, and what `encode_i32_le` writes.
-pub(super) const I32_ROWS: [(i32, u32); 20] = rows! {
+static I32_ROWS: [(i32, u32); 20] = rows! {
     i32::MIN => 0x00000080;
     -1024 => 0x00fcffff;
     -1023 => 0x01fcffff;
@@ -99,66 +105,50 @@ pub(super) const I32_ROWS: [(i32, u32); 20] = rows! {
     i32::MAX => 0xffffff7f;
 };
 
-/// A number, and what `encode_var_u64` writes.
-pub(super) const VAR_U64_ROWS: [(u64, &[u8]); 16] = rows! {
-    0 => b"\x00";
-    1 => b"\x01";
-    2 => b"\x02";
-    10 => b"\x0a";
-    20 => b"\x14";
-    63 => b"\x3f";
-    64 => b"\x40";
-    65 => b"\x41";
-    127 => b"\x7f";
-    128 => b"\x80\x01";
-    129 => b"\x81\x01";
-    255 => b"\xff\x01";
-    256 => b"\x80\x02";
-    257 => b"\x81\x02";
-    1024 => b"\x80\x08";
-    u64::MAX => b"\xff\xff\xff\xff\xff\xff\xff\xff\xff\x01";
-};
+/// Numbers, and what `encode_var_u64` writes for the first and `encode_var_i64` for the second.
+pub(super) type SpellingRow = (u64, i64, &'static [u8]);
 
-/// A number, and what `encode_var_i64` writes.
-pub(super) const VAR_I64_ROWS: [(i64, &[u8]); 20] = rows! {
-    i64::MIN => b"\xff\xff\xff\xff\xff\xff\xff\xff\xff\x01";
-    -1024 => b"\xff\x0f";
-    -1023 => b"\xfd\x0f";
-    -1 => b"\x01";
-    0 => b"\x00";
-    1 => b"\x02";
-    2 => b"\x04";
-    10 => b"\x14";
-    20 => b"\x28";
-    63 => b"\x7e";
-    64 => b"\x80\x01";
-    65 => b"\x82\x01";
-    127 => b"\xfe\x01";
-    128 => b"\x80\x02";
-    129 => b"\x82\x02";
-    255 => b"\xfe\x03";
-    256 => b"\x80\x04";
-    257 => b"\x82\x04";
-    1024 => b"\x80\x10";
-    i64::MAX => b"\xfe\xff\xff\xff\xff\xff\xff\xff\xff\x01";
+static SPELLINGS: [SpellingRow; 30] = rows! {
+    0, 0 => b"\x00";
+    1, -1 => b"\x01";
+    2, 1 => b"\x02";
+    4, 2 => b"\x04";
+    10, 5 => b"\x0a";
+    20, 10 => b"\x14";
+    40, 20 => b"\x28";
+    63, -32 => b"\x3f";
+    64, 32 => b"\x40";
+    65, -33 => b"\x41";
+    126, 63 => b"\x7e";
+    127, -64 => b"\x7f";
+    128, 64 => b"\x80\x01";
+    129, -65 => b"\x81\x01";
+    130, 65 => b"\x82\x01";
+    254, 127 => b"\xfe\x01";
+    255, -128 => b"\xff\x01";
+    256, 128 => b"\x80\x02";
+    257, -129 => b"\x81\x02";
+    258, 129 => b"\x82\x02";
+    510, 255 => b"\xfe\x03";
+    512, 256 => b"\x80\x04";
+    514, 257 => b"\x82\x04";
+    1024, 512 => b"\x80\x08";
+    2045, -1023 => b"\xfd\x0f";
+    2047, -1024 => b"\xff\x0f";
+    2048, 1024 => b"\x80\x10";
+    16_384, 8192 => b"\x80\x80\x01";
+    u64::MAX - 1, i64::MAX => b"\xfe\xff\xff\xff\xff\xff\xff\xff\xff\x01";
+    u64::MAX, i64::MIN => b"\xff\xff\xff\xff\xff\xff\xff\xff\xff\x01";
 };
 
 /// Bytes, what `decode_var_u64` and `decode_var_i64` read in front of them, and how many bytes are
 /// left then. Some spellings are longer than need be.
-pub(super) const VAR_FRONTS: [(&[u8], u64, i64, usize); 11] = [
+pub(super) type FrontRow = (&'static [u8], u64, i64, usize);
+
+static FRONTS: [FrontRow; 6] = [
     (b"\x80\x80\x80\x00", 0, 0, 0),
-    (b"\x00", 0, 0, 0),
     (b"\x80\x00", 0, 0, 0),
     (b"\xff\x00", 127, -64, 0),
-    (b"\x7f", 127, -64, 0),
-    (b"\x80\x01", 128, 64, 0),
-    (b"\x80\x80\x01", 16_384, 8192, 0),
-    (
-        b"\xff\xff\xff\xff\xff\xff\xff\xff\xff\x01",
-        u64::MAX,
-        i64::MIN,
-        0,
-    ),
     (
         b"\xff\xff\xff\xff\xff\xff\xff\xff\xff\x00",
         9_223_372_036_854_775_807,
@@ -170,7 +160,9 @@ pub(super) const VAR_FRONTS: [(&[u8], u64, i64, usize); 11] = [
 ];
 
 /// Bytes in front of which there is no number, and the kind of the refusal.
-pub(super) const VAR_FAULTS: [(&[u8], ErrorKind); 9] = [
+pub(super) type FaultRow = (&'static [u8], ErrorKind);
+
+static FAULTS: [FaultRow; 9] = [
     (b"", ErrorKind::UnexpectedEof),
     (b"\x80", ErrorKind::UnexpectedEof),
     (b"\x80\x80\x80", ErrorKind::UnexpectedEof),
@@ -199,3 +191,22 @@ pub(super) const VAR_FAULTS: [(&[u8], ErrorKind); 9] = [
         ErrorKind::InvalidData,
     ),
 ];
+
+/// Returns the rows of numbers whose bytes are of a fixed count.
+pub(super) fn fixed_rows() -> (
+    &'static [LongRow],
+    &'static [SignedRow],
+    &'static [ShortRow],
+    &'static [(i32, u32)],
+) {
+    (&U64_ROWS, &I64_ROWS, &SHORT_ROWS, &I32_ROWS)
+}
+
+/// Returns the rows of the other numbers.
+pub(super) fn var_rows() -> (
+    &'static [SpellingRow],
+    &'static [FrontRow],
+    &'static [FaultRow],
+) {
+    (&SPELLINGS, &FRONTS, &FAULTS)
+}

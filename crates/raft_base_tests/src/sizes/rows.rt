@@ -1,11 +1,11 @@
-//! Sizes as raft-engine 0.4.2 prints and reads them.
+//! Sizes as raft-engine 0.4.2 prints and reads them, and a few more.
 
-use raft_base::{ReadableSize, SizeError};
-use std::fmt::InlineText;
-use std::str::FromStr;
+use raft_base::SizeError;
 
-/// Sizes and how they are printed.
-const PRINTED: [(u64, &str); 15] = [
+/// A size and how it is printed.
+pub(super) type PrintedRow = (u64, &'static str);
+
+static PRINTED: [PrintedRow; 17] = [
     (0, "0KiB"),
     (1, "1B"),
     (512, "512B"),
@@ -21,10 +21,15 @@ const PRINTED: [(u64, &str); 15] = [
     (12_384_898_975_268_864, "11PiB"),
     (u64::MAX, "18446744073709551615B"),
     (10, "10B"),
+    // Not from there.
+    (3 << 20, "3MiB"),
+    (1 << 49, "512TiB"),
 ];
 
-/// Texts and the sizes that they stand for.
-const READ: [(&str, u64); 49] = [
+/// A text and the size that it stands for.
+pub(super) type ReadRow = (&'static str, u64);
+
+static READ: [ReadRow; 58] = [
     ("0", 0),
     ("1", 1),
     ("23", 23),
@@ -74,10 +79,23 @@ const READ: [(&str, u64); 49] = [
     ("1.1K", 1126),
     ("0.3K", 307),
     ("3.141592653589793238P", 3_537_118_876_014_220),
+    // Not from there.
+    ("0000000000000000000000000000001", 1),
+    ("2.K", 2048),
+    ("+.5E1\tK", 5120),
+    ("1e9999999999999999999999999999999999999999", u64::MAX),
+    ("1e+9999999999999999999999999999999999999999", u64::MAX),
+    ("1e-9999999999999999999999999999999999999999", 0),
+    // These are rounded there.
+    ("9007199254740993", 9_007_199_254_740_993),
+    ("18014398509481983", 18_014_398_509_481_983),
+    ("0.99999999999999999K", 1023),
 ];
 
-/// Texts that stand for no size, and what is wrong in them.
-const REFUSED: [(&str, SizeError); 25] = [
+/// A text that stands for no size, and what is wrong in it.
+pub(super) type RefusedRow = (&'static str, SizeError);
+
+static REFUSED: [RefusedRow; 30] = [
     ("0.5kb", SizeError::Unit),
     ("0.5kB", SizeError::Unit),
     ("0.5Kb", SizeError::Unit),
@@ -103,31 +121,18 @@ const REFUSED: [(&str, SizeError); 25] = [
     ("KB", SizeError::Number),
     ("inf", SizeError::Unit),
     ("nan", SizeError::Unit),
+    // Not from there.
+    (" \t", SizeError::Empty),
+    ("1\u{b5}B", SizeError::NotAscii),
+    (".K", SizeError::Number),
+    ("1e5-", SizeError::Number),
+    ("100000000000000000000", SizeError::Digits),
 ];
 
-#[test]
-fn sizes_are_printed_so(rt: HostRuntime) {
-    for &(size, text) in &PRINTED {
-        let printed = InlineText::<32>::of(ReadableSize(size));
-        assert_eq!(rt; printed.as_str(), text);
-        assert_eq!(rt; ReadableSize::from_str(text), Ok(ReadableSize(size)));
-    }
-}
-
-#[test]
-fn texts_stand_for_sizes(rt: HostRuntime) {
-    for &(text, size) in &READ {
-        assert_eq!(rt;
-            ReadableSize::from_str(text),
-            Ok(ReadableSize(size)),
-            "{text}"
-        );
-    }
-}
-
-#[test]
-fn other_texts_are_refused(rt: HostRuntime) {
-    for &(text, fault) in &REFUSED {
-        assert_eq!(rt; ReadableSize::from_str(text), Err(fault), "{text}");
-    }
+pub(super) fn rows() -> (
+    &'static [PrintedRow],
+    &'static [ReadRow],
+    &'static [RefusedRow],
+) {
+    (&PRINTED, &READ, &REFUSED)
 }

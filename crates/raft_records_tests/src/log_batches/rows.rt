@@ -23,7 +23,7 @@ pub(super) fn rows() -> &'static [Row] {
 }
 
 /// In the order of their batches.
-static ROWS: [Row; 7] = [
+static ROWS: [Row; 10] = [
     EMPTY,
     CLEAN,
     COMPACT,
@@ -31,6 +31,9 @@ static ROWS: [Row; 7] = [
     LINES,
     MERGED,
     ONE_OF_EACH,
+    BEGIN,
+    MIDDLE,
+    END,
 ];
 
 /// Without items.
@@ -131,4 +134,43 @@ const ONE_OF_EACH: Row = Row {
     offset: 23,
     entry_bytes: b"\x61\x62\x63",
     item_batch_size: 174,
+};
+
+/// A group marker of group 9 that begins it.
+const BEGIN: Row = Row {
+    size: 62,
+    front: b"\x00\x00\x00\x00\x00\x00\x1e\x00\x00\x00\x00\x00\x00\x00\x00\x10\x01\x09\x03\x01\x03\x5f\x5f\x01\x01\x00",
+    seals: [
+        b"\x72\xd7\x73\x3f",
+        b"\x7e\xd7\x73\x3f",
+        b"\x7f\xd7\x73\x3f",
+        b"\x8d\x28\x8c\xc0",
+    ],
+    offset: 16,
+    entry_bytes: b"",
+    item_batch_size: 42,
+};
+
+/// One that continues it.
+const MIDDLE: Row = Row {
+    front: b"\x00\x00\x00\x00\x00\x00\x1e\x00\x00\x00\x00\x00\x00\x00\x00\x10\x01\x09\x03\x01\x03\x5f\x5f\x01\x01\x01",
+    seals: [
+        b"\xe4\xe7\x74\x48",
+        b"\xe8\xe7\x74\x48",
+        b"\xe9\xe7\x74\x48",
+        b"\x1b\x18\x8b\xb7",
+    ],
+    ..BEGIN
+};
+
+/// One that ends it.
+const END: Row = Row {
+    front: b"\x00\x00\x00\x00\x00\x00\x1e\x00\x00\x00\x00\x00\x00\x00\x00\x10\x01\x09\x03\x01\x03\x5f\x5f\x01\x01\x02",
+    seals: [
+        b"\x5e\xb6\x7d\xd1",
+        b"\x52\xb6\x7d\xd1",
+        b"\x53\xb6\x7d\xd1",
+        b"\xa1\x49\x82\x2e",
+    ],
+    ..BEGIN
 };

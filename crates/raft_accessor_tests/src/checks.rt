@@ -1,22 +1,13 @@
 //! New items that are tested before they have places.
 
-use crate::items::{FIRST, replayed};
-use raft_memtable::{EntryIndex, Error, MemTableAccessor, Result};
-use raft_records::{Command, CompressionType, LogItem, OpType};
+use crate::calls::{Call, tables_of};
+use crate::items::{Item, NEW, items};
+use raft_memtable::{Error, MemTableAccessor, Result, slot_of};
+use raft_recover::Slot;
 use std::alloc::Global;
 
-/// An item of a region.
-#[derive(Clone, Copy)]
-enum Item {
-    /// Entries of these indexes.
-    Run(u64, &'static [u64]),
-    Compact(u64, u64),
-    Truncate(u64, u64),
-    Clean(u64),
-    /// A key that is put without a value.
-    Put(u64, &'static [u8]),
-    Delete(u64),
-}
+/// What the tables have in front of all items.
+const FIRST: &[Call] = &[Call::AppendWrites(&[Item::Entries(1, 10, 20, NEW)])];
 
 /// Items, and the text by which they are refused; none where they are accepted. Region 1 has the entries 10 to
 /// 19 in front of all items, the others have no tables.
@@ -28,7 +19,7 @@ static ROWS: [(&[Item], &str); 12] = [
             Item::Run(1, &[15]),
             Item::Run(1, &[]),
             Item::Run(2, &[9]),
-            Item::Delete(3),
+            Item::Delete(3, b"k"),
             Item::Run(1, &[10]),
         ],
         "",
@@ -44,7 +35,7 @@ static ROWS: [(&[Item], &str); 12] = [
         ],
         "",
     ),
-    (&[Item::Put(3, b"__\x01")], ""),
+    (&[Item::Put(3, b"__\x01", false, None)], ""),
     (
         &[Item::Run(1, &[21])],
         "region 1: a run from index 21 on leaves a hole behind the entries, which end before index 20",
@@ -78,66 +69,45 @@ static ROWS: [(&[Item], &str); 12] = [
         "region 2: the indexes of a run from 5 on are not consecutive",
     ),
     (
-        &[Item::Put(3, b"k")],
+        &[Item::Put(3, b"k", false, None)],
         "region 3: a key is put without value",
     ),
 ];
 
-fn run(alloc: Global, indexes: &[u64]) -> Result<Vec<EntryIndex>> {
-    let mut run = Vec::new(alloc);
-    for &index in indexes {
-        run.push(EntryIndex {
-            index,
-            entries: None,
-            compression_type: CompressionType::None,
-            entry_offset: 0,
-            entry_len: 1,
-        })?;
-    }
-    Ok(run)
+fn rows() -> &'static [(&'static [Item], &'static str)] {
+    &ROWS
 }
 
-fn log_item(alloc: Global, item: Item) -> Result<LogItem> {
-    Ok(match item {
-        Item::Run(region, indexes) => LogItem::new_entry_indexes(region, run(alloc, indexes)?),
-        Item::Compact(region, index) => LogItem::new_command(region, Command::Compact { index }),
-        Item::Truncate(region, index) => LogItem::new_command(region, Command::Truncate { index }),
-        Item::Clean(region) => LogItem::new_command(region, Command::Clean),
-        Item::Put(region, key) => {
-            LogItem::new_kv(region, OpType::Put, Vec::from_slice(alloc, key)?, None)
-        }
-        Item::Delete(region) => {
-            LogItem::new_kv(
-                region,
-                OpType::Del,
-                Vec::from_slice(alloc, b"k".as_slice())?,
-                None,
-            )
-        }
-    })
-}
-
-/// Tests whether the items of a row are refused by its text, or accepted.
-fn is_checked(alloc: Global, tables: &MemTableAccessor, row: &[Item], text: &str) -> Result<bool> {
-    let mut items = Vec::new(alloc);
-    for &one in row {
-        items.push(log_item(alloc, one)?)?;
-    }
-    match tables.check_append_writes(&items) {
+/// Tests whether a test refuses items by this text, or accepts them where it is empty.
+fn is_told(tested: Result<()>, text: &str) -> Result<bool> {
+    match tested {
         Ok(()) => Ok(text.is_empty()),
         Err(Error::Corruption(why)) => Ok(why.as_str() == text),
         Err(other) => Err(other),
     }
 }
 
-fn rows() -> &'static [(&'static [Item], &'static str)] {
-    &ROWS
+/// Tests whether the items of a row are refused by its text, or accepted, also by the slot of region 1.
+fn is_checked(
+    alloc: Global,
+    tables: &MemTableAccessor,
+    slot: &Slot,
+    row: &[Item],
+    text: &str,
+) -> Result<bool> {
+    let items = items(alloc, row)?;
+    Ok(
+        is_told(tables.check_append_writes(&items), text)?
+            && is_told(slot.check_append_writes(&items), text)?,
+    )
 }
 
 fn are_checked(alloc: Global) -> Result<bool> {
-    let tables = replayed(alloc, FIRST, &[(1, 10, 20)])?;
+    let mut slot = Slot::new(alloc, slot_of(1));
+    slot.take_tables(&mut tables_of(alloc, FIRST)?);
+    let tables = tables_of(alloc, FIRST)?;
     for (row, text) in rows() {
-        if !is_checked(alloc, &tables, row, text)? {
+        if !is_checked(alloc, &tables, &slot, row, text)? {
             return Ok(false);
         }
     }

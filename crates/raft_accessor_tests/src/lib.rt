@@ -2,12 +2,18 @@
 #![tactic(auto)]
 
 #[cfg(test)]
-mod checks;
+mod accessor;
 #[cfg(test)]
-mod counts;
+mod calls;
+#[cfg(test)]
+mod checks;
 #[cfg(test)]
 mod items;
 #[cfg(test)]
 mod refusals;
+#[cfg(test)]
+mod rows;
+#[cfg(test)]
+mod seen;
 #[cfg(test)]
 mod shared_accessor;

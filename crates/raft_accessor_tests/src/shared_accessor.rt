@@ -2,13 +2,9 @@
 
 mod calls;
 mod every_slot;
-mod seen;
-mod slots;
-mod taken;
 
-use raft_memtable::{
-    EntryIndex, Error, FileBlockHandle, FileId, LogQueue, MemTable, Result, TableChange, slot_of,
-};
+use crate::items::{NEW, run};
+use raft_memtable::{Error, LogQueue, MemTable, Result, TableChange, slot_of};
 use raft_recover::SharedAccessor;
 use std::alloc::Global;
 use std::sync::Wait;
@@ -16,25 +12,6 @@ use std::sync::atomic::{AtomicU64, Ordering};
 use std::thread;
 use std::thread::Threads;
 use std::time::{Clock, Duration};
-
-/// Returns a run from `start` to below `end`, each entry another byte of one block of `file`.
-pub(crate) fn run(alloc: Global, start: u64, end: u64, file: FileId) -> Result<Vec<EntryIndex>> {
-    let mut run = Vec::new(alloc);
-    for index in start..end {
-        run.push(EntryIndex {
-            index,
-            entries: Some(FileBlockHandle {
-                id: file,
-                offset: 0,
-                len: 100,
-            }),
-            entry_offset: (index % 100) as u32,
-            entry_len: 1,
-            ..EntryIndex::default()
-        })?;
-    }
-    Ok(run)
-}
 
 /// Appends the entries from 1 to below 101 to a region, one a call.
 fn append_hundred<R: Wait>(
@@ -44,7 +21,7 @@ fn append_hundred<R: Wait>(
     region: u64,
 ) -> Result<()> {
     for index in 1..101 {
-        let one = run(alloc, index, index + 1, FileId::new(LogQueue::Append, 1))?;
+        let one = run(alloc, index, index + 1, NEW)?;
         shared.change(rt, region, TableChange::Append(one))?;
     }
     Ok(())

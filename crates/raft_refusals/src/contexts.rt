@@ -1,43 +1,33 @@
 //! Contexts that read batches, are merged and put over one another.
 
 use crate::found::Found;
-use crate::histories::{APPENDED, Batch, REWRITTEN, batch_segments, histories, overlays, part_of};
+use crate::histories::{Batch, History, batch_segments, part_of};
 use crate::steps::Step;
 use crate::writes::print;
 use raft_memtable::{Error, FileId, LogItemBatch, LogQueue, MemTableRecoverContext, Result};
 use raft_records::{FilePart, next_batch};
 use raft_recover::Segment;
-use std::alloc::Global;
 
-/// Returns what each history gives, or why it is refused, with a context for each batch.
-pub(crate) fn merge(found: &mut Found) -> Result<()> {
-    for history in histories() {
-        merge_row(found, history.queue, history.batches)?;
-    }
-    Ok(())
+/// Adds what a history gives, with a context for each batch.
+pub(crate) fn merge(found: &mut Found, history: History) -> Result<()> {
+    let context = of_batches(found, history.queue, history.batches)?;
+    print_context(found, context)
 }
 
-/// Returns the same of two longer histories.
-pub(crate) fn merge_many(found: &mut Found) -> Result<()> {
-    merge_row(found, LogQueue::Append, APPENDED.batches)?;
-    merge_row(found, LogQueue::Rewrite, REWRITTEN.batches)
+/// Adds the lines of a context's tables.
+fn print_context(found: &mut Found, context: MemTableRecoverContext) -> Result<()> {
+    let tables = context.finish()?;
+    print(found, &tables)
 }
 
-fn merge_row(found: &mut Found, queue: LogQueue, batches: &[Batch]) -> Result<()> {
+/// Merges the contexts of batches.
+fn of_batches(
+    found: &mut Found,
+    queue: LogQueue,
+    batches: &[Batch],
+) -> Result<MemTableRecoverContext> {
     let segments = batch_segments(found.alloc, queue, batches)?;
-    let answer = merged(found, queue, segments.as_slice());
-    print_context(found, answer)
-}
-
-/// Adds the lines of a context's tables, or why there are none.
-fn print_context(found: &mut Found, answer: Result<MemTableRecoverContext>) -> Result<()> {
-    match answer {
-        Ok(context) => {
-            let tables = context.finish()?;
-            print(found, &tables)
-        }
-        Err(error) => found.refused(error),
-    }
+    merged(found, queue, segments.as_slice())
 }
 
 /// Merges the contexts of segments from the first on.
@@ -85,50 +75,31 @@ fn failed(found: &mut Found, context: &mut MemTableRecoverContext, answer: &Resu
     found.look(matches!(again, Err(Error::Failed)) && matches!(kept, Err(Error::Failed)));
 }
 
-/// Returns what the append queue's context over the rewrite queue's gives.
-pub(crate) fn overlay(found: &mut Found) -> Result<()> {
-    for (rewritten, appended) in overlays() {
-        overlay_row(found, rewritten, appended)?;
-    }
-    Ok(())
-}
-
-fn overlay_row(found: &mut Found, rewritten: &[Batch], appended: &[Batch]) -> Result<()> {
-    let segments = batch_segments(found.alloc, LogQueue::Rewrite, rewritten)?;
-    let mut context = merged(found, LogQueue::Rewrite, segments.as_slice())?;
-    let append = appended_context(found, appended)?;
+/// Adds what the append queue's context over the rewrite queue's gives.
+pub(crate) fn overlay(found: &mut Found, rewritten: &[Batch], appended: &[Batch]) -> Result<()> {
+    let mut context = of_batches(found, LogQueue::Rewrite, rewritten)?;
+    let append = of_batches(found, LogQueue::Append, appended)?;
     let answer = context.merge_append_context(append);
     failed(found, &mut context, &answer);
     answer?;
-    print_context(found, Ok(context))
+    print_context(found, context)
 }
 
-fn appended_context(found: &mut Found, batches: &[Batch]) -> Result<MemTableRecoverContext> {
-    let segments = batch_segments(found.alloc, LogQueue::Append, batches)?;
-    merged(found, LogQueue::Append, segments.as_slice())
-}
-
-/// Returns what a context holds after 20 batches that put one key, and after groups that aren't whole. It is
-/// counted without memory.
-pub(crate) fn kept(found: &mut Found) -> Result<()> {
+/// Adds a line with what a context holds after 20 batches that put one key. It is counted without memory.
+pub(crate) fn count_puts(found: &mut Found) -> Result<()> {
     let mut context = MemTableRecoverContext::new(found.alloc)?;
     for seq in 1..21u64 {
-        let part = put_part(found.alloc, seq)?;
+        let file = FileId::new(LogQueue::Append, seq);
+        let part = part_of(found.alloc, file, 0, &[Step::Put(1, b"k", b"v")])?;
         replay(found, &mut context, &part)?;
     }
-    print_kept(found, &context)?;
-    let segments = batch_segments(found.alloc, LogQueue::Rewrite, REWRITTEN.batches)?;
-    let context = merged(found, LogQueue::Rewrite, segments.as_slice())?;
     print_kept(found, &context)
 }
 
-fn put_part(alloc: Global, seq: u64) -> Result<FilePart> {
-    part_of(
-        alloc,
-        FileId::new(LogQueue::Append, seq),
-        0,
-        &[Step::Put(1, b"k", b"v")],
-    )
+/// Adds a line with what the context of a history holds.
+pub(crate) fn count(found: &mut Found, history: History) -> Result<()> {
+    let context = of_batches(found, history.queue, history.batches)?;
+    print_kept(found, &context)
 }
 
 fn print_kept(found: &mut Found, context: &MemTableRecoverContext) -> Result<()> {

@@ -1,5 +1,6 @@
 //! Histories of both queues, as segments.
 
+use crate::calls::Call;
 use crate::steps::{Step, sealed};
 use AtomicGroupStatus::{Begin, End, Middle};
 use raft_records::{
@@ -12,13 +13,14 @@ use std::alloc::Global;
 pub(crate) type Batch = (FileSeq, &'static [Step]);
 
 /// Batches of a queue, in order.
+#[derive(Clone, Copy)]
 pub(crate) struct History {
     pub(crate) queue: LogQueue,
     pub(crate) batches: &'static [Batch],
 }
 
 /// Two regions, a compaction, a deleted key, a region that is cleaned and comes again.
-pub(crate) static APPENDED: History = History {
+pub(crate) const APPENDED: History = History {
     queue: LogQueue::Append,
     batches: &[
         (1, &[Step::Run(1, 1, 5), Step::Put(2, b"k", b"v")]),
@@ -33,7 +35,7 @@ pub(crate) static APPENDED: History = History {
 };
 
 /// A group over three batches, and two that aren't whole.
-pub(crate) static REWRITTEN: History = History {
+pub(crate) const REWRITTEN: History = History {
     queue: LogQueue::Rewrite,
     batches: &[
         (1, &[Step::Run(5, 1, 10)]),
@@ -48,81 +50,79 @@ pub(crate) static REWRITTEN: History = History {
 };
 
 /// Two runs, a segment without batches, a compaction of the first region and a key of a second one.
-const FIVE_BATCHES: &[Batch] = &[
-    (1, &[Step::Run(1, 1, 4)]),
-    (2, &[Step::Run(1, 4, 6)]),
-    (0, &[]),
-    (3, &[Step::Compact(1, 3)]),
-    (4, &[Step::Put(2, b"k", b"v")]),
-];
-
-pub(crate) static FIVE: History = History {
+pub(crate) const FIVE: History = History {
     queue: LogQueue::Append,
-    batches: FIVE_BATCHES,
+    batches: &[
+        (1, &[Step::Run(1, 1, 4)]),
+        (2, &[Step::Run(1, 4, 6)]),
+        (0, &[]),
+        (3, &[Step::Compact(1, 3)]),
+        (4, &[Step::Put(2, b"k", b"v")]),
+    ],
 };
 
 /// No segment.
-pub(crate) static NONE: History = History {
+pub(crate) const NONE: History = History {
     queue: LogQueue::Append,
     batches: &[],
 };
 
-static HISTORIES: [History; 13] = [
-    History {
+pub(crate) static CONTEXTS: [Call; 13] = [
+    Call::Merge(History {
         queue: LogQueue::Append,
         batches: &[
             (1, &[Step::Run(1, 10, 20)]),
             (2, &[Step::Run(1, 15, 18), Step::Compact(1, 18)]),
         ],
-    },
-    History {
+    }),
+    Call::Merge(History {
         queue: LogQueue::Append,
         batches: &[
             (1, &[Step::Run(1, 10, 20)]),
             (2, &[Step::Compact(1, 20), Step::Run(1, 40, 45)]),
         ],
-    },
-    History {
+    }),
+    Call::Merge(History {
         queue: LogQueue::Append,
         batches: &[
             (1, &[Step::Run(1, 10, 20)]),
             (2, &[Step::Run(1, 40, 45), Step::Compact(1, 40)]),
         ],
-    },
-    History {
+    }),
+    Call::Merge(History {
         queue: LogQueue::Rewrite,
         batches: &[
             (1, &[Step::Run(1, 10, 30)]),
             (2, &[Step::Run(1, 35, 40), Step::Run(1, 20, 25)]),
         ],
-    },
-    History {
+    }),
+    Call::Merge(History {
         queue: LogQueue::Append,
         batches: &[
             (1, &[Step::Put(1, b"k", b"v")]),
             (2, &[Step::Delete(1, b"k"), Step::Put(1, b"k", b"v")]),
         ],
-    },
-    History {
+    }),
+    Call::Merge(History {
         queue: LogQueue::Append,
         batches: &[(1, &[Step::Clean(1)]), (0, &[])],
-    },
-    History {
+    }),
+    Call::Merge(History {
         queue: LogQueue::Rewrite,
         batches: &[
             (1, &[Step::Marker(9, Begin), Step::Run(5, 1, 4)]),
             (2, &[Step::Marker(9, Middle), Step::Put(6, b"k", b"v")]),
             (3, &[Step::Marker(9, End)]),
         ],
-    },
-    History {
+    }),
+    Call::Merge(History {
         queue: LogQueue::Rewrite,
         batches: &[
             (1, &[Step::Marker(9, Begin), Step::Run(5, 1, 4)]),
             (2, &[Step::Marker(9, Middle), Step::Put(6, b"k", b"v")]),
         ],
-    },
-    History {
+    }),
+    Call::Merge(History {
         queue: LogQueue::Rewrite,
         batches: &[
             (1, &[Step::Marker(9, Begin), Step::Put(5, b"a", b"v")]),
@@ -130,8 +130,8 @@ static HISTORIES: [History; 13] = [
             (3, &[Step::Marker(9, Middle), Step::Put(5, b"c", b"v")]),
             (4, &[Step::Marker(9, End), Step::Put(5, b"d", b"v")]),
         ],
-    },
-    History {
+    }),
+    Call::Merge(History {
         queue: LogQueue::Rewrite,
         batches: &[
             (1, &[Step::Marker(9, Begin), Step::Put(6, b"a", b"v")]),
@@ -139,20 +139,17 @@ static HISTORIES: [History; 13] = [
             (2, &[Step::Marker(9, End), Step::Put(6, b"b", b"v")]),
             (3, &[Step::Marker(9, Begin), Step::Put(6, b"c", b"v")]),
         ],
-    },
-    History {
-        queue: LogQueue::Append,
-        batches: FIVE_BATCHES,
-    },
-    History {
+    }),
+    Call::Merge(FIVE),
+    Call::Merge(History {
         queue: LogQueue::Append,
         batches: &[
             (1, &[Step::Run(1, 10, 20)]),
             (1, &[Step::Truncate(1, 15)]),
             (2, &[Step::Run(1, 15, 18)]),
         ],
-    },
-    History {
+    }),
+    Call::Merge(History {
         queue: LogQueue::Append,
         batches: &[
             (1, &[Step::Run(1, 10, 20), Step::Compact(1, 20)]),
@@ -165,33 +162,29 @@ static HISTORIES: [History; 13] = [
                 ],
             ),
         ],
-    },
+    }),
 ];
 
-pub(crate) fn histories() -> &'static [History] {
-    &HISTORIES
-}
+/// Two longer histories.
+pub(crate) static LONG_CONTEXTS: [Call; 2] = [Call::Merge(APPENDED), Call::Merge(REWRITTEN)];
 
-/// A history of the rewrite queue and one of the append queue that is put over it.
-pub(crate) type Overlay = (&'static [Batch], &'static [Batch]);
-
-static OVERLAYS: [Overlay; 5] = [
-    (
+pub(crate) static OVERLAYS: [Call; 5] = [
+    Call::Overlay(
         &[(1, &[Step::Run(1, 10, 20), Step::Put(1, b"j", b"v")])],
         &[
             (1, &[Step::Run(1, 30, 40)]),
             (2, &[Step::Run(1, 20, 25), Step::Put(1, b"k", b"v")]),
         ],
     ),
-    (
+    Call::Overlay(
         &[(1, &[Step::Run(1, 10, 15)])],
         &[(1, &[Step::Run(1, 20, 30)])],
     ),
-    (
+    Call::Overlay(
         &[(1, &[Step::Run(1, 10, 20)])],
         &[(1, &[Step::Clean(1), Step::Run(1, 30, 35)])],
     ),
-    (
+    Call::Overlay(
         &[(1, &[Step::Run(1, 10, 20)])],
         &[(
             1,
@@ -202,15 +195,14 @@ static OVERLAYS: [Overlay; 5] = [
             ],
         )],
     ),
-    (
+    Call::Overlay(
         &[(1, &[Step::Run(1, 10, 20)])],
         &[(1, &[Step::Truncate(1, 15)])],
     ),
 ];
 
-pub(crate) fn overlays() -> &'static [Overlay] {
-    &OVERLAYS
-}
+/// A context of 20 batches that put one key, and one with groups that aren't whole.
+pub(crate) static KEPT: [Call; 2] = [Call::CountPuts, Call::Count(REWRITTEN)];
 
 /// Returns the batches as segments of one part each.
 pub(crate) fn batch_segments(

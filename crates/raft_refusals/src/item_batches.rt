@@ -1,5 +1,6 @@
 //! Batches of items without entry bytes.
 
+use crate::calls::Call;
 use crate::found::{Found, is_refused};
 use crate::steps::Line;
 use raft_records::{
@@ -32,15 +33,11 @@ static CHANGES: [Change; 5] = [
     Change::Merge,
 ];
 
-fn changes() -> &'static [Change] {
-    &CHANGES
-}
-
-/// Returns the bytes of a batch without items, and of one of several; then what is read of bytes.
+/// Returns the bytes of a batch without items, and of one of several.
 pub(crate) fn encode(found: &mut Found) -> Result<()> {
     let mut batch = LogItemBatch::default(found.alloc);
     encode_again(found, &mut batch)?;
-    for change in changes() {
+    for change in &CHANGES {
         change_again(found, &mut batch, *change)?;
     }
     encode_again(found, &mut batch)
@@ -95,60 +92,33 @@ fn encode_again(found: &mut Found, batch: &mut LogItemBatch) -> Result<()> {
     found.bytes(out.as_slice())
 }
 
-/// Bytes, and the version and the number of the append file that they are read from.
-type Bytes = (&'static [u8], Version, u64);
-
-static BATCHES: [Bytes; 7] = [
-    (b"\x00\x81\xef\x02\xd2", Version::V2, 12),
-    (b"\x00\x81\xef\x02\xd2", Version::V2, 13),
-    (b"\x00\x8d\xef\x02\xd2", Version::V1, 12),
-    (b"\x01\x01\x02\x01\x5a\x80\x0b\xdd", Version::V1, 12),
-    (
+pub(crate) static ITEM_BATCHES: [Call; 7] = [
+    Call::ReadBatch(b"\x00\x81\xef\x02\xd2", Version::V2, 12),
+    Call::ReadBatch(b"\x00\x81\xef\x02\xd2", Version::V2, 13),
+    Call::ReadBatch(b"\x00\x8d\xef\x02\xd2", Version::V1, 12),
+    Call::ReadBatch(b"\x01\x01\x02\x01\x5a\x80\x0b\xdd", Version::V1, 12),
+    Call::ReadBatch(
         b"\x01\x07\x01\x02\x0a\x02\x03\xa7\xb3\xdf\x17",
         Version::V1,
         12,
     ),
-    (b"", Version::V1, 12),
-    (b"\x8d\xef\x02\xd2", Version::V1, 12),
+    Call::ReadBatch(b"", Version::V1, 12),
+    Call::ReadBatch(b"\x8d\xef\x02\xd2", Version::V1, 12),
 ];
 
-fn bytes() -> &'static [Bytes] {
-    &BATCHES
-}
-
-/// Returns how many items bytes are, or why they are refused.
-pub(crate) fn decode(found: &mut Found) -> Result<()> {
-    for row in bytes() {
-        decode_again(found, row)?;
-    }
-    Ok(())
-}
-
-/// Reads bytes; where there is no memory the slice has to be as it was.
-fn decode_again(found: &mut Found, row: &Bytes) -> Result<()> {
-    let mut buf = row.0;
-    let mut answer = read(found.alloc, &mut buf, row);
-    if is_refused(&answer) {
-        found.look(buf == row.0);
-        answer = read(found.alloc, &mut buf, row);
-        answer = found.again(answer);
-    }
-    match answer {
-        Ok(items) => {
-            let alloc = found.alloc;
-            found.line(format!(in alloc; "items {items} rest {}", buf.len())?.as_str())
-        }
-        Err(error) => found.refused(error),
-    }
-}
-
-fn read(alloc: Global, buf: &mut &[u8], row: &Bytes) -> Result<usize> {
-    let context = LogFileContext::new(FileId::new(LogQueue::Append, row.2), row.1);
+/// Reads bytes, and adds a line with how many items they are; where there is no memory the slice has to be as it was.
+pub(crate) fn read(found: &mut Found, bytes: &[u8], version: Version, seq: u64) -> Result<()> {
+    let context = LogFileContext::new(FileId::new(LogQueue::Append, seq), version);
     let place = FileBlockHandle {
         id: context.id,
         offset: 0,
         len: 0,
     };
-    let batch = LogItemBatch::decode(alloc, buf, place, CompressionType::None, &context)?;
-    Ok(batch.iter().as_slice().len())
+    let alloc = found.alloc;
+    let mut buf = bytes;
+    let answer = LogItemBatch::decode(alloc, &mut buf, place, CompressionType::None, &context);
+    found.look(!is_refused(&answer) || buf == bytes);
+    let batch = answer?;
+    let items = batch.iter().as_slice().len();
+    found.line(format!(in alloc; "items {items} rest {}", buf.len())?.as_str())
 }

@@ -1,163 +1,84 @@
 //! Items, and what they say, that are read and written again.
 
+use crate::calls::Call;
 use crate::found::{Found, is_refused};
 use raft_records::{Command, EntryIndexes, KeyValue, LogItem, Result};
+use std::alloc::Global;
 
-static COMMANDS: [&[u8]; 4] = [b"\x01", b"\x02\x07", b"\x03\xac\x02", b"\x07"];
+/// As what bytes are read.
+#[derive(Clone, Copy)]
+pub(crate) enum Form {
+    Command,
+    KeyValue,
+    Entries,
+    Item,
+}
 
-static PAIRS: [&[u8]; 4] = [
-    b"\x01\x03put\x05put_v",
-    b"\x02\x00",
-    b"\x00",
-    b"\x01\x7fput",
+/// What was read.
+#[derive(Drop)]
+enum Content {
+    Command(Command),
+    KeyValue(KeyValue),
+    Entries(EntryIndexes),
+    Item(LogItem),
+}
+
+pub(crate) static ITEMS: [Call; 18] = [
+    Call::Read(Form::Command, b"\x01"),
+    Call::Read(Form::Command, b"\x02\x07"),
+    Call::Read(Form::Command, b"\x03\xac\x02"),
+    Call::Read(Form::Command, b"\x07"),
+    Call::Read(Form::KeyValue, b"\x01\x03put\x05put_v"),
+    Call::Read(Form::KeyValue, b"\x02\x00"),
+    Call::Read(Form::KeyValue, b"\x00"),
+    Call::Read(Form::KeyValue, b"\x01\x7fput"),
+    Call::Read(Form::Entries, b"\x03\x0a\x01\x02\x03"),
+    Call::Read(Form::Entries, b"\x02\x05\x03\x02"),
+    Call::Read(
+        Form::Entries,
+        b"\x01\xfe\xff\xff\xff\xff\xff\xff\xff\xff\x01\x00",
+    ),
+    Call::Read(
+        Form::Entries,
+        b"\x02\xfe\xff\xff\xff\xff\xff\xff\xff\xff\x01\x00\x00",
+    ),
+    Call::Read(Form::Item, b"\x01\x02\x01"),
+    Call::Read(Form::Item, b"\x01\x02\x02\x07"),
+    Call::Read(Form::Item, b"\xac\x02\x03\x01\x03put\x05put_v"),
+    Call::Read(Form::Item, b"\x07\x01\x02\x0a\x02\x03"),
+    Call::Read(Form::Item, b"\x01\x04"),
+    Call::Read(Form::Item, b"\x01\x02\x07"),
 ];
 
-static ENTRIES: [&[u8]; 4] = [
-    b"\x03\x0a\x01\x02\x03",
-    b"\x02\x05\x03\x02",
-    b"\x01\xfe\xff\xff\xff\xff\xff\xff\xff\xff\x01\x00",
-    b"\x02\xfe\xff\xff\xff\xff\xff\xff\xff\xff\x01\x00\x00",
-];
-
-static ITEMS: [&[u8]; 6] = [
-    b"\x01\x02\x01",
-    b"\x01\x02\x02\x07",
-    b"\xac\x02\x03\x01\x03put\x05put_v",
-    b"\x07\x01\x02\x0a\x02\x03",
-    b"\x01\x04",
-    b"\x01\x02\x07",
-];
-
-fn commands() -> &'static [&'static [u8]] {
-    &COMMANDS
-}
-
-fn pairs() -> &'static [&'static [u8]] {
-    &PAIRS
-}
-
-fn entries() -> &'static [&'static [u8]] {
-    &ENTRIES
-}
-
-fn items() -> &'static [&'static [u8]] {
-    &ITEMS
-}
-
-/// Reads commands, key values, entries and items: shows why they are refused, or their bytes,
-/// written again.
-pub(crate) fn read(found: &mut Found) -> Result<()> {
-    for bytes in commands() {
-        command(found, bytes)?;
-    }
-    for bytes in pairs() {
-        pair(found, bytes)?;
-    }
-    for bytes in entries() {
-        entry_indexes(found, bytes)?;
-    }
-    for bytes in items() {
-        item(found, bytes)?;
-    }
-    Ok(())
-}
-
-/// Hands on a first or a second reading, and adds the word of one that is refused.
-fn answered<T: Drop>(found: &mut Found, answer: Result<T>) -> Result<Option<T>> {
-    match found.again(answer) {
-        Ok(read) => Ok(Some(read)),
-        Err(error) => {
-            found.refused(error)?;
-            Ok(None)
-        }
+fn decode(alloc: Global, form: Form, buf: &mut &[u8], size: &mut u32) -> Result<Content> {
+    match form {
+        Form::Command => Ok(Content::Command(Command::decode(alloc, buf)?)),
+        Form::KeyValue => Ok(Content::KeyValue(KeyValue::decode(alloc, buf)?)),
+        Form::Entries => Ok(Content::Entries(EntryIndexes::decode(alloc, buf, size)?)),
+        Form::Item => Ok(Content::Item(LogItem::decode(alloc, buf, size)?)),
     }
 }
 
-/// Adds a line with the bytes that a first or a second writing gave. The vector began with a byte.
-fn written(found: &mut Found, bytes: &Vec<u8>, answer: Result<()>) -> Result<()> {
-    found.again(answer)?;
-    found.bytes(bytes.as_slice())
+fn encode(content: &Content, out: &mut Vec<u8>) -> Result<()> {
+    match content {
+        Content::Command(command) => command.encode(out),
+        Content::KeyValue(pair) => pair.encode(out),
+        Content::Entries(entries) => entries.encode(out),
+        Content::Item(item) => item.encode(out),
+    }
 }
 
-/// Tests whether a vector has the byte that it began with, and no more.
-fn is_left(bytes: &Vec<u8>) -> bool {
-    bytes.as_slice() == [b'!'].as_slice()
-}
-
-fn command(found: &mut Found, bytes: &[u8]) -> Result<()> {
-    let mut buf = bytes;
-    let mut read = Command::decode(found.alloc, &mut buf);
-    if is_refused(&read) {
-        found.look(buf == bytes);
-        read = Command::decode(found.alloc, &mut buf);
-    }
-    let Some(command) = answered(found, read)? else {
-        return Ok(());
-    };
-    let mut out = Vec::from_slice(found.alloc, b"!")?;
-    let mut answer = command.encode(&mut out);
-    if is_refused(&answer) {
-        found.look(is_left(&out));
-        answer = command.encode(&mut out);
-    }
-    written(found, &out, answer)
-}
-
-fn pair(found: &mut Found, bytes: &[u8]) -> Result<()> {
-    let mut buf = bytes;
-    let mut read = KeyValue::decode(found.alloc, &mut buf);
-    if is_refused(&read) {
-        found.look(buf == bytes);
-        read = KeyValue::decode(found.alloc, &mut buf);
-    }
-    let Some(pair) = answered(found, read)? else {
-        return Ok(());
-    };
-    let mut out = Vec::from_slice(found.alloc, b"!")?;
-    let mut answer = pair.encode(&mut out);
-    if is_refused(&answer) {
-        found.look(is_left(&out));
-        answer = pair.encode(&mut out);
-    }
-    written(found, &out, answer)
-}
-
-fn entry_indexes(found: &mut Found, bytes: &[u8]) -> Result<()> {
+/// Reads bytes, and adds a line with them, written again after another byte. Where there is no memory slice and running
+/// offset have to be as they were, and that byte stands alone.
+pub(crate) fn read(found: &mut Found, form: Form, bytes: &[u8]) -> Result<()> {
     let mut buf = bytes;
     let mut size = 0u32;
-    let mut read = EntryIndexes::decode(found.alloc, &mut buf, &mut size);
-    if is_refused(&read) {
-        found.look(buf == bytes && size == 0);
-        read = EntryIndexes::decode(found.alloc, &mut buf, &mut size);
-    }
-    let Some(entries) = answered(found, read)? else {
-        return Ok(());
-    };
+    let read = decode(found.alloc, form, &mut buf, &mut size);
+    found.look(!is_refused(&read) || buf == bytes && size == 0);
+    let content = read?;
     let mut out = Vec::from_slice(found.alloc, b"!")?;
-    let mut answer = entries.encode(&mut out);
-    if is_refused(&answer) {
-        found.look(is_left(&out));
-        answer = entries.encode(&mut out);
-    }
-    written(found, &out, answer)
-}
-
-fn item(found: &mut Found, bytes: &[u8]) -> Result<()> {
-    let mut buf = bytes;
-    let mut size = 0u32;
-    let mut read = LogItem::decode(found.alloc, &mut buf, &mut size);
-    if is_refused(&read) {
-        found.look(buf == bytes && size == 0);
-        read = LogItem::decode(found.alloc, &mut buf, &mut size);
-    }
-    let Some(item) = answered(found, read)? else {
-        return Ok(());
-    };
-    let mut out = Vec::from_slice(found.alloc, b"!")?;
-    let mut answer = item.encode(&mut out);
-    if is_refused(&answer) {
-        found.look(is_left(&out));
-        answer = item.encode(&mut out);
-    }
-    written(found, &out, answer)
+    let answer = encode(&content, &mut out);
+    found.look(!is_refused(&answer) || out.as_slice() == [b'!'].as_slice());
+    answer?;
+    found.bytes(out.as_slice())
 }

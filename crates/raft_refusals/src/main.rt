@@ -1,8 +1,9 @@
-//! Makes the calls of a row, each again where it finds no memory, and prints what they give: `raft_refusals
+//! Makes the calls of a row, again where one finds no memory, and prints what they give: `raft_refusals
 //! ROW..`, and of all rows without a word. What has to stand after a refusal is looked at, by value.
 #![tactic(auto)]
 
 mod batches;
+mod calls;
 mod contexts;
 mod found;
 mod histories;
@@ -103,34 +104,15 @@ fn print_row<R: Threads + Wait + Print + AllocGlobal + Sync>(rt: &R, row: &str) 
 fn call<R: Threads + Wait + Sync>(rt: &R, row: &str, found: &mut Found) -> Result<()> {
     match row {
         "numbers" => numbers::encode(found),
-        "items" => items::read(found),
         "item-batches" => item_batches::encode(found),
-        "item-batch-bytes" => item_batches::decode(found),
-        "batches" => batches::encode(found),
         "batch-merge" => batches::merge(found),
         "groups" => batches::group(found),
-        "parts" => parts::next(found),
-        "blocks" => parts::blocks(found),
-        "cuts" => parts::cuts(found),
-        "tables" => tables::change_all(found),
         "fetches" => tables::fetch_all(found),
-        "writes" => writes::write_all(found),
         "regions" => writes::regions(found),
         "take" => writes::take(found),
-        "table-merges" => writes::merge(found),
         "shared" => shared::call_all(rt, found),
         "shared-take" => shared::take(rt, found),
         "slot-take" => shared::slot(found),
-        "contexts" => contexts::merge(found),
-        "long-contexts" => contexts::merge_many(found),
-        "overlays" => contexts::overlay(found),
-        "kept" => contexts::kept(found),
-        "tickets" => recoveries::tickets(found),
-        "shares" => recoveries::shares(rt, found),
-        "draws" => recoveries::draws(rt, found),
-        "workers" => recoveries::workers(rt, found),
-        "pieces" => recoveries::pieces(rt, found),
-        "prints" => recoveries::prints(rt, found),
-        _ => found.line("there is no such row"),
+        _ => calls::make_all(rt, found, row),
     }
 }

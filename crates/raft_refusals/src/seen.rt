@@ -1,6 +1,6 @@
 //! What can be seen of tables without memory.
 
-use raft_memtable::{EntryIndex, FileId, LogQueue, MemTable, MemTableAccessor};
+use raft_memtable::{EntryIndex, LogQueue, MemTable, MemTableAccessor};
 
 /// Tables in one number, how many there are, the counts, and the cleaned regions in one number.
 #[derive(Clone, Copy, PartialEq, Debug)]
@@ -46,19 +46,15 @@ fn with(all: u64, number: u64) -> u64 {
         .rotate_left(29)
 }
 
-fn with_file(all: u64, file: FileId) -> u64 {
-    let queue = match file.queue {
-        LogQueue::Append => 1,
-        LogQueue::Rewrite => 2,
-    };
-    with(with(all, queue), file.seq)
-}
-
 fn with_entry(all: u64, entry: EntryIndex) -> u64 {
     let mut all = with(all, entry.index);
     if let Some(handle) = entry.entries {
-        all = with(with_file(all, handle.id), handle.offset);
-        all = with(all, handle.len as u64);
+        let queue = match handle.id.queue {
+            LogQueue::Append => 1,
+            LogQueue::Rewrite => 2,
+        };
+        all = with(with(all, queue), handle.id.seq);
+        all = with(with(all, handle.offset), handle.len as u64);
     }
     with(
         with(all, u64::from(entry.entry_offset)),
@@ -109,9 +105,8 @@ fn with_pairs(before: u64, table: &MemTable) -> u64 {
     all
 }
 
-/// Tests whether the live counts are those of the tables, and each table is one run with the rewritten entries in
-/// front.
-pub(crate) fn are_sound(tables: &MemTableAccessor) -> bool {
+/// Tests whether the live counts are those of the tables.
+pub(crate) fn are_counted(tables: &MemTableAccessor) -> bool {
     let append = tables.fold(0u128, |sum, table: &MemTable| {
         sum.wrapping_add(table.records(LogQueue::Append))
     });
@@ -121,29 +116,4 @@ pub(crate) fn are_sound(tables: &MemTableAccessor) -> bool {
     let stats = tables.stats();
     append == stats.live_entries(LogQueue::Append) as u128
         && rewrite == stats.live_entries(LogQueue::Rewrite) as u128
-        && tables.fold(true, |sound, table: &MemTable| sound && is_sound(table))
-}
-
-fn is_sound(table: &MemTable) -> bool {
-    let (Some(first), Some(last)) = (table.first_index(), table.last_index()) else {
-        return table.rewrite_count() == 0;
-    };
-    let appended = first.saturating_add(table.rewrite_count() as u64);
-    for index in first..last.saturating_add(1) {
-        if !is_placed(table.get_entry(index), index, index < appended) {
-            return false;
-        }
-    }
-    true
-}
-
-/// Tests whether an entry has its index and lies in the queue that it is to lie in.
-fn is_placed(entry: Option<EntryIndex>, index: u64, is_rewritten: bool) -> bool {
-    let Some(entry) = entry else {
-        return false;
-    };
-    let Some(handle) = entry.entries else {
-        return false;
-    };
-    entry.index == index && (handle.id.queue == LogQueue::Rewrite) == is_rewritten
 }

@@ -3,30 +3,41 @@
 use crate::found::{Found, is_refused};
 use crate::seen::{number, of_regions};
 use crate::steps::{Step, written};
-use crate::writes::{Call, Write, WriteRow, calls, print_regions, tables_of};
-use raft_memtable::{Error, FileId, LogQueue, MemTable, Result, TableChange, slot_of};
+use crate::tables::put;
+use crate::writes::{Call, THIRD, Write, print_regions, tables_of};
+use raft_memtable::{Error, FileId, FileSeq, LogQueue, MemTable, Result, slot_of};
 use raft_records::LogBatch;
 use raft_recover::{SharedAccessor, Slot};
 use std::alloc::Global;
 use std::sync::Wait;
 
 /// What the tables have at first: region 1 with entries and a key, regions 3 and 5 cleaned.
-static FIRST: [WriteRow; 4] = [
-    (Write::Append, 1, Step::Run(1, 10, 20)),
-    (Write::Append, 1, Step::Put(1, b"k", b"v")),
-    (Write::Append, 1, Step::Clean(3)),
-    (Write::Append, 1, Step::Clean(5)),
+static FIRST: [Call; 4] = [
+    Call::Write(Write::Append, 1, Step::Run(1, 10, 20)),
+    Call::Write(Write::Append, 1, Step::Put(1, b"k", b"v")),
+    Call::Write(Write::Append, 1, Step::Clean(3)),
+    Call::Write(Write::Append, 1, Step::Clean(5)),
 ];
 
-/// Items that are written, with a gate those of the rewrite queue.
-static ITEMS: [(Option<u64>, u64, Step); 6] = [
-    (None, 2, Step::Run(1, 20, 25)),
-    (None, 2, Step::Put(2, b"k", b"v")),
-    (None, 2, Step::Truncate(1, 22)),
-    (Some(1), 50, Step::Run(1, 10, 15)),
-    (Some(1), 50, Step::Put(1, b"k", b"v")),
-    (None, 2, Step::Clean(7)),
+static CALLS: [Call; 13] = [
+    Call::Write(Write::Append, 2, Step::Run(1, 20, 25)),
+    Call::Write(Write::Append, 2, Step::Put(2, b"k", b"v")),
+    Call::Write(Write::Append, 2, Step::Truncate(1, 22)),
+    Call::Write(Write::Rewrite(Some(1)), 50, Step::Run(1, 10, 15)),
+    Call::Write(Write::Rewrite(Some(1)), 50, Step::Put(1, b"k", b"v")),
+    Call::Write(Write::Append, 2, Step::Clean(7)),
+    Call::Put(4),
+    Call::Make(7),
+    Call::Insert(8),
+    Call::Remove(5, true),
+    Call::Remove(9, true),
+    Call::Group(5, 49, 50),
+    Call::Group(7, 49, 50),
 ];
+
+fn calls() -> &'static [Call] {
+    &CALLS
+}
 
 /// All tables in one number, and the live counts.
 type SharedSeen = (u64, u128, u128);
@@ -47,13 +58,9 @@ fn shared_tables(alloc: Global) -> Result<SharedAccessor> {
     SharedAccessor::from_core(alloc, tables_of(alloc, &FIRST)?)
 }
 
-/// Makes calls with items and changes, and shows what is live after each.
+/// Makes calls, and shows what is live after each.
 pub(crate) fn call_all<R: Wait>(rt: &R, found: &mut Found) -> Result<()> {
     let shared = shared_tables(found.alloc)?;
-    for item in &ITEMS {
-        write_again(rt, found, &shared, item)?;
-    }
-    change_again(rt, found, &shared)?;
     for call in calls() {
         call_again(rt, found, &shared, *call)?;
     }
@@ -66,78 +73,7 @@ pub(crate) fn call_all<R: Wait>(rt: &R, found: &mut Found) -> Result<()> {
     found.line(format!(in alloc; "{} tables, ids {sum}", ids.len())?.as_str())
 }
 
-/// Adds a line with what is live.
-fn print_live(found: &mut Found, seen: SharedSeen) -> Result<()> {
-    let alloc = found.alloc;
-    let (_, append, rewrite) = seen;
-    found.line(format!(in alloc; "live {append} {rewrite}")?.as_str())
-}
-
-/// Writes an item; where there is no memory no record has changed.
-fn write_again<R: Wait>(
-    rt: &R,
-    found: &mut Found,
-    shared: &SharedAccessor,
-    item: &(Option<u64>, u64, Step),
-) -> Result<()> {
-    let before = see(rt, shared);
-    let mut answer = write(rt, found.alloc, shared, item);
-    if is_refused(&answer) {
-        found.look(see(rt, shared) == before);
-        answer = write(rt, found.alloc, shared, item);
-        answer = found.again(answer);
-    }
-    answer?;
-    print_live(found, see(rt, shared))
-}
-
-fn write<R: Wait>(
-    rt: &R,
-    alloc: Global,
-    shared: &SharedAccessor,
-    item: &(Option<u64>, u64, Step),
-) -> Result<()> {
-    let (gate, seq, step) = *item;
-    let queue = match gate {
-        Some(_) => LogQueue::Rewrite,
-        None => LogQueue::Append,
-    };
-    let mut batch = written(alloc, FileId::new(queue, seq), step)?;
-    match gate {
-        Some(_) => shared.apply_rewrite_writes(rt, batch.drain(), gate, seq),
-        None => shared.apply_append_writes(rt, batch.drain()),
-    }
-}
-
-/// Puts a key of region 4; where there is no memory no record has changed.
-fn change_again<R: Wait>(rt: &R, found: &mut Found, shared: &SharedAccessor) -> Result<()> {
-    let before = see(rt, shared);
-    let mut answer = put(rt, found.alloc, shared);
-    if is_refused(&answer) {
-        found.look(see(rt, shared) == before);
-        answer = put(rt, found.alloc, shared);
-        answer = found.again(answer);
-    }
-    answer?;
-    print_live(found, see(rt, shared))
-}
-
-fn put<R: Wait>(rt: &R, alloc: Global, shared: &SharedAccessor) -> Result<u64> {
-    let key = Vec::from_slice(alloc, b"k")?;
-    let value = Vec::from_slice(alloc, b"v")?;
-    let file_id = FileId::new(LogQueue::Append, 3);
-    shared.change(
-        rt,
-        4,
-        TableChange::Put {
-            key,
-            value,
-            file_id,
-        },
-    )
-}
-
-/// Makes a call; where there is no memory no record has changed.
+/// Makes a call, and adds a line with what is live then; where there is no memory no record has changed.
 fn call_again<R: Wait>(
     rt: &R,
     found: &mut Found,
@@ -152,11 +88,18 @@ fn call_again<R: Wait>(
         answer = found.again(answer);
     }
     answer?;
-    print_live(found, see(rt, shared))
+    let alloc = found.alloc;
+    let (_, append, rewrite) = see(rt, shared);
+    found.line(format!(in alloc; "live {append} {rewrite}")?.as_str())
 }
 
 fn call_at<R: Wait>(rt: &R, alloc: Global, shared: &SharedAccessor, call: Call) -> Result<()> {
     match call {
+        Call::Write(how, seq, step) => write(rt, alloc, shared, how, seq, step),
+        Call::Put(id) => {
+            shared.change(rt, id, put(alloc, b"k", THIRD)?)?;
+            Ok(())
+        }
         Call::Make(id) => shared.get_or_insert(rt, id),
         Call::Insert(id) => {
             let _replaced = shared.insert(rt, id, MemTable::new(alloc, id))?;
@@ -170,6 +113,21 @@ fn call_at<R: Wait>(rt: &R, alloc: Global, shared: &SharedAccessor, call: Call) 
             shared.apply_rewrite_atomic_group(rt, id, start, end)
         }
         Call::Group(..) => Err(Error::Failed),
+    }
+}
+
+fn write<R: Wait>(
+    rt: &R,
+    alloc: Global,
+    shared: &SharedAccessor,
+    how: Write,
+    seq: FileSeq,
+    step: Step,
+) -> Result<()> {
+    let mut batch = written(alloc, FileId::new(how.queue(), seq), step)?;
+    match how {
+        Write::Rewrite(gate) => shared.apply_rewrite_writes(rt, batch.drain(), gate, seq),
+        _ => shared.apply_append_writes(rt, batch.drain()),
     }
 }
 

@@ -1,5 +1,6 @@
 //! Changes of a table, and what is fetched of it.
 
+use crate::calls::Call;
 use crate::found::{Found, is_refused, word};
 use crate::seen::see;
 use raft_memtable::{
@@ -14,7 +15,7 @@ const REGION: u64 = 5;
 
 /// A change of the table.
 #[derive(Clone, Copy)]
-enum Change {
+pub(crate) enum Change {
     /// Entries from an index to below another, in a file.
     Append(u64, u64, FileSeq),
     /// The same, with a gate.
@@ -27,71 +28,59 @@ enum Change {
 }
 
 /// Changes of a table, one after the other.
-static ROWS: [&[Change]; 8] = [
-    &[
+pub(crate) static CHANGES: [Call; 8] = [
+    Call::Change(&[
         Change::Append(10, 20, 1),
         Change::Append(20, 30, 2),
         Change::Append(25, 35, 3),
         Change::Append(10, 40, 4),
-    ],
-    &[Change::Append(10, 20, 1), Change::Append(21, 22, 1)],
-    &[
+    ]),
+    Call::Change(&[Change::Append(10, 20, 1), Change::Append(21, 22, 1)]),
+    Call::Change(&[
         Change::Append(0, 25, 1),
         Change::Compact(5),
         Change::Compact(20),
         Change::Compact(20),
-    ],
-    &[
+    ]),
+    Call::Change(&[
         Change::Append(0, 10, 1),
         Change::Append(10, 20, 2),
         Change::Rewrite(0, 15, 50, Some(1)),
         Change::Rewrite(5, 10, 51, None),
         Change::Rewrite(12, 13, 52, Some(9)),
         Change::Rewrite(3, 12, 52, Some(9)),
-    ],
-    &[
+    ]),
+    Call::Change(&[
         Change::Append(10, 20, 1),
         Change::Append(20, 30, 2),
         Change::Append(25, 35, 3),
         Change::Compact(22),
         Change::Rewrite(22, 27, 50, Some(2)),
-    ],
-    &[Change::Append(10, 12, 1), Change::Append(12, 14, 1)],
-    &[
+    ]),
+    Call::Change(&[Change::Append(10, 12, 1), Change::Append(12, 14, 1)]),
+    Call::Change(&[
         Change::Put(b"k", 2),
         Change::RewriteKey(b"k", Some(1), 50),
         Change::RewriteKey(b"k", Some(2), 50),
         Change::RewriteKey(b"k", None, 40),
         Change::RewriteKey(b"k", None, 51),
         Change::Delete(b"k"),
-    ],
-    &[
+    ]),
+    Call::Change(&[
         Change::Append(0, 25, 1),
         Change::Truncate(20),
         Change::Truncate(20),
         Change::Truncate(0),
-    ],
+    ]),
 ];
 
-fn rows() -> &'static [&'static [Change]] {
-    &ROWS
-}
-
-/// Returns what each change returns, and what the table has then.
-pub(crate) fn change_all(found: &mut Found) -> Result<()> {
-    for row in rows() {
-        change_row(found, row)?;
-        found.line("")?;
-    }
-    Ok(())
-}
-
-fn change_row(found: &mut Found, changes: &[Change]) -> Result<()> {
+/// Adds what each change returns, and what the table has then.
+pub(crate) fn change_all(found: &mut Found, changes: &[Change]) -> Result<()> {
     let mut tables = MemTableAccessor::new(found.alloc)?;
     for change in changes {
         change_again(found, &mut tables, *change)?;
     }
-    Ok(())
+    found.line("")
 }
 
 /// Changes the table; where there is no memory all tables have to be as they were.
@@ -167,7 +156,7 @@ fn change_of(alloc: Global, change: Change) -> Result<TableChange> {
     })
 }
 
-fn put(alloc: Global, key: &[u8], file_id: FileId) -> Result<TableChange> {
+pub(crate) fn put(alloc: Global, key: &[u8], file_id: FileId) -> Result<TableChange> {
     let value = Vec::from_slice(alloc, b"v")?;
     Ok(TableChange::Put {
         key: Vec::from_slice(alloc, key)?,
@@ -239,28 +228,6 @@ fn fetched_table(alloc: Global) -> Result<MemTableAccessor> {
     Ok(tables)
 }
 
-/// The lengths of a table's entries from the index 10 on, and what is fetched of them.
-static LENGTHS: [(&[u32], Fetch); 2] = [
-    (&[], Fetch::To(0, 1, None)),
-    (&[0, 0, 5, 3], Fetch::To(10, 14, Some(0))),
-];
-
-fn lengths() -> &'static [(&'static [u32], Fetch)] {
-    &LENGTHS
-}
-
-/// Returns a table with entries of these lengths.
-fn table_of_lengths(alloc: Global, lengths: &[u32]) -> Result<MemTableAccessor> {
-    let mut tables = MemTableAccessor::new(alloc)?;
-    let end = 10u64.saturating_add(lengths.len() as u64);
-    let mut run = run(alloc, 10, end, FileId::new(LogQueue::Append, 1))?;
-    for (entry, length) in run.iter_mut().zip(lengths) {
-        entry.entry_len = *length;
-    }
-    tables.change(REGION, TableChange::Append(run))?;
-    Ok(tables)
-}
-
 /// Returns how many entries are fetched, and the first and the last of them; how many keys.
 pub(crate) fn fetch_all(found: &mut Found) -> Result<()> {
     let tables = fetched_table(found.alloc)?;
@@ -268,76 +235,40 @@ pub(crate) fn fetch_all(found: &mut Found) -> Result<()> {
         return Err(Error::Failed);
     };
     for fetch in fetches() {
-        fetch_again(found, table, *fetch)?;
+        fetch_entries(found, table, *fetch)?;
     }
     for &gate in &[Some(1), Some(2), None] {
-        fetch_pairs_again(found, table, gate)?;
-    }
-    for (lengths, fetch) in lengths() {
-        fetch_of_lengths(found, lengths, *fetch)?;
+        fetch_pairs(found, table, gate)?;
     }
     Ok(())
 }
 
-fn fetch_of_lengths(found: &mut Found, lengths: &[u32], fetch: Fetch) -> Result<()> {
-    let tables = table_of_lengths(found.alloc, lengths)?;
-    match tables.get(REGION) {
-        Some(table) => fetch_again(found, table, fetch),
-        None => Err(Error::Failed),
-    }
-}
-
-/// Fetches entries after another; where there is no memory that stands alone.
-fn fetch_again(found: &mut Found, table: &MemTable, fetch: Fetch) -> Result<()> {
+/// Fetches entries after another, which stands alone where that is refused.
+fn fetch_entries(found: &mut Found, table: &MemTable, fetch: Fetch) -> Result<()> {
     let mut vec = vec![in found.alloc; EntryIndex::default()]?;
-    let mut answer = fetch_to(table, fetch, &mut vec);
-    if is_refused(&answer) {
-        found.look(is_default(&vec));
-        answer = fetch_to(table, fetch, &mut vec);
-        answer = found.again(answer);
-    }
+    let answer = match fetch {
+        Fetch::To(begin, end, max_size) => table.fetch_entries_to(begin, end, max_size, &mut vec),
+        Fetch::Before(gate) => table.fetch_entry_indexes_before(gate, &mut vec),
+        Fetch::Rewritten => table.fetch_rewritten_entry_indexes(&mut vec),
+    };
+    found.look(answer.is_ok() || vec.as_slice() == [EntryIndex::default()].as_slice());
     if is_refused(&answer) {
         return answer;
     }
-    found.look(answer.is_ok() || is_default(&vec));
     let alloc = found.alloc;
     let last = vec.last().map_or(0, |entry| entry.index);
     found.line(format!(in alloc; "{} {} last {last}", word(&answer), vec.len())?.as_str())
 }
 
-fn is_default(vec: &Vec<EntryIndex>) -> bool {
-    vec.as_slice() == [EntryIndex::default()].as_slice()
-}
-
-fn fetch_to(table: &MemTable, fetch: Fetch, vec: &mut Vec<EntryIndex>) -> Result<()> {
-    match fetch {
-        Fetch::To(begin, end, max_size) => table.fetch_entries_to(begin, end, max_size, vec),
-        Fetch::Before(gate) => table.fetch_entry_indexes_before(gate, vec),
-        Fetch::Rewritten => table.fetch_rewritten_entry_indexes(vec),
-    }
-}
-
-/// Fetches pairs, those that are rewritten where there is no gate; where there is no memory the vector has to be empty.
-fn fetch_pairs_again(found: &mut Found, table: &MemTable, gate: Option<FileSeq>) -> Result<()> {
+/// Fetches pairs, those that are rewritten where there is no gate; none is there where that is refused.
+fn fetch_pairs(found: &mut Found, table: &MemTable, gate: Option<FileSeq>) -> Result<()> {
     let mut vec = Vec::new(found.alloc);
-    let mut answer = fetch_pairs(table, gate, &mut vec);
-    if is_refused(&answer) {
-        found.look(vec.is_empty());
-        answer = fetch_pairs(table, gate, &mut vec);
-        answer = found.again(answer);
-    }
+    let answer = match gate {
+        Some(gate) => table.fetch_kvs_before(gate, &mut vec),
+        None => table.fetch_rewritten_kvs(&mut vec),
+    };
+    found.look(answer.is_ok() || vec.is_empty());
     answer?;
     let alloc = found.alloc;
     found.line(format!(in alloc; "pairs {}", vec.len())?.as_str())
-}
-
-fn fetch_pairs(
-    table: &MemTable,
-    gate: Option<FileSeq>,
-    vec: &mut Vec<(Vec<u8>, Vec<u8>)>,
-) -> Result<()> {
-    match gate {
-        Some(gate) => table.fetch_kvs_before(gate, vec),
-        None => table.fetch_rewritten_kvs(vec),
-    }
 }

@@ -1,8 +1,10 @@
 //! Items that are written to the tables of several regions, calls at one region, and tables that are merged.
 
+use crate::calls;
 use crate::found::{Found, is_refused, word};
-use crate::seen::{are_sound, see};
+use crate::seen::{are_counted, see};
 use crate::steps::{Step, written};
+use crate::tables::put;
 use raft_memtable::{
     Error, FileId, FileSeq, LogBatch, LogQueue, MemTable, MemTableAccessor, Result,
 };
@@ -20,7 +22,7 @@ pub(crate) enum Write {
 }
 
 impl Write {
-    fn queue(self) -> LogQueue {
+    pub(crate) fn queue(self) -> LogQueue {
         match self {
             Write::Append | Write::ReplayAppend => LogQueue::Append,
             Write::ReplayRewrite | Write::Rewrite(_) => LogQueue::Rewrite,
@@ -28,76 +30,130 @@ impl Write {
     }
 }
 
-/// How an item is written, its file, and the item.
-pub(crate) type WriteRow = (Write, FileSeq, Step);
+/// A call of an accessor or of shared tables; but for an item its first number is the region.
+#[derive(Clone, Copy)]
+pub(crate) enum Call {
+    /// An item that is in a file of this number.
+    Write(Write, FileSeq, Step),
+    /// A key that is put in the third file.
+    Put(u64),
+    Make(u64),
+    Insert(u64),
+    /// Whether the region is listed as cleaned.
+    Remove(u64, bool),
+    Group(u64, FileSeq, FileSeq),
+}
 
-static WRITES: [&[WriteRow]; 3] = [
-    &[
-        (Write::Append, 1, Step::Run(1, 1, 4)),
-        (Write::Append, 1, Step::Run(1, 6, 8)),
-        (Write::Append, 1, Step::Put(2, b"k", b"v")),
-        (Write::Append, 1, Step::Run(2, 10, 20)),
-        (Write::Append, 1, Step::Compact(2, 15)),
-        (Write::Append, 1, Step::Truncate(2, 18)),
-        (Write::Append, 1, Step::Truncate(4, 18)),
-        (Write::Append, 1, Step::Clean(1)),
-        (Write::Rewrite(Some(1)), 50, Step::Run(2, 15, 17)),
-        (Write::Rewrite(Some(1)), 50, Step::Put(2, b"k", b"v")),
-        (Write::Rewrite(Some(1)), 50, Step::Delete(2, b"k")),
-        (Write::Rewrite(Some(1)), 50, Step::Compact(2, 17)),
-        (Write::Append, 2, Step::Delete(2, b"k")),
-    ],
-    &[
-        (Write::ReplayAppend, 1, Step::Run(5, 10, 20)),
-        (Write::ReplayAppend, 1, Step::Put(3, b"k", b"v")),
-        (Write::ReplayAppend, 1, Step::Clean(3)),
-        (Write::ReplayAppend, 1, Step::Clean(5)),
-        (Write::ReplayAppend, 1, Step::Clean(3)),
-    ],
-    &[
-        (Write::ReplayRewrite, 1, Step::Run(5, 10, 20)),
-        (Write::ReplayRewrite, 2, Step::Run(5, 25, 30)),
-        (Write::ReplayRewrite, 2, Step::Put(5, b"k", b"v")),
-        (Write::ReplayRewrite, 2, Step::Truncate(5, 28)),
-        (Write::ReplayRewrite, 2, Step::Clean(6)),
-    ],
+/// The third file of the append queue.
+pub(crate) const THIRD: FileId = FileId {
+    queue: LogQueue::Append,
+    seq: 3,
+};
+
+/// Items of both queues that are written, some of them refused.
+const WRITTEN: &[Call] = &[
+    Call::Write(Write::Append, 1, Step::Run(1, 1, 4)),
+    Call::Write(Write::Append, 1, Step::Run(1, 6, 8)),
+    Call::Write(Write::Append, 1, Step::Put(2, b"k", b"v")),
+    Call::Write(Write::Append, 1, Step::Run(2, 10, 20)),
+    Call::Write(Write::Append, 1, Step::Compact(2, 15)),
+    Call::Write(Write::Append, 1, Step::Truncate(2, 18)),
+    Call::Write(Write::Append, 1, Step::Truncate(4, 18)),
+    Call::Write(Write::Append, 1, Step::Clean(1)),
+    Call::Write(Write::Rewrite(Some(1)), 50, Step::Run(2, 15, 17)),
+    Call::Write(Write::Rewrite(Some(1)), 50, Step::Put(2, b"k", b"v")),
+    Call::Write(Write::Rewrite(Some(1)), 50, Step::Delete(2, b"k")),
+    Call::Write(Write::Rewrite(Some(1)), 50, Step::Compact(2, 17)),
+    Call::Write(Write::Append, 2, Step::Delete(2, b"k")),
 ];
 
-fn rows() -> &'static [&'static [WriteRow]] {
-    &WRITES
-}
+/// Items of the append queue that are read again, regions that are cleaned among them.
+const CLEANED: &[Call] = &[
+    Call::Write(Write::ReplayAppend, 1, Step::Run(5, 10, 20)),
+    Call::Write(Write::ReplayAppend, 1, Step::Put(3, b"k", b"v")),
+    Call::Write(Write::ReplayAppend, 1, Step::Clean(3)),
+    Call::Write(Write::ReplayAppend, 1, Step::Clean(5)),
+    Call::Write(Write::ReplayAppend, 1, Step::Clean(3)),
+];
 
-/// Returns what each writing returns, and the tables after the last.
-pub(crate) fn write_all(found: &mut Found) -> Result<()> {
-    for row in rows() {
-        let mut tables = MemTableAccessor::new(found.alloc)?;
-        for written in *row {
-            write_again(found, &mut tables, written)?;
+/// Items of the rewrite queue that are read again.
+const REWRITTEN: &[Call] = &[
+    Call::Write(Write::ReplayRewrite, 1, Step::Run(5, 10, 20)),
+    Call::Write(Write::ReplayRewrite, 2, Step::Run(5, 25, 30)),
+    Call::Write(Write::ReplayRewrite, 2, Step::Put(5, b"k", b"v")),
+    Call::Write(Write::ReplayRewrite, 2, Step::Truncate(5, 28)),
+    Call::Write(Write::ReplayRewrite, 2, Step::Clean(6)),
+];
+
+pub(crate) static WRITES: [calls::Call; 3] = [
+    calls::Call::Write(WRITTEN),
+    calls::Call::Write(CLEANED),
+    calls::Call::Write(REWRITTEN),
+];
+
+/// Adds what each call returns, and the tables after the last.
+pub(crate) fn write_all(found: &mut Found, calls: &[Call]) -> Result<()> {
+    let mut tables = MemTableAccessor::new(found.alloc)?;
+    for call in calls {
+        let answer = call_again(found, &mut tables, *call);
+        if is_refused(&answer) {
+            return answer;
         }
-        print(found, &tables)?;
+        found.line(word(&answer))?;
     }
-    Ok(())
+    print(found, &tables)
 }
 
-/// Writes an item; where there is no memory no record has changed.
-fn write_again(found: &mut Found, tables: &mut MemTableAccessor, row: &WriteRow) -> Result<()> {
+/// Makes a call; where there is no memory tables, counts and list have to be as they were, but for a table without
+/// records where an item is written.
+fn call_again(found: &mut Found, tables: &mut MemTableAccessor, call: Call) -> Result<()> {
     let before = see(tables);
-    let mut answer = write_one(found.alloc, tables, row);
-    if is_refused(&answer) {
-        let mut after = see(tables);
-        after.tables = before.tables;
-        found.look(after == before);
-        answer = write_one(found.alloc, tables, row);
-        answer = found.again(answer);
-    }
-    if is_refused(&answer) {
+    let answer = call_at(found.alloc, tables, call);
+    if !is_refused(&answer) {
         return answer;
     }
-    found.line(word(&answer))
+    let mut after = see(tables);
+    if matches!(call, Call::Write(..)) {
+        after.tables = before.tables;
+    }
+    found.look(after == before);
+    let answer = call_at(found.alloc, tables, call);
+    found.again(answer)
 }
 
-fn write_one(alloc: Global, tables: &mut MemTableAccessor, row: &WriteRow) -> Result<()> {
-    let (how, seq, step) = *row;
+fn call_at(alloc: Global, tables: &mut MemTableAccessor, call: Call) -> Result<()> {
+    match call {
+        Call::Write(how, seq, step) => write_one(alloc, tables, how, seq, step),
+        Call::Put(id) => {
+            tables.change(id, put(alloc, b"k", THIRD)?)?;
+            Ok(())
+        }
+        Call::Make(id) => {
+            tables.get_or_insert(id)?;
+            Ok(())
+        }
+        Call::Insert(id) => {
+            let _replaced = tables.insert(id, MemTable::new(alloc, id))?;
+            Ok(())
+        }
+        Call::Remove(id, is_listed) => {
+            let _removed = tables.remove(id, is_listed)?;
+            Ok(())
+        }
+        Call::Group(id, start, end) if start <= end => {
+            tables.apply_rewrite_atomic_group(id, start, end)
+        }
+        Call::Group(..) => Err(Error::Failed),
+    }
+}
+
+fn write_one(
+    alloc: Global,
+    tables: &mut MemTableAccessor,
+    how: Write,
+    seq: FileSeq,
+    step: Step,
+) -> Result<()> {
     let mut batch = written(alloc, FileId::new(how.queue(), seq), step)?;
     let items = batch.drain();
     match how {
@@ -114,19 +170,18 @@ pub(crate) fn print(found: &mut Found, tables: &MemTableAccessor) -> Result<()> 
     found.line(text.as_str())
 }
 
-/// Makes tables with these items.
-pub(crate) fn tables_of(alloc: Global, rows: &[WriteRow]) -> Result<MemTableAccessor> {
+/// Makes tables by these calls.
+pub(crate) fn tables_of(alloc: Global, calls: &[Call]) -> Result<MemTableAccessor> {
     let mut tables = MemTableAccessor::new(alloc)?;
-    for row in rows {
-        write_one(alloc, &mut tables, row)?;
+    for call in calls {
+        call_at(alloc, &mut tables, *call)?;
     }
     Ok(tables)
 }
 
 /// Takes the cleaned regions as a batch; where there is no memory list and tables have to be as they were.
 pub(crate) fn take(found: &mut Found) -> Result<()> {
-    let [_, cleaned, _] = &WRITES;
-    let mut tables = tables_of(found.alloc, cleaned)?;
+    let mut tables = tables_of(found.alloc, CLEANED)?;
     let before = see(&tables);
     let mut answer = tables.take_cleaned_region_logs();
     if is_refused(&answer) {
@@ -147,16 +202,6 @@ pub(crate) fn print_regions(found: &mut Found, mut batch: LogBatch) -> Result<()
     Ok(())
 }
 
-/// A call at a region.
-#[derive(Clone, Copy)]
-pub(crate) enum Call {
-    Make(u64),
-    Insert(u64),
-    /// Whether the region is listed as cleaned.
-    Remove(u64, bool),
-    Group(u64, FileSeq, FileSeq),
-}
-
 static CALLS: [Call; 6] = [
     Call::Make(7),
     Call::Insert(8),
@@ -166,15 +211,10 @@ static CALLS: [Call; 6] = [
     Call::Group(7, 49, 50),
 ];
 
-pub(crate) fn calls() -> &'static [Call] {
-    &CALLS
-}
-
 /// Makes calls at regions, and shows the tables after the last.
 pub(crate) fn regions(found: &mut Found) -> Result<()> {
-    let [_, _, rewritten] = &WRITES;
-    let mut tables = tables_of(found.alloc, rewritten)?;
-    for call in calls() {
+    let mut tables = tables_of(found.alloc, REWRITTEN)?;
+    for call in &CALLS {
         call_again(found, &mut tables, *call)?;
     }
     let all = tables.tables()?.len();
@@ -183,110 +223,68 @@ pub(crate) fn regions(found: &mut Found) -> Result<()> {
     print(found, &tables)
 }
 
-/// Makes a call; where there is no memory tables, counts and list have to be as they were.
-fn call_again(found: &mut Found, tables: &mut MemTableAccessor, call: Call) -> Result<()> {
-    let before = see(tables);
-    let answer = call_at(found.alloc, tables, call);
-    if !is_refused(&answer) {
-        return answer;
-    }
-    found.look(see(tables) == before);
-    let answer = call_at(found.alloc, tables, call);
-    found.again(answer)
-}
-
-fn call_at(alloc: Global, tables: &mut MemTableAccessor, call: Call) -> Result<()> {
-    match call {
-        Call::Make(id) => {
-            tables.get_or_insert(id)?;
-            Ok(())
-        }
-        Call::Insert(id) => {
-            let _replaced = tables.insert(id, MemTable::new(alloc, id))?;
-            Ok(())
-        }
-        Call::Remove(id, is_listed) => {
-            let _removed = tables.remove(id, is_listed)?;
-            Ok(())
-        }
-        Call::Group(id, start, end) if start <= end => {
-            tables.apply_rewrite_atomic_group(id, start, end)
-        }
-        Call::Group(..) => Err(Error::Failed),
-    }
-}
-
-/// Tables, newer ones, and whether those are of the append queue over the rewrite queue.
-type MergeRow = (&'static [WriteRow], &'static [WriteRow], bool);
-
-static MERGES: [MergeRow; 6] = [
-    (
+pub(crate) static MERGES: [calls::Call; 6] = [
+    calls::Call::MergeTables(
         &[
-            (Write::ReplayAppend, 1, Step::Run(1, 10, 20)),
-            (Write::ReplayAppend, 1, Step::Put(2, b"j", b"v")),
+            Call::Write(Write::ReplayAppend, 1, Step::Run(1, 10, 20)),
+            Call::Write(Write::ReplayAppend, 1, Step::Put(2, b"j", b"v")),
         ],
         &[
-            (Write::ReplayAppend, 2, Step::Run(1, 15, 18)),
-            (Write::ReplayAppend, 2, Step::Put(2, b"k", b"v")),
-            (Write::ReplayAppend, 2, Step::Run(3, 1, 4)),
+            Call::Write(Write::ReplayAppend, 2, Step::Run(1, 15, 18)),
+            Call::Write(Write::ReplayAppend, 2, Step::Put(2, b"k", b"v")),
+            Call::Write(Write::ReplayAppend, 2, Step::Run(3, 1, 4)),
         ],
         false,
     ),
-    (
-        &[(Write::ReplayAppend, 1, Step::Run(1, 10, 20))],
-        &[(Write::ReplayAppend, 2, Step::Run(1, 25, 30))],
+    calls::Call::MergeTables(
+        &[Call::Write(Write::ReplayAppend, 1, Step::Run(1, 10, 20))],
+        &[Call::Write(Write::ReplayAppend, 2, Step::Run(1, 25, 30))],
         false,
     ),
-    (
-        &[(Write::ReplayRewrite, 1, Step::Run(1, 10, 20))],
-        &[(Write::ReplayRewrite, 2, Step::Run(1, 25, 30))],
+    calls::Call::MergeTables(
+        &[Call::Write(Write::ReplayRewrite, 1, Step::Run(1, 10, 20))],
+        &[Call::Write(Write::ReplayRewrite, 2, Step::Run(1, 25, 30))],
         false,
     ),
-    (
-        &[(Write::ReplayAppend, 1, Step::Run(1, 10, 20))],
-        &[(Write::ReplayRewrite, 2, Step::Run(1, 25, 30))],
+    calls::Call::MergeTables(
+        &[Call::Write(Write::ReplayAppend, 1, Step::Run(1, 10, 20))],
+        &[Call::Write(Write::ReplayRewrite, 2, Step::Run(1, 25, 30))],
         false,
     ),
-    (
+    calls::Call::MergeTables(
         &[
-            (Write::ReplayRewrite, 1, Step::Run(1, 10, 20)),
-            (Write::ReplayRewrite, 1, Step::Put(1, b"j", b"v")),
+            Call::Write(Write::ReplayRewrite, 1, Step::Run(1, 10, 20)),
+            Call::Write(Write::ReplayRewrite, 1, Step::Put(1, b"j", b"v")),
         ],
         &[
-            (Write::ReplayAppend, 2, Step::Run(1, 25, 30)),
-            (Write::ReplayAppend, 2, Step::Put(1, b"k", b"v")),
+            Call::Write(Write::ReplayAppend, 2, Step::Run(1, 25, 30)),
+            Call::Write(Write::ReplayAppend, 2, Step::Put(1, b"k", b"v")),
         ],
         true,
     ),
-    (
-        &[(Write::ReplayRewrite, 1, Step::Run(1, 10, 20))],
-        &[(Write::ReplayRewrite, 2, Step::Run(1, 15, 18))],
+    calls::Call::MergeTables(
+        &[Call::Write(Write::ReplayRewrite, 1, Step::Run(1, 10, 20))],
+        &[Call::Write(Write::ReplayRewrite, 2, Step::Run(1, 15, 18))],
         true,
     ),
 ];
 
-fn merges() -> &'static [MergeRow] {
-    &MERGES
-}
-
-/// Returns what each merge returns, and the tables then.
-pub(crate) fn merge(found: &mut Found) -> Result<()> {
-    for row in merges() {
-        merge_row(found, row)?;
-    }
-    Ok(())
-}
-
-/// Merges tables; where there is no memory they have to be sound and agree with their counts.
-fn merge_row(found: &mut Found, row: &MergeRow) -> Result<()> {
-    let mut tables = tables_of(found.alloc, row.0)?;
-    let newer = tables_of(found.alloc, row.1)?;
-    let answer = if row.2 {
+/// Merges newer tables into older ones, and adds what that returns, and the tables then. They have to agree with their
+/// counts, also where there is no memory.
+pub(crate) fn merge(
+    found: &mut Found,
+    older: &[Call],
+    newer: &[Call],
+    is_append: bool,
+) -> Result<()> {
+    let mut tables = tables_of(found.alloc, older)?;
+    let newer = tables_of(found.alloc, newer)?;
+    let answer = if is_append {
         tables.merge_append_table(newer)
     } else {
         tables.merge_newer_neighbor(newer)
     };
-    found.look(are_sound(&tables));
+    found.look(are_counted(&tables));
     if is_refused(&answer) {
         return answer;
     }

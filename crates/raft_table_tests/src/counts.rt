@@ -1,66 +1,177 @@
-//! Counts of live records.
+//! Calls on an empty store that change keys and counts.
 
-use crate::store::Call::{Append, Put};
-use crate::store::{LogStore, of};
-use raft_memtable::{Error, GlobalStats, LogQueue, MemTable, Result};
-use std::alloc::Global;
-use std::process::Abort;
+use crate::rows::Row;
+use crate::store::Answer::{Corruption, Done, Dropped, Full};
+use crate::store::Call::{Append, Compact, Count, Delete, Group, Put, Replay, Rewrite, RewriteKey};
+use raft_memtable::LogQueue;
 
-/// Returns a store with ten appended entries and a rewritten key.
-fn both_queues(alloc: Global) -> Result<LogStore> {
-    let mut store = LogStore::new(alloc);
-    for &call in &[Append(of(0, 10, 1)), Put(LogQueue::Rewrite, 5)] {
-        store.direct(call)?;
-    }
-    Ok(store)
-}
+const MAX: u64 = u64::MAX;
 
-/// Returns how many records are live in the append queue, and how many were written to the rewrite queue and deleted
-/// from it.
-fn counts(stats: &GlobalStats) -> [usize; 3] {
-    [
-        stats.live_entries(LogQueue::Append),
-        stats.rewrite_entries(),
-        stats.deleted_rewrite_entries(),
-    ]
-}
+/// A key that is put, rewritten and deleted.
+pub const KEYS: &[Row] = &[
+    (
+        Put(LogQueue::Append, 2),
+        Done,
+        ((0, 0), (1, 2), (0, 0, 0)),
+        &[],
+    ),
+    (
+        RewriteKey(Some(1), 50),
+        Done,
+        ((0, 0), (1, 2), (1, 1, 0)),
+        &[],
+    ),
+    (
+        RewriteKey(Some(2), 50),
+        Done,
+        ((0, 0), (0, 0), (2, 1, 50)),
+        &[],
+    ),
+    (
+        RewriteKey(None, 40),
+        Corruption,
+        ((0, 0), (0, 0), (2, 1, 50)),
+        &[],
+    ),
+    (
+        RewriteKey(None, 51),
+        Done,
+        ((0, 0), (0, 0), (3, 2, 51)),
+        &[],
+    ),
+    (Delete, Done, ((0, 0), (0, 0), (3, 3, 0)), &[]),
+    (RewriteKey(None, 52), Done, ((0, 0), (0, 0), (4, 4, 0)), &[]),
+    (
+        Put(LogQueue::Rewrite, 60),
+        Done,
+        ((0, 0), (0, 0), (5, 4, 60)),
+        &[],
+    ),
+    (
+        Put(LogQueue::Append, 3),
+        Done,
+        ((0, 0), (1, 3), (5, 5, 0)),
+        &[],
+    ),
+];
 
-/// Counts a table among all, and twice where there is no room.
-fn count_table(rt: &impl Abort, table: &MemTable) -> Result<()> {
-    let mut stats = GlobalStats::default();
-    stats.add_table(table)?;
-    assert!(rt; counts(&stats) == [10, 1, 0]);
-    stats.delete_table(table);
-    assert!(rt; counts(&stats) == [0, 1, 1]);
-    stats.add(LogQueue::Append, usize::MAX - 9)?;
-    assert!(rt; matches!(stats.add_table(table), Err(Error::Full)));
-    assert!(rt; counts(&stats) == [usize::MAX - 9, 1, 1]);
-    Ok(())
-}
+/// An atomic group, which lowers the least file.
+pub const GROUPS: &[Row] = &[
+    (Group(3, 7), Done, ((0, 0), (0, 0), (0, 0, 0)), &[]),
+    (
+        Put(LogQueue::Rewrite, 5),
+        Done,
+        ((0, 0), (0, 0), (1, 0, 3)),
+        &[],
+    ),
+    (
+        Put(LogQueue::Rewrite, 8),
+        Done,
+        ((0, 0), (0, 0), (2, 1, 8)),
+        &[],
+    ),
+    (
+        Put(LogQueue::Rewrite, 2),
+        Done,
+        ((0, 0), (0, 0), (3, 2, 2)),
+        &[],
+    ),
+];
 
-fn count(rt: &impl Abort, alloc: Global) -> Result<()> {
-    let store = both_queues(alloc)?;
-    count_table(rt, &store.table)
-}
+/// Calls for which the counts have no room.
+pub const FULL: &[Row] = &[
+    (
+        Count(LogQueue::Append, MAX - 10),
+        Done,
+        ((0, 0), (MAX - 10, 0), (0, 0, 0)),
+        &[],
+    ),
+    (
+        Append((0, 10, 1)),
+        Done,
+        ((0, 10), (MAX, 1), (0, 0, 0)),
+        &[(1, 10)],
+    ),
+    (
+        Append((10, 11, 2)),
+        Full,
+        ((0, 10), (MAX, 1), (0, 0, 0)),
+        &[(1, 10)],
+    ),
+    (
+        Replay(LogQueue::Append, (9, 11, 2)),
+        Full,
+        ((0, 10), (MAX, 1), (0, 0, 0)),
+        &[(1, 10)],
+    ),
+    (
+        Put(LogQueue::Append, 2),
+        Full,
+        ((0, 10), (MAX, 1), (0, 0, 0)),
+        &[(1, 10)],
+    ),
+    (
+        Count(LogQueue::Rewrite, MAX),
+        Done,
+        ((0, 10), (MAX, 1), (MAX, 0, 0)),
+        &[(1, 10)],
+    ),
+    (
+        Rewrite((0, 5, 50), Some(9)),
+        Full,
+        ((0, 10), (MAX, 1), (MAX, 0, 0)),
+        &[(1, 10)],
+    ),
+    (
+        RewriteKey(None, 50),
+        Full,
+        ((0, 10), (MAX, 1), (MAX, 0, 0)),
+        &[(1, 10)],
+    ),
+    (
+        Append((3, 9, 2)),
+        Done,
+        ((0, 9), (MAX - 1, 1), (MAX, 0, 0)),
+        &[(1, 3), (2, 6)],
+    ),
+];
 
-#[test]
-fn tables_are_counted_on_and_off(rt: HostRuntime) -> Result<()> {
-    match count(&rt, rt.alloc()) {
-        Err(Error::Memory) => count(&rt, rt.alloc()),
-        counted => counted,
-    }
-}
-
-#[test]
-fn deleted_records_make_room_once(rt: HostRuntime) -> Result<()> {
-    let mut stats = GlobalStats::default();
-    stats.add(LogQueue::Rewrite, usize::MAX)?;
-    stats.delete(LogQueue::Rewrite, 10);
-    stats.add(LogQueue::Rewrite, 4)?;
-    assert_eq!(rt; stats.rewrite_entries(), usize::MAX - 6);
-    assert_eq!(rt; stats.deleted_rewrite_entries(), 0);
-    stats.add(LogQueue::Append, usize::MAX)?;
-    assert!(rt; matches!(stats.add(LogQueue::Append, 1), Err(Error::Full)));
-    assert_eq!(rt; stats.live_entries(LogQueue::Append), usize::MAX);
-    Ok(())
-}
+/// Deleted records make room once.
+pub const ROOM: &[Row] = &[
+    (
+        Replay(LogQueue::Rewrite, (0, 10, 50)),
+        Done,
+        ((0, 10), (0, 0), (10, 0, 50)),
+        &[(50, 10)],
+    ),
+    (
+        Count(LogQueue::Rewrite, MAX - 10),
+        Done,
+        ((0, 10), (0, 0), (MAX, 0, 50)),
+        &[(50, 10)],
+    ),
+    (
+        Compact(10),
+        Dropped(10),
+        ((0, 0), (0, 0), (MAX, 10, 0)),
+        &[],
+    ),
+    (
+        Count(LogQueue::Rewrite, 4),
+        Done,
+        ((0, 0), (0, 0), (MAX - 6, 0, 0)),
+        &[],
+    ),
+    (
+        Count(LogQueue::Append, MAX),
+        Done,
+        ((0, 0), (MAX, 0), (MAX - 6, 0, 0)),
+        &[],
+    ),
+    (
+        Count(LogQueue::Append, 1),
+        Full,
+        ((0, 0), (MAX, 0), (MAX - 6, 0, 0)),
+        &[],
+    ),
+];

@@ -1,23 +1,32 @@
-//! Walks over keys, and the key values of two tables that are joined.
+//! Walks over keys, and pairs that are handed out.
 
 use crate::store::LogStore;
-use raft_memtable::{Error, FileId, FileSeq, LogQueue, MemTable, Result, TableChange};
+use raft_memtable::{Error, FileId, LogQueue, MemTable, Result};
 use std::alloc::Global;
 use std::process::Abort;
 
-/// Puts each key with its value, all written to one file.
-fn put(store: &mut LogStore, file_id: FileId, pairs: &[(&[u8], &[u8])]) -> Result<()> {
-    for (key, value) in pairs {
-        store.put(*key, *value, file_id)?;
+/// Returns a store of three keys, of which the second is rewritten.
+fn store_of_keys(alloc: Global) -> Result<LogStore> {
+    let mut store = LogStore::new(alloc);
+    for &(key, queue, seq) in &[
+        (b"2", LogQueue::Rewrite, 2),
+        (b"3", LogQueue::Append, 3),
+        (b"1", LogQueue::Append, 1),
+    ] {
+        store.put(key, b"value", FileId::new(queue, seq))?;
     }
-    Ok(())
+    Ok(store)
 }
 
-/// Returns a store of these keys in one file.
-fn store_of_pairs(alloc: Global, file: FileId, pairs: &[(&[u8], &[u8])]) -> Result<LogStore> {
-    let mut store = LogStore::new(alloc);
-    put(&mut store, file, pairs)?;
-    Ok(store)
+/// Returns how many pairs are fetched, and whether the first is of the key 1.
+fn fetch_pairs(alloc: Global, table: &MemTable) -> Result<(usize, bool)> {
+    let mut pairs = Vec::new(alloc);
+    table.fetch_kvs_before(2, &mut pairs)?;
+    table.fetch_rewritten_kvs(&mut pairs)?;
+    let first = pairs
+        .first()
+        .is_some_and(|p| p.0.as_slice() == b"1".as_slice());
+    Ok((pairs.len(), first))
 }
 
 /// A bound of a walk.
@@ -59,84 +68,21 @@ fn seen(table: &MemTable, start: Bound, end: Bound, reverse: bool, limit: u64) -
     Ok(seen)
 }
 
-#[test]
-fn walks_end_at_bounds_and_when_told(rt: HostRuntime) -> Result<()> {
-    match walk(&rt, rt.alloc()) {
-        Err(Error::Memory) => walk(&rt, rt.alloc()),
-        walked => walked,
-    }
-}
-
-fn walk(rt: &impl Abort, alloc: Global) -> Result<()> {
-    let file = FileId::new(LogQueue::Append, 1);
-    let store = store_of_pairs(alloc, file, &[(b"2", b"b"), (b"3", b"c"), (b"1", b"a")])?;
+fn ask(rt: &impl Abort, alloc: Global) -> Result<()> {
+    let store = store_of_keys(alloc)?;
+    let table = &store.table;
+    assert!(rt; table.get(b"2") == Some(b"value".as_slice()));
+    assert!(rt; fetch_pairs(alloc, table)? == (2, true));
     for (start, end, reverse, limit, want) in walks() {
-        assert_eq!(rt; seen(&store.table, *start, *end, *reverse, *limit)?, *want);
+        assert_eq!(rt; seen(table, *start, *end, *reverse, *limit)?, *want);
     }
     Ok(())
 }
 
 #[test]
-fn newer_pairs_replace_older_ones(rt: HostRuntime) -> Result<()> {
-    match join(&rt, rt.alloc()) {
-        Err(Error::Memory) => join(&rt, rt.alloc()),
-        joined => joined,
+fn keys_are_walked_and_pairs_handed_out(rt: HostRuntime) -> Result<()> {
+    match ask(&rt, rt.alloc()) {
+        Err(Error::Memory) => ask(&rt, rt.alloc()),
+        asked => asked,
     }
-}
-
-/// Returns a store with two rewritten keys under two appended ones, of which one is the same.
-fn joined(alloc: Global) -> Result<LogStore> {
-    let rewritten = FileId::new(LogQueue::Rewrite, 7);
-    let mut store = store_of_pairs(alloc, rewritten, &[(b"j", b"1"), (b"k", b"2")])?;
-    let appended = FileId::new(LogQueue::Append, 9);
-    let newer = store_of_pairs(alloc, appended, &[(b"k", b"3"), (b"l", b"4")])?;
-    let mut table = newer.table;
-    store.merge(&mut table, true)?;
-    Ok(store)
-}
-
-/// Returns how many pairs lie in the append queue's files up to one.
-fn count_before(alloc: Global, table: &MemTable, gate: FileSeq) -> Result<usize> {
-    let mut pairs = Vec::new(alloc);
-    table.fetch_kvs_before(gate, &mut pairs)?;
-    Ok(pairs.len())
-}
-
-/// Returns how many keys there are, how many of them are rewritten, and the least file of the others.
-fn counts(table: &MemTable) -> (usize, u128, Option<FileSeq>) {
-    (
-        table.key_count(),
-        table.records(LogQueue::Rewrite),
-        table.min_file_seq(LogQueue::Append),
-    )
-}
-
-fn rewrite_key(store: &mut LogStore, key: &[u8]) -> Result<()> {
-    let rewritten = TableChange::RewriteKey {
-        key: store.bytes(key)?,
-        gate: Some(9),
-        seq: 50,
-    };
-    store.make(rewritten)?;
-    Ok(())
-}
-
-fn delete_key(store: &mut LogStore, key: &[u8]) -> Result<()> {
-    let deleted = TableChange::Delete {
-        key: store.bytes(key)?,
-    };
-    store.make(deleted)?;
-    Ok(())
-}
-
-fn join(rt: &impl Abort, alloc: Global) -> Result<()> {
-    let mut store = joined(alloc)?;
-    assert!(rt; store.table.get(b"k") == Some(b"3".as_slice()));
-    assert!(rt; counts(&store.table) == (3, 1, Some(9)));
-    assert!(rt; count_before(alloc, &store.table, 9)? == 2);
-    rewrite_key(&mut store, b"l")?;
-    assert!(rt; counts(&store.table) == (3, 2, Some(9)));
-    delete_key(&mut store, b"j")?;
-    assert!(rt; counts(&store.table) == (2, 1, Some(9)));
-    Ok(())
 }

@@ -1,49 +1,9 @@
 //! Long runs over many places, merges of long tables, and a long value.
 
-ghost use Rattle.std.specs.Prelude.{IfOk};
-ghost use Rattle.raft_base.specs.declared.pipe_log.LogQueue.{LogQueue};
-ghost use Rattle.raft_memtable.specs.TableEntries.{IsRunIn};
-
-use crate::store::LogStore;
-use raft_memtable::{
-    EntryIndex, Error, FileBlockHandle, FileId, LogQueue, MemTable, Result, TableChange, is_run,
-};
+use crate::store::Call::{Append, Replay, Rewrite};
+use crate::store::{Call, LogStore};
+use raft_memtable::{Error, FileId, LogQueue, MemTable, Result, TableChange};
 use std::alloc::Global;
-
-/// How many entries lie in one block.
-const BLOCK: u64 = 50;
-
-/// Returns entries from an index on and below another, fifty to a block of a file.
-fn long_run(alloc: Global, queue: LogQueue, first: u64, end: u64) -> Result<Vec<EntryIndex>>
-    ensures { IfOk result (λ run. IsRunIn queue run.items) }
-{
-    let mut run = Vec::new(alloc);
-    for index in first..end {
-        run.push(EntryIndex {
-            index,
-            entries: Some(FileBlockHandle {
-                id: FileId::new(queue, 1),
-                offset: index / BLOCK,
-                len: 64,
-            }),
-            entry_len: 1,
-            ..EntryIndex::default()
-        })?;
-    }
-    if is_run(&run, queue) {
-        Ok(run)
-    } else {
-        Err(Error::Failed)
-    }
-}
-
-/// Returns a store whose table replayed entries of a queue.
-fn replayed(alloc: Global, queue: LogQueue, first: u64, end: u64) -> Result<LogStore> {
-    let mut store = LogStore::new(alloc);
-    let run = long_run(alloc, queue, first, end)?;
-    store.replay(queue, run)?;
-    Ok(store)
-}
 
 /// The first index and the last, how many entries are rewritten, how many blocks there are, and how many entries are
 /// fetched.
@@ -61,53 +21,51 @@ fn shape(alloc: Global, table: &MemTable) -> Result<Shape> {
 
 /// Tests whether a list of 5,000 entries in 100 blocks is appended, and its older half is rewritten.
 fn is_rewritten(alloc: Global) -> Result<bool> {
-    let mut store = LogStore::new(alloc);
-    let run = long_run(alloc, LogQueue::Append, 0, 5_000)?;
-    store.make(TableChange::Append(run))?;
+    let mut store = LogStore::after(alloc, &[Append((0, 5_000, 1))])?;
     let appended = shape(alloc, &store.table)?;
-    let rewrite = TableChange::Rewrite {
-        entries: long_run(alloc, LogQueue::Rewrite, 0, 2_525)?,
-        gate: Some(1),
-    };
-    store.make(rewrite)?;
+    store.direct(Rewrite((0, 2_525, 1), Some(1)))?;
     Ok(
         appended == (Some(0), Some(4_999), 0, 100, 5_000)
             && shape(alloc, &store.table)? == (Some(0), Some(4_999), 2_525, 101, 5_000),
     )
 }
 
-/// The queue of a table with the entries from 0 on and below 5,000, whether the one with those from 4,000 on and below
-/// 9,000 is merged as the append queue's, and the table then.
-static MERGES: [(LogQueue, bool, Shape); 3] = [
+/// A call on each of two stores, whether the table of the second is merged as an append table or as the newer neighbor,
+/// and the table then.
+type MergeRow = (Call, Call, bool, Shape);
+
+static MERGES: [MergeRow; 3] = [
     (
-        LogQueue::Append,
+        Replay(LogQueue::Append, (0, 5_000, 1)),
+        Replay(LogQueue::Append, (4_000, 9_000, 1)),
         false,
         (Some(0), Some(8_999), 0, 180, 9_000),
     ),
     (
-        LogQueue::Rewrite,
+        Replay(LogQueue::Rewrite, (0, 5_000, 1)),
+        Replay(LogQueue::Rewrite, (4_000, 9_000, 1)),
         false,
         (Some(0), Some(8_999), 9_000, 180, 9_000),
     ),
     (
-        LogQueue::Rewrite,
+        Replay(LogQueue::Rewrite, (0, 5_000, 1)),
+        Replay(LogQueue::Append, (4_000, 9_000, 1)),
         true,
         (Some(0), Some(8_999), 4_000, 180, 9_000),
     ),
 ];
 
-fn merges() -> &'static [(LogQueue, bool, Shape)] {
+fn merges() -> &'static [MergeRow] {
     &MERGES
 }
 
 /// Tests whether both tables are merged so.
-fn is_merged(alloc: Global, row: &(LogQueue, bool, Shape)) -> Result<bool> {
-    let (queue, is_append, merged) = *row;
-    let newer_queue = if is_append { LogQueue::Append } else { queue };
-    let mut store = replayed(alloc, queue, 0, 5_000)?;
-    let mut newer = replayed(alloc, newer_queue, 4_000, 9_000)?.table;
-    store.merge(&mut newer, is_append)?;
-    Ok(shape(alloc, &store.table)? == merged && newer.last_index().is_none())
+fn is_merged(alloc: Global, row: &MergeRow) -> Result<bool> {
+    let (older, newer, is_append, merged) = *row;
+    let mut store = LogStore::after(alloc, &[older])?;
+    let mut table = LogStore::after(alloc, &[newer])?.table;
+    store.merge(&mut table, is_append)?;
+    Ok(shape(alloc, &store.table)? == merged)
 }
 
 /// Tests whether the empty key has a value of 64 KiB, until it is deleted.

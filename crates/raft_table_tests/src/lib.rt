@@ -2,8 +2,6 @@
 #![tactic(auto)]
 
 #[cfg(test)]
-mod blocks;
-#[cfg(test)]
 mod calls;
 #[cfg(test)]
 mod counts;
@@ -15,5 +13,7 @@ mod large;
 mod queries;
 #[cfg(test)]
 mod random_calls;
+#[cfg(test)]
+mod rows;
 #[cfg(test)]
 mod store;

@@ -1,14 +1,9 @@
 //! Random calls of a table, beside a plain list of its entries.
 
-ghost use Rattle.std.specs.Prelude.{◌<◌, IfOk};
-ghost use Rattle.raft_base.specs.declared.pipe_log.LogQueue.{LogQueue};
-ghost use Rattle.raft_memtable.specs.TableEntries.{IsRunIn};
+ghost use Rattle.std.specs.Prelude.{◌<◌};
 
-use crate::store::LogStore;
-use raft_memtable::{
-    EntryIndex, Error, FileBlockHandle, FileId, FileSeq, LogQueue, Mark, MemTable, Result, Step,
-    is_run,
-};
+use crate::store::{Call, LogStore, Run, entry_of};
+use raft_memtable::{EntryIndex, Error, FileSeq, LogQueue, Mark, MemTable, Result, Step};
 use std::alloc::Global;
 
 /// Numbers of a linear congruential generator.
@@ -31,25 +26,10 @@ impl Numbers {
     }
 }
 
-/// So many entries from an index on, in one block of a file. The number of the call that brings them tells
-/// them from others.
+/// A change of a table.
 #[derive(Clone, Copy, Debug)]
-struct Run {
-    first: u64,
-    count: u64,
-    seq: FileSeq,
-    call: u32,
-}
-
-/// What is done to a table.
-#[derive(Clone, Copy, Debug)]
-enum Call {
-    Append(Run),
-    ReplayAppend(Run),
-    ReplayRewrite(Run),
-    Rewrite(Run, Option<FileSeq>),
-    Compact(u64),
-    Truncate(u64),
+enum Change {
+    Call(Call),
     /// The table of a run is merged as the newer neighbor.
     MergeNewer(LogQueue, Run),
     /// The table of a run is merged as the appended one.
@@ -71,132 +51,62 @@ impl Bounds {
     }
 }
 
-impl Run {
-    /// Returns a run of up to three entries in a file from 1 to 3, that starts near the entries of a list or, less
-    /// often, anywhere; all indexes stay below 27.
-    fn random(numbers: &mut Numbers, list: &List, call: u32) -> Run {
-        let near = list
-            .start()
-            .saturating_add(numbers.below(list.entries.len() as u64 + 2));
-        let far = numbers.below(24);
-        Run {
-            first: if numbers.below(16) == 0 {
-                far
-            } else {
-                near.min(24)
-            },
-            count: 1 + numbers.below(3),
-            seq: 1 + numbers.below(3),
-            call,
-        }
-    }
-
-    fn holds(&self, index: u64) -> bool {
-        self.first <= index && index < self.end()
-    }
-
-    fn end(&self) -> u64 {
-        self.first.saturating_add(self.count)
-    }
-}
-
-impl Call {
-    /// Returns some call with this number.
-    fn random(numbers: &mut Numbers, list: &List, call: u32) -> Call {
-        let run = Run::random(numbers, list, call);
-        let gate = 1 + numbers.below(3);
-        let index = list.start().saturating_add(numbers.below(3));
-        let bounds = Bounds {
-            floor: index,
-            cut: run.first.saturating_add(numbers.below(4)).saturating_sub(2),
-        };
-        match numbers.below(26) {
-            0..=5 => Call::Append(run),
-            6 => Call::ReplayAppend(run),
-            7 => Call::ReplayRewrite(run),
-            8..=14 => Call::Rewrite(run, Some(gate)),
-            15..=17 => Call::Rewrite(run, None),
-            18 => Call::Compact(index),
-            19 => Call::MergeNewer(LogQueue::Append, run),
-            20 => Call::MergeNewer(LogQueue::Rewrite, run),
-            21 => Call::MergeAppended(run),
-            22 => Call::JoinUnder(LogQueue::Rewrite, bounds, run),
-            23..=24 => Call::JoinUnder(LogQueue::Append, bounds, run),
-            _ => Call::Truncate(run.first),
-        }
-    }
-}
-
-/// Returns an entry of a run.
-fn entry_of(queue: LogQueue, run: Run, index: u64) -> EntryIndex {
-    EntryIndex {
-        index,
-        entries: Some(FileBlockHandle {
-            id: FileId::new(queue, run.seq),
-            offset: 0,
-            len: 64,
-        }),
-        entry_offset: run.call,
-        entry_len: 1,
-        ..EntryIndex::default()
-    }
-}
-
-/// Returns the entries of a run.
-fn entries_of(alloc: Global, queue: LogQueue, run: Run) -> Result<Vec<EntryIndex>>
-    ensures { IfOk result (λ entries. IsRunIn queue entries.items) }
-{
-    let mut entries = Vec::new(alloc);
-    for index in run.first..run.end() {
-        entries.push(entry_of(queue, run, index))?;
-    }
-    if is_run(&entries, queue) {
-        Ok(entries)
+/// Returns a run of up to three entries in a file from 1 to 3, that starts near the entries of a list or, less
+/// often, anywhere; all indexes stay below 27.
+fn random_run(numbers: &mut Numbers, list: &List) -> Run {
+    let near = list
+        .start()
+        .saturating_add(numbers.below(list.entries.len() as u64 + 2));
+    let far = numbers.below(24);
+    let first = if numbers.below(16) == 0 {
+        far
     } else {
-        Err(Error::Failed)
+        near.min(24)
+    };
+    let count = 1 + numbers.below(3);
+    (first, first.saturating_add(count), 1 + numbers.below(3))
+}
+
+/// Returns some change.
+fn random_change(numbers: &mut Numbers, list: &List) -> Change {
+    let run = random_run(numbers, list);
+    let gate = 1 + numbers.below(3);
+    let floor = list.start().saturating_add(numbers.below(3));
+    let cut = run.0.saturating_add(numbers.below(4)).saturating_sub(2);
+    let bounds = Bounds { floor, cut };
+    match numbers.below(26) {
+        0..=5 => Change::Call(Call::Append(run)),
+        6 => Change::Call(Call::Replay(LogQueue::Append, run)),
+        7 => Change::Call(Call::Replay(LogQueue::Rewrite, run)),
+        8..=14 => Change::Call(Call::Rewrite(run, Some(gate))),
+        15..=17 => Change::Call(Call::Rewrite(run, None)),
+        18 => Change::Call(Call::Compact(floor)),
+        19 => Change::MergeNewer(LogQueue::Append, run),
+        20 => Change::MergeNewer(LogQueue::Rewrite, run),
+        21 => Change::MergeAppended(run),
+        22 => Change::JoinUnder(LogQueue::Rewrite, bounds, run),
+        23..=24 => Change::JoinUnder(LogQueue::Append, bounds, run),
+        _ => Change::Call(Call::Truncate(run.0)),
     }
 }
 
 /// Returns the table of a run.
 fn table_of(alloc: Global, queue: LogQueue, run: Run) -> Result<MemTable> {
-    let mut store = LogStore::new(alloc);
-    store.replay(queue, entries_of(alloc, queue, run)?)?;
-    Ok(store.table)
+    Ok(LogStore::after(alloc, &[Call::Replay(queue, run)])?.table)
 }
 
-/// Makes a call.
-fn make(alloc: Global, store: &mut LogStore, call: Call) -> Result<()> {
-    match call {
-        Call::Append(run) => {
-            let run = entries_of(alloc, LogQueue::Append, run)?;
-            store.table.append(run, &mut store.stats)
-        }
-        Call::ReplayAppend(run) => {
-            store.replay(LogQueue::Append, entries_of(alloc, LogQueue::Append, run)?)
-        }
-        Call::ReplayRewrite(run) => {
-            store.replay(
-                LogQueue::Rewrite,
-                entries_of(alloc, LogQueue::Rewrite, run)?,
-            )
-        }
-        Call::Rewrite(run, gate) => {
-            let run = entries_of(alloc, LogQueue::Rewrite, run)?;
-            store.table.rewrite(run, gate, &mut store.stats)
-        }
-        Call::Compact(index) => {
-            store.table.compact_to(index, &mut store.stats);
+/// Makes a change.
+fn make(alloc: Global, store: &mut LogStore, change: Change) -> Result<()> {
+    match change {
+        Change::Call(call) => {
+            store.direct(call)?;
             Ok(())
         }
-        Call::MergeNewer(queue, run) => store.merge(&mut table_of(alloc, queue, run)?, false),
-        Call::MergeAppended(run) => {
+        Change::MergeNewer(queue, run) => store.merge(&mut table_of(alloc, queue, run)?, false),
+        Change::MergeAppended(run) => {
             store.merge(&mut table_of(alloc, LogQueue::Append, run)?, true)
         }
-        Call::Truncate(index) => {
-            store.table.truncate_from(index, &mut store.stats);
-            Ok(())
-        }
-        Call::JoinUnder(queue, bounds, run) => join_under(alloc, store, queue, bounds, run),
+        Change::JoinUnder(queue, bounds, run) => join_under(alloc, store, queue, bounds, run),
     }
 }
 
@@ -217,7 +127,7 @@ fn join_under(
         },
     )?;
     mark.add_step(queue, 0, &Step::Truncate { index: bounds.cut })?;
-    mark.add_run(queue, 0, run.first);
+    mark.add_run(queue, 0, run.0);
     store.join_under(queue, &mut table_of(alloc, queue, run)?, &mark)
 }
 
@@ -225,6 +135,11 @@ fn join_under(
 #[derive(Drop)]
 struct List {
     entries: Vec<EntryIndex>,
+}
+
+fn holds(run: Run, index: u64) -> bool {
+    let (first, end, _) = run;
+    first <= index && index < end
 }
 
 /// Tests whether an entry is in a queue.
@@ -261,11 +176,6 @@ impl List {
         }
     }
 
-    /// Returns the greatest index plus one, 0 without entries.
-    fn end(&self) -> u64 {
-        end_of(self.entries.last())
-    }
-
     /// Returns the end of the entries within bounds, 0 where there are none.
     fn end_within(&self, bounds: Bounds) -> u64 {
         end_of(self.entries.iter().filter(|e| bounds.hold(e)).last())
@@ -285,84 +195,70 @@ impl List {
         self.entries.iter().filter(|e| is_in(e, queue)).count()
     }
 
-    /// Returns how many stretches of neighbors of one place there are.
-    fn count_blocks(&self) -> usize {
-        let mut count = 0usize;
-        let mut last = None;
-        for entry in &self.entries {
-            if entry.entries != last {
-                count = count.saturating_add(1);
-                last = entry.entries;
-            }
-        }
-        count
-    }
-
     /// Tests whether a run in place of the entries from its start on leaves no hole.
     fn meets(&self, run: Run) -> bool {
-        self.entries.is_empty() || run.first <= self.end()
+        self.entries.is_empty() || run.0 <= end_of(self.entries.last())
     }
 
     /// Tests whether a rewriting may begin where it does: after no more than the rewritten entries, and with a gate
     /// right after them.
     fn may_rewrite(&self, run: Run, gate: Option<FileSeq>) -> bool {
-        if !self.entries.iter().any(|e| run.holds(e.index)) {
+        let (first, _, _) = run;
+        if !self.entries.iter().any(|e| holds(run, e.index)) {
             return true;
         }
-        let before = self.entries.iter().filter(|e| e.index < run.first).count();
+        let before = self.entries.iter().filter(|e| e.index < first).count();
         let rewritten = self.count_in(LogQueue::Rewrite);
         before == rewritten || before < rewritten && gate.is_none()
     }
 
-    /// Tests whether a call is accepted.
-    fn accepts(&self, call: Call) -> bool {
+    /// Tests whether a change is accepted.
+    fn accepts(&self, change: Change) -> bool {
         let appended = self.count_in(LogQueue::Append) > 0;
         let rewritten = self.count_in(LogQueue::Rewrite) > 0;
-        match call {
-            Call::Append(run) => {
-                self.meets(run) && self.entries.first().is_none_or(|e| e.index <= run.first)
-            }
-            Call::ReplayAppend(run) => self.meets(run),
-            Call::Rewrite(run, gate) => self.may_rewrite(run, gate),
-            Call::Compact(_) | Call::Truncate(_) => true,
-            Call::MergeNewer(LogQueue::Append, run) => !rewritten && self.meets(run),
-            Call::JoinUnder(LogQueue::Append, bounds, run) => {
+        match change {
+            Change::Call(Call::Append(run)) => self.meets(run) && self.start() <= run.0,
+            Change::Call(Call::Replay(LogQueue::Append, run)) => self.meets(run),
+            Change::Call(Call::Rewrite(run, gate)) => self.may_rewrite(run, gate),
+            Change::MergeNewer(LogQueue::Append, run) => !rewritten && self.meets(run),
+            Change::JoinUnder(LogQueue::Append, bounds, run) => {
                 let end = self.end_within(bounds);
-                end == 0 || run.first <= end
+                end == 0 || run.0 <= end
             }
-            Call::ReplayRewrite(_)
-            | Call::MergeNewer(LogQueue::Rewrite, _)
-            | Call::MergeAppended(_)
-            | Call::JoinUnder(LogQueue::Rewrite, ..) => !appended,
+            Change::Call(Call::Replay(LogQueue::Rewrite, _))
+            | Change::MergeNewer(LogQueue::Rewrite, _)
+            | Change::MergeAppended(_)
+            | Change::JoinUnder(LogQueue::Rewrite, ..) => !appended,
+            Change::Call(_) => true,
         }
     }
 
-    /// Makes a call that is accepted.
-    fn make(&mut self, call: Call) -> Result<()> {
-        match call {
-            Call::Append(run)
-            | Call::ReplayAppend(run)
-            | Call::MergeNewer(LogQueue::Append, run)
-            | Call::MergeAppended(run) => self.put(LogQueue::Append, run),
-            Call::ReplayRewrite(run) | Call::MergeNewer(LogQueue::Rewrite, run) => {
-                self.put(LogQueue::Rewrite, run)
+    /// Makes a change that is accepted.
+    fn make(&mut self, change: Change) -> Result<()> {
+        match change {
+            Change::Call(Call::Append(run)) | Change::MergeAppended(run) => {
+                self.put(LogQueue::Append, run)
             }
-            Call::Rewrite(run, gate) => {
-                self.move_places(run, gate);
-                Ok(())
+            Change::Call(Call::Replay(queue, run)) | Change::MergeNewer(queue, run) => {
+                self.put(queue, run)
             }
-            Call::Compact(index) => {
-                self.entries.retain(|e| e.index >= index);
-                Ok(())
-            }
-            Call::Truncate(index) => {
-                self.entries.retain(|e| e.index < index);
-                Ok(())
-            }
-            Call::JoinUnder(queue, bounds, run) => {
+            Change::JoinUnder(queue, bounds, run) => {
                 self.entries.retain(|e| bounds.hold(e));
                 self.put(queue, run)
             }
+            Change::Call(Call::Rewrite(run, gate)) => {
+                self.move_places(run, gate);
+                Ok(())
+            }
+            Change::Call(Call::Compact(index)) => {
+                self.entries.retain(|e| e.index >= index);
+                Ok(())
+            }
+            Change::Call(Call::Truncate(index)) => {
+                self.entries.retain(|e| e.index < index);
+                Ok(())
+            }
+            Change::Call(_) => Ok(()),
         }
     }
 
@@ -371,8 +267,9 @@ impl List {
         if !self.meets(run) {
             self.entries.clear();
         }
-        self.entries.retain(|e| e.index < run.first);
-        for index in run.first..run.end() {
+        let (first, end, _) = run;
+        self.entries.retain(|e| e.index < first);
+        for index in first..end {
             self.entries.push(entry_of(queue, run, index))?;
         }
         Ok(())
@@ -381,7 +278,7 @@ impl List {
     /// Gives the entries the places of a run, up to the first that may not move.
     fn move_places(&mut self, run: Run, gate: Option<FileSeq>) {
         for entry in &mut self.entries {
-            if run.holds(entry.index) {
+            if holds(run, entry.index) {
                 if !may_move(entry, gate) {
                     return;
                 }
@@ -391,41 +288,39 @@ impl List {
     }
 }
 
-/// Tests whether a table has the entries of a list, in as few blocks as there are, and is counted.
+/// Tests whether a table has the entries of a list, and is counted.
 fn is_same(store: &LogStore, list: &List) -> bool {
     (0..32).all(|index| store.table.get_entry(index) == list.get(index))
-        && store.table.block_count() == list.count_blocks()
-        && store.table.rewrite_count() == list.count_in(LogQueue::Rewrite)
         && store.stats.live_entries(LogQueue::Append) == list.count_in(LogQueue::Append)
         && store.stats.live_entries(LogQueue::Rewrite) == list.count_in(LogQueue::Rewrite)
 }
 
-/// Tests whether a call is accepted as it should be, and leaves the table with the entries of the list.
-fn agree(alloc: Global, store: &mut LogStore, list: &mut List, call: Call) -> Result<bool> {
-    let accepted = match make(alloc, store, call) {
+/// Tests whether a change is accepted as it should be, and leaves the table with the entries of the list.
+fn agree(alloc: Global, store: &mut LogStore, list: &mut List, change: Change) -> Result<bool> {
+    let accepted = match make(alloc, store, change) {
         Err(Error::Memory) => return Err(Error::Memory),
         made => made.is_ok(),
     };
-    if accepted != list.accepts(call) {
+    if accepted != list.accepts(change) {
         return Ok(false);
     }
     if accepted {
-        list.make(call)?;
+        list.make(change)?;
     }
     Ok(is_same(store, list))
 }
 
-/// Returns the first of so many calls in which the table and the list differ, if there is one.
-fn first_fault(alloc: Global, calls: u32) -> Result<Option<Call>> {
+/// Returns the first of so many changes in which the table and the list differ, if there is one.
+fn first_fault(alloc: Global, changes: u32) -> Result<Option<Change>> {
     let mut numbers = Numbers { state: 2024 };
     let mut store = LogStore::new(alloc);
     let mut list = List {
         entries: Vec::new(alloc),
     };
-    for number in 0..calls {
-        let call = Call::random(&mut numbers, &list, number);
-        if !agree(alloc, &mut store, &mut list, call)? {
-            return Ok(Some(call));
+    for _ in 0..changes {
+        let change = random_change(&mut numbers, &list);
+        if !agree(alloc, &mut store, &mut list, change)? {
+            return Ok(Some(change));
         }
     }
     Ok(None)

@@ -21,24 +21,13 @@ pub struct LogStore {
 }
 
 /// A run, told by its first index, the index past its last, and the number of its file.
-#[derive(Clone, Copy, Debug)]
-pub struct Run {
-    pub first: u64,
-    pub end: u64,
-    pub seq: FileSeq,
-}
-
-/// Returns a run in a file.
-pub fn of(first: u64, end: u64, seq: FileSeq) -> Run {
-    Run { first, end, seq }
-}
+pub type Run = (u64, u64, FileSeq);
 
 /// What is done to a store. There is one key.
 #[derive(Clone, Copy, Debug)]
 pub enum Call {
     Append(Run),
-    ReplayAppend(Run),
-    ReplayRewrite(Run),
+    Replay(LogQueue, Run),
     /// With the gate.
     Rewrite(Run, Option<FileSeq>),
     Compact(u64),
@@ -52,7 +41,7 @@ pub enum Call {
 }
 
 /// What a call returns.
-#[derive(Clone, Copy, PartialEq, Eq, Debug)]
+#[derive(Clone, Copy, PartialEq)]
 pub enum Answer {
     Done,
     Dropped(u64),
@@ -61,81 +50,44 @@ pub enum Answer {
     Full,
     NotFound,
     Compacted,
-    Memory,
-    Other,
 }
 
-/// What is seen of a store.
-#[derive(Clone, Copy, PartialEq, Eq, Debug)]
-pub struct Shape {
-    /// The first index, and the one past the last; 0 without entries.
-    pub first: u64,
-    pub end: u64,
-    /// How many records are live in the append queue, and their least file, 0 without records.
-    pub live: u64,
-    pub least_appended: FileSeq,
-    /// How many records were written to the rewrite queue and deleted from it, and the least file of
-    /// those that are live, 0 without records.
-    pub written: u64,
-    pub deleted: u64,
-    pub least_rewritten: FileSeq,
-}
+/// What is seen of a store: the first index and the one past the last, 0 without entries; how many records are live in
+/// the append queue, and their least file; how many were written to the rewrite queue and deleted from it, and the
+/// least file of those that are live. A least file is 0 without records.
+pub type Shape = ((u64, u64), (u64, FileSeq), (u64, u64, FileSeq));
 
-/// Returns the shape of a store with the entries from an index on and below another, that counts no records.
-pub fn has(first: u64, end: u64) -> Shape {
-    Shape {
-        first,
-        end,
-        live: 0,
-        least_appended: 0,
-        written: 0,
-        deleted: 0,
-        least_rewritten: 0,
-    }
-}
-
-impl Shape {
-    /// Returns the shape with so many live records in the append queue, whose least file is this.
-    pub fn appended(self, live: u64, least_appended: FileSeq) -> Shape {
-        Shape {
-            live,
-            least_appended,
-            ..self
-        }
-    }
-
-    /// Returns the shape with so many records that were written to the rewrite queue and deleted from it, whose least
-    /// file is this.
-    pub fn rewritten(self, written: u64, deleted: u64, least_rewritten: FileSeq) -> Shape {
-        Shape {
-            written,
-            deleted,
-            least_rewritten,
-            ..self
-        }
-    }
-}
-
-/// Returns what a call returned, but for the number of a compaction or a truncation that drops nothing.
-pub fn answered(given: Result<u64>) -> Answer {
+/// Returns what a call returned, but for the number of a compaction or a truncation that drops nothing. Want of memory
+/// and other faults are handed on.
+pub fn answered(given: Result<u64>) -> Result<Answer> {
     match given {
-        Ok(0) => Answer::Done,
-        Ok(count) => Answer::Dropped(count),
-        Err(Error::Corruption(_)) => Answer::Corruption,
-        Err(Error::InvalidArgument(_)) => Answer::InvalidArgument,
-        Err(Error::Full) => Answer::Full,
-        Err(Error::EntryNotFound) => Answer::NotFound,
-        Err(Error::EntryCompacted) => Answer::Compacted,
-        Err(Error::Memory) => Answer::Memory,
-        Err(_) => Answer::Other,
+        Ok(0) => Ok(Answer::Done),
+        Ok(count) => Ok(Answer::Dropped(count)),
+        Err(Error::Corruption(_)) => Ok(Answer::Corruption),
+        Err(Error::InvalidArgument(_)) => Ok(Answer::InvalidArgument),
+        Err(Error::Full) => Ok(Answer::Full),
+        Err(Error::EntryNotFound) => Ok(Answer::NotFound),
+        Err(Error::EntryCompacted) => Ok(Answer::Compacted),
+        Err(other) => Err(other),
     }
 }
 
-/// Returns what a call returned, with want of memory handed on.
-pub fn told(given: Result<u64>) -> Result<Answer> {
-    match given {
-        Err(Error::Memory) => Err(Error::Memory),
-        given => Ok(answered(given)),
+/// How many indexes lie in one block of a file.
+const BLOCK: u64 = 50;
+
+/// Returns an entry of a run, whose span tells where the run starts.
+pub fn entry_of(queue: LogQueue, run: Run, index: u64) -> EntryIndex {
+    let (first, _, seq) = run;
+    EntryIndex {
+        index,
+        entries: Some(FileBlockHandle {
+            id: FileId::new(queue, seq),
+            offset: index / BLOCK,
+            len: 64,
+        }),
+        entry_offset: (first % 1000) as u32,
+        entry_len: 1,
+        ..EntryIndex::default()
     }
 }
 
@@ -157,27 +109,18 @@ impl LogStore {
         Ok(store)
     }
 
-    pub fn bytes(&self, text: &[u8]) -> Result<Vec<u8>> {
+    fn bytes(&self, text: &[u8]) -> Result<Vec<u8>> {
         Ok(Vec::from_slice(self.alloc, text)?)
     }
 
-    /// Returns entries of one byte in one block of a file.
+    /// Returns the entries of a run.
     fn entries(&self, queue: LogQueue, run: Run) -> Result<Vec<EntryIndex>>
         ensures { IfOk result (λ entries. IsRunIn queue entries.items) }
     {
-        let handle = FileBlockHandle {
-            id: FileId::new(queue, run.seq),
-            offset: run.first,
-            len: 64,
-        };
+        let (first, end, _) = run;
         let mut entries = Vec::new(self.alloc);
-        for index in run.first..run.end {
-            entries.push(EntryIndex {
-                index,
-                entries: Some(handle),
-                entry_len: 1,
-                ..EntryIndex::default()
-            })?;
+        for index in first..end {
+            entries.push(entry_of(queue, run, index))?;
         }
         if is_run(&entries, queue) {
             Ok(entries)
@@ -209,8 +152,7 @@ impl LogStore {
                 gate,
                 seq,
             }),
-            Call::ReplayAppend(_) | Call::ReplayRewrite(_) | Call::Group(..) | Call::Count(..) =>
-                None,
+            Call::Replay(..) | Call::Group(..) | Call::Count(..) => None,
         })
     }
 
@@ -221,13 +163,9 @@ impl LogStore {
                 let entries = self.entries(LogQueue::Append, run)?;
                 self.table.append(entries, &mut self.stats)?;
             }
-            Call::ReplayAppend(run) => {
-                let entries = self.entries(LogQueue::Append, run)?;
-                self.replay(LogQueue::Append, entries)?;
-            }
-            Call::ReplayRewrite(run) => {
-                let entries = self.entries(LogQueue::Rewrite, run)?;
-                self.replay(LogQueue::Rewrite, entries)?;
+            Call::Replay(queue, run) => {
+                let entries = self.entries(queue, run)?;
+                self.replay(queue, entries)?;
             }
             Call::Rewrite(run, gate) => {
                 let entries = self.entries(LogQueue::Rewrite, run)?;
@@ -245,14 +183,17 @@ impl LogStore {
                 let key = self.bytes(b"k")?;
                 self.table.rewrite_key(key, gate, seq, &mut self.stats)?;
             }
-            Call::Group(first_seq, last_seq) => self.set_group(first_seq, last_seq)?,
+            Call::Group(first_seq, last_seq) if first_seq <= last_seq => {
+                self.table.apply_rewrite_atomic_group(first_seq, last_seq);
+            }
+            Call::Group(..) => return Err(Error::Failed),
             Call::Count(queue, count) => self.stats.add(queue, count as usize)?,
         }
         Ok(0)
     }
 
     /// Replays a run; `Failed` for one of the rewrite queue where there are appended records.
-    pub fn replay(&mut self, queue: LogQueue, run: Vec<EntryIndex>) -> Result<()>
+    fn replay(&mut self, queue: LogQueue, run: Vec<EntryIndex>) -> Result<()>
         requires { IsRunIn queue run.items }
     {
         match queue {
@@ -272,15 +213,6 @@ impl LogStore {
         )
     }
 
-    /// Sets the atomic group's files by number; `Failed` where the first is above the last.
-    fn set_group(&mut self, first_seq: FileSeq, last_seq: FileSeq) -> Result<()> {
-        if first_seq > last_seq {
-            return Err(Error::Failed);
-        }
-        self.table.apply_rewrite_atomic_group(first_seq, last_seq);
-        Ok(())
-    }
-
     /// Makes the call, as a value where there is one for it and that is asked.
     fn call(&mut self, call: Call, by_value: bool) -> Result<u64> {
         if by_value && let Some(change) = self.change(call)? {
@@ -290,7 +222,7 @@ impl LogStore {
     }
 
     /// Makes the call, once more where it found no memory: it has changed nothing then.
-    pub fn apply(&mut self, call: Call, by_value: bool) -> Answer {
+    pub fn apply(&mut self, call: Call, by_value: bool) -> Result<Answer> {
         match self.call(call, by_value) {
             Err(Error::Memory) => answered(self.call(call, by_value)),
             result => answered(result),
@@ -343,14 +275,23 @@ impl LogStore {
 
     pub fn shape(&self) -> Shape {
         let last = self.table.last_index();
-        Shape {
-            first: self.table.first_index().unwrap_or(0),
-            end: last.map_or(0, |last| last.saturating_add(1)),
-            live: self.stats.live_entries(LogQueue::Append) as u64,
-            least_appended: self.table.min_file_seq(LogQueue::Append).unwrap_or(0),
-            written: self.stats.rewrite_entries() as u64,
-            deleted: self.stats.deleted_rewrite_entries() as u64,
-            least_rewritten: self.table.min_file_seq(LogQueue::Rewrite).unwrap_or(0),
-        }
+        let appended = self.stats.live_entries(LogQueue::Append) as u64;
+        let written = self.stats.rewrite_entries() as u64;
+        let deleted = self.stats.deleted_rewrite_entries() as u64;
+        (
+            (
+                self.table.first_index().unwrap_or(0),
+                last.map_or(0, |last| last.saturating_add(1)),
+            ),
+            (
+                appended,
+                self.table.min_file_seq(LogQueue::Append).unwrap_or(0),
+            ),
+            (
+                written,
+                deleted,
+                self.table.min_file_seq(LogQueue::Rewrite).unwrap_or(0),
+            ),
+        )
     }
 }

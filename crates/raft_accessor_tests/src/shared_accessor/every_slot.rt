@@ -1,147 +1,97 @@
-//! Tables and a cleaned region in each of the 128 slots: no call and no walk leaves a slot out.
+//! Tables and cleaned regions in each of the 128 slots: no call and no walk leaves a slot out.
 
-use super::run;
-use super::seen::{Seen, see_core, see_shared};
-use raft_memtable::{Error, FileId, LogQueue, MemTableAccessor, Result, TableChange, slot_of};
-use raft_records::{Command, LogItem, LogItemContent, OpType};
-use raft_recover::SharedAccessor;
+use crate::items::{Item, NEW, items, run};
+use crate::seen::{Seen, see_core, see_shared, shape};
+use raft_memtable::{Error, LogQueue, MemTableAccessor, Result, TableChange, slot_of};
+use raft_recover::{SharedAccessor, Slot};
 use std::alloc::Global;
 use std::sync::Wait;
 
-pub(super) const APPENDED: FileId = FileId {
-    queue: LogQueue::Append,
-    seq: 1,
-};
+/// How many regions there are. A third of them gets an entry and a key, a third a table without records, and a third is
+/// cleaned.
+const REGIONS: u64 = 2_200;
 
-/// Regions of one slot.
-#[derive(Clone, Copy)]
-struct Regions {
-    /// Gets an entry and a key.
-    filled: u64,
-    /// Gets a table without records.
-    empty: u64,
-    cleaned: u64,
-}
-
-/// Returns the first region of a slot from an id on.
-fn region_from(slot: usize, id: u64) -> Result<u64> {
-    for region in id..id.saturating_add(4096) {
-        if slot_of(region) == slot {
-            return Ok(region);
+/// Tests whether each of the 128 slots has a region of a third.
+fn is_everywhere(third: u64) -> bool {
+    let mut filled = [false; 128];
+    for region in 0..REGIONS {
+        if region % 3 == third {
+            filled[slot_of(region)] = true;
         }
     }
-    Err(Error::Failed)
+    filled.iter().all(|slot| *slot)
 }
 
-fn regions_in(slot: usize) -> Result<Regions> {
-    let filled = region_from(slot, 0)?;
-    let empty = region_from(slot, filled.saturating_add(1))?;
-    let cleaned = region_from(slot, empty.saturating_add(1))?;
-    Ok(Regions {
-        filled,
-        empty,
-        cleaned,
-    })
-}
-
-/// Returns regions of each slot, in order.
-fn all_regions(alloc: Global) -> Result<Vec<Regions>> {
-    let mut all = Vec::new(alloc);
-    for slot in 0..128 {
-        all.push(regions_in(slot)?)?;
-    }
-    Ok(all)
-}
-
-/// Returns an entry, whose index is another one for each region.
+/// Returns an entry, whose index is another one for each of a thousand regions.
 fn entry(alloc: Global, region: u64) -> Result<TableChange> {
     let index = region % 1000;
-    Ok(TableChange::Append(run(alloc, index, index + 1, APPENDED)?))
+    Ok(TableChange::Append(run(alloc, index, index + 1, NEW)?))
 }
 
-/// Returns a key, which is another one for each region.
-pub(super) fn key(alloc: Global, region: u64) -> Result<Vec<LogItem>> {
-    let key = Vec::from_slice(alloc, region.to_be_bytes().as_slice())?;
-    let value = Vec::from_slice(alloc, b"v".as_slice())?;
-    let mut item = LogItem::new_kv(region, OpType::Put, key, Some(value));
-    if let LogItemContent::Kv(kv) = &mut item.content {
-        kv.file_id = Some(APPENDED);
-    }
-    one(alloc, item)
+/// Fills the table of a region of an accessor: an entry is appended, and a key is rewritten.
+fn fill_core(alloc: Global, core: &mut MemTableAccessor, region: u64) -> Result<()> {
+    let key = [Item::Put(region, b"k", true, Some(NEW))];
+    core.change(region, entry(alloc, region)?)?;
+    core.apply_append_writes(items(alloc, &key)?)?;
+    core.apply_rewrite_writes(items(alloc, &key)?, Some(1), 50)
 }
 
-fn one(alloc: Global, item: LogItem) -> Result<Vec<LogItem>> {
-    let mut items = Vec::new(alloc);
-    items.push(item)?;
-    Ok(items)
+/// Fills a shared table in the same way.
+fn fill_shared<R: Wait>(rt: &R, alloc: Global, shared: &SharedAccessor, region: u64) -> Result<()> {
+    let key = [Item::Put(region, b"k", true, Some(NEW))];
+    shared.change(rt, region, entry(alloc, region)?)?;
+    shared.apply_append_writes(rt, items(alloc, &key)?)?;
+    shared.apply_rewrite_writes(rt, items(alloc, &key)?, Some(1), 50)
 }
 
-fn clean(alloc: Global, region: u64) -> Result<Vec<LogItem>> {
-    one(alloc, LogItem::new_command(region, Command::Clean))
-}
-
-/// Fills an accessor: an entry of each slot is appended, and a key is rewritten.
-fn fill_core(alloc: Global, core: &mut MemTableAccessor, all: &[Regions]) -> Result<()> {
-    for regions in all {
-        core.change(regions.filled, entry(alloc, regions.filled)?)?;
-        core.apply_append_writes(key(alloc, regions.filled)?)?;
-        core.apply_rewrite_writes(key(alloc, regions.filled)?, Some(1), 50)?;
-        core.change(regions.empty, TableChange::Keep)?;
-        core.apply_append_writes(clean(alloc, regions.cleaned)?)?;
-    }
-    Ok(())
-}
-
-/// Fills shared tables in the same way.
-fn fill_shared<R: Wait>(
-    rt: &R,
-    alloc: Global,
-    shared: &SharedAccessor,
-    all: &[Regions],
-) -> Result<()> {
-    for regions in all {
-        shared.change(rt, regions.filled, entry(alloc, regions.filled)?)?;
-        shared.apply_append_writes(rt, key(alloc, regions.filled)?)?;
-        shared.apply_rewrite_writes(rt, key(alloc, regions.filled)?, Some(1), 50)?;
-        shared.get_or_insert(rt, regions.empty)?;
-        shared.apply_append_writes(rt, clean(alloc, regions.cleaned)?)?;
-    }
-    Ok(())
-}
-
-fn core_of(alloc: Global, all: &[Regions]) -> Result<MemTableAccessor> {
+/// Returns an accessor with all regions.
+fn core_of(alloc: Global) -> Result<MemTableAccessor> {
     let mut core = MemTableAccessor::new(alloc)?;
-    fill_core(alloc, &mut core, all)?;
+    for region in 0..REGIONS {
+        match region % 3 {
+            0 => fill_core(alloc, &mut core, region)?,
+            1 => {
+                core.change(region, TableChange::Keep)?;
+            }
+            _ => core.apply_append_writes(items(alloc, &[Item::Clean(region)])?)?,
+        }
+    }
     Ok(core)
 }
 
 /// Returns what shared tables show that are filled by their own calls.
-fn see_filled<R: Wait>(rt: &R, alloc: Global, all: &[Regions]) -> Result<Seen> {
+fn see_filled<R: Wait>(rt: &R, alloc: Global) -> Result<Seen> {
     let shared = SharedAccessor::new(alloc);
-    fill_shared(rt, alloc, &shared, all)?;
+    for region in 0..REGIONS {
+        match region % 3 {
+            0 => fill_shared(rt, alloc, &shared, region)?,
+            1 => shared.get_or_insert(rt, region)?,
+            _ => shared.apply_append_writes(rt, items(alloc, &[Item::Clean(region)])?)?,
+        }
+    }
     see_shared(rt, alloc, &shared)
 }
 
 /// Returns what shared tables show that are those of an accessor.
-fn see_from_core<R: Wait>(rt: &R, alloc: Global, all: &[Regions]) -> Result<Seen> {
-    let shared = SharedAccessor::from_core(alloc, core_of(alloc, all)?)?;
+fn see_from_core<R: Wait>(rt: &R, alloc: Global) -> Result<Seen> {
+    let shared = SharedAccessor::from_core(alloc, core_of(alloc)?)?;
     see_shared(rt, alloc, &shared)
 }
 
-/// Tests whether both show what the accessor shows: two tables and a cleaned region of each slot.
+/// Tests whether both show what the accessor shows: 734 tables with an entry and a key, 733 without records, and 733
+/// cleaned regions.
 fn are_all_seen<R: Wait>(rt: &R, alloc: Global) -> Result<bool> {
-    let all = all_regions(alloc)?;
-    let all = all.as_slice();
-    let expected = see_core(alloc, &mut core_of(alloc, all)?)?;
+    let expected = see_core(alloc, &mut core_of(alloc)?)?;
     Ok(
-        expected.has(256, 128, (128, 128))
-            && see_filled(rt, alloc, all)? == expected
-            && see_from_core(rt, alloc, all)? == expected,
+        expected.has(1_467, 733, (734, 734))
+            && see_filled(rt, alloc)? == expected
+            && see_from_core(rt, alloc)? == expected,
     )
 }
 
 #[test]
 fn no_slot_is_left_out(rt: HostRuntime) {
+    assert!(rt; is_everywhere(0) && is_everywhere(1) && is_everywhere(2));
     let mut all = are_all_seen(&rt, rt.alloc());
     if matches!(all, Err(Error::Memory)) {
         all = are_all_seen(&rt, rt.alloc());
@@ -149,7 +99,62 @@ fn no_slot_is_left_out(rt: HostRuntime) {
     assert!(rt; matches!(all, Ok(true)));
 }
 
-/// Tests whether there are tables exactly while a region of the slot has one. The region is listed as cleaned.
+/// Tests whether tables that were shared come back as they were.
+fn come_back(alloc: Global) -> Result<bool> {
+    let shared = SharedAccessor::from_core(alloc, core_of(alloc)?)?;
+    let mut core = shared.into_core()?;
+    let mut expected = core_of(alloc)?;
+    Ok(see_core(alloc, &mut core)? == see_core(alloc, &mut expected)?)
+}
+
+#[test]
+fn shared_tables_come_back(rt: HostRuntime) {
+    let mut came_back = come_back(rt.alloc());
+    if matches!(came_back, Err(Error::Memory)) {
+        came_back = come_back(rt.alloc());
+    }
+    assert!(rt; matches!(came_back, Ok(true)));
+}
+
+/// Tests whether a slot has the table of a region, as it was, if it is one of its regions, and none otherwise.
+fn is_own(slot: &Slot, region: u64, before: &MemTableAccessor) -> bool {
+    let found = slot.table(region).map(shape);
+    if slot.number() == slot_of(region) {
+        found == before.get(region).map(shape)
+    } else {
+        found.is_none()
+    }
+}
+
+/// Tests whether a slot has its own tables, as they were, and no others.
+fn are_own(slot: &Slot, before: &MemTableAccessor) -> bool {
+    (0..REGIONS).all(|region| is_own(slot, region, before))
+}
+
+/// Tests whether each slot takes its own tables out of an accessor, which then has none.
+fn take(alloc: Global) -> Result<bool> {
+    let before = core_of(alloc)?;
+    let mut core = core_of(alloc)?;
+    for number in 0..128 {
+        let mut slot = Slot::new(alloc, number);
+        slot.take_tables(&mut core);
+        if !are_own(&slot, &before) {
+            return Ok(false);
+        }
+    }
+    Ok(core.is_empty() && core.stats().live_entries(LogQueue::Append) == 0)
+}
+
+#[test]
+fn each_slot_takes_its_tables(rt: HostRuntime) {
+    let mut taken = take(rt.alloc());
+    if matches!(taken, Err(Error::Memory)) {
+        taken = take(rt.alloc());
+    }
+    assert!(rt; matches!(taken, Ok(true)));
+}
+
+/// Tests whether there are tables exactly while a region has one. The region is listed as cleaned.
 fn is_table_met<R: Wait>(rt: &R, shared: &SharedAccessor, region: u64) -> Result<bool> {
     let before = shared.is_empty(rt);
     shared.get_or_insert(rt, region)?;
@@ -158,15 +163,13 @@ fn is_table_met<R: Wait>(rt: &R, shared: &SharedAccessor, region: u64) -> Result
     Ok(before && !between && shared.is_empty(rt))
 }
 
-/// Tests whether the table of each slot alone is met, the first time without cleaned regions in the slots after it, the
-/// second time with one in each slot.
+/// Tests whether the table of each region alone is met: of the first one in a slot without cleaned regions, and of the
+/// others in a slot with some.
 fn is_each_met<R: Wait>(rt: &R, alloc: Global) -> Result<bool> {
     let shared = SharedAccessor::new(alloc);
-    for _ in 0..2 {
-        for slot in 0..128 {
-            if !is_table_met(rt, &shared, region_from(slot, 0)?)? {
-                return Ok(false);
-            }
+    for region in 0..REGIONS {
+        if !is_table_met(rt, &shared, region)? {
+            return Ok(false);
         }
     }
     Ok(true)

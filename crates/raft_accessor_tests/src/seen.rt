@@ -7,14 +7,14 @@ use std::alloc::Global;
 use std::sync::Wait;
 
 /// The region that is called at, and whose table is looked up.
-pub(super) const REGION: u64 = 1;
+pub(crate) const REGION: u64 = 1;
 
 /// The number of an entry's file, the offset and the length of its place, and its span.
 type Place = (FileSeq, u64, usize, u32, u32);
 
 /// A table's region, its first and last index, its records and its least file in both queues, its atomic
 /// group, and the place of its last entry with its keys and values.
-pub(super) type Shape = (
+pub(crate) type Shape = (
     u64,
     (Option<u64>, Option<u64>),
     (u128, u128),
@@ -47,7 +47,7 @@ fn pairs(table: &MemTable) -> u64 {
     seen
 }
 
-pub(super) fn shape(table: &MemTable) -> Shape {
+pub(crate) fn shape(table: &MemTable) -> Shape {
     (
         table.region_id(),
         (table.first_index(), table.last_index()),
@@ -64,13 +64,12 @@ pub(super) fn shape(table: &MemTable) -> Shape {
     )
 }
 
-/// What can be seen: the table of the region that is called at, all tables by region, how many a walk
-/// meets, the live counts, whether there are none, and the cleaned regions by number.
-#[derive(PartialEq, Debug, Drop)]
-pub(super) struct Seen {
+/// What can be seen: the table of the region that is called at, all tables by region, the live counts, whether there
+/// are no tables, and the cleaned regions by number.
+#[derive(PartialEq, Drop)]
+pub(crate) struct Seen {
     found: Option<Shape>,
     tables: Vec<Shape>,
-    walked: u64,
     /// The sum of what a walk reads in the tables that it meets.
     read: u64,
     /// The regions whose tables have an entry and a key.
@@ -82,7 +81,7 @@ pub(super) struct Seen {
 
 impl Seen {
     /// Tests whether there are so many tables and cleaned regions, and so many live records of both queues.
-    pub(super) fn has(&self, tables: usize, cleaned: usize, live: (u128, u128)) -> bool {
+    pub(crate) fn has(&self, tables: usize, cleaned: usize, live: (u128, u128)) -> bool {
         (self.tables.len(), self.cleaned.len(), self.live) == (tables, cleaned, live)
     }
 }
@@ -112,7 +111,7 @@ fn regions_of(alloc: Global, mut logs: LogBatch) -> Result<Vec<u64>> {
 
 /// Returns the cleaned regions of shared tables, in order. What a call took that ran out of memory is in the batch,
 /// and a second one takes the rest.
-pub(super) fn taken<R: Wait>(rt: &R, alloc: Global, shared: &SharedAccessor) -> Result<Vec<u64>> {
+pub(crate) fn taken<R: Wait>(rt: &R, alloc: Global, shared: &SharedAccessor) -> Result<Vec<u64>> {
     let mut logs = LogBatch::default(alloc);
     if shared.take_cleaned_region_logs(rt, &mut logs).is_err() {
         shared.take_cleaned_region_logs(rt, &mut logs)?;
@@ -121,7 +120,7 @@ pub(super) fn taken<R: Wait>(rt: &R, alloc: Global, shared: &SharedAccessor) -> 
 }
 
 /// Returns the cleaned regions of an accessor, in order. They are taken.
-pub(super) fn taken_of(alloc: Global, core: &mut MemTableAccessor) -> Result<Vec<u64>> {
+pub(crate) fn taken_of(alloc: Global, core: &mut MemTableAccessor) -> Result<Vec<u64>> {
     regions_of(alloc, core.take_cleaned_region_logs()?)
 }
 
@@ -135,39 +134,29 @@ fn shapes_of(alloc: Global, core: &MemTableAccessor) -> Result<Vec<Shape>> {
     Ok(tables)
 }
 
-/// Returns the sum of what is read in the tables of an accessor.
-fn read_of(core: &MemTableAccessor) -> Result<u64> {
-    let mut sum = 0u64;
-    for table in core.tables()? {
-        sum = sum.wrapping_add(read(table));
-    }
-    Ok(sum)
-}
-
 /// Returns the regions of an accessor whose tables have an entry and a key.
 fn full_of(alloc: Global, core: &MemTableAccessor) -> Result<Vec<u64>> {
     let mut full = Vec::new(alloc);
-    for table in core.tables()? {
-        if is_full(table) {
-            full.push(table.region_id())?;
-        }
+    let kept = core.collect(|table: &MemTable| is_full(table))?;
+    for table in kept {
+        full.push(table.region_id())?;
     }
     full.sort()?;
     Ok(full)
 }
 
 /// Returns what an accessor shows. Its cleaned regions are taken.
-pub(super) fn see_core(alloc: Global, core: &mut MemTableAccessor) -> Result<Seen> {
-    let tables = shapes_of(alloc, core)?;
+pub(crate) fn see_core(alloc: Global, core: &mut MemTableAccessor) -> Result<Seen> {
     let mut cleaned = taken_of(alloc, core)?;
     cleaned.sort()?;
     let stats = core.stats();
     Ok(Seen {
         found: core.get(REGION).map(shape),
-        walked: tables.len() as u64,
-        read: read_of(core)?,
+        tables: shapes_of(alloc, core)?,
+        read: core.fold(0u64, |sum: u64, table: &MemTable| {
+            sum.wrapping_add(read(table))
+        }),
         full: full_of(alloc, core)?,
-        tables,
         live: (
             stats.live_entries(LogQueue::Append) as u128,
             stats.live_entries(LogQueue::Rewrite) as u128,
@@ -201,11 +190,10 @@ fn full_in<R: Wait>(rt: &R, shared: &SharedAccessor) -> Result<Vec<u64>> {
 }
 
 /// Returns what shared tables show. Their cleaned regions are taken.
-pub(super) fn see_shared<R: Wait>(rt: &R, alloc: Global, shared: &SharedAccessor) -> Result<Seen> {
+pub(crate) fn see_shared<R: Wait>(rt: &R, alloc: Global, shared: &SharedAccessor) -> Result<Seen> {
     let mut seen = Seen {
         found: shape_in(rt, shared, REGION),
         tables: shapes_in(rt, alloc, shared)?,
-        walked: shared.fold(rt, 0u64, |walked, _: &MemTable| walked.wrapping_add(1)),
         read: shared.fold(rt, 0u64, |sum, table: &MemTable| {
             sum.wrapping_add(read(table))
         }),

@@ -1,0 +1,218 @@
+//! Calls that change the tables of an accessor.
+
+ghost use Rattle.raft_memtable.specs.TableEntries.{IsRunIn};
+
+use crate::items::{Item, NEW, items, run};
+use crate::seen::{Shape, shape, taken_of};
+use raft_memtable::{
+    EntryIndex, Error, FileId, FileSeq, LogQueue, MemTable, MemTableAccessor, Result, TableChange,
+    is_run,
+};
+use std::alloc::Global;
+
+/// A change of a table.
+#[derive(Clone, Copy)]
+pub(crate) enum Change {
+    /// Entries from an index to below another, in a file.
+    Append(u64, u64, FileId),
+    /// The same, and the gate.
+    Rewrite(u64, u64, FileId, Option<FileSeq>),
+    Compact(u64),
+    Truncate(u64),
+    Put,
+}
+
+/// A call that changes tables; its first number is the region.
+#[derive(Clone, Copy)]
+pub(crate) enum Call {
+    Nothing,
+    WithTableMut(u64),
+    Change(u64, Change),
+    GetOrInsert(u64),
+    Insert(u64),
+    /// Whether the region is listed as cleaned.
+    Remove(u64, bool),
+    AppendWrites(&'static [Item]),
+    /// The gate, and the file to which keys are rewritten.
+    RewriteWrites(&'static [Item], Option<FileSeq>, FileSeq),
+    AtomicGroup(u64),
+    TakeCleaned,
+    /// Items that an accessor reads again from a queue.
+    Replay(LogQueue, &'static [Item]),
+    /// Entries from an index to below another, in a file, that an accessor tries to read again.
+    TryReplay(u64, u64, u64, FileId),
+    /// The tables of items that another accessor read again from a queue are merged as the newer neighbor.
+    MergeNewer(LogQueue, &'static [Item]),
+    /// They are merged as the appended tables.
+    MergeAppend(LogQueue, &'static [Item]),
+}
+
+/// A number, and the table that is handed back.
+pub(crate) type Answer = (u64, Option<Shape>);
+
+pub(crate) fn done(called: Result<()>) -> Result<Answer> {
+    called?;
+    Ok((0, None))
+}
+
+pub(crate) fn numbered(called: Result<u64>) -> Result<Answer> {
+    Ok((called?, None))
+}
+
+pub(crate) fn handed(called: Result<Option<MemTable>>) -> Result<Answer> {
+    Ok((0, called?.as_ref().map(shape)))
+}
+
+fn put(alloc: Global, key: &[u8]) -> Result<TableChange> {
+    Ok(TableChange::Put {
+        key: Vec::from_slice(alloc, key)?,
+        value: Vec::from_slice(alloc, b"v".as_slice())?,
+        file_id: NEW,
+    })
+}
+
+pub(crate) fn table_change(alloc: Global, change: Change) -> Result<TableChange> {
+    match change {
+        Change::Append(start, end, file) => {
+            Ok(TableChange::Append(run(alloc, start, end, file)?))
+        }
+        Change::Rewrite(start, end, file, gate) => Ok(TableChange::Rewrite {
+            entries: run(alloc, start, end, file)?,
+            gate,
+        }),
+        Change::Compact(index) => Ok(TableChange::Compact { index }),
+        Change::Truncate(index) => Ok(TableChange::Truncate { index }),
+        Change::Put => put(alloc, b"n".as_slice()),
+    }
+}
+
+/// Returns a table with other entries and another key.
+pub(crate) fn other_table(alloc: Global, id: u64) -> Result<MemTable> {
+    let mut core = MemTableAccessor::new(alloc)?;
+    core.change(id, TableChange::Append(run(alloc, 50, 53, NEW)?))?;
+    core.change(id, put(alloc, b"z".as_slice())?)?;
+    match core.remove(id, false)? {
+        Some(table) => Ok(table),
+        None => Err(Error::Failed),
+    }
+}
+
+/// Drops all entries but the last of a table with a key, and those below 12 of any other.
+pub(crate) fn compaction(table: &MemTable) -> TableChange {
+    match (table.last_index(), table.get(b"k")) {
+        (Some(index), Some(_)) => TableChange::Compact { index },
+        _ => TableChange::Compact { index: 12 },
+    }
+}
+
+/// Changes the table of an accessor as it is, an empty one where there is none.
+fn change_core(alloc: Global, core: &mut MemTableAccessor, id: u64) -> Result<u64> {
+    let change = match core.get(id) {
+        Some(table) => compaction(table),
+        None => compaction(&MemTable::new(alloc, id)),
+    };
+    core.change(id, change)
+}
+
+/// Calls an accessor.
+pub(crate) fn call_core(alloc: Global, core: &mut MemTableAccessor, call: Call) -> Result<Answer> {
+    match call {
+        Call::Nothing => Ok((0, None)),
+        Call::WithTableMut(id) => numbered(change_core(alloc, core, id)),
+        Call::Change(id, change) => numbered(core.change(id, table_change(alloc, change)?)),
+        Call::GetOrInsert(id) => {
+            core.get_or_insert(id)?;
+            Ok((0, None))
+        }
+        Call::Insert(id) => {
+            let other = other_table(alloc, id)?;
+            handed(core.insert(other.region_id(), other))
+        }
+        Call::Remove(id, is_listed) => handed(core.remove(id, is_listed)),
+        Call::AppendWrites(given) => done(core.apply_append_writes(items(alloc, given)?)),
+        Call::RewriteWrites(given, gate, seq) => {
+            done(core.apply_rewrite_writes(items(alloc, given)?, gate, seq))
+        }
+        Call::AtomicGroup(id) => done(core.apply_rewrite_atomic_group(id, 49, 50)),
+        Call::TakeCleaned => Ok((taken_of(alloc, core)?.len() as u64, None)),
+        _ => numbered(call_alone(alloc, core, call)),
+    }
+}
+
+/// Makes a call that shared tables don't have.
+fn call_alone(alloc: Global, core: &mut MemTableAccessor, call: Call) -> Result<u64> {
+    match call {
+        Call::Replay(queue, given) => replay(alloc, core, queue, given)?,
+        Call::TryReplay(id, start, end, file) => {
+            return try_run(core, id, run(alloc, start, end, file)?, file.queue);
+        }
+        Call::MergeNewer(queue, given) => {
+            core.merge_newer_neighbor(replayed(alloc, queue, given)?)?;
+        }
+        Call::MergeAppend(queue, given) => {
+            core.merge_append_table(replayed(alloc, queue, given)?)?;
+        }
+        _ => {}
+    }
+    Ok(0)
+}
+
+/// Returns an accessor on which these calls were made.
+pub(crate) fn tables_of(alloc: Global, calls: &[Call]) -> Result<MemTableAccessor> {
+    let mut core = MemTableAccessor::new(alloc)?;
+    for call in calls {
+        call_core(alloc, &mut core, *call)?;
+    }
+    Ok(core)
+}
+
+fn replay(
+    alloc: Global,
+    core: &mut MemTableAccessor,
+    queue: LogQueue,
+    given: &[Item],
+) -> Result<()> {
+    let items = items(alloc, given)?;
+    match queue {
+        LogQueue::Append => core.replay_append_writes(items),
+        LogQueue::Rewrite => core.replay_rewrite_writes(items),
+    }
+}
+
+/// Returns the tables of items that were read again from a queue.
+fn replayed(alloc: Global, queue: LogQueue, given: &[Item]) -> Result<MemTableAccessor> {
+    let mut core = MemTableAccessor::new(alloc)?;
+    replay(alloc, &mut core, queue, given)?;
+    Ok(core)
+}
+
+/// Tries a run that is read again, once more where it isn't put, as for want of memory.
+fn try_twice(
+    core: &mut MemTableAccessor,
+    queue: LogQueue,
+    region: u64,
+    run: &[EntryIndex],
+) -> Option<u64>
+    requires { IsRunIn queue run.now }
+{
+    match core.try_replay_run(queue, region, run) {
+        Some(end) => Some(end),
+        None => core.try_replay_run(queue, region, run),
+    }
+}
+
+/// Puts a run that is read again, and returns where the region's entries ended before.
+fn try_run(
+    core: &mut MemTableAccessor,
+    region: u64,
+    run: Vec<EntryIndex>,
+    queue: LogQueue,
+) -> Result<u64> {
+    if !is_run(&run, queue) {
+        return Err(Error::Failed);
+    }
+    match try_twice(core, queue, region, &run) {
+        Some(end) => Ok(end),
+        None => Err(Error::Failed),
+    }
+}

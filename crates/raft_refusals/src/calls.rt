@@ -1,0 +1,120 @@
+//! Rows of calls that leave nothing behind: the next one makes what it needs anew.
+
+use crate::batches::BATCHES;
+use crate::found::Found;
+use crate::histories::{Batch, CONTEXTS, History, KEPT, LONG_CONTEXTS, OVERLAYS};
+use crate::item_batches::ITEM_BATCHES;
+use crate::items::{Form, ITEMS};
+use crate::parts::{BLOCKS, CUTS, PARTS};
+use crate::recoveries::{DRAWS, How, PIECES, PRINTS, SHARES, TICKETS, WORKERS};
+use crate::steps::Step;
+use crate::tables::CHANGES;
+use crate::writes::{MERGES, WRITES};
+use crate::{batches, contexts, item_batches, items, parts, recoveries, tables, writes};
+use raft_records::{FileSeq, Result, Version};
+use std::thread::Threads;
+
+#[derive(Clone, Copy)]
+pub(crate) enum Call {
+    /// Bytes are read in a form, and written again.
+    Read(Form, &'static [u8]),
+    /// An item batch is read from the append file of a version and a number.
+    ReadBatch(&'static [u8], Version, FileSeq),
+    /// Steps are added to a batch, which is signed for the append file of a version and a number.
+    Batch(&'static [Step], Version, FileSeq),
+    /// The batch at an offset of a part of so many bytes is read.
+    Next(usize, usize),
+    /// The header of so many bytes is read.
+    Header(usize),
+    /// The entry bytes of a block of this length are read.
+    Block(usize),
+    /// A part of a version is cut and cloned.
+    Cut(Version),
+    /// A table is changed, from an empty one on.
+    Change(&'static [tables::Change]),
+    /// Items are written, from no tables on.
+    Write(&'static [writes::Call]),
+    /// Tables that were written are merged into older ones, as those of the append queue or as the newer neighbors.
+    MergeTables(&'static [writes::Call], &'static [writes::Call], bool),
+    /// The contexts of a history are merged, one for each batch.
+    Merge(History),
+    /// A history of the append queue is put over one of the rewrite queue.
+    Overlay(&'static [Batch], &'static [Batch]),
+    /// What the context of 20 batches holds is counted.
+    CountPuts,
+    /// What the context of a history holds is counted.
+    Count(History),
+    Tickets,
+    /// The pieces that so many segments make are counted.
+    CountPieces(usize, &'static [usize]),
+    Recover(History, How),
+    PrintBatch(&'static [u8]),
+    PrintFile(&'static [u8]),
+}
+
+/// Returns the calls of a row.
+fn calls_of(row: &str) -> &'static [Call] {
+    match row {
+        "items" => &ITEMS,
+        "item-batch-bytes" => &ITEM_BATCHES,
+        "batches" => &BATCHES,
+        "parts" => &PARTS,
+        "blocks" => &BLOCKS,
+        "cuts" => &CUTS,
+        "tables" => &CHANGES,
+        "writes" => &WRITES,
+        "table-merges" => &MERGES,
+        "contexts" => &CONTEXTS,
+        "long-contexts" => &LONG_CONTEXTS,
+        "overlays" => &OVERLAYS,
+        "kept" => &KEPT,
+        "tickets" => &TICKETS,
+        "shares" => &SHARES,
+        "draws" => &DRAWS,
+        "workers" => &WORKERS,
+        "pieces" => &PIECES,
+        "prints" => &PRINTS,
+        _ => &[],
+    }
+}
+
+/// Makes the calls of a row, and adds what each gives, or why it is refused.
+pub(crate) fn make_all<R: Threads + Sync>(rt: &R, found: &mut Found, row: &str) -> Result<()> {
+    let calls = calls_of(row);
+    if calls.is_empty() {
+        return found.line("there is no such row");
+    }
+    for call in calls {
+        if let Err(error) = make(rt, found, *call) {
+            found.refused(error)?;
+        }
+    }
+    Ok(())
+}
+
+/// Makes a call, and adds what it gives.
+fn make<R: Threads + Sync>(rt: &R, found: &mut Found, call: Call) -> Result<()> {
+    match call {
+        Call::Read(form, bytes) => items::read(found, form, bytes),
+        Call::ReadBatch(bytes, version, seq) => item_batches::read(found, bytes, version, seq),
+        Call::Batch(steps, version, seq) => batches::encode(found, steps, version, seq),
+        Call::Next(len, at) => parts::next(found, len, at),
+        Call::Header(len) => parts::header(found, len),
+        Call::Block(len) => parts::block(found, len),
+        Call::Cut(version) => parts::cut(found, version),
+        Call::Change(changes) => tables::change_all(found, changes),
+        Call::Write(calls) => writes::write_all(found, calls),
+        Call::MergeTables(older, newer, is_append) => {
+            writes::merge(found, older, newer, is_append)
+        }
+        Call::Merge(history) => contexts::merge(found, history),
+        Call::Overlay(rewritten, appended) => contexts::overlay(found, rewritten, appended),
+        Call::CountPuts => contexts::count_puts(found),
+        Call::Count(history) => contexts::count(found, history),
+        Call::Tickets => recoveries::tickets(found),
+        Call::CountPieces(segments, draws) => recoveries::count_pieces(found, segments, draws),
+        Call::Recover(history, how) => recoveries::recover_history(rt, found, history, how),
+        Call::PrintBatch(bytes) => recoveries::print_bytes(found, bytes),
+        Call::PrintFile(bytes) => recoveries::print_file(rt, found, bytes),
+    }
+}

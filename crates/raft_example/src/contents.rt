@@ -7,89 +7,43 @@ use raft_memtable::MemTable;
 use std::alloc::Global;
 use std::collections::BTreeMap;
 
-/// The entries and the key values of all regions that have some.
-#[derive(Clone, PartialEq, Drop)]
-pub(crate) struct Contents {
-    regions: BTreeMap<u64, Records>,
-}
+/// The records of regions.
+pub(crate) type Contents = BTreeMap<u64, Records>;
 
 /// The entries and the key values of a region.
-#[derive(Clone, PartialEq, Drop)]
+#[derive(Drop)]
 pub(crate) struct Records {
     pub(crate) entries: BTreeMap<u64, Vec<u8>>,
     pub(crate) pairs: BTreeMap<Vec<u8>, Vec<u8>>,
 }
 
-impl Contents {
-    pub(crate) fn new(alloc: Global) -> Contents {
-        Contents {
-            regions: BTreeMap::new(alloc),
-        }
+/// Returns what a store holds: each entry with the bytes that its file has.
+pub(crate) fn contents_of<R: Host>(alloc: Global, store: &Store<'_, R>) -> Result<Contents> {
+    let mut contents = BTreeMap::new(alloc);
+    for table in store.tables.tables()? {
+        let mut records = Records::new(alloc);
+        records.push_entries(store.all_entries(table.region_id())?)?;
+        records.push_pairs(alloc, table)?;
+        let _ = contents.insert(table.region_id(), records)?;
     }
+    Ok(contents)
+}
 
-    /// Returns what a store holds: each entry with the bytes that its file has.
-    pub(crate) fn of<R: Host>(alloc: Global, store: &Store<'_, R>) -> Result<Contents> {
-        let mut contents = Contents::new(alloc);
-        for table in store.tables().tables()? {
-            let mut records = Records::new(alloc);
-            records.push_entries(store.all_entries(table.region_id())?)?;
-            records.push_pairs(alloc, table)?;
-            contents.set(table.region_id(), records)?;
-        }
-        Ok(contents)
+/// Returns a line for each region that has records.
+pub(crate) fn text_of(alloc: Global, contents: &Contents) -> Result<String> {
+    let mut text = String::new(alloc);
+    for (region, records) in contents {
+        records.push_line(alloc, *region, &mut text)?;
     }
-
-    /// Takes the records of a region out.
-    pub(crate) fn take(&mut self, alloc: Global, region: u64) -> Records {
-        match self.regions.remove(&region) {
-            Some(records) => records,
-            None => Records::new(alloc),
-        }
-    }
-
-    /// Puts the records of a region in place of those that it has.
-    pub(crate) fn set(&mut self, region: u64, records: Records) -> Result<()> {
-        if records.is_empty() {
-            let _ = self.regions.remove(&region);
-        } else {
-            let _ = self.regions.insert(region, records)?;
-        }
-        Ok(())
-    }
-
-    /// Returns a line for each region: its entries, then its key values.
-    pub(crate) fn text(&self, alloc: Global) -> Result<String> {
-        let mut text = String::new(alloc);
-        for (region, records) in &self.regions {
-            write!(text, "  region {region}")?;
-            let mut is_first = true;
-            for (index, bytes) in &records.entries {
-                let bytes = String::from_utf8_lossy(alloc, bytes)?;
-                write!(text, "{}{index} {bytes}", separator(is_first))?;
-                is_first = false;
-            }
-            for (key, value) in &records.pairs {
-                let key = String::from_utf8_lossy(alloc, key)?;
-                let value = String::from_utf8_lossy(alloc, value)?;
-                write!(text, "{}{key}={value}", separator(is_first))?;
-                is_first = false;
-            }
-            text.push('\n')?;
-        }
-        Ok(text)
-    }
+    Ok(text)
 }
 
 impl Records {
-    fn new(alloc: Global) -> Records {
+    pub(crate) fn new(alloc: Global) -> Records {
         Records {
             entries: BTreeMap::new(alloc),
             pairs: BTreeMap::new(alloc),
         }
-    }
-
-    fn is_empty(&self) -> bool {
-        self.entries.is_empty() && self.pairs.is_empty()
     }
 
     pub(crate) fn push_entries(&mut self, proposals: Vec<Proposal>) -> Result<()> {
@@ -108,9 +62,31 @@ impl Records {
         }
         Ok(())
     }
-}
 
-/// Returns what stands before a record of a line.
-fn separator(is_first: bool) -> &'static str {
-    if is_first { ": " } else { ", " }
+    /// Drops the entries from an index on.
+    pub(crate) fn truncate(&mut self, first: u64) {
+        self.entries
+            .retain(|index: &u64, _: &mut Vec<u8>| *index < first);
+    }
+
+    /// Adds a line to a text: the region's entries, then its key values. No line where there are none.
+    fn push_line(&self, alloc: Global, region: u64, text: &mut String) -> Result<()> {
+        if self.entries.is_empty() && self.pairs.is_empty() {
+            return Ok(());
+        }
+        write!(text, "  region {region}")?;
+        let mut before = ": ";
+        for (index, bytes) in &self.entries {
+            let bytes = String::from_utf8_lossy(alloc, bytes)?;
+            write!(text, "{before}{index} {bytes}")?;
+            before = ", ";
+        }
+        for (key, value) in &self.pairs {
+            let key = String::from_utf8_lossy(alloc, key)?;
+            let value = String::from_utf8_lossy(alloc, value)?;
+            write!(text, "{before}{key}={value}")?;
+            before = ", ";
+        }
+        Ok(text.push('\n')?)
+    }
 }

@@ -23,7 +23,12 @@ pub(crate) fn try_all<R: Host + Print>(
     histories: u64,
     by_bytes: u64,
 ) -> Result<bool> {
-    let mut crashes = Crashes::new(rt);
+    let mut crashes = Crashes {
+        rt,
+        each_byte: false,
+        tried: 0,
+        different: 0,
+    };
     for number in 0..histories {
         crashes.each_byte = number < by_bytes;
         let different = crashes.different;

@@ -30,27 +30,6 @@ struct Span {
     ghost countable: { last + 1 < 2 ^ 64 },
 }
 
-impl Span {
-    /// Returns the span of one file. `Full` where none can follow it.
-    fn of(seq: FileSeq) -> Result<Span> {
-        if seq >= FileSeq::MAX - 1 {
-            return Err(Error::Full);
-        }
-        Ok(Span {
-            first: seq,
-            last: seq,
-        })
-    }
-
-    /// Returns the span that has the files of both.
-    fn joined(self, other: Span) -> Span {
-        Span {
-            first: self.first.min(other.first),
-            last: self.last.max(other.last),
-        }
-    }
-}
-
 /// The log files that lie in a folder at one moment, without file headers. Which ones they are doesn't change with
 /// the pipe's calls: after a rotation or a purge its owner makes a new one by [`FolderPipe::reopened`]. Each call opens
 /// the file that it needs; an engine keeps its files open.
@@ -107,16 +86,12 @@ impl<'a, R: Disk> FolderPipe<'a, R> {
 
     /// Returns the path of a file.
     pub(crate) fn path(&self, id: FileId) -> Result<String> {
-        path_of(self.rt.alloc(), self.folder, id)
-    }
-
-    /// Returns how many bytes the last file of a queue has.
-    pub(crate) fn last_len(&self, queue: LogQueue) -> Result<u64> {
-        self.len_of(FileId::new(queue, self.span(queue).last))
+        let (folder, extension) = (self.folder, extension_of(id.queue));
+        Ok(format!(in self.rt.alloc(); "{folder}/{:016}{extension}", id.seq)?)
     }
 
     /// Returns how many bytes a file has.
-    fn len_of(&self, id: FileId) -> Result<u64> {
+    pub(crate) fn len_of(&self, id: FileId) -> Result<u64> {
         Ok(fs::metadata(self.rt, self.path(id)?.as_str())?.len())
     }
 
@@ -150,12 +125,6 @@ pub(crate) fn clear<R: Disk>(rt: &R, folder: &str) -> Result<()> {
     Ok(())
 }
 
-/// Returns the path of a file in a folder.
-pub(crate) fn path_of(alloc: Global, folder: &str, id: FileId) -> Result<String> {
-    let extension = extension_of(id.queue);
-    Ok(format!(in alloc; "{folder}/{:016}{extension}", id.seq)?)
-}
-
 /// Returns how the names of a queue's files end.
 fn extension_of(queue: LogQueue) -> &'static str {
     match queue {
@@ -164,23 +133,24 @@ fn extension_of(queue: LogQueue) -> &'static str {
     }
 }
 
-/// Returns the files of a queue that a folder holds; file 1 alone where it holds none.
+/// Returns the files of a queue that a folder holds; file 1 alone where it holds none. `Full` where none can follow
+/// them.
 fn span_in<R: Disk>(rt: &R, folder: &str, queue: LogQueue) -> Result<Span> {
-    let mut found: Option<Span> = None;
+    let (mut first, mut last) = (FileSeq::MAX, 1);
     for entry in fs::read_dir(rt, folder)? {
         let entry = entry?;
         if let Some(seq) = number_in(entry.file_name(), queue) {
-            let span = Span::of(seq)?;
-            found = Some(match found {
-                Some(found) => found.joined(span),
-                None => span,
-            });
+            first = first.min(seq);
+            last = last.max(seq);
         }
     }
-    match found {
-        Some(span) => Ok(span),
-        None => Span::of(1),
+    if last >= FileSeq::MAX - 1 {
+        return Err(Error::Full);
     }
+    Ok(Span {
+        first: first.min(last),
+        last,
+    })
 }
 
 /// Returns the number in the name of a file, if it is one of the queue.

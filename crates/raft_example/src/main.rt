@@ -14,46 +14,39 @@ mod store;
 mod walk;
 
 use raft_base::{Error, Result};
-use std::alloc::Global;
+use raft_recover::command_words;
 use std::process::ExitCode;
-use std::{env, io};
 
 fn main(rt: HostRuntime) -> Result<ExitCode> {
-    let words = words_of(&rt)?;
-    match words.as_slice() {
-        [] => walk::walk(&rt)?,
-        [word, seed, histories, by_bytes] if word.as_str() == "crashes" => {
-            let seed = number(rt.alloc(), seed.as_str())?;
-            let histories = number(rt.alloc(), histories.as_str())?;
-            let by_bytes = number(rt.alloc(), by_bytes.as_str())?;
-            if !crashes::try_all(&rt, seed, histories, by_bytes)? {
-                return Ok(ExitCode::FAILURE);
-            }
-        }
-        _ => return Err(usage(rt.alloc())),
+    let words = command_words(&rt)?;
+    if words.is_empty() {
+        walk::walk(&rt)?;
+        return Ok(ExitCode::SUCCESS);
     }
-    Ok(ExitCode::SUCCESS)
-}
-
-/// Returns the words after the program's name.
-fn words_of(rt: &HostRuntime) -> io::Result<Vec<String>> {
-    let mut words = Vec::new(rt.alloc());
-    for word in env::args(rt)?.skip(1) {
-        words.push(word)?;
-    }
-    Ok(words)
-}
-
-fn number(alloc: Global, word: &str) -> Result<u64> {
-    match word.parse::<u64>() {
-        Ok(number) => Ok(number),
-        Err(_) => Err(usage(alloc)),
+    let Some((seed, histories, by_bytes)) = numbers(words.as_slice()) else {
+        return Err(Error::invalid_argument(
+            rt.alloc(),
+            "usage: raft_example [crashes SEED HISTORIES BY_BYTES]",
+        ));
+    };
+    if crashes::try_all(&rt, seed, histories, by_bytes)? {
+        Ok(ExitCode::SUCCESS)
+    } else {
+        Ok(ExitCode::FAILURE)
     }
 }
 
-fn usage(alloc: Global) -> Error {
-    Error::invalid_argument(
-        alloc,
-        "usage: raft_example [crashes SEED HISTORIES BY_BYTES]",
-    )
+/// Returns the three numbers after the word `crashes`, if these are the words.
+fn numbers(words: &[String]) -> Option<(u64, u64, u64)> {
+    let [word, seed, histories, by_bytes] = words else {
+        return None;
+    };
+    if word.as_str() != "crashes" {
+        return None;
+    }
+    Some((
+        seed.as_str().parse::<u64>().ok()?,
+        histories.as_str().parse::<u64>().ok()?,
+        by_bytes.as_str().parse::<u64>().ok()?,
+    ))
 }

@@ -9,9 +9,9 @@ use crate::folder_pipe::{Disk, FolderPipe};
 use crate::logs::{Logs, push_tombstones};
 use crate::proposal::Proposal;
 use raft_base::{
-    CompressionType, EntryIndex, Error, FileBlockHandle, FileSeq, LogQueue, PipeLog, Result,
+    CompressionType, EntryIndex, Error, FileBlockHandle, FileId, FileSeq, LogQueue, PipeLog, Result,
 };
-use raft_memtable::{MemTable, MemTableAccessor};
+use raft_memtable::MemTableAccessor;
 use raft_records::{LogBatch, LogItem, entry_bytes};
 use raft_recover::recover_both;
 use std::alloc::Global;
@@ -32,8 +32,8 @@ impl<R: Disk + Threads + Sync> Host for R {}
 #[derive(Drop)]
 pub(crate) struct Store<'a, R: Host> {
     rt: &'a R,
-    pipe: FolderPipe<'a, R>,
-    tables: MemTableAccessor,
+    pub(crate) pipe: FolderPipe<'a, R>,
+    pub(crate) tables: MemTableAccessor,
     /// Commands and deletions of the append queue that the rewrite queue doesn't have yet.
     tombstones: Vec<LogItem>,
     /// The greatest number of an atomic group so far.
@@ -54,17 +54,6 @@ impl<'a, R: Host> Store<'a, R> {
         let logs = Logs::read(rt.alloc(), &pipe)?;
         let (rewrite, append) = (logs.rewrite.as_slice(), logs.append.as_slice());
         let tables = recover_both(rt, rt.alloc(), rewrite, append, workers)?;
-        Store::with_tables(rt, pipe, &logs, file_size, tables)
-    }
-
-    /// Returns the store over these files, from which these tables were recovered.
-    pub(crate) fn with_tables(
-        rt: &'a R,
-        pipe: FolderPipe<'a, R>,
-        logs: &Logs,
-        file_size: u64,
-        tables: MemTableAccessor,
-    ) -> Result<Store<'a, R>> {
         Ok(Store {
             rt,
             pipe,
@@ -73,22 +62,6 @@ impl<'a, R: Host> Store<'a, R> {
             last_group: logs.last_group(rt.alloc())?,
             file_size,
         })
-    }
-
-    fn alloc(&self) -> Global {
-        self.rt.alloc()
-    }
-
-    pub(crate) fn pipe(&self) -> &FolderPipe<'a, R> {
-        &self.pipe
-    }
-
-    pub(crate) fn tables(&self) -> &MemTableAccessor {
-        &self.tables
-    }
-
-    pub(crate) fn into_tables(self) -> MemTableAccessor {
-        self.tables
     }
 
     /// Writes a batch to the append queue, and then to the tables. With `sync` it lasts once the call returns `Ok`.
@@ -118,7 +91,8 @@ impl<'a, R: Host> Store<'a, R> {
     fn append(&mut self, queue: LogQueue, batch: &mut LogBatch) -> Result<FileSeq>
         requires { batch.old.stage ≡ is_open }
     {
-        if self.pipe.last_len(queue)? >= self.file_size {
+        let (_, last) = self.pipe.file_span(queue);
+        if self.pipe.len_of(FileId::new(queue, last))? >= self.file_size {
             self.rotate(queue)?;
         }
         batch.finish_populate()?;
@@ -132,7 +106,7 @@ impl<'a, R: Host> Store<'a, R> {
 
     /// Reads the entries of a region from `begin` on and below `end`.
     pub(crate) fn entries(&self, region: u64, begin: u64, end: u64) -> Result<Vec<Proposal>> {
-        let mut entries = Vec::new(self.alloc());
+        let mut entries = Vec::new(self.rt.alloc());
         if let Some(table) = self.tables.get(region) {
             table.fetch_entries_to(begin, end, None, &mut entries)?;
         }
@@ -141,9 +115,9 @@ impl<'a, R: Host> Store<'a, R> {
 
     /// Reads all entries of a region.
     pub(crate) fn all_entries(&self, region: u64) -> Result<Vec<Proposal>> {
-        match self.tables.get(region).and_then(span_of) {
-            Some((first, last)) => self.entries(region, first, last.saturating_add(1)),
-            None => Ok(Vec::new(self.alloc())),
+        match self.tables.get(region) {
+            Some(table) => self.entries(region, table.first_index().unwrap_or(0), table.end()),
+            None => Ok(Vec::new(self.rt.alloc())),
         }
     }
 
@@ -154,7 +128,7 @@ impl<'a, R: Host> Store<'a, R> {
 
     /// Reads the bytes of entries. Neighbors in one entry block are read together.
     fn read(&self, entries: &[EntryIndex]) -> Result<Vec<Proposal>> {
-        let alloc = self.alloc();
+        let alloc = self.rt.alloc();
         let mut proposals = Vec::new(alloc);
         for neighbors in entries.chunk_by(are_in_one_block) {
             if let Some(first) = neighbors.first() {
@@ -168,7 +142,7 @@ impl<'a, R: Host> Store<'a, R> {
 
     /// Reads the entry bytes of the entry block at a place. `Corruption` names the file and the offset.
     fn read_block(&self, place: FileBlockHandle, compression: CompressionType) -> Result<Vec<u8>> {
-        let alloc = self.alloc();
+        let alloc = self.rt.alloc();
         let block = self.pipe.read_bytes(alloc, place)?;
         match LogBatch::decode_entries_block(alloc, &block, place, compression) {
             Err(Error::Corruption(text)) => {
@@ -200,12 +174,4 @@ fn push_proposals(
         })?;
     }
     Ok(())
-}
-
-/// Returns the first and the last index of a table.
-fn span_of(table: &MemTable) -> Option<(u64, u64)> {
-    match (table.first_index(), table.last_index()) {
-        (Some(first), Some(last)) => Some((first, last)),
-        _ => None,
-    }
 }

@@ -6,7 +6,7 @@ ghost use Rattle.raft_records.specs.LogBatch.{is_open};
 mod damage;
 mod sharing;
 
-use crate::contents::Contents;
+use crate::contents::{contents_of, text_of};
 use crate::folder_pipe::clear;
 use crate::proposal::{Proposal, Proposals};
 use crate::store::{Host, Store};
@@ -29,17 +29,19 @@ pub(crate) fn walk<R: Host + Wait + Print>(rt: &R) -> Result<()> {
     clear(rt, FOLDER)?;
     let mut store = open(rt)?;
     write(rt, &mut store)?;
-    let mut store = restart(rt, store)?;
+    restart(rt, &mut store)?;
     change(rt, &mut store)?;
-    let mut store = restart(rt, store)?;
-    rewrite(rt, &mut store)?;
+    restart(rt, &mut store)?;
+    store.rotate(LogQueue::Append)?;
+    rewrite(rt, &mut store, LogQueue::Append)?;
     remove(rt, &mut store)?;
     purge(rt, &mut store)?;
-    let mut store = restart(rt, store)?;
-    rewrite_again(rt, &mut store)?;
-    let store = restart(rt, store)?;
-    damage::damage(rt, store)?;
-    sharing::look_up(rt, open(rt)?.into_tables())?;
+    restart(rt, &mut store)?;
+    rewrite(rt, &mut store, LogQueue::Rewrite)?;
+    purge(rt, &mut store)?;
+    restart(rt, &mut store)?;
+    damage::damage(rt, &mut store)?;
+    sharing::look_up(rt, store.tables)?;
     clear(rt, FOLDER)
 }
 
@@ -48,25 +50,23 @@ fn open<R: Host>(rt: &R) -> Result<Store<'_, R>> {
     Store::open(rt, FOLDER, FILE_SIZE, WORKERS)
 }
 
-/// Lets a store go, and opens its folder again.
-fn restart<'a, R: Host + Print>(rt: &'a R, store: Store<'a, R>) -> Result<Store<'a, R>> {
-    drop(store);
-    let store = open(rt)?;
-    show(rt, &store, "after a restart")?;
-    Ok(store)
+/// Opens the folder again, as after a restart. The store keeps nothing but what its files gave it.
+fn restart<'a, R: Host + Print>(rt: &'a R, store: &mut Store<'a, R>) -> Result<()> {
+    *store = open(rt)?;
+    show(rt, store, "after a restart")
 }
 
 /// Prints what a store holds after a step, and in which files.
 fn show<R: Host + Print>(rt: &R, store: &Store<'_, R>, step: &str) -> Result<()> {
-    let stats = store.tables().stats();
-    let (first, last) = store.pipe().file_span(LogQueue::Append);
+    let stats = store.tables.stats();
+    let (first, last) = store.pipe.file_span(LogQueue::Append);
     let appended = stats.live_entries(LogQueue::Append);
     print!(rt; "{step}: {appended} live in append files {first}..={last}, ")?;
-    let (first, last) = store.pipe().file_span(LogQueue::Rewrite);
+    let (first, last) = store.pipe.file_span(LogQueue::Rewrite);
     let rewritten = stats.live_entries(LogQueue::Rewrite);
     println!(rt; "{rewritten} in rewrite files {first}..={last}")?;
-    print!(rt; "{}", Contents::of(rt.alloc(), store)?.text(rt.alloc())?)?;
-    Ok(())
+    let text = text_of(rt.alloc(), &contents_of(rt.alloc(), store)?)?;
+    Ok(print!(rt; "{text}")?)
 }
 
 /// Writes a batch of three regions, and reads some of it back.
@@ -113,11 +113,17 @@ fn change<R: Host + Print>(rt: &R, store: &mut Store<'_, R>) -> Result<()> {
     )
 }
 
-/// Moves all records of append files 1 and 2 to the rewrite queue.
-fn rewrite<R: Host + Print>(rt: &R, store: &mut Store<'_, R>) -> Result<()> {
-    store.rotate(LogQueue::Append)?;
-    let regions = store.rewrite_append_queue()?;
-    let step = format!(in rt.alloc(); "{regions} regions rewritten")?;
+/// Moves all records of a queue's files: of append files 1 and 2 to the rewrite queue, or of that queue to a new file,
+/// so that the older ones go.
+fn rewrite<R: Host + Print>(rt: &R, store: &mut Store<'_, R>, queue: LogQueue) -> Result<()> {
+    let (regions, how) = match queue {
+        LogQueue::Append => (store.rewrite_append_queue()?, "rewritten"),
+        LogQueue::Rewrite => (
+            store.rewrite_rewrite_queue()?,
+            "rewritten again, an atomic group each",
+        ),
+    };
+    let step = format!(in rt.alloc(); "{regions} regions {how}")?;
     show(rt, store, step.as_str())
 }
 
@@ -143,14 +149,6 @@ fn purge<R: Host + Print>(rt: &R, store: &mut Store<'_, R>) -> Result<()> {
         "{appended} append files and {rewritten} rewrite files deleted"
     )?;
     show(rt, store, step.as_str())
-}
-
-/// Moves all rewritten records to a new file, so that the older ones go.
-fn rewrite_again<R: Host + Print>(rt: &R, store: &mut Store<'_, R>) -> Result<()> {
-    let regions = store.rewrite_rewrite_queue()?;
-    let step = format!(in rt.alloc(); "{regions} regions rewritten again, an atomic group each")?;
-    show(rt, store, step.as_str())?;
-    purge(rt, store)
 }
 
 /// Adds proposals of a region to a batch, the first of them at an index.

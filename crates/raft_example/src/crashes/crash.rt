@@ -1,14 +1,13 @@
 //! Folders as a crash leaves them.
 
-use crate::contents::Contents;
-use crate::folder_pipe::{FolderPipe, clear, path_of};
+use crate::contents::{contents_of, text_of};
+use crate::folder_pipe::FolderPipe;
 use crate::logs::{Logs, batches_of};
 use crate::store::{Host, Store};
-use raft_base::{FileId, LogQueue, Result};
+use raft_base::{FileId, LogQueue, PipeLog, Result};
 use raft_memtable::{MemTableAccessor, MemTableRecoverContextFactory};
 use raft_records::FilePart;
 use raft_recover::{OpenGate, replay_segments};
-use std::alloc::Global;
 use std::fs;
 
 /// The folder that holds what a crash leaves.
@@ -17,34 +16,10 @@ pub(crate) const CRASHED: &str = "raft_example_crashed";
 /// The least bytes of a file before a new one is begun.
 pub(crate) const FILE_SIZE: u64 = 200;
 
-/// The files of both queues.
-#[derive(Drop)]
-pub(crate) struct Snapshot {
-    files: Vec<FilePart>,
-}
-
-impl Snapshot {
-    pub(crate) fn of<R: Host>(alloc: Global, pipe: &FolderPipe<'_, R>) -> Result<Snapshot> {
-        let mut files = Vec::new(alloc);
-        for queue in [LogQueue::Append, LogQueue::Rewrite] {
-            for file in pipe.files(queue)? {
-                files.push(file)?;
-            }
-        }
-        Ok(Snapshot { files })
-    }
-
-    /// Returns the bytes of a file, none where there is no such file.
-    fn bytes(&self, id: FileId) -> Option<&[u8]> {
-        let file = self.files.iter().find(|file| file.id() == id)?;
-        Some(file.bytes())
-    }
-}
-
 /// Counts crashes after which a store doesn't hold what it has to.
 #[derive(Drop)]
 pub(crate) struct Crashes<'a, R: Host + Print> {
-    rt: &'a R,
+    pub(crate) rt: &'a R,
     /// Whether a batch may be written in part.
     pub(crate) each_byte: bool,
     pub(crate) tried: u64,
@@ -52,40 +27,47 @@ pub(crate) struct Crashes<'a, R: Host + Print> {
 }
 
 impl<'a, R: Host + Print> Crashes<'a, R> {
-    pub(crate) fn new(rt: &'a R) -> Crashes<'a, R> {
-        Crashes {
-            rt,
-            each_byte: false,
-            tried: 0,
-            different: 0,
-        }
-    }
-
-    /// Tries each crash on the way from some files to others: first files grow, then files are deleted. While they grow
-    /// the store has to hold the old contents, and from then on the new ones.
-    pub(crate) fn between(
-        &mut self,
-        before: &Snapshot,
-        after: &Snapshot,
-        old: &Contents,
-        new: &Contents,
-    ) -> Result<()> {
-        self.restore(before)?;
-        for file in &after.files {
-            let start = before.bytes(file.id()).unwrap_or(b"").len();
-            for end in self.stops(file, start)? {
-                self.write(file.id(), file.bytes().get(..end).unwrap_or(b""))?;
-                let grown = end == file.bytes().len();
-                self.reopen(if grown { new } else { old })?;
+    /// Tries each crash on the way from the files that the folder holds to those of a pipe, which it holds in the end:
+    /// first files grow, then files are deleted. While they grow the store has to hold the old contents, and from then on
+    /// the new ones.
+    pub(crate) fn follow(&mut self, pipe: &FolderPipe<'_, R>, old: &str, new: &str) -> Result<()> {
+        let crashed = FolderPipe::open(self.rt, CRASHED)?;
+        for queue in [LogQueue::Append, LogQueue::Rewrite] {
+            for file in &pipe.files(queue)? {
+                self.grow(&crashed, file, old, new)?;
             }
         }
-        for file in &before.files {
-            if after.bytes(file.id()).is_none() {
-                fs::remove_file(self.rt, self.path(file.id())?.as_str())?;
+        for queue in [LogQueue::Append, LogQueue::Rewrite] {
+            let (first, _) = crashed.file_span(queue);
+            let (least, _) = pipe.file_span(queue);
+            for seq in first..least {
+                fs::remove_file(self.rt, crashed.path(FileId::new(queue, seq))?.as_str())?;
                 self.reopen(new)?;
             }
         }
         Ok(())
+    }
+
+    /// Writes a file of the folder on, and tries the crashes on the way.
+    fn grow(
+        &mut self,
+        crashed: &FolderPipe<'_, R>,
+        file: &FilePart,
+        old: &str,
+        new: &str,
+    ) -> Result<()> {
+        let path = crashed.path(file.id())?;
+        let start = match crashed.len_of(file.id()) {
+            Ok(len) => len as usize,
+            Err(_) => 0, // it isn't there yet
+        };
+        for end in self.stops(file, start)? {
+            let front = file.bytes().get(..end).unwrap_or(b"");
+            fs::write(self.rt, path.as_str(), front)?;
+            let grown = end == file.bytes().len();
+            self.reopen(if grown { new } else { old })?;
+        }
+        Ok(fs::write(self.rt, path.as_str(), file.bytes())?)
     }
 
     /// Returns where a crash may end a file that had `start` bytes: after each batch, or after each byte.
@@ -105,30 +87,12 @@ impl<'a, R: Host + Print> Crashes<'a, R> {
         Ok(stops)
     }
 
-    /// Makes the folder that holds these files alone.
-    fn restore(&self, files: &Snapshot) -> Result<()> {
-        clear(self.rt, CRASHED)?;
-        fs::create_dir_all(self.rt, CRASHED)?;
-        for file in &files.files {
-            self.write(file.id(), file.bytes())?;
-        }
-        Ok(())
-    }
-
-    fn write(&self, id: FileId, bytes: &[u8]) -> Result<()> {
-        Ok(fs::write(self.rt, self.path(id)?.as_str(), bytes)?)
-    }
-
-    fn path(&self, id: FileId) -> Result<String> {
-        path_of(self.rt.alloc(), CRASHED, id)
-    }
-
-    /// Opens the folder by one worker and by four.
-    fn reopen(&mut self, expected: &Contents) -> Result<()> {
+    /// Opens the folder by one worker, and with tables that four recover.
+    fn reopen(&mut self, expected: &str) -> Result<()> {
         for workers in [1usize, 4] {
             self.tried = self.tried.saturating_add(1);
             match self.recovered(workers) {
-                Ok(contents) => self.compare(&contents, expected)?,
+                Ok(found) => self.compare(found.as_str(), expected)?,
                 Err(e) => {
                     self.different = self.different.saturating_add(1);
                     println!(self.rt; "{workers} workers refuse: {e}")?;
@@ -139,32 +103,22 @@ impl<'a, R: Host + Print> Crashes<'a, R> {
     }
 
     /// Counts and prints contents that aren't those that there have to be.
-    pub(crate) fn compare(&mut self, found: &Contents, expected: &Contents) -> Result<()> {
+    pub(crate) fn compare(&mut self, found: &str, expected: &str) -> Result<()> {
         if found != expected {
-            let alloc = self.rt.alloc();
             self.different = self.different.saturating_add(1);
-            println!(self.rt;
-                "found\n{}in place of\n{}",
-                found.text(alloc)?,
-                expected.text(alloc)?
-            )?;
+            println!(self.rt; "found\n{found}in place of\n{expected}")?;
         }
         Ok(())
     }
 
-    /// Returns what the store holds that is opened from the folder.
-    fn recovered(&self, workers: usize) -> Result<Contents> {
+    /// Returns what the store holds that is opened from the folder, with tables that so many workers recover.
+    fn recovered(&self, workers: usize) -> Result<String> {
         let alloc = self.rt.alloc();
-        if workers == 1 {
-            return Contents::of(alloc, &Store::open(self.rt, CRASHED, FILE_SIZE, 1)?);
+        let mut store = Store::open(self.rt, CRASHED, FILE_SIZE, 1)?;
+        if workers > 1 {
+            store.tables = recover_files(self.rt, &store.pipe, workers)?;
         }
-        let pipe = FolderPipe::open(self.rt, CRASHED)?;
-        let logs = Logs::read(alloc, &pipe)?;
-        let tables = recover_files(self.rt, alloc, &logs, workers)?;
-        Contents::of(
-            alloc,
-            &Store::with_tables(self.rt, pipe, &logs, FILE_SIZE, tables)?,
-        )
+        text_of(alloc, &contents_of(alloc, &store)?)
     }
 }
 
@@ -172,16 +126,16 @@ impl<'a, R: Host + Print> Crashes<'a, R> {
 /// is.
 fn recover_files<R: Host>(
     rt: &R,
-    alloc: Global,
-    logs: &Logs,
+    pipe: &FolderPipe<'_, R>,
     workers: usize,
 ) -> Result<MemTableAccessor> {
+    let logs = Logs::read(rt.alloc(), pipe)?;
     let factory = MemTableRecoverContextFactory::new();
     let (rewrite, append) = (logs.rewrite.as_slice(), logs.append.as_slice());
     let gate = OpenGate;
     let mut both = replay_segments(
         rt,
-        alloc,
+        rt.alloc(),
         &factory,
         rewrite,
         LogQueue::Rewrite,
@@ -190,7 +144,7 @@ fn recover_files<R: Host>(
     )?;
     let new = replay_segments(
         rt,
-        alloc,
+        rt.alloc(),
         &factory,
         append,
         LogQueue::Append,

@@ -3,29 +3,18 @@
 ghost use Rattle.std.specs.Prelude.{◌≡◌, OnOk};
 ghost use Rattle.raft_records.specs.LogBatch.{is_open};
 
-use crate::contents::Contents;
-use crate::crashes::change::Change;
-use crate::crashes::crash::{Crashes, FILE_SIZE, Snapshot};
+use crate::contents::{Contents, Records, contents_of, text_of};
+use crate::crashes::change::draw_change;
+use crate::crashes::crash::{CRASHED, Crashes, FILE_SIZE};
 use crate::crashes::dice::Dice;
 use crate::folder_pipe::clear;
 use crate::store::{Host, Store};
 use raft_base::{LogQueue, Result};
 use raft_records::LogBatch;
+use std::collections::BTreeMap;
 
 /// The folder of a history.
 pub(crate) const FOLDER: &str = "raft_example_history";
-
-/// What a store does in a step: its files grow, or some of them are deleted.
-#[derive(Clone, Copy)]
-enum Action {
-    Write,
-    Rotate,
-    RewriteAppendQueue,
-    RewriteRewriteQueue,
-    RewriteTombstones,
-    Purge,
-    Restart,
-}
 
 /// A store, and beside it what it has to hold.
 #[derive(Drop)]
@@ -37,59 +26,47 @@ pub(crate) struct History<'a, R: Host> {
 }
 
 impl<'a, R: Host + Print> History<'a, R> {
-    /// Begins a history with a store in an empty folder.
+    /// Begins a history with a store in an empty folder, and empties the folder of its crashes.
     pub(crate) fn begin(rt: &'a R, seed: u64) -> Result<History<'a, R>> {
         clear(rt, FOLDER)?;
+        clear(rt, CRASHED)?;
         Ok(History {
             rt,
             store: Store::open(rt, FOLDER, FILE_SIZE, 1)?,
-            kept: Contents::new(rt.alloc()),
+            kept: BTreeMap::new(rt.alloc()),
             dice: Dice::new(seed),
         })
     }
 
-    /// Takes a step, and tries the crashes in it.
+    /// Takes a step, and tries the crashes in it: the store's files grow, or some of them are deleted.
     pub(crate) fn step(&mut self, crashes: &mut Crashes<'a, R>) -> Result<()> {
+        let old = text_of(self.rt.alloc(), &self.kept)?;
         match self.dice.below(16) {
-            0..=8 => self.take(Action::Write, crashes),
-            9 => self.take(Action::Rotate, crashes),
-            10 | 11 => self.take(Action::RewriteAppendQueue, crashes),
-            12 => self.take(Action::RewriteRewriteQueue, crashes),
-            13 | 14 => {
-                self.take(Action::RewriteTombstones, crashes)?;
-                self.take(Action::Purge, crashes)
-            }
-            _ => self.take(Action::Restart, crashes),
-        }
-    }
-
-    fn take(&mut self, action: Action, crashes: &mut Crashes<'a, R>) -> Result<()> {
-        let alloc = self.rt.alloc();
-        let before = Snapshot::of(alloc, self.store.pipe())?;
-        let old = self.kept.clone()?;
-        self.act(action)?;
-        let after = Snapshot::of(alloc, self.store.pipe())?;
-        crashes.compare(&Contents::of(alloc, &self.store)?, &self.kept)?;
-        crashes.between(&before, &after, &old, &self.kept)
-    }
-
-    fn act(&mut self, action: Action) -> Result<()> {
-        match action {
-            Action::Write => self.write()?,
-            Action::Rotate => self.store.rotate(LogQueue::Append)?,
-            Action::RewriteAppendQueue => {
+            0..=8 => self.write()?,
+            9 => self.store.rotate(LogQueue::Append)?,
+            10 | 11 => {
                 let _ = self.store.rewrite_append_queue()?;
             }
-            Action::RewriteRewriteQueue => {
+            12 => {
                 let _ = self.store.rewrite_rewrite_queue()?;
             }
-            Action::RewriteTombstones => self.store.rewrite_tombstones()?,
-            Action::Purge => {
+            13 | 14 => {
+                self.store.rewrite_tombstones()?;
+                self.try_crashes(crashes, old.as_str())?;
                 let _ = self.store.purge()?;
             }
-            Action::Restart => self.store = Store::open(self.rt, FOLDER, FILE_SIZE, 4)?,
+            _ => self.store = Store::open(self.rt, FOLDER, FILE_SIZE, 4)?,
         }
-        Ok(())
+        self.try_crashes(crashes, old.as_str())
+    }
+
+    /// Looks whether the store holds what it has to, and tries the crashes since it held the old contents.
+    fn try_crashes(&self, crashes: &mut Crashes<'a, R>, old: &str) -> Result<()> {
+        let alloc = self.rt.alloc();
+        let new = text_of(alloc, &self.kept)?;
+        let found = text_of(alloc, &contents_of(alloc, &self.store)?)?;
+        crashes.compare(found.as_str(), new.as_str())?;
+        crashes.follow(&self.store.pipe, old, new.as_str())
     }
 
     /// Writes a batch of one to three changes.
@@ -108,10 +85,12 @@ impl<'a, R: Host + Print> History<'a, R> {
     {
         let alloc = self.rt.alloc();
         let region = self.dice.below(4) + 1;
-        let mut records = self.kept.take(alloc, region);
-        let change = Change::draw(alloc, &mut self.dice, &records)?;
-        change.add_to(batch, region)?;
-        change.make_in(&mut records)?;
-        self.kept.set(region, records)
+        let mut records = match self.kept.remove(&region) {
+            Some(records) => records,
+            None => Records::new(alloc),
+        };
+        draw_change(alloc, &mut self.dice, batch, region, &mut records)?;
+        let _ = self.kept.insert(region, records)?;
+        Ok(())
     }
 }

@@ -1,6 +1,6 @@
 //! Moves records to the rewrite queue, and deletes files that nobody needs.
 
-ghost use Rattle.std.specs.Prelude.{◌≡◌, OnOk};
+ghost use Rattle.std.specs.Prelude.{◌≡◌, IfOk, OnOk};
 ghost use Rattle.raft_records.specs.LogBatch.{is_open};
 
 use super::{Host, Store};
@@ -38,10 +38,6 @@ impl MovedRecords {
             }
         }
         Ok(records)
-    }
-
-    fn is_empty(&self) -> bool {
-        self.entries.is_empty() && self.pairs.is_empty()
     }
 }
 
@@ -87,7 +83,7 @@ impl<R: Host> Store<'_, R> {
     pub(crate) fn rewrite_tombstones(&mut self) -> Result<()> {
         let cleaned = self.tables.take_cleaned_region_logs()?;
         self.write_moved(cleaned, None)?;
-        let mut batch = LogBatch::default(self.alloc());
+        let mut batch = LogBatch::default(self.rt.alloc());
         add_tombstones(&mut batch, self.tombstones.as_slice())?;
         if !batch.is_empty() {
             self.append(LogQueue::Rewrite, &mut batch)?;
@@ -99,7 +95,7 @@ impl<R: Host> Store<'_, R> {
     /// Moves the records of all regions, and returns of how many regions there were any.
     fn rewrite(&mut self, gate: Option<FileSeq>) -> Result<usize> {
         self.rewrite_tombstones()?;
-        let mut regions = Vec::new(self.alloc());
+        let mut regions = Vec::new(self.rt.alloc());
         for table in self.tables.tables()? {
             regions.push(table.region_id())?;
         }
@@ -116,8 +112,8 @@ impl<R: Host> Store<'_, R> {
         let Some(table) = self.tables.get(region) else {
             return Ok(false);
         };
-        let records = MovedRecords::of(self.alloc(), table, gate)?;
-        if records.is_empty() {
+        let records = MovedRecords::of(self.rt.alloc(), table, gate)?;
+        if records.entries.is_empty() && records.pairs.is_empty() {
             return Ok(false);
         }
         match gate {
@@ -135,11 +131,10 @@ impl<R: Host> Store<'_, R> {
         gate: Option<FileSeq>,
     ) -> Result<()> {
         for entries in records.entries.chunks(BATCH_ENTRIES) {
-            let mut batch = LogBatch::default(self.alloc());
-            batch.add_entries::<Proposals>(region, self.read(entries)?.as_slice())?;
+            let batch = self.batch_of(region, entries)?;
             self.write_moved(batch, gate)?;
         }
-        let mut batch = LogBatch::default(self.alloc());
+        let mut batch = LogBatch::default(self.rt.alloc());
         put_all(&mut batch, region, records.pairs)?;
         self.write_moved(batch, gate)?;
         Ok(())
@@ -151,17 +146,24 @@ impl<R: Host> Store<'_, R> {
         self.last_group = self.last_group.saturating_add(1);
         let mut group = AtomicGroupBuilder::with_id(self.last_group);
         let (front, rest) = records.entries.split_at(records.entries.len() / 2);
-        let mut begin = LogBatch::default(self.alloc());
+        let mut begin = self.batch_of(region, front)?;
         group.begin(&mut begin)?;
-        begin.add_entries::<Proposals>(region, self.read(front)?.as_slice())?;
         let first = self.write_moved(begin, None)?;
-        let mut end = LogBatch::default(self.alloc());
-        group.end(&mut end)?;
-        end.add_entries::<Proposals>(region, self.read(rest)?.as_slice())?;
+        let mut end = self.batch_of(region, rest)?;
         put_all(&mut end, region, records.pairs)?;
+        group.end(&mut end)?;
         let last = self.write_moved(end, None)?;
         self.tables
             .apply_rewrite_atomic_group(region, first.min(last), last)
+    }
+
+    /// Returns a batch of entries of a region, with their bytes from the files.
+    fn batch_of(&self, region: u64, entries: &[EntryIndex]) -> Result<LogBatch>
+        ensures { IfOk result (λ batch. batch.stage ≡ is_open) }
+    {
+        let mut batch = LogBatch::default(self.rt.alloc());
+        batch.add_entries::<Proposals>(region, self.read(entries)?.as_slice())?;
+        Ok(batch)
     }
 
     /// Writes a batch to the rewrite queue and then to the tables, and returns its file.

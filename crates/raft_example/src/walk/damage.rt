@@ -7,20 +7,22 @@ use raft_records::LogBatch;
 use std::fs;
 
 /// Writes what can't be taken, and damages the last append file.
-pub(crate) fn damage<R: Host + Print>(rt: &R, mut store: Store<'_, R>) -> Result<()> {
-    match write(rt, &mut store, 20, "put x 9") {
+pub(crate) fn damage<'a, R: Host + Print>(rt: &'a R, store: &mut Store<'a, R>) -> Result<()> {
+    match write(rt, store, 20, "put x 9") {
         Err(Error::Corruption(_)) => {
             println!(rt; "refused, and not written: an entry of region 7 behind a hole")?
         }
         written => written?,
     }
-    write(rt, &mut store, 14, "put x 9")?;
-    write(rt, &mut store, 15, "delete y")?;
-    show(rt, &store, "two batches more")?;
-    let mut store = tear(rt, store)?;
-    write(rt, &mut store, 15, "put z 9")?;
-    show(rt, &store, "written once more")?;
-    flip(rt, &store)
+    write(rt, store, 14, "put x 9")?;
+    write(rt, store, 15, "delete y")?;
+    show(rt, store, "two batches more")?;
+    let (_, last) = store.pipe.file_span(LogQueue::Append);
+    let id = FileId::new(LogQueue::Append, last);
+    tear(rt, store, id)?;
+    write(rt, store, 15, "put z 9")?;
+    show(rt, store, "written once more")?;
+    flip(rt, store, id)
 }
 
 /// Writes a batch of one entry of region 7.
@@ -30,20 +32,18 @@ fn write<R: Host>(rt: &R, store: &mut Store<'_, R>, index: u64, text: &str) -> R
     store.write(batch, false)
 }
 
-/// Takes the last bytes of the last append file away, as a crash does while a batch is written.
-fn tear<'a, R: Host + Print>(rt: &'a R, store: Store<'a, R>) -> Result<Store<'a, R>> {
-    let id = last_file(&store);
-    let len = store.pipe().last_len(LogQueue::Append)?;
-    store.pipe().cut(id, len.saturating_sub(5))?;
+/// Takes the last bytes of an append file away, as a crash does while a batch is written.
+fn tear<'a, R: Host + Print>(rt: &'a R, store: &mut Store<'a, R>, id: FileId) -> Result<()> {
+    let len = store.pipe.len_of(id)?;
+    store.pipe.cut(id, len.saturating_sub(5))?;
     println!(rt; "torn: 5 of {len} bytes of append file {} are lost", id.seq)?;
     restart(rt, store)
 }
 
-/// Changes a bit of the first batch of the last append file, in its entry bytes and then in its items. A batch stands
-/// after it, so that nothing is cut.
-fn flip<R: Host + Print>(rt: &R, store: &Store<'_, R>) -> Result<()> {
-    let id = last_file(store);
-    let path = store.pipe().path(id)?;
+/// Changes a bit of the first batch of an append file, in its entry bytes and then in its items. A batch stands after
+/// it, so that nothing is cut.
+fn flip<R: Host + Print>(rt: &R, store: &Store<'_, R>, id: FileId) -> Result<()> {
+    let path = store.pipe.path(id)?;
     let bytes = fs::read(rt, path.as_str())?;
     for (at, what) in [(18usize, "entry bytes"), (32, "items")] {
         let mut damaged = bytes.clone()?;
@@ -76,10 +76,4 @@ fn read_all<R: Host + Print>(rt: &R) -> Result<()> {
         Err(e) => println!(rt; "  opened, but entries of region 7 not read: {e}")?,
     }
     Ok(())
-}
-
-/// Returns the append file that is written to.
-fn last_file<R: Host>(store: &Store<'_, R>) -> FileId {
-    let (_, last) = store.pipe().file_span(LogQueue::Append);
-    FileId::new(LogQueue::Append, last)
 }

@@ -1,6 +1,7 @@
 //! Written and deleted counts of contexts: of those that only replay, and where a clean meets an older table.
 
 use crate::overlays::{Word, read};
+use LogQueue::{Append, Rewrite};
 use Word::{Clean, Compact, Delete, Put, Run, Truncate};
 use raft_memtable::{Error, LogQueue, MemTableRecoverContext, Result};
 use std::alloc::Global;
@@ -13,83 +14,106 @@ fn counts_of(context: MemTableRecoverContext) -> Result<Counts> {
     let accessor = context.finish()?;
     let stats = accessor.stats();
     Ok((
-        stats.live_entries(LogQueue::Append),
+        stats.live_entries(Append),
         stats.rewrite_entries(),
         stats.deleted_rewrite_entries(),
     ))
 }
 
-/// What is read of the rewrite queue, with the counts.
-static REWRITTEN: [(&[Word], Counts); 9] = [
-    (&[Run(10, 20)], (0, 10, 0)),
-    (&[Run(10, 20), Run(15, 18)], (0, 13, 5)),
-    (&[Run(10, 20), Run(30, 32)], (0, 12, 10)),
-    (&[Run(10, 20), Compact(15)], (0, 10, 5)),
-    (&[Run(10, 20), Truncate(14)], (0, 10, 6)),
-    (&[Put, Put], (0, 2, 1)),
-    (&[Put, Delete], (0, 1, 1)),
-    (&[Run(10, 20), Put, Clean], (0, 11, 11)),
-    (&[Run(10, 20), Clean, Run(30, 32)], (0, 12, 10)),
+/// What a context reads of a queue, what a newer one reads of a queue from there on, if there is one, and the counts of
+/// both together.
+type Row = (
+    LogQueue,
+    &'static [Word],
+    Option<(LogQueue, &'static [Word])>,
+    Counts,
+);
+
+static ROWS: [Row; 17] = [
+    (Rewrite, &[Run(10, 20)], None, (0, 10, 0)),
+    (Rewrite, &[Run(10, 20), Run(15, 18)], None, (0, 13, 5)),
+    (Rewrite, &[Run(10, 20), Run(30, 32)], None, (0, 12, 10)),
+    (Rewrite, &[Run(10, 20), Compact(15)], None, (0, 10, 5)),
+    (Rewrite, &[Run(10, 20), Truncate(14)], None, (0, 10, 6)),
+    (Rewrite, &[Put, Put], None, (0, 2, 1)),
+    (Rewrite, &[Put, Delete], None, (0, 1, 1)),
+    (Rewrite, &[Run(10, 20), Put, Clean], None, (0, 11, 11)),
+    (
+        Rewrite,
+        &[Run(10, 20), Clean, Run(30, 32)],
+        None,
+        (0, 12, 10),
+    ),
+    (Append, &[Run(10, 20), Run(15, 18), Put], None, (9, 0, 0)),
+    (
+        Append,
+        &[Run(10, 20), Compact(15), Truncate(17), Delete],
+        None,
+        (2, 0, 0),
+    ),
+    (Append, &[Run(10, 20), Put, Clean, Put], None, (1, 0, 0)),
+    // What a clean takes away of an older table is deleted.
+    (
+        Rewrite,
+        &[Run(10, 20)],
+        Some((Rewrite, &[Clean])),
+        (0, 10, 10),
+    ),
+    (
+        Rewrite,
+        &[Run(10, 20)],
+        Some((Rewrite, &[Clean, Put])),
+        (0, 11, 10),
+    ),
+    (
+        Rewrite,
+        &[Put],
+        Some((Rewrite, &[Clean, Run(5, 8)])),
+        (0, 4, 1),
+    ),
+    (
+        Rewrite,
+        &[Run(10, 20)],
+        Some((Append, &[Clean])),
+        (0, 10, 10),
+    ),
+    (
+        Rewrite,
+        &[Run(10, 20)],
+        Some((Append, &[Clean, Put])),
+        (1, 10, 10),
+    ),
 ];
 
-/// What is read of the append queue, with the counts.
-static APPENDED: [(&[Word], Counts); 3] = [
-    (&[Run(10, 20), Run(15, 18), Put], (9, 0, 0)),
-    (&[Run(10, 20), Compact(15), Truncate(17), Delete], (2, 0, 0)),
-    (&[Run(10, 20), Put, Clean, Put], (1, 0, 0)),
-];
-
-/// Tests whether what was read of a queue has these counts.
-fn are_counted(alloc: Global, queue: LogQueue, rows: &[(&'static [Word], Counts)]) -> Result<bool> {
-    let mut same = true;
-    for (words, counts) in rows {
-        same &= counts_of(read(alloc, queue, words)?)? == *counts;
-    }
-    Ok(same)
+fn rows() -> &'static [Row] {
+    &ROWS
 }
 
-#[test]
-fn replayed_batches_are_counted(rt: HostRuntime) {
-    for (queue, rows) in [
-        (LogQueue::Rewrite, REWRITTEN.as_slice()),
-        (LogQueue::Append, APPENDED.as_slice()),
-    ] {
-        let mut same = are_counted(rt.alloc(), queue, rows);
-        if matches!(same, Err(Error::Memory)) {
-            same = are_counted(rt.alloc(), queue, rows);
+/// Returns the counts of a row's contexts: the older one merged with the newer one, or the newer one put over it.
+fn counted(alloc: Global, row: &Row) -> Result<Counts> {
+    let (queue, older, newer, _) = *row;
+    let mut context = read(alloc, queue, older)?;
+    if let Some((queue, words)) = newer {
+        let newer = read(alloc, queue, words)?;
+        match queue {
+            Rewrite => context.merge(newer, Rewrite)?,
+            Append => context.merge_append_context(newer)?,
         }
-        assert!(rt; matches!(same, Ok(true)));
-    }
-}
-
-/// What is read of the rewrite queue in one file, what a newer context reads of a queue from there on, and the counts
-/// of both together.
-static CLEANED: [(Word, LogQueue, &[Word], Counts); 5] = [
-    (Run(10, 20), LogQueue::Rewrite, &[Clean], (0, 10, 10)),
-    (Run(10, 20), LogQueue::Rewrite, &[Clean, Put], (0, 11, 10)),
-    (Put, LogQueue::Rewrite, &[Clean, Run(5, 8)], (0, 4, 1)),
-    (Run(10, 20), LogQueue::Append, &[Clean], (0, 10, 10)),
-    (Run(10, 20), LogQueue::Append, &[Clean, Put], (1, 10, 10)),
-];
-
-/// Returns the counts of a context that took in a newer one of the rewrite queue, or that of the append queue.
-fn counts_of_both(alloc: Global, older: Word, queue: LogQueue, newer: &[Word]) -> Result<Counts> {
-    let mut context = read(alloc, LogQueue::Rewrite, &[older])?;
-    let newer = read(alloc, queue, newer)?;
-    match queue {
-        LogQueue::Rewrite => context.merge(newer, LogQueue::Rewrite)?,
-        LogQueue::Append => context.merge_append_context(newer)?,
     }
     counts_of(context)
 }
 
 #[test]
-fn what_a_clean_takes_away_is_deleted(rt: HostRuntime) {
-    for &(older, queue, newer, counts) in &CLEANED {
-        let mut both = counts_of_both(rt.alloc(), older, queue, newer);
-        if matches!(both, Err(Error::Memory)) {
-            both = counts_of_both(rt.alloc(), older, queue, newer);
+fn records_of_contexts_are_counted(rt: HostRuntime) {
+    for row in rows() {
+        let mut counts = counted(rt.alloc(), row);
+        if matches!(counts, Err(Error::Memory)) {
+            counts = counted(rt.alloc(), row);
         }
-        assert!(rt; matches!(both, Ok(both) if both == counts));
+        assert!(rt;
+            matches!(counts, Ok(counts) if counts == row.3),
+            "{:?}",
+            row.3
+        );
     }
 }

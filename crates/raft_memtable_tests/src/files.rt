@@ -4,7 +4,7 @@ ghost use Rattle.std.specs.Prelude.{◌≡◌};
 ghost use Rattle.raft_records.specs.LogBatch.{is_open};
 
 use raft_memtable::{FileId, MemTableRecoverContext, Result};
-use raft_records::{FilePart, LogBatch, LogFileContext, Version, next_batch};
+use raft_records::{FilePart, LogBatch, LogFileContext, ReadBatch, Version, next_batch};
 use std::alloc::Global;
 
 /// Returns a file that holds this batch alone.
@@ -23,4 +23,25 @@ pub(crate) fn replay_file(context: &mut MemTableRecoverContext, file: &FilePart)
         context.replay(batch, file.id())?;
     }
     Ok(())
+}
+
+/// Returns a context that replayed the batches of these files.
+pub(crate) fn replayed(alloc: Global, files: &[FilePart]) -> Result<MemTableRecoverContext> {
+    let mut context = MemTableRecoverContext::new(alloc)?;
+    for file in files {
+        replay_file(&mut context, file)?;
+    }
+    Ok(context)
+}
+
+/// Replays the batch of a file as it was read, as a batch of another file or of the same.
+pub(crate) fn replay_read(
+    context: &mut MemTableRecoverContext,
+    file: &FilePart,
+    id: FileId,
+) -> Result<()> {
+    let own = LogFileContext::new(file.id(), file.version());
+    let mut batch = ReadBatch::new(file.allocator(), file.id());
+    batch.read_next(&own, file.offset(), file.bytes(), 0)?;
+    context.replay_read(&batch, id)
 }

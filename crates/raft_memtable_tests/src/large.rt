@@ -1,11 +1,11 @@
 //! Contexts with many regions, many groups, long stretches, many deleted keys and long runs.
 
-use crate::files::{file_of, replay_file};
-use crate::groups::{add_marker, part_of, seen_of};
-use crate::overlays::{Word, read as read_words};
+use crate::files::{file_of, replay_file, replayed};
+use crate::groups::{add_marker, file, part_of, seen_of};
+use crate::overlays::{Word, read};
 use AtomicGroupStatus::{Begin, End};
 use raft_memtable::{
-    Error, FileId, Kept, LogQueue, MemTable, MemTableAccessor, MemTableRecoverContext, Result,
+    Error, FileId, LogQueue, MemTable, MemTableAccessor, MemTableRecoverContext, Result,
 };
 use raft_records::{AtomicGroupStatus, FilePart, LogBatch};
 use std::alloc::Global;
@@ -23,16 +23,19 @@ const REGIONS: u64 = 600;
 /// How many keys a context deletes.
 const DELETED: u64 = 100;
 
-/// Returns a context of a batch with this status for each group, in files from one on: group n puts a key in region n.
+/// Returns a context of a batch with this status for each group, from one group on to the last and then the others, in
+/// files from one on. Group n puts a key in region n.
 fn groups(
     alloc: Global,
     status: AtomicGroupStatus,
     key: &[u8],
     first_seq: u64,
+    first_group: u64,
 ) -> Result<MemTableRecoverContext> {
     let mut context = MemTableRecoverContext::new(alloc)?;
-    for group in 0..GROUPS {
-        let seq = first_seq.saturating_add(group);
+    for number in 0..GROUPS {
+        let seq = first_seq.saturating_add(number);
+        let group = first_group.saturating_add(number) % GROUPS;
         replay_file(
             &mut context,
             &part_of(alloc, group, group, status, key, seq)?,
@@ -41,18 +44,22 @@ fn groups(
     Ok(context)
 }
 
-/// Tests whether all groups wait, and take effect in a merge with a context that ends them.
+/// Tests whether all groups take effect in a merge with a context that ends them: the last half of them first, so that
+/// some groups lie in others, and some reach from before another into it.
 fn groups_take_effect(alloc: Global) -> Result<bool> {
-    let mut context = groups(alloc, Begin, b"k1", 1)?;
-    let waiting = context.kept()?.waiting_items;
-    context.merge(groups(alloc, End, b"k2", 101)?, LogQueue::Rewrite)?;
+    let mut context = groups(alloc, Begin, b"k1", 1, 0)?;
+    context.merge(
+        groups(alloc, End, b"k2", 101, GROUPS / 2)?,
+        LogQueue::Rewrite,
+    )?;
     let accessor = context.finish()?;
-    let mut all = true;
+    let mut all = accessor.stats().live_entries(LogQueue::Rewrite) == 24;
     for group in 0..GROUPS {
-        let files = (group.saturating_add(1), group.saturating_add(101));
+        let end = group.saturating_add(GROUPS / 2) % GROUPS;
+        let files = (group.saturating_add(1), end.saturating_add(101));
         all &= seen_of(&accessor, group) == ([true, true, false, false], Some(files));
     }
-    Ok(all && waiting == u128::from(GROUPS))
+    Ok(all)
 }
 
 /// What is done to a key.
@@ -117,13 +124,6 @@ fn changes(
     file_of(alloc, file, batch)
 }
 
-/// Returns a context of one part.
-fn read(alloc: Global, part: &FilePart) -> Result<MemTableRecoverContext> {
-    let mut context = MemTableRecoverContext::new(alloc)?;
-    replay_file(&mut context, part)?;
-    Ok(context)
-}
-
 /// Returns how many tables there are, and how many keys they have.
 fn counts(accessor: &MemTableAccessor) -> (u64, usize) {
     let tables = accessor.fold(0u64, |count: u64, _: &MemTable| count.saturating_add(1));
@@ -133,35 +133,16 @@ fn counts(accessor: &MemTableAccessor) -> (u64, usize) {
     (tables, keys)
 }
 
-/// What the contexts of two parts hold, the older one and both merged, and the tables then.
-#[derive(Drop)]
-struct Merged {
-    older: Kept,
-    both: Kept,
-    accessor: MemTableAccessor,
-}
-
+/// Returns the tables of the contexts of two parts, merged.
 fn merge_parts(
     alloc: Global,
     queue: LogQueue,
-    older: &FilePart,
-    newer: &FilePart,
-) -> Result<Merged> {
-    let mut context = read(alloc, older)?;
-    let older = context.kept()?;
-    context.merge(read(alloc, newer)?, queue)?;
-    let both = context.kept()?;
-    let accessor = context.finish()?;
-    Ok(Merged {
-        older,
-        both,
-        accessor,
-    })
-}
-
-/// Returns a file of the rewrite queue.
-fn file(seq: u64) -> FileId {
-    FileId::new(LogQueue::Rewrite, seq)
+    older: FilePart,
+    newer: FilePart,
+) -> Result<MemTableAccessor> {
+    let mut context = replayed(alloc, &[older])?;
+    context.merge(replayed(alloc, &[newer])?, queue)?;
+    context.finish()
 }
 
 /// Tests whether region 5 has the first key and the last that a group puts in two batches.
@@ -170,17 +151,12 @@ fn has_ends(accessor: &MemTableAccessor) -> bool {
     accessor.get(5).is_some_and(|table| table.get(&last).is_some() && table.get(b"").is_some())
 }
 
-/// Tests whether a stretch of many items waits, and takes effect whole when a batch of as many ends the group.
+/// Tests whether a stretch of many items takes effect whole when a batch of as many ends the group.
 fn stretch_takes_effect(alloc: Global) -> Result<bool> {
     let begun = changes(alloc, file(1), Some(Begin), 0..LONG, true, Put(1))?;
     let ended = changes(alloc, file(2), Some(End), LONG..2 * LONG, true, Put(1))?;
-    let merged = merge_parts(alloc, LogQueue::Rewrite, &begun, &ended)?;
-    Ok(
-        merged.older.waiting_items == u128::from(LONG)
-            && merged.both.waiting_items == 0
-            && counts(&merged.accessor) == (1, 2_400)
-            && has_ends(&merged.accessor),
-    )
+    let accessor = merge_parts(alloc, LogQueue::Rewrite, begun, ended)?;
+    Ok(counts(&accessor) == (1, 2_400) && has_ends(&accessor))
 }
 
 /// A file of the append queue.
@@ -200,8 +176,8 @@ fn regions_are_merged(alloc: Global) -> Result<bool> {
         false,
         Put(1 << 10),
     )?;
-    let merged = merge_parts(alloc, LogQueue::Append, &older, &newer)?;
-    Ok(counts(&merged.accessor) == (900, 900) && merged.both.keys == 900)
+    let accessor = merge_parts(alloc, LogQueue::Append, older, newer)?;
+    Ok(counts(&accessor) == (900, 900))
 }
 
 /// Returns a context that read such changes of keys in region 5, each of the keys with the numbers from one on and
@@ -229,18 +205,12 @@ fn deletions(alloc: Global) -> Result<MemTableRecoverContext> {
 }
 
 /// Tests whether the keys that both contexts delete, the empty one too, are gone, also those that an older context put,
-/// and the other key stays. They may hold each key that they deleted.
+/// and the other key stays.
 fn deletions_are_merged(alloc: Global) -> Result<bool> {
     let mut context = read_changes(alloc, &[(DELETED + 1, 2 * DELETED + 1, Put(1))])?;
     context.merge(deletions(alloc)?, LogQueue::Append)?;
-    let kept = context.kept()?;
     let accessor = context.finish()?;
-    Ok(is_of_deleted(kept, 1) && has_long_value(&accessor, DELETED) && counts(&accessor) == (1, 1))
-}
-
-/// Tests whether so many keys, and at most those that were deleted, are held.
-fn is_of_deleted(kept: Kept, keys: u128) -> bool {
-    kept.keys == keys && kept.deleted_keys <= u128::from(2 * DELETED)
+    Ok(has_long_value(&accessor, DELETED) && counts(&accessor) == (1, 1))
 }
 
 /// Tests whether region 5's key with a number has a value of 64 KiB.
@@ -294,8 +264,8 @@ fn runs() -> &'static [(LogQueue, LogQueue, Shape)] {
 
 /// Returns the contexts of an older long run and of a newer one, merged, or the newer one put over the older one.
 fn both_runs(alloc: Global, older: LogQueue, newer: LogQueue) -> Result<MemTableRecoverContext> {
-    let mut context = read_words(alloc, older, &[OLDER])?;
-    let appended = read_words(alloc, newer, &[NEWER])?;
+    let mut context = read(alloc, older, &[OLDER])?;
+    let appended = read(alloc, newer, &[NEWER])?;
     if older == newer {
         context.merge(appended, newer)?;
     } else {
@@ -311,7 +281,7 @@ fn runs_are_merged(alloc: Global) -> Result<bool> {
             return Ok(false);
         }
     }
-    let read = read_words(alloc, LogQueue::Append, &[OLDER, NEWER])?;
+    let read = read(alloc, LogQueue::Append, &[OLDER, NEWER])?;
     Ok(shape(&read.finish()?) == (Some(0), Some(8_999), 9_000, 0))
 }
 

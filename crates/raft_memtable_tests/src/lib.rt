@@ -13,5 +13,3 @@ mod large;
 mod markers;
 #[cfg(test)]
 mod overlays;
-#[cfg(test)]
-mod reads;

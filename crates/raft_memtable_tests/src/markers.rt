@@ -1,6 +1,6 @@
 //! All lists of four group markers, read by one context and by several that are merged.
 
-use crate::files::replay_file;
+use crate::files::{replay_read, replayed};
 use crate::groups::{Effect, KEYS, part_of, seen_of};
 use AtomicGroupStatus::{Begin, End, Middle};
 use raft_memtable::{Error, LogQueue, MemTableAccessor, MemTableRecoverContext, Result};
@@ -8,7 +8,7 @@ use raft_records::{AtomicGroupStatus, FilePart};
 use std::alloc::Global;
 
 /// The group markers of four batches.
-pub(crate) type Statuses = [AtomicGroupStatus; 4];
+type Statuses = [AtomicGroupStatus; 4];
 
 const STATUSES: [AtomicGroupStatus; 3] = [Begin, Middle, End];
 
@@ -47,7 +47,7 @@ fn is_whole(statuses: &[AtomicGroupStatus]) -> bool {
 
 /// Returns what the group markers ask for: each whole stretch has the keys of its batches, and is the region's last
 /// group if none follows it.
-pub(crate) fn owed(statuses: &Statuses) -> Effect {
+fn owed(statuses: &Statuses) -> Effect {
     let mut keys = [false; 4];
     let mut group = None;
     for &(first, last) in &[(0, 1), (0, 2), (1, 2), (0, 3), (1, 3), (2, 3)] {
@@ -78,7 +78,7 @@ fn whole_stretches_are_found(rt: HostRuntime) {
 }
 
 /// Returns four batches with these group markers of group 9, in the files 1 to 4: each puts a key in region 5.
-pub(crate) fn parts_of(alloc: Global, statuses: &Statuses) -> Result<Vec<FilePart>> {
+fn parts_of(alloc: Global, statuses: &Statuses) -> Result<Vec<FilePart>> {
     let mut parts = Vec::new(alloc);
     let mut seq = 1u64;
     for (status, key) in statuses.iter().zip(KEYS.iter()) {
@@ -102,15 +102,6 @@ fn contexts(
         rest = behind;
     }
     Ok(contexts)
-}
-
-/// Returns a context that replayed these batches.
-fn replayed(alloc: Global, parts: &[FilePart]) -> Result<MemTableRecoverContext> {
-    let mut context = MemTableRecoverContext::new(alloc)?;
-    for part in parts {
-        replay_file(&mut context, part)?;
-    }
-    Ok(context)
 }
 
 /// Has the context at a place take in its newer neighbor.
@@ -144,6 +135,15 @@ fn have_effect(tables: &MemTableAccessor, effect: Effect) -> bool {
         && tables.is_empty() == (records == 0)
 }
 
+/// Returns the tables of batches that one context replays as they were read.
+fn tables_as_read(alloc: Global, parts: &[FilePart]) -> Result<MemTableAccessor> {
+    let mut context = MemTableRecoverContext::new(alloc)?;
+    for part in parts {
+        replay_read(&mut context, part, part.id())?;
+    }
+    context.finish()
+}
+
 /// Tests whether these group markers have the effect that is owed, however the batches are read and merged.
 fn has_effect(alloc: Global, statuses: &Statuses) -> Result<bool> {
     let parts = parts_of(alloc, statuses)?;
@@ -154,7 +154,7 @@ fn has_effect(alloc: Global, statuses: &Statuses) -> Result<bool> {
             _ => return Ok(false),
         }
     }
-    Ok(true)
+    Ok(have_effect(&tables_as_read(alloc, parts.as_slice())?, effect))
 }
 
 /// Tests whether all lists of group markers that begin with these two have their effects.

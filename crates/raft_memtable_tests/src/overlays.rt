@@ -116,18 +116,8 @@ pub(crate) fn read(
     queue: LogQueue,
     words: &[Word],
 ) -> Result<MemTableRecoverContext> {
-    read_region(alloc, queue, 1, words)
-}
-
-/// Returns a context of these words on a region.
-fn read_region(
-    alloc: Global,
-    queue: LogQueue,
-    region: u64,
-    words: &[Word],
-) -> Result<MemTableRecoverContext> {
     let mut context = MemTableRecoverContext::new(alloc)?;
-    replay(alloc, &mut context, queue, region, words)?;
+    replay(alloc, &mut context, queue, 1, words)?;
     Ok(context)
 }
 
@@ -396,7 +386,8 @@ fn rows() -> &'static [Row] {
 
 /// Returns a context of the rewrite queue: region 2, a group of region 3 that waits, and these words on region 1.
 fn rewritten_beside(alloc: Global, words: &[Word]) -> Result<MemTableRecoverContext> {
-    let mut context = read_region(alloc, LogQueue::Rewrite, 2, &[BESIDE])?;
+    let mut context = MemTableRecoverContext::new(alloc)?;
+    replay(alloc, &mut context, LogQueue::Rewrite, 2, &[BESIDE])?;
     let begun = part_of(alloc, 9, 3, AtomicGroupStatus::Begin, b"k1", 1)?;
     replay_file(&mut context, &begun)?;
     replay(alloc, &mut context, LogQueue::Rewrite, 1, words)?;

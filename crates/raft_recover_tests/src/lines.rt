@@ -4,11 +4,9 @@ use raft_memtable::{
     EntryIndex, Error, FileBlockHandle, FileId, LogQueue, MemTableAccessor, Result, TableChange,
 };
 use raft_recover::print_recovered;
-use raft_recover::recovered::recovered_text;
 use std::alloc::Global;
 use std::io;
 use std::io::{ErrorKind, Write};
-use std::process::Abort;
 
 const LINES: &str = "\
 7 entries 10..12 keys 0 append 12 rewrite -
@@ -62,20 +60,6 @@ fn tables(alloc: Global) -> Result<MemTableAccessor> {
     Ok(accessor)
 }
 
-fn print_tables(rt: &impl Abort, alloc: Global) -> Result<()> {
-    let text = recovered_text(alloc, &tables(alloc)?)?;
-    assert_eq!(rt; text.as_str(), LINES);
-    Ok(())
-}
-
-#[test]
-fn tables_stand_by_region(rt: HostRuntime) -> Result<()> {
-    match print_tables(&rt, rt.alloc()) {
-        Err(Error::Memory) => print_tables(&rt, rt.alloc()),
-        printed => printed,
-    }
-}
-
 /// A writer that is interrupted before each write, takes a few bytes at a time, and fails after so many writes.
 #[derive(Drop)]
 struct Halting {
@@ -127,10 +111,11 @@ fn printed(
 
 /// Tests whether the lines are written by so many writes, and where one of them fails those before it have a front of
 /// them.
-fn is_handed_on(alloc: Global, accessor: &MemTableAccessor) -> Result<bool> {
+fn is_handed_on(alloc: Global) -> Result<bool> {
+    let accessor = tables(alloc)?;
     let count = LINES.len().div_ceil(7);
     for fails_behind in 0..=count {
-        let (writer, is_refused) = printed(alloc, accessor, fails_behind)?;
+        let (writer, is_refused) = printed(alloc, &accessor, fails_behind)?;
         let front = LINES.as_bytes().get(..writer.written.len());
         if is_refused != (fails_behind < count)
             || writer.writes != fails_behind
@@ -143,15 +128,11 @@ fn is_handed_on(alloc: Global, accessor: &MemTableAccessor) -> Result<bool> {
     Ok(true)
 }
 
-fn fail_writers(alloc: Global) -> Result<bool> {
-    is_handed_on(alloc, &tables(alloc)?)
-}
-
 #[test]
 fn each_failing_write_is_handed_on(rt: HostRuntime) {
-    let mut all = fail_writers(rt.alloc());
+    let mut all = is_handed_on(rt.alloc());
     if matches!(all, Err(Error::Memory)) {
-        all = fail_writers(rt.alloc());
+        all = is_handed_on(rt.alloc());
     }
     assert!(rt; matches!(all, Ok(true)));
 }

@@ -17,7 +17,7 @@ const WORKERS: &str = "raftlog: refused: invalid-argument\n";
 /// Words, the input in base 16, the status, what is printed, and how the error stream begins.
 type Row = (&'static str, &'static str, u8, &'static str, &'static str);
 
-static ROWS: [Row; 22] = [
+static ROWS: [Row; 32] = [
     (OPEN, "010102015a800bdd", 0, "1 clean\nitems 1 rest 0\n", ""),
     (
         "batch append 0 1",
@@ -88,10 +88,6 @@ static ROWS: [Row; 22] = [
     ("batch append 12 01", "", 2, "", "usage: raftlog"),
     ("batch append 12", "", 2, "", "usage: raftlog"),
     ("batch append 12 1 1", "", 2, "", "usage: raftlog"),
-];
-
-/// The same of words that ask for the tables of files.
-static RECOVERIES: [Row; 10] = [
     ("recover append 1 1", "", 0, "cleaned -\nlive 0 0\n", ""),
     ("recover rewrite 2 256", "", 0, "cleaned -\nlive 0 0\n", ""),
     ("recover append 1 0", "", 1, "", WORKERS),
@@ -132,9 +128,13 @@ impl Answer {
     }
 }
 
-fn words_of(alloc: Global, line: &str) -> Result<Vec<String>> {
+/// Returns the words of a line and, after them, others that may have spaces.
+fn words_of(alloc: Global, line: &str, others: &[&str]) -> Result<Vec<String>> {
     let mut words = Vec::new(alloc);
     for word in line.split_whitespace() {
+        words.push(String::from_str(alloc, word)?)?;
+    }
+    for &word in others {
         words.push(String::from_str(alloc, word)?)?;
     }
     Ok(words)
@@ -143,9 +143,10 @@ fn words_of(alloc: Global, line: &str) -> Result<Vec<String>> {
 fn run_on<S: Files + AllocGlobal + Threads + Sync>(
     rt: &S,
     line: &str,
+    others: &[&str],
     input: &str,
 ) -> Option<Answer> {
-    let words = words_of(rt.alloc(), line).ok()?;
+    let words = words_of(rt.alloc(), line, others).ok()?;
     let bytes = hex::decode(rt.alloc(), input).ok()?;
     let mut input = bytes.as_slice();
     answer_of(rt, words.as_slice(), &mut input)
@@ -166,35 +167,24 @@ fn answer_of<S: Files + AllocGlobal + Threads + Sync, R: Read>(
 /// Tests whether this is the answer to words. Where an allocation is refused they run again, and have to find memory.
 fn is_answered<S: Files + AllocGlobal + Threads + Sync>(rt: &S, row: &Row) -> bool {
     let (line, input, status, out, err) = *row;
-    let mut answer = run_on(rt, line, input);
+    let mut answer = run_on(rt, line, &[], input);
     if answer
         .as_ref()
         .is_none_or(|answer| answer.found_no_memory())
     {
-        answer = run_on(rt, line, input);
+        answer = run_on(rt, line, &[], input);
     }
     answer.is_some_and(|answer| answer.is(status, out, err))
 }
 
-fn word_rows() -> &'static [Row] {
+fn rows() -> &'static [Row] {
     &ROWS
 }
 
 #[test]
-fn rows(rt: HostRuntime) {
-    for row in word_rows() {
+fn words_are_answered(rt: HostRuntime) {
+    for row in rows() {
         assert!(rt; is_answered(&rt, row), "{}: {}", row.0, row.1);
-    }
-}
-
-fn recovery_rows() -> &'static [Row] {
-    &RECOVERIES
-}
-
-#[test]
-fn recoveries(rt: HostRuntime) {
-    for row in recovery_rows() {
-        assert!(rt; is_answered(&rt, row), "{}", row.0);
     }
 }
 
@@ -231,10 +221,9 @@ impl Write for Closed {
 
 #[test]
 fn failing_streams(rt: HostRuntime) {
-    if let Ok(words) = words_of(rt.alloc(), OPEN) {
+    if let Ok(words) = words_of(rt.alloc(), OPEN, &[]) {
         assert!(rt; is_torn(&rt, words.as_slice()));
         assert_eq!(rt; status_of_closed(&rt, words.as_slice()), 1);
-        assert_eq!(rt; status_of_closed(&rt, &[]), 2);
     }
 }
 
@@ -288,23 +277,51 @@ const CLEAN: &str = "00000000000018000000000000000010010102015a800bdd";
 
 const BOTH_LINES: &str = "7 entries 10..12 keys 0 append 12 rewrite -\ncleaned 1\nlive 2 0\n";
 
-/// The words for one file, for another with a `=` in its path, and for both.
-const ONE: &str = "recover append 1 1 12=two_entries.log";
+/// Where files are, and their batches. One path has a `=` in it; two begin or end with a space, and there is no file at
+/// the path without it.
+const FILES: [(&str, &str); 4] = [
+    ("two_entries.log", TWO_ENTRIES),
+    ("clean=1.log", CLEAN),
+    (" spaced.log", TWO_ENTRIES),
+    ("spaced.log ", CLEAN),
+];
 
-const CLEANED: &str = "recover append 1 1 12=clean=1.log";
+/// Words for files, behind `recover append 1 2`, how many bytes each file has at most, the status, what is printed, and
+/// how the error stream begins.
+type FileRow = (
+    &'static [&'static str],
+    usize,
+    u8,
+    &'static str,
+    &'static str,
+);
 
-const BOTH: &str = "recover append 1 2 012=two_entries.log 13=clean=1.log";
+const FILE_ROWS: [FileRow; 6] = [
+    (&["12=two_entries.log"], 0, 0, "cleaned -\nlive 0 0\n", ""),
+    (&["12=two_entries.log"], 33, 1, "", CORRUPTION),
+    (&["12=two_entries.log"], 34, 0, TWO_LINES, ""),
+    (&["12=clean=1.log"], 34, 0, "cleaned 1\nlive 0 0\n", ""),
+    (
+        &["012=two_entries.log", "13=clean=1.log"],
+        34,
+        0,
+        BOTH_LINES,
+        "",
+    ),
+    (&["12= spaced.log", "13=spaced.log "], 34, 0, BOTH_LINES, ""),
+];
 
-/// Returns the answer where one file holds the first bytes of the two entries' batch, and another the other batch.
+/// Returns the answer to words for files that hold the first bytes of their batches.
 fn run_on_files<S: Files + AllocGlobal + Threads + Sync>(
     rt: &S,
-    line: &str,
+    files: &[&str],
     length: usize,
 ) -> Option<Answer> {
-    write(rt, "two_entries.log", TWO_ENTRIES, length)?;
-    write(rt, "clean=1.log", CLEAN, usize::MAX)?;
-    let answer = run_on(rt, line, "");
-    for &path in &["two_entries.log", "clean=1.log"] {
+    for &(path, digits) in &FILES {
+        write(rt, path, digits, length)?;
+    }
+    let answer = run_on(rt, "recover append 1 2", files, "");
+    for &(path, _) in &FILES {
         fs::remove_file(rt, path).ok()?;
     }
     answer
@@ -317,59 +334,20 @@ fn write<S: Files + AllocGlobal>(rt: &S, path: &str, digits: &str, length: usize
     fs::write(rt, path, bytes.as_slice()).ok()
 }
 
-/// Returns words whose paths begin and end with a space.
-fn spaced_words(alloc: Global) -> Result<Vec<String>> {
-    let mut words = words_of(alloc, "recover append 1 1")?;
-    for &word in &["12= spaced.log", "13=spaced.log "] {
-        words.push(String::from_str(alloc, word)?)?;
-    }
-    Ok(words)
-}
-
-/// Returns the answer where there are files at these paths, and none at the path without spaces.
-fn run_on_spaced_files<S: Files + AllocGlobal + Threads + Sync>(rt: &S) -> Option<Answer> {
-    let words = spaced_words(rt.alloc()).ok()?;
-    write(rt, " spaced.log", TWO_ENTRIES, usize::MAX)?;
-    write(rt, "spaced.log ", CLEAN, usize::MAX)?;
-    let answer = answer_of(rt, words.as_slice(), &mut b"".as_slice());
-    for &path in &[" spaced.log", "spaced.log "] {
-        fs::remove_file(rt, path).ok()?;
-    }
-    answer
-}
-
-#[test]
-fn paths_keep_their_spaces(rt: HostRuntime) {
-    let mut answer = run_on_spaced_files(&rt);
-    if answer
-        .as_ref()
-        .is_none_or(|answer| answer.found_no_memory())
-    {
-        answer = run_on_spaced_files(&rt);
-    }
-    assert!(rt; answer.is_some_and(|answer| answer.is(0, BOTH_LINES, "")));
-}
-
 /// Runs each row, once more where an allocation is refused: it has to find memory then.
 #[test]
-fn files(rt: HostRuntime) {
-    for &(line, length, status, out, err) in &[
-        (ONE, 0, 0, "cleaned -\nlive 0 0\n", ""),
-        (ONE, 33, 1, "", CORRUPTION),
-        (ONE, 34, 0, TWO_LINES, ""),
-        (CLEANED, 34, 0, "cleaned 1\nlive 0 0\n", ""),
-        (BOTH, 34, 0, BOTH_LINES, ""),
-    ] {
-        let mut answer = run_on_files(&rt, line, length);
+fn files_are_read_at_their_paths(rt: HostRuntime) {
+    for &(files, length, status, out, err) in &FILE_ROWS {
+        let mut answer = run_on_files(&rt, files, length);
         if answer
             .as_ref()
             .is_none_or(|answer| answer.found_no_memory())
         {
-            answer = run_on_files(&rt, line, length);
+            answer = run_on_files(&rt, files, length);
         }
         assert!(rt;
             answer.is_some_and(|answer| answer.is(status, out, err)),
-            "{line}: {length} bytes"
+            "{files:?}: {length} bytes"
         );
     }
 }

@@ -91,25 +91,20 @@ fn entry(alloc: Global, index: u64, len: usize) -> Result<LogBatch> {
     Ok(batch)
 }
 
-/// Returns a batch that puts a key of region 1.
-fn put(alloc: Global) -> Result<LogBatch> {
+/// Returns a batch of a record of region 1 that isn't a run, or of a cleaned region.
+fn change(alloc: Global, record: Record) -> Result<LogBatch> {
     let mut batch = LogBatch::default(alloc);
-    let key = Vec::from_slice(alloc, b"k".as_slice())?;
-    batch.put(1, key, Vec::from_slice(alloc, b"v".as_slice())?)?;
-    Ok(batch)
-}
-
-/// Returns a batch that deletes that key.
-fn deletion(alloc: Global) -> Result<LogBatch> {
-    let mut batch = LogBatch::default(alloc);
-    batch.delete(1, Vec::from_slice(alloc, b"k".as_slice())?)?;
-    Ok(batch)
-}
-
-/// Returns a batch of a command.
-fn command(alloc: Global, region: u64, command: Command) -> Result<LogBatch> {
-    let mut batch = LogBatch::default(alloc);
-    batch.add_command(region, command)?;
+    match record {
+        Run(..) => {}
+        Put => batch.put(
+            1,
+            Vec::from_slice(alloc, b"k")?,
+            Vec::from_slice(alloc, b"v")?,
+        )?,
+        Delete => batch.delete(1, Vec::from_slice(alloc, b"k")?)?,
+        Compact(index) => batch.add_command(1, Command::Compact { index })?,
+        Clean(region) => batch.add_command(region, Command::Clean)?,
+    }
     Ok(batch)
 }
 
@@ -139,10 +134,7 @@ fn append_record(
             }
             Ok(())
         }
-        Put => append_batch(file, put(alloc)?, bytes),
-        Delete => append_batch(file, deletion(alloc)?, bytes),
-        Compact(index) => append_batch(file, command(alloc, 1, Command::Compact { index })?, bytes),
-        Clean(region) => append_batch(file, command(alloc, region, Command::Clean)?, bytes),
+        other => append_batch(file, change(alloc, other)?, bytes),
     }
 }
 
@@ -199,43 +191,5 @@ fn both_queues_have_their_tables(rt: HostRuntime) {
             }
             assert!(rt; matches!(held, Ok(true)));
         }
-    }
-}
-
-/// Tests whether files of these queues are refused, as the first and the second of a recovery of both.
-fn are_refused<R: Threads + Sync>(
-    rt: &R,
-    alloc: Global,
-    queues: (LogQueue, LogQueue),
-    workers: usize,
-) -> Result<bool> {
-    let rewrite = segments_of(alloc, queues.0, &[Run(10, 20)], 1)?;
-    let append = segments_of(alloc, queues.1, &[Run(20, 30)], 1)?;
-    match recover_both(rt, alloc, rewrite.as_slice(), append.as_slice(), workers) {
-        Ok(tables) => Ok(tables.is_empty()),
-        Err(Error::InvalidArgument(_)) => Ok(true),
-        Err(error) => Err(error),
-    }
-}
-
-#[test]
-fn other_workers_and_queues_are_refused(rt: HostRuntime) {
-    let (append, rewrite) = (LogQueue::Append, LogQueue::Rewrite);
-    for &(queues, workers, refused) in &[
-        ((rewrite, append), 0, true),
-        ((rewrite, append), 1, false),
-        ((rewrite, append), 256, false),
-        ((rewrite, append), 257, true),
-        ((append, append), 2, true),
-        ((rewrite, rewrite), 2, true),
-    ] {
-        let mut answer = are_refused(&rt, rt.alloc(), queues, workers);
-        if matches!(answer, Err(Error::Memory)) {
-            answer = are_refused(&rt, rt.alloc(), queues, workers);
-        }
-        assert!(rt;
-            answer.is_ok_and(|answer| answer == refused),
-            "{workers} workers"
-        );
     }
 }

@@ -1,4 +1,5 @@
-//! What is owed for a history: the lines of its tables, where its entries lie, and the values of its keys.
+//! Batches, and what is owed for them: the lines of their tables, where entries lie, the values of keys, the files of
+//! groups, and how many items may wait.
 
 use raft_base::{EntryIndex, FileBlockHandle, FileId, FileSeq, LogQueue, Result};
 use raft_memtable::MemTableAccessor;
@@ -12,41 +13,60 @@ pub(crate) type Place = (u64, u64, FileSeq, u64, usize, u32);
 /// A region, a key, and its value, if the region has the key.
 pub(crate) type Pair = (u64, &'static [u8], Option<&'static [u8]>);
 
-/// What the tables of a queue's batches have.
+/// A region, and the first and the last file of its last group, if it has one.
+pub(crate) type Group = (u64, Option<(FileSeq, FileSeq)>);
+
+/// Batches of a queue, each with the number of its file and its bytes in base 16, as version 1 has them. Those with the
+/// same number are of one file.
 #[derive(Clone, Copy)]
-pub(crate) struct Owed {
-    pub(crate) lines: &'static str,
-    /// Of some entries or of all.
+pub(crate) struct Row {
+    pub(crate) queue: LogQueue,
+    pub(crate) batches: &'static [(FileSeq, &'static str)],
+    /// The lines of their tables; none where they are refused as `Corruption`.
+    pub(crate) lines: Option<&'static str>,
+    /// Where some entries lie, or all.
     pub(crate) places: &'static [Place],
     pub(crate) pairs: &'static [Pair],
+    pub(crate) groups: &'static [Group],
+    /// How many items of groups wait behind the last batch, at most.
+    pub(crate) waiting: u128,
 }
 
-/// Returns these lines, whatever the places and values are.
-pub(crate) fn lines_alone(lines: &'static str) -> Owed {
-    Owed {
-        lines,
-        places: &[],
-        pairs: &[],
-    }
-}
+/// No batches of the append queue, which are refused.
+pub(crate) const APPEND: Row = Row {
+    queue: LogQueue::Append,
+    batches: &[],
+    lines: None,
+    places: &[],
+    pairs: &[],
+    groups: &[],
+    waiting: 0,
+};
 
-impl Owed {
-    /// Tests whether tables of a queue have what is owed.
-    pub(crate) fn is_met(
-        &self,
-        alloc: Global,
-        queue: LogQueue,
-        tables: &MemTableAccessor,
-    ) -> Result<bool> {
+/// The same of the rewrite queue.
+pub(crate) const REWRITE: Row = Row {
+    queue: LogQueue::Rewrite,
+    ..APPEND
+};
+
+impl Row {
+    /// Tests whether tables have what is owed. Where the batches are to be refused, none have.
+    pub(crate) fn is_met(&self, alloc: Global, tables: &MemTableAccessor) -> Result<bool> {
+        let Some(lines) = self.lines else {
+            return Ok(false);
+        };
         let text = recovered_text(alloc, tables)?;
-        Ok(
-            text.as_str() == self.lines
-                && self
-                    .places
-                    .iter()
-                    .all(|place| is_placed(tables, queue, place))
-                && have_pairs(tables, self.pairs),
-        )
+        Ok(text.as_str() == lines && self.are_kept(tables))
+    }
+
+    /// Tests whether tables have these places, values and groups.
+    fn are_kept(&self, tables: &MemTableAccessor) -> bool {
+        let queue = self.queue;
+        self.places
+            .iter()
+            .all(|place| is_placed(tables, queue, place))
+            && self.pairs.iter().all(|pair| has_pair(tables, pair))
+            && self.groups.iter().all(|group| has_group(tables, group))
     }
 }
 
@@ -70,16 +90,20 @@ fn is_placed(tables: &MemTableAccessor, queue: LogQueue, place: &Place) -> bool 
     }
 }
 
-/// Tests whether all keys have their values, or are none of their regions.
-pub(crate) fn have_pairs(tables: &MemTableAccessor, pairs: &[Pair]) -> bool {
-    pairs.iter().all(|pair| has_pair(tables, pair))
-}
-
 /// Tests whether a region's key has this value, or the region doesn't have the key.
 fn has_pair(tables: &MemTableAccessor, pair: &Pair) -> bool {
     let (region, key, value) = *pair;
     match tables.get(region) {
         Some(table) => table.get(key) == value,
+        None => false,
+    }
+}
+
+/// Tests whether a region's last group has these files.
+fn has_group(tables: &MemTableAccessor, group: &Group) -> bool {
+    let (region, files) = *group;
+    match tables.get(region) {
+        Some(table) => table.atomic_group() == files,
         None => false,
     }
 }

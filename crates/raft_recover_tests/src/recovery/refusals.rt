@@ -1,9 +1,10 @@
 //! Texts of refusals: where reading stopped, and why.
 
-use crate::recovery::histories::{APPENDED, HOLE};
+use crate::recovery::histories::{APPENDED, WITH_A_HOLE};
 use crate::recovery::{cut, cuttings};
-use raft_base::{Error, FileSeq, LogQueue, Result};
+use raft_base::{Error, FileSeq, LogQueue, Result, Version};
 use raft_recover::recovery::recover_segments;
+use raft_recover::{MemTableAccessor, Segment, recover, recover_both};
 use std::alloc::Global;
 use std::thread::Threads;
 
@@ -26,18 +27,47 @@ const HOLE_TEXT: &str =
 const PLACED_HOLE: &str =
     "append file 5, offset 40: region 1: a run from index 12 on leaves a hole behind the entries, which end before index 10";
 
-/// Returns what is said where batches of the append queue are refused as corruption or as an argument, read as those of
-/// this queue by so many workers; nothing where they are read.
+/// The calls that return tables.
+#[derive(Clone, Copy)]
+enum Call {
+    Recover,
+    RecoverSegments,
+    /// With no segments of the other queue.
+    RecoverBoth,
+}
+
+use Call::{Recover, RecoverBoth, RecoverSegments};
+
+/// Returns what a call returns that reads segments as those of a queue by so many workers.
+fn tables_of<R: Threads + Sync>(
+    rt: &R,
+    alloc: Global,
+    call: Call,
+    segments: &[Segment],
+    queue: LogQueue,
+    workers: usize,
+) -> Result<MemTableAccessor> {
+    match (call, queue) {
+        (Recover, _) => recover(rt, alloc, segments, queue, workers),
+        (RecoverSegments, _) => recover_segments(rt, alloc, segments, queue, workers),
+        (RecoverBoth, LogQueue::Append) => recover_both(rt, alloc, &[], segments, workers),
+        (RecoverBoth, LogQueue::Rewrite) => recover_both(rt, alloc, segments, &[], workers),
+    }
+}
+
+/// Returns what is said where a call refuses batches of the append queue as corruption or as an argument, read as those
+/// of this queue by so many workers; nothing where they are read.
 fn refusal<R: Threads + Sync>(
     rt: &R,
     alloc: Global,
+    call: Call,
     batches: &[(FileSeq, &str)],
     cuts: u64,
     queue: LogQueue,
     workers: usize,
 ) -> Result<String> {
-    let segments = cut(alloc, LogQueue::Append, batches, cuts)?;
-    match recover_segments(rt, alloc, segments.as_slice(), queue, workers) {
+    let segments = cut(alloc, LogQueue::Append, Version::V1, batches, cuts)?;
+    match tables_of(rt, alloc, call, segments.as_slice(), queue, workers) {
         Ok(_tables) => Ok(String::new(alloc)),
         Err(Error::Corruption(text)) => Ok(text),
         Err(Error::InvalidArgument(text)) => Ok(text),
@@ -62,8 +92,16 @@ fn cut_short_texts() -> &'static [&'static str] {
 fn is_told<R: Threads + Sync>(rt: &R, alloc: Global, number: usize, text: &str) -> Result<bool> {
     let batches = cut_short(alloc, number)?;
     let batches = batches.as_slice();
-    let one = refusal(rt, alloc, batches, 0, LogQueue::Append, 1)?;
-    let many = refusal(rt, alloc, batches, u64::MAX, LogQueue::Append, 4)?;
+    let one = refusal(rt, alloc, Recover, batches, 0, LogQueue::Append, 1)?;
+    let many = refusal(
+        rt,
+        alloc,
+        RecoverSegments,
+        batches,
+        u64::MAX,
+        LogQueue::Append,
+        4,
+    )?;
     Ok(one.as_str() == text && many.as_str() == text)
 }
 
@@ -80,18 +118,24 @@ fn refusals_name_file_and_offset(rt: HostRuntime) {
 
 /// Tests whether a hole is told in one wording at every seventh cutting, by one to four workers.
 fn is_hole_told<R: Threads + Sync>(rt: &R, alloc: Global) -> Result<bool> {
-    let mut batches = Vec::from_slice(alloc, APPENDED.as_slice())?;
-    batches.push(HOLE)?;
-    let batches = batches.as_slice();
+    let batches = WITH_A_HOLE.as_slice();
     for seventh in 0..cuttings(batches.len()) / 7 {
         let cuts = 7 * seventh;
         let workers = 1 + (cuts % 4) as usize;
-        let text = refusal(rt, alloc, batches, cuts, LogQueue::Append, workers)?;
+        let text = refusal(
+            rt,
+            alloc,
+            RecoverSegments,
+            batches,
+            cuts,
+            LogQueue::Append,
+            workers,
+        )?;
         if text.as_str() != PLACED_HOLE && text.as_str() != HOLE_TEXT {
             return Ok(false);
         }
     }
-    let one = refusal(rt, alloc, batches, 0, LogQueue::Append, 1)?;
+    let one = refusal(rt, alloc, Recover, batches, 0, LogQueue::Append, 1)?;
     Ok(one.as_str() == PLACED_HOLE)
 }
 
@@ -104,37 +148,36 @@ fn holes_are_told_in_one_wording(rt: HostRuntime) {
     assert!(rt; matches!(told, Ok(true)));
 }
 
-/// Tests whether so many workers on a queue are refused with this text.
+/// Tests whether a call says this of so many workers on a queue; nothing where it takes them.
 fn is_argument_told<R: Threads + Sync>(
     rt: &R,
     alloc: Global,
+    call: Call,
     queue: LogQueue,
     workers: usize,
     text: &str,
 ) -> Result<bool> {
-    let told = refusal(rt, alloc, APPENDED.as_slice(), 1, queue, workers)?;
+    let told = refusal(rt, alloc, call, APPENDED.as_slice(), 1, queue, workers)?;
     Ok(told.as_str() == text)
 }
 
+const OTHER_WORKERS: &str = "another number of workers than 1 to 256";
+
 #[test]
 fn arguments_are_told(rt: HostRuntime) {
-    for &(queue, workers, text) in &[
-        (
-            LogQueue::Append,
-            0,
-            "another number of workers than 1 to 256",
-        ),
-        (
-            LogQueue::Append,
-            257,
-            "another number of workers than 1 to 256",
-        ),
-        (LogQueue::Rewrite, 1, "a part of another queue"),
-    ] {
-        let mut told = is_argument_told(&rt, rt.alloc(), queue, workers, text);
-        if matches!(told, Err(Error::Memory)) {
-            told = is_argument_told(&rt, rt.alloc(), queue, workers, text);
+    for &call in &[Recover, RecoverSegments, RecoverBoth] {
+        for &(queue, workers, text) in &[
+            (LogQueue::Append, 0, OTHER_WORKERS),
+            (LogQueue::Append, 1, ""),
+            (LogQueue::Append, 256, ""),
+            (LogQueue::Append, 257, OTHER_WORKERS),
+            (LogQueue::Rewrite, 1, "a part of another queue"),
+        ] {
+            let mut told = is_argument_told(&rt, rt.alloc(), call, queue, workers, text);
+            if matches!(told, Err(Error::Memory)) {
+                told = is_argument_told(&rt, rt.alloc(), call, queue, workers, text);
+            }
+            assert!(rt; matches!(told, Ok(true)), "{workers} workers: {text}");
         }
-        assert!(rt; matches!(told, Ok(true)), "{text}");
     }
 }

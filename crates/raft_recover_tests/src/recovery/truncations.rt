@@ -1,4 +1,4 @@
-//! Files with truncations, each of one batch, and the lines that are owed for them.
+//! Rows with truncations, a batch in each file.
 
 use super::batches::{
     CLEAN, COMPACT_1, COMPACT_2, COMPACT_3, COMPACT_20, GROUP_BEGIN_1_10, GROUP_BEGIN_TRUNCATE_4,
@@ -6,8 +6,7 @@ use super::batches::{
     RUN_2_3, RUN_3_4, RUN_10_20, RUN_18_20, RUN_20_30, RUN_25_30, TRUNCATE_0, TRUNCATE_1,
     TRUNCATE_2, TRUNCATE_2_OF_5, TRUNCATE_5, TRUNCATE_15, TRUNCATE_20,
 };
-use super::rows::Row;
-use raft_base::{LogQueue, Version};
+use super::owed::{APPEND, REWRITE, Row};
 
 pub(crate) fn truncations() -> &'static [Row] {
     &ROWS
@@ -15,26 +14,22 @@ pub(crate) fn truncations() -> &'static [Row] {
 
 static ROWS: [Row; 23] = [
     Row {
-        queue: LogQueue::Append,
-        version: Version::V1,
-        files: &[(1, RUN_10_20), (2, TRUNCATE_15), (3, RUN_18_20)],
+        batches: &[(1, RUN_10_20), (2, TRUNCATE_15), (3, RUN_18_20)],
         lines: None,
+        ..APPEND
     },
     Row {
-        queue: LogQueue::Append,
-        version: Version::V1,
-        files: &[
+        batches: &[
             (1, RUN_10_20),
             (2, RUN_20_30),
             (3, TRUNCATE_20),
             (4, RUN_25_30),
         ],
         lines: None,
+        ..APPEND
     },
     Row {
-        queue: LogQueue::Append,
-        version: Version::V1,
-        files: &[
+        batches: &[
             (1, RUN_10_20),
             (2, COMPACT_20),
             (3, RUN_20_30),
@@ -48,11 +43,10 @@ cleaned -
 live 5 0
 ",
         ),
+        ..APPEND
     },
     Row {
-        queue: LogQueue::Append,
-        version: Version::V1,
-        files: &[
+        batches: &[
             (1, RUN_10_20),
             (2, RUN_20_30),
             (3, COMPACT_20),
@@ -66,11 +60,10 @@ cleaned -
 live 5 0
 ",
         ),
+        ..APPEND
     },
     Row {
-        queue: LogQueue::Rewrite,
-        version: Version::V1,
-        files: &[
+        batches: &[
             (1, RUN_10_20),
             (2, RUN_20_30),
             (3, TRUNCATE_20),
@@ -83,11 +76,10 @@ cleaned -
 live 0 5
 ",
         ),
+        ..REWRITE
     },
     Row {
-        queue: LogQueue::Append,
-        version: Version::V1,
-        files: &[(1, RUN_10_20), (2, TRUNCATE_5)],
+        batches: &[(1, RUN_10_20), (2, TRUNCATE_5)],
         lines: Some(
             "\
 1 entries - keys 0 append - rewrite -
@@ -95,11 +87,10 @@ cleaned -
 live 0 0
 ",
         ),
+        ..APPEND
     },
     Row {
-        queue: LogQueue::Append,
-        version: Version::V1,
-        files: &[(1, RUN_0_1), (2, TRUNCATE_0), (3, RUN_2_3)],
+        batches: &[(1, RUN_0_1), (2, TRUNCATE_0), (3, RUN_2_3)],
         lines: Some(
             "\
 1 entries 2..3 keys 0 append 3 rewrite -
@@ -107,11 +98,10 @@ cleaned -
 live 1 0
 ",
         ),
+        ..APPEND
     },
     Row {
-        queue: LogQueue::Rewrite,
-        version: Version::V1,
-        files: &[(1, RUN_0_2), (2, TRUNCATE_1), (3, RUN_2_3)],
+        batches: &[(1, RUN_0_2), (2, TRUNCATE_1), (3, RUN_2_3)],
         lines: Some(
             "\
 1 entries 2..3 keys 0 append - rewrite 3
@@ -119,11 +109,10 @@ cleaned -
 live 0 1
 ",
         ),
+        ..REWRITE
     },
     Row {
-        queue: LogQueue::Append,
-        version: Version::V1,
-        files: &[(1, RUN_1_2), (2, TRUNCATE_1), (3, RUN_2_3)],
+        batches: &[(1, RUN_1_2), (2, TRUNCATE_1), (3, RUN_2_3)],
         lines: Some(
             "\
 1 entries 2..3 keys 0 append 3 rewrite -
@@ -131,17 +120,15 @@ cleaned -
 live 1 0
 ",
         ),
+        ..APPEND
     },
     Row {
-        queue: LogQueue::Append,
-        version: Version::V1,
-        files: &[(1, RUN_0_1), (2, RUN_1_2), (3, TRUNCATE_1), (4, RUN_2_3)],
+        batches: &[(1, RUN_0_1), (2, RUN_1_2), (3, TRUNCATE_1), (4, RUN_2_3)],
         lines: None,
+        ..APPEND
     },
     Row {
-        queue: LogQueue::Rewrite,
-        version: Version::V1,
-        files: &[(1, RUN_0_1), (2, RUN_1_2), (3, TRUNCATE_1), (4, RUN_2_3)],
+        batches: &[(1, RUN_0_1), (2, RUN_1_2), (3, TRUNCATE_1), (4, RUN_2_3)],
         lines: Some(
             "\
 1 entries 2..3 keys 0 append - rewrite 4
@@ -149,11 +136,10 @@ cleaned -
 live 0 1
 ",
         ),
+        ..REWRITE
     },
     Row {
-        queue: LogQueue::Append,
-        version: Version::V1,
-        files: &[(1, RUN_0_1), (2, RUN_1_2), (3, COMPACT_2), (4, RUN_2_3)],
+        batches: &[(1, RUN_0_1), (2, RUN_1_2), (3, COMPACT_2), (4, RUN_2_3)],
         lines: Some(
             "\
 1 entries 2..3 keys 0 append 4 rewrite -
@@ -161,11 +147,10 @@ cleaned -
 live 1 0
 ",
         ),
+        ..APPEND
     },
     Row {
-        queue: LogQueue::Append,
-        version: Version::V1,
-        files: &[(1, RUN_0_1), (2, RUN_1_2), (3, TRUNCATE_0), (4, RUN_1_2)],
+        batches: &[(1, RUN_0_1), (2, RUN_1_2), (3, TRUNCATE_0), (4, RUN_1_2)],
         lines: Some(
             "\
 1 entries 1..2 keys 0 append 4 rewrite -
@@ -173,11 +158,10 @@ cleaned -
 live 1 0
 ",
         ),
+        ..APPEND
     },
     Row {
-        queue: LogQueue::Append,
-        version: Version::V1,
-        files: &[
+        batches: &[
             (1, RUN_0_1),
             (2, RUN_1_2),
             (3, RUN_1_2),
@@ -185,11 +169,10 @@ live 1 0
             (5, RUN_2_3),
         ],
         lines: None,
+        ..APPEND
     },
     Row {
-        queue: LogQueue::Append,
-        version: Version::V1,
-        files: &[
+        batches: &[
             (1, RUN_0_1),
             (2, RUN_0_2),
             (3, COMPACT_1),
@@ -204,11 +187,10 @@ cleaned -
 live 1 0
 ",
         ),
+        ..APPEND
     },
     Row {
-        queue: LogQueue::Append,
-        version: Version::V1,
-        files: &[
+        batches: &[
             (1, RUN_0_1),
             (2, COMPACT_1),
             (3, RUN_1_2),
@@ -222,11 +204,10 @@ cleaned -
 live 1 0
 ",
         ),
+        ..APPEND
     },
     Row {
-        queue: LogQueue::Append,
-        version: Version::V1,
-        files: &[
+        batches: &[
             (1, RUN_0_1),
             (2, RUN_1_2),
             (3, TRUNCATE_1),
@@ -235,11 +216,10 @@ live 1 0
             (6, RUN_3_4),
         ],
         lines: None,
+        ..APPEND
     },
     Row {
-        queue: LogQueue::Append,
-        version: Version::V1,
-        files: &[
+        batches: &[
             (1, RUN_0_1),
             (2, RUN_1_2),
             (3, TRUNCATE_1),
@@ -247,11 +227,10 @@ live 1 0
             (5, CLEAN),
         ],
         lines: None,
+        ..APPEND
     },
     Row {
-        queue: LogQueue::Append,
-        version: Version::V1,
-        files: &[
+        batches: &[
             (1, RUN_0_1),
             (2, RUN_1_2),
             (3, TRUNCATE_1),
@@ -259,11 +238,10 @@ live 1 0
             (5, RUN_0_1),
         ],
         lines: None,
+        ..APPEND
     },
     Row {
-        queue: LogQueue::Append,
-        version: Version::V1,
-        files: &[
+        batches: &[
             (1, RUN_1_2),
             (2, RUN_2_3),
             (3, TRUNCATE_2),
@@ -272,11 +250,10 @@ live 1 0
             (6, RUN_2_3),
         ],
         lines: None,
+        ..APPEND
     },
     Row {
-        queue: LogQueue::Rewrite,
-        version: Version::V1,
-        files: &[
+        batches: &[
             (1, RUN_1_10_OF_5),
             (2, GROUP_BEGIN_TRUNCATE_4),
             (3, GROUP_END),
@@ -288,11 +265,10 @@ cleaned -
 live 0 3
 ",
         ),
+        ..REWRITE
     },
     Row {
-        queue: LogQueue::Rewrite,
-        version: Version::V1,
-        files: &[(1, RUN_1_10_OF_5), (2, GROUP_BEGIN_TRUNCATE_4)],
+        batches: &[(1, RUN_1_10_OF_5), (2, GROUP_BEGIN_TRUNCATE_4)],
         lines: Some(
             "\
 5 entries 1..10 keys 0 append - rewrite 1
@@ -300,11 +276,11 @@ cleaned -
 live 0 9
 ",
         ),
+        waiting: 1,
+        ..REWRITE
     },
     Row {
-        queue: LogQueue::Rewrite,
-        version: Version::V1,
-        files: &[
+        batches: &[
             (1, GROUP_BEGIN_1_10),
             (2, GROUP_MIDDLE_TRUNCATE_4),
             (3, GROUP_END_4_6),
@@ -317,5 +293,6 @@ cleaned -
 live 0 1
 ",
         ),
+        ..REWRITE
     },
 ];

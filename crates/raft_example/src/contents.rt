@@ -75,18 +75,23 @@ impl Records {
             return Ok(());
         }
         write!(text, "  region {region}")?;
-        let mut before = ": ";
+        let mut is_first = true;
         for (index, bytes) in &self.entries {
             let bytes = String::from_utf8_lossy(alloc, bytes)?;
-            write!(text, "{before}{index} {bytes}")?;
-            before = ", ";
+            write!(text, "{}{index} {bytes}", separator(is_first))?;
+            is_first = false;
         }
         for (key, value) in &self.pairs {
             let key = String::from_utf8_lossy(alloc, key)?;
             let value = String::from_utf8_lossy(alloc, value)?;
-            write!(text, "{before}{key}={value}")?;
-            before = ", ";
+            write!(text, "{}{key}={value}", separator(is_first))?;
+            is_first = false;
         }
         Ok(text.push('\n')?)
     }
+}
+
+/// Returns what stands before a record of a line.
+fn separator(is_first: bool) -> &'static str {
+    if is_first { ": " } else { ", " }
 }

@@ -22,7 +22,7 @@ pub(crate) enum Change {
     Put,
 }
 
-/// A call that changes tables; its first number is the region.
+/// A call that changes tables. The first number of a call on one region is the region.
 #[derive(Clone, Copy)]
 pub(crate) enum Call {
     Nothing,
@@ -152,7 +152,7 @@ fn call_alone(alloc: Global, core: &mut MemTableAccessor, call: Call) -> Result<
         Call::MergeAppend(queue, given) => {
             core.merge_append_table(replayed(alloc, queue, given)?)?;
         }
-        _ => {}
+        _ => return Err(Error::Failed),
     }
     Ok(0)
 }

@@ -29,6 +29,8 @@ pub(crate) enum Item {
     Run(u64, &'static [u64]),
     /// A key that is put, whether with a value, and in which file.
     Put(u64, &'static [u8], bool, Option<FileId>),
+    /// The eight bytes of the region's number, as a key that is put in a file.
+    PutOwnKey(u64, FileId),
     Delete(u64, &'static [u8]),
     Compact(u64, u64),
     Truncate(u64, u64),
@@ -96,6 +98,9 @@ fn log_item(alloc: Global, item: Item) -> Result<LogItem> {
             LogItem::new_entry_indexes(region, unplaced(alloc, indexes)?)
         }
         Item::Put(region, key, has_value, file) => put(alloc, region, key, has_value, file)?,
+        Item::PutOwnKey(region, file) => {
+            put(alloc, region, &region.to_be_bytes(), true, Some(file))?
+        }
         Item::Delete(region, key) => {
             LogItem::new_kv(region, OpType::Del, Vec::from_slice(alloc, key)?, None)
         }

@@ -29,7 +29,8 @@ pub(crate) fn contents_of<R: Host>(alloc: Global, store: &Store<'_, R>) -> Resul
     Ok(contents)
 }
 
-/// Returns a line for each region that has records.
+/// Returns a line for each region that has records. Texts of letters and digits alone stand in it as they are, so that
+/// two contents of such have the same lines only where they are the same.
 pub(crate) fn text_of(alloc: Global, contents: &Contents) -> Result<String> {
     let mut text = String::new(alloc);
     for (region, records) in contents {

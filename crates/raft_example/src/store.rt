@@ -32,7 +32,9 @@ impl<R: Disk + Threads + Sync> Host for R {}
 #[derive(Drop)]
 pub(crate) struct Store<'a, R: Host> {
     rt: &'a R,
+    /// The files, which only the store's calls change.
     pub(crate) pipe: FolderPipe<'a, R>,
+    /// What the files hold. Only the store's calls change it, but for a try of other tables of the same files.
     pub(crate) tables: MemTableAccessor,
     /// Commands and deletions of the append queue that the rewrite queue doesn't have yet.
     tombstones: Vec<LogItem>,

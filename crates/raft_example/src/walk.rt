@@ -50,7 +50,8 @@ fn open<R: Host>(rt: &R) -> Result<Store<'_, R>> {
     Store::open(rt, FOLDER, FILE_SIZE, WORKERS)
 }
 
-/// Opens the folder again, as after a restart. The store keeps nothing but what its files gave it.
+/// Opens the folder again, as after a restart. The old store goes once the new one is there, since it keeps no file open;
+/// an engine that keeps some lets it go first.
 fn restart<'a, R: Host + Print>(rt: &'a R, store: &mut Store<'a, R>) -> Result<()> {
     *store = open(rt)?;
     show(rt, store, "after a restart")

@@ -1,4 +1,4 @@
-//! Contexts with many regions, many groups, long stretches, many deleted keys and long runs.
+//! Contexts with many regions, many groups, long stretches, many deleted keys, long runs and many batches.
 
 use crate::files::{file_of, replay_file, replayed};
 use crate::groups::{add_marker, file, part_of, seen_of};
@@ -7,7 +7,7 @@ use AtomicGroupStatus::{Begin, End};
 use raft_memtable::{
     Error, FileId, LogQueue, MemTable, MemTableAccessor, MemTableRecoverContext, Result,
 };
-use raft_records::{AtomicGroupStatus, FilePart, LogBatch};
+use raft_records::{AtomicGroupStatus, Command, FilePart, LogBatch, LogItemBatch};
 use std::alloc::Global;
 use std::ops::Range;
 
@@ -22,6 +22,9 @@ const REGIONS: u64 = 600;
 
 /// How many keys a context deletes.
 const DELETED: u64 = 100;
+
+/// How many batches a context replays.
+const BATCHES: u64 = 100_000;
 
 /// Returns a context of a batch with this status for each group, from one group on to the last and then the others, in
 /// files from one on. Group n puts a key in region n.
@@ -285,13 +288,32 @@ fn runs_are_merged(alloc: Global) -> Result<bool> {
     Ok(shape(&read.finish()?) == (Some(0), Some(8_999), 9_000, 0))
 }
 
+/// Returns a context that replayed many batches, each a compaction of region 5 that was not read from a file.
+fn long_context(alloc: Global) -> Result<MemTableRecoverContext> {
+    let mut context = MemTableRecoverContext::new(alloc)?;
+    for _ in 0..BATCHES {
+        let mut batch = LogItemBatch::default(alloc);
+        batch.add_command(5, Command::Compact { index: 1 })?;
+        context.replay(batch, APPENDED)?;
+    }
+    Ok(context)
+}
+
+/// Tests whether two contexts of many batches are merged, and have the table of the region alone.
+fn many_batches_are_merged(alloc: Global) -> Result<bool> {
+    let mut context = long_context(alloc)?;
+    context.merge(long_context(alloc)?, LogQueue::Append)?;
+    Ok(counts(&context.finish()?) == (1, 0))
+}
+
 fn all_are_merged(alloc: Global) -> Result<bool> {
     Ok(
         groups_take_effect(alloc)?
             && stretch_takes_effect(alloc)?
             && regions_are_merged(alloc)?
             && deletions_are_merged(alloc)?
-            && runs_are_merged(alloc)?,
+            && runs_are_merged(alloc)?
+            && many_batches_are_merged(alloc)?,
     )
 }
 

@@ -150,6 +150,14 @@ fn is_marker_row(alloc: Global, row: &MarkerRow) -> Result<bool> {
     }
 }
 
+/// Tests whether a put is read the length of whose value is spelled by two bytes, where one would do.
+fn is_longer_read(alloc: Global) -> Result<bool> {
+    let mut rest = b"\x01\x01k\x82\x00vv".as_slice();
+    let mut size = 0;
+    let item = decode(alloc, Form::KeyValue, &mut rest, &mut size)?;
+    Ok(item == key_value(alloc, OpType::Put, b"k", Some(b"vv"))? && rest.is_empty())
+}
+
 #[test]
 fn items(rt: HostRuntime) {
     let answer = match items_are_as_in_the_rows(&rt, rt.alloc()) {
@@ -169,5 +177,6 @@ fn items_are_as_in_the_rows(rt: &impl Abort, alloc: Global) -> Result<()> {
     for row in rows::markers() {
         assert!(rt; is_marker_row(alloc, row)?, "{:?}", row.1);
     }
+    assert!(rt; is_longer_read(alloc)?);
     Ok(())
 }

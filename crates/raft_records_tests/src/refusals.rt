@@ -1,5 +1,5 @@
-//! What is no header, no entry block and no item batch. The words for it are those of raft-engine
-//! 0.4.2, and but for compression type 1, which it knows, and a few more faults, so are the rows.
+//! What is no header, no entry block and no item batch. The words for it are those of raft-engine 0.4.2, but for entry
+//! blocks that are cut short; and but for compression type 1, which it knows, and a few more faults, so are the rows.
 
 use raft_records::{
     CompressionType, Error, FileBlockHandle, FileId, LogBatch, LogFileContext, LogItemBatch,

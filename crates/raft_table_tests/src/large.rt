@@ -19,11 +19,12 @@ fn shape(alloc: Global, table: &MemTable) -> Result<Shape> {
     Ok((first, last, table.rewrite_count(), blocks, fetched.len()))
 }
 
-/// Tests whether a list of 5,000 entries in 100 blocks is appended, and its older half is rewritten.
+/// Tests whether a list of 5,000 entries in 100 blocks is appended, and its older half is rewritten, each as a change.
 fn is_rewritten(alloc: Global) -> Result<bool> {
-    let mut store = LogStore::after(alloc, &[Append((0, 5_000, 1))])?;
+    let mut store = LogStore::new(alloc);
+    let _appended = store.apply(Append((0, 5_000, 1)), true)?;
     let appended = shape(alloc, &store.table)?;
-    store.direct(Rewrite((0, 2_525, 1), Some(1)))?;
+    let _rewritten = store.apply(Rewrite((0, 2_525, 1), Some(1)), true)?;
     Ok(
         appended == (Some(0), Some(4_999), 0, 100, 5_000)
             && shape(alloc, &store.table)? == (Some(0), Some(4_999), 2_525, 101, 5_000),

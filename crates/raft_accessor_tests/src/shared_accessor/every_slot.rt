@@ -28,9 +28,9 @@ fn entry(alloc: Global, region: u64) -> Result<TableChange> {
     Ok(TableChange::Append(run(alloc, index, index + 1, NEW)?))
 }
 
-/// Fills the table of a region of an accessor: an entry is appended, and a key is rewritten.
+/// Fills the table of a region of an accessor: an entry is appended, and a key of its own is rewritten.
 fn fill_core(alloc: Global, core: &mut MemTableAccessor, region: u64) -> Result<()> {
-    let key = [Item::Put(region, b"k", true, Some(NEW))];
+    let key = [Item::PutOwnKey(region, NEW)];
     core.change(region, entry(alloc, region)?)?;
     core.apply_append_writes(items(alloc, &key)?)?;
     core.apply_rewrite_writes(items(alloc, &key)?, Some(1), 50)
@@ -38,7 +38,7 @@ fn fill_core(alloc: Global, core: &mut MemTableAccessor, region: u64) -> Result<
 
 /// Fills a shared table in the same way.
 fn fill_shared<R: Wait>(rt: &R, alloc: Global, shared: &SharedAccessor, region: u64) -> Result<()> {
-    let key = [Item::Put(region, b"k", true, Some(NEW))];
+    let key = [Item::PutOwnKey(region, NEW)];
     shared.change(rt, region, entry(alloc, region)?)?;
     shared.apply_append_writes(rt, items(alloc, &key)?)?;
     shared.apply_rewrite_writes(rt, items(alloc, &key)?, Some(1), 50)

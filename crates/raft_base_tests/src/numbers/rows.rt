@@ -105,7 +105,8 @@ static I32_ROWS: [(i32, u32); 20] = rows! {
     i32::MAX => 0xffffff7f;
 };
 
-/// Numbers, and what `encode_var_u64` writes for the first and `encode_var_i64` for the second.
+/// Numbers, and what `encode_var_u64` writes for the first and `encode_var_i64` for the second. Where the Rust crate
+/// wrote one of the two, the other is calculated: the first is 2n for n, and 2n - 1 for -n.
 pub(super) type SpellingRow = (u64, i64, &'static [u8]);
 
 static SPELLINGS: [SpellingRow; 30] = rows! {

@@ -27,9 +27,8 @@ pub(crate) struct Crashes<'a, R: Host + Print> {
 }
 
 impl<'a, R: Host + Print> Crashes<'a, R> {
-    /// Tries each crash on the way from the files that the folder holds to those of a pipe, which it holds in the end:
-    /// first files grow, then files are deleted. While they grow the store has to hold the old contents, and from then on
-    /// the new ones.
+    /// Writes what a pipe holds by now into the folder too, and tries each crash on the way: first files grow, then files
+    /// are deleted. While they grow the store has to hold the old contents, and from then on the new ones.
     pub(crate) fn follow(&mut self, pipe: &FolderPipe<'_, R>, old: &str, new: &str) -> Result<()> {
         let crashed = FolderPipe::open(self.rt, CRASHED)?;
         for queue in [LogQueue::Append, LogQueue::Rewrite] {
@@ -38,12 +37,24 @@ impl<'a, R: Host + Print> Crashes<'a, R> {
             }
         }
         for queue in [LogQueue::Append, LogQueue::Rewrite] {
-            let (first, _) = crashed.file_span(queue);
-            let (least, _) = pipe.file_span(queue);
-            for seq in first..least {
-                fs::remove_file(self.rt, crashed.path(FileId::new(queue, seq))?.as_str())?;
-                self.reopen(new)?;
-            }
+            self.drop_files(&crashed, pipe, queue, new)?;
+        }
+        Ok(())
+    }
+
+    /// Deletes the files of a queue that the pipe has no longer, and tries the crash after each.
+    fn drop_files(
+        &mut self,
+        crashed: &FolderPipe<'_, R>,
+        pipe: &FolderPipe<'_, R>,
+        queue: LogQueue,
+        new: &str,
+    ) -> Result<()> {
+        let (first, _) = crashed.file_span(queue);
+        let (least, _) = pipe.file_span(queue);
+        for seq in first..least {
+            fs::remove_file(self.rt, crashed.path(FileId::new(queue, seq))?.as_str())?;
+            self.reopen(new)?;
         }
         Ok(())
     }
@@ -57,9 +68,10 @@ impl<'a, R: Host + Print> Crashes<'a, R> {
         new: &str,
     ) -> Result<()> {
         let path = crashed.path(file.id())?;
-        let start = match crashed.len_of(file.id()) {
-            Ok(len) => len as usize,
-            Err(_) => 0, // it isn't there yet
+        let start = if fs::exists(self.rt, path.as_str())? {
+            crashed.len_of(file.id())? as usize
+        } else {
+            0
         };
         for end in self.stops(file, start)? {
             let front = file.bytes().get(..end).unwrap_or(b"");

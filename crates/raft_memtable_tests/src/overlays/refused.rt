@@ -49,7 +49,7 @@ fn is_batch_refused(alloc: Global, first: LogQueue, own: FileId, given: FileId) 
 type Side = (LogQueue, &'static [Word]);
 
 /// Two contexts that are not merged for the rewrite queue, since one of them or both are of another, or of which the
-/// second is not put over the first.
+/// second is not put over the first; and whether they are merged.
 const OTHERS: [(Side, Side, bool); 7] = [
     (
         (LogQueue::Append, &[Put]),

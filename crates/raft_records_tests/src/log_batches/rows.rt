@@ -136,7 +136,8 @@ const ONE_OF_EACH: Row = Row {
     item_batch_size: 174,
 };
 
-/// A group marker of group 9 that begins it.
+/// A group marker of group 9 that begins it. Of the checksums of the three group markers raft-engine made this row's in
+/// file 12 of version 2; the others are calculated.
 const BEGIN: Row = Row {
     size: 62,
     front: b"\x00\x00\x00\x00\x00\x00\x1e\x00\x00\x00\x00\x00\x00\x00\x00\x10\x01\x09\x03\x01\x03\x5f\x5f\x01\x01\x00",

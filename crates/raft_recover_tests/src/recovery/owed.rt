@@ -32,7 +32,7 @@ pub(crate) struct Row {
     pub(crate) waiting: u128,
 }
 
-/// No batches of the append queue, which are refused.
+/// What a row of the append queue is where it says nothing else.
 pub(crate) const APPEND: Row = Row {
     queue: LogQueue::Append,
     batches: &[],

@@ -136,7 +136,7 @@ fn extension_of(queue: LogQueue) -> &'static str {
 /// Returns the files of a queue that a folder holds; file 1 alone where it holds none. `Full` where none can follow
 /// them.
 fn span_in<R: Disk>(rt: &R, folder: &str, queue: LogQueue) -> Result<Span> {
-    let (mut first, mut last) = (FileSeq::MAX, 1);
+    let (mut first, mut last) = (FileSeq::MAX, 0);
     for entry in fs::read_dir(rt, folder)? {
         let entry = entry?;
         if let Some(seq) = number_in(entry.file_name(), queue) {
@@ -144,13 +144,13 @@ fn span_in<R: Disk>(rt: &R, folder: &str, queue: LogQueue) -> Result<Span> {
             last = last.max(seq);
         }
     }
+    if first > last {
+        return Ok(Span { first: 1, last: 1 });
+    }
     if last >= FileSeq::MAX - 1 {
         return Err(Error::Full);
     }
-    Ok(Span {
-        first: first.min(last),
-        last,
-    })
+    Ok(Span { first, last })
 }
 
 /// Returns the number in the name of a file, if it is one of the queue.

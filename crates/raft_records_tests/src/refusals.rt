@@ -271,7 +271,7 @@ fn rows() -> &'static [Row] {
 pub(crate) fn is_refused_for<T: Drop>(answer: Result<T>, text: &str) -> Result<bool> {
     match answer {
         Ok(_read) => Ok(false),
-        Err(Error::Corruption(found)) => Ok(found.as_str() == text),
+        Err(Error::Corruption(found)) => Ok(!text.is_empty() && found.as_str() == text),
         Err(Error::Codec(_)) => Ok(text.is_empty()),
         Err(e) => Err(e),
     }

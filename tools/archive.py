@@ -1,6 +1,7 @@
 #!/usr/bin/env python3
 """Builds the archive of `raft_ffi` over the libraries that `rt ci` has proved and left in `out/`, where `rt lib` would prove them again:
-`tools/archive.py [libraft_ffi.a]`. The compiler proves `raft_ffi` itself anew. It fails where a library isn't there."""
+`tools/archive.py [libraft_ffi.a]`. The compiler proves `raft_ffi` itself anew, by one job: copies of it that share
+the work read the libraries each. It fails where a library isn't there."""
 
 import os
 import pathlib
@@ -31,7 +32,7 @@ def main():
         if not os.path.isdir(library.rlib):
             sys.exit(f"{library.name} isn't built: run rt ci first")
     archive.parent.mkdir(parents=True, exist_ok=True)
-    sys.exit(crate.compile([], str(archive)))
+    sys.exit(crate.compile(["--jobs", "1"], str(archive)))
 
 
 main()

@@ -1,5 +1,5 @@
 //! The rules that an engine over this layer keeps: for each a history that breaks it, with what that loses or brings
-//! back, and one that keeps it.
+//! back, and one that keeps it; and a log of an engine, which is written and recovered.
 #![tactic(auto)]
 
 #[cfg(test)]
@@ -8,5 +8,7 @@ mod batches;
 mod cases;
 #[cfg(test)]
 mod engine;
+#[cfg(test)]
+mod round_trip;
 #[cfg(test)]
 mod rules;

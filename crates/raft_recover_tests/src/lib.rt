@@ -1,11 +1,15 @@
-//! Tests of `raft_recover`.
+//! Tests of `raft_recover`, and of the workers of `raft_replay`.
 #![tactic(auto)]
 
 #[cfg(test)]
 mod lines;
+#[cfg(test)]
+mod machines;
 #[cfg(test)]
 mod recovery;
 #[cfg(test)]
 mod runs;
 #[cfg(test)]
 mod shares;
+#[cfg(test)]
+mod waits;

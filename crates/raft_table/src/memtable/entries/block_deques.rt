@@ -240,10 +240,32 @@ pub(super) fn push_block(
             return lengthen(&mut blocks[last], kept, &mut block.spans);
         }
     }
-    starts.reserve(1)?;
+    make_room_behind(blocks, starts)?;
     blocks.push_back(block)?;
     starts.push_back_reserved(index);
     Ok(())
+}
+
+/// Makes room for a block and its start after the others.
+fn make_room_behind(blocks: &mut VecDeque<Block>, starts: &mut VecDeque<u64>) -> AllocResult<()>
+    ensures items { (blocks.new.items ≡ blocks.old.items) × (starts.new.items ≡ starts.old.items) }
+    ensures ok { OnOk result (deque_len starts.new < deque_capacity starts.new) }
+{
+    if blocks.capacity() == 0 {
+        return make_first_room(blocks, starts);
+    }
+    starts.reserve(1)
+}
+
+/// Makes room for three blocks and their starts: few regions with few entries have more.
+#[cold]
+#[inline(never)]
+fn make_first_room(blocks: &mut VecDeque<Block>, starts: &mut VecDeque<u64>) -> AllocResult<()>
+    ensures items { (blocks.new.items ≡ blocks.old.items) × (starts.new.items ≡ starts.old.items) }
+    ensures ok { OnOk result (deque_len starts.new < deque_capacity starts.new) }
+{
+    blocks.reserve_exact(3)?;
+    starts.reserve_exact(3)
 }
 
 /// Keeps so many entries of a block, and moves more after them.

@@ -44,7 +44,7 @@ added c = elim c.if-len-gt0.branch [
     first (x ∷ bs) l = absurd (omega arith)
 
 pub returns-clause-blocks : goal.returns-clause-blocks
-returns-clause-blocks c = ap blocks_shown c.in_ok-push_back.ensures.items ∙ (added c).0
+returns-clause-blocks c = ap blocks_shown (c.in_ok-push_back.ensures.items ∙ ap (λ bs. bs ++ c.args.block ∷ []) c.make_room_behind.ensures.items.0) ∙ (added c).0
 
 pub returns-clause-starts : goal.returns-clause-starts
-returns-clause-starts c = c.push_back_reserved.ensures.items ∙ ap (λ xs. xs ++ c.args.index ∷ []) c.reserve.ensures.items ∙ rw (added c).1 refl
+returns-clause-starts c = c.push_back_reserved.ensures.items ∙ ap (λ xs. xs ++ c.args.index ∷ []) c.make_room_behind.ensures.items.1 ∙ rw (added c).1 refl

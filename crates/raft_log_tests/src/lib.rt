@@ -1,5 +1,0 @@
-//! Tests of `raft_log`.
-#![tactic(auto)]
-
-#[cfg(test)]
-mod round_trip;

@@ -1,7 +1,0 @@
-//! Tests of `raft_replay`.
-#![tactic(auto)]
-
-#[cfg(test)]
-mod machines;
-#[cfg(test)]
-mod waits;

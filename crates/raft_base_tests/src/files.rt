@@ -1,0 +1,165 @@
+//! Files in memory, and files of which a list of asks is kept.
+
+use raft_base::{Error, FileBlockHandle, FileId, FileSeq, LogQueue, Result};
+use raft_files::{Asked, EngineFiles, MemoryFiles};
+use std::alloc::Global;
+
+/// Files that can't be read, and whose calls succeed or fail as they are told.
+#[derive(Drop)]
+struct Deaf {
+    asked: Asked,
+    fails: bool,
+}
+
+impl Deaf {
+    fn answer(&self) -> Result<()> {
+        if self.fails {
+            Err(Error::Failed)
+        } else {
+            Ok(())
+        }
+    }
+}
+
+impl EngineFiles for Deaf {
+    ghost asked = { λ f. f.asked.asks };
+
+    ghost may_read = { λ f place bytes. Unit {0} };
+
+    fn append(&mut self, queue: LogQueue, bytes: &[u8]) -> Result<()> {
+        self.asked.put(queue, bytes);
+        self.answer()
+    }
+
+    fn rotate(&mut self, queue: LogQueue, seq: FileSeq) -> Result<()> {
+        self.asked.begin(queue, seq);
+        self.answer()
+    }
+
+    fn sync(&mut self, queue: LogQueue) -> Result<()> {
+        self.answer()?;
+        self.asked.sync(queue);
+        Ok(())
+    }
+
+    fn delete_oldest(&mut self, queue: LogQueue) -> Result<()> {
+        self.asked.delete(queue);
+        self.answer()
+    }
+
+    fn truncate(&mut self, queue: LogQueue, len: u64) -> Result<()> {
+        self.asked.cut(queue, len);
+        self.answer()
+    }
+
+    fn read(&self, _place: FileBlockHandle) -> Result<Vec<u8>> {
+        Err(Error::Failed)
+    }
+}
+
+/// Makes all calls, each once.
+fn ask_all<F: EngineFiles>(files: &mut F) -> Result<()> {
+    files.rotate(LogQueue::Append, 1)?;
+    files.append(LogQueue::Append, b"gone")?;
+    files.rotate(LogQueue::Append, 2)?;
+    files.append(LogQueue::Append, b"ab")?;
+    files.append(LogQueue::Append, b"cde")?;
+    files.sync(LogQueue::Append)?;
+    files.delete_oldest(LogQueue::Append)?;
+    files.rotate(LogQueue::Append, 4)?;
+    files.append(LogQueue::Append, b"fghi")?;
+    files.truncate(LogQueue::Append, 3)?;
+    files.rotate(LogQueue::Rewrite, 9)?;
+    files.append(LogQueue::Rewrite, b"xyz")
+}
+
+/// Tests whether these are the files, with their bytes as text.
+fn are(files: &Vec<(FileSeq, Vec<u8>)>, expected: &[(FileSeq, &str)]) -> bool {
+    files.len() == expected.len()
+        && files.iter().zip(expected).all(|(file, other)| file.0 == other.0
+            && file.1.as_slice() == other.1.as_bytes())
+}
+
+fn read(files: &MemoryFiles, id: FileId, offset: u64, len: usize) -> Result<Vec<u8>> {
+    files.read(FileBlockHandle { id, offset, len })
+}
+
+/// Tests whether a place has the text, or no bytes where there is none.
+fn has(files: &MemoryFiles, id: FileId, offset: u64, text: Option<&str>, len: usize) -> bool {
+    match (read(files, id, offset, len), text) {
+        (Ok(bytes), Some(text)) => bytes.as_slice() == text.as_bytes(),
+        (Err(Error::InvalidArgument(_)), None) => true,
+        _ => false,
+    }
+}
+
+fn made(alloc: Global) -> Result<MemoryFiles> {
+    let mut files = MemoryFiles::new(alloc);
+    ask_all(&mut files)?;
+    Ok(files)
+}
+
+#[test]
+fn memory_keeps_what_is_asked(rt: HostRuntime) -> Result<()> {
+    let files = made(rt.alloc())?;
+    assert!(rt; are(files.files(LogQueue::Append), &[(2, "abcde"), (4, "fgh")]));
+    assert!(rt; are(files.files(LogQueue::Rewrite), &[(9, "xyz")]));
+    Ok(())
+}
+
+const ROWS: [(LogQueue, FileSeq, u64, usize, Option<&str>); 9] = [
+    (LogQueue::Append, 2, 0, 5, Some("abcde")),
+    (LogQueue::Append, 2, 1, 3, Some("bcd")),
+    (LogQueue::Append, 4, 3, 0, Some("")),
+    (LogQueue::Rewrite, 9, 2, 1, Some("z")),
+    (LogQueue::Append, 4, 0, 4, None),
+    (LogQueue::Append, 2, 6, 0, None),
+    (LogQueue::Append, 2, u64::MAX, 1, None),
+    (LogQueue::Append, 1, 0, 4, None),
+    (LogQueue::Rewrite, 2, 0, 1, None),
+];
+
+#[test]
+fn memory_is_read_by_place(rt: HostRuntime) -> Result<()> {
+    let files = made(rt.alloc())?;
+    for &(queue, seq, offset, len, text) in &ROWS {
+        assert!(rt; has(&files, FileId::new(queue, seq), offset, text, len));
+    }
+    Ok(())
+}
+
+/// Tests whether what no file can do is refused: bytes without a file, a number that isn't above the last one, the
+/// deletion of the last file.
+fn refuses(alloc: Global) -> Result<bool> {
+    let mut files = MemoryFiles::new(alloc);
+    let bytes = files.append(LogQueue::Append, b"a");
+    let cut = files.truncate(LogQueue::Append, 0);
+    files.rotate(LogQueue::Append, 3)?;
+    let number = files.rotate(LogQueue::Append, 3);
+    let last = files.delete_oldest(LogQueue::Append);
+    let refused = |answer: &Result<()>| matches!(answer, Err(Error::InvalidArgument(_)));
+    Ok(
+        refused(&bytes)
+            && refused(&cut)
+            && refused(&number)
+            && refused(&last)
+            && are(files.files(LogQueue::Append), &[(3, "")]),
+    )
+}
+
+#[test]
+fn memory_refuses_what_no_file_can_do(rt: HostRuntime) -> Result<()> {
+    assert!(rt; refuses(rt.alloc())?);
+    Ok(())
+}
+
+#[test]
+fn asks_are_noted(rt: HostRuntime) {
+    let mut files = Deaf {
+        asked: Asked::new(),
+        fails: false,
+    };
+    assert!(rt; ask_all(&mut files).is_ok());
+    files.fails = true;
+    assert!(rt; ask_all(&mut files).is_err());
+}

@@ -1,0 +1,56 @@
+-- Kept tables that are read again are kept, and the rewrite queue has been told nothing yet of what stands in the append files.
+use Rattle.std.proofs.Common.{◌≡◌, ℕ, List, [], ◌∷◌, ◌++◌, sym, ap, subst, ◌∙◌}
+use Rattle.std.specs.Prelude.{flat_map}
+use Rattle.std.specs.FinMap as finite
+use Rattle.raft_base.specs.declared.entry_index.EntryIndex.{EntryIndex}
+use Rattle.raft_base.specs.declared.pipe_log.LogQueue.TheVariants.{Append, Rewrite}
+use Rattle.raft_table.specs.Overlay.{overlay}
+use Rattle.raft_table.specs.Steps.{Step, table_of}
+use Rattle.raft_history.specs.Batches.{Event, BatchSteps, batches}
+use Rattle.raft_history.specs.BothQueues.{IsReadingOfBoth}
+use Rattle.raft_history.specs.Effects.{steps_of}
+use Rattle.raft_history.specs.RegionSteps.{RegionStep, Tables, steps_on, steps_of_items}
+use Rattle.raft_history.proofs.SoundLemmas.{without_marker}
+use Rattle.raft_history.proofs.StepListLemmas.{own-append, own_none}
+use Rattle.raft_history.proofs.WithoutMarkers.{plain_steps}
+use Rattle.raft_engine_laws.specs.KeptRegions.{IsRegionKept}
+use Rattle.raft_engine_laws.specs.KeptTables.{AreKept}
+use Rattle.raft_engine_laws.proofs.FoundTables.{found_records}
+use Rattle.raft_engine_laws.proofs.QueueSteps.{read_places, read_files, read_pairs}
+use Rattle.raft_engine_laws.proofs.ReopenedRegion.{reopened_kept}
+use Rattle.raft_engine_laws.proofs.SameRecords.{HasRecordsOf, kept_records}
+
+-- all steps of the batches, in order
+abbrev pub all_steps_of : List Event → List RegionStep
+all_steps_of h = flat_map (λ (e : Event). steps_of_items e.items) h
+
+on_all : (r : ℕ) (h : List Event) → steps_on r (all_steps_of h) ≡ flat_map (λ (b : BatchSteps). steps_on r b.steps) (batches h)
+on_all r [] = own_none r
+on_all r (e ∷ h) = own-append r (steps_of_items e.items) (all_steps_of h) ∙ ap (λ l. steps_on r (steps_of_items e.items) ++ l) (on_all r h)
+
+module _ (content : EntryIndex → List ℕ) (append rewrite : List Event) (untold : List RegionStep) (tables found : Tables) (cleaned : List ℕ) (h : AreKept content append rewrite untold tables) (both : IsReadingOfBoth rewrite append found cleaned) where
+  abbrev kept : ℕ → List Step
+  kept r = steps_of r (batches append)
+
+  all_are : (r : ℕ) → steps_on r (all_steps_of append) ≡ kept r
+  all_are r = on_all r append ∙ sym (plain_steps r (batches append) (without_marker 0 append h.append_sound.files))
+
+  records : (r : ℕ) → HasRecordsOf (table_of r (finite.get found r)) (overlay (kept r) (table_of r (h.each r).own) (table_of r (finite.get h.rewritten r)))
+  records r = found_records content append rewrite untold tables found cleaned h both r
+
+  -- what is recovered is kept, and the rewrite queue is told nothing yet of what stands in the append files
+  pub reopened : AreKept content append rewrite (all_steps_of append) found
+  reopened = record {
+    append_sound = h.append_sound;
+    rewrite_sound = h.rewrite_sound;
+    apart = h.apart;
+    rewritten = h.rewritten;
+    read = h.read;
+    each = λ r. subst (λ l. IsRegionKept content r (kept r) l (table_of r (finite.get h.rewritten r)) (table_of r (finite.get found r))) (sym (all_are r))
+        (kept_records content r (kept r) (kept r) (table_of r (finite.get h.rewritten r)) (overlay (kept r) (table_of r (h.each r).own) (table_of r (finite.get h.rewritten r))) (table_of r (finite.get found r)) (records r)
+        (reopened_kept content r (kept r) (steps_on r untold) (table_of r (finite.get h.rewritten r)) (table_of r (finite.get tables r)) (h.each r)
+        (read_places Append r append (h.each r).own h.append_sound (h.each r).read)
+        (read_places Rewrite r rewrite (finite.get h.rewritten r) h.rewrite_sound (h.read.tables_read r))
+        (read_files Append r append (h.each r).own h.append_sound (h.each r).read)
+        (read_pairs Rewrite r rewrite (finite.get h.rewritten r) h.rewrite_sound (h.read.tables_read r))));
+  }

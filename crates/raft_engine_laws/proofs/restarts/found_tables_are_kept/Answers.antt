@@ -1,0 +1,5 @@
+use Rattle.raft_engine_laws.proofs.Reopened.{reopened}
+use Rattle.raft_engine_laws.proofs.restarts.found_tables_are_kept.Goals as goal
+
+pub returns : goal.returns
+returns c = reopened

@@ -1,0 +1,22 @@
+//! The law of the bytes of entries, which a `content` may stand for.
+
+ghost use Rattle.std.specs.Prelude.{ℕ, ◌+◌, List, ◌∷◌, ◌++◌, length, drop, Option};
+ghost use Rattle.std.specs.List.{concat};
+ghost use Rattle.raft_base.specs.declared.entry_index.EntryIndex.{EntryIndex};
+ghost use Rattle.raft_records.specs.Entries.{with_lengths};
+ghost use Rattle.raft_records.specs.Header.{IsEntryBlockOf};
+ghost use Rattle.raft_records.specs.Item.{Item};
+ghost use Rattle.raft_records.specs.ItemBatch.{with_offsets_from};
+ghost use Rattle.raft_records.specs.LogBatch.{entry_block, log_batch_bytes};
+ghost use Rattle.raft_engine_laws.specs.Contents.{HaveBytes};
+
+/// States that the entry bytes of a batch with items that was written behind other bytes are read at the place of its
+/// entries, whatever comes after; and that among entry bytes each entry that was added has its byte string.
+pub fn written_entries_are_read()
+    ensures block { (signature : Option ℕ) (item : Item) (items : List Item) (es old rest : List ℕ)
+        → IsEntryBlockOf (length (entry_block es))
+        (drop (length old + 16) (old ++ (log_batch_bytes signature (item ∷ items) es ++ rest))) es }
+    ensures entries { (es : List EntryIndex) (strings : List (List ℕ)) (before behind : List ℕ)
+        → HaveBytes (before ++ (concat strings ++ behind))
+        (with_offsets_from (length before) (with_lengths es strings)) strings }
+{}

@@ -1,0 +1,11 @@
+//! Laws of an engine over two queues: what it writes, moves, deletes and finds again after a restart, and that nothing is lost by it.
+#![tactic(auto)]
+
+pub mod contents;
+pub mod deletions;
+pub mod groups;
+pub mod kept;
+pub mod moving;
+pub mod restarts;
+pub mod telling;
+pub mod writes;

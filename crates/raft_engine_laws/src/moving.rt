@@ -1,0 +1,39 @@
+//! Laws of records that move to the rewrite queue, or from one of its files to another.
+
+ghost use Rattle.std.specs.Prelude.{◌≡◌, ℕ, List, [], ◌∷◌, ◌++◌, Some};
+ghost use Rattle.std.specs.FinMap as finite;
+ghost use Rattle.raft_base.specs.declared.entry_index.EntryIndex.{EntryIndex};
+ghost use Rattle.raft_base.specs.declared.pipe_log.LogQueue.TheVariants.{Rewrite};
+ghost use Rattle.raft_table.specs.Steps.{table_of};
+ghost use Rattle.raft_table.specs.Table.{Table};
+ghost use Rattle.raft_history.specs.Batches.{Event};
+ghost use Rattle.raft_history.specs.Histories.{IsOneReading};
+ghost use Rattle.raft_history.specs.RegionSteps.{Tables};
+ghost use Rattle.raft_accessor.specs.Writes.{Rewriting, after_items};
+ghost use Rattle.raft_engine_laws.specs.Groups.{HasNoMarker};
+ghost use Rattle.raft_engine_laws.specs.KeptTables.{AreKept};
+ghost use Rattle.raft_engine_laws.specs.Moving.{AreRecordsMoved, IsMovingBatch};
+ghost use Rattle.raft_engine_laws.specs.NextBatches.{IsRewrittenNext};
+
+/// States that once the rewrite queue is told, records may move: with one batch, or with the last of a whole group, whose
+/// records what is read of the rewrite files has with it.
+pub fn moved_records_are_kept()
+    ensures { (content : EntryIndex → List ℕ) (append rewrite : List Event)
+        (tables new rewritten put : Tables) (e : Event) → AreKept content append rewrite [] tables
+        → IsRewrittenNext rewrite e → IsOneReading Rewrite rewrite rewritten []
+        → IsOneReading Rewrite (rewrite ++ e ∷ []) put []
+        → ((r : ℕ) → AreRecordsMoved content e.file (table_of r (finite.get tables r)) (table_of r (finite.get new r))
+        (table_of r (finite.get rewritten r)) (table_of r (finite.get put r)))
+        → AreKept content append (rewrite ++ e ∷ []) [] new }
+{}
+
+/// States that once the rewrite queue is told, a batch without a group marker may move records of one region past a gate:
+/// copies of its first appended entries, and key values, as they were fetched. The tables are those that the rewriting of
+/// its items leaves.
+pub fn moving_items_move_records()
+    ensures { (content : EntryIndex → List ℕ) (append rewrite : List Event) (tables new : Tables)
+        (e : Event) → AreKept content append rewrite [] tables → IsRewrittenNext rewrite e → HasNoMarker e
+        → (gate id : ℕ) (t : Table) → finite.get tables id ≡ Some t → IsMovingBatch content gate id t e
+        → after_items (Rewriting (Some gate) e.file.seq) tables e.items ≡ Some new
+        → AreKept content append (rewrite ++ e ∷ []) [] new }
+{}

@@ -1,0 +1,69 @@
+//! Laws of what the rewrite queue is told.
+
+ghost use Rattle.std.specs.Prelude.{◌≡◌, ℕ, List, [], ◌∷◌, ◌++◌};
+ghost use Rattle.std.specs.FinMap as finite;
+ghost use Rattle.raft_base.specs.declared.entry_index.EntryIndex.{EntryIndex};
+ghost use Rattle.raft_base.specs.declared.pipe_log.FileId.{FileId};
+ghost use Rattle.raft_base.specs.declared.pipe_log.LogQueue.TheVariants.{Rewrite};
+ghost use Rattle.raft_records.specs.Item.{Item};
+ghost use Rattle.raft_table.specs.Steps.{Step, Run, table_of};
+ghost use Rattle.raft_table.specs.TableEntries.{below};
+ghost use Rattle.raft_history.specs.Batches.{Event};
+ghost use Rattle.raft_history.specs.Histories.{IsOneReading, AreInFile, HaveStatus};
+ghost use Rattle.raft_history.specs.RegionSteps.{RegionStep, Tables, steps_on, steps_of_items};
+ghost use Rattle.raft_engine_laws.specs.Groups.{HasNoMarker};
+ghost use Rattle.raft_engine_laws.specs.KeptTables.{AreKept};
+ghost use Rattle.raft_engine_laws.specs.NextBatches.{IsRewrittenNext};
+ghost use Rattle.raft_engine_laws.specs.Speaking.{unspoken};
+ghost use Rattle.raft_engine_laws.specs.Telling.{AreRemovals, SayTheSame, SayEnough, TakeAway, told_items};
+
+/// States that what is told of items takes away what they take away: each run as a truncation at its first index. It is
+/// made of commands and deletions, whose steps put nothing and which may stand in a batch of any file, without a group
+/// marker.
+pub fn told_items_take_away_the_same()
+    ensures same { (items : List Item) (r : ℕ)
+        → SayTheSame (steps_on r (steps_of_items (told_items items))) (steps_on r (steps_of_items items)) }
+    ensures away { (items : List Item) → TakeAway (told_items items) }
+    ensures removals { (items : List Item) → TakeAway items
+        → (r : ℕ) → AreRemovals (steps_on r (steps_of_items items)) }
+    ensures in_file { (file : FileId) (items : List Item) → TakeAway items → AreInFile file items }
+    ensures status { (items : List Item) → TakeAway items → HaveStatus Rewrite items }
+    ensures no_marker { (file : FileId) (items : List Item) → TakeAway items
+        → HasNoMarker record { items = items; file = file } }
+{}
+
+/// States that steps which say the same may stand for the untold ones, step by step, on each region.
+pub fn what_says_the_same_is_as_untold()
+    ensures kept { (content : EntryIndex → List ℕ) (append rewrite : List Event)
+        (untold other : List RegionStep) (tables : Tables)
+        → AreKept content append rewrite untold tables
+        → ((r : ℕ) → SayTheSame (steps_on r other) (steps_on r untold))
+        → AreKept content append rewrite other tables }
+    ensures joined { (a b c d : List Step) → SayTheSame a b → SayTheSame c d
+        → SayTheSame (a ++ c) (b ++ d) }
+{}
+
+/// States that once a batch without a group marker has told the rewrite queue, in any order, what untold steps take away,
+/// none is untold.
+pub fn told_steps_are_no_longer_untold()
+    ensures { (content : EntryIndex → List ℕ) (append rewrite : List Event)
+        (untold : List RegionStep) (tables : Tables) (e : Event)
+        → AreKept content append rewrite untold tables → IsRewrittenNext rewrite e → HasNoMarker e
+        → ((r : ℕ) → AreRemovals (steps_on r (steps_of_items e.items)))
+        → ((r : ℕ) → SayTheSame (steps_on r (steps_of_items e.items)) (steps_on r untold))
+        → AreKept content append (rewrite ++ e ∷ []) [] tables }
+{}
+
+/// States that steps which take away nothing of what the rewrite files give need not be told; so a run behind all of a
+/// region's live rewritten entries.
+pub fn quiet_steps_need_no_telling()
+    ensures kept { (content : EntryIndex → List ℕ) (append rewrite : List Event)
+        (untold fewer : List RegionStep) (tables rewritten : Tables)
+        → AreKept content append rewrite untold tables
+        → IsOneReading Rewrite rewrite rewritten []
+        → ((r : ℕ) → SayEnough (steps_on r untold) (steps_on r fewer) (table_of r (finite.get rewritten r)).entries)
+        → AreKept content append rewrite fewer tables }
+    ensures run { (untold : List Step) (e : EntryIndex) (run es : List EntryIndex)
+        → below e.index (unspoken untold es) ≡ unspoken untold es
+        → SayEnough (untold ++ Run (e ∷ run) ∷ []) untold es }
+{}

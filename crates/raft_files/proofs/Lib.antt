@@ -1,0 +1,3 @@
+pub mod HeldLemmas
+pub mod LastLemmas
+pub mod LeftLemmas

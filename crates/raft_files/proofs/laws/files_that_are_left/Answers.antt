@@ -1,0 +1,19 @@
+use Rattle.std.proofs.Common.{refl}
+use Rattle.raft_base.specs.declared.pipe_log.LogQueue.TheVariants.{Append, Rewrite}
+use Rattle.raft_files.proofs.LeftLemmas.{whole_left, synced_left, put_left, other_left}
+use Rattle.raft_files.proofs.laws.files_that_are_left.Goals as goal
+
+pub returns-clause-whole : goal.returns-clause-whole
+returns-clause-whole c = whole_left
+
+pub returns-clause-synced : goal.returns-clause-synced
+returns-clause-synced c = synced_left
+
+pub returns-clause-put : goal.returns-clause-put
+returns-clause-put c = put_left
+
+pub returns-clause-of_append : goal.returns-clause-of_append
+returns-clause-of_append c = λ asked act files l. other_left Append Rewrite asked act files refl l
+
+pub returns-clause-of_rewrite : goal.returns-clause-of_rewrite
+returns-clause-of_rewrite c = λ asked act files l. other_left Rewrite Append asked act files refl l

@@ -1,0 +1,72 @@
+-- What is left of an engine's files when the machine stops: all that a reader has to believe of a disk.
+use Rattle.std.specs.Prelude.{◌≡◌, ◌⊎◌, ℕ, suc, ◌≤◌, List, [], ◌∷◌, ◌++◌, take, drop}
+use Rattle.raft_base.specs.declared.pipe_log.LogQueue.{LogQueue}
+use Rattle.raft_files.specs.Asks.{Act, Put, Begin, Sync, Delete, Cut, Ask, acts_on}
+
+-- a file by its number and its bytes
+abbrev pub NumberedBytes : Type 0
+NumberedBytes = ℕ × List ℕ
+
+-- the files with the last one's bytes changed so
+abbrev pub on_last : (List ℕ → List ℕ) → List NumberedBytes → List NumberedBytes
+on_last change [] = []
+on_last change (file ∷ []) = (file.0, change file.1) ∷ []
+on_last change (file ∷ next ∷ files) = file ∷ on_last change (next ∷ files)
+
+-- these bytes behind those of the last file
+abbrev pub put_behind : List ℕ → List NumberedBytes → List NumberedBytes
+put_behind bytes files = on_last (λ old. old ++ bytes) files
+
+-- the last file cut to this many bytes
+abbrev pub cut_last : ℕ → List NumberedBytes → List NumberedBytes
+cut_last len files = on_last (λ old. take len old) files
+
+-- all files that were ever begun in a queue, oldest first, with all bytes that were put there and not cut off; what is asked of the queue is given newest first
+abbrev pub begun : List Act → List NumberedBytes
+begun [] = []
+begun (Put bytes ∷ earlier) = put_behind bytes (begun earlier)
+begun (Begin seq ∷ earlier) = begun earlier ++ (seq, []) ∷ []
+begun (Sync ∷ earlier) = begun earlier
+begun (Delete ∷ earlier) = begun earlier
+begun (Cut len ∷ earlier) = cut_last len (begun earlier)
+
+-- how many deletions were asked
+abbrev pub deletions : List Act → ℕ
+deletions [] = 0
+deletions (Delete ∷ earlier) = suc (deletions earlier)
+deletions (_ ∷ earlier) = deletions earlier
+
+-- how many deletions were asked before the last sync
+abbrev pub synced_deletions : List Act → ℕ
+synced_deletions [] = 0
+synced_deletions (Sync ∷ earlier) = deletions earlier
+synced_deletions (_ ∷ earlier) = synced_deletions earlier
+
+-- the files of a queue with their bytes, oldest first, when nothing is lost
+abbrev pub files_of : LogQueue → List Ask → List NumberedBytes
+files_of queue asked = drop (deletions (acts_on queue asked)) (begun (acts_on queue asked))
+
+-- a front of these bytes stands behind those of the last file
+pub record IsFrontPut (bytes : List ℕ) (old new : List NumberedBytes) : Type 0 where
+  pub front : List ℕ
+  pub rest : List ℕ
+  pub split : bytes ≡ front ++ rest
+  pub put : new ≡ put_behind front old
+
+-- what may stand of the files that were begun, none of them deleted: what was synced, and of what was asked since then a front; of bytes a front, and a new file or not
+abbrev pub MayStand : List Act → List NumberedBytes → Type 0
+MayStand [] files = files ≡ []
+MayStand (Put bytes ∷ earlier) files = MayStand earlier files ⊎ IsFrontPut bytes (begun earlier) files
+MayStand (Begin seq ∷ earlier) files = (files ≡ begun earlier) ⊎ (files ≡ begun earlier ++ (seq, []) ∷ [])
+MayStand (Sync ∷ earlier) files = files ≡ begun earlier
+MayStand (Delete ∷ earlier) files = MayStand earlier files
+MayStand (Cut len ∷ earlier) files = MayStand earlier files ⊎ (files ≡ cut_last len (begun earlier))
+
+-- the files of a queue that may be left when the machine stops after all this was asked: what may stand, without the oldest files; at least those are gone whose deletion was synced, at most those whose deletion was asked. What is left of one queue says nothing of the other
+pub record IsLeftOf (queue : LogQueue) (asked : List Ask) (files : List NumberedBytes) : Type 0 where
+  pub standing : List NumberedBytes
+  pub stands : MayStand (acts_on queue asked) standing
+  pub gone : ℕ
+  pub at_least : synced_deletions (acts_on queue asked) ≤ gone
+  pub at_most : gone ≤ deletions (acts_on queue asked)
+  pub left : files ≡ drop gone standing

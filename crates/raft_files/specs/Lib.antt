@@ -1,0 +1,9 @@
+-- what is asked
+pub mod Asks
+pub mod AskCode
+pub mod Notes
+-- what is left
+pub mod Disk
+pub mod Places
+pub mod HeldFiles
+pub mod HeldFilesView

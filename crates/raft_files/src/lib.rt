@@ -1,0 +1,11 @@
+//! The files of an engine: what is asked of them, and what may be left of that when the machine stops.
+#![tactic(auto)]
+
+pub mod asked;
+pub mod engine_files;
+pub mod laws;
+pub mod memory_files;
+
+pub use asked::Asked;
+pub use engine_files::EngineFiles;
+pub use memory_files::MemoryFiles;

@@ -1,0 +1,278 @@
+//! Files in memory.
+
+ghost use Rattle.std.specs.Prelude.{◌≡◌, ◌≢◌, ℕ, ◌<◌, ◌≤◌, List, [], ◌∷◌, ◌++◌, drop, length, map, take, None, Some, IfErr, IfOk, IsOk, OnErr, OnOk};
+ghost use Rattle.raft_files.specs.Asks.{Begin, Cut, Delete, IsAsked, Put, Sync, ask};
+ghost use Rattle.raft_files.specs.Disk.{cut_last, files_of, put_behind};
+ghost use Rattle.raft_files.specs.HeldFiles.{IsAt, file_shown};
+ghost use Rattle.raft_files.specs.Places.{IsNext, bytes_at, stretch_of};
+
+use crate::{Asked, EngineFiles};
+use raft_base::{Error, FileBlockHandle, FileSeq, LogQueue, Result};
+use std::alloc::Global;
+use std::marker::Model;
+
+/// The files of both queues in memory. They are those that were asked for.
+#[derive(Drop)]
+pub struct MemoryFiles {
+    append: Vec<(FileSeq, Vec<u8>)>,
+    rewrite: Vec<(FileSeq, Vec<u8>)>,
+    asked: Asked,
+}
+
+impl Model for MemoryFiles {
+    ghost use Rattle.std.specs.Prelude.{List};
+    ghost use Rattle.std.specs.Coded.{coded_list};
+    ghost use Rattle.raft_files.specs.Asks.{Ask};
+    ghost use Rattle.raft_files.specs.AskCode.{ask_code};
+
+    ghost Value = { List Ask };
+
+    ghost coded = { coded_list ask_code };
+
+    ghost use Rattle.raft_files.specs.HeldFilesView.{memory_shown, IsKept};
+
+    ghost view = { memory_shown };
+
+    ghost invariant = { IsKept };
+}
+
+impl MemoryFiles {
+    /// Makes files of which nothing was asked: there are none.
+    pub fn new(alloc: Global) -> MemoryFiles
+        ensures { result ≡ [] }
+    {
+        MemoryFiles {
+            append: Vec::new(alloc),
+            rewrite: Vec::new(alloc),
+            asked: Asked::new(),
+        }
+    }
+
+    /// Returns the files of a queue with their bytes, oldest first.
+    pub fn files(&self, queue: LogQueue) -> &Vec<(FileSeq, Vec<u8>)>
+        ensures { map file_shown result.now.items ≡ files_of queue self.now }
+    {
+        match queue {
+            LogQueue::Append => &self.append,
+            LogQueue::Rewrite => &self.rewrite,
+        }
+    }
+}
+
+impl EngineFiles for MemoryFiles {
+    ghost asked = { λ f. f };
+
+    ghost may_read = { IsAt };
+
+    /// Puts bytes behind those of the queue's last file.
+    ///
+    /// # Errors
+    ///
+    /// `InvalidArgument` where the queue has no file, `Memory`. The files are then as they were.
+    fn append(&mut self, queue: LogQueue, bytes: &[u8]) -> Result<()>
+        ensures ok { OnOk result (IsAsked (ask queue (Put bytes.now)) self.old self.new) }
+        ensures err { OnErr result (self.new ≡ self.old) }
+        ensures fault { 0 < length (files_of queue self.old) → IfErr result (λ e. e ≡ Error.Memory) }
+    {
+        match queue {
+            LogQueue::Append => put(&mut self.append, bytes)?,
+            LogQueue::Rewrite => put(&mut self.rewrite, bytes)?,
+        }
+        self.asked.put(queue, bytes);
+        Ok(())
+    }
+
+    /// Begins a new file of the queue.
+    ///
+    /// # Errors
+    ///
+    /// `InvalidArgument` where its number isn't above that of the last file, `Memory`. The files are then as they were.
+    fn rotate(&mut self, queue: LogQueue, seq: FileSeq) -> Result<()>
+        ensures ok { OnOk result (IsAsked (ask queue (Begin seq)) self.old self.new) }
+        ensures err { OnErr result (self.new ≡ self.old) }
+        ensures fault { IsNext seq (files_of queue self.old) → IfErr result (λ e. e ≡ Error.Memory) }
+    {
+        match queue {
+            LogQueue::Append => begin(&mut self.append, seq)?,
+            LogQueue::Rewrite => begin(&mut self.rewrite, seq)?,
+        }
+        self.asked.begin(queue, seq);
+        Ok(())
+    }
+
+    /// Succeeds, and changes no file.
+    fn sync(&mut self, queue: LogQueue) -> Result<()>
+        ensures ok { IsAsked (ask queue Sync) self.old self.new }
+        ensures succeeds { IsOk result }
+    {
+        self.asked.sync(queue);
+        Ok(())
+    }
+
+    /// Deletes the queue's oldest file.
+    ///
+    /// # Errors
+    ///
+    /// `InvalidArgument` where the queue has one file or none. The files are then as they were.
+    fn delete_oldest(&mut self, queue: LogQueue) -> Result<()>
+        ensures ok { OnOk result (IsAsked (ask queue Delete) self.old self.new) }
+        ensures err { OnErr result (self.new ≡ self.old) }
+        ensures succeeds { 1 < length (files_of queue self.old) → IsOk result }
+    {
+        match queue {
+            LogQueue::Append => delete_first(&mut self.append)?,
+            LogQueue::Rewrite => delete_first(&mut self.rewrite)?,
+        }
+        self.asked.delete(queue);
+        Ok(())
+    }
+
+    /// Cuts the queue's last file to `len` bytes, if it has more.
+    ///
+    /// # Errors
+    ///
+    /// `InvalidArgument` where the queue has no file.
+    fn truncate(&mut self, queue: LogQueue, len: u64) -> Result<()>
+        ensures ok { OnOk result (IsAsked (ask queue (Cut len)) self.old self.new) }
+        ensures err { OnErr result (self.new ≡ self.old) }
+        ensures succeeds { 0 < length (files_of queue self.old) → IsOk result }
+    {
+        match queue {
+            LogQueue::Append => cut(&mut self.append, len)?,
+            LogQueue::Rewrite => cut(&mut self.rewrite, len)?,
+        }
+        self.asked.cut(queue, len);
+        Ok(())
+    }
+
+    /// Returns the bytes at a place.
+    ///
+    /// # Errors
+    ///
+    /// `InvalidArgument` where no file has the place, `Memory`.
+    fn read(&self, place: FileBlockHandle) -> Result<Vec<u8>>
+        ensures ok { IfOk result (λ bytes. IsAt self.now place bytes.items) }
+        ensures refused { IfErr result (λ e. e ≢ Error.Memory
+            → bytes_at (files_of place.id.queue self.now) place.id.seq place.offset place.len ≡ None) }
+    {
+        read_of(self.files(place.id.queue), place)
+    }
+}
+
+/// Puts bytes behind those of the last file.
+///
+/// # Errors
+///
+/// `InvalidArgument` where there is no file, `Memory`. The files are then as they were.
+fn put(files: &mut Vec<(FileSeq, Vec<u8>)>, bytes: &[u8]) -> Result<()>
+    ensures ok { OnOk result (map file_shown files.new.items
+        ≡ put_behind bytes.now (map file_shown files.old.items)) }
+    ensures some { OnOk result (0 < length files.old.items) }
+    ensures err { OnErr result (map file_shown files.new.items ≡ map file_shown files.old.items) }
+    ensures fault { 0 < length files.old.items → IfErr result (λ e. e ≡ Error.Memory) }
+{
+    let alloc = *files.allocator();
+    let Some(last) = files.last_mut() else {
+        return Err(Error::invalid_argument(alloc, "no file of the queue was begun"));
+    };
+    last.1.extend_from_slice(bytes)?;
+    Ok(())
+}
+
+/// Begins a new file.
+///
+/// # Errors
+///
+/// `InvalidArgument` where its number isn't above that of the last file, `Memory`. The files are then as they were.
+fn begin(files: &mut Vec<(FileSeq, Vec<u8>)>, seq: FileSeq) -> Result<()>
+    ensures ok { OnOk result (map file_shown files.new.items
+        ≡ map file_shown files.old.items ++ (seq, []) ∷ []) }
+    ensures err { OnErr result (map file_shown files.new.items ≡ map file_shown files.old.items) }
+    ensures fault { IsNext seq (map file_shown files.old.items) → IfErr result (λ e. e ≡ Error.Memory) }
+{
+    let alloc = *files.allocator();
+    if let Some(last) = files.last() {
+        if last.0 >= seq {
+            return Err(Error::invalid_argument(alloc, "a file number isn't above the last one"));
+        }
+    }
+    files.push((seq, Vec::new(alloc)))?;
+    Ok(())
+}
+
+/// Deletes the first of two files or more.
+///
+/// # Errors
+///
+/// `InvalidArgument` where there are fewer. The files are then as they were.
+fn delete_first(files: &mut Vec<(FileSeq, Vec<u8>)>) -> Result<()>
+    ensures ok { OnOk result (map file_shown files.new.items
+        ≡ drop 1 (map file_shown files.old.items)) }
+    ensures some { OnOk result (0 < length files.old.items) }
+    ensures err { OnErr result (files.new.items ≡ files.old.items) }
+    ensures succeeds { 1 < length files.old.items → IsOk result }
+{
+    if files.len() < 2 {
+        let alloc = *files.allocator();
+        return Err(Error::invalid_argument(alloc, "the last file of a queue stays"));
+    }
+    let _file = files.remove(0);
+    Ok(())
+}
+
+/// Cuts the last file to `len` bytes.
+///
+/// # Errors
+///
+/// `InvalidArgument` where there is no file.
+fn cut(files: &mut Vec<(FileSeq, Vec<u8>)>, len: u64) -> Result<()>
+    ensures ok { OnOk result (map file_shown files.new.items
+        ≡ cut_last len (map file_shown files.old.items)) }
+    ensures some { OnOk result (0 < length files.old.items) }
+    ensures err { OnErr result (map file_shown files.new.items ≡ map file_shown files.old.items) }
+    ensures succeeds { 0 < length files.old.items → IsOk result }
+{
+    let alloc = *files.allocator();
+    let Some(last) = files.last_mut() else {
+        return Err(Error::invalid_argument(alloc, "no file of the queue was begun"));
+    };
+    last.1.truncate(len as usize);
+    Ok(())
+}
+
+/// Returns the bytes at a place of files, of which those with another number aren't looked at.
+///
+/// # Errors
+///
+/// `InvalidArgument` where no file has the place, `Memory`.
+fn read_of(files: &Vec<(FileSeq, Vec<u8>)>, place: FileBlockHandle) -> Result<Vec<u8>>
+    ensures ok { IfOk result (λ bytes. bytes_at (map file_shown files.now.items) place.id.seq place.offset place.len ≡ Some bytes.items) }
+    ensures refused { IfErr result (λ e. e ≢ Error.Memory
+        → bytes_at (map file_shown files.now.items) place.id.seq place.offset place.len ≡ None) }
+{
+    let alloc = *files.allocator();
+    for (seq, bytes) in files {
+        if *seq == place.id.seq {
+            return stretch(bytes, place.offset, place.len);
+        }
+    }
+    Err(Error::invalid_argument(alloc, "no file has this place"))
+}
+
+/// Returns `len` bytes from an offset on.
+///
+/// # Errors
+///
+/// `InvalidArgument` where there are fewer, `Memory`.
+fn stretch(bytes: &Vec<u8>, offset: u64, len: usize) -> Result<Vec<u8>>
+    ensures ok { IfOk result (λ found. stretch_of bytes.now.items offset len ≡ Some found.items) }
+    ensures refused { IfErr result (λ e. e ≢ Error.Memory → stretch_of bytes.now.items offset len ≡ None) }
+{
+    let alloc = *bytes.allocator();
+    let begin = offset as usize;
+    if begin <= bytes.len() && len <= bytes.len() - begin {
+        Ok(Vec::from_slice(alloc, &bytes[begin..begin + len])?)
+    } else {
+        Err(Error::invalid_argument(alloc, "no file has this place"))
+    }
+}

@@ -1,5 +1,5 @@
 -- What the calls of an accessor do.
-use Rattle.std.specs.Prelude.{◌≡◌, ◌⊎◌, ℕ, [], ◌∷◌, Option, Some, Result, IfErr}
+use Rattle.std.specs.Prelude.{◌≡◌, ◌⊎◌, ℕ, [], ◌∷◌, Option, Some, Result, Ok, Err, IfErr}
 use Rattle.std.specs.FinMap as finite
 use Rattle.std.specs.Result.{OnOk, OnErr}
 use Rattle.raft_base.specs.declared.errors.Error.{Error}
@@ -32,3 +32,8 @@ pub record IsWritten (w : Writing) (item : Item) (r : Result Unit Error) (old ne
   pub counts_err : OnErr r (new.counts ≡ old.counts)
   pub cleaned : OnErr r (new.cleaned ≡ old.cleaned)
   pub fault : IfErr r (IsWriteFault w item.raft_group_id (finite.get old.tables item.raft_group_id) (live_in_all (queue_of w) old.tables) item.content)
+
+-- what was lent, or want of memory as an error of this crate
+abbrev pub lent_as : {X E : Type 0} → Result X E → Result X Error
+lent_as (Ok x) = Ok x
+lent_as (Err e) = Err Memory

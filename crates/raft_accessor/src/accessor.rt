@@ -8,7 +8,7 @@ ghost use Rattle.raft_history.specs.RegionSteps.{with_table};
 ghost use Rattle.raft_table.specs.Change.{after_change, AreCountsAfter, IsAllowed, IsAnswer, IsChangeFault};
 ghost use Rattle.raft_table.specs.Table.{Table, with_table_added, with_table_deleted, live_of};
 ghost use Rattle.raft_accessor.specs.Accessor.{slot_of, table_in, live_in_all, AreCountsOf};
-ghost use Rattle.raft_accessor.specs.AccessorCalls.{IsTableChanged, IsTableMade};
+ghost use Rattle.raft_accessor.specs.AccessorCalls.{IsTableChanged, IsTableMade, lent_as};
 ghost use Rattle.raft_accessor.specs.Merges.{with_newer, with_appended, with_neighbor, IsMergedAt, AreTablesMerged, AreTablesLeft, AreOthersLeft, IsNewerFault, IsAppendedFault, IsFaultBeside, IsMergeRefusal};
 ghost use Rattle.raft_accessor.specs.Walks.{Collects, Makes};
 
@@ -38,6 +38,16 @@ pub fn slot_of(id: u64) -> usize
     ensures bound { result < 128 }
 {
     (hash_u64(id) % 128) as usize
+}
+
+/// Says want of memory as the crate does.
+fn lent<'a>(table: AllocResult<&'a MemTable>) -> Result<&'a MemTable>
+    ensures { result ≡ lent_as table.entry }
+{
+    match table {
+        Ok(table) => Ok(table),
+        Err(_) => Err(Error::Memory),
+    }
 }
 
 /// The tables of all regions, how many of their records are live, and the regions that were cleaned.
@@ -115,8 +125,19 @@ impl MemTableAccessor {
     ///
     /// # Errors
     ///
-    /// `AllocError`. All tables are then as they were.
-    pub fn get_or_insert(&mut self, id: u64) -> AllocResult<&MemTable>
+    /// `Memory`. All tables are then as they were.
+    pub fn get_or_insert(&mut self, id: u64) -> Result<&MemTable>
+        ensures* ends { sem 𝓛 (follows_so the_row the_row self.entry.ghost_name none (λ _ _. ⊤)
+            (λ new. IsTableMade id result self.old new)) }
+        ensures table { IfOk result (λ t. t.now ≡ table_in self.old.tables id) }
+        ensures memory { IfErr result (λ e. e ≡ Error.Memory) }
+    {
+        lent(self.lend(id))
+    }
+
+    /// Lends the table of a region, an empty one that is made where there is none. All tables stay where
+    /// there is no memory for it.
+    fn lend(&mut self, id: u64) -> AllocResult<&MemTable>
         ensures* ends { sem 𝓛 (follows_so the_row the_row self.entry.ghost_name none (λ _ _. ⊤)
             (λ new. IsTableMade id result self.old new)) }
         ensures table { IfOk result (λ t. t.now ≡ table_in self.old.tables id) }

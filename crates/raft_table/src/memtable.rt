@@ -173,6 +173,9 @@ impl MemTable {
     /// Puts a new run of the append queue after the entries below its start. All others go; an empty run
     /// changes nothing.
     ///
+    /// Entries that go and stand in the rewrite queue stay in its files. Where the append file with the run is
+    /// purged before the rewrite queue has a truncation at the run's start, a recovery may give them back.
+    ///
     /// # Errors
     ///
     /// `Corruption` where the run starts below all entries or leaves a hole after them, which names the

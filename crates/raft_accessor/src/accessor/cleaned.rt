@@ -21,6 +21,10 @@ impl MemTableAccessor {
     /// Hands out the cleaned regions as a batch with a `Clean` for each, in order. The list is then
     /// empty.
     ///
+    /// The batch belongs in the rewrite queue, once the append queue is synced. So does what else takes
+    /// rewritten records away, which is not listed: compactions, truncations, deletions of keys, and each run
+    /// that replaces entries, as the truncation at its first index.
+    ///
     /// # Errors
     ///
     /// `Memory`. The accessor is then as it was.

@@ -4,7 +4,7 @@ use Rattle.std.specs.Option.{is_some}
 use Rattle.raft_table.specs.Steps.{table_of}
 use Rattle.raft_accessor.specs.Accessor.{table_in}
 use Rattle.raft_accessor.proofs.MapLemmas.{get_own}
-use Rattle.raft_accessor.proofs.accessor.MemTableAccessor.get_or_insert.Goals as goal
+use Rattle.raft_accessor.proofs.accessor.MemTableAccessor.lend.Goals as goal
 
 pub made-requires : goal.made-requires
 made-requires c =

@@ -1,2 +1,4 @@
+mod MoveLemmas
+mod ShareLemmas
 mod SharedLemmas
 mod SlotKeeping

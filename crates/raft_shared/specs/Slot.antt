@@ -1,7 +1,8 @@
 -- One slot of an accessor that threads share: the tables of the regions whose hash has the slot's number.
-use Rattle.std.specs.Prelude.{◌≡◌, ℕ, Some}
+use Rattle.std.specs.Prelude.{◌≡◌, ◌≢◌, ℕ, suc, ◌==◌, List, [], ◌∷◌, filter, Some, None}
 use Rattle.std.specs.List.{AllByRecursion}
 use Rattle.std.specs.FinMap as finite
+use Rattle.raft_history.specs.RegionSteps.{Tables}
 use Rattle.raft_table.specs.Table.{Table}
 use Rattle.raft_accessor.specs.Accessor.{Accessor, slot_of, AreCountsOf}
 use Rattle.raft_accessor.specs.SlotTables.{IsSlotTaken, counts_of, with_all_deleted}
@@ -30,3 +31,20 @@ pub record AreTablesTaken (old new : Slot) (source rest : Accessor) : Type 0 whe
   pub rest_counts : rest.counts ≡ with_all_deleted new.content.tables source.counts
   pub cleaned : new.content.cleaned ≡ old.content.cleaned
   pub rest_cleaned : rest.cleaned ≡ source.cleaned
+
+-- a slot of this number has the tables of its regions, and lists those of its regions that were cleaned, in order
+pub record HasShare (all : Tables) (ids : List ℕ) (k : ℕ) (s : Slot) : Type 0 where
+  pub number : s.number ≡ k
+  pub tables : (id : ℕ) → slot_of id ≡ k → finite.get s.content.tables id ≡ finite.get all id
+  pub cleaned : s.content.cleaned ≡ filter (λ id. slot_of id == k) ids
+
+-- slots from this number on, each with its share of the tables and of the cleaned regions
+abbrev pub HaveShares : Tables → List ℕ → ℕ → List Slot → Type 0
+HaveShares all ids k [] = Unit {0}
+HaveShares all ids k (s ∷ slots) = HasShare all ids k s × HaveShares all ids (suc k) slots
+
+-- a slot's tables were added to those of an accessor: all of them stand there, no region without a table got one, and the tables of other slots' regions stay
+pub record AreSlotTablesAdded (s : Slot) (old new : Tables) : Type 0 where
+  pub added : (id : ℕ) (t : Table) → finite.get s.content.tables id ≡ Some t → finite.get new id ≡ Some t
+  pub none : (id : ℕ) → finite.get s.content.tables id ≡ None → finite.get old id ≡ None → finite.get new id ≡ None
+  pub others : (id : ℕ) → slot_of id ≢ s.number → finite.get new id ≡ finite.get old id

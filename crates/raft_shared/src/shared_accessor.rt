@@ -1,6 +1,6 @@
 //! The tables of all regions, shared by threads.
 
-ghost use Rattle.std.specs.Prelude.{◌≡◌, ◌⊎◌, ◌≤◌, ◌<◌, List, [], ◌++◌, map, Some, IsTrue, OnOk, IfOk, IfErr, IfSome};
+ghost use Rattle.std.specs.Prelude.{◌≡◌, ◌≢◌, ◌⊎◌, ◌≤◌, ◌<◌, ℕ, List, [], ◌++◌, length, map, Some, None, IsTrue, OnOk, IfOk, IfErr, IfSome};
 ghost use Rattle.std.specs.FinMap as finite;
 ghost use Rattle.std.specs.List.{AllByRecursion, FoldsTo};
 ghost use Rattle.std.specs.Fn.{FnOnceReturnsAt};
@@ -12,7 +12,7 @@ ghost use Rattle.raft_records.specs.LogBatch.{is_open};
 ghost use Rattle.raft_table.specs.declared.memtable.change.TableChange.{TableChange};
 ghost use Rattle.raft_table.specs.Table.{Table};
 ghost use Rattle.raft_accessor.specs.Accessor.{slot_of, table_in, AreCountsOf};
-ghost use Rattle.raft_shared.specs.Slot.{IsSlotTable};
+ghost use Rattle.raft_shared.specs.Slot.{IsSlotTable, HaveShares, AreSlotTablesAdded};
 ghost use Rattle.raft_accessor.specs.Walks.{KeepsId, Makes};
 ghost use Rattle.raft_shared.specs.SharedCalls.{IsChangeAnswer, IsChangeRefusal, IsLockFault, IsNumberOf, IsRefusalOf, HasCleans, MayBeWritten, IsSharedItemFault, IsLastRefused};
 ghost use Rattle.raft_accessor.specs.Writes.{Appending, Rewriting};
@@ -51,21 +51,14 @@ impl SharedAccessor {
     ///
     /// # Errors
     ///
-    /// `Memory`; `Failed` where a slot has another number or tables already, which never happens.
+    /// `Memory`.
     pub fn from_core(alloc: Global, core: MemTableAccessor) -> Result<SharedAccessor>
-        ensures { IfErr result IsLockFault }
+        ensures { IfErr result (λ e. e ≡ Error.Memory) }
     {
-        let mut core = core;
+        let slots = share_out(alloc, core)?;
         let mut shared = SharedAccessor::new(alloc);
-        for id in core.cleaned_regions() {
-            shared.list(*id)?;
-        }
-        for slot in &mut shared.slots {
-            let slot = slot.get_mut();
-            if !slot.is_empty() {
-                return Err(Error::Failed);
-            }
-            slot.take_tables(&mut core);
+        for (lock, slot) in shared.slots.iter_mut().zip(slots) {
+            *lock.get_mut() = slot;
         }
         Ok(shared)
     }
@@ -377,31 +370,6 @@ impl SharedAccessor {
         Ok(slot)
     }
 
-    /// The slot of a region.
-    ///
-    /// # Errors
-    ///
-    /// `Failed` where the slot has another number, which never happens.
-    fn slot_mut(&mut self, id: u64) -> Result<&mut Slot>
-        ensures number { IfOk result (λ slot. slot.now.number ≡ slot_of id) }
-        ensures fault { IfErr result (λ e. e ≡ Error.Failed) }
-    {
-        let number = slot_of(id);
-        let slot = self.slots[number].get_mut();
-        if slot.number() != number {
-            return Err(Error::Failed);
-        }
-        Ok(slot)
-    }
-
-    /// Lists a region as cleaned.
-    fn list(&mut self, id: u64) -> Result<()>
-        ensures { IfErr result IsLockFault }
-    {
-        self.slot_mut(id)?.remove(id, true)?;
-        Ok(())
-    }
-
     /// Writes a new item of the append queue.
     fn append_item<R: Wait>(&self, rt: &R, item: LogItem) -> Result<()>
         ensures ok { OnOk result (MayBeWritten Appending (item_of item)) }
@@ -426,28 +394,78 @@ impl SharedAccessor {
     }
 }
 
+/// Shares out the tables and the cleaned regions of an accessor: 128 slots, each with those of its regions.
+///
+/// # Errors
+///
+/// `Memory`.
+fn share_out(alloc: Global, core: MemTableAccessor) -> Result<Vec<Slot>>
+    ensures shares { IfOk result (λ slots. HaveShares core.tables core.cleaned 0 slots.items) }
+    ensures all { IfOk result (λ slots. length slots.items ≡ 128) }
+    ensures memory { IfErr result (λ e. e ≡ Error.Memory) }
+{
+    let mut core = core;
+    let mut slots = share_tables(alloc, &mut core)?;
+    let ids = core.cleaned_regions();
+    for id in ids {
+        slots[slot_of(*id)].list(*id)?;
+    }
+    Ok(slots)
+}
+
+/// Takes the tables out of an accessor into 128 slots that list no cleaned region.
+///
+/// # Errors
+///
+/// `Memory`. Tables are then lost.
+fn share_tables(alloc: Global, core: &mut MemTableAccessor) -> Result<Vec<Slot>>
+    ensures shares { IfOk result (λ slots. HaveShares core.old.tables [] 0 slots.items) }
+    ensures all { IfOk result (λ slots. length slots.items ≡ 128) }
+    ensures cleaned { core.new.cleaned ≡ core.old.cleaned }
+    ensures memory { IfErr result (λ e. e ≡ Error.Memory) }
+{
+    let mut slots = Vec::with_capacity(alloc, 128)?;
+    for number in 0..128usize {
+        let mut slot = Slot::new(alloc, number);
+        slot.take_tables(core);
+        slots.push(slot)?;
+    }
+    Ok(slots)
+}
+
 /// Moves the tables of a slot, and the regions of it that were cleaned, after those of an accessor.
 ///
 /// # Errors
 ///
 /// Those of [`SharedAccessor::into_core`].
 fn move_slot(slot: &mut Slot, alloc: Global, core: &mut MemTableAccessor) -> Result<()>
+    ensures tables { OnOk result
+        (AreSlotTablesAdded slot.old core.old.tables core.new.tables) }
     ensures cleaned { OnOk result
         (core.new.cleaned ≡ core.old.cleaned ++ slot.old.content.cleaned) }
     ensures fault { IfErr result (λ e. IsLockFault e ⊎ (e ≡ Error.Full)) }
 {
-    list_cleaned(slot.cleaned_regions(), core)?;
+    slot.holds_own_tables();
+    list_cleaned(slot.number(), slot.cleaned_regions(), core)?;
     let mut ids = Vec::new(alloc);
-    slot.push_ids(&mut |_: &MemTable| -> bool { true }, &mut ids)?;
+    let mut all = |_: &MemTable| -> bool
+        ensures { IsTrue result }
+    { true };
+    slot.push_ids(&mut all, &mut ids)?;
     for id in &ids {
         move_table(slot, *id, core)?;
     }
     Ok(())
 }
 
-/// Lists regions as cleaned that have no tables yet.
-fn list_cleaned(ids: &[u64], core: &mut MemTableAccessor) -> Result<()>
+/// Lists regions of one slot as cleaned, before their tables are added.
+fn list_cleaned(number: usize, ids: &[u64], core: &mut MemTableAccessor) -> Result<()>
+    requires { AllByRecursion (λ id. slot_of id ≡ number) ids.now }
     ensures ok { OnOk result (core.new.cleaned ≡ core.old.cleaned ++ ids.now) }
+    ensures none { OnOk result ((id : ℕ) → finite.get core.old.tables id ≡ None
+        → finite.get core.new.tables id ≡ None) }
+    ensures others { OnOk result ((id : ℕ) → slot_of id ≢ number
+        → finite.get core.new.tables id ≡ finite.get core.old.tables id) }
     ensures memory { IfErr result (λ e. e ≡ Error.Memory) }
 {
     for id in ids {
@@ -458,8 +476,13 @@ fn list_cleaned(ids: &[u64], core: &mut MemTableAccessor) -> Result<()>
 
 /// Moves a table of a slot, if there is one, to an accessor.
 fn move_table(slot: &mut Slot, id: u64, core: &mut MemTableAccessor) -> Result<()>
-    ensures tables { OnOk result ((t : Table) → finite.get slot.old.content.tables id ≡ Some t
+    ensures moved { OnOk result ((t : Table) → finite.get slot.old.content.tables id ≡ Some t
         → core.new.tables ≡ finite.insert core.old.tables id t) }
+    ensures nothing { OnOk result (finite.get slot.old.content.tables id ≡ None
+        → core.new.tables ≡ core.old.tables) }
+    ensures taken { OnOk result (slot.new.content.tables
+        ≡ finite.remove slot.old.content.tables id) }
+    ensures number { slot.new.number ≡ slot.old.number }
     ensures cleaned { core.new.cleaned ≡ core.old.cleaned }
     ensures fault { IfErr result (λ e. IsLockFault e ⊎ (e ≡ Error.Full)) }
 {

@@ -345,8 +345,8 @@ impl Slot {
         Ok(())
     }
 
-    /// Lists a region as cleaned.
-    fn list(&mut self, id: u64) -> Result<()>
+    /// Lists a region as cleaned. Its table stays.
+    pub(crate) fn list(&mut self, id: u64) -> Result<()>
         requires { slot_of id ≡ self.old.number }
         ensures ok { OnOk result (self.new ≡ record self.old {
           content = record self.old.content { cleaned = self.old.content.cleaned ++ id ∷ [] };

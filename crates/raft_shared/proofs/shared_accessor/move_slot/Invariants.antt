@@ -1,5 +1,8 @@
-use Rattle.std.proofs.Common.{◌≡◌, ◌++◌}
+use Rattle.std.proofs.Common.{◌≡◌, ℕ, ◌++◌, drop}
+use Rattle.raft_shared.proofs.MoveLemmas.{HasOnly, either}
 use Rattle.raft_shared.proofs.shared_accessor.move_slot.Given as goal
 
 abbrev pub invariant-loop-id : goal.invariant-loop-id
-invariant-loop-id l = l.core.cleaned ≡ l.fn.core.cleaned ++ l.fn.slot.content.cleaned
+invariant-loop-id l =
+    (l.core.cleaned ≡ l.fn.core.cleaned ++ l.fn.slot.content.cleaned) × HasOnly (drop l.id-index l.id-items) l.slot.content.tables
+    × ((q : ℕ) → either l.slot.content.tables l.core.tables q ≡ either l.initial.slot.content.tables l.initial.core.tables q)

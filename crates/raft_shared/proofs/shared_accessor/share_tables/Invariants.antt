@@ -1,0 +1,8 @@
+use Rattle.std.proofs.Common.{◌≡◌, [], length}
+use Rattle.raft_shared.specs.Slot.{HaveShares}
+use Rattle.raft_shared.proofs.ShareLemmas.{AreLeft}
+use Rattle.raft_shared.proofs.shared_accessor.share_tables.Given as goal
+
+abbrev pub invariant-loop-number : goal.invariant-loop-number
+invariant-loop-number l =
+    HaveShares l.fn.core.tables [] 0 l.slots.items × (length l.slots.items ≡ l.number) × AreLeft l.number l.fn.core.tables l.core.tables × (l.core.cleaned ≡ l.fn.core.cleaned)

@@ -5,7 +5,7 @@ mod SmallMarkLemmas
 mod SlotMarksLemmas
 mod RegionMarksLemmas
 mod ReadingLemmas
-mod RecoverContextLemmas
+pub mod RecoverContextLemmas
 mod BatchCheckLemmas
 mod WholeFiles
 mod ReadStateLemmas

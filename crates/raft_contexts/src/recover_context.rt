@@ -1,6 +1,6 @@
 //! Contexts, which rebuild the tables of all regions from the batches of a queue.
 
-ghost use Rattle.std.specs.Prelude.{ℕ, ◌≡◌, ◌≢◌, ◌⊎◌, [], List, IfOk, IfErr, OnOk, OnErr};
+ghost use Rattle.std.specs.Prelude.{ℕ, ◌≡◌, ◌≢◌, ◌⊎◌, ◌↔◌, [], List, IfOk, IfErr, OnOk, OnErr, IsTrue};
 ghost use Rattle.raft_base.specs.declared.errors.Error.{Error};
 ghost use Rattle.raft_base.specs.declared.pipe_log.LogQueue.{LogQueue};
 ghost use Rattle.raft_base.specs.declared.pipe_log.LogQueue.TheVariants.{Append, Rewrite};
@@ -65,6 +65,13 @@ impl MemTableRecoverContext {
             state: ReadState::new(alloc)?,
             stage: ContextStage::Reading,
         })
+    }
+
+    /// Tests whether the context reads on: no call was refused, and it hasn't taken in the context of the append queue.
+    pub fn reads_on(&self) -> bool
+        ensures { IsTrue result ↔ (self.now.stage ≡ Reading) }
+    {
+        self.stage == ContextStage::Reading
     }
 
     /// Replays one more batch, that was written to this file. In the rewrite queue the batch's first

@@ -11,7 +11,7 @@ use Rattle.raft_history.specs.Batches.{Event}
 use Rattle.raft_replay.specs.Segments.{SegmentsHold, SegmentsAreOf}
 use Rattle.raft_replay.proofs.Words.{PartsHold, PartsAreOf}
 use Rattle.raft_replay.proofs.CutPartLemmas.{uncut}
-use Rattle.raft_recover.specs.Files.{whole_file, segment_shown, FilesHold, file_shown}
+use Rattle.raft_recover.specs.Files.{whole_file, segment_shown, AreWholeFiles, FilesHold, file_shown}
 
 module _ (queue : LogQueue) (version : Version) where
   abbrev pub whole : ℕ × Vec ℕ Global → Part
@@ -89,3 +89,10 @@ module _ (queue : LogQueue) (version : Version) where
   pub all_begun : (fs left : List (ℕ × Vec ℕ Global)) (ss : List (Vec Part Global)) → length left ≡ 0 → AreBegun fs left ss → AreWhole ss fs
   all_begun fs [] ss none done = sym (append-nil (map segment_shown ss)) ∙ done
   all_begun fs (f ∷ left) ss none done = absurd (omega (arith, none))
+
+  shown_alone : (files : List (ℕ × Vec ℕ Global)) → alone files ≡ map (λ file. whole_file queue version file ∷ []) (map file_shown files)
+  shown_alone [] = refl
+  shown_alone (f ∷ fs) = ap (λ (l : List (List Part)). (whole f ∷ []) ∷ l) (shown_alone fs)
+
+  pub whole_shown : (ss : List (Vec Part Global)) (fs : List (ℕ × Vec ℕ Global)) → AreWhole ss fs → AreWholeFiles queue version (map file_shown fs) ss
+  whole_shown ss fs all = all ∙ shown_alone fs

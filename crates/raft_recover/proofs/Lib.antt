@@ -6,3 +6,4 @@ pub mod RequestLemmas
 pub mod ShareLemmas
 pub mod ScanLemmas
 pub mod ScanRequestLemmas
+pub mod TurnLemmas

@@ -1,5 +1,5 @@
 -- What a context that has replayed all segments gives, and files as segments.
-use Rattle.std.proofs.Common.{◌≡◌, ◌≢◌, ◌⊎◌, ◌↔◌, ◌<◌, ◌^◌, inl, inr, ℕ, true, false, ltb, length, List, [], ◌∷◌, Option, Result, Ok, Err, IfOk, IfErr, OnOk, Vec, refl, sym, subst, ◌∙◌, arith}
+use Rattle.std.proofs.Common.{◌≡◌, ◌≢◌, ◌⊎◌, ◌↔◌, ◌<◌, ◌^◌, inl, inr, ℕ, true, false, ltb, List, [], ◌∷◌, Option, Result, Ok, Err, IfOk, IfErr, OnOk, Vec, refl, sym, subst, ◌∙◌, arith}
 use Rattle.std.specs.Prelude.{flat_map}
 use Rattle.std.proofs.lemmas.Bool.Decides.{nat_tests}
 use Rattle.std.specs.Global.{Global}
@@ -19,13 +19,14 @@ use Rattle.raft_history.specs.RewrittenRecords.{AreRewrittenFrom, HaveSameRecord
 use Rattle.raft_history.proofs.RewrittenHistories.{both_same}
 use Rattle.raft_history.proofs.SoundLemmas.{append_apart}
 use Rattle.raft_accessor.specs.Accessor.{Accessor, AreCountsOf}
-use Rattle.raft_base.specs.Errors.{IsInvalidArgument}
 use Rattle.raft_contexts.specs.OverlaidContext.{IsOfBothExactly}
 use Rattle.raft_contexts.specs.RecoverContext.{RecoverContext, HasRead, HasReadExactly}
 use Rattle.raft_contexts.specs.declared.context_stage.ContextStage.{ContextStage}
 use Rattle.raft_contexts.specs.declared.context_stage.ContextStage.TheVariants as stages
 use Rattle.raft_replay.specs.Replays.{IsReplayed}
-use Rattle.raft_replay.specs.Segments.{SegmentsHold, CannotBeRead, SegmentsAreOf, MayReplay}
+use Rattle.raft_replay.specs.Segments.{SegmentsHold, CannotBeRead, SegmentsAreOf}
+use Rattle.raft_replay.specs.WrittenParts.{bytes_of_segments}
+use Rattle.raft_replay.proofs.FewRecordLemmas.{small_segments}
 use Rattle.raft_replay.proofs.MachineOrderLemmas.{segments_read_of_queue}
 use Rattle.raft_replay.proofs.SegmentLemmas.{segments_unique}
 use Rattle.raft_recover.specs.Files.{FilesHold, FilesCannotBeRead, IsPrintFailure, PrintsRecovered}
@@ -72,34 +73,23 @@ module _ (queue : LogQueue) (segments : List (Vec Part Global)) (of_queue : Segm
         subst (λ s. is_failed s → ⊥) (sym reading) (λ none. none) (subst is_failed (sym failed.1) tt);
   }
 
+  -- what holds few records is finished
+  pub finished_few : {A : Type 0} (r : Result A Error) (P : Error → Type 0) → bytes_of_segments segments < 2 ^ 63 → IfErr r (λ e. (e ≡ errors.Failed) × (m.stage ≡ stages.Failed)) → IfErr r P
+  finished_few (Ok a) P few failed = tt
+  finished_few (Err e) P few failed =
+      let reading = (replayed.stands (small_segments segments replayed.history replayed.held few)).stage in
+      absurd (subst is_failed (sym failed.1 ∙ reading) tt)
+
 -- ---- other segments of which the same is read
 
-module _ (queue : LogQueue) (segments shares : List (Vec Part Global)) (same : (h : List Event) → SegmentsHold segments h ↔ SegmentsHold shares h)
-    (of_queue : (q : LogQueue) → SegmentsAreOf q segments ↔ SegmentsAreOf q shares) where
-  pub shares_replayed : (r : Result RecoverContext Error) → IfOk r (IsReplayed HasRead HasReadExactly shares) → IfOk r (IsReplayed HasRead HasReadExactly segments)
-  shares_replayed (Ok m) r = record {
-    history = r.history;
-    held = (same r.history).1 r.held;
-    stands = r.stands;
-    exact = r.exact;
-  }
-  shares_replayed (Err e) r = tt
-
-  module _ (workers : ℕ) (few : length segments < 2 ^ 62) (few_shares : length shares < 2 ^ 62) where
-    pub shares_accepted : (r : Result RecoverContext Error) → OnOk r (MayReplay queue workers shares) → OnOk r (MayReplay queue workers segments)
-    shares_accepted (Ok a) p = (p.0, p.1, few, (of_queue queue).1 p.3)
-    shares_accepted (Err e) p = tt
-
-    pub shares_refused : (r : Result RecoverContext Error) → (MayReplay queue workers shares → IfErr r (λ e. e ≢ errors.Memory → (⊥ → ⊥) → CannotBeRead shares))
-        → MayReplay queue workers segments → IfErr r (λ e. e ≢ errors.Memory → CannotBeRead segments)
-    shares_refused (Ok a) refused good = tt
-    shares_refused (Err e) refused good = λ not_memory. record {
-      unsound = λ h held. (refused (good.0, good.1, few_shares, (of_queue queue).0 good.3) not_memory (λ none. none)).unsound h ((same h).0 held);
-    }
-
-    pub shares_at_fault : (r : Result RecoverContext Error) → ((MayReplay queue workers shares → ⊥) → IfErr r (λ e. e ≢ errors.Memory → IsInvalidArgument e))
-        → (MayReplay queue workers segments → ⊥) → IfErr r (λ e. e ≢ errors.Memory → IsInvalidArgument e)
-    shares_at_fault r fault bad = fault (λ good. bad (good.0, good.1, few, (of_queue queue).1 good.3))
+pub same_replayed : (segments shares : List (Vec Part Global)) → ((h : List Event) → SegmentsHold segments h ↔ SegmentsHold shares h) → (m : RecoverContext)
+    → IsReplayed HasRead HasReadExactly shares m → IsReplayed HasRead HasReadExactly segments m
+same_replayed segments shares same m r = record {
+  history = r.history;
+  held = (same r.history).1 r.held;
+  stands = r.stands;
+  exact = r.exact;
+}
 
 -- ---- files as segments
 
@@ -174,6 +164,16 @@ module _ (rewrite append : List (Vec Part Global)) (rewrite_of : SegmentsAreOf R
       | inl few ↦ absurd (not_memory (memory older.history newer.history small few (segments_read_of_queue Rewrite rewrite rewrite_of older.history older.held) (segments_read_of_queue Append append append_of newer.history newer.held) (older.stands small) (newer.stands few)))
     ]
   ]
+
+  -- two contexts of few records lack memory alone
+  pub both_merged_few : (r : Result Unit Error) (P : Error → Type 0) → bytes_of_segments rewrite < 2 ^ 63 → bytes_of_segments append < 2 ^ 63
+      → ((h k : List Event) → IsSmall h → IsSmall k → IsOfQueue Rewrite h → IsOfQueue Append k → HasRead old h → HasRead appended k → IfErr r (λ e. e ≡ errors.Memory))
+      → IfErr r (λ e. e ≢ errors.Memory → P e)
+  both_merged_few (Ok u) P few_rewrite few_append memory = tt
+  both_merged_few (Err e) P few_rewrite few_append memory = λ not_memory.
+      let small = small_segments rewrite older.history older.held few_rewrite in
+      let few = small_segments append newer.history newer.held few_append in
+      absurd (not_memory (memory older.history newer.history small few (segments_read_of_queue Rewrite rewrite rewrite_of older.history older.held) (segments_read_of_queue Append append append_of newer.history newer.held) (older.stands small) (newer.stands few)))
 
   rewrite_sound : IsSmall older.history → IsSoundIn Rewrite older.history
   rewrite_sound small = ((older.stands small).stands.stands Rewrite (suited Rewrite rewrite rewrite_of old older small)).sound

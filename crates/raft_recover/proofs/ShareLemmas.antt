@@ -1,18 +1,21 @@
 -- Parts that are read alike, and segments as the parts in them.
-use Rattle.std.proofs.Common.{◌≡◌, ◌↔◌, ℕ, ◌+◌, ◌<◌, List, [], ◌∷◌, ◌++◌, Vec, length, get_or, drop, sym, ap, ◌∙◌, subst, arith, append_assoc, append-nil}
+use Rattle.std.proofs.Common.{◌≡◌, ◌↔◌, ℕ, ◌+◌, ◌<◌, ◌≤◌, List, [], ◌∷◌, ◌++◌, Vec, length, get_or, drop, take, sym, ap, ◌∙◌, subst, arith, append_assoc, append-nil}
 use Rattle.std.specs.Global.{Global}
+use Rattle.std.proofs.lemmas.List.{take_more, take_all}
 use Rattle.std.specs.List.{AllByRecursion, All}
 use Rattle.std.proofs.lemmas.List.Elements.{All-from_recursion, recursion_from_All}
 use Rattle.raft_base.specs.declared.pipe_log.FileId.{FileId}
 use Rattle.raft_base.specs.declared.pipe_log.LogQueue.{LogQueue}
 use Rattle.raft_records.specs.FilePart.{Part}
 use Rattle.raft_history.specs.Batches.{Event}
-use Rattle.raft_replay.specs.Segments.{SegmentsHold, AreCutFrom, SegmentsAreOf}
+use Rattle.raft_replay.specs.Cuts.{ArePartsOf, AreCutInTurn}
+use Rattle.raft_replay.specs.Segments.{SegmentsHold, AreCutFrom, SegmentsAreOf, parts_within}
 use Rattle.raft_replay.proofs.Words.{PartHolds, PartsHold, PartsAreOf}
+use Rattle.raft_replay.proofs.CutBytesLemmas.{cut_in_turn_more}
 use Rattle.raft_replay.proofs.CutPartLemmas.{uncut}
 use Rattle.raft_replay.proofs.MachineOrderLemmas.{each_join, each_cut}
 use Rattle.raft_replay.proofs.SegmentLemmas.{left_from}
-use Rattle.raft_recover.specs.Shares.{parts_within, AreAlike}
+use Rattle.raft_recover.specs.Shares.{AreAlike}
 
 abbrev IsOf : LogQueue → Part → Type 0
 IsOf queue part = part.id.queue ≡ queue
@@ -23,6 +26,11 @@ AreOf queue parts = AllByRecursion (IsOf queue) parts
 -- the element at an index is the first of those from there on
 pub item_here : {A : Type 0} {xs ys : List A} {i : ℕ} {x : A} → xs ≡ ys → i < length xs → x ≡ get_or xs i x → drop i ys ≡ x ∷ drop (i + 1) ys
 item_here {A} {xs} {ys} {i} {x} same inside is = subst (λ (l : List A). drop i l ≡ x ∷ drop (i + 1) l) same (left_from xs i x inside is)
+
+-- the elements before the next index
+pub item_taken : {A : Type 0} {xs ys : List A} {i : ℕ} {x : A} → xs ≡ ys → i < length xs → x ≡ get_or xs i x → take (i + 1) ys ≡ take i ys ++ x ∷ []
+item_taken {A} {xs} {ys} {i} {x} same inside is =
+    subst (λ (l : List A). take (i + 1) l ≡ take i l ++ x ∷ []) same (take_more xs i x inside ∙ ap (λ (y : A). take i xs ++ y ∷ []) (sym is))
 
 -- ---- all of two lists
 
@@ -124,6 +132,18 @@ cut_one_more whole parts left cut new part shared before is same ids some new_is
     let three = alike_same (parts ++ (cut ++ left)) (new ++ left) (sym (append_assoc parts cut left) ∙ ap (λ (l : List Part). l ++ left) (sym new_is)) in
     alike_then whole (parts ++ part ∷ left) (new ++ left) before
     (alike_then (parts ++ part ∷ left) (parts ++ (cut ++ left)) (new ++ left) two three)
+
+-- one part more is cut: `front` are those in front of it
+pub part_cut_more : (these front more parts cut new : List Part) (part shared : Part) → AreCutInTurn (these ++ front) parts → shared ≡ part → ArePartsOf shared cut
+    → more ≡ front ++ part ∷ [] → new ≡ parts ++ cut → AreCutInTurn (these ++ more) new
+part_cut_more these front more parts cut new part shared before is parts_of more_is new_is =
+    let one = cut_in_turn_more (these ++ front) parts cut part before (subst (λ (p : Part). ArePartsOf p cut) is parts_of) in
+    let whole : (these ++ front) ++ part ∷ [] ≡ these ++ more = append_assoc these front (part ∷ []) ∙ ap (λ (l : List Part). these ++ l) (sym more_is) in
+    subst (λ (l : List Part). AreCutInTurn (these ++ more) l) (sym new_is) (subst (λ (l : List Part). AreCutInTurn l (parts ++ cut)) whole one)
+
+-- none is left to cut
+pub all_taken : (i : ℕ) (xs these parts : List Part) → length xs ≤ i → AreCutInTurn (these ++ take i xs) parts → AreCutInTurn (these ++ xs) parts
+all_taken i xs these parts past = subst (λ (l : List Part). AreCutInTurn (these ++ l) parts) (take_all i xs past)
 
 -- one segment more is taken: `left` are the parts behind it
 pub segment_one_more : (whole parts left more new : List Part) → AreAlike whole (parts ++ (more ++ left)) → AreAlike (parts ++ more) new → AreAlike whole (new ++ left)

@@ -1,5 +1,5 @@
 -- Whole files of a queue, the batches in them, and their tables as text.
-use Rattle.std.specs.Prelude.{ℕ, ◌+◌, List, [], ◌∷◌, length, Option, Vec}
+use Rattle.std.specs.Prelude.{◌≡◌, ℕ, ◌+◌, List, [], ◌∷◌, length, map, Option, Vec}
 use Rattle.std.specs.Global.{Global}
 use Rattle.raft_base.specs.declared.errors.Error.{Error}
 use Rattle.raft_base.specs.declared.pipe_log.LogQueue.{LogQueue}
@@ -56,3 +56,8 @@ pub record IsPrintFailure (queue : LogQueue) (version : Version) (files : List N
 -- the parts of a segment
 abbrev pub segment_shown : Vec Part Global → List Part
 segment_shown segment = segment.items
+
+-- a segment of each file, in order: one part, which is all of the file
+abbrev pub AreWholeFiles : LogQueue → Version → List NumberedBytes → List (Vec Part Global) → Type 0
+AreWholeFiles queue version files segments =
+    map segment_shown segments ≡ map (λ file. whole_file queue version file ∷ []) files

@@ -1,5 +1,5 @@
 -- Segments as shares: what is the same of parts, read in order, and the contexts that replay them.
-use Rattle.std.specs.Prelude.{◌≡◌, ◌≢◌, ◌↔◌, List, [], ◌∷◌, ◌++◌, All, Vec, Result, Ok, Err}
+use Rattle.std.specs.Prelude.{◌≡◌, ◌≢◌, ◌↔◌, List, All, Vec, Result, Ok, Err}
 use Rattle.std.specs.Global.{Global}
 use Rattle.raft_base.specs.declared.errors.Error.{Error}
 use Rattle.raft_base.specs.declared.errors.Error.TheVariants as errors
@@ -9,11 +9,6 @@ use Rattle.raft_history.specs.Batches.{Event}
 use Rattle.raft_contexts.specs.RecoverContext.{RecoverContext, HasRead, HasReadExactly}
 use Rattle.raft_replay.specs.Replays.{IsReplayed}
 use Rattle.raft_replay.specs.Segments.{CannotBeRead, HoldsFrom, EachHolds}
-
--- the parts of all segments, in order
-abbrev pub parts_within : List (Vec Part Global) → List Part
-parts_within [] = []
-parts_within (segment ∷ segments) = segment.items ++ parts_within segments
 
 -- the same is read of these parts and of those, and they are of the same queues
 pub record AreAlike (these those : List Part) : Type 0 where

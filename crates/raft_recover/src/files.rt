@@ -6,14 +6,15 @@ ghost use Rattle.raft_base.specs.declared.pipe_log.Version.{Version};
 ghost use Rattle.raft_history.specs.Batches.{Event};
 ghost use Rattle.raft_history.specs.Histories.{IsSmall};
 ghost use Rattle.raft_replay.specs.Segments.{SegmentsHold, SegmentsAreOf};
-ghost use Rattle.raft_recover.specs.Files.{FilesHold, bytes_of_files, file_shown};
+ghost use Rattle.raft_recover.specs.Files.{AreWholeFiles, FilesHold, bytes_of_files, file_shown};
 ghost use Rattle.raft_recover.specs.Requests.{NumberedBytes};
 
 use raft_base::{Error, FileId, FileSeq, LogQueue, Result, Version};
 use raft_records::FilePart;
 use raft_replay::Segment;
 
-/// Makes a segment of each file of a queue, of one part. What is read of them is what is read of the files.
+/// Makes a segment of each file of a queue, of one part, which has all its bytes. What is read of them is what is read
+/// of the files.
 ///
 /// # Errors
 ///
@@ -25,6 +26,8 @@ pub fn file_segments(
 ) -> Result<Vec<Segment>>
     ensures same { IfOk result (λ segments. (h : List Event)
         → FilesHold queue version (map file_shown files.items) h ↔ SegmentsHold segments.items h) }
+    ensures whole { IfOk result (λ segments. AreWholeFiles queue version
+        (map file_shown files.items) segments.items) }
     ensures of_queue { IfOk result (λ segments. SegmentsAreOf queue segments.items) }
     ensures count { IfOk result (λ segments. length segments.items ≡ length files.items) }
     ensures memory { IfErr result (λ e. e ≡ Error.Memory) }

@@ -1,6 +1,6 @@
 //! From the bytes of files to the tables of all regions.
 
-ghost use Rattle.std.specs.Prelude.{◌≡◌, ◌≢◌, ℕ, ◌⊎◌, ◌^◌, ◌<◌, ◌≤◌, length, IfOk, IfErr, OnOk, OnErr, List, map};
+ghost use Rattle.std.specs.Prelude.{◌≡◌, ◌≢◌, ◌↔◌, ℕ, ◌⊎◌, ◌^◌, ◌<◌, ◌≤◌, length, IfOk, IfErr, OnOk, OnErr, List, map};
 ghost use Rattle.std.specs.Io.KnownBytes.{Keeps};
 ghost use Rattle.std.specs.Thread.{IsSync};
 ghost use Rattle.raft_base.specs.Errors.{IsInvalidArgument};
@@ -11,7 +11,9 @@ ghost use Rattle.raft_history.specs.RegionSteps.{Tables};
 ghost use Rattle.raft_history.specs.RewrittenRecords.{AreRewrittenFrom, HaveSameRecords};
 ghost use Rattle.raft_contexts.specs.RecoverContext.{HasRead, HasReadExactly};
 ghost use Rattle.raft_replay.specs.Replays.{IsReplayed};
-ghost use Rattle.raft_replay.specs.Segments.{SegmentsHold, CannotBeRead, MayReplay};
+ghost use Rattle.raft_replay.specs.Segments.{SegmentsHold, CannotBeRead, MayReplay, parts_within};
+ghost use Rattle.raft_replay.specs.Stops.{IsNothing, StopsAmong};
+ghost use Rattle.raft_replay.specs.WrittenParts.{bytes_of_segments};
 ghost use Rattle.raft_recover.specs.Files.{FilesCannotBeRead, IsPrintFailure, PrintsRecovered, file_shown};
 ghost use Rattle.raft_recover.specs.Recovery.{AreBothRecovered, IsRecovered, MayReplayBoth};
 ghost use Rattle.raft_recover.specs.Shares.{IsReplayedOrRefused};
@@ -23,7 +25,7 @@ use raft_accessor::MemTableAccessor;
 use raft_base::{Error, FileSeq, LogQueue, Result, Version};
 use raft_contexts::{MemTableRecoverContext, MemTableRecoverContextFactory};
 use raft_replay::{
-    MAX_WORKERS, OpenGate, SEGMENT_LIMIT, Segment, are_accepted, argument_fault, replay_segments,
+    OpenGate, Segment, are_accepted, argument_fault, replay_segment, replay_segments,
 };
 use std::alloc::Global;
 use std::io::Write;
@@ -47,9 +49,10 @@ const LEAST_SHARE: usize = 1 << 20;
 ///
 /// `InvalidArgument` for another number of workers, for a part of another queue and for 2^62 segments and more, then
 /// whatever a reading returns: `Corruption`, `Codec`, or `Io` for an item that ends before its type, where a part
-/// isn't a sequence of readable batches or the batches in order can't be read. `Memory`. The text of a `Corruption`
-/// that a batch is refused with begins with its place, as [`replay_segment`](raft_replay::replay_segment) says; where
-/// only a merge shows that a run leaves a hole, it names the region and the indexes.
+/// isn't a sequence of readable batches or the batches in order can't be read. `Memory`. Whatever the number of workers
+/// and their turns, the refusal is that of the first batch in order that is refused, and its text begins with the place
+/// of that batch, as [`replay_segment`](raft_replay::replay_segment) says: where workers are refused, in a reading or a
+/// merge, the segments are read once more by one thread, up to that batch.
 pub fn recover<R: Threads + Sync>(
     rt: &R,
     alloc: Global,
@@ -61,6 +64,10 @@ pub fn recover<R: Threads + Sync>(
     ensures accepted { OnOk result (MayReplay queue workers segments.entry.now) }
     ensures refused { MayReplay queue workers segments.entry.now
         → IfErr result (λ e. e ≢ Error.Memory → CannotBeRead segments.entry.now) }
+    ensures place { MayReplay queue workers segments.entry.now
+        → bytes_of_segments segments.entry.now < 2 ^ 63
+        → IfErr result (λ e. e ≢ Error.Memory
+        → StopsAmong IsNothing (parts_within segments.entry.now) e) }
     ensures fault { ¬ (MayReplay queue workers segments.entry.now)
         → IfErr result (λ e. e ≢ Error.Memory → IsInvalidArgument e) }
 {
@@ -94,6 +101,11 @@ pub fn recover_both<R: Threads + Sync>(
     ensures refused { MayReplayBoth workers rewrite.entry.now append.entry.now
         → IfErr result (λ e. e ≢ Error.Memory
         → CannotBeRead rewrite.entry.now ⊎ CannotBeRead append.entry.now) }
+    ensures place { MayReplayBoth workers rewrite.entry.now append.entry.now
+        → bytes_of_segments rewrite.entry.now < 2 ^ 63 → bytes_of_segments append.entry.now < 2 ^ 63
+        → IfErr result (λ e. e ≢ Error.Memory
+        → StopsAmong IsNothing (parts_within rewrite.entry.now) e
+        ⊎ StopsAmong IsNothing (parts_within append.entry.now) e) }
     ensures fault { ¬ (MayReplayBoth workers rewrite.entry.now append.entry.now)
         → IfErr result (λ e. e ≢ Error.Memory → IsInvalidArgument e) }
     ensures whole { (h k : List Event) (tables : Tables) (cleaned : List ℕ)
@@ -146,6 +158,9 @@ fn both_replayed<R: Threads + Sync>(
         (λ both. IsReplayed HasRead HasReadExactly append.entry.now both.1) }
     ensures refused { IfErr result (λ e. e ≢ Error.Memory
         → CannotBeRead rewrite.entry.now ⊎ CannotBeRead append.entry.now) }
+    ensures place { IfErr result (λ e. e ≢ Error.Memory
+        → StopsAmong IsNothing (parts_within rewrite.entry.now) e
+        ⊎ StopsAmong IsNothing (parts_within append.entry.now) e) }
 {
     if workers == 1 {
         let both = replayed(rt, alloc, rewrite, LogQueue::Rewrite, workers)?;
@@ -156,11 +171,15 @@ fn both_replayed<R: Threads + Sync>(
     let appenders = workers - rewriters;
     let read_rewrite = || -> Result<MemTableRecoverContext>
         requires { IsSync R.row × MayReplay Rewrite rewriters rewrite.now }
-        ensures { IsReplayedOrRefused rewrite.entry.now result }
+        ensures { IsReplayedOrRefused rewrite.entry.now result
+            × IfErr result (λ e. e ≢ Error.Memory
+            → StopsAmong IsNothing (parts_within rewrite.entry.now) e) }
     { replayed(rt, alloc, rewrite, LogQueue::Rewrite, rewriters) };
     let read_append = || -> Result<MemTableRecoverContext>
         requires { IsSync R.row × MayReplay Append appenders append.now }
-        ensures { IsReplayedOrRefused append.entry.now result }
+        ensures { IsReplayedOrRefused append.entry.now result
+            × IfErr result (λ e. e ≢ Error.Memory
+            → StopsAmong IsNothing (parts_within append.entry.now) e) }
     { replayed(rt, alloc, append, LogQueue::Append, appenders) };
     let (rewritten, appended) = join(rt, read_rewrite, read_append);
     let both = rewritten?;
@@ -170,7 +189,8 @@ fn both_replayed<R: Threads + Sync>(
 
 /// Returns how many of the workers read the first of two queues: as many as its part of all bytes, but one at
 /// least and not all of them.
-fn part_of_workers(workers: usize, first: usize, second: usize) -> usize
+#[doc(hidden)]
+pub fn part_of_workers(workers: usize, first: usize, second: usize) -> usize
     requires { 2 ≤ workers }
     ensures { (0 < result) × (result < workers) }
 {
@@ -190,24 +210,54 @@ fn replayed<R: Threads + Sync>(
     ensures accepted { OnOk result (MayReplay queue workers segments.entry.now) }
     ensures refused { MayReplay queue workers segments.entry.now
         → IfErr result (λ e. e ≢ Error.Memory → CannotBeRead segments.entry.now) }
+    ensures place { MayReplay queue workers segments.entry.now
+        → IfErr result (λ e. e ≢ Error.Memory
+        → StopsAmong IsNothing (parts_within segments.entry.now) e) }
     ensures fault { ¬ (MayReplay queue workers segments.entry.now)
         → IfErr result (λ e. e ≢ Error.Memory → IsInvalidArgument e) }
 {
-    if segments.len() >= SEGMENT_LIMIT {
-        return Err(Error::invalid_argument(alloc, "2^62 segments or more"));
-    }
-    let count = workers.clamp(1, MAX_WORKERS);
-    let shares = equal_shares(alloc, segments, count, LEAST_SHARE)?;
+    check_segments(alloc, segments, queue, workers)?;
+    let shares = equal_shares(alloc, segments, workers, LEAST_SHARE)?;
+    replayed_as(rt, alloc, segments, shares.as_slice(), queue, workers)
+}
+
+/// Returns the context of a queue's segments, which workers read as these shares. Where they are refused, but for want
+/// of memory, the segments are read once more, in order: so what is returned is the refusal of the first batch in order
+/// that is refused.
+fn replayed_as<R: Threads + Sync>(
+    rt: &R,
+    alloc: Global,
+    segments: &[Segment],
+    shares: &[Segment],
+    queue: LogQueue,
+    workers: usize,
+) -> Result<MemTableRecoverContext>
+    requires { (h : List Event) → SegmentsHold segments.now h ↔ SegmentsHold shares.now h }
+    ensures ok { IfOk result (IsReplayed HasRead HasReadExactly segments.entry.now) }
+    ensures refused { IfErr result (λ e. e ≢ Error.Memory → CannotBeRead segments.entry.now) }
+    ensures place { IfErr result (λ e. e ≢ Error.Memory
+        → StopsAmong IsNothing (parts_within segments.entry.now) e) }
+{
     let factory = MemTableRecoverContextFactory::new();
-    replay_segments(
-        rt,
-        alloc,
-        &factory,
-        shares.as_slice(),
-        queue,
-        workers,
-        &OpenGate,
-    )
+    match replay_segments(rt, alloc, &factory, shares, queue, workers, &OpenGate) {
+        Ok(context) => Ok(context),
+        Err(Error::Memory) => Err(Error::Memory),
+        Err(_) => replayed_in_turn(alloc, segments),
+    }
+}
+
+/// Replays segments one after another, on the caller's thread.
+fn replayed_in_turn(alloc: Global, segments: &[Segment]) -> Result<MemTableRecoverContext>
+    ensures ok { IfOk result (IsReplayed HasRead HasReadExactly segments.entry.now) }
+    ensures refused { IfErr result (λ e. e ≢ Error.Memory → CannotBeRead segments.entry.now) }
+    ensures place { IfErr result (λ e. e ≢ Error.Memory
+        → StopsAmong IsNothing (parts_within segments.entry.now) e) }
+{
+    let mut context = MemTableRecoverContext::new(alloc)?;
+    for segment in segments {
+        replay_segment(&mut context, segment)?;
+    }
+    Ok(context)
 }
 
 /// Recovers the tables as [`recover`] does, but reads the segments as they are: each worker takes the next one that is
@@ -227,11 +277,15 @@ pub fn recover_segments<R: Threads + Sync>(
     ensures accepted { OnOk result (MayReplay queue workers segments.entry.now) }
     ensures refused { MayReplay queue workers segments.entry.now
         → IfErr result (λ e. e ≢ Error.Memory → CannotBeRead segments.entry.now) }
+    ensures place { MayReplay queue workers segments.entry.now
+        → bytes_of_segments segments.entry.now < 2 ^ 63
+        → IfErr result (λ e. e ≢ Error.Memory
+        → StopsAmong IsNothing (parts_within segments.entry.now) e) }
     ensures fault { ¬ (MayReplay queue workers segments.entry.now)
         → IfErr result (λ e. e ≢ Error.Memory → IsInvalidArgument e) }
 {
-    let factory = MemTableRecoverContextFactory::new();
-    let context = replay_segments(rt, alloc, &factory, segments, queue, workers, &OpenGate)?;
+    check_segments(alloc, segments, queue, workers)?;
+    let context = replayed_as(rt, alloc, segments, segments, queue, workers)?;
     context.finish()
 }
 

@@ -3,8 +3,10 @@
 ghost use Rattle.std.specs.Prelude.{◌≡◌, ◌↔◌, ◌<◌, ◌≤◌, ◌++◌, List, IfOk, IfErr, OnOk, length};
 ghost use Rattle.raft_base.specs.declared.pipe_log.LogQueue.{LogQueue};
 ghost use Rattle.raft_history.specs.Batches.{Event};
-ghost use Rattle.raft_replay.specs.Segments.{SegmentsHold, SegmentsAreOf};
-ghost use Rattle.raft_recover.specs.Shares.{parts_within, AreAlike};
+ghost use Rattle.raft_records.specs.FilePart.{Part};
+ghost use Rattle.raft_replay.specs.Cuts.{AreCutInTurn};
+ghost use Rattle.raft_replay.specs.Segments.{SegmentsHold, SegmentsAreOf, parts_within};
+ghost use Rattle.raft_recover.specs.Shares.{AreAlike};
 
 use raft_base::{Error, Result};
 use raft_records::FilePart;
@@ -17,8 +19,8 @@ const PARTS_PER_SHARE: usize = 4;
 
 /// Divides the parts of segments into `count` segments at most, the shares, of about one length each, and of
 /// `least` bytes or more where there are as many: neighboring parts are put together, and a part that is longer
-/// than a share is cut between batches. What is read of the shares is what is read of the segments. No byte is
-/// copied.
+/// than a share is cut between batches. The parts of the shares, one after another, have the bytes of those of the
+/// segments, each at its offset in its file, and what is read of them is the same. No byte is copied.
 ///
 /// # Errors
 ///
@@ -32,6 +34,8 @@ pub fn equal_shares(
     requires { (0 < count) × (0 < least) }
     ensures same { IfOk result (λ shares. (h : List Event) → SegmentsHold segments.entry.now h
         ↔ SegmentsHold shares.items h) }
+    ensures bytes { IfOk result (λ shares. AreCutInTurn (parts_within segments.entry.now)
+        (parts_within shares.items)) }
     ensures of_queue { IfOk result (λ shares. (queue : LogQueue)
         → SegmentsAreOf queue segments.entry.now ↔ SegmentsAreOf queue shares.items) }
     ensures few { IfOk result (λ shares. length shares.items ≤ count) }
@@ -56,6 +60,8 @@ pub(crate) fn bytes_of(segments: &[Segment]) -> usize {
 fn short_parts(alloc: Global, segments: &[Segment], share: usize) -> Result<Vec<FilePart>>
     requires { 0 < share }
     ensures alike { IfOk result (λ parts. AreAlike (parts_within segments.entry.now) parts.items) }
+    ensures cut { IfOk result (λ parts. AreCutInTurn (parts_within segments.entry.now)
+        parts.items) }
     ensures memory { IfErr result (λ e. e ≡ Error.Memory) }
 {
     let mut parts = Vec::new(alloc);
@@ -74,6 +80,8 @@ fn append_short(
 ) -> Result<()>
     requires { 0 < share }
     ensures alike { OnOk result (AreAlike (parts.old.items ++ segment.now.items) parts.new.items) }
+    ensures cut { (these : List Part) → AreCutInTurn these parts.old.items
+        → OnOk result (AreCutInTurn (these ++ segment.now.items) parts.new.items) }
     ensures memory { IfErr result (λ e. e ≡ Error.Memory) }
 {
     for part in segment {

@@ -1,5 +1,6 @@
 pub mod CoverLemmas
 pub mod CutBatchLemmas
+pub mod CutBytesLemmas
 pub mod CutPartLemmas
 pub mod FewRecordLemmas
 pub mod MachineOrderLemmas
@@ -7,6 +8,7 @@ pub mod LiningLemmas
 pub mod MergeLemmas
 pub mod MidwayLemmas
 pub mod SegmentLemmas
+pub mod StopLemmas
 pub mod WalkLemmas
 pub mod Words
 pub mod WrittenPartLemmas

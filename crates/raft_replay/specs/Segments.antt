@@ -24,6 +24,11 @@ abbrev pub EachHolds : {A : Type 0} → (A → List Event → Type 0) → List A
 EachHolds Holds [] h = h ≡ []
 EachHolds Holds (x ∷ xs) h = AreHeldInTurn (Holds x) (λ rest. EachHolds Holds xs rest) h
 
+-- the parts of all segments, in order
+abbrev pub parts_within : List (Vec Part Global) → List Part
+parts_within [] = []
+parts_within (segment ∷ segments) = segment.items ++ parts_within segments
+
 -- the batches of segments: of each those of its parts
 abbrev pub SegmentsHold : List (Vec Part Global) → List Event → Type 0
 SegmentsHold segments h =

@@ -1,12 +1,19 @@
--- Where the replay of a part stopped, and how its refusal says so.
-use Rattle.std.specs.Prelude.{◌≡◌, ℕ, ◌+◌, ◌<◌, List, ◌++◌, length, codes, string_bytes}
+-- Where the replay of parts stopped, and how its refusal says so.
+use Rattle.std.specs.Prelude.{◌≡◌, ◌≢◌, ◌⊎◌, ℕ, ◌+◌, ◌<◌, List, [], ◌∷◌, ◌++◌, length, map, drop, codes, string_bytes}
 use Rattle.std.specs.Fmt.{decimal}
+use Rattle.raft_codec.specs.Reading.{HasNoFront}
+use Rattle.raft_base.specs.Signature.{signature_in}
 use Rattle.raft_base.specs.declared.errors.Error.{Error}
 use Rattle.raft_base.specs.declared.errors.Error.TheVariants as errors
 use Rattle.raft_base.specs.declared.pipe_log.FileId.{FileId}
 use Rattle.raft_base.specs.declared.pipe_log.LogQueue.{LogQueue}
 use Rattle.raft_base.specs.declared.pipe_log.LogQueue.TheVariants.{Append, Rewrite}
-use Rattle.raft_records.specs.FilePart.{Part, AreBatchesUpTo}
+use Rattle.raft_records.specs.FilePart.{Part, IsBatchAt, StandBetween}
+use Rattle.raft_records.specs.Item.{Item}
+use Rattle.raft_records.specs.LogBatch.{IsReadable}
+use Rattle.raft_history.specs.Batches.{Event}
+use Rattle.raft_history.specs.Histories.{IsSmall, Sound}
+use Rattle.raft_replay.specs.Segments.{HoldsFrom, EachHolds}
 
 -- the name of a queue in texts
 abbrev pub queue_text : LogQueue → List ℕ
@@ -23,9 +30,45 @@ abbrev pub IsPlaced : FileId → ℕ → Error → Type 0
 IsPlaced id offset (errors.Corruption text) = (reason : List ℕ) × (string_bytes text ≡ place_text id offset ++ reason)
 IsPlaced id offset e = Unit {0}
 
--- the reading of a part stopped after readable batches and before its end, and the refusal has that place
-pub record StopsIn (part : Part) (e : Error) : Type 0 where
+-- batches of a part, as a history
+abbrev pub history_in : Part → List (List Item) → List Event
+history_in part batches = map (λ items. record { items = items; file = part.id }) batches
+
+-- the histories that are one of these and then this one
+abbrev pub GoneOn : (List Event → Type 0) → List Event → List Event → Type 0
+GoneOn Stood more h = (old : List Event) × Stood old × (h ≡ old ++ more)
+
+-- the history of no batch, which a machine stands for that has replayed none
+abbrev pub IsNothing : List Event → Type 0
+IsNothing h = h ≡ []
+
+-- no batch can be read at this byte of a part
+abbrev pub IsUnreadableAt : Part → ℕ → Type 0
+IsUnreadableAt part at =
+    HasNoFront (λ bytes. IsReadable bytes (signature_in part.version part.id.seq)) (drop at part.bytes)
+
+-- the batch at this byte of a part can't follow what stands before it: after none of these histories it can be read
+pub record CannotFollowAt (Before : List Event → Type 0) (part : Part) (at : ℕ) : Type 0 where
+  pub items : List Item
+  pub next : ℕ
+  pub stands : IsBatchAt part at items next
+  pub unsound : (h : List Event) → IsSmall (h ++ history_in part (items ∷ [])) → Before h → ¬ (Sound (h ++ history_in part (items ∷ [])))
+
+-- the reading of a part, after what a machine stood for, stopped at a byte before its end: the batches in front of it are readable, and, but for want of memory, none is readable there, or the one there can't follow; and the refusal has that place
+pub record StopsIn (Stood : List Event → Type 0) (part : Part) (e : Error) : Type 0 where
   pub at : ℕ
-  pub readable : AreBatchesUpTo part at
+  pub front : List (List Item)
+  pub readable : StandBetween part 0 at front
   pub before_end : at < length part.bytes
+  pub reason : e ≢ errors.Memory → IsUnreadableAt part at ⊎ CannotFollowAt (GoneOn Stood (history_in part front)) part at
   pub placed : IsPlaced part.id (part.offset + at) e
+
+-- the reading of parts, one after another, stopped in one of them: those in front of it are sequences of readable batches
+pub record StopsAmong (Stood : List Event → Type 0) (parts : List Part) (e : Error) : Type 0 where
+  pub before : List Part
+  pub part : Part
+  pub after : List Part
+  pub split : parts ≡ before ++ part ∷ after
+  pub history : List Event
+  pub held : EachHolds (λ part. HoldsFrom part 0) before history
+  pub stops : StopsIn (GoneOn Stood history) part e

@@ -3,7 +3,7 @@
 ghost use Rattle.std.specs.Prelude.{◌≡◌, ◌<◌, ◌≤◌, ℕ, List, [], ◌∷◌, All, IfOk, IfErr, IfSome, length};
 ghost use Rattle.raft_records.specs.FilePart.{HasHeader, Part};
 ghost use Rattle.raft_history.specs.Batches.{Event};
-ghost use Rattle.raft_replay.specs.Cuts.{BatchesMeet, bytes_before, rest_of};
+ghost use Rattle.raft_replay.specs.Cuts.{ArePartsOf, BatchesMeet, bytes_before, rest_of};
 ghost use Rattle.raft_replay.specs.Segments.{AreCutFrom, HoldsFrom};
 
 use raft_base::{Error, Result};
@@ -12,15 +12,16 @@ use std::alloc::Global;
 use std::mem;
 
 /// Cuts a part between batches into at most `count` parts of about one length, one after the other, and at
-/// least into one. What is read of them is what is read of the part, also where it can't be read: a cut lies
-/// where the headers from the front on say that a batch begins, and none after what is no header. No byte is
-/// copied.
+/// least into one. Their bytes, one after another, are those of the part, each at its offset. What is read of them is
+/// what is read of the part, also where it can't be read: a cut lies where the headers from the front on say that a
+/// batch begins, and none after what is no header. No byte is copied.
 ///
 /// # Errors
 ///
 /// `Memory`.
 pub fn cut_part(alloc: Global, part: FilePart, count: usize) -> Result<Vec<FilePart>>
     ensures same { IfOk result (λ parts. AreCutFrom part parts.items) }
+    ensures bytes { IfOk result (λ parts. ArePartsOf part parts.items) }
     ensures file { IfOk result (λ parts. All (λ p. p.id ≡ part.id) parts.items) }
     ensures some { IfOk result (λ parts. 0 < length parts.items) }
     ensures few { 0 < count → IfOk result (λ parts. length parts.items ≤ count) }

@@ -1,19 +1,22 @@
 //! Segments of a queue, and their replay into a machine.
 
-ghost use Rattle.std.specs.Prelude.{◌≡◌, ◌≢◌, ◌+◌, ◌^◌, ◌<◌, Any, List, Vec, length, OnOk, IfErr};
+ghost use Rattle.std.specs.Prelude.{◌≡◌, ◌≢◌, ◌+◌, ◌^◌, ◌<◌, List, Vec, length, IfOk, OnOk, IfErr};
 ghost use Rattle.std.specs.Global.{Global};
+ghost use Rattle.std.specs.IoError.{error_kind};
 ghost use Rattle.raft_records.specs.FilePart.{Part, part_of};
 ghost use Rattle.raft_history.specs.Batches.{Event};
 ghost use Rattle.raft_history.specs.Histories.{IsSmall};
 ghost use Rattle.raft_replay.specs.Replays.{HasReplayed, CannotFollow};
 ghost use Rattle.raft_replay.specs.Segments.{HoldsFrom, EachHolds, SegmentsHold};
-ghost use Rattle.raft_replay.specs.Stops.{queue_text, IsPlaced, StopsIn};
+ghost use Rattle.raft_replay.specs.Stops.{queue_text, IsPlaced, StopsAmong, StopsIn};
 ghost use Rattle.raft_replay.specs.WrittenParts.{bytes_of_segments, WrittenBatchIsHeld};
 
-use raft_base::{Error, FileId, LogFileContext, LogQueue, Result};
+use raft_base::{AllocResult, Error, FileId, LogFileContext, LogQueue, Result};
+use raft_codec::codec;
 use raft_history::ReplayMachine;
 use raft_records::{FilePart, ReadBatch};
 use std::alloc::Global;
+use std::io;
 
 /// Parts of files of a queue, one after the other.
 pub type Segment = Vec<FilePart>;
@@ -23,9 +26,9 @@ pub type Segment = Vec<FilePart>;
 /// # Errors
 ///
 /// `Memory`. Any other comes only where a part isn't a sequence of readable batches, or where the batches after
-/// those that the machine stands for can't be read. The text of a `Corruption` begins with the queue, the file and the
-/// offset of the batch that was refused, as `append file 3, offset 1024: `. How many batches the machine has then
-/// replayed is not known.
+/// those that the machine stands for can't be read. The text of a `Corruption`, `Codec` or `Io` begins with the queue,
+/// the file and the offset of the batch that was refused, as `append file 3, offset 1024: `. How many batches the
+/// machine has then replayed is not known.
 pub fn replay_segment<M: ReplayMachine>(machine: &mut M, segment: &Segment) -> Result<()>
     ensures ok { OnOk result
         (HasReplayed (EachHolds (λ part. HoldsFrom part 0) segment.entry.now.items) M.stands_for
@@ -33,7 +36,7 @@ pub fn replay_segment<M: ReplayMachine>(machine: &mut M, segment: &Segment) -> R
     ensures refused { IfErr result (λ e. e ≢ Error.Memory
         → CannotFollow (EachHolds (λ part. HoldsFrom part 0) segment.entry.now.items)
         (M.stands_for machine.old)) }
-    ensures place { IfErr result (λ e. Any (λ part. StopsIn part e) segment.entry.now.items) }
+    ensures place { IfErr result (StopsAmong (M.stands_for machine.old) segment.entry.now.items) }
 {
     for part in segment {
         replay_part(machine, part)?;
@@ -47,7 +50,7 @@ fn replay_part<M: ReplayMachine>(machine: &mut M, part: &FilePart) -> Result<()>
         machine.old machine.new) }
     ensures refused { IfErr result
         (λ e. e ≢ Error.Memory → CannotFollow (HoldsFrom part.now 0) (M.stands_for machine.old)) }
-    ensures place { IfErr result (StopsIn part.now) }
+    ensures place { IfErr result (StopsIn (M.stands_for machine.old) part.now) }
 {
     let file = LogFileContext::new(part.id(), part.version());
     replay_bytes(
@@ -77,7 +80,8 @@ pub fn replay_bytes<M: ReplayMachine>(
     ensures refused { IfErr result (λ e. e ≢ Error.Memory
         → CannotFollow (HoldsFrom (part_of file.now offset bytes.now) 0)
         (M.stands_for machine.old)) }
-    ensures place { IfErr result (StopsIn (part_of file.now offset bytes.now)) }
+    ensures place { IfErr result (StopsIn (M.stands_for machine.old)
+        (part_of file.now offset bytes.now)) }
 {
     let mut batch = ReadBatch::new(alloc, file.id);
     let mut at = 0;
@@ -95,9 +99,17 @@ pub fn replay_bytes<M: ReplayMachine>(
     }
 }
 
-/// Returns the refusal of a batch: a `Corruption` with the file and the offset in it in front of
-/// its text.
+/// Returns the refusal of a batch with its file and the offset in it in front of the text: of a `Corruption`, and of the
+/// io errors of `Io` and `Codec`, which stay of their kind. Other refusals have no text.
 fn placed(alloc: Global, error: Error, id: FileId, offset: u64) -> Error
+    ensures placed { IsPlaced id offset result }
+    ensures memory { result ≢ Error.Memory → error ≢ Error.Memory }
+{
+    corruption_placed(alloc, spelling_placed(alloc, error, id, offset), id, offset)
+}
+
+/// Returns a `Corruption` with the file and the offset in it in front of its text, any other refusal as it is.
+fn corruption_placed(alloc: Global, error: Error, id: FileId, offset: u64) -> Error
     ensures placed { IsPlaced id offset result }
     ensures memory { result ≢ Error.Memory → error ≢ Error.Memory }
 {
@@ -111,6 +123,32 @@ fn placed(alloc: Global, error: Error, id: FileId, offset: u64) -> Error
         }
         other => other,
     }
+}
+
+/// Returns an `Io` or a `Codec` with the file and the offset in it in front of its text, any other refusal as it is.
+fn spelling_placed(alloc: Global, error: Error, id: FileId, offset: u64) -> Error
+    ensures memory { result ≢ Error.Memory → error ≢ Error.Memory }
+{
+    match error {
+        Error::Io(error) => match io_placed(alloc, error, id, offset) {
+            Ok(error) => Error::Io(error),
+            Err(_) => Error::Memory,
+        },
+        Error::Codec(codec::Error::Io(error)) => match io_placed(alloc, error, id, offset) {
+            Ok(error) => Error::Codec(codec::Error::Io(error)),
+            Err(_) => Error::Memory,
+        },
+        kept => kept,
+    }
+}
+
+/// Returns an io error of the same kind, with the file and the offset in it in front of its text.
+fn io_placed(alloc: Global, error: io::Error, id: FileId, offset: u64) -> AllocResult<io::Error>
+    ensures kind { IfOk result (λ e. error_kind e ≡ error_kind error) }
+{
+    let queue = queue_name(id.queue);
+    let text = format!(in alloc; "{queue} file {}, offset {offset}: {error}", id.seq)?;
+    Ok(io::Error::new(error.kind(), text.as_str()))
 }
 
 /// Returns the name of a queue in texts.

@@ -2,7 +2,7 @@ use Rattle.std.proofs.Common.{◌≡◌, ℕ, List, Vec, ap, ◌∙◌, subst, a
 use Rattle.std.specs.Global.{Global}
 use Rattle.raft_base.specs.declared.pipe_log.FileId.{FileId}
 use Rattle.raft_recover.specs.Files.{whole_file, file_shown}
-use Rattle.raft_recover.proofs.FileLemmas.{AreBegun, AreWhole, file_one_more, files_read, segments_read, segments_are_of, as_many, all_begun}
+use Rattle.raft_recover.proofs.FileLemmas.{AreBegun, AreWhole, file_one_more, files_read, segments_read, segments_are_of, as_many, all_begun, whole_shown}
 use Rattle.raft_recover.proofs.files.file_segments.Goals as goal
 
 pub loop-seq-preserved : goal.loop-seq-preserved
@@ -32,3 +32,6 @@ returns-clause-of_queue c = segments_are_of c.args.queue c.args.version c.loop-s
 
 pub returns-clause-count : goal.returns-clause-count
 returns-clause-count c = as_many c.args.queue c.args.version c.loop-seq.segments.items c.args.files.items (all c)
+
+pub returns-clause-whole : goal.returns-clause-whole
+returns-clause-whole c = whole_shown c.args.queue c.args.version c.loop-seq.segments.items c.args.files.items (all c)

@@ -2,6 +2,7 @@ use Rattle.std.proofs.Common.{◌≡◌, [], ◌∷◌, length, sym, ap, ◌∙�
 use Rattle.std.specs.List.{All}
 use Rattle.std.proofs.lemmas.List.Elements.{All-append, All-from_recursion}
 use Rattle.raft_records.specs.FilePart.{Part}
+use Rattle.raft_replay.proofs.CutBytesLemmas.{parts_more}
 use Rattle.raft_replay.proofs.CutPartLemmas.{cut_again}
 use Rattle.raft_replay.proofs.cutting.cut_part.Goals as goal
 
@@ -16,6 +17,7 @@ loop-alloc-preserved c =
     let before = c.loop-alloc.invariant in
     record {
       read = cut_again c.args.part c.loop-alloc.left front c.replace.new.dest old new c.in-Some.at before.read (omega (arith, c.in-Some.ensures.inside)) c.in-Some.ensures.met front_is rest_is pushed;
+      bytes = parts_more c.args.part c.loop-alloc.left front c.replace.new.dest old new c.in-Some.at before.bytes (omega (arith, c.in-Some.ensures.inside)) front_is rest_is pushed;
       file = subst (All (λ (p : Part). p.id ≡ c.args.part.id)) (sym pushed)
           (All-append (λ (p : Part). p.id ≡ c.args.part.id) old (front ∷ []) before.file
           (All-from_recursion (λ (p : Part). p.id ≡ c.args.part.id) (front ∷ []) (ap (λ (p : Part). p.id) front_is ∙ before.left_file, tt)));

@@ -1,10 +1,12 @@
 use Rattle.std.proofs.Common.{◌≡◌, ◌<◌, ◌-◌, ◌++◌, [], ◌∷◌, All, length}
+use Rattle.raft_replay.specs.Cuts.{ArePartsOf}
 use Rattle.raft_replay.specs.Segments.{AreCutFrom}
 use Rattle.raft_replay.proofs.cutting.cut_part.Given as goal
 
 abbrev pub invariant-loop-alloc : goal.invariant-loop-alloc
 invariant-loop-alloc l = record {
   read : AreCutFrom l.fn.part (l.parts.items ++ l.left ∷ []);
+  bytes : ArePartsOf l.fn.part (l.parts.items ++ l.left ∷ []);
   file : All (λ p. p.id ≡ l.fn.part.id) l.parts.items;
   left_file : l.left.id ≡ l.fn.part.id;
   few : 0 < l.count → length l.parts.items < l.count;

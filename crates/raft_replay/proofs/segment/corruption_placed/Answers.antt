@@ -1,6 +1,6 @@
 use Rattle.std.proofs.Common.{◌≡◌, ℕ, List, ◌++◌, codes, decimal, string_bytes, ap, ◌∙◌, append_assoc}
 use Rattle.raft_replay.specs.Stops.{queue_text}
-use Rattle.raft_replay.proofs.segment.placed.Goals as goal
+use Rattle.raft_replay.proofs.segment.corruption_placed.Goals as goal
 
 -- a reason behind a place
 place_split : (p q a b c d e reason : List ℕ) → p ≡ q → p ++ (a ++ (b ++ (c ++ (d ++ (e ++ reason))))) ≡ (q ++ (a ++ (b ++ (c ++ (d ++ e))))) ++ reason

@@ -9,14 +9,14 @@ use Rattle.raft_records.specs.ItemBatch.{entry_bytes_of}
 use Rattle.raft_records.specs.LogBatch.{Batch, Stage, IsBatchOf, empty_batch, log_batch_bytes, is_open}
 use Rattle.raft_memtable.specs.Accessor.{Accessor}
 use Rattle.raft_recover.specs.Requests.{NumberedBytes}
-use Rattle.raft_log.specs.KeptLog.{KeptLog}
-use Rattle.raft_log.specs.WrittenBatch.{AreBytesAdded, bytes_for, last_file}
-use Rattle.raft_log.proofs.NumberLemmas.{last_is}
+use Rattle.raft_log.specs.KeptLog.{KeptLog, last_bytes}
+use Rattle.raft_log.specs.WrittenBatch.{AreBytesAdded, bytes_for, last_file, placed_behind, placed_last}
+use Rattle.raft_log.proofs.NumberLemmas.{bytes_are, last_is}
 
 -- the file that a log writes to is its last one
-pub last_file_is : (version : Version) (closed : List NumberedBytes) (seq : ℕ) (bytes : List ℕ) (kept : Accessor) (intact complete unmoved : Bool)
-    → record { id = record { queue = Append; seq = seq }; version = version } ≡ last_file (record { version = version; files = closed ++ (seq, bytes) ∷ []; accessor = kept; intact = intact; complete = complete; unmoved = unmoved })
-last_file_is version closed seq bytes kept intact complete unmoved =
+pub last_file_is : (version : Version) (closed : List NumberedBytes) (seq : ℕ) (bytes : List ℕ) (kept : Accessor) (intact : Bool) (taken : List ℕ) (unmoved : Bool)
+    → record { id = record { queue = Append; seq = seq }; version = version } ≡ last_file (record { version = version; files = closed ++ (seq, bytes) ∷ []; accessor = kept; intact = intact; taken = taken; unmoved = unmoved })
+last_file_is version closed seq bytes kept intact taken unmoved =
     ap (λ (n : ℕ). record { id = record { queue = Append; seq = n }; version = version }) (sym (last_is 0 closed (seq, bytes)))
 
 module _ (log : KeptLog) (closed : List NumberedBytes) (seq : ℕ) (old : List ℕ) (batch : Batch) (were : log.files ≡ closed ++ (seq, old) ∷ []) where
@@ -28,6 +28,12 @@ module _ (log : KeptLog) (closed : List NumberedBytes) (seq : ℕ) (old : List �
     were = were;
     are = ap (λ (l : List ℕ). closed ++ (seq, l) ∷ []) (added ∙ ap (λ (f : LogFileContext). old ++ bytes_for f batch) is);
   }
+
+  -- the items of a batch that was put after those bytes
+  pub placed_is : (file : LogFileContext) → file ≡ last_file log → placed_behind file.id old batch ≡ placed_last log batch
+  placed_is file is =
+      ap (λ (f : LogFileContext). placed_behind f.id old batch) is
+      ∙ ap (λ (l : List ℕ). placed_behind (last_file log).id l batch) (sym (ap (last_bytes []) were ∙ bytes_are [] closed (seq, old)))
 
   -- a batch without items has no bytes
   pub no_bytes_put : batch.items ≡ [] → AreBytesAdded (bytes_for (last_file log) batch) log.files log.files

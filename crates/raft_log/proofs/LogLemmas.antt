@@ -106,15 +106,15 @@ module _ (version : Version) (closed : List NumberedBytes) (seq : ℕ) (old new 
 
   module _ (appended : AppendedItemsAreRead) (listed : AppendedItemsAreListed) (read_again : ItemsAreRead) (follow : AppendedItemsFollow) (runs_on : ReadItemsLeaveRuns)
       (sound_on : SoundHistoryGoesOn) (reading_on : ReadingGoesOn)
-      (kept later : Accessor) (applied : AreWritten Appending items kept later) (intact complete unmoved intact' : Bool) where
+      (kept later : Accessor) (applied : AreWritten Appending items kept later) (intact : Bool) (taken : List ℕ) (unmoved intact' : Bool) where
     abbrev log_before : KeptLog
-    log_before = record { version = version; files = before; accessor = kept; intact = intact; complete = complete; unmoved = unmoved }
+    log_before = record { version = version; files = before; accessor = kept; intact = intact; taken = taken; unmoved = unmoved }
 
     abbrev log_after : KeptLog
-    log_after = record { version = version; files = longer; accessor = later; intact = intact'; complete = complete; unmoved = unmoved }
+    log_after = record { version = version; files = longer; accessor = later; intact = intact'; taken = taken; unmoved = unmoved }
 
-    cleaned_more : (taken : List ℕ) → (taken ++ kept.cleaned) ++ cleaned_by_steps Append (steps_of_items items) ≡ taken ++ later.cleaned
-    cleaned_more taken =
+    cleaned_more : (taken ++ kept.cleaned) ++ cleaned_by_steps Append (steps_of_items items) ≡ taken ++ later.cleaned
+    cleaned_more =
         append_assoc taken kept.cleaned (cleaned_by_steps Append (steps_of_items items))
         ∙ ap (λ (l : List ℕ). taken ++ (kept.cleaned ++ l)) (sym (listed items))
         ∙ ap (λ (l : List ℕ). taken ++ l) (sym applied.cleaned)
@@ -128,14 +128,12 @@ module _ (version : Version) (closed : List NumberedBytes) (seq : ℕ) (old new 
         record {
           history = r.history ++ event ∷ [];
           held = files_more r.history r.held;
-          sound = sound_on r.history event r.read on.0 (r.taken ++ kept.cleaned) r.sound r.reading next;
+          sound = sound_on r.history event r.read on.0 (taken ++ kept.cleaned) r.sound r.reading next;
           numbered = subst (λ (n : ℕ). n ≤ last_number 0 longer) (sym (last-append 0 r.history (event ∷ [])))
               (subst (λ (n : ℕ). seq ≤ n) (sym (last_is 0 closed (seq, new))) (omega arith));
-          taken = r.taken;
-          none_taken = r.none_taken;
           read = on.0;
-          reading = subst (λ (l : List ℕ). IsOneReading Append (r.history ++ event ∷ []) on.0 l) (cleaned_more r.taken)
-              (reading_on r.history event r.read on.0 (r.taken ++ kept.cleaned) r.sound r.reading next);
+          reading = subst (λ (l : List ℕ). IsOneReading Append (r.history ++ event ∷ []) on.0 l) cleaned_more
+              (reading_on r.history event r.read on.0 (taken ++ kept.cleaned) r.sound r.reading next);
           runs = runs_on r.read on.0 items r.runs applied.asked on.1;
           moved = on.2;
           unmoved = λ k. some_is (sym (appended kept.tables later.tables items applied.tables) ∙ ap (λ (m : Tables). tables_after Append m (steps_of_items items)) (r.unmoved k) ∙ accepted);
@@ -144,21 +142,19 @@ module _ (version : Version) (closed : List NumberedBytes) (seq : ℕ) (old new 
 -- ---- a log without a batch
 
 pub new_log : AreRuns finite.empty → ((tables : Tables) → AreMovedTables tables tables)
-    → (version : Version) (seq : ℕ) (closed : List NumberedBytes) (bytes : List ℕ) (kept : Accessor) → closed ≡ [] → bytes ≡ [] → kept.tables ≡ finite.empty → kept.cleaned ≡ []
-    → IsReadBack (record { version = version; files = closed ++ (seq, bytes) ∷ []; accessor = kept; intact = true; complete = true; unmoved = true })
+    → (version : Version) (seq : ℕ) (closed : List NumberedBytes) (bytes : List ℕ) (taken : List ℕ) (kept : Accessor) → closed ≡ [] → bytes ≡ [] → taken ≡ [] → kept.tables ≡ finite.empty → kept.cleaned ≡ []
+    → IsReadBack (record { version = version; files = closed ++ (seq, bytes) ∷ []; accessor = kept; intact = true; taken = taken; unmoved = true })
 unfolding effects_behind
-new_log no_runs same version seq closed bytes kept none no_bytes no_tables no_cleaned = record {
+new_log no_runs same version seq closed bytes taken kept none no_bytes none_taken no_tables no_cleaned = record {
   history = [];
   held = subst (λ (l : List NumberedBytes). FilesHold Append version (l ++ (seq, bytes) ∷ []) []) (sym none)
       (each_single (λ (file : NumberedBytes). HoldsFrom (whole_file Append version file) 0) (seq, bytes) [] (sym (ap length no_bytes)));
   sound = record { files = tt; items = tt; markers = tt; accepted = λ r. (None, refl) };
   numbered = omega arith;
-  taken = [];
-  none_taken = λ k. refl;
   read = kept.tables;
   reading = record {
     tables_read = λ r. ap (λ (o : Option Table). Some o) (sym (ap (λ (m : Tables). finite.get m r) no_tables ∙ finite.get-empty nat_cmp r));
-    regions_cleaned = no_cleaned;
+    regions_cleaned = ap (λ (l : List ℕ). l ++ kept.cleaned) none_taken ∙ no_cleaned;
   };
   runs = subst AreRuns (sym no_tables) no_runs;
   moved = same kept.tables;
@@ -167,18 +163,16 @@ new_log no_runs same version seq closed bytes kept none no_bytes no_tables no_cl
 
 -- ---- a log that goes on in a new file, or hands out its cleaned regions
 
-pub rotated : (version : Version) (files : List NumberedBytes) (seq : ℕ) (kept : Accessor) (intact complete unmoved : Bool) → last_number 0 files ≤ seq
-    → IsReadBack (record { version = version; files = files; accessor = kept; intact = intact; complete = complete; unmoved = unmoved })
-    → IsReadBack (record { version = version; files = files ++ (seq, []) ∷ []; accessor = kept; intact = intact; complete = complete; unmoved = unmoved })
-rotated version files seq kept intact complete unmoved above r = record {
+pub rotated : (version : Version) (files : List NumberedBytes) (seq : ℕ) (kept : Accessor) (intact : Bool) (taken : List ℕ) (unmoved : Bool) → last_number 0 files < seq
+    → IsReadBack (record { version = version; files = files; accessor = kept; intact = intact; taken = taken; unmoved = unmoved })
+    → IsReadBack (record { version = version; files = files ++ (seq, []) ∷ []; accessor = kept; intact = intact; taken = taken; unmoved = unmoved })
+rotated version files seq kept intact taken unmoved above r = record {
   history = r.history;
   held = subst (λ (g : List Event). FilesHold Append version (files ++ (seq, []) ∷ []) g) (append-nil r.history)
       (each_join (λ (file : NumberedBytes). HoldsFrom (whole_file Append version file) 0) files ((seq, []) ∷ []) r.history [] r.held
       (each_single (λ (file : NumberedBytes). HoldsFrom (whole_file Append version file) 0) (seq, []) [] refl));
   sound = r.sound;
   numbered = let n = r.numbered in let l = last_is 0 files (seq, []) in omega (arith, n, l, above);
-  taken = r.taken;
-  none_taken = r.none_taken;
   read = r.read;
   reading = r.reading;
   runs = r.runs;
@@ -186,18 +180,16 @@ rotated version files seq kept intact complete unmoved above r = record {
   unmoved = r.unmoved;
 }
 
-pub handed_out : (version : Version) (files : List NumberedBytes) (kept : Accessor) (intact complete unmoved : Bool)
-    → IsReadBack (record { version = version; files = files; accessor = kept; intact = intact; complete = complete; unmoved = unmoved })
-    → IsReadBack (record { version = version; files = files; accessor = record kept { cleaned = [] }; intact = intact; complete = false; unmoved = unmoved })
-handed_out version files kept intact complete unmoved r = record {
+pub handed_out : (version : Version) (files : List NumberedBytes) (kept : Accessor) (intact : Bool) (taken : List ℕ) (unmoved : Bool)
+    → IsReadBack (record { version = version; files = files; accessor = kept; intact = intact; taken = taken; unmoved = unmoved })
+    → IsReadBack (record { version = version; files = files; accessor = record kept { cleaned = [] }; intact = intact; taken = taken ++ kept.cleaned; unmoved = unmoved })
+handed_out version files kept intact taken unmoved r = record {
   history = r.history;
   held = r.held;
   sound = r.sound;
   numbered = r.numbered;
-  taken = r.taken ++ kept.cleaned;
-  none_taken = λ k. absurd (false≢true k);
   read = r.read;
-  reading = subst (λ (l : List ℕ). IsOneReading Append r.history r.read l) (sym (append-nil (r.taken ++ kept.cleaned))) r.reading;
+  reading = subst (λ (l : List ℕ). IsOneReading Append r.history r.read l) (sym (append-nil (taken ++ kept.cleaned))) r.reading;
   runs = r.runs;
   moved = r.moved;
   unmoved = r.unmoved;
@@ -236,10 +228,10 @@ no_lists watermark new_file [] = refl
 no_lists watermark new_file (item ∷ items) = no_lists watermark new_file items
 
 pub moved_on : RewritingMovesPlaces
-    → (version : Version) (files : List NumberedBytes) (watermark : Option ℕ) (new_file : ℕ) (kept later : Accessor) (intact complete unmoved : Bool) → AreSomeWritten (Rewriting watermark new_file) kept later
-    → IsReadBack (record { version = version; files = files; accessor = kept; intact = intact; complete = complete; unmoved = unmoved })
-    → IsReadBack (record { version = version; files = files; accessor = later; intact = intact; complete = complete; unmoved = false })
-moved_on law version files watermark new_file kept later intact complete unmoved some r =
+    → (version : Version) (files : List NumberedBytes) (watermark : Option ℕ) (new_file : ℕ) (kept later : Accessor) (intact : Bool) (taken : List ℕ) (unmoved : Bool) → AreSomeWritten (Rewriting watermark new_file) kept later
+    → IsReadBack (record { version = version; files = files; accessor = kept; intact = intact; taken = taken; unmoved = unmoved })
+    → IsReadBack (record { version = version; files = files; accessor = later; intact = intact; taken = taken; unmoved = false })
+moved_on law version files watermark new_file kept later intact taken unmoved some r =
     let w = some.1 in
     let same : later.cleaned ≡ kept.cleaned = w.cleaned ∙ ap (λ (l : List ℕ). kept.cleaned ++ l) (no_lists watermark new_file some.0) ∙ append-nil kept.cleaned in
     record {
@@ -247,10 +239,8 @@ moved_on law version files watermark new_file kept later intact complete unmoved
       held = r.held;
       sound = r.sound;
       numbered = r.numbered;
-      taken = r.taken;
-      none_taken = r.none_taken;
       read = r.read;
-      reading = subst (λ (l : List ℕ). IsOneReading Append r.history r.read (r.taken ++ l)) (sym same) r.reading;
+      reading = subst (λ (l : List ℕ). IsOneReading Append r.history r.read (taken ++ l)) (sym same) r.reading;
       runs = r.runs;
       moved = law watermark new_file kept.tables r.read later.tables some.0 r.moved r.runs w.asked w.tables;
       unmoved = λ k. absurd (false≢true k);

@@ -18,7 +18,7 @@ use Rattle.raft_recover.specs.Requests.{NumberedBytes}
 use Rattle.raft_recover.specs.Segments.{SegmentsHold, CannotBeRead}
 use Rattle.raft_log.specs.KeptLog.{KeptLog, IsReadBack, NumbersRise}
 use Rattle.raft_log.specs.RoundTrip.{AreCutFromFiles, IsRecoveredAs}
-use Rattle.raft_log.proofs.NumberLemmas.{files_last}
+use Rattle.raft_log.proofs.NumberLemmas.{rising_last}
 
 -- laws, as the calls of them say
 abbrev pub AppendQueueIsApart : Type 0
@@ -70,14 +70,12 @@ pub recovered_log : AppendQueueIsApart → SegmentsHaveOneHistory → FewRecords
 recovered_log apart one few_records same_tables same_cleaned log kept few segments cut counts recovered r =
     let small = few_records Append log.version log.files kept.history kept.held few in
     let read = read_so apart one segments kept.history ((cut kept.history).0 kept.held) small kept.sound recovered r in
-    let all : List ℕ = kept.taken ++ log.accessor.cleaned in
+    let all : List ℕ = log.taken ++ log.accessor.cleaned in
     let tables : recovered.tables ≡ kept.read = same_tables Append kept.history recovered.tables kept.read recovered.cleaned all read kept.reading in
     let same : log.unmoved ≡ true → recovered.tables ≡ log.accessor.tables = λ k. tables ∙ sym (kept.unmoved k) in
     record {
       moved = subst (λ (m : Tables). AreMovedTables log.accessor.tables m) (sym tables) kept.moved;
       tables = same;
-      taken = kept.taken;
-      none_taken = kept.none_taken;
       cleaned = same_cleaned Append kept.history recovered.tables kept.read recovered.cleaned all read kept.reading;
       live_counts = λ k q. r.exact_counts q ∙ ap (live_in_all q) (same k) ∙ sym (counts q);
     }
@@ -104,10 +102,10 @@ module _ (version : Version) (files : List NumberedBytes) (segments : List (Vec 
   refused_of_files cannot = record { unsound = λ h held. cannot.unsound h ((cut h).0 held) }
 
 pub opened_log : AppendQueueIsApart → FewRecords → ReadingLeavesRuns → ((tables : Tables) → AreMovedTables tables tables)
-    → (version : Version) (files : List NumberedBytes) → NumbersRise 0 files → bytes_of_files files < 2 ^ 63
-    → (recovered : Accessor) → IsRecovered Append (FilesHold Append version files) recovered
-    → IsReadBack (record { version = version; files = files; accessor = recovered; intact = true; complete = true; unmoved = true })
-opened_log apart few_records runs same version files rising few recovered r =
+    → (version : Version) (files : List NumberedBytes) → NumbersRise files → bytes_of_files files < 2 ^ 63
+    → (taken : List ℕ) → taken ≡ [] → (recovered : Accessor) → IsRecovered Append (FilesHold Append version files) recovered
+    → IsReadBack (record { version = version; files = files; accessor = recovered; intact = true; taken = taken; unmoved = true })
+opened_log apart few_records runs same version files rising few taken none recovered r =
     let small = few_records Append version files r.history r.held few in
     let sound = r.sound small in
     let one = r.one_reading small (apart r.history sound) in
@@ -115,11 +113,9 @@ opened_log apart few_records runs same version files rising few recovered r =
       history = r.history;
       held = r.held;
       sound = sound;
-      numbered = files_last version files 0 0 r.history (omega arith) rising r.held;
-      taken = [];
-      none_taken = λ k. refl;
+      numbered = rising_last version files r.history rising r.held;
       read = recovered.tables;
-      reading = one;
+      reading = subst (λ (l : List ℕ). IsOneReading Append r.history recovered.tables (l ++ recovered.cleaned)) (sym none) one;
       runs = runs r.history recovered.tables recovered.cleaned sound one;
       moved = same recovered.tables;
       unmoved = λ k. refl;

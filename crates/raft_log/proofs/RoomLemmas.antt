@@ -1,5 +1,5 @@
 -- Why the write of a batch that the tables accept can fail.
-use Rattle.std.proofs.Common.{◌≡◌, ◌≢◌, ◌^◌, ◌≤◌, true, List, [], ◌++◌, Result, Ok, Err, IfErr, inl, refl, sym, ap, ◌∙◌, subst}
+use Rattle.std.proofs.Common.{◌≡◌, ◌≢◌, ℕ, ◌^◌, ◌≤◌, true, List, [], ◌++◌, Result, Ok, Err, IfErr, inl, refl, sym, ap, ◌∙◌, subst}
 use Rattle.raft_base.specs.declared.compression_type.CompressionType.TheVariants as compressions
 use Rattle.raft_base.specs.declared.errors.Error.{Error}
 use Rattle.raft_base.specs.declared.errors.Error.TheVariants as errors
@@ -14,7 +14,7 @@ use Rattle.raft_memtable.specs.AppendChecks.{AreAccepted, AreAcceptedOncePlaced,
 use Rattle.raft_memtable.specs.RegionSteps.{Tables}
 use Rattle.raft_memtable.specs.Writes.{Appending, AreItemsRefused}
 use Rattle.raft_log.specs.KeptLog.{KeptLog}
-use Rattle.raft_log.specs.WrittenBatch.{AreStopped, IsLeft, IsPlaced, IsPutFault, IsRefusal, LacksRoom}
+use Rattle.raft_log.specs.WrittenBatch.{AreStopped, IsLeft, IsPutFault, IsRefusal, LacksRoom, place_behind, placed_behind}
 
 -- a test of items that the tables accept fails for lack of memory alone
 pub test_room : (tables : Tables) (items : List Item) (e : Error) → AreAcceptedOncePlaced tables items → IsAppendCheckFault tables items e → LacksRoom e
@@ -105,7 +105,6 @@ pub none_accepted : (tables : Tables) (items : List Item) → items ≡ [] → A
 none_accepted tables items none = subst (AreAcceptedOncePlaced tables) (sym none) (λ place compression queue. record { asked = tt; after = tables; taken = refl })
 
 -- items that would be accepted wherever they are placed are accepted where they were placed
-pub placed_accepted : (tables : Tables) (file : FileId) (old new : Batch) → file.queue ≡ Append → AreAcceptedOncePlaced tables old.items → IsPlaced file old new → AreAccepted tables new.items
-placed_accepted tables file old new queue once placed =
-    subst (AreAccepted tables) (sym placed.items)
-    (once (entry_place placed.place old.entry_bytes) compressions.None (ap (λ (id : FileId). id.queue) placed.of_file ∙ queue))
+pub placed_accepted : (tables : Tables) (file : FileId) (bytes : List ℕ) (old new : Batch) → file.queue ≡ Append → AreAcceptedOncePlaced tables old.items → new.items ≡ placed_behind file bytes old → AreAccepted tables new.items
+placed_accepted tables file bytes old new queue once placed =
+    subst (AreAccepted tables) (sym placed) (once (entry_place (place_behind file bytes old) old.entry_bytes) compressions.None queue)

@@ -1,7 +1,7 @@
 -- As which log a `Log` is seen, and what it keeps.
 use Rattle.std.specs.Prelude.{◌≡◌, ◌<◌, ◌^◌, true, [], ◌∷◌, ◌++◌, map}
 use Rattle.raft_recover.specs.Files.{bytes_of_files, file_shown}
-use Rattle.raft_log.specs.KeptLog.{KeptLog, IsReadBack}
+use Rattle.raft_log.specs.KeptLog.{KeptLog, IsReadBack, NumbersRise}
 use Rattle.raft_log.specs.declared.log.Log.TheInside.{Inside}
 
 -- the log, the file that is written to last
@@ -11,11 +11,12 @@ log_shown a = record {
   files = map file_shown a.closed.items ++ (a.seq, a.bytes.items) ∷ [];
   accessor = a.accessor;
   intact = a.intact;
-  complete = a.complete;
+  taken = a.taken.items;
   unmoved = a.unmoved;
 }
 
--- while it is intact and its files have fewer than 2^63 bytes, the tables are those that are read back
+-- file numbers rise; while the log is intact and its files have fewer than 2^63 bytes, the tables are those that are read back
 abbrev pub IsKept : Inside → Type 0
 IsKept a =
-    a.intact ≡ true → bytes_of_files (map file_shown a.closed.items ++ (a.seq, a.bytes.items) ∷ []) < 2 ^ 63 → IsReadBack (log_shown a)
+    NumbersRise (map file_shown a.closed.items ++ (a.seq, a.bytes.items) ∷ [])
+    × (a.intact ≡ true → bytes_of_files (map file_shown a.closed.items ++ (a.seq, a.bytes.items) ∷ []) < 2 ^ 63 → IsReadBack (log_shown a))

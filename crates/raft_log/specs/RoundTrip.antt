@@ -19,19 +19,17 @@ use Rattle.raft_log.specs.KeptLog.{KeptLog, NumbersRise}
 abbrev pub AreCutFromFiles : KeptLog → List (Vec Part Global) → Type 0
 AreCutFromFiles log segments = (h : List Event) → FilesHold Append log.version log.files h ↔ SegmentsHold segments h
 
--- the recovered tables are the kept ones, but for places and files that rewritings moved; without a rewriting tables and live counts are the same; so are the cleaned regions, but for those that were handed out, which come first
+-- the recovered tables are the kept ones, but for places and files that rewritings moved; without a rewriting tables and live counts are the same; the recovered cleaned regions are those that were handed out, and then those of the kept list
 pub record IsRecoveredAs (log : KeptLog) (recovered : Accessor) : Type 0 where
   pub moved : AreMovedTables log.accessor.tables recovered.tables
   pub tables : log.unmoved ≡ true → recovered.tables ≡ log.accessor.tables
-  pub taken : List ℕ
-  pub none_taken : log.complete ≡ true → taken ≡ []
-  pub cleaned : recovered.cleaned ≡ taken ++ log.accessor.cleaned
+  pub cleaned : recovered.cleaned ≡ log.taken ++ log.accessor.cleaned
   pub live_counts : log.unmoved ≡ true → (q : LogQueue) → live q recovered.counts ≡ live q log.accessor.counts
 
--- files that may be opened by so many workers: fewer than 2^62 files, with numbers that never go down; 1 to 256 workers
+-- files that may be opened by so many workers: fewer than 2^62 files, each with a number above that of the file before it; 1 to 256 workers
 pub record MayOpen (workers : ℕ) (files : List NumberedBytes) : Type 0 where
   pub few : length files < 2 ^ 62
-  pub rising : NumbersRise 0 files
+  pub rising : NumbersRise files
   pub one_worker : 0 < workers
   pub few_workers : workers ≤ 256
 
@@ -40,6 +38,6 @@ pub record IsOpened (version : Version) (files : List NumberedBytes) (log : Kept
   pub of_version : log.version ≡ version
   pub of_files : log.files ≡ files
   pub intact : log.intact ≡ true
-  pub complete : log.complete ≡ true
+  pub none_taken : log.taken ≡ []
   pub unmoved : log.unmoved ≡ true
   pub recovered : IsRecovered Append (FilesHold Append version files) log.accessor

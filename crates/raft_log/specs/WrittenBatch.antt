@@ -20,7 +20,7 @@ use Rattle.raft_memtable.specs.Writes.{Writing, Appending, AreWritten, AreItemsR
 use Rattle.raft_recover.specs.Files.{FilesHold}
 use Rattle.raft_recover.specs.Requests.{NumberedBytes}
 use Rattle.raft_recover.specs.Segments.{HoldsFrom}
-use Rattle.raft_log.specs.KeptLog.{KeptLog, last_number}
+use Rattle.raft_log.specs.KeptLog.{KeptLog, last_bytes, last_number}
 
 -- the last file of a log
 abbrev pub last_file : KeptLog → LogFileContext
@@ -37,13 +37,23 @@ pub record AreBytesAdded (bytes : List ℕ) (old new : List NumberedBytes) : Typ
   pub were : old ≡ closed ++ last ∷ []
   pub are : new ≡ closed ++ (last.0, last.1 ++ bytes) ∷ []
 
+-- where a batch stands that is put behind these bytes of a file
+abbrev pub place_behind : FileId → List ℕ → Batch → FileBlockHandle
+place_behind file bytes batch = record { id = file; offset = length bytes; len = encoded_length batch.items batch.entry_bytes }
+
+-- its items with their places there
+abbrev pub placed_behind : FileId → List ℕ → Batch → List Item
+placed_behind file bytes batch = map (placed_item (entry_place (place_behind file bytes batch) batch.entry_bytes) compressions.None) batch.items
+
+-- the items of a batch with their places behind the bytes of the last file
+abbrev pub placed_last : KeptLog → Batch → List Item
+placed_last log batch = placed_behind (last_file log).id (last_bytes [] log.files) batch
+
 -- one batch more is written to the last file: the files hold its items, with their places there, after all that they held; these items are written to the tables; nothing else has changed
 pub record IsOneMore (batch : Batch) (old new : KeptLog) : Type 0 where
   pub event : Event
   pub last : event.file ≡ record { queue = Append; seq = last_number 0 old.files }
-  pub place : FileBlockHandle
-  pub of_file : place.id ≡ event.file
-  pub items : event.items ≡ map (placed_item (entry_place place batch.entry_bytes) compressions.None) batch.items
+  pub items : event.items ≡ placed_last old batch
   pub held : (h : List Event) → FilesHold Append old.version old.files h → FilesHold Append new.version new.files (h ++ event ∷ [])
   pub applied : AreWritten Appending event.items old.accessor new.accessor
   pub others : new ≡ record old { files = new.files; accessor = new.accessor }
@@ -81,9 +91,7 @@ pub record AreStopped (w : Writing) (items : List Item) (old new : Accessor) (e 
 -- the bytes of a batch stand in the last file, but of its items, with their places there, one was refused for lack of room, and those in front of it are written to the tables; the log isn't intact any more, and the batch is empty
 pub record IsHalfWritten (old new : KeptLog) (batch left : Batch) (e : Error) : Type 0 where
   pub bytes : AreBytesAdded (bytes_for (last_file old) batch) old.files new.files
-  pub place : FileBlockHandle
-  pub of_file : place.id ≡ (last_file old).id
-  pub stopped : AreStopped Appending (map (placed_item (entry_place place batch.entry_bytes) compressions.None) batch.items) old.accessor new.accessor e
+  pub stopped : AreStopped Appending (placed_last old batch) old.accessor new.accessor e
   pub room : LacksRoom e
   pub others : new ≡ record old { files = new.files; accessor = new.accessor; intact = false }
   pub emptied : left ≡ empty_batch
@@ -109,9 +117,3 @@ abbrev pub IsPutFault : Batch → Error → Type 0
 IsPutFault batch errors.Full = 2 ^ 56 ≤ encoded_length batch.items batch.entry_bytes
 IsPutFault batch errors.Memory = Unit {0}
 IsPutFault batch _ = ⊥
-
--- the items of a batch got their places in this file
-pub record IsPlaced (file : FileId) (old new : Batch) : Type 0 where
-  pub place : FileBlockHandle
-  pub of_file : place.id ≡ file
-  pub items : new.items ≡ map (placed_item (entry_place place old.entry_bytes) compressions.None) old.items

@@ -1,6 +1,7 @@
 //! A log of the append queue, as an engine keeps it.
 
 ghost use Rattle.std.specs.Prelude.{◌≡◌, ◌≢◌, ◌⊎◌, ◌↔◌, ℕ, ◌≤◌, ◌<◌, ◌^◌, List, [], ◌∷◌, ◌++◌, map, true, false, length, IfOk, IfErr, OnOk, OnErr, IsTrue};
+ghost use Rattle.std.specs.FinMap as finite;
 ghost use Rattle.raft_base.specs.declared.pipe_log.LogQueue.TheVariants.{Append};
 ghost use Rattle.raft_base.specs.Errors.{IsInvalidArgument};
 ghost use Rattle.raft_records.specs.Item.{command_item};
@@ -8,12 +9,12 @@ ghost use Rattle.raft_records.specs.declared.command.Command.TheVariants.{Clean}
 ghost use Rattle.raft_records.specs.LogBatch.{is_open, empty_batch};
 ghost use Rattle.raft_memtable.specs.AppendChecks.{AreAccepted, AreAcceptedOncePlaced};
 ghost use Rattle.raft_memtable.specs.Writes.{Appending, Rewriting, AreWritten};
-ghost use Rattle.raft_recover.specs.Files.{FilesCannotBeRead, FilesHold, bytes_of_files, file_shown};
+ghost use Rattle.raft_recover.specs.Files.{AreWholeFiles, FilesCannotBeRead, FilesHold, bytes_of_files, file_shown};
 ghost use Rattle.raft_recover.specs.Recovery.{IsRecovered};
 ghost use Rattle.raft_recover.specs.Segments.{CannotBeRead, MayReplay, SegmentsAreOf, SegmentsHold};
 ghost use Rattle.raft_log.specs.KeptLog.{NumbersRise, last_number};
 ghost use Rattle.raft_log.specs.RoundTrip.{AreCutFromFiles, IsOpened, IsRecoveredAs, MayOpen};
-ghost use Rattle.raft_log.specs.WrittenBatch.{AreBytesAdded, AreSomeWritten, AreStopped, IsHalfWritten, IsLeft, IsOneMore, IsPlaced, IsPutAfter, IsPutFault, IsUnwritten, LacksRoom, bytes_for, last_file};
+ghost use Rattle.raft_log.specs.WrittenBatch.{AreBytesAdded, AreSomeWritten, AreStopped, IsHalfWritten, IsLeft, IsOneMore, IsPutAfter, IsPutFault, IsUnwritten, LacksRoom, bytes_for, last_file, placed_behind};
 
 use raft_memtable::MemTableAccessor;
 use raft_memtable::accessor::accepted_items_lack_room_alone;
@@ -52,8 +53,8 @@ pub struct Log {
     accessor: MemTableAccessor,
     /// Whether every batch whose bytes were written was applied to the tables.
     intact: bool,
-    /// Whether no cleaned regions were handed out.
-    complete: bool,
+    /// The cleaned regions that were handed out, in order.
+    taken: Vec<u64>,
     /// Whether no rewriting was applied.
     unmoved: bool,
 }
@@ -74,7 +75,7 @@ impl Model for Log {
 }
 
 impl Log {
-    /// Makes a log whose first file has no bytes yet.
+    /// Makes a log whose first file has no bytes yet, with no tables.
     ///
     /// # Errors
     ///
@@ -83,13 +84,18 @@ impl Log {
         ensures version { IfOk result (λ log. log.version ≡ version) }
         ensures files { IfOk result (λ log. log.files ≡ (seq, []) ∷ []) }
         ensures intact { IfOk result (λ log. log.intact ≡ true) }
-        ensures complete { IfOk result (λ log. log.complete ≡ true) }
+        ensures none_taken { IfOk result (λ log. log.taken ≡ []) }
         ensures unmoved { IfOk result (λ log. log.unmoved ≡ true) }
+        ensures tables { IfOk result (λ log. log.accessor.tables ≡ finite.empty) }
+        ensures cleaned { IfOk result (λ log. log.accessor.cleaned ≡ []) }
+        ensures counts { IfOk result (λ log. log.accessor.counts
+            ≡ record { append = 0; written = 0; deleted = 0 }) }
         ensures memory { IfErr result (λ e. e ≡ Error.Memory) }
     {
         rewriting_changes_places_alone();
         let closed = Vec::new(alloc);
         let bytes = Vec::new(alloc);
+        let taken = Vec::new(alloc);
         let accessor = MemTableAccessor::new(alloc)?;
         Ok(Log {
             version,
@@ -98,7 +104,7 @@ impl Log {
             bytes,
             accessor,
             intact: true,
-            complete: true,
+            taken,
             unmoved: true,
         })
     }
@@ -109,8 +115,8 @@ impl Log {
     ///
     /// # Errors
     ///
-    /// `InvalidArgument` for 2^62 files and more, for a file number below that of the file before it, and for another
-    /// number of workers. Otherwise what [`recover`] returns: the files can't be read then; or `Memory`.
+    /// `InvalidArgument` for 2^62 files and more, for a file number that isn't above that of the file before it, and for
+    /// another number of workers. Otherwise what [`recover`] returns: the files can't be read then; or `Memory`.
     pub fn open<R: Threads + Sync>(
         rt: &R,
         alloc: Global,
@@ -131,10 +137,14 @@ impl Log {
         files_hold_few_records();
         rewriting_changes_places_alone();
         if !numbers_rise(&files) {
-            return Err(Error::invalid_argument(alloc, "a file number is below the one before it"));
+            return Err(Error::invalid_argument(
+                alloc,
+                "a file number is not above the one before it",
+            ));
         }
         let segments = file_segments(LogQueue::Append, version, copies(&files)?)?;
         let accessor = recover(rt, alloc, segments.as_slice(), LogQueue::Append, workers)?;
+        let taken = Vec::new(alloc);
         let mut closed = files;
         let Some((seq, bytes)) = closed.pop() else {
             unreachable!()
@@ -146,7 +156,7 @@ impl Log {
             bytes,
             accessor,
             intact: true,
-            complete: true,
+            taken,
             unmoved: true,
         })
     }
@@ -163,6 +173,14 @@ impl Log {
         ensures { result ≡ last_number 0 self.now.files }
     {
         self.seq
+    }
+
+    /// States that the number of each file is above that of the file before it, so that a place names bytes of one file.
+    /// This is a law: it computes nothing.
+    pub fn file_numbers_rise(&self)
+        ensures { NumbersRise self.now.files }
+    {
+        let _ = &self.closed;
     }
 
     /// Tests whether every batch whose bytes were written was applied to the tables.
@@ -251,20 +269,28 @@ impl Log {
         rewrite(&mut self.accessor, batch, watermark, new_file)
     }
 
-    /// Goes on in a new file. It asks that its number is not below that of the last one ([`Log::last_seq`]).
+    /// Goes on in a new file. Its number has to be above that of the last one ([`Log::last_seq`]), so that no place names
+    /// bytes of two files.
     ///
     /// # Errors
     ///
-    /// `Memory`. The log is then as it was.
+    /// `InvalidArgument` for another number, `Memory`. The log is then as it was.
     pub fn rotate(&mut self, seq: FileSeq) -> Result<()>
-        requires { last_number 0 self.old.files ≤ seq }
         ensures ok { OnOk result (self.new ≡ record self.old
             { files = self.old.files ++ (seq, []) ∷ [] }) }
+        ensures accepted { OnOk result (last_number 0 self.old.files < seq) }
         ensures err { OnErr result (self.new ≡ self.old) }
-        ensures memory { IfErr result (λ e. e ≡ Error.Memory) }
+        ensures refused { last_number 0 self.old.files < seq
+            → IfErr result (λ e. e ≡ Error.Memory) }
+        ensures fault { ¬ (last_number 0 self.old.files < seq)
+            → IfErr result (λ e. e ≢ Error.Memory → IsInvalidArgument e) }
     {
+        let alloc = *self.closed.allocator();
+        if seq <= self.last_seq() {
+            return Err(Error::invalid_argument(alloc, "a file number is not above the last one"));
+        }
         self.closed.reserve(1)?;
-        let next = Vec::new(*self.closed.allocator());
+        let next = Vec::new(alloc);
         let bytes = mem::replace(&mut self.bytes, next);
         self.closed.push_reserved((self.seq, bytes));
         self.seq = seq;
@@ -272,6 +298,7 @@ impl Log {
     }
 
     /// Hands out the cleaned regions as a batch with a `Clean` for each, in order. They are then listed no more.
+    /// What else takes rewritten records away is not listed: see `MemTableAccessor::take_cleaned_region_logs`.
     ///
     /// # Errors
     ///
@@ -281,24 +308,33 @@ impl Log {
             { items = map (λ id. command_item id Clean) self.old.accessor.cleaned }) }
         ensures ok { OnOk result (self.new ≡ record self.old {
           accessor = record self.old.accessor { cleaned = [] };
-          complete = false;
+          taken = self.old.taken ++ self.old.accessor.cleaned;
         }) }
         ensures err { OnErr result (self.new ≡ self.old) }
         ensures memory { IfErr result (λ e. e ≡ Error.Memory) }
     {
-        let logs = self.accessor.take_cleaned_region_logs()?;
-        self.complete = false;
-        Ok(logs)
+        let taken = self.taken.len();
+        self.taken
+            .extend_from_slice(self.accessor.cleaned_regions())?;
+        match self.accessor.take_cleaned_region_logs() {
+            Ok(logs) => Ok(logs),
+            Err(error) => {
+                self.taken.truncate(taken);
+                Err(error)
+            }
+        }
     }
 
-    /// Returns the files as segments, each of one part: the same is read of them as of the files. Their bytes are copied,
-    /// since a part owns its bytes, and the log goes on with its own.
+    /// Returns the files as segments, each of one part, which has all bytes of its file. These are copied, since a part
+    /// owns its bytes, and the log goes on with its own.
     ///
     /// # Errors
     ///
     /// `Memory`.
     pub fn segments(&self) -> Result<Vec<Segment>>
         ensures cut { IfOk result (λ segments. AreCutFromFiles self.now segments.items) }
+        ensures whole { IfOk result (λ segments. AreWholeFiles Append self.now.version
+            self.now.files segments.items) }
         ensures of_queue { IfOk result (λ segments. SegmentsAreOf Append segments.items) }
         ensures count { IfOk result (λ segments. length segments.items ≡ length self.now.files) }
         ensures memory { IfErr result (λ e. e ≡ Error.Memory) }
@@ -311,7 +347,7 @@ impl Log {
 
     /// Recovers what a restart has: what [`recover`] gives of these segments, which are cut from the files in
     /// whatever way, on 1 to 256 workers. These are the tables, live counts and cleaned regions that an intact log
-    /// keeps, but for places that rewritings moved and for the regions that were handed out.
+    /// keeps, but for what rewritings changed and for the regions that were handed out, which come first.
     ///
     /// # Errors
     ///
@@ -378,13 +414,16 @@ impl Log {
     }
 }
 
-/// Tests whether file numbers never go down.
+/// Tests whether the number of each file is above that of the file before it.
 fn numbers_rise(files: &Vec<(FileSeq, Vec<u8>)>) -> bool
-    ensures { IsTrue result ↔ NumbersRise 0 (map file_shown files.now.items) }
+    ensures { IsTrue result ↔ NumbersRise (map file_shown files.now.items) }
 {
-    let mut last = 0;
-    for (seq, _) in files {
-        if *seq < last {
+    let Some((first, rest)) = files.split_first() else {
+        return true;
+    };
+    let mut last = first.0;
+    for (seq, _) in rest {
+        if *seq <= last {
             return false;
         }
         last = *seq;
@@ -405,7 +444,8 @@ fn put_after(file: &LogFileContext, bytes: &mut Vec<u8>, batch: &mut LogBatch) -
         bytes.new.items) }
     ensures bytes { OnOk result (bytes.new.items
         ≡ bytes.old.items ++ bytes_for file.now batch.old) }
-    ensures placed { OnOk result (IsPlaced file.now.id batch.old batch.new) }
+    ensures placed { OnOk result (batch.new.items
+        ≡ placed_behind file.now.id bytes.old.items batch.old) }
     ensures err { OnErr result (bytes.new.items ≡ bytes.old.items) }
     ensures left { IfErr result (IsLeft file.now batch.old batch.new) }
     ensures room { IfErr result LacksRoom }

@@ -30,11 +30,10 @@ returns-clause-bytes c =
 
 pub returns-clause-placed : goal.returns-clause-placed
 returns-clause-placed c =
-    let place : FileBlockHandle = record { id = c.args.file.now.id; offset = c.len-offset.result; len = c.in_ok-len.len } in
     let before : c.prepare_write.new.self ≡ record c.args.batch.now { stage = sealed (signature_of c.args.file.now) } =
     c.prepare_write.ensures ∙ ap (λ (b : Batch). record b { stage = sealed (signature_of c.args.file.now) }) c.in_ok-len.ensures.ok in
-    record {
-      place = place;
-      of_file = refl;
-      items = ap (λ (b : Batch). b.items) c.finish_write.ensures.placed ∙ ap (λ (b : Batch). map (placed_item (entry_place place b.entry_bytes) compressions.None) b.items) before;
-    }
+    let at : c.len-offset.result ≡ length c.args.bytes.now.items = omega (arith, c.len-offset.ensures) in
+    ap (λ (b : Batch). b.items) c.finish_write.ensures.placed
+    ∙ ap (λ (b : Batch). map (placed_item (entry_place (record { id = c.args.file.now.id; offset = c.len-offset.result; len = c.in_ok-len.len }) b.entry_bytes) compressions.None) b.items) before
+    ∙ ap (λ (n : ℕ). map (placed_item (entry_place (record { id = c.args.file.now.id; offset = n; len = c.in_ok-len.len }) c.args.batch.now.entry_bytes) compressions.None) c.args.batch.now.items) at
+    ∙ ap (λ (n : ℕ). map (placed_item (entry_place (record { id = c.args.file.now.id; offset = length c.args.bytes.now.items; len = n }) c.args.batch.now.entry_bytes) compressions.None) c.args.batch.now.items) c.in_ok-len.ensures.len

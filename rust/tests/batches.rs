@@ -88,6 +88,20 @@ fn what_is_written_is_read_again() {
 }
 
 #[test]
+fn places_are_in_the_queue_that_a_batch_is_written_to() {
+    for queue in [Queue::Append, Queue::Rewrite] {
+        let mut batch = batch();
+        sealed(&mut batch);
+        batch.written(FileId { queue, seq: 3 }, 0).unwrap();
+        let items = batch.into_items().unwrap();
+        let Content::Entries(entries) = items.get(0).unwrap().content else {
+            panic!("the first item has entries");
+        };
+        assert!(entries.iter().all(|e| e.block.file.queue == queue));
+    }
+}
+
+#[test]
 fn a_batch_is_signed_for_one_file_after_another() {
     let mut batch = batch();
     let bytes = sealed(&mut batch);

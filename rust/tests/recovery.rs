@@ -2,9 +2,10 @@
 
 mod common;
 
-use common::{file, files, lines, parts};
+use common::{batch_bytes, file, files, lines, parts, with_group_marker};
 use raft_recover::{
-    Context, ErrorKind, FilePart, LogFile, Queue, Tables, Version, batch_len, recover, recover_both,
+    Context, ErrorKind, FilePart, Kept, LogFile, Queue, Result, Tables, Version, batch_len,
+    recover, recover_both,
 };
 use std::thread;
 
@@ -94,6 +95,63 @@ fn a_context_says_how_much_it_holds() {
 }
 
 #[test]
+fn the_numbers_of_a_context_are_told_apart() {
+    let file = LogFile {
+        queue: Queue::Rewrite,
+        ..file(1)
+    };
+    let records = batch_bytes(file, |batch| {
+        batch.add_entries(7, 1, &["entry"; 9]).unwrap();
+        for key in [b"a", b"b"] {
+            batch.put(7, key, b"value").unwrap();
+        }
+        for key in [b"c", b"d", b"e"] {
+            batch.delete(7, key).unwrap();
+        }
+        for region in 21..25 {
+            batch.clean(region).unwrap();
+        }
+    });
+    // a group that begins here and doesn't end
+    let group = batch_bytes(file, |batch| {
+        batch.put(30, b"__\x02", &[0]).unwrap();
+        for key in [b"a", b"b", b"c", b"d", b"e"] {
+            batch.put(8, key, b"value").unwrap();
+        }
+    });
+    let mut context = Context::new().unwrap();
+    for bytes in [&records, &with_group_marker(group)] {
+        let part = FilePart {
+            file,
+            offset: 0,
+            bytes,
+        };
+        context.replay(part).unwrap();
+    }
+    // marks of five regions and one group; a Clean in the rewrite queue isn't listed
+    let kept = Kept {
+        entries: 9,
+        keys: 2,
+        marks: 6,
+        deleted_keys: 3,
+        cleaned: 0,
+        waiting_items: 5,
+    };
+    assert_eq!(context.kept().unwrap(), kept);
+}
+
+#[test]
+fn each_file_is_read_once_whatever_the_number_of_threads() {
+    let files: Vec<_> = (1..=6)
+        .map(|seq| batch_bytes(file(seq), |batch| batch.clean(10 * seq).unwrap()))
+        .collect();
+    for workers in 0..9 {
+        let tables = recover(&parts(&files), Queue::Append, workers).unwrap();
+        assert_eq!(tables.cleaned(), [10, 20, 30, 40, 50, 60], "{workers}");
+    }
+}
+
+#[test]
 fn a_refusal_has_a_kind_and_a_text_and_empties_the_context() {
     let files = files();
     let mut context = Context::new().unwrap();
@@ -180,6 +238,32 @@ fn an_overlay_asks_for_one_context_of_each_queue() {
         both.finish().unwrap().to_string(),
         Tables::new().unwrap().to_string()
     );
+}
+
+#[test]
+fn an_overlaid_context_serves_kept_and_finish_alone() {
+    let files = files();
+    let whole = parts(&files)[0];
+    let no_bytes = FilePart {
+        bytes: &[],
+        ..whole
+    };
+    let empty = || Context::new().unwrap();
+    let calls: [&dyn Fn(Context) -> Result<()>; 7] = [
+        &|mut both| both.replay(whole),
+        &|mut both| both.replay(no_bytes),
+        &|mut both| both.merge(empty(), Queue::Append),
+        &|mut both| both.merge(empty(), Queue::Rewrite),
+        &|mut both| both.overlay(empty()),
+        &|both| empty().merge(both, Queue::Rewrite),
+        &|both| empty().overlay(both),
+    ];
+    for (i, call) in calls.iter().enumerate() {
+        let mut both = empty();
+        both.overlay(empty()).unwrap();
+        both.kept().unwrap();
+        assert_eq!(call(both).unwrap_err().kind, ErrorKind::Failed, "{i}");
+    }
 }
 
 #[test]

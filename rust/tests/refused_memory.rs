@@ -6,14 +6,20 @@
 
 mod common;
 
-use common::{files, parts};
-use raft_recover::{ErrorKind, Queue, Result, recover};
+use common::{batch_bytes, file, files, parts, run};
+use raft_recover::{
+    Batches, Context, ErrorKind, LogBatch, Queue, Result, Slot, Tables, recover, slot_of,
+};
 use std::alloc::{Layout, alloc, dealloc, realloc};
+use std::sync::Mutex;
 use std::sync::atomic::{AtomicI64, AtomicU64, Ordering::SeqCst};
 
 /// How many requests are granted before one is refused.
 static GRANTED: AtomicI64 = AtomicI64::new(i64::MAX);
 static LIVE: AtomicU64 = AtomicU64::new(0);
+
+/// Which test counts blocks.
+static TURN: Mutex<()> = Mutex::new(());
 
 #[repr(C)]
 struct Tried {
@@ -119,8 +125,72 @@ fn refused_in_turn<T>(
     refused
 }
 
+/// A batch with entries and keys.
+fn batch() -> LogBatch {
+    let mut batch = LogBatch::new().unwrap();
+    batch.add_entries(7, 10, &["one", "three"]).unwrap();
+    batch.put(7, b"key", b"value").unwrap();
+    batch
+}
+
+/// Tables with entries of a region.
+fn tables(queue: Queue) -> Tables {
+    let mut tables = Tables::new().unwrap();
+    tables.append(7, &run(Queue::Append, 1, 1..9)).unwrap();
+    if queue == Queue::Rewrite {
+        let moved = run(queue, 2, 1..9);
+        tables.rewrite(7, &moved, Some(1)).unwrap();
+    }
+    tables
+}
+
+/// Makes batches and items, which are let go at each stage.
+fn batches_and_items() {
+    drop(batch());
+    let mut encoded = batch();
+    encoded.finish().unwrap();
+    drop(encoded);
+    let mut merged = batch();
+    merged.merge(&mut batch()).unwrap();
+    let bytes = batch_bytes(file(1), |more| merged.merge(more).unwrap());
+    assert_eq!(bytes, b"");
+    drop(merged.into_items().unwrap());
+    let bytes = batch_bytes(file(1), |more| more.merge(&mut batch()).unwrap());
+    let part = parts(std::slice::from_ref(&bytes))[0];
+    assert_eq!(Batches::new(part).unwrap().count(), 1);
+    let items = Batches::new(part).unwrap().next().unwrap().unwrap();
+    Tables::new().unwrap().apply_append(items).unwrap();
+}
+
+/// Makes tables, slots and contexts, which are merged.
+fn tables_and_contexts() {
+    let mut older = tables(Queue::Append);
+    older.merge_newer(tables(Queue::Append)).unwrap();
+    let mut rewritten = tables(Queue::Rewrite);
+    rewritten.merge_append(tables(Queue::Append)).unwrap();
+    rewritten.merge_append(tables(Queue::Append)).unwrap_err();
+    older.remove(7, true).unwrap();
+    drop(older.take_cleaned_logs().unwrap());
+    let mut slot = Slot::new(slot_of(7)).unwrap();
+    slot.append(7, &run(Queue::Append, 1, 1..9)).unwrap();
+    let mut both = Context::new().unwrap();
+    both.merge(Context::new().unwrap(), Queue::Rewrite).unwrap();
+    both.overlay(Context::new().unwrap()).unwrap();
+    both.overlay(Context::new().unwrap()).unwrap_err();
+}
+
+#[test]
+fn nothing_is_left_of_what_is_let_go() {
+    let _turn = TURN.lock();
+    for (i, make) in [batches_and_items, tables_and_contexts].iter().enumerate() {
+        make();
+        assert_eq!(LIVE.load(SeqCst), 0, "{i}");
+    }
+}
+
 #[test]
 fn every_request_refused_in_turn() {
+    let _turn = TURN.lock();
     let files = files();
     let parts = parts(&files);
     let recovered = || recover(&parts, Queue::Append, 2);

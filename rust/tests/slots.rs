@@ -109,15 +109,72 @@ fn a_region_of_another_slot_is_refused() {
 #[test]
 fn a_group_marker_changes_no_slot() {
     let mut slot = slot(7);
-    let marker = Item {
-        region: other(7),
-        content: Content::Put {
-            key: b"__\x01".to_vec(),
-            value: vec![0],
-        },
+    let key = b"__\x01".to_vec();
+    let put = Content::Put {
+        key: key.clone(),
+        value: vec![0],
     };
-    slot.write(&marker, APPEND_9).unwrap();
+    for content in [put, Content::Delete { key }] {
+        let marker = Item {
+            region: other(7),
+            content,
+        };
+        slot.write(&marker, APPEND_9).unwrap();
+    }
     assert_eq!(slot.live(Queue::Append), 0);
+}
+
+#[test]
+fn a_clean_that_is_written_is_listed() {
+    let mut slot = slot(7);
+    slot.append(7, &run(Queue::Append, 9, 10..20)).unwrap();
+    let clean = Item {
+        region: 7,
+        content: Content::Clean,
+    };
+    slot.write(&clean, APPEND_9).unwrap();
+    assert_eq!((slot.summary(7), slot.cleaned()), (None, vec![7]));
+}
+
+#[test]
+fn a_slot_keeps_limits_and_gates() {
+    let mut slot = slot(7);
+    let first = FileId { seq: 0, ..APPEND_9 };
+    slot.append(7, &run(Queue::Append, 0, 10..14)).unwrap();
+    slot.put(7, b"a", b"v", first).unwrap();
+    slot.put(7, b"b", b"v", APPEND_9).unwrap();
+    for (limit, count) in [(Some(0), 1), (Some(25), 2), (None, 4)] {
+        let entries = slot.entries(7, 10..14, limit).unwrap();
+        assert_eq!(entries.len(), count, "{limit:?}");
+    }
+    for (gate, count) in [(0, 1), (8, 1), (9, 2)] {
+        let pairs = slot.pairs_before(7, gate).unwrap();
+        assert_eq!(pairs.len(), count, "{gate}");
+    }
+    let moved = run(Queue::Rewrite, 2, 10..12);
+    slot.rewrite(7, &moved, Some(0)).unwrap();
+    slot.rewrite_key(7, b"a", Some(0), 2).unwrap();
+    assert_eq!(slot.rewritten_entries(7).unwrap(), moved);
+    assert_eq!(slot.rewritten_pairs(7).unwrap().len(), 1);
+    for (last, seq) in [(1, 2), (2, 1)] {
+        slot.set_atomic_group(7, 1, last).unwrap();
+        assert_eq!(slot.summary(7).unwrap().rewrite_seq, Some(seq), "{last}");
+    }
+}
+
+#[test]
+fn a_key_is_put_in_the_queue_of_its_file() {
+    let mut slot = slot(7);
+    let rewritten = FileId {
+        queue: Queue::Rewrite,
+        seq: 2,
+    };
+    slot.put(7, b"k", b"v", rewritten).unwrap();
+    assert_eq!(
+        (slot.live(Queue::Append), slot.live(Queue::Rewrite)),
+        (0, 1)
+    );
+    assert_eq!(slot.summary(7).unwrap().rewrite_seq, Some(2));
 }
 
 #[test]

@@ -2,10 +2,10 @@
 
 mod common;
 
-use common::{entry, files, lines, parts, run};
+use common::{entry, file, files, lines, parts, run};
 use raft_recover::{
-    Batches, Content, ErrorKind, FileId, FilePart, Queue, Summary, Tables, crc32, readable_front,
-    recover,
+    Batches, Content, ErrorKind, FileId, FilePart, LogBatch, LogFile, Pair, Queue, Summary, Tables,
+    crc32, readable_front, recover,
 };
 
 const APPEND_9: FileId = FileId {
@@ -112,14 +112,101 @@ fn places_are_rewritten_up_to_the_gate() {
 }
 
 #[test]
+fn a_gate_or_a_limit_of_0_is_not_none() {
+    let mut tables = Tables::new().unwrap();
+    let first = FileId { seq: 0, ..APPEND_9 };
+    tables.append(7, &run(Queue::Append, 0, 10..14)).unwrap();
+    tables.put(7, b"k", b"v", first).unwrap();
+    // the first entry is returned whatever its length
+    assert_eq!(tables.entries(7, 10..14, Some(0)).unwrap().len(), 1);
+    let moved = run(Queue::Rewrite, 2, 10..12);
+    tables.rewrite(7, &moved, Some(0)).unwrap();
+    tables.rewrite_key(7, b"k", Some(0), 2).unwrap();
+    assert_eq!(tables.rewritten_entries(7).unwrap(), moved);
+    assert_eq!(
+        (tables.live(Queue::Append), tables.live(Queue::Rewrite)),
+        (2, 3)
+    );
+}
+
+#[test]
+fn keys_are_listed_up_to_a_gate() {
+    let mut tables = Tables::new().unwrap();
+    let places = [
+        (b"a", Queue::Append, 3),
+        (b"b", Queue::Append, 5),
+        (b"c", Queue::Rewrite, 2),
+    ];
+    for (key, queue, seq) in places {
+        tables.put(7, key, b"v", FileId { queue, seq }).unwrap();
+    }
+    let pairs = places.map(|(key, ..)| Pair {
+        key: key.to_vec(),
+        value: b"v".to_vec(),
+    });
+    for (gate, count) in [(0, 0), (2, 0), (3, 1), (4, 1), (5, 2), (u64::MAX, 2)] {
+        let before = tables.pairs_before(7, gate).unwrap();
+        assert_eq!(before, pairs[..count], "{gate}");
+    }
+    assert_eq!(tables.rewritten_pairs(7).unwrap(), pairs[2..]);
+    assert_eq!(tables.pairs(7).unwrap(), pairs);
+    let summary = tables.summary(7).unwrap();
+    assert_eq!(
+        (summary.append_seq, summary.rewrite_seq),
+        (Some(3), Some(2))
+    );
+}
+
+#[test]
+fn a_rewritten_batch_moves_what_is_in_files_up_to_the_gate() {
+    let mut tables = Tables::new().unwrap();
+    tables.append(7, &run(Queue::Append, 9, 10..12)).unwrap();
+    tables.append(7, &run(Queue::Append, 10, 12..13)).unwrap();
+    tables.put(7, b"k", b"v", APPEND_9).unwrap();
+    let rewritten = FileId {
+        queue: Queue::Rewrite,
+        seq: 2,
+    };
+    let mut batch = LogBatch::new().unwrap();
+    batch
+        .add_entries(7, 10, &["one", "three", "eleven"])
+        .unwrap();
+    batch.put(7, b"k", b"v").unwrap();
+    batch.finish().unwrap();
+    let queue = rewritten.queue;
+    batch.sign(LogFile { queue, ..file(2) }).unwrap();
+    batch.written(rewritten, 0).unwrap();
+    let items = batch.into_items().unwrap();
+    tables.apply_rewrite(items, Some(9), 2).unwrap();
+    let moved = tables.rewritten_entries(7).unwrap();
+    let places = moved.iter().map(|e| (e.index, e.block.file, e.len));
+    assert_eq!(
+        places.collect::<Vec<_>>(),
+        [(10, rewritten, 3), (11, rewritten, 5)]
+    );
+    let summary = tables.summary(7).unwrap();
+    assert_eq!(
+        (summary.append_seq, summary.rewrite_seq),
+        (Some(10), Some(2))
+    );
+    assert_eq!(
+        (tables.live(Queue::Append), tables.live(Queue::Rewrite)),
+        (1, 3)
+    );
+}
+
+#[test]
 fn the_least_rewritten_file_is_that_of_the_atomic_group() {
     let mut tables = Tables::new().unwrap();
     tables.append(7, &run(Queue::Append, 9, 10..12)).unwrap();
     tables
         .rewrite(7, &run(Queue::Rewrite, 5, 10..12), Some(9))
         .unwrap();
-    tables.set_atomic_group(7, 3, 5).unwrap();
-    assert_eq!(tables.summary(7).unwrap().rewrite_seq, Some(3));
+    // a group may be in one file alone, and counts where the least file isn't behind it
+    for (start, end, least) in [(4, 4, 5), (3, 5, 3)] {
+        tables.set_atomic_group(7, start, end).unwrap();
+        assert_eq!(tables.summary(7).unwrap().rewrite_seq, Some(least));
+    }
     let e = tables.set_atomic_group(7, 6, 5).unwrap_err();
     assert_eq!(e.kind, ErrorKind::InvalidArgument);
 }
@@ -154,6 +241,47 @@ fn tables_are_merged() {
     let e = older.merge_newer(hole).unwrap_err();
     assert_eq!(e.kind, ErrorKind::Corruption, "{e}");
     assert_eq!(older.summary(7).unwrap().entries, 7);
+}
+
+/// Tables that have these runs in file 1 of the append queue, all of them rewritten to file 2, and a key.
+fn rewritten(runs: &[(u64, std::ops::Range<u64>)]) -> Tables {
+    let mut tables = Tables::new().unwrap();
+    for (region, range) in runs {
+        let old = run(Queue::Append, 1, range.clone());
+        tables.append(*region, &old).unwrap();
+        let moved = run(Queue::Rewrite, 2, range.clone());
+        tables.rewrite(*region, &moved, Some(1)).unwrap();
+    }
+    let file = FileId {
+        queue: Queue::Rewrite,
+        seq: 2,
+    };
+    tables.put(7, b"k", b"old", file).unwrap();
+    tables
+}
+
+#[test]
+fn appended_tables_are_merged_into_rewritten_ones() {
+    let mut tables = rewritten(&[(6, 1..3), (7, 10..14), (8, 1..3)]);
+    let mut appended = Tables::new().unwrap();
+    for (region, range) in [(5, 1..2), (6, 9..11), (7, 12..16)] {
+        let new = run(Queue::Append, 9, range);
+        appended.append(region, &new).unwrap();
+    }
+    appended.put(7, b"k", b"new", APPEND_9).unwrap();
+    tables.merge_append(appended).unwrap();
+    // behind a hole nothing of the rewritten entries stays
+    assert_eq!(
+        tables.to_string(),
+        "5 entries 1..2 keys 0 append 9 rewrite -\n\
+         6 entries 9..11 keys 0 append 9 rewrite -\n\
+         7 entries 10..16 keys 1 append 9 rewrite 2\n\
+         8 entries 1..3 keys 0 append - rewrite 2\n\
+         cleaned -\nlive 8 4\n"
+    );
+    assert_eq!(tables.value(7, b"k").unwrap(), b"new");
+    let e = tables.merge_append(rewritten(&[])).unwrap_err();
+    assert_eq!(e.kind, ErrorKind::InvalidArgument, "{e}");
 }
 
 #[test]

@@ -38,10 +38,6 @@ code_of (errors.Other text) = 10
 code_of errors.Memory = 11
 code_of errors.Failed = 12
 
--- the number of an error
-abbrev pub IsErrorCode : ℕ → Type 0
-IsErrorCode code = (e : Error) × (code ≡ code_of e)
-
 -- the number of an error that has this reason
 abbrev pub IsCodeOf : (Error → Type 0) → ℕ → Type 0
 IsCodeOf IsFault code = (e : Error) × IsFault e × (code ≡ code_of e)

@@ -1,6 +1,6 @@
 //! Calls of contexts, which rebuild the tables from log files.
 
-ghost use Rattle.std.specs.Prelude.{◌≡◌, ◌≢◌, ◌+◌, ◌^◌, ◌<◌, ◌++◌, [], List, IsTrue, IfOk, IfErr, OnOk, OnErr, Some, None, is_some, length};
+ghost use Rattle.std.specs.Prelude.{◌≡◌, ◌≢◌, ◌⊎◌, ◌+◌, ◌^◌, ◌<◌, ◌++◌, [], List, IsTrue, IfOk, IfErr, OnOk, OnErr, Some, None, is_some, length};
 ghost use Rattle.raft_history.specs.Batches.{Event};
 ghost use Rattle.raft_history.specs.BothQueues.{IsReadingOfBoth};
 ghost use Rattle.raft_history.specs.Histories.{IsSmall, Sound, Apart, IsOfQueue};
@@ -8,25 +8,24 @@ ghost use Rattle.raft_history.specs.Kept.{kept_of};
 ghost use Rattle.raft_accessor.specs.Accessor.{Accessor, AreCountsOf};
 ghost use Rattle.raft_contexts.specs.KeptShown.{kept_shown};
 ghost use Rattle.raft_contexts.specs.OverlaidContext.{IsOverlaidWith, IsOfBothExactly, IsMergeAppendFault};
-ghost use Rattle.raft_contexts.specs.RecoverContext.{RecoverContext, blank_context, HasRead, HasReadExactly};
-ghost use Rattle.raft_contexts.specs.declared.context_stage.ContextStage.TheVariants.{Failed};
+ghost use Rattle.raft_contexts.specs.RecoverContext.{RecoverContext, blank_context, HasRead, HasReadExactly, IsMergedWith, IsNeighborFault};
+ghost use Rattle.raft_contexts.specs.declared.context_stage.ContextStage.TheVariants.{Failed, Reading};
 ghost use Rattle.raft_records.specs.FilePart.{part_of};
 ghost use Rattle.raft_replay.specs.Replays.{HasReplayed, CannotFollow};
 ghost use Rattle.raft_replay.specs.Segments.{HoldsFrom};
 ghost use Rattle.raft_replay.specs.Stops.{StopsIn};
-ghost use Rattle.raft_ffi.specs.Calls.{queue_of, file_of, IsErrorCode, IsCodeOf, Holds, BothHold};
+ghost use Rattle.raft_ffi.specs.Calls.{queue_of, file_of, IsCodeOf, Holds, BothHold};
 ghost use Rattle.raft_ffi.specs.Changes.{IsMemoryOr};
 ghost use Rattle.raft_ffi.specs.Contexts.{HasTablesRead, IsOverlaidExactly};
 ghost use Rattle.raft_ffi.specs.KeptNumbers.{capped, AreKept};
-ghost use Rattle.raft_ffi.specs.Rooms.{HasText};
+ghost use Rattle.raft_ffi.specs.Rooms.{HasText, IsRefusedFor};
 
 use crate::context::Context;
 use crate::status::{File, Status, answered, queue};
 use crate::tables::Tables;
 use raft_accessor::MemTableAccessor;
-use raft_base::{Error, LogQueue, Result};
+use raft_base::{Error, LogFileContext, LogQueue, Result};
 use raft_contexts::{Kept, MemTableRecoverContext};
-use raft_history::ReplayMachine;
 use raft_replay::replay_bytes;
 use std::alloc::Global;
 
@@ -86,21 +85,49 @@ pub extern "C" fn raft_ffi_context_replay(
     ensures ok { result.code ≡ 0 → BothHold
         (HasReplayed (HoldsFrom (part_of (file_of file) offset bytes.now) 0) HasRead HasReadExactly)
         context.old.value context.new.value }
+    ensures accepted { result.code ≡ 0 → Holds (λ c. c.stage ≡ Reading) context.old.value }
+    ensures failed { result.code ≢ 0 → Holds (λ c. c.stage ≢ Reading → result.code ≡ 12)
+        context.old.value }
     ensures err { result.code ≢ 0 → context.new.value ≡ None }
     ensures refused { result.code ≢ 0 → result.code ≢ 11 → Holds
         (λ old. CannotFollow (HoldsFrom (part_of (file_of file) offset bytes.now) 0) (HasRead old))
         context.old.value }
-    ensures place { result.code ≢ 0
-        → IsCodeOf (StopsIn (part_of (file_of file) offset bytes.now)) result.code }
+    ensures place { result.code ≢ 0 → Holds (λ c. c.stage ≡ Reading
+        → IsRefusedFor (StopsIn (HasRead c) (part_of (file_of file) offset bytes.now))
+        result text.old text.new) context.old.value }
     ensures text { HasText result text.old text.new }
 {
     let mut held = context.take(alloc);
-    let answer = replay_bytes(&mut *held, alloc, &file.context(), offset, bytes);
+    let answer = replay(&mut *held, alloc, &file.context(), offset, bytes);
     match &answer {
         Ok(()) => context.put(held),
         Err(_) => drop(held),
     }
     answered(alloc, &answer, text)
+}
+
+/// Replays the batches of bytes. A context that doesn't read on refuses, also where they hold none.
+fn replay(
+    context: &mut MemTableRecoverContext,
+    alloc: Global,
+    file: &LogFileContext,
+    offset: u64,
+    bytes: &[u8],
+) -> Result<()>
+    requires ends { offset + length bytes.now < 2 ^ 64 }
+    ensures ok { OnOk result (HasReplayed (HoldsFrom (part_of file.now offset bytes.now) 0)
+        HasRead HasReadExactly context.old context.new) }
+    ensures accepted { OnOk result (context.old.stage ≡ Reading) }
+    ensures failed { context.old.stage ≢ Reading → IfErr result (λ e. e ≡ Error.Failed) }
+    ensures refused { IfErr result (λ e. e ≢ Error.Memory
+        → CannotFollow (HoldsFrom (part_of file.now offset bytes.now) 0) (HasRead context.old)) }
+    ensures place { context.old.stage ≡ Reading
+        → IfErr result (StopsIn (HasRead context.old) (part_of file.now offset bytes.now)) }
+{
+    if !context.reads_on() {
+        return Err(Error::Failed);
+    }
+    replay_bytes(context, alloc, file, offset, bytes)
 }
 
 /// Takes in the context of the batches that follow. That one is gone then, and where it is refused both
@@ -115,6 +142,9 @@ pub extern "C" fn raft_ffi_context_merge(
 ) -> Status
     requires held { IsTrue (is_some context.old.value) }
     requires newer { IsTrue (is_some newer.value) }
+    ensures ok { result.code ≡ 0 → BothHold (λ old new. Holds
+        (λ rhs. IsMergedWith (queue_of is_rewrite) rhs old new) newer.value)
+        context.old.value context.new.value }
     ensures stands { result.code ≡ 0 → BothHold (λ old new. Holds (λ rhs. (h g : List Event)
         → IsSmall (h ++ g) → HasRead old h → HasRead rhs g → HasRead new (h ++ g)) newer.value)
         context.old.value context.new.value }
@@ -125,12 +155,16 @@ pub extern "C" fn raft_ffi_context_merge(
     ensures refused { result.code ≢ 0 → result.code ≢ 11 → BothHold (λ old rhs. (h g : List Event)
         → IsSmall (h ++ g) → IsOfQueue (queue_of is_rewrite) (h ++ g) → HasRead old h
         → HasRead rhs g → ¬ (Sound (h ++ g))) context.old.value newer.value }
-    ensures fault { result.code ≢ 0 → IsErrorCode result.code }
+    ensures fault { result.code ≢ 0 → BothHold
+        (λ old rhs. IsCodeOf (IsNeighborFault (queue_of is_rewrite) old rhs) result.code)
+        context.old.value newer.value }
+    ensures failed { result.code ≢ 0 → BothHold (λ old rhs. (old.stage ≢ Reading) ⊎ (rhs.stage ≢ Reading)
+        → result.code ≡ 12) context.old.value newer.value }
     ensures text { HasText result text.old text.new }
 {
     let mut held = context.take(alloc);
     let newer = Box::into_inner(newer.into_box());
-    let answer = merge_machines(&mut *held, newer, queue(is_rewrite));
+    let answer = merge(&mut *held, newer, queue(is_rewrite));
     match &answer {
         Ok(()) => context.put(held),
         Err(_) => drop(held),
@@ -138,18 +172,26 @@ pub extern "C" fn raft_ffi_context_merge(
     answered(alloc, &answer, text)
 }
 
-/// Takes in the machine of the batches that follow.
-fn merge_machines<M: ReplayMachine>(machine: &mut M, newer: M, queue: LogQueue) -> Result<()>
-    ensures stands { (h g : List Event) → IsSmall (h ++ g) → M.stands_for machine.old h
-        → M.stands_for newer g → OnOk result (M.stands_for machine.new (h ++ g)) }
+/// Takes in the context of the batches that follow.
+fn merge(
+    context: &mut MemTableRecoverContext,
+    newer: MemTableRecoverContext,
+    queue: LogQueue,
+) -> Result<()>
+    ensures ok { OnOk result (IsMergedWith queue newer context.old context.new) }
+    ensures stands { (h g : List Event) → IsSmall (h ++ g) → HasRead context.old h
+        → HasRead newer g → OnOk result (HasRead context.new (h ++ g)) }
     ensures exact { (h g : List Event) → IsSmall (h ++ g) → Apart (h ++ g)
-        → M.stands_exactly machine.old h → M.stands_exactly newer g
-        → OnOk result (M.stands_exactly machine.new (h ++ g)) }
+        → HasReadExactly context.old h → HasReadExactly newer g
+        → OnOk result (HasReadExactly context.new (h ++ g)) }
     ensures refused { IfErr result (λ e. e ≢ Error.Memory → (h g : List Event)
-        → IsSmall (h ++ g) → IsOfQueue queue (h ++ g) → M.stands_for machine.old h
-        → M.stands_for newer g → ¬ (Sound (h ++ g))) }
+        → IsSmall (h ++ g) → IsOfQueue queue (h ++ g) → HasRead context.old h
+        → HasRead newer g → ¬ (Sound (h ++ g))) }
+    ensures fault { IfErr result (IsNeighborFault queue context.old newer) }
+    ensures failed { (context.old.stage ≢ Reading) ⊎ (newer.stage ≢ Reading)
+        → IfErr result (λ e. e ≡ Error.Failed) }
 {
-    machine.merge(newer, queue)
+    context.merge(newer, queue)
 }
 
 /// Takes in the context of the append queue; the other one is that of the rewrite queue. That one is gone
@@ -171,6 +213,8 @@ pub extern "C" fn raft_ffi_context_overlay(
     ensures fault { result.code ≢ 0 → BothHold
         (λ old rhs. IsCodeOf (IsMergeAppendFault old rhs) result.code) context.old.value
         append.value }
+    ensures failed { result.code ≢ 0 → BothHold (λ old rhs. (old.stage ≢ Reading) ⊎ (rhs.stage ≢ Reading)
+        → result.code ≡ 12) context.old.value append.value }
     ensures text { HasText result text.old text.new }
 {
     let mut held = context.take(alloc);
@@ -188,6 +232,8 @@ fn overlay(context: &mut MemTableRecoverContext, append: MemTableRecoverContext)
     ensures ok { OnOk result (IsOverlaidWith append context.old context.new) }
     ensures exact { OnOk result (IsOverlaidExactly append context.old context.new) }
     ensures fault { IfErr result (IsMergeAppendFault context.old append) }
+    ensures failed { (context.old.stage ≢ Reading) ⊎ (append.stage ≢ Reading)
+        → IfErr result (λ e. e ≡ Error.Failed) }
 {
     context.merge_append_context(append)
 }

@@ -2,7 +2,7 @@
 
 ghost use Rattle.std.specs.Prelude.{◌≡◌, OnOk, OnErr, IfErr};
 ghost use Rattle.raft_ffi.specs.Calls.{code_of, queue_of, file_of};
-ghost use Rattle.raft_ffi.specs.Rooms.{IsTextIn, HasText};
+ghost use Rattle.raft_ffi.specs.Rooms.{IsTextIn, IsTextOf, HasText};
 ghost use Rattle.raft_ffi.specs.Summaries.{number_in};
 
 use crate::rooms::copy_front;
@@ -147,6 +147,7 @@ pub(crate) fn answered(alloc: Global, answer: &Result<()>, text: &mut [u8]) -> S
     ensures ok { OnOk answer.now (result.code ≡ 0) }
     ensures err { IfErr answer.now (λ e. result.code ≡ code_of e) }
     ensures text { HasText result text.old text.new }
+    ensures told { IfErr answer.now (λ e. IsTextOf e text.old text.new result.text_len) }
 {
     match answer {
         Ok(()) => Status {
@@ -162,9 +163,14 @@ pub(crate) fn answered(alloc: Global, answer: &Result<()>, text: &mut [u8]) -> S
 
 /// Writes the text of an error as far as there is room, and returns how many bytes it has.
 fn write_text(alloc: Global, e: &Error, text: &mut [u8]) -> usize
-    ensures { IsTextIn text.old text.new result }
+    ensures some { IsTextIn text.old text.new result }
+    ensures told { IsTextOf e.now text.old text.new result }
 {
-    match format!(in alloc; "{e}") {
+    let words = match e {
+        Error::Corruption(reason) => format!(in alloc; "Corruption: {reason}"),
+        _ => format!(in alloc; "{e}"),
+    };
+    match words {
         Ok(words) => copy_front(words.as_bytes(), text),
         Err(_) => 0,
     }

@@ -2,7 +2,7 @@
 
 #![allow(dead_code)]
 
-use raft_recover::{Block, Entry, FileId, FilePart, LogFile, Queue, Version};
+use raft_recover::{Block, Entry, FileId, FilePart, LogBatch, LogFile, Queue, Version, crc32};
 use std::fs;
 use std::path::Path;
 
@@ -70,4 +70,28 @@ pub fn entry(queue: Queue, seq: u64, index: u64) -> Entry {
 /// Consecutive entries in one block of a file.
 pub fn run(queue: Queue, seq: u64, indexes: std::ops::Range<u64>) -> Vec<Entry> {
     indexes.map(|index| entry(queue, seq, index)).collect()
+}
+
+/// The bytes of a batch with these items, signed for a file.
+pub fn batch_bytes(file: LogFile, add: impl FnOnce(&mut LogBatch)) -> Vec<u8> {
+    let mut batch = LogBatch::new().unwrap();
+    add(&mut batch);
+    batch.finish().unwrap();
+    batch.sign(file).unwrap();
+    batch.bytes().unwrap()
+}
+
+/// The bytes of a batch with the key of the group markers, `__\x01`, in place of `__\x02`. Its last four bytes are the CRC-32
+/// of its items, combined with the signature by xor, so they change by what that of the items changes.
+pub fn with_group_marker(mut bytes: Vec<u8>) -> Vec<u8> {
+    let items = u64::from_be_bytes(bytes[8..16].try_into().unwrap()) as usize;
+    let end = bytes.len() - 4;
+    let before = crc32(&bytes[items..end]);
+    let key = bytes.windows(3).position(|key| key == b"__\x02").unwrap();
+    bytes[key + 2] = 1;
+    let change = before ^ crc32(&bytes[items..end]);
+    for (byte, change) in bytes[end..].iter_mut().zip(change.to_le_bytes()) {
+        *byte ^= change;
+    }
+    bytes
 }

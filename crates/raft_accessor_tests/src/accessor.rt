@@ -1,8 +1,9 @@
 //! Calls of an accessor answer, count and leave what their rows say. A region has the slot that raft-engine gives it.
 
-use crate::calls::call_core;
-use crate::items::answered;
+use crate::calls::{Call, call_core, tables_of};
+use crate::items::{Item, answered};
 use crate::rows::{Outline, Row, lists};
+use crate::seen::taken_of;
 use raft_memtable::{Error, LogQueue, MemTable, MemTableAccessor, Result, slot_of};
 use std::alloc::Global;
 
@@ -51,6 +52,30 @@ fn each_call_changes_tables_and_is_counted(rt: HostRuntime) {
         kept = are_kept(rt.alloc());
     }
     assert!(rt; matches!(kept, Ok(true)));
+}
+
+/// Cleans of three regions, one of them twice.
+const CLEANED: &[Call] = &[Call::Replay(
+    LogQueue::Append,
+    &[Item::Clean(3), Item::Clean(5), Item::Clean(3)],
+)];
+
+/// Tests whether cleaned regions are handed out in order, a `Clean` for each, and once.
+fn are_handed_out(alloc: Global) -> Result<bool> {
+    let mut core = tables_of(alloc, CLEANED)?;
+    let listed = core.cleaned_regions() == [3, 5, 3].as_slice();
+    let first = taken_of(alloc, &mut core)?;
+    let second = taken_of(alloc, &mut core)?;
+    Ok(listed && first.as_slice() == [3, 5, 3].as_slice() && second.is_empty())
+}
+
+#[test]
+fn cleaned_regions_are_handed_out(rt: HostRuntime) {
+    let mut all = are_handed_out(rt.alloc());
+    if matches!(all, Err(Error::Memory)) {
+        all = are_handed_out(rt.alloc());
+    }
+    assert!(rt; matches!(all, Ok(true)));
 }
 
 /// Tests that the numbers are those that raft-engine gives.

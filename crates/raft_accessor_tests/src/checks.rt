@@ -1,8 +1,9 @@
 //! New items that are tested before they have places.
 
 use crate::calls::{Call, tables_of};
-use crate::items::{Item, NEW, items};
+use crate::items::{Item, NEW, items, unplaced};
 use raft_memtable::{Error, MemTableAccessor, Result, slot_of};
+use raft_records::LogItem;
 use raft_recover::Slot;
 use std::alloc::Global;
 
@@ -121,4 +122,56 @@ fn new_items_are_tested_before_they_are_written(rt: HostRuntime) {
         checked = are_checked(rt.alloc());
     }
     assert!(rt; matches!(checked, Ok(true)));
+}
+
+/// Returns 300 items of one entry each, in regions from 1 on with the index 10, or all in region 1 from the index 1 on;
+/// and behind them one of region 1 with this index.
+fn many_items(alloc: Global, is_apart: bool, last: u64) -> Result<Vec<LogItem>> {
+    let mut items = Vec::new(alloc);
+    for number in 1..=300 {
+        let (region, index) = if is_apart { (number, 10) } else { (1, number) };
+        items.push(LogItem::new_entry_indexes(region, unplaced(alloc, &[index])?))?;
+    }
+    items.push(LogItem::new_entry_indexes(1, unplaced(alloc, &[last])?))?;
+    Ok(items)
+}
+
+/// Tests whether such items are refused by this text where there are no tables, or accepted where it is empty.
+fn are_many_told(alloc: Global, is_apart: bool, last: u64, text: &str) -> Result<bool> {
+    let items = many_items(alloc, is_apart, last)?;
+    let tables = MemTableAccessor::new(alloc)?;
+    let slot = Slot::new(alloc, slot_of(1));
+    let tested = tables.check_append_writes(&items);
+    Ok(is_told(tested, text)? && is_told(slot.check_append_writes(&items), text)?)
+}
+
+fn are_all_many_told(alloc: Global) -> Result<bool> {
+    for &(is_apart, last, text) in &[
+        (true, 11, ""),
+        (
+            true,
+            12,
+            "region 1: a run from index 12 on leaves a hole behind the entries, which end before index 11",
+        ),
+        (false, 301, ""),
+        (
+            false,
+            302,
+            "region 1: a run from index 302 on leaves a hole behind the entries, which end before index 301",
+        ),
+    ] {
+        if !are_many_told(alloc, is_apart, last, text)? {
+            return Ok(false);
+        }
+    }
+    Ok(true)
+}
+
+#[test]
+fn many_new_items_are_tested(rt: HostRuntime) {
+    let mut told = are_all_many_told(rt.alloc());
+    if matches!(told, Err(Error::Memory)) {
+        told = are_all_many_told(rt.alloc());
+    }
+    assert!(rt; matches!(told, Ok(true)));
 }

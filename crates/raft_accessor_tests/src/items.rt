@@ -57,7 +57,7 @@ pub(crate) fn run(alloc: Global, start: u64, end: u64, file: FileId) -> Result<V
 }
 
 /// Returns entries of these indexes, without a place.
-fn unplaced(alloc: Global, indexes: &[u64]) -> Result<Vec<EntryIndex>> {
+pub(crate) fn unplaced(alloc: Global, indexes: &[u64]) -> Result<Vec<EntryIndex>> {
     let mut run = Vec::new(alloc);
     for &index in indexes {
         run.push(EntryIndex {

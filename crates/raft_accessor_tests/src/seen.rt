@@ -1,7 +1,7 @@
 //! What can be seen of an accessor and of shared tables.
 
-use raft_memtable::{FileSeq, LogQueue, MemTable, MemTableAccessor, Result};
-use raft_records::LogBatch;
+use raft_memtable::{Error, FileSeq, LogQueue, MemTable, MemTableAccessor, Result};
+use raft_records::{Command, LogBatch, LogItemContent};
 use raft_recover::SharedAccessor;
 use std::alloc::Global;
 use std::sync::Wait;
@@ -100,10 +100,13 @@ fn is_full(table: &MemTable) -> bool {
     table.first_index().is_some() && pairs(table) != 0
 }
 
-/// Returns the regions of the items of a batch, in order.
+/// Returns the regions of the items of a batch, in order. An item that isn't a `Clean` is refused as `Failed`.
 fn regions_of(alloc: Global, mut logs: LogBatch) -> Result<Vec<u64>> {
     let mut regions = Vec::new(alloc);
     for item in logs.drain() {
+        if !matches!(item.content, LogItemContent::Command(Command::Clean)) {
+            return Err(Error::Failed);
+        }
         regions.push(item.raft_group_id)?;
     }
     Ok(regions)

@@ -2,6 +2,7 @@
 
 mod calls;
 mod every_slot;
+mod slots;
 
 use crate::items::{NEW, run};
 use raft_memtable::{Error, LogQueue, MemTable, Result, TableChange, slot_of};

@@ -66,6 +66,7 @@ fn hashes_and_multiples_are_those_of_the_tables(rt: HostRuntime) {
     for &(number, hash, unhashed) in hashes() {
         assert_eq!(rt; hash_u64(number), hash, "{number}");
         assert_eq!(rt; unhash_u64(number), unhashed, "{number}");
+        assert_eq!(rt; unhash_u64(hash_u64(number)), number);
     }
     for &(offset, alignment, above, below) in &MULTIPLES {
         assert_eq!(rt; multiples_round(offset, alignment), Some((above, below)));

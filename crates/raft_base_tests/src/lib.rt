@@ -1,10 +1,12 @@
-//! Tests of `raft_base`, of what it hands on, and of `raft_size`.
+//! Tests of `raft_base`, of what it hands on, of `raft_size` and of `raft_files`.
 #![tactic(auto)]
 
 #[cfg(test)]
 mod checksums;
 #[cfg(test)]
 mod errors;
+#[cfg(test)]
+mod files;
 #[cfg(test)]
 mod hashes;
 #[cfg(test)]

@@ -107,6 +107,64 @@ fn numbers_of_a_fixed_width(rt: HostRuntime) {
     }
 }
 
+/// Tests whether the bytes of a lower number come before those of a higher one, and after them where they are written
+/// in reverse.
+fn are_u64_in_order(low: u64, high: u64) -> codec::Result<bool> {
+    let mut bytes = [0; 32];
+    let mut out: &mut [u8] = &mut bytes;
+    out.encode_u64(low)?;
+    out.encode_u64(high)?;
+    out.encode_u64_desc(low)?;
+    out.encode_u64_desc(high)?;
+    Ok(low < high && bytes[0..8] < bytes[8..16] && bytes[16..24] > bytes[24..32])
+}
+
+fn are_i64_in_order(low: i64, high: i64) -> codec::Result<bool> {
+    let mut bytes = [0; 32];
+    let mut out: &mut [u8] = &mut bytes;
+    out.encode_i64(low)?;
+    out.encode_i64(high)?;
+    out.encode_i64_desc(low)?;
+    out.encode_i64_desc(high)?;
+    Ok(low < high && bytes[0..8] < bytes[8..16] && bytes[16..24] > bytes[24..32])
+}
+
+fn are_u32_in_order(low: u32, high: u32) -> codec::Result<bool> {
+    let mut bytes = [0; 8];
+    let mut out: &mut [u8] = &mut bytes;
+    out.encode_u32(low)?;
+    out.encode_u32(high)?;
+    Ok(low < high && bytes[0..4] < bytes[4..8])
+}
+
+fn are_u16_in_order(low: u16, high: u16) -> codec::Result<bool> {
+    let mut bytes = [0; 4];
+    let mut out: &mut [u8] = &mut bytes;
+    out.encode_u16(low)?;
+    out.encode_u16(high)?;
+    Ok(low < high && bytes[0..2] < bytes[2..4])
+}
+
+/// Tests that the numbers rise from row to row, and their bytes with them.
+#[test]
+fn bytes_are_in_the_order_of_the_numbers(rt: HostRuntime) {
+    let (longs, signed, shorts, _) = fixed_rows();
+    for pair in longs.windows(2) {
+        let (low, high) = (pair[0].0, pair[1].0);
+        assert!(rt; matches!(are_u64_in_order(low, high), Ok(true)), "{low}");
+    }
+    for pair in signed.windows(2) {
+        let (low, high) = (pair[0].0, pair[1].0);
+        assert!(rt; matches!(are_i64_in_order(low, high), Ok(true)), "{low}");
+    }
+    for pair in shorts.windows(2) {
+        let (low, high) = (pair[0].0, pair[1].0);
+        assert!(rt; matches!(are_u32_in_order(low, high), Ok(true)), "{low}");
+        let (low, high) = (pair[0].1, pair[1].1);
+        assert!(rt; matches!(are_u16_in_order(low, high), Ok(true)), "{low}");
+    }
+}
+
 /// Tests whether both numbers are written so, with nothing after them.
 fn are_written(number: u64, signed: i64, spelling: &[u8]) -> codec::Result<bool> {
     let mut bytes = [0; 20];
@@ -160,6 +218,26 @@ fn numbers_in_base_128(rt: HostRuntime) {
         assert!(rt; is_refusal(decode_var_i64(&mut buf), kind), "at {bytes:?}");
         assert!(rt; buf == bytes);
     }
+}
+
+/// Tests that no number of eight bytes is written to seven, or read of them.
+#[test]
+fn seven_bytes_hold_no_number(rt: HostRuntime) {
+    let mut bytes = [0; 7];
+    let mut out: &mut [u8] = &mut bytes;
+    assert!(rt; is_refusal(out.encode_u64(1), ErrorKind::WriteZero));
+    let mut out: &mut [u8] = &mut bytes;
+    assert!(rt; is_refusal(out.encode_u64_desc(1), ErrorKind::WriteZero));
+    let mut out: &mut [u8] = &mut bytes;
+    assert!(rt; is_refusal(out.encode_i64(1), ErrorKind::WriteZero));
+    let mut out: &mut [u8] = &mut bytes;
+    assert!(rt; is_refusal(out.encode_i64_desc(1), ErrorKind::WriteZero));
+    let mut buf: &[u8] = b"1234567";
+    assert!(rt; is_refusal(decode_u64(&mut buf), ErrorKind::UnexpectedEof));
+    assert!(rt; is_refusal(decode_u64_desc(&mut buf), ErrorKind::UnexpectedEof));
+    assert!(rt; is_refusal(decode_i64(&mut buf), ErrorKind::UnexpectedEof));
+    assert!(rt; is_refusal(decode_i64_desc(&mut buf), ErrorKind::UnexpectedEof));
+    assert!(rt; buf.len() == 7);
 }
 
 #[test]

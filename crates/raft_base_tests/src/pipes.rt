@@ -72,4 +72,14 @@ fn files_and_versions_have_numbers(rt: HostRuntime) {
         let printed = InlineText::<32>::of(version);
         assert_eq!(rt; printed.as_str(), text);
     }
+    assert_eq!(rt; Version::default(), Version::V1);
+    for &(number, version) in &[
+        (0, None),
+        (1, Some(Version::V1)),
+        (2, Some(Version::V2)),
+        (3, None),
+        (u64::MAX, None),
+    ] {
+        assert_eq!(rt; Version::from_u64(number), version);
+    }
 }

@@ -1,12 +1,14 @@
 //! Sizes as texts, values and settings.
 
+ghost use Rattle.std.specs.Prelude.{◌≡◌};
+
 mod rows;
 
-use raft_base::{ReadableSize, SizeError, Version, size_from_value};
+use raft_base::{Factory, ReadableSize, SizeError, Version, size_from_value};
 use serde::{Deserialize, Serialize};
 use std::alloc::Global;
 use std::fmt::InlineText;
-use std::str::FromStr;
+use std::str::{FromStr, from_utf8};
 use toml::Value;
 
 #[test]
@@ -29,16 +31,93 @@ fn sizes_are_printed_and_read(rt: HostRuntime) {
     }
 }
 
+// Tests exponents of a thousand nines: without a sign, and with each.
+#[test]
+fn long_exponents_are_read(rt: HostRuntime) {
+    let mut bytes = [b'9'; 1003];
+    bytes[0] = b'1';
+    bytes[1] = b'e';
+    let unsigned = from_utf8(&bytes[..1002]).ok();
+    assert_eq!(rt;
+        unsigned.map(ReadableSize::from_str),
+        Some(Ok(ReadableSize(u64::MAX)))
+    );
+    for &(sign, size) in &[(b'+', u64::MAX), (b'-', 0)] {
+        bytes[2] = sign;
+        let text = from_utf8(&bytes).ok();
+        assert_eq!(rt;
+            text.map(ReadableSize::from_str),
+            Some(Ok(ReadableSize(size)))
+        );
+    }
+}
+
 #[test]
 fn sizes_are_calculated(rt: HostRuntime) {
+    for &(size, number, megabytes) in &[
+        (ReadableSize::kb(2), 2048, 0),
+        (ReadableSize::mb(2), 2_097_152, 2),
+        (ReadableSize::gb(2), 2_147_483_648, 2048),
+        (ReadableSize(0), 0, 0),
+        (ReadableSize::mb(2) / 2, 1_048_576, 1),
+        (ReadableSize::mb(1) / 2, 524_288, 0),
+    ] {
+        assert_eq!(rt; size, ReadableSize(number));
+        assert_eq!(rt; size.as_mb(), megabytes, "{number}");
+    }
     assert_eq!(rt; ReadableSize::mb(2) / ReadableSize::kb(1), 2048);
     assert_eq!(rt; ReadableSize::gb(2).as_mb(), 2048);
     assert_eq!(rt; ReadableSize::kb(3) * 2 / 4, ReadableSize(1536));
+}
+
+/// Returns the size of a text that is a value. Want of memory is an empty text.
+fn read_value(alloc: Global, text: &str) -> Result<ReadableSize, SizeError> {
+    match Value::string(alloc, text) {
+        Ok(value) => size_from_value(&value),
+        Err(_) => Err(SizeError::Empty),
+    }
+}
+
+#[test]
+fn values_are_read(rt: HostRuntime) {
     assert_eq!(rt;
         size_from_value(&Value::Integer(4096)),
         Ok(ReadableSize(4096))
     );
     assert_eq!(rt; size_from_value(&Value::Integer(-1)), Err(SizeError::Kind));
+    assert_eq!(rt;
+        size_from_value(&Value::Boolean(true)),
+        Err(SizeError::Kind)
+    );
+    // Memory is refused once in a test at most.
+    let size = match read_value(rt.alloc(), "4KiB") {
+        Err(SizeError::Empty) => read_value(rt.alloc(), "4KiB"),
+        size => size,
+    };
+    assert_eq!(rt; size, Ok(ReadableSize(4096)));
+}
+
+// Gives the same size each time.
+struct Sizes(u64);
+
+impl Factory<ReadableSize> for Sizes {
+    ghost gives = { λ sizes size. size.0 ≡ sizes.0 };
+
+    ghost may_refuse = { λ _ _. ⊥ };
+
+    fn new_target(&self, _alloc: Global) -> raft_base::Result<ReadableSize> {
+        Ok(ReadableSize(self.0))
+    }
+}
+
+fn two_of<T: Drop, F: Factory<T>>(alloc: Global, factory: &F) -> raft_base::Result<(T, T)> {
+    Ok((factory.new_target(alloc)?, factory.new_target(alloc)?))
+}
+
+#[test]
+fn factories_give_targets(rt: HostRuntime) {
+    let both = two_of(rt.alloc(), &Sizes(512)).ok();
+    assert_eq!(rt; both, Some((ReadableSize(512), ReadableSize(512))));
 }
 
 #[derive(Drop, Serialize, Deserialize)]

@@ -12,4 +12,6 @@ mod large;
 #[cfg(test)]
 mod markers;
 #[cfg(test)]
+mod one_slot;
+#[cfg(test)]
 mod overlays;

@@ -1,9 +1,10 @@
 //! Batches read one after another, whole and damaged, and one in place of another.
 
+use crate::refusals::is_refused_for;
 use raft_records::{
-    Command, EntryIndex, Error, FileBlockHandle, FileId, FilePart, LogFileContext, LogItemContent,
-    LogQueue, ReadBatch, ReadContent, Result, Version, entries_block_in, entry_bytes, next_batch,
-    readable_front,
+    Command, CompressionType, EntryIndex, Error, FileBlockHandle, FileId, FilePart, LogBatch,
+    LogFileContext, LogItemContent, LogQueue, ReadBatch, ReadContent, Result, Version,
+    entries_block_in, entry_bytes, next_batch, readable_front,
 };
 use std::alloc::Global;
 use std::process::Abort;
@@ -27,6 +28,13 @@ const LONG: usize = 96;
 const FILE: FileId = FileId {
     queue: LogQueue::Append,
     seq: 12,
+};
+
+/// Where the entry block of the first batch is.
+const BLOCK: FileBlockHandle = FileBlockHandle {
+    id: FILE,
+    offset: 116,
+    len: 7,
 };
 
 /// Returns these bytes of that file, from 100 on.
@@ -89,7 +97,8 @@ fn are_lent(alloc: Global, part: &FilePart, entries: &[EntryIndex]) -> Result<bo
         entry_bytes(alloc, block, first)?,
         entry_bytes(alloc, block, second)?,
     );
-    Ok(block == b"abc".as_slice() && read == (b"ab".as_slice(), b"c".as_slice()))
+    let is_lent = block == b"abc".as_slice() && read == (b"ab".as_slice(), b"c".as_slice());
+    Ok(place == BLOCK && second.entries == Some(BLOCK) && is_lent)
 }
 
 /// Tests whether the first batch and its clone know the file that it was decoded in, until an item is added.
@@ -112,9 +121,15 @@ fn damaged_batches(rt: HostRuntime) {
     assert!(rt; answer.is_ok());
 }
 
-/// Tests that a batch with a flipped bit is refused, but in its entry block, which isn't read; and that the front of so
-/// many bytes ends where its last whole batch does, and the reason is that of the decoders.
+/// Tests that a batch that is cut short is refused, but where nothing of it is left, and one with a flipped bit, but in
+/// its entry block, which isn't read; and that the front of so many bytes ends where its last whole batch does, and the
+/// reason is that of the decoders.
 fn damaged_batches_are_refused(rt: &impl Abort, alloc: Global) -> Result<()> {
+    assert!(rt; counted(&part(alloc, b"")?, 0)?.is_none());
+    for len in 1..FIRST {
+        let bytes = BATCHES.get(..len).unwrap_or(&[]);
+        assert!(rt; is_refused(alloc, bytes)?, "{len} bytes");
+    }
     for at in 0..FIRST {
         assert!(rt; is_flip_row(alloc, at)?, "at {at}");
     }
@@ -133,20 +148,174 @@ fn damaged_batches_are_refused(rt: &impl Abort, alloc: Global) -> Result<()> {
     Ok(())
 }
 
-/// Tests whether the first batch is refused with this byte's lowest bit flipped, or read where the byte is in its entry
-/// block.
+/// Tests whether nothing is read at the start of these bytes, for `Corruption`.
+fn is_refused(alloc: Global, bytes: &[u8]) -> Result<bool> {
+    match counted(&part(alloc, bytes)?, 0) {
+        Ok(_read) => Ok(false),
+        Err(Error::Corruption(_text)) => Ok(true),
+        Err(e) => Err(e),
+    }
+}
+
+/// Tests whether the first batch is refused with this byte's lowest bit flipped, or where the byte is in its entry
+/// block, the batch is read and the block refused.
 fn is_flip_row(alloc: Global, at: usize) -> Result<bool> {
     let mut bytes = *BATCHES;
     if let Some(byte) = bytes.get_mut(at) {
         *byte ^= 1;
     }
-    let is_in_block = at >= 16 && at < 23;
-    let part = part(alloc, bytes.get(..FIRST).unwrap_or(&[]))?;
-    match counted(&part, 0) {
-        Ok(read) => Ok(is_in_block && read == Some((1, FIRST))),
-        Err(Error::Corruption(_text)) => Ok(!is_in_block),
+    let bytes = bytes.get(..FIRST).unwrap_or(&[]);
+    if at < 16 || at >= 23 {
+        return is_refused(alloc, bytes);
+    }
+    let is_read = counted(&part(alloc, bytes)?, 0)? == Some((1, FIRST));
+    Ok(is_read && is_block_refused(alloc, bytes)? && is_block_refused_in(&part(alloc, bytes)?)?)
+}
+
+/// Tests whether the entry block of the first batch is refused, for `Corruption`.
+fn is_block_refused(alloc: Global, bytes: &[u8]) -> Result<bool> {
+    let block = bytes.get(16..23).unwrap_or(&[]);
+    match LogBatch::decode_entries_block(alloc, block, BLOCK, CompressionType::None) {
+        Ok(_read) => Ok(false),
+        Err(Error::Corruption(_text)) => Ok(true),
         Err(e) => Err(e),
     }
+}
+
+/// Tests the same of the block where it is lent.
+fn is_block_refused_in(part: &FilePart) -> Result<bool> {
+    match entries_block_in(part, BLOCK) {
+        Ok(_lent) => Ok(false),
+        Err(Error::Corruption(_text)) => Ok(true),
+        Err(e) => Err(e),
+    }
+}
+
+/// A place, and why no entry block is lent there.
+type PlaceRow = (FileBlockHandle, &'static str);
+
+/// In another file, before the part, behind it, and with an end behind it; and with a checksum that isn't one.
+static NO_BLOCKS: [PlaceRow; 6] = [
+    (
+        FileBlockHandle {
+            id: FileId {
+                queue: LogQueue::Append,
+                seq: 13,
+            },
+            ..BLOCK
+        },
+        "the entry block at offset 116 of file 13 isn't in the part",
+    ),
+    (
+        FileBlockHandle {
+            id: FileId {
+                queue: LogQueue::Rewrite,
+                seq: 12,
+            },
+            ..BLOCK
+        },
+        "the entry block at offset 116 of file 12 isn't in the part",
+    ),
+    (
+        FileBlockHandle {
+            offset: 99,
+            ..BLOCK
+        },
+        "the entry block at offset 99 of file 12 isn't in the part",
+    ),
+    (
+        FileBlockHandle {
+            offset: 159,
+            ..BLOCK
+        },
+        "the entry block at offset 159 of file 12 isn't in the part",
+    ),
+    (
+        FileBlockHandle {
+            offset: 152,
+            ..BLOCK
+        },
+        "the entry block at offset 152 of file 12 isn't in the part",
+    ),
+    (FileBlockHandle { len: 4, ..BLOCK }, "Content too short 4"),
+];
+
+fn no_blocks() -> &'static [PlaceRow] {
+    &NO_BLOCKS
+}
+
+/// Tests whether no entry block is lent at the place, for the reason of the row.
+fn is_place_row(part: &FilePart, row: &PlaceRow) -> Result<bool> {
+    is_refused_for(entries_block_in(part, row.0), row.1)
+}
+
+/// Tests whether an entry at this offset, with these many bytes, isn't found in three entry bytes, for this reason.
+fn is_entry_row(alloc: Global, offset: u32, len: u32, reason: &str) -> Result<bool> {
+    let entry = EntryIndex {
+        index: 10,
+        entry_offset: offset,
+        entry_len: len,
+        ..EntryIndex::default()
+    };
+    is_refused_for(entry_bytes(alloc, b"abc", &entry), reason)
+}
+
+#[test]
+fn entry_places(rt: HostRuntime) {
+    let answer = match places_are_refused(&rt, rt.alloc()) {
+        Err(Error::Memory) => places_are_refused(&rt, rt.alloc()),
+        answer => answer,
+    };
+    assert!(rt; answer.is_ok());
+}
+
+fn places_are_refused(rt: &impl Abort, alloc: Global) -> Result<()> {
+    let part = part(alloc, BATCHES)?;
+    for row in no_blocks() {
+        assert!(rt; is_place_row(&part, row)?, "{}", row.1);
+    }
+    for &(offset, len, reason) in &[
+        (
+            2,
+            2,
+            "entry 10 ends at byte 4 of an entry block with 3 entry bytes",
+        ),
+        (
+            4,
+            0,
+            "entry 10 ends at byte 4 of an entry block with 3 entry bytes",
+        ),
+        (
+            u32::MAX,
+            u32::MAX,
+            "entry 10 ends at byte 8589934590 of an entry block with 3 entry bytes",
+        ),
+    ] {
+        assert!(rt; is_entry_row(alloc, offset, len, reason)?, "at {offset}");
+    }
+    Ok(())
+}
+
+#[test]
+fn ends(rt: HostRuntime) {
+    let answer = match parts_end_at_the_last_offset(&rt, rt.alloc()) {
+        Err(Error::Memory) => parts_end_at_the_last_offset(&rt, rt.alloc()),
+        answer => answer,
+    };
+    assert!(rt; answer.is_ok());
+}
+
+fn parts_end_at_the_last_offset(rt: &impl Abort, alloc: Global) -> Result<()> {
+    let end = u64::MAX - 58;
+    for &(offset, fits) in &[(end, true), (end + 1, false), (u64::MAX, false)] {
+        let bytes = Vec::from_slice(alloc, BATCHES)?;
+        match FilePart::new(FILE, Version::V2, offset, bytes) {
+            Ok(_part) => assert!(rt; fits),
+            Err(Error::InvalidArgument(_text)) => assert!(rt; !fits),
+            Err(e) => return Err(e),
+        }
+    }
+    Ok(())
 }
 
 /// Tests whether so many bytes are readable of so many, and there is this reason, none where it is empty.

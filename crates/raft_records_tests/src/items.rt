@@ -180,3 +180,79 @@ fn items_are_as_in_the_rows(rt: &impl Abort, alloc: Global) -> Result<()> {
     assert!(rt; is_longer_read(alloc)?);
     Ok(())
 }
+
+/// Tests whether fronts of bytes that are shorter than the whole are refused, after one entry byte, and left.
+fn are_fronts_refused(alloc: Global, form: Form, whole: &[u8]) -> Result<bool> {
+    for len in 0..whole.len() {
+        if !is_refused_and_left(alloc, form, whole.get(..len).unwrap_or(whole))? {
+            return Ok(false);
+        }
+    }
+    Ok(true)
+}
+
+/// Tests whether bytes are refused as corrupt, or for what a codec or a slice refuses, and they and the number of entry
+/// bytes stay.
+fn is_refused_and_left(alloc: Global, form: Form, bytes: &[u8]) -> Result<bool> {
+    let mut rest = bytes;
+    let mut size = 1;
+    match decode(alloc, form, &mut rest, &mut size) {
+        Ok(_read) => Ok(false),
+        Err(Error::Corruption(_) | Error::Codec(_) | Error::Io(_)) => {
+            Ok(rest == bytes && size == 1)
+        }
+        Err(e) => Err(e),
+    }
+}
+
+/// Tests this of the bytes of an item, if it is written.
+fn are_item_fronts_refused(alloc: Global, item: &LogItem) -> Result<bool> {
+    let mut buf = Vec::new(alloc);
+    match item.encode(&mut buf) {
+        Ok(()) => are_fronts_refused(alloc, Form::Item, buf.as_slice()),
+        Err(Error::InvalidArgument(_)) => Ok(buf.is_empty()),
+        Err(e) => Err(e),
+    }
+}
+
+/// Tests this of the bytes that are read in a row, if they are.
+fn are_row_fronts_refused(alloc: Global, row: &ReadRow) -> Result<bool> {
+    let (form, bytes, read) = *row;
+    match read {
+        Read::Item(_, left) => {
+            let len = bytes.len().saturating_sub(left);
+            are_fronts_refused(alloc, form, bytes.get(..len).unwrap_or(bytes))
+        }
+        _ => Ok(true),
+    }
+}
+
+/// Tests this of the bytes of a change of the group markers' key.
+fn are_marker_fronts_refused(alloc: Global, row: &MarkerRow) -> Result<bool> {
+    let (op_type, value, _) = *row;
+    are_item_fronts_refused(alloc, &key_value(alloc, op_type, &ATOMIC_GROUP_KEY, value)?)
+}
+
+#[test]
+fn shorter_fronts(rt: HostRuntime) {
+    let answer = match fronts_are_refused(&rt, rt.alloc()) {
+        Err(Error::Memory) => fronts_are_refused(&rt, rt.alloc()),
+        answer => answer,
+    };
+    assert!(rt; answer.is_ok());
+}
+
+fn fronts_are_refused(rt: &impl Abort, alloc: Global) -> Result<()> {
+    for (number, row) in rows::contents().iter().enumerate() {
+        let item = item_of(alloc, row.0)?;
+        assert!(rt; are_item_fronts_refused(alloc, &item)?, "content {number}");
+    }
+    for row in rows::readings() {
+        assert!(rt; are_row_fronts_refused(alloc, row)?, "at {:?}", row.1);
+    }
+    for row in rows::markers() {
+        assert!(rt; are_marker_fronts_refused(alloc, row)?, "{:?}", row.1);
+    }
+    assert!(rt; are_fronts_refused(alloc, Form::KeyValue, b"\x01\x01k\x82\x00vv")?);
+    Ok(())
+}

@@ -1,13 +1,15 @@
-//! A batch with many entry bytes and a long value.
+//! A batch with many entry bytes and a long value, one with many items, and a part with long batches.
 
 ghost use Rattle.std.specs.Prelude.{◌≡◌, OnOk};
 ghost use Rattle.raft_records.specs.LogBatch.{is_open};
 
 use raft_records::{
-    CompressionType, EntryIndex, Error, FileBlockHandle, FileId, FilePart, LogBatch,
+    Command, CompressionType, EntryIndex, Error, FileBlockHandle, FileId, FilePart, LogBatch,
     LogFileContext, LogItem, LogItemContent, LogQueue, Result, Version, is_consecutive, next_batch,
+    readable_front,
 };
 use std::alloc::Global;
+use std::process::Abort;
 
 /// How many entries there are.
 const ENTRIES: u64 = 5_000;
@@ -127,4 +129,124 @@ fn large_batches_are_read_again(rt: HostRuntime) {
         answer => answer,
     };
     assert!(rt; matches!(answer, Ok(true)));
+}
+
+/// How many items the batch of many has.
+const ITEMS: u64 = 10_000;
+
+/// Returns the batch in which as many regions are compacted, each to its id.
+fn with_many_items(alloc: Global) -> Result<LogBatch> {
+    let mut batch = LogBatch::default(alloc);
+    for id in 0..ITEMS {
+        if !batch.is_open() {
+            return Err(Error::Failed);
+        }
+        batch.add_command(id, Command::Compact { index: id })?;
+    }
+    Ok(batch)
+}
+
+/// Returns a part of version 2 with an open batch alone.
+fn part_of(alloc: Global, mut batch: LogBatch) -> Result<FilePart> {
+    if !batch.is_open() {
+        return Err(Error::Failed);
+    }
+    batch.finish_populate()?;
+    let file = FileId::new(LogQueue::Append, 12);
+    batch.prepare_write(&LogFileContext::new(file, Version::V2));
+    let bytes = Vec::from_slice(alloc, batch.encoded_bytes())?;
+    FilePart::new(file, Version::V2, 0, bytes)
+}
+
+/// Tests whether items compact the regions from 0 on, each to its id, and returns how many there are.
+fn compacted(items: &[LogItem]) -> Option<u64> {
+    let mut id = 0u64;
+    for item in items {
+        match &item.content {
+            LogItemContent::Command(Command::Compact { index })
+                if *index == id && item.raft_group_id == id => {}
+            _ => return None,
+        }
+        id = id.saturating_add(1);
+    }
+    Some(id)
+}
+
+/// Tests whether the batch of many items is read as it was made.
+fn are_all_read(alloc: Global) -> Result<bool> {
+    let part = part_of(alloc, with_many_items(alloc)?)?;
+    let Some((batch, end)) = next_batch(&part, 0)? else {
+        return Ok(false);
+    };
+    Ok(end == part.bytes().len() && compacted(batch.as_slice()) == Some(ITEMS))
+}
+
+#[test]
+fn many_items_are_read_again(rt: HostRuntime) {
+    let answer = match are_all_read(rt.alloc()) {
+        Err(Error::Memory) => are_all_read(rt.alloc()),
+        answer => answer,
+    };
+    assert!(rt; matches!(answer, Ok(true)));
+}
+
+/// How long the value of each of three batches is.
+const LONG: usize = 700_000;
+
+/// How long these batches are: a header, and an item batch with a number of items, the item and a checksum.
+const BATCH: usize = 16 + 1 + 2 + 3 + 3 + LONG + 4;
+
+/// Appends the bytes of a batch in the file 12 that puts a value of so many bytes.
+fn append_long(alloc: Global, bytes: &mut Vec<u8>) -> Result<()> {
+    let mut value = Vec::new(alloc);
+    value.resize(LONG, 0xab)?;
+    let mut batch = LogBatch::default(alloc);
+    batch.put(7, Vec::from_slice(alloc, b"k")?, value)?;
+    batch.finish_populate()?;
+    let file = FileId::new(LogQueue::Append, 12);
+    batch.prepare_write(&LogFileContext::new(file, Version::V2));
+    bytes.extend_from_slice(batch.encoded_bytes())?;
+    Ok(())
+}
+
+/// Returns a part of the file 12 with three such batches, without its last bytes.
+fn long_part(alloc: Global, missing: usize) -> Result<FilePart> {
+    let mut bytes = Vec::new(alloc);
+    for _ in 0..3 {
+        append_long(alloc, &mut bytes)?;
+    }
+    bytes.truncate(bytes.len().saturating_sub(missing));
+    FilePart::new(FileId::new(LogQueue::Append, 12), Version::V2, 0, bytes)
+}
+
+/// Tests whether a part of three such batches, without its last bytes, is readable up to here, and why not behind.
+fn is_readable_to(alloc: Global, missing: usize, end: usize, reason: &str) -> Result<bool> {
+    let part = long_part(alloc, missing)?;
+    let (readable, error) = readable_front(&part);
+    match error {
+        None => Ok(readable == end && reason.is_empty()),
+        Some(Error::Corruption(text)) => Ok(readable == end && text.as_str() == reason),
+        Some(e) => Err(e),
+    }
+}
+
+fn long_parts_are_readable(rt: &impl Abort, alloc: Global) -> Result<()> {
+    for &(missing, end, reason) in &[
+        (0, 3 * BATCH, ""),
+        (1, 2 * BATCH, "a log batch of 700029 bytes is cut short"),
+        (BATCH, 2 * BATCH, ""),
+        (BATCH + 1, BATCH, "a log batch of 700029 bytes is cut short"),
+    ] {
+        assert!(rt; is_readable_to(alloc, missing, end, reason)?, "{missing}");
+    }
+    Ok(())
+}
+
+#[test]
+fn long_parts(rt: HostRuntime) {
+    let answer = match long_parts_are_readable(&rt, rt.alloc()) {
+        Err(Error::Memory) => long_parts_are_readable(&rt, rt.alloc()),
+        answer => answer,
+    };
+    assert!(rt; answer.is_ok());
 }

@@ -4,12 +4,13 @@ ghost use Rattle.std.specs.Prelude.{◌≡◌, [], IfOk};
 ghost use Rattle.raft_records.specs.LogBatch.{is_open};
 
 mod rows;
+mod written;
 
 use crate::item_batches::entry;
 use raft_records::{
     AtomicGroupBuilder, AtomicGroupStatus, Command, Error, FileBlockHandle, FileId, LogBatch,
     LogFileContext, LogItemBatch, LogQueue, Message, MessageError, MessageExt, ReactiveBytes,
-    Result, Version,
+    Result, Version, is_consecutive,
 };
 use rows::Row;
 use std::alloc::Global;
@@ -255,7 +256,16 @@ fn refusal_of(called: Result<()>) -> Result<&'static str> {
     }
 }
 
-/// Makes one of nine calls, of which the last three are not refused.
+/// Adds no entries to an open batch, by their bytes.
+fn add_nothing(alloc: Global, batch: &mut LogBatch) -> Result<()> {
+    let (indexes, texts) = (Vec::new(alloc), Vec::new(alloc));
+    if !batch.is_open() || indexes.len() != texts.len() || !is_consecutive(&indexes) {
+        return Err(Error::Failed);
+    }
+    batch.add_raw_entries(1, indexes, texts)
+}
+
+/// Makes one of ten calls, of which the last four are not refused.
 fn attempt(alloc: Global, batch: &mut LogBatch, number: usize) -> Result<()> {
     if !batch.is_open() {
         return Ok(());
@@ -270,6 +280,7 @@ fn attempt(alloc: Global, batch: &mut LogBatch, number: usize) -> Result<()> {
         5 => batch.put_message(1, Vec::from_slice(alloc, b"a")?, &line_of(0, b"")),
         6 => batch.add_entries::<Lines>(1, &[]),
         7 => batch.put(0, Vec::from_slice(alloc, b"__\x00")?, Vec::new(alloc)),
+        8 => add_nothing(alloc, batch),
         _ => batch.delete(0, Vec::from_slice(alloc, b"__\x01")?),
     }
 }
@@ -294,7 +305,8 @@ fn refused_additions_leave_the_batch(rt: &impl Abort, alloc: Global) -> Result<(
         (5, "message", 0),
         (6, "", 0),
         (7, "", 61),
-        (8, "", 61),
+        (8, "", 0),
+        (9, "", 61),
     ] {
         let mut batch = LogBatch::default(alloc);
         let called = attempt(alloc, &mut batch, number);
@@ -331,6 +343,83 @@ fn is_only_signed(alloc: Global) -> Result<bool> {
 fn asked_bytes_leave_the_batch(rt: HostRuntime) {
     let answer = match is_only_signed(rt.alloc()) {
         Err(Error::Memory) => is_only_signed(rt.alloc()),
+        answer => answer,
+    };
+    assert!(rt; matches!(answer, Ok(true)));
+}
+
+/// The bytes of a batch in the file 12 in which region 8 is cleaned.
+const BEFORE: &[u8] =
+    b"\x00\x00\x00\x00\x00\x00\x18\x00\x00\x00\x00\x00\x00\x00\x00\x10\x01\x08\x02\x01\xd9\xbb\xda\xd2";
+
+/// Those of the batch with the entries 10 and 11 of region 7 behind that.
+const BEHIND: &[u8] =
+    b"\x00\x00\x00\x00\x00\x00\x25\x00\x00\x00\x00\x00\x00\x00\x00\x17\x61\x62\x63\xc2\x41\x24\x35\x02\x08\x02\x01\x07\x01\x02\x0a\x02\x03\xfb\x71\x31\x94";
+
+/// Tests whether an open batch has this size, and these bytes in the file 12 if it is finished. It stays open.
+fn is_seen_so(batch: &LogBatch, size: usize, bytes: &[u8]) -> Result<bool> {
+    let mut copy = batch.clone()?;
+    if !copy.is_open() || copy.approximate_size() != size {
+        return Ok(false);
+    }
+    let len = copy.finish_populate()?;
+    if !copy.ready() {
+        return Ok(false);
+    }
+    Ok(len == bytes.len() && copy.as_bytes(&context(12, Version::V2)) == bytes)
+}
+
+/// Tests whether a list whose second message refuses to write itself leaves a batch that isn't empty, with its items.
+fn is_left_by_refusal(batch: &mut LogBatch) -> Result<bool> {
+    let before = batch.clone()?;
+    if !batch.is_open() {
+        return Ok(false);
+    }
+    let called = batch.add_entries::<Lines>(7, &[line_of(10, b"a"), line_of(11, b"")]);
+    let is_refused = refusal_of(called)? == "message";
+    Ok(is_refused && *batch == before && batch.items() == before.items())
+}
+
+/// Tests whether such a batch is after the refusal as it was before, and after the next list as without the refusal; no
+/// entries then add nothing.
+fn goes_on_after_refusal(alloc: Global) -> Result<bool> {
+    let mut batch = LogBatch::default(alloc);
+    batch.add_command(8, Command::Clean)?;
+    if !is_left_by_refusal(&mut batch)? || !is_seen_so(&batch, 42, BEFORE)? || !batch.is_open() {
+        return Ok(false);
+    }
+    batch.add_entries::<Lines>(7, &[line_of(10, b"ab"), line_of(11, b"c")])?;
+    add_nothing(alloc, &mut batch)?;
+    is_seen_so(&batch, 86, BEHIND)
+}
+
+#[test]
+fn refused_messages_leave_the_batch(rt: HostRuntime) {
+    let answer = match goes_on_after_refusal(rt.alloc()) {
+        Err(Error::Memory) => goes_on_after_refusal(rt.alloc()),
+        answer => answer,
+    };
+    assert!(rt; matches!(answer, Ok(true)));
+}
+
+/// Tests whether a builder has the state of the last group marker that it gave.
+fn has_states(alloc: Global) -> Result<bool> {
+    let mut builder = AtomicGroupBuilder::with_id(9);
+    let mut batch = LogBatch::default(alloc);
+    let is_new = builder.state().is_none();
+    builder.begin(&mut batch)?;
+    let has_begun = builder.state() == Some(AtomicGroupStatus::Begin);
+    builder.add(&mut batch)?;
+    let goes_on = builder.state() == Some(AtomicGroupStatus::Middle);
+    builder.end(&mut batch)?;
+    let has_ended = builder.state() == Some(AtomicGroupStatus::End);
+    Ok(is_new && has_begun && goes_on && has_ended && batch.items().len() == 3)
+}
+
+#[test]
+fn states_of_a_group(rt: HostRuntime) {
+    let answer = match has_states(rt.alloc()) {
+        Err(Error::Memory) => has_states(rt.alloc()),
         answer => answer,
     };
     assert!(rt; matches!(answer, Ok(true)));

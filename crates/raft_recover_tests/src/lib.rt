@@ -2,6 +2,8 @@
 #![tactic(auto)]
 
 #[cfg(test)]
+mod divided;
+#[cfg(test)]
 mod lines;
 #[cfg(test)]
 mod machines;

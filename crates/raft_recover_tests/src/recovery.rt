@@ -2,11 +2,16 @@
 
 mod batches;
 mod both;
+mod bound;
+mod failed;
 mod histories;
+mod kept;
 mod owed;
+mod pieces;
 mod plans;
 mod refusals;
 mod rows;
+mod shared;
 mod truncations;
 
 use histories::{histories, truncated, with_a_hole};

@@ -17,7 +17,7 @@ const WORKERS: &str = "raftlog: refused: invalid-argument\n";
 /// Words, the input in base 16, the status, what is printed, and how the error stream begins.
 type Row = (&'static str, &'static str, u8, &'static str, &'static str);
 
-static ROWS: [Row; 32] = [
+static ROWS: [Row; 34] = [
     (OPEN, "010102015a800bdd", 0, "1 clean\nitems 1 rest 0\n", ""),
     (
         "batch append 0 1",
@@ -26,6 +26,7 @@ static ROWS: [Row; 32] = [
         "1 clean\nitems 1 rest 0\n",
         "",
     ),
+    ("batch append 12 2", "0081ef02d2", 0, "items 0 rest 0\n", ""),
     (
         "batch append 0012 2",
         "0081ef02d2",
@@ -94,6 +95,13 @@ static ROWS: [Row; 32] = [
     ("recover append 1 257", "", 1, "", WORKERS),
     (
         "recover append 1 0 12=absent",
+        "",
+        1,
+        "",
+        "raftlog: refused: io\n",
+    ),
+    (
+        "recover append 1 1 12=",
         "",
         1,
         "",
@@ -286,7 +294,7 @@ const FILES: [(&str, &str); 4] = [
     ("spaced.log ", CLEAN),
 ];
 
-/// Words for files, behind `recover append 1 2`, how many bytes each file has at most, the status, what is printed, and
+/// Words for files, how many bytes each file has at most, the status, what is printed, and
 /// how the error stream begins.
 type FileRow = (
     &'static [&'static str],
@@ -314,13 +322,14 @@ const FILE_ROWS: [FileRow; 6] = [
 /// Returns the answer to words for files that hold the first bytes of their batches.
 fn run_on_files<S: Files + AllocGlobal + Threads + Sync>(
     rt: &S,
+    line: &str,
     files: &[&str],
     length: usize,
 ) -> Option<Answer> {
     for &(path, digits) in &FILES {
         write(rt, path, digits, length)?;
     }
-    let answer = run_on(rt, "recover append 1 2", files, "");
+    let answer = run_on(rt, line, files, "");
     for &(path, _) in &FILES {
         fs::remove_file(rt, path).ok()?;
     }
@@ -334,20 +343,22 @@ fn write<S: Files + AllocGlobal>(rt: &S, path: &str, digits: &str, length: usize
     fs::write(rt, path, bytes.as_slice()).ok()
 }
 
-/// Runs each row, once more where an allocation is refused: it has to find memory then.
+/// Runs each row with one worker and with two, once more where an allocation is refused: it has to find memory then.
 #[test]
 fn files_are_read_at_their_paths(rt: HostRuntime) {
-    for &(files, length, status, out, err) in &FILE_ROWS {
-        let mut answer = run_on_files(&rt, files, length);
-        if answer
-            .as_ref()
-            .is_none_or(|answer| answer.found_no_memory())
-        {
-            answer = run_on_files(&rt, files, length);
+    for &line in &["recover append 1 1", "recover append 1 2"] {
+        for &(files, length, status, out, err) in &FILE_ROWS {
+            let mut answer = run_on_files(&rt, line, files, length);
+            if answer
+                .as_ref()
+                .is_none_or(|answer| answer.found_no_memory())
+            {
+                answer = run_on_files(&rt, line, files, length);
+            }
+            assert!(rt;
+                answer.is_some_and(|answer| answer.is(status, out, err)),
+                "{line} {files:?}: {length} bytes"
+            );
         }
-        assert!(rt;
-            answer.is_some_and(|answer| answer.is(status, out, err)),
-            "{files:?}: {length} bytes"
-        );
     }
 }

@@ -1,6 +1,8 @@
 //! Files as equal shares.
 
-use raft_base::{Error, FileSeq, LogQueue, Result, Version};
+use raft_base::{EntryIndex, Error, FileSeq, LogQueue, Result, Version};
+use raft_records::{FilePart, LogItemContent, entries_block_in, entry_bytes, next_batch};
+use raft_recover::Segment;
 use raft_recover::files::file_segments;
 use raft_recover::shares::equal_shares;
 use std::alloc::Global;
@@ -86,4 +88,86 @@ fn all_shares(rt: &impl Abort, alloc: Global) -> Result<()> {
         }
     }
     Ok(())
+}
+
+/// A log batch of version 1: region 1 with the entries 5 to 8, each of which has the byte `x`.
+const ENTRIES: &[u8; 37] =
+    b"\x00\x00\x00\x00\x00\x00\x25\x00\x00\x00\x00\x00\x00\x00\x00\x18xxxx\x77\x64\x15\x6c\x01\x01\x01\x04\x05\x01\x02\x03\x04\x70\xe2\xa6\x5f";
+
+/// Returns a file of three batches with entries, as so many shares.
+fn entry_shares(alloc: Global, count: usize) -> Result<Vec<Segment>> {
+    let mut bytes = Vec::new(alloc);
+    for _ in 0..3 {
+        bytes.extend_from_slice(ENTRIES.as_slice())?;
+    }
+    let files = vec![in alloc; (7u64, bytes)]?;
+    let segments = file_segments(LogQueue::Append, Version::V1, files)?;
+    equal_shares(alloc, segments.as_slice(), count.max(1), 1)
+}
+
+/// Counts the entries of the batch at a byte of a part that are read back from their place, and returns where the next
+/// batch begins.
+fn read_back(alloc: Global, part: &FilePart, at: usize) -> Result<(u64, usize)> {
+    let Some((batch, next)) = next_batch(part, at.min(part.bytes().len()))? else {
+        return Ok((0, usize::MAX));
+    };
+    let mut count = 0u64;
+    for item in batch.iter() {
+        if let LogItemContent::EntryIndexes(entries) = &item.content {
+            count = count.saturating_add(same_entries(alloc, part, entries.0.as_slice())?);
+        }
+    }
+    Ok((count, next))
+}
+
+/// Counts the entries whose bytes in the part are `x`.
+fn same_entries(alloc: Global, part: &FilePart, entries: &[EntryIndex]) -> Result<u64> {
+    let mut count = 0u64;
+    for entry in entries {
+        let Some(place) = entry.entries else {
+            return Ok(0);
+        };
+        let block = entries_block_in(part, place)?;
+        if entry_bytes(alloc, block, entry)? == b"x".as_slice() {
+            count = count.saturating_add(1);
+        }
+    }
+    Ok(count)
+}
+
+/// Counts the entries of all shares that are read back from the part that has their batch.
+fn entries_read_back(alloc: Global, shares: &[Segment]) -> Result<u64> {
+    let mut count = 0u64;
+    for share in shares {
+        for part in share {
+            let mut at = 0usize;
+            for _ in 0..3 {
+                let (read, next) = read_back(alloc, part, at)?;
+                count = count.saturating_add(read);
+                at = next;
+            }
+        }
+    }
+    Ok(count)
+}
+
+/// Tests that each of the twelve entries is read back, from one part and from parts that are cut.
+#[test]
+fn shares_have_the_entries(rt: HostRuntime) {
+    for &count in &[1usize, 2, 3] {
+        let mut read = shares_read_back(rt.alloc(), count);
+        if matches!(read, Err(Error::Memory)) {
+            read = shares_read_back(rt.alloc(), count);
+        }
+        assert!(rt;
+            matches!(read, Ok((12, shares)) if shares == count),
+            "{count} shares"
+        );
+    }
+}
+
+/// Returns how many entries are read back from so many shares, and how many shares there are.
+fn shares_read_back(alloc: Global, count: usize) -> Result<(u64, usize)> {
+    let shares = entry_shares(alloc, count)?;
+    Ok((entries_read_back(alloc, shares.as_slice())?, shares.len()))
 }

@@ -10,10 +10,12 @@ use raft_memtable::{
     ContextStage, Factory, FileId, Kept, LogItemBatch, LogQueue, MemTableAccessor,
     MemTableRecoverContext, MemTableRecoverContextFactory, RegionMarks, ReplayMachine, Result,
 };
+use raft_records::ReadBatch;
 use std::alloc::Global;
 
 fn contexts() {
     let _new: fn(Global) -> Result<MemTableRecoverContext> = MemTableRecoverContext::new;
+    let _reads_on: fn(&MemTableRecoverContext) -> bool = MemTableRecoverContext::reads_on;
     let _replay: fn(&mut MemTableRecoverContext, LogItemBatch, FileId) -> Result<()> =
         MemTableRecoverContext::replay;
     let _merge: fn(&mut MemTableRecoverContext, MemTableRecoverContext, LogQueue) -> Result<()> =
@@ -32,6 +34,22 @@ fn replay_of_machines<M: ReplayMachine>(
     file: FileId,
 ) -> Result<()> {
     M::replay(machine, batch, file)
+}
+
+fn replay_read_of_contexts(
+    context: &mut MemTableRecoverContext,
+    batch: &ReadBatch<'_>,
+    file: FileId,
+) -> Result<()> {
+    MemTableRecoverContext::replay_read(context, batch, file)
+}
+
+fn replay_read_of_machines<M: ReplayMachine>(
+    machine: &mut M,
+    batch: &ReadBatch<'_>,
+    file: FileId,
+) -> Result<()> {
+    M::replay_read(machine, batch, file)
 }
 
 fn merge_of_machines<M: ReplayMachine>(machine: &mut M, rhs: M, queue: LogQueue) -> Result<()> {

@@ -15,6 +15,8 @@ mod definitions;
 #[cfg(test)]
 mod items;
 #[cfg(test)]
+mod log;
+#[cfg(test)]
 mod log_batches;
 #[cfg(test)]
 mod parts;
@@ -24,6 +26,8 @@ mod recovery;
 mod regions;
 #[cfg(test)]
 mod shared;
+#[cfg(test)]
+mod steps;
 #[cfg(test)]
 mod tables;
 #[cfg(test)]

@@ -163,7 +163,7 @@ fn parts_of(segment: Segment) -> Vec<FilePart> {
 fn get_or_insert_of_recoveries<'a>(
     accessor: &'a mut MemTableAccessor,
     number: u64,
-) -> AllocResult<&'a MemTable> {
+) -> Result<&'a MemTable> {
     MemTableAccessor::get_or_insert(accessor, number)
 }
 

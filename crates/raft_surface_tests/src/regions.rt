@@ -4,7 +4,7 @@ use raft_memtable::{
     AllocResult, FileSeq, GlobalStats, LogBatch, LogItem, MemTable, MemTableAccessor, RegionTables,
     Result, TableChange, slot_of,
 };
-use std::alloc::Global;
+use std::alloc::{AllocError, Global};
 use std::vec;
 
 fn tables() {
@@ -13,6 +13,7 @@ fn tables() {
     let _totals: fn(&MemTableAccessor) -> (u128, u128) = MemTableAccessor::totals;
     let _slot_of: fn(u64) -> usize = slot_of;
     let _region_tables: fn(Global) -> RegionTables = RegionTables::new;
+    let _no_memory: AllocResult<u8> = Err(AllocError);
 }
 
 fn stats_of_tables<'a>(accessor: &'a MemTableAccessor) -> &'a GlobalStats {
@@ -34,7 +35,7 @@ fn get_of_tables<'a>(accessor: &'a MemTableAccessor, number: u64) -> Option<&'a 
 fn get_or_insert_of_tables<'a>(
     accessor: &'a mut MemTableAccessor,
     number: u64,
-) -> AllocResult<&'a MemTable> {
+) -> Result<&'a MemTable> {
     MemTableAccessor::get_or_insert(accessor, number)
 }
 

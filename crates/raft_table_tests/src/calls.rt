@@ -2,7 +2,7 @@
 
 use crate::rows::{Row, lists};
 use crate::store::Answer::{Corruption, Done, Full, InvalidArgument};
-use crate::store::Call::{Append, Count, Group, Put, Replay};
+use crate::store::Call::{Append, Compact, Count, Group, Put, Replay};
 use crate::store::{Answer, Call, LogStore, Run, Shape, answered};
 use raft_memtable::{Error, FileSeq, LogQueue, MemTable, Result};
 use std::alloc::Global;
@@ -139,7 +139,8 @@ fn runs_are_put_where_they_may(rt: HostRuntime) -> Result<()> {
 /// the answer of the merge, and the first store after it.
 type MergeRow = (Call, Call, bool, Answer, Shape);
 
-static MERGES: [MergeRow; 9] = [
+/// In the second half one table or both are empty.
+static MERGES: [MergeRow; 18] = [
     (
         Append((10, 20, 1)),
         Append((15, 18, 2)),
@@ -203,18 +204,105 @@ static MERGES: [MergeRow; 9] = [
         InvalidArgument,
         ((10, 20), (10, 1), (0, 0, 0)),
     ),
+    (
+        Append((10, 20, 1)),
+        Compact(0),
+        false,
+        Done,
+        ((10, 20), (10, 1), (0, 0, 0)),
+    ),
+    (
+        Compact(0),
+        Append((10, 20, 1)),
+        false,
+        Done,
+        ((10, 20), (10, 1), (0, 0, 0)),
+    ),
+    (
+        Replay(LogQueue::Rewrite, (10, 20, 1)),
+        Compact(0),
+        false,
+        Done,
+        ((10, 20), (0, 0), (10, 0, 1)),
+    ),
+    (
+        Compact(0),
+        Replay(LogQueue::Rewrite, (10, 20, 1)),
+        false,
+        Done,
+        ((10, 20), (0, 0), (10, 0, 1)),
+    ),
+    (
+        Compact(0),
+        Compact(0),
+        false,
+        Done,
+        ((0, 0), (0, 0), (0, 0, 0)),
+    ),
+    (
+        Replay(LogQueue::Rewrite, (10, 20, 1)),
+        Compact(0),
+        true,
+        Done,
+        ((10, 20), (0, 0), (10, 0, 1)),
+    ),
+    (
+        Compact(0),
+        Append((10, 20, 1)),
+        true,
+        Done,
+        ((10, 20), (10, 1), (0, 0, 0)),
+    ),
+    (
+        Compact(0),
+        Compact(0),
+        true,
+        Done,
+        ((0, 0), (0, 0), (0, 0, 0)),
+    ),
+    (
+        Put(LogQueue::Rewrite, 1),
+        Compact(0),
+        true,
+        Done,
+        ((0, 0), (0, 0), (1, 0, 1)),
+    ),
 ];
 
 fn merges() -> &'static [MergeRow] {
     &MERGES
 }
 
-/// Merges the second store's table into the first's. Returns the result, and the first store.
-fn merged(alloc: Global, older: Call, newer: Call, is_append: bool) -> Result<(Answer, Shape)> {
+/// What is seen of a table by itself: its first index and its last, how many keys it has, and the files of its group.
+type Seen = (Option<u64>, Option<u64>, usize, Option<(FileSeq, FileSeq)>);
+
+/// What is seen of a table that holds nothing.
+const EMPTY: Seen = (None, None, 0, None);
+
+fn seen(table: &MemTable) -> Seen {
+    (
+        table.first_index(),
+        table.last_index(),
+        table.key_count(),
+        table.atomic_group(),
+    )
+}
+
+/// Merges the second store's table into the first's. Returns the result, the first store, and whether the second table
+/// is then empty, or as it was where the merge was refused.
+fn merged(
+    alloc: Global,
+    older: Call,
+    newer: Call,
+    is_append: bool,
+) -> Result<(Answer, Shape, bool)> {
     let mut store = LogStore::after(alloc, &[older])?;
     let mut table = LogStore::after(alloc, &[newer])?.table;
+    let before = seen(&table);
     let given = store.merge(&mut table, is_append);
-    Ok((answered(given.map(|()| 0))?, store.shape()))
+    let left = if given.is_ok() { EMPTY } else { before };
+    let is_left = seen(&table) == left;
+    Ok((answered(given.map(|()| 0))?, store.shape(), is_left))
 }
 
 #[test]
@@ -224,7 +312,7 @@ fn tables_merge(rt: HostRuntime) -> Result<()> {
             Err(Error::Memory) => merged(rt.alloc(), *older, *newer, *is_append)?,
             given => given?,
         };
-        assert!(rt; given == (*answer, *shape), "{older:?} {newer:?}");
+        assert!(rt; given == (*answer, *shape, true), "{older:?} {newer:?}");
     }
     Ok(())
 }

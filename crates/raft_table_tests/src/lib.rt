@@ -16,4 +16,6 @@ mod random_calls;
 #[cfg(test)]
 mod rows;
 #[cfg(test)]
+mod stats;
+#[cfg(test)]
 mod store;

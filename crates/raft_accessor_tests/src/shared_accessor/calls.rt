@@ -38,6 +38,16 @@ const MADE: &[Call] = &[
     Call::Remove(2000, true),
 ];
 
+/// Calls after which a region that was cleaned is written again, beside one that is cleaned alone.
+const CLEANED_AND_WRITTEN: &[Call] = &[Call::AppendWrites(&[
+    Item::Entries(REGION, 10, 20, NEW),
+    Item::Clean(REGION),
+    Item::Clean(3),
+    Item::Entries(REGION, 30, 33, NEWER),
+    Item::Put(REGION, b"k", true, Some(NEWER)),
+    Item::Clean(4),
+])];
+
 /// A call that makes a table with one rewritten entry alone.
 const REWRITTEN_ALONE: &[Call] = &[Call::Replay(
     LogQueue::Rewrite,
@@ -106,8 +116,9 @@ const WITHOUT_VALUE: &[Item] = &[
 /// Calls that make tables, a call of these, and its fault where it is refused.
 type Row = (&'static [Call], Call, Option<Fault>);
 
-static CALLS: [Row; 35] = [
+static CALLS: [Row; 36] = [
     (&[], Call::Nothing, None),
+    (CLEANED_AND_WRITTEN, Call::Nothing, None),
     (REWRITTEN_ALONE, Call::Nothing, None),
     (MADE, Call::Nothing, None),
     (MADE, Call::WithTableMut(REGION), None),
@@ -245,6 +256,16 @@ fn is_list_kept<R: Wait>(rt: &R, alloc: Global) -> Result<bool> {
     Ok(taken(rt, alloc, &shared)?.as_slice() == [3, 73, 3, 3].as_slice())
 }
 
+/// Tests whether a region that was cleaned and written again has its table and is listed, also where it was shared and
+/// comes back.
+fn is_written_again(alloc: Global) -> Result<bool> {
+    let shared = SharedAccessor::from_core(alloc, tables_of(alloc, CLEANED_AND_WRITTEN)?)?;
+    let mut core = shared.into_core()?;
+    let seen = see_core(alloc, &mut core)?;
+    let mut expected = tables_of(alloc, CLEANED_AND_WRITTEN)?;
+    Ok(seen.has(1, 3, (4, 0)) && seen == see_core(alloc, &mut expected)?)
+}
+
 /// Tests whether a call returns and leaves the same in both, and is refused for its fault or not at all.
 fn is_alike<R: Wait>(rt: &R, alloc: Global, row: &Row) -> Result<bool> {
     let (made, call, fault) = *row;
@@ -266,7 +287,7 @@ fn are_alike<R: Wait>(rt: &R, alloc: Global) -> Result<bool> {
             return Ok(false);
         }
     }
-    is_list_kept(rt, alloc)
+    Ok(is_list_kept(rt, alloc)? && is_written_again(alloc)?)
 }
 
 #[test]

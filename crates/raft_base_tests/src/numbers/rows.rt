@@ -13,7 +13,7 @@ macro_rules! rows {
 /// A number, and what `encode_u64`, `encode_u64_desc` and `encode_u64_le` write.
 pub(super) type LongRow = (u64, u64, u64, u64);
 
-static U64_ROWS: [LongRow; 16] = rows! {
+static U64_ROWS: [LongRow; 26] = rows! {
     0 => 0x00000000_00000000 0xffffffff_ffffffff 0x00000000_00000000;
     1 => 0x00000000_00000001 0xffffffff_fffffffe 0x01000000_00000000;
     2 => 0x00000000_00000002 0xffffffff_fffffffd 0x02000000_00000000;
@@ -29,14 +29,31 @@ static U64_ROWS: [LongRow; 16] = rows! {
     256 => 0x00000000_00000100 0xffffffff_fffffeff 0x00010000_00000000;
     257 => 0x00000000_00000101 0xffffffff_fffffefe 0x01010000_00000000;
     1024 => 0x00000000_00000400 0xffffffff_fffffbff 0x00040000_00000000;
+    32_767 => 0x00000000_00007fff 0xffffffff_ffff8000 0xff7f0000_00000000;
+    32_768 => 0x00000000_00008000 0xffffffff_ffff7fff 0x00800000_00000000;
+    32_769 => 0x00000000_00008001 0xffffffff_ffff7ffe 0x01800000_00000000;
+    2_147_483_647 => 0x00000000_7fffffff 0xffffffff_80000000 0xffffff7f_00000000;
+    2_147_483_648 => 0x00000000_80000000 0xffffffff_7fffffff 0x00000080_00000000;
+    2_147_483_649 => 0x00000000_80000001 0xffffffff_7ffffffe 0x01000080_00000000;
+    9_223_372_036_854_775_807 => 0x7fffffff_ffffffff 0x80000000_00000000 0xffffffff_ffffff7f;
+    9_223_372_036_854_775_808 => 0x80000000_00000000 0x7fffffff_ffffffff 0x00000000_00000080;
+    9_223_372_036_854_775_809 => 0x80000000_00000001 0x7fffffff_fffffffe 0x01000000_00000080;
+    u64::MAX - 1 => 0xffffffff_fffffffe 0x00000000_00000001 0xfeffffff_ffffffff;
     u64::MAX => 0xffffffff_ffffffff 0x00000000_00000000 0xffffffff_ffffffff;
 };
 
 /// A number, and what `encode_i64`, `encode_i64_desc` and `encode_i64_le` write.
 pub(super) type SignedRow = (i64, u64, u64, u64);
 
-static I64_ROWS: [SignedRow; 20] = rows! {
+static I64_ROWS: [SignedRow; 34] = rows! {
     i64::MIN => 0x00000000_00000000 0xffffffff_ffffffff 0x00000000_00000080;
+    i64::MIN + 1 => 0x00000000_00000001 0xffffffff_fffffffe 0x01000000_00000080;
+    -2_147_483_649 => 0x7fffffff_7fffffff 0x80000000_80000000 0xffffff7f_ffffffff;
+    -2_147_483_648 => 0x7fffffff_80000000 0x80000000_7fffffff 0x00000080_ffffffff;
+    -2_147_483_647 => 0x7fffffff_80000001 0x80000000_7ffffffe 0x01000080_ffffffff;
+    -32_769 => 0x7fffffff_ffff7fff 0x80000000_00008000 0xff7fffff_ffffffff;
+    -32_768 => 0x7fffffff_ffff8000 0x80000000_00007fff 0x0080ffff_ffffffff;
+    -32_767 => 0x7fffffff_ffff8001 0x80000000_00007ffe 0x0180ffff_ffffffff;
     -1024 => 0x7fffffff_fffffc00 0x80000000_000003ff 0x00fcffff_ffffffff;
     -1023 => 0x7fffffff_fffffc01 0x80000000_000003fe 0x01fcffff_ffffffff;
     -1 => 0x7fffffff_ffffffff 0x80000000_00000000 0xffffffff_ffffffff;
@@ -55,6 +72,13 @@ static I64_ROWS: [SignedRow; 20] = rows! {
     256 => 0x80000000_00000100 0x7fffffff_fffffeff 0x00010000_00000000;
     257 => 0x80000000_00000101 0x7fffffff_fffffefe 0x01010000_00000000;
     1024 => 0x80000000_00000400 0x7fffffff_fffffbff 0x00040000_00000000;
+    32_767 => 0x80000000_00007fff 0x7fffffff_ffff8000 0xff7f0000_00000000;
+    32_768 => 0x80000000_00008000 0x7fffffff_ffff7fff 0x00800000_00000000;
+    32_769 => 0x80000000_00008001 0x7fffffff_ffff7ffe 0x01800000_00000000;
+    2_147_483_647 => 0x80000000_7fffffff 0x7fffffff_80000000 0xffffff7f_00000000;
+    2_147_483_648 => 0x80000000_80000000 0x7fffffff_7fffffff 0x00000080_00000000;
+    2_147_483_649 => 0x80000000_80000001 0x7fffffff_7ffffffe 0x01000080_00000000;
+    i64::MAX - 1 => 0xffffffff_fffffffe 0x00000000_00000001 0xfeffffff_ffffff7f;
     i64::MAX => 0xffffffff_ffffffff 0x00000000_00000000 0xffffffff_ffffff7f;
 };
 
@@ -62,7 +86,7 @@ static I64_ROWS: [SignedRow; 20] = rows! {
 /// and `encode_u16_le` write of the second.
 pub(super) type ShortRow = (u32, u16, u32, u32, u16, u16);
 
-static SHORT_ROWS: [ShortRow; 16] = rows! {
+static SHORT_ROWS: [ShortRow; 20] = rows! {
     0, 0 => 0x00000000 0x00000000 0x0000 0x0000;
     1, 1 => 0x00000001 0x01000000 0x0001 0x0100;
     2, 2 => 0x00000002 0x02000000 0x0002 0x0200;
@@ -78,12 +102,20 @@ static SHORT_ROWS: [ShortRow; 16] = rows! {
     256, 256 => 0x00000100 0x00010000 0x0100 0x0001;
     257, 257 => 0x00000101 0x01010000 0x0101 0x0101;
     1024, 1024 => 0x00000400 0x00040000 0x0400 0x0004;
+    2_147_483_647, 32_767 => 0x7fffffff 0xffffff7f 0x7fff 0xff7f;
+    2_147_483_648, 32_768 => 0x80000000 0x00000080 0x8000 0x0080;
+    2_147_483_649, 32_769 => 0x80000001 0x01000080 0x8001 0x0180;
+    4_294_967_294, 65_534 => 0xfffffffe 0xfeffffff 0xfffe 0xfeff;
     u32::MAX, u16::MAX => 0xffffffff 0xffffffff 0xffff 0xffff;
 };
 
 /// A number, and what `encode_i32_le` writes.
-static I32_ROWS: [(i32, u32); 20] = rows! {
+static I32_ROWS: [(i32, u32); 28] = rows! {
     i32::MIN => 0x00000080;
+    i32::MIN + 1 => 0x01000080;
+    -32_769 => 0xff7fffff;
+    -32_768 => 0x0080ffff;
+    -32_767 => 0x0180ffff;
     -1024 => 0x00fcffff;
     -1023 => 0x01fcffff;
     -1 => 0xffffffff;
@@ -102,6 +134,10 @@ static I32_ROWS: [(i32, u32); 20] = rows! {
     256 => 0x00010000;
     257 => 0x01010000;
     1024 => 0x00040000;
+    32_767 => 0xff7f0000;
+    32_768 => 0x00800000;
+    32_769 => 0x01800000;
+    i32::MAX - 1 => 0xfeffff7f;
     i32::MAX => 0xffffff7f;
 };
 
@@ -109,7 +145,7 @@ static I32_ROWS: [(i32, u32); 20] = rows! {
 /// wrote one of the two, the other is calculated: the first is 2n for n, and 2n - 1 for -n.
 pub(super) type SpellingRow = (u64, i64, &'static [u8]);
 
-static SPELLINGS: [SpellingRow; 30] = rows! {
+static SPELLINGS: [SpellingRow; 43] = rows! {
     0, 0 => b"\x00";
     1, -1 => b"\x01";
     2, 1 => b"\x02";
@@ -138,6 +174,19 @@ static SPELLINGS: [SpellingRow; 30] = rows! {
     2047, -1024 => b"\xff\x0f";
     2048, 1024 => b"\x80\x10";
     16_384, 8192 => b"\x80\x80\x01";
+    32_767, -16_384 => b"\xff\xff\x01";
+    32_768, 16_384 => b"\x80\x80\x02";
+    32_769, -16_385 => b"\x81\x80\x02";
+    65_535, -32_768 => b"\xff\xff\x03";
+    65_536, 32_768 => b"\x80\x80\x04";
+    2_147_483_647, -1_073_741_824 => b"\xff\xff\xff\xff\x07";
+    2_147_483_648, 1_073_741_824 => b"\x80\x80\x80\x80\x08";
+    2_147_483_649, -1_073_741_825 => b"\x81\x80\x80\x80\x08";
+    4_294_967_295, -2_147_483_648 => b"\xff\xff\xff\xff\x0f";
+    4_294_967_296, 2_147_483_648 => b"\x80\x80\x80\x80\x10";
+    9_223_372_036_854_775_807, -4_611_686_018_427_387_904 => b"\xff\xff\xff\xff\xff\xff\xff\xff\x7f";
+    9_223_372_036_854_775_808, 4_611_686_018_427_387_904 => b"\x80\x80\x80\x80\x80\x80\x80\x80\x80\x01";
+    9_223_372_036_854_775_809, -4_611_686_018_427_387_905 => b"\x81\x80\x80\x80\x80\x80\x80\x80\x80\x01";
     u64::MAX - 1, i64::MAX => b"\xfe\xff\xff\xff\xff\xff\xff\xff\xff\x01";
     u64::MAX, i64::MIN => b"\xff\xff\xff\xff\xff\xff\xff\xff\xff\x01";
 };

@@ -6,83 +6,157 @@ use crate::files::{replay_file, replay_read};
 use raft_memtable::{Error, FileId, Kept, LogQueue, MemTableRecoverContext, Result};
 use std::alloc::Global;
 
-/// Why a call is refused; want of memory is handed on.
-#[derive(Clone, Copy, PartialEq, Eq, Debug)]
+/// Why a call is refused, in which words.
+#[derive(Clone, Copy)]
 enum Refusal {
-    Corruption,
+    Corruption(&'static str),
+    InvalidArgument(&'static str),
     Failed,
-    InvalidArgument,
-    Other,
 }
 
-fn refusal_of(answer: Result<()>) -> Result<Option<Refusal>> {
-    match answer {
-        Ok(()) => Ok(None),
-        Err(Error::Memory) => Err(Error::Memory),
-        Err(Error::Corruption(_)) => Ok(Some(Refusal::Corruption)),
-        Err(Error::Failed) => Ok(Some(Refusal::Failed)),
-        Err(Error::InvalidArgument(_)) => Ok(Some(Refusal::InvalidArgument)),
-        Err(_) => Ok(Some(Refusal::Other)),
+/// Tests whether a call is refused so; want of memory is handed on.
+fn is_refused(answer: Result<()>, refusal: Refusal) -> Result<bool> {
+    match (answer, refusal) {
+        (Err(Error::Memory), _) => Err(Error::Memory),
+        (Err(Error::Corruption(text)), Refusal::Corruption(reason)) => Ok(text.as_str() == reason),
+        (Err(Error::InvalidArgument(text)), Refusal::InvalidArgument(reason)) => {
+            Ok(text.as_str() == reason)
+        }
+        (Err(Error::Failed), Refusal::Failed) => Ok(true),
+        _ => Ok(false),
     }
 }
 
 /// The queue of a context whose last file is the second, then the queue of a batch, the number of its file, and of the
-/// file that it is replayed as: an older file, the other queue, and twice another file than the batch's own.
-const BATCHES: [(LogQueue, LogQueue, u64, u64); 4] = [
-    (LogQueue::Rewrite, LogQueue::Rewrite, 1, 1),
-    (LogQueue::Rewrite, LogQueue::Append, 3, 3),
-    (LogQueue::Rewrite, LogQueue::Rewrite, 3, 4),
-    (LogQueue::Append, LogQueue::Append, 3, 4),
+/// file that it is replayed as: an older file, the other queue, and twice another file than the batch's own. And why it
+/// is refused.
+const BATCHES: [(LogQueue, LogQueue, u64, u64, &str); 4] = [
+    (
+        LogQueue::Rewrite,
+        LogQueue::Rewrite,
+        1,
+        1,
+        "a batch of a file below the last one",
+    ),
+    (
+        LogQueue::Rewrite,
+        LogQueue::Append,
+        3,
+        3,
+        "a batch of the other queue",
+    ),
+    (
+        LogQueue::Rewrite,
+        LogQueue::Rewrite,
+        3,
+        4,
+        "an item can't stand in a batch of its file",
+    ),
+    (
+        LogQueue::Append,
+        LogQueue::Append,
+        3,
+        4,
+        "an item can't stand in a batch of its file",
+    ),
 ];
 
-/// Tests whether a batch, as it was read, is refused as `Corruption`, and the context has failed then.
-fn is_batch_refused(alloc: Global, first: LogQueue, own: FileId, given: FileId) -> Result<bool> {
+/// Tests whether a batch, as it was read, is refused as `Corruption` for this reason, and the context has failed then.
+fn is_batch_refused(
+    alloc: Global,
+    first: LogQueue,
+    own: FileId,
+    given: FileId,
+    reason: &'static str,
+) -> Result<bool> {
     let mut context = read(alloc, first, &[Put, Put])?;
     let file = part(alloc, 1, Put, own)?;
-    let refused = refusal_of(replay_read(&mut context, &file, given))?;
-    let again = refusal_of(replay_file(&mut context, &file))?;
+    let answer = replay_read(&mut context, &file, given);
+    let refused = is_refused(answer, Refusal::Corruption(reason))?;
+    let again = is_refused(replay_file(&mut context, &file), Refusal::Failed)?;
     let failed = matches!(context.finish(), Err(Error::Failed));
-    Ok(refused == Some(Refusal::Corruption) && again == Some(Refusal::Failed) && failed)
+    Ok(refused && again && failed)
 }
 
 /// What a context read of its queue.
 type Side = (LogQueue, &'static [Word]);
 
-/// Two contexts that are not merged for the rewrite queue, since one of them or both are of another, or of which the
-/// second is not put over the first; and whether they are merged.
-const OTHERS: [(Side, Side, bool); 7] = [
+/// Why contexts are refused that aren't of the queue that they have to be of.
+const QUEUE: Refusal = Refusal::InvalidArgument("a context of the other queue");
+
+/// Why a newer neighbor is refused whose first file is older than the last one.
+const FILE: Refusal = Refusal::Corruption("the newer context begins in a file below the last one");
+
+/// Two contexts that are not merged for the rewrite queue, since one of them or both are of another, or since the newer
+/// one begins in an older file, or of which the second is not put over the first; whether they are merged, and why they
+/// are refused.
+const OTHERS: [(Side, Side, bool, Refusal); 9] = [
     (
         (LogQueue::Append, &[Put]),
         (LogQueue::Rewrite, &[Put]),
         true,
+        QUEUE,
     ),
     (
         (LogQueue::Rewrite, &[Put]),
         (LogQueue::Append, &[Put]),
         true,
+        QUEUE,
     ),
-    ((LogQueue::Append, &[Put]), (LogQueue::Append, &[Put]), true),
+    (
+        (LogQueue::Append, &[Put]),
+        (LogQueue::Append, &[Put]),
+        true,
+        QUEUE,
+    ),
     // Their runs leave a hole, for which neighbors of the append queue are refused too.
     (
         (LogQueue::Append, &[Run(10, 20)]),
         (LogQueue::Append, &[Run(40, 45)]),
         true,
+        QUEUE,
     ),
     (
         (LogQueue::Rewrite, &[Run(10, 20)]),
         (LogQueue::Append, &[Run(40, 45)]),
         true,
+        QUEUE,
     ),
-    ((LogQueue::Append, &[Put]), (LogQueue::Append, &[]), false),
+    (
+        (LogQueue::Append, &[Put]),
+        (LogQueue::Append, &[]),
+        false,
+        QUEUE,
+    ),
     (
         (LogQueue::Rewrite, &[Put]),
         (LogQueue::Rewrite, &[Put]),
         false,
+        QUEUE,
+    ),
+    (
+        (LogQueue::Rewrite, &[Put, Put]),
+        (LogQueue::Rewrite, &[Put]),
+        true,
+        FILE,
+    ),
+    // Of another queue too, which is told first.
+    (
+        (LogQueue::Append, &[Put, Put]),
+        (LogQueue::Append, &[Put]),
+        true,
+        QUEUE,
     ),
 ];
 
-/// Tests whether a context doesn't take in another one so, as a wrong argument, and has failed then.
-fn is_other_refused(alloc: Global, older: Side, newer: Side, is_merged: bool) -> Result<bool> {
+/// Tests whether a context doesn't take in another one so, for this reason, and has failed then.
+fn is_other_refused(
+    alloc: Global,
+    older: Side,
+    newer: Side,
+    is_merged: bool,
+    refusal: Refusal,
+) -> Result<bool> {
     let mut context = read(alloc, older.0, older.1)?;
     let newer = read(alloc, newer.0, newer.1)?;
     let answer = if is_merged {
@@ -90,24 +164,22 @@ fn is_other_refused(alloc: Global, older: Side, newer: Side, is_merged: bool) ->
     } else {
         context.merge_append_context(newer)
     };
-    let refused = refusal_of(answer)?;
+    let refused = is_refused(answer, refusal)?;
     let failed = matches!(context.finish(), Err(Error::Failed));
-    Ok(refused == Some(Refusal::InvalidArgument) && failed)
+    Ok(refused && failed)
 }
 
 /// Tests that what has taken in an append context takes in nothing more, and is taken in by none.
 fn overlaid_twice(alloc: Global) -> Result<bool> {
     let mut context = overlaid(alloc, &[Run(10, 20)], &[Put])?;
-    let again = refusal_of(context.merge_append_context(MemTableRecoverContext::new(alloc)?))?;
-    let replayed = refusal_of(replay(alloc, &mut context, LogQueue::Rewrite, 1, &[Clean]))?;
+    let answer = context.merge_append_context(MemTableRecoverContext::new(alloc)?);
+    let again = is_refused(answer, Refusal::Failed)?;
+    let answer = replay(alloc, &mut context, LogQueue::Rewrite, 1, &[Clean]);
+    let replayed = is_refused(answer, Refusal::Failed)?;
     let kept = has_kept(&context)?;
     let mut older = MemTableRecoverContext::new(alloc)?;
-    let merged = refusal_of(older.merge_append_context(context))?;
-    Ok(
-        kept && [again, replayed, merged]
-            .iter()
-            .all(|answer| *answer == Some(Refusal::Failed)),
-    )
+    let merged = is_refused(older.merge_append_context(context), Refusal::Failed)?;
+    Ok(kept && again && replayed && merged)
 }
 
 /// Tests whether a context holds ten entries, those of the region beside and a key, and no item of the group that
@@ -127,12 +199,12 @@ fn has_kept(context: &MemTableRecoverContext) -> Result<bool> {
 /// Tests whether batches and contexts that don't fit are refused.
 fn are_refused(alloc: Global) -> Result<bool> {
     let mut all = overlaid_twice(alloc)?;
-    for &(first, queue, own, given) in &BATCHES {
+    for &(first, queue, own, given, reason) in &BATCHES {
         let (own, given) = (FileId::new(queue, own), FileId::new(queue, given));
-        all &= is_batch_refused(alloc, first, own, given)?;
+        all &= is_batch_refused(alloc, first, own, given, reason)?;
     }
-    for &(older, newer, is_merged) in &OTHERS {
-        all &= is_other_refused(alloc, older, newer, is_merged)?;
+    for &(older, newer, is_merged, refusal) in &OTHERS {
+        all &= is_other_refused(alloc, older, newer, is_merged, refusal)?;
     }
     Ok(all)
 }

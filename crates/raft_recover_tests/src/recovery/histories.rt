@@ -7,7 +7,7 @@ use super::owed::{APPEND, REWRITE, Row};
 use raft_base::FileSeq;
 
 /// The number of a batch's file, and its bytes in base 16.
-type Batch = (FileSeq, &'static str);
+pub(crate) type Batch = (FileSeq, &'static str);
 
 const FIRST: Batch = (
     1,
@@ -81,6 +81,30 @@ pub(crate) const WITH_A_HOLE: [Batch; 9] = [
     ),
 ];
 
+/// Batches of the rewrite queue: a group over two others, of other regions, and one that is left open.
+pub(crate) const REWRITTEN: [Batch; 8] = [
+    (1, RUN_1_10_OF_5),
+    (2, GROUP_BEGIN_1_4),
+    (
+        2,
+        "0000000000001c00000000000000001001060301016b01763f17ef2d",
+    ),
+    (
+        3,
+        "0000000000002e000000000000000018787878787764156c02090301035f5f01010105010404010203048128f7a1",
+    ),
+    (3, GROUP_END),
+    (4, "000000000000190000000000000000100105020203c9c92764"),
+    (
+        5,
+        "00000000000028000000000000000015788316dc8c02090301035f5f01010205010101012071edb3",
+    ),
+    (
+        5,
+        "0000000000002500000000000000001002080301035f5f010100060301017a0176998beb9b",
+    ),
+];
+
 pub(crate) fn histories() -> &'static [Row] {
     &ROWS
 }
@@ -118,28 +142,7 @@ live 10 0
     },
     // A group over two others, of other regions, and one that is left open.
     Row {
-        batches: &[
-            (1, RUN_1_10_OF_5),
-            (2, GROUP_BEGIN_1_4),
-            (
-                2,
-                "0000000000001c00000000000000001001060301016b01763f17ef2d",
-            ),
-            (
-                3,
-                "0000000000002e000000000000000018787878787764156c02090301035f5f01010105010404010203048128f7a1",
-            ),
-            (3, GROUP_END),
-            (4, "000000000000190000000000000000100105020203c9c92764"),
-            (
-                5,
-                "00000000000028000000000000000015788316dc8c02090301035f5f01010205010101012071edb3",
-            ),
-            (
-                5,
-                "0000000000002500000000000000001002080301035f5f010100060301017a0176998beb9b",
-            ),
-        ],
+        batches: &REWRITTEN,
         lines: Some(
             "\
 5 entries 3..8 keys 0 append - rewrite 2
@@ -162,7 +165,7 @@ live 0 6
     },
     // A truncation in between: the entries below it lie in the first file, and those of the run after it in the last.
     Row {
-        batches: &[(1, RUN_10_20), (2, TRUNCATE_15), (3, RUN_15_18)],
+        batches: &[(1, RUN_10_20), (1, TRUNCATE_15), (2, RUN_15_18)],
         lines: Some(
             "\
 1 entries 10..18 keys 0 append 1 rewrite -
@@ -173,8 +176,8 @@ live 8 0
         places: &[
             (1, 10, 1, 16, 14, 0),
             (1, 14, 1, 16, 14, 4),
-            (1, 15, 3, 16, 7, 0),
-            (1, 17, 3, 16, 7, 2),
+            (1, 15, 2, 16, 7, 0),
+            (1, 17, 2, 16, 7, 2),
         ],
         ..APPEND
     },

@@ -1,8 +1,9 @@
 //! Texts of refusals: where reading stopped, and why.
 
 use crate::recovery::histories::{APPENDED, WITH_A_HOLE};
-use crate::recovery::{cut, cuttings};
+use crate::recovery::{cut, cuttings, whole_files};
 use raft_base::{Error, FileSeq, LogQueue, Result, Version};
+use raft_recover::files::file_segments;
 use raft_recover::recovery::recover_segments;
 use raft_recover::{MemTableAccessor, Segment, recover, recover_both};
 use std::alloc::Global;
@@ -20,12 +21,33 @@ static CUT_SHORT: [&str; 8] = [
     "append file 5, offset 0: a log batch of 40 bytes is cut short",
 ];
 
-/// What is said of the hole after the appended batches, with its place in front where one reading finds it.
-const HOLE_TEXT: &str =
-    "region 1: a run from index 12 on leaves a hole behind the entries, which end before index 10";
-
+/// What is said of the hole after the appended batches.
 const PLACED_HOLE: &str =
     "append file 5, offset 40: region 1: a run from index 12 on leaves a hole behind the entries, which end before index 10";
+
+/// A batch of 24 bytes with `Clean`.
+const CLEAN: &str = "00000000000018000000000000000010010102015a800bdd";
+
+/// Batches whose checksum is right, but whose items end too early or name a region by no number, and what is said of
+/// them behind one of 24 bytes.
+static SPELLINGS: [(&str, &str); 3] = [
+    (
+        "0000000000001700000000000000001001010248e39609",
+        "Codec Error: append file 1, offset 24: eof",
+    ),
+    (
+        "0000000000001600000000000000001001012813c52f",
+        "IO Error: Custom { kind: UnexpectedEof, error: \"append file 1, offset 24: eof\" }",
+    ),
+    (
+        "0000000000002100000000000000001001ffffffffffffffffff0202018a06a554",
+        "Codec Error: append file 1, offset 24: overflow",
+    ),
+];
+
+fn spellings() -> &'static [(&'static str, &'static str)] {
+    &SPELLINGS
+}
 
 /// The calls that return tables.
 #[derive(Clone, Copy)]
@@ -55,8 +77,25 @@ fn tables_of<R: Threads + Sync>(
     }
 }
 
-/// Returns what is said where a call refuses batches of the append queue as corruption or as an argument, read as those
-/// of this queue by so many workers; nothing where they are read.
+/// Returns what is said where a call refuses segments as corruption or as an argument, read as those of this queue by so
+/// many workers; nothing where they are read.
+fn told<R: Threads + Sync>(
+    rt: &R,
+    alloc: Global,
+    call: Call,
+    segments: &[Segment],
+    queue: LogQueue,
+    workers: usize,
+) -> Result<String> {
+    match tables_of(rt, alloc, call, segments, queue, workers) {
+        Ok(_tables) => Ok(String::new(alloc)),
+        Err(Error::Corruption(text)) => Ok(text),
+        Err(Error::InvalidArgument(text)) => Ok(text),
+        Err(error) => Err(error),
+    }
+}
+
+/// Returns what is told of batches of the append queue, each a part of its own.
 fn refusal<R: Threads + Sync>(
     rt: &R,
     alloc: Global,
@@ -67,12 +106,27 @@ fn refusal<R: Threads + Sync>(
     workers: usize,
 ) -> Result<String> {
     let segments = cut(alloc, LogQueue::Append, Version::V1, batches, cuts)?;
-    match tables_of(rt, alloc, call, segments.as_slice(), queue, workers) {
-        Ok(_tables) => Ok(String::new(alloc)),
-        Err(Error::Corruption(text)) => Ok(text),
-        Err(Error::InvalidArgument(text)) => Ok(text),
-        Err(error) => Err(error),
-    }
+    told(rt, alloc, call, segments.as_slice(), queue, workers)
+}
+
+/// Returns what is told of the files of batches of the append queue, each a part of all its batches.
+fn file_refusal<R: Threads + Sync>(
+    rt: &R,
+    alloc: Global,
+    call: Call,
+    batches: &[(FileSeq, &str)],
+    workers: usize,
+) -> Result<String> {
+    let files = whole_files(alloc, Version::V1, batches)?;
+    let segments = file_segments(LogQueue::Append, Version::V1, files)?;
+    told(
+        rt,
+        alloc,
+        call,
+        segments.as_slice(),
+        LogQueue::Append,
+        workers,
+    )
 }
 
 /// Returns the appended batches, of which this one lacks its last byte.
@@ -116,7 +170,43 @@ fn refusals_name_file_and_offset(rt: HostRuntime) {
     }
 }
 
-/// Tests whether a hole is told in one wording at every seventh cutting, by one to four workers.
+/// Returns the place in front of a text.
+fn place_in(text: &str) -> &str {
+    match text.split_once(": ") {
+        Some((place, _)) => place,
+        None => text,
+    }
+}
+
+/// Tests whether the place of a batch that is cut short is told where its file is one part.
+fn is_place_told<R: Threads + Sync>(
+    rt: &R,
+    alloc: Global,
+    number: usize,
+    text: &str,
+) -> Result<bool> {
+    let batches = cut_short(alloc, number)?;
+    for &(call, workers) in &[(Recover, 1), (RecoverSegments, 3), (RecoverBoth, 2)] {
+        let told = file_refusal(rt, alloc, call, batches.as_slice(), workers)?;
+        if place_in(told.as_str()) != place_in(text) {
+            return Ok(false);
+        }
+    }
+    Ok(true)
+}
+
+#[test]
+fn refusals_in_files_name_the_batch(rt: HostRuntime) {
+    for (number, text) in cut_short_texts().iter().enumerate() {
+        let mut told = is_place_told(&rt, rt.alloc(), number, text);
+        if matches!(told, Err(Error::Memory)) {
+            told = is_place_told(&rt, rt.alloc(), number, text);
+        }
+        assert!(rt; matches!(told, Ok(true)), "batch {number}");
+    }
+}
+
+/// Tests whether a hole is told in one wording at every seventh cutting, by one to four workers, and in whole files.
 fn is_hole_told<R: Threads + Sync>(rt: &R, alloc: Global) -> Result<bool> {
     let batches = WITH_A_HOLE.as_slice();
     for seventh in 0..cuttings(batches.len()) / 7 {
@@ -131,12 +221,13 @@ fn is_hole_told<R: Threads + Sync>(rt: &R, alloc: Global) -> Result<bool> {
             LogQueue::Append,
             workers,
         )?;
-        if text.as_str() != PLACED_HOLE && text.as_str() != HOLE_TEXT {
+        if text.as_str() != PLACED_HOLE {
             return Ok(false);
         }
     }
     let one = refusal(rt, alloc, Recover, batches, 0, LogQueue::Append, 1)?;
-    Ok(one.as_str() == PLACED_HOLE)
+    let whole = file_refusal(rt, alloc, RecoverBoth, batches, 2)?;
+    Ok(one.as_str() == PLACED_HOLE && whole.as_str() == PLACED_HOLE)
 }
 
 #[test]
@@ -179,5 +270,39 @@ fn arguments_are_told(rt: HostRuntime) {
             }
             assert!(rt; matches!(told, Ok(true)), "{workers} workers: {text}");
         }
+    }
+}
+
+/// Tests whether a call says this of a batch behind another, each a part of its own and both one.
+fn is_spelling_told<R: Threads + Sync>(
+    rt: &R,
+    alloc: Global,
+    digits: &str,
+    text: &str,
+) -> Result<bool> {
+    let batches = [(1, CLEAN), (1, digits)];
+    let segments = cut(alloc, LogQueue::Append, Version::V1, &batches, 1)?;
+    let files = whole_files(alloc, Version::V1, &batches)?;
+    let whole = file_segments(LogQueue::Append, Version::V1, files)?;
+    for read in [segments.as_slice(), whole.as_slice()] {
+        let Err(error) = recover(rt, alloc, read, LogQueue::Append, 2) else {
+            return Ok(false);
+        };
+        let told = format!(in alloc; "{error}")?;
+        if told.as_str() != text {
+            return Ok(false);
+        }
+    }
+    Ok(true)
+}
+
+#[test]
+fn refused_spellings_name_file_and_offset(rt: HostRuntime) {
+    for &(digits, text) in spellings() {
+        let mut told = is_spelling_told(&rt, rt.alloc(), digits, text);
+        if !matches!(told, Ok(true)) {
+            told = is_spelling_told(&rt, rt.alloc(), digits, text);
+        }
+        assert!(rt; matches!(told, Ok(true)), "{text}");
     }
 }

@@ -4,13 +4,43 @@ use super::batches::{
     CLEAN, COMPACT_3, COMPACT_18, COMPACT_20, COMPACT_40, DELETE_K, GROUP_BEGIN_1_4, GROUP_END,
     PUT_K, RUN_0_2, RUN_10_20, RUN_10_30, RUN_15_18, RUN_20_25, RUN_35_40, RUN_40_45,
 };
+use super::histories::Batch;
 use super::owed::{APPEND, REWRITE, Row};
+
+const RUN_1_4: &str = "000000000000230000000000000000177878780aea9b1c01010103010102035c434291";
+
+const RUN_4_6: &str = "0000000000002100000000000000001678780f18e1f801010102040102e51e3297";
+
+const PUT_K_OF_2: &str = "0000000000001c00000000000000001001020301016b01762c33a0d9";
+
+/// Two runs of region 1, a compaction in the third file that drops the first run's front, and a key of region 2.
+pub(crate) const FIVE: [Batch; 4] = [(1, RUN_1_4), (2, RUN_4_6), (3, COMPACT_3), (4, PUT_K_OF_2)];
+
+/// What is owed for them, the same with an empty segment among them.
+pub(crate) const FIVE_OWED: Row = Row {
+    batches: &FIVE,
+    lines: Some(
+        "\
+1 entries 3..6 keys 0 append 1 rewrite -
+2 entries - keys 1 append 4 rewrite -
+cleaned -
+live 4 0
+",
+    ),
+    places: &[
+        (1, 3, 1, 16, 7, 2),
+        (1, 4, 2, 16, 6, 0),
+        (1, 5, 2, 16, 6, 1),
+    ],
+    pairs: &[(2, b"k", Some(b"v"))],
+    ..APPEND
+};
 
 pub(crate) fn rows() -> &'static [Row] {
     &ROWS
 }
 
-static ROWS: [Row; 25] = [
+static ROWS: [Row; 27] = [
     // No file.
     Row {
         batches: &[],
@@ -96,6 +126,18 @@ live 4 0
         ],
         pairs: &[(2, b"k", Some(b"v"))],
         ..APPEND
+    },
+    FIVE_OWED,
+    // The same with an empty part in the third file.
+    Row {
+        batches: &[
+            (1, RUN_1_4),
+            (2, RUN_4_6),
+            (3, ""),
+            (3, COMPACT_3),
+            (4, PUT_K_OF_2),
+        ],
+        ..FIVE_OWED
     },
     // A compaction past the end of a newer run drops what stood after it.
     Row {

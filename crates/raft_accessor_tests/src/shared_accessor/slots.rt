@@ -1,0 +1,55 @@
+//! Truncations of the tables of one slot.
+
+ghost use Rattle.std.specs.Prelude.{◌≡◌};
+
+use crate::items::{Fault, answered, run};
+use raft_memtable::{Error, FileId, LogQueue, Result, TableChange, slot_of};
+use raft_records::{Command, LogItem};
+use raft_recover::Slot;
+use std::alloc::Global;
+
+/// Returns a truncation of region 1.
+fn truncation(index: u64) -> LogItem
+    ensures { result.raft_group_id ≡ 1 }
+{
+    LogItem::new_command(1, Command::Truncate { index })
+}
+
+/// Returns how many records are live in both queues.
+fn live(slot: &Slot) -> (usize, usize) {
+    (
+        slot.stats().live_entries(LogQueue::Append),
+        slot.stats().live_entries(LogQueue::Rewrite),
+    )
+}
+
+/// Returns the index of the last entry of region 1.
+fn last(slot: &Slot) -> Option<u64> {
+    slot.table(1).and_then(|table| table.last_index())
+}
+
+/// Tests truncations of the entries from 10 on and below 20, of which the first five are rewritten: the rest goes in
+/// two steps, and a rewriting truncates nothing.
+fn truncate(alloc: Global) -> Result<bool> {
+    let mut slot = Slot::new(alloc, slot_of(1));
+    let appended = run(alloc, 10, 20, FileId::new(LogQueue::Append, 1))?;
+    slot.change(1, TableChange::Append(appended))?;
+    let rewritten = run(alloc, 10, 15, FileId::new(LogQueue::Rewrite, 50))?;
+    slot.apply_rewrite_write(LogItem::new_entry_indexes(1, rewritten), Some(1), 50)?;
+    let dropped = slot.change(1, TableChange::Truncate { index: 17 })?;
+    let changed = (dropped, last(&slot), live(&slot)) == (3, Some(16), (2, 5));
+    slot.apply_append_write(truncation(12))?;
+    let written = (last(&slot), live(&slot)) == (Some(11), (0, 2));
+    let refused = answered(slot.apply_rewrite_write(truncation(11), Some(1), 50))?;
+    let kept = (last(&slot), live(&slot)) == (Some(11), (0, 2));
+    Ok(changed && written && refused == Err(Fault::Corruption) && kept)
+}
+
+#[test]
+fn slots_truncate(rt: HostRuntime) {
+    let mut truncated = truncate(rt.alloc());
+    if matches!(truncated, Err(Error::Memory)) {
+        truncated = truncate(rt.alloc());
+    }
+    assert!(rt; matches!(truncated, Ok(true)));
+}

@@ -1,0 +1,134 @@
+//! Batches that are signed for files and written, and the places of their items.
+
+use super::{context, with_one_of_each};
+use raft_records::{
+    Command, CompressionType, Error, FileBlockHandle, FileId, LogBatch, LogItem, LogItemBatch,
+    LogItemContent, LogQueue, ReactiveBytes, Result, Version,
+};
+use std::alloc::Global;
+
+/// Tests whether the items of a log batch are read from its bytes in a file, after these entry bytes.
+fn is_read(alloc: Global, bytes: &[u8], seq: u64, entry_bytes: &[u8]) -> Result<bool> {
+    let mut behind = bytes;
+    let (offset, compression_type, len) = LogBatch::decode_header(alloc, &mut behind)?;
+    if offset > len || len != bytes.len() {
+        return Ok(false);
+    }
+    let context = context(seq, Version::V2);
+    let place = FileBlockHandle {
+        id: context.id,
+        offset: 16,
+        len: offset.saturating_sub(16),
+    };
+    let entries = LogBatch::decode_entries_block(alloc, behind, place, compression_type)?;
+    let mut item_batch = &bytes[offset..];
+    match LogItemBatch::decode(alloc, &mut item_batch, place, compression_type, &context) {
+        Ok(items) => Ok(entries.as_slice() == entry_bytes && !items.into_items().is_empty()),
+        Err(Error::Corruption(_text)) => Ok(false),
+        Err(e) => Err(e),
+    }
+}
+
+/// Tests whether a batch that is signed for three files in turn is read each time in that file alone.
+fn is_read_where_signed(alloc: Global) -> Result<bool> {
+    let mut batch = with_one_of_each(alloc)?;
+    batch.finish_populate()?;
+    let mut same = true;
+    for &seq in &[12, 18, 2001] {
+        if !batch.ready() {
+            return Ok(false);
+        }
+        let bytes = batch.as_bytes(&context(seq, Version::V2));
+        for &reader in &[12, 18, 2001] {
+            same &= is_read(alloc, bytes, reader, b"abc")? == (seq == reader);
+        }
+    }
+    Ok(same)
+}
+
+#[test]
+fn one_batch_signed_for_three_files(rt: HostRuntime) {
+    let answer = match is_read_where_signed(rt.alloc()) {
+        Err(Error::Memory) => is_read_where_signed(rt.alloc()),
+        answer => answer,
+    };
+    assert!(rt; matches!(answer, Ok(true)));
+}
+
+/// Tests whether this item's entries have the place, and its key value is in the place's file.
+fn is_placed(item: &LogItem, handle: FileBlockHandle) -> bool {
+    match &item.content {
+        LogItemContent::EntryIndexes(entries) => {
+            let compression_type = CompressionType::None;
+            let mut placed = entries.0.len() == 3;
+            for (entry, (entry_offset, entry_len)) in entries
+                .0
+                .iter()
+                .zip(&[(0, 2), (2, 0), (2, 1)])
+            {
+                placed &= entry.entries == Some(handle)
+                    && entry.compression_type == compression_type
+                    && (entry.entry_offset, entry.entry_len) == (*entry_offset, *entry_len);
+            }
+            placed
+        }
+        LogItemContent::Command(_) => true,
+        LogItemContent::Kv(kv) => kv.file_id == Some(handle.id),
+    }
+}
+
+/// What is left of a batch that was written in the file 12 at 64, once its items are handed out.
+#[derive(Drop)]
+struct Drained {
+    /// How many of the items have their places there.
+    placed: usize,
+    /// Whether the batch is open and empty.
+    is_empty: bool,
+    /// How many bytes it has with a command.
+    len_with_command: usize,
+}
+
+/// Writes a batch, and hands its items out.
+fn written_and_drained(alloc: Global) -> Result<Drained> {
+    let mut batch = with_one_of_each(alloc)?;
+    let len = batch.finish_populate()?;
+    let id = FileId::new(LogQueue::Append, 12);
+    batch.prepare_write(&context(12, Version::V2));
+    batch.finish_write(FileBlockHandle {
+        id,
+        offset: 64,
+        len,
+    });
+    let place = FileBlockHandle {
+        id,
+        offset: 80,
+        len: 7,
+    };
+    let mut placed = 0usize;
+    for item in batch.drain() {
+        if is_placed(&item, place) {
+            placed = placed.saturating_add(1);
+        }
+    }
+    let is_empty = batch.is_open() && batch.is_empty() && batch.approximate_size() == 0;
+    batch.add_command(1, Command::Clean)?;
+    Ok(Drained {
+        placed,
+        is_empty,
+        len_with_command: batch.finish_populate()?,
+    })
+}
+
+#[test]
+fn places_after_a_write(rt: HostRuntime) {
+    let answer = match written_and_drained(rt.alloc()) {
+        Err(Error::Memory) => written_and_drained(rt.alloc()),
+        answer => answer,
+    };
+    let drained = answer.unwrap_or(Drained {
+        placed: 0,
+        is_empty: false,
+        len_with_command: 0,
+    });
+    assert!(rt; drained.placed == 6 && drained.is_empty && drained.len_with_command == 24);
+}

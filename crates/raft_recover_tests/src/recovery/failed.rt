@@ -1,0 +1,135 @@
+//! Contexts that refused a batch or a neighbor: they serve no further call.
+
+use super::batches::{RUN_10_20, RUN_40_45};
+use super::histories::Batch;
+use super::pieces::History;
+use raft_base::{Error, FileId, FileSeq, LogQueue, Result};
+use raft_memtable::MemTableRecoverContext;
+use raft_records::LogItemBatch;
+use std::alloc::Global;
+
+/// How a call is refused, if it is.
+#[derive(Clone, Copy, PartialEq, Eq)]
+enum Refusal {
+    Corruption,
+    Failed,
+    Other,
+}
+
+/// Returns what comes of a call, if it isn't refused for want of memory.
+fn refusal_of(called: Result<()>) -> Result<Option<Refusal>> {
+    match called {
+        Ok(()) => Ok(None),
+        Err(Error::Corruption(_)) => Ok(Some(Refusal::Corruption)),
+        Err(Error::Failed) => Ok(Some(Refusal::Failed)),
+        Err(Error::Memory) => Err(Error::Memory),
+        Err(_) => Ok(Some(Refusal::Other)),
+    }
+}
+
+/// Returns how the replay of an empty batch of a file is refused.
+fn replay(
+    alloc: Global,
+    context: &mut MemTableRecoverContext,
+    seq: FileSeq,
+) -> Result<Option<Refusal>> {
+    let file = FileId::new(LogQueue::Append, seq);
+    refusal_of(context.replay(LogItemBatch::default(alloc), file))
+}
+
+/// Tests whether a context's merge with another, and its taking in of another, are refused as `Failed`.
+fn are_merges_failed(alloc: Global, context: &mut MemTableRecoverContext) -> Result<bool> {
+    let merged = context.merge(MemTableRecoverContext::new(alloc)?, LogQueue::Append);
+    let overlaid = context.merge_append_context(MemTableRecoverContext::new(alloc)?);
+    Ok(
+        refusal_of(merged)? == Some(Refusal::Failed)
+            && refusal_of(overlaid)? == Some(Refusal::Failed),
+    )
+}
+
+/// Tests whether merges of a context, what it holds and its tables are refused as `Failed`.
+fn serves_no_call(alloc: Global, mut context: MemTableRecoverContext) -> Result<bool> {
+    let failed = are_merges_failed(alloc, &mut context)?;
+    let held = matches!(context.kept(), Err(Error::Failed));
+    Ok(failed && held && matches!(context.finish(), Err(Error::Failed)))
+}
+
+/// Tests whether a context that refused a file below the last one returns `Failed` from then on.
+fn refused_batch_stays_failed(alloc: Global) -> Result<bool> {
+    let mut context = MemTableRecoverContext::new(alloc)?;
+    for &(seq, refusal) in &[
+        (5, None),
+        (4, Some(Refusal::Corruption)),
+        (6, Some(Refusal::Failed)),
+    ] {
+        if replay(alloc, &mut context, seq)? != refusal {
+            return Ok(false);
+        }
+    }
+    serves_no_call(alloc, context)
+}
+
+#[test]
+fn refused_contexts_stay_failed(rt: HostRuntime) {
+    let mut failed = refused_batch_stays_failed(rt.alloc());
+    if matches!(failed, Err(Error::Memory)) {
+        failed = refused_batch_stays_failed(rt.alloc());
+    }
+    assert!(rt; matches!(failed, Ok(true)));
+}
+
+/// A run of region 1, and one that leaves a hole after it.
+const WITH_A_HOLE: [Batch; 2] = [(1, RUN_10_20), (2, RUN_40_45)];
+
+/// Returns the context of a history's first batch, if it refuses that of the second.
+fn with_refused_neighbor(history: &History) -> Result<Option<MemTableRecoverContext>> {
+    let mut context = history.replayed(0, 1)?.context;
+    let newer = history.replayed(1, 2)?.context;
+    match context.merge(newer, LogQueue::Append) {
+        Err(Error::Corruption(_)) => Ok(Some(context)),
+        Err(error) => Err(error),
+        Ok(()) => Ok(None),
+    }
+}
+
+/// Tests whether a context that refused its neighbor returns `Failed` from then on.
+fn refused_neighbor_stays_failed(alloc: Global, history: &History) -> Result<bool> {
+    let Some(context) = with_refused_neighbor(history)? else {
+        return Ok(false);
+    };
+    serves_no_call(alloc, context)
+}
+
+/// Tests whether a context that refused its neighbor is itself refused as `Failed`: as a neighbor, or where it is taken
+/// in.
+fn is_no_neighbor(alloc: Global, history: &History, is_taken_in: bool) -> Result<bool> {
+    let Some(failed) = with_refused_neighbor(history)? else {
+        return Ok(false);
+    };
+    let mut context = MemTableRecoverContext::new(alloc)?;
+    let refused = if is_taken_in {
+        context.merge_append_context(failed)
+    } else {
+        context.merge(failed, LogQueue::Append)
+    };
+    Ok(refusal_of(refused)? == Some(Refusal::Failed))
+}
+
+/// Tests whether both are so.
+fn refused_neighbor_is_of_no_use(alloc: Global) -> Result<bool> {
+    let history = History::read(alloc, LogQueue::Append, &WITH_A_HOLE)?;
+    Ok(
+        refused_neighbor_stays_failed(alloc, &history)?
+            && is_no_neighbor(alloc, &history, false)?
+            && is_no_neighbor(alloc, &history, true)?,
+    )
+}
+
+#[test]
+fn refused_merges_stay_failed(rt: HostRuntime) {
+    let mut failed = refused_neighbor_is_of_no_use(rt.alloc());
+    if matches!(failed, Err(Error::Memory)) {
+        failed = refused_neighbor_is_of_no_use(rt.alloc());
+    }
+    assert!(rt; matches!(failed, Ok(true)));
+}

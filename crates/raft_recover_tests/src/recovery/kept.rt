@@ -1,0 +1,180 @@
+//! What contexts hold: those of rows at every cutting, however they are merged, and some others.
+
+use super::batches::{PUT_K, RUN_10_20};
+use super::bound::is_within;
+use super::histories::{Batch, histories, truncated, with_a_hole};
+use super::owed::Row;
+use super::pieces::{History, merge, replay};
+use super::rows::rows;
+use super::truncations::truncations;
+use raft_base::{Error, LogQueue, Result};
+use raft_memtable::{Kept, MemTableRecoverContext};
+use std::alloc::Global;
+
+/// Tests whether all contexts on the way of a row's batches hold no more than their own batches let them, and the merged
+/// ones have what it owes; where nothing is owed, whether the batches can't be read or are refused at each cutting.
+fn row_holds_little(alloc: Global, row: &Row) -> Result<bool> {
+    match History::read(alloc, row.queue, row.batches) {
+        Ok(history) => history.at_each_cutting(row),
+        Err(Error::Corruption(_)) => Ok(row.lines.is_none()),
+        Err(error) => Err(error),
+    }
+}
+
+#[test]
+fn merged_rows_hold_little(rt: HostRuntime) {
+    for list in [rows(), truncations(), histories()] {
+        for row in list {
+            let mut all = row_holds_little(rt.alloc(), row);
+            if matches!(all, Err(Error::Memory)) {
+                all = row_holds_little(rt.alloc(), row);
+            }
+            assert!(rt; matches!(all, Ok(true)), "{:?}", row.batches);
+        }
+    }
+}
+
+#[test]
+fn merged_contexts_before_one_more_batch_hold_little(rt: HostRuntime) {
+    for row in [truncated(), with_a_hole()] {
+        let mut all = row_holds_little(rt.alloc(), row);
+        if matches!(all, Err(Error::Memory)) {
+            all = row_holds_little(rt.alloc(), row);
+        }
+        assert!(rt; matches!(all, Ok(true)), "{:?}", row.lines);
+    }
+}
+
+/// Batches that an older context replays and a newer one, how often each, and what the newer one and both merged hold.
+struct Counted {
+    queue: LogQueue,
+    older: &'static [Batch],
+    newer: &'static [Batch],
+    times: usize,
+    alone: Kept,
+    merged: Kept,
+}
+
+const NOTHING: Kept = Kept {
+    entries: 0,
+    keys: 0,
+    marks: 0,
+    deleted_keys: 0,
+    cleaned: 0,
+    waiting_items: 0,
+};
+
+const ONE_KEY: Kept = Kept {
+    keys: 1,
+    marks: 1,
+    ..NOTHING
+};
+
+/// At most: the key that is put again may count as deleted.
+const TWO_DELETED: Kept = Kept {
+    deleted_keys: 2,
+    ..ONE_KEY
+};
+
+const TWO_WAIT: Kept = Kept {
+    marks: 1,
+    waiting_items: 2,
+    ..NOTHING
+};
+
+/// Two keys of region 1 are deleted, and one of them is put again.
+const DELETE_K_AND_J_PUT_J: Batch = (
+    1,
+    "0000000000002600000000000000001003010302016b010302016a010301016a01769696a0ef",
+);
+
+/// The end of a group with two keys.
+const END_WITH_TWO: Batch = (
+    1,
+    "0000000000002c00000000000000001003090301035f5f010102050301016b0176050301016a0176ecd19e14",
+);
+
+static COUNTED: [Counted; 4] = [
+    Counted {
+        queue: LogQueue::Append,
+        older: &[(1, PUT_K)],
+        newer: &[(1, PUT_K)],
+        times: 100_000,
+        alone: ONE_KEY,
+        merged: ONE_KEY,
+    },
+    Counted {
+        queue: LogQueue::Append,
+        older: &[(1, RUN_10_20)],
+        newer: &[DELETE_K_AND_J_PUT_J],
+        times: 1,
+        alone: TWO_DELETED,
+        merged: Kept {
+            entries: 10,
+            ..TWO_DELETED
+        },
+    },
+    Counted {
+        queue: LogQueue::Append,
+        older: &[DELETE_K_AND_J_PUT_J],
+        newer: &[DELETE_K_AND_J_PUT_J],
+        times: 1,
+        alone: TWO_DELETED,
+        merged: TWO_DELETED,
+    },
+    Counted {
+        queue: LogQueue::Rewrite,
+        older: &[END_WITH_TWO],
+        newer: &[END_WITH_TWO],
+        times: 1,
+        alone: TWO_WAIT,
+        merged: TWO_WAIT,
+    },
+];
+
+fn counted_rows() -> &'static [Counted] {
+    &COUNTED
+}
+
+/// Returns the context that replayed batches so often.
+fn replayed_often(
+    alloc: Global,
+    queue: LogQueue,
+    batches: &[Batch],
+    times: usize,
+) -> Result<MemTableRecoverContext> {
+    let history = History::read(alloc, queue, batches)?;
+    let mut context = MemTableRecoverContext::new(alloc)?;
+    for written in &history.batches {
+        for _ in 0..times {
+            replay(&mut context, written)?;
+        }
+    }
+    Ok(context)
+}
+
+/// Tests whether a context holds no more than this, and just its region marks.
+fn holds_within(context: &MemTableRecoverContext, bound: Kept) -> Result<bool> {
+    let kept = context.kept()?;
+    Ok(kept.marks == bound.marks && is_within(kept, bound))
+}
+
+/// Tests whether a row's newer context holds no more than the row says, also once the older one is merged with it.
+fn holds_no_more(alloc: Global, row: &Counted) -> Result<bool> {
+    let newer = replayed_often(alloc, row.queue, row.newer, row.times)?;
+    let alone = holds_within(&newer, row.alone)?;
+    let mut context = replayed_often(alloc, row.queue, row.older, row.times)?;
+    merge(&mut context, newer, row.queue)?;
+    Ok(alone && holds_within(&context, row.merged)?)
+}
+
+#[test]
+fn contexts_hold_little(rt: HostRuntime) {
+    for row in counted_rows() {
+        let mut held = holds_no_more(rt.alloc(), row);
+        if matches!(held, Err(Error::Memory)) {
+            held = holds_no_more(rt.alloc(), row);
+        }
+        assert!(rt; matches!(held, Ok(true)), "{:?}", row.newer);
+    }
+}

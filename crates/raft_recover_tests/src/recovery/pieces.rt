@@ -1,0 +1,235 @@
+//! Histories in pieces: a context for each stretch of their batches, which are merged in several orders.
+
+use super::bound::{Written, bound_of, is_within};
+use super::histories::Batch;
+use super::owed::Row;
+use super::{bytes_of, cuttings};
+use raft_base::{Error, FileId, LogQueue, Result, Version};
+use raft_memtable::MemTableRecoverContext;
+use raft_records::{FilePart, next_batch};
+use std::alloc::Global;
+
+/// Batches of a queue, in order.
+#[derive(Drop)]
+pub(crate) struct History {
+    alloc: Global,
+    queue: LogQueue,
+    pub(crate) batches: Vec<Written>,
+}
+
+/// A context of the batches from one to below another.
+#[derive(Drop)]
+pub(crate) struct Piece {
+    pub(crate) context: MemTableRecoverContext,
+    first: usize,
+    end: usize,
+}
+
+/// In which order pieces are merged.
+#[derive(Clone, Copy, Debug)]
+enum Order {
+    FromLeft,
+    FromRight,
+    ByHalves,
+}
+
+const ORDERS: [Order; 3] = [Order::FromLeft, Order::FromRight, Order::ByHalves];
+
+impl History {
+    /// Returns the batches of files of version 1, which digits in base 16 spell: those with the same number are parts of
+    /// one file.
+    pub(crate) fn read(alloc: Global, queue: LogQueue, batches: &[Batch]) -> Result<History> {
+        let mut history = History {
+            alloc,
+            queue,
+            batches: Vec::new(alloc),
+        };
+        let (mut file, mut offset) = (0u64, 0u64);
+        for (seq, digits) in batches {
+            if *seq != file {
+                (file, offset) = (*seq, 0);
+            }
+            let bytes = bytes_of(alloc, digits)?;
+            let end = offset.saturating_add(bytes.len() as u64);
+            let part = FilePart::new(FileId::new(queue, file), Version::V1, offset, bytes)?;
+            history.push_file(&part)?;
+            offset = end;
+        }
+        Ok(history)
+    }
+
+    fn push_file(&mut self, part: &FilePart) -> Result<()> {
+        let mut at = 0;
+        for _ in 0..part.bytes().len() {
+            if at > part.bytes().len() {
+                break;
+            }
+            let Some((batch, next)) = next_batch(part, at)? else {
+                break;
+            };
+            self.batches
+                .push(Written::new(self.alloc, batch, part.id())?)?;
+            at = next;
+        }
+        Ok(())
+    }
+
+    /// Refuses a piece whose context holds more than it may, as `Failed`.
+    fn check(&self, piece: &Piece) -> Result<()> {
+        let Some(batches) = self.batches.get(piece.first..piece.end) else {
+            return Err(Error::Failed);
+        };
+        if is_within(piece.context.kept()?, bound_of(self.alloc, batches)?) {
+            Ok(())
+        } else {
+            Err(Error::Failed)
+        }
+    }
+
+    /// Replays the batches from one to below another, with a look at the context after each.
+    pub(crate) fn replayed(&self, first: usize, end: usize) -> Result<Piece> {
+        let mut piece = Piece {
+            context: MemTableRecoverContext::new(self.alloc)?,
+            first,
+            end: first,
+        };
+        for written in self.batches.iter().take(end).skip(first) {
+            replay(&mut piece.context, written)?;
+            piece.end = piece.end.saturating_add(1);
+            self.check(&piece)?;
+        }
+        Ok(piece)
+    }
+
+    /// Returns the pieces of the history that is cut after the batches whose bits are set.
+    fn pieces(&self, cuts: u64) -> Result<Vec<Piece>> {
+        let count = self.batches.len();
+        let (mut pieces, mut first, mut left) = (Vec::new(self.alloc), 0, cuts);
+        for end in 1..count {
+            if left % 2 == 1 {
+                pieces.push(self.replayed(first, end)?)?;
+                first = end;
+            }
+            left /= 2;
+        }
+        pieces.push(self.replayed(first, count)?)?;
+        Ok(pieces)
+    }
+
+    /// Merges a piece with its newer neighbor, with a look at the context.
+    fn merged(&self, older: Piece, newer: Piece) -> Result<Piece> {
+        let mut piece = older;
+        piece.end = newer.end;
+        merge(&mut piece.context, newer.context, self.queue)?;
+        self.check(&piece)?;
+        Ok(piece)
+    }
+
+    fn from_left(&self, pieces: Vec<Piece>) -> Result<Option<Piece>> {
+        let mut whole: Option<Piece> = None;
+        for piece in pieces {
+            whole = Some(match whole {
+                Some(older) => self.merged(older, piece)?,
+                None => piece,
+            });
+        }
+        Ok(whole)
+    }
+
+    fn from_right(&self, pieces: Vec<Piece>) -> Result<Option<Piece>> {
+        let mut whole: Option<Piece> = None;
+        for piece in pieces.into_iter().rev() {
+            whole = Some(match whole {
+                Some(newer) => self.merged(piece, newer)?,
+                None => piece,
+            });
+        }
+        Ok(whole)
+    }
+
+    /// Merges the first piece with the second, the third with the fourth, and so on.
+    fn paired(&self, pieces: Vec<Piece>) -> Result<Vec<Piece>> {
+        let mut pairs = Vec::new(self.alloc);
+        let half = pieces.len().div_ceil(2);
+        let mut rest = pieces.into_iter();
+        for _ in 0..half {
+            if let Some(older) = rest.next() {
+                pairs.push(self.pair(older, rest.next())?)?;
+            }
+        }
+        Ok(pairs)
+    }
+
+    /// Merges a piece with its newer neighbor, if it has one.
+    fn pair(&self, older: Piece, newer: Option<Piece>) -> Result<Piece> {
+        match newer {
+            Some(newer) => self.merged(older, newer),
+            None => Ok(older),
+        }
+    }
+
+    /// Merges at most sixteen pieces by halves.
+    fn by_halves(&self, pieces: Vec<Piece>) -> Result<Option<Piece>> {
+        let mut pieces = pieces;
+        for _ in 0..4 {
+            pieces = self.paired(pieces)?;
+        }
+        self.from_left(pieces)
+    }
+
+    /// Tests whether a piece is the whole history of a row and has what it owes, and no more items that wait.
+    fn has(&self, whole: Option<Piece>, row: &Row) -> Result<bool> {
+        let Some(whole) = whole else {
+            return Ok(false);
+        };
+        if whole.first != 0 || whole.end != self.batches.len() {
+            return Ok(false);
+        }
+        let kept = whole.context.kept()?;
+        let tables = whole.context.finish()?;
+        Ok(row.is_met(self.alloc, &tables)? && kept.waiting_items <= row.waiting)
+    }
+
+    /// Returns the history, cut after the batches whose bits are set and merged in this order.
+    fn whole(&self, cuts: u64, order: Order) -> Result<Option<Piece>> {
+        let pieces = self.pieces(cuts)?;
+        match order {
+            Order::FromLeft => self.from_left(pieces),
+            Order::FromRight => self.from_right(pieces),
+            Order::ByHalves => self.by_halves(pieces),
+        }
+    }
+
+    /// Tests whether the history of a row, cut and merged so, has what it owes; where nothing is, whether it is refused.
+    fn holds(&self, cuts: u64, order: Order, row: &Row) -> Result<bool> {
+        match self.whole(cuts, order) {
+            Ok(whole) => self.has(whole, row),
+            Err(Error::Corruption(_)) => Ok(row.lines.is_none()),
+            Err(error) => Err(error),
+        }
+    }
+
+    /// Tests whether the history of a row has what it owes, or is refused, at each cutting, merged in each order.
+    pub(crate) fn at_each_cutting(&self, row: &Row) -> Result<bool> {
+        for cuts in 0..cuttings(self.batches.len()) {
+            for &order in &ORDERS {
+                if !self.holds(cuts, order, row)? {
+                    return Ok(false);
+                }
+            }
+        }
+        Ok(true)
+    }
+}
+
+pub(crate) fn replay(context: &mut MemTableRecoverContext, written: &Written) -> Result<()> {
+    context.replay(written.batch.clone()?, written.file)
+}
+
+pub(crate) fn merge(
+    older: &mut MemTableRecoverContext,
+    newer: MemTableRecoverContext,
+    queue: LogQueue,
+) -> Result<()> {
+    older.merge(newer, queue)
+}

@@ -1,0 +1,168 @@
+//! Recovered tables that threads share.
+
+use super::histories::histories;
+use super::rows::FIVE_OWED;
+use super::{cut, owed};
+use raft_base::{Error, FileSeq, LogQueue, Result, Version};
+use raft_memtable::MemTable;
+use raft_records::LogBatch;
+use raft_recover::{SharedAccessor, recover};
+use std::alloc::Global;
+use std::sync::Wait;
+use std::thread::Threads;
+
+/// A table's region, its first and last index, how many keys it has, and its least file in both queues.
+type Shape = (
+    u64,
+    (Option<u64>, Option<u64>),
+    usize,
+    (Option<FileSeq>, Option<FileSeq>),
+);
+
+/// What shared tables of a history show.
+struct Row {
+    tables: &'static [Shape],
+    cleaned: &'static [u64],
+    /// How many records are live in the append queue and in the rewrite queue.
+    live: (u128, u128),
+}
+
+static FIVE: Row = Row {
+    tables: &[
+        (1, (Some(3), Some(5)), 0, (Some(1), None)),
+        (2, (None, None), 1, (Some(4), None)),
+    ],
+    cleaned: &[],
+    live: (4, 0),
+};
+
+/// Of the appended history, in which region 2 was cleaned and has a table again; of the rewritten one; and of one with a
+/// truncation.
+static HISTORIES: [Row; 3] = [
+    Row {
+        tables: &[
+            (1, (Some(3), Some(9)), 0, (Some(1), None)),
+            (2, (Some(50), Some(51)), 0, (Some(4), None)),
+            (3, (None, None), 1, (Some(5), None)),
+        ],
+        cleaned: &[2],
+        live: (10, 0),
+    },
+    Row {
+        tables: &[
+            (5, (Some(3), Some(7)), 0, (None, Some(2))),
+            (6, (None, None), 1, (None, Some(2))),
+        ],
+        cleaned: &[],
+        live: (0, 6),
+    },
+    Row {
+        tables: &[(1, (Some(10), Some(17)), 0, (Some(1), None))],
+        cleaned: &[],
+        live: (8, 0),
+    },
+];
+
+fn history_rows() -> &'static [Row] {
+    &HISTORIES
+}
+
+fn shape(table: &MemTable) -> Shape {
+    (
+        table.region_id(),
+        (table.first_index(), table.last_index()),
+        table.key_count(),
+        (
+            table.min_file_seq(LogQueue::Append),
+            table.min_file_seq(LogQueue::Rewrite),
+        ),
+    )
+}
+
+fn shape_of<R: Wait>(rt: &R, shared: &SharedAccessor, region: u64) -> Option<Shape> {
+    shared.with_table(rt, region, shape)
+}
+
+/// Returns the shared tables by region.
+fn shapes<R: Wait>(rt: &R, alloc: Global, shared: &SharedAccessor) -> Result<Vec<Shape>> {
+    let mut shapes = Vec::new(alloc);
+    for region in shared.collect(rt, |_: &MemTable| true)? {
+        if let Some(shape) = shape_of(rt, shared, region) {
+            shapes.push(shape)?;
+        }
+    }
+    shapes.sort()?;
+    Ok(shapes)
+}
+
+fn cleaned_logs<R: Wait>(rt: &R, alloc: Global, shared: &SharedAccessor) -> Result<LogBatch> {
+    let mut logs = LogBatch::default(alloc);
+    shared.take_cleaned_region_logs(rt, &mut logs)?;
+    Ok(logs)
+}
+
+/// Returns the regions that were cleaned. They are taken.
+fn cleaned<R: Wait>(rt: &R, alloc: Global, shared: &SharedAccessor) -> Result<Vec<u64>> {
+    let mut logs = cleaned_logs(rt, alloc, shared)?;
+    let mut regions = Vec::new(alloc);
+    for item in logs.drain() {
+        regions.push(item.raft_group_id)?;
+    }
+    Ok(regions)
+}
+
+/// Returns the tables of a history, shared.
+fn shared_of<R: Threads + Wait + Sync>(
+    rt: &R,
+    alloc: Global,
+    history: &owed::Row,
+) -> Result<SharedAccessor> {
+    let segments = cut(alloc, history.queue, Version::V1, history.batches, 0)?;
+    let tables = recover(rt, alloc, segments.as_slice(), history.queue, 1)?;
+    SharedAccessor::from_core(alloc, tables)
+}
+
+/// Tests whether shared tables of a history show what its row says, and come back with all that is owed.
+fn holds<R: Threads + Wait + Sync>(
+    rt: &R,
+    alloc: Global,
+    history: &owed::Row,
+    row: &Row,
+) -> Result<bool> {
+    let shared = shared_of(rt, alloc, history)?;
+    let shown = live(rt, &shared) == row.live
+        && shapes(rt, alloc, &shared)?.as_slice() == row.tables
+        && cleaned(rt, alloc, &shared)?.as_slice() == row.cleaned;
+    let core = shared_of(rt, alloc, history)?.into_core()?;
+    Ok(shown && history.is_met(alloc, &core)?)
+}
+
+/// Returns how many records are live in the append queue and in the rewrite queue.
+fn live<R: Wait>(rt: &R, shared: &SharedAccessor) -> (u128, u128) {
+    (
+        shared.live_entries(rt, LogQueue::Append),
+        shared.live_entries(rt, LogQueue::Rewrite),
+    )
+}
+
+/// Tests whether a history's row holds, once more where an allocation is refused: it has to find memory then.
+fn holds_at_last<R: Threads + Wait + Sync>(
+    rt: &R,
+    alloc: Global,
+    history: &owed::Row,
+    row: &Row,
+) -> Result<bool> {
+    match holds(rt, alloc, history, row) {
+        Err(Error::Memory) => holds(rt, alloc, history, row),
+        held => held,
+    }
+}
+
+#[test]
+fn recovered_tables_are_shared(rt: HostRuntime) {
+    assert!(rt; matches!(holds_at_last(&rt, rt.alloc(), &FIVE_OWED, &FIVE), Ok(true)));
+    for (history, row) in histories().iter().zip(history_rows()) {
+        let held = holds_at_last(&rt, rt.alloc(), history, row);
+        assert!(rt; matches!(held, Ok(true)), "{:?}", row.tables);
+    }
+}

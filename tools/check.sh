@@ -35,7 +35,7 @@ if [ "$status" != 0 ] || [ -s "$room/err" ] || ! cmp -s "$room/out" "$room/wante
 fi
 tools/frames.py "$program" --show 3 --limit "$frame_limit"
 tools/stack.py "$program"
-(cd "$room" && "$example" crashes 1 2 1) | tee "$room/crashes"
+(cd "$room" && "$example" crashes 1 25 1) | tee "$room/crashes"
 if ! grep -q '^[1-9][0-9]* recoveries, 0 different$' "$room/crashes"; then
   echo "crashes: none was tried"
   exit 1

@@ -4,10 +4,12 @@ ghost use Rattle.std.specs.Prelude.{◌≡◌};
 ghost use Rattle.raft_records.specs.LogBatch.{is_open};
 
 use crate::batches::{Part, REGION, batch_of};
-use raft_base::{EntryIndex, FileBlockHandle, FileId, FileSeq, LogFileContext, LogQueue, Version};
+use raft_base::{
+    EntryIndex, FileBlockHandle, FileId, FileSeq, LogFileContext, LogQueue, Version, is_consecutive,
+};
 use raft_memtable::{MemTable, MemTableAccessor, MemTableRecoverContext};
 use raft_records::{
-    Error, FilePart, LogBatch, Result, entries_block_in, entry_bytes, readable_front,
+    Error, FilePart, LogBatch, Result, entries_block_in, entry_bytes, next_batch, readable_front,
 };
 use raft_recover::replay_segment;
 use std::alloc::Global;
@@ -27,6 +29,12 @@ pub enum Step {
     ApplyGroup(FileSeq, FileSeq),
     /// Deletes those files of a queue up to a number that the tables don't need.
     Purge(LogQueue, FileSeq),
+    /// Makes what a queue holds last.
+    Sync(LogQueue),
+    /// Power fails: what wasn't synced is lost.
+    Fail,
+    /// Takes the tables that the files of both queues give.
+    Restart,
 }
 
 /// A log file.
@@ -34,6 +42,8 @@ pub enum Step {
 struct LogFile {
     id: FileId,
     bytes: Vec<u8>,
+    /// How many bytes were synced.
+    synced: usize,
 }
 
 /// Files, oldest first in each queue, and the tables that are kept.
@@ -80,6 +90,32 @@ impl Engine {
                 self.purge(queue, last);
                 Ok(())
             }
+            Step::Sync(queue) => {
+                self.sync(queue);
+                Ok(())
+            }
+            Step::Fail => {
+                self.fail();
+                Ok(())
+            }
+            Step::Restart => {
+                self.tables = self.reopened()?;
+                Ok(())
+            }
+        }
+    }
+
+    fn sync(&mut self, queue: LogQueue) {
+        for file in &mut self.files {
+            if file.id.queue == queue {
+                file.synced = file.bytes.len();
+            }
+        }
+    }
+
+    fn fail(&mut self) {
+        for file in &mut self.files {
+            file.bytes.truncate(file.synced);
         }
     }
 
@@ -111,7 +147,11 @@ impl Engine {
             }
         }
         let bytes = Vec::from_slice(self.alloc, bytes)?;
-        self.files.push(LogFile { id, bytes })?;
+        self.files.push(LogFile {
+            id,
+            bytes,
+            synced: 0,
+        })?;
         Ok(0)
     }
 
@@ -139,25 +179,66 @@ impl Engine {
         }
     }
 
-    /// Changes the first entry byte of the last file, which is after the header of its first batch.
-    pub fn flip(&mut self) {
+    /// Changes a byte of the first batch of the last file.
+    pub fn flip(&mut self, at: usize) {
         if let Some(file) = self.files.last_mut() {
-            if let Some(byte) = file.bytes.get_mut(16) {
+            if let Some(byte) = file.bytes.get_mut(at) {
                 *byte ^= 1;
             }
         }
     }
 
-    /// Cuts the last file where its readable batches end.
+    /// Cuts the last file where its readable batches end, unless a readable one stands behind the unreadable one.
     pub fn cut_tail(&mut self) -> Result<()> {
-        if let Some(file) = self.files.last_mut() {
-            let (end, stopped) = readable_front(&part_of(file)?);
-            if matches!(stopped, Some(Error::Memory)) {
-                return Err(Error::Memory);
-            }
-            file.bytes.truncate(end);
+        let Some(file) = self.files.last_mut() else {
+            return Ok(());
+        };
+        let part = part_of(file)?;
+        let (end, stopped) = readable_front(&part);
+        let Some(reason) = stopped else {
+            return Ok(());
+        };
+        if matches!(reason, Error::Memory) || has_batch_behind(&part, end)? {
+            return Err(reason);
         }
+        file.bytes.truncate(end);
         Ok(())
+    }
+
+    /// Tests whether a readable batch stands anywhere behind the place where reading of the last file stops.
+    pub fn has_batch_later(&self) -> Result<bool> {
+        let Some(file) = self.files.last() else {
+            return Ok(false);
+        };
+        let part = part_of(file)?;
+        let (end, _) = readable_front(&part);
+        for at in end..part.bytes().len() {
+            if at > end && next_batch(&part, at).is_ok() {
+                return Ok(true);
+            }
+        }
+        Ok(false)
+    }
+
+    /// Writes an entry to append file 1 whose bytes are a batch that might stand in that file.
+    pub fn append_batch_in_entry(&mut self, index: u64) -> Result<()> {
+        let context = LogFileContext::new(FileId::new(LogQueue::Append, 1), Version::V2);
+        let mut inner = batch_of(self.alloc, &[Part::Put("v")])?;
+        inner.finish_populate()?;
+        inner.prepare_write(&context);
+        let bytes = Vec::from_slice(self.alloc, inner.encoded_bytes())?;
+        let entry = EntryIndex {
+            index,
+            ..EntryIndex::default()
+        };
+        let entries = vec![in self.alloc; entry]?;
+        if !is_consecutive(&entries) {
+            return Err(Error::Failed);
+        }
+        let mut batch = LogBatch::default(self.alloc);
+        batch.add_raw_entries(REGION, entries, vec![in self.alloc; bytes]?)?;
+        let mut written = self.write(LogQueue::Append, 1, batch)?;
+        self.tables.apply_append_writes(written.drain())
     }
 
     /// Reads the first entry of the table out of its file.
@@ -180,9 +261,14 @@ impl Engine {
 
     /// Returns what the files of both queues give.
     pub fn recovered(&self) -> Result<String> {
+        text_of(self.alloc, self.reopened()?.get(REGION))
+    }
+
+    /// Returns the tables that the files of both queues give.
+    fn reopened(&self) -> Result<MemTableAccessor> {
         let mut context = self.context(LogQueue::Rewrite)?;
         context.merge_append_context(self.context(LogQueue::Append)?)?;
-        text_of(self.alloc, context.finish()?.get(REGION))
+        context.finish()
     }
 
     fn context(&self, queue: LogQueue) -> Result<MemTableRecoverContext> {
@@ -195,6 +281,23 @@ impl Engine {
         let mut context = MemTableRecoverContext::new(self.alloc)?;
         replay_segment(&mut context, &segment)?;
         Ok(context)
+    }
+}
+
+/// Tests whether a readable batch stands where the header of the unreadable one says that it ends.
+fn has_batch_behind(part: &FilePart, at: usize) -> Result<bool> {
+    let mut bytes = part.bytes().get(at..).unwrap_or(b"");
+    let Ok((_, _, len)) = LogBatch::decode_header(part.allocator(), &mut bytes) else {
+        return Ok(false);
+    };
+    let end = at.saturating_add(len);
+    if end >= part.bytes().len() {
+        return Ok(false);
+    }
+    match next_batch(part, end) {
+        Ok(_) => Ok(true),
+        Err(Error::Memory) => Err(Error::Memory),
+        Err(_) => Ok(false),
     }
 }
 

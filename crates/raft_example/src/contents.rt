@@ -64,6 +64,14 @@ impl Records {
         Ok(())
     }
 
+    /// Returns the greatest index plus one, 0 without entries.
+    pub(crate) fn end(&self) -> u64 {
+        match self.entries.last_key_value() {
+            Some((last, _)) => last.saturating_add(1),
+            None => 0,
+        }
+    }
+
     /// Drops the entries from an index on.
     pub(crate) fn truncate(&mut self, first: u64) {
         self.entries

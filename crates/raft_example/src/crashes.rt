@@ -1,10 +1,12 @@
-//! Crashes of a store in random histories: at each batch, and in some histories at each byte, everything but what the
-//! files hold so far is lost.
+//! Crashes of a store in random histories: after each batch and each deleted file, and in some histories after each
+//! byte, everything but the files is lost, and of these what wasn't synced from any batch or byte on.
 
 mod change;
 mod crash;
 mod dice;
+mod disk;
 mod history;
+mod tail;
 
 use crate::crashes::crash::{CRASHED, Crashes};
 use crate::crashes::history::{FOLDER, History};
@@ -13,7 +15,7 @@ use crate::store::Host;
 use raft_base::Result;
 
 /// How many steps a history has.
-const STEPS: u64 = 30;
+const STEPS: u64 = 40;
 
 /// Tries so many histories from a seed on, the first `by_bytes` of them at each byte, and prints how many crashes there
 /// were. Returns whether a store held after each of them what it had to.

@@ -21,6 +21,19 @@ impl<R: Files<File = File> + AllocGlobal + Clone + Drop> Disk for R {}
 /// The version of all files.
 const VERSION: Version = Version::V2;
 
+/// What was done to the files of a folder.
+#[derive(Drop)]
+pub(crate) enum FileChange {
+    /// These bytes were written behind the last file of a queue.
+    Written(FileId, Vec<u8>),
+    /// The last file of a queue was synced.
+    Synced(LogQueue),
+    /// The last file of a queue was synced, and the next one begun.
+    Begun(FileId),
+    /// The files of a queue below this one were deleted, the oldest first.
+    DeletedBelow(FileId),
+}
+
 /// The files of a queue at one moment, from the first to the last.
 #[derive(Clone, Copy)]
 struct Span {
@@ -77,17 +90,17 @@ impl<'a, R: Disk> FolderPipe<'a, R> {
         Ok(files)
     }
 
-    /// Drops the bytes of a file from `len` on.
+    /// Drops the bytes of a file from `len` on, for good.
     pub(crate) fn cut(&self, id: FileId, len: u64) -> Result<()> {
         let mut options = OpenOptions::new();
         let file = options.write(true).open(self.rt, self.path(id)?.as_str())?;
-        Ok(file.set_len(len)?)
+        file.set_len(len)?;
+        Ok(file.sync_all()?)
     }
 
     /// Returns the path of a file.
     pub(crate) fn path(&self, id: FileId) -> Result<String> {
-        let (folder, extension) = (self.folder, extension_of(id.queue));
-        Ok(format!(in self.rt.alloc(); "{folder}/{:016}{extension}", id.seq)?)
+        path_in(self.rt.alloc(), self.folder, id)
     }
 
     /// Returns how many bytes a file has.
@@ -123,6 +136,12 @@ pub(crate) fn clear<R: Disk>(rt: &R, folder: &str) -> Result<()> {
         fs::remove_dir_all(rt, folder)?;
     }
     Ok(())
+}
+
+/// Returns the path of a file in a folder.
+pub(crate) fn path_in(alloc: Global, folder: &str, id: FileId) -> Result<String> {
+    let extension = extension_of(id.queue);
+    Ok(format!(in alloc; "{folder}/{:016}{extension}", id.seq)?)
 }
 
 /// Returns how the names of a queue's files end.

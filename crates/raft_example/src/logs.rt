@@ -4,9 +4,10 @@ ghost use Rattle.std.specs.Prelude.{◌≤◌, length};
 
 use crate::folder_pipe::{Disk, FolderPipe};
 use raft_base::{Error, LogQueue, Result};
+use raft_memtable::{MemTable, MemTableAccessor};
 use raft_records::{
-    AtomicGroupStatus, Command, FilePart, LogBatch, LogItem, LogItemBatch, LogItemContent, OpType,
-    next_batch, readable_front,
+    AtomicGroupStatus, Command, EntryIndexes, FilePart, LogBatch, LogItem, LogItemBatch,
+    LogItemContent, OpType, next_batch, readable_front,
 };
 use raft_recover::Segment;
 use std::alloc::Global;
@@ -27,12 +28,12 @@ impl Logs {
         })
     }
 
-    /// Returns the commands and deletions of the append queue, in order.
+    /// Returns what the batches of the append queue take away, in order, each run at its first index.
     pub(crate) fn tombstones(&self, alloc: Global) -> Result<Vec<LogItem>> {
         let mut tombstones = Vec::new(alloc);
         for part in self.append.iter().flatten() {
             for (batch, _) in &batches_of(alloc, part)? {
-                push_tombstones(&mut tombstones, batch.iter().as_slice())?;
+                push_tombstones(&mut tombstones, batch.iter().as_slice(), None)?;
             }
         }
         Ok(tombstones)
@@ -54,20 +55,47 @@ impl Logs {
     }
 }
 
-/// Adds those of these items that remove records of a region that stays: compactions, truncations and deletions. The
-/// tables themselves list the regions that were cleaned.
-pub(crate) fn push_tombstones(tombstones: &mut Vec<LogItem>, items: &[LogItem]) -> Result<()> {
+/// Adds what these items take away to a list: compactions, truncations and deletions as they are, and each run as the
+/// truncation at its first index, unless these tables, which don't have it yet, end there. The tables themselves list
+/// the regions that were cleaned.
+pub(crate) fn push_tombstones(
+    tombstones: &mut Vec<LogItem>,
+    items: &[LogItem],
+    tables: Option<&MemTableAccessor>,
+) -> Result<()> {
     for item in items {
-        let removes = match &item.content {
-            LogItemContent::Command(command) => *command != Command::Clean,
-            LogItemContent::Kv(pair) => pair.op_type == OpType::Del,
-            LogItemContent::EntryIndexes(_) => false,
-        };
-        if removes {
-            tombstones.push(item.clone()?)?;
+        let region = item.raft_group_id;
+        match &item.content {
+            LogItemContent::Command(Command::Clean) => {}
+            LogItemContent::Command(_) => tombstones.push(item.clone()?)?,
+            LogItemContent::Kv(pair) if pair.op_type == OpType::Put => {}
+            LogItemContent::Kv(_) => tombstones.push(item.clone()?)?,
+            LogItemContent::EntryIndexes(run) => {
+                if let Some(index) = overwritten_from(region, run, tables) {
+                    tombstones.push(LogItem::new_command(region, Command::Truncate { index }))?;
+                }
+            }
         }
     }
     Ok(())
+}
+
+/// Returns the first index of a run, unless the region's table ends at or below it.
+fn overwritten_from(
+    region: u64,
+    run: &EntryIndexes,
+    tables: Option<&MemTableAccessor>,
+) -> Option<u64> {
+    let first = run.0.first()?.index;
+    let Some(tables) = tables else {
+        return Some(first);
+    };
+    let end = tables.get(region).map(|table: &MemTable| table.end());
+    if first < end.unwrap_or(0) {
+        Some(first)
+    } else {
+        None
+    }
 }
 
 /// Returns the files of a queue, the last of them without a torn tail.

@@ -1,11 +1,11 @@
 //! The logs of many regions in a folder.
 
 ghost use Rattle.std.specs.Prelude.{◌≡◌};
-ghost use Rattle.raft_records.specs.LogBatch.{is_open};
+ghost use Rattle.raft_records.specs.LogBatch.{IsSealedStage, is_open};
 
 mod rewriting;
 
-use crate::folder_pipe::{Disk, FolderPipe};
+use crate::folder_pipe::{Disk, FileChange, FolderPipe};
 use crate::logs::{Logs, push_tombstones};
 use crate::proposal::Proposal;
 use raft_base::{
@@ -36,12 +36,15 @@ pub(crate) struct Store<'a, R: Host> {
     pub(crate) pipe: FolderPipe<'a, R>,
     /// What the files hold. Only the store's calls change it, but for a try of other tables of the same files.
     pub(crate) tables: MemTableAccessor,
-    /// Commands and deletions of the append queue that the rewrite queue doesn't have yet.
+    /// What the append queue took away and the rewrite queue wasn't told yet: commands and deletions, and the
+    /// truncation at the first index of each run that replaced entries.
     tombstones: Vec<LogItem>,
     /// The greatest number of an atomic group so far.
     last_group: u64,
     /// How many bytes a file has at least before a new one is begun.
     file_size: u64,
+    /// What was done to the files, where somebody looks at it.
+    pub(crate) changes: Option<Vec<FileChange>>,
 }
 
 impl<'a, R: Host> Store<'a, R> {
@@ -63,6 +66,7 @@ impl<'a, R: Host> Store<'a, R> {
             tombstones: logs.tombstones(rt.alloc())?,
             last_group: logs.last_group(rt.alloc())?,
             file_size,
+            changes: None,
         })
     }
 
@@ -76,16 +80,42 @@ impl<'a, R: Host> Store<'a, R> {
         self.tables.check_append_writes(batch.items())?;
         self.append(LogQueue::Append, &mut batch)?;
         if sync {
-            self.pipe.sync(LogQueue::Append)?;
+            self.sync(LogQueue::Append)?;
         }
-        push_tombstones(&mut self.tombstones, batch.items())?;
+        push_tombstones(&mut self.tombstones, batch.items(), Some(&self.tables))?;
         self.tables.apply_append_writes(batch.drain())
     }
 
-    /// Begins a new file of a queue.
+    /// Makes what a queue holds last.
+    fn sync(&mut self, queue: LogQueue) -> Result<()> {
+        self.pipe.sync(queue)?;
+        self.note(FileChange::Synced(queue))
+    }
+
+    /// Begins a new file of a queue. What the queue holds by then lasts.
     pub(crate) fn rotate(&mut self, queue: LogQueue) -> Result<()> {
         self.pipe.rotate(queue)?;
         self.pipe = self.pipe.reopened()?;
+        let (_, last) = self.pipe.file_span(queue);
+        self.note(FileChange::Begun(FileId::new(queue, last)))
+    }
+
+    /// Notes what was done to the files.
+    fn note(&mut self, change: FileChange) -> Result<()> {
+        if let Some(changes) = &mut self.changes {
+            changes.push(change)?;
+        }
+        Ok(())
+    }
+
+    /// Notes that a sealed batch was written to a file.
+    fn note_written(&mut self, id: FileId, batch: &LogBatch) -> Result<()>
+        requires { IsSealedStage batch.now.stage }
+    {
+        if self.changes.is_some() {
+            let bytes = Vec::from_slice(self.rt.alloc(), batch.encoded_bytes())?;
+            self.note(FileChange::Written(id, bytes))?;
+        }
         Ok(())
     }
 
@@ -102,6 +132,7 @@ impl<'a, R: Host> Store<'a, R> {
         if !batch.is_sealed() || place.offset > LAST_OFFSET {
             return Err(Error::Failed);
         }
+        self.note_written(place.id, batch)?;
         batch.finish_write(place);
         Ok(place.id.seq)
     }

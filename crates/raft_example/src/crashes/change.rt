@@ -23,7 +23,8 @@ pub(crate) fn draw_change(
 {
     let index = draw_index(dice, records);
     match dice.below(16) {
-        0..=7 => append(alloc, dice, batch, region, records, index),
+        0..=5 => append(alloc, dice, batch, region, records, index),
+        6 | 7 => replace(alloc, dice, batch, region, records, index),
         8 | 9 => {
             let key = draw_key(alloc, dice)?;
             let value = draw_text(alloc, dice)?;
@@ -54,6 +55,43 @@ pub(crate) fn draw_change(
     }
 }
 
+/// Replaces the entries of a region from its first one or the next on, and compacts it to its new end.
+pub(crate) fn replace_all(
+    alloc: Global,
+    dice: &mut Dice,
+    batch: &mut LogBatch,
+    region: u64,
+    records: &mut Records,
+) -> Result<()>
+    requires { batch.old.stage ≡ is_open }
+    ensures { OnOk result (batch.new.stage ≡ is_open) }
+{
+    let first = match records.entries.first_key_value() {
+        Some((first, _)) => *first,
+        None => 1,
+    };
+    let index = first.saturating_add(dice.below(2));
+    replace(alloc, dice, batch, region, records, index)
+}
+
+/// Replaces the entries of a region from an index on, and compacts it to its new end.
+fn replace(
+    alloc: Global,
+    dice: &mut Dice,
+    batch: &mut LogBatch,
+    region: u64,
+    records: &mut Records,
+    index: u64,
+) -> Result<()>
+    requires { batch.old.stage ≡ is_open }
+    ensures { OnOk result (batch.new.stage ≡ is_open) }
+{
+    append(alloc, dice, batch, region, records, index)?;
+    let index = records.end();
+    records.entries.clear();
+    batch.add_command(region, Command::Compact { index })
+}
+
 /// Appends one to five entries from an index on, in place of those that are there.
 fn append(
     alloc: Global,
@@ -76,17 +114,18 @@ fn append(
     records.push_entries(proposals)
 }
 
-/// Returns an index of a region or the one past its last; of a region without entries any.
+/// Returns an index of a region or the one past its last, often that; of a region without entries any.
 fn draw_index(dice: &mut Dice, records: &Records) -> u64 {
-    let first = records.entries.first_key_value();
-    let last = records.entries.last_key_value();
-    let (first, end) = match (first, last) {
-        (Some((first, _)), Some((last, _))) => (*first, last.saturating_add(1)),
-        _ => {
+    let (first, end) = match records.entries.first_key_value() {
+        Some((first, _)) => (*first, records.end()),
+        None => {
             let first = dice.below(20);
             (first, first)
         }
     };
+    if dice.below(4) == 0 {
+        return end;
+    }
     first.saturating_add(dice.below(end.saturating_sub(first).saturating_add(1)))
 }
 

@@ -4,6 +4,7 @@ ghost use Rattle.std.specs.Prelude.{◌≡◌, IfOk, OnOk};
 ghost use Rattle.raft_records.specs.LogBatch.{is_open};
 
 use super::{Host, Store};
+use crate::folder_pipe::FileChange;
 use crate::proposal::Proposals;
 use raft_base::{EntryIndex, FileId, FileSeq, LogQueue, PipeLog, Result};
 use raft_memtable::MemTable;
@@ -57,17 +58,16 @@ impl<R: Host> Store<'_, R> {
         self.rewrite(None)
     }
 
-    /// Deletes the files of both queues that no table needs, and returns how many.
+    /// Deletes the files of both queues that no table needs, and returns how many. What takes their place lasts before.
     pub(crate) fn purge(&mut self) -> Result<(usize, usize)> {
         self.rewrite_tombstones()?;
-        self.pipe.sync(LogQueue::Rewrite)?;
+        self.sync(LogQueue::Rewrite)?;
         let appended = self.purge_queue(LogQueue::Append)?;
         let rewritten = self.purge_queue(LogQueue::Rewrite)?;
-        self.pipe = self.pipe.reopened()?;
         Ok((appended, rewritten))
     }
 
-    fn purge_queue(&self, queue: LogQueue) -> Result<usize> {
+    fn purge_queue(&mut self, queue: LogQueue) -> Result<usize> {
         let (_, last) = self.pipe.file_span(queue);
         let least = self.tables.fold(last, |least: FileSeq, table: &MemTable| {
             match table.min_file_seq(queue) {
@@ -75,12 +75,17 @@ impl<R: Host> Store<'_, R> {
                 None => least,
             }
         });
-        self.pipe.purge_to(FileId::new(queue, least))
+        let least = FileId::new(queue, least);
+        let deleted = self.pipe.purge_to(least)?;
+        self.pipe = self.pipe.reopened()?;
+        self.note(FileChange::DeletedBelow(least))?;
+        Ok(deleted)
     }
 
-    /// Writes to the rewrite queue what removes records there: the cleaned regions, then all other commands and
-    /// deletions.
+    /// Writes to the rewrite queue what takes records there away: the cleaned regions, then all else. The append queue
+    /// lasts before, so that nothing is told, and nothing moved, of batches that a power failure takes.
     pub(crate) fn rewrite_tombstones(&mut self) -> Result<()> {
+        self.sync(LogQueue::Append)?;
         let cleaned = self.tables.take_cleaned_region_logs()?;
         self.write_moved(cleaned, None)?;
         let mut batch = LogBatch::default(self.rt.alloc());

@@ -1,0 +1,91 @@
+//! The last file of a queue, and what a failure of power leaves of it.
+
+ghost use Rattle.std.specs.Prelude.{◌<◌};
+
+use crate::crashes::dice::Dice;
+use raft_base::{FileId, Result};
+use std::alloc::Global;
+
+/// The last file of a queue. Those before it were synced when it was begun.
+#[derive(Drop)]
+pub(crate) struct Tail {
+    pub(crate) id: FileId,
+    bytes: Vec<u8>,
+    /// Where each batch ends.
+    ends: Vec<usize>,
+    /// How many bytes were synced.
+    synced: usize,
+}
+
+impl Tail {
+    pub(crate) fn new(alloc: Global, id: FileId) -> Tail {
+        Tail {
+            id,
+            bytes: Vec::new(alloc),
+            ends: Vec::new(alloc),
+            synced: 0,
+        }
+    }
+
+    pub(crate) fn len(&self) -> usize {
+        self.bytes.len()
+    }
+
+    /// Adds the bytes of a batch.
+    pub(crate) fn write(&mut self, bytes: &[u8]) -> Result<()> {
+        self.bytes.extend_from_slice(bytes)?;
+        Ok(self.ends.push(self.bytes.len())?)
+    }
+
+    pub(crate) fn sync(&mut self) {
+        self.synced = self.bytes.len();
+    }
+
+    /// Returns the first bytes.
+    pub(crate) fn front(&self, len: usize) -> &[u8] {
+        self.bytes.get(..len).unwrap_or(b"")
+    }
+
+    /// Draws how many bytes a failure leaves: those that were synced, and of the others up to any byte or batch.
+    pub(crate) fn draw(&self, dice: &mut Dice) -> usize {
+        let unsynced = self.bytes.len().saturating_sub(self.synced) as u64;
+        let drawn = dice.below(unsynced.saturating_add(1)) as usize;
+        let len = self.synced.saturating_add(drawn);
+        match dice.below(4) {
+            0 => self.bytes.len(),
+            1 => self.synced,
+            2 => self.whole_front(len),
+            _ => len,
+        }
+    }
+
+    /// Returns how many of the first bytes are whole batches.
+    fn whole_front(&self, len: usize) -> usize {
+        let mut whole = 0;
+        for end in &self.ends {
+            if *end <= len {
+                whole = *end;
+            }
+        }
+        whole
+    }
+
+    /// Returns how many batches the first bytes lack.
+    pub(crate) fn lost_behind(&self, len: usize) -> usize {
+        let mut lost = 0usize;
+        for end in &self.ends {
+            if *end > len {
+                lost = lost.saturating_add(1);
+            }
+        }
+        lost
+    }
+
+    /// Drops what a failure doesn't leave; the rest lasts.
+    pub(crate) fn keep(&mut self, len: usize) {
+        let whole = self.whole_front(len);
+        self.bytes.truncate(whole);
+        self.ends.retain(|end: &usize| *end <= whole);
+        self.synced = whole;
+    }
+}

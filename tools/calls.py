@@ -1,12 +1,14 @@
 #!/usr/bin/env python3
-"""The page of all calls: what the four crates that users import from have, each with its signature and its first sentence, types
-with their public fields and their variants.
+"""The page of all calls: what the four crates that users import from and raft_log have, each with its signature and its first
+sentence, types with their public fields and their variants.
 
     calls.py            writes docs/CALLS.md
     calls.py --check    fails where that page isn't what the sources say now
 
-A name is listed once, under the first of the four crates that has it, with its module where it isn't at the crate's root. Laws, which compute nothing, are left out: docs/DEFINITIONS.md
-has them. So are calls under `#[doc(hidden)]`, which are public for other crates of this repository alone.
+What a name stands for is listed once, under the first of these crates that has it, with its module where it isn't at the crate's
+root. A name that stands for two things is listed twice, as `Error` and `codec::Error` are. Of laws, which compute nothing, the names
+alone are listed: docs/DEFINITIONS.md says what they state. What is under `#[doc(hidden)]`, where it is defined or where its own crate
+hands it on, is left out: it is public for other crates of this repository alone.
 """
 
 import itertools
@@ -16,12 +18,12 @@ from pathlib import Path
 
 TOP = Path(__file__).resolve().parent.parent
 PAGE = TOP / "docs/CALLS.md"
-USERS_CRATES = ("raft_base", "raft_records", "raft_memtable", "raft_recover")
+USERS_CRATES = ("raft_base", "raft_records", "raft_memtable", "raft_recover", "raft_log")
 
 HEAD = re.compile(r"^( *)pub (?:final )?(?:const |unsafe )*(fn|struct|enum|trait|const|type) (\w+)", re.M)
 METHOD = re.compile(r"^    (?:pub )?(?:final )?fn (\w+)", re.M)
 IMPL = re.compile(r"^impl(?:<[^{}]*?>)? (\w+)(?:<[^{}]*?>)? \{$", re.M)
-USE = re.compile(r"^pub use ([^;]+);", re.M | re.S)
+USE = re.compile(r"^(?:#\[doc\((hidden)\)\]\n)?pub use ([^;]+);", re.M | re.S)
 MODULE = re.compile(r"^pub mod (\w+);", re.M)
 CLAUSE = re.compile(r"\n\s*(?:requires|ensures|ghost)\b|\s*\n?\s*\{|;")
 ENDS_BLOCK = re.compile(r"^\}", re.M)
@@ -59,9 +61,11 @@ def signature(text, start):
     return found.replace("<, ", "<")
 
 
-def reexports(text):
-    """The pairs of path and name that `pub use` lines hand on."""
-    for use in USE.findall(text):
+def reexports(text, hidden=False):
+    """The pairs of path and name that `pub use` lines hand on, or those of the lines that are hidden from readers."""
+    for mark, use in USE.findall(text):
+        if bool(mark) != hidden:
+            continue
         path, _, names = " ".join(use.split()).partition("{")
         if names:
             for name in names.rstrip("} ").split(","):
@@ -78,42 +82,63 @@ class Crate:
     def __init__(self, name):
         self.name = name
         self.folder = TOP / "crates" / name / "src"
-        self.lib = (self.folder / "lib.rt").read_text(encoding="utf-8")
         self.files = [path.read_text(encoding="utf-8") for path in sorted(self.folder.rglob("*.rt"))]
 
-    def names(self, crates, text=None, at=""):
-        """The names that users can import from the crate, or from a module with this text, each with the crate that defines it
-        and with the path of its module in the user's crate."""
-        text = self.lib if text is None else text
+    def names(self, crates, folder="", at=""):
+        """The names that users can import from the crate, or from its module of this folder, each with the crate that defines it and
+        with the path of its module in the user's crate."""
+        text = self.module(folder)
         for path, name in reexports(text):
             home = crates.get(path.split("::")[0], self)
-            yield home, name, at
-            yield from home.names(crates, home.module(name), f"{at}{name}::")
+            yield home.home_of(crates, name), name, at
+            if home is not self:
+                yield from home.names(crates, f"{name}/", f"{at}{name}::")
         for module in MODULE.findall(text):
-            yield from self.names(crates, self.module(module), f"{at}{module}::")
+            yield from self.names(crates, f"{folder}{module}/", f"{at}{module}::")
         for head in HEAD.finditer(text):
             if not head.group(1):
                 yield self, head.group(3), at
 
-    def module(self, name):
-        """The text of a module of the crate; nothing where it has no module of this name."""
-        path = self.folder / f"{name}.rt"
+    def module(self, folder):
+        """The text of the module of the crate that has this folder, of the crate's root without one; nothing where there is none."""
+        path = self.folder / f"{folder.rstrip('/') or 'lib'}.rt"
         return path.read_text(encoding="utf-8") if path.exists() else ""
 
-    def item(self, name, path):
-        """The lines for a name that the crate defines, or none. Users import it by this path, if it is not at the root."""
+    def definition(self, name):
+        """The text of the file in which the crate defines a name, and where; nothing where it doesn't."""
         for text in self.files:
             for head in HEAD.finditer(text):
                 if head.group(3) == name and not head.group(1):
-                    return list(self.lines_of(text, head, f" (import `{path}{name}`)" if path else ""))
-        return []
+                    return text, head
+        return None
 
-    def lines_of(self, text, head, imported):
-        kind, name = head.group(2), head.group(3)
+    def home_of(self, crates, name):
+        """The crate that defines a name which this one has: itself, or one whose name it hands on."""
+        if self.definition(name):
+            return self
+        for path, handed in itertools.chain.from_iterable(reexports(text) for text in self.files):
+            home = crates.get(path.split("::")[0], self)
+            if handed == name and home is not self:
+                return home.home_of(crates, name)
+        return self
+
+    def is_internal(self, name):
+        """Whether the crate hides a name that it defines from readers."""
+        text, head = self.definition(name)
+        return is_hidden(text, head.start()) or any(name == hidden for _, hidden in reexports(self.module(""), hidden=True))
+
+    def is_law(self, name):
+        """Whether a name that the crate defines is a law."""
+        text, head = self.definition(name)
+        return head.group(2) == "fn" and is_law(text, head.start())
+
+    def lines_of(self, name, path):
+        """The lines for a name that the crate defines. Users import it by this path, if it is not at the root."""
+        text, head = self.definition(name)
+        kind, imported = head.group(2), f" (import `{path}{name}`)" if path else ""
         what = doc_above(text, head.start())
         if kind == "fn":
-            if not is_law(text, head.start()) and not is_hidden(text, head.start()):
-                yield f"- `{signature(text, head.start())}`{imported}: {what}"
+            yield f"- `{signature(text, head.start())}`{imported}: {what}"
             return
         yield f"- **`{name}`** ({kind}){imported}: {what}{parts_of(kind, text, head)}"
         if kind == "trait":
@@ -170,21 +195,26 @@ def page():
     crates = {path.name: Crate(path.name) for path in (TOP / "crates").iterdir() if (path / "src/lib.rt").exists()}
     listed, lines = set(), [
         "# All calls", "",
-        "What the four crates that users import from have, each with its signature and its first sentence. A name is imported from the crate's root",
-        "(`use raft_records::LogBatch;`) unless its module is named. `make calls` writes this page from the sources. What exactly a call does, and",
-        "what it asks of its caller (`requires`), is said by its contract, which stands with it in `crates/`.", "",
+        "What the four crates that users import from and `raft_log` have, each with its signature and its first sentence. A name is imported from",
+        "the crate's root (`use raft_records::LogBatch;`) unless its module is named. `make calls` writes this page from the sources. What exactly",
+        "a call does, and what it asks of its caller (`requires`), is said by its contract, which stands with it in `crates/`. Laws are functions",
+        "that compute nothing: their contracts are facts, of which [DEFINITIONS.md](DEFINITIONS.md) has each with its words.", "",
     ]
     for user in USERS_CRATES:
         lines += [f"## `{user}`", ""]
-        names = list(crates[user].names(crates))
-        paths = {}
-        for _, name, path in names:
-            paths[name] = min(path, paths.get(name, path), key=len)
-        for home, name, _ in names:
-            found = home.item(name, paths[name]) if name not in listed else []
-            if found:
-                listed.add(name)
-                lines += found
+        names = [(home, name, path) for home, name, path in crates[user].names(crates) if home.definition(name)]
+        paths, laws = {}, []
+        for home, name, path in names:
+            paths[home, name] = min(path, paths.get((home, name), path), key=len)
+        for (home, name), path in paths.items():
+            if (home, name) in listed or home.is_internal(name):
+                continue
+            listed.add((home, name))
+            if home.is_law(name):
+                laws.append(f"`{path}{name}`")
+            else:
+                lines += home.lines_of(name, path)
+        lines += [f"- Laws: {', '.join(laws)}."] if laws else []
         lines.append("")
     return "\n".join(lines)
 

@@ -158,6 +158,10 @@ impl Tables {
 
     /// Hands out the cleaned regions as an open batch with a `Clean` for each, in order. The list is then empty.
     ///
+    /// The batch belongs in the rewrite queue, once the append queue is synced. So does what else takes rewritten records
+    /// away, which is not listed: compactions, truncations, deletions of keys, and each run that replaces entries, as the
+    /// truncation at its first index.
+    ///
     /// # Errors
     ///
     /// `Memory`. The list is then as it was.

@@ -3,6 +3,9 @@ use Rattle.std.proofs.Common.{◌≡◌, ℕ, zero, suc, ◌+◌, ◌-◌, ◌<�
 use Rattle.std.specs.List.{AllByRecursion}
 use Rattle.std.proofs.lemmas.List.{length-take, length-take-le, length-drop, length-append, nil_from_length}
 use Rattle.std.proofs.lemmas.Bool.Decides.{nat_tests}
+use Rattle.raft_base.specs.Corruption.{IsCorruption}
+use Rattle.raft_base.specs.declared.errors.Error.{Error}
+use Rattle.raft_base.specs.declared.errors.Error.TheVariants as errors
 use Rattle.raft_base.specs.declared.compression_type.CompressionType.{CompressionType}
 use Rattle.raft_base.specs.declared.entry_index.EntryIndex.{EntryIndex}
 use Rattle.raft_base.specs.declared.pipe_log.FileBlockHandle.{FileBlockHandle}
@@ -14,7 +17,7 @@ use Rattle.raft_table.specs.Queues.{is_same}
 use Rattle.raft_table.specs.Start.{entries_after_append, leaves_hole, starts_in_front}
 use Rattle.raft_table.specs.TableEntries.{AreTableEntries, IsRunIn, below, from, is_placed_in, start_of}
 use Rattle.raft_table.proofs.RunLemmas.{below_take, below_start, from_drop, from_start, end_of-run, RisesFrom-append, RisesFrom-take, RisesFrom-drop, rises}
-use Rattle.raft_accessor.specs.Extents.{IsExtentOf, placed_entries, TakesRun}
+use Rattle.raft_accessor.specs.Extents.{IsExtentOf, IsRunCheckFault, placed_entries, TakesRun}
 use Rattle.raft_accessor.specs.declared.append_check.Extent.{Extent}
 
 pub nat_cases : (a b : ℕ) → (a ≤ b) ⊎ (b < a)
@@ -203,6 +206,14 @@ hole_found x [] first l is front z k = absurd (omega arith)
 hole_found x (e ∷ run) first l is front z k = λ es place compression at placed.
     let i : first.index ≡ e.index = ap (λ (d : EntryIndex). d.index) is in
     hole_refused x (record e { entries = Some place; compression_type = compression }) (placed_entries place compression run) es at (omega (arith, front, i)) z (omega (arith, k, i))
+
+-- the refusal of such a run, whatever its text
+pub hole_refused_so : (x : Extent) (run : List EntryIndex) (text : List ℕ) (e : Error) → IsCorruption text e
+    → ((es : List EntryIndex) (place : FileBlockHandle) (compression : CompressionType) → IsExtentOf x es → IsRunIn Append (placed_entries place compression run) → entries_after_append es (placed_entries place compression run) ≡ None)
+    → IsRunCheckFault x run e
+hole_refused_so x run text (errors.Corruption t) is none = none
+hole_refused_so x run text errors.Memory is none = tt
+hole_refused_so x run text e is none = absurd is
 
 pub run_fits : (run : List EntryIndex) (first : EntryIndex) → 0 < length run → first ≡ get_or run 0 first → IsConsecutive run → first.index + length run < 2 ^ 64
 run_fits [] first l is cons = absurd (omega arith)

@@ -11,7 +11,7 @@ ghost use Rattle.raft_accessor.specs.Extents.{IsExtentOf, commanded, TakesRun, I
 
 use raft_base::{EntryIndex, Error, Result, is_consecutive};
 use raft_records::{Command, KeyValue, LogItem, LogItemContent, OpType, is_reserved};
-use raft_table::MemTable;
+use raft_table::{MemTable, hole_error};
 use std::alloc::Global;
 use std::collections::HashMap;
 
@@ -113,9 +113,7 @@ impl Extent {
         }
         let end = self.end;
         if 0 < end && end < start {
-            return Err(Error::Corruption(format!(in alloc;
-                "region {id}: a run from index {start} on leaves a hole behind the entries, which end before index {end}"
-            )?));
+            return Err(hole_error(alloc, id, start, end));
         }
         Ok(Extent {
             first: if end == 0 { start } else { self.first },

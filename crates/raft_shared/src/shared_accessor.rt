@@ -276,6 +276,10 @@ impl SharedAccessor {
 
     /// Moves the cleaned regions of all slots into an open batch as a `Clean` for each.
     ///
+    /// The batch belongs in the rewrite queue, once the append queue is synced. So does what else takes
+    /// rewritten records away, which is not listed: compactions, truncations, deletions of keys, and each run
+    /// that replaces entries, as the truncation at its first index.
+    ///
     /// # Errors
     ///
     /// `Memory`. Each cleaned region is then still listed, or in the batch.

@@ -325,6 +325,10 @@ impl Slot {
     /// Moves the cleaned regions into an open batch as a `Clean` for each, in order. The list is then
     /// empty.
     ///
+    /// The batch belongs in the rewrite queue, once the append queue is synced. So does what else takes
+    /// rewritten records away, which is not listed: compactions, truncations, deletions of keys, and each run
+    /// that replaces entries, as the truncation at its first index.
+    ///
     /// # Errors
     ///
     /// `Memory`. Slot and batch are then as they were.

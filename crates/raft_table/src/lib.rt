@@ -6,5 +6,5 @@ pub mod memtable;
 pub mod step;
 
 pub use global_stats::GlobalStats;
-pub use memtable::{Block, DeletedKeys, Mark, MemTable, Run, TableChange, is_run};
+pub use memtable::{Block, DeletedKeys, Mark, MemTable, Run, TableChange, hole_error, is_run};
 pub use step::Step;

@@ -41,6 +41,8 @@ pub use change_laws::{
 };
 pub use deleted_keys::DeletedKeys;
 use entries::Entries;
+#[doc(hidden)]
+pub use hole::hole_error;
 use key_values::KeyValues;
 pub use mark::Mark;
 pub use query_laws::{

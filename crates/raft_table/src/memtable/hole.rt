@@ -1,7 +1,7 @@
 //! Why a run is refused that leaves a hole.
 
 ghost use Rattle.raft_base.specs.Corruption.{IsCorruption};
-ghost use Rattle.raft_table.specs.Holes.{hole_text, hole_text_above};
+ghost use Rattle.raft_table.specs.Holes.{hole_text, hole_text_above, hole_text_from};
 
 use raft_base::Error;
 use std::alloc::Global;
@@ -11,20 +11,22 @@ use std::alloc::Global;
 pub fn hole_error(alloc: Global, region_id: u64, start: u64, end: u64) -> Error
     ensures { IsCorruption (hole_text region_id start end) result }
 {
-    match format!(in alloc;
-        "region {region_id}: a run from index {start} on leaves a hole behind the entries, which end before index {end}"
-    ) {
-        Ok(text) => Error::Corruption(text),
-        Err(_) => Error::Memory,
-    }
+    hole_error_from(alloc, region_id, "index ", start, end)
 }
 
 /// Makes the [`hole_error`] of a run that starts above the index `below`, where no more is known.
 pub fn hole_error_above(alloc: Global, region_id: u64, below: u64, end: u64) -> Error
     ensures { IsCorruption (hole_text_above region_id below end) result }
 {
+    hole_error_from(alloc, region_id, "above index ", below, end)
+}
+
+/// Makes the [`hole_error`] with these words in front of what is known of the start.
+fn hole_error_from(alloc: Global, region_id: u64, words: &str, index: u64, end: u64) -> Error
+    ensures { IsCorruption (hole_text_from region_id words.now index end) result }
+{
     match format!(in alloc;
-        "region {region_id}: a run from above index {below} on leaves a hole behind the entries, which end before index {end}"
+        "region {region_id}: a run from {words}{index} on leaves a hole behind the entries, which end before index {end}"
     ) {
         Ok(text) => Error::Corruption(text),
         Err(_) => Error::Memory,

@@ -1,6 +1,6 @@
 use Rattle.std.proofs.Common.{◌<◌, refl, inl, inr, sym, ◌∙◌, arith}
 use Rattle.std.proofs.lemmas.Bool.{false≢true}
-use Rattle.raft_accessor.proofs.ExtentLemmas.{hole_found, run_accepted, run_bare, run_fits}
+use Rattle.raft_accessor.proofs.ExtentLemmas.{hole_found, hole_refused_so, run_accepted, run_bare, run_fits}
 use Rattle.raft_accessor.proofs.append_check.Extent.with_run.Goals as goal
 use Rattle.raft_accessor.proofs.append_check.Extent.with_run.Goals.{then-end-eq0, else-end-eq0}
 
@@ -9,7 +9,9 @@ returns-then-not-is_consecutive-clause-fault c = λ es place compression at plac
     absurd (false≢true (sym c.if-not-is_consecutive.true ∙ c.is_consecutive.ensures.1 (run_bare place compression c.args.run.now placed)))
 
 pub returns-then-end-start-clause-fault : goal.returns-then-end-start-clause-fault
-returns-then-end-start-clause-fault c = hole_found c.args.self c.args.run.now c.in-Some.first.now c.in-Some.ensures.item.3.0 c.in-Some.ensures.item.1 c.if-start-self.false c.if-end-gt0.true c.if-end-start.true
+returns-then-end-start-clause-fault c =
+    hole_refused_so c.args.self c.args.run.now _ c.hole_error.result c.hole_error.ensures
+    (hole_found c.args.self c.args.run.now c.in-Some.first.now c.in-Some.ensures.item.3.0 c.in-Some.ensures.item.1 c.if-start-self.false c.if-end-gt0.true c.if-end-start.true)
 
 pub overflow_add-result : goal.overflow_add-result
 overflow_add-result c = omega (arith, run_fits c.args.run.now c.in-Some.first.now c.in-Some.ensures.item.3.0 c.in-Some.ensures.item.1 (c.is_consecutive.ensures.0 c.if-not-is_consecutive.false))

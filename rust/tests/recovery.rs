@@ -174,6 +174,58 @@ fn a_refusal_has_a_kind_and_a_text_and_empties_the_context() {
 }
 
 #[test]
+fn a_hole_is_told_by_its_batch_or_by_its_region() {
+    let run = |first, seq| {
+        batch_bytes(file(seq), |batch| {
+            batch.add_entries(7, first, &["x"]).unwrap();
+        })
+    };
+    let hole = "region 7: a run from index 5 on leaves a hole behind the entries, which end before index 2";
+    let first = run(1, 1);
+    let both = [first.clone(), run(5, 1)].concat();
+    let part = |seq, bytes| FilePart {
+        file: file(seq),
+        offset: 0,
+        bytes,
+    };
+    let mut context = Context::new().unwrap();
+    let e = context.replay(part(1, &both)).unwrap_err();
+    assert_eq!(e.kind, ErrorKind::Corruption, "{e}");
+    let place = format!("append file 1, offset {}", first.len());
+    assert_eq!(e.text, format!("Corruption: {place}: {hole}"));
+    assert_eq!(context.finish().unwrap_err().kind, ErrorKind::Failed);
+    // of contexts that are merged no batch is known
+    let mut older = Context::new().unwrap();
+    older.replay(part(1, &first)).unwrap();
+    let second = run(5, 2);
+    let mut newer = Context::new().unwrap();
+    newer.replay(part(2, &second)).unwrap();
+    let e = older.merge(newer, Queue::Append).unwrap_err();
+    assert_eq!(e.kind, ErrorKind::Corruption, "{e}");
+    assert_eq!(e.text, format!("Corruption: {hole}"));
+    assert_eq!(older.finish().unwrap_err().kind, ErrorKind::Failed);
+}
+
+#[test]
+fn a_file_below_the_last_one_is_refused() {
+    let clean = |seq| batch_bytes(file(seq), |batch| batch.clean(7).unwrap());
+    let mut context = Context::new().unwrap();
+    for (seq, kind) in [
+        (5, None),
+        (4, Some(ErrorKind::Corruption)),
+        (6, Some(ErrorKind::Failed)),
+    ] {
+        let bytes = clean(seq);
+        let part = FilePart {
+            file: file(seq),
+            offset: 0,
+            bytes: &bytes,
+        };
+        assert_eq!(context.replay(part).err().map(|e| e.kind), kind, "{seq}");
+    }
+}
+
+#[test]
 fn bytes_that_are_signed_for_another_file_are_refused() {
     let files = files();
     let part = FilePart {

@@ -13,7 +13,7 @@ ghost use Rattle.raft_contexts.specs.declared.context_stage.ContextStage.TheVari
 ghost use Rattle.raft_records.specs.FilePart.{part_of};
 ghost use Rattle.raft_replay.specs.Replays.{HasReplayed, CannotFollow};
 ghost use Rattle.raft_replay.specs.Segments.{HoldsFrom};
-ghost use Rattle.raft_replay.specs.Stops.{StopsIn};
+ghost use Rattle.raft_replay.specs.Stops.{StopsByFault};
 ghost use Rattle.raft_ffi.specs.Calls.{queue_of, file_of, IsCodeOf, Holds, BothHold};
 ghost use Rattle.raft_ffi.specs.Changes.{IsMemoryOr};
 ghost use Rattle.raft_ffi.specs.Contexts.{HasTablesRead, IsOverlaidExactly};
@@ -70,7 +70,8 @@ fn new_context(alloc: Global) -> Result<Box<MemTableRecoverContext>>
 }
 
 /// Replays the batches of bytes that stand in the file from `offset` on. Where that is refused the
-/// context is gone: it may have taken in some of them.
+/// context is gone: it may have taken in some of them. The number is that of the fault where a batch can't be
+/// read, and 12 where the context doesn't read on.
 #[unsafe(no_mangle)]
 pub extern "C" fn raft_ffi_context_replay(
     alloc: Global,
@@ -93,7 +94,7 @@ pub extern "C" fn raft_ffi_context_replay(
         (λ old. CannotFollow (HoldsFrom (part_of (file_of file) offset bytes.now) 0) (HasRead old))
         context.old.value }
     ensures place { result.code ≢ 0 → Holds (λ c. c.stage ≡ Reading
-        → IsRefusedFor (StopsIn (HasRead c) (part_of (file_of file) offset bytes.now))
+        → IsRefusedFor (StopsByFault (HasRead c) Sound (part_of (file_of file) offset bytes.now))
         result text.old text.new) context.old.value }
     ensures text { HasText result text.old text.new }
 {
@@ -122,7 +123,7 @@ fn replay(
     ensures refused { IfErr result (λ e. e ≢ Error.Memory
         → CannotFollow (HoldsFrom (part_of file.now offset bytes.now) 0) (HasRead context.old)) }
     ensures place { context.old.stage ≡ Reading
-        → IfErr result (StopsIn (HasRead context.old) (part_of file.now offset bytes.now)) }
+        → IfErr result (StopsByFault (HasRead context.old) Sound (part_of file.now offset bytes.now)) }
 {
     if !context.reads_on() {
         return Err(Error::Failed);

@@ -10,7 +10,7 @@ use Rattle.raft_history.specs.Histories.{IsSmall, Sound}
 use Rattle.raft_history.proofs.StretchOfHistory.{small_front, sound_front}
 use Rattle.raft_replay.specs.Replays.{HasReplayed, CannotFollow, IsReplayed}
 use Rattle.raft_replay.specs.Segments.{SegmentsHold, CannotBeRead, parts_within}
-use Rattle.raft_replay.specs.Stops.{IsNothing, GoneOn, StopsAmong}
+use Rattle.raft_replay.specs.Stops.{IsNothing, IsStoodFor, GoneOn, StopsAmong}
 use Rattle.raft_replay.proofs.Words.{PartHolds, PartsHold}
 use Rattle.raft_replay.proofs.SegmentLemmas.{segments_unique}
 use Rattle.raft_replay.proofs.MachineOrderLemmas.{each_join, each_cut, each_single}
@@ -74,8 +74,9 @@ module _ {M : Type 0} (stands_for stands_exactly : M → List Event → Type 0) 
           cannot.unsound turn.history next.first next.first_held few (turn.stands (small_front turn.history next.first few)) (sound_front (turn.history ++ next.first) next.rest (subst Sound same sound));
     }
 
-    pub stopped_in_turn : (e : Error) → StopsAmong (stands_for machine) segment.items e → StopsAmong IsNothing (parts_within segments) e
-    stopped_in_turn e stops = record {
+    pub stopped_in_turn : (e : Error) → ((m : M) (h : List Event) → stands_for m h → Sound h)
+        → StopsAmong (stands_for machine) (IsStoodFor stands_for) segment.items e → StopsAmong IsNothing Sound (parts_within segments) e
+    stopped_in_turn e sound stops = record {
       before = parts_within before ++ stops.before;
       part = stops.part;
       after = stops.after ++ parts_within after;
@@ -86,8 +87,9 @@ module _ {M : Type 0} (stands_for stands_exactly : M → List Event → Type 0) 
       history = turn.history ++ stops.history;
       held = each_join PartHolds (parts_within before) stops.before turn.history stops.history (within_held before turn.history turn.held) stops.held;
       stops =
-          stops_after (GoneOn (stands_for machine) stops.history) (GoneOn IsNothing (turn.history ++ stops.history)) stops.part e
+          stops_after (GoneOn (stands_for machine) stops.history) (GoneOn IsNothing (turn.history ++ stops.history)) (IsStoodFor stands_for) Sound stops.part e
           (λ h small gone.
           let same : h ≡ turn.history ++ stops.history = gone.2 ∙ ap (λ (t : List Event). t ++ (turn.history ++ stops.history)) gone.1 in
-          (turn.history, turn.stands (small_front turn.history stops.history (subst IsSmall same small)), same)) stops.stops;
+          (turn.history, turn.stands (small_front turn.history stops.history (subst IsSmall same small)), same))
+          (λ h taken. sound taken.0 h taken.1) stops.stops;
     }

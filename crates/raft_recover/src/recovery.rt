@@ -6,7 +6,7 @@ ghost use Rattle.std.specs.Thread.{IsSync};
 ghost use Rattle.raft_base.specs.Errors.{IsInvalidArgument};
 ghost use Rattle.raft_base.specs.declared.pipe_log.LogQueue.TheVariants.{Append, Rewrite};
 ghost use Rattle.raft_history.specs.Batches.{Event};
-ghost use Rattle.raft_history.specs.Histories.{Apart, IsOneReading, IsSmall};
+ghost use Rattle.raft_history.specs.Histories.{Apart, IsOneReading, IsSmall, Sound};
 ghost use Rattle.raft_history.specs.RegionSteps.{Tables};
 ghost use Rattle.raft_history.specs.RewrittenRecords.{AreRewrittenFrom, HaveSameRecords};
 ghost use Rattle.raft_contexts.specs.RecoverContext.{HasRead, HasReadExactly};
@@ -67,7 +67,7 @@ pub fn recover<R: Threads + Sync>(
     ensures place { MayReplay queue workers segments.entry.now
         → bytes_of_segments segments.entry.now < 2 ^ 63
         → IfErr result (λ e. e ≢ Error.Memory
-        → StopsAmong IsNothing (parts_within segments.entry.now) e) }
+        → StopsAmong IsNothing Sound (parts_within segments.entry.now) e) }
     ensures fault { ¬ (MayReplay queue workers segments.entry.now)
         → IfErr result (λ e. e ≢ Error.Memory → IsInvalidArgument e) }
 {
@@ -104,8 +104,8 @@ pub fn recover_both<R: Threads + Sync>(
     ensures place { MayReplayBoth workers rewrite.entry.now append.entry.now
         → bytes_of_segments rewrite.entry.now < 2 ^ 63 → bytes_of_segments append.entry.now < 2 ^ 63
         → IfErr result (λ e. e ≢ Error.Memory
-        → StopsAmong IsNothing (parts_within rewrite.entry.now) e
-        ⊎ StopsAmong IsNothing (parts_within append.entry.now) e) }
+        → StopsAmong IsNothing Sound (parts_within rewrite.entry.now) e
+        ⊎ StopsAmong IsNothing Sound (parts_within append.entry.now) e) }
     ensures fault { ¬ (MayReplayBoth workers rewrite.entry.now append.entry.now)
         → IfErr result (λ e. e ≢ Error.Memory → IsInvalidArgument e) }
     ensures whole { (h k : List Event) (tables : Tables) (cleaned : List ℕ)
@@ -159,8 +159,8 @@ fn both_replayed<R: Threads + Sync>(
     ensures refused { IfErr result (λ e. e ≢ Error.Memory
         → CannotBeRead rewrite.entry.now ⊎ CannotBeRead append.entry.now) }
     ensures place { IfErr result (λ e. e ≢ Error.Memory
-        → StopsAmong IsNothing (parts_within rewrite.entry.now) e
-        ⊎ StopsAmong IsNothing (parts_within append.entry.now) e) }
+        → StopsAmong IsNothing Sound (parts_within rewrite.entry.now) e
+        ⊎ StopsAmong IsNothing Sound (parts_within append.entry.now) e) }
 {
     if workers == 1 {
         let both = replayed(rt, alloc, rewrite, LogQueue::Rewrite, workers)?;
@@ -173,13 +173,13 @@ fn both_replayed<R: Threads + Sync>(
         requires { IsSync R.row × MayReplay Rewrite rewriters rewrite.now }
         ensures { IsReplayedOrRefused rewrite.entry.now result
             × IfErr result (λ e. e ≢ Error.Memory
-            → StopsAmong IsNothing (parts_within rewrite.entry.now) e) }
+            → StopsAmong IsNothing Sound (parts_within rewrite.entry.now) e) }
     { replayed(rt, alloc, rewrite, LogQueue::Rewrite, rewriters) };
     let read_append = || -> Result<MemTableRecoverContext>
         requires { IsSync R.row × MayReplay Append appenders append.now }
         ensures { IsReplayedOrRefused append.entry.now result
             × IfErr result (λ e. e ≢ Error.Memory
-            → StopsAmong IsNothing (parts_within append.entry.now) e) }
+            → StopsAmong IsNothing Sound (parts_within append.entry.now) e) }
     { replayed(rt, alloc, append, LogQueue::Append, appenders) };
     let (rewritten, appended) = join(rt, read_rewrite, read_append);
     let both = rewritten?;
@@ -212,7 +212,7 @@ fn replayed<R: Threads + Sync>(
         → IfErr result (λ e. e ≢ Error.Memory → CannotBeRead segments.entry.now) }
     ensures place { MayReplay queue workers segments.entry.now
         → IfErr result (λ e. e ≢ Error.Memory
-        → StopsAmong IsNothing (parts_within segments.entry.now) e) }
+        → StopsAmong IsNothing Sound (parts_within segments.entry.now) e) }
     ensures fault { ¬ (MayReplay queue workers segments.entry.now)
         → IfErr result (λ e. e ≢ Error.Memory → IsInvalidArgument e) }
 {
@@ -236,7 +236,7 @@ fn replayed_as<R: Threads + Sync>(
     ensures ok { IfOk result (IsReplayed HasRead HasReadExactly segments.entry.now) }
     ensures refused { IfErr result (λ e. e ≢ Error.Memory → CannotBeRead segments.entry.now) }
     ensures place { IfErr result (λ e. e ≢ Error.Memory
-        → StopsAmong IsNothing (parts_within segments.entry.now) e) }
+        → StopsAmong IsNothing Sound (parts_within segments.entry.now) e) }
 {
     let factory = MemTableRecoverContextFactory::new();
     match replay_segments(rt, alloc, &factory, shares, queue, workers, &OpenGate) {
@@ -251,7 +251,7 @@ fn replayed_in_turn(alloc: Global, segments: &[Segment]) -> Result<MemTableRecov
     ensures ok { IfOk result (IsReplayed HasRead HasReadExactly segments.entry.now) }
     ensures refused { IfErr result (λ e. e ≢ Error.Memory → CannotBeRead segments.entry.now) }
     ensures place { IfErr result (λ e. e ≢ Error.Memory
-        → StopsAmong IsNothing (parts_within segments.entry.now) e) }
+        → StopsAmong IsNothing Sound (parts_within segments.entry.now) e) }
 {
     let mut context = MemTableRecoverContext::new(alloc)?;
     for segment in segments {
@@ -280,7 +280,7 @@ pub fn recover_segments<R: Threads + Sync>(
     ensures place { MayReplay queue workers segments.entry.now
         → bytes_of_segments segments.entry.now < 2 ^ 63
         → IfErr result (λ e. e ≢ Error.Memory
-        → StopsAmong IsNothing (parts_within segments.entry.now) e) }
+        → StopsAmong IsNothing Sound (parts_within segments.entry.now) e) }
     ensures fault { ¬ (MayReplay queue workers segments.entry.now)
         → IfErr result (λ e. e ≢ Error.Memory → IsInvalidArgument e) }
 {

@@ -1,14 +1,15 @@
 //! Segments of a queue, and their replay into a machine.
 
-ghost use Rattle.std.specs.Prelude.{◌≡◌, ◌≢◌, ◌+◌, ◌^◌, ◌<◌, List, Vec, length, IfOk, OnOk, IfErr};
+ghost use Rattle.std.specs.Prelude.{◌≡◌, ◌≢◌, ◌+◌, ◌^◌, ◌<◌, ◌++◌, List, Vec, length, string_bytes, IfOk, OnOk, IfErr};
 ghost use Rattle.std.specs.Global.{Global};
 ghost use Rattle.std.specs.IoError.{error_kind};
+ghost use Rattle.raft_base.specs.Corruption.{IsCorruption};
 ghost use Rattle.raft_records.specs.FilePart.{Part, part_of};
 ghost use Rattle.raft_history.specs.Batches.{Event};
 ghost use Rattle.raft_history.specs.Histories.{IsSmall};
 ghost use Rattle.raft_replay.specs.Replays.{HasReplayed, CannotFollow};
 ghost use Rattle.raft_replay.specs.Segments.{HoldsFrom, EachHolds, SegmentsHold};
-ghost use Rattle.raft_replay.specs.Stops.{queue_text, IsPlaced, StopsAmong, StopsIn};
+ghost use Rattle.raft_replay.specs.Stops.{queue_text, place_text, IsPlaced, IsStoodFor, IsWithPlace, StopsAmong, StopsByFault};
 ghost use Rattle.raft_replay.specs.WrittenParts.{bytes_of_segments, WrittenBatchIsHeld};
 
 use raft_base::{AllocResult, Error, FileId, LogFileContext, LogQueue, Result};
@@ -36,7 +37,8 @@ pub fn replay_segment<M: ReplayMachine>(machine: &mut M, segment: &Segment) -> R
     ensures refused { IfErr result (λ e. e ≢ Error.Memory
         → CannotFollow (EachHolds (λ part. HoldsFrom part 0) segment.entry.now.items)
         (M.stands_for machine.old)) }
-    ensures place { IfErr result (StopsAmong (M.stands_for machine.old) segment.entry.now.items) }
+    ensures place { IfErr result (StopsAmong (M.stands_for machine.old) (IsStoodFor M.stands_for)
+        segment.entry.now.items) }
 {
     for part in segment {
         replay_part(machine, part)?;
@@ -50,7 +52,8 @@ fn replay_part<M: ReplayMachine>(machine: &mut M, part: &FilePart) -> Result<()>
         machine.old machine.new) }
     ensures refused { IfErr result
         (λ e. e ≢ Error.Memory → CannotFollow (HoldsFrom part.now 0) (M.stands_for machine.old)) }
-    ensures place { IfErr result (StopsIn (M.stands_for machine.old) part.now) }
+    ensures place { IfErr result (StopsByFault (M.stands_for machine.old)
+        (IsStoodFor M.stands_for) part.now) }
 {
     let file = LogFileContext::new(part.id(), part.version());
     replay_bytes(
@@ -80,8 +83,8 @@ pub fn replay_bytes<M: ReplayMachine>(
     ensures refused { IfErr result (λ e. e ≢ Error.Memory
         → CannotFollow (HoldsFrom (part_of file.now offset bytes.now) 0)
         (M.stands_for machine.old)) }
-    ensures place { IfErr result (StopsIn (M.stands_for machine.old)
-        (part_of file.now offset bytes.now)) }
+    ensures place { IfErr result (StopsByFault (M.stands_for machine.old)
+        (IsStoodFor M.stands_for) (part_of file.now offset bytes.now)) }
 {
     let mut batch = ReadBatch::new(alloc, file.id);
     let mut at = 0;
@@ -103,33 +106,11 @@ pub fn replay_bytes<M: ReplayMachine>(
 /// io errors of `Io` and `Codec`, which stay of their kind. Other refusals have no text.
 fn placed(alloc: Global, error: Error, id: FileId, offset: u64) -> Error
     ensures placed { IsPlaced id offset result }
-    ensures memory { result ≢ Error.Memory → error ≢ Error.Memory }
-{
-    corruption_placed(alloc, spelling_placed(alloc, error, id, offset), id, offset)
-}
-
-/// Returns a `Corruption` with the file and the offset in it in front of its text, any other refusal as it is.
-fn corruption_placed(alloc: Global, error: Error, id: FileId, offset: u64) -> Error
-    ensures placed { IsPlaced id offset result }
+    ensures same { IsWithPlace id offset error result }
     ensures memory { result ≢ Error.Memory → error ≢ Error.Memory }
 {
     match error {
-        Error::Corruption(reason) => {
-            let queue = queue_name(id.queue);
-            match format!(in alloc; "{queue} file {}, offset {offset}: {reason}", id.seq) {
-                Ok(text) => Error::Corruption(text),
-                Err(_) => Error::Memory,
-            }
-        }
-        other => other,
-    }
-}
-
-/// Returns an `Io` or a `Codec` with the file and the offset in it in front of its text, any other refusal as it is.
-fn spelling_placed(alloc: Global, error: Error, id: FileId, offset: u64) -> Error
-    ensures memory { result ≢ Error.Memory → error ≢ Error.Memory }
-{
-    match error {
+        Error::Corruption(reason) => corruption_placed(alloc, reason, id, offset),
         Error::Io(error) => match io_placed(alloc, error, id, offset) {
             Ok(error) => Error::Io(error),
             Err(_) => Error::Memory,
@@ -139,6 +120,17 @@ fn spelling_placed(alloc: Global, error: Error, id: FileId, offset: u64) -> Erro
             Err(_) => Error::Memory,
         },
         kept => kept,
+    }
+}
+
+/// Returns a `Corruption` with the file and the offset in it in front of its reason.
+fn corruption_placed(alloc: Global, reason: String, id: FileId, offset: u64) -> Error
+    ensures { IsCorruption (place_text id offset ++ string_bytes reason) result }
+{
+    let queue = queue_name(id.queue);
+    match format!(in alloc; "{queue} file {}, offset {offset}: {reason}", id.seq) {
+        Ok(text) => Error::Corruption(text),
+        Err(_) => Error::Memory,
     }
 }
 

@@ -1,5 +1,6 @@
 use Rattle.std.proofs.Common.{◌≢◌}
 use Rattle.raft_base.specs.declared.errors.Error.TheVariants.{Memory}
+use Rattle.raft_history.specs.Histories.{Sound}
 use Rattle.raft_replay.specs.Segments.{parts_within}
 use Rattle.raft_replay.specs.Stops.{IsNothing, StopsAmong}
 use Rattle.raft_recover.proofs.RecoveryLemmas.{recovered, unfinished, finished_few}
@@ -15,4 +16,4 @@ returns-clause-refused g c good =
 
 pub returns-clause-place : goal.returns-clause-place
 returns-clause-place g c good few =
-    finished_few c.args.queue c.args.segments.now good.3 c.in_ok-context.context c.in_ok-context.ensures.ok c.finish.result (λ e. e ≢ Memory → StopsAmong IsNothing (parts_within c.args.segments.now) e) few c.finish.ensures.failed
+    finished_few c.args.queue c.args.segments.now good.3 c.in_ok-context.context c.in_ok-context.ensures.ok c.finish.result (λ e. e ≢ Memory → StopsAmong IsNothing Sound (parts_within c.args.segments.now) e) few c.finish.ensures.failed

@@ -1,4 +1,5 @@
 use Rattle.std.proofs.Common.{◌⊎◌, Err}
+use Rattle.raft_history.specs.Histories.{Sound}
 use Rattle.raft_replay.specs.Segments.{parts_within}
 use Rattle.raft_replay.specs.Stops.{IsNothing, StopsAmong}
 use Rattle.std.proofs.lemmas.Result.{err_from_is_err_and}
@@ -26,4 +27,4 @@ returns-in_err-merge_append_context-clause-place g c good few_rewrite few_append
     let p = err_from_is_err_and c.from_residual-in_err-merge_append_context.result c.from_residual-in_err-merge_append_context.ensures.1 in
     rw (p.1, p.2)
     (both_merged_few c.args.rewrite.now c.args.append.now good.0.3 good.1.3 c.in_ok-both.both c.in_ok-both.appended c.in_ok-both.ensures.rewritten c.in_ok-both.ensures.appended (Err c.in_err-merge_append_context.field-0.0)
-    (λ e. StopsAmong IsNothing (parts_within c.args.rewrite.now) e ⊎ StopsAmong IsNothing (parts_within c.args.append.now) e) few_rewrite few_append c.in_err-merge_append_context.ensures.memory)
+    (λ e. StopsAmong IsNothing Sound (parts_within c.args.rewrite.now) e ⊎ StopsAmong IsNothing Sound (parts_within c.args.append.now) e) few_rewrite few_append c.in_err-merge_append_context.ensures.memory)

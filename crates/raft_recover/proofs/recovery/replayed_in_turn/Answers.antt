@@ -4,6 +4,7 @@ use Rattle.std.proofs.lemmas.List.{take_more}
 use Rattle.std.proofs.lemmas.Result.{err_from_is_err_and}
 use Rattle.raft_contexts.specs.RecoverContext.{HasRead, HasReadExactly}
 use Rattle.raft_replay.proofs.SegmentLemmas.{left_from}
+use Rattle.raft_replay.proofs.StopLemmas.{stands_sound}
 use Rattle.raft_recover.proofs.TurnLemmas.{none_in_turn, one_in_turn, all_in_turn, refused_in_turn, stopped_in_turn}
 use Rattle.raft_recover.proofs.recovery.replayed_in_turn.Goals as goal
 
@@ -42,4 +43,4 @@ returns-in_err-replay_segment-clause-place c =
     (λ not_memory.
     stopped_in_turn HasRead HasReadExactly all (take n all) (drop (n + 1) all) c.segment-item.result c.loop-segment.context c.loop-segment.invariant
     (sym (take-append-drop n all) ∙ ap (λ (l : List (Vec _ Global)). take n all ++ l) (left_from all n c.segment-item.result (let t = c.loop-segment-test.true in omega arith) c.segment-item.is))
-    _ c.in_err-replay_segment.ensures.place)
+    _ (λ m h read. stands_sound m.context h read.stands) c.in_err-replay_segment.ensures.place)

@@ -2,6 +2,7 @@ use Rattle.std.proofs.Common.{[], ◌∷◌, refl, arith}
 use Rattle.raft_history.specs.ReplayMachine.{event}
 use Rattle.raft_records.proofs.PartLemmas.{batch_inside}
 use Rattle.raft_records.specs.FilePart.{part_of}
+use Rattle.raft_replay.specs.Stops.{IsStoodFor}
 use Rattle.raft_replay.proofs.MidwayLemmas.{begins, advance, refused, first_refused, replayed}
 use Rattle.raft_replay.proofs.SegmentLemmas.{first_batch, unreadable, event_refused}
 use Rattle.raft_replay.proofs.StopLemmas.{no_front, longer_front, read_more, stopped_unreadable, stopped_refused}
@@ -54,12 +55,15 @@ returns-in-Ok-None-clause-ok g c =
 pub returns-in-Err-clause-place : goal.returns-in-Err-clause-place
 returns-in-Err-clause-place g c =
     let part = part_of c.args.file.now c.args.offset c.args.bytes.now in
-    stopped_unreadable part c.loop-next.at (g.M.ReplayMachine.stands_for c.args.machine.now) (g.M.ReplayMachine.stands_for c.loop-next.machine) c.loop-next.invariant.read _ c.placed-in-Err.ensures.placed
+    stopped_unreadable part c.loop-next.at (g.M.ReplayMachine.stands_for c.args.machine.now) (g.M.ReplayMachine.stands_for c.loop-next.machine)
+    (IsStoodFor g.M.ReplayMachine.stands_for) c.loop-next.invariant.read (λ h stands. (c.loop-next.machine, stands)) _ c.placed-in-Err.ensures.placed
     c.in-Err.ensures.some (λ not_memory. c.in-Err.ensures.refused (c.placed-in-Err.ensures.memory not_memory))
+    (record { fault = c.in-Err.error; is_fault = c.in-Err.ensures.fault; placed = c.placed-in-Err.ensures.same })
 
 pub returns-in-Err-replay_read-clause-place : goal.returns-in-Err-replay_read-clause-place
 returns-in-Err-replay_read-clause-place g c =
     let part = part_of c.args.file.now c.args.offset c.args.bytes.now in
     let stands = rw c.in-Ok-Some.field-0-is at c.in-Ok-Some.ensures.ok in
-    stopped_refused part c.loop-next.at (g.M.ReplayMachine.stands_for c.args.machine.now) (g.M.ReplayMachine.stands_for c.loop-next.machine) c.loop-next.invariant.read _ c.placed.ensures.placed
+    stopped_refused part c.loop-next.at (g.M.ReplayMachine.stands_for c.args.machine.now) (g.M.ReplayMachine.stands_for c.loop-next.machine)
+    (IsStoodFor g.M.ReplayMachine.stands_for) c.loop-next.invariant.read (λ h stands. (c.loop-next.machine, stands)) _ c.placed.ensures.placed
     _ c.in-Ok-Some.next stands (λ not_memory. c.in-Err-replay_read.ensures.refused (c.placed.ensures.memory not_memory))

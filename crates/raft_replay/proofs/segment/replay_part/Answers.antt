@@ -4,7 +4,7 @@ use Rattle.raft_base.specs.declared.pipe_log.LogFileContext.{LogFileContext}
 use Rattle.raft_records.specs.FilePart.{Part, part_of}
 use Rattle.raft_replay.specs.Replays.{HasReplayed, CannotFollow}
 use Rattle.raft_replay.specs.Segments.{HoldsFrom}
-use Rattle.raft_replay.specs.Stops.{StopsIn}
+use Rattle.raft_replay.specs.Stops.{IsStoodFor, StopsByFault}
 use Rattle.raft_replay.proofs.segment.replay_part.Goals as goal
 
 -- the bytes that are lent are those of the part
@@ -24,5 +24,5 @@ returns-clause-refused g c =
 
 pub returns-clause-place : goal.returns-clause-place
 returns-clause-place g c =
-    subst (λ (p : Part). IfErr c.replay_bytes.result (StopsIn (g.M.ReplayMachine.stands_for c.args.machine.now) p))
+    subst (λ (p : Part). IfErr c.replay_bytes.result (StopsByFault (g.M.ReplayMachine.stands_for c.args.machine.now) (IsStoodFor g.M.ReplayMachine.stands_for) p))
     (same _ _ _ _ _ c.new-file.ensures c.id.ensures c.version.ensures c.offset.ensures.value c.bytes.ensures) c.replay_bytes.ensures.place

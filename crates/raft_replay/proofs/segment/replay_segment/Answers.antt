@@ -2,6 +2,7 @@ use Rattle.std.proofs.Common.{◌≡◌, ℕ, ◌+◌, ◌<◌, List, [], ◌∷
 use Rattle.std.proofs.lemmas.List.{take_more}
 use Rattle.std.proofs.lemmas.Result.{err_from_is_err_and}
 use Rattle.raft_records.specs.FilePart.{Part}
+use Rattle.raft_replay.specs.Stops.{IsStoodFor}
 use Rattle.raft_replay.proofs.Words.{PartHolds}
 use Rattle.raft_replay.proofs.MidwayLemmas.{begins, advance, refused, replayed}
 use Rattle.raft_replay.proofs.SegmentLemmas.{part_unique, cut_at, cut_refused, nothing_left, left_from}
@@ -33,7 +34,7 @@ pub returns-in_err-replay_part-clause-place : goal.returns-in_err-replay_part-cl
 returns-in_err-replay_part-clause-place g c =
     let p = err_from_is_err_and c.from_residual.result c.from_residual.ensures.1 in
     rw (p.1, p.2)
-    (stopped_among (g.M.ReplayMachine.stands_for c.args.machine.now) (g.M.ReplayMachine.stands_for c.loop-part.machine) c.args.segment.now.items c.loop-part.part-index c.part-item.result _ c.loop-part.invariant.read
+    (stopped_among (g.M.ReplayMachine.stands_for c.args.machine.now) (g.M.ReplayMachine.stands_for c.loop-part.machine) (IsStoodFor g.M.ReplayMachine.stands_for) c.args.segment.now.items c.loop-part.part-index c.part-item.result _ c.loop-part.invariant.read
     (item_here c.deref-part-items.ensures.value (let t = c.loop-part-test.true in omega arith) c.part-item.is) c.in_err-replay_part.ensures.place)
 
 pub loop-part-preserved : goal.loop-part-preserved

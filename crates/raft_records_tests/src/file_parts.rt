@@ -148,6 +148,46 @@ fn damaged_batches_are_refused(rt: &impl Abort, alloc: Global) -> Result<()> {
     Ok(())
 }
 
+/// The batch of region 1 with `Clean`, signed for file 12 of version 2.
+const SIGNED: &[u8; 24] =
+    b"\x00\x00\x00\x00\x00\x00\x18\x00\x00\x00\x00\x00\x00\x00\x00\x10\x01\x01\x02\x01\x56\x80\x0b\xdd";
+
+/// Tests whether that is read in this append file of a version; it may be refused for `Corruption`.
+fn is_read_in(alloc: Global, seq: u64, version: Version) -> Result<bool> {
+    let id = FileId::new(LogQueue::Append, seq);
+    let part = FilePart::new(id, version, 100, Vec::from_slice(alloc, SIGNED)?)?;
+    match counted(&part, 0) {
+        Ok(read) => Ok(read == Some((1, 24))),
+        Err(Error::Corruption(_text)) => Ok(false),
+        Err(e) => Err(e),
+    }
+}
+
+#[test]
+fn signed_batches(rt: HostRuntime) {
+    let answer = match signed_batches_are_read_in_their_files(&rt, rt.alloc()) {
+        Err(Error::Memory) => signed_batches_are_read_in_their_files(&rt, rt.alloc()),
+        answer => answer,
+    };
+    assert!(rt; answer.is_ok());
+}
+
+/// Tests that a batch is read in the file that it was signed for, and in another whose number has the same low 32 bits.
+fn signed_batches_are_read_in_their_files(rt: &impl Abort, alloc: Global) -> Result<()> {
+    for &(seq, version, is_read) in &[
+        (12, Version::V2, true),
+        (13, Version::V2, false),
+        (0x1_0000_000c, Version::V2, true),
+        (12, Version::V1, false),
+    ] {
+        assert!(rt;
+            is_read_in(alloc, seq, version)? == is_read,
+            "in file {seq}"
+        );
+    }
+    Ok(())
+}
+
 /// Tests whether nothing is read at the start of these bytes, for `Corruption`.
 fn is_refused(alloc: Global, bytes: &[u8]) -> Result<bool> {
     match counted(&part(alloc, bytes)?, 0) {

@@ -198,34 +198,60 @@ fn schedules(alloc: Global) -> Result<bool> {
     )
 }
 
-/// Tests whether five segments have all batches where these workers draw so and a plan merges three pieces, if they
-/// aren't refused.
-fn has_all_batches(alloc: Global, workers: usize, draws: &[usize]) -> Result<Option<bool>> {
-    let five = segments(alloc, 5)?;
+/// How many workers there are, who of them draws each of five segments, which a plan merges in three pieces, and why that
+/// is refused; no text where it is read.
+const SCHEDULES: [(usize, &[usize], &str); 8] = [
+    (2, &[0, 1, 1, 0, 0], ""),
+    (256, &[0, 1, 1, 0, 0], ""),
+    (2, &[0, 1, 1, 0, 1], "a plan of another number of pieces"),
+    (2, &[0, 2, 2, 0, 0], "a draw of a worker that isn't there"),
+    (2, &[0, 2], "a draw of a worker that isn't there"),
+    // The sixth draw is of no segment.
+    (
+        2,
+        &[0, 1, 1, 0, 0, 2],
+        "a draw of a worker that isn't there",
+    ),
+    (
+        0,
+        &[0, 1, 1, 0, 0],
+        "another number of workers than 1 to 256",
+    ),
+    (
+        257,
+        &[0, 1, 1, 0, 0],
+        "another number of workers than 1 to 256",
+    ),
+];
+
+/// Tests whether a schedule of so many segments and three pieces is refused so, or read where there is no text.
+fn is_told(
+    alloc: Global,
+    number: u64,
+    workers: usize,
+    draws: &[usize],
+    text: &str,
+) -> Result<bool> {
+    let segments = segments(alloc, number)?;
     let three = chain(alloc, 3)?;
-    match scheduled(alloc, five.as_slice(), workers, draws, &three) {
-        Ok(list) => Ok(Some(has_all(&list, 5))),
-        Err(Error::InvalidArgument(_text)) => Ok(None),
+    match scheduled(alloc, segments.as_slice(), workers, draws, &three) {
+        Ok(list) => Ok(text.is_empty() && has_all(&list, number)),
+        Err(Error::InvalidArgument(told)) => Ok(told.as_str() == text),
         Err(error) => Err(error),
     }
 }
 
-/// Tests whether five segments and a plan of three pieces are refused where the draws make four pieces, where a third
-/// worker draws and where there are 0 or 257 workers, and are read else.
+/// Tests whether each schedule is refused as it is to be, or read; without segments too, where any plan fits.
 fn misfits(alloc: Global) -> Result<bool> {
-    for &(workers, draws, read) in &[
-        (2, [0, 1, 1, 0, 1], None),
-        (2, [0, 2, 2, 0, 0], None),
-        (0, [0, 1, 1, 0, 0], None),
-        (2, [0, 1, 1, 0, 0], Some(true)),
-        (256, [0, 1, 1, 0, 0], Some(true)),
-        (257, [0, 1, 1, 0, 0], None),
-    ] {
-        if has_all_batches(alloc, workers, draws.as_slice())? != read {
+    for &(workers, draws, text) in &SCHEDULES {
+        if !is_told(alloc, 5, workers, draws, text)? {
             return Ok(false);
         }
     }
-    Ok(true)
+    Ok(
+        is_told(alloc, 0, 2, &[1], "")?
+            && is_told(alloc, 0, 2, &[2], "a draw of a worker that isn't there")?,
+    )
 }
 
 #[test]

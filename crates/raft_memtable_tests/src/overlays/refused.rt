@@ -1,7 +1,7 @@
 //! Batches and contexts that don't fit a context: each call is refused, and so are all later ones.
 
 use super::Word::{Clean, Put, Run};
-use super::{Word, overlaid, part, read, replay};
+use super::{NONE, Shape, Word, overlaid, part, read, replay, shape_of};
 use crate::files::{replay_file, replay_read};
 use raft_memtable::{Error, FileId, Kept, LogQueue, MemTableRecoverContext, Result};
 use std::alloc::Global;
@@ -182,6 +182,37 @@ fn overlaid_twice(alloc: Global) -> Result<bool> {
     Ok(kept && again && replayed && merged)
 }
 
+/// What region 1 has where the append queue puts a key beside ten rewritten entries.
+const TAKEN: Shape = Shape {
+    table: true,
+    first: Some(10),
+    last: Some(19),
+    key: true,
+    append: 1,
+    rewrite: 10,
+    ..NONE
+};
+
+/// Tests that what has taken in an append context still hands out its tables after a replay and a merge that it refused.
+fn overlaid_finishes(alloc: Global) -> Result<bool> {
+    let mut context = overlaid(alloc, &[Run(10, 20)], &[Put])?;
+    let answer = replay(alloc, &mut context, LogQueue::Rewrite, 1, &[Clean]);
+    let replayed = is_refused(answer, Refusal::Failed)?;
+    let answer = context.merge(MemTableRecoverContext::new(alloc)?, LogQueue::Rewrite);
+    let merged = is_refused(answer, Refusal::Failed)?;
+    let tables = context.finish()?;
+    Ok(replayed && merged && shape_of(&tables) == TAKEN)
+}
+
+/// Tests that a context doesn't take in a newer one that has taken in an append context, and has failed then.
+fn overlaid_behind(alloc: Global) -> Result<bool> {
+    let mut older = read(alloc, LogQueue::Rewrite, &[Put])?;
+    let answer = older.merge(overlaid(alloc, &[Run(10, 20)], &[Put])?, LogQueue::Rewrite);
+    let merged = is_refused(answer, Refusal::Failed)?;
+    let failed = matches!(older.finish(), Err(Error::Failed));
+    Ok(merged && failed)
+}
+
 /// Tests whether a context holds ten entries, those of the region beside and a key, and no item of the group that
 /// waited.
 fn has_kept(context: &MemTableRecoverContext) -> Result<bool> {
@@ -198,7 +229,7 @@ fn has_kept(context: &MemTableRecoverContext) -> Result<bool> {
 
 /// Tests whether batches and contexts that don't fit are refused.
 fn are_refused(alloc: Global) -> Result<bool> {
-    let mut all = overlaid_twice(alloc)?;
+    let mut all = overlaid_twice(alloc)? && overlaid_finishes(alloc)? && overlaid_behind(alloc)?;
     for &(first, queue, own, given, reason) in &BATCHES {
         let (own, given) = (FileId::new(queue, own), FileId::new(queue, given));
         all &= is_batch_refused(alloc, first, own, given, reason)?;

@@ -123,7 +123,7 @@ pub(super) enum Read {
 pub(super) type ReadRow = (Form, &'static [u8], Read);
 
 /// A count and the lengths in some rows are of 2^63, and no bytes after them.
-static READINGS: [ReadRow; 82] = [
+static READINGS: [ReadRow; 83] = [
     (Form::Item, b"", Read::Codec),
     (Form::Item, b"\x01", Read::Io),
     (Form::Item, b"\x01\x01", Read::Codec),
@@ -227,6 +227,11 @@ static READINGS: [ReadRow; 82] = [
         Form::Command,
         b"\x04\x07",
         Read::Unrecognized("Unrecognized command type: 4"),
+    ),
+    (
+        Form::Command,
+        b"\x07",
+        Read::Unrecognized("Unrecognized command type: 7"),
     ),
     (Form::KeyValue, b"\x01\x03put\x05put_v", Read::Item(1, 0)),
     (Form::KeyValue, b"\x01\x00\x00", Read::Item(1, 0)),

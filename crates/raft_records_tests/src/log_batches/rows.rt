@@ -23,10 +23,11 @@ pub(super) fn rows() -> &'static [Row] {
 }
 
 /// In the order of their batches.
-static ROWS: [Row; 10] = [
+static ROWS: [Row; 11] = [
     EMPTY,
     CLEAN,
     COMPACT,
+    TRUNCATE,
     KEY_VALUES,
     LINES,
     MERGED,
@@ -70,6 +71,21 @@ const COMPACT: Row = Row {
         b"\xdf\x0b\xf6\x41",
         b"\xde\x0b\xf6\x41",
         b"\x2c\xf4\x09\xbe",
+    ],
+    offset: 16,
+    entry_bytes: b"",
+    item_batch_size: 30,
+};
+
+/// Region 300 is truncated to 2^40, which raft-engine has no command for: its checksums are calculated.
+const TRUNCATE: Row = Row {
+    size: 50,
+    front: b"\x00\x00\x00\x00\x00\x00\x1f\x00\x00\x00\x00\x00\x00\x00\x00\x10\x01\xac\x02\x02\x03\x80\x80\x80\x80\x80\x20",
+    seals: [
+        b"\x67\x00\x81\xe7",
+        b"\x6b\x00\x81\xe7",
+        b"\x6a\x00\x81\xe7",
+        b"\x98\xff\x7e\x18",
     ],
     offset: 16,
     entry_bytes: b"",

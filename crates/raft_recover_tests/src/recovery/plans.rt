@@ -2,13 +2,14 @@
 
 use super::histories::{histories, truncated, with_a_hole};
 use super::owed::Row;
-use super::rows::rows;
+use super::rows::{FIVE_OWED, rows};
 use super::truncations::truncations;
-use super::{cut, cuttings};
+use super::{cut, cuttings, have};
 use raft_base::{Error, Result, Version};
 use raft_memtable::{MemTableRecoverContext, MemTableRecoverContextFactory};
-use raft_recover::{Plan, piece_count, replay_scheduled};
+use raft_recover::{Plan, Segment, piece_count, replay_scheduled};
 use std::alloc::Global;
+use std::thread::Threads;
 
 /// In which order pieces are merged.
 #[derive(Clone, Copy)]
@@ -29,11 +30,12 @@ const ALONE: Draws = [0, 1, 0, 1, 0, 1, 0, 1, 0];
 /// Pieces of one segment and of two take turns.
 const IN_PAIRS: Draws = [0, 1, 1, 0, 1, 1, 0, 1, 1];
 
-static SCHEDULES: [(Draws, Order); 4] = [
+static SCHEDULES: [(Draws, Order); 5] = [
     (ALONE, FromLeft),
     (ALONE, FromRight),
     (ALONE, ByHalves),
     (IN_PAIRS, FromRight),
+    (IN_PAIRS, ByHalves),
 ];
 
 fn schedules() -> &'static [(Draws, Order)] {
@@ -70,27 +72,17 @@ fn from_right(alloc: Global, pieces: usize) -> Result<Plan> {
     Ok(plan)
 }
 
-/// Returns the context of a row's batches, cut after those whose bits are set, whose segments two workers draw so, and
-/// which are merged in this order.
+/// Returns the context of a row's segments, which two workers draw so, and which are merged in this order.
 fn scheduled(
     alloc: Global,
     row: &Row,
-    cuts: u64,
+    segments: &[Segment],
     draws: &[usize],
     order: Order,
 ) -> Result<MemTableRecoverContext> {
-    let segments = cut(alloc, row.queue, Version::V1, row.batches, cuts)?;
     let plan = plan_of(alloc, piece_count(segments.len(), draws), order)?;
     let factory = MemTableRecoverContextFactory::new();
-    replay_scheduled(
-        alloc,
-        &factory,
-        segments.as_slice(),
-        row.queue,
-        2,
-        draws,
-        &plan,
-    )
+    replay_scheduled(alloc, &factory, segments, row.queue, 2, draws, &plan)
 }
 
 /// Tests whether a context has what a row owes, and no more items that wait.
@@ -100,10 +92,10 @@ fn has(alloc: Global, row: &Row, context: MemTableRecoverContext) -> Result<bool
     Ok(row.is_met(alloc, &tables)? && kept.waiting_items <= row.waiting)
 }
 
-/// Tests whether a row's batches, cut so, have what it owes, or are refused, by each schedule.
-fn by_each_schedule(alloc: Global, row: &Row, cuts: u64) -> Result<bool> {
+/// Tests whether a row's segments have what it owes, or are refused, by each schedule.
+fn by_each_schedule(alloc: Global, row: &Row, segments: &[Segment]) -> Result<bool> {
     for (draws, order) in schedules() {
-        let held = match scheduled(alloc, row, cuts, draws, *order) {
+        let held = match scheduled(alloc, row, segments, draws, *order) {
             Ok(context) => has(alloc, row, context)?,
             Err(Error::Corruption(_text)) => row.lines.is_none(),
             Err(error) => return Err(error),
@@ -118,11 +110,68 @@ fn by_each_schedule(alloc: Global, row: &Row, cuts: u64) -> Result<bool> {
 /// Tests whether a row's batches have what it owes, or are refused, at each cutting.
 fn at_each_cutting(alloc: Global, row: &Row) -> Result<bool> {
     for cuts in 0..cuttings(row.batches.len()) {
-        if !by_each_schedule(alloc, row, cuts)? {
+        let segments = cut(alloc, row.queue, Version::V1, row.batches, cuts)?;
+        if !by_each_schedule(alloc, row, segments.as_slice())? {
             return Ok(false);
         }
     }
     Ok(true)
+}
+
+/// Returns a row's batches, a segment each, with a segment without parts in front of this one, and one behind them all.
+fn with_nothing(alloc: Global, row: &Row, number: usize) -> Result<Vec<Segment>> {
+    let (front, behind) = row.batches.split_at(number.min(row.batches.len()));
+    let mut segments = cut(alloc, row.queue, Version::V1, front, u64::MAX)?;
+    let mut rest = cut(alloc, row.queue, Version::V1, behind, u64::MAX)?;
+    segments.append(&mut rest)?;
+    Ok(segments)
+}
+
+/// Tests whether no segment without parts shows, wherever it is among those of a row.
+fn nothing_shows(alloc: Global, row: &Row) -> Result<bool> {
+    for number in 0..=row.batches.len() {
+        let segments = with_nothing(alloc, row, number)?;
+        if !by_each_schedule(alloc, row, segments.as_slice())? {
+            return Ok(false);
+        }
+    }
+    Ok(true)
+}
+
+#[test]
+fn plans_pass_segments_without_parts(rt: HostRuntime) {
+    let mut all = nothing_shows(rt.alloc(), &FIVE_OWED);
+    if matches!(all, Err(Error::Memory)) {
+        all = nothing_shows(rt.alloc(), &FIVE_OWED);
+    }
+    assert!(rt; matches!(all, Ok(true)));
+}
+
+/// Tests whether none shows to so many workers.
+fn nothing_shows_to<R: Threads + Sync>(
+    rt: &R,
+    alloc: Global,
+    row: &Row,
+    workers: usize,
+) -> Result<bool> {
+    for number in 0..=row.batches.len() {
+        let segments = with_nothing(alloc, row, number)?;
+        if !have(rt, alloc, row, segments.as_slice(), workers)? {
+            return Ok(false);
+        }
+    }
+    Ok(true)
+}
+
+#[test]
+fn workers_pass_segments_without_parts(rt: HostRuntime) {
+    for &workers in &[1, 2, 256] {
+        let mut all = nothing_shows_to(&rt, rt.alloc(), &FIVE_OWED, workers);
+        if matches!(all, Err(Error::Memory)) {
+            all = nothing_shows_to(&rt, rt.alloc(), &FIVE_OWED, workers);
+        }
+        assert!(rt; matches!(all, Ok(true)), "{workers} workers");
+    }
 }
 
 #[test]

@@ -93,40 +93,6 @@ live 0 0
         lines: None,
         ..APPEND
     },
-    // Two runs, an empty file, a compaction that drops the first run's front, and a key of another region.
-    Row {
-        batches: &[
-            (
-                1,
-                "000000000000230000000000000000177878780aea9b1c01010103010102035c434291",
-            ),
-            (
-                2,
-                "0000000000002100000000000000001678780f18e1f801010102040102e51e3297",
-            ),
-            (3, ""),
-            (4, COMPACT_3),
-            (
-                4,
-                "0000000000001c00000000000000001001020301016b01762c33a0d9",
-            ),
-        ],
-        lines: Some(
-            "\
-1 entries 3..6 keys 0 append 1 rewrite -
-2 entries - keys 1 append 4 rewrite -
-cleaned -
-live 4 0
-",
-        ),
-        places: &[
-            (1, 3, 1, 16, 7, 2),
-            (1, 4, 2, 16, 6, 0),
-            (1, 5, 2, 16, 6, 1),
-        ],
-        pairs: &[(2, b"k", Some(b"v"))],
-        ..APPEND
-    },
     FIVE_OWED,
     // The same with an empty part in the third file.
     Row {
@@ -135,6 +101,17 @@ live 4 0
             (2, RUN_4_6),
             (3, ""),
             (3, COMPACT_3),
+            (4, PUT_K_OF_2),
+        ],
+        ..FIVE_OWED
+    },
+    // The same with an empty third file, where the compaction is in the fourth.
+    Row {
+        batches: &[
+            (1, RUN_1_4),
+            (2, RUN_4_6),
+            (3, ""),
+            (4, COMPACT_3),
             (4, PUT_K_OF_2),
         ],
         ..FIVE_OWED

@@ -1,9 +1,9 @@
 #!/usr/bin/env bash
 # The full check: `rt ci`, then what it can't look at: words that aren't UTF-8, a scan of a sound file, the frames of `raftlog` on
-# the stack, runs with little stack, crashes of the store of `raft_example`, where there is a C compiler some rows with memory
-# refused, and where there is cargo the tests of rust/; first of all whether docs/BELIEVE.md and docs/CALLS.md are what the definitions
-# and the sources say, and the declarations of the Rust crate what the exports are. The last line is that of `rt ci`, 'N passed, M
-# failed'.
+# the stack, runs with little stack, crashes of the store of `raft_example`, its writes that fail half way, where there is a C
+# compiler some rows with memory refused, and where there is cargo the tests of rust/; first of all whether docs/BELIEVE.md and
+# docs/CALLS.md are what the definitions and the sources say, and the declarations of the Rust crate what the exports are. The last
+# line is that of `rt ci`, 'N passed, M failed'.
 set -euo pipefail
 cd "$(dirname "$0")/.."
 program=crates/raftlog/out/raftlog
@@ -40,6 +40,7 @@ if ! grep -q '^[1-9][0-9]* recoveries, 0 different$' "$room/crashes"; then
   echo "crashes: none was tried"
   exit 1
 fi
+tools/short_writes.py
 if command -v cc > "$room/compiler"; then
   tools/refused_memory.py --rows-alone --every 5 --row batches --row tables --row contexts --row take --row shared --row shared-take
 fi

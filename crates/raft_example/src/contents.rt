@@ -54,6 +54,14 @@ impl Records {
         Ok(())
     }
 
+    /// Puts entries in place of those from the first one's index on.
+    pub(crate) fn replace_entries(&mut self, proposals: Vec<Proposal>) -> Result<()> {
+        if let Some(first) = proposals.first() {
+            self.truncate(first.index);
+        }
+        self.push_entries(proposals)
+    }
+
     fn push_pairs(&mut self, alloc: Global, table: &MemTable) -> Result<()> {
         let mut pairs = Vec::new(alloc);
         table.fetch_kvs_before(u64::MAX, &mut pairs)?;

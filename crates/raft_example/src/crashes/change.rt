@@ -10,108 +10,102 @@ use raft_base::Result;
 use raft_records::{Command, LogBatch};
 use std::alloc::Global;
 
-/// Adds a change that a region with these records may have to a batch, and makes it in the records.
-pub(crate) fn draw_change(
-    alloc: Global,
-    dice: &mut Dice,
-    batch: &mut LogBatch,
-    region: u64,
-    records: &mut Records,
-) -> Result<()>
-    requires { batch.old.stage ≡ is_open }
-    ensures { OnOk result (batch.new.stage ≡ is_open) }
-{
-    let index = draw_index(dice, records);
-    match dice.below(16) {
-        0..=5 => append(alloc, dice, batch, region, records, index),
-        6 | 7 => replace(alloc, dice, batch, region, records, index),
-        8 | 9 => {
-            let key = draw_key(alloc, dice)?;
-            let value = draw_text(alloc, dice)?;
-            batch.put(region, key.clone()?, value.clone()?)?;
-            let _ = records.pairs.insert(key, value)?;
-            Ok(())
-        }
-        10 | 11 => {
-            let key = draw_key(alloc, dice)?;
-            let _ = records.pairs.remove(key.as_slice());
-            batch.delete(region, key)
-        }
-        12 | 13 => {
-            records
-                .entries
-                .retain(|entry: &u64, _: &mut Vec<u8>| *entry >= index);
-            batch.add_command(region, Command::Compact { index })
-        }
-        14 => {
-            records.truncate(index);
-            batch.add_command(region, Command::Truncate { index })
-        }
-        _ => {
-            records.entries.clear();
-            records.pairs.clear();
-            batch.add_command(region, Command::Clean)
+/// A change of a region.
+#[derive(Drop)]
+pub(crate) enum Change {
+    /// Appends entries, in place of those that are there from the first one's index on.
+    Append(Vec<Proposal>),
+    /// Appends entries, and compacts the region to its new end.
+    Replace(Vec<Proposal>),
+    Put(Vec<u8>, Vec<u8>),
+    Delete(Vec<u8>),
+    Compact(u64),
+    Truncate(u64),
+    Clean,
+}
+
+impl Change {
+    /// Draws a change that a region with these records may have.
+    pub(crate) fn draw(alloc: Global, dice: &mut Dice, records: &Records) -> Result<Change> {
+        let index = draw_index(dice, records);
+        Ok(match dice.below(16) {
+            0..=5 => Change::Append(draw_entries(alloc, dice, index)?),
+            6 | 7 => Change::Replace(draw_entries(alloc, dice, index)?),
+            8 | 9 => Change::Put(draw_key(alloc, dice)?, draw_text(alloc, dice)?),
+            10 | 11 => Change::Delete(draw_key(alloc, dice)?),
+            12 | 13 => Change::Compact(index),
+            14 => Change::Truncate(index),
+            _ => Change::Clean,
+        })
+    }
+
+    /// Draws the change that replaces the entries of a region from its first one or the next on.
+    pub(crate) fn draw_replacement(
+        alloc: Global,
+        dice: &mut Dice,
+        records: &Records,
+    ) -> Result<Change> {
+        let first = match records.entries.first_key_value() {
+            Some((first, _)) => *first,
+            None => 1,
+        };
+        let index = first.saturating_add(dice.below(2));
+        Ok(Change::Replace(draw_entries(alloc, dice, index)?))
+    }
+
+    /// Adds the change to a batch, and makes it in the records of its region.
+    pub(crate) fn make(self, batch: &mut LogBatch, region: u64, records: &mut Records) -> Result<()>
+        requires { batch.old.stage ≡ is_open }
+        ensures { OnOk result (batch.new.stage ≡ is_open) }
+    {
+        match self {
+            Change::Append(entries) => {
+                batch.add_entries::<Proposals>(region, entries.as_slice())?;
+                records.replace_entries(entries)
+            }
+            Change::Replace(entries) => {
+                batch.add_entries::<Proposals>(region, entries.as_slice())?;
+                records.replace_entries(entries)?;
+                let index = records.end();
+                records.entries.clear();
+                batch.add_command(region, Command::Compact { index })
+            }
+            Change::Put(key, value) => {
+                batch.put(region, key.clone()?, value.clone()?)?;
+                let _ = records.pairs.insert(key, value)?;
+                Ok(())
+            }
+            Change::Delete(key) => {
+                let _ = records.pairs.remove(key.as_slice());
+                batch.delete(region, key)
+            }
+            Change::Compact(index) => {
+                records
+                    .entries
+                    .retain(|entry: &u64, _: &mut Vec<u8>| *entry >= index);
+                batch.add_command(region, Command::Compact { index })
+            }
+            Change::Truncate(index) => {
+                records.truncate(index);
+                batch.add_command(region, Command::Truncate { index })
+            }
+            Change::Clean => {
+                records.entries.clear();
+                records.pairs.clear();
+                batch.add_command(region, Command::Clean)
+            }
         }
     }
 }
 
-/// Replaces the entries of a region from its first one or the next on, and compacts it to its new end.
-pub(crate) fn replace_all(
-    alloc: Global,
-    dice: &mut Dice,
-    batch: &mut LogBatch,
-    region: u64,
-    records: &mut Records,
-) -> Result<()>
-    requires { batch.old.stage ≡ is_open }
-    ensures { OnOk result (batch.new.stage ≡ is_open) }
-{
-    let first = match records.entries.first_key_value() {
-        Some((first, _)) => *first,
-        None => 1,
-    };
-    let index = first.saturating_add(dice.below(2));
-    replace(alloc, dice, batch, region, records, index)
-}
-
-/// Replaces the entries of a region from an index on, and compacts it to its new end.
-fn replace(
-    alloc: Global,
-    dice: &mut Dice,
-    batch: &mut LogBatch,
-    region: u64,
-    records: &mut Records,
-    index: u64,
-) -> Result<()>
-    requires { batch.old.stage ≡ is_open }
-    ensures { OnOk result (batch.new.stage ≡ is_open) }
-{
-    append(alloc, dice, batch, region, records, index)?;
-    let index = records.end();
-    records.entries.clear();
-    batch.add_command(region, Command::Compact { index })
-}
-
-/// Appends one to five entries from an index on, in place of those that are there.
-fn append(
-    alloc: Global,
-    dice: &mut Dice,
-    batch: &mut LogBatch,
-    region: u64,
-    records: &mut Records,
-    first: u64,
-) -> Result<()>
-    requires { batch.old.stage ≡ is_open }
-    ensures { OnOk result (batch.new.stage ≡ is_open) }
-{
-    let mut proposals = Vec::new(alloc);
+/// Draws one to five entries from an index on.
+fn draw_entries(alloc: Global, dice: &mut Dice, first: u64) -> Result<Vec<Proposal>> {
+    let mut entries = Vec::new(alloc);
     for index in first..first.saturating_add(dice.below(5)).saturating_add(1) {
         let text = draw_text(alloc, dice)?;
-        proposals.push(Proposal { index, text })?;
+        entries.push(Proposal { index, text })?;
     }
-    batch.add_entries::<Proposals>(region, proposals.as_slice())?;
-    records.truncate(first);
-    records.push_entries(proposals)
+    Ok(entries)
 }
 
 /// Returns an index of a region or the one past its last, often that; of a region without entries any.

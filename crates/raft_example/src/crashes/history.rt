@@ -4,7 +4,7 @@ ghost use Rattle.std.specs.Prelude.{◌≡◌, OnOk};
 ghost use Rattle.raft_records.specs.LogBatch.{is_open};
 
 use crate::contents::{Contents, Records, contents_of, text_of};
-use crate::crashes::change::{draw_change, replace_all};
+use crate::crashes::change::Change;
 use crate::crashes::crash::{CRASHED, Crashes, FILE_SIZE};
 use crate::crashes::dice::Dice;
 use crate::crashes::disk::DiskNotes;
@@ -170,7 +170,8 @@ impl<'a, R: Host + Print> History<'a, R> {
         let mut batch = LogBatch::default(alloc);
         for region in 1..3u64 {
             if let (Some(mut records), true) = (self.kept.remove(&region), batch.is_open()) {
-                replace_all(alloc, &mut self.dice, &mut batch, region, &mut records)?;
+                let change = Change::draw_replacement(alloc, &mut self.dice, &records)?;
+                change.make(&mut batch, region, &mut records)?;
                 let _ = self.kept.insert(region, records)?;
             }
         }
@@ -191,7 +192,8 @@ impl<'a, R: Host + Print> History<'a, R> {
             Some(records) => records,
             None => Records::new(alloc),
         };
-        draw_change(alloc, &mut self.dice, batch, region, &mut records)?;
+        let change = Change::draw(alloc, &mut self.dice, &records)?;
+        change.make(batch, region, &mut records)?;
         let _ = self.kept.insert(region, records)?;
         Ok(())
     }

@@ -1,5 +1,5 @@
 -- A batch more in the rewrite queue: it is held, it moves records, or it tells.
-use Rattle.std.proofs.Common.{◌≡◌, ℕ, List, [], ◌∷◌, ◌++◌, Option, Some, None, sym, ap, subst, ◌∙◌}
+use Rattle.std.proofs.Common.{◌≡◌, ℕ, List, [], ◌∷◌, ◌++◌, Option, Some, None, sym, ap, subst, ◌∙◌, append-nil}
 use Rattle.std.specs.Option.{option_and_then}
 use Rattle.std.specs.FinMap as finite
 use Rattle.raft_base.specs.declared.entry_index.EntryIndex.{EntryIndex}
@@ -79,7 +79,12 @@ module _ (content : EntryIndex → List ℕ) (append rewrite : List Event) (unto
   pub read_more : (r : ℕ) → after Rewrite r None (steps_of r (batches (rewrite ++ e ∷ []))) ≡ Some (finite.get put_tables r)
   read_more r = ap (after Rewrite r None) (plain_more r rewrite e plain) ∙ after-append Rewrite r None (steps_of r (batches rewrite)) (steps_on r (steps_of_items e.items)) ∙ ap (option_and_then (λ u. after Rewrite r u (steps_on r (steps_of_items e.items)))) (h.read.tables_read r) ∙ put_by_region r
 
-  -- the rewrite queue is told
-  pub telling_kept : ((r : ℕ) → AreRemovals (steps_on r (steps_of_items e.items))) → ((r : ℕ) → SayTheSame (steps_on r (steps_of_items e.items)) (steps_on r untold)) → AreKept content append (rewrite ++ e ∷ []) [] tables
-  telling_kept removals same = kept_with content append rewrite untold tables e h next put_tables (reading_of (rewrite ++ e ∷ []) put_tables read_more) [] tables (λ r. subst (λ l. IsRegionKept content r (steps_of r (batches append)) l (table_of r (finite.get put_tables r)) (table_of r (finite.get tables r))) (sym (own_none r))
-      (told_kept content r (steps_of r (batches append)) (steps_on r untold) (finite.get h.rewritten r) (table_of r (finite.get tables r)) (h.each r) (steps_on r (steps_of_items e.items)) (removals r) (same r) (finite.get put_tables r) (put_by_region r)))
+  -- the rewrite queue is told some of it
+  pub telling_kept : (left : List RegionStep) → ((r : ℕ) → AreRemovals (steps_on r (steps_of_items e.items))) → ((r : ℕ) → SayTheSame (steps_on r (steps_of_items e.items) ++ steps_on r left) (steps_on r untold))
+      → AreKept content append (rewrite ++ e ∷ []) left tables
+  telling_kept left removals same = kept_with content append rewrite untold tables e h next put_tables (reading_of (rewrite ++ e ∷ []) put_tables read_more) left tables
+      (λ r. told_kept content r (steps_of r (batches append)) (steps_on r untold) (finite.get h.rewritten r) (table_of r (finite.get tables r)) (h.each r) (steps_on r (steps_of_items e.items)) (steps_on r left) (removals r) (same r) (finite.get put_tables r) (put_by_region r))
+
+  -- and all of it
+  pub told_all_kept : ((r : ℕ) → AreRemovals (steps_on r (steps_of_items e.items))) → ((r : ℕ) → SayTheSame (steps_on r (steps_of_items e.items)) (steps_on r untold)) → AreKept content append (rewrite ++ e ∷ []) [] tables
+  told_all_kept removals same = telling_kept [] removals (λ r. subst (λ l. SayTheSame l (steps_on r untold)) (sym (ap (λ l. steps_on r (steps_of_items e.items) ++ l) (own_none r) ∙ append-nil (steps_on r (steps_of_items e.items)))) (same r))

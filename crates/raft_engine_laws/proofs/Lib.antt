@@ -1,3 +1,5 @@
+pub mod AlikeContents
+pub mod AlikeTables
 pub mod ApartLemmas
 pub mod AppendDeletions
 pub mod BothTables
@@ -8,6 +10,7 @@ pub mod EachLemmas
 pub mod FileSteps
 pub mod FileWords
 pub mod FoundTables
+pub mod GroupFiles
 pub mod GroupFronts
 pub mod GroupLemmas
 pub mod GroupRows
@@ -30,6 +33,8 @@ pub mod OverlaidPairs
 pub mod PurgedRewrites
 pub mod QueueSteps
 pub mod QuietLemmas
+pub mod QuietWrites
+pub mod RecordLemmas
 pub mod RecoveredRegion
 pub mod Reopened
 pub mod ReopenedRegion
@@ -39,10 +44,16 @@ pub mod RewrittenItems
 pub mod RewrittenPuts
 pub mod RewrittenRegion
 pub mod RowLemmas
+pub mod SafeDeletions
+pub mod SafeRewrites
+pub mod SafeStops
+pub mod SafeWrites
 pub mod SameRecords
 pub mod ShorterRegion
 pub mod SoundEntries
 pub mod SpokenWords
+pub mod StandingFronts
+pub mod StopLemmas
 pub mod TestLemmas
 pub mod ToldItems
 pub mod ToldRegion

@@ -96,7 +96,7 @@ module _ (content : EntryIndex → List ℕ) (append rewrite : List Event) (tabl
   put_same r other = sym (same_some (finite.get h.rewritten r) (finite.get put r)
       (sym (ap (after Rewrite r (finite.get h.rewritten r)) (ap (λ l. steps_on r (steps_of_items l)) items_are ∙ own_items r id (moving_items id to b.copies b.pairs) other (moving_own id to b.copies b.pairs))) ∙ put_by_region content append rewrite [] tables e h next plain r))
 
-  moves : (r : ℕ) → AreRecordsMoved content to (table_of r (finite.get tables r)) (table_of r (finite.get new r)) (table_of r (finite.get h.rewritten r)) (table_of r (finite.get put r))
+  pub moves : (r : ℕ) → AreRecordsMoved content to (table_of r (finite.get tables r)) (table_of r (finite.get new r)) (table_of r (finite.get h.rewritten r)) (table_of r (finite.get put r))
   moves r = elim (by_region r id) [
     | inl same ↦ subst (λ q. AreRecordsMoved content to (table_of q (finite.get tables q)) (table_of q (finite.get new q)) (table_of q (finite.get h.rewritten q)) (table_of q (finite.get put q))) (sym same)
         (subst (λ (o : Option Table). AreRecordsMoved content to (table_of id o) (table_of id (finite.get new id)) (table_of id (finite.get h.rewritten id)) (table_of id (finite.get put id))) (sym there) by.own)

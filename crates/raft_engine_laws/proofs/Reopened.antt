@@ -38,19 +38,19 @@ module _ (content : EntryIndex → List ℕ) (append rewrite : List Event) (unto
   records : (r : ℕ) → HasRecordsOf (table_of r (finite.get found r)) (overlay (kept r) (table_of r (h.each r).own) (table_of r (finite.get h.rewritten r)))
   records r = found_records content append rewrite untold tables found cleaned h both r
 
-  -- what is recovered is kept, and the rewrite queue is told nothing yet of what stands in the append files
-  pub reopened : AreKept content append rewrite (all_steps_of append) found
-  reopened = record {
+  -- what is recovered is kept, whatever its entries are said to have as contents, and the rewrite queue is told nothing yet of what stands in the append files
+  pub reopened : (other : EntryIndex → List ℕ) → AreKept other append rewrite (all_steps_of append) found
+  reopened other = record {
     append_sound = h.append_sound;
     rewrite_sound = h.rewrite_sound;
     apart = h.apart;
     rewritten = h.rewritten;
     read = h.read;
-    each = λ r. subst (λ l. IsRegionKept content r (kept r) l (table_of r (finite.get h.rewritten r)) (table_of r (finite.get found r))) (sym (all_are r))
-        (kept_records content r (kept r) (kept r) (table_of r (finite.get h.rewritten r)) (overlay (kept r) (table_of r (h.each r).own) (table_of r (finite.get h.rewritten r))) (table_of r (finite.get found r)) (records r)
+    each = λ r. subst (λ l. IsRegionKept other r (kept r) l (table_of r (finite.get h.rewritten r)) (table_of r (finite.get found r))) (sym (all_are r))
+        (kept_records other r (kept r) (kept r) (table_of r (finite.get h.rewritten r)) (overlay (kept r) (table_of r (h.each r).own) (table_of r (finite.get h.rewritten r))) (table_of r (finite.get found r)) (records r)
         (reopened_kept content r (kept r) (steps_on r untold) (table_of r (finite.get h.rewritten r)) (table_of r (finite.get tables r)) (h.each r)
         (read_places Append r append (h.each r).own h.append_sound (h.each r).read)
         (read_places Rewrite r rewrite (finite.get h.rewritten r) h.rewrite_sound (h.read.tables_read r))
         (read_files Append r append (h.each r).own h.append_sound (h.each r).read)
-        (read_pairs Rewrite r rewrite (finite.get h.rewritten r) h.rewrite_sound (h.read.tables_read r))));
+        (read_pairs Rewrite r rewrite (finite.get h.rewritten r) h.rewrite_sound (h.read.tables_read r)) other));
   }

@@ -52,15 +52,16 @@ module _ (content : EntryIndex → List ℕ) (id : ℕ) (kept untold : List Step
   apart : Append ≡ Rewrite → ⊥
   apart e = cc
 
-  pub reopened_kept : IsRegionKept content id kept kept rewritten again
-  reopened_kept = record {
+  -- whatever its entries are said to have as contents
+  pub reopened_kept : (other : EntryIndex → List ℕ) → IsRegionKept other id kept kept rewritten again
+  reopened_kept other = record {
     steps = h.steps;
     sound = sound;
     own = h.own;
     read = h.read;
     seen = again.entries;
     over = record { split = entries_are ∙ ap (λ l. l ++ own_entries) (sym left_over); spoken = h.over.spoken };
-    moved = moved_self content again.entries;
+    moved = moved_self other again.entries;
     told = sym (ap (placed_in Rewrite) entries_are ∙ placed_in-append Rewrite (unspoken kept rewritten.entries) own_entries ∙ ap (λ l. l ++ placed_in Rewrite own_entries) left_placed ∙ ap (λ l. unspoken kept rewritten.entries ++ l) (ap (placed_in Rewrite) (sym own_places) ∙ placed_in_other Append Rewrite refl own_entries) ∙ append-nil _);
     covers = λ i k. k;
     spoken =

@@ -1,11 +1,10 @@
 -- The rewrite queue is told what untold steps take away.
-use Rattle.std.proofs.Common.{◌≡◌, ℕ, Bool, true, false, cond, ◌||◌, List, [], ◌∷◌, Option, Some, None, refl, sym, ap, ◌∙◌}
+use Rattle.std.proofs.Common.{◌≡◌, ℕ, Bool, true, false, cond, ◌||◌, List, [], ◌∷◌, ◌++◌, Option, Some, None, refl, sym, ap, ◌∙◌}
 use Rattle.std.specs.List.{list_any}
 use Rattle.std.specs.Option.{option_and_then}
 use Rattle.std.specs.Ordering.{nat_cmp}
 use Rattle.std.specs.Cmp.Lexicographic.{slice_cmp, nat_list_cmp_total}
 use Rattle.std.specs.FinMap as finite
-use Rattle.std.proofs.lemmas.Bool.{false≢true}
 use Rattle.raft_base.specs.declared.entry_index.EntryIndex.{EntryIndex}
 use Rattle.raft_base.specs.declared.pipe_log.LogQueue.{LogQueue}
 use Rattle.raft_base.specs.declared.pipe_log.LogQueue.TheVariants.{Rewrite}
@@ -15,10 +14,11 @@ use Rattle.raft_table.specs.Steps.{Step, Run, Compact, Truncate, Put, Del, Atomi
 use Rattle.raft_table.specs.Table.{Table}
 use Rattle.raft_table.proofs.MarkEntries.{same_some}
 use Rattle.raft_engine_laws.specs.KeptRegions.{IsRegionKept}
-use Rattle.raft_engine_laws.specs.Speaking.{unspoken, drops_key, pair_left}
+use Rattle.raft_engine_laws.specs.Speaking.{is_index_spoken, unspoken, drops_key, is_key_dropped, pair_left}
 use Rattle.raft_engine_laws.specs.Telling.{IsRemoval, AreRemovals, SayTheSame}
 use Rattle.raft_engine_laws.proofs.OverLemmas.{unspoken-other}
-use Rattle.raft_engine_laws.proofs.UnspokenLemmas.{unspoken_same, unspoken-none, unspoken-steps, unspoken-compact, unspoken-truncate, unspoken-clean}
+use Rattle.raft_engine_laws.proofs.TestLemmas.{or_later, any-append}
+use Rattle.raft_engine_laws.proofs.UnspokenLemmas.{spoken-append, unspoken_same, unspoken-none, unspoken-steps, unspoken-compact, unspoken-truncate, unspoken-clean}
 
 -- one removal
 removal_entries : (q : LogQueue) (id : ℕ) (t : Table) (v : Option Table) (s : Step) → IsRemoval s → after_step q t s ≡ Some v → (table_of id v).entries ≡ unspoken (s ∷ []) t.entries
@@ -66,13 +66,21 @@ removals_pair q key id o v (s ∷ ss) h is = go (λ u k. removals_pair q key id 
     go rest None e k = absurd cc
     go rest (Some u) e k = rest u k ∙ ap (pair_left ss key) (removal_pair q key id (table_of id o) u s h.0 e) ∙ left_left (drops_key key s) (list_any (drops_key key) ss) (finite.get (table_of id o).keys key)
 
-module _ (content : EntryIndex → List ℕ) (id : ℕ) (kept untold : List Step) (rewritten : Option Table) (t : Table) (h : IsRegionKept content id kept untold (table_of id rewritten) t)
-    (told : List Step) (removals : AreRemovals told) (same : SayTheSame told untold) (after_all : Option Table) (is : after Rewrite id rewritten told ≡ Some after_all) where
-  pair_same : (key : List ℕ) → finite.get (table_of id after_all).keys key ≡ pair_left untold key (finite.get (table_of id rewritten).keys key)
-  pair_same key = removals_pair Rewrite key id rewritten after_all told removals is ∙ ap (λ b. cond b None (finite.get (table_of id rewritten).keys key)) (same.keys key)
+and_left : (a b : Bool) (o : Option Stored) → cond b None (cond a None o) ≡ cond (a || b) None o
+and_left true true o = refl
+and_left true false o = refl
+and_left false b o = refl
 
-  -- the rewrite queue has no untold step then
-  pub told_kept : IsRegionKept content id kept [] (table_of id after_all) t
+module _ (content : EntryIndex → List ℕ) (id : ℕ) (kept untold : List Step) (rewritten : Option Table) (t : Table) (h : IsRegionKept content id kept untold (table_of id rewritten) t)
+    (told left : List Step) (removals : AreRemovals told) (same : SayTheSame (told ++ left) untold) (after_all : Option Table) (is : after Rewrite id rewritten told ≡ Some after_all) where
+  pair_same : (key : List ℕ) → pair_left left key (finite.get (table_of id after_all).keys key) ≡ pair_left untold key (finite.get (table_of id rewritten).keys key)
+  pair_same key =
+      ap (pair_left left key) (removals_pair Rewrite key id rewritten after_all told removals is)
+      ∙ and_left (is_key_dropped told key) (is_key_dropped left key) (finite.get (table_of id rewritten).keys key)
+      ∙ ap (λ b. cond b None (finite.get (table_of id rewritten).keys key)) (sym (any-append (drops_key key) told left) ∙ same.keys key)
+
+  -- the rewrite queue hasn't been told the others then
+  pub told_kept : IsRegionKept content id kept left (table_of id after_all) t
   told_kept = record {
     steps = h.steps;
     sound = h.sound;
@@ -81,12 +89,12 @@ module _ (content : EntryIndex → List ℕ) (id : ℕ) (kept untold : List Step
     seen = h.seen;
     over = h.over;
     moved = h.moved;
-    told = unspoken-none (table_of id after_all).entries ∙ removals_entries Rewrite id rewritten after_all told removals is ∙ unspoken_same told untold (table_of id rewritten).entries same.indexes ∙ h.told;
-    covers = λ i k. absurd (false≢true k);
+    told = ap (unspoken left) (removals_entries Rewrite id rewritten after_all told removals is) ∙ unspoken-steps told left (table_of id rewritten).entries ∙ unspoken_same (told ++ left) untold (table_of id rewritten).entries same.indexes ∙ h.told;
+    covers = λ i k. h.covers i (sym (same.indexes i) ∙ spoken-append told left i ∙ or_later (is_index_spoken told i) (is_index_spoken left i) k);
     spoken = h.spoken;
     pair_moved = h.pair_moved;
     pair_told = λ key s e q. pair_same key ∙ h.pair_told key s e q;
     pair_gone = λ key e. pair_same key ∙ h.pair_gone key e;
-    pair_covers = λ key k. absurd (false≢true k);
+    pair_covers = λ key k. h.pair_covers key (sym (same.keys key) ∙ any-append (drops_key key) told left ∙ or_later (is_key_dropped told key) (is_key_dropped left key) k);
     pair_spoken = h.pair_spoken;
   }

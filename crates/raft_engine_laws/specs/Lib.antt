@@ -17,3 +17,6 @@ pub mod Moving
 pub mod DeletedFiles
 -- the bytes of entries
 pub mod Contents
+-- records, and what an engine does
+pub mod Records
+pub mod Stops

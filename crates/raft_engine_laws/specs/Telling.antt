@@ -1,14 +1,17 @@
 -- What the rewrite queue is told: steps that take away what untold steps take away, and put nothing.
-use Rattle.std.specs.Prelude.{◌≡◌, ℕ, List, [], ◌∷◌, ◌++◌, flat_map, None}
+use Rattle.std.specs.Prelude.{◌≡◌, ℕ, Bool, true, false, List, [], ◌∷◌, ◌++◌, filter, flat_map, None, nat_lt}
+use Rattle.std.specs.FinMap as finite
 use Rattle.std.specs.List.{AllByRecursion}
 use Rattle.raft_base.specs.declared.entry_index.EntryIndex.{EntryIndex}
 use Rattle.raft_records.specs.declared.command.Command.TheVariants as commands
 use Rattle.raft_records.specs.declared.key_value.OpType.{OpType}
 use Rattle.raft_records.specs.declared.key_value.OpType.TheVariants as operations
 use Rattle.raft_records.specs.Item.{Item, Content, entries, command, pair, command_item, pair_item}
-use Rattle.raft_table.specs.Steps.{Step, Compact, Truncate, Del, Clean}
+use Rattle.raft_base.specs.Runs.{end_of}
+use Rattle.raft_table.specs.Steps.{Step, Run, Compact, Truncate, Put, Del, AtomicGroup, Clean, table_of}
 use Rattle.raft_table.specs.Table.{Table}
 use Rattle.raft_table.specs.TableEntries.{start_of}
+use Rattle.raft_history.specs.RegionSteps.{RegionStep, Tables}
 use Rattle.raft_engine_laws.specs.Speaking.{is_index_spoken, unspoken, AreCovered, is_key_dropped}
 
 -- a step that takes away and puts nothing
@@ -38,6 +41,24 @@ pub record SayEnough (untold fewer : List Step) (es : List EntryIndex) : Type 0 
 pub record SayAllAtOpening (kept told : List Step) (found : Table) : Type 0 where
   pub indexes : (i : ℕ) → is_index_spoken told i ≡ is_index_spoken (kept ++ Compact (start_of found.entries) ∷ []) i
   pub keys : (key : List ℕ) → is_key_dropped told key ≡ is_key_dropped kept key
+
+-- ---- what needn't be told
+
+-- whether a step takes something away of a table whose entries end there: any but a put, and but a run that starts at the end or behind it
+abbrev pub takes_away : ℕ → Step → Bool
+takes_away end (Run []) = false
+takes_away end (Run (e ∷ run)) = nat_lt e.index end
+takes_away end (Put key value file) = false
+takes_away end (AtomicGroup first_seq last_seq) = false
+takes_away end _ = true
+
+-- whether a step takes something away of its region's table
+abbrev pub takes_from : Tables → RegionStep → Bool
+takes_from tables s = takes_away (end_of (table_of s.region (finite.get tables s.region)).entries) s.step
+
+-- the steps that do
+abbrev pub taking_steps : Tables → List RegionStep → List RegionStep
+taking_steps tables steps = filter (takes_from tables) steps
 
 -- ---- as items
 

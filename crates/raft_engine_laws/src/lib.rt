@@ -6,6 +6,8 @@ pub mod deletions;
 pub mod groups;
 pub mod kept;
 pub mod moving;
+pub mod records;
 pub mod restarts;
+pub mod stops;
 pub mod telling;
 pub mod writes;

@@ -44,14 +44,20 @@ pub fn what_says_the_same_is_as_untold()
 {}
 
 /// States that once a batch without a group marker has told the rewrite queue, in any order, what untold steps take away,
-/// none is untold.
+/// none is untold; and that where it told some of it, the others are.
 pub fn told_steps_are_no_longer_untold()
-    ensures { (content : EntryIndex → List ℕ) (append rewrite : List Event)
+    ensures all { (content : EntryIndex → List ℕ) (append rewrite : List Event)
         (untold : List RegionStep) (tables : Tables) (e : Event)
         → AreKept content append rewrite untold tables → IsRewrittenNext rewrite e → HasNoMarker e
         → ((r : ℕ) → AreRemovals (steps_on r (steps_of_items e.items)))
         → ((r : ℕ) → SayTheSame (steps_on r (steps_of_items e.items)) (steps_on r untold))
         → AreKept content append (rewrite ++ e ∷ []) [] tables }
+    ensures some { (content : EntryIndex → List ℕ) (append rewrite : List Event)
+        (untold : List RegionStep) (tables : Tables) (e : Event)
+        → AreKept content append rewrite untold tables → IsRewrittenNext rewrite e → HasNoMarker e
+        → (others : List RegionStep) → ((r : ℕ) → AreRemovals (steps_on r (steps_of_items e.items)))
+        → ((r : ℕ) → SayTheSame (steps_on r (steps_of_items e.items) ++ steps_on r others) (steps_on r untold))
+        → AreKept content append (rewrite ++ e ∷ []) others tables }
 {}
 
 /// States that steps which take away nothing of what the rewrite files give need not be told; so a run behind all of a

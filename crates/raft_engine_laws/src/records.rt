@@ -1,0 +1,47 @@
+//! Laws of the records of tables, without places and files.
+
+ghost use Rattle.std.specs.Prelude.{◌≡◌, ℕ, List, [], ◌∷◌, ◌++◌, Some};
+ghost use Rattle.std.specs.FinMap as finite;
+ghost use Rattle.std.specs.List.{AllByRecursion};
+ghost use Rattle.raft_base.specs.declared.entry_index.EntryIndex.{EntryIndex};
+ghost use Rattle.raft_base.specs.declared.pipe_log.FileId.{FileId};
+ghost use Rattle.raft_records.specs.Item.{Item};
+ghost use Rattle.raft_table.specs.Steps.{table_of};
+ghost use Rattle.raft_table.specs.Table.{Table};
+ghost use Rattle.raft_history.specs.Batches.{Event};
+ghost use Rattle.raft_history.specs.RegionSteps.{Tables};
+ghost use Rattle.raft_accessor.specs.Writes.{Appending, after_items};
+ghost use Rattle.raft_engine_laws.specs.MovedRecords.{AreFound};
+ghost use Rattle.raft_engine_laws.specs.Moving.{AreRecordsMoved};
+ghost use Rattle.raft_engine_laws.specs.Records.{Records, entries_told, live, AreToldAlike, HasRecords, HaveRecords};
+
+/// States that tables with the records of a history have, once they take a batch more, the records of the history with
+/// it; and that of tables with the same records each takes what one of them takes.
+pub fn records_come_from_written_batches()
+    ensures none { (content : EntryIndex → List ℕ) → HaveRecords content finite.empty (live content []) }
+    ensures more { (content : EntryIndex → List ℕ) (tables new : Tables) (h : List Event) (e : Event)
+        → HaveRecords content tables (live content h) → after_items Appending tables e.items ≡ Some new
+        → HaveRecords content new (live content (h ++ e ∷ [])) }
+    ensures alike { (content : EntryIndex → List ℕ) (tables others new : Tables) (records : ℕ → Records)
+        (items : List Item) → HaveRecords content tables records → HaveRecords content others records
+        → after_items Appending tables items ≡ Some new
+        → (later : Tables) × (after_items Appending others items ≡ Some later) }
+{}
+
+/// States that tables which are found have the records of the kept ones, and that records which move stay the same.
+pub fn records_stay_where_places_change()
+    ensures found { (content : EntryIndex → List ℕ) (kept found : Tables) (records : ℕ → Records)
+        → AreFound content kept found → HaveRecords content kept records → HaveRecords content found records }
+    ensures moved { (content : EntryIndex → List ℕ) (file : FileId) (t moved rewritten put : Table) (rs : Records)
+        → AreRecordsMoved content file t moved rewritten put → HasRecords content t rs
+        → HasRecords content moved rs }
+{}
+
+/// States that where contents are told alike of all entries in tables and in the batches of a history, the tables have the
+/// records of the history by both if they have them by one.
+pub fn records_are_told_alike()
+    ensures { (told content : EntryIndex → List ℕ) (tables : Tables) (h : List Event)
+        → AllByRecursion (λ (e : Event). AllByRecursion (λ (item : Item). AreToldAlike told content item.content) e.items) h
+        → ((r : ℕ) → entries_told told (table_of r (finite.get tables r)).entries ≡ entries_told content (table_of r (finite.get tables r)).entries)
+        → HaveRecords content tables (live content h) → HaveRecords told tables (live told h) }
+{}

@@ -1,0 +1,12 @@
+pub mod BatchPartLemmas
+pub mod TornLemmas
+pub mod FrontLemmas
+pub mod RestLemmas
+pub mod WrittenLemmas
+pub mod StepLemmas
+pub mod FileLemmas
+pub mod NumberLemmas
+pub mod EventLemmas
+pub mod DoneLemmas
+pub mod DeedLemmas
+pub mod RecordLemmas

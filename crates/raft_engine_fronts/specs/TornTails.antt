@@ -1,0 +1,40 @@
+-- Files of which the last one may end in a torn tail: bytes behind its batches of which no front is a batch.
+use Rattle.std.specs.Prelude.{◌≡◌, ◌≢◌, ◌⊎◌, ℕ, ◌<◌, ◌≤◌, List, [], ◌∷◌, length, Option, Some, IfSome, MatchOption}
+use Rattle.raft_base.specs.declared.errors.Error.{Error}
+use Rattle.raft_base.specs.declared.errors.Error.TheVariants as errors
+use Rattle.raft_base.specs.declared.pipe_log.LogQueue.{LogQueue}
+use Rattle.raft_base.specs.declared.pipe_log.Version.{Version}
+use Rattle.raft_records.specs.FilePart.{Part, AreBatchesUpTo}
+use Rattle.raft_history.specs.Batches.{Event}
+use Rattle.raft_files.specs.Disk.{NumberedBytes}
+use Rattle.raft_replay.specs.Cuts.{bytes_before}
+use Rattle.raft_replay.specs.Segments.{AreHeldInTurn, HoldsFrom}
+use Rattle.raft_replay.specs.Stops.{IsUnreadableAt}
+use Rattle.raft_recover.specs.Files.{whole_file}
+
+-- from a byte of a part on these batches stand, one after the other, up to a byte from which on no batch can be read
+pub record HoldsTornFrom (part : Part) (from : ℕ) (h : List Event) : Type 0 where
+  pub at : ℕ
+  pub inside : at ≤ length part.bytes
+  pub held : HoldsFrom (bytes_before part at) from h
+  pub torn : IsUnreadableAt part at
+
+-- the batches of files, in order, of which the last may end in a torn tail
+abbrev pub FilesHoldTorn : LogQueue → Version → List NumberedBytes → List Event → Type 0
+FilesHoldTorn queue version [] h = h ≡ []
+FilesHoldTorn queue version (file ∷ []) h = HoldsTornFrom (whole_file queue version file) 0 h
+FilesHoldTorn queue version (file ∷ next ∷ files) h =
+    AreHeldInTurn (HoldsFrom (whole_file queue version file) 0) (λ rest. FilesHoldTorn queue version (next ∷ files) rest) h
+
+-- a reader who goes on from batch to batch stops at this byte of a part: at its end, or where no batch can be read
+pub record StopsAt (part : Part) (at : ℕ) : Type 0 where
+  pub batches : AreBatchesUpTo part at
+  pub stops : (at ≡ length part.bytes) ⊎ IsUnreadableAt part at
+
+-- where `readable_front` says that it came to the end of a part, or why no batch can be read, and that isn't want of memory, a reader stops
+abbrev pub ReadableFrontStops : Type 0
+ReadableFrontStops =
+    (part : Part) (at : ℕ) (error : Option Error) → AreBatchesUpTo part at
+    → MatchOption error (at ≡ length part.bytes) (λ e. at < length part.bytes)
+    → IfSome error (λ e. e ≢ errors.Memory → IsUnreadableAt part at)
+    → error ≢ Some errors.Memory → StopsAt part at

@@ -35,6 +35,8 @@ pub enum Step {
     Fail,
     /// Takes the tables that the files of both queues give.
     Restart,
+    /// Reads an entry out of its file.
+    Read(u64),
 }
 
 /// A log file.
@@ -100,6 +102,10 @@ impl Engine {
             }
             Step::Restart => {
                 self.tables = self.reopened()?;
+                Ok(())
+            }
+            Step::Read(index) => {
+                let _ = self.entry(index)?;
                 Ok(())
             }
         }
@@ -172,6 +178,32 @@ impl Engine {
         self.take(&Step::Append(seq, parts))
     }
 
+    /// Returns how many bytes the last file has.
+    pub fn len(&self) -> usize {
+        match self.files.last() {
+            Some(file) => file.bytes.len(),
+            None => 0,
+        }
+    }
+
+    /// Puts zeros in place of bytes of the last file, as where a page of it was never written.
+    pub fn lose_page(&mut self, first: usize, end: usize) {
+        if let Some(file) = self.files.last_mut() {
+            for at in first..end {
+                if let Some(byte) = file.bytes.get_mut(at) {
+                    *byte = 0;
+                }
+            }
+        }
+    }
+
+    /// Drops the bytes of the last file from one on.
+    pub fn lose_from(&mut self, end: usize) {
+        if let Some(file) = self.files.last_mut() {
+            file.bytes.truncate(end);
+        }
+    }
+
     /// Takes the last byte of the last file away.
     pub fn tear(&mut self) {
         if let Some(file) = self.files.last_mut() {
@@ -241,17 +273,21 @@ impl Engine {
         self.tables.apply_append_writes(written.drain())
     }
 
-    /// Reads the first entry of the table out of its file.
-    pub fn first_entry(&self) -> Result<Vec<u8>> {
-        let (Some(table), Some(file)) = (self.tables.get(REGION), self.files.last()) else {
-            return Err(Error::EntryNotFound);
-        };
+    /// Reads an entry of the table out of its file.
+    pub fn entry(&self, index: u64) -> Result<Vec<u8>> {
+        let table = self.tables.get(REGION).ok_or(Error::EntryNotFound)?;
         let mut entries: Vec<EntryIndex> = Vec::new(self.alloc);
-        table.fetch_entries_to(1, 2, None, &mut entries)?;
+        table.fetch_entries_to(index, index.saturating_add(1), None, &mut entries)?;
         let entry = entries.first().ok_or(Error::EntryNotFound)?;
-        let part = part_of(file)?;
-        let block = entries_block_in(&part, entry.entries.ok_or(Error::EntryNotFound)?)?;
-        Ok(Vec::from_slice(self.alloc, entry_bytes(self.alloc, block, entry)?)?)
+        let place = entry.entries.ok_or(Error::EntryNotFound)?;
+        for file in &self.files {
+            if file.id == place.id {
+                let part = part_of(file)?;
+                let block = entries_block_in(&part, place)?;
+                return Ok(Vec::from_slice(self.alloc, entry_bytes(self.alloc, block, entry)?)?);
+            }
+        }
+        Err(Error::EntryNotFound)
     }
 
     /// Returns what the tables hold.

@@ -1,5 +1,5 @@
 //! The rules that an engine over this layer keeps: for each a history that breaks it, with what that loses or brings
-//! back, and one that keeps it; and a log of an engine, which is written and recovered.
+//! back, and one that keeps it; a log of an engine, which is written and recovered; and an engine over files in memory.
 #![tactic(auto)]
 
 #[cfg(test)]
@@ -12,3 +12,5 @@ mod engine;
 mod round_trip;
 #[cfg(test)]
 mod rules;
+#[cfg(test)]
+mod stored;

@@ -11,7 +11,7 @@ use raft_recover::recovered::recovered_text;
 use std::alloc::Global;
 use std::thread::Threads;
 
-const WRITTEN: &str = "\
+pub(crate) const WRITTEN: &str = "\
 7 entries 1..2 keys 1 append 1 rewrite -
 cleaned 8
 live 2 0
@@ -24,7 +24,7 @@ live 0 2
 ";
 
 /// Returns a batch of an entry and a key value of region 7.
-fn records(alloc: Global) -> Result<LogBatch> {
+pub(crate) fn records(alloc: Global) -> Result<LogBatch> {
     let mut batch = LogBatch::default(alloc);
     let entry = EntryIndex {
         index: 1,
@@ -41,7 +41,7 @@ fn records(alloc: Global) -> Result<LogBatch> {
 }
 
 /// Returns a batch that cleans region 8.
-fn cleaning(alloc: Global) -> Result<LogBatch> {
+pub(crate) fn cleaning(alloc: Global) -> Result<LogBatch> {
     let mut batch = LogBatch::default(alloc);
     batch.add_command(8, Command::Clean)?;
     Ok(batch)
@@ -70,12 +70,12 @@ fn placed(mut batch: LogBatch) -> Result<LogBatch> {
     Ok(batch)
 }
 
-fn has_lines(alloc: Global, accessor: &MemTableAccessor, lines: &str) -> Result<bool> {
+pub(crate) fn has_lines(alloc: Global, accessor: &MemTableAccessor, lines: &str) -> Result<bool> {
     Ok(recovered_text(alloc, accessor)?.as_str() == lines)
 }
 
 /// Returns a log of two files.
-fn written(alloc: Global) -> Result<Log> {
+pub(crate) fn written(alloc: Global) -> Result<Log> {
     let mut log = Log::new(alloc, Version::V2, 1)?;
     write(&mut log, records(alloc)?)?;
     log.rotate(2)?;
@@ -98,7 +98,7 @@ fn is_recovered<R: Threads + Sync>(rt: &R, alloc: Global) -> Result<bool> {
 }
 
 /// Returns the files of a log, with their bytes.
-fn files_of(alloc: Global, log: &Log) -> Result<Vec<(FileSeq, Vec<u8>)>> {
+pub(crate) fn files_of(alloc: Global, log: &Log) -> Result<Vec<(FileSeq, Vec<u8>)>> {
     let mut files = Vec::new(alloc);
     for segment in log.segments()? {
         for part in segment {
@@ -237,7 +237,7 @@ fn a_log_has_many_files(rt: HostRuntime) {
 }
 
 /// Returns a batch of an entry of region 7.
-fn entry_of(alloc: Global, index: u64, text: &str) -> Result<LogBatch> {
+pub(crate) fn entry_of(alloc: Global, index: u64, text: &str) -> Result<LogBatch> {
     let mut batch = LogBatch::default(alloc);
     let entry = EntryIndex {
         index,

@@ -1,9 +1,12 @@
 //! Whether the histories end as they say.
 
 use crate::batches::Part::Entries;
-use crate::cases::{Case, first, fourth, refused, second, third};
-use crate::engine::Step::Append;
+use crate::cases::groups::missed;
+use crate::cases::rewritings::refused;
+use crate::cases::{Case, failures, groups, removals, rewritings};
+use crate::engine::Step::{Append, Sync};
 use crate::engine::{Engine, Step};
+use raft_base::LogQueue;
 use raft_records::{Error, Result};
 use std::alloc::Global;
 use std::process::Abort;
@@ -17,35 +20,45 @@ fn ends(alloc: Global, case: &Case) -> Result<bool> {
     Ok(engine.kept()?.as_str() == case.kept && engine.recovered()?.as_str() == case.found)
 }
 
-/// Tests whether the last step of a history is refused, and no other.
-fn refuses_last(alloc: Global, steps: &[Step]) -> Result<bool> {
+/// Takes the steps of a history but for the last, and returns what the engine answers to that.
+fn last_answer(alloc: Global, steps: &[Step]) -> Result<Result<()>> {
     let Some((last, steps)) = steps.split_last() else {
-        return Ok(false);
+        return Err(Error::Failed);
     };
     let mut engine = Engine::new(alloc)?;
     for step in steps {
         engine.take(step)?;
     }
-    Ok(is_corruption(engine.take(last)))
+    Ok(engine.take(last))
 }
 
-/// Runs each history, once more where an allocation is refused: it has to find memory then.
-fn all_end(rt: &impl Abort, alloc: Global, cases: &[Case]) {
+/// Tests whether the last step of a history is refused, and no other.
+fn refuses_last(alloc: Global, steps: &[Step]) -> Result<bool> {
+    Ok(is_corruption(last_answer(alloc, steps)?))
+}
+
+/// Tests whether the last step of a history finds no file for its entry, and no other.
+fn misses_last(alloc: Global, steps: &[Step]) -> Result<bool> {
+    Ok(matches!(last_answer(alloc, steps)?, Err(Error::EntryNotFound)))
+}
+
+/// Runs each history of a table, once more where an allocation is refused: it has to find memory then.
+fn all_end(rt: &impl Abort, alloc: Global, table: &str, cases: &[Case]) {
     for (row, case) in cases.iter().enumerate() {
         let mut ended = ends(alloc, case);
         if matches!(ended, Err(Error::Memory)) {
             ended = ends(alloc, case);
         }
-        assert!(rt; matches!(ended, Ok(true)), "row {row}");
+        assert!(rt; matches!(ended, Ok(true)), "{table}: row {row}");
     }
 }
 
 #[test]
 fn histories_end_as_they_say(rt: HostRuntime) {
-    all_end(&rt, rt.alloc(), first());
-    all_end(&rt, rt.alloc(), second());
-    all_end(&rt, rt.alloc(), third());
-    all_end(&rt, rt.alloc(), fourth());
+    all_end(&rt, rt.alloc(), "removals", removals::cases());
+    all_end(&rt, rt.alloc(), "groups", groups::cases());
+    all_end(&rt, rt.alloc(), "rewritings", rewritings::cases());
+    all_end(&rt, rt.alloc(), "failures", failures::cases());
 }
 
 /// Runs each, once more where an allocation is refused.
@@ -53,8 +66,20 @@ fn histories_end_as_they_say(rt: HostRuntime) {
 fn replaced_entries_are_not_moved(rt: HostRuntime) {
     for (row, steps) in refused().iter().enumerate() {
         let mut ended = refuses_last(rt.alloc(), steps);
-        if matches!(ended, Err(Error::Memory)) {
+        if !matches!(ended, Ok(true)) {
             ended = refuses_last(rt.alloc(), steps);
+        }
+        assert!(rt; matches!(ended, Ok(true)), "row {row}");
+    }
+}
+
+/// Runs each, once more where an allocation is refused.
+#[test]
+fn entries_of_deleted_files_are_missed(rt: HostRuntime) {
+    for (row, steps) in missed().iter().enumerate() {
+        let mut ended = misses_last(rt.alloc(), steps);
+        if !matches!(ended, Ok(true)) {
+            ended = misses_last(rt.alloc(), steps);
         }
         assert!(rt; matches!(ended, Ok(true)), "row {row}");
     }
@@ -90,10 +115,10 @@ fn finds_front(alloc: Global) -> Result<bool> {
 /// Tests whether a changed entry byte is found when the entry is read, and not before.
 fn finds_byte(alloc: Global) -> Result<bool> {
     let mut engine = written(alloc)?;
-    let read = engine.first_entry()?.as_slice() == b"x".as_slice();
+    let read = engine.entry(1)?.as_slice() == b"x".as_slice();
     engine.flip(16);
     let found = engine.recovered()?.as_str() == "[1,3)";
-    Ok(read && found && is_corruption(engine.first_entry()))
+    Ok(read && found && is_corruption(engine.entry(1)))
 }
 
 /// Tests whether a tail is cut that is torn behind an entry whose bytes are a readable batch.
@@ -117,6 +142,70 @@ fn keeps_damaged(alloc: Global) -> Result<bool> {
     let refused = is_corruption(engine.recovered());
     engine.flip(24);
     Ok(whole && cut && refused && engine.recovered()?.as_str() == "[1,4)")
+}
+
+/// How many bytes stand before the entries of a batch.
+const HEADER: usize = 16;
+
+/// Returns the entries 1 and 2, which are synced, and 3 and 4, each in a batch that isn't; and where these begin.
+fn unsynced(alloc: Global) -> Result<(Engine, usize, usize)> {
+    let mut engine = written(alloc)?;
+    engine.take(&Sync(LogQueue::Append))?;
+    let first = engine.len();
+    engine.take(&Append(1, &[Entries(3, 4)]))?;
+    let second = engine.len();
+    engine.take(&Append(1, &[Entries(4, 5)]))?;
+    Ok((engine, first, second))
+}
+
+/// Tests whether nothing is cut where a failure of power takes a page of the first of two unsynced batches, and leaves the
+/// second: that is no front.
+fn keeps_hole(alloc: Global) -> Result<bool> {
+    let (mut engine, first, second) = unsynced(alloc)?;
+    let len = engine.len();
+    engine.lose_page(first.saturating_add(HEADER), second);
+    let cut = is_corruption(engine.cut_tail());
+    Ok(cut && engine.len() == len && is_corruption(engine.recovered()))
+}
+
+/// Tests whether what was synced is found where that page has the header of the first batch too: nothing says where the
+/// second one stands then.
+fn cuts_lost_header(alloc: Global) -> Result<bool> {
+    let (mut engine, first, second) = unsynced(alloc)?;
+    engine.lose_page(first, second);
+    engine.cut_tail()?;
+    Ok(engine.len() == first && engine.recovered()?.as_str() == "[1,3)")
+}
+
+/// Tests whether each front of two unsynced batches is opened, and gives the batches that are whole in it.
+fn opens_fronts(alloc: Global) -> Result<bool> {
+    let (engine, first, second) = unsynced(alloc)?;
+    let len = engine.len();
+    for end in first..=len {
+        let (mut engine, _, _) = unsynced(alloc)?;
+        engine.lose_from(end);
+        engine.cut_tail()?;
+        let found = if end < second {
+            "[1,3)"
+        } else if end < len {
+            "[1,4)"
+        } else {
+            "[1,5)"
+        };
+        if engine.recovered()?.as_str() != found {
+            return Ok(false);
+        }
+    }
+    Ok(true)
+}
+
+/// Tests whether a batch that was synced before the next one was written is found where a page of that one is lost.
+fn finds_synced(alloc: Global) -> Result<bool> {
+    let (mut engine, _, second) = unsynced(alloc)?;
+    let len = engine.len();
+    engine.lose_page(second.saturating_add(HEADER), len);
+    engine.cut_tail()?;
+    Ok(engine.recovered()?.as_str() == "[1,4)")
 }
 
 fn is_corruption<T: Drop>(answer: Result<T>) -> bool {
@@ -144,4 +233,16 @@ fn torn_tails_are_told_from_damage(rt: HostRuntime) {
     assert!(rt;
         matches!(keeps_damaged(alloc), Ok(true)) || matches!(keeps_damaged(alloc), Ok(true))
     );
+}
+
+/// Runs each, once more where an allocation is refused.
+#[test]
+fn fronts_are_opened_and_holes_refused(rt: HostRuntime) {
+    let alloc = rt.alloc();
+    assert!(rt; matches!(keeps_hole(alloc), Ok(true)) || matches!(keeps_hole(alloc), Ok(true)));
+    assert!(rt;
+        matches!(cuts_lost_header(alloc), Ok(true)) || matches!(cuts_lost_header(alloc), Ok(true))
+    );
+    assert!(rt; matches!(opens_fronts(alloc), Ok(true)) || matches!(opens_fronts(alloc), Ok(true)));
+    assert!(rt; matches!(finds_synced(alloc), Ok(true)) || matches!(finds_synced(alloc), Ok(true)));
 }

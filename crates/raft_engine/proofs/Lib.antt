@@ -1,0 +1,5 @@
+mod DrainLemmas
+mod StoredLemmas
+mod KeptLemmas
+mod TableLemmas
+mod RefusalLemmas

@@ -1,0 +1,49 @@
+-- Why nothing is asked for a batch.
+use Rattle.std.proofs.Common.{◌≡◌, ◌≢◌, ◌≤◌, ◌<◌, ◌^◌, ℕ, Bool, true, List, inl, inr, subst}
+use Rattle.raft_base.specs.declared.errors.Error.{Error}
+use Rattle.raft_base.specs.declared.errors.Error.TheVariants as errors
+use Rattle.raft_base.specs.declared.pipe_log.Version.{Version}
+use Rattle.raft_records.specs.LogBatch.{Batch, encoded_length}
+use Rattle.raft_accessor.specs.Accessor.{Accessor}
+use Rattle.raft_accessor.specs.AppendChecks.{IsAppendCheckFault}
+use Rattle.raft_files.specs.Asks.{Ask}
+use Rattle.raft_engine.specs.KeptEngine.{KeptEngine}
+use Rattle.raft_engine.specs.KeptEngineView.{IsKeptBy}
+use Rattle.raft_engine.specs.WrittenBatch.{IsRefusal}
+
+-- the tables would refuse it
+pub test_refusal : (engine : KeptEngine) (batch : Batch) (e : Error) → engine.intact ≡ true → IsAppendCheckFault engine.accessor.tables batch.items e → IsRefusal engine batch e
+test_refusal engine batch (errors.Corruption text) intact f = (intact, f)
+test_refusal engine batch errors.Memory intact f = intact
+test_refusal engine batch errors.Full intact f = absurd f
+test_refusal engine batch (errors.InvalidArgument text) intact f = absurd f
+test_refusal engine batch (errors.Io text) intact f = absurd f
+test_refusal engine batch (errors.Codec text) intact f = absurd f
+test_refusal engine batch (errors.Message text) intact f = absurd f
+test_refusal engine batch (errors.TryAgain text) intact f = absurd f
+test_refusal engine batch errors.EntryCompacted intact f = absurd f
+test_refusal engine batch errors.EntryNotFound intact f = absurd f
+test_refusal engine batch (errors.Other text) intact f = absurd f
+test_refusal engine batch errors.Failed intact f = absurd f
+
+-- it has too many bytes
+pub bytes_refusal : (engine : KeptEngine) (batch : Batch) (e : Error) → engine.intact ≡ true
+    → (e ≢ errors.Memory → (e ≡ errors.Full) × (2 ^ 56 ≤ encoded_length batch.items batch.entry_bytes)) → IsRefusal engine batch e
+bytes_refusal engine batch errors.Memory intact f = intact
+bytes_refusal engine batch errors.Full intact f = (intact, inl (f (λ p. cc)).1)
+bytes_refusal engine batch (errors.Corruption text) intact f = let is = (f (λ p. cc)).0 in absurd cc
+bytes_refusal engine batch (errors.InvalidArgument text) intact f = let is = (f (λ p. cc)).0 in absurd cc
+bytes_refusal engine batch (errors.Io text) intact f = let is = (f (λ p. cc)).0 in absurd cc
+bytes_refusal engine batch (errors.Codec text) intact f = let is = (f (λ p. cc)).0 in absurd cc
+bytes_refusal engine batch (errors.Message text) intact f = let is = (f (λ p. cc)).0 in absurd cc
+bytes_refusal engine batch (errors.TryAgain text) intact f = let is = (f (λ p. cc)).0 in absurd cc
+bytes_refusal engine batch errors.EntryCompacted intact f = let is = (f (λ p. cc)).0 in absurd cc
+bytes_refusal engine batch errors.EntryNotFound intact f = let is = (f (λ p. cc)).0 in absurd cc
+bytes_refusal engine batch (errors.Other text) intact f = let is = (f (λ p. cc)).0 in absurd cc
+bytes_refusal engine batch errors.Failed intact f = let is = (f (λ p. cc)).0 in absurd cc
+
+-- the last file has too many
+pub file_refusal : (version : Version) (asks : List Ask) (seq len : ℕ) (accessor : Accessor) (intact : Bool) (batch : Batch) → IsKeptBy version asks seq len accessor intact → intact ≡ true → 2 ^ 63 < len
+    → IsRefusal (record { version = version; asks = asks; accessor = accessor; intact = intact }) batch errors.Full
+file_refusal version asks seq len accessor intact batch k is many =
+    let w = k.whole is in (is, inr (record { seq = seq; bytes = w.bytes; last = w.last; many = subst (λ (n : ℕ). 2 ^ 63 < n) w.ends many }))

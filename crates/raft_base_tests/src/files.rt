@@ -24,8 +24,6 @@ impl Deaf {
 impl EngineFiles for Deaf {
     ghost asked = { λ f. f.asked.asks };
 
-    ghost may_read = { λ f place bytes. Unit {0} };
-
     fn append(&mut self, queue: LogQueue, bytes: &[u8]) -> Result<()> {
         self.asked.put(queue, bytes);
         self.answer()
@@ -52,7 +50,7 @@ impl EngineFiles for Deaf {
         self.answer()
     }
 
-    fn read(&self, _place: FileBlockHandle) -> Result<Vec<u8>> {
+    fn read(&mut self, _place: FileBlockHandle) -> Result<Vec<u8>> {
         Err(Error::Failed)
     }
 }
@@ -80,12 +78,12 @@ fn are(files: &Vec<(FileSeq, Vec<u8>)>, expected: &[(FileSeq, &str)]) -> bool {
             && file.1.as_slice() == other.1.as_bytes())
 }
 
-fn read(files: &MemoryFiles, id: FileId, offset: u64, len: usize) -> Result<Vec<u8>> {
+fn read(files: &mut MemoryFiles, id: FileId, offset: u64, len: usize) -> Result<Vec<u8>> {
     files.read(FileBlockHandle { id, offset, len })
 }
 
 /// Tests whether a place has the text, or no bytes where there is none.
-fn has(files: &MemoryFiles, id: FileId, offset: u64, text: Option<&str>, len: usize) -> bool {
+fn has(files: &mut MemoryFiles, id: FileId, offset: u64, text: Option<&str>, len: usize) -> bool {
     match (read(files, id, offset, len), text) {
         (Ok(bytes), Some(text)) => bytes.as_slice() == text.as_bytes(),
         (Err(Error::InvalidArgument(_)), None) => true,
@@ -107,6 +105,35 @@ fn memory_keeps_what_is_asked(rt: HostRuntime) -> Result<()> {
     Ok(())
 }
 
+/// Returns copies of the files of a queue, once more where there is no memory.
+fn copies(files: &MemoryFiles, queue: LogQueue) -> Result<Vec<(FileSeq, Vec<u8>)>> {
+    match files.copies(queue) {
+        Err(Error::Memory) => files.copies(queue),
+        copies => copies,
+    }
+}
+
+/// Tests whether files that are found are those that were copied, and serve on.
+fn are_found(alloc: Global) -> Result<bool> {
+    let left = made(alloc)?;
+    let append = copies(&left, LogQueue::Append)?;
+    let mut files = MemoryFiles::found(append, copies(&left, LogQueue::Rewrite)?);
+    let found = are(files.files(LogQueue::Append), &[(2, "abcde"), (4, "fgh")]);
+    files.append(LogQueue::Rewrite, b"!")?;
+    files.delete_oldest(LogQueue::Append)?;
+    Ok(
+        found
+            && are(files.files(LogQueue::Append), &[(4, "fgh")])
+            && are(files.files(LogQueue::Rewrite), &[(9, "xyz!")]),
+    )
+}
+
+#[test]
+fn memory_is_found_again(rt: HostRuntime) -> Result<()> {
+    assert!(rt; are_found(rt.alloc())?);
+    Ok(())
+}
+
 const ROWS: [(LogQueue, FileSeq, u64, usize, Option<&str>); 9] = [
     (LogQueue::Append, 2, 0, 5, Some("abcde")),
     (LogQueue::Append, 2, 1, 3, Some("bcd")),
@@ -121,9 +148,9 @@ const ROWS: [(LogQueue, FileSeq, u64, usize, Option<&str>); 9] = [
 
 #[test]
 fn memory_is_read_by_place(rt: HostRuntime) -> Result<()> {
-    let files = made(rt.alloc())?;
+    let mut files = made(rt.alloc())?;
     for &(queue, seq, offset, len, text) in &ROWS {
-        assert!(rt; has(&files, FileId::new(queue, seq), offset, text, len));
+        assert!(rt; has(&mut files, FileId::new(queue, seq), offset, text, len));
     }
     Ok(())
 }

@@ -3,7 +3,7 @@ use Rattle.std.proofs.Common.{◌≡◌, ℕ, zero, suc, ◌+◌, ◌-◌, ◌<�
 use Rattle.std.proofs.lemmas.List.{drop-append-le, length-drop, length-map}
 use Rattle.std.specs.Global.{Global}
 use Rattle.raft_base.specs.declared.pipe_log.LogQueue.TheVariants.{Append, Rewrite}
-use Rattle.raft_files.specs.Asks.{Act, Put, Begin, Sync, Delete, Cut, Ask, ask, acts_on}
+use Rattle.raft_files.specs.Asks.{Act, Put, Begin, Delete, Cut, Ask, ask, acts_on}
 use Rattle.raft_files.specs.Disk.{NumberedBytes, on_last, put_behind, cut_last, begun, deletions}
 use Rattle.raft_files.specs.HeldFiles.{AreHeld, AreBothHeld, file_shown}
 

@@ -1,8 +1,8 @@
 -- The last file.
-use Rattle.std.proofs.Common.{◌≡◌, ℕ, suc, ◌+◌, ◌-◌, ◌<◌, ◌≤◌, List, [], ◌∷◌, ◌++◌, length, map, take, drop, refl, sym, ap, ◌∙◌, arith, slice_index_or, slice_set, subst, Vec, Some, Result, Ok, Err, OnErr}
+use Rattle.std.proofs.Common.{◌≡◌, ℕ, ◌+◌, ◌-◌, ◌<◌, List, [], ◌∷◌, ◌++◌, length, map, take, refl, sym, ap, ◌∙◌, arith, slice_index_or, slice_set, subst, Vec, None, Some, Result, Ok, Err, OnErr}
 use Rattle.std.proofs.lemmas.List.{take_more, take_all, length-take-le, map-append}
 use Rattle.std.proofs.Math.Seq.{set-append_seam}
-use Rattle.std.proofs.lemmas.Option.{slice_get_within, get_or_from_slice_get}
+use Rattle.std.proofs.lemmas.Option.{slice_get_within, get_or_from_slice_get, slice_get-get_or, none-some}
 use Rattle.std.specs.List.{slice_get}
 use Rattle.std.specs.Global.{Global}
 use Rattle.raft_files.specs.Disk.{NumberedBytes, on_last}
@@ -51,6 +51,23 @@ above xs last seq e n =
     let lt : length xs - 1 < length xs = slice_get_within xs (length xs - 1) last e in
     let split : xs ≡ take (length xs - 1) xs ++ last ∷ [] = at_last xs (length xs - 1) last (omega (arith, lt)) ∙ ap (λ x. take (length xs - 1) xs ++ x ∷ []) (get_or_from_slice_get xs (length xs - 1) last last e) in
     next_of seq (map file_shown (take (length xs - 1) xs)) (file_shown last) (subst (λ fs. IsNext seq fs) (ap (map file_shown) split ∙ map-append file_shown (take (length xs - 1) xs) (last ∷ [])) n)
+
+behind : (seq : ℕ) (files : List NumberedBytes) (file : NumberedBytes) → file.0 < seq → IsNext seq (files ++ file ∷ [])
+behind seq [] file lt = lt
+behind seq (f ∷ []) file lt = lt
+behind seq (f ∷ g ∷ files) file lt = behind seq (g ∷ files) file lt
+
+-- a number above that of the last file may come next
+pub next_above : (xs : List (ℕ × Vec ℕ Global)) (last : ℕ × Vec ℕ Global) (seq : ℕ) → slice_get xs (length xs - 1) ≡ Some last → last.0 < seq → IsNext seq (map file_shown xs)
+next_above xs last seq e lt =
+    let within : length xs - 1 < length xs = slice_get_within xs (length xs - 1) last e in
+    let split : xs ≡ take (length xs - 1) xs ++ last ∷ [] = at_last xs (length xs - 1) last (omega (arith, within)) ∙ ap (λ x. take (length xs - 1) xs ++ x ∷ []) (get_or_from_slice_get xs (length xs - 1) last last e) in
+    subst (λ fs. IsNext seq fs) (sym (ap (map file_shown) split ∙ map-append file_shown (take (length xs - 1) xs) (last ∷ []))) (behind seq (map file_shown (take (length xs - 1) xs)) (file_shown last) lt)
+
+-- any number may come where there is no file
+pub next_of_none : (xs : List (ℕ × Vec ℕ Global)) (seq : ℕ) → slice_get xs (length xs - 1) ≡ None → IsNext seq (map file_shown xs)
+next_of_none [] seq e = tt
+next_of_none (x ∷ xs) seq e = absurd (none-some _ (sym e ∙ slice_get-get_or (x ∷ xs) (length (x ∷ xs) - 1) x (omega arith)))
 
 -- what holds, holds after an error
 pub on_err : {T E P : Type 0} (r : Result T E) → P → OnErr r P

@@ -1,15 +1,25 @@
 -- What is asked of an engine's files.
 use Rattle.std.specs.Prelude.{◌≡◌, ◌⊎◌, ℕ, Bool, true, false, List, ◌∷◌, map, filter}
+use Rattle.raft_base.specs.declared.pipe_log.FileBlockHandle.{FileBlockHandle}
 use Rattle.raft_base.specs.declared.pipe_log.LogQueue.{LogQueue}
 use Rattle.raft_base.specs.declared.pipe_log.LogQueue.TheVariants.{Append, Rewrite}
 
--- bytes behind those of the last file; a new file with this number behind the last one, all of whose bytes are synced; a sync of all that was asked; the oldest file deleted; the last file cut to this many bytes
+-- a file by its number and its bytes
+abbrev pub NumberedBytes : Type 0
+NumberedBytes = ℕ × List ℕ
+
+-- Bytes are put behind those of the last file; a new file with this number is begun behind the last one, all of whose bytes
+-- are synced; all that was asked is synced; the oldest file is deleted; the last file is cut to this many bytes; before all
+-- else that is asked of a queue, these files were found when the machine started, all of their bytes on the disk; and the
+-- bytes at a place were read, and were these.
 pub data Act : Type 0 where
   Put : List ℕ → Act
   Begin : ℕ → Act
   Sync : Act
   Delete : Act
   Cut : ℕ → Act
+  Found : List NumberedBytes → Act
+  Read : FileBlockHandle → List ℕ → Act
 
 -- an act on the files of a queue
 pub record Ask : Type 0 where

@@ -1,11 +1,8 @@
 -- What is left of an engine's files when the machine stops: all that a reader has to believe of a disk.
 use Rattle.std.specs.Prelude.{◌≡◌, ◌⊎◌, ℕ, suc, ◌≤◌, List, [], ◌∷◌, ◌++◌, take, drop}
 use Rattle.raft_base.specs.declared.pipe_log.LogQueue.{LogQueue}
-use Rattle.raft_files.specs.Asks.{Act, Put, Begin, Sync, Delete, Cut, Ask, acts_on}
-
--- a file by its number and its bytes
-abbrev pub NumberedBytes : Type 0
-NumberedBytes = ℕ × List ℕ
+use Rattle.raft_files.specs.Asks.{Act, Put, Begin, Sync, Delete, Cut, Found, Read, Ask, acts_on}
+pub use Rattle.raft_files.specs.Asks.{NumberedBytes}
 
 -- the files with the last one's bytes changed so
 abbrev pub on_last : (List ℕ → List ℕ) → List NumberedBytes → List NumberedBytes
@@ -21,7 +18,7 @@ put_behind bytes files = on_last (λ old. old ++ bytes) files
 abbrev pub cut_last : ℕ → List NumberedBytes → List NumberedBytes
 cut_last len files = on_last (λ old. take len old) files
 
--- all files that were ever begun in a queue, oldest first, with all bytes that were put there and not cut off; what is asked of the queue is given newest first
+-- all files that were found when the machine started and that were begun since, oldest first, with all bytes that were put there and not cut off; what is asked of the queue is given newest first
 abbrev pub begun : List Act → List NumberedBytes
 begun [] = []
 begun (Put bytes ∷ earlier) = put_behind bytes (begun earlier)
@@ -29,17 +26,21 @@ begun (Begin seq ∷ earlier) = begun earlier ++ (seq, []) ∷ []
 begun (Sync ∷ earlier) = begun earlier
 begun (Delete ∷ earlier) = begun earlier
 begun (Cut len ∷ earlier) = cut_last len (begun earlier)
+begun (Found files ∷ earlier) = files
+begun (Read place bytes ∷ earlier) = begun earlier
 
--- how many deletions were asked
+-- how many deletions were asked since the machine started
 abbrev pub deletions : List Act → ℕ
 deletions [] = 0
 deletions (Delete ∷ earlier) = suc (deletions earlier)
+deletions (Found files ∷ earlier) = 0
 deletions (_ ∷ earlier) = deletions earlier
 
--- how many deletions were asked before the last sync
+-- how many of them were asked before the last sync
 abbrev pub synced_deletions : List Act → ℕ
 synced_deletions [] = 0
 synced_deletions (Sync ∷ earlier) = deletions earlier
+synced_deletions (Found files ∷ earlier) = 0
 synced_deletions (_ ∷ earlier) = synced_deletions earlier
 
 -- the files of a queue with their bytes, oldest first, when nothing is lost
@@ -53,7 +54,7 @@ pub record IsFrontPut (bytes : List ℕ) (old new : List NumberedBytes) : Type 0
   pub split : bytes ≡ front ++ rest
   pub put : new ≡ put_behind front old
 
--- what may stand of the files that were begun, none of them deleted: what was synced, and of what was asked since then a front; of bytes a front, and a new file or not
+-- what may stand of the files that were found and begun, none of them deleted: what was found or synced, and of what was asked since then a front; of bytes a front, and a new file or not
 abbrev pub MayStand : List Act → List NumberedBytes → Type 0
 MayStand [] files = files ≡ []
 MayStand (Put bytes ∷ earlier) files = MayStand earlier files ⊎ IsFrontPut bytes (begun earlier) files
@@ -61,6 +62,8 @@ MayStand (Begin seq ∷ earlier) files = (files ≡ begun earlier) ⊎ (files �
 MayStand (Sync ∷ earlier) files = files ≡ begun earlier
 MayStand (Delete ∷ earlier) files = MayStand earlier files
 MayStand (Cut len ∷ earlier) files = MayStand earlier files ⊎ (files ≡ cut_last len (begun earlier))
+MayStand (Found found ∷ earlier) files = files ≡ found
+MayStand (Read place bytes ∷ earlier) files = MayStand earlier files
 
 -- the files of a queue that may be left when the machine stops after all this was asked: what may stand, without the oldest files; at least those are gone whose deletion was synced, at most those whose deletion was asked. What is left of one queue says nothing of the other
 pub record IsLeftOf (queue : LogQueue) (asked : List Ask) (files : List NumberedBytes) : Type 0 where

@@ -1,12 +1,13 @@
 //! A list of what was asked of files, which only clauses read.
-ghost use Rattle.std.specs.Prelude.{◌≡◌, List, [], ◌∷◌};
+ghost use Rattle.std.specs.Prelude.{◌≡◌, List, [], ◌∷◌, map};
 ghost use Rattle.std.specs.Borrow.{ftrue};
 ghost use Rattle.std.specs.Coded.{coded_list};
 ghost use Rattle.raft_files.specs.AskCode.{ask_code};
-ghost use Rattle.raft_files.specs.Asks.{Ask, Begin, Cut, Delete, IsAsked, Put, Sync, ask};
-ghost use Rattle.raft_files.specs.Notes.{ask_noted, queue_noted};
+ghost use Rattle.raft_files.specs.Asks.{Ask, Begin, Cut, Delete, Found, IsAsked, Put, Read, Sync, ask};
+ghost use Rattle.raft_files.specs.HeldFiles.{file_shown};
+ghost use Rattle.raft_files.specs.Notes.{ask_noted, found_noted, queue_noted};
 
-use raft_base::{FileSeq, LogQueue};
+use raft_base::{FileBlockHandle, FileSeq, LogQueue};
 use std::marker::{Model, PhantomData};
 
 const PUT: u64 = 0;
@@ -18,6 +19,8 @@ const SYNC: u64 = 2;
 const DELETE: u64 = 3;
 
 const CUT: u64 = 4;
+
+const READ: u64 = 5;
 
 /// What was asked of files, newest first. It has no bytes when a program runs: whoever implements
 /// [`EngineFiles`](crate::EngineFiles) over files whose contents no contract tells keeps one, and notes each ask.
@@ -76,7 +79,35 @@ impl Asked {
         self.note(&[number_of(queue), CUT, len], &[]);
     }
 
-    /// Notes an ask by three numbers (its queue, its kind, its number) and bytes.
+    /// Notes that the bytes at a place were read, and were these.
+    pub fn read(&mut self, place: FileBlockHandle, bytes: &[u8])
+        ensures { IsAsked (ask place.id.queue (Read place bytes.now)) self.old.asks self.new.asks }
+    {
+        self.note(
+            &[
+                number_of(place.id.queue),
+                READ,
+                place.id.seq,
+                place.offset,
+                place.len as u64,
+            ],
+            bytes,
+        );
+    }
+
+    /// Notes the files of a queue that are found when the machine starts, oldest first. All of their bytes are on the disk.
+    pub fn found(&mut self, queue: LogQueue, files: &Vec<(FileSeq, Vec<u8>)>)
+        ensures { IsAsked (ask queue (Found (map file_shown files.now.items))) self.old.asks self.new.asks }
+    {
+        self.note_found(&[number_of(queue)], files);
+    }
+
+    /// Notes files that are found, by the number of their queue.
+    fn note_found(&mut self, _numbers: &[u64], _files: &Vec<(FileSeq, Vec<u8>)>)
+        ensures { self.new.asks ≡ found_noted _numbers.now (map file_shown _files.now.items) ∷ self.old.asks }
+    {}
+
+    /// Notes an ask by numbers (its queue, its kind, and a number or those of a place) and bytes.
     fn note(&mut self, _numbers: &[u64], _bytes: &[u8])
         ensures { self.new.asks ≡ ask_noted _numbers.now _bytes.now ∷ self.old.asks }
     {}

@@ -1,23 +1,31 @@
 //! The files that an engine writes.
 
-ghost use Rattle.std.specs.Prelude.{◌≡◌, List, ℕ, IfOk, OnOk, OnErr};
-ghost use Rattle.raft_base.specs.declared.pipe_log.FileBlockHandle.{FileBlockHandle as Place};
-ghost use Rattle.raft_files.specs.Asks.{Ask, Begin, Cut, Delete, IsAsked, MayBeAsked, Put, Sync, ask};
+ghost use Rattle.std.specs.Prelude.{◌≡◌, List, IfOk, OnOk, OnErr};
+ghost use Rattle.raft_files.specs.Asks.{Ask, Begin, Cut, Delete, IsAsked, MayBeAsked, Put, Read, Sync, ask};
 
 use raft_base::{FileBlockHandle, FileSeq, LogQueue, Result};
 
 /// The files of both queues, by what is asked of them.
 ///
 /// What a disk makes of it, and what it may leave when the machine stops, is said of the asks alone. An implementor
-/// over real files notes each ask ([`Asked`](crate::Asked)), and answers for the disk: `rotate` syncs the bytes of the
-/// file that it closes first, `truncate` is on the disk when it returns, and after a call that failed half way either the
-/// bytes are as before, or every later call fails.
+/// over real files notes each ask ([`Asked`](crate::Asked)), also one that fails once it has begun (bytes written in part,
+/// a file that may be there or gone), and answers for the disk:
+///
+/// - Of bytes that weren't synced a front stands when the machine stops: no hole, and no page of zeros in front of others. So
+///   files are neither made longer beforehand nor used again. Bytes that were synced aren't harmed by those behind them.
+/// - `sync` makes the names of new files and deletions last too, as a sync of the folder does. `rotate` first syncs the file that
+///   it closes. `truncate` is on the disk when it returns.
+/// - Files that are deleted go in the order in which that was asked, so that no stop leaves an older file where a younger one
+///   is gone.
+/// - After a call that failed half way either the bytes are as before, or every later call but `read` fails. After a sync that
+///   failed no later one can be believed: a system may take bytes for synced that it has dropped. So the machine is started
+///   again before such files are found.
+/// - `read` returns the bytes that were put at the place, or bytes that are no sound block of entries, or an `Err`.
+/// - One over a folder that has files already syncs each of them, and the folder, before it hands them out, and notes them
+///   ([`Asked::found`](crate::Asked::found)) before all else: no other act of a queue comes before its found files.
 pub trait EngineFiles {
     /// What was asked so far, newest first.
     ghost asked: { Self → List Ask };
-
-    /// A read of this place may return these bytes.
-    ghost may_read: { Self → Place → List ℕ → Type 0 };
 
     /// Puts bytes behind those of the queue's last file.
     fn append(&mut self, queue: LogQueue, bytes: &[u8]) -> Result<()>
@@ -44,7 +52,9 @@ pub trait EngineFiles {
         ensures ok { OnOk result (IsAsked (ask queue (Cut len)) (asked self.old) (asked self.new)) }
         ensures err { OnErr result (MayBeAsked (ask queue (Cut len)) (asked self.old) (asked self.new)) };
 
-    /// Returns the bytes at a place.
-    fn read(&self, place: FileBlockHandle) -> Result<Vec<u8>>
-        ensures ok { IfOk result (λ bytes. may_read self.now place bytes.items) };
+    /// Returns the bytes at a place. That these are the ones that were put there is no clause: what was read is noted.
+    fn read(&mut self, place: FileBlockHandle) -> Result<Vec<u8>>
+        ensures ok { IfOk result (λ bytes. IsAsked (ask place.id.queue (Read place bytes.items))
+            (asked self.old) (asked self.new)) }
+        ensures err { OnErr result (asked self.new ≡ asked self.old) };
 }

@@ -1,7 +1,8 @@
 //! Files in memory.
 
-ghost use Rattle.std.specs.Prelude.{◌≡◌, ◌≢◌, ℕ, ◌<◌, ◌≤◌, List, [], ◌∷◌, ◌++◌, drop, length, map, take, None, Some, IfErr, IfOk, IsOk, OnErr, OnOk};
-ghost use Rattle.raft_files.specs.Asks.{Begin, Cut, Delete, IsAsked, Put, Sync, ask};
+ghost use Rattle.raft_base.specs.declared.pipe_log.LogQueue.TheVariants.{Append, Rewrite};
+ghost use Rattle.std.specs.Prelude.{◌≡◌, ◌≢◌, ◌<◌, List, [], ◌∷◌, ◌++◌, drop, length, map, None, Some, IfErr, IfOk, IsOk, OnErr, OnOk};
+ghost use Rattle.raft_files.specs.Asks.{Begin, Cut, Delete, Found, IsAsked, Put, Read, Sync, ask};
 ghost use Rattle.raft_files.specs.Disk.{cut_last, files_of, put_behind};
 ghost use Rattle.raft_files.specs.HeldFiles.{IsAt, file_shown};
 ghost use Rattle.raft_files.specs.Places.{IsNext, bytes_at, stretch_of};
@@ -48,6 +49,21 @@ impl MemoryFiles {
         }
     }
 
+    /// Makes files that are found when the machine starts: those of each queue, oldest first.
+    pub fn found(append: Vec<(FileSeq, Vec<u8>)>, rewrite: Vec<(FileSeq, Vec<u8>)>) -> MemoryFiles
+        ensures { result ≡ ask Rewrite (Found (map file_shown rewrite.items))
+            ∷ ask Append (Found (map file_shown append.items)) ∷ [] }
+    {
+        let mut asked = Asked::new();
+        asked.found(LogQueue::Append, &append);
+        asked.found(LogQueue::Rewrite, &rewrite);
+        MemoryFiles {
+            append,
+            rewrite,
+            asked,
+        }
+    }
+
     /// Returns the files of a queue with their bytes, oldest first.
     pub fn files(&self, queue: LogQueue) -> &Vec<(FileSeq, Vec<u8>)>
         ensures { map file_shown result.now.items ≡ files_of queue self.now }
@@ -57,12 +73,22 @@ impl MemoryFiles {
             LogQueue::Rewrite => &self.rewrite,
         }
     }
+
+    /// Returns copies of the files of a queue, oldest first.
+    ///
+    /// # Errors
+    ///
+    /// `Memory`.
+    pub fn copies(&self, queue: LogQueue) -> Result<Vec<(FileSeq, Vec<u8>)>>
+        ensures ok { IfOk result (λ copies. map file_shown copies.items ≡ files_of queue self.now) }
+        ensures fault { IfErr result (λ e. e ≡ Error.Memory) }
+    {
+        copies_of(self.files(queue))
+    }
 }
 
 impl EngineFiles for MemoryFiles {
     ghost asked = { λ f. f };
-
-    ghost may_read = { IsAt };
 
     /// Puts bytes behind those of the queue's last file.
     ///
@@ -71,6 +97,7 @@ impl EngineFiles for MemoryFiles {
     /// `InvalidArgument` where the queue has no file, `Memory`. The files are then as they were.
     fn append(&mut self, queue: LogQueue, bytes: &[u8]) -> Result<()>
         ensures ok { OnOk result (IsAsked (ask queue (Put bytes.now)) self.old self.new) }
+        ensures accepted { OnOk result (0 < length (files_of queue self.old)) }
         ensures err { OnErr result (self.new ≡ self.old) }
         ensures fault { 0 < length (files_of queue self.old) → IfErr result (λ e. e ≡ Error.Memory) }
     {
@@ -89,6 +116,7 @@ impl EngineFiles for MemoryFiles {
     /// `InvalidArgument` where its number isn't above that of the last file, `Memory`. The files are then as they were.
     fn rotate(&mut self, queue: LogQueue, seq: FileSeq) -> Result<()>
         ensures ok { OnOk result (IsAsked (ask queue (Begin seq)) self.old self.new) }
+        ensures accepted { OnOk result (IsNext seq (files_of queue self.old)) }
         ensures err { OnErr result (self.new ≡ self.old) }
         ensures fault { IsNext seq (files_of queue self.old) → IfErr result (λ e. e ≡ Error.Memory) }
     {
@@ -116,6 +144,7 @@ impl EngineFiles for MemoryFiles {
     /// `InvalidArgument` where the queue has one file or none. The files are then as they were.
     fn delete_oldest(&mut self, queue: LogQueue) -> Result<()>
         ensures ok { OnOk result (IsAsked (ask queue Delete) self.old self.new) }
+        ensures accepted { OnOk result (1 < length (files_of queue self.old)) }
         ensures err { OnErr result (self.new ≡ self.old) }
         ensures succeeds { 1 < length (files_of queue self.old) → IsOk result }
     {
@@ -134,6 +163,7 @@ impl EngineFiles for MemoryFiles {
     /// `InvalidArgument` where the queue has no file.
     fn truncate(&mut self, queue: LogQueue, len: u64) -> Result<()>
         ensures ok { OnOk result (IsAsked (ask queue (Cut len)) self.old self.new) }
+        ensures accepted { OnOk result (0 < length (files_of queue self.old)) }
         ensures err { OnErr result (self.new ≡ self.old) }
         ensures succeeds { 0 < length (files_of queue self.old) → IsOk result }
     {
@@ -150,13 +180,34 @@ impl EngineFiles for MemoryFiles {
     /// # Errors
     ///
     /// `InvalidArgument` where no file has the place, `Memory`.
-    fn read(&self, place: FileBlockHandle) -> Result<Vec<u8>>
-        ensures ok { IfOk result (λ bytes. IsAt self.now place bytes.items) }
+    fn read(&mut self, place: FileBlockHandle) -> Result<Vec<u8>>
+        ensures ok { IfOk result (λ bytes. IsAsked (ask place.id.queue (Read place bytes.items)) self.old self.new) }
+        ensures there { IfOk result (λ bytes. IsAt self.old place bytes.items) }
+        ensures err { OnErr result (self.new ≡ self.old) }
         ensures refused { IfErr result (λ e. e ≢ Error.Memory
-            → bytes_at (files_of place.id.queue self.now) place.id.seq place.offset place.len ≡ None) }
+            → bytes_at (files_of place.id.queue self.old) place.id.seq place.offset place.len ≡ None) }
     {
-        read_of(self.files(place.id.queue), place)
+        let bytes = read_of(self.files(place.id.queue), place)?;
+        self.asked.read(place, &bytes);
+        Ok(bytes)
     }
+}
+
+/// Returns copies of files.
+///
+/// # Errors
+///
+/// `Memory`.
+fn copies_of(files: &Vec<(FileSeq, Vec<u8>)>) -> Result<Vec<(FileSeq, Vec<u8>)>>
+    ensures ok { IfOk result (λ copies. map file_shown copies.items ≡ map file_shown files.now.items) }
+    ensures fault { IfErr result (λ e. e ≡ Error.Memory) }
+{
+    let alloc = *files.allocator();
+    let mut copies = Vec::new(alloc);
+    for (seq, bytes) in files {
+        copies.push((*seq, Vec::from_slice(alloc, bytes)?))?;
+    }
+    Ok(copies)
 }
 
 /// Puts bytes behind those of the last file.
@@ -187,6 +238,7 @@ fn put(files: &mut Vec<(FileSeq, Vec<u8>)>, bytes: &[u8]) -> Result<()>
 fn begin(files: &mut Vec<(FileSeq, Vec<u8>)>, seq: FileSeq) -> Result<()>
     ensures ok { OnOk result (map file_shown files.new.items
         ≡ map file_shown files.old.items ++ (seq, []) ∷ []) }
+    ensures accepted { OnOk result (IsNext seq (map file_shown files.old.items)) }
     ensures err { OnErr result (map file_shown files.new.items ≡ map file_shown files.old.items) }
     ensures fault { IsNext seq (map file_shown files.old.items) → IfErr result (λ e. e ≡ Error.Memory) }
 {
@@ -208,7 +260,7 @@ fn begin(files: &mut Vec<(FileSeq, Vec<u8>)>, seq: FileSeq) -> Result<()>
 fn delete_first(files: &mut Vec<(FileSeq, Vec<u8>)>) -> Result<()>
     ensures ok { OnOk result (map file_shown files.new.items
         ≡ drop 1 (map file_shown files.old.items)) }
-    ensures some { OnOk result (0 < length files.old.items) }
+    ensures some { OnOk result (1 < length files.old.items) }
     ensures err { OnErr result (files.new.items ≡ files.old.items) }
     ensures succeeds { 1 < length files.old.items → IsOk result }
 {
@@ -246,7 +298,8 @@ fn cut(files: &mut Vec<(FileSeq, Vec<u8>)>, len: u64) -> Result<()>
 ///
 /// `InvalidArgument` where no file has the place, `Memory`.
 fn read_of(files: &Vec<(FileSeq, Vec<u8>)>, place: FileBlockHandle) -> Result<Vec<u8>>
-    ensures ok { IfOk result (λ bytes. bytes_at (map file_shown files.now.items) place.id.seq place.offset place.len ≡ Some bytes.items) }
+    ensures ok { IfOk result (λ bytes.
+        bytes_at (map file_shown files.now.items) place.id.seq place.offset place.len ≡ Some bytes.items) }
     ensures refused { IfErr result (λ e. e ≢ Error.Memory
         → bytes_at (map file_shown files.now.items) place.id.seq place.offset place.len ≡ None) }
 {

@@ -1,4 +1,4 @@
-use Rattle.std.proofs.Common.{◌≡◌, ◌+◌, ◌-◌, ◌<◌, length, take, arith, refl}
+use Rattle.std.proofs.Common.{◌≡◌, ◌-◌, ◌<◌, length, take, arith, refl}
 use Rattle.std.specs.Vec.{vec_len}
 use Rattle.raft_files.proofs.LastLemmas.{changed}
 use Rattle.raft_files.proofs.memory_files.cut.Goals as goal

@@ -1,4 +1,4 @@
-use Rattle.std.proofs.Common.{◌≡◌, ◌+◌, ◌-◌, ◌<◌, ◌++◌, length, arith, refl}
+use Rattle.std.proofs.Common.{◌≡◌, ◌-◌, ◌<◌, ◌++◌, length, arith, refl}
 use Rattle.std.specs.Vec.{vec_len}
 use Rattle.raft_files.proofs.LastLemmas.{changed, unchanged, on_err}
 use Rattle.raft_files.proofs.memory_files.put.Goals as goal

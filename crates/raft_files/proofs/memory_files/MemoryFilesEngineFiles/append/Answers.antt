@@ -1,4 +1,4 @@
-use Rattle.std.proofs.Common.{◌≡◌, ◌<◌, List, ◌∷◌, length, map, refl, sym, ap, ◌∙◌, subst}
+use Rattle.std.proofs.Common.{◌∷◌, map, sym, ap, ◌∙◌, subst}
 use Rattle.raft_base.specs.declared.pipe_log.LogQueue.TheVariants.{Append, Rewrite}
 use Rattle.raft_files.specs.Asks.{ask, Put}
 use Rattle.raft_files.specs.HeldFiles.{AreBothHeld, file_shown}

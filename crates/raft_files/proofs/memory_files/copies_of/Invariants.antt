@@ -1,0 +1,7 @@
+use Rattle.std.proofs.Common.{◌≡◌, ◌++◌, map, drop}
+use Rattle.raft_files.specs.HeldFiles.{file_shown}
+use Rattle.raft_files.proofs.memory_files.copies_of.Given as goal
+
+abbrev pub invariant-loop-seq : goal.invariant-loop-seq
+invariant-loop-seq l =
+    map file_shown l.copies.items ++ map file_shown (drop l.seq-index l.seq-items) ≡ map file_shown l.fn.files.items

@@ -15,7 +15,7 @@ use Rattle.raft_table.proofs.MarkEntries.{same_some}
 use Rattle.raft_history.specs.Batches.{Event}
 use Rattle.raft_history.specs.RegionSteps.{RegionStep, Tables, content_step, pair_step, steps_of_items, steps_on}
 use Rattle.raft_history.proofs.Words.{with_step}
-use Rattle.raft_engine_laws.specs.Records.{Records, no_records, entries_told, after_change, after_changes, live, HaveRecords, AreToldAlike}
+use Rattle.raft_engine_laws.specs.Records.{Records, entries_told, after_change, after_changes, live, HaveRecords, AreToldAlike}
 use Rattle.raft_engine_laws.proofs.KeptWrites.{on_region}
 
 each_of_both : (P : RegionStep → Type 0) (is js : List RegionStep) → AllByRecursion P is → AllByRecursion P js → AllByRecursion P (is ++ js)
@@ -74,15 +74,15 @@ module _ (told content : EntryIndex → List ℕ) where
   changes_alike rs [] h = refl
   changes_alike rs (s ∷ ss) h = ap (λ q. after_changes told q ss) (change_alike rs s h.0) ∙ changes_alike (after_change content rs s) ss h.1
 
-  live_alike : (h : List Event) → AllByRecursion (λ (e : Event). AllByRecursion (λ (item : Item). AreToldAlike told content item.content) e.items) h → (r : ℕ) → live told h r ≡ live content h r
+  live_alike : (base : ℕ → Records) (h : List Event) → AllByRecursion (λ (e : Event). AllByRecursion (λ (item : Item). AreToldAlike told content item.content) e.items) h → (r : ℕ) → live told base h r ≡ live content base h r
   unfolding live
-  live_alike h a r = changes_alike no_records (steps_on r (flat_map (λ (e : Event). steps_of_items e.items) h)) (on_region IsStepAlike r (flat_map (λ (e : Event). steps_of_items e.items) h) (history_alike h a))
+  live_alike base h a r = changes_alike (base r) (steps_on r (flat_map (λ (e : Event). steps_of_items e.items) h)) (on_region IsStepAlike r (flat_map (λ (e : Event). steps_of_items e.items) h) (history_alike h a))
 
   -- tables whose entries are told alike have the records by either
-  pub alike_have : (tables : Tables) (h : List Event) → AllByRecursion (λ (e : Event). AllByRecursion (λ (item : Item). AreToldAlike told content item.content) e.items) h
+  pub alike_have : (base : ℕ → Records) (tables : Tables) (h : List Event) → AllByRecursion (λ (e : Event). AllByRecursion (λ (item : Item). AreToldAlike told content item.content) e.items) h
       → ((r : ℕ) → entries_told told (table_of r (finite.get tables r)).entries ≡ entries_told content (table_of r (finite.get tables r)).entries)
-      → HaveRecords content tables (live content h) → HaveRecords told tables (live told h)
-  alike_have tables h a same has r = record {
-    entries = same r ∙ (has r).entries ∙ ap (λ (rs : Records). rs.entries) (sym (live_alike h a r));
-    values = λ key. (has r).values key ∙ ap (λ (rs : Records). finite.get rs.values key) (sym (live_alike h a r));
+      → HaveRecords content tables (live content base h) → HaveRecords told tables (live told base h)
+  alike_have base tables h a same has r = record {
+    entries = same r ∙ (has r).entries ∙ ap (λ (rs : Records). rs.entries) (sym (live_alike base h a r));
+    values = λ key. (has r).values key ∙ ap (λ (rs : Records). finite.get rs.values key) (sym (live_alike base h a r));
   }

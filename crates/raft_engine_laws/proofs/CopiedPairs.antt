@@ -30,7 +30,7 @@ module _ (gate : Option ℕ) (seq : ℕ) (keys0 rew0 : Keys) where
   abbrev file : FileId
   file = record { queue = Rewrite; seq = seq }
 
-  abbrev IsCopied : Keys → Keys → Type 0
+  abbrev pub IsCopied : Keys → Keys → Type 0
   IsCopied keys rew = (key : List ℕ) → IsPairMoved file keys0 keys rew0 rew key
 
   -- the pair of a key that moves, by what is there now: the old one, or the one that has moved already
@@ -50,7 +50,7 @@ module _ (gate : Option ℕ) (seq : ℕ) (keys0 rew0 : Keys) where
       not_below n = grind (arith, nat_tests)
 
   -- another key's pair stays as it is, in both
-  one_more : (keys rew : Keys) (key : List ℕ) (s : Stored) (value : List ℕ) → finite.get keys0 key ≡ Some s → s.value ≡ value → IsCopied keys rew
+  pub one_more : (keys rew : Keys) (key : List ℕ) (s : Stored) (value : List ℕ) → finite.get keys0 key ≡ Some s → s.value ≡ value → IsCopied keys rew
       → IsCopied (finite.insert keys key (record s { file = file })) (finite.insert rew key (record { value = value; file = file }))
   one_more keys rew key s value there is h q = go (is_same_key q key) refl
     where
@@ -75,7 +75,7 @@ module _ (gate : Option ℕ) (seq : ℕ) (keys0 rew0 : Keys) where
         | inr moves ↦ inr (moves.0, moves.1, kept false e ∙ moves.2, put false e ∙ moves.3)
       ]
 
-  now_there : (keys rew : Keys) (key : List ℕ) (s : Stored) → finite.get keys0 key ≡ Some s → IsCopied keys rew → (finite.get keys key ≡ Some s) ⊎ (finite.get keys key ≡ Some (record s { file = file }))
+  pub now_there : (keys rew : Keys) (key : List ℕ) (s : Stored) → finite.get keys0 key ≡ Some s → IsCopied keys rew → (finite.get keys key ≡ Some s) ⊎ (finite.get keys key ≡ Some (record s { file = file }))
   now_there keys rew key s there h = elim (h key) [
     | inl stays ↦ inl (stays.0 ∙ there)
     | inr moves ↦ inr (moves.2 ∙ ap (λ (x : Stored). Some (record x { file = file })) (some_is (sym moves.1 ∙ there)))

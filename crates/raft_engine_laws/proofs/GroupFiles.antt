@@ -8,7 +8,7 @@ use Rattle.raft_engine_laws.proofs.GroupFronts.{ends_none-none, ends_none-append
 use Rattle.raft_engine_laws.proofs.StopLemmas.{keeps, from-append, from_none}
 
 -- the batches of one file stay or go together
-of_file : (n seq : ℕ) (b : Bool) (k : List Event) → nat_le n seq ≡ b → AreInFileOf seq k → in_files_from n k ≡ cond b k []
+pub of_file : (n seq : ℕ) (b : Bool) (k : List Event) → nat_le n seq ≡ b → AreInFileOf seq k → in_files_from n k ≡ cond b k []
 unfolding in_files_from
 of_file n seq true [] e h = refl
 of_file n seq false [] e h = refl

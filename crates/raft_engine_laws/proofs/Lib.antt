@@ -1,7 +1,10 @@
+pub mod AgainItems
+pub mod AgainSteps
 pub mod AlikeContents
 pub mod AlikeTables
 pub mod ApartLemmas
 pub mod AppendDeletions
+pub mod BaseRecords
 pub mod BothTables
 pub mod ContentLemmas
 pub mod CopiedEntries
@@ -45,6 +48,8 @@ pub mod RewrittenPuts
 pub mod RewrittenRegion
 pub mod RowLemmas
 pub mod SafeDeletions
+pub mod SafeGroups
+pub mod SafeOpenings
 pub mod SafeRewrites
 pub mod SafeStops
 pub mod SafeWrites
@@ -54,6 +59,7 @@ pub mod SoundEntries
 pub mod SpokenWords
 pub mod StandingFronts
 pub mod StopLemmas
+pub mod TakingItems
 pub mod TestLemmas
 pub mod ToldItems
 pub mod ToldRegion

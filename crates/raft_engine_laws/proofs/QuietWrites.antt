@@ -20,6 +20,7 @@ use Rattle.raft_history.proofs.StepListLemmas.{own-append, own_cons}
 use Rattle.raft_history.proofs.Words.{is_on}
 use Rattle.raft_accessor.specs.Writes.{Appending, after_items}
 use Rattle.raft_engine_laws.specs.KeptTables.{AreKept}
+use Rattle.raft_engine_laws.specs.Records.{Records}
 use Rattle.raft_engine_laws.specs.Speaking.{is_index_spoken, unspoken, drops_key, is_key_dropped}
 use Rattle.raft_engine_laws.specs.Stops.{Deed, Write, written, deleted, MayBeGone, in_files_from, IsNextIn, IsSafe}
 use Rattle.raft_engine_laws.specs.Telling.{SayEnough, takes_away, takes_from, taking_steps}
@@ -130,7 +131,7 @@ enough end untold ss taking es same low = subst (λ l. SayEnough (untold ++ ss) 
 
 -- ---- a batch
 
-module _ (content : EntryIndex → List ℕ) (appended rewritten : List Deed) (untold : List RegionStep) (tables new : Tables) (e : Event) (h : IsSafe content appended rewritten untold tables) (next : IsNextIn Append appended e)
+module _ (content : EntryIndex → List ℕ) (base : ℕ → Records) (appended rewritten : List Deed) (untold : List RegionStep) (tables new : Tables) (e : Event) (h : IsSafe content base appended rewritten untold tables) (next : IsNextIn Append appended e)
     (taken : after_items Appending tables e.items ≡ Some new) where
   abbrev steps : List RegionStep
   steps = steps_of_items e.items
@@ -149,5 +150,5 @@ module _ (content : EntryIndex → List ℕ) (appended rewritten : List Deed) (u
       (all_below (end_of (table_of r (finite.get tables r)).entries) (placed_in Rewrite (table_of r (finite.get tables r)).entries) (placed_end (table_of r (finite.get tables r)).entries)))))
 
   -- only its taking steps are untold then
-  pub taking_safe : IsSafe content (Write e ∷ appended) rewritten (untold ++ taking_steps tables (steps_of_items e.items)) new
-  taking_safe = untold_fewer content (Write e ∷ appended) rewritten (untold ++ steps) new (written_safe content appended rewritten untold tables h new e next taken) (untold ++ taking) enough_said
+  pub taking_safe : IsSafe content base (Write e ∷ appended) rewritten (untold ++ taking_steps tables (steps_of_items e.items)) new
+  taking_safe = untold_fewer content base (Write e ∷ appended) rewritten (untold ++ steps) new (written_safe content base appended rewritten untold tables h new e next taken) (untold ++ taking) enough_said

@@ -21,7 +21,7 @@ use Rattle.raft_contexts.specs.MovedPlaces.{IsMovedPair}
 use Rattle.raft_accessor.specs.Writes.{Appending, after_items}
 use Rattle.raft_engine_laws.specs.MovedRecords.{AreMoved, AreFound}
 use Rattle.raft_engine_laws.specs.Moving.{AreCopies, AreRecordsMoved, IsPairMoved}
-use Rattle.raft_engine_laws.specs.Records.{Entry, Records, no_records, entries_told, after_change, after_changes, live, HasRecords, HaveRecords}
+use Rattle.raft_engine_laws.specs.Records.{Entry, Records, no_records, no_base, entries_told, after_change, after_changes, live, HasRecords, HaveRecords}
 use Rattle.raft_engine_laws.proofs.RewriteReadings.{no_tables}
 use Rattle.raft_engine_laws.proofs.WriteWords.{after_write, after_writes}
 use Rattle.raft_engine_laws.proofs.WrittenTables.{items_by_region}
@@ -119,25 +119,25 @@ module _ (content : EntryIndex → List ℕ) where
   changes-append rs [] us = refl
   changes-append rs (s ∷ ss) us = changes-append (after_change content rs s) ss us
 
-  live-append : (h k : List Event) (r : ℕ) → live content (h ++ k) r ≡ after_changes content (live content h r) (steps_on r (flat_map (λ e. steps_of_items e.items) k))
+  live-append : (base : ℕ → Records) (h k : List Event) (r : ℕ) → live content base (h ++ k) r ≡ after_changes content (live content base h r) (steps_on r (flat_map (λ e. steps_of_items e.items) k))
   unfolding live
-  live-append h k r = ap (λ l. after_changes content no_records (steps_on r l)) (flat_map-append (λ (e : Event). steps_of_items e.items) h k)
-      ∙ ap (after_changes content no_records) (own-append r (flat_map (λ (e : Event). steps_of_items e.items) h) (flat_map (λ (e : Event). steps_of_items e.items) k))
-      ∙ changes-append no_records (steps_on r (flat_map (λ (e : Event). steps_of_items e.items) h)) (steps_on r (flat_map (λ (e : Event). steps_of_items e.items) k))
+  live-append base h k r = ap (λ l. after_changes content (base r) (steps_on r l)) (flat_map-append (λ (e : Event). steps_of_items e.items) h k)
+      ∙ ap (after_changes content (base r)) (own-append r (flat_map (λ (e : Event). steps_of_items e.items) h) (flat_map (λ (e : Event). steps_of_items e.items) k))
+      ∙ changes-append (base r) (steps_on r (flat_map (λ (e : Event). steps_of_items e.items) h)) (steps_on r (flat_map (λ (e : Event). steps_of_items e.items) k))
 
-  live-one : (h : List Event) (e : Event) (r : ℕ) → live content (h ++ e ∷ []) r ≡ after_changes content (live content h r) (steps_on r (steps_of_items e.items))
-  live-one h e r = live-append h (e ∷ []) r ∙ ap (after_changes content (live content h r)) (own-append r (steps_of_items e.items) [] ∙ ap (λ l. steps_on r (steps_of_items e.items) ++ l) (own_none r) ∙ append-nil (steps_on r (steps_of_items e.items)))
+  live-one : (base : ℕ → Records) (h : List Event) (e : Event) (r : ℕ) → live content base (h ++ e ∷ []) r ≡ after_changes content (live content base h r) (steps_on r (steps_of_items e.items))
+  live-one base h e r = live-append base h (e ∷ []) r ∙ ap (after_changes content (live content base h r)) (own-append r (steps_of_items e.items) [] ∙ ap (λ l. steps_on r (steps_of_items e.items) ++ l) (own_none r) ∙ append-nil (steps_on r (steps_of_items e.items)))
 
   -- tables that take a batch have the records after it
-  pub taken_have : (m n : Tables) (h : List Event) (e : Event) → HaveRecords content m (live content h) → after_items Appending m e.items ≡ Some n → HaveRecords content n (live content (h ++ e ∷ []))
-  taken_have m n h e has is r = subst (HasRecords content (table_of r (finite.get n r))) (sym (live-one h e r)) (writes_have r (finite.get m r) (finite.get n r) (live content h r) (steps_on r (steps_of_items e.items)) (has r) (items_by_region m n e.items is r))
+  pub taken_have : (base : ℕ → Records) (m n : Tables) (h : List Event) (e : Event) → HaveRecords content m (live content base h) → after_items Appending m e.items ≡ Some n → HaveRecords content n (live content base (h ++ e ∷ []))
+  taken_have base m n h e has is r = subst (HasRecords content (table_of r (finite.get n r))) (sym (live-one base h e r)) (writes_have r (finite.get m r) (finite.get n r) (live content base h r) (steps_on r (steps_of_items e.items)) (has r) (items_by_region m n e.items is r))
 
-  live-none : (r : ℕ) → live content [] r ≡ no_records
+  live-none : (base : ℕ → Records) (r : ℕ) → live content base [] r ≡ base r
   unfolding live
-  live-none r = ap (after_changes content no_records) (own_none r)
+  live-none base r = ap (after_changes content (base r)) (own_none r)
 
-  pub empty_have : HaveRecords content no_tables (live content [])
-  empty_have r = subst (HasRecords content (table_of r (finite.get no_tables r))) (sym (live-none r)) (subst (λ (o : Option Table). HasRecords content (table_of r o) no_records) (sym (finite.get-empty nat_cmp r)) (none_has r))
+  pub empty_have : HaveRecords content no_tables (live content no_base [])
+  empty_have r = subst (HasRecords content (table_of r (finite.get no_tables r))) (sym (live-none no_base r)) (subst (λ (o : Option Table). HasRecords content (table_of r o) no_records) (sym (finite.get-empty nat_cmp r)) (none_has r))
 
   -- ---- tables that are found
 

@@ -9,6 +9,7 @@ use Rattle.raft_table.specs.Steps.{Step, table_of}
 use Rattle.raft_history.specs.Batches.{Event, BatchSteps, batches}
 use Rattle.raft_history.specs.BothQueues.{IsReadingOfBoth}
 use Rattle.raft_history.specs.Effects.{steps_of}
+use Rattle.raft_history.specs.Histories.{FilesFrom}
 use Rattle.raft_history.specs.RegionSteps.{RegionStep, Tables, steps_on, steps_of_items}
 use Rattle.raft_history.proofs.SoundLemmas.{without_marker}
 use Rattle.raft_history.proofs.StepListLemmas.{own-append, own_none}
@@ -28,12 +29,16 @@ on_all : (r : ℕ) (h : List Event) → steps_on r (all_steps_of h) ≡ flat_map
 on_all r [] = own_none r
 on_all r (e ∷ h) = own-append r (steps_of_items e.items) (all_steps_of h) ∙ ap (λ l. steps_on r (steps_of_items e.items) ++ l) (on_all r h)
 
+-- they are those of the append queue's history, where no batch has a group marker
+pub all_steps : (r : ℕ) (h : List Event) → FilesFrom Append 0 h → steps_on r (all_steps_of h) ≡ steps_of r (batches h)
+all_steps r h files = on_all r h ∙ sym (plain_steps r (batches h) (without_marker 0 h files))
+
 module _ (content : EntryIndex → List ℕ) (append rewrite : List Event) (untold : List RegionStep) (tables found : Tables) (cleaned : List ℕ) (h : AreKept content append rewrite untold tables) (both : IsReadingOfBoth rewrite append found cleaned) where
   abbrev kept : ℕ → List Step
   kept r = steps_of r (batches append)
 
   all_are : (r : ℕ) → steps_on r (all_steps_of append) ≡ kept r
-  all_are r = on_all r append ∙ sym (plain_steps r (batches append) (without_marker 0 append h.append_sound.files))
+  all_are r = all_steps r append h.append_sound.files
 
   records : (r : ℕ) → HasRecordsOf (table_of r (finite.get found r)) (overlay (kept r) (table_of r (h.each r).own) (table_of r (finite.get h.rewritten r)))
   records r = found_records content append rewrite untold tables found cleaned h both r

@@ -23,7 +23,7 @@ use Rattle.raft_engine_laws.proofs.MovedLemmas.{moved-append}
 use Rattle.raft_engine_laws.proofs.SoundEntries.{consecutive_seen, consecutive_kept, in_two, IsPlaced, each_in_queue, all_appended}
 use Rattle.raft_engine_laws.proofs.UnspokenLemmas.{unspoken-append, unspoken-none}
 
-copies_placed : (content : EntryIndex → List ℕ) (gs es : List EntryIndex) → AreCopies content gs es → AllByRecursion (λ (e : EntryIndex). is_placed_in Rewrite e ≡ true) gs
+pub copies_placed : (content : EntryIndex → List ℕ) (gs es : List EntryIndex) → AreCopies content gs es → AllByRecursion (λ (e : EntryIndex). is_placed_in Rewrite e ≡ true) gs
 copies_placed content [] es h = tt
 copies_placed content (g ∷ gs) [] h = absurd h
 copies_placed content (g ∷ gs) (e ∷ es) h = (h.0.1, copies_placed content gs es h.1)

@@ -10,7 +10,7 @@ use Rattle.raft_engine_laws.specs.Stops.{Deed, Write, Sync, Delete, Stop, writte
 
 -- ---- numbers
 
-test_le : (a b : ℕ) → a ≤ b → nat_le a b ≡ true
+pub test_le : (a b : ℕ) → a ≤ b → nat_le a b ≡ true
 test_le a b e = grind (arith, nat_tests)
 
 test_lt : (a b : ℕ) → nat_le b a ≡ false → a < b
@@ -52,7 +52,7 @@ last_low q n s t (e ∷ h) f l = go (keeps n e) (last_low q n e.file.seq e.file.
     go false a b = b
 
 -- all of later files
-all_from : (q : LogQueue) (n t : ℕ) (h : List Event) → FilesFrom q t h → n ≤ t → in_files_from n h ≡ h
+pub all_from : (q : LogQueue) (n t : ℕ) (h : List Event) → FilesFrom q t h → n ≤ t → in_files_from n h ≡ h
 unfolding in_files_from
 all_from q n t [] f l = refl
 all_from q n t (e ∷ h) f l =

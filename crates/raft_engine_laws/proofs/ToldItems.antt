@@ -77,7 +77,7 @@ told_one r id (pair p) = of p.op_type p.value p.file_id (is_reserved p.key) refl
     of operations.Put value file false e = put value file
     of operations.Del value file b e = subst (λ c. SayTheSame (steps_on r (with_step id (cond c None (Some (Del p.key))) [])) (steps_on r (with_step id (cond b None (Some (Del p.key))) []))) (sym e) (same_self _)
 
-steps-append : (a b : List Item) → steps_of_items (a ++ b) ≡ steps_of_items a ++ steps_of_items b
+pub steps-append : (a b : List Item) → steps_of_items (a ++ b) ≡ steps_of_items a ++ steps_of_items b
 steps-append [] b = refl
 steps-append (item ∷ a) b = go (content_step item.content) (steps-append a b)
   where

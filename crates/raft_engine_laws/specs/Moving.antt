@@ -1,5 +1,5 @@
 -- Records that move to the rewrite queue, or from one of its files to another.
-use Rattle.std.specs.Prelude.{◌≡◌, ◌⊎◌, ℕ, true, List, [], ◌∷◌, ◌++◌, map, false, Option, Some}
+use Rattle.std.specs.Prelude.{◌≡◌, ◌⊎◌, ℕ, true, List, [], ◌∷◌, ◌++◌, map, flat_map, false, Option, Some}
 use Rattle.std.specs.FinMap as finite
 use Rattle.std.specs.List.{AllByRecursion}
 use Rattle.raft_base.specs.declared.entry_index.EntryIndex.{EntryIndex}
@@ -7,12 +7,14 @@ use Rattle.raft_base.specs.declared.pipe_log.FileId.{FileId}
 use Rattle.raft_base.specs.declared.pipe_log.LogQueue.TheVariants.{Append, Rewrite}
 use Rattle.raft_records.specs.declared.key_value.OpType.TheVariants as operations
 use Rattle.raft_records.specs.Group.{is_reserved}
-use Rattle.raft_records.specs.Item.{Item, entries, pair}
+use Rattle.raft_records.specs.Item.{Item, Content, Pair, entries, command, pair}
 use Rattle.raft_table.specs.KeyValues.{Keys, Stored}
 use Rattle.raft_table.specs.Rewriting.{may_move}
+use Rattle.raft_table.specs.Steps.{Step, Run, table_of}
 use Rattle.raft_table.specs.Table.{Table, passes_gate}
 use Rattle.raft_table.specs.TableEntries.{placed_in, is_placed_in}
 use Rattle.raft_history.specs.Batches.{Event}
+use Rattle.raft_history.specs.RegionSteps.{Tables, steps_on, steps_of_items}
 
 -- as many entries of the rewrite queue, each with the index and the contents of one of these
 abbrev pub AreCopies : (EntryIndex → List ℕ) → List EntryIndex → List EntryIndex → Type 0
@@ -81,3 +83,35 @@ pub record IsMovingBatch (content : EntryIndex → List ℕ) (gate id : ℕ) (t 
   pub fetched : AllByRecursion (IsFetched (Some gate) t.keys) pairs
   pub ordinary : AreOrdinary pairs
   pub items : e.items ≡ moving_items id e.file copies pairs
+
+-- ---- within the rewrite queue
+
+-- the entries that a step puts
+abbrev pub run_of : Step → List EntryIndex
+run_of (Run es) = es
+run_of _ = []
+
+-- the entries on a region in items, in order
+abbrev pub entries_on : ℕ → List Item → List EntryIndex
+entries_on r items = flat_map run_of (steps_on r (steps_of_items items))
+
+-- a key is put again in a file, with the value that the table has in the rewrite queue
+pub record IsPutAgain (file : FileId) (keys : Keys) (p : Pair) : Type 0 where
+  pub stored : Stored
+  pub there : finite.get keys p.key ≡ Some stored
+  pub queue : stored.file.queue ≡ Rewrite
+  pub put : p.op_type ≡ operations.Put
+  pub value : p.value ≡ Some stored.value
+  pub in_file : p.file_id ≡ Some file
+
+-- a content that moves records within the rewrite queue: some entries, a key put again, or a change of the reserved key, which is skipped
+abbrev pub MovesAgain : FileId → Keys → Content → Type 0
+MovesAgain file keys (entries []) = ⊥
+MovesAgain file keys (entries (e ∷ es)) = Unit {0}
+MovesAgain file keys (command c) = ⊥
+MovesAgain file keys (pair p) = (is_reserved p.key ≡ true) ⊎ IsPutAgain file keys p
+
+-- items move records of tables to a file within the rewrite queue: on each region they have no entry, or copies of all rewritten entries of its table, in order; and they put keys again
+pub record MoveAgain (content : EntryIndex → List ℕ) (tables : Tables) (file : FileId) (items : List Item) : Type 0 where
+  pub contents : AllByRecursion (λ (item : Item). MovesAgain file (table_of item.raft_group_id (finite.get tables item.raft_group_id)).keys item.content) items
+  pub copied : (r : ℕ) → (entries_on r items ≡ []) ⊎ AreCopies content (entries_on r items) (placed_in Rewrite (table_of r (finite.get tables r)).entries)

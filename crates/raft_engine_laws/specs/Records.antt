@@ -46,9 +46,13 @@ abbrev pub after_changes : (EntryIndex → List ℕ) → Records → List Step �
 after_changes content rs [] = rs
 after_changes content rs (s ∷ ss) = after_changes content (after_change content rs s) ss
 
--- the records of a region after these batches, from none
-unfoldable pub live : (EntryIndex → List ℕ) → List Event → ℕ → Records
-live content h r = after_changes content no_records (steps_on r (flat_map (λ e. steps_of_items e.items) h))
+-- no region has records
+abbrev pub no_base : ℕ → Records
+no_base r = no_records
+
+-- the records of a region after these batches, from those that it had before
+unfoldable pub live : (EntryIndex → List ℕ) → (ℕ → Records) → List Event → ℕ → Records
+live content base h r = after_changes content (base r) (steps_on r (flat_map (λ e. steps_of_items e.items) h))
 
 -- contents are told alike of the entries of an item
 abbrev pub AreToldAlike : (EntryIndex → List ℕ) → (EntryIndex → List ℕ) → Content → Type 0

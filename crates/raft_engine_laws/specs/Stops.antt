@@ -5,7 +5,8 @@ use Rattle.raft_base.specs.declared.entry_index.EntryIndex.{EntryIndex}
 use Rattle.raft_base.specs.declared.pipe_log.LogQueue.{LogQueue}
 use Rattle.raft_base.specs.declared.pipe_log.LogQueue.TheVariants.{Append, Rewrite}
 use Rattle.raft_history.specs.Batches.{Event}
-use Rattle.raft_history.specs.Histories.{FilesFrom, AreInFile, HaveStatus, last_from}
+use Rattle.raft_history.specs.BothQueues.{IsReadingOfBoth}
+use Rattle.raft_history.specs.Histories.{FilesFrom, AreInFile, HaveStatus, last_from, Apart, IsSoundIn}
 use Rattle.raft_history.specs.RegionSteps.{RegionStep, Tables}
 use Rattle.raft_engine_laws.specs.Groups.{EndNoOlderGroup}
 use Rattle.raft_engine_laws.specs.KeptTables.{AreKept}
@@ -102,6 +103,12 @@ FilesEndNoOlderGroup h = (n : ℕ) → EndNoOlderGroup (in_files_from n h)
 
 -- ---- nothing is lost
 
+-- a stop loses nothing: whatever is left of both queues, each by itself, can be read, and each reading of both has the records that the standing batches of the append queue make, from those that there were before
+pub record LoseNothing (content : EntryIndex → List ℕ) (base : ℕ → Records) (appended rewritten : List Deed) : Type 0 where
+  pub readable : (standing append others rewrite : List Event) → IsLeft appended standing append → IsLeft rewritten others rewrite → IsSoundIn Append append × IsSoundIn Rewrite rewrite × Apart rewrite
+  pub found : (standing append others rewrite : List Event) → IsLeft appended standing append → IsLeft rewritten others rewrite
+      → (tables : Tables) (cleaned : List ℕ) → IsReadingOfBoth rewrite append tables cleaned → HaveRecords content tables (live content base standing)
+
 -- some tables are kept by these batches, and have these records
 pub record IsKeptWith (content : EntryIndex → List ℕ) (append rewrite : List Event) (records : ℕ → Records) : Type 0 where
   pub untold : List RegionStep
@@ -109,10 +116,10 @@ pub record IsKeptWith (content : EntryIndex → List ℕ) (append rewrite : List
   pub kept : AreKept content append rewrite untold tables
   pub has : HaveRecords content tables records
 
--- what was done to both queues is safe: the engine's tables have the records that all written batches make, and are kept by all batches; and whatever is left of both queues keeps some tables with the records that the standing batches of the append queue make
-pub record IsSafe (content : EntryIndex → List ℕ) (appended rewritten : List Deed) (untold : List RegionStep) (tables : Tables) : Type 0 where
+-- what was done to both queues is safe: the engine's tables have the records that all written batches make, from those that there were before, and are kept by all batches; and whatever is left of both queues keeps some tables with the records that the standing batches of the append queue make
+pub record IsSafe (content : EntryIndex → List ℕ) (base : ℕ → Records) (appended rewritten : List Deed) (untold : List RegionStep) (tables : Tables) : Type 0 where
   pub append_files : FilesFrom Append 0 (written appended)
   pub rewrite_files : FilesFrom Rewrite 0 (written rewritten)
-  pub has : HaveRecords content tables (live content (written appended))
+  pub has : HaveRecords content tables (live content base (written appended))
   pub kept : (m n : ℕ) → MayBeGone appended m → MayBeGone rewritten n → AreKept content (in_files_from m (written appended)) (in_files_from n (written rewritten)) untold tables
-  pub left : (standing append rewrite_standing rewrite : List Event) → IsLeft appended standing append → IsLeft rewritten rewrite_standing rewrite → IsKeptWith content append rewrite (live content standing)
+  pub left : (standing append rewrite_standing rewrite : List Event) → IsLeft appended standing append → IsLeft rewritten rewrite_standing rewrite → IsKeptWith content append rewrite (live content base standing)

@@ -78,6 +78,26 @@ told_of region (pair p) = told_of_pair region p.op_type p.key
 abbrev pub told_items : List Item → List Item
 told_items items = flat_map (λ item. told_of item.raft_group_id item.content) items
 
+-- whether a change of a key takes it away
+abbrev pub is_deletion : OpType → Bool
+is_deletion operations.Put = false
+is_deletion operations.Del = true
+
+-- whether a content takes something away of a table whose entries end there: entries that start below the end, a command, and the deletion of a key
+abbrev pub content_takes_away : ℕ → Content → Bool
+content_takes_away end (entries []) = false
+content_takes_away end (entries (e ∷ es)) = nat_lt e.index end
+content_takes_away end (command c) = true
+content_takes_away end (pair p) = is_deletion p.op_type
+
+-- whether an item takes something away of its region's table
+abbrev pub item_takes_from : Tables → Item → Bool
+item_takes_from tables item = content_takes_away (end_of (table_of item.raft_group_id (finite.get tables item.raft_group_id)).entries) item.content
+
+-- the items that do
+abbrev pub taking_items : Tables → List Item → List Item
+taking_items tables items = filter (item_takes_from tables) items
+
 -- a content that takes away and puts nothing: a command, or the deletion of a key
 abbrev pub TakesAway : Content → Type 0
 TakesAway (entries es) = ⊥

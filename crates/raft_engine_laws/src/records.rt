@@ -13,15 +13,15 @@ ghost use Rattle.raft_history.specs.RegionSteps.{Tables};
 ghost use Rattle.raft_accessor.specs.Writes.{Appending, after_items};
 ghost use Rattle.raft_engine_laws.specs.MovedRecords.{AreFound};
 ghost use Rattle.raft_engine_laws.specs.Moving.{AreRecordsMoved};
-ghost use Rattle.raft_engine_laws.specs.Records.{Records, entries_told, live, AreToldAlike, HasRecords, HaveRecords};
+ghost use Rattle.raft_engine_laws.specs.Records.{Records, entries_told, no_base, live, AreToldAlike, HasRecords, HaveRecords};
 
 /// States that tables with the records of a history have, once they take a batch more, the records of the history with
-/// it; and that of tables with the same records each takes what one of them takes.
+/// it, whatever records there were before; and that of tables with the same records each takes what one of them takes.
 pub fn records_come_from_written_batches()
-    ensures none { (content : EntryIndex → List ℕ) → HaveRecords content finite.empty (live content []) }
-    ensures more { (content : EntryIndex → List ℕ) (tables new : Tables) (h : List Event) (e : Event)
-        → HaveRecords content tables (live content h) → after_items Appending tables e.items ≡ Some new
-        → HaveRecords content new (live content (h ++ e ∷ [])) }
+    ensures none { (content : EntryIndex → List ℕ) → HaveRecords content finite.empty (live content no_base []) }
+    ensures more { (content : EntryIndex → List ℕ) (base : ℕ → Records) (tables new : Tables) (h : List Event) (e : Event)
+        → HaveRecords content tables (live content base h) → after_items Appending tables e.items ≡ Some new
+        → HaveRecords content new (live content base (h ++ e ∷ [])) }
     ensures alike { (content : EntryIndex → List ℕ) (tables others new : Tables) (records : ℕ → Records)
         (items : List Item) → HaveRecords content tables records → HaveRecords content others records
         → after_items Appending tables items ≡ Some new
@@ -40,8 +40,8 @@ pub fn records_stay_where_places_change()
 /// States that where contents are told alike of all entries in tables and in the batches of a history, the tables have the
 /// records of the history by both if they have them by one.
 pub fn records_are_told_alike()
-    ensures { (told content : EntryIndex → List ℕ) (tables : Tables) (h : List Event)
+    ensures { (told content : EntryIndex → List ℕ) (base : ℕ → Records) (tables : Tables) (h : List Event)
         → AllByRecursion (λ (e : Event). AllByRecursion (λ (item : Item). AreToldAlike told content item.content) e.items) h
         → ((r : ℕ) → entries_told told (table_of r (finite.get tables r)).entries ≡ entries_told content (table_of r (finite.get tables r)).entries)
-        → HaveRecords content tables (live content h) → HaveRecords told tables (live told h) }
+        → HaveRecords content tables (live content base h) → HaveRecords told tables (live told base h) }
 {}

@@ -1,11 +1,14 @@
 //! Laws of what the rewrite queue is told.
 
-ghost use Rattle.std.specs.Prelude.{◌≡◌, ℕ, List, [], ◌∷◌, ◌++◌};
+ghost use Rattle.std.specs.Prelude.{◌≡◌, ℕ, List, [], ◌∷◌, ◌++◌, map};
 ghost use Rattle.std.specs.FinMap as finite;
+ghost use Rattle.raft_base.specs.declared.compression_type.CompressionType.{CompressionType};
 ghost use Rattle.raft_base.specs.declared.entry_index.EntryIndex.{EntryIndex};
+ghost use Rattle.raft_base.specs.declared.pipe_log.FileBlockHandle.{FileBlockHandle};
 ghost use Rattle.raft_base.specs.declared.pipe_log.FileId.{FileId};
 ghost use Rattle.raft_base.specs.declared.pipe_log.LogQueue.TheVariants.{Rewrite};
 ghost use Rattle.raft_records.specs.Item.{Item};
+ghost use Rattle.raft_records.specs.ItemBatch.{placed_item};
 ghost use Rattle.raft_table.specs.Steps.{Step, Run, table_of};
 ghost use Rattle.raft_table.specs.TableEntries.{below};
 ghost use Rattle.raft_history.specs.Batches.{Event};
@@ -15,7 +18,7 @@ ghost use Rattle.raft_engine_laws.specs.Groups.{HasNoMarker};
 ghost use Rattle.raft_engine_laws.specs.KeptTables.{AreKept};
 ghost use Rattle.raft_engine_laws.specs.NextBatches.{IsRewrittenNext};
 ghost use Rattle.raft_engine_laws.specs.Speaking.{unspoken};
-ghost use Rattle.raft_engine_laws.specs.Telling.{AreRemovals, SayTheSame, SayEnough, TakeAway, told_items};
+ghost use Rattle.raft_engine_laws.specs.Telling.{AreRemovals, SayTheSame, SayEnough, TakeAway, told_items, taking_items, taking_steps};
 
 /// States that what is told of items takes away what they take away: each run as a truncation at its first index. It is
 /// made of commands and deletions, whose steps put nothing and which may stand in a batch of any file, without a group
@@ -30,6 +33,16 @@ pub fn told_items_take_away_the_same()
     ensures status { (items : List Item) → TakeAway items → HaveStatus Rewrite items }
     ensures no_marker { (file : FileId) (items : List Item) → TakeAway items
         → HasNoMarker record { items = items; file = file } }
+{}
+
+/// States that of items which are written to tables, those alone need to be told that take something away of these: what
+/// is told of them takes away what the steps of all do that take something away; and that it is the same wherever the
+/// items are placed.
+pub fn items_that_take_nothing_away_need_no_telling()
+    ensures same { (tables : Tables) (items : List Item) (r : ℕ)
+        → SayTheSame (steps_on r (steps_of_items (told_items (taking_items tables items)))) (steps_on r (taking_steps tables (steps_of_items items))) }
+    ensures placed { (tables : Tables) (place : FileBlockHandle) (compression : CompressionType) (items : List Item)
+        → told_items (taking_items tables (map (placed_item place compression) items)) ≡ told_items (taking_items tables items) }
 {}
 
 /// States that steps which say the same may stand for the untold ones, step by step, on each region.

@@ -1,15 +1,16 @@
 -- What each ask does to a queue.
-use Rattle.std.proofs.Common.{◌≡◌, ℕ, suc, ◌+◌, ◌<◌, ◌≤◌, max, List, [], ◌∷◌, ◌++◌, length, sym, ap, ◌∙◌, subst, arith, length-append}
+use Rattle.std.proofs.Common.{◌≡◌, ℕ, suc, ◌+◌, ◌<◌, ◌≤◌, max, List, [], ◌∷◌, ◌++◌, length, take, refl, sym, ap, ◌∙◌, subst, arith, length-append}
 use Rattle.std.proofs.lemmas.List.{map-append, length-map}
 use Rattle.raft_base.specs.Signature.{signature_in}
+use Rattle.raft_base.specs.declared.pipe_log.FileBlockHandle.{FileBlockHandle}
 use Rattle.raft_base.specs.declared.pipe_log.LogQueue.{LogQueue}
 use Rattle.raft_base.specs.declared.pipe_log.Version.{Version}
 use Rattle.raft_records.specs.LogBatch.{log_batch_bytes}
 use Rattle.raft_history.specs.Batches.{Event}
 use Rattle.raft_history.specs.Histories.{last_from}
 use Rattle.raft_files.specs.Asks as asks
-use Rattle.raft_files.specs.Asks.{Act, Put, Begin, Cut}
-use Rattle.raft_files.specs.Disk.{NumberedBytes, put_behind, begun, deletions, synced_deletions}
+use Rattle.raft_files.specs.Asks.{Act, Put, Begin, Cut, Found, Read}
+use Rattle.raft_files.specs.Disk.{NumberedBytes, put_behind, cut_last, begun, deletions, synced_deletions}
 use Rattle.raft_files.specs.Places.{IsNext}
 use Rattle.raft_files.proofs.HeldLemmas.{length_on_last}
 use Rattle.raft_replay.specs.WrittenParts.{written_event}
@@ -17,6 +18,8 @@ use Rattle.raft_recover.specs.Files.{FilesHold, whole_file}
 use Rattle.raft_engine_laws.specs.Stops.{Deed, Sync, Delete, Stop, written, synced, deleted, synced_deleted, IsSynced, in_files_from}
 use Rattle.raft_engine_laws.proofs.StopLemmas.{from_none, from_more, synced_low}
 use Rattle.raft_engine_fronts.specs.Fronts.{ArePut, ArePutWhole}
+use Rattle.raft_engine_fronts.specs.TornTails.{FilesHoldTorn, StopsAt}
+use Rattle.raft_engine_fronts.proofs.TornLemmas.{whole_torn}
 use Rattle.raft_engine_fronts.specs.Done.{numbers, AreRisingFrom, AreBelow, AreDone, AreDoneWhole, WrittenBatchIsDone, LastFileIsNext}
 use Rattle.raft_engine_fronts.proofs.StepLemmas as steps
 use Rattle.raft_engine_fronts.proofs.NumberLemmas.{numbers_on_last, numbers_more, rising_last, rising_more, below_more, below_none, below_oldest, below_next, below_last}
@@ -29,6 +32,8 @@ few_synced (Begin seq ∷ acts) = few_synced acts
 few_synced (asks.Sync ∷ acts) = omega arith
 few_synced (asks.Delete ∷ acts) = let k = few_synced acts in omega (arith, k)
 few_synced (Cut len ∷ acts) = few_synced acts
+few_synced (Found files ∷ acts) = omega arith
+few_synced (Read place bytes ∷ acts) = few_synced acts
 
 module _ (queue : LogQueue) (version : Version) where
   pub nothing_done : AreDoneWhole queue version [] []
@@ -117,27 +122,49 @@ module _ (queue : LogQueue) (version : Version) where
           whole = w.whole;
         }
 
-    module _ (standing : List Event) (n : ℕ) where
-      pub found_done : ArePut queue version acts (in_files_from n standing) (in_files_from n standing) → AreRisingFrom n (numbers (begun acts)) → deletions acts ≡ 0
-          → AreDone queue version acts (Stop standing n ∷ deeds)
-      found_done put rising none =
-          let few = few_synced acts in
-          let below = below_none n (numbers (begun acts)) rising in
-          let none_synced : 0 ≡ synced_deletions acts = omega (arith, few, none) in
-          record {
-            first = n;
-            begins = omega arith;
-            put = put;
-            rising = rising;
-            stays = omega (arith, none);
-            gone = subst (λ (c : ℕ). AreBelow n c (numbers (begun acts))) (sym none) below;
-            synced_gone = subst (λ (c : ℕ). AreBelow n c (numbers (begun acts))) none_synced below;
-          }
+    module _ (files : List NumberedBytes) (standing : List Event) (n : ℕ) where
+      pub found_done : FilesHoldTorn queue version files (in_files_from n standing) → AreRisingFrom n (numbers files) → AreDone queue version (Found files ∷ acts) (Stop standing n ∷ deeds)
+      found_done held rising = record {
+        first = n;
+        begins = omega arith;
+        put = (refl, held);
+        rising = rising;
+        stays = omega arith;
+        gone = below_none n (numbers files) rising;
+        synced_gone = below_none n (numbers files) rising;
+      }
 
-      pub found_whole : ArePutWhole queue version acts (in_files_from n standing) (in_files_from n standing) → AreRisingFrom n (numbers (begun acts)) → deletions acts ≡ 0
-          → AreDoneWhole queue version acts (Stop standing n ∷ deeds)
+      pub found_whole : FilesHold queue version files (in_files_from n standing) → AreRisingFrom n (numbers files) → AreDoneWhole queue version (Found files ∷ acts) (Stop standing n ∷ deeds)
       unfolding found_done
-      found_whole put rising none = record { done = found_done put.put rising none; whole = put.whole }
+      found_whole held rising = record { done = found_done (whole_torn queue version files (in_files_from n standing) held) rising; whole = held }
+
+    module _ (place : FileBlockHandle) (bytes : List ℕ) where
+      pub read_done : AreDone queue version acts deeds → AreDone queue version (Read place bytes ∷ acts) deeds
+      read_done d = record { first = d.first; begins = d.begins; put = d.put; rising = d.rising; stays = d.stays; gone = d.gone; synced_gone = d.synced_gone }
+
+      pub read_whole : AreDoneWhole queue version acts deeds → AreDoneWhole queue version (Read place bytes ∷ acts) deeds
+      unfolding read_done
+      read_whole w = record { done = read_done w.done; whole = w.whole }
+
+    pub cut_done : (closed : List NumberedBytes) (last : NumberedBytes) (at : ℕ) → AreDone queue version acts deeds → begun acts ≡ closed ++ last ∷ [] → StopsAt (whole_file queue version last) at
+        → AreDoneWhole queue version (Cut at ∷ acts) deeds
+    cut_done closed last at d is stops =
+        let put = steps.cut_off queue version acts (in_files_from d.first (synced deeds)) (in_files_from d.first (written deeds)) closed last at d.put is stops in
+        let same : numbers (begun acts) ≡ numbers (cut_last at (begun acts)) = sym (numbers_on_last (λ (b : List ℕ). take at b) (begun acts)) in
+        let stays = d.stays in
+        let long = length_on_last (λ (b : List ℕ). take at b) (begun acts) in
+        record {
+          done = record {
+            first = d.first;
+            begins = d.begins;
+            put = put.put;
+            rising = subst (AreRisingFrom d.first) same d.rising;
+            stays = omega (arith, stays, long);
+            gone = subst (AreBelow (deleted deeds) (deletions acts)) same d.gone;
+            synced_gone = subst (AreBelow (synced_deleted deeds) (synced_deletions acts)) same d.synced_gone;
+          };
+          whole = put.whole;
+        }
 
     -- the last file's number is no lower than those of all others
     module _ (closed : List NumberedBytes) (last : NumberedBytes) (w : AreDoneWhole queue version acts deeds) (is : begun acts ≡ closed ++ last ∷ []) where

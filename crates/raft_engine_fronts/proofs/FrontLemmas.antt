@@ -8,7 +8,7 @@ use Rattle.raft_records.specs.FilePart.{Part, IsBatchAt}
 use Rattle.raft_records.proofs.Names.{part_signature}
 use Rattle.raft_records.proofs.PartLemmas.{batch_inside}
 use Rattle.raft_history.specs.Batches.{Event}
-use Rattle.raft_files.specs.Asks.{Act, Put, Begin, Sync, Delete, Cut}
+use Rattle.raft_files.specs.Asks.{Act, Put, Begin, Sync, Delete, Cut, Found, Read}
 use Rattle.raft_files.specs.Disk.{NumberedBytes, put_behind, begun, MayStand}
 use Rattle.raft_files.proofs.HeldLemmas.{length_on_last}
 use Rattle.raft_replay.specs.Cuts.{bytes_before}
@@ -16,9 +16,10 @@ use Rattle.raft_replay.specs.Segments.{HoldsFrom}
 use Rattle.raft_replay.specs.Stops.{IsUnreadableAt}
 use Rattle.raft_replay.proofs.MachineOrderLemmas.{each_join, each_single}
 use Rattle.raft_recover.specs.Files.{FilesHold, whole_file}
-use Rattle.raft_engine_fronts.specs.TornTails.{HoldsTornFrom, FilesHoldTorn}
+use Rattle.raft_engine_fronts.specs.TornTails.{IsFollowedAt, HoldsTornFrom, FilesHoldTorn}
 use Rattle.raft_engine_fronts.specs.Fronts.{AreBatchesPut, ArePut, ArePutWhole, IsFrontWith, HoldFrontWith}
 use Rattle.raft_engine_fronts.proofs.BatchPartLemmas.{front_unreadable, shorter_unreadable}
+use Rattle.raft_engine_fronts.proofs.FollowLemmas.{named_end}
 use Rattle.raft_engine_fronts.proofs.TornLemmas.{with_all, stands_as, held_inside, one_file, whole_torn, torn_more}
 
 -- a front of batches that something holds
@@ -39,9 +40,32 @@ module _ (part : Part) (n : ℕ) (few : n ≤ length part.bytes) where
   behind_split i le =
       ap (drop i) (sym (take-append-drop n part.bytes)) ∙ drop-append-le i (take n part.bytes) (drop n part.bytes) (let e = n_long in omega (arith, e, le))
 
+  -- what follows there follows in the whole part too
+  followed_more : (at : ℕ) → at ≤ n → IsFollowedAt (bytes_before part n) at → IsFollowedAt part at
+  followed_more at le f =
+      let long = n_long in
+      let inside = batch_inside (bytes_before part n) (at + f.len) f.items f.next f.stands in
+      let same : take f.next part.bytes ≡ take f.next (take n part.bytes) = sym (take-take f.next n part.bytes (omega (arith, inside.1, long))) in
+      record {
+        offset = f.offset;
+        len = f.len;
+        header = record {
+          compression = f.header.compression;
+          rest = f.header.rest ++ drop n part.bytes;
+          header = record {
+            front = f.header.header.front;
+            spells = f.header.header.spells;
+            split = behind_split at le ∙ ap (λ (t : List ℕ). t ++ drop n part.bytes) f.header.header.split ∙ append_assoc f.header.header.front f.header.rest (drop n part.bytes);
+          };
+        };
+        items = f.items;
+        next = f.next;
+        stands = stands_as (bytes_before part n) part.bytes (at + f.len) f.next f.items f.stands same;
+      }
+
   -- where no more batches are held
-  none_more : (at i : ℕ) → at ≤ length part.bytes → i ≡ length (take at part.bytes) → IsUnreadableAt part at → i ≤ n → HoldsTornFrom (bytes_before part n) i []
-  none_more at i inside ends torn le =
+  none_more : (at i : ℕ) → at ≤ length part.bytes → i ≡ length (take at part.bytes) → IsUnreadableAt part at → ¬ (IsFollowedAt part at) → i ≤ n → HoldsTornFrom (bytes_before part n) i []
+  none_more at i inside ends torn alone le =
       let m = length-take-le at part.bytes inside in
       let long = n_long in
       let before : at ≤ n = omega (arith, m, ends, le) in
@@ -50,6 +74,7 @@ module _ (part : Part) (n : ℕ) (few : n ≤ length part.bytes) where
         inside = omega (arith, before, long);
         held = ends ∙ m ∙ sym (length-take-le at (take n part.bytes) (omega (arith, before, long)));
         torn = front_unreadable (drop at (take n part.bytes)) (drop n part.bytes) (drop at part.bytes) (part_signature part) (behind_split at before) torn;
+        unfollowed = λ f. alone (followed_more at before f);
       }
 
   -- where a batch ends behind the bytes
@@ -69,6 +94,10 @@ module _ (part : Part) (n : ℕ) (few : n ≤ length part.bytes) where
         held = sym (length-take-le i (take n part.bytes) (omega (arith, le, long)));
         torn = shorter_unreadable b.bytes (drop i (take n part.bytes)) (drop (n - i) b.bytes) (part_signature part) (part_signature part) b.read (b.between, b.laid_out) split
             (omega (arith, short, ends, past, le));
+        unfollowed = λ f.
+            let named = named_end part i next e.items (drop i (take n part.bytes)) (drop n part.bytes) f.offset f.len b (behind_split i le) f.header in
+            let m = batch_inside (bytes_before part n) (i + f.len) f.items f.next f.stands in
+            absurd (omega (arith, named, m.0, m.1, long, past));
       }
 
   -- a batch in front of those that are held
@@ -86,13 +115,14 @@ module _ (part : Part) (n : ℕ) (few : n ≤ length part.bytes) where
         inside = t.inside;
         held = (file, (next, stands_as (bytes_before part at) (take t.at (take n part.bytes)) i next e.items b same, t.held));
         torn = t.torn;
+        unfollowed = t.unfollowed;
       }
 
   -- the bytes up to this one hold a front of the batches
-  front_held : (at i : ℕ) (h : List Event) → at ≤ length part.bytes → HoldsFrom (bytes_before part at) i h → IsUnreadableAt part at → i ≤ n
+  front_held : (at i : ℕ) (h : List Event) → at ≤ length part.bytes → HoldsFrom (bytes_before part at) i h → IsUnreadableAt part at → ¬ (IsFollowedAt part at) → i ≤ n
       → FrontOf (λ f. HoldsTornFrom (bytes_before part n) i f) h
-  front_held at i [] inside ends torn le = record { front = []; lost = []; split = refl; held = none_more at i inside ends torn le }
-  front_held at i (e ∷ h) inside held torn le =
+  front_held at i [] inside ends torn alone le = record { front = []; lost = []; split = refl; held = none_more at i inside ends torn alone le }
+  front_held at i (e ∷ h) inside held torn alone le =
       elim (cases_lt n held.1.0) [
         | inl past ↦ record {
           front = [];
@@ -100,7 +130,7 @@ module _ (part : Part) (n : ℕ) (few : n ≤ length part.bytes) where
           split = refl;
           held = torn_batch i held.1.0 e (stands_as (bytes_before part at) part.bytes i held.1.0 e.items held.1.1 (sym (take-take held.1.0 at part.bytes ends))) le past;
         }
-        | inr within ↦ let r = front_held at held.1.0 h inside held.1.2 torn within in record {
+        | inr within ↦ let r = front_held at held.1.0 h inside held.1.2 torn alone within in record {
           front = e ∷ r.front;
           lost = r.lost;
           split = ap (λ (t : List Event). e ∷ t) r.split;
@@ -136,7 +166,7 @@ module _ (queue : LogQueue) (version : Version) where
       let long = ap length all ∙ length-append (file.1 ++ front) rest in
       let begins = length-append file.1 front in
       let same : take n (file.1 ++ bytes) ≡ file.1 ++ front = ap (take n) all ∙ take_at (file.1 ++ front) rest n refl in
-      let r = front_held part n (omega (arith, long)) t.at (length file.1) more t.inside t.held t.torn (omega (arith, begins)) in
+      let r = front_held part n (omega (arith, long)) t.at (length file.1) more t.inside t.held t.torn t.unfollowed (omega (arith, begins)) in
       record { front = r.front; lost = r.lost; split = r.split; held = subst (λ (xs : List ℕ). HoldsTornFrom (with_all part xs) (length file.1) r.front) same r.held }
   put_front (file ∷ next ∷ files) bytes front rest more split t = put_front (next ∷ files) bytes front rest more split t
 
@@ -154,6 +184,7 @@ module _ (queue : LogQueue) (version : Version) where
         inside = t.inside;
         held = joined (bytes_before part t.at) file.1 0 old more same (one_file queue version file old a) t.held;
         torn = t.torn;
+        unfollowed = t.unfollowed;
       }
   put_held (file ∷ next ∷ files) bytes old more a t =
       let n = length_on_last (λ (b : List ℕ). b ++ bytes) (next ∷ files) in
@@ -185,6 +216,8 @@ module _ (queue : LogQueue) (version : Version) where
   all_held (Sync ∷ acts) synced h p = p.1
   all_held (Delete ∷ acts) synced h p = all_held acts synced h p
   all_held (Cut len ∷ acts) synced h p = p.1
+  all_held (Found files ∷ acts) synced h p = p.1
+  all_held (Read place bytes ∷ acts) synced h p = all_held acts synced h p
 
   same_all : (synced h : List Event) → synced ≡ h → IsFrontWith synced h h
   same_all synced h e = record { more = []; lost = []; least = sym e ∙ sym (append-nil synced); split = sym (append-nil h) }
@@ -204,6 +237,8 @@ module _ (queue : LogQueue) (version : Version) where
   all_front (Sync ∷ acts) synced h p = same_all synced h p.0
   all_front (Delete ∷ acts) synced h p = all_front acts synced h p
   all_front (Cut len ∷ acts) synced h p = all_front acts synced h p.0
+  all_front (Found files ∷ acts) synced h p = same_all synced h p.0
+  all_front (Read place bytes ∷ acts) synced h p = all_front acts synced h p
 
   -- what is a front of the batches before is one of all
   front_before : (synced old more h : List Event) (files : List NumberedBytes) → h ≡ old ++ more → HoldFrontWith queue version synced old files → HoldFrontWith queue version synced h files
@@ -252,6 +287,9 @@ module _ (queue : LogQueue) (version : Version) where
         | inl before ↦ front_left acts synced h files p.0 before
         | inr is ↦ all_left synced h files (all_front acts synced h p.0) (subst (λ (fs : List NumberedBytes). FilesHoldTorn queue version fs h) (sym is) p.1)
       ]
+  front_left (Found found ∷ acts) synced h files p s =
+      all_left synced h files (same_all synced h p.0) (subst (λ (fs : List NumberedBytes). FilesHoldTorn queue version fs h) (sym s) p.1)
+  front_left (Read place bytes ∷ acts) synced h files p s = front_left acts synced h files p s
 
   pub synced_left : (acts : List Act) (synced h : List Event) (files : List NumberedBytes) → ArePutWhole queue version acts synced h → MayStand (Sync ∷ acts) files → FilesHold queue version files h
   synced_left acts synced h files p s = subst (λ (fs : List NumberedBytes). FilesHold queue version fs h) (sym s) p.whole

@@ -1,4 +1,5 @@
 pub mod BatchPartLemmas
+pub mod FollowLemmas
 pub mod TornLemmas
 pub mod FrontLemmas
 pub mod RestLemmas
@@ -10,3 +11,6 @@ pub mod EventLemmas
 pub mod DoneLemmas
 pub mod DeedLemmas
 pub mod RecordLemmas
+pub mod PlaceLemmas
+pub mod ToldLemmas
+pub mod ReadLemmas

@@ -22,6 +22,7 @@ use Rattle.raft_recover.specs.Files.{FilesHold, whole_file}
 use Rattle.raft_engine_fronts.specs.TornTails.{HoldsTornFrom}
 use Rattle.raft_engine_fronts.specs.Fronts.{AreBatchesPut}
 use Rattle.raft_engine_fronts.proofs.BatchPartLemmas.{end_unreadable}
+use Rattle.raft_engine_fronts.proofs.FollowLemmas.{end_unfollowed}
 use Rattle.raft_engine_fronts.proofs.TornLemmas.{with_all, one_file}
 
 module _ (queue : LogQueue) (version : Version) where
@@ -62,6 +63,7 @@ module _ (queue : LogQueue) (version : Version) where
           inside = omega arith;
           held = subst (λ (xs : List ℕ). HoldsFrom (with_all part xs) (length last.1) (event ∷ [])) (sym (take_all n (last.1 ++ bytes) (omega arith))) stands;
           torn = end_unreadable (with_bytes part bytes) n refl;
+          unfollowed = end_unfollowed (with_bytes part bytes) n refl;
         })
 
     pub written_held : (closed : List NumberedBytes) (h : List Event) → FilesHold queue version (closed ++ last ∷ []) h

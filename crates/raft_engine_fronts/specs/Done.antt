@@ -17,7 +17,7 @@ use Rattle.raft_files.specs.Asks.{Act, Put}
 use Rattle.raft_files.specs.Disk.{NumberedBytes, begun, deletions, synced_deletions}
 use Rattle.raft_replay.specs.WrittenParts.{written_event}
 use Rattle.raft_recover.specs.Files.{FilesHold, whole_file}
-use Rattle.raft_engine_laws.specs.Records.{live, HaveRecords}
+use Rattle.raft_engine_laws.specs.Records.{Records, live, HaveRecords}
 use Rattle.raft_engine_laws.specs.Stops.{Deed, Write, written, synced, deleted, synced_deleted, in_files_from, IsLeft, IsNextIn}
 use Rattle.raft_engine_fronts.specs.TornTails.{FilesHoldTorn}
 use Rattle.raft_engine_fronts.specs.Fronts.{ArePut}
@@ -81,9 +81,9 @@ pub record HoldLeft (queue : LogQueue) (version : Version) (deeds : List Deed) (
   pub rising : AreRisingFrom is_left.gone (numbers files)
   pub held : FilesHoldTorn queue version files left
 
--- what is left of the files of both queues holds batches that can be read, and whatever tables a reading of them gives have the records of the batches that stand of the append queue
-pub record HoldRecords (content : EntryIndex → List ℕ) (version : Version) (appended rewritten : List Deed) (append_files rewrite_files : List NumberedBytes) : Type 0 where
+-- what is left of the files of both queues holds batches that can be read, and whatever tables a reading of them gives have the records that the batches which stand of the append queue make, from those that there were before
+pub record HoldRecords (content : EntryIndex → List ℕ) (base : ℕ → Records) (version : Version) (appended rewritten : List Deed) (append_files rewrite_files : List NumberedBytes) : Type 0 where
   pub append : HoldLeft Append version appended append_files
   pub rewrite : HoldLeft Rewrite version rewritten rewrite_files
   pub readable : IsSoundIn Append append.left × IsSoundIn Rewrite rewrite.left × Apart rewrite.left
-  pub found : (tables : Tables) (cleaned : List ℕ) → IsReadingOfBoth rewrite.left append.left tables cleaned → HaveRecords content tables (live content append.standing)
+  pub found : (tables : Tables) (cleaned : List ℕ) → IsReadingOfBoth rewrite.left append.left tables cleaned → HaveRecords content tables (live content base append.standing)

@@ -4,3 +4,5 @@ pub mod TornTails
 pub mod Fronts
 -- what is done to a queue
 pub mod Done
+-- the contents of entries
+pub mod Contents

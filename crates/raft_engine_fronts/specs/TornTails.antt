@@ -1,10 +1,11 @@
--- Files of which the last one may end in a torn tail: bytes behind its batches of which no front is a batch.
-use Rattle.std.specs.Prelude.{◌≡◌, ◌≢◌, ◌⊎◌, ℕ, ◌<◌, ◌≤◌, List, [], ◌∷◌, length, Option, Some, IfSome, MatchOption}
+-- Files of which the last one may end in a torn tail: bytes behind its batches of which no front is a batch, with no batch behind them.
+use Rattle.std.specs.Prelude.{◌≡◌, ◌≢◌, ◌⊎◌, ℕ, ◌+◌, ◌<◌, ◌≤◌, List, [], ◌∷◌, length, drop, Option, Some, IfSome, MatchOption}
 use Rattle.raft_base.specs.declared.errors.Error.{Error}
 use Rattle.raft_base.specs.declared.errors.Error.TheVariants as errors
 use Rattle.raft_base.specs.declared.pipe_log.LogQueue.{LogQueue}
 use Rattle.raft_base.specs.declared.pipe_log.Version.{Version}
-use Rattle.raft_records.specs.FilePart.{Part, AreBatchesUpTo}
+use Rattle.raft_records.specs.FilePart.{Part, AreBatchesUpTo, HasHeader, IsBatchAt}
+use Rattle.raft_records.specs.Item.{Item}
 use Rattle.raft_history.specs.Batches.{Event}
 use Rattle.raft_files.specs.Disk.{NumberedBytes}
 use Rattle.raft_replay.specs.Cuts.{bytes_before}
@@ -12,12 +13,23 @@ use Rattle.raft_replay.specs.Segments.{AreHeldInTurn, HoldsFrom}
 use Rattle.raft_replay.specs.Stops.{IsUnreadableAt}
 use Rattle.raft_recover.specs.Files.{whole_file}
 
--- from a byte of a part on these batches stand, one after the other, up to a byte from which on no batch can be read
+-- at this byte of a part a header of a batch stands, and where it says that its batch ends, a batch that can be read
+pub record IsFollowedAt (part : Part) (at : ℕ) : Type 0 where
+  pub offset : ℕ
+  pub len : ℕ
+  pub header : HasHeader (drop at part.bytes) offset len
+  pub items : List Item
+  pub next : ℕ
+  pub stands : IsBatchAt part (at + len) items next
+
+-- From a byte of a part on these batches stand, one after the other, up to a byte from which on no batch can be read, and
+-- no batch stands where a header there says that its batch ends.
 pub record HoldsTornFrom (part : Part) (from : ℕ) (h : List Event) : Type 0 where
   pub at : ℕ
   pub inside : at ≤ length part.bytes
   pub held : HoldsFrom (bytes_before part at) from h
   pub torn : IsUnreadableAt part at
+  pub unfollowed : ¬ (IsFollowedAt part at)
 
 -- the batches of files, in order, of which the last may end in a torn tail
 abbrev pub FilesHoldTorn : LogQueue → Version → List NumberedBytes → List Event → Type 0

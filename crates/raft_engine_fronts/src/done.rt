@@ -2,24 +2,27 @@
 
 ghost use Rattle.std.specs.Prelude.{◌≡◌, ℕ, ◌<◌, ◌≤◌, List, [], ◌∷◌, ◌++◌, length};
 ghost use Rattle.raft_base.specs.declared.entry_index.EntryIndex.{EntryIndex};
+ghost use Rattle.raft_base.specs.declared.pipe_log.FileBlockHandle.{FileBlockHandle};
 ghost use Rattle.raft_base.specs.declared.pipe_log.LogQueue.{LogQueue};
 ghost use Rattle.raft_base.specs.declared.pipe_log.LogQueue.TheVariants.{Append, Rewrite};
 ghost use Rattle.raft_base.specs.declared.pipe_log.Version.{Version};
 ghost use Rattle.raft_history.specs.Batches.{Event};
 ghost use Rattle.raft_history.specs.RegionSteps.{RegionStep, Tables};
-ghost use Rattle.raft_files.specs.Asks.{Act, Ask, Begin, Delete, Sync, acts_on};
+ghost use Rattle.raft_files.specs.Asks.{Act, Ask, Begin, Cut, Delete, Found, Read, Sync, acts_on};
 ghost use Rattle.raft_files.specs.Disk.{NumberedBytes, begun, deletions, IsLeftOf};
 ghost use Rattle.raft_files.specs.Places.{IsNext};
+ghost use Rattle.raft_engine_laws.specs.Records.{Records};
 ghost use Rattle.raft_engine_laws.specs.Stops as queue_deeds;
-ghost use Rattle.raft_engine_laws.specs.Stops.{Deed, Stop, deleted, in_files_from, IsSafe, IsSynced};
-ghost use Rattle.raft_engine_fronts.specs.Fronts.{ArePut, ArePutWhole};
+ghost use Rattle.raft_engine_laws.specs.Stops.{Deed, Stop, deleted, in_files_from, IsSafe, IsSynced, LoseNothing};
+ghost use Rattle.raft_recover.specs.Files.{FilesHold, whole_file};
+ghost use Rattle.raft_engine_fronts.specs.TornTails.{FilesHoldTorn, IsFollowedAt, StopsAt};
 ghost use Rattle.raft_engine_fronts.specs.Done.{AreDone, AreDoneWhole, AreRisingFrom, HoldLeft, HoldRecords, LastFileIsNext, WrittenBatchIsDone, numbers};
 
 /// States what each ask does to a queue: a written batch that is put is written; a sync is one; a new file does nothing,
 /// if all is synced, and its number is above the last one's and not among those of deleted files; the deletion of a file
-/// that isn't the last deletes the files below a number, above its own and up to that of the next one; and files that
-/// are found when the machine starts, with or without a torn tail, are those of a stop. A batch in the last file is one
-/// that may be written next.
+/// that isn't the last deletes the files below a number, above its own and up to that of the next one; files that are
+/// found when the machine starts, with or without a torn tail, are those of a stop; where a reader stops in the last file, a
+/// torn tail may be cut off; and a read does nothing. A batch in the last file is one that may be written next.
 pub fn asks_do_deeds()
     ensures none { (queue : LogQueue) (version : Version) → AreDoneWhole queue version [] [] }
     ensures written { WrittenBatchIsDone }
@@ -32,15 +35,22 @@ pub fn asks_do_deeds()
         (gone rest : List NumberedBytes) (oldest next : NumberedBytes) (n : ℕ) → AreDoneWhole queue version acts deeds
         → begun acts ≡ gone ++ oldest ∷ next ∷ rest → deletions acts ≡ length gone → oldest.0 < n → n ≤ next.0
         → AreDoneWhole queue version (Delete ∷ acts) (queue_deeds.Delete n ∷ deeds) }
-    ensures found { (queue : LogQueue) (version : Version) (acts : List Act) (deeds : List Deed) (standing : List Event)
-        (n : ℕ) → ArePut queue version acts (in_files_from n standing) (in_files_from n standing)
-        → AreRisingFrom n (numbers (begun acts)) → deletions acts ≡ 0
-        → AreDone queue version acts (Stop standing n ∷ deeds) }
+    ensures found { (queue : LogQueue) (version : Version) (acts : List Act) (deeds : List Deed)
+        (files : List NumberedBytes) (standing : List Event) (n : ℕ)
+        → FilesHoldTorn queue version files (in_files_from n standing) → AreRisingFrom n (numbers files)
+        → AreDone queue version (Found files ∷ acts) (Stop standing n ∷ deeds) }
     ensures found_whole { (queue : LogQueue) (version : Version) (acts : List Act) (deeds : List Deed)
-        (standing : List Event) (n : ℕ)
-        → ArePutWhole queue version acts (in_files_from n standing) (in_files_from n standing)
-        → AreRisingFrom n (numbers (begun acts)) → deletions acts ≡ 0
-        → AreDoneWhole queue version acts (Stop standing n ∷ deeds) }
+        (files : List NumberedBytes) (standing : List Event) (n : ℕ)
+        → FilesHold queue version files (in_files_from n standing) → AreRisingFrom n (numbers files)
+        → AreDoneWhole queue version (Found files ∷ acts) (Stop standing n ∷ deeds) }
+    ensures cut { (queue : LogQueue) (version : Version) (acts : List Act) (deeds : List Deed)
+        (closed : List NumberedBytes) (last : NumberedBytes) (at : ℕ) → AreDone queue version acts deeds
+        → begun acts ≡ closed ++ last ∷ [] → StopsAt (whole_file queue version last) at
+        → AreDoneWhole queue version (Cut at ∷ acts) deeds }
+    ensures read { (queue : LogQueue) (version : Version) (acts : List Act) (deeds : List Deed) (place : FileBlockHandle)
+        (bytes : List ℕ) → AreDone queue version acts deeds → AreDone queue version (Read place bytes ∷ acts) deeds }
+    ensures read_whole { (queue : LogQueue) (version : Version) (acts : List Act) (deeds : List Deed) (place : FileBlockHandle)
+        (bytes : List ℕ) → AreDoneWhole queue version acts deeds → AreDoneWhole queue version (Read place bytes ∷ acts) deeds }
     ensures next { LastFileIsNext }
 {}
 
@@ -52,13 +62,29 @@ pub fn files_that_are_left_hold_what_may_be_left()
         → HoldLeft queue version deeds files }
 {}
 
-/// States that no stop loses records: if what is done to both queues is safe, whatever is left of their files can be
-/// read, and gives the records of the batches that stand of the append queue.
+/// States that no stop damages files: where a reader stops in the last file of those that are left, no batch stands
+/// behind the torn tail. So who refuses files in which one does never refuses what a stop left.
+pub fn no_stop_damages_files()
+    ensures { (queue : LogQueue) (version : Version) (asked : List Ask) (deeds : List Deed)
+        (closed : List NumberedBytes) (last : NumberedBytes) (at : ℕ)
+        → AreDone queue version (acts_on queue asked) deeds → IsLeftOf queue asked (closed ++ last ∷ [])
+        → StopsAt (whole_file queue version last) at → ¬ (IsFollowedAt (whole_file queue version last) at) }
+{}
+
+/// States that no stop loses records: if what is done to both queues is safe, or merely loses nothing, whatever is left
+/// of their files can be read, and gives the records that the batches which stand of the append queue make.
 pub fn no_stop_loses_records()
-    ensures { (content : EntryIndex → List ℕ) (version : Version) (asked : List Ask) (appended rewritten : List Deed)
-        (untold : List RegionStep) (tables : Tables) (append_files rewrite_files : List NumberedBytes)
-        → IsSafe content appended rewritten untold tables
+    ensures safe { (content : EntryIndex → List ℕ) (base : ℕ → Records) (version : Version) (asked : List Ask)
+        (appended rewritten : List Deed) (untold : List RegionStep) (tables : Tables)
+        (append_files rewrite_files : List NumberedBytes)
+        → IsSafe content base appended rewritten untold tables
         → AreDone Append version (acts_on Append asked) appended → AreDone Rewrite version (acts_on Rewrite asked) rewritten
         → IsLeftOf Append asked append_files → IsLeftOf Rewrite asked rewrite_files
-        → HoldRecords content version appended rewritten append_files rewrite_files }
+        → HoldRecords content base version appended rewritten append_files rewrite_files }
+    ensures nothing_lost { (content : EntryIndex → List ℕ) (base : ℕ → Records) (version : Version) (asked : List Ask)
+        (appended rewritten : List Deed) (append_files rewrite_files : List NumberedBytes)
+        → LoseNothing content base appended rewritten
+        → AreDone Append version (acts_on Append asked) appended → AreDone Rewrite version (acts_on Rewrite asked) rewritten
+        → IsLeftOf Append asked append_files → IsLeftOf Rewrite asked rewrite_files
+        → HoldRecords content base version appended rewritten append_files rewrite_files }
 {}

@@ -2,19 +2,21 @@
 
 ghost use Rattle.std.specs.Prelude.{◌≡◌, ℕ, ◌<◌, ◌≤◌, List, [], ◌∷◌, ◌++◌, length, take};
 ghost use Rattle.std.specs.List.{AllByRecursion};
+ghost use Rattle.raft_base.specs.declared.pipe_log.FileBlockHandle.{FileBlockHandle};
 ghost use Rattle.raft_base.specs.declared.pipe_log.LogQueue.{LogQueue};
 ghost use Rattle.raft_base.specs.declared.pipe_log.Version.{Version};
 ghost use Rattle.raft_history.specs.Batches.{Event};
-ghost use Rattle.raft_files.specs.Asks.{Act, Ask, Begin, Cut, Delete, Sync, acts_on};
+ghost use Rattle.raft_files.specs.Asks.{Act, Ask, Begin, Cut, Delete, Found, Read, Sync, acts_on};
 ghost use Rattle.raft_files.specs.Disk.{NumberedBytes, begun, deletions, files_of, IsLeftOf, MayStand};
 ghost use Rattle.raft_replay.specs.Segments.{AreHeldInTurn};
 ghost use Rattle.raft_recover.specs.Files.{FilesHold, whole_file};
 ghost use Rattle.raft_engine_fronts.specs.TornTails.{FilesHoldTorn, StopsAt};
 ghost use Rattle.raft_engine_fronts.specs.Fronts.{ArePut, ArePutWhole, HoldFrontWith, HoldRestOfFront, WrittenBatchIsPut};
 
-/// States what each ask makes of the batches that were put: before the first there is none; a written batch that is put is one more; a sync, a new file
+/// States what each ask makes of the batches that were put: before the first there is none; a written batch that is put
+/// is one more; a sync, a new file
 /// and files that are found make all of them synced; where a reader stops in the last file, the torn tail may be cut
-/// off. A deletion is counted elsewhere. Asks put one history, and sync one front of it.
+/// off. A deletion is counted elsewhere, and a read puts nothing. Asks put one history, and sync one front of it.
 pub fn asks_put_batches()
     ensures nothing { (queue : LogQueue) (version : Version) → ArePutWhole queue version [] [] [] }
     ensures written { WrittenBatchIsPut }
@@ -23,8 +25,8 @@ pub fn asks_put_batches()
         → ArePutWhole queue version (Begin seq ∷ acts) h h }
     ensures synced { (queue : LogQueue) (version : Version) (acts : List Act) (synced h : List Event)
         → ArePut queue version acts synced h → ArePut queue version (Sync ∷ acts) h h }
-    ensures found { (queue : LogQueue) (version : Version) (acts : List Act) (h : List Event)
-        → FilesHoldTorn queue version (begun acts) h → ArePut queue version (Sync ∷ acts) h h }
+    ensures found { (queue : LogQueue) (version : Version) (acts : List Act) (files : List NumberedBytes) (h : List Event)
+        → FilesHoldTorn queue version files h → ArePut queue version (Found files ∷ acts) h h }
     ensures cut { (queue : LogQueue) (version : Version) (acts : List Act) (synced h : List Event)
         (closed : List NumberedBytes) (last : NumberedBytes) (at : ℕ)
         → ArePut queue version acts synced h → begun acts ≡ closed ++ last ∷ []
@@ -32,12 +34,15 @@ pub fn asks_put_batches()
         → ArePutWhole queue version (Cut at ∷ acts) synced h }
     ensures deleted { (queue : LogQueue) (version : Version) (acts : List Act) (synced h : List Event)
         → ArePutWhole queue version acts synced h → ArePutWhole queue version (Delete ∷ acts) synced h }
+    ensures read { (queue : LogQueue) (version : Version) (acts : List Act) (synced h : List Event) (place : FileBlockHandle)
+        (bytes : List ℕ) → ArePut queue version acts synced h → ArePut queue version (Read place bytes ∷ acts) synced h }
     ensures one_history { (queue : LogQueue) (version : Version) (acts : List Act)
         (synced synced' h h' : List Event) → ArePut queue version acts synced h
         → ArePut queue version acts synced' h' → (synced ≡ synced') × (h ≡ h') }
 {}
 
-/// States that the files of a queue hold the batches that were put, if nothing is lost, and that whatever stands of them
+/// States that the files of a queue hold the batches that were put, if nothing is lost, and that whatever stands of
+/// them
 /// holds a front of these batches, with at least those that were synced, and behind them a torn tail at most.
 pub fn files_that_stand_hold_a_front()
     ensures all { (queue : LogQueue) (version : Version) (acts : List Act) (synced h : List Event)

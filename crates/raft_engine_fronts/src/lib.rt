@@ -1,6 +1,8 @@
-//! Laws of an engine's files after a stop of the machine: what is left holds a front of the batches that were put, and a torn tail at most.
+//! Laws of an engine's files after a stop of the machine: what is left holds a front of the batches that were put, and a torn
+//! tail at most.
 #![tactic(auto)]
 
+pub mod contents;
 pub mod done;
 pub mod fronts;
 pub mod torn_tails;

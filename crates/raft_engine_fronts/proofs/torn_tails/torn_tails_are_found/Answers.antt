@@ -1,4 +1,4 @@
-use Rattle.raft_engine_fronts.proofs.TornLemmas.{whole_torn, one_reading, cut_found, readable_front_stops}
+use Rattle.raft_engine_fronts.proofs.TornLemmas.{whole_torn, one_reading, cut_found, unfollowed, uncut, readable_front_stops}
 use Rattle.raft_engine_fronts.proofs.torn_tails.torn_tails_are_found.Goals as goal
 
 pub returns-clause-whole : goal.returns-clause-whole
@@ -9,6 +9,12 @@ returns-clause-one_reading c = one_reading
 
 pub returns-clause-cut : goal.returns-clause-cut
 returns-clause-cut c = cut_found
+
+pub returns-clause-unfollowed : goal.returns-clause-unfollowed
+returns-clause-unfollowed c = unfollowed
+
+pub returns-clause-uncut : goal.returns-clause-uncut
+returns-clause-uncut c = uncut
 
 pub returns-clause-readable_front : goal.returns-clause-readable_front
 returns-clause-readable_front c = readable_front_stops

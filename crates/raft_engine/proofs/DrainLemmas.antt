@@ -1,16 +1,18 @@
 -- The items that a loop takes of a batch that was drained.
-use Rattle.std.proofs.Common.{◌≡◌, List, length, map, Result, Ok, Err, OnOk, refl, sym, ap, ◌∙◌, subst}
+use Rattle.std.proofs.Common.{◌≡◌, List, [], ◌∷◌, ◌++◌, length, map, Result, Ok, Err, IfErr, OnErr, OnOk, refl, sym, ap, ◌∙◌, subst, append_assoc, append-nil}
 use Rattle.std.proofs.lemmas.Iterator.{items_from_drains}
 use Rattle.std.proofs.lemmas.Iterator.Adapters.{YieldsList-from_vec}
-use Rattle.std.proofs.lemmas.List.{map-id, length-map}
+use Rattle.std.proofs.lemmas.List.{map-append, map-id, length-map}
 use Rattle.std.specs.Global.{Global}
-use Rattle.std.specs.Iterator.{Drains}
+use Rattle.std.specs.Iterator.{Drains, Yields}
 use Rattle.std.specs.Vec.Iter.{into_iter_items, into_iter_len, into_iter_steps}
 use Rattle.std.specs.declared.vec.IntoIter.{IntoIter}
+use Rattle.raft_base.specs.declared.errors.Error.{Error}
 use Rattle.raft_records.specs.declared.log_item.LogItem.{LogItem}
 use Rattle.raft_records.specs.Item.{Item, item_of}
 use Rattle.raft_accessor.specs.Accessor.{Accessor}
-use Rattle.raft_accessor.specs.Writes.{Writing, AreWritten}
+use Rattle.raft_accessor.specs.Writes.{Writing, AreItemsRefused, AreWritten}
+use Rattle.raft_engine.specs.WrittenBatch.{AreFirstWritten}
 
 -- all items, in order
 drained : {X Z : Type 0} (s : IntoIter X Z) (xs : List X) → into_iter_len s ≡ length (into_iter_items s) → Drains into_iter_steps s xs → xs ≡ into_iter_items s
@@ -26,3 +28,35 @@ apply_so (Ok x) w s items old new e len p =
     let all : p.1 ≡ into_iter_items s = drained s p.1 as_long (subst (λ (it : IntoIter LogItem Global). Drains into_iter_steps it p.1) p.2 p.3) in
     subst (λ (l : List Item). AreWritten w l old new) (ap (map item_of) all ∙ e) p.4
 apply_so (Err x) w s items old new e len p = tt
+
+-- ---- the first ones
+
+-- what was taken, and what is left
+parted : {X Z : Type 0} (s u : IntoIter X Z) (xs : List X) → Yields into_iter_steps s xs u → into_iter_items s ≡ xs ++ into_iter_items u
+parted s u [] y = ap into_iter_items y
+parted s u (x ∷ xs) y = y.1.0 ∙ ap (λ l. x ∷ l) (parted y.0 u xs y.2)
+
+-- a loop over the items of a batch that was drained writes the first ones of them, if it is stopped
+pub first_so : {R : Type 0} (r : Result R Error) (w : Writing) (s : IntoIter LogItem Global) (items : List Item) (old new : Accessor) → map item_of (into_iter_items s) ≡ items
+    → IfErr r (λ e. (it : IntoIter LogItem Global) × (xs : List LogItem) × (u : IntoIter LogItem Global) × (it ≡ s) × Yields into_iter_steps it xs u × AreItemsRefused w (map item_of xs) old new e)
+    → OnErr r (AreFirstWritten w items old new)
+first_so (Ok x) w s items old new is p = tt
+first_so (Err e) w s items old new is p =
+    let yields = subst (λ (it : IntoIter LogItem Global). Yields into_iter_steps it p.1 p.2) p.3 p.4 in
+    let left : List Item = map item_of (into_iter_items p.2) in
+    let h = p.5 in
+    record {
+      front = h.front;
+      rest = h.item ∷ left;
+      split = sym is ∙ ap (map item_of) (parted s p.2 p.1 yields) ∙ map-append item_of p.1 (into_iter_items p.2) ∙ ap (λ (l : List Item). l ++ left) h.split
+          ∙ append_assoc h.front (h.item ∷ []) left;
+      written = h.written;
+    }
+
+-- none are written
+pub none_first : (w : Writing) (items : List Item) (a : Accessor) → AreFirstWritten w items a a
+none_first w items a = record { front = []; rest = items; split = refl; written = record { asked = tt; accepted = tt; tables = refl; cleaned = sym (append-nil a.cleaned); counts = refl } }
+
+-- all are
+pub all_first : (w : Writing) (items : List Item) (old new : Accessor) → AreWritten w items old new → AreFirstWritten w items old new
+all_first w items old new h = record { front = items; rest = []; split = sym (append-nil items); written = h }

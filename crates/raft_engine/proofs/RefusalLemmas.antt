@@ -1,15 +1,19 @@
 -- Why nothing is asked for a batch.
-use Rattle.std.proofs.Common.{◌≡◌, ◌≢◌, ◌≤◌, ◌<◌, ◌^◌, ℕ, Bool, true, List, inl, inr, subst}
+use Rattle.std.proofs.Common.{◌≡◌, ◌≢◌, ◌≤◌, ◌<◌, ◌-◌, ◌^◌, ℕ, Bool, true, List, inl, inr, subst}
 use Rattle.raft_base.specs.declared.errors.Error.{Error}
 use Rattle.raft_base.specs.declared.errors.Error.TheVariants as errors
+use Rattle.raft_base.specs.declared.pipe_log.LogQueue.TheVariants.{Append, Rewrite}
 use Rattle.raft_base.specs.declared.pipe_log.Version.{Version}
 use Rattle.raft_records.specs.LogBatch.{Batch, encoded_length}
 use Rattle.raft_accessor.specs.Accessor.{Accessor}
 use Rattle.raft_accessor.specs.AppendChecks.{IsAppendCheckFault}
 use Rattle.raft_files.specs.Asks.{Ask}
-use Rattle.raft_engine.specs.KeptEngine.{KeptEngine}
+use Rattle.raft_engine.specs.KeptEngine.{IsLastFile, KeptEngine}
 use Rattle.raft_engine.specs.KeptEngineView.{IsKeptBy}
-use Rattle.raft_engine.specs.WrittenBatch.{IsRefusal}
+use Rattle.raft_engine.specs.Purged.{IsPurgeRefusal}
+use Rattle.raft_engine.specs.WrittenBatch.{IsLastFull, IsRefusal, IsRotationRefusal}
+use Rattle.raft_engine.specs.declared.queue_files.QueueFiles.{QueueFiles}
+use Rattle.raft_engine.proofs.FilesLemmas.{files_last}
 
 -- the tables would refuse it
 pub test_refusal : (engine : KeptEngine) (batch : Batch) (e : Error) → engine.intact ≡ true → IsAppendCheckFault engine.accessor.tables batch.items e → IsRefusal engine batch e
@@ -43,7 +47,30 @@ bytes_refusal engine batch (errors.Other text) intact f = let is = (f (λ p. cc)
 bytes_refusal engine batch errors.Failed intact f = let is = (f (λ p. cc)).0 in absurd cc
 
 -- the last file has too many
-pub file_refusal : (version : Version) (asks : List Ask) (seq len : ℕ) (accessor : Accessor) (intact : Bool) (batch : Batch) → IsKeptBy version asks seq len accessor intact → intact ≡ true → 2 ^ 63 < len
-    → IsRefusal (record { version = version; asks = asks; accessor = accessor; intact = intact }) batch errors.Full
-file_refusal version asks seq len accessor intact batch k is many =
-    let w = k.whole is in (is, inr (record { seq = seq; bytes = w.bytes; last = w.last; many = subst (λ (n : ℕ). 2 ^ 63 < n) w.ends many }))
+pub file_refusal : (version : Version) (asks : List Ask) (append rewrite : QueueFiles) (untold : Batch) (accessor : Accessor) (intact : Bool) (batch : Batch)
+    → IsKeptBy version asks append rewrite untold accessor intact → intact ≡ true → 2 ^ 63 < append.len
+    → IsRefusal (record { version = version; asks = asks; untold = untold; accessor = accessor; intact = intact }) batch errors.Full
+file_refusal version asks append rewrite untold accessor intact batch k is many =
+    let w = k.whole is in
+    (is, inr (record { seq = append.seq; bytes = w.append_files.bytes; last = files_last Append asks append w.append_files; many = subst (λ (n : ℕ). 2 ^ 63 < n) w.append_files.ends many }))
+
+-- the last file has the greatest number
+pub number_refusal : (version : Version) (asks : List Ask) (append rewrite : QueueFiles) (untold : Batch) (accessor : Accessor) (intact : Bool)
+    → IsKeptBy version asks append rewrite untold accessor intact → intact ≡ true → append.seq ≡ 2 ^ 64 - 1
+    → IsRotationRefusal (record { version = version; asks = asks; untold = untold; accessor = accessor; intact = intact }) errors.Full
+number_refusal version asks append rewrite untold accessor intact k is great =
+    let w = k.whole is in
+    (is, (w.append_files.bytes, subst (λ (n : ℕ). IsLastFile Append asks n w.append_files.bytes) great (files_last Append asks append w.append_files)))
+
+-- the last rewrite file has too many bytes
+pub rewrite_full : (version : Version) (asks : List Ask) (append rewrite : QueueFiles) (untold : Batch) (accessor : Accessor) (intact : Bool)
+    → IsKeptBy version asks append rewrite untold accessor intact → intact ≡ true → 2 ^ 63 < rewrite.len → IsLastFull Rewrite asks
+rewrite_full version asks append rewrite untold accessor intact k is many =
+    let w = k.whole is in
+    record { seq = rewrite.seq; bytes = w.rewrite_files.bytes; last = files_last Rewrite asks rewrite w.rewrite_files; many = subst (λ (n : ℕ). 2 ^ 63 < n) w.rewrite_files.ends many }
+
+-- so nothing can be told
+pub rewrite_refusal : (version : Version) (asks : List Ask) (append rewrite : QueueFiles) (untold : Batch) (accessor : Accessor) (intact : Bool)
+    → IsKeptBy version asks append rewrite untold accessor intact → intact ≡ true → 2 ^ 63 < rewrite.len
+    → IsPurgeRefusal (record { version = version; asks = asks; untold = untold; accessor = accessor; intact = intact }) errors.Full
+rewrite_refusal version asks append rewrite untold accessor intact k is many = (is, inr (rewrite_full version asks append rewrite untold accessor intact k is many))

@@ -1,9 +1,41 @@
 -- the engine
 pub mod KeptEngine
 -- what lasts of it
+pub mod CutFiles
 pub mod Lasting
+-- what is stored of it, and what each ask makes of that
+pub mod Stored
+pub mod StoredAsks
 -- one batch more
 pub mod BatchBytes
 pub mod WrittenBatch
+-- files that no table needs
+pub mod Purged
 pub mod KeptEngineCode
 pub mod KeptEngineView
+-- records that move to the rewrite queue
+pub mod Reads
+pub mod Rewriting
+pub mod Unmoved
+pub mod MovedAsks
+pub mod Moved
+pub mod MovedAgain
+-- rewrite files that no table needs
+pub mod PurgedRewrites
+-- opening
+pub mod FoundFiles
+pub mod QueueFilesOf
+pub mod Opening
+pub mod StoredFound
+pub mod Opened
+-- reading
+pub mod EntryReads
+pub mod BlockReads
+-- restarts
+pub mod Restarts
+pub mod OpeningAsks
+pub mod ReadFound
+pub mod FoundRecords
+pub mod Markers
+pub mod Unopened
+pub mod OfVersion

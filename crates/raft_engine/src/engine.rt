@@ -1,55 +1,66 @@
 //! An engine over the files of two queues.
 
-ghost use Rattle.std.specs.Prelude.{◌≡◌, ◌≢◌, ◌⊎◌, ◌↔◌, ℕ, ◌+◌, List, [], ◌∷◌, true, false, IfErr, IfOk, MatchOption, OnOk, OnErr, IsTrue, option_map};
+ghost use Rattle.std.specs.Prelude.{◌≡◌, ◌≢◌, ◌⊎◌, ◌↔◌, ℕ, ◌+◌, List, [], ◌∷◌, true, false, IfErr, IfOk, MatchOption, OnOk, OnErr, IsTrue, map, option_map};
 ghost use Rattle.std.specs.FinMap as finite;
 ghost use Rattle.raft_base.specs.declared.entry_index.EntryIndex.{EntryIndex};
 ghost use Rattle.raft_base.specs.declared.pipe_log.LogQueue.TheVariants.{Append, Rewrite};
-ghost use Rattle.raft_records.specs.LogBatch.{is_open, empty_batch};
+ghost use Rattle.raft_records.specs.LogBatch.{empty_batch, is_open};
 ghost use Rattle.raft_accessor.specs.AppendChecks.{AreAcceptedOncePlaced};
 ghost use Rattle.raft_accessor.specs.Writes.{Appending, AreWritten};
 ghost use Rattle.raft_files.specs.Asks.{Begin, Sync, ask};
 ghost use Rattle.raft_table.specs.KeyValues.{value_at};
 ghost use Rattle.raft_base.specs.Runs.{end_of};
 ghost use Rattle.raft_table.specs.TableEntries.{start_of};
+ghost use Rattle.raft_engine_fronts.specs.Contents.{AreBothTold};
 ghost use Rattle.raft_engine.specs.KeptEngine.{table_in};
 ghost use Rattle.raft_engine.specs.Lasting.{IsLasting};
-ghost use Rattle.raft_engine.specs.WrittenBatch.{IsOneMore, IsRotated, IsUnrotated, IsUnwritten};
+ghost use Rattle.raft_files.specs.HeldFiles.{file_shown};
+ghost use Rattle.raft_engine.specs.Opened.{IsOpened};
+ghost use Rattle.raft_engine.specs.StoredFound.{found_asks};
+ghost use Rattle.raft_engine.specs.Unopened.{AreBothAccepted, IsUnopened};
+ghost use Rattle.raft_engine.specs.Purged.{ArePurged, IsUnpurged};
+ghost use Rattle.raft_engine.specs.WrittenBatch.{AreFirstWritten, IsOneMore, IsOnlySynced, IsRotated, IsUnrotated, IsUnwritten};
 
+use crate::limits::{FIRST_SEQ, LAST_OFFSET};
+use crate::opened::open_files;
+use crate::purge::{count_below, delete_oldest, least_needed};
 use crate::put::{put, sync_if};
+use crate::queue_files::QueueFiles;
+use crate::stored::{asks_are_stored, what_is_done_lasts};
+use crate::unopened::Unopened;
+use crate::untold::taken_away;
 use raft_accessor::MemTableAccessor;
 use raft_base::{Error, FileId, FileSeq, LogFileContext, LogQueue, Result, Version};
-use raft_engine_fronts::done::{asks_do_deeds, files_that_are_left_hold_what_may_be_left};
+use raft_engine_fronts::contents::told_contents_last;
 use raft_engine_fronts::fronts::asks_put_batches;
-use raft_engine_laws::stops::{
-    empty_queues_are_safe, nothing_is_lost, syncing_is_safe, writing_is_safe,
-};
+use raft_engine_laws::stops::nothing_is_lost;
+use raft_engine_laws::telling::told_items_take_away_the_same;
 use raft_files::EngineFiles;
-use raft_history::histories::placed_items_are_in_their_file;
 use raft_records::LogBatch;
 use std::alloc::Global;
 use std::marker::Model;
+use std::thread::Threads;
 
-/// The number of each queue's first file.
-const FIRST_SEQ: FileSeq = 1;
-
-/// The greatest offset at which a batch is put.
-const LAST_OFFSET: u64 = 1 << 63;
+mod again;
+mod reading;
+mod rewrite;
 
 /// The logs of many regions: files that the machine keeps, and the tables of all batches that were written to them.
 ///
 /// Whenever the machine stops, the files that are left hold what was synced, and a front of the batches that were written
-/// since ([`Engine::nothing_synced_is_lost`]). After an `Err` of a call that writes, the files may hold a batch that the
-/// tables don't: such an engine isn't intact, and takes no further one. Its files must be opened again.
+/// since ([`Engine::nothing_synced_is_lost`]); what a disk has to do for it stands at [`EngineFiles`]. After an `Err` of a call
+/// that writes, the files may hold a batch that the tables don't: such an engine isn't intact, and takes no further one. Its
+/// files must be opened again ([`Engine::open`]).
 #[derive(Drop)]
 pub struct Engine<F: EngineFiles> {
     files: F,
     version: Version,
-    /// The number of the append queue's last file.
-    seq: FileSeq,
-    /// How many bytes that file has.
-    len: u64,
+    append: QueueFiles,
+    rewrite: QueueFiles,
+    /// What the rewrite queue isn't told yet.
+    untold: LogBatch,
     accessor: MemTableAccessor,
-    /// Whether every batch whose bytes were asked for was applied to the tables.
+    /// Whether further calls are taken: no call of the files failed, and every batch that was asked for was applied.
     intact: bool,
 }
 
@@ -81,12 +92,12 @@ impl<F: EngineFiles> Engine<F> {
         ensures version { IfOk result (λ engine. engine.version ≡ version) }
         ensures asked { IfOk result (λ engine. engine.asks
             ≡ ask Rewrite (Begin 1) ∷ ask Append (Begin 1) ∷ []) }
+        ensures untold { IfOk result (λ engine. engine.untold ≡ empty_batch) }
         ensures tables { IfOk result (λ engine. engine.accessor.tables ≡ finite.empty) }
         ensures cleaned { IfOk result (λ engine. engine.accessor.cleaned ≡ []) }
         ensures intact { IfOk result (λ engine. engine.intact ≡ true) }
     {
-        asks_do_deeds();
-        empty_queues_are_safe();
+        asks_are_stored();
         let mut files = files;
         let accessor = MemTableAccessor::new(alloc)?;
         files.rotate(LogQueue::Append, FIRST_SEQ)?;
@@ -94,19 +105,73 @@ impl<F: EngineFiles> Engine<F> {
         Ok(Engine {
             files,
             version,
-            seq: FIRST_SEQ,
-            len: 0,
+            append: QueueFiles::first(alloc, FIRST_SEQ),
+            rewrite: QueueFiles::first(alloc, FIRST_SEQ),
+            untold: LogBatch::default(alloc),
             accessor,
             intact: true,
         })
     }
 
-    /// States what lasts, whenever the machine stops or stopped, in the midst of a call too: the records of all batches that
-    /// were synced by then, and of a front of those since, each of them whole or not at all. This is a law: it computes nothing.
-    pub fn nothing_synced_is_lost(&self)
-        ensures { (content : EntryIndex → List ℕ) → IsLasting content self.now }
+    /// Opens the files that a stop of the machine left, whoever wrote them: those of each queue, oldest first. The tables are
+    /// those that `recover_both` gives of the files, with so many workers. Once all is read, what is missing of the files is
+    /// asked: a first file of a queue without one, and the cut of a torn tail of a queue's last file. Then the rewrite queue is
+    /// told at once what the append files take away, and, as a compaction, what lies in front of the entries that were found.
+    ///
+    /// # Errors
+    ///
+    /// The files are handed back. Nothing was asked of them where they are refused: `Corruption` where the number of a file
+    /// isn't above that of the file before it; where a queue's last file is damaged (a batch that can be read stands behind one
+    /// that can't be, where the header of that one says that it ends) or of the other version (its first batch can be read in
+    /// that one alone); and where the files can't be read. Other refusals of a reading: `Codec`, `Io`. `InvalidArgument` where a
+    /// batch of the rewrite files is of an atomic group, and for another number of workers than 1 to 256. `Full` where the files
+    /// of a queue have 2^63 bytes or more, or what is told has 2^56 bytes or more. `Memory`.
+    ///
+    /// Those of `EngineFiles`: some of it was asked then, and whatever is left of the files has the records that were found. They
+    /// may be found again, and opened.
+    pub fn open<R: Threads + Sync>(
+        rt: &R,
+        alloc: Global,
+        version: Version,
+        files: F,
+        append: Vec<(FileSeq, Vec<u8>)>,
+        rewrite: Vec<(FileSeq, Vec<u8>)>,
+        workers: usize,
+    ) -> std::result::Result<Engine<F>, Unopened<F>>
+    where
+        requires { F.asked files
+            ≡ found_asks (map file_shown append.items) (map file_shown rewrite.items) }
+        ensures ok { IfOk result (IsOpened version (map file_shown append.items)
+            (map file_shown rewrite.items)) }
+        ensures accepted { OnOk result (AreBothAccepted version (map file_shown append.items)
+            (map file_shown rewrite.items)) }
+        ensures err { IfErr result (λ unopened. IsUnopened version workers (map file_shown append.items)
+            (map file_shown rewrite.items) (F.asked unopened.files) unopened.error) }
     {
-        files_that_are_left_hold_what_may_be_left();
+        let mut files = files;
+        match open_files(rt, alloc, version, &mut files, append, rewrite, workers) {
+            Ok(opened) => Ok(Engine {
+                files,
+                version,
+                append: opened.append,
+                rewrite: opened.rewrite,
+                untold: LogBatch::default(alloc),
+                accessor: opened.accessor,
+                intact: true,
+            }),
+            Err(error) => Err(Unopened { files, error }),
+        }
+    }
+
+    /// States what lasts, whenever the machine stops or stopped, in the midst of a call too: the records of all batches that
+    /// were synced by then, and of a front of those since, each of them whole or not at all. The contents of entries are any
+    /// that are told by what was asked; a read of a damaged block, which is refused, tells none and costs nothing. This is a
+    /// law: it computes nothing.
+    pub fn nothing_synced_is_lost(&self)
+        ensures { (content : EntryIndex → List ℕ) → AreBothTold self.now.asks content → IsLasting content self.now }
+    {
+        what_is_done_lasts();
+        told_contents_last();
         nothing_is_lost();
         let _ = &self.accessor;
     }
@@ -125,7 +190,8 @@ impl<F: EngineFiles> Engine<F> {
         &self.files
     }
 
-    /// Tests whether every batch whose bytes were asked for was applied to the tables.
+    /// Tests whether the engine takes further calls: no call of its files failed, but for reads, and every batch whose bytes
+    /// were asked for was applied to the tables.
     pub fn is_intact(&self) -> bool
         ensures { IsTrue result ↔ (self.now.intact ≡ true) }
     {
@@ -169,96 +235,157 @@ impl<F: EngineFiles> Engine<F> {
     ///
     /// # Errors
     ///
-    /// Those of `EngineFiles::sync`. The engine is then as it was.
+    /// `Failed` where the engine isn't intact, and those of `EngineFiles::sync`: it isn't intact any more.
     pub fn sync(&mut self) -> Result<()>
         ensures ok { OnOk result (self.new
             ≡ record self.old { asks = ask Append Sync ∷ self.old.asks }) }
-        ensures err { OnErr result (self.new ≡ self.old) }
+        ensures accepted { OnOk result (self.old.intact ≡ true) }
+        ensures err { OnErr result (self.new ≡ record self.old { intact = false }) }
+        ensures fault { self.old.intact ≡ false → IfErr result (λ e. e ≡ Error.Failed) }
     {
-        asks_do_deeds();
-        syncing_is_safe();
-        self.files.sync(LogQueue::Append)
+        asks_are_stored();
+        if !self.intact {
+            return Err(Error::Failed);
+        }
+        self.intact = false;
+        self.files.sync(LogQueue::Append)?;
+        self.intact = true;
+        Ok(())
+    }
+
+    /// Makes all that was written last, if that is wanted.
+    ///
+    /// # Errors
+    ///
+    /// Those of [`Engine::sync`], where it is wanted.
+    fn sync_if_wanted(&mut self, sync: bool) -> Result<()>
+        ensures ok { OnOk result (IsOnlySynced sync self.old self.new) }
+        ensures err { OnErr result (self.new ≡ record self.old { intact = false }) }
+    {
+        if sync {
+            return self.sync();
+        }
+        Ok(())
     }
 
     /// Begins a new file of the append queue, in which the next batch is put. All that was written lasts then.
     ///
     /// # Errors
     ///
-    /// `Failed` where the engine isn't intact, `Full` where the last file has the greatest number, those of
-    /// `EngineFiles::sync`: the engine is then as it was. Those of `EngineFiles::rotate`: it isn't intact any more.
+    /// `Failed` where the engine isn't intact, `Full` where the last file has the greatest number, `Memory`: the engine is
+    /// then as it was. Those of `EngineFiles::sync` and `EngineFiles::rotate`: it isn't intact any more.
     pub fn rotate(&mut self) -> Result<()>
         ensures ok { OnOk result (IsRotated self.old self.new) }
         ensures accepted { OnOk result (self.old.intact ≡ true) }
-        ensures err { OnErr result (IsUnrotated self.old self.new) }
+        ensures err { IfErr result (IsUnrotated self.old self.new) }
     {
-        asks_do_deeds();
-        syncing_is_safe();
+        asks_are_stored();
         if !self.intact {
             return Err(Error::Failed);
         }
-        if self.seq == FileSeq::MAX {
+        if self.append.seq == FileSeq::MAX {
             return Err(Error::Full);
         }
-        self.files.sync(LogQueue::Append)?;
+        self.append.close_last()?;
         self.intact = false;
-        let seq = self.seq + 1;
+        self.files.sync(LogQueue::Append)?;
+        let seq = self.append.seq + 1;
         self.files.rotate(LogQueue::Append, seq)?;
-        self.seq = seq;
-        self.len = 0;
+        self.append.seq = seq;
+        self.append.len = 0;
         self.intact = true;
         Ok(())
     }
 
     /// Writes a batch: its bytes behind those of the append queue's last file, and its items with their places to the
-    /// tables. With `sync` it lasts once the call returns `Ok`. The batch is empty then; one without items changes
-    /// nothing. No byte of a batch is asked for that the tables would refuse.
+    /// tables. With `sync` all that was written lasts once the call returns `Ok`. The batch is empty then; one without
+    /// items changes nothing else. No byte of a batch is asked for that the tables would refuse.
     ///
     /// # Errors
     ///
     /// `Failed` where the engine isn't intact; `Corruption` where the tables would refuse an item, which the text names;
-    /// `Full` where the batch has 2^56 bytes or more, or its file more than 2^63; `Memory`. The engine is then as it was.
-    /// Those of `EngineFiles`, and `Memory` or `Full` once the bytes were asked for: the engine isn't intact any more.
+    /// `Full` where the batch has 2^56 bytes or more, or its file more than 2^63; `Memory`. The engine and the batch are then as
+    /// they were. Those of `EngineFiles`, and `Memory` or `Full` once the bytes were asked for: the engine isn't intact any more,
+    /// and the tables are as they were or, once the bytes were put, have the first ones of the items.
     pub fn write(&mut self, batch: &mut LogBatch, sync: bool) -> Result<()>
         requires { batch.old.stage ≡ is_open }
-        ensures ok { OnOk result ((batch.old.items ≡ []) × (self.new ≡ self.old)
+        ensures ok { OnOk result ((batch.old.items ≡ []) × IsOnlySynced sync self.old self.new
             ⊎ IsOneMore sync batch.old self.old self.new) }
         ensures emptied { OnOk result (batch.new ≡ empty_batch) }
         ensures accepted { OnOk result (self.old.intact ≡ true) }
         ensures tested { OnOk result
             (AreAcceptedOncePlaced self.old.accessor.tables batch.old.items) }
-        ensures err { IfErr result (IsUnwritten sync batch.old self.old self.new) }
+        ensures err { IfErr result (IsUnwritten sync batch.old batch.new self.old self.new) }
     {
-        asks_do_deeds();
-        writing_is_safe();
-        syncing_is_safe();
-        placed_items_are_in_their_file();
+        asks_are_stored();
         asks_put_batches();
+        told_items_take_away_the_same();
         batch.is_read_again();
         if !self.intact {
             return Err(Error::Failed);
         }
         if batch.is_empty() {
-            return Ok(());
+            return self.sync_if_wanted(sync);
         }
         self.accessor.check_append_writes(batch.items())?;
-        if self.len > LAST_OFFSET {
+        if self.append.len > LAST_OFFSET {
             return Err(Error::Full);
         }
+        let mut taken = taken_away(self.append.allocator(), &self.accessor, batch.items())?;
         let len = batch.finish_populate()?;
-        let file = LogFileContext::new(FileId::new(LogQueue::Append, self.seq), self.version);
+        let file = LogFileContext::new(
+            FileId::new(LogQueue::Append, self.append.seq),
+            self.version,
+        );
         self.intact = false;
-        put(&mut self.files, &file, self.len, batch, len)?;
+        put(&mut self.files, &file, self.append.len, batch, len)?;
         sync_if(&mut self.files, sync)?;
         apply(&mut self.accessor, batch)?;
-        self.len += len as u64;
+        self.untold.merge(&mut taken)?;
+        self.append.len += len as u64;
         self.intact = true;
         Ok(())
+    }
+
+    /// Deletes the append files that no table needs, the oldest first, but never the last one, and returns how many. The
+    /// rewrite queue is told before what the batches in them took away. If there is no such file nothing is asked.
+    ///
+    /// # Errors
+    ///
+    /// `Failed` where the engine isn't intact; `Full` where there is such a file, and what is untold has 2^56 bytes or more, or
+    /// the last rewrite file more than 2^63; `Memory`. The engine is then as it was. Those of `EngineFiles`, where there is such
+    /// a file: it isn't intact any more.
+    pub fn purge_expired_files(&mut self) -> Result<usize>
+        ensures ok { IfOk result (λ count. ArePurged count self.old self.new) }
+        ensures accepted { OnOk result (self.old.intact ≡ true) }
+        ensures err { IfErr result (IsUnpurged self.old self.new) }
+    {
+        asks_are_stored();
+        if !self.intact {
+            return Err(Error::Failed);
+        }
+        let least = least_needed(&self.accessor, self.append.seq)?;
+        let count = count_below(&self.append.closed, least);
+        if count == 0 {
+            return Ok(0);
+        }
+        self.tell()?;
+        self.intact = false;
+        self.files.sync(LogQueue::Rewrite)?;
+        delete_oldest(&mut self.files, &mut self.append.closed, count)?;
+        self.intact = true;
+        Ok(count)
     }
 }
 
 /// Writes the items of a batch to the tables, which empties it.
+///
+/// # Errors
+///
+/// Those of `apply_append_writes`. The first ones of the items are written then.
 fn apply(accessor: &mut MemTableAccessor, batch: &mut LogBatch) -> Result<()>
     ensures ok { OnOk result (AreWritten Appending batch.old.items accessor.old accessor.new) }
+    ensures err { OnErr result (AreFirstWritten Appending batch.old.items accessor.old accessor.new) }
     ensures emptied { batch.new ≡ empty_batch }
 {
     accessor.apply_append_writes(batch.drain())

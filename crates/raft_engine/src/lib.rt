@@ -1,7 +1,28 @@
 //! An engine over the files of two queues: it writes batches, keeps the tables of them, and loses nothing that was synced.
 #![tactic(auto)]
 
+mod block_reads;
 pub mod engine;
+mod found;
+mod groups;
+mod limits;
+mod missing;
+mod moved;
+pub mod of_version;
+mod opened;
+mod purge;
+mod purge_rewrites;
 mod put;
+mod queue_files;
+mod reading;
+mod recovered;
+mod removals;
+pub mod restarts;
+mod rewriting;
+mod stored;
+mod stored_found;
+mod unopened;
+mod untold;
 
 pub use engine::Engine;
+pub use unopened::Unopened;

@@ -1,7 +1,6 @@
 //! A batch that is put behind the bytes of a file.
 
 ghost use Rattle.std.specs.Prelude.{◌≡◌, ◌≤◌, ◌^◌, OnOk, OnErr};
-ghost use Rattle.raft_base.specs.declared.pipe_log.LogQueue.TheVariants.{Append};
 ghost use Rattle.raft_records.specs.LogBatch.{encoded, encoded_length};
 ghost use Rattle.raft_files.specs.Asks.{IsAsked, MayBeAsked, Put, ask};
 ghost use Rattle.raft_engine.specs.BatchBytes.{bytes_for, placed_at};
@@ -11,8 +10,8 @@ use raft_base::{FileBlockHandle, LogFileContext, LogQueue, Result};
 use raft_files::EngineFiles;
 use raft_records::LogBatch;
 
-/// Puts an encoded batch of `len` bytes behind the append queue's last file, which ends at `offset`, and gives its items
-/// their places there.
+/// Puts an encoded batch of `len` bytes behind the last file of a queue, which ends at `offset`, and gives its items their
+/// places there.
 ///
 /// # Errors
 ///
@@ -27,14 +26,14 @@ pub fn put<F: EngineFiles>(
     requires encoded { batch.old.stage ≡ encoded }
     requires offset { offset ≤ 2 ^ 63 }
     requires len { len ≡ encoded_length batch.old.items batch.old.entry_bytes }
-    ensures ok { OnOk result (IsAsked (ask Append (Put (bytes_for file.now batch.old)))
+    ensures ok { OnOk result (IsAsked (ask file.now.id.queue (Put (bytes_for file.now batch.old)))
         (F.asked files.old) (F.asked files.new)) }
-    ensures err { OnErr result (MayBeAsked (ask Append (Put (bytes_for file.now batch.old)))
+    ensures err { OnErr result (MayBeAsked (ask file.now.id.queue (Put (bytes_for file.now batch.old)))
         (F.asked files.old) (F.asked files.new)) }
     ensures placed { OnOk result (batch.new.items ≡ placed_at file.now.id offset batch.old) }
 {
     batch.prepare_write(file);
-    files.append(LogQueue::Append, batch.encoded_bytes())?;
+    files.append(file.id.queue, batch.encoded_bytes())?;
     batch.finish_write(FileBlockHandle {
         id: file.id,
         offset,

@@ -1,7 +1,6 @@
 use Rattle.std.proofs.Common.{◌≡◌, ℕ, List, ap, subst, ◌∙◌}
 use Rattle.std.proofs.lemmas.Result.{err_from_is_err_and}
 use Rattle.raft_base.specs.Signature.{signature_of}
-use Rattle.raft_base.specs.declared.pipe_log.LogQueue.TheVariants.{Append}
 use Rattle.raft_records.specs.LogBatch.{Batch, log_batch_bytes, sealed}
 use Rattle.raft_files.specs.Asks.{MayBeAsked, Put, ask}
 use Rattle.raft_engine.specs.BatchBytes.{bytes_for}
@@ -15,4 +14,4 @@ returns-in_err-append-clause-err g c =
     let bytes : c.encoded_bytes.result.now ≡ bytes_for c.args.file.now c.args.batch.now =
     c.encoded_bytes.ensures.bytes signed stage_is ∙ ap (λ (b : Batch). log_batch_bytes signed b.items b.entry_bytes) c.prepare_write.ensures in
     let p = err_from_is_err_and c.from_residual.result c.from_residual.ensures.1 in
-    rw (p.1) (subst (λ (b : List ℕ). MayBeAsked (ask Append (Put b)) (g.F.EngineFiles.asked c.args.files.now) (g.F.EngineFiles.asked c.append.new.self)) bytes c.in_err-append.ensures.err)
+    rw (p.1) (subst (λ (b : List ℕ). MayBeAsked (ask c.args.file.now.id.queue (Put b)) (g.F.EngineFiles.asked c.args.files.now) (g.F.EngineFiles.asked c.append.new.self)) bytes c.in_err-append.ensures.err)

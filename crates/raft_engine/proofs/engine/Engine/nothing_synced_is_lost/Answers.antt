@@ -1,13 +1,14 @@
 use Rattle.std.proofs.Common.{subst}
+use Rattle.raft_engine_fronts.specs.Contents.{AreBothTold}
 use Rattle.raft_engine.specs.KeptEngine.{KeptEngine}
 use Rattle.raft_engine.specs.KeptEngineView.{engine_shown}
 use Rattle.raft_engine.specs.Lasting.{IsLasting}
-use Rattle.raft_engine.proofs.StoredLemmas.{lasting}
+use Rattle.raft_engine.proofs.StoredLemmas.{stored_is_lasting}
 use Rattle.raft_engine.proofs.engine.Engine.nothing_synced_is_lost.Goals as goal
 
 pub returns : goal.returns
 returns g c = λ content.
     let kept = c.self.invariant in
-    subst (λ (e : KeptEngine). IsLasting content e) c.self.view_is
-    (lasting c.files_that_are_left_hold_what_may_be_left.ensures c.nothing_is_lost.ensures.readable c.nothing_is_lost.ensures.found
-    content (engine_shown (g.F.EngineFiles.asked) c.self.inside) kept.tables kept.stored (λ intact. (kept.whole intact).are_tables) kept.ever)
+    subst (λ (e : KeptEngine). AreBothTold e.asks content → IsLasting content e) c.self.view_is
+    (λ told. stored_is_lasting c.what_is_done_lasts.ensures c.nothing_is_lost.ensures c.told_contents_last.ensures.both content (engine_shown (g.F.EngineFiles.asked) c.self.inside) told kept.base kept.untold kept.tables kept.stored
+    (λ intact. (kept.whole intact).are_tables))

@@ -1,0 +1,141 @@
+-- What each ask does to a queue, and which batches it puts there.
+use Rattle.std.proofs.Common.{◌≡◌, ℕ, ◌+◌, ◌<◌, ◌≤◌, List, [], ◌∷◌, ◌++◌, length, refl, sym, ap, ◌∙◌, subst, arith, length-append}
+use Rattle.raft_base.specs.Signature.{signature_in}
+use Rattle.raft_base.specs.declared.pipe_log.FileBlockHandle.{FileBlockHandle}
+use Rattle.raft_base.specs.declared.pipe_log.FileId.{FileId}
+use Rattle.raft_base.specs.declared.pipe_log.LogQueue.{LogQueue}
+use Rattle.raft_base.specs.declared.pipe_log.LogQueue.TheVariants.{Append, Rewrite}
+use Rattle.raft_base.specs.declared.pipe_log.Version.{Version}
+use Rattle.raft_records.specs.LogBatch.{Batch, log_batch_bytes}
+use Rattle.raft_history.specs.Batches.{Event}
+use Rattle.raft_history.specs.Histories.{HaveStatus}
+use Rattle.raft_files.specs.Asks as asks
+use Rattle.raft_files.specs.Asks.{Act, Begin, NumberedBytes, Put, Sync}
+use Rattle.raft_files.specs.Disk.{begun, deletions}
+use Rattle.raft_files.specs.Places.{IsNext}
+use Rattle.raft_replay.specs.WrittenParts.{written_event}
+use Rattle.raft_recover.specs.Files.{whole_file}
+use Rattle.raft_engine_laws.specs.Stops as queue_deeds
+use Rattle.raft_engine_laws.specs.Stops.{Deed, Write, Delete, Stop, written, deleted, IsSynced}
+use Rattle.raft_engine_fronts.specs.Fronts.{ArePut, ArePutWhole, WrittenBatchIsPut}
+use Rattle.raft_engine_fronts.specs.Done.{AreDoneWhole, AreRisingFrom, LastFileIsNext, WrittenBatchIsDone, numbers}
+use Rattle.raft_engine.specs.Lasting.{AreSynced}
+use Rattle.raft_engine.specs.Stored.{AreAllDone}
+use Rattle.raft_engine.specs.StoredAsks.{IsWritableBatch}
+use Rattle.raft_engine.proofs.LastingLemmas.{all_synced, synced_front}
+
+-- ---- what is synced
+
+is_synced : (deeds : List Deed) → queue_deeds.synced deeds ≡ written deeds → IsSynced deeds
+is_synced [] e = tt
+is_synced (Write x ∷ earlier) e =
+    let f = synced_front earlier in
+    let long = ap length e ∙ length-append (written earlier) (x ∷ []) in
+    let split = ap length f.1 ∙ length-append (queue_deeds.synced earlier) f.0 in
+    absurd (omega (arith, long, split))
+is_synced (queue_deeds.Sync ∷ earlier) e = tt
+is_synced (Delete n ∷ earlier) e = is_synced earlier e
+is_synced (Stop standing n ∷ earlier) e = tt
+
+module _ (queue : LogQueue) (version : Version) (acts : List Act) (deeds : List Deed) (a : AreAllDone queue version acts deeds) (s : AreSynced acts) where
+  pub same_synced : queue_deeds.synced deeds ≡ written deeds
+  same_synced = all_synced queue version acts (queue_deeds.synced deeds) (written deeds) a.put.put s
+
+  pub deeds_synced : IsSynced deeds
+  deeds_synced = is_synced deeds same_synced
+
+-- ---- at first
+
+pub none_done : ((queue : LogQueue) (version : Version) → AreDoneWhole queue version [] [])
+    → ((queue : LogQueue) (version : Version) → ArePutWhole queue version [] [] [])
+    → (queue : LogQueue) (version : Version) → AreAllDone queue version [] []
+none_done done put queue version = record { done = done queue version; put = put queue version }
+
+pub first_done : ((queue : LogQueue) (version : Version) (acts : List Act) (deeds : List Deed) (seq : ℕ)
+    → AreDoneWhole queue version acts deeds → IsSynced deeds → IsNext seq (begun acts) → deleted deeds ≤ seq
+    → AreDoneWhole queue version (Begin seq ∷ acts) deeds)
+    → ((queue : LogQueue) (version : Version) (acts : List Act) (synced h : List Event) (seq : ℕ)
+    → ArePutWhole queue version acts synced h → ArePutWhole queue version (Begin seq ∷ acts) h h)
+    → (queue : LogQueue) (version : Version) → AreAllDone queue version [] [] → AreAllDone queue version (Begin 1 ∷ []) []
+first_done begin put queue version a = record {
+  done = begin queue version [] [] 1 a.done tt tt (omega arith);
+  put = put queue version [] [] [] 1 a.put;
+}
+
+-- ---- a sync
+
+pub sync_done : ((queue : LogQueue) (version : Version) (acts : List Act) (deeds : List Deed)
+    → AreDoneWhole queue version acts deeds → AreDoneWhole queue version (Sync ∷ acts) (queue_deeds.Sync ∷ deeds))
+    → ((queue : LogQueue) (version : Version) (acts : List Act) (synced h : List Event)
+    → ArePut queue version acts synced h → ArePut queue version (Sync ∷ acts) h h)
+    → (queue : LogQueue) (version : Version) (acts : List Act) (deeds : List Deed)
+    → AreAllDone queue version acts deeds → AreAllDone queue version (Sync ∷ acts) (queue_deeds.Sync ∷ deeds)
+sync_done done put queue version acts deeds a = record {
+  done = done queue version acts deeds a.done;
+  put = record { put = put queue version acts (queue_deeds.synced deeds) (written deeds) a.put.put; whole = a.put.whole };
+}
+
+-- ---- a new file
+
+next_last : (n : ℕ) (closed : List NumberedBytes) (file : NumberedBytes) → file.0 < n → IsNext n (closed ++ file ∷ [])
+next_last n [] file less = less
+next_last n (x ∷ []) file less = less
+next_last n (x ∷ y ∷ files) file less = next_last n (y ∷ files) file less
+
+no_items_status : (queue : LogQueue) → HaveStatus queue []
+no_items_status Append = tt
+no_items_status Rewrite = tt
+
+pub begin_done : ((queue : LogQueue) (version : Version) (acts : List Act) (deeds : List Deed) (seq : ℕ)
+    → AreDoneWhole queue version acts deeds → IsSynced deeds → IsNext seq (begun acts) → deleted deeds ≤ seq
+    → AreDoneWhole queue version (Begin seq ∷ acts) deeds)
+    → ((queue : LogQueue) (version : Version) (acts : List Act) (synced h : List Event) (seq : ℕ)
+    → ArePutWhole queue version acts synced h → ArePutWhole queue version (Begin seq ∷ acts) h h)
+    → LastFileIsNext
+    → (queue : LogQueue) (version : Version) (acts : List Act) (deeds : List Deed) (closed : List NumberedBytes) (last : NumberedBytes) (seq : ℕ)
+    → AreSynced acts → begun acts ≡ closed ++ last ∷ [] → last.0 < seq
+    → AreAllDone queue version acts deeds → AreAllDone queue version (Begin seq ∷ acts) deeds
+begin_done begin put next queue version acts deeds closed last seq synced is less a =
+    let same = same_synced queue version acts deeds a synced in
+    let file : FileId = record { queue = queue; seq = last.0 } in
+    let e : Event = record { items = []; file = file } in
+    let n = next queue version acts deeds closed last e a.done is refl tt (no_items_status queue) in
+    let stays : deleted deeds ≤ last.0 = n.stays in record {
+      done = begin queue version acts deeds seq a.done (deeds_synced queue version acts deeds a synced) (subst (IsNext seq) (sym is) (next_last seq closed last less)) (omega (arith, stays, less));
+      put = subst (λ (l : List Event). ArePutWhole queue version (Begin seq ∷ acts) l (written deeds)) (sym same) (put queue version acts (queue_deeds.synced deeds) (written deeds) seq a.put);
+    }
+
+-- ---- a batch
+
+pub put_done : WrittenBatchIsDone → WrittenBatchIsPut
+    → (queue : LogQueue) (version : Version) (acts : List Act) (deeds : List Deed) (closed : List NumberedBytes) (last : NumberedBytes)
+    (handle : FileBlockHandle) (batch : Batch) → IsWritableBatch batch
+    → handle.id ≡ record { queue = queue; seq = last.0 } → handle.offset ≡ length last.1
+    → begun acts ≡ closed ++ last ∷ [] → AreAllDone queue version acts deeds
+    → AreAllDone queue version (Put (log_batch_bytes (signature_in version last.0) batch.items batch.entry_bytes) ∷ acts)
+    (Write (written_event (whole_file queue version last) handle batch.items batch.entry_bytes) ∷ deeds)
+put_done done put queue version acts deeds closed last handle batch w file place is a = record {
+  done = done queue version acts deeds closed last handle batch.items batch.entry_bytes w.tiled w.in_range w.in_bytes w.some w.short file place is a.done;
+  put = put queue version acts (queue_deeds.synced deeds) (written deeds) closed last handle batch.items batch.entry_bytes w.tiled w.in_range w.in_bytes w.some w.short file place is a.put;
+}
+
+-- ---- a deletion
+
+rising_next : (n : ℕ) (gone rest : List NumberedBytes) (oldest next : NumberedBytes) → AreRisingFrom n (numbers (gone ++ oldest ∷ next ∷ rest)) → oldest.0 < next.0
+rising_next n [] rest oldest next r = r.1.0
+rising_next n (x ∷ gone) rest oldest next r = rising_next _ gone rest oldest next r.1
+
+pub delete_done : ((queue : LogQueue) (version : Version) (acts : List Act) (deeds : List Deed)
+    (gone rest : List NumberedBytes) (oldest next : NumberedBytes) (n : ℕ) → AreDoneWhole queue version acts deeds
+    → begun acts ≡ gone ++ oldest ∷ next ∷ rest → deletions acts ≡ length gone → oldest.0 < n → n ≤ next.0
+    → AreDoneWhole queue version (asks.Delete ∷ acts) (Delete n ∷ deeds))
+    → ((queue : LogQueue) (version : Version) (acts : List Act) (synced h : List Event)
+    → ArePutWhole queue version acts synced h → ArePutWhole queue version (asks.Delete ∷ acts) synced h)
+    → (queue : LogQueue) (version : Version) (acts : List Act) (deeds : List Deed) (gone rest : List NumberedBytes) (oldest next : NumberedBytes)
+    → begun acts ≡ gone ++ oldest ∷ next ∷ rest → deletions acts ≡ length gone
+    → AreAllDone queue version acts deeds → AreAllDone queue version (asks.Delete ∷ acts) (Delete (oldest.0 + 1) ∷ deeds)
+delete_done done put queue version acts deeds gone rest oldest next is count a =
+    let less = rising_next a.done.done.first gone rest oldest next (subst (λ (files : List NumberedBytes). AreRisingFrom a.done.done.first (numbers files)) is a.done.done.rising) in record {
+      done = done queue version acts deeds gone rest oldest next (oldest.0 + 1) a.done is count (omega arith) (omega (arith, less));
+      put = put queue version acts (queue_deeds.synced deeds) (written deeds) a.put;
+    }

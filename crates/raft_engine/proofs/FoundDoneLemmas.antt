@@ -1,0 +1,188 @@
+-- What found files do to a queue, once they are ready.
+use Rattle.std.proofs.Common.{◌≡◌, ◌⊎◌, inl, inr, ℕ, ◌<◌, ◌≤◌, Some, List, [], ◌∷◌, ◌++◌, length, take, refl, sym, ap, ◌∙◌, subst, arith}
+use Rattle.raft_base.specs.declared.pipe_log.LogQueue.{LogQueue}
+use Rattle.raft_base.specs.declared.pipe_log.LogQueue.TheVariants.{Append, Rewrite}
+use Rattle.raft_base.specs.declared.pipe_log.Version.{Version}
+use Rattle.raft_history.specs.Batches.{Event}
+use Rattle.raft_files.specs.Asks.{Act, Ask, Begin, Cut, Found, NumberedBytes, acts_on, ask}
+use Rattle.raft_files.specs.Disk.{begun, cut_last, deletions}
+use Rattle.raft_files.specs.Places.{IsNext}
+use Rattle.raft_files.proofs.LastLemmas.{last_of}
+use Rattle.raft_replay.specs.Segments.{HoldsFrom}
+use Rattle.raft_replay.specs.Stops.{IsUnreadableAt}
+use Rattle.raft_recover.specs.Files.{FilesHold, whole_file}
+use Rattle.raft_engine_laws.specs.Stops.{Deed, Stop, deleted, in_files_from, IsSynced}
+use Rattle.raft_engine_fronts.specs.Done.{AreDone, AreDoneWhole, AreRisingFrom, numbers}
+use Rattle.raft_engine_fronts.specs.Fronts.{ArePut, ArePutWhole}
+use Rattle.raft_engine_fronts.specs.TornTails.{FilesHoldTorn, IsFollowedAt, StopsAt}
+use Rattle.raft_engine_fronts.proofs.EventLemmas.{files_high}
+use Rattle.raft_engine_fronts.proofs.TornLemmas.{one_file, whole_torn}
+use Rattle.raft_engine.specs.FoundFiles.{IsCut, IsFirstBegun, IsReady, IsTornFrom, IsUntorn}
+use Rattle.raft_engine.specs.Stored.{AreAllDone}
+use Rattle.raft_engine.proofs.FoundLemmas.{stands_inside}
+
+-- ---- what a queue holds before and after
+
+-- a file without bytes holds no batch
+none_held : (queue : LogQueue) (version : Version) (h : List Event) → FilesHold queue version ((1, []) ∷ []) h → h ≡ []
+none_held queue version h held = go h (one_file queue version (1, []) h held)
+  where
+    go : (h : List Event) → HoldsFrom (whole_file queue version (1, [])) 0 h → h ≡ []
+    go [] held = refl
+    go (e ∷ h) held = absurd (omega (arith, stands_inside (whole_file queue version (1, [])) 0 held.1.0 e.items held.1.1))
+
+-- where the last file is cut, it held the same batches and a torn tail
+cut_torn : (queue : LogQueue) (version : Version) (closed : List NumberedBytes) (last : NumberedBytes) (at : ℕ) (h : List Event) → at < length last.1 → IsUnreadableAt (whole_file queue version last) at → ¬ (IsFollowedAt (whole_file queue version last) at)
+    → FilesHold queue version (closed ++ (last.0, take at last.1) ∷ []) h → FilesHoldTorn queue version (closed ++ last ∷ []) h
+cut_torn queue version [] last at h less none alone held = record {
+  at = at;
+  inside = omega (arith, less);
+  held = one_file queue version (last.0, take at last.1) h held;
+  torn = none;
+  unfollowed = alone;
+}
+cut_torn queue version (c ∷ []) last at h less none alone held = record {
+  first = held.first;
+  rest = held.rest;
+  first_held = held.first_held;
+  rest_held = cut_torn queue version [] last at held.rest less none alone held.rest_held;
+  split = held.split;
+}
+cut_torn queue version (c ∷ d ∷ closed) last at h less none alone held = record {
+  first = held.first;
+  rest = held.rest;
+  first_held = held.first_held;
+  rest_held = cut_torn queue version (d ∷ closed) last at held.rest less none alone held.rest_held;
+  split = held.split;
+}
+
+unreadable : (queue : LogQueue) (version : Version) (last : NumberedBytes) (at : ℕ) → IsTornFrom (whole_file queue version last) (Some at) → IsUnreadableAt (whole_file queue version last) at
+unreadable queue version last at t = go t.0.stops
+  where
+    go : (at ≡ length last.1) ⊎ IsUnreadableAt (whole_file queue version last) at → IsUnreadableAt (whole_file queue version last) at
+    go (inl e) = absurd (let less = t.1 in omega (arith, e, less))
+    go (inr none) = none
+
+-- ---- the acts of a queue
+
+acts_more : (queue : LogQueue) (act : Act) (asks : List Ask) → acts_on queue (ask queue act ∷ asks) ≡ act ∷ acts_on queue asks
+acts_more Append act asks = refl
+acts_more Rewrite act asks = refl
+
+-- nothing more is asked, or one act more
+pub one_ask : (queue : LogQueue) (version : Version) (asks later : List Ask) (files left : List NumberedBytes) → IsReady queue version asks later files left
+    → (later ≡ asks) ⊎ ((act : Act) × (later ≡ ask queue act ∷ asks))
+one_ask queue version asks later files left r = go r.ready
+  where
+    go : IsFirstBegun queue asks later files left ⊎ (IsUntorn queue version asks later files left ⊎ IsCut queue version asks later files left) → (later ≡ asks) ⊎ ((act : Act) × (later ≡ ask queue act ∷ asks))
+    go (inl b) = inr (Begin 1, b.asked)
+    go (inr (inl u)) = inl u.asked
+    go (inr (inr c)) = inr (Cut c.at, c.asked)
+
+-- what was found, and what is left, holds the same batches, which are those of a stop
+pub record IsFoundDone (queue : LogQueue) (version : Version) (acts : List Act) (h : List Event) : Type 0 where
+  pub done : AreDone queue version acts (Stop h 0 ∷ [])
+  pub put : ArePut queue version acts h h
+
+pub record AreReadyDone (queue : LogQueue) (version : Version) (files left : List NumberedBytes) (later : List Act) (h : List Event) : Type 0 where
+  pub torn : FilesHoldTorn queue version files h
+  pub before : IsFoundDone queue version (Found files ∷ []) h
+  pub after : AreAllDone queue version later (Stop h 0 ∷ [])
+  pub are : begun later ≡ left
+  pub none : deletions later ≡ 0
+
+module _
+    (found : (queue : LogQueue) (version : Version) (acts : List Act) (deeds : List Deed) (files : List NumberedBytes) (standing : List Event) (n : ℕ)
+    → FilesHoldTorn queue version files (in_files_from n standing) → AreRisingFrom n (numbers files) → AreDone queue version (Found files ∷ acts) (Stop standing n ∷ deeds))
+    (found_whole : (queue : LogQueue) (version : Version) (acts : List Act) (deeds : List Deed) (files : List NumberedBytes) (standing : List Event) (n : ℕ)
+    → FilesHold queue version files (in_files_from n standing) → AreRisingFrom n (numbers files) → AreDoneWhole queue version (Found files ∷ acts) (Stop standing n ∷ deeds))
+    (cut : (queue : LogQueue) (version : Version) (acts : List Act) (deeds : List Deed) (closed : List NumberedBytes) (last : NumberedBytes) (at : ℕ)
+    → AreDone queue version acts deeds → begun acts ≡ closed ++ last ∷ [] → StopsAt (whole_file queue version last) at → AreDoneWhole queue version (Cut at ∷ acts) deeds)
+    (begin : (queue : LogQueue) (version : Version) (acts : List Act) (deeds : List Deed) (seq : ℕ)
+    → AreDoneWhole queue version acts deeds → IsSynced deeds → IsNext seq (begun acts) → deleted deeds ≤ seq → AreDoneWhole queue version (Begin seq ∷ acts) deeds)
+    (put_found : (queue : LogQueue) (version : Version) (acts : List Act) (files : List NumberedBytes) (h : List Event)
+    → FilesHoldTorn queue version files h → ArePut queue version (Found files ∷ acts) h h)
+    (put_cut : (queue : LogQueue) (version : Version) (acts : List Act) (synced h : List Event) (closed : List NumberedBytes) (last : NumberedBytes) (at : ℕ)
+    → ArePut queue version acts synced h → begun acts ≡ closed ++ last ∷ [] → StopsAt (whole_file queue version last) at → ArePutWhole queue version (Cut at ∷ acts) synced h)
+    (put_begin : (queue : LogQueue) (version : Version) (acts : List Act) (synced h : List Event) (seq : ℕ)
+    → ArePutWhole queue version acts synced h → ArePutWhole queue version (Begin seq ∷ acts) h h) where
+  torn_done : (queue : LogQueue) (version : Version) (files : List NumberedBytes) (h : List Event) → AreRisingFrom 0 (numbers files) → FilesHoldTorn queue version files h → IsFoundDone queue version (Found files ∷ []) h
+  torn_done queue version files h rising held = record {
+    done = found queue version [] [] files h 0 (subst (FilesHoldTorn queue version files) (sym (files_high queue version 0 files h rising held)) held) rising;
+    put = put_found queue version [] files h held;
+  }
+
+  whole_done : (queue : LogQueue) (version : Version) (files : List NumberedBytes) (h : List Event) → AreRisingFrom 0 (numbers files) → FilesHold queue version files h → AreAllDone queue version (Found files ∷ []) (Stop h 0 ∷ [])
+  whole_done queue version files h rising held =
+      let torn = whole_torn queue version files h held in record {
+        done = found_whole queue version [] [] files h 0 (subst (FilesHold queue version files) (sym (files_high queue version 0 files h rising torn)) held) rising;
+        put = record { put = put_found queue version [] files h torn; whole = held };
+      }
+
+  -- a first file is begun
+  first_ready : (queue : LogQueue) (version : Version) (h : List Event) → FilesHold queue version ((1, []) ∷ []) h → AreReadyDone queue version [] ((1, []) ∷ []) (Begin 1 ∷ Found [] ∷ []) h
+  first_ready queue version h held =
+      let none : h ≡ [] = none_held queue version h held in
+      let all = whole_done queue version [] h tt none in record {
+        torn = none;
+        before = torn_done queue version [] h tt none;
+        after = record {
+          done = begin queue version (Found [] ∷ []) (Stop h 0 ∷ []) 1 all.done tt tt (omega arith);
+          put = put_begin queue version (Found [] ∷ []) h h 1 all.put;
+        };
+        are = refl;
+        none = refl;
+      }
+
+  -- there is no torn tail
+  whole_ready : (queue : LogQueue) (version : Version) (files : List NumberedBytes) (h : List Event) → AreRisingFrom 0 (numbers files) → FilesHold queue version files h → AreReadyDone queue version files files (Found files ∷ []) h
+  whole_ready queue version files h rising held =
+      let torn = whole_torn queue version files h held in record {
+        torn = torn;
+        before = torn_done queue version files h rising torn;
+        after = whole_done queue version files h rising held;
+        are = refl;
+        none = refl;
+      }
+
+  -- a torn tail is cut off
+  cut_ready : (queue : LogQueue) (version : Version) (closed : List NumberedBytes) (last : NumberedBytes) (at : ℕ) (h : List Event) → AreRisingFrom 0 (numbers (closed ++ last ∷ [])) → IsTornFrom (whole_file queue version last) (Some at)
+      → FilesHold queue version (cut_last at (closed ++ last ∷ [])) h → AreReadyDone queue version (closed ++ last ∷ []) (cut_last at (closed ++ last ∷ [])) (Cut at ∷ Found (closed ++ last ∷ []) ∷ []) h
+  cut_ready queue version closed last at h rising t held =
+      let files = closed ++ last ∷ [] in
+      let torn : FilesHoldTorn queue version files h = cut_torn queue version closed last at h t.1 (unreadable queue version last at t) t.2
+      (subst (λ (l : List NumberedBytes). FilesHold queue version l h) (last_of (λ old. take at old) closed last) held) in
+      let before = torn_done queue version files h rising torn in record {
+        torn = torn;
+        before = before;
+        after = record {
+          done = cut queue version (Found files ∷ []) (Stop h 0 ∷ []) closed last at before.done refl t.0;
+          put = put_cut queue version (Found files ∷ []) h h closed last at before.put refl t.0;
+        };
+        are = refl;
+        none = refl;
+      }
+
+  pub ready_done : (queue : LogQueue) (version : Version) (asks later : List Ask) (files left : List NumberedBytes) → acts_on queue asks ≡ Found files ∷ [] → IsReady queue version asks later files left
+      → (h : List Event) → FilesHold queue version left h → AreReadyDone queue version files left (acts_on queue later) h
+  ready_done queue version asks later files left acts r h held = go r.ready
+    where
+      more : (act : Act) → later ≡ ask queue act ∷ asks → act ∷ Found files ∷ [] ≡ acts_on queue later
+      more act e = sym (ap (acts_on queue) e ∙ acts_more queue act asks ∙ ap (λ (l : List Act). act ∷ l) acts)
+
+      go : IsFirstBegun queue asks later files left ⊎ (IsUntorn queue version asks later files left ⊎ IsCut queue version asks later files left) → AreReadyDone queue version files left (acts_on queue later) h
+      go (inl b) =
+          subst (λ (l : List Act). AreReadyDone queue version files left l h) (more (Begin 1) b.asked)
+          (subst (λ (f : List NumberedBytes). AreReadyDone queue version f left (Begin 1 ∷ Found f ∷ []) h) (sym b.none)
+          (subst (λ (f : List NumberedBytes). AreReadyDone queue version [] f (Begin 1 ∷ Found [] ∷ []) h) (sym b.first)
+          (first_ready queue version h (subst (λ (f : List NumberedBytes). FilesHold queue version f h) b.first held))))
+      go (inr (inl u)) =
+          subst (λ (l : List Act). AreReadyDone queue version files left l h) (sym (ap (acts_on queue) u.asked ∙ acts))
+          (subst (λ (f : List NumberedBytes). AreReadyDone queue version files f (Found files ∷ []) h) (sym u.same)
+          (whole_ready queue version files h r.rising (subst (λ (f : List NumberedBytes). FilesHold queue version f h) u.same held)))
+      go (inr (inr c)) =
+          subst (λ (l : List Act). AreReadyDone queue version files left l h) (more (Cut c.at) c.asked)
+          (subst (λ (f : List NumberedBytes). AreReadyDone queue version files f (Cut c.at ∷ Found files ∷ []) h) (sym c.cut)
+          (subst (λ (f : List NumberedBytes). AreReadyDone queue version f (cut_last c.at f) (Cut c.at ∷ Found f ∷ []) h) (sym c.split)
+          (cut_ready queue version c.closed c.last c.at h (subst (λ (f : List NumberedBytes). AreRisingFrom 0 (numbers f)) c.split r.rising) c.torn
+          (subst (λ (f : List NumberedBytes). FilesHold queue version (cut_last c.at f) h) c.split (subst (λ (f : List NumberedBytes). FilesHold queue version f h) c.cut held)))))

@@ -1,0 +1,143 @@
+-- Files that are found: where a reader stops, and what stands behind.
+use Rattle.std.proofs.Common.{◌≡◌, ◌≢◌, ◌⊎◌, Vec, map, take, ℕ, ◌+◌, ◌-◌, ◌^◌, ◌<◌, ◌≤◌, min, Option, Some, None, List, [], ◌∷◌, ◌++◌, length, drop, inl, inr, sym, ap, ◌∙◌, subst, arith}
+use Rattle.std.proofs.lemmas.List.{length-append, length-drop, map-append}
+use Rattle.std.proofs.lemmas.Option.{slice_get_within, get_or_from_slice_get}
+use Rattle.std.specs.List.{slice_get}
+use Rattle.std.specs.Global.{Global}
+use Rattle.raft_files.specs.HeldFiles.{file_shown}
+use Rattle.raft_files.proofs.LastLemmas.{at_last}
+use Rattle.raft_codec.specs.Reading.{Reads, HasNoFront, HasOneFront}
+use Rattle.raft_base.specs.declared.compression_type.CompressionType.{CompressionType}
+use Rattle.raft_records.specs.FilePart.{AreBatchesUpTo, HasHeader, IsBatchAt, IsNext, Part, StandBetween}
+use Rattle.raft_records.specs.Header.{IsHeader}
+use Rattle.raft_base.specs.Signature.{signature_of}
+use Rattle.raft_base.specs.declared.pipe_log.LogFileContext.{LogFileContext}
+use Rattle.raft_records.specs.Item.{Item}
+use Rattle.raft_records.specs.LogBatch.{IsReadable}
+use Rattle.raft_records.proofs.Names.{part_signature}
+use Rattle.raft_replay.specs.Stops.{IsUnreadableAt}
+use Rattle.raft_replay.proofs.SegmentLemmas.{batch_none}
+use Rattle.raft_engine_fronts.specs.TornTails.{IsFollowedAt, StopsAt}
+use Rattle.raft_engine_fronts.proofs.BatchPartLemmas.{batch_long, end_unreadable}
+use Rattle.raft_engine_fronts.proofs.TornLemmas.{one_stop}
+use Rattle.raft_engine.specs.FoundFiles.{BeginsInOther, IsDamaged, IsOfOther, in_other, other_version}
+
+-- without a header nothing follows
+pub headless : (part : Part) (at : ℕ) → HasNoFront IsHeader (drop at part.bytes) → ¬ (IsFollowedAt part at)
+headless part at none f =
+    let h = f.header.header in
+    none h.front f.header.rest (f.offset, f.header.compression, f.len) h.spells h.split
+
+-- every header at a byte says that length
+pub record IsLong (part : Part) (at len : ℕ) : Type 0 where
+  pub offset : ℕ
+  pub header : HasHeader (drop at part.bytes) offset len
+  pub one : (offset' len' : ℕ) → HasHeader (drop at part.bytes) offset' len' → len' ≡ len
+
+pub header_at : HasOneFront IsHeader → (part : Part) (at : ℕ) (bytes rest : List ℕ) (offset len : ℕ) (compression : CompressionType)
+    → bytes ≡ drop at part.bytes → Reads IsHeader bytes rest (offset, compression, len) → IsLong part at len
+header_at one part at bytes rest offset len compression e r = record {
+  offset = offset;
+  header = subst (λ (xs : List ℕ). HasHeader xs offset len) e (record { compression = compression; rest = rest; header = r });
+  one = λ offset' len' h. same (subst (λ (xs : List ℕ). HasHeader xs offset' len') (sym e) h);
+}
+  where
+    same : {offset' len' : ℕ} → HasHeader bytes offset' len' → len' ≡ len
+    same {offset'} {len'} h =
+        let g = h.header in
+        ap (λ (t : ℕ × CompressionType × ℕ). t.2) (one g.front r.front h.rest rest (offset', h.compression, len') (offset, compression, len) g.spells r.spells (sym g.split ∙ r.split)).1
+
+-- what stands somewhere stands before the end
+pub stands_inside : (part : Part) (i next : ℕ) (items : List Item) → IsBatchAt part i items next → i < length part.bytes
+stands_inside part i next items b =
+    let some = batch_long b.bytes (part_signature part) b.read (b.between, b.laid_out) in
+    let n = sym (length-drop i part.bytes) ∙ ap length b.stands ∙ length-append b.bytes (drop next part.bytes) in
+    omega (arith, some, n)
+
+-- nothing follows where the file ends before
+pub beyond : (part : Part) (at len sat : ℕ) → IsLong part at len → sat ≡ min (at + len) (2 ^ 64 - 1) → length part.bytes ≤ sat → ¬ (IsFollowedAt part at)
+beyond part at len sat l e ends f =
+    let same = l.one f.offset f.len f.header in
+    let inside = stands_inside part (at + f.len) f.next f.items f.stands in
+    absurd (omega (arith, same, inside, e, ends))
+
+-- where it says that its batch ends none stands
+pub not_there : (part : Part) (at len sat : ℕ) → IsLong part at len → sat ≡ min (at + len) (2 ^ 64 - 1) → length part.bytes < 2 ^ 63 → sat < length part.bytes
+    → IsUnreadableAt part sat → ¬ (IsFollowedAt part at)
+not_there part at len sat l e few less none f =
+    let same = l.one f.offset f.len f.header in
+    let here : at + f.len ≡ sat = omega (arith, same, e, few, less) in
+    batch_none part sat f.items f.next none (subst (λ (n : ℕ). IsBatchAt part n f.items f.next) here f.stands)
+
+-- or one does
+pub there : (part : Part) (at len sat : ℕ) (o : Option (List Item × ℕ)) → IsLong part at len → sat ≡ min (at + len) (2 ^ 64 - 1) → length part.bytes < 2 ^ 63 → sat < length part.bytes
+    → IsNext part sat o → IsFollowedAt part at
+there part at len sat None l e few less next = absurd (omega (arith, less, next))
+there part at len sat (Some n) l e few less next = record {
+  offset = l.offset;
+  len = len;
+  header = l.header;
+  items = n.0;
+  next = n.1;
+  stands = subst (λ (i : ℕ). IsBatchAt part i n.0 n.1) (omega (arith, e, few, less)) next;
+}
+
+stop_unreadable : (part : Part) (at : ℕ) → (at ≡ length part.bytes) ⊎ IsUnreadableAt part at → IsUnreadableAt part at
+stop_unreadable part at s = elim s [ inl e ↦ end_unreadable part at e | inr none ↦ none ]
+
+-- where a reader stops is one byte, and nothing follows at the end
+pub undamaged : (part : Part) (at : ℕ) → StopsAt part at → ((at ≡ length part.bytes) ⊎ (¬ (IsFollowedAt part at))) → ¬ (IsDamaged part)
+undamaged part at stops none d = go none
+  where
+    same : d.at ≡ at
+    same = one_stop part 0 d.at at d.stops.batches.0 stops.batches.0 d.stops.batches.1 stops.batches.1 (stop_unreadable part d.at d.stops.stops) (stop_unreadable part at stops.stops)
+
+    go : (at ≡ length part.bytes) ⊎ (¬ (IsFollowedAt part at)) → ⊥
+    go (inl ends) = let less = d.before_end in omega (arith, same, ends, less)
+    go (inr not) = not (subst (IsFollowedAt part) same d.followed)
+
+-- ---- the last file
+
+pub one_last : {A : Type 0} (xs ys : List A) (x y : A) → xs ++ x ∷ [] ≡ ys ++ y ∷ [] → x ≡ y
+one_last [] [] x y e = cc
+one_last [] (b ∷ ys) x y e = absurd (omega (arith, ap length e, length-append (b ∷ ys) (y ∷ [])))
+one_last (a ∷ xs) [] x y e = absurd (omega (arith, ap length e, length-append (a ∷ xs) (x ∷ [])))
+one_last (a ∷ xs) (b ∷ ys) x y e = one_last xs ys x y cc
+
+-- shown files by the last of them
+pub last_shown : (items xs : List (ℕ × Vec ℕ Global)) (last : ℕ × Vec ℕ Global) → xs ≡ items → Some last ≡ slice_get xs (length xs - 1)
+    → map file_shown items ≡ map file_shown (take (length items - 1) items) ++ file_shown last ∷ []
+last_shown items xs last same e =
+    let there : slice_get items (length items - 1) ≡ Some last = subst (λ (l : List (ℕ × Vec ℕ Global)). slice_get l (length l - 1) ≡ Some last) same (sym e) in
+    let lt : length items - 1 < length items = slice_get_within items (length items - 1) last there in
+    let split : items ≡ take (length items - 1) items ++ last ∷ [] = at_last items (length items - 1) last (omega (arith, lt)) ∙ ap (λ x. take (length items - 1) items ++ x ∷ []) (get_or_from_slice_get items (length items - 1) last last there) in
+    ap (map file_shown) split ∙ map-append file_shown (take (length items - 1) items) (last ∷ [])
+
+-- ---- files that begin in the other version
+
+pub not_other : (part : Part) → ¬ (BeginsInOther part) → ¬ (IsOfOther part)
+not_other part none o = none o.begins
+
+-- where a reader stops behind the first byte, a batch can be read at that one
+pub not_at_first : (part : Part) (at : ℕ) → AreBatchesUpTo part at → at ≢ 0 → ¬ (IsOfOther part)
+not_at_first part at batches far o = go batches.0 batches.1
+  where
+    go : (bs : List (List Item)) → StandBetween part 0 at bs → ⊥
+    go [] e = far (sym e)
+    go (b ∷ bs) s = batch_none part 0 b s.0 o.unreadable s.1
+
+-- a file that ends with its batches is not of the other version: it is empty, or begins with a batch
+pub whole_not_other : (part : Part) (at : ℕ) → AreBatchesUpTo part at → at ≡ length part.bytes → ¬ (IsOfOther part)
+whole_not_other part at batches ends o = go batches.0 batches.1
+  where
+    go : (bs : List (List Item)) → StandBetween part 0 at bs → ⊥
+    go [] e = let inside = stands_inside (in_other part) 0 o.begins.1 o.begins.0 o.begins.2 in absurd (omega (arith, e, ends, inside))
+    go (b ∷ bs) s = batch_none part 0 b s.0 o.unreadable s.1
+
+-- where no batch of the other version can be read, the part doesn't begin with one
+pub other_none : (part : Part) (context : LogFileContext) (bytes : List ℕ) → context ≡ record { id = part.id; version = other_version part.version } → bytes ≡ part.bytes
+    → HasNoFront (λ xs. IsReadable xs (signature_of context)) (drop 0 bytes) → ¬ (BeginsInOther part)
+other_none part context bytes is same none b =
+    batch_none (in_other part) 0 b.0 b.1
+    (subst (λ (f : LogFileContext). HasNoFront (λ xs. IsReadable xs (signature_of f)) (drop 0 part.bytes)) is
+    (subst (λ (l : List ℕ). HasNoFront (λ xs. IsReadable xs (signature_of context)) (drop 0 l)) same none)) b.2

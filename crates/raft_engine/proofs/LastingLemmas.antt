@@ -1,0 +1,139 @@
+-- What is done to both queues lasts.
+use Rattle.std.proofs.Common.{◌≡◌, inl, inr, List, [], ◌∷◌, ◌++◌, refl, sym, ap, ◌∙◌, subst, append_assoc, append-nil, arith}
+use Rattle.raft_base.specs.declared.pipe_log.LogQueue.{LogQueue}
+use Rattle.raft_base.specs.declared.pipe_log.LogQueue.TheVariants.{Append, Rewrite}
+use Rattle.raft_base.specs.declared.pipe_log.Version.{Version}
+use Rattle.raft_history.specs.Batches.{Event}
+use Rattle.raft_files.specs.Asks as asks
+use Rattle.raft_files.specs.Asks.{Act, Ask, Begin, Cut, Found, NumberedBytes, Put, Read, Sync, acts_on}
+use Rattle.raft_files.specs.Disk.{begun, IsLeftOf}
+use Rattle.raft_engine_laws.specs.Groups.{HasNoMarker}
+use Rattle.raft_engine_laws.specs.Stops as queue_deeds
+use Rattle.raft_engine_laws.specs.Stops.{Deed, Write, Delete, Stop, in_files_from, written, MayStand}
+use Rattle.raft_engine_fronts.specs.Fronts.{ArePut, IsFrontWith}
+use Rattle.raft_engine_fronts.specs.TornTails.{FilesHoldTorn}
+use Rattle.raft_engine_fronts.proofs.TornLemmas.{whole_torn}
+use Rattle.raft_engine_fronts.specs.Contents.{AreTold, AreToldByFiles}
+use Rattle.raft_engine_fronts.specs.Done.{AreDone, HoldLeft, numbers}
+use Rattle.raft_engine_fronts.proofs.NumberLemmas.{rising_low}
+use Rattle.raft_engine.specs.CutFiles.{AreCut}
+use Rattle.raft_engine.specs.Lasting.{AreSynced, before_sync}
+use Rattle.raft_engine.specs.StoredAsks.{WhatIsDoneLasts}
+use Rattle.raft_engine.proofs.LeftBytes.{left_tells}
+use Rattle.raft_engine.proofs.PlainLeft.{all_left}
+use Rattle.raft_engine.proofs.WholeLemmas.{whole_of}
+
+-- the synced batches come first
+pub synced_front : (deeds : List Deed) → (more : List Event) × (written deeds ≡ queue_deeds.synced deeds ++ more)
+synced_front [] = ([], refl)
+synced_front (Write e ∷ earlier) =
+    let p = synced_front earlier in (p.0 ++ e ∷ [], ap (λ (h : List Event). h ++ e ∷ []) p.1 ∙ append_assoc (queue_deeds.synced earlier) p.0 (e ∷ []))
+synced_front (queue_deeds.Sync ∷ earlier) = ([], sym (append-nil (written earlier)))
+synced_front (Delete n ∷ earlier) = synced_front earlier
+synced_front (Stop standing n ∷ earlier) = ([], sym (append-nil standing))
+
+-- what may stand of a queue is a front of what was written, with the synced batches at least
+stands_with_synced : (deeds : List Deed) (h : List Event) → MayStand deeds h → IsFrontWith (queue_deeds.synced deeds) (written deeds) h
+stands_with_synced [] h s = record { more = []; lost = []; least = s; split = sym (ap (λ (l : List Event). l ++ []) s) }
+stands_with_synced (Write e ∷ earlier) h (inl s) =
+    let f = stands_with_synced earlier h s in record {
+      more = f.more;
+      lost = f.lost ++ e ∷ [];
+      least = f.least;
+      split = ap (λ (l : List Event). l ++ e ∷ []) f.split ∙ append_assoc h f.lost (e ∷ []);
+    }
+stands_with_synced (Write e ∷ earlier) h (inr s) =
+    let p = synced_front (Write e ∷ earlier) in record {
+      more = p.0;
+      lost = [];
+      least = s ∙ p.1;
+      split = sym s ∙ sym (append-nil h);
+    }
+stands_with_synced (queue_deeds.Sync ∷ earlier) h s = record { more = []; lost = []; least = s ∙ sym (append-nil (written earlier)); split = sym s ∙ sym (append-nil h) }
+stands_with_synced (Delete n ∷ earlier) h s = stands_with_synced earlier h s
+stands_with_synced (Stop standing n ∷ earlier) h s = record { more = []; lost = []; least = s ∙ sym (append-nil standing); split = sym s ∙ sym (append-nil h) }
+
+-- the synced batches are those that the files held at the last sync
+held_at_sync : (queue : LogQueue) (version : Version) (acts : List Act) (synced h : List Event) → ArePut queue version acts synced h → FilesHoldTorn queue version (begun (before_sync acts)) synced
+held_at_sync queue version [] synced h p = p.0
+held_at_sync queue version (Put bytes ∷ earlier) synced h p = held_at_sync queue version earlier synced p.old p.before
+held_at_sync queue version (Begin seq ∷ earlier) synced h p =
+    subst (λ (l : List Event). FilesHoldTorn queue version (begun earlier) l) (sym p.0) (whole_torn queue version (begun earlier) h p.1)
+held_at_sync queue version (Sync ∷ earlier) synced h p = subst (λ (l : List Event). FilesHoldTorn queue version (begun earlier) l) (sym p.0) p.1
+held_at_sync queue version (asks.Delete ∷ earlier) synced h p = held_at_sync queue version earlier synced h p
+held_at_sync queue version (Cut len ∷ earlier) synced h p = held_at_sync queue version earlier synced h p.0
+held_at_sync queue version (Found files ∷ earlier) synced h p = subst (λ (l : List Event). FilesHoldTorn queue version files l) (sym p.0) p.1
+held_at_sync queue version (Read place bytes ∷ earlier) synced h p = held_at_sync queue version earlier synced h p
+
+-- where nothing was put since, all is synced
+pub all_synced : (queue : LogQueue) (version : Version) (acts : List Act) (synced h : List Event) → ArePut queue version acts synced h → AreSynced acts → synced ≡ h
+all_synced queue version [] synced h p s = p.0 ∙ sym p.1
+all_synced queue version (Put bytes ∷ earlier) synced h p s = absurd s
+all_synced queue version (Begin seq ∷ earlier) synced h p s = p.0
+all_synced queue version (Sync ∷ earlier) synced h p s = p.0
+all_synced queue version (asks.Delete ∷ earlier) synced h p s = all_synced queue version earlier synced h p s
+all_synced queue version (Cut len ∷ earlier) synced h p s = all_synced queue version earlier synced h p.0 s
+all_synced queue version (Found files ∷ earlier) synced h p s = p.0
+all_synced queue version (Read place bytes ∷ earlier) synced h p s = all_synced queue version earlier synced h p s
+
+pub done_lasts : ((queue : LogQueue) (version : Version) (asked : List Ask) (deeds : List Deed) (files : List NumberedBytes)
+    → AreDone queue version (acts_on queue asked) deeds → IsLeftOf queue asked files → HoldLeft queue version deeds files)
+    → ((queue : LogQueue) (version : Version) (acts : List Act) (synced h : List Event)
+    → ArePut queue version acts synced h → FilesHoldTorn queue version (begun acts) h)
+    → WhatIsDoneLasts
+done_lasts left all content version base asked appended rewritten append_done rewrite_done put plain lose = (
+  record {
+    batches = written appended;
+    synced = queue_deeds.synced appended;
+    batches_held = all Append version (acts_on Append asked) (queue_deeds.synced appended) (written appended) put;
+    synced_held = held_at_sync Append version (acts_on Append asked) (queue_deeds.synced appended) (written appended) put;
+    left = λ append rewrite left_append left_rewrite.
+        let a = left Append version asked appended append append_done left_append in
+        let r = left Rewrite version asked rewritten rewrite rewrite_done left_rewrite in
+        let ok = lose.readable a.standing a.left r.standing r.left a.is_left r.is_left in (
+          a.standing,
+          stands_with_synced appended a.standing a.is_left.stands,
+          record {
+            appended = a.left;
+            rewritten = r.left;
+            append_held = a.held;
+            rewrite_held = r.held;
+            append_rising = rising_low 0 a.is_left.gone (numbers append) (omega arith) a.rising;
+            rewrite_rising = rising_low 0 r.is_left.gone (numbers rewrite) (omega arith) r.rising;
+            append_sound = ok.0;
+            rewrite_sound = ok.1;
+            apart = ok.2;
+            plain = all_left HasNoMarker rewritten r.standing r.left r.is_left plain;
+            found = λ tables cleaned reading. lose.found a.standing a.left r.standing r.left a.is_left r.is_left tables cleaned reading;
+          },
+        );
+    told = told_of;
+    whole =
+        let a = whole_of Append version asked appended append_done in
+        let r = whole_of Rewrite version asked rewritten rewrite_done in
+        let ok = lose.readable (written appended) a.left (written rewritten) r.left a.is_left r.is_left in
+        record {
+          appended = a.left;
+          rewritten = r.left;
+          append_held = a.held;
+          rewrite_held = r.held;
+          append_rising = a.rising;
+          rewrite_rising = r.rising;
+          append_sound = ok.0;
+          rewrite_sound = ok.1;
+          apart = ok.2;
+          plain = all_left HasNoMarker rewritten (written rewritten) r.left r.is_left plain;
+          found = λ tables cleaned reading. lose.found (written appended) a.left (written rewritten) r.left a.is_left r.is_left tables cleaned reading;
+        };
+    all = λ s. all_synced Append version (acts_on Append asked) (queue_deeds.synced appended) (written appended) put s;
+  },
+  refl,
+)
+  where
+    told_of : (queue : LogQueue) → AreTold queue (acts_on queue asked) content → (files cut : List NumberedBytes) → IsLeftOf queue asked files → AreCut queue version files cut → AreToldByFiles queue cut content
+    told_of Append told files cut l c =
+        let d = append_done in
+        left_tells Append version asked (in_files_from d.first (queue_deeds.synced appended)) (in_files_from d.first (written appended)) d.first d.put d.rising content told.0 files cut l c
+    told_of Rewrite told files cut l c =
+        let d = rewrite_done in
+        left_tells Rewrite version asked (in_files_from d.first (queue_deeds.synced rewritten)) (in_files_from d.first (written rewritten)) d.first d.put d.rising content told.0 files cut l c

@@ -1,0 +1,137 @@
+-- A batch of what was read of a region's rewritten records moves them within the rewrite queue, once it stands in its last file.
+use Rattle.std.proofs.Common.{◌≡◌, ◌⊎◌, inl, inr, ℕ, cond, List, [], ◌∷◌, ◌++◌, map, Option, Some, None, refl, sym, ap, subst, ◌∙◌, append-nil}
+use Rattle.std.specs.Prelude.{flat_map}
+use Rattle.std.specs.FinMap as finite
+use Rattle.std.specs.List.{AllByRecursion}
+use Rattle.raft_base.specs.declared.compression_type.CompressionType.TheVariants as compressions
+use Rattle.raft_base.specs.declared.entry_index.EntryIndex.{EntryIndex}
+use Rattle.raft_base.specs.declared.pipe_log.FileBlockHandle.{FileBlockHandle}
+use Rattle.raft_base.specs.declared.pipe_log.FileId.{FileId}
+use Rattle.raft_base.specs.declared.pipe_log.LogQueue.TheVariants.{Rewrite}
+use Rattle.raft_records.specs.Entries.{with_lengths}
+use Rattle.raft_records.specs.Item.{Item}
+use Rattle.raft_records.specs.ItemBatch.{placed_item, with_offsets_from}
+use Rattle.raft_records.specs.LogBatch.{Batch, entry_place}
+use Rattle.raft_table.specs.KeyValues.{pairs_up_to}
+use Rattle.raft_table.specs.Steps.{Put, Run, Step, table_of}
+use Rattle.raft_table.specs.Table.{Table}
+use Rattle.raft_table.specs.TableEntries.{AreTableEntries, placed_in}
+use Rattle.raft_history.specs.RegionSteps.{RegionStep, Tables, pair_step, steps_of_items, steps_on}
+use Rattle.raft_history.proofs.MapLemmas.{by_region}
+use Rattle.raft_history.proofs.StepListLemmas.{own_head, own_none, own_other}
+use Rattle.raft_history.proofs.Words.{with_step}
+use Rattle.raft_records.specs.declared.key_value.OpType.TheVariants as operations
+use Rattle.raft_accessor.specs.Writes.{Rewriting, after_items}
+use Rattle.raft_files.specs.Asks.{Ask}
+use Rattle.raft_engine_fronts.specs.Contents.{HaveContents, placed_entries}
+use Rattle.raft_engine_laws.specs.Moving.{AreCopies, AreOrdinary, MoveAgain, MovesAgain, entries_on, moving_items, put_items, run_of}
+use Rattle.raft_engine.specs.BatchBytes.{place_at, placed_at}
+use Rattle.raft_engine.specs.Rewriting.{IsBatchMoving}
+use Rattle.raft_engine.proofs.FetchedLemmas.{IsRewrittenPair, all_rewritten}
+use Rattle.raft_engine.proofs.MovingPuts.{are_copies, placed_moving, same_copies}
+use Rattle.raft_engine.proofs.TakenMoves.{AreLow, again_taken}
+
+-- ---- the entries that items put
+
+puts_steps : (id : ℕ) (file : FileId) (p : List ℕ × List ℕ) (ps : List (List ℕ × List ℕ)) → AreOrdinary (p ∷ ps)
+    → steps_of_items (put_items id file (p ∷ ps)) ≡ record { region = id; step = Put p.0 p.1 file } ∷ steps_of_items (put_items id file ps)
+puts_steps id file p ps h = ap (λ b. with_step id (cond b None (pair_step operations.Put p.0 (Some p.1) (Some file))) (steps_of_items (put_items id file ps))) h.0
+
+-- keys put have none
+puts_none : (r id : ℕ) (file : FileId) (ps : List (List ℕ × List ℕ)) → AreOrdinary ps → entries_on r (put_items id file ps) ≡ []
+puts_none r id file [] h = ap (λ (l : List Step). flat_map run_of l) (own_none r)
+puts_none r id file (p ∷ ps) h =
+    ap (λ (l : List RegionStep). flat_map run_of (steps_on r l)) (puts_steps id file p ps h) ∙ one (steps_of_items (put_items id file ps)) ∙ puts_none r id file ps h.1
+  where
+    put : RegionStep
+    put = record { region = id; step = Put p.0 p.1 file }
+
+    one : (steps : List RegionStep) → flat_map run_of (steps_on r (put ∷ steps)) ≡ flat_map run_of (steps_on r steps)
+    one steps = elim (by_region r id) [
+      | inl same ↦ ap (λ q. flat_map run_of (steps_on q (put ∷ steps))) same ∙ ap (λ (l : List Step). flat_map run_of l) (own_head put steps) ∙ ap (λ q. flat_map run_of (steps_on q steps)) (sym same)
+      | inr other ↦ ap (λ (l : List Step). flat_map run_of l) (own_other r put steps other.0)
+    ]
+
+-- on its own region the run, on others none
+copied_on : (content : EntryIndex → List ℕ) (tables : Tables) (id : ℕ) (t : Table) (file : FileId) (copies : List EntryIndex) (ps : List (List ℕ × List ℕ)) → AreOrdinary ps → finite.get tables id ≡ Some t
+    → AreCopies content copies (placed_in Rewrite t.entries)
+    → (r : ℕ) → (entries_on r (moving_items id file copies ps) ≡ []) ⊎ AreCopies content (entries_on r (moving_items id file copies ps)) (placed_in Rewrite (table_of r (finite.get tables r)).entries)
+copied_on content tables id t file [] ps ordinary found copied r = inl (puts_none r id file ps ordinary)
+copied_on content tables id t file (g ∷ gs) ps ordinary found copied r = elim (by_region r id) [
+  | inl same ↦ inr (subst (λ q. AreCopies content (entries_on q (moving_items id file (g ∷ gs) ps)) (placed_in Rewrite (table_of q (finite.get tables q)).entries)) (sym same)
+      (subst (λ l. AreCopies content l (placed_in Rewrite (table_of id (finite.get tables id)).entries)) (sym own)
+      (subst (λ (o : Option Table). AreCopies content (g ∷ gs) (placed_in Rewrite (table_of id o).entries)) (sym found) copied)))
+  | inr other ↦ inl (ap (λ (l : List Step). flat_map run_of l) (own_other r run rest other.0) ∙ puts_none r id file ps ordinary)
+]
+  where
+    run : RegionStep
+    run = record { region = id; step = Run (g ∷ gs) }
+
+    rest : List RegionStep
+    rest = steps_of_items (put_items id file ps)
+
+    own : entries_on id (moving_items id file (g ∷ gs) ps) ≡ g ∷ gs
+    own = ap (λ (l : List Step). flat_map run_of l) (own_head run rest) ∙ ap (λ l. g ∷ gs ++ l) (puts_none id id file ps ordinary) ∙ append-nil (g ∷ gs)
+
+-- ---- the items
+
+module _ (tables : Tables) (id : ℕ) (t : Table) (found : finite.get tables id ≡ Some t) (file : FileId) where
+  abbrev Moves : Item → Type 0
+  Moves item = MovesAgain file (table_of item.raft_group_id (finite.get tables item.raft_group_id)).keys item.content
+
+  puts_again : (ps : List (List ℕ × List ℕ)) → AllByRecursion (IsRewrittenPair t.keys) ps → AllByRecursion Moves (put_items id file ps)
+  puts_again [] all = tt
+  puts_again (p ∷ ps) all =
+      let f : IsRewrittenPair t.keys p = all.0 in (
+        inr (record {
+          stored = f.stored;
+          there = ap (λ (o : Option Table). finite.get (table_of id o).keys p.0) found ∙ f.there;
+          queue = f.queue;
+          put = refl;
+          value = ap (λ v. Some v) (sym f.value);
+          in_file = refl;
+        }),
+        puts_again ps all.1,
+      )
+
+  all_again : (copies : List EntryIndex) (ps : List (List ℕ × List ℕ)) → AllByRecursion (IsRewrittenPair t.keys) ps → AllByRecursion Moves (moving_items id file copies ps)
+  all_again [] ps all = puts_again ps all
+  all_again (g ∷ gs) ps all = (tt, puts_again ps all)
+
+-- ---- the batch
+
+abbrev its_copies : Table → (old asks : List Ask) (batch : Batch) → (seq offset : ℕ) → List (List ℕ) → List EntryIndex
+its_copies t old asks batch seq offset strings =
+    placed_entries (entry_place (place_at (record { queue = Rewrite; seq = seq }) offset batch) batch.entry_bytes) (with_offsets_from 0 (with_lengths (placed_in Rewrite t.entries) strings))
+
+module _ (tables : Tables) (t : Table) (found : finite.get tables t.region_id ≡ Some t) (old asks : List Ask) (batch : Batch) (m : IsBatchMoving None t old asks batch) (seq offset : ℕ) where
+  abbrev to : FileId
+  to = record { queue = Rewrite; seq = seq }
+
+  its_items : placed_at to offset batch ≡ moving_items t.region_id to (its_copies t old asks batch seq offset m.strings) (pairs_up_to Rewrite None t.keys)
+  its_items =
+      let place : FileBlockHandle = entry_place (place_at to offset batch) batch.entry_bytes in
+      ap (λ (b : Batch). map (placed_item place compressions.None) b.items) m.is ∙ placed_moving place t.region_id (placed_in Rewrite t.entries) m.strings (pairs_up_to Rewrite None t.keys) m.read.reads m.read.have
+
+-- it moves records of the table for every content by which both its entries and those that were read have the bytes that were read
+pub move_again : (content : EntryIndex → List ℕ) (tables : Tables) (t : Table) → finite.get tables t.region_id ≡ Some t → (old asks : List Ask) (batch : Batch) (m : IsBatchMoving None t old asks batch) (seq offset : ℕ)
+    → HaveContents content (placed_in Rewrite t.entries) m.strings → HaveContents content (its_copies t old asks batch seq offset m.strings) m.strings
+    → MoveAgain content tables (record { queue = Rewrite; seq = seq }) (placed_at (record { queue = Rewrite; seq = seq }) offset batch)
+move_again content tables t found old asks batch m seq offset have put =
+    let file : FileId = record { queue = Rewrite; seq = seq } in
+    let place : FileBlockHandle = entry_place (place_at file offset batch) batch.entry_bytes in
+    let copies : List EntryIndex = its_copies t old asks batch seq offset m.strings in
+    let ps : List (List ℕ × List ℕ) = pairs_up_to Rewrite None t.keys in
+    subst (MoveAgain content tables file) (sym (its_items tables t found old asks batch m seq offset)) (record {
+      contents = all_again tables t.region_id t found file copies ps (all_rewritten t.keys);
+      copied = copied_on content tables t.region_id t file copies ps m.ordinary found (are_copies content place 0 (placed_in Rewrite t.entries) m.strings refl have put);
+    })
+
+-- the tables take it, whatever the contents, if their rewritten pairs are in files up to this one
+pub again_batch_taken : (tables : Tables) (t : Table) (old asks : List Ask) (batch : Batch) (seq offset : ℕ) → finite.get tables t.region_id ≡ Some t → AreTableEntries t.entries → AreLow seq t.keys → IsBatchMoving None t old asks batch
+    → (new : Tables) × (after_items (Rewriting None seq) tables (placed_at (record { queue = Rewrite; seq = seq }) offset batch) ≡ Some new)
+again_batch_taken tables t old asks batch seq offset found sound low m =
+    let place : FileBlockHandle = entry_place (place_at (record { queue = Rewrite; seq = seq }) offset batch) batch.entry_bytes in
+    let taken = again_taken seq t.region_id tables t found sound low (pairs_up_to Rewrite None t.keys) m.ordinary (all_rewritten t.keys) (its_copies t old asks batch seq offset m.strings)
+    (same_copies place 0 (placed_in Rewrite t.entries) m.strings m.read.reads refl m.read.have) in
+    (taken.0, ap (after_items (Rewriting None seq) tables) (its_items tables t found old asks batch m seq offset) ∙ taken.1)

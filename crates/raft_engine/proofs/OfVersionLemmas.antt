@@ -1,0 +1,152 @@
+-- Files that aren't of the other version.
+use Rattle.std.proofs.Common.{◌≡◌, ◌⊎◌, inl, inr, ℕ, zero, suc, ◌<◌, ◌≤◌, List, [], ◌∷◌, ◌++◌, length, take, drop, refl, sym, ap, ◌∙◌, subst, arith, append_assoc, append-nil}
+use Rattle.std.proofs.lemmas.Bool.{cases_lt}
+use Rattle.std.proofs.lemmas.List.{length-append, take-append-drop, take-append-le, take_at}
+use Rattle.raft_base.specs.declared.pipe_log.LogQueue.{LogQueue}
+use Rattle.raft_base.specs.declared.pipe_log.Version.{Version}
+use Rattle.raft_records.specs.FilePart.{IsBatchAt, Part}
+use Rattle.raft_records.proofs.Names.{part_signature}
+use Rattle.raft_records.proofs.PartLemmas.{batch_inside}
+use Rattle.raft_history.specs.Batches.{Event}
+use Rattle.raft_files.specs.Asks.{Act, Begin, Cut, Delete, Found, NumberedBytes, Put, Read, Sync}
+use Rattle.raft_files.specs.Disk.{IsFrontPut, MayStand, begun, put_behind}
+use Rattle.raft_files.proofs.LastLemmas.{last_of}
+use Rattle.raft_replay.specs.Segments.{HoldsFrom}
+use Rattle.raft_replay.proofs.SegmentLemmas.{batch_none}
+use Rattle.raft_recover.specs.Files.{FilesHold, whole_file}
+use Rattle.raft_engine_fronts.proofs.BatchPartLemmas.{shorter_unreadable}
+use Rattle.raft_engine_fronts.proofs.TornLemmas.{one_file, stands_as}
+use Rattle.raft_engine.specs.FoundFiles.{IsLastOfOther, IsOfOther, in_other}
+use Rattle.raft_engine.specs.OfVersion.{FrontsAreNotOther, NoneIsOther, StaysOfVersion, WhatIsLeftIsNotOther}
+use Rattle.raft_engine.proofs.FoundLemmas.{one_last}
+
+-- ---- bytes
+
+pub front_not_other : FrontsAreNotOther
+front_not_other part more items next b o = elim (cases_lt (length part.bytes) (length b.bytes)) [ inl shorter ↦ short shorter | inr within ↦ long within ]
+  where
+    whole : Part
+    whole = record part { bytes = part.bytes ++ more }
+
+    -- the batch is longer than the part
+    short : length part.bytes < length b.bytes → ⊥
+    short shorter =
+        let n = length part.bytes in
+        let front : part.bytes ≡ take n b.bytes = sym (take_at part.bytes more n refl) ∙ ap (take n) b.stands ∙ take-append-le n b.bytes (drop next whole.bytes) (omega (arith, shorter)) in
+        let split : b.bytes ≡ part.bytes ++ drop n b.bytes = sym (take-append-drop n b.bytes) ∙ ap (λ (l : List ℕ). l ++ drop n b.bytes) (sym front) in
+        batch_none (in_other part) 0 o.begins.0 o.begins.1
+        (shorter_unreadable b.bytes part.bytes (drop n b.bytes) (part_signature part) (part_signature (in_other part)) b.read (b.between, b.laid_out) split shorter) o.begins.2
+
+    -- it stands in the part
+    long : length b.bytes ≤ length part.bytes → ⊥
+    long within =
+        let ends = b.ends in
+        let same : take next part.bytes ≡ take next (part.bytes ++ more) = sym (take-append-le next part.bytes more (omega (arith, ends, within))) in
+        batch_none part 0 items next o.unreadable (stands_as whole part.bytes 0 next items b same)
+
+-- a part without bytes
+empty_not_other : (part : Part) → length part.bytes ≡ 0 → ¬ (IsOfOther part)
+empty_not_other part none o = let inside = batch_inside (in_other part) 0 o.begins.0 o.begins.1 o.begins.2 in absurd (omega (arith, none, inside.0, inside.1))
+
+-- a part that holds batches
+held_not_other : (part : Part) (h : List Event) → HoldsFrom part 0 h → ¬ (IsOfOther part)
+held_not_other part [] ends o = empty_not_other part (sym ends) o
+held_not_other part (e ∷ h) held o = batch_none part 0 e.items held.1.0 o.unreadable held.1.1
+
+-- ---- files
+
+module _ (queue : LogQueue) (version : Version) where
+  abbrev Holds : NumberedBytes → List Event → Type 0
+  Holds file h = HoldsFrom (whole_file queue version file) 0 h
+
+  last_held : (closed : List NumberedBytes) (last : NumberedBytes) (h : List Event) → FilesHold queue version (closed ++ last ∷ []) h → (g : List Event) × Holds last g
+  last_held [] last h held = (h, one_file queue version last h held)
+  last_held (c ∷ closed) last h held = last_held closed last held.rest held.rest_held
+
+  files_not_other : (files : List NumberedBytes) (h : List Event) → FilesHold queue version files h → ¬ (IsLastOfOther queue version files)
+  files_not_other files h held o =
+      let l = last_held o.closed o.last h (subst (λ (f : List NumberedBytes). FilesHold queue version f h) o.split held) in
+      held_not_other (whole_file queue version o.last) l.0 l.1 o.other
+
+  -- none, or a last one
+  last_or_none : (files : List NumberedBytes) → (files ≡ []) ⊎ ((closed : List NumberedBytes) × (last : NumberedBytes) × (files ≡ closed ++ last ∷ []))
+  last_or_none [] = inl refl
+  last_or_none (f ∷ files) = elim (last_or_none files) [
+    | inl none ↦ inr ([], f, ap (λ (l : List NumberedBytes). f ∷ l) none)
+    | inr l ↦ inr (f ∷ l.0, l.1, ap (λ (l : List NumberedBytes). f ∷ l) l.2)
+  ]
+
+  none_last : (closed : List NumberedBytes) (last : NumberedBytes) → [] ≡ closed ++ last ∷ [] → ⊥
+  none_last [] last e = absurd cc
+  none_last (c ∷ closed) last e = absurd cc
+
+  -- of bytes that are put behind a file, so that it holds batches, a front
+  front_put : (file : NumberedBytes) (front rest : List ℕ) (g : List Event) → Holds (file.0, file.1 ++ (front ++ rest)) g → ¬ (IsOfOther (whole_file queue version (file.0, file.1 ++ front)))
+  front_put file front rest [] ends o =
+      let n = length-append file.1 (front ++ rest) in
+      let m = length-append front rest in
+      let k = length-append file.1 front in
+      empty_not_other (whole_file queue version (file.0, file.1 ++ front)) (omega (arith, ends, n, m, k)) o
+  front_put file front rest (e ∷ g) held o =
+      front_not_other (whole_file queue version (file.0, file.1 ++ front)) rest e.items held.1.0
+      (subst (λ (bytes : List ℕ). IsBatchAt (whole_file queue version (file.0, bytes)) 0 e.items held.1.0) (sym (append_assoc file.1 front rest)) held.1.1) o
+
+  put_not_other : (bytes : List ℕ) (old new : List NumberedBytes) (h : List Event) → FilesHold queue version (put_behind bytes old) h → IsFrontPut bytes old new → ¬ (IsLastOfOther queue version new)
+  put_not_other bytes old new h held f o = go (last_or_none old)
+    where
+      go : (old ≡ []) ⊎ ((closed : List NumberedBytes) × (last : NumberedBytes) × (old ≡ closed ++ last ∷ [])) → ⊥
+      go (inl none) = none_last o.closed o.last (sym (ap (put_behind f.front) none) ∙ sym f.put ∙ o.split)
+      go (inr l) =
+          let is_last : l.0 ++ (l.1.0, l.1.1 ++ f.front) ∷ [] ≡ o.closed ++ o.last ∷ [] = sym (last_of (λ bs. bs ++ f.front) l.0 l.1) ∙ sym (ap (put_behind f.front) l.2) ∙ sym f.put ∙ o.split in
+          let same : (l.1.0, l.1.1 ++ f.front) ≡ o.last = one_last l.0 o.closed (l.1.0, l.1.1 ++ f.front) o.last is_last in
+          let whole : put_behind bytes old ≡ l.0 ++ (l.1.0, l.1.1 ++ (f.front ++ f.rest)) ∷ [] = ap (put_behind bytes) l.2 ∙ last_of (λ bs. bs ++ bytes) l.0 l.1
+          ∙ ap (λ (bs : List ℕ). l.0 ++ (l.1.0, l.1.1 ++ bs) ∷ []) f.split in
+          let g = last_held l.0 (l.1.0, l.1.1 ++ (f.front ++ f.rest)) h (subst (λ (files : List NumberedBytes). FilesHold queue version files h) whole held) in
+          front_put l.1 f.front f.rest g.0 g.1 (subst (λ (file : NumberedBytes). IsOfOther (whole_file queue version file)) (sym same) o.other)
+
+-- all that was asked may stand
+whole_stands : (acts : List Act) → MayStand acts (begun acts)
+whole_stands [] = refl
+whole_stands (Put bytes ∷ acts) = inr record { front = bytes; rest = []; split = sym (append-nil bytes); put = refl }
+whole_stands (Begin seq ∷ acts) = inr refl
+whole_stands (Sync ∷ acts) = refl
+whole_stands (Delete ∷ acts) = whole_stands acts
+whole_stands (Cut len ∷ acts) = inr refl
+whole_stands (Found files ∷ acts) = refl
+whole_stands (Read place bytes ∷ acts) = whole_stands acts
+
+pub stays : (queue : LogQueue) (version : Version) (acts : List Act) → StaysOfVersion queue version acts
+stays queue version acts = record {
+  found = λ files none standing stands o. none (subst (IsLastOfOther queue version) stands o);
+  put = λ bytes h held none standing stands o. elim stands [ inl s ↦ none standing s o | inr f ↦ put_not_other queue version bytes (begun acts) standing h held f o ];
+  cut = λ len h held none standing stands o. elim stands [
+    | inl s ↦ none standing s o
+    | inr cut ↦ files_not_other queue version standing h (subst (λ (f : List NumberedBytes). FilesHold queue version f h) (sym cut) held) o
+  ];
+  begun = λ seq none standing stands o. elim stands [
+    | inl s ↦ all_not_other none (subst (IsLastOfOther queue version) s o)
+    | inr s ↦ first_not_other seq (begun acts) (subst (IsLastOfOther queue version) s o)
+  ];
+  synced = λ none standing stands o. all_not_other none (subst (IsLastOfOther queue version) stands o);
+  deleted = λ none standing stands o. none standing stands o;
+  read = λ place bytes none standing stands o. none standing stands o;
+}
+  where
+    all_not_other : NoneIsOther queue version acts → ¬ (IsLastOfOther queue version (begun acts))
+    all_not_other none o = none (begun acts) (whole_stands acts) o
+
+    first_not_other : (seq : ℕ) (files : List NumberedBytes) → ¬ (IsLastOfOther queue version (files ++ (seq, []) ∷ []))
+    first_not_other seq files o =
+        let same : (seq, []) ≡ o.last = one_last files o.closed (seq, []) o.last o.split in
+        empty_not_other (whole_file queue version (seq, [])) refl (subst (λ (file : NumberedBytes). IsOfOther (whole_file queue version file)) (sym same) o.other)
+
+-- without the oldest files
+last_of_rest : (queue : LogQueue) (version : Version) (gone : ℕ) (standing : List NumberedBytes) → IsLastOfOther queue version (drop gone standing) → IsLastOfOther queue version standing
+last_of_rest queue version zero standing o = o
+last_of_rest queue version (suc gone) [] o = o
+last_of_rest queue version (suc gone) (f ∷ standing) o =
+    let more = last_of_rest queue version gone standing o in
+    record { closed = f ∷ more.closed; last = more.last; split = ap (λ (l : List NumberedBytes). f ∷ l) more.split; other = more.other }
+
+pub left_not_other : WhatIsLeftIsNotOther
+left_not_other queue version asks files none l o = none l.standing l.stands (last_of_rest queue version l.gone l.standing (subst (IsLastOfOther queue version) l.left o))

@@ -1,0 +1,192 @@
+-- What an engine is made of when it is opened.
+use Rattle.std.proofs.Common.{◌≡◌, ◌≢◌, ℕ, ◌+◌, List, [], ◌∷◌, ◌++◌, true, refl, sym, ap, ◌∙◌, subst, append_assoc, arith}
+use Rattle.raft_base.specs.Signature.{signature_in}
+use Rattle.raft_base.specs.declared.pipe_log.LogQueue.TheVariants.{Append, Rewrite}
+use Rattle.raft_base.specs.declared.pipe_log.Version.{Version}
+use Rattle.raft_records.specs.Item.{Item}
+use Rattle.raft_records.specs.LogBatch.{Batch, empty_batch, encoded, encoded_length}
+use Rattle.raft_records.proofs.FrameLemmas.{log_batch_length}
+use Rattle.raft_accessor.specs.Accessor.{Accessor}
+use Rattle.raft_files.specs.Asks.{Ask, NumberedBytes, Put, Sync, acts_on, ask}
+use Rattle.raft_files.specs.Disk.{begun}
+use Rattle.raft_recover.specs.Files.{FilesHold}
+use Rattle.raft_engine.specs.BatchBytes.{bytes_for}
+use Rattle.raft_engine.specs.FoundRecords.{FoundRecordsLast, HaveEverRecords}
+use Rattle.raft_engine.specs.KeptEngineView.{AreFilesOf, IsKeptBy}
+use Rattle.raft_engine.specs.Opened.{AreOpened}
+use Rattle.raft_engine.specs.OpeningAsks.{AreAskedInPart, asks_that_tell, missing_asks, opening_asks}
+use Rattle.raft_engine.specs.ReadFound.{AreReadFound, reading_asks}
+use Rattle.raft_engine.specs.Stored.{Bases}
+use Rattle.raft_engine.specs.StoredFound.{AreMadeReady, AreReady, FoundFilesAreReady, FoundFilesAreStored, found_asks, told_asks}
+use Rattle.raft_engine.specs.Unopened.{IsHalfOpened}
+use Rattle.raft_engine.specs.declared.queue_files.QueueFiles.{QueueFiles}
+use Rattle.raft_engine.specs.declared.reading.Reading.{Reading}
+use Rattle.raft_engine.proofs.FilesLemmas.{files_same, files_told}
+use Rattle.raft_engine.proofs.ReadyLemmas.{both_ready, opening_split}
+
+-- a batch tells the same once it is encoded
+same_tell : (version : Version) (seq : ℕ) (told : Batch) (items : List Item) → asks_that_tell version seq (record told { stage = encoded }) items ≡ asks_that_tell version seq told items
+same_tell version seq told [] = refl
+same_tell version seq told (item ∷ items) = refl
+
+no_item : (item : Item) (items : List Item) → item ∷ items ≡ [] → ⊥
+no_item item items e = absurd cc
+
+same_files : (files : QueueFiles) (n : ℕ) → n ≡ 0 → record files { len = files.len + n } ≡ files
+same_files files n none = ap (λ (l : ℕ). record files { len = l }) (omega (arith, none))
+
+module _ (ready : FoundFilesAreReady) (stored : FoundFilesAreStored) (lasting : FoundRecordsLast) (version : Version) (append rewrite : List NumberedBytes) (r : Reading) (f : AreReadFound version append rewrite r) where
+  abbrev first : List Ask
+  first = found_asks append rewrite
+
+  abbrev asked : List Ask
+  asked = missing_asks Rewrite r.rewrite_missing ++ (missing_asks Append r.append_missing ++ first)
+
+  are_ready : AreReady version append rewrite f.append_left f.rewrite_left asked
+  are_ready = both_ready version append rewrite f.append_left f.rewrite_left (missing_asks Append r.append_missing) (missing_asks Rewrite r.rewrite_missing) f.append_ready f.rewrite_ready
+
+  m : AreMadeReady version append rewrite f.append_left f.rewrite_left asked f.recovered.appended f.recovered.rewritten
+  m = ready version asked append rewrite f.append_left f.rewrite_left f.recovered.appended f.recovered.rewritten are_ready f.recovered.append_held f.recovered.rewrite_held
+
+  -- what is asked, with the batch that was encoded
+  told_same : opening_asks version (missing_asks Append r.append_missing) (missing_asks Rewrite r.rewrite_missing) r.rewrite.seq r.told
+      ≡ opening_asks version (missing_asks Append r.append_missing) (missing_asks Rewrite r.rewrite_missing) r.rewrite.seq f.told
+  told_same =
+      ap (λ (b : Batch). opening_asks version (missing_asks Append r.append_missing) (missing_asks Rewrite r.rewrite_missing) r.rewrite.seq b) f.made
+      ∙ ap (λ (l : List Ask). l ++ (missing_asks Rewrite r.rewrite_missing ++ missing_asks Append r.append_missing)) (same_tell version r.rewrite.seq f.told f.told.items)
+
+  all_asked : reading_asks version r ++ first ≡ asks_that_tell version r.rewrite.seq f.told f.told.items ++ asked
+  all_asked =
+      ap (λ (l : List Ask). l ++ first) told_same
+      ∙ opening_split version (missing_asks Append r.append_missing) (missing_asks Rewrite r.rewrite_missing) r.rewrite.seq f.told first
+
+  append_files : AreFilesOf Append asked r.append
+  append_files = record {
+    gone = [];
+    closed = f.append_of.closed;
+    bytes = f.append_of.bytes;
+    are = m.append_files ∙ f.append_of.split;
+    deleted = m.append_none;
+    have = f.append_of.have;
+    ends = f.append_of.ends;
+  }
+
+  rewrite_files : AreFilesOf Rewrite asked r.rewrite
+  rewrite_files = record {
+    gone = [];
+    closed = f.rewrite_of.closed;
+    bytes = f.rewrite_of.bytes;
+    are = m.rewrite_files ∙ f.rewrite_of.split;
+    deleted = m.rewrite_none;
+    have = f.rewrite_of.have;
+    ends = f.rewrite_of.ends;
+  }
+
+  stays : FilesHold Append version (begun (acts_on Append asked)) f.recovered.appended
+  stays = subst (λ (l : List NumberedBytes). FilesHold Append version l f.recovered.appended) (sym m.append_files) f.recovered.append_held
+
+  at_once : f.told.items ≡ [] → AreOpened version append rewrite asked r.append r.rewrite r.accessor
+  at_once none = record {
+    read = record {
+      since = m.since;
+      asked = m.asked;
+      appended = f.recovered.appended;
+      rewritten = f.recovered.rewritten;
+      append_held = m.append_held;
+      rewrite_held = m.rewrite_held;
+      append_sound = f.recovered.append_sound;
+      rewrite_sound = f.recovered.rewrite_sound;
+      apart = f.recovered.apart;
+      reading = f.recovered.reading;
+      append_stays = stays;
+    };
+    stored = (stored version asked append rewrite f.append_left f.rewrite_left r.accessor f.told are_ready f.recovered).0 none;
+    append_known = append_files;
+    rewrite_known = rewrite_files;
+  }
+
+  abbrev put_bytes : List ℕ
+  put_bytes = bytes_for (record { id = record { queue = Rewrite; seq = r.rewrite.seq }; version = version }) f.told
+
+  abbrev new_rewrite : QueueFiles
+  new_rewrite = record r.rewrite { len = r.rewrite.len + r.told_len }
+
+  told_len : r.told_len ≡ encoded_length f.told.items f.told.entry_bytes
+  told_len = f.to_be_told.len ∙ ap (λ (b : Batch). encoded_length b.items b.entry_bytes) f.made
+
+  once_told : f.told.items ≢ [] → AreOpened version append rewrite (told_asks version r.rewrite.seq f.told asked) r.append new_rewrite r.accessor
+  once_told some = record {
+    read = record {
+      since = ask Rewrite Sync ∷ ask Rewrite (Put put_bytes) ∷ m.since;
+      asked = ap (λ (l : List Ask). ask Rewrite Sync ∷ ask Rewrite (Put put_bytes) ∷ l) m.asked;
+      appended = f.recovered.appended;
+      rewritten = f.recovered.rewritten;
+      append_held = m.append_held;
+      rewrite_held = m.rewrite_held;
+      append_sound = f.recovered.append_sound;
+      rewrite_sound = f.recovered.rewrite_sound;
+      apart = f.recovered.apart;
+      reading = f.recovered.reading;
+      append_stays = stays;
+    };
+    stored = (stored version asked append rewrite f.append_left f.rewrite_left r.accessor f.told are_ready f.recovered).1 f.rewrite_of.closed r.rewrite.seq f.rewrite_of.bytes f.rewrite_of.split (f.writable some);
+    append_known = files_same Append asked (told_asks version r.rewrite.seq f.told asked) r.append r.append refl refl refl refl refl append_files;
+    rewrite_known = files_same Rewrite (ask Rewrite (Put put_bytes) ∷ asked) (told_asks version r.rewrite.seq f.told asked) new_rewrite new_rewrite refl refl refl refl refl
+        (files_told asked put_bytes r.rewrite new_rewrite refl refl (ap (λ (n : ℕ). r.rewrite.len + n) (told_len ∙ sym (log_batch_length (signature_in version r.rewrite.seq) f.told.items f.told.entry_bytes))) rewrite_files);
+  }
+
+  pub opened_so : AreOpened version append rewrite (reading_asks version r ++ first) r.append new_rewrite r.accessor
+  opened_so = subst (λ (l : List Ask). AreOpened version append rewrite l r.append new_rewrite r.accessor) (sym all_asked) (go f.told.items refl)
+    where
+      go : (items : List Item) → f.told.items ≡ items → AreOpened version append rewrite (asks_that_tell version r.rewrite.seq f.told items ++ asked) r.append new_rewrite r.accessor
+      go [] none =
+          subst (λ (q : QueueFiles). AreOpened version append rewrite asked r.append q r.accessor)
+          (sym (same_files r.rewrite r.told_len (told_len ∙ ap (λ (items : List Item). encoded_length items f.told.entry_bytes) none))) (at_once none)
+      go (item ∷ items) some = once_told (λ none. no_item item items (sym some ∙ none))
+
+  pub half_opened : (later : List Ask) → AreAskedInPart (reading_asks version r) first later → IsHalfOpened version append rewrite later
+  half_opened later half = record {
+    wanted = reading_asks version r;
+    are_wanted = record {
+      append_missing = missing_asks Append r.append_missing;
+      rewrite_missing = missing_asks Rewrite r.rewrite_missing;
+      append_left = f.append_left;
+      rewrite_left = f.rewrite_left;
+      append_ready = f.append_ready;
+      rewrite_ready = f.rewrite_ready;
+      accessor = r.accessor;
+      told = f.told;
+      recovered = f.recovered;
+      closed = f.rewrite_of.closed;
+      seq = r.rewrite.seq;
+      bytes = f.rewrite_of.bytes;
+      last = f.rewrite_of.split;
+      are = told_same;
+    };
+    half = half;
+    records = all.0;
+    ever = λ content more earlier e begun.
+        all.1 content (half.missing ++ more) earlier
+        (sym all_asked ∙ ap (λ (l : List Ask). l ++ first) half.split ∙ append_assoc half.missing half.made first ∙ ap (λ (l : List Ask). half.missing ++ l) (sym half.asked ∙ e)
+        ∙ sym (append_assoc half.missing more earlier)) begun;
+  }
+    where
+      all : (records : Bases) × HaveEverRecords version (asks_that_tell version r.rewrite.seq f.told f.told.items ++ asked) records
+      all = lasting version asked append rewrite f.append_left f.rewrite_left r.accessor f.told are_ready f.recovered f.rewrite_of.closed r.rewrite.seq f.rewrite_of.bytes f.rewrite_of.split f.writable
+
+-- an engine that was opened
+pub kept_opened : (version : Version) (append rewrite : List NumberedBytes) (asks : List Ask) (append_known rewrite_known : QueueFiles) (untold : Batch) (accessor : Accessor)
+    → AreOpened version append rewrite asks append_known rewrite_known accessor → untold ≡ empty_batch → IsKeptBy version asks append_known rewrite_known untold accessor true
+kept_opened version append rewrite asks append_known rewrite_known untold accessor o none = record {
+  base = o.stored.0;
+  untold = [];
+  tables = accessor.tables;
+  stored = o.stored.1;
+  whole = λ intact. record {
+    are_tables = refl;
+    are_untold = none;
+    take_away = tt;
+    append_files = o.append_known;
+    rewrite_files = o.rewrite_known;
+  };
+}

@@ -1,0 +1,103 @@
+-- Found files that are ready once what is missing of them was asked.
+use Rattle.std.proofs.Common.{◌≡◌, ◌⊎◌, Result, Ok, Err, IfOk, OnOk, ℕ, Some, List, [], ◌∷◌, ◌++◌, length, inl, inr, refl, sym, ap, ◌∙◌, subst, append_assoc}
+use Rattle.raft_base.specs.declared.errors.Error.{Error}
+use Rattle.raft_base.specs.declared.pipe_log.LogQueue.{LogQueue}
+use Rattle.raft_base.specs.declared.pipe_log.LogQueue.TheVariants.{Append, Rewrite}
+use Rattle.raft_base.specs.declared.pipe_log.Version.{Version}
+use Rattle.raft_records.specs.LogBatch.{Batch}
+use Rattle.raft_files.specs.Asks.{Ask, NumberedBytes}
+use Rattle.raft_files.specs.Disk.{cut_last}
+use Rattle.raft_recover.specs.Files.{whole_file}
+use Rattle.raft_engine_fronts.specs.Done.{AreRisingFrom, numbers}
+use Rattle.raft_engine_fronts.specs.TornTails.{StopsAt}
+use Rattle.raft_engine.specs.FoundFiles.{AreAccepted, AreReadyBy, IsDamaged, IsDamagedAs, IsFoundFault, IsOfOther, IsOtherAs, IsTornFrom}
+use Rattle.raft_engine.specs.OpeningAsks.{asks_that_tell, missing_asks, opening_asks}
+use Rattle.raft_engine.specs.StoredFound.{AreReady, found_asks}
+use Rattle.raft_engine.specs.declared.missing.Missing.{Missing}
+use Rattle.raft_engine.specs.declared.missing.Missing.TheVariants.{Nothing, FirstFile, Cut}
+use Rattle.raft_engine.proofs.FoundLemmas.{one_last}
+
+no_last : {A : Type 0} (closed : List A) (last : A) → [] ≡ closed ++ last ∷ [] → ⊥
+no_last [] last e = absurd cc
+no_last (c ∷ closed) last e = absurd cc
+
+module _ (queue : LogQueue) (version : Version) (files : List NumberedBytes) (rising : AreRisingFrom 0 (numbers files)) where
+  -- ---- no file
+
+  module _ (none : files ≡ []) where
+    pub first_accepted : AreAccepted queue version files
+    first_accepted = record {
+      rising = rising;
+      undamaged = λ d. no_last d.closed d.last (sym none ∙ d.split);
+      of_version = λ o. no_last o.closed o.last (sym none ∙ o.split);
+    }
+
+    pub first_ready : (missing : Missing) (left : List NumberedBytes) → missing ≡ FirstFile → left ≡ (1, []) ∷ [] → AreReadyBy queue version (missing_asks queue missing) files left
+    first_ready missing left is first asks = record {
+      rising = rising;
+      ready = inl (record { none = none; asked = ap (λ (m : Missing). missing_asks queue m ++ asks) is; first = first });
+    }
+
+    pub first_so : (r : Result Missing Error) (left : List NumberedBytes) → IfOk r (λ missing. missing ≡ FirstFile) → OnOk r (left ≡ (1, []) ∷ [])
+        → IfOk r (λ missing. AreReadyBy queue version (missing_asks queue missing) files left) × OnOk r (AreAccepted queue version files)
+    first_so (Err e) left is first = (tt, tt)
+    first_so (Ok missing) left is first = (first_ready missing left is first, first_accepted)
+
+  -- ---- the last file
+
+  module _ (closed : List NumberedBytes) (last : NumberedBytes) (split : files ≡ closed ++ last ∷ []) where
+    is_last : (closed' : List NumberedBytes) (last' : NumberedBytes) → files ≡ closed' ++ last' ∷ [] → last' ≡ last
+    is_last closed' last' e = one_last closed' closed last' last (sym e ∙ split)
+
+    pub last_accepted : ¬ (IsDamaged (whole_file queue version last)) → ¬ (IsOfOther (whole_file queue version last)) → AreAccepted queue version files
+    last_accepted undamaged of_version = record {
+      rising = rising;
+      undamaged = λ d. undamaged (subst (λ (f : NumberedBytes). IsDamaged (whole_file queue version f)) (is_last d.closed d.last d.split) d.damaged);
+      of_version = λ o. of_version (subst (λ (f : NumberedBytes). IsOfOther (whole_file queue version f)) (is_last o.closed o.last o.split) o.other);
+    }
+
+    pub last_fault : (e : Error) → IsDamagedAs (whole_file queue version last) e ⊎ IsOtherAs (whole_file queue version last) e → IsFoundFault queue version files e
+    last_fault e (inl d) = inr (inl (record { closed = closed; last = last; split = split; damaged = d }))
+    last_fault e (inr o) = inr (inr (record { closed = closed; last = last; split = split; other = o }))
+
+    pub untorn_ready : StopsAt (whole_file queue version last) (length last.1) → AreReadyBy queue version (missing_asks queue Nothing) files files
+    untorn_ready stops asks = record {
+      rising = rising;
+      ready = inr (inl (record {
+        asked = refl;
+        same = refl;
+        ends = λ closed' last' e. subst (λ (f : NumberedBytes). StopsAt (whole_file queue version f) (length f.1)) (sym (is_last closed' last' e)) stops;
+      }));
+    }
+
+    pub cut_ready : (at : ℕ) (missing : Missing) (left : List NumberedBytes) → IsTornFrom (whole_file queue version last) (Some at) → missing ≡ Cut at → left ≡ cut_last at files
+        → AreReadyBy queue version (missing_asks queue missing) files left
+    cut_ready at missing left torn is cut asks = record {
+      rising = rising;
+      ready = inr (inr (record {
+        at = at;
+        closed = closed;
+        last = last;
+        split = split;
+        torn = torn;
+        asked = ap (λ (m : Missing). missing_asks queue m ++ asks) is;
+        cut = cut;
+      }));
+    }
+
+-- ---- both queues
+
+pub both_ready : (version : Version) (append rewrite append_left rewrite_left : List NumberedBytes) (append_missing rewrite_missing : List Ask)
+    → AreReadyBy Append version append_missing append append_left → AreReadyBy Rewrite version rewrite_missing rewrite rewrite_left
+    → AreReady version append rewrite append_left rewrite_left (rewrite_missing ++ (append_missing ++ found_asks append rewrite))
+both_ready version append rewrite append_left rewrite_left append_missing rewrite_missing a b = record {
+  between = append_missing ++ found_asks append rewrite;
+  append_ready = a (found_asks append rewrite);
+  rewrite_ready = b (append_missing ++ found_asks append rewrite);
+}
+
+pub opening_split : (version : Version) (append_missing rewrite_missing : List Ask) (seq : ℕ) (told : Batch) (first : List Ask)
+    → opening_asks version append_missing rewrite_missing seq told ++ first ≡ asks_that_tell version seq told told.items ++ (rewrite_missing ++ (append_missing ++ first))
+opening_split version append_missing rewrite_missing seq told first =
+    append_assoc (asks_that_tell version seq told told.items) (rewrite_missing ++ append_missing) first
+    ∙ ap (λ (l : List Ask). asks_that_tell version seq told told.items ++ l) (append_assoc rewrite_missing append_missing first)

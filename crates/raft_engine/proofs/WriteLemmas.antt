@@ -1,0 +1,260 @@
+-- What an engine keeps once a batch is written.
+use Rattle.std.proofs.Common.{◌≡◌, ◌⊎◌, inl, inr, ℕ, ◌+◌, Bool, true, false, List, [], ◌∷◌, ◌++◌, Some, Result, Ok, Err, IfErr, OnOk, OnErr, length, map, refl, sym, ap, ◌∙◌, subst, append-nil}
+use Rattle.raft_base.specs.Signature.{signature_in}
+use Rattle.raft_base.specs.declared.compression_type.CompressionType.TheVariants as compressions
+use Rattle.raft_base.specs.declared.errors.Error.{Error}
+use Rattle.raft_base.specs.declared.pipe_log.FileId.{FileId}
+use Rattle.raft_base.specs.declared.pipe_log.LogFileContext.{LogFileContext}
+use Rattle.raft_base.specs.declared.pipe_log.LogQueue.TheVariants.{Append, Rewrite}
+use Rattle.raft_base.specs.declared.pipe_log.Version.{Version}
+use Rattle.raft_records.proofs.FrameLemmas.{log_batch_length}
+use Rattle.raft_records.specs.Item.{Item}
+use Rattle.raft_records.specs.ItemBatch.{placed_item}
+use Rattle.raft_records.specs.LogBatch.{Batch, empty_batch, encoded, encoded_length, entry_place, with_batch}
+use Rattle.raft_history.specs.Batches.{Event}
+use Rattle.raft_history.specs.RegionSteps.{Tables}
+use Rattle.raft_accessor.specs.Accessor.{Accessor}
+use Rattle.raft_accessor.specs.AppendChecks.{AreAccepted, AreAcceptedOncePlaced}
+use Rattle.raft_accessor.specs.Writes.{Appending, AreWritten, after_items}
+use Rattle.raft_files.specs.Asks.{Ask, MayBeAsked, NumberedBytes, Put, Sync, acts_on, ask}
+use Rattle.raft_files.specs.Disk.{begun, deletions}
+use Rattle.raft_recover.specs.Files.{FilesHold}
+use Rattle.raft_engine_laws.specs.Telling.{TakeAway, taking_items, told_items}
+use Rattle.raft_engine_fronts.specs.Fronts.{ArePutWhole, WrittenBatchIsPut}
+use Rattle.raft_engine_fronts.proofs.TornLemmas.{whole_torn}
+use Rattle.raft_engine.specs.BatchBytes.{bytes_for, event_at, place_at, placed_at}
+use Rattle.raft_engine.specs.KeptEngine.{IsLastFile, KeptEngine}
+use Rattle.raft_engine.specs.KeptEngineView.{AreFilesOf, IsKeptBy}
+use Rattle.raft_engine.specs.Stored.{AreKeptStored}
+use Rattle.raft_engine.specs.StoredAsks.{IsWritableBatch, SyncsAreStored, WrittenBatchesAreStored}
+use Rattle.raft_engine.specs.WrittenBatch.{AreFirstWritten, IsHalfWritten, IsOneMore, IsUnwritten, file_of, synced_if}
+use Rattle.raft_engine.specs.declared.queue_files.QueueFiles.{QueueFiles}
+use Rattle.raft_engine.proofs.FilesLemmas.{files_last, files_put, files_same}
+use Rattle.raft_engine.proofs.UntoldLemmas.{away-append, raised_same}
+
+-- a batch that can be put, and that the tables accept
+pub record IsReady (tables : Tables) (batch : Batch) : Type 0 where
+  pub writable : IsWritableBatch batch
+  pub accepted : AreAcceptedOncePlaced tables batch.items
+
+-- what is told of a batch, behind what was untold
+pub merged : (old taken new : Batch) (told : List Item) → new ≡ with_batch old taken → taken ≡ record empty_batch { items = told } → TakeAway told → new ≡ record old { items = old.items ++ told }
+merged old taken new told is are away =
+    is ∙ ap (with_batch old) are ∙ ap (λ (l : List Item). record old { items = old.items ++ l; entry_bytes = old.entry_bytes ++ [] }) (raised_same (length old.entry_bytes) told away)
+    ∙ ap (λ (b : List ℕ). record old { items = old.items ++ told; entry_bytes = b }) (append-nil old.entry_bytes)
+
+-- a sync changes no file
+begun_if : (sync : Bool) (asks : List Ask) → begun (acts_on Append (synced_if sync asks)) ≡ begun (acts_on Append asks)
+begun_if true asks = refl
+begun_if false asks = refl
+
+gone_if : (sync : Bool) (asks : List Ask) → deletions (acts_on Append (synced_if sync asks)) ≡ deletions (acts_on Append asks)
+gone_if true asks = refl
+gone_if false asks = refl
+
+others_if : (sync : Bool) (asks : List Ask) → acts_on Rewrite (synced_if sync asks) ≡ acts_on Rewrite asks
+others_if true asks = refl
+others_if false asks = refl
+
+parts_if : (sync : Bool) (a : Ask) → synced_if sync (a ∷ []) ≡ synced_if sync [] ++ a ∷ []
+parts_if true a = refl
+parts_if false a = refl
+
+front_if : (sync : Bool) (a : Ask) (asks : List Ask) → synced_if sync (a ∷ asks) ≡ synced_if sync (a ∷ []) ++ asks
+front_if true a asks = refl
+front_if false a asks = refl
+
+same_after : (a b : Tables) → Some a ≡ Some b → a ≡ b
+same_after a b e = cc
+
+module _
+    (written : WrittenBatchesAreStored) (synced : SyncsAreStored)
+    (version : Version) (asks : List Ask) (append rewrite : QueueFiles) (untold : Batch) (accessor : Accessor) (intact : Bool)
+    (k : IsKeptBy version asks append rewrite untold accessor intact) (is_intact : intact ≡ true)
+    (batch : Batch) (ready : IsReady accessor.tables batch)
+    (file : LogFileContext) (is_file : file ≡ record { id = record { queue = Append; seq = append.seq }; version = version })
+    (made : Batch) (is_made : made ≡ record batch { stage = encoded }) where
+  abbrev engine : KeptEngine
+  engine = record { version = version; asks = asks; untold = untold; accessor = accessor; intact = intact }
+
+  abbrev id : FileId
+  id = record { queue = Append; seq = append.seq }
+
+  abbrev its_ask : Ask
+  its_ask = ask Append (Put (bytes_for (record { id = id; version = version }) batch))
+
+  abbrev told : List Item
+  told = told_items (taking_items accessor.tables batch.items)
+
+  abbrev old_bytes : List ℕ
+  old_bytes = (k.whole is_intact).append_files.bytes
+
+  its_last : IsLastFile Append asks append.seq old_bytes
+  its_last = files_last Append asks append (k.whole is_intact).append_files
+
+  accepted : AreAccepted accessor.tables (placed_at id append.len batch)
+  accepted = ready.accepted (entry_place (place_at id append.len batch) batch.entry_bytes) compressions.None refl
+
+  -- a batch whose bytes are put is stored as the tables that take it
+  put_stored : AreKeptStored version (its_ask ∷ asks) k.base (k.untold ++ told) accepted.after
+  put_stored =
+      let w = k.whole is_intact in
+      let taken : after_items Appending accessor.tables (placed_at id (length old_bytes) batch) ≡ Some accepted.after =
+      subst (λ (n : ℕ). after_items Appending accessor.tables (placed_at id n batch) ≡ Some accepted.after) w.append_files.ends accepted.taken in
+      written version asks k.base k.untold accessor.tables accepted.after append.seq old_bytes batch its_last ready.writable taken
+      (subst (λ (m : Tables). AreKeptStored version asks k.base k.untold m) (sym w.are_tables) k.stored)
+
+  -- the batch whose bytes are made has the same ones
+  ask_made : ask file.id.queue (Put (bytes_for file made)) ∷ asks ≡ its_ask ∷ asks
+  ask_made =
+      ap (λ (f : LogFileContext). ask f.id.queue (Put (bytes_for f made)) ∷ asks) is_file
+      ∙ ap (λ (b : Batch). ask Append (Put (bytes_for (record { id = id; version = version }) b)) ∷ asks) is_made
+
+  placed_made : placed_at file.id append.len made ≡ placed_at id append.len batch
+  placed_made = ap (λ (f : LogFileContext). placed_at f.id append.len made) is_file ∙ ap (λ (b : Batch). placed_at id append.len b) is_made
+
+  -- the batch is half written
+  half_by : (sync : Bool) (new : List Ask) (untold' : Batch) (other : Accessor) (missing part : List Ask) → synced_if sync (its_ask ∷ []) ≡ missing ++ part → new ≡ part ++ asks
+      → (other ≡ accessor) ⊎ ((missing ≡ []) × AreFirstWritten Appending (placed_at id (length old_bytes) batch) accessor other)
+      → IsHalfWritten sync batch engine (record { version = version; asks = new; untold = untold'; accessor = other; intact = false })
+  half_by sync new untold' other missing part split e tables = record {
+    seq = append.seq;
+    bytes = old_bytes;
+    last = its_last;
+    accepted = ready.accepted;
+    half = record { was = is_intact; is = refl; same = refl; missing = missing; made = part; split = split; asked = e };
+    tables = tables;
+  }
+
+  module _ (sync : Bool) (new : List Ask) (untold' : Batch) (other : Accessor) where
+    pub half_written : MayBeAsked (ask file.id.queue (Put (bytes_for file made))) asks new → other ≡ accessor
+        → IsHalfWritten sync batch engine (record { version = version; asks = new; untold = untold'; accessor = other; intact = false })
+    half_written (inl e) same = half_by sync new untold' other _ [] (sym (append-nil _)) e (inl same)
+    half_written (inr e) same = half_by sync new untold' other (synced_if sync []) (its_ask ∷ []) (parts_if sync its_ask) (e ∙ ask_made) (inl same)
+
+    pub whole_asked : new ≡ synced_if sync (ask file.id.queue (Put (bytes_for file made)) ∷ asks)
+        → (items : List Item) → items ≡ placed_at file.id append.len made → AreFirstWritten Appending items accessor other
+        → IsHalfWritten sync batch engine (record { version = version; asks = new; untold = untold'; accessor = other; intact = false })
+    whole_asked e items placed first =
+        let are_items = placed ∙ placed_made ∙ ap (λ (n : ℕ). placed_at id n batch) (k.whole is_intact).append_files.ends in
+        half_by sync new untold' other [] _ refl (e ∙ ap (synced_if sync) ask_made ∙ front_if sync its_ask asks)
+        (inr (refl, subst (λ (l : List Item). AreFirstWritten Appending l accessor other) are_items first))
+
+  -- the bytes were put or not, and the engine isn't intact any more
+  pub kept_half : (new : List Ask) (append' rewrite' : QueueFiles) (untold' : Batch) (other : Accessor) → MayBeAsked (ask file.id.queue (Put (bytes_for file made))) asks new → IsKeptBy version new append' rewrite' untold' other false
+  kept_half new append' rewrite' untold' other (inl e) = record {
+    base = k.base;
+    untold = k.untold;
+    tables = k.tables;
+    stored = subst (λ (l : List Ask). AreKeptStored version l k.base k.untold k.tables) (sym e) k.stored;
+    whole = λ no. absurd cc;
+  }
+  kept_half new append' rewrite' untold' other (inr e) = record {
+    base = k.base;
+    untold = k.untold ++ told;
+    tables = accepted.after;
+    stored = subst (λ (l : List Ask). AreKeptStored version l k.base (k.untold ++ told) accepted.after) (sym (e ∙ ask_made)) put_stored;
+    whole = λ no. absurd cc;
+  }
+
+  module _ (sync : Bool) (half new : List Ask) (is_half : half ≡ ask file.id.queue (Put (bytes_for file made)) ∷ asks) (is_new : new ≡ synced_if sync half) (other : Accessor) where
+    are_new : new ≡ synced_if sync (its_ask ∷ asks)
+    are_new = is_new ∙ ap (synced_if sync) (is_half ∙ ask_made)
+
+    stored_if : (s : Bool) → AreKeptStored version (synced_if s (its_ask ∷ asks)) k.base (k.untold ++ told) accepted.after
+    stored_if true = synced Append version (its_ask ∷ asks) k.base (k.untold ++ told) accepted.after put_stored
+    stored_if false = put_stored
+
+    new_stored : AreKeptStored version new k.base (k.untold ++ told) accepted.after
+    new_stored = subst (λ (l : List Ask). AreKeptStored version l k.base (k.untold ++ told) accepted.after) (sym are_new) (stored_if sync)
+
+    -- the bytes were put, and synced where that was wanted, and the engine isn't intact any more
+    pub kept_put : (append' rewrite' : QueueFiles) (untold' : Batch) → IsKeptBy version new append' rewrite' untold' other false
+    kept_put append' rewrite' untold' = record { base = k.base; untold = k.untold ++ told; tables = accepted.after; stored = new_stored; whole = λ no. absurd cc }
+
+    -- the append files hold the batch behind those that they held
+    held_more : (put : WrittenBatchIsPut) (h : List Event) → FilesHold Append version (begun (acts_on Append asks)) h
+        → FilesHold Append version (begun (acts_on Append new)) (h ++ event_at id (length old_bytes) batch ∷ [])
+    held_more put h holds =
+        let w = ready.writable in
+        let before : ArePutWhole Append version (Sync ∷ acts_on Append asks) h h = record { put = (refl, whole_torn Append version (begun (acts_on Append asks)) h holds); whole = holds } in
+        let p = put Append version (Sync ∷ acts_on Append asks) h h its_last.closed (append.seq, old_bytes) (place_at id (length old_bytes) batch) batch.items batch.entry_bytes
+        w.tiled w.in_range w.in_bytes w.some w.short refl refl its_last.files before in
+        subst (λ (files : List NumberedBytes). FilesHold Append version files (h ++ event_at id (length old_bytes) batch ∷ []))
+        (sym (ap (λ (l : List Ask). begun (acts_on Append l)) are_new ∙ begun_if sync (its_ask ∷ asks))) p.whole
+
+    module _ (items : List Item) (are_items : items ≡ placed_at file.id append.len made) (applied : AreWritten Appending items accessor other)
+        (taken untold' : Batch) (is_taken : taken ≡ record empty_batch { items = told }) (is_untold : untold' ≡ with_batch untold taken) (away : TakeAway told) where
+      written_too : AreWritten Appending (placed_at id append.len batch) accessor other
+      written_too = subst (λ (l : List Item). AreWritten Appending l accessor other) (are_items ∙ placed_made) applied
+
+      untold_more : untold' ≡ record untold { items = untold.items ++ told }
+      untold_more = merged untold taken untold' told is_untold is_taken away
+
+      -- the batch is written to the tables too
+      pub kept_more : (n : ℕ) (append' : QueueFiles) → n ≡ encoded_length batch.items batch.entry_bytes
+          → append'.closed.items ≡ append.closed.items → append'.seq ≡ append.seq → append'.len ≡ append.len + n → IsKeptBy version new append' rewrite untold' other true
+      kept_more n append' long closed seq len =
+          let w = k.whole is_intact in
+          let bytes : List ℕ = bytes_for (record { id = id; version = version }) batch in
+          let size : n ≡ length bytes = long ∙ sym (log_batch_length (signature_in version append.seq) batch.items batch.entry_bytes) in
+          let put = files_put asks bytes append append' closed seq (len ∙ ap (λ (m : ℕ). append.len + m) size) w.append_files in
+          let files = files_same Append (its_ask ∷ asks) (synced_if sync (its_ask ∷ asks)) append' append' (begun_if sync (its_ask ∷ asks)) (gone_if sync (its_ask ∷ asks)) refl refl refl put in
+          let others = files_same Rewrite asks (synced_if sync (its_ask ∷ asks)) rewrite rewrite (ap begun (others_if sync (its_ask ∷ asks))) (ap deletions (others_if sync (its_ask ∷ asks))) refl refl refl w.rewrite_files in record {
+            base = k.base;
+            untold = k.untold ++ told;
+            tables = accepted.after;
+            stored = new_stored;
+            whole = λ i. record {
+              are_tables = same_after other.tables accepted.after (sym written_too.tables ∙ accepted.taken);
+              are_untold = untold_more ∙ ap (λ (b : Batch). record b { items = b.items ++ told }) w.are_untold;
+              take_away = away-append k.untold told w.take_away away;
+              append_files = subst (λ (l : List Ask). AreFilesOf Append l append') (sym are_new) files;
+              rewrite_files = subst (λ (l : List Ask). AreFilesOf Rewrite l rewrite) (sym are_new) others;
+            };
+          }
+
+      -- one batch more
+      pub one_more : (put : WrittenBatchIsPut) → IsOneMore sync batch engine (record { version = version; asks = new; untold = untold'; accessor = other; intact = true })
+      one_more put = record {
+        seq = append.seq;
+        bytes = old_bytes;
+        last = its_last;
+        asked = are_new;
+        held = held_more put;
+        applied = subst (λ (n : ℕ). AreWritten Appending (placed_at id n batch) accessor other) (k.whole is_intact).append_files.ends written_too;
+        untold = untold_more;
+        others = ap (λ (b : Bool). record { version = version; asks = new; untold = untold'; accessor = other; intact = b }) (sym is_intact);
+      }
+
+-- ---- a batch without items
+
+-- tables accept no items
+none_accepted : (tables : Tables) (items : List Item) → items ≡ [] → AreAcceptedOncePlaced tables items
+none_accepted tables items none = λ place compression queue.
+    subst (λ (l : List Item). AreAccepted tables (map (placed_item place compression) l)) (sym none) (record { asked = tt; after = tables; taken = refl })
+
+pub none_tested : {X E : Type 0} (r : Result X E) (tables : Tables) (items : List Item) → items ≡ [] → OnOk r (AreAcceptedOncePlaced tables items)
+none_tested (Ok x) tables items none = none_accepted tables items none
+none_tested (Err e) tables items none = tt
+
+-- nothing is asked for it where its sync fails
+pub none_written : {X : Type 0} (r : Result X Error) (sync : Bool) (batch left : Batch) (old new : KeptEngine) (seq : ℕ) (bytes : List ℕ) → IsLastFile Append old.asks seq bytes
+    → old.intact ≡ true → batch.items ≡ [] → OnErr r (new ≡ record old { intact = false }) → IfErr r (IsUnwritten sync batch left old new)
+none_written (Ok x) sync batch left old new seq bytes last intact none e = tt
+none_written (Err x) sync batch left old new seq bytes last intact none e = inr (record {
+  seq = seq;
+  bytes = bytes;
+  last = last;
+  accepted = none_accepted old.accessor.tables batch.items none;
+  half = record {
+    was = intact;
+    is = ap (λ (o : KeptEngine). o.intact) e;
+    same = ap (λ (o : KeptEngine). o.version) e;
+    missing = synced_if sync (ask Append (Put (bytes_for (file_of Append old seq) batch)) ∷ []);
+    made = [];
+    split = sym (append-nil _);
+    asked = ap (λ (o : KeptEngine). o.asks) e;
+  };
+  tables = inl (ap (λ (o : KeptEngine). o.accessor) e);
+})

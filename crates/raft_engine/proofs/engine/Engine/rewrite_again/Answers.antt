@@ -1,0 +1,42 @@
+use Rattle.std.proofs.Common.{None, inl, inr, subst, sym}
+use Rattle.std.proofs.lemmas.Result.{err_from_is_err_and}
+use Rattle.raft_engine.specs.KeptEngine.{KeptEngine}
+use Rattle.raft_engine.specs.Moved.{AreRegions, AreRegionsRewritten, AreSomeRewritten}
+use Rattle.raft_engine.specs.MovedAgain.{AreMovedAgain, AreUnmovedAgain}
+use Rattle.raft_engine.proofs.RewrittenRegions.{if_err_so, ok_so}
+use Rattle.raft_engine.proofs.engine.Engine.rewrite_again.Goals as goal
+
+pub returns-in_err-rotate_rewrite-clause-err : goal.returns-in_err-rotate_rewrite-clause-err
+returns-in_err-rotate_rewrite-clause-err g c =
+    let p = err_from_is_err_and c.from_residual-in_err-rotate_rewrite.result c.from_residual-in_err-rotate_rewrite.ensures.1 in
+    rw (p.1, p.2)
+    (inr (inl (record { was = c.in_ok-tell.ensures.accepted; told = c.tell.new.self; is_told = c.in_ok-tell.ensures.ok; unbegun = c.in_err-rotate_rewrite.ensures.err })))
+
+pub returns-clause-ok : goal.returns-clause-ok
+returns-clause-ok g c =
+    ok_so (AreRegionsRewritten None c.as_slice.result.now c.rotate_rewrite.new.self c.rewrite_regions.new.self) (AreMovedAgain c.args.self.now c.rewrite_regions.new.self) c.rewrite_regions.result
+    (λ moved. record {
+      told = c.tell.new.self;
+      is_told = c.in_ok-tell.ensures.ok;
+      begun = c.rotate_rewrite.new.self;
+      is_begun = c.in_ok-rotate_rewrite.ensures.ok;
+      regions = c.as_slice.result.now;
+      all = subst (λ (o : KeptEngine). AreRegions o.accessor.tables c.as_slice.result.now) c.self.view_is
+          (subst (AreRegions c.self.inside.accessor.tables) (sym c.as_slice.ensures.value) c.in_ok-regions.ensures.ok);
+      moved = moved;
+    }) c.rewrite_regions.ensures.ok
+
+pub returns-clause-err : goal.returns-clause-err
+returns-clause-err g c =
+    if_err_so (AreSomeRewritten None c.as_slice.result.now c.rotate_rewrite.new.self c.rewrite_regions.new.self) (AreUnmovedAgain c.args.self.now c.rewrite_regions.new.self) c.rewrite_regions.result
+    (λ e some. inr (inr (record {
+      was = c.in_ok-tell.ensures.accepted;
+      told = c.tell.new.self;
+      is_told = c.in_ok-tell.ensures.ok;
+      begun = c.rotate_rewrite.new.self;
+      is_begun = c.in_ok-rotate_rewrite.ensures.ok;
+      regions = c.as_slice.result.now;
+      all = subst (λ (o : KeptEngine). AreRegions o.accessor.tables c.as_slice.result.now) c.self.view_is
+          (subst (AreRegions c.self.inside.accessor.tables) (sym c.as_slice.ensures.value) c.in_ok-regions.ensures.ok);
+      some = some;
+    }))) c.rewrite_regions.ensures.err

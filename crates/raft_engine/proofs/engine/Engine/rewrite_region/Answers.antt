@@ -1,0 +1,240 @@
+use Rattle.std.proofs.lemmas.Result.{err_from_is_err_and}
+use Rattle.std.proofs.Common.{rules, ◌≡◌, ◌≢◌, ◌<◌, ◌^◌, List, [], true, false, inr, refl, sym, ap, ◌∙◌, subst}
+use Rattle.raft_base.specs.declared.errors.Error.TheVariants as errors
+use Rattle.raft_base.specs.declared.pipe_log.FileId.{FileId}
+use Rattle.raft_files.specs.Asks.{Ask}
+use Rattle.raft_engine.specs.KeptEngine.{KeptEngine}
+use Rattle.raft_engine.specs.Moved.{IsReady, IsRegionHalfMoved, IsRegionMoved, IsRegionUnmoved}
+use Rattle.raft_engine.specs.Reads.{AreOnlyRead}
+use Rattle.raft_engine.specs.StoredAsks.{IsWritableBatch}
+use Rattle.raft_engine.proofs.KeptMoves.{batch_refused, bytes_refused, file_refused, half_moved, kept_moved, kept_read, made_applied, made_asked, made_broken, made_first, made_half, none_moved, put_broken, region_moved}
+use Rattle.raft_engine.proofs.ReadKept.{read_only}
+use Rattle.raft_engine.proofs.RefusalLemmas.{rewrite_full}
+use Rattle.raft_engine.proofs.engine.Engine.rewrite_region.Goals as goal
+
+pub invariant_of-self : goal.invariant_of-self
+invariant_of-self g c =
+    let e = c.self.inside in
+    let old : List Ask = g.F.EngineFiles.asked e.files in
+    let between : List Ask = g.F.EngineFiles.asked c.moving_batch.new.files in
+    kept_read c.moves_are_stored.ensures.read e.version old e.append e.rewrite e.untold e.accessor e.intact c.self.invariant between c.in_err-batch.ensures.err
+
+pub invariant_of-self-then-is_empty : goal.invariant_of-self-then-is_empty
+invariant_of-self-then-is_empty g c =
+    let e = c.self.inside in
+    let old : List Ask = g.F.EngineFiles.asked e.files in
+    let between : List Ask = g.F.EngineFiles.asked c.moving_batch.new.files in
+    let m = c.in_ok-batch.ensures.ok in
+    let reads : AreOnlyRead old between = read_only _ m.strings old between m.read in
+    kept_read c.moves_are_stored.ensures.read e.version old e.append e.rewrite e.untold e.accessor e.intact c.self.invariant between reads
+
+pub returns-then-is_empty-clause-ok : goal.returns-then-is_empty-clause-ok
+returns-then-is_empty-clause-ok g c =
+    let e = c.self.inside in
+    let old : List Ask = g.F.EngineFiles.asked e.files in
+    let between : List Ask = g.F.EngineFiles.asked c.moving_batch.new.files in
+    let m = c.in_ok-batch.ensures.ok in
+    let ready : IsReady (record { version = e.version; asks = old; untold = e.untold; accessor = e.accessor; intact = e.intact }) = subst IsReady (sym c.self.view_is) c.requires in
+    let empty : c.in_ok-batch.batch.items ≡ [] = search rules in
+    inr (subst (λ (o : KeptEngine). IsRegionMoved c.args.gate c.args.region o (record { version = e.version; asks = between; untold = e.untold; accessor = e.accessor; intact = e.intact })) c.self.view_is
+    (none_moved c.moves_are_stored.ensures.read e.version old e.append e.rewrite e.untold e.accessor e.intact c.self.invariant
+    c.moves_are_stored.ensures.moved ready.intact ready.synced ready.told c.args.gate c.args.region c.in-Some.table.now (sym c.in-Some.ensures.value) c.in-Some.ensures.own c.holds_one_run.ensures
+    between c.in_ok-batch.batch m empty))
+
+pub invariant_of-self-in_err-len : goal.invariant_of-self-in_err-len
+invariant_of-self-in_err-len g c =
+    let e = c.self.inside in
+    let old : List Ask = g.F.EngineFiles.asked e.files in
+    let between : List Ask = g.F.EngineFiles.asked c.moving_batch.new.files in
+    let m = c.in_ok-batch.ensures.ok in
+    let reads : AreOnlyRead old between = read_only _ m.strings old between m.read in
+    kept_read c.moves_are_stored.ensures.read e.version old e.append e.rewrite e.untold e.accessor e.intact c.self.invariant between reads
+
+pub returns-then-self-gt-LAST_OFFSET-clause-err : goal.returns-then-self-gt-LAST_OFFSET-clause-err
+returns-then-self-gt-LAST_OFFSET-clause-err g c =
+    let e = c.self.inside in
+    let old : List Ask = g.F.EngineFiles.asked e.files in
+    let ready : IsReady (record { version = e.version; asks = old; untold = e.untold; accessor = e.accessor; intact = e.intact }) = subst IsReady (sym c.self.view_is) c.requires in
+    let many : 2 ^ 63 < e.rewrite.len = search rules in
+    subst (λ (o : KeptEngine). IsRegionUnmoved c.args.gate c.args.region o o errors.Full) c.self.view_is
+    (file_refused c.moves_are_stored.ensures.read e.version old e.append e.rewrite e.untold e.accessor e.intact c.self.invariant c.args.gate c.args.region
+    (rewrite_full e.version old e.append e.rewrite e.untold e.accessor e.intact c.self.invariant ready.intact many))
+
+pub returns-in_err-batch-clause-err : goal.returns-in_err-batch-clause-err
+returns-in_err-batch-clause-err g c =
+    let e = c.self.inside in
+    let old : List Ask = g.F.EngineFiles.asked e.files in
+    let between : List Ask = g.F.EngineFiles.asked c.moving_batch.new.files in
+    let p = err_from_is_err_and c.from_residual.result c.from_residual.ensures.1 in
+    rw (p.1, p.2)
+    (subst (λ (o : KeptEngine). IsRegionUnmoved c.args.gate c.args.region o (record { version = e.version; asks = between; untold = e.untold; accessor = e.accessor; intact = e.intact }) c.in_err-batch.field-0.0) c.self.view_is
+    (batch_refused c.moves_are_stored.ensures.read e.version old e.append e.rewrite e.untold e.accessor e.intact c.self.invariant c.args.gate c.args.region
+    c.in-Some.table.now (sym c.in-Some.ensures.value) between c.in_err-batch.field-0.0 c.in_err-batch.ensures.err c.in_err-batch.ensures.refused))
+
+pub returns-in_err-len-clause-err : goal.returns-in_err-len-clause-err
+returns-in_err-len-clause-err g c =
+    let e = c.self.inside in
+    let old : List Ask = g.F.EngineFiles.asked e.files in
+    let between : List Ask = g.F.EngineFiles.asked c.moving_batch.new.files in
+    let m = c.in_ok-batch.ensures.ok in
+    let ready : IsReady (record { version = e.version; asks = old; untold = e.untold; accessor = e.accessor; intact = e.intact }) = subst IsReady (sym c.self.view_is) c.requires in
+    let p = err_from_is_err_and c.from_residual-in_err-len.result c.from_residual-in_err-len.ensures.1 in
+    rw (p.1, p.2)
+    (subst (λ (o : KeptEngine). IsRegionUnmoved c.args.gate c.args.region o (record { version = e.version; asks = between; untold = e.untold; accessor = e.accessor; intact = e.intact }) c.in_err-len.field-0.0) c.self.view_is
+    (bytes_refused c.moves_are_stored.ensures.read e.version old e.append e.rewrite e.untold e.accessor e.intact c.self.invariant
+    c.moves_are_stored.ensures.moved ready.intact ready.synced ready.told c.args.gate c.args.region c.in-Some.table.now (sym c.in-Some.ensures.value) c.in-Some.ensures.own c.holds_one_run.ensures
+    between c.in_ok-batch.batch m c.in_err-len.field-0.0 c.in_err-len.ensures.fault))
+
+pub invariant_of-self-in_err-put : goal.invariant_of-self-in_err-put
+invariant_of-self-in_err-put g c =
+    let e = c.self.inside in
+    let old : List Ask = g.F.EngineFiles.asked e.files in
+    let between : List Ask = g.F.EngineFiles.asked c.moving_batch.new.files in
+    let m = c.in_ok-batch.ensures.ok in
+    let ready : IsReady (record { version = e.version; asks = old; untold = e.untold; accessor = e.accessor; intact = e.intact }) = subst IsReady (sym c.self.view_is) c.requires in
+    let some : c.in_ok-batch.batch.items ≢ [] = search rules in
+    let w : IsWritableBatch c.in_ok-batch.batch = record {
+      tiled = c.is_read_again.ensures.tiled;
+      in_range = c.is_read_again.ensures.in_range;
+      in_bytes = c.is_read_again.ensures.in_bytes;
+      some = some;
+      short = c.in_ok-len.ensures.accepted;
+    } in
+    let file = c.new-file.ensures ∙ ap (λ (id : FileId). record { id = id; version = e.version }) c.new.ensures in
+    made_broken c.moves_are_stored.ensures.read e.version old e.append e.rewrite e.untold e.accessor e.intact c.self.invariant
+    c.moves_are_stored.ensures.moved ready.intact ready.synced ready.told c.args.gate c.args.region c.in-Some.table.now (sym c.in-Some.ensures.value) c.in-Some.ensures.own c.holds_one_run.ensures
+    between c.in_ok-batch.batch m w c.new-file.result file c.finish_populate.new.self c.in_ok-len.ensures.ok
+    c.moves_are_stored.ensures.put (g.F.EngineFiles.asked c.put.new.files) e.append e.rewrite e.untold e.accessor c.in_err-put.ensures.err
+
+pub returns-in_err-put-clause-err : goal.returns-in_err-put-clause-err
+returns-in_err-put-clause-err g c =
+    let e = c.self.inside in
+    let old : List Ask = g.F.EngineFiles.asked e.files in
+    let between : List Ask = g.F.EngineFiles.asked c.moving_batch.new.files in
+    let m = c.in_ok-batch.ensures.ok in
+    let ready : IsReady (record { version = e.version; asks = old; untold = e.untold; accessor = e.accessor; intact = e.intact }) = subst IsReady (sym c.self.view_is) c.requires in
+    let some : c.in_ok-batch.batch.items ≢ [] = search rules in
+    let w : IsWritableBatch c.in_ok-batch.batch = record {
+      tiled = c.is_read_again.ensures.tiled;
+      in_range = c.is_read_again.ensures.in_range;
+      in_bytes = c.is_read_again.ensures.in_bytes;
+      some = some;
+      short = c.in_ok-len.ensures.accepted;
+    } in
+    let file = c.new-file.ensures ∙ ap (λ (id : FileId). record { id = id; version = e.version }) c.new.ensures in
+    let p = err_from_is_err_and c.from_residual-in_err-put.result c.from_residual-in_err-put.ensures.1 in
+    rw (p.1)
+    (inr (subst (λ (o : KeptEngine). IsRegionHalfMoved c.args.gate c.args.region o (record { version = e.version; asks = (g.F.EngineFiles.asked c.put.new.files); untold = e.untold; accessor = e.accessor; intact = false })) c.self.view_is
+    (made_half c.moves_are_stored.ensures.read e.version old e.append e.rewrite e.untold e.accessor e.intact c.self.invariant
+    c.moves_are_stored.ensures.moved ready.intact ready.synced ready.told c.args.gate c.args.region c.in-Some.table.now (sym c.in-Some.ensures.value) c.in-Some.ensures.own c.holds_one_run.ensures
+    between c.in_ok-batch.batch m w c.new-file.result file c.finish_populate.new.self c.in_ok-len.ensures.ok (g.F.EngineFiles.asked c.put.new.files) c.in_err-put.ensures.err)))
+
+pub invariant_of-self-in_err-rewrite_items : goal.invariant_of-self-in_err-rewrite_items
+invariant_of-self-in_err-rewrite_items g c =
+    let e = c.self.inside in
+    let old : List Ask = g.F.EngineFiles.asked e.files in
+    let between : List Ask = g.F.EngineFiles.asked c.moving_batch.new.files in
+    let m = c.in_ok-batch.ensures.ok in
+    let ready : IsReady (record { version = e.version; asks = old; untold = e.untold; accessor = e.accessor; intact = e.intact }) = subst IsReady (sym c.self.view_is) c.requires in
+    let some : c.in_ok-batch.batch.items ≢ [] = search rules in
+    let w : IsWritableBatch c.in_ok-batch.batch = record {
+      tiled = c.is_read_again.ensures.tiled;
+      in_range = c.is_read_again.ensures.in_range;
+      in_bytes = c.is_read_again.ensures.in_bytes;
+      some = some;
+      short = c.in_ok-len.ensures.accepted;
+    } in
+    let file = c.new-file.ensures ∙ ap (λ (id : FileId). record { id = id; version = e.version }) c.new.ensures in
+    put_broken c.moves_are_stored.ensures.read e.version old e.append e.rewrite e.untold e.accessor e.intact c.self.invariant
+    c.moves_are_stored.ensures.moved ready.intact ready.synced ready.told c.args.gate c.args.region c.in-Some.table.now (sym c.in-Some.ensures.value) c.in-Some.ensures.own c.holds_one_run.ensures
+    between c.in_ok-batch.batch m w
+    c.moves_are_stored.ensures.put (g.F.EngineFiles.asked c.put.new.files) e.append e.rewrite e.untold c.rewrite_items.new.accessor
+    (made_asked c.moves_are_stored.ensures.read e.version old e.append e.rewrite e.untold e.accessor e.intact c.self.invariant
+    c.moves_are_stored.ensures.moved ready.intact ready.synced ready.told c.args.gate c.args.region c.in-Some.table.now (sym c.in-Some.ensures.value) c.in-Some.ensures.own c.holds_one_run.ensures
+    between c.in_ok-batch.batch m w c.new-file.result file c.finish_populate.new.self c.in_ok-len.ensures.ok (g.F.EngineFiles.asked c.put.new.files) c.in_ok-put.ensures.ok)
+
+pub returns-in_err-rewrite_items-clause-err : goal.returns-in_err-rewrite_items-clause-err
+returns-in_err-rewrite_items-clause-err g c =
+    let e = c.self.inside in
+    let old : List Ask = g.F.EngineFiles.asked e.files in
+    let between : List Ask = g.F.EngineFiles.asked c.moving_batch.new.files in
+    let m = c.in_ok-batch.ensures.ok in
+    let ready : IsReady (record { version = e.version; asks = old; untold = e.untold; accessor = e.accessor; intact = e.intact }) = subst IsReady (sym c.self.view_is) c.requires in
+    let some : c.in_ok-batch.batch.items ≢ [] = search rules in
+    let w : IsWritableBatch c.in_ok-batch.batch = record {
+      tiled = c.is_read_again.ensures.tiled;
+      in_range = c.is_read_again.ensures.in_range;
+      in_bytes = c.is_read_again.ensures.in_bytes;
+      some = some;
+      short = c.in_ok-len.ensures.accepted;
+    } in
+    let file = c.new-file.ensures ∙ ap (λ (id : FileId). record { id = id; version = e.version }) c.new.ensures in
+    let p = err_from_is_err_and c.from_residual-in_err-rewrite_items.result c.from_residual-in_err-rewrite_items.ensures.1 in
+    rw (p.1)
+    (inr (subst (λ (o : KeptEngine). IsRegionHalfMoved c.args.gate c.args.region o (record { version = e.version; asks = (g.F.EngineFiles.asked c.put.new.files); untold = e.untold; accessor = c.rewrite_items.new.accessor; intact = false })) c.self.view_is
+    (half_moved c.moves_are_stored.ensures.read e.version old e.append e.rewrite e.untold e.accessor e.intact c.self.invariant
+    c.moves_are_stored.ensures.moved ready.intact ready.synced ready.told c.args.gate c.args.region c.in-Some.table.now (sym c.in-Some.ensures.value) c.in-Some.ensures.own c.holds_one_run.ensures
+    between c.in_ok-batch.batch m w (g.F.EngineFiles.asked c.put.new.files) c.rewrite_items.new.accessor (inr (
+      made_asked c.moves_are_stored.ensures.read e.version old e.append e.rewrite e.untold e.accessor e.intact c.self.invariant
+          c.moves_are_stored.ensures.moved ready.intact ready.synced ready.told c.args.gate c.args.region c.in-Some.table.now (sym c.in-Some.ensures.value) c.in-Some.ensures.own c.holds_one_run.ensures
+          between c.in_ok-batch.batch m w c.new-file.result file c.finish_populate.new.self c.in_ok-len.ensures.ok (g.F.EngineFiles.asked c.put.new.files) c.in_ok-put.ensures.ok,
+      made_first c.moves_are_stored.ensures.read e.version old e.append e.rewrite e.untold e.accessor e.intact c.self.invariant
+          c.moves_are_stored.ensures.moved ready.intact ready.synced ready.told c.args.gate c.args.region c.in-Some.table.now (sym c.in-Some.ensures.value) c.in-Some.ensures.own c.holds_one_run.ensures
+          between c.in_ok-batch.batch m w c.new-file.result file c.finish_populate.new.self c.in_ok-len.ensures.ok c.put.new.batch.items c.rewrite_items.new.accessor c.in_ok-put.ensures.placed c.in_err-rewrite_items.ensures.err,
+    )))))
+
+pub invariant_of-self-2 : goal.invariant_of-self-2
+invariant_of-self-2 g c =
+    let e = c.self.inside in
+    let old : List Ask = g.F.EngineFiles.asked e.files in
+    let between : List Ask = g.F.EngineFiles.asked c.moving_batch.new.files in
+    let m = c.in_ok-batch.ensures.ok in
+    let ready : IsReady (record { version = e.version; asks = old; untold = e.untold; accessor = e.accessor; intact = e.intact }) = subst IsReady (sym c.self.view_is) c.requires in
+    let some : c.in_ok-batch.batch.items ≢ [] = search rules in
+    let w : IsWritableBatch c.in_ok-batch.batch = record {
+      tiled = c.is_read_again.ensures.tiled;
+      in_range = c.is_read_again.ensures.in_range;
+      in_bytes = c.is_read_again.ensures.in_bytes;
+      some = some;
+      short = c.in_ok-len.ensures.accepted;
+    } in
+    let file = c.new-file.ensures ∙ ap (λ (id : FileId). record { id = id; version = e.version }) c.new.ensures in
+    kept_moved c.moves_are_stored.ensures.read e.version old e.append e.rewrite e.untold e.accessor e.intact c.self.invariant
+    c.moves_are_stored.ensures.moved ready.intact ready.synced ready.told c.args.gate c.args.region c.in-Some.table.now (sym c.in-Some.ensures.value) c.in-Some.ensures.own c.holds_one_run.ensures
+    between c.in_ok-batch.batch m w (g.F.EngineFiles.asked c.put.new.files)
+    (made_asked c.moves_are_stored.ensures.read e.version old e.append e.rewrite e.untold e.accessor e.intact c.self.invariant
+    c.moves_are_stored.ensures.moved ready.intact ready.synced ready.told c.args.gate c.args.region c.in-Some.table.now (sym c.in-Some.ensures.value) c.in-Some.ensures.own c.holds_one_run.ensures
+    between c.in_ok-batch.batch m w c.new-file.result file c.finish_populate.new.self c.in_ok-len.ensures.ok (g.F.EngineFiles.asked c.put.new.files) c.in_ok-put.ensures.ok)
+    c.rewrite_items.new.accessor
+    (made_applied c.moves_are_stored.ensures.read e.version old e.append e.rewrite e.untold e.accessor e.intact c.self.invariant
+    c.moves_are_stored.ensures.moved ready.intact ready.synced ready.told c.args.gate c.args.region c.in-Some.table.now (sym c.in-Some.ensures.value) c.in-Some.ensures.own c.holds_one_run.ensures
+    between c.in_ok-batch.batch m w c.new-file.result file c.finish_populate.new.self c.in_ok-len.ensures.ok c.put.new.batch.items c.rewrite_items.new.accessor c.in_ok-put.ensures.placed c.in_ok-rewrite_items.ensures.ok)
+    _ c.in_ok-len.len c.in_ok-len.ensures.len refl refl refl
+
+pub returns-clause-ok : goal.returns-clause-ok
+returns-clause-ok g c =
+    let e = c.self.inside in
+    let old : List Ask = g.F.EngineFiles.asked e.files in
+    let between : List Ask = g.F.EngineFiles.asked c.moving_batch.new.files in
+    let m = c.in_ok-batch.ensures.ok in
+    let ready : IsReady (record { version = e.version; asks = old; untold = e.untold; accessor = e.accessor; intact = e.intact }) = subst IsReady (sym c.self.view_is) c.requires in
+    let some : c.in_ok-batch.batch.items ≢ [] = search rules in
+    let w : IsWritableBatch c.in_ok-batch.batch = record {
+      tiled = c.is_read_again.ensures.tiled;
+      in_range = c.is_read_again.ensures.in_range;
+      in_bytes = c.is_read_again.ensures.in_bytes;
+      some = some;
+      short = c.in_ok-len.ensures.accepted;
+    } in
+    let file = c.new-file.ensures ∙ ap (λ (id : FileId). record { id = id; version = e.version }) c.new.ensures in
+    inr (subst (λ (o : KeptEngine). IsRegionMoved c.args.gate c.args.region o (record { version = e.version; asks = (g.F.EngineFiles.asked c.put.new.files); untold = e.untold; accessor = c.rewrite_items.new.accessor; intact = true })) c.self.view_is
+    (region_moved c.moves_are_stored.ensures.read e.version old e.append e.rewrite e.untold e.accessor e.intact c.self.invariant
+    c.moves_are_stored.ensures.moved ready.intact ready.synced ready.told c.args.gate c.args.region c.in-Some.table.now (sym c.in-Some.ensures.value) c.in-Some.ensures.own c.holds_one_run.ensures
+    between c.in_ok-batch.batch m w (g.F.EngineFiles.asked c.put.new.files)
+    (made_asked c.moves_are_stored.ensures.read e.version old e.append e.rewrite e.untold e.accessor e.intact c.self.invariant
+    c.moves_are_stored.ensures.moved ready.intact ready.synced ready.told c.args.gate c.args.region c.in-Some.table.now (sym c.in-Some.ensures.value) c.in-Some.ensures.own c.holds_one_run.ensures
+    between c.in_ok-batch.batch m w c.new-file.result file c.finish_populate.new.self c.in_ok-len.ensures.ok (g.F.EngineFiles.asked c.put.new.files) c.in_ok-put.ensures.ok)
+    c.rewrite_items.new.accessor
+    (made_applied c.moves_are_stored.ensures.read e.version old e.append e.rewrite e.untold e.accessor e.intact c.self.invariant
+    c.moves_are_stored.ensures.moved ready.intact ready.synced ready.told c.args.gate c.args.region c.in-Some.table.now (sym c.in-Some.ensures.value) c.in-Some.ensures.own c.holds_one_run.ensures
+    between c.in_ok-batch.batch m w c.new-file.result file c.finish_populate.new.self c.in_ok-len.ensures.ok c.put.new.batch.items c.rewrite_items.new.accessor c.in_ok-put.ensures.placed c.in_ok-rewrite_items.ensures.ok)))

@@ -1,0 +1,77 @@
+use Rattle.std.proofs.lemmas.Result.{err_from_is_err_and}
+use Rattle.std.proofs.Common.{rules, ◌≡◌, ◌-◌, ◌^◌, true, false, inl, inr, subst, ap, ◌∙◌, refl}
+use Rattle.raft_base.specs.declared.errors.Error.TheVariants as errors
+use Rattle.raft_engine.specs.KeptEngine.{KeptEngine}
+use Rattle.raft_engine.specs.MovedAgain.{IsRewriteHalfRotated, IsRewriteRotated, IsRewriteRotationRefusal}
+use Rattle.raft_engine.proofs.KeptLemmas.{kept_broken}
+use Rattle.raft_engine.proofs.RotatedRewrites.{greatest_refusal, half_rotated, is_rotated, kept_between, kept_rotated, none_rotated, rewrites_listed}
+use Rattle.raft_engine.proofs.engine.Engine.rotate_rewrite.Goals as goal
+
+pub invariant_of-self : goal.invariant_of-self
+invariant_of-self g c =
+    let e = c.self.inside in
+    rewrites_listed e.version (g.F.EngineFiles.asked e.files) e.append e.rewrite e.untold e.accessor e.intact c.self.invariant
+    c.close_last.new.self c.in_err-close_last.ensures.err c.close_last.ensures.seq c.close_last.ensures.len
+
+pub invariant_of-self-in_err-sync : goal.invariant_of-self-in_err-sync
+invariant_of-self-in_err-sync g c =
+    let e = c.self.inside in
+    kept_broken e.version (g.F.EngineFiles.asked e.files) e.append e.rewrite e.untold e.accessor e.intact c.self.invariant
+    (g.F.EngineFiles.asked c.sync.new.self) e.append c.close_last.new.self e.untold e.accessor c.in_err-sync.ensures.err
+
+pub invariant_of-self-in_err-rotate : goal.invariant_of-self-in_err-rotate
+invariant_of-self-in_err-rotate g c =
+    let e = c.self.inside in
+    let intact : e.intact ≡ true = ap (λ (o : KeptEngine). o.intact) c.self.view_is ∙ c.requires in
+    kept_between e.version (g.F.EngineFiles.asked e.files) e.append e.rewrite e.untold e.accessor e.intact c.self.invariant intact
+    c.asks_are_stored.ensures.synced c.asks_are_stored.ensures.begun (g.F.EngineFiles.asked c.sync.new.self) c.in_ok-sync.ensures.ok
+    (g.F.EngineFiles.asked c.rotate.new.self) c.close_last.new.self (rw (c.close_last.ensures.seq) at c.in_err-rotate.ensures.err)
+
+pub invariant_of-self-2 : goal.invariant_of-self-2
+invariant_of-self-2 g c =
+    let e = c.self.inside in
+    let intact : e.intact ≡ true = ap (λ (o : KeptEngine). o.intact) c.self.view_is ∙ c.requires in
+    kept_rotated e.version (g.F.EngineFiles.asked e.files) e.append e.rewrite e.untold e.accessor e.intact c.self.invariant intact
+    c.asks_are_stored.ensures.synced c.asks_are_stored.ensures.begun (g.F.EngineFiles.asked c.sync.new.self) c.in_ok-sync.ensures.ok
+    (g.F.EngineFiles.asked c.rotate.new.self) (rw (c.close_last.ensures.seq) at c.in_ok-rotate.ensures.ok)
+    _ c.in_ok-close_last.ensures.ok (rw (c.close_last.ensures.seq) refl) refl
+
+pub returns-clause-ok : goal.returns-clause-ok
+returns-clause-ok g c =
+    let e = c.self.inside in
+    let intact : e.intact ≡ true = ap (λ (o : KeptEngine). o.intact) c.self.view_is ∙ c.requires in
+    subst (λ (o : KeptEngine). IsRewriteRotated o (record { version = e.version; asks = g.F.EngineFiles.asked c.rotate.new.self; untold = e.untold; accessor = e.accessor; intact = true })) c.self.view_is
+    (is_rotated e.version (g.F.EngineFiles.asked e.files) e.append e.rewrite e.untold e.accessor e.intact c.self.invariant intact
+    c.asks_are_stored.ensures.synced c.asks_are_stored.ensures.begun (g.F.EngineFiles.asked c.sync.new.self) c.in_ok-sync.ensures.ok
+    (g.F.EngineFiles.asked c.rotate.new.self) (rw (c.close_last.ensures.seq) at c.in_ok-rotate.ensures.ok))
+
+pub returns-in_err-rotate-clause-err : goal.returns-in_err-rotate-clause-err
+returns-in_err-rotate-clause-err g c =
+    let e = c.self.inside in
+    let intact : e.intact ≡ true = ap (λ (o : KeptEngine). o.intact) c.self.view_is ∙ c.requires in
+    let p = err_from_is_err_and c.from_residual-in_err-rotate.result c.from_residual-in_err-rotate.ensures.1 in
+    rw (p.1)
+    (inr (subst (λ (o : KeptEngine). IsRewriteHalfRotated o (record { version = e.version; asks = g.F.EngineFiles.asked c.rotate.new.self; untold = e.untold; accessor = e.accessor; intact = false })) c.self.view_is
+    (half_rotated e.version (g.F.EngineFiles.asked e.files) e.append e.rewrite e.untold e.accessor e.intact c.self.invariant intact
+    c.asks_are_stored.ensures.synced c.asks_are_stored.ensures.begun (g.F.EngineFiles.asked c.sync.new.self) c.in_ok-sync.ensures.ok
+    (g.F.EngineFiles.asked c.rotate.new.self) (rw (c.close_last.ensures.seq) at c.in_err-rotate.ensures.err))))
+
+pub returns-in_err-sync-clause-err : goal.returns-in_err-sync-clause-err
+returns-in_err-sync-clause-err g c =
+    let e = c.self.inside in
+    let intact : e.intact ≡ true = ap (λ (o : KeptEngine). o.intact) c.self.view_is ∙ c.requires in
+    let p = err_from_is_err_and c.from_residual-in_err-sync.result c.from_residual-in_err-sync.ensures.1 in
+    rw (p.1)
+    (inr (subst (λ (o : KeptEngine). IsRewriteHalfRotated o (record { version = e.version; asks = g.F.EngineFiles.asked c.sync.new.self; untold = e.untold; accessor = e.accessor; intact = false })) c.self.view_is
+    (none_rotated e.version (g.F.EngineFiles.asked e.files) e.append e.rewrite e.untold e.accessor e.intact c.self.invariant intact (g.F.EngineFiles.asked c.sync.new.self) c.in_err-sync.ensures.err)))
+
+pub returns-then-self-clause-err : goal.returns-then-self-clause-err
+returns-then-self-clause-err g c =
+    let e = c.self.inside in
+    let intact : e.intact ≡ true = ap (λ (o : KeptEngine). o.intact) c.self.view_is ∙ c.requires in
+    let great : e.rewrite.seq ≡ 2 ^ 64 - 1 = search rules in
+    inl (
+      refl,
+      subst (λ (o : KeptEngine). IsRewriteRotationRefusal o errors.Full) c.self.view_is
+          (greatest_refusal e.version (g.F.EngineFiles.asked e.files) e.append e.rewrite e.untold e.accessor e.intact c.self.invariant intact great),
+    )

@@ -1,0 +1,7 @@
+use Rattle.std.proofs.Common.{◌≡◌, ◌+◌, drop}
+use Rattle.raft_engine.specs.Purged.{front_below}
+use Rattle.raft_engine.proofs.purge.count_below.Given as goal
+
+-- all so far are below, and those that are left decide
+abbrev pub invariant-loop-seq : goal.invariant-loop-seq
+invariant-loop-seq l = (l.count ≡ l.seq-index) × (l.count + front_below l.least (drop l.seq-index l.seqs) ≡ front_below l.least l.seqs)

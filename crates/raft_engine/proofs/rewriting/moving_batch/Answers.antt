@@ -1,0 +1,36 @@
+use Rattle.std.proofs.lemmas.Result.{err_from_is_err_and}
+use Rattle.std.proofs.Common.{inl, inr}
+use Rattle.raft_table.specs.KeyValues.{pairs_shown}
+use Rattle.raft_engine.proofs.ReadKept.{counted, read_only, unread_only}
+use Rattle.raft_engine.proofs.RewrittenRegions.{on_any}
+use Rattle.raft_engine.proofs.UnmovedLemmas.{bytes_refused, entries_refused, records_refused}
+use Rattle.raft_engine.proofs.rewriting.moving_batch.Goals as goal
+
+pub add_raw_entries-requires-clause-counts : goal.add_raw_entries-requires-clause-counts
+add_raw_entries-requires-clause-counts g c = counted c.in_ok-entries.entries.items c.as_slice.result.now c.in_ok-strings.strings.items _ _ c.as_slice.ensures.value c.in_ok-strings.ensures.ok
+
+pub returns-in_err-strings-clause-err : goal.returns-in_err-strings-clause-err
+returns-in_err-strings-clause-err g c = on_any _ _ (unread_only _ _ _ _ c.in_err-strings.ensures.err)
+
+pub returns-in_err-add_raw_entries-clause-err : goal.returns-in_err-add_raw_entries-clause-err
+returns-in_err-add_raw_entries-clause-err g c = on_any _ _ (read_only _ _ _ _ c.in_ok-strings.ensures.ok)
+
+pub returns-in_err-put_pairs-clause-err : goal.returns-in_err-put_pairs-clause-err
+returns-in_err-put_pairs-clause-err g c = on_any _ _ (read_only _ _ _ _ c.in_ok-strings.ensures.ok)
+
+pub returns-in_err-strings-clause-refused : goal.returns-in_err-strings-clause-refused
+returns-in_err-strings-clause-refused g c =
+    let p = err_from_is_err_and c.from_residual-in_err-strings.result c.from_residual-in_err-strings.ensures.1 in
+    rw (p.1, p.2) (λ some. entries_refused c.args.gate c.args.table.now c.in_ok-entries.entries.items c.as_slice.result.now _ _ _ c.as_slice.ensures.value c.in_ok-entries.ensures.ok c.in_err-strings.ensures.err)
+
+pub returns-in_err-add_raw_entries-clause-refused : goal.returns-in_err-add_raw_entries-clause-refused
+returns-in_err-add_raw_entries-clause-refused g c =
+    let p = err_from_is_err_and c.from_residual-in_err-add_raw_entries.result c.from_residual-in_err-add_raw_entries.ensures.1 in
+    rw (p.1, p.2) (λ some. records_refused c.args.gate c.args.table.now c.in_ok-entries.entries.items c.as_slice.result.now _ (pairs_shown c.in_ok-pairs.pairs.items) _ _ _
+    c.as_slice.ensures.value c.in_ok-entries.ensures.ok c.in_ok-strings.ensures.ok c.in_ok-pairs.ensures.ok (inl (bytes_refused _ _ _ c.default-batch.ensures (c.in_err-add_raw_entries.ensures.fault some))))
+
+pub returns-in_err-put_pairs-clause-refused : goal.returns-in_err-put_pairs-clause-refused
+returns-in_err-put_pairs-clause-refused g c =
+    let p = err_from_is_err_and c.from_residual-in_err-put_pairs.result c.from_residual-in_err-put_pairs.ensures.1 in
+    rw (p.1, p.2) (λ some. records_refused c.args.gate c.args.table.now c.in_ok-entries.entries.items c.as_slice.result.now _ (pairs_shown c.in_ok-pairs.pairs.items) _ _ _
+    c.as_slice.ensures.value c.in_ok-entries.ensures.ok c.in_ok-strings.ensures.ok c.in_ok-pairs.ensures.ok (inr (c.in_err-put_pairs.ensures.refused some)))

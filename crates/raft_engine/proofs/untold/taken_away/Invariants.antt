@@ -1,0 +1,11 @@
+use Rattle.std.proofs.Common.{◌≡◌, ◌++◌, drop, map}
+use Rattle.raft_records.specs.Item.{item_of}
+use Rattle.raft_records.specs.LogBatch.{empty_batch}
+use Rattle.raft_engine_laws.specs.Telling.{taking_items, told_items}
+use Rattle.raft_engine.proofs.untold.taken_away.Given as goal
+
+-- what is told so far, and what is told of the items that are left, is told of all
+abbrev pub invariant-loop-item : goal.invariant-loop-item
+invariant-loop-item l =
+    (l.taken ≡ record empty_batch { items = l.taken.items })
+    × (l.taken.items ++ told_items (taking_items l.accessor.tables (map item_of (drop l.item-index l.items))) ≡ told_items (taking_items l.accessor.tables (map item_of l.items)))

@@ -1,0 +1,47 @@
+-- Blocks that are read for entries, one after another.
+use Rattle.std.specs.Prelude.{◌≡◌, ◌⊎◌, ℕ, ◌+◌, ◌<◌, ◌≤◌, List, ◌∷◌, length, Option, Some, None}
+use Rattle.raft_base.specs.declared.entry_index.EntryIndex.{EntryIndex}
+use Rattle.raft_base.specs.declared.errors.Error.{Error}
+use Rattle.raft_base.specs.declared.errors.Error.TheVariants as errors
+use Rattle.raft_base.specs.declared.pipe_log.FileBlockHandle.{FileBlockHandle}
+use Rattle.raft_base.specs.Errors.{IsCorruptionError}
+use Rattle.raft_records.specs.Header.{IsEntryBlockOf}
+use Rattle.raft_files.specs.Asks.{Ask, Read, ask}
+use Rattle.raft_engine_laws.specs.Contents.{bytes_of}
+use Rattle.raft_engine.specs.declared.block_reads.EntryBlock.{EntryBlock}
+
+-- the bytes at a place were read, and are a sound block with these entry bytes
+pub record IsSoundRead (place : FileBlockHandle) (entries : List ℕ) (old new : List Ask) : Type 0 where
+  pub block : List ℕ
+  pub asked : new ≡ ask place.id.queue (Read place block) ∷ old
+  pub sound : IsEntryBlockOf place.len block entries
+
+-- the bytes at a place were read; they are no sound block, or there is no memory for its entry bytes
+pub record IsUnsoundRead (place : FileBlockHandle) (old new : List Ask) (error : Error) : Type 0 where
+  pub block : List ℕ
+  pub asked : new ≡ ask place.id.queue (Read place block) ∷ old
+  pub why : (error ≡ errors.Memory) ⊎ (IsCorruptionError error × ((entries : List ℕ) → IsEntryBlockOf place.len block entries → ⊥))
+
+-- a block that is kept is the one at the place of an entry
+abbrev pub IsKeptOf : EntryIndex → Option EntryBlock → Type 0
+IsKeptOf e None = ⊥
+IsKeptOf e (Some kept) = e.entries ≡ Some kept.place
+
+-- the block at the place of an entry: the one that is kept, and nothing is asked; or that is another one, and the block is read
+pub record IsBlockOf (e : EntryIndex) (kept : Option EntryBlock) (block : EntryBlock) (old new : List Ask) : Type 0 where
+  pub placed : e.entries ≡ Some block.place
+  pub got : ((kept ≡ Some block) × (new ≡ old)) ⊎ ((IsKeptOf e kept → ⊥) × IsSoundRead block.place block.entries.items old new)
+
+-- the block that is kept is another one; nothing was read, or no sound block at the place of the entry
+pub record IsNoBlockOf (e : EntryIndex) (kept : Option EntryBlock) (old new : List Ask) (error : Error) : Type 0 where
+  pub other : IsKeptOf e kept → ⊥
+  pub unread : (new ≡ old) ⊎ ((place : FileBlockHandle) × (e.entries ≡ Some place) × IsUnsoundRead place old new error)
+
+-- the bytes of an entry in the entry bytes of a block
+pub record AreBytesIn (entries : List ℕ) (e : EntryIndex) (bytes : List ℕ) : Type 0 where
+  pub inside : e.entry_offset + e.entry_len ≤ length entries
+  pub are : bytes ≡ bytes_of entries e
+
+-- there is no memory for them, or they aren't there
+abbrev pub AreNoBytesIn : List ℕ → EntryIndex → Error → Type 0
+AreNoBytesIn entries e error = (error ≡ errors.Memory) ⊎ (IsCorruptionError error × (length entries < e.entry_offset + e.entry_len))

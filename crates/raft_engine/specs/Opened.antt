@@ -1,0 +1,46 @@
+-- An engine that was opened over found files.
+use Rattle.std.specs.Prelude.{◌≡◌, true, List, ◌++◌}
+use Rattle.raft_base.specs.declared.pipe_log.LogQueue.TheVariants.{Append, Rewrite}
+use Rattle.raft_base.specs.declared.pipe_log.Version.{Version}
+use Rattle.raft_records.specs.LogBatch.{empty_batch}
+use Rattle.raft_history.specs.Batches.{Event}
+use Rattle.raft_history.specs.BothQueues.{IsReadingOfBoth}
+use Rattle.raft_history.specs.Histories.{Apart, IsSoundIn}
+use Rattle.raft_accessor.specs.Accessor.{Accessor}
+use Rattle.raft_files.specs.Asks.{Ask, NumberedBytes, acts_on}
+use Rattle.raft_files.specs.Disk.{begun}
+use Rattle.raft_recover.specs.Files.{FilesHold}
+use Rattle.raft_engine_fronts.specs.TornTails.{FilesHoldTorn}
+use Rattle.raft_engine.specs.KeptEngine.{KeptEngine}
+use Rattle.raft_engine.specs.KeptEngineView.{AreFilesOf}
+use Rattle.raft_engine.specs.StoredFound.{AreStoredAlone, found_asks}
+use Rattle.raft_engine.specs.declared.queue_files.QueueFiles.{QueueFiles}
+
+-- The tables are a reading of the batches that found files hold, but for a torn tail of each queue; what was asked first
+-- are these files, and the append files hold the same batches still.
+pub record AreRead (version : Version) (append rewrite : List NumberedBytes) (asks : List Ask) (accessor : Accessor) : Type 0 where
+  pub since : List Ask
+  pub asked : asks ≡ since ++ found_asks append rewrite
+  pub appended : List Event
+  pub rewritten : List Event
+  pub append_held : FilesHoldTorn Append version append appended
+  pub rewrite_held : FilesHoldTorn Rewrite version rewrite rewritten
+  pub append_sound : IsSoundIn Append appended
+  pub rewrite_sound : IsSoundIn Rewrite rewritten
+  pub apart : Apart rewritten
+  pub reading : IsReadingOfBoth rewritten appended accessor.tables accessor.cleaned
+  pub append_stays : FilesHold Append version (begun (acts_on Append asks)) appended
+
+-- an intact engine with such tables, which the rewrite queue is told all of
+pub record IsOpened (version : Version) (append rewrite : List NumberedBytes) (engine : KeptEngine) : Type 0 where
+  pub of_version : engine.version ≡ version
+  pub intact : engine.intact ≡ true
+  pub none_untold : engine.untold ≡ empty_batch
+  pub read : AreRead version append rewrite engine.asks engine.accessor
+
+-- what an engine is made of when it is opened
+pub record AreOpened (version : Version) (append rewrite : List NumberedBytes) (asks : List Ask) (append_files rewrite_files : QueueFiles) (accessor : Accessor) : Type 0 where
+  pub read : AreRead version append rewrite asks accessor
+  pub stored : AreStoredAlone version asks accessor.tables
+  pub append_known : AreFilesOf Append asks append_files
+  pub rewrite_known : AreFilesOf Rewrite asks rewrite_files

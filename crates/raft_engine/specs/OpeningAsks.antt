@@ -1,0 +1,33 @@
+-- What is asked when found files are opened.
+use Rattle.std.specs.Prelude.{◌≡◌, ℕ, List, [], ◌∷◌, ◌++◌}
+use Rattle.raft_base.specs.declared.pipe_log.LogQueue.{LogQueue}
+use Rattle.raft_base.specs.declared.pipe_log.Version.{Version}
+use Rattle.raft_records.specs.Item.{Item}
+use Rattle.raft_records.specs.LogBatch.{Batch}
+use Rattle.raft_files.specs.Asks as asks
+use Rattle.raft_files.specs.Asks.{Ask, Begin, ask}
+use Rattle.raft_engine.specs.StoredFound.{told_asks}
+use Rattle.raft_engine.specs.declared.missing.Missing.{Missing}
+use Rattle.raft_engine.specs.declared.missing.Missing.TheVariants.{Nothing, FirstFile, Cut}
+
+-- what is asked of a queue's files where this is missing of them
+abbrev pub missing_asks : LogQueue → Missing → List Ask
+missing_asks queue Nothing = []
+missing_asks queue FirstFile = ask queue (Begin 1) ∷ []
+missing_asks queue (Cut len) = ask queue (asks.Cut len) ∷ []
+
+-- of what is wanted, newest first, some was asked, the oldest first
+pub record AreAskedInPart (wanted old new : List Ask) : Type 0 where
+  pub missing : List Ask
+  pub made : List Ask
+  pub split : wanted ≡ missing ++ made
+  pub asked : new ≡ made ++ old
+
+-- what tells the rewrite queue a batch of these items, behind the last file of this number
+abbrev pub asks_that_tell : Version → ℕ → Batch → List Item → List Ask
+asks_that_tell version seq told [] = []
+asks_that_tell version seq told (item ∷ items) = told_asks version seq told []
+
+-- newest first: what is missing of both queues is asked, then the rewrite queue is told a batch, if that has items
+abbrev pub opening_asks : Version → List Ask → List Ask → ℕ → Batch → List Ask
+opening_asks version append_missing rewrite_missing seq told = asks_that_tell version seq told told.items ++ (rewrite_missing ++ append_missing)

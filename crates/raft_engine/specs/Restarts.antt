@@ -1,0 +1,103 @@
+-- What is found again of an engine, once it was stopped.
+use Rattle.std.specs.Prelude.{◌≡◌, ◌↔◌, ℕ, ◌<◌, ◌^◌, true, List, [], ◌∷◌, ◌++◌, Vec}
+use Rattle.std.specs.FinMap as finite
+use Rattle.std.specs.Global.{Global}
+use Rattle.raft_base.specs.declared.entry_index.EntryIndex.{EntryIndex}
+use Rattle.raft_base.specs.declared.pipe_log.LogQueue.{LogQueue}
+use Rattle.raft_base.specs.declared.pipe_log.LogQueue.TheVariants.{Append, Rewrite}
+use Rattle.raft_base.specs.declared.pipe_log.Version.{Version}
+use Rattle.raft_records.specs.FilePart.{Part}
+use Rattle.raft_history.specs.Batches.{Event}
+use Rattle.raft_history.specs.BothQueues.{IsReadingOfBoth}
+use Rattle.raft_history.specs.RegionSteps.{Tables}
+use Rattle.raft_accessor.specs.Accessor.{Accessor}
+use Rattle.raft_files.specs.Asks.{Ask, Begin, NumberedBytes, acts_on, ask}
+use Rattle.raft_files.specs.Disk.{IsLeftOf, files_of}
+use Rattle.raft_replay.specs.Segments.{CannotBeRead, SegmentsHold}
+use Rattle.raft_recover.specs.Files.{FilesCannotBeRead, FilesHold, bytes_of_files}
+use Rattle.raft_recover.specs.Recovery.{AreBothRecovered}
+use Rattle.raft_engine_laws.specs.Records.{Records, HaveRecords, live}
+use Rattle.raft_engine_fronts.specs.Contents.{AreTold, AreToldByFiles}
+use Rattle.raft_engine_fronts.specs.Done.{AreRisingFrom, numbers}
+use Rattle.raft_engine_fronts.specs.Fronts.{IsFrontWith}
+use Rattle.raft_engine_fronts.specs.TornTails.{FilesHoldTorn}
+use Rattle.raft_engine.specs.CutFiles.{AreCut}
+use Rattle.raft_engine.specs.FoundFiles.{IsLastDamaged, IsReady}
+use Rattle.raft_engine.specs.KeptEngine.{KeptEngine}
+use Rattle.raft_engine.specs.Lasting.{AreSynced, HaveBothBegun, IsLasting}
+use Rattle.raft_engine.specs.Opened.{IsOpened}
+use Rattle.raft_engine.specs.Opening.{ArePlain}
+use Rattle.raft_engine.specs.StoredFound.{found_asks}
+
+-- ---- files that are left, cut and read
+
+-- segments of which the same is read as of the files of a queue, the last one without its torn tail; these have fewer than 2^63 bytes together
+pub record AreSegmentsOf (queue : LogQueue) (version : Version) (files : List NumberedBytes) (segments : List (Vec Part Global)) : Type 0 where
+  pub cut : List NumberedBytes
+  pub are_cut : AreCut queue version files cut
+  pub few : bytes_of_files cut < 2 ^ 63
+  pub same : (h : List Event) → FilesHold queue version cut h ↔ SegmentsHold segments h
+
+-- Nothing is refused in these files of a queue: their numbers rise, the last one isn't damaged, and once they are ready, or cut where
+-- reading stops, and have fewer than 2^63 bytes together, they can be read.
+pub record AreAccepted (queue : LogQueue) (version : Version) (files : List NumberedBytes) : Type 0 where
+  pub rising : AreRisingFrom 0 (numbers files)
+  pub undamaged : ¬ (IsLastDamaged queue version files)
+  pub readable : (asks later : List Ask) (ready : List NumberedBytes) → IsReady queue version asks later files ready → bytes_of_files ready < 2 ^ 63
+      → ¬ (FilesCannotBeRead queue version ready)
+  pub recoverable : (segments : List (Vec Part Global)) → AreSegmentsOf queue version files segments → ¬ (CannotBeRead segments)
+
+-- once they are ready, these rewrite files hold no batch of a group
+abbrev pub AreOfNoGroup : Version → List NumberedBytes → Type 0
+AreOfNoGroup version files = (asks later : List Ask) (ready : List NumberedBytes) → IsReady Rewrite version asks later files ready → ArePlain (FilesHold Rewrite version ready)
+
+-- ---- what a restart finds
+
+-- what restarts find in these files of both queues is so: the tables of every engine that is opened over them, and of every recovery of both queues
+pub record RestartsFind (version : Version) (append rewrite : List NumberedBytes) (AreSo : Tables → Type 0) : Type 0 where
+  pub opened : (engine : KeptEngine) → IsOpened version append rewrite engine → AreSo engine.accessor.tables
+  pub recovered : (appended rewritten : List (Vec Part Global)) → AreSegmentsOf Append version append appended → AreSegmentsOf Rewrite version rewrite rewritten
+      → (accessor : Accessor) → AreBothRecovered (SegmentsHold rewritten) (SegmentsHold appended) accessor → AreSo accessor.tables
+
+-- What restarts find in the files that the machine leaves if it stops once all this was asked: in whatever is left, all of them
+-- the records of the same front of these batches, with the synced ones at least, and of what there was before them; and nothing
+-- that is refused; if nothing is lost, the records of all batches. Contents that were told by what was asked of a queue are those
+-- that its files have that are left, once they are cut where reading stops.
+pub record IsFoundByRestarts (content : EntryIndex → List ℕ) (version : Version) (base : ℕ → Records) (asks : List Ask) (synced batches : List Event) : Type 0 where
+  pub left : (append rewrite : List NumberedBytes) → IsLeftOf Append asks append → IsLeftOf Rewrite asks rewrite
+      → (standing : List Event) × IsFrontWith synced batches standing × RestartsFind version append rewrite (λ tables. HaveRecords content tables (live content base standing))
+  pub accepted : (append rewrite : List NumberedBytes) → IsLeftOf Append asks append → IsLeftOf Rewrite asks rewrite
+      → AreAccepted Append version append × AreAccepted Rewrite version rewrite × AreOfNoGroup version rewrite
+  pub whole : RestartsFind version (files_of Append asks) (files_of Rewrite asks) (λ tables. HaveRecords content tables (live content base batches))
+  pub told : (queue : LogQueue) → AreTold queue (acts_on queue asks) content → (files cut : List NumberedBytes) → IsLeftOf queue asks files → AreCut queue version files cut
+      → AreToldByFiles queue cut content
+
+-- The records that there were before the batches of an engine: none where its first files were begun; and where it was opened over
+-- found files, those that make, with the batches which the append files held, what every reading of the files gives.
+pub record AreFromBefore (content : EntryIndex → List ℕ) (version : Version) (asks : List Ask) (base : ℕ → Records) : Type 0 where
+  pub none : (since : List Ask) → asks ≡ since ++ ask Rewrite (Begin 1) ∷ ask Append (Begin 1) ∷ [] → HaveRecords content finite.empty base
+  pub found : (since : List Ask) (append rewrite : List NumberedBytes) → asks ≡ since ++ found_asks append rewrite
+      → (appended rewritten : List Event) → FilesHoldTorn Append version append appended → FilesHoldTorn Rewrite version rewrite rewritten
+      → (tables : Tables) (cleaned : List ℕ) → IsReadingOfBoth rewritten appended tables cleaned → HaveRecords content tables (live content base appended)
+
+-- two tables have the same records: entries with their contents, and key values
+pub record HaveSame (content : EntryIndex → List ℕ) (tables others : Tables) : Type 0 where
+  pub records : ℕ → Records
+  pub have : HaveRecords content tables records
+  pub others_have : HaveRecords content others records
+
+-- ---- of an engine
+
+-- What restarts find of an engine, whenever the machine stops: now, and after each ask before, once files were begun or found in
+-- both queues. Where it is intact they find its records: in whatever is left, if nothing was put in the append queue since its
+-- last sync, and in all of its files, if nothing is lost.
+pub record IsKeptByRestarts (content : EntryIndex → List ℕ) (engine : KeptEngine) : Type 0 where
+  pub lasting : IsLasting content engine
+  pub before : AreFromBefore content engine.version engine.asks lasting.base
+  pub now : IsFoundByRestarts content engine.version lasting.base engine.asks lasting.now.synced lasting.now.batches
+  pub ever : (later earlier : List Ask) (split : engine.asks ≡ later ++ earlier) (begun : HaveBothBegun earlier)
+      → IsFoundByRestarts content engine.version lasting.base earlier (lasting.ever later earlier split begun).synced (lasting.ever later earlier split begun).batches
+  pub same_synced : engine.intact ≡ true → AreSynced (acts_on Append engine.asks)
+      → (append rewrite : List NumberedBytes) → IsLeftOf Append engine.asks append → IsLeftOf Rewrite engine.asks rewrite
+      → RestartsFind engine.version append rewrite (HaveSame content engine.accessor.tables)
+  pub same_whole : engine.intact ≡ true → RestartsFind engine.version (files_of Append engine.asks) (files_of Rewrite engine.asks) (HaveSame content engine.accessor.tables)

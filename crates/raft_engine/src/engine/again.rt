@@ -1,0 +1,118 @@
+//! Rewritten records that move to a new file of the rewrite queue, and rewrite files that no table needs.
+
+ghost use Rattle.std.specs.Prelude.{◌≡◌, IfErr, IfOk, None, OnErr, OnOk, true};
+ghost use Rattle.raft_engine.specs.Moved.{IsReady};
+ghost use Rattle.raft_engine.specs.MovedAgain.{AreMovedAgain, AreUnmovedAgain, IsRewriteRotated, IsRewriteUnrotated};
+ghost use Rattle.raft_engine.specs.PurgedRewrites.{AreRewritesDeleted, AreRewritesExpired, AreRewritesHalfDeleted, AreRewritesPurged, AreRewritesUnpurged};
+
+use super::Engine;
+use crate::purge::count_below;
+use crate::purge_rewrites::{delete_oldest_rewrites, least_rewritten, rewrite_files_may_go};
+use crate::rewriting::regions_of;
+use crate::stored::asks_are_stored;
+use raft_base::{Error, FileSeq, LogQueue, Result};
+use raft_files::EngineFiles;
+
+impl<F: EngineFiles> Engine<F> {
+    /// Moves what the tables have in rewrite files to a new one of them. First all that was written last is synced, and what the
+    /// rewrite queue isn't told yet is put there; then it is synced, and a new file is begun in it; then for each region the
+    /// rewritten entries are read, and put with the rewritten keys in the new file, in one batch of each region. What the tables
+    /// have stays the same, in other places, so that the older rewrite files may be deleted
+    /// ([`Engine::purge_rewrite_files`]). What moved isn't synced yet.
+    ///
+    /// # Errors
+    ///
+    /// `Failed` where the engine isn't intact; `Full` where what is untold has 2^56 bytes or more, or the last rewrite file more
+    /// than 2^63; `Memory`. The engine is then as it was. `Full` where that file has the greatest number, or `Memory`: what is
+    /// untold is told then, and no file begun. `Full` where a region's batch has 2^31 bytes of entries or 2^56 bytes in all, or
+    /// the new file more than 2^63; `Corruption` where the bytes of an entry aren't found at its place; `InvalidArgument` where a
+    /// key is that of the group markers; those of `EngineFiles::read`; `Memory`. The records of some regions moved then, and the
+    /// engine is intact. The other ones of `EngineFiles`, and `Memory` or `Full` once a batch was asked for: it isn't intact any
+    /// more.
+    pub fn rewrite_again(&mut self) -> Result<()>
+        ensures ok { OnOk result (AreMovedAgain self.old self.new) }
+        ensures accepted { OnOk result (self.old.intact ≡ true) }
+        ensures err { IfErr result (AreUnmovedAgain self.old self.new) }
+    {
+        if !self.intact {
+            return Err(Error::Failed);
+        }
+        let regions = regions_of(&self.accessor)?;
+        self.tell()?;
+        self.rotate_rewrite()?;
+        self.rewrite_regions(regions.as_slice(), None)
+    }
+
+    /// Begins a new file of the rewrite queue, in which the next batch is put. All in the older ones lasts then.
+    ///
+    /// # Errors
+    ///
+    /// `Full` where the last file has the greatest number, `Memory`: the engine is then as it was. Those of `EngineFiles::sync`
+    /// and `EngineFiles::rotate`: it isn't intact any more.
+    fn rotate_rewrite(&mut self) -> Result<()>
+        requires { self.old.intact ≡ true }
+        ensures ok { OnOk result (IsRewriteRotated self.old self.new) }
+        ensures err { IfErr result (IsRewriteUnrotated self.old self.new) }
+    {
+        asks_are_stored();
+        if self.rewrite.seq == FileSeq::MAX {
+            return Err(Error::Full);
+        }
+        self.rewrite.close_last()?;
+        self.intact = false;
+        self.files.sync(LogQueue::Rewrite)?;
+        let seq = self.rewrite.seq + 1;
+        self.files.rotate(LogQueue::Rewrite, seq)?;
+        self.rewrite.seq = seq;
+        self.rewrite.len = 0;
+        self.intact = true;
+        Ok(())
+    }
+
+    /// Deletes the rewrite files that no table needs, the oldest first, but never the last one, and returns how many. All that
+    /// was written last is synced before, what the rewrite queue isn't told yet is put there, and it is synced too, so that what
+    /// moved lasts before its old place goes. If there is no such file nothing is asked.
+    ///
+    /// # Errors
+    ///
+    /// `Failed` where the engine isn't intact; `Full` where there is such a file, and what is untold has 2^56 bytes or more, or
+    /// the last rewrite file more than 2^63; `Memory`. The engine is then as it was. Those of `EngineFiles`, where there is such
+    /// a file: it isn't intact any more.
+    pub fn purge_rewrite_files(&mut self) -> Result<usize>
+        ensures ok { IfOk result (λ count. AreRewritesPurged count self.old self.new) }
+        ensures accepted { OnOk result (self.old.intact ≡ true) }
+        ensures err { IfErr result (AreRewritesUnpurged self.old self.new) }
+    {
+        if !self.intact {
+            return Err(Error::Failed);
+        }
+        let least = least_rewritten(&self.accessor, self.rewrite.seq)?;
+        let count = count_below(&self.rewrite.closed, least);
+        if count == 0 {
+            return Ok(0);
+        }
+        self.tell()?;
+        self.delete_rewrite_files(count)?;
+        Ok(count)
+    }
+
+    /// Syncs the rewrite queue, and deletes so many of its files, which no table needs, the oldest first.
+    ///
+    /// # Errors
+    ///
+    /// Those of `EngineFiles`: the engine isn't intact any more.
+    fn delete_rewrite_files(&mut self, count: usize) -> Result<()>
+        requires ready { IsReady self.old }
+        requires expired { AreRewritesExpired self.old count }
+        ensures ok { OnOk result (AreRewritesDeleted count self.old self.new) }
+        ensures err { OnErr result (AreRewritesHalfDeleted count self.old self.new) }
+    {
+        rewrite_files_may_go();
+        asks_are_stored();
+        self.intact = false;
+        self.files.sync(LogQueue::Rewrite)?;
+        delete_oldest_rewrites(&mut self.files, &mut self.rewrite.closed, count)?;
+        self.intact = true;
+        Ok(())
+    }
+}

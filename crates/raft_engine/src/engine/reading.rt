@@ -1,0 +1,125 @@
+//! Entries and key values that are read.
+
+ghost use Rattle.std.specs.Prelude.{◌≡◌, map, option_map, IfErr, IfOk, IsOk, OnErr, List, ℕ};
+ghost use Rattle.std.specs.Fn.{CalledAtTwo};
+ghost use Rattle.std.specs.Option.{option_copied};
+ghost use Rattle.raft_base.specs.declared.entry_index.EntryIndex.{EntryIndex};
+ghost use Rattle.raft_table.specs.Scan.{VisitsUntilFalse, pairs_between};
+ghost use Rattle.raft_table.specs.TableEntries.{entry_at};
+ghost use Rattle.raft_engine_fronts.specs.Contents.{AreBothTold};
+ghost use Rattle.raft_engine.specs.EntryReads.{AreFetched, AreUnfetched, IsEntryGot, IsEntryUnread};
+ghost use Rattle.raft_engine.specs.KeptEngine.{table_in};
+ghost use Rattle.raft_engine.specs.Moved.{IsOnlyRead};
+
+use super::Engine;
+use crate::block_reads::{read_alone, read_by_blocks};
+use crate::moved::moves_are_stored;
+use raft_base::{EntryIndex, Result};
+use raft_engine_fronts::contents::told_contents_are_those_that_were_added;
+use raft_files::EngineFiles;
+
+impl<F: EngineFiles> Engine<F> {
+    /// Reads an entry of a region: the block at its place, whose checksum is tested. Where the region has no such entry that is
+    /// `None`, and nothing is read. An engine that isn't intact may be read too: its entries are those that were applied.
+    ///
+    /// # Errors
+    ///
+    /// Those of `EngineFiles::read`; `Corruption` where what stands at the entry's place is no sound block with its bytes;
+    /// `Memory`. Only reads were asked then, and the engine is as intact as it was.
+    pub fn get_entry(&mut self, region: u64, index: u64) -> Result<Option<Vec<u8>>>
+        ensures only { IsOnlyRead self.old self.new }
+        ensures ok { IfOk result (λ found. IsEntryGot (entry_at index (table_in self.old region).entries)
+            (option_map (λ bytes. bytes.items) found) self.old.asks self.new.asks) }
+
+        // The bytes are the entry's contents, whichever are told by what was asked.
+        ensures contents { IfOk result (λ found. (content : EntryIndex → List ℕ)
+            → AreBothTold self.new.asks content
+            → option_map (λ bytes. bytes.items) found
+            ≡ option_map content (entry_at index (table_in self.old region).entries)) }
+        ensures err { IfErr result (IsEntryUnread (entry_at index (table_in self.old region).entries)
+            self.old.asks self.new.asks) }
+    {
+        moves_are_stored();
+        told_contents_are_those_that_were_added();
+        let Some(entry) = self.entry_index(region, index) else {
+            return Ok(None);
+        };
+        let bytes = read_alone(self.append.allocator(), &mut self.files, &entry)?;
+        Ok(Some(bytes))
+    }
+
+    /// Reads the entries of a region from `begin` on and below `end`, pushes their bytes behind those in `entries`, in order,
+    /// and returns how many there are. With a maximal size it stops before the first entry with which the total of lengths
+    /// passes that size and exceeds the entry's own length. A block that holds several of them is read once. Where the region
+    /// has no table nothing is read. An engine that isn't intact may be read too: its entries are those that were applied.
+    ///
+    /// # Errors
+    ///
+    /// Where the range isn't empty: `EntryNotFound` where the table has no entries, `EntryCompacted` where the range begins
+    /// below the first one, `EntryNotFound` where `end` is above their end: nothing is read then. Those of
+    /// `EngineFiles::read`; `Corruption` where what stands at the place of an entry is no sound block with its bytes; `Memory`.
+    /// Only reads were asked then, the engine is as intact as it was, and `entries` has what it had.
+    pub fn fetch_entries_to(
+        &mut self,
+        region: u64,
+        begin: u64,
+        end: u64,
+        max_size: Option<usize>,
+        entries: &mut Vec<Vec<u8>>,
+    ) -> Result<usize>
+        ensures only { IsOnlyRead self.old self.new }
+        ensures ok { IfOk result (λ count. AreFetched region begin end max_size count
+            (map (λ bytes. bytes.items) entries.old.items) (map (λ bytes. bytes.items) entries.new.items)
+            self.old self.new) }
+        ensures unchanged { OnErr result (entries.new.items ≡ entries.old.items) }
+        ensures err { IfErr result (AreUnfetched region begin end max_size self.old self.new) }
+    {
+        moves_are_stored();
+        told_contents_are_those_that_were_added();
+        let alloc = self.append.allocator();
+        let Some(table) = self.accessor.get(region) else {
+            return Ok(0);
+        };
+        let mut indexes = Vec::new(alloc);
+        table.fetch_entries_to(begin, end, max_size, &mut indexes)?;
+        if indexes.is_empty() {
+            return Ok(0);
+        }
+        let mut found = read_by_blocks(alloc, &mut self.files, indexes.as_slice())?;
+        entries.append(&mut found)?;
+        Ok(indexes.len())
+    }
+
+    /// Calls `visit` at the keys of a region from `start` on and below `end` with their values, in the order of the keys or,
+    /// where `reverse`, from the last one back, until it returns false. A bound that is `None` leaves its side open; where
+    /// `start` is above `end` nothing is visited. It is always `Ok`.
+    pub fn scan<V: FnMut(&[u8], &[u8]) -> bool>(
+        &self,
+        region: u64,
+        start: Option<&[u8]>,
+        end: Option<&[u8]>,
+        reverse: bool,
+        visit: V,
+    ) -> Result<()>
+        requires { V.IsAlwaysCallable visit }
+        ensures ok { IsOk result }
+        ensures visits { (last : V)
+            × VisitsUntilFalse (CalledAtTwo V.FnMut) visit (pairs_between (option_copied start.entry)
+            (option_copied end.entry) reverse (table_in self.now region).keys) last }
+    {
+        match self.accessor.get(region) {
+            Some(table) => table.scan(start, end, reverse, visit),
+            None => Ok(()),
+        }
+    }
+
+    /// Returns where an entry of a region stands.
+    fn entry_index(&self, region: u64, index: u64) -> Option<EntryIndex>
+        ensures { result ≡ entry_at index (table_in self.now region).entries }
+    {
+        match self.accessor.get(region) {
+            Some(table) => table.get_entry(index),
+            None => None,
+        }
+    }
+}

@@ -1,0 +1,163 @@
+//! Records that move to the rewrite queue.
+
+ghost use Rattle.std.specs.Prelude.{◌≡◌, IfErr, OnErr, OnOk, true};
+ghost use Rattle.raft_records.specs.LogBatch.{empty_batch};
+ghost use Rattle.raft_accessor.specs.Writes.{AreWritten, Rewriting};
+ghost use Rattle.raft_engine.specs.Moved.{AreRegionsRewritten, AreSomeRewritten, IsReady, IsRegionRewritten, IsRegionUnmoved, IsRewritten, IsTold, IsUnrewritten, IsUntold};
+ghost use Rattle.raft_engine.specs.WrittenBatch.{AreFirstWritten};
+
+use super::Engine;
+use crate::limits::LAST_OFFSET;
+use crate::moved::moves_are_stored;
+use crate::purge::put_items;
+use crate::put::put;
+use crate::rewriting::{moving_batch, regions_of};
+use crate::stored::asks_are_stored;
+use raft_accessor::MemTableAccessor;
+use raft_base::{Error, FileId, FileSeq, LogFileContext, LogQueue, Result};
+use raft_files::EngineFiles;
+use raft_records::LogBatch;
+
+impl<F: EngineFiles> Engine<F> {
+    /// Moves what the tables have in append files up to the gate to the rewrite queue. First all that was written last is
+    /// synced, and what the rewrite queue isn't told yet is put there; then for each region the entries are read, and put
+    /// with the keys behind the last rewrite file, in one batch of each region. What the tables have stays the same, in other
+    /// files, so that the append files may be deleted ([`Engine::purge_expired_files`]).
+    ///
+    /// # Errors
+    ///
+    /// `Failed` where the engine isn't intact; `Full` where what is untold has 2^56 bytes or more, or the last rewrite file
+    /// more than 2^63; `Memory`. The engine is then as it was. `Full` where a region's batch has 2^31 bytes of entries or 2^56
+    /// bytes in all, or the last rewrite file more than 2^63; `Corruption` where the bytes of an entry aren't found at its
+    /// place; `InvalidArgument` where a key is that of the group markers; those of `EngineFiles::read`; `Memory`. The records
+    /// of some regions moved then, and the engine is intact. The other ones of `EngineFiles`, and `Memory` or `Full` once a
+    /// batch was asked for: it isn't intact any more.
+    pub fn rewrite(&mut self, gate: FileSeq) -> Result<()>
+        ensures ok { OnOk result (IsRewritten gate self.old self.new) }
+        ensures accepted { OnOk result (self.old.intact ≡ true) }
+        ensures err { IfErr result (IsUnrewritten gate self.old self.new) }
+    {
+        if !self.intact {
+            return Err(Error::Failed);
+        }
+        let regions = regions_of(&self.accessor)?;
+        self.tell()?;
+        self.rewrite_regions(regions.as_slice(), Some(gate))
+    }
+
+    /// Moves what of the tables of these regions moves past a gate, one region after another.
+    ///
+    /// # Errors
+    ///
+    /// Those of `rewrite_region`.
+    pub(crate) fn rewrite_regions(&mut self, regions: &[u64], gate: Option<FileSeq>) -> Result<()>
+        requires { IsReady self.old }
+        ensures ok { OnOk result (AreRegionsRewritten gate regions.now self.old self.new) }
+        ensures err { IfErr result (AreSomeRewritten gate regions.now self.old self.new) }
+    {
+        for region in regions {
+            self.rewrite_region(*region, gate)?;
+        }
+        Ok(())
+    }
+
+    /// Syncs the append queue, and puts what is untold behind the last rewrite file, if there is any.
+    ///
+    /// # Errors
+    ///
+    /// `Failed` where the engine isn't intact; `Full` where what is untold has 2^56 bytes or more, or the last rewrite file more
+    /// than 2^63; `Memory`. The engine is then as it was. Those of `EngineFiles`: the engine isn't intact any more.
+    pub(crate) fn tell(&mut self) -> Result<()>
+        ensures ok { OnOk result (IsTold self.old self.new) }
+        ensures accepted { OnOk result (self.old.intact ≡ true) }
+        ensures err { IfErr result (IsUntold self.old self.new) }
+    {
+        asks_are_stored();
+        self.untold.is_read_again();
+        if !self.intact {
+            return Err(Error::Failed);
+        }
+        if self.rewrite.len > LAST_OFFSET {
+            return Err(Error::Full);
+        }
+        let len = self.untold.finish_populate()?;
+        let file = LogFileContext::new(
+            FileId::new(LogQueue::Rewrite, self.rewrite.seq),
+            self.version,
+        );
+        self.intact = false;
+        self.files.sync(LogQueue::Append)?;
+        put_items(
+            &mut self.files,
+            &file,
+            self.rewrite.len,
+            &mut self.untold,
+            len,
+        )?;
+        self.rewrite.len += len as u64;
+        let _told = self.untold.drain();
+        self.intact = true;
+        Ok(())
+    }
+
+    /// Moves what a region's table has in append files up to a gate, or without a gate what it has in rewrite files, to the last
+    /// rewrite file: its entries are read, and put with its keys behind that file's bytes, in one batch.
+    ///
+    /// # Errors
+    ///
+    /// `Full` where the last rewrite file has more than 2^63 bytes, or the batch 2^56 or more, and those of `moving_batch`: the
+    /// engine is then as it was, but for reads. Those of `EngineFiles::append`, and `Memory` or `Full` once the batch was asked
+    /// for: the engine isn't intact any more, and the tables are as they were or, once it was put, have the first ones of its
+    /// items.
+    fn rewrite_region(&mut self, region: u64, gate: Option<FileSeq>) -> Result<()>
+        requires { IsReady self.old }
+        ensures ok { OnOk result (IsRegionRewritten gate region self.old self.new) }
+        ensures err { IfErr result (IsRegionUnmoved gate region self.old self.new) }
+    {
+        moves_are_stored();
+        if self.rewrite.len > LAST_OFFSET {
+            return Err(Error::Full);
+        }
+        let Some(table) = self.accessor.get(region) else {
+            return Ok(());
+        };
+        table.holds_one_run();
+        let mut batch = moving_batch(self.append.allocator(), &mut self.files, table, gate)?;
+        if batch.is_empty() {
+            return Ok(());
+        }
+        batch.is_read_again();
+        let len = batch.finish_populate()?;
+        let file = LogFileContext::new(
+            FileId::new(LogQueue::Rewrite, self.rewrite.seq),
+            self.version,
+        );
+        self.intact = false;
+        put(&mut self.files, &file, self.rewrite.len, &mut batch, len)?;
+        rewrite_items(&mut self.accessor, &mut batch, gate, self.rewrite.seq)?;
+        self.rewrite.len += len as u64;
+        self.intact = true;
+        Ok(())
+    }
+}
+
+/// Writes the items of a batch that moves records past a gate, or without one, to a file of the rewrite queue to the tables,
+/// which empties it.
+///
+/// # Errors
+///
+/// Those of `apply_rewrite_writes`. The first ones of the items are written then.
+fn rewrite_items(
+    accessor: &mut MemTableAccessor,
+    batch: &mut LogBatch,
+    gate: Option<FileSeq>,
+    seq: FileSeq,
+) -> Result<()>
+    ensures ok { OnOk result
+        (AreWritten (Rewriting gate seq) batch.old.items accessor.old accessor.new) }
+    ensures err { OnErr result
+        (AreFirstWritten (Rewriting gate seq) batch.old.items accessor.old accessor.new) }
+    ensures emptied { batch.new ≡ empty_batch }
+{
+    accessor.apply_rewrite_writes(batch.drain(), gate, seq)
+}

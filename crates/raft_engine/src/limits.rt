@@ -1,0 +1,9 @@
+//! Numbers that hold for the files of both queues.
+
+use raft_base::FileSeq;
+
+/// The number of each queue's first file.
+pub const FIRST_SEQ: FileSeq = 1;
+
+/// The greatest offset at which a batch is put.
+pub const LAST_OFFSET: u64 = 1 << 63;

@@ -1,0 +1,27 @@
+//! Laws of what is stored of an engine whose records move.
+
+ghost use Rattle.raft_engine.specs.MovedAsks.{MovedBatchesAreStored, PutBatchesAreStored, ReadsAreStored};
+
+use crate::stored::what_is_done_lasts;
+use raft_engine_fronts::contents::{told_contents_are_those_that_were_added, told_contents_last};
+use raft_engine_fronts::done::asks_do_deeds;
+use raft_engine_fronts::fronts::asks_put_batches;
+use raft_engine_laws::stops::{moving_is_safe, nothing_is_lost};
+use raft_history::histories::placed_items_are_in_their_file;
+
+/// States that a read leaves what is stored; and that once the append queue is synced and the rewrite queue is told, records of
+/// a region may move to the rewrite queue, or from its files to the last one, with one batch.
+pub fn moves_are_stored()
+    ensures read { ReadsAreStored }
+    ensures moved { MovedBatchesAreStored }
+    ensures put { PutBatchesAreStored }
+{
+    what_is_done_lasts();
+    nothing_is_lost();
+    told_contents_last();
+    told_contents_are_those_that_were_added();
+    asks_do_deeds();
+    asks_put_batches();
+    placed_items_are_in_their_file();
+    moving_is_safe();
+}

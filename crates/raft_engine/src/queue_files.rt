@@ -1,0 +1,82 @@
+//! What an engine knows of the files of a queue.
+
+ghost use Rattle.std.specs.Prelude.{◌≡◌, ◌<◌, ◌^◌, [], ◌∷◌, ◌++◌, length, map, IfErr, IfOk, OnErr, OnOk};
+ghost use Rattle.raft_files.specs.HeldFiles.{file_shown};
+
+use raft_base::{Error, FileSeq, Result};
+use std::alloc::Global;
+
+/// The files of a queue that weren't deleted.
+#[derive(Drop)]
+pub struct QueueFiles {
+    /// The numbers of all but the last one, oldest first.
+    pub closed: Vec<FileSeq>,
+    /// The number of the last one.
+    pub seq: FileSeq,
+    /// How many bytes the last one has.
+    pub len: u64,
+}
+
+impl QueueFiles {
+    ghost use Rattle.raft_engine.specs.QueueFilesOf.{AreOf};
+
+    /// Makes those of a queue that has one empty file.
+    pub fn first(alloc: Global, seq: FileSeq) -> QueueFiles
+        ensures closed { result.closed.items ≡ [] }
+        ensures seq { result.seq ≡ seq }
+        ensures len { result.len ≡ 0 }
+    {
+        QueueFiles {
+            closed: Vec::new(alloc),
+            seq,
+            len: 0,
+        }
+    }
+
+    /// Makes those of a queue that has these files, one at least.
+    ///
+    /// # Errors
+    ///
+    /// `Memory`.
+    pub fn of(files: &Vec<(FileSeq, Vec<u8>)>) -> Result<QueueFiles>
+        requires { 0 < length files.now.items }
+        ensures ok { IfOk result (AreOf (map file_shown files.now.items)) }
+        ensures short { IfOk result (λ known. known.len < 2 ^ 63) }
+        ensures memory { IfErr result (λ e. e ≡ Error.Memory) }
+    {
+        let alloc = *files.allocator();
+        let mut closed = Vec::new(alloc);
+        let Some((last, rest)) = files.split_last() else {
+            unreachable!()
+        };
+        for (seq, _) in rest {
+            closed.push(*seq)?;
+        }
+        Ok(QueueFiles {
+            closed,
+            seq: last.0,
+            len: last.1.len() as u64,
+        })
+    }
+
+    /// Lists the last file among the closed ones, before another is begun.
+    ///
+    /// # Errors
+    ///
+    /// `Memory`. The list is then as it was.
+    pub fn close_last(&mut self) -> Result<()>
+        ensures ok { OnOk result (self.new.closed.items ≡ self.old.closed.items ++ self.old.seq ∷ []) }
+        ensures err { OnErr result (self.new.closed.items ≡ self.old.closed.items) }
+        ensures seq { self.new.seq ≡ self.old.seq }
+        ensures len { self.new.len ≡ self.old.len }
+        ensures memory { IfErr result (λ e. e ≡ Error.Memory) }
+    {
+        self.closed.push(self.seq)?;
+        Ok(())
+    }
+
+    /// Returns what the list is allocated by.
+    pub fn allocator(&self) -> Global {
+        *self.closed.allocator()
+    }
+}

@@ -1,0 +1,55 @@
+//! Laws of what is found again of an engine, once it was stopped.
+
+ghost use Rattle.std.specs.Prelude.{ℕ, List};
+ghost use Rattle.raft_base.specs.declared.entry_index.EntryIndex.{EntryIndex};
+ghost use Rattle.raft_base.specs.declared.pipe_log.Version.{Version};
+ghost use Rattle.raft_files.specs.Asks.{Ask};
+ghost use Rattle.raft_engine_laws.specs.Records.{Records};
+ghost use Rattle.raft_engine_fronts.specs.Contents.{AreBothTold};
+ghost use Rattle.raft_engine.specs.KeptEngine.{KeptEngine};
+ghost use Rattle.raft_engine.specs.Lasting.{IsLasting, IsLastingAfter};
+ghost use Rattle.raft_engine.specs.Restarts.{AreFromBefore, IsFoundByRestarts, IsKeptByRestarts};
+
+use crate::engine::Engine;
+use raft_engine_fronts::torn_tails::torn_tails_are_found;
+use raft_files::EngineFiles;
+use raft_recover::files_hold_few_records;
+
+/// States that restarts find what lasts, whatever files the machine leaves if it stops: every engine that is opened over them
+/// and every recovery of both queues has the records of a front of the batches that were written, with the synced ones at
+/// least, and of what there was before them; the files are neither damaged nor unreadable, nor of a group, and `recover_both`
+/// refuses them for want of memory alone; and where nothing is lost, what is found has the records of all batches.
+pub fn restarts_find_what_lasts()
+    ensures { (content : EntryIndex → List ℕ) (version : Version) (base : ℕ → Records) (asks : List Ask)
+        (lasting : IsLastingAfter content version base asks)
+        → IsFoundByRestarts content version base asks lasting.synced lasting.batches }
+{
+    torn_tails_are_found();
+    files_hold_few_records();
+}
+
+/// States which records there were before the batches that are known of an engine: none where it began its first files, and
+/// what was found where it was opened.
+pub fn records_before_are_those_found()
+    ensures { (content : EntryIndex → List ℕ) (engine : KeptEngine) (lasting : IsLasting content engine)
+        → AreFromBefore content engine.version engine.asks lasting.base }
+{
+    torn_tails_are_found();
+}
+
+impl<F: EngineFiles> Engine<F> {
+    /// States what is found again, whenever the machine stops or stopped, in the midst of a call too. An engine that is opened
+    /// over the files that are left, and a recovery of both queues of them, has the records of all batches that were synced
+    /// by then, and of a front of those since, and no others. It has those of an intact engine if all was synced, or if
+    /// nothing is lost. The files are neither damaged nor unreadable, where those of a queue have fewer than 2^63 bytes:
+    /// `recover_both` refuses them for want of memory alone; with which error `open` fails isn't said. The contents of entries
+    /// are any that are told by what was asked, and the files that are left have these. This is a law: it computes nothing.
+    pub fn what_is_left_is_opened(&self)
+        ensures { (content : EntryIndex → List ℕ) → AreBothTold self.now.asks content
+            → IsKeptByRestarts content self.now }
+    {
+        self.nothing_synced_is_lost();
+        restarts_find_what_lasts();
+        records_before_are_those_found();
+    }
+}

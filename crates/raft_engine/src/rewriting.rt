@@ -1,0 +1,150 @@
+//! Batches that move records of a region to the rewrite queue.
+
+ghost use Rattle.std.specs.Prelude.{◌≡◌, ◌≢◌, map, IfOk, IfErr, OnOk, OnErr};
+ghost use Rattle.raft_base.specs.Runs.{IsConsecutive};
+ghost use Rattle.raft_records.specs.LogBatch.{is_open};
+ghost use Rattle.raft_table.specs.KeyValues.{pairs_shown};
+ghost use Rattle.raft_engine_laws.specs.Moving.{AreOrdinary};
+ghost use Rattle.raft_engine.specs.Moved.{AreRegions};
+ghost use Rattle.raft_engine.specs.Reads.{AreOnlyRead};
+ghost use Rattle.raft_engine.specs.Rewriting.{IsBatchMoving, moving_entries, moving_pairs, with_puts};
+ghost use Rattle.raft_engine.specs.Unmoved.{AreKeysRefused, IsBatchRefused};
+
+use crate::block_reads::read_by_blocks;
+use raft_accessor::MemTableAccessor;
+use raft_base::{EntryIndex, Error, FileSeq, Result};
+use raft_files::EngineFiles;
+use raft_records::LogBatch;
+use raft_table::MemTable;
+use std::alloc::Global;
+
+/// Returns the entries of a table that move past a gate: the appended ones, from the first on while their file is at or below
+/// it; without a gate those that are rewritten already.
+///
+/// # Errors
+///
+/// `Memory`.
+fn entries_to_move(
+    alloc: Global,
+    table: &MemTable,
+    gate: Option<FileSeq>,
+) -> Result<Vec<EntryIndex>>
+    ensures ok { IfOk result (λ es. es.items ≡ moving_entries gate table.now.entries) }
+    ensures consecutive { IfOk result (λ es. IsConsecutive es.items) }
+    ensures memory { IfErr result (λ e. e ≡ Error.Memory) }
+{
+    table.holds_one_run();
+    let mut entries = Vec::new(alloc);
+    match gate {
+        Some(gate) => {
+            table.fetch_entry_indexes_before(gate, &mut entries)?;
+            Ok(entries)
+        }
+        None => {
+            table.fetch_rewritten_entry_indexes(&mut entries)?;
+            Ok(entries)
+        }
+    }
+}
+
+/// Returns the keys of a table, with their values, whose pairs move past a gate: those in append files at or below it; without
+/// a gate those that are rewritten already.
+///
+/// # Errors
+///
+/// `Memory`.
+fn pairs_to_move(
+    alloc: Global,
+    table: &MemTable,
+    gate: Option<FileSeq>,
+) -> Result<Vec<(Vec<u8>, Vec<u8>)>>
+    ensures ok { IfOk result (λ ps. pairs_shown ps.items ≡ moving_pairs gate table.now.keys) }
+    ensures memory { IfErr result (λ e. e ≡ Error.Memory) }
+{
+    let mut pairs = Vec::new(alloc);
+    match gate {
+        Some(gate) => {
+            table.fetch_kvs_before(gate, &mut pairs)?;
+            Ok(pairs)
+        }
+        None => {
+            table.fetch_rewritten_kvs(&mut pairs)?;
+            Ok(pairs)
+        }
+    }
+}
+
+/// Puts keys of a region in a batch, one after another.
+///
+/// # Errors
+///
+/// `InvalidArgument` for the key of the group markers, `Memory`.
+fn put_pairs(batch: &mut LogBatch, region: u64, pairs: Vec<(Vec<u8>, Vec<u8>)>) -> Result<()>
+    requires { batch.old.stage ≡ is_open }
+    ensures ok { OnOk result (batch.new ≡ with_puts batch.old region (pairs_shown pairs.items)) }
+    ensures ordinary { OnOk result (AreOrdinary (pairs_shown pairs.items)) }
+    ensures refused { IfErr result (λ e. e ≢ Error.Memory
+        → AreKeysRefused (pairs_shown pairs.items) e) }
+{
+    for (key, value) in pairs {
+        batch.put(region, key, value)?;
+    }
+    Ok(())
+}
+
+/// Returns a batch of what of a table moves past a gate: what it has in append files at or below it; without a gate what it has
+/// in rewrite files. It reads the bytes of the entries, each block once for all neighbors in it.
+///
+/// # Errors
+///
+/// Those of [`read_by_blocks`]; `Full` where these bytes are 2^31 or more; `InvalidArgument` for the key of the group markers.
+pub fn moving_batch<F: EngineFiles>(
+    alloc: Global,
+    files: &mut F,
+    table: &MemTable,
+    gate: Option<FileSeq>,
+) -> Result<LogBatch>
+    ensures ok { IfOk result (IsBatchMoving gate table.now (F.asked files.old)
+        (F.asked files.new)) }
+    ensures err { OnErr result (AreOnlyRead (F.asked files.old) (F.asked files.new)) }
+    ensures refused { IfErr result (λ e. e ≢ Error.Memory → IsBatchRefused gate table.now
+        (F.asked files.old) (F.asked files.new) e) }
+{
+    let entries = entries_to_move(alloc, table, gate)?;
+    let pairs = pairs_to_move(alloc, table, gate)?;
+    let strings = read_by_blocks(alloc, files, entries.as_slice())?;
+    let region = table.region_id();
+    let mut batch = LogBatch::default(alloc);
+    batch.add_raw_entries(region, entries, strings)?;
+    put_pairs(&mut batch, region, pairs)?;
+    Ok(batch)
+}
+
+/// Returns the regions of all tables, in no set order.
+///
+/// # Errors
+///
+/// `Memory`.
+pub fn regions_of(accessor: &MemTableAccessor) -> Result<Vec<u64>>
+    ensures ok { IfOk result (λ regions. AreRegions accessor.now.tables regions.items) }
+    ensures memory { IfErr result (λ e. e ≡ Error.Memory) }
+{
+    let tables = accessor.tables()?;
+    ids_of(*tables.allocator(), tables.as_slice())
+}
+
+/// Returns the regions of tables, in order.
+///
+/// # Errors
+///
+/// `Memory`.
+fn ids_of(alloc: Global, tables: &[&MemTable]) -> Result<Vec<u64>>
+    ensures ok { IfOk result (λ ids. ids.items ≡ map (λ t. t.now.region_id) tables.now) }
+    ensures memory { IfErr result (λ e. e ≡ Error.Memory) }
+{
+    let mut ids = Vec::new(alloc);
+    for table in tables {
+        ids.push(table.region_id())?;
+    }
+    Ok(ids)
+}

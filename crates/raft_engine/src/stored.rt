@@ -1,0 +1,53 @@
+//! Laws of what is stored of an engine.
+
+ghost use Rattle.raft_engine.specs.StoredAsks.{DeletionsAreStored, FirstFilesAreStored, NewFilesAreStored, SyncsAreStored, ToldBatchesAreStored, WhatIsDoneLasts, WrittenBatchesAreStored};
+
+use raft_engine_fronts::contents::told_contents_last;
+use raft_engine_fronts::done::{asks_do_deeds, files_that_are_left_hold_what_may_be_left};
+use raft_engine_fronts::fronts::{asks_put_batches, files_that_stand_hold_a_front};
+use raft_engine_laws::stops::{
+    deleting_is_safe, empty_queues_are_safe, nothing_is_lost, syncing_is_safe, telling_is_safe,
+    writing_is_safe,
+};
+use raft_engine_laws::telling::{
+    items_that_take_nothing_away_need_no_telling, told_items_take_away_the_same,
+    what_says_the_same_is_as_untold,
+};
+use raft_history::histories::placed_items_are_in_their_file;
+
+/// States that where no stop loses anything of what was done to both queues, the batches that were put last: whatever is
+/// left of the files has the records of a front of them, with the synced ones at least.
+pub fn what_is_done_lasts()
+    ensures { WhatIsDoneLasts }
+{
+    files_that_are_left_hold_what_may_be_left();
+    files_that_stand_hold_a_front();
+}
+
+/// States what each ask makes of what is stored: the first files are stored as no tables; a sync and a new file change
+/// nothing of it; a batch that is put behind the append queue's last file is stored as the tables that take it, and what
+/// it takes away is untold; once the append queue is synced, the rewrite queue may be told; and then, with both queues
+/// synced, files may be deleted that no table needs.
+pub fn asks_are_stored()
+    ensures first { FirstFilesAreStored }
+    ensures synced { SyncsAreStored }
+    ensures begun { NewFilesAreStored }
+    ensures written { WrittenBatchesAreStored }
+    ensures told { ToldBatchesAreStored }
+    ensures deleted { DeletionsAreStored }
+{
+    what_is_done_lasts();
+    nothing_is_lost();
+    told_contents_last();
+    asks_do_deeds();
+    asks_put_batches();
+    empty_queues_are_safe();
+    syncing_is_safe();
+    writing_is_safe();
+    items_that_take_nothing_away_need_no_telling();
+    what_says_the_same_is_as_untold();
+    placed_items_are_in_their_file();
+    telling_is_safe();
+    told_items_take_away_the_same();
+    deleting_is_safe();
+}

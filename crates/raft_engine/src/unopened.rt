@@ -1,0 +1,24 @@
+//! Found files that weren't opened.
+
+use raft_base::Error;
+use raft_files::EngineFiles;
+
+/// Found files that [`Engine::open`](crate::Engine::open) refused, and why. `?` turns it into the `error` where an `Error` is
+/// returned, and lets go of the files.
+#[derive(Drop)]
+pub struct Unopened<F: EngineFiles> {
+    /// The files, of which what was asked is noted.
+    pub files: F,
+    /// Why they weren't opened.
+    pub error: Error,
+}
+
+impl<F: EngineFiles + Drop> From<Unopened<F>> for Error {
+    ghost use Rattle.std.specs.Prelude.{◌≡◌};
+
+    ghost from_gives = { λ unopened e. e ≡ unopened.error };
+
+    fn from(unopened: Unopened<F>) -> Error {
+        unopened.error
+    }
+}

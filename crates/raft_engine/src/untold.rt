@@ -1,0 +1,95 @@
+//! What the rewrite queue isn't told of a batch.
+
+ghost use Rattle.std.specs.Prelude.{◌≡◌, [], ◌∷◌, ◌++◌, IfErr, IfOk, OnOk, map};
+ghost use Rattle.std.specs.FinMap as finite;
+ghost use Rattle.raft_base.specs.Runs.{end_of};
+ghost use Rattle.raft_records.specs.Item.{entries_item, item_of};
+ghost use Rattle.raft_records.specs.LogBatch.{empty_batch, is_open};
+ghost use Rattle.raft_table.specs.Steps.{table_of};
+ghost use Rattle.raft_engine_laws.specs.Telling.{taking_items, told_items};
+
+use crate::removals::tell_pair;
+use raft_accessor::MemTableAccessor;
+use raft_base::{EntryIndex, Error, Result};
+use raft_records::{Command, LogBatch, LogItem, LogItemContent};
+use std::alloc::Global;
+
+/// Returns what items take away of the tables that they are written to, as a batch that tells it: each command, each
+/// deletion of a key, and each run that begins below the end of its table as the truncation there.
+///
+/// # Errors
+///
+/// `Memory`.
+pub fn taken_away(alloc: Global, accessor: &MemTableAccessor, items: &[LogItem]) -> Result<LogBatch>
+    ensures ok { IfOk result (λ taken. taken ≡ record empty_batch {
+      items = told_items (taking_items accessor.now.tables (map item_of items.now));
+    }) }
+    ensures memory { IfErr result (λ e. e ≡ Error.Memory) }
+{
+    let mut taken = LogBatch::default(alloc);
+    for item in items {
+        tell_item(&mut taken, accessor, item)?;
+    }
+    Ok(taken)
+}
+
+/// Adds what an item takes away.
+///
+/// # Errors
+///
+/// `Memory`.
+fn tell_item(taken: &mut LogBatch, accessor: &MemTableAccessor, item: &LogItem) -> Result<()>
+    requires { taken.old.stage ≡ is_open }
+    ensures ok { OnOk result (taken.new ≡ record taken.old {
+      items = taken.old.items
+          ++ told_items (taking_items accessor.now.tables (item_of item.now ∷ []));
+    }) }
+    ensures memory { IfErr result (λ e. e ≡ Error.Memory) }
+{
+    let region = item.raft_group_id;
+    match &item.content {
+        LogItemContent::EntryIndexes(entries) => {
+            tell_run(taken, accessor, region, entries.0.as_slice())
+        }
+        LogItemContent::Command(command) => taken.add_command(region, command.clone()?),
+        LogItemContent::Kv(change) => tell_pair(region, change, taken),
+    }
+}
+
+/// Adds the truncation at the first index of entries, if they begin below the end of their table.
+///
+/// # Errors
+///
+/// `Memory`.
+fn tell_run(
+    taken: &mut LogBatch,
+    accessor: &MemTableAccessor,
+    region: u64,
+    run: &[EntryIndex],
+) -> Result<()>
+    requires { taken.old.stage ≡ is_open }
+    ensures ok { OnOk result (taken.new ≡ record taken.old {
+      items = taken.old.items
+          ++ told_items (taking_items accessor.now.tables (entries_item region run.now ∷ []));
+    }) }
+    ensures memory { IfErr result (λ e. e ≡ Error.Memory) }
+{
+    let Some(first) = run.first() else {
+        return Ok(());
+    };
+    let index = first.index;
+    if index < end_in(accessor, region) {
+        return taken.add_command(region, Command::Truncate { index });
+    }
+    Ok(())
+}
+
+/// Returns the end of the entries of a region's table, 0 without entries.
+fn end_in(accessor: &MemTableAccessor, region: u64) -> u64
+    ensures { result ≡ end_of (table_of region (finite.get accessor.now.tables region)).entries }
+{
+    match accessor.get(region) {
+        Some(table) => table.end(),
+        None => 0,
+    }
+}

@@ -178,6 +178,17 @@ impl Engine {
         self.take(&Step::Append(seq, parts))
     }
 
+    /// Returns copies of the files of a queue.
+    pub fn copies(&self, queue: LogQueue) -> Result<Vec<(FileSeq, Vec<u8>)>> {
+        let mut copies = Vec::new(self.alloc);
+        for file in &self.files {
+            if file.id.queue == queue {
+                copies.push((file.id.seq, file.bytes.clone()?))?;
+            }
+        }
+        Ok(copies)
+    }
+
     /// Returns how many bytes the last file has.
     pub fn len(&self) -> usize {
         match self.files.last() {
@@ -343,7 +354,7 @@ fn part_of(file: &LogFile) -> Result<FilePart> {
 }
 
 /// Returns the entries of a table as `[first,end)`, and the value of `k` as `k=value`.
-fn text_of(alloc: Global, table: Option<&MemTable>) -> Result<String> {
+pub fn text_of(alloc: Global, table: Option<&MemTable>) -> Result<String> {
     let mut text = String::new(alloc);
     let Some(table) = table else {
         return Ok(text);

@@ -3,11 +3,25 @@
 #![tactic(auto)]
 
 #[cfg(test)]
+mod again;
+#[cfg(test)]
 mod batches;
 #[cfg(test)]
 mod cases;
 #[cfg(test)]
 mod engine;
+#[cfg(test)]
+mod opening;
+#[cfg(test)]
+mod purged;
+#[cfg(test)]
+mod read;
+#[cfg(test)]
+mod reads;
+#[cfg(test)]
+mod reopened;
+#[cfg(test)]
+mod restarts;
 #[cfg(test)]
 mod round_trip;
 #[cfg(test)]

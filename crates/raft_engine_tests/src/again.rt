@@ -1,0 +1,199 @@
+//! Rewritten records that move to a new file of the rewrite queue, whose older files are deleted then; and files that fail in
+//! the midst of it.
+
+ghost use Rattle.std.specs.Prelude.{◌≡◌};
+
+use crate::batches::Part::{Clean, Compact, Delete, Entries, Put, Truncate};
+use crate::batches::{Part, batch_of};
+use crate::reopened::{holds, is_found, moved, open, write};
+use raft_base::{FileBlockHandle, FileSeq, LogQueue, Version};
+use raft_engine::Engine;
+use raft_files::{EngineFiles, MemoryFiles};
+use raft_records::{Error, Result};
+use std::alloc::Global;
+use std::thread::Threads;
+
+/// Parts of a batch that changes [1,10) and `k=v` in a rewrite file, and what they leave.
+static CHANGES: [(&[Part], &str); 8] = [
+    (&[], "[1,10)k=v"),
+    (&[Compact(3)], "[3,10)k=v"),
+    (&[Truncate(3)], "[1,3)k=v"),
+    (&[Delete], "[1,10)"),
+    (&[Entries(10, 12), Put("w")], "[1,12)k=w"),
+    (&[Entries(5, 7)], "[1,7)k=v"),
+    (&[Clean], ""),
+    (&[Clean, Entries(4, 6)], "[4,6)"),
+];
+
+/// Tests whether a purge leaves one rewrite file, and deletes so many.
+fn leaves_one(engine: &mut Engine<MemoryFiles>, deleted: usize) -> Result<bool> {
+    Ok(
+        engine.purge_rewrite_files()? == deleted
+            && engine.files().files(LogQueue::Rewrite).len() == 1,
+    )
+}
+
+/// Tests whether what an engine holds is found once it moved again, and once the older rewrite file went.
+fn is_found_again<R: Threads + Sync>(
+    rt: &R,
+    alloc: Global,
+    engine: &mut Engine<MemoryFiles>,
+    left: &str,
+) -> Result<bool> {
+    engine.rewrite_again()?;
+    let moved = is_found(rt, alloc, engine, left)?;
+    Ok(
+        moved
+            && leaves_one(engine, 1)?
+            && leaves_one(engine, 0)?
+            && holds(alloc, engine, left)?
+            && is_found(rt, alloc, engine, left)?,
+    )
+}
+
+/// Moves what the append files hold, and deletes all of them but the last.
+fn empty_append_files(engine: &mut Engine<MemoryFiles>) -> Result<bool> {
+    engine.rotate()?;
+    engine.rewrite(FileSeq::MAX)?;
+    engine.purge_expired_files()?;
+    Ok(engine.files().files(LogQueue::Append).len() == 1)
+}
+
+/// Tests it of a change that isn't told yet, and again once all was moved out of the append files.
+fn change_stays<R: Threads + Sync>(
+    rt: &R,
+    alloc: Global,
+    parts: &[Part],
+    left: &str,
+) -> Result<bool> {
+    let mut engine = moved(alloc)?;
+    write(alloc, &mut engine, parts, false)?;
+    Ok(
+        is_found_again(rt, alloc, &mut engine, left)?
+            && empty_append_files(&mut engine)?
+            && is_found_again(rt, alloc, &mut engine, left)?,
+    )
+}
+
+#[test]
+fn records_move_again(rt: HostRuntime) {
+    for (row, (parts, left)) in CHANGES.iter().enumerate() {
+        let mut held = change_stays(&rt, rt.alloc(), parts, left);
+        if matches!(held, Err(Error::Memory)) {
+            held = change_stays(&rt, rt.alloc(), parts, left);
+        }
+        assert!(rt; matches!(held, Ok(true)), "row {row}");
+    }
+}
+
+/// Files in memory that fail once so many calls were made of them.
+#[derive(Drop)]
+struct Failing {
+    files: MemoryFiles,
+    left: usize,
+}
+
+impl Failing {
+    /// Counts a call.
+    fn call(&mut self) -> Result<()>
+        ensures { self.new.files ≡ self.old.files }
+    {
+        if self.left == 0 {
+            return Err(Error::Failed);
+        }
+        self.left -= 1;
+        Ok(())
+    }
+}
+
+impl EngineFiles for Failing {
+    ghost asked = { λ f. f.files };
+
+    fn append(&mut self, queue: LogQueue, bytes: &[u8]) -> Result<()> {
+        self.call()?;
+        self.files.append(queue, bytes)
+    }
+
+    fn rotate(&mut self, queue: LogQueue, seq: FileSeq) -> Result<()> {
+        self.call()?;
+        self.files.rotate(queue, seq)
+    }
+
+    fn sync(&mut self, queue: LogQueue) -> Result<()> {
+        self.call()?;
+        self.files.sync(queue)
+    }
+
+    fn delete_oldest(&mut self, queue: LogQueue) -> Result<()> {
+        self.call()?;
+        self.files.delete_oldest(queue)
+    }
+
+    fn truncate(&mut self, queue: LogQueue, len: u64) -> Result<()> {
+        self.call()?;
+        self.files.truncate(queue, len)
+    }
+
+    fn read(&mut self, place: FileBlockHandle) -> Result<Vec<u8>> {
+        self.call()?;
+        self.files.read(place)
+    }
+}
+
+/// Makes an engine over files of which so many calls are left once it wrote [1,3) and `k=v`.
+fn started(alloc: Global, left: usize) -> Result<Engine<Failing>> {
+    let files = Failing {
+        files: MemoryFiles::new(alloc),
+        left: left.saturating_add(4),
+    };
+    let mut engine = Engine::new(alloc, Version::V2, files)?;
+    let mut batch = batch_of(alloc, &[Entries(1, 3), Put("v")])?;
+    engine.write(&mut batch, true)?;
+    Ok(engine)
+}
+
+/// Moves all out of the append files, and then to a new rewrite file.
+fn move_twice(engine: &mut Engine<Failing>) -> Result<usize> {
+    engine.rotate()?;
+    engine.rewrite(FileSeq::MAX)?;
+    engine.purge_expired_files()?;
+    engine.rewrite_again()?;
+    engine.purge_rewrite_files()
+}
+
+/// Tests whether all is found where files fail after so many calls; and returns whether they did.
+fn finds_after<R: Threads + Sync>(rt: &R, alloc: Global, left: usize) -> Result<(bool, bool)> {
+    let mut engine = started(alloc, left)?;
+    let failed = match move_twice(&mut engine) {
+        Ok(_) => false,
+        Err(Error::Failed) => true,
+        Err(e) => return Err(e),
+    };
+    let files = &engine.files().files;
+    let append = files.copies(LogQueue::Append)?;
+    let found = open(rt, alloc, append, files.copies(LogQueue::Rewrite)?)?;
+    Ok((failed, holds(alloc, &found, "[1,3)k=v")?))
+}
+
+/// Returns after how many calls no file fails any more, if all is found at each number of calls up to it.
+fn calls_to_move<R: Threads + Sync>(rt: &R, alloc: Global) -> Result<Option<usize>> {
+    for left in 0usize..40 {
+        let (failed, found) = finds_after(rt, alloc, left)?;
+        if !found {
+            return Ok(None);
+        }
+        if !failed {
+            return Ok(Some(left));
+        }
+    }
+    Ok(None)
+}
+
+#[test]
+fn files_that_fail_lose_nothing(rt: HostRuntime) {
+    let mut calls = calls_to_move(&rt, rt.alloc());
+    if matches!(calls, Err(Error::Memory)) {
+        calls = calls_to_move(&rt, rt.alloc());
+    }
+    assert!(rt; matches!(calls, Ok(Some(16))));
+}

@@ -1,0 +1,361 @@
+//! An engine that is opened over what a stop left: what it cuts, tells, moves and deletes, with ample memory.
+
+use crate::batches::Part::{Clean, Compact, Delete, Entries, Put, Truncate};
+use crate::batches::{Part, REGION, batch_of};
+use crate::engine::Step::{Append, Purge, Rewrite};
+use crate::engine::{Engine as Histories, text_of};
+use raft_base::{FileSeq, LogQueue, Version};
+use raft_engine::Engine;
+use raft_files::MemoryFiles;
+use raft_records::{Error, Result};
+use std::alloc::Global;
+use std::thread::Threads;
+
+type LogFiles = Vec<(FileSeq, Vec<u8>)>;
+
+/// Opens an engine over files, with two workers.
+pub fn open<R: Threads + Sync>(
+    rt: &R,
+    alloc: Global,
+    append: LogFiles,
+    rewrite: LogFiles,
+) -> Result<Engine<MemoryFiles>> {
+    let files = MemoryFiles::found(append, rewrite);
+    let append = files.copies(LogQueue::Append)?;
+    let rewrite = files.copies(LogQueue::Rewrite)?;
+    let engine = Engine::open(rt, alloc, Version::V2, files, append, rewrite, 2)?;
+    Ok(engine)
+}
+
+/// Opens an engine over copies of the files of another one.
+fn reopened<R: Threads + Sync>(
+    rt: &R,
+    alloc: Global,
+    engine: &Engine<MemoryFiles>,
+) -> Result<Engine<MemoryFiles>> {
+    let append = engine.files().copies(LogQueue::Append)?;
+    open(rt, alloc, append, engine.files().copies(LogQueue::Rewrite)?)
+}
+
+pub fn write(
+    alloc: Global,
+    engine: &mut Engine<MemoryFiles>,
+    parts: &[Part],
+    sync: bool,
+) -> Result<()> {
+    let mut batch = batch_of(alloc, parts)?;
+    engine.write(&mut batch, sync)
+}
+
+/// Tests whether this is what an engine holds.
+pub fn holds(alloc: Global, engine: &Engine<MemoryFiles>, text: &str) -> Result<bool> {
+    Ok(text_of(alloc, engine.accessor().get(REGION))?.as_str() == text)
+}
+
+/// Batches that change [1,10) and `k=v`, and what they leave.
+struct Change {
+    batches: &'static [&'static [Part]],
+    left: &'static str,
+    /// How many append files a purge leaves.
+    files: usize,
+}
+
+static CHANGES: [Change; 10] = [
+    Change {
+        batches: &[&[Entries(5, 7)], &[Compact(7)]],
+        left: "k=v",
+        files: 1,
+    },
+    Change {
+        batches: &[&[Entries(5, 7)], &[Compact(7)], &[Entries(8, 9)]],
+        left: "[8,9)k=v",
+        files: 2,
+    },
+    Change {
+        batches: &[&[Clean]],
+        left: "",
+        files: 1,
+    },
+    Change {
+        batches: &[&[Clean, Entries(1, 3)]],
+        left: "[1,3)",
+        files: 2,
+    },
+    Change {
+        batches: &[&[Truncate(3)]],
+        left: "[1,3)k=v",
+        files: 1,
+    },
+    Change {
+        batches: &[&[Compact(3)]],
+        left: "[3,10)k=v",
+        files: 1,
+    },
+    Change {
+        batches: &[&[Delete]],
+        left: "[1,10)",
+        files: 1,
+    },
+    Change {
+        batches: &[&[Delete, Put("w")]],
+        left: "[1,10)k=w",
+        files: 2,
+    },
+    Change {
+        batches: &[&[Put("w")]],
+        left: "[1,10)k=w",
+        files: 2,
+    },
+    Change {
+        batches: &[&[Entries(10, 12)]],
+        left: "[1,12)k=v",
+        files: 2,
+    },
+];
+
+/// Opens an engine over files of both queues, where [1,10) and `k=v` were rewritten and their append file deleted.
+fn found<R: Threads + Sync>(rt: &R, alloc: Global) -> Result<Engine<MemoryFiles>> {
+    let mut store = Histories::new(alloc)?;
+    store.take(&Append(1, &[Entries(1, 10), Put("v")]))?;
+    store.take(&Rewrite(1, Some(1), &[Entries(1, 10), Put("v")]))?;
+    store.take(&Purge(LogQueue::Append, 1))?;
+    open(
+        rt,
+        alloc,
+        store.copies(LogQueue::Append)?,
+        store.copies(LogQueue::Rewrite)?,
+    )
+}
+
+/// Makes an engine that wrote [1,10) and `k=v`, moved them to the rewrite queue, and deleted their append file.
+pub fn moved(alloc: Global) -> Result<Engine<MemoryFiles>> {
+    let mut engine = Engine::new(alloc, Version::V2, MemoryFiles::new(alloc))?;
+    write(alloc, &mut engine, &[Entries(1, 10), Put("v")], false)?;
+    engine.rotate()?;
+    engine.rewrite(1)?;
+    engine.purge_expired_files()?;
+    Ok(engine)
+}
+
+/// Writes the batches of a change, each to the append queue's last file, and begins the next one.
+fn make(alloc: Global, engine: &mut Engine<MemoryFiles>, change: &Change) -> Result<()> {
+    for parts in change.batches {
+        write(alloc, engine, parts, false)?;
+    }
+    engine.rotate()
+}
+
+fn has_append_files(engine: &Engine<MemoryFiles>, count: usize) -> bool {
+    engine.files().files(LogQueue::Append).len() == count
+}
+
+/// Tests whether this is what an engine holds that is opened over copies of the files of another one.
+pub fn is_found<R: Threads + Sync>(
+    rt: &R,
+    alloc: Global,
+    engine: &Engine<MemoryFiles>,
+    text: &str,
+) -> Result<bool> {
+    let found = reopened(rt, alloc, engine)?;
+    holds(alloc, &found, text)
+}
+
+/// Tests whether a purge leaves so many of two append files.
+fn leaves(engine: &mut Engine<MemoryFiles>, files: usize) -> Result<bool> {
+    let deleted = engine.purge_expired_files()?;
+    Ok(deleted.saturating_add(files) == 2 && has_append_files(engine, files))
+}
+
+/// Tests whether what is taken away stays away, and what is left stays, by a purge and by openings before and after it.
+fn stays<R: Threads + Sync>(
+    rt: &R,
+    alloc: Global,
+    engine: &mut Engine<MemoryFiles>,
+    change: &Change,
+) -> Result<bool> {
+    if !has_append_files(engine, 1) || !holds(alloc, engine, "[1,10)k=v")? {
+        return Ok(false);
+    }
+    make(alloc, engine, change)?;
+    if !is_found(rt, alloc, engine, change.left)? || !leaves(engine, change.files)? {
+        return Ok(false);
+    }
+    Ok(holds(alloc, engine, change.left)? && is_found(rt, alloc, engine, change.left)?)
+}
+
+fn found_stays<R: Threads + Sync>(rt: &R, alloc: Global, change: &Change) -> Result<bool> {
+    let mut engine = found(rt, alloc)?;
+    stays(rt, alloc, &mut engine, change)
+}
+
+fn moved_stays<R: Threads + Sync>(rt: &R, alloc: Global, change: &Change) -> Result<bool> {
+    let mut engine = moved(alloc)?;
+    stays(rt, alloc, &mut engine, change)
+}
+
+/// Tests it of found records and of such that moved.
+fn all_stay<R: Threads + Sync>(rt: &R, alloc: Global, change: &Change) -> Result<bool> {
+    Ok(found_stays(rt, alloc, change)? && moved_stays(rt, alloc, change)?)
+}
+
+#[test]
+fn changes_stay(rt: HostRuntime) {
+    for (row, change) in CHANGES.iter().enumerate() {
+        let mut held = all_stay(&rt, rt.alloc(), change);
+        if matches!(held, Err(Error::Memory)) {
+            held = all_stay(&rt, rt.alloc(), change);
+        }
+        assert!(rt; matches!(held, Ok(true)), "row {row}");
+    }
+}
+
+/// Batches, one after the other.
+static WRITES: [&[Part]; 4] = [
+    &[Entries(1, 3)],
+    &[Entries(3, 4), Put("v")],
+    &[Entries(2, 3)],
+    &[Delete],
+];
+
+/// An engine that wrote these batches to its first append file, and how many bytes this had after each.
+#[derive(Drop)]
+struct Fronts {
+    engine: Engine<MemoryFiles>,
+    ends: Vec<usize>,
+}
+
+fn made(alloc: Global) -> Result<Fronts> {
+    let mut engine = Engine::new(alloc, Version::V2, MemoryFiles::new(alloc))?;
+    let mut ends = Vec::new(alloc);
+    for parts in &WRITES {
+        write(alloc, &mut engine, parts, false)?;
+        ends.push(last_len(engine.files().files(LogQueue::Append)))?;
+    }
+    Ok(Fronts { engine, ends })
+}
+
+fn last_len(files: &LogFiles) -> usize {
+    match files.last() {
+        Some((_, bytes)) => bytes.len(),
+        None => 0,
+    }
+}
+
+/// Returns how many batches are whole in so many bytes.
+fn whole_in(fronts: &Fronts, len: usize) -> usize {
+    let mut count = 0usize;
+    for end in &fronts.ends {
+        if *end <= len {
+            count = count.saturating_add(1);
+        }
+    }
+    count
+}
+
+/// Returns what so many batches leave.
+fn left_by(count: usize) -> &'static str {
+    match count {
+        0 => "",
+        1 => "[1,3)",
+        2 => "[1,4)k=v",
+        3 => "[1,3)k=v",
+        _ => "[1,3)",
+    }
+}
+
+/// Opens an engine where the append file has so many bytes.
+fn opened_at<R: Threads + Sync>(
+    rt: &R,
+    alloc: Global,
+    fronts: &Fronts,
+    len: usize,
+) -> Result<Engine<MemoryFiles>> {
+    let mut append = fronts.engine.files().copies(LogQueue::Append)?;
+    if let Some(last) = append.last_mut() {
+        last.1.truncate(len);
+    }
+    open(
+        rt,
+        alloc,
+        append,
+        fronts.engine.files().copies(LogQueue::Rewrite)?,
+    )
+}
+
+/// Replaces all that an engine holds, moves it, and deletes the file that it was in.
+fn replace(alloc: Global, engine: &mut Engine<MemoryFiles>) -> Result<usize> {
+    write(alloc, engine, &[Clean, Put("x")], true)?;
+    engine.rotate()?;
+    engine.rewrite(u64::MAX)?;
+    engine.purge_expired_files()
+}
+
+/// Tests whether an engine finds the batches that are whole where the append file has so many bytes, and goes on.
+fn finds_front<R: Threads + Sync>(
+    rt: &R,
+    alloc: Global,
+    fronts: &Fronts,
+    len: usize,
+) -> Result<bool> {
+    let mut engine = opened_at(rt, alloc, fronts, len)?;
+    if !holds(alloc, &engine, left_by(whole_in(fronts, len)))?
+        || replace(alloc, &mut engine)? != 1
+    {
+        return Ok(false);
+    }
+    is_found(rt, alloc, &engine, "k=x")
+}
+
+/// Tests it of each number of bytes.
+fn finds_fronts<R: Threads + Sync>(rt: &R, alloc: Global) -> Result<Option<usize>> {
+    let fronts = made(alloc)?;
+    for len in 0..last_len(fronts.engine.files().files(LogQueue::Append)).saturating_add(1) {
+        if !finds_front(rt, alloc, &fronts, len)? {
+            return Ok(Some(len));
+        }
+    }
+    Ok(None)
+}
+
+#[test]
+fn fronts_are_found(rt: HostRuntime) {
+    let mut failed = finds_fronts(&rt, rt.alloc());
+    if matches!(failed, Err(Error::Memory)) {
+        failed = finds_fronts(&rt, rt.alloc());
+    }
+    assert!(rt; matches!(failed, Ok(None)));
+}
+
+/// Tests whether a file is refused whose first batch is damaged.
+fn refuses_damage<R: Threads + Sync>(rt: &R, alloc: Global, fronts: &Fronts) -> Result<bool> {
+    let mut append = fronts.engine.files().copies(LogQueue::Append)?;
+    if let Some(last) = append.last_mut() {
+        if let Some(byte) = last.1.get_mut(24) {
+            *byte ^= 1;
+        }
+    }
+    let opened = open(rt, alloc, append, Vec::new(alloc));
+    Ok(matches!(opened, Err(Error::Corruption(_))))
+}
+
+/// Tests whether files are refused whose numbers don't rise.
+fn refuses_numbers<R: Threads + Sync>(rt: &R, alloc: Global, fronts: &Fronts) -> Result<bool> {
+    let mut append = fronts.engine.files().copies(LogQueue::Append)?;
+    append.push((1, Vec::new(alloc)))?;
+    let opened = open(rt, alloc, append, Vec::new(alloc));
+    Ok(matches!(opened, Err(Error::Corruption(_))))
+}
+
+fn refuses<R: Threads + Sync>(rt: &R, alloc: Global) -> Result<bool> {
+    let fronts = made(alloc)?;
+    Ok(refuses_damage(rt, alloc, &fronts)? && refuses_numbers(rt, alloc, &fronts)?)
+}
+
+#[test]
+fn what_no_stop_leaves_is_refused(rt: HostRuntime) {
+    let mut held = refuses(&rt, rt.alloc());
+    if matches!(held, Err(Error::Memory)) {
+        held = refuses(&rt, rt.alloc());
+    }
+    assert!(rt; matches!(held, Ok(true)));
+}

@@ -2,7 +2,7 @@
 SHELL := /bin/bash
 RT ?= rt
 export RT
-.PHONY: believe believe-check bench calls compare crashes cuttings demo demo-recover edits example hostile raftlog refused-memory rust rust-tests stack test wrong-bodies
+.PHONY: believe believe-check bench calls compare crashes cuttings demo demo-recover edits example hostile raftlog refused-memory rust rust-tests rust-unproved stack test wrong-bodies
 
 # Runs `raftlog` on an item batch, which says that the records of region 1 go. Nothing is proved.
 demo:
@@ -36,14 +36,24 @@ rust:
 	@$(MAKE) --silent rust-tests
 
 # Looks at which functions the archive of `raft_ffi` calls, and runs the tests of rust/ over it, with the heap of the toolchain and with
-# the program's own.
+# the program's own. Where cargo has them, `fmt` and `clippy` look at the sources first.
 rust-tests: export RAFT_FFI_ARCHIVE = $(CURDIR)/crates/raft_ffi/out/libraft_ffi.a
 rust-tests: export RATTLE_HEAP_ARCHIVE = $(dir $(shell $(RT) doc))c/liblibc_c.a
 rust-tests: export CARGO_TARGET_DIR ?= $(CURDIR)/crates/raft_ffi/out/target
+rust-tests: CLIPPY = cargo clippy --quiet --offline --all-targets --manifest-path rust/Cargo.toml
 rust-tests:
 	@tools/ffi.py $(RAFT_FFI_ARCHIVE)
+	@! cargo fmt --version > /dev/null 2>&1 || cargo fmt --check --manifest-path rust/Cargo.toml
+	@! cargo clippy --version > /dev/null 2>&1 || $(CLIPPY) -- -D warnings
+	@! cargo clippy --version > /dev/null 2>&1 || $(CLIPPY) --features global-allocator -- -D warnings
+	RUSTDOCFLAGS='-D warnings' cargo doc --quiet --offline --no-deps --manifest-path rust/Cargo.toml
 	cargo test --quiet --offline --manifest-path rust/Cargo.toml
 	cargo test --quiet --offline --manifest-path rust/Cargo.toml --features global-allocator
+
+# Builds an archive of `raft_ffi` without a proof, to try rust/ with, in a minute, and says how.
+rust-unproved:
+	@tools/unproved.py
+	@echo "to test rust/ over it: cd rust && RAFT_FFI_ARCHIVE=$(CURDIR)/crates/raft_ffi/out/libraft_ffi_unproved.a cargo test"
 
 # As many crates at a time as there are processors, and as memory holds: no check was seen to take more than 3 GB.
 LANES = $(shell awk -v n="$$(nproc)" '/^MemAvailable/ { m = int($$2 / 4000000); print m < 1 ? 1 : m < n ? m : n }' /proc/meminfo)

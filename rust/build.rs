@@ -1,40 +1,77 @@
-//! Links the archive of the proved library, and the shim from its heap to `malloc` and `free`.
+//! Links the archive of the proved library, and the toolchain's archive from its heap to `malloc` and `free`.
 //!
-//! - `RAFT_FFI_ARCHIVE`: the path of `libraft_ffi.a`. Without it, that of this repository, which `rt lib` makes in
-//!   `crates/raft_ffi`.
-//! - `RATTLE_HEAP_ARCHIVE`: the path of the toolchain's `liblibc_c.a`. It isn't read with the feature `global-allocator`.
+//! They are taken from where `rt lib` leaves the one and from beside the page that `rt doc` prints. Two variables name others:
+//!
+//! - `RAFT_FFI_ARCHIVE`: an archive of the library.
+//! - `RATTLE_HEAP_ARCHIVE`: the toolchain's `liblibc_c.a`. It isn't read with the feature `global-allocator`.
+//!
+//! Where an archive isn't there, a warning says how to get it. What links nothing (`cargo check`, `clippy`, `doc`) goes on.
 
 use std::env;
-use std::path::PathBuf;
+use std::path::{Path, PathBuf};
+use std::process::Command;
+
+/// Where `rt lib` leaves the archive of the library.
+const LIBRARY: &str = concat!(
+    env!("CARGO_MANIFEST_DIR"),
+    "/../crates/raft_ffi/out/libraft_ffi.a"
+);
 
 fn main() {
-    let own = concat!(
-        env!("CARGO_MANIFEST_DIR"),
-        "/../crates/raft_ffi/out/libraft_ffi.a"
-    );
-    link("RAFT_FFI_ARCHIVE", Some(own));
+    link("RAFT_FFI_ARCHIVE", || {
+        let library = PathBuf::from(LIBRARY);
+        if !library.is_file() {
+            println!(
+                "cargo::warning=the proved library isn't made yet: run `make rust` (about 40 minutes), \
+                 or, to try things without a proof, `make rust-unproved` (a minute)"
+            );
+        }
+        library
+    });
     if env::var_os("CARGO_FEATURE_GLOBAL_ALLOCATOR").is_none() {
-        link("RATTLE_HEAP_ARCHIVE", None);
+        link("RATTLE_HEAP_ARCHIVE", || {
+            of_toolchain().unwrap_or_else(|| {
+                println!(
+                    "cargo::warning=the toolchain's heap isn't found: put `rt` on the PATH, \
+                     or take the feature `global-allocator`"
+                );
+                PathBuf::from("liblibc_c.a")
+            })
+        });
     }
 }
 
+/// Returns the path of the toolchain's heap, if there is a toolchain.
+fn of_toolchain() -> Option<PathBuf> {
+    println!("cargo::rerun-if-env-changed=PATH");
+    let page = Command::new("rt").arg("doc").output().ok()?;
+    let page = String::from_utf8(page.stdout).ok()?;
+    let archive = Path::new(page.trim()).parent()?.join("c/liblibc_c.a");
+    archive.is_file().then_some(archive)
+}
+
 /// Links the archive that a variable names, or another one where it isn't set.
-fn link(variable: &str, otherwise: Option<&str>) {
+fn link(variable: &str, otherwise: impl FnOnce() -> PathBuf) {
     println!("cargo::rerun-if-env-changed={variable}");
-    let path = match (env::var_os(variable), otherwise) {
-        (Some(path), _) => PathBuf::from(path),
-        (None, Some(path)) => PathBuf::from(path),
-        (None, None) => panic!("{variable} has to name an archive, see README.md"),
+    let archive = match env::var_os(variable).map(PathBuf::from) {
+        Some(named) => match named.canonicalize() {
+            Ok(archive) => archive,
+            Err(e) => return println!("cargo::error={variable}: {}: {e}", named.display()),
+        },
+        None => otherwise(),
     };
-    let path = path
-        .canonicalize()
-        .unwrap_or_else(|e| panic!("{variable}: {}: {e}", path.display()));
-    println!("cargo::rerun-if-changed={}", path.display());
-    let name = path
+    println!("cargo::rerun-if-changed={}", archive.display());
+    let name = archive
         .file_name()
-        .and_then(|name| name.to_str()?.strip_prefix("lib")?.strip_suffix(".a"))
-        .unwrap_or_else(|| panic!("{variable}: {} is no archive", path.display()));
-    let folder = path.parent().expect("a file lies in a folder");
-    println!("cargo::rustc-link-search=native={}", folder.display());
+        .and_then(|name| name.to_str()?.strip_prefix("lib")?.strip_suffix(".a"));
+    let Some((name, folder)) = name.zip(archive.parent()) else {
+        return println!(
+            "cargo::error={variable}: {} is no archive",
+            archive.display()
+        );
+    };
+    if folder.is_dir() {
+        println!("cargo::rustc-link-search=native={}", folder.display());
+    }
     println!("cargo::rustc-link-lib=static={name}");
 }

@@ -35,4 +35,5 @@ def main():
     sys.exit(crate.compile(["--jobs", "1"], str(archive)))
 
 
-main()
+if __name__ == "__main__":
+    main()

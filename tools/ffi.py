@@ -62,16 +62,22 @@ def passed(name, kind):
     return [(name, in_rust(kind))]
 
 
-def exports():
-    """The exports as Rust has to declare them."""
+def heads():
+    """The module, the name, the parameters and the result of each export."""
     head = re.compile(
         r"#\[unsafe\(no_mangle\)\]\s*pub extern \"C\" fn (\w+)\(([^)]*)\)\s*(?:-> (\w+))?"
     )
-    found = {}
     for path in sorted(EXPORTS.glob("*.rt")):
         for name, inside, result in head.findall(without_comments(path.read_text())):
-            wanted = [pair for kind in parameters(inside) for pair in passed(*kind)]
-            found[name] = (wanted, in_rust(result))
+            yield path.stem, name, parameters(inside), result
+
+
+def exports():
+    """The exports as Rust has to declare them."""
+    found = {}
+    for _, name, inside, result in heads():
+        wanted = [pair for kind in inside for pair in passed(*kind)]
+        found[name] = (wanted, in_rust(result))
     return found
 
 

@@ -2,10 +2,12 @@
 
 use crate::sys::{self, ItemsHandle};
 use crate::{Entry, Error, FilePart, Result};
+use std::fmt;
 use std::iter::FusedIterator;
+use std::ops::Range;
 
 /// What is said of a region.
-#[derive(Clone, PartialEq, Eq, Debug)]
+#[derive(Clone, PartialEq, Eq, Hash, Debug)]
 pub struct Item {
     /// The region; of a group marker the group.
     pub region: u64,
@@ -14,7 +16,7 @@ pub struct Item {
 }
 
 /// What an item says.
-#[derive(Clone, PartialEq, Eq, Debug)]
+#[derive(Clone, PartialEq, Eq, Hash, Debug)]
 pub enum Content {
     /// New entries.
     Entries(Vec<Entry>),
@@ -46,18 +48,47 @@ pub enum Content {
 
 /// The items of a log batch. Where it was read, or given its places by [`LogBatch::written`](crate::LogBatch::written), its
 /// entries have their place in the file, and its key values their file.
-#[derive(Debug)]
+///
+/// ```
+/// use raft_recover::{Content, Item, LogBatch};
+///
+/// let mut batch = LogBatch::new()?;
+/// batch.compact(7, 10)?;
+/// batch.clean(8)?;
+/// let items = batch.into_items()?;
+/// assert_eq!(items.len(), 2);
+/// for Item { region, content } in &items {
+///     match content {
+///         Content::Compact { index } => assert_eq!((region, index), (7, 10)),
+///         content => assert_eq!((region, content), (8, Content::Clean)),
+///     }
+/// }
+/// # Ok::<(), raft_recover::Error>(())
+/// ```
+///
+/// It is applied once:
+///
+/// ```compile_fail,E0382
+/// use raft_recover::{LogBatch, Tables};
+///
+/// let items = LogBatch::new().unwrap().into_items().unwrap();
+/// let mut tables = Tables::new().unwrap();
+/// tables.apply_append(items).unwrap();
+/// tables.apply_append(items).unwrap();
+/// ```
 pub struct Batch {
     handle: ItemsHandle,
 }
 
 impl Batch {
     /// Returns how many items there are.
+    #[must_use]
     pub fn len(&self) -> usize {
         self.handle.len()
     }
 
     /// Tests whether there are no items.
+    #[must_use]
     pub fn is_empty(&self) -> bool {
         self.len() == 0
     }
@@ -68,6 +99,7 @@ impl Batch {
     ///
     /// Where an entry has no place: the batch was made here, and its items were taken out before
     /// [`LogBatch::written`](crate::LogBatch::written).
+    #[must_use]
     pub fn get(&self, i: usize) -> Option<Item> {
         self.handle.item(i)
     }
@@ -76,9 +108,12 @@ impl Batch {
     ///
     /// # Panics
     ///
-    /// As [`Batch::get`] does.
-    pub fn iter(&self) -> impl Iterator<Item = Item> + '_ {
-        (0..self.len()).filter_map(|i| self.get(i))
+    /// The iterator does where [`Batch::get`] does.
+    pub fn iter(&self) -> BatchIter<'_> {
+        BatchIter {
+            batch: self,
+            rest: 0..self.len(),
+        }
     }
 
     /// Makes one of a handle.
@@ -92,8 +127,133 @@ impl Batch {
     }
 }
 
-/// The batches of a part of a file, one behind the other. It ends behind the first refusal.
+impl fmt::Debug for Batch {
+    /// Shows how many items there are.
+    fn fmt(&self, f: &mut fmt::Formatter<'_>) -> fmt::Result {
+        f.debug_struct("Batch")
+            .field("len", &self.len())
+            .finish_non_exhaustive()
+    }
+}
+
+impl<'a> IntoIterator for &'a Batch {
+    type Item = Item;
+    type IntoIter = BatchIter<'a>;
+
+    fn into_iter(self) -> BatchIter<'a> {
+        self.iter()
+    }
+}
+
+impl IntoIterator for Batch {
+    type Item = Item;
+    type IntoIter = BatchIntoIter;
+
+    fn into_iter(self) -> BatchIntoIter {
+        let rest = 0..self.len();
+        BatchIntoIter { batch: self, rest }
+    }
+}
+
+/// The items of a batch that is lent, by [`Batch::iter`].
 #[derive(Clone, Debug)]
+#[must_use = "an iterator does nothing until it is asked"]
+pub struct BatchIter<'a> {
+    batch: &'a Batch,
+    rest: Range<usize>,
+}
+
+/// The items of a batch that is given away.
+#[derive(Debug)]
+#[must_use = "an iterator does nothing until it is asked"]
+pub struct BatchIntoIter {
+    batch: Batch,
+    rest: Range<usize>,
+}
+
+impl Iterator for BatchIter<'_> {
+    type Item = Item;
+
+    fn next(&mut self) -> Option<Item> {
+        self.batch.get(self.rest.next()?)
+    }
+
+    fn size_hint(&self) -> (usize, Option<usize>) {
+        self.rest.size_hint()
+    }
+}
+
+impl DoubleEndedIterator for BatchIter<'_> {
+    fn next_back(&mut self) -> Option<Item> {
+        self.batch.get(self.rest.next_back()?)
+    }
+}
+
+impl ExactSizeIterator for BatchIter<'_> {}
+
+impl FusedIterator for BatchIter<'_> {}
+
+impl Iterator for BatchIntoIter {
+    type Item = Item;
+
+    fn next(&mut self) -> Option<Item> {
+        self.batch.get(self.rest.next()?)
+    }
+
+    fn size_hint(&self) -> (usize, Option<usize>) {
+        self.rest.size_hint()
+    }
+}
+
+impl DoubleEndedIterator for BatchIntoIter {
+    fn next_back(&mut self) -> Option<Item> {
+        self.batch.get(self.rest.next_back()?)
+    }
+}
+
+impl ExactSizeIterator for BatchIntoIter {}
+
+impl FusedIterator for BatchIntoIter {}
+
+/// The batches of a part of a file, one behind the other. It ends behind the first refusal.
+///
+/// ```
+/// use raft_recover::{Batches, Content, FilePart, LogBatch, LogFile, Queue, Version};
+///
+/// let file = LogFile::new(Queue::Append, 1, Version::V2);
+/// let mut bytes = Vec::new();
+/// for value in ["one", "two"] {
+///     let mut batch = LogBatch::new()?;
+///     batch.put(7, b"key", value.as_bytes())?;
+///     batch.finish()?;
+///     batch.sign(file)?;
+///     bytes.extend(batch.bytes()?);
+/// }
+/// let mut values = Vec::new();
+/// for batch in Batches::new(FilePart::new(file, &bytes))? {
+///     for item in batch? {
+///         if let Content::Put { value, .. } = item.content {
+///             values.push(value);
+///         }
+///     }
+/// }
+/// assert_eq!(values, [b"one", b"two"]);
+/// # Ok::<(), raft_recover::Error>(())
+/// ```
+///
+/// It reads bytes that are lent, so nobody writes there meanwhile:
+///
+/// ```compile_fail,E0506
+/// use raft_recover::{Batches, FilePart, LogFile, Queue, Version};
+///
+/// let mut bytes = [0; 16];
+/// let file = LogFile::new(Queue::Append, 1, Version::V2);
+/// let mut batches = Batches::new(FilePart::new(file, &bytes)).unwrap();
+/// bytes[0] = 1;
+/// batches.next();
+/// ```
+#[derive(Clone, Debug)]
+#[must_use = "an iterator does nothing until it is asked"]
 pub struct Batches<'a> {
     part: FilePart<'a>,
     at: Option<usize>,
@@ -111,6 +271,7 @@ impl<'a> Batches<'a> {
     }
 
     /// Returns where in the part the next batch begins; nothing behind a refusal, and at the end.
+    #[must_use]
     pub fn next_at(&self) -> Option<usize> {
         self.at
     }
@@ -137,6 +298,22 @@ impl FusedIterator for Batches<'_> {}
 /// Returns how many bytes of the part, from its first on, are readable batches, one behind the other, and why the batch there
 /// can't be read, unless that is the end. So a torn tail of a file begins there.
 ///
+/// ```
+/// use raft_recover::{ErrorKind, FilePart, LogBatch, LogFile, Queue, Version, readable_front};
+///
+/// let file = LogFile::new(Queue::Append, 1, Version::V2);
+/// let mut batch = LogBatch::new()?;
+/// batch.clean(7)?;
+/// let len = batch.finish()?;
+/// batch.sign(file)?;
+/// let torn = [batch.bytes()?, b"a write that stopped half way".to_vec()].concat();
+/// let (front, refused) = readable_front(FilePart::new(file, &torn))?;
+/// assert_eq!(front, len);
+/// assert_eq!(refused.unwrap().kind, ErrorKind::Corruption);
+/// assert_eq!(readable_front(FilePart::new(file, &torn[..front]))?, (len, None));
+/// # Ok::<(), raft_recover::Error>(())
+/// ```
+///
 /// # Errors
 ///
 /// `InvalidArgument` where the bytes end past offset 2^64 - 1.
@@ -145,22 +322,47 @@ pub fn readable_front(part: FilePart<'_>) -> Result<(usize, Option<Error>)> {
     Ok(sys::readable_front(part))
 }
 
-/// Returns how long the log batch is whose header stands in front of the bytes, if one does.
+/// Returns how long the log batch is whose header stands in front of the bytes, if one does. So files are cut between batches,
+/// for [`recover`](crate::recover):
+///
+/// ```
+/// use raft_recover::{FilePart, batch_len};
+///
+/// /// The batches of a part, each as a part.
+/// fn cut(whole: FilePart<'_>) -> Vec<FilePart<'_>> {
+///     let (mut parts, mut at) = (Vec::new(), 0);
+///     while let Some(len) = batch_len(&whole.bytes[at..]) {
+///         let end = at.saturating_add(len).min(whole.bytes.len());
+///         let (offset, bytes) = (whole.offset + at as u64, &whole.bytes[at..end]);
+///         parts.push(FilePart { offset, bytes, ..whole });
+///         at = end;
+///     }
+///     parts
+/// }
+///
+/// assert_eq!(batch_len(b""), None);
+/// # use raft_recover::{LogBatch, LogFile, Queue, Version};
+/// # let file = LogFile::new(Queue::Append, 1, Version::V2);
+/// # let mut batch = LogBatch::new()?;
+/// # batch.clean(7)?;
+/// # let len = batch.finish()?;
+/// # batch.sign(file)?;
+/// # let bytes = batch.bytes()?.repeat(3);
+/// # let offsets: Vec<_> = cut(FilePart::new(file, &bytes)).iter().map(|part| part.offset as usize).collect();
+/// # assert_eq!(offsets, [0, len, 2 * len]);
+/// # Ok::<(), raft_recover::Error>(())
+/// ```
+#[must_use]
 pub fn batch_len(bytes: &[u8]) -> Option<usize> {
     sys::batch_len(bytes)
 }
 
 /// Returns the CRC-32 of the bytes, as zip files have it.
+///
+/// ```
+/// assert_eq!(raft_recover::crc32(b"123456789"), 0xCBF4_3926);
+/// ```
+#[must_use]
 pub fn crc32(bytes: &[u8]) -> u32 {
     sys::crc32(bytes)
-}
-
-impl FilePart<'_> {
-    /// Tests what the library asks of a part: the bytes end where an offset can.
-    pub(crate) fn check(&self) -> Result<()> {
-        match self.offset.checked_add(self.bytes.len() as u64) {
-            Some(_) => Ok(()),
-            None => Err(Error::invalid_argument("a part ends past the last offset")),
-        }
-    }
 }

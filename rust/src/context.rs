@@ -2,9 +2,10 @@
 
 use crate::sys::ContextHandle;
 use crate::{Error, FilePart, Queue, Result, Tables};
+use std::fmt;
 
 /// How much a context holds. A number that 64 bits don't hold is 2^64 - 1.
-#[derive(Clone, Copy, PartialEq, Eq, Debug)]
+#[derive(Clone, Copy, PartialEq, Eq, Hash, Debug)]
 pub struct Kept {
     /// Entries in all tables.
     pub entries: u64,
@@ -28,8 +29,38 @@ pub struct Kept {
 /// What is proved asks that the batches of a queue name fewer than 2^63 entries, key values and deletions together, and
 /// that contexts are merged in the order of their batches.
 ///
+/// ```
+/// use raft_recover::{Context, FilePart, LogBatch, LogFile, Queue, Version};
+///
+/// let read = |seq| {
+///     let file = LogFile::new(Queue::Append, seq, Version::V2);
+///     let mut batch = LogBatch::new()?;
+///     batch.add_entries(7, seq, &["an entry"])?;
+///     batch.finish()?;
+///     batch.sign(file)?;
+///     let mut context = Context::new()?;
+///     context.replay(FilePart::new(file, &batch.bytes()?))?;
+///     Ok::<_, raft_recover::Error>(context)
+/// };
+/// let (mut older, newer) = (read(1)?, read(2)?);
+/// older.merge(newer, Queue::Append)?;
+/// assert_eq!(older.kept()?.entries, 2);
+/// let tables = older.finish()?;
+/// assert_eq!(tables.regions()?, [7]);
+/// # Ok::<(), raft_recover::Error>(())
+/// ```
+///
+/// A context that was handed to a merge is gone:
+///
+/// ```compile_fail,E0382
+/// use raft_recover::{Context, Queue};
+///
+/// let (mut older, newer) = (Context::new().unwrap(), Context::new().unwrap());
+/// older.merge(newer, Queue::Append).unwrap();
+/// newer.finish().unwrap();
+/// ```
+///
 /// [`Failed`]: crate::ErrorKind::Failed
-#[derive(Debug)]
 pub struct Context {
     handle: Option<ContextHandle>,
 }
@@ -109,5 +140,14 @@ impl Context {
     /// Takes the handle out, unless an earlier call was refused.
     fn take(&mut self) -> Result<ContextHandle> {
         self.handle.take().ok_or_else(Error::failed)
+    }
+}
+
+impl fmt::Debug for Context {
+    /// Shows whether an earlier call was refused.
+    fn fmt(&self, f: &mut fmt::Formatter<'_>) -> fmt::Result {
+        f.debug_struct("Context")
+            .field("is_failed", &self.handle.is_none())
+            .finish_non_exhaustive()
     }
 }

@@ -15,7 +15,8 @@ pub struct Entry {
     pub len: u32,
 }
 
-/// The place of an entry block: the entry bytes of a batch with their checksum.
+/// The place of an entry block: the entry bytes of a batch with their checksum. A batch whose entries are all empty has no such
+/// block, and the place of one of no bytes.
 #[derive(Clone, Copy, PartialEq, Eq, Hash, Debug)]
 pub struct Block {
     /// The file.

@@ -3,6 +3,16 @@
 use std::fmt;
 
 /// Why a call was refused, by kind.
+///
+/// The library tells a kind by its number, from 1 on in the order of the variants, which a program in C gets as it is:
+///
+/// ```
+/// use raft_recover::ErrorKind;
+///
+/// assert_eq!(ErrorKind::try_from(2), Ok(ErrorKind::Corruption));
+/// assert_eq!(ErrorKind::Corruption.to_string(), "corruption");
+/// assert!(ErrorKind::try_from(0).is_err());
+/// ```
 #[derive(Clone, Copy, PartialEq, Eq, Hash, Debug)]
 #[non_exhaustive]
 pub enum ErrorKind {
@@ -10,13 +20,13 @@ pub enum ErrorKind {
     InvalidArgument,
     /// Bytes, or items read from them, are not what an engine writes.
     Corruption,
-    /// Bytes end where a type should stand.
+    /// Bytes end where a type should stand. The library itself reads no file.
     Io,
     /// A number's spelling is cut short or is none.
     Codec,
-    /// A message refused to write itself.
+    /// A message refused to write itself. No call of this crate returns it.
     Message,
-    /// For layers above: the call may succeed later.
+    /// For layers above: the call may succeed later. No call of this crate returns it.
     TryAgain,
     /// The entries asked for were compacted away.
     EntryCompacted,
@@ -24,7 +34,7 @@ pub enum ErrorKind {
     EntryNotFound,
     /// A count or a length would pass its limit.
     Full,
-    /// For layers above: anything else.
+    /// For layers above: anything else. No call of this crate returns it.
     Other,
     /// Memory was refused.
     Memory,
@@ -32,8 +42,70 @@ pub enum ErrorKind {
     Failed,
 }
 
+impl ErrorKind {
+    /// The kinds in the order of their numbers, the first of which is 1.
+    const ALL: [ErrorKind; 12] = [
+        ErrorKind::InvalidArgument,
+        ErrorKind::Corruption,
+        ErrorKind::Io,
+        ErrorKind::Codec,
+        ErrorKind::Message,
+        ErrorKind::TryAgain,
+        ErrorKind::EntryCompacted,
+        ErrorKind::EntryNotFound,
+        ErrorKind::Full,
+        ErrorKind::Other,
+        ErrorKind::Memory,
+        ErrorKind::Failed,
+    ];
+}
+
+impl TryFrom<u8> for ErrorKind {
+    type Error = Error;
+
+    /// Returns the kind of a number of the library.
+    fn try_from(number: u8) -> Result<ErrorKind> {
+        usize::from(number)
+            .checked_sub(1)
+            .and_then(|i| ErrorKind::ALL.get(i))
+            .copied()
+            .ok_or_else(|| Error::invalid_argument(&format!("no kind has number {number}")))
+    }
+}
+
+impl fmt::Display for ErrorKind {
+    fn fmt(&self, f: &mut fmt::Formatter<'_>) -> fmt::Result {
+        f.pad(match self {
+            ErrorKind::InvalidArgument => "invalid argument",
+            ErrorKind::Corruption => "corruption",
+            ErrorKind::Io => "input or output",
+            ErrorKind::Codec => "codec",
+            ErrorKind::Message => "message",
+            ErrorKind::TryAgain => "try again",
+            ErrorKind::EntryCompacted => "entry compacted",
+            ErrorKind::EntryNotFound => "entry not found",
+            ErrorKind::Full => "full",
+            ErrorKind::Other => "other",
+            ErrorKind::Memory => "memory",
+            ErrorKind::Failed => "failed",
+        })
+    }
+}
+
 /// Why a call was refused: its kind, and the reason in words.
-#[derive(Clone, PartialEq, Eq, Debug)]
+///
+/// ```
+/// use raft_recover::{ErrorKind, LogBatch};
+///
+/// let mut batch = LogBatch::new()?;
+/// batch.finish()?;
+/// let refused = batch.clean(7).unwrap_err();
+/// assert_eq!(refused.kind, ErrorKind::InvalidArgument);
+/// assert_eq!(refused.to_string(), "Invalid Argument: the batch is no longer open");
+/// # Ok::<(), raft_recover::Error>(())
+/// ```
+#[derive(Clone, PartialEq, Eq, Hash, Debug)]
+#[non_exhaustive]
 pub struct Error {
     /// The kind of the refusal.
     pub kind: ErrorKind,
@@ -47,20 +119,9 @@ pub type Result<T> = std::result::Result<T, Error>;
 impl Error {
     /// Makes the refusal of a number of the library.
     pub(crate) fn of(code: u32, text: String) -> Error {
-        let kind = match code {
-            1 => ErrorKind::InvalidArgument,
-            2 => ErrorKind::Corruption,
-            3 => ErrorKind::Io,
-            4 => ErrorKind::Codec,
-            5 => ErrorKind::Message,
-            6 => ErrorKind::TryAgain,
-            7 => ErrorKind::EntryCompacted,
-            8 => ErrorKind::EntryNotFound,
-            9 => ErrorKind::Full,
-            10 => ErrorKind::Other,
-            11 => ErrorKind::Memory,
-            12 => ErrorKind::Failed,
-            _ => unreachable!("the library has no error of number {code}"),
+        let kind = u8::try_from(code).map(ErrorKind::try_from);
+        let Ok(Ok(kind)) = kind else {
+            unreachable!("the library has no error of number {code}")
         };
         Error { kind, text }
     }
@@ -92,7 +153,7 @@ impl Error {
 
 impl fmt::Display for Error {
     fn fmt(&self, f: &mut fmt::Formatter<'_>) -> fmt::Result {
-        f.write_str(&self.text)
+        f.pad(&self.text)
     }
 }
 

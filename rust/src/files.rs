@@ -1,6 +1,21 @@
 //! Log files, and the bytes of them.
 
+use crate::{Error, Result};
+use std::fmt;
+use std::str::FromStr;
+
 /// The two queues of log files.
+///
+/// Its text is the word that the error texts and `raftlog` have, and its number that of raft-engine's `LogQueue`:
+///
+/// ```
+/// use raft_recover::Queue;
+///
+/// assert_eq!(Queue::Rewrite.to_string(), "rewrite");
+/// assert_eq!("append".parse(), Ok(Queue::Append));
+/// assert_eq!(Queue::try_from(1), Ok(Queue::Rewrite));
+/// assert!(Queue::try_from(2).is_err());
+/// ```
 #[derive(Clone, Copy, PartialEq, Eq, PartialOrd, Ord, Hash, Debug)]
 pub enum Queue {
     /// What an engine writes first.
@@ -9,8 +24,54 @@ pub enum Queue {
     Rewrite,
 }
 
+impl fmt::Display for Queue {
+    fn fmt(&self, f: &mut fmt::Formatter<'_>) -> fmt::Result {
+        f.pad(match self {
+            Queue::Append => "append",
+            Queue::Rewrite => "rewrite",
+        })
+    }
+}
+
+impl FromStr for Queue {
+    type Err = Error;
+
+    /// Returns the queue of a word, `append` or `rewrite`.
+    fn from_str(word: &str) -> Result<Queue> {
+        match word {
+            "append" => Ok(Queue::Append),
+            "rewrite" => Ok(Queue::Rewrite),
+            _ => Err(Error::invalid_argument(
+                "a queue is 'append' or 'rewrite', and nothing else",
+            )),
+        }
+    }
+}
+
+impl TryFrom<u8> for Queue {
+    type Error = Error;
+
+    /// Returns the queue of a number, 0 or 1.
+    fn try_from(number: u8) -> Result<Queue> {
+        match number {
+            0 => Ok(Queue::Append),
+            1 => Ok(Queue::Rewrite),
+            _ => Err(Error::invalid_argument(&format!(
+                "no queue has number {number}"
+            ))),
+        }
+    }
+}
+
 /// The format of a log file.
-#[derive(Clone, Copy, PartialEq, Eq, Hash, Debug)]
+///
+/// ```
+/// use raft_recover::Version;
+///
+/// assert_eq!(Version::try_from(2), Ok(Version::V2));
+/// assert!(Version::V1 < Version::V2);
+/// ```
+#[derive(Clone, Copy, PartialEq, Eq, PartialOrd, Ord, Hash, Debug)]
 pub enum Version {
     /// Checksums stand as they are.
     V1,
@@ -18,7 +79,39 @@ pub enum Version {
     V2,
 }
 
+impl fmt::Display for Version {
+    fn fmt(&self, f: &mut fmt::Formatter<'_>) -> fmt::Result {
+        f.pad(match self {
+            Version::V1 => "V1",
+            Version::V2 => "V2",
+        })
+    }
+}
+
+impl TryFrom<u8> for Version {
+    type Error = Error;
+
+    /// Returns the version of a number, 1 or 2.
+    fn try_from(number: u8) -> Result<Version> {
+        match number {
+            1 => Ok(Version::V1),
+            2 => Ok(Version::V2),
+            _ => Err(Error::invalid_argument(&format!(
+                "no version has number {number}"
+            ))),
+        }
+    }
+}
+
 /// The queue and the number of a log file.
+///
+/// ```
+/// use raft_recover::{FileId, LogFile, Queue, Version};
+///
+/// let file = LogFile::new(Queue::Append, 3, Version::V2);
+/// assert_eq!(FileId::from(file), FileId::new(Queue::Append, 3));
+/// assert_eq!(FileId::from(file).to_string(), "append file 3");
+/// ```
 #[derive(Clone, Copy, PartialEq, Eq, PartialOrd, Ord, Hash, Debug)]
 pub struct FileId {
     /// The queue.
@@ -27,8 +120,28 @@ pub struct FileId {
     pub seq: u64,
 }
 
+impl FileId {
+    /// Makes one of its parts.
+    #[must_use]
+    pub const fn new(queue: Queue, seq: u64) -> FileId {
+        FileId { queue, seq }
+    }
+}
+
+impl fmt::Display for FileId {
+    fn fmt(&self, f: &mut fmt::Formatter<'_>) -> fmt::Result {
+        write!(f, "{} file {}", self.queue, self.seq)
+    }
+}
+
+impl From<LogFile> for FileId {
+    fn from(file: LogFile) -> FileId {
+        FileId::new(file.queue, file.seq)
+    }
+}
+
 /// A log file and its format.
-#[derive(Clone, Copy, PartialEq, Eq, Hash, Debug)]
+#[derive(Clone, Copy, PartialEq, Eq, PartialOrd, Ord, Hash, Debug)]
 pub struct LogFile {
     /// The queue.
     pub queue: Queue,
@@ -38,8 +151,40 @@ pub struct LogFile {
     pub version: Version,
 }
 
+impl LogFile {
+    /// Makes one of its parts.
+    #[must_use]
+    pub const fn new(queue: Queue, seq: u64, version: Version) -> LogFile {
+        LogFile {
+            queue,
+            seq,
+            version,
+        }
+    }
+}
+
 /// Bytes of a file, from an offset on: whole log batches, one behind the other.
-#[derive(Clone, Copy, Debug)]
+///
+/// ```
+/// use raft_recover::{FilePart, LogFile, Queue, Version};
+///
+/// let file = LogFile::new(Queue::Append, 1, Version::V2);
+/// let whole = FilePart::new(file, b"..");
+/// assert_eq!(whole, FilePart { file, offset: 0, bytes: b".." });
+/// ```
+///
+/// It lends the bytes, so they outlive it:
+///
+/// ```compile_fail,E0597
+/// use raft_recover::{FilePart, LogFile, Queue, Version};
+///
+/// let part = {
+///     let bytes = vec![0; 16];
+///     FilePart::new(LogFile::new(Queue::Append, 1, Version::V2), &bytes)
+/// };
+/// println!("{part:?}");
+/// ```
+#[derive(Clone, Copy, PartialEq, Eq, Hash)]
 pub struct FilePart<'a> {
     /// The file.
     pub file: LogFile,
@@ -47,4 +192,35 @@ pub struct FilePart<'a> {
     pub offset: u64,
     /// The bytes, which aren't copied.
     pub bytes: &'a [u8],
+}
+
+impl<'a> FilePart<'a> {
+    /// Makes the part that begins at offset 0.
+    #[must_use]
+    pub const fn new(file: LogFile, bytes: &'a [u8]) -> FilePart<'a> {
+        FilePart {
+            file,
+            offset: 0,
+            bytes,
+        }
+    }
+
+    /// Tests what the library asks of a part: the bytes end where an offset can.
+    pub(crate) fn check(&self) -> Result<()> {
+        match self.offset.checked_add(self.bytes.len() as u64) {
+            Some(_) => Ok(()),
+            None => Err(Error::invalid_argument("a part ends past the last offset")),
+        }
+    }
+}
+
+impl fmt::Debug for FilePart<'_> {
+    /// Shows how many bytes there are, and not the bytes.
+    fn fmt(&self, f: &mut fmt::Formatter<'_>) -> fmt::Result {
+        f.debug_struct("FilePart")
+            .field("file", &self.file)
+            .field("offset", &self.offset)
+            .field("len", &self.bytes.len())
+            .finish_non_exhaustive()
+    }
 }

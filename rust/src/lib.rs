@@ -8,19 +8,43 @@
 //! use raft_recover::{FilePart, LogFile, Queue, Version, recover};
 //!
 //! # fn main() -> Result<(), Box<dyn std::error::Error>> {
-//! let bytes = std::fs::read("0000000000000001.raftlog")?;
-//! let file = LogFile { queue: Queue::Append, seq: 1, version: Version::V2 };
-//! let part = FilePart { file, offset: 0, bytes: &bytes };
-//! let tables = recover(&[part], Queue::Append, 4)?;
+//! let bytes = std::fs::read("1.log")?;
+//! let file = LogFile::new(Queue::Append, 1, Version::V2);
+//! let tables = recover(&[FilePart::new(file, &bytes)], Queue::Append, 4)?;
 //! for region in tables.regions()? {
 //!     println!("{region}: {:?}", tables.summary(region));
 //! }
 //! # Ok(())
 //! # }
 //! ```
+//!
+//! | to | there is |
+//! |---|---|
+//! | recover tables from files | [`recover`], [`recover_both`]; step by step [`Context`] |
+//! | read the tables, and change them | [`Tables`]; under locks of an engine's own [`Slot`] and [`slot_of`] |
+//! | write a batch | [`LogBatch`] |
+//! | read batches, item by item | [`Batches`], [`Batch`], [`Item`] |
+//! | find a torn tail, or cut a file | [`readable_front`], [`batch_len`] |
+//!
+//! # What is refused
+//!
+//! A call that can't be made returns an [`Error`] and changes nothing, unless its documentation says what it leaves. A call
+//! panics in one place alone, which [`Batch::get`] names. The library never unwinds.
+//!
+//! # Memory
+//!
+//! With the feature `global-allocator` the library takes its memory from the program's own allocator, and else from `malloc`.
+//! Where it gets none, the call is refused by an error of kind [`ErrorKind::Memory`].
+//!
+//! # Machines
+//!
+//! The library is compiled for Linux with glibc, on x86-64 with the instructions of x86-64-v2. It doesn't test for them.
 
 #![deny(unsafe_code)]
-#![warn(missing_docs)]
+#![warn(missing_docs, missing_debug_implementations, unreachable_pub)]
+
+#[cfg(not(all(target_os = "linux", target_arch = "x86_64", target_env = "gnu")))]
+compile_error!("raft-recover is for x86_64-unknown-linux-gnu alone, as its library is");
 
 mod batches;
 mod context;
@@ -34,7 +58,9 @@ mod slot;
 mod sys;
 mod tables;
 
-pub use batches::{Batch, Batches, Content, Item, batch_len, crc32, readable_front};
+pub use batches::{
+    Batch, BatchIntoIter, BatchIter, Batches, Content, Item, batch_len, crc32, readable_front,
+};
 pub use context::{Context, Kept};
 pub use entries::{Block, Entry, Pair};
 pub use error::{Error, ErrorKind, Result};
@@ -44,77 +70,7 @@ pub use recovery::{recover, recover_both};
 pub use slot::{SLOTS, Slot, slot_of};
 pub use tables::{Summary, Tables};
 
-/// A value of the library is in one call at a time, and is freed once: no type is `Sync` or `Clone`.
-///
-/// ```compile_fail
-/// fn is_sync<T: Sync>() {}
-/// is_sync::<raft_recover::Tables>();
-/// ```
-///
-/// ```compile_fail
-/// fn is_sync<T: Sync>() {}
-/// is_sync::<raft_recover::Batch>();
-/// ```
-///
-/// ```compile_fail
-/// fn is_sync<T: Sync>() {}
-/// is_sync::<raft_recover::Context>();
-/// ```
-///
-/// ```compile_fail
-/// fn is_sync<T: Sync>() {}
-/// is_sync::<raft_recover::LogBatch>();
-/// ```
-///
-/// ```compile_fail
-/// fn is_sync<T: Sync>() {}
-/// is_sync::<raft_recover::Slot>();
-/// ```
-///
-/// ```compile_fail
-/// fn copy(batch: &raft_recover::LogBatch) -> raft_recover::LogBatch {
-///     batch.clone()
-/// }
-/// ```
-///
-/// ```compile_fail
-/// fn copy(slot: &raft_recover::Slot) -> raft_recover::Slot {
-///     slot.clone()
-/// }
-/// ```
-///
-/// A batch isn't merged with itself, and has no items once they are taken out.
-///
-/// ```compile_fail
-/// let mut batch = raft_recover::LogBatch::new().unwrap();
-/// batch.merge(&mut batch).unwrap();
-/// ```
-///
-/// ```compile_fail
-/// let batch = raft_recover::LogBatch::new().unwrap();
-/// batch.into_items().unwrap();
-/// batch.stage();
-/// ```
-///
-/// ```compile_fail
-/// fn copy(tables: &raft_recover::Tables) -> raft_recover::Tables {
-///     tables.clone()
-/// }
-/// ```
-///
-/// ```compile_fail
-/// fn copy(context: &raft_recover::Context) -> raft_recover::Context {
-///     context.clone()
-/// }
-/// ```
-///
-/// A context that was handed to a merge is gone.
-///
-/// ```compile_fail
-/// use raft_recover::{Context, Queue};
-/// let (mut older, newer) = (Context::new().unwrap(), Context::new().unwrap());
-/// older.merge(newer, Queue::Append).unwrap();
-/// newer.finish().unwrap();
-/// ```
+/// The example of the README compiles.
 #[cfg(doctest)]
-struct Refused;
+#[doc = include_str!("../README.md")]
+struct Readme;

@@ -1,7 +1,8 @@
 //! Batches that are written.
 
 use crate::sys::LogBatchHandle;
-use crate::{Batch, FileId, LogFile, Result};
+use crate::{Batch, Error, FileId, LogFile, Result};
+use std::fmt;
 
 /// How far a batch has come.
 #[derive(Clone, Copy, PartialEq, Eq, PartialOrd, Ord, Hash, Debug)]
@@ -18,15 +19,57 @@ pub enum Stage {
 /// written there, and its items applied to tables.
 ///
 /// It is `Send` and not `Sync`. After a refused call it is as it was, but for `into_items`, which loses it.
-#[derive(Debug)]
+///
+/// ```
+/// use raft_recover::{LogBatch, LogFile, Queue, Stage, Tables, Version};
+///
+/// let mut tables = Tables::new()?;
+/// let file = LogFile::new(Queue::Append, 1, Version::V2);
+/// let mut written = Vec::new(); // the file
+///
+/// let mut batch = LogBatch::new()?;
+/// batch.add_entries(7, 1, &["an entry", "another one"])?;
+/// batch.put(7, b"key", b"value")?;
+/// tables.check_append(&batch)?;
+/// let len = batch.finish()?;
+/// batch.sign(file)?;
+/// assert_eq!(batch.stage(), Stage::Signed);
+/// let offset = written.len() as u64;
+/// written.extend(batch.bytes()?);
+/// batch.written(file.into(), offset)?;
+/// tables.apply_append(batch.into_items()?)?;
+///
+/// let entry = tables.entry(7, 2).unwrap();
+/// let from = entry.block.offset as usize + entry.offset as usize;
+/// assert_eq!(&written[from..from + entry.len as usize], b"another one");
+/// assert_eq!(written.len(), len);
+/// # Ok::<(), raft_recover::Error>(())
+/// ```
+///
+/// A batch isn't merged with itself, and has no stage once its items are taken out:
+///
+/// ```compile_fail,E0499
+/// let mut batch = raft_recover::LogBatch::new().unwrap();
+/// batch.merge(&mut batch).unwrap();
+/// ```
+///
+/// ```compile_fail,E0382
+/// let batch = raft_recover::LogBatch::new().unwrap();
+/// batch.into_items().unwrap();
+/// batch.stage();
+/// ```
 pub struct LogBatch {
     handle: LogBatchHandle,
+    signed: Option<FileId>,
 }
 
 impl LogBatch {
     /// Makes one of a handle.
     pub(crate) fn of(handle: LogBatchHandle) -> LogBatch {
-        LogBatch { handle }
+        LogBatch {
+            handle,
+            signed: None,
+        }
     }
 
     /// Returns the handle.
@@ -49,11 +92,13 @@ impl LogBatch {
     }
 
     /// Returns how far the batch has come.
+    #[must_use]
     pub fn stage(&self) -> Stage {
         self.handle.stage()
     }
 
     /// Returns about how many bytes the batch will have, and how many it has once they are made.
+    #[must_use]
     pub fn approximate_size(&self) -> usize {
         self.handle.size()
     }
@@ -144,7 +189,9 @@ impl LogBatch {
     ///
     /// `InvalidArgument` where the batch is still open.
     pub fn sign(&mut self, file: LogFile) -> Result<()> {
-        self.handle.sign(file)
+        self.handle.sign(file)?;
+        self.signed = Some(file.into());
+        Ok(())
     }
 
     /// Returns the bytes to write.
@@ -156,12 +203,18 @@ impl LogBatch {
         self.handle.bytes()
     }
 
-    /// Gives each entry and each key value its place: the bytes were written to a file, from `offset` on.
+    /// Gives each entry and each key value its place: the bytes were written to the file that they are signed for, from
+    /// `offset` on.
     ///
     /// # Errors
     ///
-    /// `InvalidArgument` where the bytes aren't signed, or the offset is above 2^64 - 17.
+    /// `InvalidArgument` where the bytes aren't signed or are signed for another file, or the offset is above 2^64 - 17.
     pub fn written(&mut self, file: FileId, offset: u64) -> Result<()> {
+        if self.signed.is_some_and(|signed| signed != file) {
+            return Err(Error::invalid_argument(
+                "the batch is signed for another file",
+            ));
+        }
         let len = self.approximate_size();
         self.handle.written(file, offset, len)
     }
@@ -173,5 +226,15 @@ impl LogBatch {
     /// `Memory`. The batch is then lost.
     pub fn into_items(self) -> Result<Batch> {
         Ok(Batch::of(self.handle.into_items()?))
+    }
+}
+
+impl fmt::Debug for LogBatch {
+    /// Shows how far the batch has come, and about how many bytes it has.
+    fn fmt(&self, f: &mut fmt::Formatter<'_>) -> fmt::Result {
+        f.debug_struct("LogBatch")
+            .field("stage", &self.stage())
+            .field("approximate_size", &self.approximate_size())
+            .finish_non_exhaustive()
     }
 }

@@ -1,12 +1,32 @@
 //! Recovery on the caller's threads.
 
 use crate::{Context, FilePart, Queue, Result, Tables};
-use std::thread;
+use std::{panic, thread};
 
 /// Recovers the tables of a queue from parts of its files, which are read in their order, on this many threads.
 ///
 /// Each thread takes a stretch of whole parts, all of about the same number of bytes. So a few large files are better cut
-/// between batches, by [`batch_len`](crate::batch_len). Neighbors are merged by halves. With 0 threads one is started.
+/// between batches, by [`batch_len`](crate::batch_len). Neighbors are merged by halves. The caller's thread is one of them, 0
+/// are 1, and there are never more than there are parts. Where a thread can't be started, another one takes its stretch.
+///
+/// ```
+/// use raft_recover::{FilePart, LogBatch, LogFile, Queue, Version, recover};
+///
+/// let file = |seq| LogFile::new(Queue::Append, seq, Version::V2);
+/// let written = |seq| {
+///     let mut batch = LogBatch::new()?;
+///     batch.add_entries(7, 10 * seq, &["an entry"; 10])?;
+///     batch.finish()?;
+///     batch.sign(file(seq))?;
+///     batch.bytes()
+/// };
+/// let files = [written(1)?, written(2)?, written(3)?];
+/// let parts: Vec<_> = (1..).zip(&files).map(|(seq, bytes)| FilePart::new(file(seq), bytes)).collect();
+/// let tables = recover(&parts, Queue::Append, 2)?;
+/// let expected = "7 entries 10..40 keys 0 append 1 rewrite -\ncleaned -\nlive 30 0\n";
+/// assert_eq!(tables.to_string(), expected);
+/// # Ok::<(), raft_recover::Error>(())
+/// ```
 ///
 /// # Errors
 ///
@@ -17,6 +37,14 @@ pub fn recover(parts: &[FilePart<'_>], queue: Queue, workers: usize) -> Result<T
 
 /// Recovers the tables of both queues: those of the append queue over those of the rewrite queue. Each queue is read on this
 /// many threads, the rewrite queue first.
+///
+/// ```
+/// use raft_recover::recover_both;
+///
+/// let tables = recover_both(&[], &[], 4)?;
+/// assert_eq!(tables.to_string(), "cleaned -\nlive 0 0\n");
+/// # Ok::<(), raft_recover::Error>(())
+/// ```
 ///
 /// # Errors
 ///
@@ -33,17 +61,25 @@ pub fn recover_both(
 
 /// Reads parts on this many threads.
 fn read(parts: &[FilePart<'_>], queue: Queue, workers: usize) -> Result<Context> {
-    let contexts = thread::scope(|scope| {
-        let threads: Vec<_> = stretches(parts, workers.max(1))
-            .into_iter()
-            .map(|stretch| scope.spawn(move || replay(stretch)))
-            .collect();
-        threads
-            .into_iter()
-            .map(|thread| thread.join().expect("replay panics nowhere"))
-            .collect::<Result<Vec<Context>>>()
-    })?;
-    merge(contexts, queue)
+    read_stretches(&stretches(parts, workers.max(1)), queue)
+}
+
+/// Reads stretches by halves, both halves at once, and merges what was read.
+fn read_stretches(stretches: &[&[FilePart<'_>]], queue: Queue) -> Result<Context> {
+    match stretches {
+        [] => Context::new(),
+        [stretch] => replay(stretch),
+        _ => {
+            let (older, newer) = stretches.split_at(stretches.len() / 2);
+            let (older, newer) = both(
+                || read_stretches(older, queue),
+                || read_stretches(newer, queue),
+            );
+            let mut older = older?;
+            older.merge(newer?, queue)?;
+            Ok(older)
+        }
+    }
 }
 
 /// Reads a stretch.
@@ -55,24 +91,17 @@ fn replay(parts: &[FilePart<'_>]) -> Result<Context> {
     Ok(context)
 }
 
-/// Merges the contexts of neighbors by halves, both halves at once.
-fn merge(mut contexts: Vec<Context>, queue: Queue) -> Result<Context> {
-    if contexts.len() < 2 {
-        return contexts.pop().map_or_else(Context::new, Ok);
-    }
-    let newer = contexts.split_off(contexts.len() / 2);
-    let (older, newer) = if contexts.len() > 1 {
-        thread::scope(|scope| {
-            let newer = scope.spawn(move || merge(newer, queue));
-            let older = merge(contexts, queue);
-            (older, newer.join().expect("merge panics nowhere"))
-        })
-    } else {
-        (merge(contexts, queue), merge(newer, queue))
-    };
-    let mut older = older?;
-    older.merge(newer?, queue)?;
-    Ok(older)
+/// Makes two calls at once, the second one on another thread; one behind the other where none can be started.
+fn both<A: Send>(first: impl FnOnce() -> A, second: impl FnOnce() -> A + Copy + Send) -> (A, A) {
+    thread::scope(|scope| {
+        let started = thread::Builder::new().spawn_scoped(scope, second);
+        let first = first();
+        let second = match started {
+            Ok(thread) => thread.join().unwrap_or_else(|e| panic::resume_unwind(e)),
+            Err(_) => second(),
+        };
+        (first, second)
+    })
 }
 
 /// Cuts parts into at most `count` stretches of about the same number of bytes.
@@ -82,7 +111,8 @@ fn stretches<'p, 'a>(parts: &'p [FilePart<'a>], count: usize) -> Vec<&'p [FilePa
     let (mut from, mut read) = (0, 0);
     for (i, part) in parts.iter().enumerate() {
         read += part.bytes.len() as u128;
-        if read * count as u128 >= total * (stretches.len() as u128 + 1) {
+        let is_last = stretches.len() + 1 == count;
+        if !is_last && read * count as u128 >= total * (stretches.len() as u128 + 1) {
             stretches.push(&parts[from..=i]);
             from = i + 1;
         }

@@ -2,6 +2,7 @@
 
 use crate::sys::{self, SlotHandle, TablesHandle};
 use crate::{Content, Entry, Error, FileId, Item, LogBatch, Pair, Queue, Result, Summary};
+use std::fmt;
 use std::ops::Range;
 
 /// How many slots there are.
@@ -11,6 +12,13 @@ pub const SLOTS: usize = 128;
 const GROUP_MARKER: &[u8] = b"__\x01";
 
 /// Returns the number of the slot that holds a region's table, below [`SLOTS`].
+///
+/// ```
+/// use raft_recover::{SLOTS, slot_of};
+///
+/// assert!((0..1000).all(|region| slot_of(region) < SLOTS));
+/// ```
+#[must_use]
 pub fn slot_of(region: u64) -> usize {
     sys::slot_of(region)
 }
@@ -22,9 +30,38 @@ pub fn slot_of(region: u64) -> usize {
 /// locks that of [`slot_of`] a region. A change for a region of another slot is refused by `InvalidArgument`; such a region has
 /// no table here. After a refused change all is as it was.
 ///
+/// ```
+/// use raft_recover::{Content, FileId, Item, Queue, Tables, slot_of};
+/// use std::sync::Mutex;
+/// use std::thread;
+///
+/// let slots = Tables::new()?.into_slots()?.map(Mutex::new);
+/// let file = FileId::new(Queue::Append, 1);
+/// thread::scope(|scope| {
+///     for region in 0..4 {
+///         let slot = &slots[slot_of(region)];
+///         scope.spawn(move || {
+///             let content = Content::Put { key: b"key".to_vec(), value: b"value".to_vec() };
+///             slot.lock().unwrap().write(&Item { region, content }, file).unwrap();
+///         });
+///     }
+/// });
+/// let slot = slots[slot_of(3)].lock().unwrap();
+/// assert_eq!(slot.value(3, b"key").unwrap(), b"value");
+/// # Ok::<(), raft_recover::Error>(())
+/// ```
+///
+/// Threads can't share one without a lock:
+///
+/// ```compile_fail,E0277
+/// let slot = raft_recover::Slot::new(5).unwrap();
+/// std::thread::scope(|scope| {
+///     scope.spawn(|| slot.cleaned());
+/// });
+/// ```
+///
 /// [`Tables`]: crate::Tables
 /// [`Tables::into_slots`]: crate::Tables::into_slots
-#[derive(Debug)]
 pub struct Slot {
     handle: SlotHandle,
 }
@@ -53,26 +90,31 @@ impl Slot {
     }
 
     /// Returns the number of the slot.
+    #[must_use]
     pub fn number(&self) -> usize {
         self.handle.number()
     }
 
     /// Returns how many records of its tables are live in a queue.
+    #[must_use]
     pub fn live(&self, queue: Queue) -> usize {
         self.handle.live(queue)
     }
 
     /// Returns the regions that were cleaned, in order.
+    #[must_use]
     pub fn cleaned(&self) -> Vec<u64> {
         self.handle.cleaned()
     }
 
     /// Returns what a region's table has, if there is one.
+    #[must_use]
     pub fn summary(&self, region: u64) -> Option<Summary> {
         self.handle.summary(region)
     }
 
     /// Returns an entry of a region, if there is one.
+    #[must_use]
     pub fn entry(&self, region: u64, index: u64) -> Option<Entry> {
         self.handle.entry(region, index)
     }
@@ -110,6 +152,7 @@ impl Slot {
     }
 
     /// Returns the value of a region's key, if there is one.
+    #[must_use]
     pub fn value(&self, region: u64, key: &[u8]) -> Option<Vec<u8>> {
         self.handle.value(region, key)
     }
@@ -131,6 +174,18 @@ impl Slot {
     /// `Memory`.
     pub fn rewritten_pairs(&self, region: u64) -> Result<Vec<Pair>> {
         self.handle.rewritten_pairs(region)
+    }
+
+    /// Returns all keys of a region with their values, in the order of the keys.
+    ///
+    /// # Errors
+    ///
+    /// `Memory`.
+    pub fn pairs(&self, region: u64) -> Result<Vec<Pair>> {
+        let mut pairs = self.pairs_before(region, u64::MAX)?;
+        pairs.extend(self.rewritten_pairs(region)?);
+        pairs.sort_unstable_by(|a, b| a.key.cmp(&b.key));
+        Ok(pairs)
     }
 
     /// Puts new entries of the append queue after those of a region below their start. All others go; where
@@ -264,5 +319,16 @@ impl Slot {
             Content::Put { key, value } => self.put(region, key, value, file),
             Content::Delete { key } => self.delete(region, key),
         }
+    }
+}
+
+impl fmt::Debug for Slot {
+    /// Shows the number, and how many records are live.
+    fn fmt(&self, f: &mut fmt::Formatter<'_>) -> fmt::Result {
+        f.debug_struct("Slot")
+            .field("number", &self.number())
+            .field("live_append", &self.live(Queue::Append))
+            .field("live_rewrite", &self.live(Queue::Rewrite))
+            .finish_non_exhaustive()
     }
 }

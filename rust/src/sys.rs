@@ -16,6 +16,7 @@
 //! compares the declarations with the exports.
 
 use crate::{Block, Entry, Error, FileId, FilePart, LogFile, Pair, Queue, Result, Version};
+use std::alloc::{Layout, handle_alloc_error};
 use std::cell::Cell;
 use std::ptr;
 
@@ -616,11 +617,19 @@ fn listed<T: Copy + Default>(
             room.truncate(count);
             return Ok(room);
         }
-        room.resize(count, T::default());
+        make_room(&mut room, count)?;
     }
 }
 
-/// Lists what a call finds, if it finds something.
+/// Makes a list at least this long, or is refused for want of memory.
+fn make_room<T: Copy + Default>(room: &mut Vec<T>, count: usize) -> Result<()> {
+    let more = count.saturating_sub(room.len());
+    room.try_reserve_exact(more).map_err(|_| Error::memory())?;
+    room.resize(room.len() + more, T::default());
+    Ok(())
+}
+
+/// Lists what a call finds, if it finds something. Without memory for the list the program ends, as where a `Vec` grows.
 fn found<T: Copy + Default>(
     mut call: impl FnMut(*mut T, usize, &mut usize) -> bool,
 ) -> Option<Vec<T>> {
@@ -629,7 +638,10 @@ fn found<T: Copy + Default>(
         is_found = call(room, len, count);
         Ok(())
     });
-    list.ok().filter(|_| is_found)
+    match list {
+        Ok(list) => is_found.then_some(list),
+        Err(_) => handle_alloc_error(Layout::new::<T>()),
+    }
 }
 
 /// Lists keys with their values, which a call finds as the length of each and the bytes of all.
@@ -651,8 +663,8 @@ fn pairs(
             lens.truncate(count);
             return Ok(split(&lens, &bytes));
         }
-        lens.resize(count, 0);
-        bytes.resize(len, 0);
+        make_room(&mut lens, count)?;
+        make_room(&mut bytes, len)?;
     }
 }
 

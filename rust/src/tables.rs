@@ -27,7 +27,53 @@ pub struct Summary {
 /// merges and items, which say themselves what stays.
 ///
 /// Its `Display` has the lines of `raftlog recover`.
-#[derive(Debug)]
+///
+/// ```
+/// use raft_recover::{Block, Entry, FileId, Queue, Tables};
+///
+/// let file = FileId::new(Queue::Append, 9);
+/// let block = Block { file, offset: 16, len: 34 };
+/// let entry = |index| Entry { index, block, offset: 0, len: 10 };
+/// let mut tables = Tables::new()?;
+/// tables.append(7, &[entry(1), entry(2), entry(3)])?;
+/// tables.put(7, b"key", b"value", file)?;
+/// assert_eq!(tables.compact(7, 2)?, 1);
+/// assert_eq!(tables.entries(7, 2..4, None)?, [entry(2), entry(3)]);
+/// assert_eq!(tables.value(7, b"key").unwrap(), b"value");
+/// let expected = "7 entries 2..4 keys 1 append 9 rewrite -\ncleaned -\nlive 3 0\n";
+/// assert_eq!(tables.to_string(), expected);
+/// # Ok::<(), raft_recover::Error>(())
+/// ```
+///
+/// Threads can't share them without a lock, and nobody has two of them:
+///
+/// ```compile_fail,E0277
+/// let tables = raft_recover::Tables::new().unwrap();
+/// std::thread::scope(|scope| {
+///     scope.spawn(|| tables.cleaned());
+/// });
+/// ```
+///
+/// ```compile_fail,E0599
+/// let tables = raft_recover::Tables::new().unwrap();
+/// let copy = tables.clone();
+/// ```
+///
+/// Tables that were divided into slots or merged into others are gone:
+///
+/// ```compile_fail,E0382
+/// let tables = raft_recover::Tables::new().unwrap();
+/// tables.into_slots().unwrap();
+/// tables.cleaned();
+/// ```
+///
+/// ```compile_fail,E0382
+/// use raft_recover::Tables;
+///
+/// let (mut older, newer) = (Tables::new().unwrap(), Tables::new().unwrap());
+/// older.merge_newer(newer).unwrap();
+/// newer.cleaned();
+/// ```
 pub struct Tables {
     handle: TablesHandle,
 }
@@ -48,6 +94,7 @@ impl Tables {
     }
 
     /// Returns how many records are live in a queue.
+    #[must_use]
     pub fn live(&self, queue: Queue) -> usize {
         self.handle.live(queue)
     }
@@ -62,16 +109,19 @@ impl Tables {
     }
 
     /// Returns the regions that were cleaned, in the order of their `Clean`s.
+    #[must_use]
     pub fn cleaned(&self) -> Vec<u64> {
         self.handle.cleaned()
     }
 
     /// Returns what a region's table has, if there is one.
+    #[must_use]
     pub fn summary(&self, region: u64) -> Option<Summary> {
         self.handle.summary(region)
     }
 
     /// Returns an entry of a region, if there is one.
+    #[must_use]
     pub fn entry(&self, region: u64, index: u64) -> Option<Entry> {
         self.handle.entry(region, index)
     }
@@ -111,6 +161,7 @@ impl Tables {
     }
 
     /// Returns the value of a region's key, if there is one.
+    #[must_use]
     pub fn value(&self, region: u64, key: &[u8]) -> Option<Vec<u8>> {
         self.handle.value(region, key)
     }
@@ -347,6 +398,16 @@ impl Tables {
             }
         }
         f.write_str("\n")
+    }
+}
+
+impl fmt::Debug for Tables {
+    /// Shows how many records are live.
+    fn fmt(&self, f: &mut fmt::Formatter<'_>) -> fmt::Result {
+        f.debug_struct("Tables")
+            .field("live_append", &self.live(Queue::Append))
+            .field("live_rewrite", &self.live(Queue::Rewrite))
+            .finish_non_exhaustive()
     }
 }
 

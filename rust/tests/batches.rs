@@ -4,8 +4,8 @@ mod common;
 
 use common::{file, run};
 use raft_recover::{
-    Batches, Block, Content, Entry, ErrorKind, FileId, FilePart, Item, LogBatch, Pair, Queue,
-    Stage, Tables, batch_len,
+    Batches, Block, Content, Entry, ErrorKind, FileId, FilePart, Item, LogBatch, LogFile, Pair,
+    Queue, Stage, Tables, batch_len, crc32,
 };
 use std::thread;
 
@@ -88,10 +88,32 @@ fn what_is_written_is_read_again() {
 }
 
 #[test]
+fn the_bytes_of_entries_stand_at_their_places() {
+    let mut batch = batch();
+    let mut file = vec![0; 100];
+    file.extend(sealed(&mut batch));
+    batch.written(APPEND_3, 100).unwrap();
+    let Content::Entries(entries) = batch.into_items().unwrap().get(0).unwrap().content else {
+        panic!("the first item has entries");
+    };
+    let bytes = entries.iter().map(|entry| {
+        let from = entry.block.offset as usize + entry.offset as usize;
+        &file[from..from + entry.len as usize]
+    });
+    assert_eq!(bytes.collect::<Vec<_>>(), [&b"one"[..], b"", b"three"]);
+    // the checksum of the block stands behind them
+    let Block { offset, len, .. } = entries[0].block;
+    let (block, _) = file[offset as usize..].split_at(len);
+    let sum = crc32(&block[..len - 4]).to_le_bytes();
+    assert_eq!(block[len - 4..], sum);
+}
+
+#[test]
 fn places_are_in_the_queue_that_a_batch_is_written_to() {
     for queue in [Queue::Append, Queue::Rewrite] {
         let mut batch = batch();
         sealed(&mut batch);
+        batch.sign(LogFile { queue, ..file(3) }).unwrap();
         batch.written(FileId { queue, seq: 3 }, 0).unwrap();
         let items = batch.into_items().unwrap();
         let Content::Entries(entries) = items.get(0).unwrap().content else {
@@ -118,6 +140,41 @@ fn a_batch_is_signed_for_one_file_after_another() {
         Batches::new(part).unwrap().next().unwrap().is_ok()
     };
     assert_eq!((read(3), read(4)), (false, true));
+}
+
+#[test]
+fn a_batch_is_written_to_the_file_that_it_is_signed_for() {
+    let mut batch = batch();
+    sealed(&mut batch);
+    let rewrite_3 = FileId::new(Queue::Rewrite, 3);
+    let append_4 = FileId::new(Queue::Append, 4);
+    for other in [rewrite_3, append_4] {
+        let e = batch.written(other, 0).unwrap_err();
+        assert_eq!(e.kind, ErrorKind::InvalidArgument, "{other}");
+    }
+    batch.sign(file(4)).unwrap();
+    let e = batch.written(APPEND_3, 0).unwrap_err();
+    assert_eq!(e.kind, ErrorKind::InvalidArgument);
+    batch.written(append_4, 100).unwrap();
+    let Content::Entries(entries) = batch.into_items().unwrap().get(0).unwrap().content else {
+        panic!("the first item has entries");
+    };
+    assert!(entries.iter().all(|e| e.block.file == append_4));
+}
+
+#[test]
+fn entries_without_bytes_have_a_block_without_bytes() {
+    let mut batch = LogBatch::new().unwrap();
+    batch.add_entries(7, 1, &["", ""]).unwrap();
+    sealed(&mut batch);
+    batch.written(APPEND_3, 100).unwrap();
+    let Content::Entries(entries) = batch.into_items().unwrap().get(0).unwrap().content else {
+        panic!("the first item has entries");
+    };
+    assert_eq!(entries.len(), 2);
+    for entry in entries {
+        assert_eq!((entry.block.len, entry.offset, entry.len), (0, 0, 0));
+    }
 }
 
 #[test]
@@ -284,5 +341,5 @@ fn entries_without_a_place_are_not_read() {
     let mut batch = LogBatch::new().unwrap();
     batch.add_entries(7, 10, &["x"]).unwrap();
     let items = batch.into_items().unwrap();
-    items.get(0);
+    let _ = items.get(0);
 }

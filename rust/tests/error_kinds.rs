@@ -1,10 +1,6 @@
 //! The kinds of errors, by the numbers of the library.
 
-#[allow(dead_code, unused)]
-#[path = "../src/error.rs"]
-mod error;
-
-use error::{Error, ErrorKind};
+use raft_recover::ErrorKind;
 
 #[test]
 fn each_number_has_its_kind() {
@@ -22,7 +18,7 @@ fn each_number_has_its_kind() {
         ErrorKind::Memory,
         ErrorKind::Failed,
     ];
-    for (code, kind) in (1..).zip(kinds) {
-        assert_eq!(Error::of(code, String::new()).kind, kind, "{code}");
+    for (number, kind) in (1..).zip(kinds) {
+        assert_eq!(ErrorKind::try_from(number), Ok(kind), "{number}");
     }
 }

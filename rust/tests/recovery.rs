@@ -4,8 +4,8 @@ mod common;
 
 use common::{batch_bytes, file, files, lines, parts, with_group_marker};
 use raft_recover::{
-    Context, ErrorKind, FilePart, Kept, LogFile, Queue, Result, Tables, Version, batch_len,
-    recover, recover_both,
+    Context, ErrorKind, FilePart, Kept, LogBatch, LogFile, Queue, Result, Tables, Version,
+    batch_len, recover, recover_both,
 };
 use std::thread;
 
@@ -72,6 +72,71 @@ fn without_rewritten_files_both_queues_give_the_lines_of_the_readme() {
     let files = files();
     let tables = recover_both(&[], &parts(&files), 2).unwrap();
     assert_eq!(tables.to_string(), lines());
+}
+
+#[test]
+fn appended_records_stand_over_rewritten_ones() {
+    let written = |queue, seq, add: &dyn Fn(&mut LogBatch)| {
+        let file = LogFile::new(queue, seq, Version::V2);
+        (file, batch_bytes(file, |batch| add(batch)))
+    };
+    let rewritten = [
+        written(Queue::Rewrite, 1, &|batch| {
+            batch.add_entries(7, 1, &["x", "x"]).unwrap();
+            batch.put(7, b"kept", b"old").unwrap();
+        }),
+        written(Queue::Rewrite, 2, &|batch| {
+            batch.add_entries(7, 3, &["x", "x"]).unwrap();
+            batch.put(7, b"k", b"old").unwrap();
+        }),
+    ];
+    let appended = [
+        written(Queue::Append, 8, &|batch| {
+            batch.add_entries(7, 5, &["x"]).unwrap();
+            batch.add_entries(8, 1, &["x"]).unwrap();
+        }),
+        written(Queue::Append, 9, &|batch| {
+            batch.put(7, b"k", b"new").unwrap();
+        }),
+    ];
+    let rewritten = rewritten
+        .each_ref()
+        .map(|(file, bytes)| FilePart::new(*file, bytes));
+    let appended = appended
+        .each_ref()
+        .map(|(file, bytes)| FilePart::new(*file, bytes));
+    for workers in 0..4 {
+        let tables = recover_both(&rewritten, &appended, workers).unwrap();
+        assert_eq!(
+            tables.to_string(),
+            "7 entries 1..6 keys 2 append 8 rewrite 1\n\
+             8 entries 1..2 keys 0 append 8 rewrite -\n\
+             cleaned -\nlive 3 5\n",
+            "{workers} threads"
+        );
+        assert_eq!(tables.value(7, b"k").unwrap(), b"new");
+        assert_eq!(tables.value(7, b"kept").unwrap(), b"old");
+    }
+    let e = recover_both(&appended, &rewritten, 1).unwrap_err();
+    assert_eq!(e.kind, ErrorKind::InvalidArgument, "{e}");
+}
+
+#[test]
+fn a_batch_is_read_in_the_version_that_it_is_written_in() {
+    let files = [Version::V1, Version::V2].map(|version| LogFile { version, ..file(3) });
+    for written in files {
+        let bytes = batch_bytes(written, |batch| batch.clean(7).unwrap());
+        for read in files {
+            let answer = recover(&[FilePart::new(read, &bytes)], Queue::Append, 1);
+            match answer {
+                Ok(tables) => assert_eq!((written, tables.cleaned()), (read, vec![7])),
+                Err(e) => {
+                    assert_ne!(written, read, "{e}");
+                    assert_eq!(e.kind, ErrorKind::Corruption, "{e}");
+                }
+            }
+        }
+    }
 }
 
 #[test]
@@ -148,6 +213,39 @@ fn each_file_is_read_once_whatever_the_number_of_threads() {
     for workers in 0..9 {
         let tables = recover(&parts(&files), Queue::Append, workers).unwrap();
         assert_eq!(tables.cleaned(), [10, 20, 30, 40, 50, 60], "{workers}");
+    }
+}
+
+#[test]
+fn parts_without_bytes_change_nothing() {
+    let files = files();
+    let mut many = vec![FilePart::new(file(1), &[]); 100];
+    many.extend(parts(&files));
+    many.extend([FilePart::new(file(4), &[]); 100]);
+    for workers in [1, 3, 7, usize::MAX] {
+        let tables = recover(&many, Queue::Append, workers).unwrap();
+        assert_eq!(tables.to_string(), lines(), "{workers} threads");
+    }
+}
+
+#[test]
+fn of_several_refusals_the_first_is_told() {
+    let run = |seq, first| {
+        batch_bytes(file(seq), |batch| {
+            batch.add_entries(7, first, &["x"]).unwrap();
+        })
+    };
+    // files 2 and 4 leave holes within their part
+    let files = [
+        run(1, 1),
+        [run(2, 2), run(2, 20)].concat(),
+        run(3, 21),
+        [run(4, 22), run(4, 40)].concat(),
+    ];
+    for workers in 1..6 {
+        let e = recover(&parts(&files), Queue::Append, workers).unwrap_err();
+        assert_eq!(e.kind, ErrorKind::Corruption);
+        assert!(e.text.contains("append file 2, offset "), "{workers}: {e}");
     }
 }
 

@@ -2,7 +2,7 @@
 
 mod common;
 
-use common::{entry, files, lines, parts, run};
+use common::{entry, file, files, lines, parts, run};
 use raft_recover::{
     Batches, Content, ErrorKind, FileId, Item, LogBatch, Queue, SLOTS, Slot, Stage, Tables, slot_of,
 };
@@ -125,6 +125,29 @@ fn a_group_marker_changes_no_slot() {
 }
 
 #[test]
+fn the_items_of_a_batch_are_written_one_by_one() {
+    let mut batch = LogBatch::new().unwrap();
+    batch.add_entries(7, 10, &["x"; 10]).unwrap();
+    batch.compact(7, 12).unwrap();
+    batch.truncate(7, 17).unwrap();
+    for key in [b"a", b"b", b"c"] {
+        batch.put(7, key, b"value").unwrap();
+    }
+    batch.delete(7, b"b").unwrap();
+    batch.finish().unwrap();
+    batch.sign(file(9)).unwrap();
+    batch.written(APPEND_9, 0).unwrap();
+    let mut slot = slot(7);
+    for item in batch.into_items().unwrap() {
+        slot.write(&item, APPEND_9).unwrap();
+    }
+    let summary = slot.summary(7).unwrap();
+    assert_eq!((summary.first_index, summary.entries), (Some(12), 5));
+    let keys = slot.pairs(7).unwrap().into_iter().map(|pair| pair.key);
+    assert_eq!(keys.collect::<Vec<_>>(), [b"a", b"c"]);
+}
+
+#[test]
 fn a_clean_that_is_written_is_listed() {
     let mut slot = slot(7);
     slot.append(7, &run(Queue::Append, 9, 10..20)).unwrap();
@@ -147,9 +170,12 @@ fn a_slot_keeps_limits_and_gates() {
         let entries = slot.entries(7, 10..14, limit).unwrap();
         assert_eq!(entries.len(), count, "{limit:?}");
     }
-    for (gate, count) in [(0, 1), (8, 1), (9, 2)] {
+    slot.append(7, &run(Queue::Append, 9, 14..20)).unwrap();
+    for (gate, keys, entries) in [(0, 1, 4), (8, 1, 4), (9, 2, 10)] {
         let pairs = slot.pairs_before(7, gate).unwrap();
-        assert_eq!(pairs.len(), count, "{gate}");
+        assert_eq!(pairs.len(), keys, "{gate}");
+        let before = slot.entries_before(7, gate).unwrap();
+        assert_eq!(before.len(), entries, "{gate}");
     }
     let moved = run(Queue::Rewrite, 2, 10..12);
     slot.rewrite(7, &moved, Some(0)).unwrap();
@@ -160,6 +186,29 @@ fn a_slot_keeps_limits_and_gates() {
         slot.set_atomic_group(7, 1, last).unwrap();
         assert_eq!(slot.summary(7).unwrap().rewrite_seq, Some(seq), "{last}");
     }
+}
+
+#[test]
+fn nothing_of_a_slot_moves_that_is_in_a_file_above_the_gate() {
+    let mut slot = slot(7);
+    slot.append(7, &run(Queue::Append, 9, 10..12)).unwrap();
+    slot.append(7, &run(Queue::Append, 10, 12..14)).unwrap();
+    slot.put(7, b"k", b"v", APPEND_9).unwrap();
+    let moved = run(Queue::Rewrite, 2, 10..14);
+    slot.rewrite(7, &moved, Some(9)).unwrap();
+    assert_eq!(slot.rewritten_entries(7).unwrap(), moved[..2]);
+    slot.rewrite_key(7, b"k", Some(8), 2).unwrap();
+    assert_eq!(slot.rewritten_pairs(7).unwrap(), []);
+}
+
+#[test]
+fn a_region_is_listed_as_cleaned_where_that_is_asked_for() {
+    let mut slot = slot(7);
+    slot.append(7, &run(Queue::Append, 9, 10..12)).unwrap();
+    assert!(slot.remove(7, false).unwrap());
+    assert_eq!((slot.summary(7), slot.cleaned()), (None, vec![]));
+    assert!(!slot.remove(7, true).unwrap());
+    assert_eq!(slot.cleaned(), [7]);
 }
 
 #[test]
@@ -175,6 +224,25 @@ fn a_key_is_put_in_the_queue_of_its_file() {
         (0, 1)
     );
     assert_eq!(slot.summary(7).unwrap().rewrite_seq, Some(2));
+}
+
+#[test]
+fn all_keys_of_a_region_are_walked_in_order() {
+    let mut slot = slot(7);
+    for (key, queue, seq) in [
+        ("c", Queue::Append, u64::MAX),
+        ("b", Queue::Rewrite, 2),
+        ("d", Queue::Rewrite, 3),
+        ("a", Queue::Append, 9),
+    ] {
+        let file = FileId { queue, seq };
+        slot.put(7, key.as_bytes(), b"value", file).unwrap();
+    }
+    let pairs = slot.pairs(7).unwrap();
+    let keys: Vec<_> = pairs.iter().map(|pair| &pair.key).collect();
+    assert_eq!(keys, [b"a", b"b", b"c", b"d"]);
+    assert!(pairs.iter().all(|pair| pair.value == b"value"));
+    assert_eq!(slot.pairs(other(7)).unwrap(), []);
 }
 
 #[test]

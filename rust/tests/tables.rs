@@ -4,8 +4,8 @@ mod common;
 
 use common::{entry, file, files, lines, parts, run};
 use raft_recover::{
-    Batches, Content, ErrorKind, FileId, FilePart, LogBatch, LogFile, Pair, Queue, Summary, Tables,
-    crc32, readable_front, recover,
+    Batches, Block, Content, Entry, ErrorKind, FileId, FilePart, LogBatch, LogFile, Pair, Queue,
+    Summary, Tables, crc32, readable_front, recover,
 };
 
 const APPEND_9: FileId = FileId {
@@ -38,6 +38,35 @@ fn entries_are_appended_read_and_dropped() {
         tables.to_string(),
         "7 entries 13..19 keys 0 append 9 rewrite -\ncleaned -\nlive 6 0\n"
     );
+}
+
+#[test]
+fn entries_keep_their_places() {
+    let place = |queue, index, offset, len| Entry {
+        index,
+        block: Block {
+            file: FileId { queue, seq: 5 },
+            offset: 1 << 40,
+            len: 100,
+        },
+        offset,
+        len,
+    };
+    let run = [
+        place(Queue::Append, 1, 0, 10),
+        place(Queue::Append, 2, 10, 0),
+        place(Queue::Append, 3, 10, 86),
+    ];
+    let mut tables = Tables::new().unwrap();
+    tables.append(7, &run).unwrap();
+    assert_eq!(tables.entries(7, 1..4, None).unwrap(), run);
+    let moved = [
+        place(Queue::Rewrite, 1, 3, 10),
+        place(Queue::Rewrite, 2, 2, 0),
+    ];
+    tables.rewrite(7, &moved, Some(5)).unwrap();
+    assert_eq!(tables.rewritten_entries(7).unwrap(), moved);
+    assert_eq!(tables.entry(7, 3), Some(run[2]));
 }
 
 #[test]
@@ -109,6 +138,25 @@ fn places_are_rewritten_up_to_the_gate() {
     );
     let e = tables.rewrite_key(7, b"k", None, 1).unwrap_err();
     assert_eq!(e.kind, ErrorKind::Corruption);
+}
+
+#[test]
+fn nothing_moves_that_is_in_a_file_above_the_gate() {
+    let mut tables = Tables::new().unwrap();
+    tables.append(7, &run(Queue::Append, 9, 10..12)).unwrap();
+    tables.append(7, &run(Queue::Append, 10, 12..14)).unwrap();
+    tables.put(7, b"k", b"v", APPEND_9).unwrap();
+    let moved = run(Queue::Rewrite, 2, 10..14);
+    tables.rewrite(7, &moved, Some(9)).unwrap();
+    assert_eq!(tables.rewritten_entries(7).unwrap(), moved[..2]);
+    tables.rewrite_key(7, b"k", Some(8), 2).unwrap();
+    assert_eq!(tables.rewritten_pairs(7).unwrap(), []);
+    tables.rewrite_key(7, b"k", None, 2).unwrap();
+    assert_eq!(tables.rewritten_pairs(7).unwrap(), []);
+    // without a gate those move that are rewritten already
+    let again = run(Queue::Rewrite, 3, 10..14);
+    tables.rewrite(7, &again, None).unwrap();
+    assert_eq!(tables.rewritten_entries(7).unwrap(), again[..2]);
 }
 
 #[test]

@@ -21,6 +21,11 @@ fn layout(size: usize) -> Option<Layout> {
     Layout::from_size_align(size.checked_add(HEAD)?, HEAD).ok()
 }
 
+/// A block of this size with its head, unless the alignment is greater than the head's.
+fn aligned(size: usize, alignment: usize) -> Option<Layout> {
+    layout(size).filter(|_| alignment <= HEAD)
+}
+
 /// Says where memory for a block of this size was found.
 fn tried(block: *mut u8, size: usize) -> Tried {
     if block.is_null() {
@@ -40,9 +45,10 @@ fn tried(block: *mut u8, size: usize) -> Tried {
 }
 
 #[unsafe(no_mangle)]
-extern "C" fn rattle_alloc(size: usize, _alignment: usize) -> Tried {
+extern "C" fn rattle_alloc(size: usize, alignment: usize) -> Tried {
+    let layout = aligned(size, alignment);
     // SAFETY: the layout isn't empty.
-    let block = layout(size).map_or(ptr::null_mut(), |layout| unsafe { alloc(layout) });
+    let block = layout.map_or(ptr::null_mut(), |layout| unsafe { alloc(layout) });
     tried(block, size)
 }
 
@@ -51,13 +57,13 @@ unsafe extern "C" fn rattle_realloc(
     at: *mut u8,
     _kept: usize,
     size: usize,
-    _alignment: usize,
+    alignment: usize,
 ) -> Tried {
     // SAFETY: the block came from `tried`, so its head says its size.
     unsafe {
         let block = at.sub(HEAD);
         let old = block.cast::<usize>().read();
-        match (layout(old), layout(size)) {
+        match (layout(old), aligned(size, alignment)) {
             (Some(old), Some(new)) => tried(realloc(block, old, new.size()), size),
             _ => tried(ptr::null_mut(), size),
         }

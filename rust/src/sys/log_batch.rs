@@ -1,7 +1,7 @@
 //! The handle of a batch that is written.
 
 use super::{
-    Handle, ItemsHandle, checked, found, raft_ffi_batch_add_entries, raft_ffi_batch_bytes,
+    Handle, ItemsHandle, checked, listed, raft_ffi_batch_add_entries, raft_ffi_batch_bytes,
     raft_ffi_batch_clean, raft_ffi_batch_compact, raft_ffi_batch_delete, raft_ffi_batch_drop,
     raft_ffi_batch_finish, raft_ffi_batch_into_items, raft_ffi_batch_merge, raft_ffi_batch_new,
     raft_ffi_batch_put, raft_ffi_batch_sign, raft_ffi_batch_size, raft_ffi_batch_stage,
@@ -92,13 +92,7 @@ impl LogBatchHandle {
                 "an index would be 2^64 - 1 or more",
             ));
         }
-        let mut lens = Vec::with_capacity(entries.len());
-        let mut bytes = Vec::new();
-        for entry in entries {
-            let string = entry.as_ref();
-            lens.push(string.len());
-            bytes.extend_from_slice(string);
-        }
+        let (lens, bytes) = gathered(entries)?;
         // SAFETY: the handle holds an open batch, the last index is below 2^64 - 1, and the lengths are those of the bytes.
         checked(|text, text_len| unsafe {
             raft_ffi_batch_add_entries(
@@ -198,13 +192,12 @@ impl LogBatchHandle {
     pub(crate) fn bytes(&self) -> Result<Vec<u8>> {
         self.check_signed()?;
         // SAFETY: the handle holds a signed batch.
-        let bytes = found(|room, len, count| {
+        listed(|room, len, count| {
             *count = with(&self.0, |batch| unsafe {
                 raft_ffi_batch_bytes(batch, room, len)
             });
-            true
-        });
-        Ok(bytes.unwrap_or_default())
+            Ok(())
+        })
     }
 
     /// Gives entries and key values their places.
@@ -236,6 +229,22 @@ impl LogBatchHandle {
         remembered(unsafe { raft_ffi_batch_into_items(batch, &mut items) })?;
         Ok(ItemsHandle(Cell::new(items)))
     }
+}
+
+/// Returns the length of each string, and the bytes of all.
+fn gathered<E: AsRef<[u8]>>(strings: &[E]) -> Result<(Vec<usize>, Vec<u8>)> {
+    let (mut lens, mut bytes) = (Vec::new(), Vec::new());
+    lens.try_reserve_exact(strings.len())
+        .map_err(|_| Error::memory())?;
+    for string in strings {
+        let string = string.as_ref();
+        lens.push(string.len());
+        bytes
+            .try_reserve(string.len())
+            .map_err(|_| Error::memory())?;
+        bytes.extend_from_slice(string);
+    }
+    Ok((lens, bytes))
 }
 
 impl Drop for LogBatchHandle {

@@ -1,0 +1,195 @@
+//! What the types are: which threads may have them, and which traits of std they have.
+
+use raft_recover::{
+    Batch, BatchIntoIter, BatchIter, Batches, Block, Content, Context, Entry, Error, ErrorKind,
+    FileId, FilePart, Item, Kept, LogBatch, LogFile, Pair, Queue, Slot, Stage, Summary, Tables,
+    Version,
+};
+use std::collections::{BTreeSet, HashSet};
+use std::fmt::{Debug, Display};
+use std::hash::Hash;
+use std::iter::FusedIterator;
+
+/// Compiles where the types have the traits.
+macro_rules! all_are {
+    ($($traits:path),+ => $($type:ty),+ $(,)?) => {
+        const _: () = {
+            const fn are<T: $($traits +)+>() {}
+            $(are::<$type>();)+
+        };
+    };
+}
+
+/// Compiles where the types lack the trait: with it, two implementations would fit.
+macro_rules! none_is {
+    ($trait:path => $($type:ty),+ $(,)?) => {
+        const _: () = {
+            struct Any;
+            struct Having;
+            trait Fits<A> {
+                const ONE: () = ();
+            }
+            impl<T> Fits<Any> for T {}
+            impl<T: $trait> Fits<Having> for T {}
+            $(let _: () = <$type as Fits<_>>::ONE;)+
+        };
+    };
+}
+
+all_are!(Send, Debug, Unpin => Batch, BatchIntoIter, Context, LogBatch, Slot, Tables);
+none_is!(Sync => Batch, BatchIntoIter, Context, LogBatch, Slot, Tables);
+none_is!(Clone => Batch, BatchIntoIter, Context, LogBatch, Slot, Tables);
+none_is!(Send => BatchIter<'static>);
+none_is!(Sync => BatchIter<'static>);
+
+all_are!(
+    Send, Sync, Debug, Clone, PartialEq, Eq, Hash, Unpin =>
+    Block, Content, Entry, Error, ErrorKind, FileId, FilePart<'static>, Item, Kept, LogFile, Pair,
+    Queue, Stage, Summary, Version,
+);
+all_are!(
+    Copy => Block, Entry, ErrorKind, FileId, FilePart<'static>, Kept, LogFile, Queue, Stage,
+    Summary, Version,
+);
+all_are!(Ord => FileId, LogFile, Queue, Stage, Version);
+all_are!(Display => Error, ErrorKind, FileId, Queue, Tables, Version);
+all_are!(TryFrom<u8> => ErrorKind, Queue, Version);
+all_are!(std::error::Error => Error);
+all_are!(Iterator, FusedIterator, Debug => BatchIter<'static>, BatchIntoIter, Batches<'static>);
+all_are!(ExactSizeIterator, DoubleEndedIterator => BatchIter<'static>, BatchIntoIter);
+all_are!(Send, Sync, Clone => Batches<'static>);
+
+#[test]
+fn queues_have_words_and_numbers() {
+    for (number, queue, word) in [(0, Queue::Append, "append"), (1, Queue::Rewrite, "rewrite")] {
+        assert_eq!(Queue::try_from(number), Ok(queue));
+        assert_eq!(word.parse(), Ok(queue));
+        assert_eq!(queue.to_string(), word);
+        assert_eq!(format!("{queue:>8}|"), format!("{word:>8}|"));
+    }
+    for number in 2..=u8::MAX {
+        let e = Queue::try_from(number).unwrap_err();
+        assert_eq!(e.kind, ErrorKind::InvalidArgument);
+    }
+    for word in ["", "Append", "append ", "0"] {
+        let e = word.parse::<Queue>().unwrap_err();
+        assert_eq!(e.kind, ErrorKind::InvalidArgument, "{word}");
+    }
+}
+
+#[test]
+fn versions_have_numbers() {
+    for (number, version, text) in [(1, Version::V1, "V1"), (2, Version::V2, "V2")] {
+        assert_eq!(Version::try_from(number), Ok(version));
+        assert_eq!(version.to_string(), text);
+    }
+    for number in (0..=u8::MAX).filter(|n| ![1, 2].contains(n)) {
+        let e = Version::try_from(number).unwrap_err();
+        assert_eq!(e.kind, ErrorKind::InvalidArgument);
+    }
+}
+
+#[test]
+fn files_are_told_as_the_texts_of_errors_tell_them() {
+    let file = LogFile::new(Queue::Rewrite, 12, Version::V1);
+    let expected = LogFile {
+        queue: Queue::Rewrite,
+        seq: 12,
+        version: Version::V1,
+    };
+    assert_eq!(file, expected);
+    assert_eq!(FileId::from(file).to_string(), "rewrite file 12");
+}
+
+#[test]
+fn files_are_in_order_within_their_queue() {
+    let files = [(1, Queue::Rewrite), (2, Queue::Append), (1, Queue::Append)];
+    let in_order: BTreeSet<_> = files.map(|(seq, queue)| FileId::new(queue, seq)).into();
+    let texts: Vec<_> = in_order.iter().map(FileId::to_string).collect();
+    assert_eq!(texts, ["append file 1", "append file 2", "rewrite file 1"]);
+}
+
+#[test]
+fn kinds_have_words_of_their_own() {
+    let kinds = (1..=12).map(|number| ErrorKind::try_from(number).unwrap());
+    let words: HashSet<_> = kinds.map(|kind| kind.to_string()).collect();
+    assert_eq!(words.len(), 12);
+    for number in [0, 13, u8::MAX] {
+        let e = ErrorKind::try_from(number).unwrap_err();
+        assert_eq!(e.kind, ErrorKind::InvalidArgument);
+    }
+}
+
+#[test]
+fn a_part_begins_at_offset_0_and_is_shown_without_its_bytes() {
+    let bytes = vec![7; 1 << 20];
+    let part = FilePart::new(LogFile::new(Queue::Append, 3, Version::V2), &bytes);
+    assert_eq!((part.offset, part.bytes.len()), (0, 1 << 20));
+    let shown = format!("{part:?}");
+    assert!(
+        shown.contains("len: 1048576") && shown.len() < 200,
+        "{shown}"
+    );
+    let same = FilePart {
+        bytes: &vec![7; 1 << 20],
+        ..part
+    };
+    assert_eq!(part, same);
+}
+
+#[test]
+fn what_the_library_keeps_is_shown_without_pointers() {
+    let mut batch = LogBatch::new().unwrap();
+    batch.clean(7).unwrap();
+    let shown = [
+        format!("{:?}", Tables::new().unwrap()),
+        format!("{:?}", Slot::new(5).unwrap()),
+        format!("{:?}", Context::new().unwrap()),
+        format!("{batch:?}"),
+        format!("{:?}", batch.into_items().unwrap()),
+    ];
+    let expected = [
+        "Tables { live_append: 0, live_rewrite: 0, .. }",
+        "Slot { number: 5, live_append: 0, live_rewrite: 0, .. }",
+        "Context { is_failed: false, .. }",
+        "LogBatch { stage: Open, ",
+        "Batch { len: 1, .. }",
+    ];
+    for (shown, expected) in shown.iter().zip(expected) {
+        assert!(shown.starts_with(expected), "{shown}");
+        assert!(!shown.contains("0x"), "{shown}");
+    }
+}
+
+#[test]
+fn the_items_of_a_batch_are_a_list() {
+    let batch = || {
+        let mut batch = LogBatch::new().unwrap();
+        for region in 1..=4 {
+            batch.clean(region).unwrap();
+        }
+        batch.into_items().unwrap()
+    };
+    let lent = batch();
+    let mut items = lent.iter();
+    assert_eq!(items.len(), 4);
+    assert_eq!(items.next().unwrap().region, 1);
+    assert_eq!(items.next_back().unwrap().region, 4);
+    assert_eq!(items.len(), 2);
+    let rest: Vec<_> = items.clone().rev().map(|item| item.region).collect();
+    assert_eq!(rest, [3, 2]);
+    assert_eq!(items.map(|item| item.region).collect::<Vec<_>>(), [2, 3]);
+    let mut regions = Vec::new();
+    for item in &lent {
+        regions.push(item.region);
+    }
+    for item in batch() {
+        regions.push(item.region);
+    }
+    assert_eq!(regions, [1, 2, 3, 4, 1, 2, 3, 4]);
+    let mut given = batch().into_iter();
+    assert_eq!(given.nth(1).unwrap().region, 2);
+    assert_eq!(given.next_back().unwrap().region, 4);
+    assert_eq!((given.len(), given.next().unwrap().region), (1, 3));
+    assert_eq!((given.next(), given.next_back()), (None, None));
+}

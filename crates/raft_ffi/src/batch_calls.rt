@@ -1,6 +1,6 @@
 //! Calls of batches that are written: items are added to one, its bytes are made, and signed for a file.
 
-ghost use Rattle.std.specs.Prelude.{◌≡◌, ◌≢◌, ℕ, ◌+◌, ◌-◌, ◌^◌, ◌<◌, ◌≤◌, [], ◌∷◌, ◌++◌, IsTrue, IfOk, IfErr, OnOk, OnErr, Option, Some, None, is_some, length, map};
+ghost use Rattle.std.specs.Prelude.{◌≡◌, ◌≢◌, ℕ, ◌+◌, ◌-◌, ◌^◌, ◌<◌, ◌≤◌, [], IsTrue, IfOk, IfErr, OnOk, OnErr, Option, Some, None, is_some, length, map};
 ghost use Rattle.std.specs.List.{concat};
 ghost use Rattle.raft_base.specs.Signature.{signature_of};
 ghost use Rattle.raft_records.specs.Group.{reserved_key, IsKeyRefusal};
@@ -449,7 +449,7 @@ fn boxed_items(alloc: Global, batch: LogBatch) -> Result<Box<ItemList>>
     Ok(Box::new(alloc, items_of(alloc, batch)?)?)
 }
 
-/// Lets a batch go.
+/// Frees the batch.
 #[unsafe(no_mangle)]
 pub extern "C" fn raft_ffi_batch_drop(batch: Batch)
     requires held { IsTrue (is_some batch.value) }

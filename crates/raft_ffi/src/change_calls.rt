@@ -3,7 +3,7 @@
 ghost use Rattle.std.specs.Prelude.{◌≡◌, ◌≢◌, ◌⊎◌, ◌+◌, IsTrue, Some, is_some, map, length};
 ghost use Rattle.std.specs.FinMap as finite;
 ghost use Rattle.raft_base.specs.declared.pipe_log.LogQueue.TheVariants.{Append, Rewrite};
-ghost use Rattle.raft_accessor.specs.Accessor.{Accessor, table_in};
+ghost use Rattle.raft_accessor.specs.Accessor.{table_in};
 ghost use Rattle.raft_table.specs.Change.{IsListFault};
 ghost use Rattle.raft_table.specs.KeyValues.{file_at};
 ghost use Rattle.raft_table.specs.Rewriting.{entries_after_rewrite, IsRewriteFault};

@@ -1,14 +1,14 @@
 //! Calls of contexts, which rebuild the tables from log files.
 
-ghost use Rattle.std.specs.Prelude.{◌≡◌, ◌≢◌, ◌⊎◌, ◌+◌, ◌^◌, ◌<◌, ◌++◌, [], List, IsTrue, IfOk, IfErr, OnOk, OnErr, Some, None, is_some, length};
+ghost use Rattle.std.specs.Prelude.{◌≡◌, ◌≢◌, ◌⊎◌, ◌+◌, ◌^◌, ◌<◌, ◌++◌, [], List, IsTrue, IfOk, IfErr, OnOk, Some, None, is_some, length};
 ghost use Rattle.raft_history.specs.Batches.{Event};
 ghost use Rattle.raft_history.specs.BothQueues.{IsReadingOfBoth};
 ghost use Rattle.raft_history.specs.Histories.{IsSmall, Sound, Apart, IsOfQueue};
 ghost use Rattle.raft_history.specs.Kept.{kept_of};
-ghost use Rattle.raft_accessor.specs.Accessor.{Accessor, AreCountsOf};
+ghost use Rattle.raft_accessor.specs.Accessor.{AreCountsOf};
 ghost use Rattle.raft_contexts.specs.KeptShown.{kept_shown};
 ghost use Rattle.raft_contexts.specs.OverlaidContext.{IsOverlaidWith, IsOfBothExactly, IsMergeAppendFault};
-ghost use Rattle.raft_contexts.specs.RecoverContext.{RecoverContext, blank_context, HasRead, HasReadExactly, IsMergedWith, IsNeighborFault};
+ghost use Rattle.raft_contexts.specs.RecoverContext.{blank_context, HasRead, HasReadExactly, IsMergedWith, IsNeighborFault};
 ghost use Rattle.raft_contexts.specs.declared.context_stage.ContextStage.TheVariants.{Failed, Reading};
 ghost use Rattle.raft_records.specs.FilePart.{part_of};
 ghost use Rattle.raft_replay.specs.Replays.{HasReplayed, CannotFollow};
@@ -337,7 +337,7 @@ fn finished(alloc: Global, context: MemTableRecoverContext) -> Result<Box<MemTab
     Ok(Box::new(alloc, accessor)?)
 }
 
-/// Lets a context go.
+/// Frees the context.
 #[unsafe(no_mangle)]
 pub extern "C" fn raft_ffi_context_drop(context: Context)
     requires held { IsTrue (is_some context.value) }

@@ -196,7 +196,7 @@ pub extern "C" fn raft_ffi_items_value(
     found
 }
 
-/// Lets items go.
+/// Frees the items.
 #[unsafe(no_mangle)]
 pub extern "C" fn raft_ffi_items_drop(items: Items)
     requires held { IsTrue (is_some items.value) }

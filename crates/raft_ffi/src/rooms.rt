@@ -1,6 +1,5 @@
 //! What is found, put into the room that the caller has for it.
 
-ghost use Rattle.std.specs.Prelude.{◌≡◌};
 ghost use Rattle.raft_ffi.specs.Rooms.{IsCopied};
 
 /// Copies what was found as far as there is room, and returns how much it is.

@@ -175,7 +175,7 @@ pub extern "C" fn raft_ffi_slot_cleaned_logs(
     memory_code(&answer)
 }
 
-/// Lets a slot go.
+/// Frees the slot.
 #[unsafe(no_mangle)]
 pub extern "C" fn raft_ffi_slot_drop(slot: Slot)
     requires held { IsTrue (is_some slot.value) }

@@ -1,6 +1,6 @@
 //! Calls that read the tables of all regions.
 
-ghost use Rattle.std.specs.Prelude.{◌≡◌, ◌≢◌, IsTrue, None, is_some};
+ghost use Rattle.std.specs.Prelude.{◌≡◌, ◌≢◌, IsTrue, is_some};
 ghost use Rattle.std.specs.FinMap as finite;
 ghost use Rattle.raft_base.specs.declared.pipe_log.LogQueue.TheVariants.{Rewrite};
 ghost use Rattle.raft_accessor.specs.Accessor.{table_in};
@@ -230,7 +230,7 @@ pub extern "C" fn raft_ffi_tables_value(
     found
 }
 
-/// Lets tables go.
+/// Frees the tables.
 #[unsafe(no_mangle)]
 pub extern "C" fn raft_ffi_tables_drop(tables: Tables)
     requires held { IsTrue (is_some tables.value) }

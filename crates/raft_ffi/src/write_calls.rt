@@ -2,7 +2,7 @@
 
 ghost use Rattle.std.specs.Prelude.{◌≡◌, ◌≢◌, ◌≤◌, IsTrue, IfOk, IfErr, OnOk, OnErr, Some, None, is_some};
 ghost use Rattle.std.specs.FinMap as finite;
-ghost use Rattle.raft_accessor.specs.Accessor.{Accessor, table_in};
+ghost use Rattle.raft_accessor.specs.Accessor.{table_in};
 ghost use Rattle.raft_accessor.specs.Merges.{with_newer, with_appended, AreTablesLeft, AreOthersLeft, IsNewerFault, IsAppendedFault, IsMergeRefusal};
 ghost use Rattle.raft_accessor.specs.Writes.{Appending, Rewriting, AreWritten};
 ghost use Rattle.raft_ffi.specs.Calls.{IsCodeOf, Holds, BothHold};

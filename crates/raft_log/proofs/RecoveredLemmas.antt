@@ -1,5 +1,5 @@
 -- What is recovered of segments that hold a log's history.
-use Rattle.std.proofs.Common.{◌≡◌, ◌≢◌, Result, Ok, Err, IfErr, ℕ, ◌<◌, ◌^◌, true, arith, List, [], ◌++◌, Vec, refl, sym, ap, subst, ◌∙◌}
+use Rattle.std.proofs.Common.{◌≡◌, ◌≢◌, Result, Ok, Err, IfErr, ℕ, ◌<◌, ◌^◌, true, List, [], ◌++◌, Vec, refl, sym, ap, subst, ◌∙◌}
 use Rattle.std.specs.Global.{Global}
 use Rattle.raft_base.specs.declared.errors.Error.{Error}
 use Rattle.raft_base.specs.declared.errors.Error.TheVariants as errors

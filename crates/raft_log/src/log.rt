@@ -1,6 +1,6 @@
 //! A log of the append queue, as an engine keeps it.
 
-ghost use Rattle.std.specs.Prelude.{◌≡◌, ◌≢◌, ◌⊎◌, ◌↔◌, ℕ, ◌≤◌, ◌<◌, ◌^◌, List, [], ◌∷◌, ◌++◌, map, true, false, length, IfOk, IfErr, OnOk, OnErr, IsTrue};
+ghost use Rattle.std.specs.Prelude.{◌≡◌, ◌≢◌, ◌⊎◌, ◌↔◌, ◌≤◌, ◌<◌, ◌^◌, [], ◌∷◌, ◌++◌, map, true, false, length, IfOk, IfErr, OnOk, OnErr, IsTrue};
 ghost use Rattle.std.specs.FinMap as finite;
 ghost use Rattle.raft_base.specs.declared.pipe_log.LogQueue.TheVariants.{Append};
 ghost use Rattle.raft_base.specs.Errors.{IsInvalidArgument};

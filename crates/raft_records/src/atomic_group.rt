@@ -1,6 +1,6 @@
 //! Atomic groups of log batches, which take effect together or not at all.
 
-ghost use Rattle.std.specs.Prelude.{◌≡◌, ℕ, [], Option, Some, None, IfErr, OnOk, OnErr, ◌↔◌, List, IsTrue, IfOk};
+ghost use Rattle.std.specs.Prelude.{◌≡◌, ℕ, Option, Some, None, IfErr, OnOk, OnErr, ◌↔◌, List, IsTrue, IfOk};
 ghost use Rattle.raft_base.specs.declared.errors.Error.{Error as Refusal};
 ghost use Rattle.raft_records.specs.declared.atomic_group.AtomicGroupStatus.{AtomicGroupStatus as Status};
 ghost use Rattle.raft_records.specs.declared.atomic_group.AtomicGroupStatus.TheVariants.{Begin, Middle, End};

@@ -3,7 +3,6 @@ use Rattle.std.proofs.Common.{◌≡◌, ℕ, ◌+◌, ◌≤◌, List, [], ◌�
 use Rattle.std.proofs.lemmas.List.{take_all}
 use Rattle.std.specs.Global.{Global}
 use Rattle.raft_base.specs.declared.errors.Error.{Error}
-use Rattle.raft_base.specs.declared.errors.Error.TheVariants as errors
 use Rattle.raft_records.specs.FilePart.{Part}
 use Rattle.raft_history.specs.Batches.{Event}
 use Rattle.raft_history.specs.Histories.{IsSmall, Sound}

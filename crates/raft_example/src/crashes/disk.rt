@@ -171,9 +171,11 @@ impl DiskNotes {
             fs::remove_file(crashes.rt, path.as_str())?;
             self.try_some(crashes, dice)?;
         }
+        // (a table's least file may be that of its group's first batch, which is gone)
+        let least = first.max(id.seq);
         match id.queue {
-            LogQueue::Append => self.least = (id.seq, rewrite),
-            LogQueue::Rewrite => self.least = (append, id.seq),
+            LogQueue::Append => self.least = (least, rewrite),
+            LogQueue::Rewrite => self.least = (append, least),
         }
         Ok(())
     }

@@ -1,7 +1,6 @@
-use Rattle.std.proofs.Common.{◌≡◌, ◌++◌, ℕ, List, length, sym, ap, ◌∙◌, arith, map, refl}
+use Rattle.std.proofs.Common.{◌≡◌, ◌++◌, ℕ, List, length, sym, ap, ◌∙◌, arith, map}
 use Rattle.raft_base.specs.Signature.{signature_of}
 use Rattle.raft_base.specs.declared.compression_type.CompressionType.TheVariants as compressions
-use Rattle.raft_base.specs.declared.pipe_log.FileBlockHandle.{FileBlockHandle}
 use Rattle.raft_records.specs.ItemBatch.{placed_item}
 use Rattle.raft_records.specs.LogBatch.{entry_place, Batch, encoded, log_batch_bytes, sealed}
 use Rattle.raft_log.proofs.LogLemmas.{put_so, sealed_is_shut}

@@ -113,6 +113,9 @@ impl Asked {
     {}
 }
 
+// It owns nothing.
+unsafe impl Send for Asked {}
+
 /// Returns the number that notes a queue.
 fn number_of(queue: LogQueue) -> u64
     ensures { queue_noted result ≡ queue }

@@ -56,7 +56,7 @@ module _ (content : EntryIndex → List ℕ) where
   none_copied [] h = refl
   none_copied (e ∷ es) h = absurd h
 
-  copies-append : (gs hs es fs : List EntryIndex) → AreCopies content gs es → AreCopies content hs fs → AreCopies content (gs ++ hs) (es ++ fs)
+  pub copies-append : (gs hs es fs : List EntryIndex) → AreCopies content gs es → AreCopies content hs fs → AreCopies content (gs ++ hs) (es ++ fs)
   copies-append [] hs [] fs h k = k
   copies-append [] hs (e ∷ es) fs h k = absurd h
   copies-append (g ∷ gs) hs [] fs h k = absurd h

@@ -17,6 +17,7 @@ pub mod GroupFiles
 pub mod GroupFronts
 pub mod GroupLemmas
 pub mod GroupRows
+pub mod InRows
 pub mod KeptRewrites
 pub mod KeptWrites
 pub mod KeyLemmas
@@ -59,6 +60,7 @@ pub mod SoundEntries
 pub mod SpokenWords
 pub mod StandingFronts
 pub mod StopLemmas
+pub mod TakenAgain
 pub mod TakingItems
 pub mod TestLemmas
 pub mod ToldItems

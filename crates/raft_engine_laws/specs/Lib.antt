@@ -11,6 +11,7 @@ pub mod NextBatches
 pub mod Telling
 -- atomic groups
 pub mod Groups
+pub mod GroupsInRows
 -- records that move
 pub mod Moving
 -- files that go

@@ -1,14 +1,18 @@
 //! Laws of atomic groups in the rewrite files.
 
-ghost use Rattle.std.specs.Prelude.{◌≡◌, ℕ, List, [], ◌∷◌, ◌++◌, flat_map};
+ghost use Rattle.std.specs.Prelude.{◌≡◌, ◌⊎◌, ℕ, List, [], ◌∷◌, ◌++◌, flat_map};
+ghost use Rattle.std.specs.List.{AllByRecursion};
 ghost use Rattle.raft_base.specs.declared.entry_index.EntryIndex.{EntryIndex};
+ghost use Rattle.raft_records.specs.declared.atomic_group.AtomicGroupStatus.TheVariants.{Begin, Middle, End};
 ghost use Rattle.raft_history.specs.Batches.{Event, batches};
 ghost use Rattle.raft_history.specs.Effects.{steps_of, whole_steps};
 ghost use Rattle.raft_history.specs.Histories.{Apart};
 ghost use Rattle.raft_history.specs.RegionSteps.{RegionStep, Tables, steps_on, steps_of_items};
-ghost use Rattle.raft_engine_laws.specs.Groups.{HasNoMarker, LeavesOpen, IsWholeGroup, EndNoOlderGroup};
+ghost use Rattle.raft_engine_laws.specs.Groups.{HasNoMarker, LeavesOpen, IsMarked, IsWholeGroup, EndNoOlderGroup};
+ghost use Rattle.raft_engine_laws.specs.GroupsInRows.{AreGroupsInRows};
 ghost use Rattle.raft_engine_laws.specs.KeptTables.{AreKept};
 ghost use Rattle.raft_engine_laws.specs.NextBatches.{IsRewrittenNext};
+ghost use Rattle.raft_engine_laws.specs.Stops.{Deed, written, AreInFileOf, FilesEndNoOlderGroup, IsLeft};
 
 /// States that a batch which begins a group or goes on with one changes nothing.
 pub fn open_groups_change_nothing()
@@ -45,4 +49,22 @@ pub fn groups_in_one_file_end_no_older_group()
         → IsWholeGroup g begin middles end → EndNoOlderGroup (begin ∷ (middles ++ end ∷ [])) }
     ensures both { (h k : List Event) → EndNoOlderGroup h → EndNoOlderGroup k
         → EndNoOlderGroup (h ++ k) }
+{}
+
+/// States of batches of which each group stands in a row, in one file: their effects are apart, and wherever deleted
+/// files end, those that stay end no group of those. What a stop leaves of them is so again; and so are they with a
+/// batch more that has no group marker, that begins a group, or that goes on with the group of the last row, or ends it.
+pub fn groups_stay_in_rows()
+    ensures none { AreGroupsInRows [] }
+    ensures apart { (h : List Event) → AreGroupsInRows h → Apart h }
+    ensures files { (h : List Event) → AreGroupsInRows h → FilesEndNoOlderGroup h }
+    ensures left { (deeds : List Deed) (standing h : List Event) → AreGroupsInRows (written deeds)
+        → IsLeft deeds standing h → AreGroupsInRows h }
+    ensures alone { (h : List Event) (e : Event) → HasNoMarker e → AreGroupsInRows h → AreGroupsInRows (h ++ e ∷ []) }
+    ensures begun { (h : List Event) (g : ℕ) (e : Event) → IsMarked g Begin e
+        → AreGroupsInRows h → AreGroupsInRows (h ++ e ∷ []) }
+    ensures goes_on { (h : List Event) (g : ℕ) (begin : Event) (middles : List Event) (e : Event)
+        → AreGroupsInRows (h ++ begin ∷ middles) → IsMarked g Begin begin → AllByRecursion (IsMarked g Middle) middles
+        → AreInFileOf e.file.seq (begin ∷ middles) → IsMarked g Middle e ⊎ IsMarked g End e
+        → AreGroupsInRows ((h ++ begin ∷ middles) ++ e ∷ []) }
 {}

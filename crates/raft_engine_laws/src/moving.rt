@@ -1,18 +1,21 @@
 //! Laws of records that move to the rewrite queue, or from one of its files to another.
 
-ghost use Rattle.std.specs.Prelude.{◌≡◌, ℕ, List, [], ◌∷◌, ◌++◌, Some};
+ghost use Rattle.std.specs.Prelude.{◌≡◌, ℕ, ◌≤◌, List, [], ◌∷◌, ◌++◌, Some, None};
 ghost use Rattle.std.specs.FinMap as finite;
 ghost use Rattle.raft_base.specs.declared.entry_index.EntryIndex.{EntryIndex};
 ghost use Rattle.raft_base.specs.declared.pipe_log.LogQueue.TheVariants.{Rewrite};
+ghost use Rattle.raft_records.specs.Item.{Item};
+ghost use Rattle.raft_table.specs.KeyValues.{Stored};
 ghost use Rattle.raft_table.specs.Steps.{table_of};
 ghost use Rattle.raft_table.specs.Table.{Table};
+ghost use Rattle.raft_table.specs.TableEntries.{AreTableEntries};
 ghost use Rattle.raft_history.specs.Batches.{Event};
 ghost use Rattle.raft_history.specs.Histories.{IsOneReading};
 ghost use Rattle.raft_history.specs.RegionSteps.{Tables};
 ghost use Rattle.raft_accessor.specs.Writes.{Rewriting, after_items};
 ghost use Rattle.raft_engine_laws.specs.Groups.{HasNoMarker};
 ghost use Rattle.raft_engine_laws.specs.KeptTables.{AreKept};
-ghost use Rattle.raft_engine_laws.specs.Moving.{AreRecordsMoved, IsMovingBatch};
+ghost use Rattle.raft_engine_laws.specs.Moving.{AreRecordsMoved, IsMovingBatch, MoveAgain};
 ghost use Rattle.raft_engine_laws.specs.NextBatches.{IsRewrittenNext};
 
 /// States that once the rewrite queue is told, records may move: with one batch, or with the last of a whole group, whose
@@ -36,4 +39,15 @@ pub fn moving_items_move_records()
         → (gate id : ℕ) (t : Table) → finite.get tables id ≡ Some t → IsMovingBatch content gate id t e
         → after_items (Rewriting (Some gate) e.file.seq) tables e.items ≡ Some new
         → AreKept content append (rewrite ++ e ∷ []) [] new }
+{}
+
+/// States that tables take items which move records of them within the rewrite queue, in any order, if each run of their
+/// entries is sound, and none of their rewritten pairs is in a file behind the one that these move to.
+pub fn tables_take_what_moves_again()
+    ensures { (content : EntryIndex → List ℕ) (seq : ℕ) (tables : Tables) (items : List Item)
+        → ((r : ℕ) → AreTableEntries (table_of r (finite.get tables r)).entries)
+        → ((r : ℕ) (key : List ℕ) (s : Stored) → finite.get (table_of r (finite.get tables r)).keys key ≡ Some s
+        → s.file.queue ≡ Rewrite → s.file.seq ≤ seq)
+        → MoveAgain content tables record { queue = Rewrite; seq = seq } items
+        → (new : Tables) × (after_items (Rewriting None seq) tables items ≡ Some new) }
 {}

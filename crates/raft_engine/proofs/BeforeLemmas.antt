@@ -89,6 +89,7 @@ cons_some x xs e = cc
 pub from_before : ((queue : LogQueue) (version : Version) (files : List NumberedBytes) (h : List Event) → FilesHold queue version files h → FilesHoldTorn queue version files h)
     → OneReading → (content : EntryIndex → List ℕ) (engine : KeptEngine) (l : IsLasting content engine) → AreFromBefore content engine.version engine.asks l.base
 from_before whole one content engine l = record {
+  either = l.first;
   none = λ since asked. none_so whole one content engine.version l.base (l.ever since (ask Rewrite (Begin 1) ∷ ask Append (Begin 1) ∷ []) asked (cons_some (Begin 1) [], cons_some (Begin 1) []));
   found = λ since append rewrite asked. found_so whole one content engine.version l.base append rewrite (l.ever since (found_asks append rewrite) asked (cons_some (Found append) [], cons_some (Found rewrite) []));
 }

@@ -23,6 +23,7 @@ use Rattle.raft_engine.specs.Lasting.{AreSynced}
 use Rattle.raft_engine.specs.Stored.{AreAllDone}
 use Rattle.raft_engine.specs.StoredAsks.{IsWritableBatch}
 use Rattle.raft_engine.proofs.LastingLemmas.{all_synced, synced_front}
+use Rattle.raft_engine.proofs.OfVersionLemmas.{nothing_other, stays}
 
 -- ---- what is synced
 
@@ -49,7 +50,7 @@ module _ (queue : LogQueue) (version : Version) (acts : List Act) (deeds : List 
 pub none_done : ((queue : LogQueue) (version : Version) → AreDoneWhole queue version [] [])
     → ((queue : LogQueue) (version : Version) → ArePutWhole queue version [] [] [])
     → (queue : LogQueue) (version : Version) → AreAllDone queue version [] []
-none_done done put queue version = record { done = done queue version; put = put queue version }
+none_done done put queue version = record { done = done queue version; put = put queue version; of_version = nothing_other queue version }
 
 pub first_done : ((queue : LogQueue) (version : Version) (acts : List Act) (deeds : List Deed) (seq : ℕ)
     → AreDoneWhole queue version acts deeds → IsSynced deeds → IsNext seq (begun acts) → deleted deeds ≤ seq
@@ -60,6 +61,7 @@ pub first_done : ((queue : LogQueue) (version : Version) (acts : List Act) (deed
 first_done begin put queue version a = record {
   done = begin queue version [] [] 1 a.done tt tt (omega arith);
   put = put queue version [] [] [] 1 a.put;
+  of_version = (stays queue version []).begun 1 a.of_version;
 }
 
 -- ---- a sync
@@ -73,6 +75,7 @@ pub sync_done : ((queue : LogQueue) (version : Version) (acts : List Act) (deeds
 sync_done done put queue version acts deeds a = record {
   done = done queue version acts deeds a.done;
   put = record { put = put queue version acts (queue_deeds.synced deeds) (written deeds) a.put.put; whole = a.put.whole };
+  of_version = (stays queue version acts).synced a.of_version;
 }
 
 -- ---- a new file
@@ -100,9 +103,10 @@ begin_done begin put next queue version acts deeds closed last seq synced is les
     let file : FileId = record { queue = queue; seq = last.0 } in
     let e : Event = record { items = []; file = file } in
     let n = next queue version acts deeds closed last e a.done is refl tt (no_items_status queue) in
-    let stays : deleted deeds ≤ last.0 = n.stays in record {
-      done = begin queue version acts deeds seq a.done (deeds_synced queue version acts deeds a synced) (subst (IsNext seq) (sym is) (next_last seq closed last less)) (omega (arith, stays, less));
+    let low : deleted deeds ≤ last.0 = n.stays in record {
+      done = begin queue version acts deeds seq a.done (deeds_synced queue version acts deeds a synced) (subst (IsNext seq) (sym is) (next_last seq closed last less)) (omega (arith, low, less));
       put = subst (λ (l : List Event). ArePutWhole queue version (Begin seq ∷ acts) l (written deeds)) (sym same) (put queue version acts (queue_deeds.synced deeds) (written deeds) seq a.put);
+      of_version = (stays queue version acts).begun seq a.of_version;
     }
 
 -- ---- a batch
@@ -114,10 +118,12 @@ pub put_done : WrittenBatchIsDone → WrittenBatchIsPut
     → begun acts ≡ closed ++ last ∷ [] → AreAllDone queue version acts deeds
     → AreAllDone queue version (Put (log_batch_bytes (signature_in version last.0) batch.items batch.entry_bytes) ∷ acts)
     (Write (written_event (whole_file queue version last) handle batch.items batch.entry_bytes) ∷ deeds)
-put_done done put queue version acts deeds closed last handle batch w file place is a = record {
-  done = done queue version acts deeds closed last handle batch.items batch.entry_bytes w.tiled w.in_range w.in_bytes w.some w.short file place is a.done;
-  put = put queue version acts (queue_deeds.synced deeds) (written deeds) closed last handle batch.items batch.entry_bytes w.tiled w.in_range w.in_bytes w.some w.short file place is a.put;
-}
+put_done done put queue version acts deeds closed last handle batch w file place is a =
+    let p = put queue version acts (queue_deeds.synced deeds) (written deeds) closed last handle batch.items batch.entry_bytes w.tiled w.in_range w.in_bytes w.some w.short file place is a.put in record {
+      done = done queue version acts deeds closed last handle batch.items batch.entry_bytes w.tiled w.in_range w.in_bytes w.some w.short file place is a.done;
+      put = p;
+      of_version = (stays queue version acts).put (log_batch_bytes (signature_in version last.0) batch.items batch.entry_bytes) _ p.whole a.of_version;
+    }
 
 -- ---- a deletion
 
@@ -138,4 +144,5 @@ delete_done done put queue version acts deeds gone rest oldest next is count a =
     let less = rising_next a.done.done.first gone rest oldest next (subst (λ (files : List NumberedBytes). AreRisingFrom a.done.done.first (numbers files)) is a.done.done.rising) in record {
       done = done queue version acts deeds gone rest oldest next (oldest.0 + 1) a.done is count (omega arith) (omega (arith, less));
       put = put queue version acts (queue_deeds.synced deeds) (written deeds) a.put;
+      of_version = (stays queue version acts).deleted a.of_version;
     }

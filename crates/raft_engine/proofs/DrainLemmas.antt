@@ -11,8 +11,9 @@ use Rattle.raft_base.specs.declared.errors.Error.{Error}
 use Rattle.raft_records.specs.declared.log_item.LogItem.{LogItem}
 use Rattle.raft_records.specs.Item.{Item, item_of}
 use Rattle.raft_accessor.specs.Accessor.{Accessor}
-use Rattle.raft_accessor.specs.Writes.{Writing, AreItemsRefused, AreWritten}
-use Rattle.raft_engine.specs.WrittenBatch.{AreFirstWritten}
+use Rattle.raft_accessor.specs.AppendChecks.{AreAccepted}
+use Rattle.raft_accessor.specs.Writes.{Appending, Writing, AreItemsRefused, AreWritten}
+use Rattle.raft_engine.specs.WrittenBatch.{AreFirstWritten, LacksRoom}
 
 -- all items, in order
 drained : {X Z : Type 0} (s : IntoIter X Z) (xs : List X) → into_iter_len s ≡ length (into_iter_items s) → Drains into_iter_steps s xs → xs ≡ into_iter_items s
@@ -52,6 +53,18 @@ first_so (Err e) w s items old new is p =
           ∙ append_assoc h.front (h.item ∷ []) left;
       written = h.written;
     }
+
+-- items that are accepted are refused, whichever of them is, for want of room alone
+pub room_so : ((items rest : List Item) (old new : Accessor) (e : Error) → AreAccepted old.tables (items ++ rest) → AreItemsRefused Appending items old new e → LacksRoom e)
+    → {R : Type 0} (r : Result R Error) (s : IntoIter LogItem Global) (items : List Item) (old new : Accessor) → map item_of (into_iter_items s) ≡ items → AreAccepted old.tables items
+    → IfErr r (λ e. (it : IntoIter LogItem Global) × (xs : List LogItem) × (u : IntoIter LogItem Global) × (it ≡ s) × Yields into_iter_steps it xs u × AreItemsRefused Appending (map item_of xs) old new e)
+    → IfErr r LacksRoom
+room_so law (Ok x) s items old new is accepted p = tt
+room_so law (Err e) s items old new is accepted p =
+    let yields = subst (λ (it : IntoIter LogItem Global). Yields into_iter_steps it p.1 p.2) p.3 p.4 in
+    let left : List Item = map item_of (into_iter_items p.2) in
+    law (map item_of p.1) left old new e
+    (subst (AreAccepted old.tables) (sym is ∙ ap (map item_of) (parted s p.2 p.1 yields) ∙ map-append item_of p.1 (into_iter_items p.2)) accepted) p.5
 
 -- none are written
 pub none_first : (w : Writing) (items : List Item) (a : Accessor) → AreFirstWritten w items a a

@@ -17,9 +17,12 @@ use Rattle.raft_engine_fronts.specs.Fronts.{ArePut, ArePutWhole}
 use Rattle.raft_engine_fronts.specs.TornTails.{FilesHoldTorn, IsFollowedAt, StopsAt}
 use Rattle.raft_engine_fronts.proofs.EventLemmas.{files_high}
 use Rattle.raft_engine_fronts.proofs.TornLemmas.{one_file, whole_torn}
-use Rattle.raft_engine.specs.FoundFiles.{IsCut, IsFirstBegun, IsReady, IsTornFrom, IsUntorn}
+use Rattle.raft_engine.specs.FoundFiles.{IsCut, IsFirstBegun, IsLastOfOther, IsReady, IsTornFrom, IsUntorn}
+use Rattle.raft_engine.specs.OfVersion.{NoneIsOther}
 use Rattle.raft_engine.specs.Stored.{AreAllDone}
 use Rattle.raft_engine.proofs.FoundLemmas.{stands_inside}
+use Rattle.raft_engine.proofs.OfVersionLemmas.{stays}
+use Rattle.raft_engine.proofs.ReadyLemmas.{no_last}
 
 -- ---- what a queue holds before and after
 
@@ -83,6 +86,7 @@ one_ask queue version asks later files left r = go r.ready
 pub record IsFoundDone (queue : LogQueue) (version : Version) (acts : List Act) (h : List Event) : Type 0 where
   pub done : AreDone queue version acts (Stop h 0 ∷ [])
   pub put : ArePut queue version acts h h
+  pub of_version : NoneIsOther queue version acts
 
 pub record AreReadyDone (queue : LogQueue) (version : Version) (files left : List NumberedBytes) (later : List Act) (h : List Event) : Type 0 where
   pub torn : FilesHoldTorn queue version files h
@@ -106,58 +110,67 @@ module _
     → ArePut queue version acts synced h → begun acts ≡ closed ++ last ∷ [] → StopsAt (whole_file queue version last) at → ArePutWhole queue version (Cut at ∷ acts) synced h)
     (put_begin : (queue : LogQueue) (version : Version) (acts : List Act) (synced h : List Event) (seq : ℕ)
     → ArePutWhole queue version acts synced h → ArePutWhole queue version (Begin seq ∷ acts) h h) where
-  torn_done : (queue : LogQueue) (version : Version) (files : List NumberedBytes) (h : List Event) → AreRisingFrom 0 (numbers files) → FilesHoldTorn queue version files h → IsFoundDone queue version (Found files ∷ []) h
-  torn_done queue version files h rising held = record {
+  torn_done : (queue : LogQueue) (version : Version) (files : List NumberedBytes) (h : List Event) → AreRisingFrom 0 (numbers files) → ¬ (IsLastOfOther queue version files) → FilesHoldTorn queue version files h
+      → IsFoundDone queue version (Found files ∷ []) h
+  torn_done queue version files h rising none held = record {
     done = found queue version [] [] files h 0 (subst (FilesHoldTorn queue version files) (sym (files_high queue version 0 files h rising held)) held) rising;
     put = put_found queue version [] files h held;
+    of_version = (stays queue version []).found files none;
   }
 
-  whole_done : (queue : LogQueue) (version : Version) (files : List NumberedBytes) (h : List Event) → AreRisingFrom 0 (numbers files) → FilesHold queue version files h → AreAllDone queue version (Found files ∷ []) (Stop h 0 ∷ [])
-  whole_done queue version files h rising held =
+  whole_done : (queue : LogQueue) (version : Version) (files : List NumberedBytes) (h : List Event) → AreRisingFrom 0 (numbers files) → ¬ (IsLastOfOther queue version files) → FilesHold queue version files h
+      → AreAllDone queue version (Found files ∷ []) (Stop h 0 ∷ [])
+  whole_done queue version files h rising none held =
       let torn = whole_torn queue version files h held in record {
         done = found_whole queue version [] [] files h 0 (subst (FilesHold queue version files) (sym (files_high queue version 0 files h rising torn)) held) rising;
         put = record { put = put_found queue version [] files h torn; whole = held };
+        of_version = (stays queue version []).found files none;
       }
 
   -- a first file is begun
   first_ready : (queue : LogQueue) (version : Version) (h : List Event) → FilesHold queue version ((1, []) ∷ []) h → AreReadyDone queue version [] ((1, []) ∷ []) (Begin 1 ∷ Found [] ∷ []) h
   first_ready queue version h held =
       let none : h ≡ [] = none_held queue version h held in
-      let all = whole_done queue version [] h tt none in record {
+      let no_other : ¬ (IsLastOfOther queue version []) = λ o. no_last o.closed o.last o.split in
+      let all = whole_done queue version [] h tt no_other none in record {
         torn = none;
-        before = torn_done queue version [] h tt none;
+        before = torn_done queue version [] h tt no_other none;
         after = record {
           done = begin queue version (Found [] ∷ []) (Stop h 0 ∷ []) 1 all.done tt tt (omega arith);
           put = put_begin queue version (Found [] ∷ []) h h 1 all.put;
+          of_version = (stays queue version (Found [] ∷ [])).begun 1 all.of_version;
         };
         are = refl;
         none = refl;
       }
 
   -- there is no torn tail
-  whole_ready : (queue : LogQueue) (version : Version) (files : List NumberedBytes) (h : List Event) → AreRisingFrom 0 (numbers files) → FilesHold queue version files h → AreReadyDone queue version files files (Found files ∷ []) h
-  whole_ready queue version files h rising held =
+  whole_ready : (queue : LogQueue) (version : Version) (files : List NumberedBytes) (h : List Event) → AreRisingFrom 0 (numbers files) → ¬ (IsLastOfOther queue version files) → FilesHold queue version files h
+      → AreReadyDone queue version files files (Found files ∷ []) h
+  whole_ready queue version files h rising no_other held =
       let torn = whole_torn queue version files h held in record {
         torn = torn;
-        before = torn_done queue version files h rising torn;
-        after = whole_done queue version files h rising held;
+        before = torn_done queue version files h rising no_other torn;
+        after = whole_done queue version files h rising no_other held;
         are = refl;
         none = refl;
       }
 
   -- a torn tail is cut off
-  cut_ready : (queue : LogQueue) (version : Version) (closed : List NumberedBytes) (last : NumberedBytes) (at : ℕ) (h : List Event) → AreRisingFrom 0 (numbers (closed ++ last ∷ [])) → IsTornFrom (whole_file queue version last) (Some at)
+  cut_ready : (queue : LogQueue) (version : Version) (closed : List NumberedBytes) (last : NumberedBytes) (at : ℕ) (h : List Event) → AreRisingFrom 0 (numbers (closed ++ last ∷ []))
+      → ¬ (IsLastOfOther queue version (closed ++ last ∷ [])) → IsTornFrom (whole_file queue version last) (Some at)
       → FilesHold queue version (cut_last at (closed ++ last ∷ [])) h → AreReadyDone queue version (closed ++ last ∷ []) (cut_last at (closed ++ last ∷ [])) (Cut at ∷ Found (closed ++ last ∷ []) ∷ []) h
-  cut_ready queue version closed last at h rising t held =
+  cut_ready queue version closed last at h rising no_other t held =
       let files = closed ++ last ∷ [] in
       let torn : FilesHoldTorn queue version files h = cut_torn queue version closed last at h t.1 (unreadable queue version last at t) t.2
       (subst (λ (l : List NumberedBytes). FilesHold queue version l h) (last_of (λ old. take at old) closed last) held) in
-      let before = torn_done queue version files h rising torn in record {
+      let before = torn_done queue version files h rising no_other torn in record {
         torn = torn;
         before = before;
         after = record {
           done = cut queue version (Found files ∷ []) (Stop h 0 ∷ []) closed last at before.done refl t.0;
           put = put_cut queue version (Found files ∷ []) h h closed last at before.put refl t.0;
+          of_version = (stays queue version (Found files ∷ [])).cut at h held before.of_version;
         };
         are = refl;
         none = refl;
@@ -179,10 +192,11 @@ module _
       go (inr (inl u)) =
           subst (λ (l : List Act). AreReadyDone queue version files left l h) (sym (ap (acts_on queue) u.asked ∙ acts))
           (subst (λ (f : List NumberedBytes). AreReadyDone queue version files f (Found files ∷ []) h) (sym u.same)
-          (whole_ready queue version files h r.rising (subst (λ (f : List NumberedBytes). FilesHold queue version f h) u.same held)))
+          (whole_ready queue version files h r.accepted.rising r.accepted.of_version (subst (λ (f : List NumberedBytes). FilesHold queue version f h) u.same held)))
       go (inr (inr c)) =
           subst (λ (l : List Act). AreReadyDone queue version files left l h) (more (Cut c.at) c.asked)
           (subst (λ (f : List NumberedBytes). AreReadyDone queue version files f (Cut c.at ∷ Found files ∷ []) h) (sym c.cut)
           (subst (λ (f : List NumberedBytes). AreReadyDone queue version f (cut_last c.at f) (Cut c.at ∷ Found f ∷ []) h) (sym c.split)
-          (cut_ready queue version c.closed c.last c.at h (subst (λ (f : List NumberedBytes). AreRisingFrom 0 (numbers f)) c.split r.rising) c.torn
+          (cut_ready queue version c.closed c.last c.at h (subst (λ (f : List NumberedBytes). AreRisingFrom 0 (numbers f)) c.split r.accepted.rising)
+          (subst (λ (f : List NumberedBytes). ¬ (IsLastOfOther queue version f)) c.split r.accepted.of_version) c.torn
           (subst (λ (f : List NumberedBytes). FilesHold queue version (cut_last c.at f) h) c.split (subst (λ (f : List NumberedBytes). FilesHold queue version f h) c.cut held)))))

@@ -85,12 +85,16 @@ there part at len sat (Some n) l e few less next = record {
 stop_unreadable : (part : Part) (at : ℕ) → (at ≡ length part.bytes) ⊎ IsUnreadableAt part at → IsUnreadableAt part at
 stop_unreadable part at s = elim s [ inl e ↦ end_unreadable part at e | inr none ↦ none ]
 
--- where a reader stops is one byte, and nothing follows at the end
+-- where a reader stops is one byte
+pub one_stopped : (part : Part) (at other : ℕ) → StopsAt part at → StopsAt part other → at ≡ other
+one_stopped part at other s o = one_stop part 0 at other s.batches.0 o.batches.0 s.batches.1 o.batches.1 (stop_unreadable part at s.stops) (stop_unreadable part other o.stops)
+
+-- nothing follows at the end
 pub undamaged : (part : Part) (at : ℕ) → StopsAt part at → ((at ≡ length part.bytes) ⊎ (¬ (IsFollowedAt part at))) → ¬ (IsDamaged part)
 undamaged part at stops none d = go none
   where
     same : d.at ≡ at
-    same = one_stop part 0 d.at at d.stops.batches.0 stops.batches.0 d.stops.batches.1 stops.batches.1 (stop_unreadable part d.at d.stops.stops) (stop_unreadable part at stops.stops)
+    same = one_stopped part d.at at d.stops stops
 
     go : (at ≡ length part.bytes) ⊎ (¬ (IsFollowedAt part at)) → ⊥
     go (inl ends) = let less = d.before_end in omega (arith, same, ends, less)

@@ -1,7 +1,6 @@
 -- What is stored of found files.
 use Rattle.std.proofs.Common.{◌≡◌, ◌⊎◌, inl, inr, ℕ, List, [], ◌∷◌, ◌++◌, length, refl, sym, ap, ◌∙◌, subst, arith}
 use Rattle.std.specs.FinMap as finite
-use Rattle.std.specs.List.{AllByRecursion}
 use Rattle.raft_base.specs.declared.compression_type.CompressionType.TheVariants as compressions
 use Rattle.raft_base.specs.declared.entry_index.EntryIndex.{EntryIndex}
 use Rattle.raft_base.specs.declared.pipe_log.FileBlockHandle.{FileBlockHandle}
@@ -26,6 +25,7 @@ use Rattle.raft_files.specs.Disk.{begun, deletions, IsLeftOf}
 use Rattle.raft_replay.specs.WrittenParts.{written_event}
 use Rattle.raft_recover.specs.Files.{FilesHold, whole_file}
 use Rattle.raft_engine_laws.specs.Groups.{HasNoMarker}
+use Rattle.raft_engine_laws.specs.GroupsInRows.{AreGroupsInRows}
 use Rattle.raft_engine_laws.specs.Records.{HaveRecords, Records, live}
 use Rattle.raft_engine_laws.specs.Stops as queue_deeds
 use Rattle.raft_engine_laws.specs.Stops.{Deed, Stop, Write, IsNextIn, IsSafe, LoseNothing, written}
@@ -36,17 +36,18 @@ use Rattle.raft_engine_fronts.specs.Fronts.{ArePut}
 use Rattle.raft_engine.specs.BatchBytes.{bytes_for, place_at, placed_at}
 use Rattle.raft_engine.specs.FoundFiles.{IsReady}
 use Rattle.raft_engine.specs.FoundRecords.{FoundRecordsLast, HaveEverRecords}
-use Rattle.raft_engine.specs.Lasting.{AreFoundIn, HaveBothBegun, IsLastingAfter}
+use Rattle.raft_engine.specs.Lasting.{AreFoundIn, HaveBothBegun, IsBegunOrFound, IsLastingAfter}
 use Rattle.raft_engine.specs.Opening.{AreRecovered}
+use Rattle.raft_engine.specs.OfVersion.{NoneIsOther}
 use Rattle.raft_engine.specs.OpeningAsks.{asks_that_tell}
 use Rattle.raft_engine.specs.Stored.{AreAllDone, Bases}
 use Rattle.raft_engine.specs.StoredAsks.{IsWritableBatch, WhatIsDoneLasts}
 use Rattle.raft_engine_fronts.specs.Contents.{AreBothTold, KeepsBytes}
 use Rattle.raft_engine.specs.StoredFound.{AreMadeReady, AreReady, AreStoredAlone, FoundFilesAreReady, FoundFilesAreStored, found_asks, told_asks}
 use Rattle.raft_engine.proofs.FoundDoneLemmas.{AreReadyDone, one_ask}
-use Rattle.raft_engine.proofs.PlainLeft.{all_left}
-use Rattle.raft_engine.proofs.PlainLemmas.{all-more}
-use Rattle.raft_engine.proofs.StoredLemmas.{goes_on}
+use Rattle.raft_engine_laws.proofs.InRows.{rows_alone, rows_left}
+use Rattle.raft_engine.proofs.OfVersionLemmas.{both_not_other}
+use Rattle.raft_engine.proofs.StoredLemmas.{first_on, goes_on}
 use Rattle.raft_engine.proofs.UntoldLemmas.{placed_away, placed_steps}
 
 no_more : (x : Ask) (rest : List Ask) → [] ≡ x ∷ rest → ⊥
@@ -115,8 +116,11 @@ module _ (ready : ReadyIsDone) (version : Version) (asked : List Ask) (append re
   append_all : AreAllDone Append version (acts_on Append asked) (Stop h 0 ∷ [])
   append_all = subst (λ (l : List Act). AreAllDone Append version l (Stop h 0 ∷ [])) (sym append_same) a.after
 
-  since : (since : List Ask) × (asked ≡ since ++ first)
-  since = since_more Rewrite r.between asked first step_rewrite (since_more Append first r.between first step_append ([], refl))
+  -- the files were found first
+  found_first : IsBegunOrFound asked
+  found_first =
+      let since = since_more Rewrite r.between asked first step_rewrite (since_more Append first r.between first step_append ([], refl)) in
+      inr (since.0, append, rewrite, since.1)
 
   pub made_ready : AreMadeReady version append rewrite append_left rewrite_left asked h k
   made_ready = record {
@@ -126,14 +130,13 @@ module _ (ready : ReadyIsDone) (version : Version) (asked : List Ask) (append re
     rewrite_files = b.are;
     append_none = ap deletions append_same ∙ a.none;
     rewrite_none = b.none;
-    since = since.0;
-    asked = since.1;
   }
 
   module _ (P : List Ask → Type 0)
-      (so : (l : List Ask) → AreDone Append version (acts_on Append l) (Stop h 0 ∷ []) → AreDone Rewrite version (acts_on Rewrite l) (Stop k 0 ∷ []) → ArePut Append version (acts_on Append l) h h → P l) where
+      (so : (l : List Ask) → AreDone Append version (acts_on Append l) (Stop h 0 ∷ []) → AreDone Rewrite version (acts_on Rewrite l) (Stop k 0 ∷ []) → ArePut Append version (acts_on Append l) h h
+      → ((queue : LogQueue) → NoneIsOther queue version (acts_on queue l)) → P l) where
     at_first : WasEver P first
-    at_first [] earlier e begun = subst P e (so first a.before.done b.before.done a.before.put)
+    at_first [] earlier e begun = subst P e (so first a.before.done b.before.done a.before.put (both_not_other version first a.before.of_version b.before.of_version))
     at_first (x ∷ []) earlier e begun = absurd (begun.1 (sym (ap (λ (l : List Ask). acts_on Rewrite (tail_of l)) e)))
     at_first (x ∷ y ∷ []) earlier e begun = absurd (begun.0 (sym (ap (λ (l : List Ask). acts_on Append (tail_of (tail_of l))) e)))
     at_first (x ∷ y ∷ z ∷ later) earlier e begun = absurd (no_more z (later ++ earlier) (ap (λ (l : List Ask). tail_of (tail_of l)) e))
@@ -142,8 +145,9 @@ module _ (ready : ReadyIsDone) (version : Version) (asked : List Ask) (append re
     ever_ready =
         may_more P Rewrite r.between asked step_rewrite
         (may_more P Append first r.between step_append at_first
-        (so r.between a.after.done.done (subst (λ (l : List Act). AreDone Rewrite version l (Stop k 0 ∷ [])) (sym rewrite_same) b.before.done) a.after.put.put))
-        (so asked append_all.done.done b.after.done.done append_all.put.put)
+        (so r.between a.after.done.done (subst (λ (l : List Act). AreDone Rewrite version l (Stop k 0 ∷ [])) (sym rewrite_same) b.before.done) a.after.put.put
+        (both_not_other version r.between a.after.of_version (subst (NoneIsOther Rewrite version) (sym rewrite_same) b.before.of_version))))
+        (so asked append_all.done.done b.after.done.done append_all.put.put (both_not_other version asked append_all.of_version b.after.of_version))
 
 pub found_ready : ReadyIsDone → FoundFilesAreReady
 found_ready ready version asked append rewrite append_left rewrite_left h k r append_held rewrite_held = made_ready ready version asked append rewrite append_left rewrite_left h k r append_held rewrite_held
@@ -162,9 +166,9 @@ LeftIsHeld =
 
 -- where nothing is lost, what is left has the records that were found
 records_found : LeftIsHeld → (content : EntryIndex → List ℕ) (version : Version) (base : ℕ → Records) (l : List Ask) (h : List Event) (rewritten : List Deed)
-    → AreDone Append version (acts_on Append l) (Stop h 0 ∷ []) → AreDone Rewrite version (acts_on Rewrite l) rewritten → AllByRecursion HasNoMarker (written rewritten)
+    → AreDone Append version (acts_on Append l) (Stop h 0 ∷ []) → AreDone Rewrite version (acts_on Rewrite l) rewritten → AreGroupsInRows (written rewritten)
     → LoseNothing content base (Stop h 0 ∷ []) rewritten → HaveLeft content version (live content base h) l
-records_found left content version base l h rewritten append_done rewrite_done plain none append rewrite left_append left_rewrite =
+records_found left content version base l h rewritten append_done rewrite_done rows none append rewrite left_append left_rewrite =
     let a = left Append version l (Stop h 0 ∷ []) append append_done left_append in
     let b = left Rewrite version l rewritten rewrite rewrite_done left_rewrite in
     let ok = none.readable a.standing a.left b.standing b.left a.is_left b.is_left in
@@ -179,7 +183,7 @@ records_found left content version base l h rewritten append_done rewrite_done p
       append_sound = ok.0;
       rewrite_sound = ok.1;
       apart = ok.2;
-      plain = all_left HasNoMarker rewritten b.standing b.left b.is_left plain;
+      rows = rows_left rewritten b.standing b.left rows b.is_left;
       found = λ tables cleaned reading.
           subst (λ (standing : List Event). HaveRecords content tables (live content base standing)) same
           (none.found a.standing a.left b.standing b.left a.is_left b.is_left tables cleaned reading);
@@ -232,8 +236,12 @@ module _ (ready : ReadyIsDone) (lasts : WhatIsDoneLasts) (left : LeftIsHeld)
     rewrite_done : AreReadyDone Rewrite version rewrite rewrite_left (acts_on Rewrite asked) k
     rewrite_done = b ready version asked append rewrite append_left rewrite_left h k r g.append_held g.rewrite_held
 
+    begun_or_found : IsBegunOrFound asked
+    begun_or_found = found_first ready version asked append rewrite append_left rewrite_left h k r g.append_held g.rewrite_held
+
     ever : (P : List Ask → Type 0)
-        → ((l : List Ask) → AreDone Append version (acts_on Append l) (Stop h 0 ∷ []) → AreDone Rewrite version (acts_on Rewrite l) (Stop k 0 ∷ []) → ArePut Append version (acts_on Append l) h h → P l)
+        → ((l : List Ask) → AreDone Append version (acts_on Append l) (Stop h 0 ∷ []) → AreDone Rewrite version (acts_on Rewrite l) (Stop k 0 ∷ []) → ArePut Append version (acts_on Append l) h h
+        → ((queue : LogQueue) → NoneIsOther queue version (acts_on queue l)) → P l)
         → WasEver P asked
     ever = ever_ready ready version asked append rewrite append_left rewrite_left h k r g.append_held g.rewrite_held
 
@@ -241,13 +249,13 @@ module _ (ready : ReadyIsDone) (lasts : WhatIsDoneLasts) (left : LeftIsHeld)
         → (content : EntryIndex → List ℕ) → WasEver (λ (l : List Ask). IsLastingAfter content version (base content) l) asked
     ever_lasting base none content =
         ever (λ (l : List Ask). IsLastingAfter content version (base content) l)
-        (λ l done done' put. (lasts content version (base content) l (Stop h 0 ∷ []) (Stop k 0 ∷ []) done done' put g.plain (none content)).0)
+        (λ l done done' put no_other. (lasts content version (base content) l (Stop h 0 ∷ []) (Stop k 0 ∷ []) done done' put no_other g.rows (none content)).0)
 
     ever_found : (base : Bases) → ((content : EntryIndex → List ℕ) → LoseNothing content (base content) (Stop h 0 ∷ []) (Stop k 0 ∷ []))
         → (content : EntryIndex → List ℕ) → WasEver (HaveLeft content version (live content (base content) h)) asked
     ever_found base none content =
         ever (HaveLeft content version (live content (base content) h))
-        (λ l done done' put. records_found left content version (base content) l h (Stop k 0 ∷ []) done done' g.plain (none content))
+        (λ l done done' put no_other. records_found left content version (base content) l h (Stop k 0 ∷ []) done done' g.rows (none content))
 
     module _ (nothing : told.items ≡ []) where
       open_so : (base : Bases) × ((content : EntryIndex → List ℕ) → IsSafe content (base content) (Stop h 0 ∷ []) (Stop k 0 ∷ []) [] accessor.tables)
@@ -262,7 +270,8 @@ module _ (ready : ReadyIsDone) (lasts : WhatIsDoneLasts) (left : LeftIsHeld)
       at_once = (
         open_so.0,
         record {
-          now = record { appended = Stop h 0 ∷ []; rewritten = Stop k 0 ∷ []; append_done = append_done; rewrite_done = rewrite_done.after; plain = g.plain; safe = λ content told. open_so.1 content };
+          first = begun_or_found;
+          now = record { appended = Stop h 0 ∷ []; rewritten = Stop k 0 ∷ []; append_done = append_done; rewrite_done = rewrite_done.after; rows = g.rows; safe = λ content told. open_so.1 content };
           ever = λ content told. ever_lasting open_so.0 none_lost content;
         },
       )
@@ -292,8 +301,8 @@ module _ (ready : ReadyIsDone) (lasts : WhatIsDoneLasts) (left : LeftIsHeld)
       is_next : IsNextIn Rewrite (Stop k 0 ∷ []) e
       is_next = next Rewrite version (acts_on Rewrite asked) (Stop k 0 ∷ []) closed (seq, bytes) e rewrite_done.after.done is_last refl (in_file id items taken) (status items taken)
 
-      plain_more : AllByRecursion HasNoMarker (k ++ e ∷ [])
-      plain_more = all-more HasNoMarker k e g.plain (unmarked id items taken)
+      rows_more : AreGroupsInRows (k ++ e ∷ [])
+      rows_more = rows_alone k e (unmarked id items taken) g.rows
 
       steps : steps_of_items items ≡ steps_of_items told.items
       steps = placed_steps (entry_place handle told.entry_bytes) compressions.None told.items g.away
@@ -317,17 +326,18 @@ module _ (ready : ReadyIsDone) (lasts : WhatIsDoneLasts) (left : LeftIsHeld)
       ever_put : (content : EntryIndex → List ℕ) → WasEver (λ (l : List Ask). IsLastingAfter content version (o.0 content) l) (put_ask ∷ asked)
       ever_put content =
           one_more (λ (l : List Ask). IsLastingAfter content version (o.0 content) l) put_ask asked (ever_lasting o.0 o.3 content)
-          (lasts content version (o.0 content) (put_ask ∷ asked) (Stop h 0 ∷ []) (Write e ∷ Stop k 0 ∷ []) append_done.done.done put_all.done.done append_done.put.put plain_more (o.2 content)).0
+          (lasts content version (o.0 content) (put_ask ∷ asked) (Stop h 0 ∷ []) (Write e ∷ Stop k 0 ∷ []) append_done.done.done put_all.done.done append_done.put.put
+          (both_not_other version (put_ask ∷ asked) append_done.of_version put_all.of_version) rows_more (o.2 content)).0
 
       once_told : AreStoredAlone version (told_asks version seq told asked) accessor.tables
       once_told = (
         o.0,
-        goes_on lasts lose keep version (ask Rewrite asks.Sync) (put_ask ∷ asked) o.0 [] accessor.tables tt (λ content told. ever_put content) (record {
+        goes_on lasts lose keep version (ask Rewrite asks.Sync) (put_ask ∷ asked) o.0 [] accessor.tables tt (first_on put_ask asked begun_or_found) (λ content told. ever_put content) (record {
           appended = Stop h 0 ∷ [];
           rewritten = queue_deeds.Sync ∷ Write e ∷ Stop k 0 ∷ [];
           append_done = append_done;
           rewrite_done = sync_all;
-          plain = plain_more;
+          rows = rows_more;
           safe = λ content told. o.1 content;
         }),
       )
@@ -338,8 +348,8 @@ module _ (ready : ReadyIsDone) (lasts : WhatIsDoneLasts) (left : LeftIsHeld)
         λ content.
             one_more (HaveLeft content version (live content (o.0 content) h)) (ask Rewrite asks.Sync) (put_ask ∷ asked)
             (one_more (HaveLeft content version (live content (o.0 content) h)) put_ask asked (ever_found o.0 o.3 content)
-            (records_found left content version (o.0 content) (put_ask ∷ asked) h (Write e ∷ Stop k 0 ∷ []) append_done.done.done put_all.done.done plain_more (o.2 content)))
-            (records_found left content version (o.0 content) (ask Rewrite asks.Sync ∷ put_ask ∷ asked) h (queue_deeds.Sync ∷ Write e ∷ Stop k 0 ∷ []) append_done.done.done sync_all.done.done plain_more
+            (records_found left content version (o.0 content) (put_ask ∷ asked) h (Write e ∷ Stop k 0 ∷ []) append_done.done.done put_all.done.done rows_more (o.2 content)))
+            (records_found left content version (o.0 content) (ask Rewrite asks.Sync ∷ put_ask ∷ asked) h (queue_deeds.Sync ∷ Write e ∷ Stop k 0 ∷ []) append_done.done.done sync_all.done.done rows_more
             (lose content (o.0 content) (Stop h 0 ∷ []) (queue_deeds.Sync ∷ Write e ∷ Stop k 0 ∷ []) [] accessor.tables (o.1 content))),
       )
 

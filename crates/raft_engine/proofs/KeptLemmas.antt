@@ -12,14 +12,16 @@ use Rattle.raft_engine.specs.Stored.{AreKeptStored}
 use Rattle.raft_engine.specs.StoredAsks.{FirstFilesAreStored, NewFilesAreStored, SyncsAreStored}
 use Rattle.raft_engine.specs.WrittenBatch.{IsHalfRotated, IsRotated}
 use Rattle.raft_engine.specs.declared.queue_files.QueueFiles.{QueueFiles}
+use Rattle.raft_engine.specs.ReadBack.{IsReadBackAlone}
 use Rattle.raft_engine.proofs.FilesLemmas.{files_begun, files_last, files_same, first_append, first_rewrite}
+use Rattle.raft_engine.proofs.ReadBackLemmas.{begun_read_back, first_read_back, same_read_back}
 
 -- an engine at first
 pub kept_new : FirstFilesAreStored → (version : Version) (asks : List Ask) (append rewrite : QueueFiles) (untold : Batch) (accessor : Accessor)
     → asks ≡ ask Rewrite (Begin 1) ∷ ask Append (Begin 1) ∷ []
     → append.closed.items ≡ [] → append.seq ≡ 1 → append.len ≡ 0 → rewrite.closed.items ≡ [] → rewrite.seq ≡ 1 → rewrite.len ≡ 0
-    → untold ≡ empty_batch → accessor.tables ≡ finite.empty → IsKeptBy version asks append rewrite untold accessor true
-kept_new first version asks append rewrite untold accessor are append_closed append_seq append_len rewrite_closed rewrite_seq rewrite_len none empty =
+    → untold ≡ empty_batch → accessor.tables ≡ finite.empty → accessor.cleaned ≡ [] → IsKeptBy version asks append rewrite untold accessor true
+kept_new first version asks append rewrite untold accessor are append_closed append_seq append_len rewrite_closed rewrite_seq rewrite_len none empty cleaned =
     subst (λ (l : List Ask). IsKeptBy version l append rewrite untold accessor true) (sym are) (record {
       base = _;
       untold = [];
@@ -31,6 +33,7 @@ kept_new first version asks append rewrite untold accessor are append_closed app
         take_away = tt;
         append_files = first_append append append_closed append_seq append_len;
         rewrite_files = first_rewrite rewrite rewrite_closed rewrite_seq rewrite_len;
+        read_back = first_read_back version accessor empty cleaned;
       };
     })
 
@@ -61,6 +64,7 @@ module _ (version : Version) (asks : List Ask) (append rewrite : QueueFiles) (un
       take_away = w.take_away;
       append_files = files_same Append asks asks append append' refl refl closed seq len w.append_files;
       rewrite_files = w.rewrite_files;
+      read_back = w.read_back;
     };
   }
 
@@ -83,6 +87,7 @@ module _ (version : Version) (asks : List Ask) (append rewrite : QueueFiles) (un
             take_away = w.take_away;
             append_files = files_same Append asks (ask Append Sync ∷ asks) append append refl refl refl refl refl w.append_files;
             rewrite_files = files_same Rewrite asks (ask Append Sync ∷ asks) rewrite rewrite refl refl refl refl refl w.rewrite_files;
+            read_back = same_read_back version asks (ask Append Sync ∷ []) accessor refl refl w.read_back;
           };
         })
 
@@ -152,6 +157,8 @@ module _ (version : Version) (asks : List Ask) (append rewrite : QueueFiles) (un
                 append_files = subst (λ (l : List Ask). AreFilesOf Append l append') (ap (λ (n : ℕ). ask Append (Begin n) ∷ ask Append Sync ∷ asks) seq ∙ sym are_asked) next;
                 rewrite_files = subst (λ (l : List Ask). AreFilesOf Rewrite l rewrite) (sym are_asked)
                     (files_same Rewrite asks (ask Append (Begin (append.seq + 1)) ∷ ask Append Sync ∷ asks) rewrite rewrite refl refl refl refl refl w.rewrite_files);
+                read_back = subst (λ (l : List Ask). IsReadBackAlone version l accessor) (sym are_asked)
+                    (begun_read_back version (ask Append Sync ∷ asks) (append.seq + 1) accessor (same_read_back version asks (ask Append Sync ∷ []) accessor refl refl w.read_back));
               };
             }
 

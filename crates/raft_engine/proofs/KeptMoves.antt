@@ -19,6 +19,7 @@ use Rattle.raft_accessor.specs.Accessor.{Accessor}
 use Rattle.raft_accessor.specs.Writes.{AreWritten, Rewriting, after_items}
 use Rattle.raft_files.specs.Asks.{Ask, MayBeAsked, Put, Read, acts_on, ask}
 use Rattle.raft_files.specs.Disk.{begun, deletions}
+use Rattle.raft_engine_laws.specs.Stops as queue_deeds
 use Rattle.raft_engine.specs.BatchBytes.{bytes_for, placed_at}
 use Rattle.raft_engine.specs.KeptEngine.{IsLastFile, KeptEngine}
 use Rattle.raft_engine.specs.KeptEngineView.{AreFilesOf, IsKeptBy}
@@ -26,6 +27,7 @@ use Rattle.raft_engine.specs.Lasting.{AreSynced}
 use Rattle.raft_engine.specs.Moved.{IsMoving, IsOnlyRead, IsRegionHalfMoved, IsRegionMoved, IsRegionUnmoved}
 use Rattle.raft_engine.specs.MovedAsks.{MovedBatchesAreStored, PutBatchesAreStored, ReadsAreStored}
 use Rattle.raft_engine.specs.Purged.{asks_of_items, put_asks}
+use Rattle.raft_engine.specs.ReadBack.{IsReadBack, IsReadBackAlone, MovedBatchesAreReadBack, NoneFound}
 use Rattle.raft_engine.specs.Reads.{AreOnlyRead, AreReads}
 use Rattle.raft_engine.specs.Rewriting.{IsBatchMoving}
 use Rattle.raft_engine.specs.Stored.{AreKeptStored, Bases}
@@ -35,6 +37,7 @@ use Rattle.raft_engine.specs.WrittenBatch.{AreFirstWritten, IsLastFull}
 use Rattle.raft_engine.specs.declared.queue_files.QueueFiles.{QueueFiles}
 use Rattle.raft_engine.proofs.DrainLemmas.{none_first}
 use Rattle.raft_engine.proofs.FilesLemmas.{files_last, files_same, files_told}
+use Rattle.raft_engine.proofs.ReadBackLemmas.{none_before, same_read_back}
 use Rattle.raft_engine.proofs.ReadKept.{none_read, read_only}
 
 -- ---- reads
@@ -91,6 +94,11 @@ read_last asks new seq bytes r last = record {
   files = ap (λ (l : List Ask). begun (acts_on Rewrite l)) r.asked ∙ reads_begun Rewrite r.reads asks r.only ∙ last.files;
 }
 
+pub reads_read_back : (version : Version) (asks new : List Ask) (accessor : Accessor) → AreOnlyRead asks new → IsReadBackAlone version asks accessor → IsReadBackAlone version new accessor
+reads_read_back version asks new accessor r back =
+    subst (λ (l : List Ask). IsReadBackAlone version l accessor) (sym r.asked)
+    (same_read_back version asks r.reads accessor (reads_begun Append r.reads asks r.only) (reads_begun Rewrite r.reads asks r.only) back)
+
 -- ---- the engine
 
 module _ (read : ReadsAreStored) (version : Version) (asks : List Ask) (append rewrite : QueueFiles) (untold : Batch) (accessor : Accessor) (intact : Bool)
@@ -111,6 +119,7 @@ module _ (read : ReadsAreStored) (version : Version) (asks : List Ask) (append r
       take_away = w.take_away;
       append_files = read_files Append asks new append r w.append_files;
       rewrite_files = read_files Rewrite asks new rewrite r w.rewrite_files;
+      read_back = reads_read_back version asks new accessor r w.read_back;
     };
   }
 
@@ -235,9 +244,9 @@ module _ (read : ReadsAreStored) (version : Version) (asks : List Ask) (append r
 
       module _ (new : List Ask) (is_new : new ≡ ask Rewrite (Put (bytes_for file batch)) ∷ between) (accessor' : Accessor)
           (applied : AreWritten (Rewriting gate rewrite.seq) (placed_at file.id (length its_bytes) batch) accessor accessor') where
-        pub kept_moved : (rewrite' : QueueFiles) (len : ℕ) → len ≡ encoded_length batch.items batch.entry_bytes → rewrite'.closed.items ≡ rewrite.closed.items → rewrite'.seq ≡ rewrite.seq → rewrite'.len ≡ rewrite.len + len
+        pub kept_moved : MovedBatchesAreReadBack → (rewrite' : QueueFiles) (len : ℕ) → len ≡ encoded_length batch.items batch.entry_bytes → rewrite'.closed.items ≡ rewrite.closed.items → rewrite'.seq ≡ rewrite.seq → rewrite'.len ≡ rewrite.len + len
             → IsKeptBy version new append rewrite' untold accessor' true
-        kept_moved rewrite' len is_len closed seq is = record {
+        kept_moved moved_back rewrite' len is_len closed seq is = record {
           base = k.base;
           untold = [];
           tables = accessor'.tables;
@@ -252,6 +261,11 @@ module _ (read : ReadsAreStored) (version : Version) (asks : List Ask) (append r
                 (files_told between (bytes_for file batch) rewrite rewrite' closed seq
                 (is ∙ ap (λ (n : ℕ). rewrite.len + n) (is_len ∙ sym (log_batch_length (signature_in version rewrite.seq) batch.items batch.entry_bytes)))
                 (between_kept.whole is_intact).rewrite_files);
+            read_back = λ none.
+                let back = (between_kept.whole is_intact).read_back (none_before Rewrite version (ask Rewrite (Put (bytes_for file batch)) ∷ []) between (subst (NoneFound Rewrite version) is_new none)) in
+                subst (λ (l : List Ask). IsReadBack version l accessor') (sym is_new)
+                (moved_back version asks between accessor accessor' rewrite.seq its_bytes gate t batch (queue_deeds.written stored_between.now.rewritten) (read_last asks between rewrite.seq its_bytes reads its_last)
+                stored_between.now.rewrite_done.put.whole w m applied back);
           };
         }
 

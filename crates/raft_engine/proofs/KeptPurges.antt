@@ -1,6 +1,5 @@
 -- What an engine keeps once it purges files.
 use Rattle.std.proofs.Common.{◌≡◌, ◌≢◌, inl, inr, ℕ, ◌+◌, ◌-◌, ◌≤◌, Bool, true, false, List, [], ◌∷◌, ◌++◌, length, take, drop, refl, sym, ap, ◌∙◌, subst, arith, append_assoc}
-use Rattle.std.proofs.lemmas.List.{length-map}
 use Rattle.std.specs.List.{AllByRecursion}
 use Rattle.std.specs.Vec.{vec_len}
 use Rattle.raft_base.specs.Signature.{signature_in}
@@ -13,8 +12,9 @@ use Rattle.raft_records.specs.Item.{Item}
 use Rattle.raft_records.specs.LogBatch.{Batch, empty_batch, encoded, encoded_length}
 use Rattle.raft_history.specs.RegionSteps.{Tables}
 use Rattle.raft_accessor.specs.Accessor.{Accessor}
-use Rattle.raft_files.specs.Asks.{Act, Ask, NumberedBytes, Sync, acts_on, ask}
-use Rattle.raft_files.specs.Disk.{begun, deletions, files_of}
+use Rattle.raft_files.specs.Asks.{Ask, Sync, acts_on, ask}
+use Rattle.raft_files.specs.Disk.{begun, deletions}
+use Rattle.raft_engine_fronts.specs.Done.{numbers}
 use Rattle.raft_engine_laws.specs.Telling.{TakeAway}
 use Rattle.raft_engine.specs.BatchBytes.{bytes_for}
 use Rattle.raft_engine.specs.KeptEngine.{IsLastFile, KeptEngine}
@@ -22,12 +22,14 @@ use Rattle.raft_engine.specs.KeptEngineView.{AreFilesOf, IsKeptBy}
 use Rattle.raft_engine.specs.Lasting.{AreSynced}
 use Rattle.raft_engine.specs.Moved.{IsTold, IsUntold}
 use Rattle.raft_engine.specs.Purged.{AreExpired, ArePurged, AreSomeDeleted, IsExpired, IsHalfPurged, IsLeastNeeded, IsUnpurged, asks_of_items, delete_asks, front_below, purge_asks, put_asks}
+use Rattle.raft_engine.specs.ReadBack.{IsReadBackAlone}
 use Rattle.raft_engine.specs.Stored.{AreKeptStored, Bases}
 use Rattle.raft_engine.specs.StoredAsks.{DeletionsAreStored, IsWritableBatch, SyncsAreStored, ToldBatchesAreStored}
 use Rattle.raft_engine.specs.WrittenBatch.{file_of}
 use Rattle.raft_engine.specs.declared.queue_files.QueueFiles.{QueueFiles}
 use Rattle.raft_engine.proofs.FilesLemmas.{files_same, files_told}
-use Rattle.raft_engine.proofs.PurgeLemmas.{all_deleted, are_expired, delete_fewer, delete_others, drop_front, expired_front, files_deleted, take_fewer}
+use Rattle.raft_engine.proofs.ReadBackLemmas.{append_deletes_begun, same_read_back}
+use Rattle.raft_engine.proofs.PurgeLemmas.{all_deleted, append_deletes_others, are_expired, closed_expired, closed_few, delete_fewer, few_expired, files_deleted, take_fewer}
 
 -- a file of the rewrite queue
 abbrev pub rewrite_file : Version → ℕ → LogFileContext
@@ -78,19 +80,19 @@ asked_parts deletes puts asks = sym (
 
 -- the files that are counted are expired
 pub its_expired : (version : Version) (asks : List Ask) (append rewrite : QueueFiles) (untold : Batch) (accessor : Accessor) (intact : Bool)
-    → IsKeptBy version asks append rewrite untold accessor intact → intact ≡ true → (least count : ℕ) (closed : List ℕ) → IsLeastNeeded accessor.tables append.seq least
+    → IsKeptBy version asks append rewrite untold accessor intact → intact ≡ true → (least count : ℕ) (closed : List ℕ) → IsLeastNeeded Append accessor.tables append.seq least
     → closed ≡ append.closed.items → count ≡ front_below least closed
-    → AreExpired (record { version = version; asks = asks; untold = untold; accessor = accessor; intact = intact }) count
+    → AreExpired Append (record { version = version; asks = asks; untold = untold; accessor = accessor; intact = intact }) count
 its_expired version asks append rewrite untold accessor intact k is_intact least count closed l are counted =
     let d = k.stored.now.append_done.done.done in
-    are_expired (record { version = version; asks = asks; untold = untold; accessor = accessor; intact = intact }) append (k.whole is_intact).append_files
+    are_expired Append (record { version = version; asks = asks; untold = untold; accessor = accessor; intact = intact }) append (k.whole is_intact).append_files
     d.first least count d.rising l (counted ∙ ap (front_below least) are)
 
 -- where telling fails, the purge does
-pub untold_unpurged : (count : ℕ) (old new : KeptEngine) (e : Error) → AreExpired old count → count ≢ 0 → IsUntold old new e → IsUnpurged old new e
+pub untold_unpurged : (count : ℕ) (old new : KeptEngine) (e : Error) → AreExpired Append old count → count ≢ 0 → IsUntold old new e → IsUnpurged old new e
 untold_unpurged count old new e expired some (inl h) = inl (h.0, h.1, λ full. (count, expired, omega (arith, some)))
 untold_unpurged count old new e expired some (inr h) =
-    let rest : List Ask = delete_asks count ++ ask Rewrite Sync ∷ [] in
+    let rest : List Ask = delete_asks Append count ++ ask Rewrite Sync ∷ [] in
     let told : List Ask = put_asks (file_of Rewrite old h.seq) old.untold ++ ask Append Sync ∷ [] in
     inr (record {
       count = count;
@@ -106,7 +108,7 @@ untold_unpurged count old new e expired some (inr h) =
           same = half.same;
           missing = rest ++ half.missing;
           made = half.made;
-          split = sym (append_assoc (delete_asks count) (ask Rewrite Sync ∷ []) told) ∙ ap (λ (l : List Ask). rest ++ l) half.split ∙ sym (append_assoc rest half.missing half.made);
+          split = sym (append_assoc (delete_asks Append count) (ask Rewrite Sync ∷ []) told) ∙ ap (λ (l : List Ask). rest ++ l) half.split ∙ sym (append_assoc rest half.missing half.made);
           asked = half.asked;
         };
         tables = h.half.tables;
@@ -115,11 +117,11 @@ untold_unpurged count old new e expired some (inr h) =
 
 -- an engine that was told what was untold
 module _
-    (synced : SyncsAreStored) (deleted : DeletionsAreStored)
+    (synced : SyncsAreStored) (deleted : DeletionsAreStored Append)
     (version : Version) (asks : List Ask) (append rewrite : QueueFiles) (untold : Batch) (accessor : Accessor) (intact : Bool)
     (k : IsKeptBy version asks append rewrite untold accessor intact) (old : KeptEngine) (was : old.intact ≡ true)
     (t : IsTold old (record { version = version; asks = asks; untold = untold; accessor = accessor; intact = intact }))
-    (count : ℕ) (x : AreExpired old count) where
+    (count : ℕ) (x : AreExpired Append old count) where
   abbrev engine : KeptEngine
   engine = record { version = version; asks = asks; untold = untold; accessor = accessor; intact = intact }
 
@@ -156,27 +158,21 @@ module _
   its_files : AreFilesOf Append asks append
   its_files = (k.whole is_intact).append_files
 
-  its_front : (length x.expired ≤ length its_files.closed) × (take (length x.expired) its_files.closed ≡ x.expired)
-  its_front =
-      let f = its_files in
-      let last : NumberedBytes = (append.seq, f.bytes) in
-      let same : files_of Append asks ≡ files_of Append old.asks = ap (λ (acts : List Act). drop (deletions acts) (begun acts)) append_acts in
-      let left : files_of Append asks ≡ f.closed ++ last ∷ [] =
-      ap (λ (n : ℕ). drop n (begun (acts_on Append asks))) f.deleted ∙ ap (drop (length f.gone)) f.are ∙ drop_front f.gone (f.closed ++ last ∷ []) in
-      expired_front old.accessor.tables f.closed last x.expired x.rest (sym left ∙ same ∙ x.split) x.no_more
+  old_files : AreFilesOf Append old.asks append
+  old_files = files_same Append asks old.asks append append (sym (ap begun append_acts)) (sym (ap deletions append_acts)) refl refl refl its_files
 
-  few : count ≤ length its_files.closed
-  few = let low = its_front.0 in let many = x.many in omega (arith, low, many)
+  few : count ≤ length append.closed.items
+  few = few_expired Append old append old_files count x
 
   -- so many files may be deleted
   pub few_closed : count ≤ vec_len append.closed
-  few_closed = let low = few in let long = length-map its_files.closed (λ (f : NumberedBytes). f.0) in let have = ap length its_files.have in let len = append.closed.ok.0 in omega (arith, low, long, have, len)
+  few_closed = let low = few in let len = append.closed.ok.0 in omega (arith, low, len)
 
-  all_expired : AllByRecursion (IsExpired k.tables) (take count its_files.closed)
+  all_expired : AllByRecursion (IsExpired Append k.tables) (take count (numbers its_files.closed))
   all_expired =
-      subst (λ (n : ℕ). AllByRecursion (IsExpired k.tables) (take n its_files.closed)) x.many
-      (subst (AllByRecursion (IsExpired k.tables)) (sym its_front.1)
-      (subst (λ (m : Tables). AllByRecursion (IsExpired m) x.expired) (sym (ap (λ (a : Accessor). a.tables) same_accessor) ∙ (k.whole is_intact).are_tables) x.are))
+      subst (λ (ns : List ℕ). AllByRecursion (IsExpired Append k.tables) (take count ns)) its_files.have
+      (subst (λ (m : Tables). AllByRecursion (IsExpired Append m) (take count append.closed.items)) (sym (ap (λ (a : Accessor). a.tables) same_accessor) ∙ (k.whole is_intact).are_tables)
+      (closed_expired Append old append old_files count x))
 
   stored_one : AreKeptStored version asks k.base [] k.tables
   stored_one = subst (λ (u : List Item). AreKeptStored version asks k.base u k.tables) nothing k.stored
@@ -184,12 +180,12 @@ module _
   stored_two : AreKeptStored version two k.base [] k.tables
   stored_two = synced Rewrite version asks k.base [] k.tables stored_one
 
-  stored_deleted : (made : ℕ) → made ≤ count → AreKeptStored version (delete_asks made ++ two) k.base [] k.tables
+  stored_deleted : (made : ℕ) → made ≤ count → AreKeptStored version (delete_asks Append made ++ two) k.base [] k.tables
   stored_deleted made low =
       let f = its_files in
-      let most = few in
-      all_deleted deleted version k.base k.tables made two f.gone f.closed (append.seq, f.bytes) append_synced tt f.are f.deleted
-      (take_fewer (IsExpired k.tables) made count f.closed low all_expired) (omega (arith, low, most)) stored_two
+      let fits = closed_few count append f.closed f.have few in
+      all_deleted Append deleted version k.base k.tables made two f.gone f.closed (append.seq, f.bytes) append_synced tt f.are f.deleted
+      (take_fewer (IsExpired Append k.tables) made count (numbers f.closed) low all_expired) (omega (arith, low, fits)) stored_two
 
   -- ---- where it fails
 
@@ -214,39 +210,37 @@ module _
 
   pub sync_half : (new : List Ask) → count ≢ 0 → new ≡ asks → IsHalfPurged old (record engine { asks = new; intact = false })
   sync_half new some e =
-      half_by new (delete_asks count ++ ask Rewrite Sync ∷ []) (told ++ ask Append Sync ∷ []) some (sym (append_assoc (delete_asks count) (ask Rewrite Sync ∷ []) (told ++ ask Append Sync ∷ [])))
+      half_by new (delete_asks Append count ++ ask Rewrite Sync ∷ []) (told ++ ask Append Sync ∷ []) some (sym (append_assoc (delete_asks Append count) (ask Rewrite Sync ∷ []) (told ++ ask Append Sync ∷ [])))
       (e ∙ are_asks ∙ sym (append_assoc told (ask Append Sync ∷ []) old.asks))
 
   module _ (second : List Ask) (is_second : second ≡ two) where
     -- some files were deleted
-    pub some_broken : (new : List Ask) (append' rewrite' : QueueFiles) (untold' : Batch) (accessor' : Accessor) → AreSomeDeleted count second new → IsKeptBy version new append' rewrite' untold' accessor' false
+    pub some_broken : (new : List Ask) (append' rewrite' : QueueFiles) (untold' : Batch) (accessor' : Accessor) → AreSomeDeleted Append count second new → IsKeptBy version new append' rewrite' untold' accessor' false
     some_broken new append' rewrite' untold' accessor' d =
         broken new append' rewrite' untold' accessor'
-        (subst (λ (l : List Ask). AreKeptStored version l k.base [] k.tables) (sym (d.asked ∙ ap (λ (l : List Ask). delete_asks d.made ++ l) is_second)) (stored_deleted d.made d.at_most))
+        (subst (λ (l : List Ask). AreKeptStored version l k.base [] k.tables) (sym (d.asked ∙ ap (λ (l : List Ask). delete_asks Append d.made ++ l) is_second)) (stored_deleted d.made d.at_most))
 
-    pub some_half : (new : List Ask) → count ≢ 0 → AreSomeDeleted count second new → IsHalfPurged old (record engine { asks = new; intact = false })
+    pub some_half : (new : List Ask) → count ≢ 0 → AreSomeDeleted Append count second new → IsHalfPurged old (record engine { asks = new; intact = false })
     some_half new some d =
         let rest : List Ask = ask Rewrite Sync ∷ (told ++ ask Append Sync ∷ []) in
-        half_by new (delete_asks (count - d.made)) (delete_asks d.made ++ rest) some
-        (ap (λ (l : List Ask). l ++ rest) (delete_fewer d.made count d.at_most) ∙ append_assoc (delete_asks (count - d.made)) (delete_asks d.made) rest)
-        (d.asked ∙ ap (λ (l : List Ask). delete_asks d.made ++ l) is_second ∙ ap (λ (l : List Ask). delete_asks d.made ++ (ask Rewrite Sync ∷ l)) are_asks ∙ asked_parts (delete_asks d.made) told old.asks)
+        half_by new (delete_asks Append (count - d.made)) (delete_asks Append d.made ++ rest) some
+        (ap (λ (l : List Ask). l ++ rest) (delete_fewer Append d.made count d.at_most) ∙ append_assoc (delete_asks Append (count - d.made)) (delete_asks Append d.made) rest)
+        (d.asked ∙ ap (λ (l : List Ask). delete_asks Append d.made ++ l) is_second ∙ ap (λ (l : List Ask). delete_asks Append d.made ++ (ask Rewrite Sync ∷ l)) are_asks ∙ asked_parts (delete_asks Append d.made) told old.asks)
 
     -- ---- where it succeeds
 
-    module _ (new : List Ask) (is_new : new ≡ delete_asks count ++ second) where
-      are_new : new ≡ delete_asks count ++ two
-      are_new = is_new ∙ ap (λ (l : List Ask). delete_asks count ++ l) is_second
+    module _ (new : List Ask) (is_new : new ≡ delete_asks Append count ++ second) where
+      are_new : new ≡ delete_asks Append count ++ two
+      are_new = is_new ∙ ap (λ (l : List Ask). delete_asks Append count ++ l) is_second
 
       pub kept_purged : (append' : QueueFiles) → append'.closed.items ≡ drop count append.closed.items → append'.seq ≡ append.seq → append'.len ≡ append.len
           → IsKeptBy version new append' rewrite untold accessor true
       kept_purged append' closed seq len =
           let w = k.whole is_intact in
-          let many = few_closed in
-          let long = append.closed.ok.0 in
           let before = files_same Append asks two append append refl refl refl refl refl its_files in
-          let after = files_deleted count two append append' before (omega (arith, many, long)) closed seq len in
+          let after = files_deleted Append count two append append' before few closed seq len in
           let synced_files = files_same Rewrite asks two rewrite rewrite refl refl refl refl refl w.rewrite_files in
-          let others = files_same Rewrite two (delete_asks count ++ two) rewrite rewrite (ap begun (delete_others count two)) (ap deletions (delete_others count two)) refl refl refl synced_files in record {
+          let others = files_same Rewrite two (delete_asks Append count ++ two) rewrite rewrite (ap begun (append_deletes_others count two)) (ap deletions (append_deletes_others count two)) refl refl refl synced_files in record {
             base = k.base;
             untold = [];
             tables = k.tables;
@@ -257,6 +251,9 @@ module _
               take_away = tt;
               append_files = subst (λ (m : List Ask). AreFilesOf Append m append') (sym are_new) after;
               rewrite_files = subst (λ (m : List Ask). AreFilesOf Rewrite m rewrite) (sym are_new) others;
+              read_back = subst (λ (m : List Ask). IsReadBackAlone version m accessor) (sym are_new)
+                  (same_read_back version two (delete_asks Append count) accessor (append_deletes_begun count two) (ap begun (append_deletes_others count two))
+                  (same_read_back version asks (ask Rewrite Sync ∷ []) accessor refl refl w.read_back));
             };
           }
 
@@ -269,7 +266,7 @@ module _
           bytes = t.bytes;
           last = t.last;
           purged = ap (λ (m : List Ask). record engine { asks = m; intact = true })
-              (are_new ∙ ap (λ (l : List Ask). delete_asks count ++ (ask Rewrite Sync ∷ l)) are_asks ∙ asked_parts (delete_asks count) told old.asks)
+              (are_new ∙ ap (λ (l : List Ask). delete_asks Append count ++ (ask Rewrite Sync ∷ l)) are_asks ∙ asked_parts (delete_asks Append count) told old.asks)
               ∙ ap (λ (o : KeptEngine). record o { asks = purge_asks (file_of Rewrite old t.seq) old.untold count ++ old.asks; intact = true }) t.told
               ∙ ap (λ (i : Bool). record old { asks = purge_asks (file_of Rewrite old t.seq) old.untold count ++ old.asks; untold = empty_batch; intact = i }) (sym was);
         }),

@@ -17,6 +17,8 @@ use Rattle.raft_engine.specs.Stored.{AreKeptStored}
 use Rattle.raft_engine.specs.StoredAsks.{IsWritableBatch, SyncsAreStored, ToldBatchesAreStored}
 use Rattle.raft_engine.specs.declared.queue_files.QueueFiles.{QueueFiles}
 use Rattle.raft_engine.proofs.FilesLemmas.{files_last, files_same}
+use Rattle.raft_engine.specs.ReadBack.{IsReadBackAlone}
+use Rattle.raft_engine.proofs.ReadBackLemmas.{same_read_back, told_read_back}
 use Rattle.raft_engine.proofs.KeptPurges.{items_made, items_others, rewrite_file, told_files, told_stored}
 
 module _
@@ -102,6 +104,9 @@ module _
               (files_same Append asks two append append (ap begun (items_others version rewrite.seq untold untold.items one)) (ap deletions (items_others version rewrite.seq untold untold.items one)) refl refl refl w.append_files);
           rewrite_files = subst (λ (l : List Ask). AreFilesOf Rewrite l rewrite') (sym are_two)
               (told_files version one untold rewrite rewrite' len is_len closed seq is (files_same Rewrite asks one rewrite rewrite refl refl refl refl refl w.rewrite_files));
+          read_back = subst (λ (l : List Ask). IsReadBackAlone version l accessor) (sym are_two)
+              (told_read_back version one rewrite.seq _ untold accessor (record { closed = its_last.closed; files = its_last.files }) writable
+              (same_read_back version asks (ask Append Sync ∷ []) accessor refl refl w.read_back));
         };
       }
 

@@ -7,7 +7,6 @@ use Rattle.raft_history.specs.Batches.{Event}
 use Rattle.raft_files.specs.Asks as asks
 use Rattle.raft_files.specs.Asks.{Act, Ask, Begin, Cut, Found, NumberedBytes, Put, Read, Sync, acts_on}
 use Rattle.raft_files.specs.Disk.{begun, IsLeftOf}
-use Rattle.raft_engine_laws.specs.Groups.{HasNoMarker}
 use Rattle.raft_engine_laws.specs.Stops as queue_deeds
 use Rattle.raft_engine_laws.specs.Stops.{Deed, Write, Delete, Stop, in_files_from, written, MayStand}
 use Rattle.raft_engine_fronts.specs.Fronts.{ArePut, IsFrontWith}
@@ -20,7 +19,8 @@ use Rattle.raft_engine.specs.CutFiles.{AreCut}
 use Rattle.raft_engine.specs.Lasting.{AreSynced, before_sync}
 use Rattle.raft_engine.specs.StoredAsks.{WhatIsDoneLasts}
 use Rattle.raft_engine.proofs.LeftBytes.{left_tells}
-use Rattle.raft_engine.proofs.PlainLeft.{all_left}
+use Rattle.raft_engine_laws.proofs.InRows.{rows_left}
+use Rattle.raft_engine.proofs.OfVersionLemmas.{left_not_other}
 use Rattle.raft_engine.proofs.WholeLemmas.{whole_of}
 
 -- the synced batches come first
@@ -54,7 +54,7 @@ stands_with_synced (Delete n ∷ earlier) h s = stands_with_synced earlier h s
 stands_with_synced (Stop standing n ∷ earlier) h s = record { more = []; lost = []; least = s ∙ sym (append-nil standing); split = sym s ∙ sym (append-nil h) }
 
 -- the synced batches are those that the files held at the last sync
-held_at_sync : (queue : LogQueue) (version : Version) (acts : List Act) (synced h : List Event) → ArePut queue version acts synced h → FilesHoldTorn queue version (begun (before_sync acts)) synced
+pub held_at_sync : (queue : LogQueue) (version : Version) (acts : List Act) (synced h : List Event) → ArePut queue version acts synced h → FilesHoldTorn queue version (begun (before_sync acts)) synced
 held_at_sync queue version [] synced h p = p.0
 held_at_sync queue version (Put bytes ∷ earlier) synced h p = held_at_sync queue version earlier synced p.old p.before
 held_at_sync queue version (Begin seq ∷ earlier) synced h p =
@@ -81,7 +81,7 @@ pub done_lasts : ((queue : LogQueue) (version : Version) (asked : List Ask) (dee
     → ((queue : LogQueue) (version : Version) (acts : List Act) (synced h : List Event)
     → ArePut queue version acts synced h → FilesHoldTorn queue version (begun acts) h)
     → WhatIsDoneLasts
-done_lasts left all content version base asked appended rewritten append_done rewrite_done put plain lose = (
+done_lasts left all content version base asked appended rewritten append_done rewrite_done put not_other rows lose = (
   record {
     batches = written appended;
     synced = queue_deeds.synced appended;
@@ -103,11 +103,12 @@ done_lasts left all content version base asked appended rewritten append_done re
             append_sound = ok.0;
             rewrite_sound = ok.1;
             apart = ok.2;
-            plain = all_left HasNoMarker rewritten r.standing r.left r.is_left plain;
+            rows = rows_left rewritten r.standing r.left rows r.is_left;
             found = λ tables cleaned reading. lose.found a.standing a.left r.standing r.left a.is_left r.is_left tables cleaned reading;
           },
         );
     told = told_of;
+    of_version = λ queue files l. left_not_other queue version asked files (not_other queue) l;
     whole =
         let a = whole_of Append version asked appended append_done in
         let r = whole_of Rewrite version asked rewritten rewrite_done in
@@ -122,7 +123,7 @@ done_lasts left all content version base asked appended rewritten append_done re
           append_sound = ok.0;
           rewrite_sound = ok.1;
           apart = ok.2;
-          plain = all_left HasNoMarker rewritten (written rewritten) r.left r.is_left plain;
+          rows = rows_left rewritten (written rewritten) r.left rows r.is_left;
           found = λ tables cleaned reading. lose.found (written appended) a.left (written rewritten) r.left a.is_left r.is_left tables cleaned reading;
         };
     all = λ s. all_synced Append version (acts_on Append asked) (queue_deeds.synced appended) (written appended) put s;

@@ -1,4 +1,3 @@
-mod WholeGroups
 mod RefusedLemmas
 mod FoundLemmas
 mod ReadyLemmas
@@ -6,7 +5,8 @@ mod AskedLemmas
 mod OfVersionLemmas
 mod ToldLemmas
 mod OpeningLemmas
-mod PlainLemmas
+mod MarkerLemmas
+mod RowLemmas
 mod RecoveredLemmas
 mod FoundDoneLemmas
 mod FoundStoredLemmas
@@ -16,8 +16,11 @@ mod LastingLemmas
 mod WholeLemmas
 mod FrontFiles
 mod LeftBytes
-mod PlainLeft
+mod UnreadLemmas
+mod OpensLemmas
 mod RestartLemmas
+mod SyncedLemmas
+mod FoundContents
 mod BeforeLemmas
 mod DoneLemmas
 mod UntoldLemmas
@@ -36,12 +39,13 @@ mod MovingPuts
 mod LowPairs
 mod MovesAgain
 mod MovedLemmas
+mod GroupPuts
+mod GroupMoves
 mod TakenMoves
 mod KeptMoves
 mod KeptTells
 mod ExpiredRewrites
 mod DeletedRewrites
-mod NeededRewrites
 mod KeptRewritePurges
 mod RewrittenRegions
 mod UnmovedLemmas
@@ -51,3 +55,7 @@ mod BlockReadLemmas
 mod ToldReads
 mod ReadKept
 mod RotatedRewrites
+mod ReadBackLemmas
+mod AloneLemmas
+mod RoundTripLemmas
+pub mod OverLemmas

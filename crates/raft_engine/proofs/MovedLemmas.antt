@@ -45,7 +45,8 @@ use Rattle.raft_engine.proofs.DoneLemmas.{deeds_synced}
 use Rattle.raft_engine.proofs.LowPairs.{safe_low}
 use Rattle.raft_engine.proofs.MovesAgain.{again_batch_taken, move_again}
 use Rattle.raft_engine.proofs.MovingPuts.{batch_taken, contents_told, is_moving, placed_moving}
-use Rattle.raft_engine.proofs.PlainLemmas.{all-more}
+use Rattle.raft_engine_laws.proofs.InRows.{rows_alone}
+use Rattle.raft_engine.proofs.OfVersionLemmas.{stays}
 use Rattle.raft_engine.proofs.StoredLemmas.{goes_on}
 
 -- ---- no marker
@@ -53,7 +54,7 @@ use Rattle.raft_engine.proofs.StoredLemmas.{goes_on}
 abbrev Unmarked : List Item → Type 0
 Unmarked items = AllByRecursion (λ (item : Item). marker_byte item.content ≡ None) items
 
-put_unmarked : (key value : List ℕ) → is_reserved key ≡ false → marker_byte_in operations.Put key (Some value) ≡ None
+pub put_unmarked : (key value : List ℕ) → is_reserved key ≡ false → marker_byte_in operations.Put key (Some value) ≡ None
 put_unmarked key [] h = refl
 put_unmarked key (byte ∷ []) h = ap (λ b. cond b (Some byte) None) h
 put_unmarked key (byte ∷ more ∷ bytes) h = refl
@@ -96,28 +97,30 @@ module _
       → ReadsAreStored
   read_stored done Append place bytes version asked base untold tables k =
       let s = k.now in
-      goes_on lasts lose keep version (ask Append (Read place bytes)) asked base untold tables tt k.ever (record {
+      goes_on lasts lose keep version (ask Append (Read place bytes)) asked base untold tables tt k.first k.ever (record {
         appended = s.appended;
         rewritten = s.rewritten;
         append_done = record {
           done = done Append version (acts_on Append asked) s.appended place bytes s.append_done.done;
           put = record { put = s.append_done.put.put; whole = s.append_done.put.whole };
+          of_version = (stays Append version (acts_on Append asked)).read place bytes s.append_done.of_version;
         };
         rewrite_done = s.rewrite_done;
-        plain = s.plain;
+        rows = s.rows;
         safe = λ content told. s.safe content (keep asked (ask Append (Read place bytes)) content tt told);
       })
   read_stored done Rewrite place bytes version asked base untold tables k =
       let s = k.now in
-      goes_on lasts lose keep version (ask Rewrite (Read place bytes)) asked base untold tables tt k.ever (record {
+      goes_on lasts lose keep version (ask Rewrite (Read place bytes)) asked base untold tables tt k.first k.ever (record {
         appended = s.appended;
         rewritten = s.rewritten;
         append_done = s.append_done;
         rewrite_done = record {
           done = done Rewrite version (acts_on Rewrite asked) s.rewritten place bytes s.rewrite_done.done;
           put = record { put = s.rewrite_done.put.put; whole = s.rewrite_done.put.whole };
+          of_version = (stays Rewrite version (acts_on Rewrite asked)).read place bytes s.rewrite_done.of_version;
         };
-        plain = s.plain;
+        rows = s.rows;
         safe = λ content told. s.safe content (keep asked (ask Rewrite (Read place bytes)) content tt told);
       })
 
@@ -179,13 +182,13 @@ module _
     -- what is stored as these tables, if it is safe
     stored_as : (new : Tables) → ((content : EntryIndex → List ℕ) → AreBothTold (a ∷ asked) content → IsSafe content (base content) s.appended (Write e ∷ s.rewritten) [] new)
         → AreKeptStored version (a ∷ asked) base [] new
-    stored_as new safe = goes_on lasts lose keep version a asked base [] new tt k.ever (record {
+    stored_as new safe = goes_on lasts lose keep version a asked base [] new tt k.first k.ever (record {
       appended = s.appended;
       rewritten = Write e ∷ s.rewritten;
       append_done = s.append_done;
       rewrite_done = put Rewrite version (acts_on Rewrite asked) s.rewritten last.closed (seq, bytes) handle batch w refl refl last.files s.rewrite_done;
       safe = safe;
-      plain = all-more HasNoMarker (written s.rewritten) e s.plain plain;
+      rows = rows_alone (written s.rewritten) e plain s.rows;
     })
 
     safe_so : (gate : Option ℕ) → IsBatchMoving gate t old asked batch → (new : Tables) → after_items (Rewriting gate seq) tables items ≡ Some new

@@ -38,7 +38,7 @@ puts_steps : (id : ℕ) (file : FileId) (p : List ℕ × List ℕ) (ps : List (L
 puts_steps id file p ps h = ap (λ b. with_step id (cond b None (pair_step operations.Put p.0 (Some p.1) (Some file))) (steps_of_items (put_items id file ps))) h.0
 
 -- keys put have none
-puts_none : (r id : ℕ) (file : FileId) (ps : List (List ℕ × List ℕ)) → AreOrdinary ps → entries_on r (put_items id file ps) ≡ []
+pub puts_none : (r id : ℕ) (file : FileId) (ps : List (List ℕ × List ℕ)) → AreOrdinary ps → entries_on r (put_items id file ps) ≡ []
 puts_none r id file [] h = ap (λ (l : List Step). flat_map run_of l) (own_none r)
 puts_none r id file (p ∷ ps) h =
     ap (λ (l : List RegionStep). flat_map run_of (steps_on r l)) (puts_steps id file p ps h) ∙ one (steps_of_items (put_items id file ps)) ∙ puts_none r id file ps h.1
@@ -79,7 +79,7 @@ module _ (tables : Tables) (id : ℕ) (t : Table) (found : finite.get tables id 
   abbrev Moves : Item → Type 0
   Moves item = MovesAgain file (table_of item.raft_group_id (finite.get tables item.raft_group_id)).keys item.content
 
-  puts_again : (ps : List (List ℕ × List ℕ)) → AllByRecursion (IsRewrittenPair t.keys) ps → AllByRecursion Moves (put_items id file ps)
+  pub puts_again : (ps : List (List ℕ × List ℕ)) → AllByRecursion (IsRewrittenPair t.keys) ps → AllByRecursion Moves (put_items id file ps)
   puts_again [] all = tt
   puts_again (p ∷ ps) all =
       let f : IsRewrittenPair t.keys p = all.0 in (

@@ -49,7 +49,7 @@ are_copies content place s (e ∷ es) (bytes ∷ strings) q h k = (
 )
 are_copies content place s (e ∷ es) [] q h k = absurd h
 
-placed_puts : (place : FileBlockHandle) (id : ℕ) (ps : List (List ℕ × List ℕ)) → map (placed_item place compressions.None) (puts_of id ps) ≡ put_items id place.id ps
+pub placed_puts : (place : FileBlockHandle) (id : ℕ) (ps : List (List ℕ × List ℕ)) → map (placed_item place compressions.None) (puts_of id ps) ≡ put_items id place.id ps
 placed_puts place id [] = refl
 placed_puts place id (p ∷ ps) = ap (λ l. put_item id place.id p ∷ l) (placed_puts place id ps)
 

@@ -12,7 +12,8 @@ use Rattle.std.specs.FinMap as finite
 use Rattle.std.specs.FinMap.Entries.{find, below_all, is_sorted}
 use Rattle.std.specs.List.{AllByRecursion}
 use Rattle.std.specs.Ordering.{nat_cmp, eq_by_cmp, is_eq, is_lt}
-use Rattle.raft_base.specs.declared.pipe_log.LogQueue.TheVariants.{Append}
+use Rattle.raft_base.specs.declared.pipe_log.LogQueue.{LogQueue}
+use Rattle.raft_base.specs.declared.pipe_log.LogQueue.TheVariants.{Append, Rewrite}
 use Rattle.raft_table.proofs.Shown.{first_of_both, second_of_both}
 use Rattle.raft_table.specs.KeyValues.{Stored}
 use Rattle.raft_table.specs.Least.{least_of}
@@ -25,33 +26,34 @@ use Rattle.raft_engine.specs.Purged.{IsLeastNeeded, least_among, lowered}
 
 -- ---- the least among tables
 
--- a table's least file is at a number or above it
-abbrev NeedsFrom : ℕ → Table → Type 0
-NeedsFrom n t = (seq : ℕ) → least_of Append t ≡ Some seq → n ≤ seq
+-- a table's least file of the queue is at a number or above it
+abbrev NeedsFrom : LogQueue → ℕ → Table → Type 0
+NeedsFrom queue n t = (seq : ℕ) → least_of queue t ≡ Some seq → n ≤ seq
 
-pub lowered_low : (n : ℕ) (o : Option ℕ) → lowered n o ≤ n
+lowered_low : (n : ℕ) (o : Option ℕ) → lowered n o ≤ n
 lowered_low n None = omega arith
 lowered_low n (Some seq) = omega arith
 
-pub lowered_at : (n seq : ℕ) (o : Option ℕ) → o ≡ Some seq → lowered n o ≤ seq
+lowered_at : (n seq : ℕ) (o : Option ℕ) → o ≡ Some seq → lowered n o ≤ seq
 lowered_at n seq None e = absurd cc
 lowered_at n seq (Some m) e = let same : m ≡ seq = cc in omega (arith, same)
 
-pub lowered_high : (m n : ℕ) (o : Option ℕ) → m ≤ n → ((seq : ℕ) → o ≡ Some seq → m ≤ seq) → m ≤ lowered n o
+lowered_high : (m n : ℕ) (o : Option ℕ) → m ≤ n → ((seq : ℕ) → o ≡ Some seq → m ≤ seq) → m ≤ lowered n o
 lowered_high m n None low all = low
 lowered_high m n (Some seq) low all = let less = all seq refl in omega (arith, low, less)
 
-pub least_low : (n : ℕ) (ts : List Table) → least_among n ts ≤ n
-least_low n [] = omega arith
-least_low n (t ∷ ts) = let a = least_low (lowered n (least_of Append t)) ts in let b = lowered_low n (least_of Append t) in omega (arith, a, b)
+least_low : (queue : LogQueue) (n : ℕ) (ts : List Table) → least_among queue n ts ≤ n
+least_low queue n [] = omega arith
+least_low queue n (t ∷ ts) = let a = least_low queue (lowered n (least_of queue t)) ts in let b = lowered_low n (least_of queue t) in omega (arith, a, b)
 
-least_each : (n : ℕ) (ts : List Table) → AllByRecursion (NeedsFrom (least_among n ts)) ts
-least_each n [] = tt
-least_each n (t ∷ ts) = ((λ seq e. let a = least_low (lowered n (least_of Append t)) ts in let b = lowered_at n seq (least_of Append t) e in omega (arith, a, b)), least_each (lowered n (least_of Append t)) ts)
+least_each : (queue : LogQueue) (n : ℕ) (ts : List Table) → AllByRecursion (NeedsFrom queue (least_among queue n ts)) ts
+least_each queue n [] = tt
+least_each queue n (t ∷ ts) =
+    ((λ seq e. let a = least_low queue (lowered n (least_of queue t)) ts in let b = lowered_at n seq (least_of queue t) e in omega (arith, a, b)), least_each queue (lowered n (least_of queue t)) ts)
 
-least_high : (m n : ℕ) (ts : List Table) → m ≤ n → AllByRecursion (NeedsFrom m) ts → m ≤ least_among n ts
-least_high m n [] low all = low
-least_high m n (t ∷ ts) low all = least_high m (lowered n (least_of Append t)) ts (lowered_high m n (least_of Append t) low all.0) all.1
+least_high : (queue : LogQueue) (m n : ℕ) (ts : List Table) → m ≤ n → AllByRecursion (NeedsFrom queue m) ts → m ≤ least_among queue n ts
+least_high queue m n [] low all = low
+least_high queue m n (t ∷ ts) low all = least_high queue m (lowered n (least_of queue t)) ts (lowered_high m n (least_of queue t) low all.0) all.1
 
 -- ---- the tables of all regions
 
@@ -59,7 +61,7 @@ tied : (a b : ℕ) → eq_by_cmp nat_cmp a b ≡ eqb a b
 tied a b = unsigned_tied a b
 
 -- each table is found under its region
-pub each_found : {X : Type 0} (es : List (ℕ × X)) → T (is_sorted nat_cmp es) → AllByRecursion (λ e. find nat_cmp e.0 es ≡ Some e.1) es
+each_found : {X : Type 0} (es : List (ℕ × X)) → T (is_sorted nat_cmp es) → AllByRecursion (λ e. find nat_cmp e.0 es ≡ Some e.1) es
 each_found [] h = tt
 each_found {X} (e ∷ es) h = (rw (tied e.0 e.0, eq-eqb e.0 e.0 refl) refl, later es (first_of_both _ _ h) (each_found es (second_of_both _ _ h)))
   where
@@ -79,7 +81,7 @@ some_is : {X : Type 0} (a b : X) → Some a ≡ Some b → a ≡ b
 some_is a b e = cc
 
 -- what each table has, the table of a region has
-pub found_in : (P : Table → Type 0) (es : List (ℕ × Table)) (r : ℕ) (t : Table) → AllByRecursion P (map (λ e. e.1) es) → find nat_cmp r es ≡ Some t → P t
+found_in : (P : Table → Type 0) (es : List (ℕ × Table)) (r : ℕ) (t : Table) → AllByRecursion P (map (λ e. e.1) es) → find nat_cmp r es ≡ Some t → P t
 found_in P [] r t h e = absurd cc
 found_in P (x ∷ es) r t h e =
     elim (is_eq (nat_cmp r x.0)) as (λ b. cond b (Some x.1) (find nat_cmp r es) ≡ Some t → P t) [
@@ -87,43 +89,45 @@ found_in P (x ∷ es) r t h e =
       | false ↦ λ e. found_in P es r t h.1 e
     ] e
 
-pub none_left : {X : Type 0} (l : List X) → length l ≡ 0 → l ≡ []
+none_left : {X : Type 0} (l : List X) → length l ≡ 0 → l ≡ []
 none_left [] e = refl
 none_left (x ∷ l) e = absurd (omega (arith, e))
 
+no_keys : finite.entries {K = List ℕ} {X = Stored} {R = slice_cmp nat_cmp} finite.empty ≡ []
+no_keys = none_left _ (sym (finite.len-entries {K = List ℕ} {X = Stored} {R = slice_cmp nat_cmp} finite.empty) ∙ finite.len-empty (slice_cmp nat_cmp) Stored)
+
 -- an empty table needs no file
-none_needed : (region : ℕ) → least_of Append (table_of region None) ≡ None
+none_needed : (queue : LogQueue) (region : ℕ) → least_of queue (table_of region None) ≡ None
 unfolding placed_in
-none_needed region =
-    let empty : finite.entries {K = List ℕ} {X = Stored} {R = slice_cmp nat_cmp} finite.empty ≡ [] =
-    none_left _ (sym (finite.len-entries {K = List ℕ} {X = Stored} {R = slice_cmp nat_cmp} finite.empty) ∙ finite.len-empty (slice_cmp nat_cmp) Stored) in
-    rw (empty) refl
+none_needed Append region = rw (no_keys) refl
+none_needed Rewrite region = rw (no_keys) refl
 
-from_values : (n : ℕ) (m : Tables) → AllByRecursion (NeedsFrom n) (finite.values m) → AreLeastFrom Append n m
-from_values n m all r seq e = go (finite.get m r) refl e
-  where
-    go : (o : Option Table) → finite.get m r ≡ o → least_of Append (table_of r o) ≡ Some seq → n ≤ seq
-    go None is e = let none = none_needed r in absurd cc
-    go (Some t) is e = found_in (NeedsFrom n) (finite.entries m) r t all (sym (finite.get-entries m r) ∙ is) seq e
+module _ (queue : LogQueue) where
+  from_values : (n : ℕ) (m : Tables) → AllByRecursion (NeedsFrom queue n) (finite.values m) → AreLeastFrom queue n m
+  from_values n m all r seq e = go (finite.get m r) refl e
+    where
+      go : (o : Option Table) → finite.get m r ≡ o → least_of queue (table_of r o) ≡ Some seq → n ≤ seq
+      go None is e = let none = none_needed queue r in absurd cc
+      go (Some t) is e = found_in (NeedsFrom queue n) (finite.entries m) r t all (sym (finite.get-entries m r) ∙ is) seq e
 
-each_value : (n : ℕ) (m : Tables) (es : List (ℕ × Table)) → AreLeastFrom Append n m → AllByRecursion (λ e. find nat_cmp e.0 (finite.entries m) ≡ Some e.1) es → AllByRecursion (NeedsFrom n) (map (λ e. e.1) es)
-each_value n m [] all f = tt
-each_value n m (e ∷ es) all f =
-    let got : finite.get m e.0 ≡ Some e.1 = finite.get-entries m e.0 ∙ f.0 in
-    ((λ seq is. all e.0 seq (ap (λ o. least_of Append (table_of e.0 o)) got ∙ is)), each_value n m es all f.1)
+  each_value : (n : ℕ) (m : Tables) (es : List (ℕ × Table)) → AreLeastFrom queue n m → AllByRecursion (λ e. find nat_cmp e.0 (finite.entries m) ≡ Some e.1) es → AllByRecursion (NeedsFrom queue n) (map (λ e. e.1) es)
+  each_value n m [] all f = tt
+  each_value n m (e ∷ es) all f =
+      let got : finite.get m e.0 ≡ Some e.1 = finite.get-entries m e.0 ∙ f.0 in
+      ((λ seq is. all e.0 seq (ap (λ o. least_of queue (table_of e.0 o)) got ∙ is)), each_value n m es all f.1)
 
-to_values : (n : ℕ) (m : Tables) → AreLeastFrom Append n m → AllByRecursion (NeedsFrom n) (finite.values m)
-to_values n m all = each_value n m (finite.entries m) all (each_found (finite.entries m) (finite.entries_sorted m))
+  to_values : (n : ℕ) (m : Tables) → AreLeastFrom queue n m → AllByRecursion (NeedsFrom queue n) (finite.values m)
+  to_values n m all = each_value n m (finite.entries m) all (each_found (finite.entries m) (finite.entries_sorted m))
 
-moved : (n : ℕ) (ts us : List Table) → IsPermutation ts us → AllByRecursion (NeedsFrom n) ts → AllByRecursion (NeedsFrom n) us
-moved n ts us p all = recursion_from_All (NeedsFrom n) us (All-permutation (NeedsFrom n) ts us p (All-from_recursion (NeedsFrom n) ts all))
+  moved : (n : ℕ) (ts us : List Table) → IsPermutation ts us → AllByRecursion (NeedsFrom queue n) ts → AllByRecursion (NeedsFrom queue n) us
+  moved n ts us p all = recursion_from_All (NeedsFrom queue n) us (All-permutation (NeedsFrom queue n) ts us p (All-from_recursion (NeedsFrom queue n) ts all))
 
-pub least_needed : (m : Tables) (last : ℕ) (ts : List Table) → IsPermutation ts (finite.values m) → IsLeastNeeded m last (least_among last ts)
-least_needed m last ts p = record {
-  at_most = least_low last ts;
-  from = from_values (least_among last ts) m (moved (least_among last ts) ts (finite.values m) p (least_each last ts));
-  needed = λ less all.
-      let n = least_among last ts + 1 in
-      let high = least_high n last ts (omega (arith, less)) (moved n (finite.values m) ts (IsPermutation-sym ts (finite.values m) p) (to_values n m all)) in
-      absurd (omega (arith, high));
-}
+  pub least_needed : (m : Tables) (last : ℕ) (ts : List Table) → IsPermutation ts (finite.values m) → IsLeastNeeded queue m last (least_among queue last ts)
+  least_needed m last ts p = record {
+    at_most = least_low queue last ts;
+    from = from_values (least_among queue last ts) m (moved (least_among queue last ts) ts (finite.values m) p (least_each queue last ts));
+    needed = λ less all.
+        let n = least_among queue last ts + 1 in
+        let high = least_high queue n last ts (omega (arith, less)) (moved n (finite.values m) ts (IsPermutation-sym ts (finite.values m) p) (to_values n m all)) in
+        absurd (omega (arith, high));
+  }

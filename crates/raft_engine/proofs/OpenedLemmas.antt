@@ -6,6 +6,7 @@ use Rattle.raft_base.specs.declared.pipe_log.Version.{Version}
 use Rattle.raft_records.specs.Item.{Item}
 use Rattle.raft_records.specs.LogBatch.{Batch, empty_batch, encoded, encoded_length}
 use Rattle.raft_records.proofs.FrameLemmas.{log_batch_length}
+use Rattle.raft_history.specs.Batches.{Event}
 use Rattle.raft_accessor.specs.Accessor.{Accessor}
 use Rattle.raft_files.specs.Asks.{Ask, NumberedBytes, Put, Sync, acts_on, ask}
 use Rattle.raft_files.specs.Disk.{begun}
@@ -14,14 +15,15 @@ use Rattle.raft_engine.specs.BatchBytes.{bytes_for}
 use Rattle.raft_engine.specs.FoundRecords.{FoundRecordsLast, HaveEverRecords}
 use Rattle.raft_engine.specs.KeptEngineView.{AreFilesOf, IsKeptBy}
 use Rattle.raft_engine.specs.Opened.{AreOpened}
-use Rattle.raft_engine.specs.OpeningAsks.{AreAskedInPart, asks_that_tell, missing_asks, opening_asks}
+use Rattle.raft_engine.specs.OpeningAsks.{AreAskedInPart, AreWanted, asks_that_tell, missing_asks, opening_asks}
 use Rattle.raft_engine.specs.ReadFound.{AreReadFound, reading_asks}
 use Rattle.raft_engine.specs.Stored.{Bases}
-use Rattle.raft_engine.specs.StoredFound.{AreMadeReady, AreReady, FoundFilesAreReady, FoundFilesAreStored, found_asks, told_asks}
+use Rattle.raft_engine.specs.StoredFound.{AreMadeReady, AreReady, AreStoredAlone, FoundFilesAreReady, FoundFilesAreStored, found_asks, told_asks}
 use Rattle.raft_engine.specs.Unopened.{IsHalfOpened}
 use Rattle.raft_engine.specs.declared.queue_files.QueueFiles.{QueueFiles}
 use Rattle.raft_engine.specs.declared.reading.Reading.{Reading}
 use Rattle.raft_engine.proofs.FilesLemmas.{files_same, files_told}
+use Rattle.raft_engine.proofs.AloneLemmas.{opened_read_back}
 use Rattle.raft_engine.proofs.ReadyLemmas.{both_ready, opening_split}
 
 -- a batch tells the same once it is encoded
@@ -34,6 +36,13 @@ no_item item items e = absurd cc
 
 same_files : (files : QueueFiles) (n : ℕ) → n ≡ 0 → record files { len = files.len + n } ≡ files
 same_files files n none = ap (λ (l : ℕ). record files { len = l }) (omega (arith, none))
+
+-- what is known once all this was asked: the tables are stored, the append files hold these batches, and the files of both queues have their numbers and lengths
+pub record AreKnown (version : Version) (asks : List Ask) (append_files rewrite_files : QueueFiles) (accessor : Accessor) (appended : List Event) : Type 0 where
+  pub stays : FilesHold Append version (begun (acts_on Append asks)) appended
+  pub stored : AreStoredAlone version asks accessor.tables
+  pub append_known : AreFilesOf Append asks append_files
+  pub rewrite_known : AreFilesOf Rewrite asks rewrite_files
 
 module _ (ready : FoundFilesAreReady) (stored : FoundFilesAreStored) (lasting : FoundRecordsLast) (version : Version) (append rewrite : List NumberedBytes) (r : Reading) (f : AreReadFound version append rewrite r) where
   abbrev first : List Ask
@@ -85,21 +94,9 @@ module _ (ready : FoundFilesAreReady) (stored : FoundFilesAreStored) (lasting : 
   stays : FilesHold Append version (begun (acts_on Append asked)) f.recovered.appended
   stays = subst (λ (l : List NumberedBytes). FilesHold Append version l f.recovered.appended) (sym m.append_files) f.recovered.append_held
 
-  at_once : f.told.items ≡ [] → AreOpened version append rewrite asked r.append r.rewrite r.accessor
+  at_once : f.told.items ≡ [] → AreKnown version asked r.append r.rewrite r.accessor f.recovered.appended
   at_once none = record {
-    read = record {
-      since = m.since;
-      asked = m.asked;
-      appended = f.recovered.appended;
-      rewritten = f.recovered.rewritten;
-      append_held = m.append_held;
-      rewrite_held = m.rewrite_held;
-      append_sound = f.recovered.append_sound;
-      rewrite_sound = f.recovered.rewrite_sound;
-      apart = f.recovered.apart;
-      reading = f.recovered.reading;
-      append_stays = stays;
-    };
+    stays = stays;
     stored = (stored version asked append rewrite f.append_left f.rewrite_left r.accessor f.told are_ready f.recovered).0 none;
     append_known = append_files;
     rewrite_known = rewrite_files;
@@ -114,11 +111,47 @@ module _ (ready : FoundFilesAreReady) (stored : FoundFilesAreStored) (lasting : 
   told_len : r.told_len ≡ encoded_length f.told.items f.told.entry_bytes
   told_len = f.to_be_told.len ∙ ap (λ (b : Batch). encoded_length b.items b.entry_bytes) f.made
 
-  once_told : f.told.items ≢ [] → AreOpened version append rewrite (told_asks version r.rewrite.seq f.told asked) r.append new_rewrite r.accessor
+  once_told : f.told.items ≢ [] → AreKnown version (told_asks version r.rewrite.seq f.told asked) r.append new_rewrite r.accessor f.recovered.appended
   once_told some = record {
+    stays = stays;
+    stored = (stored version asked append rewrite f.append_left f.rewrite_left r.accessor f.told are_ready f.recovered).1 f.rewrite_of.closed r.rewrite.seq f.rewrite_of.bytes f.rewrite_of.split (f.writable some);
+    append_known = files_same Append asked (told_asks version r.rewrite.seq f.told asked) r.append r.append refl refl refl refl refl append_files;
+    rewrite_known = files_same Rewrite (ask Rewrite (Put put_bytes) ∷ asked) (told_asks version r.rewrite.seq f.told asked) new_rewrite new_rewrite refl refl refl refl refl
+        (files_told asked put_bytes r.rewrite new_rewrite refl refl (ap (λ (n : ℕ). r.rewrite.len + n) (told_len ∙ sym (log_batch_length (signature_in version r.rewrite.seq) f.told.items f.told.entry_bytes))) rewrite_files);
+  }
+
+  all_known : AreKnown version (reading_asks version r ++ first) r.append new_rewrite r.accessor f.recovered.appended
+  all_known = subst (λ (l : List Ask). AreKnown version l r.append new_rewrite r.accessor f.recovered.appended) (sym all_asked) (go f.told.items refl)
+    where
+      go : (items : List Item) → f.told.items ≡ items → AreKnown version (asks_that_tell version r.rewrite.seq f.told items ++ asked) r.append new_rewrite r.accessor f.recovered.appended
+      go [] none =
+          subst (λ (q : QueueFiles). AreKnown version asked r.append q r.accessor f.recovered.appended)
+          (sym (same_files r.rewrite r.told_len (told_len ∙ ap (λ (items : List Item). encoded_length items f.told.entry_bytes) none))) (at_once none)
+      go (item ∷ items) some = once_told (λ none. no_item item items (sym some ∙ none))
+
+  are_wanted : AreWanted version append rewrite r.accessor (reading_asks version r)
+  are_wanted = record {
+    append_missing = missing_asks Append r.append_missing;
+    rewrite_missing = missing_asks Rewrite r.rewrite_missing;
+    append_left = f.append_left;
+    rewrite_left = f.rewrite_left;
+    append_ready = f.append_ready;
+    rewrite_ready = f.rewrite_ready;
+    told = f.told;
+    recovered = f.recovered;
+    closed = f.rewrite_of.closed;
+    seq = r.rewrite.seq;
+    bytes = f.rewrite_of.bytes;
+    last = f.rewrite_of.split;
+    are = told_same;
+  }
+
+  pub opened_so : AreOpened version append rewrite (reading_asks version r ++ first) r.append new_rewrite r.accessor
+  opened_so = record {
     read = record {
-      since = ask Rewrite Sync ∷ ask Rewrite (Put put_bytes) ∷ m.since;
-      asked = ap (λ (l : List Ask). ask Rewrite Sync ∷ ask Rewrite (Put put_bytes) ∷ l) m.asked;
+      wanted = reading_asks version r;
+      are_wanted = are_wanted;
+      asked = refl;
       appended = f.recovered.appended;
       rewritten = f.recovered.rewritten;
       append_held = m.append_held;
@@ -127,42 +160,18 @@ module _ (ready : FoundFilesAreReady) (stored : FoundFilesAreStored) (lasting : 
       rewrite_sound = f.recovered.rewrite_sound;
       apart = f.recovered.apart;
       reading = f.recovered.reading;
-      append_stays = stays;
+      append_stays = all_known.stays;
     };
-    stored = (stored version asked append rewrite f.append_left f.rewrite_left r.accessor f.told are_ready f.recovered).1 f.rewrite_of.closed r.rewrite.seq f.rewrite_of.bytes f.rewrite_of.split (f.writable some);
-    append_known = files_same Append asked (told_asks version r.rewrite.seq f.told asked) r.append r.append refl refl refl refl refl append_files;
-    rewrite_known = files_same Rewrite (ask Rewrite (Put put_bytes) ∷ asked) (told_asks version r.rewrite.seq f.told asked) new_rewrite new_rewrite refl refl refl refl refl
-        (files_told asked put_bytes r.rewrite new_rewrite refl refl (ap (λ (n : ℕ). r.rewrite.len + n) (told_len ∙ sym (log_batch_length (signature_in version r.rewrite.seq) f.told.items f.told.entry_bytes))) rewrite_files);
+    stored = all_known.stored;
+    append_known = all_known.append_known;
+    rewrite_known = all_known.rewrite_known;
   }
-
-  pub opened_so : AreOpened version append rewrite (reading_asks version r ++ first) r.append new_rewrite r.accessor
-  opened_so = subst (λ (l : List Ask). AreOpened version append rewrite l r.append new_rewrite r.accessor) (sym all_asked) (go f.told.items refl)
-    where
-      go : (items : List Item) → f.told.items ≡ items → AreOpened version append rewrite (asks_that_tell version r.rewrite.seq f.told items ++ asked) r.append new_rewrite r.accessor
-      go [] none =
-          subst (λ (q : QueueFiles). AreOpened version append rewrite asked r.append q r.accessor)
-          (sym (same_files r.rewrite r.told_len (told_len ∙ ap (λ (items : List Item). encoded_length items f.told.entry_bytes) none))) (at_once none)
-      go (item ∷ items) some = once_told (λ none. no_item item items (sym some ∙ none))
 
   pub half_opened : (later : List Ask) → AreAskedInPart (reading_asks version r) first later → IsHalfOpened version append rewrite later
   half_opened later half = record {
+    accessor = r.accessor;
     wanted = reading_asks version r;
-    are_wanted = record {
-      append_missing = missing_asks Append r.append_missing;
-      rewrite_missing = missing_asks Rewrite r.rewrite_missing;
-      append_left = f.append_left;
-      rewrite_left = f.rewrite_left;
-      append_ready = f.append_ready;
-      rewrite_ready = f.rewrite_ready;
-      accessor = r.accessor;
-      told = f.told;
-      recovered = f.recovered;
-      closed = f.rewrite_of.closed;
-      seq = r.rewrite.seq;
-      bytes = f.rewrite_of.bytes;
-      last = f.rewrite_of.split;
-      are = told_same;
-    };
+    are_wanted = are_wanted;
     half = half;
     records = all.0;
     ever = λ content more earlier e begun.
@@ -188,5 +197,6 @@ kept_opened version append rewrite asks append_known rewrite_known untold access
     take_away = tt;
     append_files = o.append_known;
     rewrite_files = o.rewrite_known;
+    read_back = opened_read_back version append rewrite asks accessor o.read;
   };
 }

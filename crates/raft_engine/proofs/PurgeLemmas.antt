@@ -1,14 +1,15 @@
--- Append files that no table needs, and their deletion.
+-- Files that no table needs, and their deletion.
 use Rattle.std.proofs.Common.{◌≡◌, inl, inr, ℕ, zero, suc, ◌+◌, ◌-◌, ◌<◌, ◌≤◌, Bool, true, false, cond, List, [], ◌∷◌, ◌++◌, length, take, drop, refl, sym, ap, ◌∙◌, subst, arith, append_assoc, length-append, take-append-drop}
 use Rattle.std.proofs.lemmas.Bool.Decides.{nat_tests}
-use Rattle.std.proofs.lemmas.List.{length-map, length-take-le}
+use Rattle.std.proofs.lemmas.List.{length-map, length-take-le, map-append}
 use Rattle.std.specs.Prelude.{nat_lt}
 use Rattle.std.specs.List.{AllByRecursion}
+use Rattle.raft_base.specs.declared.pipe_log.LogQueue.{LogQueue}
 use Rattle.raft_base.specs.declared.pipe_log.LogQueue.TheVariants.{Append, Rewrite}
 use Rattle.raft_base.specs.declared.pipe_log.Version.{Version}
 use Rattle.raft_history.specs.RegionSteps.{Tables}
 use Rattle.raft_files.specs.Asks.{Ask, Delete, MayBeAsked, NumberedBytes, acts_on, ask}
-use Rattle.raft_files.specs.Disk.{begun, deletions}
+use Rattle.raft_files.specs.Disk.{begun, deletions, files_of}
 use Rattle.raft_engine_laws.specs.DeletedFiles.{AreLeastFrom}
 use Rattle.raft_engine_fronts.specs.Done.{AreRisingFrom, numbers}
 use Rattle.raft_engine.specs.KeptEngine.{KeptEngine}
@@ -19,19 +20,18 @@ use Rattle.raft_engine.specs.Stored.{AreKeptStored, Bases}
 use Rattle.raft_engine.specs.StoredAsks.{DeletionsAreStored}
 use Rattle.raft_engine.specs.declared.queue_files.QueueFiles.{QueueFiles}
 
--- ---- which files
+-- ---- numbers below one
 
--- the first files whose numbers are below one
-front_take : (least : ℕ) (files : List NumberedBytes) → AllByRecursion (λ (file : NumberedBytes). file.0 < least) (take (front_below least (numbers files)) files)
+front_take : (least : ℕ) (ns : List ℕ) → AllByRecursion (λ (n : ℕ). n < least) (take (front_below least ns) ns)
 front_take least [] = tt
-front_take least (file ∷ files) = go (nat_lt file.0 least) refl (front_take least files)
+front_take least (n ∷ ns) = go (nat_lt n least) refl (front_take least ns)
   where
-    go : (b : Bool) → nat_lt file.0 least ≡ b → AllByRecursion (λ (file : NumberedBytes). file.0 < least) (take (front_below least (numbers files)) files)
-        → AllByRecursion (λ (file : NumberedBytes). file.0 < least) (take (cond b (suc (front_below least (numbers files))) 0) (file ∷ files))
-    go true e all = ((let low : file.0 < least = grind (arith, nat_tests) in low), all)
+    go : (b : Bool) → nat_lt n least ≡ b → AllByRecursion (λ (n : ℕ). n < least) (take (front_below least ns) ns)
+        → AllByRecursion (λ (n : ℕ). n < least) (take (cond b (suc (front_below least ns)) 0) (n ∷ ns))
+    go true e all = ((let low : n < least = grind (arith, nat_tests) in low), all)
     go false e all = tt
 
-pub front_few : (least : ℕ) (ns : List ℕ) → front_below least ns ≤ length ns
+front_few : (least : ℕ) (ns : List ℕ) → front_below least ns ≤ length ns
 front_few least [] = omega arith
 front_few least (n ∷ ns) = go (nat_lt n least) (front_few least ns)
   where
@@ -39,125 +39,145 @@ front_few least (n ∷ ns) = go (nat_lt n least) (front_few least ns)
     go true few = omega (arith, few)
     go false few = omega arith
 
-first_same : (a b : NumberedBytes) (more rest : List NumberedBytes) → a ∷ more ≡ b ∷ rest → a ≡ b
+first_same : (a b : ℕ) (more rest : List ℕ) → a ∷ more ≡ b ∷ rest → a ≡ b
 first_same a b more rest e = cc
 
-tail_same : (a b : NumberedBytes) (more rest : List NumberedBytes) → a ∷ more ≡ b ∷ rest → more ≡ rest
-tail_same a b more rest e = cc
+rest_same : (a b : ℕ) (more rest : List ℕ) → a ∷ more ≡ b ∷ rest → more ≡ rest
+rest_same a b more rest e = cc
 
 -- the first one that isn't
-front_drop : (least : ℕ) (files : List NumberedBytes) (file : NumberedBytes) (rest : List NumberedBytes) → drop (front_below least (numbers files)) files ≡ file ∷ rest → least ≤ file.0
-front_drop least [] file rest e = absurd cc
-front_drop least (x ∷ files) file rest e = go (nat_lt x.0 least) refl (front_drop least files file rest) e
+front_drop : (least : ℕ) (ns : List ℕ) (n : ℕ) (rest : List ℕ) → drop (front_below least ns) ns ≡ n ∷ rest → least ≤ n
+front_drop least [] n rest e = absurd cc
+front_drop least (x ∷ ns) n rest e = go (nat_lt x least) refl (front_drop least ns n rest) e
   where
-    go : (b : Bool) → nat_lt x.0 least ≡ b → (drop (front_below least (numbers files)) files ≡ file ∷ rest → least ≤ file.0)
-        → drop (cond b (suc (front_below least (numbers files))) 0) (x ∷ files) ≡ file ∷ rest → least ≤ file.0
+    go : (b : Bool) → nat_lt x least ≡ b → (drop (front_below least ns) ns ≡ n ∷ rest → least ≤ n)
+        → drop (cond b (suc (front_below least ns)) 0) (x ∷ ns) ≡ n ∷ rest → least ≤ n
     go true is later e = later e
-    go false is later e = let high : least ≤ x.0 = grind (arith, nat_tests) in subst (λ (f : NumberedBytes). least ≤ f.0) (first_same x file files rest e) high
-
-all_expired : (tables : Tables) (least : ℕ) → AreLeastFrom Append least tables → (files : List NumberedBytes) → AllByRecursion (λ (file : NumberedBytes). file.0 < least) files → AllByRecursion (IsExpired tables) files
-all_expired tables least from [] all = tt
-all_expired tables least from (file ∷ files) all = ((λ r seq e. let up = from r seq e in let low = all.0 in omega (arith, up, low)), all_expired tables least from files all.1)
+    go false is later e = let high : least ≤ x = grind (arith, nat_tests) in subst (λ (m : ℕ). least ≤ m) (first_same x n ns rest e) high
 
 -- numbers that rise go on to rise
-rising_after : (n : ℕ) (front files : List NumberedBytes) → AreRisingFrom n (numbers (front ++ files)) → (m : ℕ) × AreRisingFrom m (numbers files)
-rising_after n [] files r = (n, r)
-rising_after n (x ∷ front) files r = rising_after (suc x.0) front files r.1
+rising_after : (n : ℕ) (front ns : List ℕ) → AreRisingFrom n (front ++ ns) → (m : ℕ) × AreRisingFrom m ns
+rising_after n [] ns r = (n, r)
+rising_after n (x ∷ front) ns r = rising_after (suc x) front ns r.1
 
-rising_to_last : (n : ℕ) (files : List NumberedBytes) (last : NumberedBytes) → AreRisingFrom n (numbers (files ++ last ∷ [])) → n ≤ last.0
+rising_to_last : (n : ℕ) (ns : List ℕ) (last : ℕ) → AreRisingFrom n (ns ++ last ∷ []) → n ≤ last
 rising_to_last n [] last r = r.0
-rising_to_last n (x ∷ files) last r = let low = r.0 in let up = rising_to_last (suc x.0) files last r.1 in omega (arith, low, up)
+rising_to_last n (x ∷ ns) last r = let low = r.0 in let up = rising_to_last (suc x) ns last r.1 in omega (arith, low, up)
 
--- a file at the least number or above it, in front of the last one, is needed
-is_needed : (tables : Tables) (last least : ℕ) (file : NumberedBytes) → IsLeastNeeded tables last least → least ≤ file.0 → file.0 < last → IsExpired tables file → ⊥
-is_needed tables last least file l up less expired = l.needed (omega (arith, up, less)) (λ r seq e. let high = expired r seq e in omega (arith, high, up))
+-- a front of closed numbers and the last one, with something behind it, is one of the closed ones
+front_closed : (ns : List ℕ) (last : ℕ) (front rest : List ℕ) → ns ++ last ∷ [] ≡ front ++ rest → (rest ≡ [] → ⊥) → (length front ≤ length ns) × (front ≡ take (length front) ns)
+front_closed ns last [] rest e some = (omega arith, refl)
+front_closed [] last (x ∷ front) rest e some = absurd (some (none_behind front rest (sym (rest_same last x [] (front ++ rest) e))))
+  where
+    none_behind : (a b : List ℕ) → a ++ b ≡ [] → b ≡ []
+    none_behind [] b e = e
+    none_behind (y ∷ a) b e = absurd cc
+front_closed (n ∷ ns) last (x ∷ front) rest e some =
+    let more = front_closed ns last front rest (rest_same n x (ns ++ last ∷ []) (front ++ rest) e) some in
+    ((let low = more.0 in omega (arith, low)), ap (λ m. m ∷ front) (sym (first_same n x (ns ++ last ∷ []) (front ++ rest) e)) ∙ ap (λ (l : List ℕ). n ∷ l) more.1)
 
-begin_needed : (tables : Tables) (last : NumberedBytes) (least n : ℕ) → IsLeastNeeded tables last.0 least → (files : List NumberedBytes) → AreRisingFrom n (numbers (files ++ last ∷ []))
-    → ((file : NumberedBytes) (rest : List NumberedBytes) → files ≡ file ∷ rest → least ≤ file.0) → BeginWithNeeded tables (files ++ last ∷ [])
-begin_needed tables last least n l [] r up = tt
-begin_needed tables last least n l (file ∷ []) r up = is_needed tables last.0 least file l (up file [] refl) (rising_to_last (suc file.0) [] last r.1)
-begin_needed tables last least n l (file ∷ next ∷ files) r up = is_needed tables last.0 least file l (up file (next ∷ files) refl) (rising_to_last (suc file.0) (next ∷ files) last r.1)
+-- ---- which files
 
-pub drop_front : (front files : List NumberedBytes) → drop (length front) (front ++ files) ≡ files
+drop_front : (front files : List NumberedBytes) → drop (length front) (front ++ files) ≡ files
 drop_front [] files = refl
 drop_front (x ∷ front) files = drop_front front files
 
-numbers_few : (count : ℕ) (files : QueueFiles) (closed : List NumberedBytes) → files.closed.items ≡ numbers closed → count ≤ length files.closed.items → count ≤ length closed
-numbers_few count files closed same few = let long = ap length same ∙ length-map closed (λ (file : NumberedBytes). file.0) in omega (arith, few, long)
+module _ (queue : LogQueue) where
+  all_expired : (tables : Tables) (least : ℕ) → AreLeastFrom queue least tables → (ns : List ℕ) → AllByRecursion (λ (n : ℕ). n < least) ns → AllByRecursion (IsExpired queue tables) ns
+  all_expired tables least from [] all = tt
+  all_expired tables least from (n ∷ ns) all = ((λ r seq e. let up = from r seq e in let low = all.0 in omega (arith, up, low)), all_expired tables least from ns all.1)
 
-module _ (engine : KeptEngine) (append : QueueFiles) (f : AreFilesOf Append engine.asks append) (first least count : ℕ)
-    (rising : AreRisingFrom first (numbers (begun (acts_on Append engine.asks)))) (l : IsLeastNeeded engine.accessor.tables append.seq least)
-    (counted : count ≡ front_below least append.closed.items) where
-  its_count : count ≡ front_below least (numbers f.closed)
-  its_count = counted ∙ ap (front_below least) f.have
+  -- one at the least number or above it, in front of the last one, is needed
+  is_needed : (tables : Tables) (last least n : ℕ) → IsLeastNeeded queue tables last least → least ≤ n → n < last → IsExpired queue tables n → ⊥
+  is_needed tables last least n l up less expired = l.needed (omega (arith, up, less)) (λ r seq e. let high = expired r seq e in omega (arith, high, up))
 
-  pub few : count ≤ length f.closed
-  few = let low = front_few least (numbers f.closed) in let long = length-map f.closed (λ (file : NumberedBytes). file.0) in omega (arith, its_count, low, long)
+  begin_needed : (tables : Tables) (last least m : ℕ) → IsLeastNeeded queue tables last least → (ns : List ℕ) → AreRisingFrom m (ns ++ last ∷ [])
+      → ((n : ℕ) (rest : List ℕ) → ns ≡ n ∷ rest → least ≤ n) → BeginWithNeeded queue tables (ns ++ last ∷ [])
+  begin_needed tables last least m l [] r up = tt
+  begin_needed tables last least m l (n ∷ []) r up = is_needed tables last least n l (up n [] refl) (rising_to_last (suc n) [] last r.1)
+  begin_needed tables last least m l (n ∷ next ∷ ns) r up = is_needed tables last least n l (up n (next ∷ ns) refl) (rising_to_last (suc n) (next ∷ ns) last r.1)
 
-  pub are_all_expired : AllByRecursion (IsExpired engine.accessor.tables) (take count f.closed)
-  are_all_expired = all_expired engine.accessor.tables least l.from (take count f.closed)
-      (subst (λ (n : ℕ). AllByRecursion (λ (file : NumberedBytes). file.0 < least) (take n f.closed)) (sym its_count) (front_take least f.closed))
+  -- the numbers of the files that are there
+  numbers_there : (asks : List Ask) (files : QueueFiles) → AreFilesOf queue asks files → numbers (files_of queue asks) ≡ files.closed.items ++ files.seq ∷ []
+  numbers_there asks files f =
+      ap numbers (ap (λ (n : ℕ). drop n (begun (acts_on queue asks))) f.deleted ∙ ap (drop (length f.gone)) f.are ∙ drop_front f.gone (f.closed ++ (files.seq, f.bytes) ∷ []))
+      ∙ map-append (λ (file : NumberedBytes). file.0) f.closed ((files.seq, f.bytes) ∷ []) ∙ ap (λ (ns : List ℕ). ns ++ files.seq ∷ []) (sym f.have)
 
-  pub are_expired : AreExpired engine count
-  are_expired =
-      let last : NumberedBytes = (append.seq, f.bytes) in
-      let all = rising_after first f.gone (f.closed ++ last ∷ []) (subst (λ (files : List NumberedBytes). AreRisingFrom first (numbers files)) f.are rising) in
-      let parts : f.closed ++ last ∷ [] ≡ take count f.closed ++ (drop count f.closed ++ last ∷ []) =
-      ap (λ (files : List NumberedBytes). files ++ last ∷ []) (sym (take-append-drop count f.closed)) ∙ append_assoc (take count f.closed) (drop count f.closed) (last ∷ []) in
-      let later = rising_after all.0 (take count f.closed) (drop count f.closed ++ last ∷ []) (subst (λ (files : List NumberedBytes). AreRisingFrom all.0 (numbers files)) parts all.1) in
-      record {
-        expired = take count f.closed;
-        rest = drop count f.closed ++ last ∷ [];
-        split = ap (λ (n : ℕ). drop n (begun (acts_on Append engine.asks))) f.deleted ∙ ap (drop (length f.gone)) f.are ∙ drop_front f.gone (f.closed ++ last ∷ []) ∙ parts;
-        many = length-take-le count f.closed few;
-        are = are_all_expired;
-        no_more = begin_needed engine.accessor.tables last least later.0 l (drop count f.closed) later.1
-            (λ file rest e. front_drop least f.closed file rest (ap (λ (n : ℕ). drop n f.closed) (sym its_count) ∙ e));
-      }
+  rising_there : (asks : List Ask) (files : QueueFiles) (first : ℕ) → AreRisingFrom first (numbers (begun (acts_on queue asks))) → (f : AreFilesOf queue asks files)
+      → (m : ℕ) × AreRisingFrom m (files.closed.items ++ files.seq ∷ [])
+  rising_there asks files first r f =
+      rising_after first (numbers f.gone) (files.closed.items ++ files.seq ∷ [])
+      (subst (AreRisingFrom first)
+      (ap numbers f.are ∙ map-append (λ (file : NumberedBytes). file.0) f.gone (f.closed ++ (files.seq, f.bytes) ∷ [])
+      ∙ ap (λ (ns : List ℕ). numbers f.gone ++ ns) (map-append (λ (file : NumberedBytes). file.0) f.closed ((files.seq, f.bytes) ∷ []) ∙ ap (λ (ns : List ℕ). ns ++ files.seq ∷ []) (sym f.have))) r)
 
--- the files of a queue that are expired are its first ones, if one that is needed follows
-pub expired_front : (tables : Tables) (closed : List NumberedBytes) (last : NumberedBytes) (expired rest : List NumberedBytes) → closed ++ last ∷ [] ≡ expired ++ rest → BeginWithNeeded tables rest
-    → (length expired ≤ length closed) × (take (length expired) closed ≡ expired)
-expired_front tables closed last [] rest e needed = (omega arith, refl)
-expired_front tables [] last (x ∷ expired) rest e needed = absurd (none_needed rest (no_more expired rest (tail_same last x [] (expired ++ rest) e)) needed)
-  where
-    no_more : (xs ys : List NumberedBytes) → [] ≡ xs ++ ys → ys ≡ []
-    no_more [] ys e = sym e
-    no_more (x ∷ xs) ys e = absurd cc
+  -- those below the least number that is needed are expired
+  module _ (engine : KeptEngine) (files : QueueFiles) (f : AreFilesOf queue engine.asks files) (first least count : ℕ)
+      (rising : AreRisingFrom first (numbers (begun (acts_on queue engine.asks)))) (l : IsLeastNeeded queue engine.accessor.tables files.seq least)
+      (counted : count ≡ front_below least files.closed.items) where
+    abbrev ns : List ℕ
+    ns = files.closed.items
 
-    none_needed : (ys : List NumberedBytes) → ys ≡ [] → BeginWithNeeded tables ys → ⊥
-    none_needed ys e h = subst (BeginWithNeeded tables) e h
-expired_front tables (y ∷ closed) last (x ∷ expired) rest e needed =
-    let h = expired_front tables closed last expired rest (tail_same y x (closed ++ last ∷ []) (expired ++ rest) e) needed in
-    let low = h.0 in
-    (omega (arith, low), ap (λ (l : List NumberedBytes). y ∷ l) h.1 ∙ ap (λ (f : NumberedBytes). f ∷ expired) (first_same y x (closed ++ last ∷ []) (expired ++ rest) e))
+    few : count ≤ length ns
+    few = let low = front_few least ns in omega (arith, counted, low)
+
+    pub are_expired : AreExpired queue engine count
+    are_expired =
+        let all = rising_there engine.asks files first rising f in
+        let parts : ns ++ files.seq ∷ [] ≡ take count ns ++ (drop count ns ++ files.seq ∷ []) =
+        ap (λ (l : List ℕ). l ++ files.seq ∷ []) (sym (take-append-drop count ns)) ∙ append_assoc (take count ns) (drop count ns) (files.seq ∷ []) in
+        let later = rising_after all.0 (take count ns) (drop count ns ++ files.seq ∷ []) (subst (AreRisingFrom all.0) parts all.1) in
+        record {
+          expired = take count ns;
+          rest = drop count ns ++ files.seq ∷ [];
+          split = numbers_there engine.asks files f ∙ parts;
+          many = length-take-le count ns few;
+          are = all_expired engine.accessor.tables least l.from (take count ns) (subst (λ (n : ℕ). AllByRecursion (λ (n : ℕ). n < least) (take n ns)) (sym counted) (front_take least ns));
+          no_more = begin_needed engine.accessor.tables files.seq least later.0 l (drop count ns) later.1
+              (λ n rest e. front_drop least ns n rest (ap (λ (m : ℕ). drop m ns) (sym counted) ∙ e));
+        }
+
+  -- the expired ones are the first ones of the closed files
+  module _ (engine : KeptEngine) (files : QueueFiles) (f : AreFilesOf queue engine.asks files) (count : ℕ) (x : AreExpired queue engine count) where
+    some_behind : (rest : List ℕ) → BeginWithNeeded queue engine.accessor.tables rest → rest ≡ [] → ⊥
+    some_behind [] b e = b
+    some_behind (n ∷ rest) b e = absurd cc
+
+    closed_front : (length x.expired ≤ length files.closed.items) × (x.expired ≡ take (length x.expired) files.closed.items)
+    closed_front = front_closed files.closed.items files.seq x.expired x.rest (sym (numbers_there engine.asks files f) ∙ x.split) (some_behind x.rest x.no_more)
+
+    pub few_expired : count ≤ length files.closed.items
+    few_expired = let low = closed_front.0 in let many = x.many in omega (arith, low, many)
+
+    pub closed_expired : AllByRecursion (IsExpired queue engine.accessor.tables) (take count files.closed.items)
+    closed_expired = subst (AllByRecursion (IsExpired queue engine.accessor.tables)) (closed_front.1 ∙ ap (λ (n : ℕ). take n files.closed.items) x.many) x.are
 
 -- ---- deletions
 
-pub delete_begun : (count : ℕ) (asks : List Ask) → begun (acts_on Append (delete_asks count ++ asks)) ≡ begun (acts_on Append asks)
-delete_begun zero asks = refl
-delete_begun (suc count) asks = delete_begun count asks
+delete_begun : (queue : LogQueue) (count : ℕ) (asks : List Ask) → begun (acts_on queue (delete_asks queue count ++ asks)) ≡ begun (acts_on queue asks)
+delete_begun queue zero asks = refl
+delete_begun Append (suc count) asks = delete_begun Append count asks
+delete_begun Rewrite (suc count) asks = delete_begun Rewrite count asks
 
-delete_count : (count : ℕ) (asks : List Ask) → deletions (acts_on Append (delete_asks count ++ asks)) ≡ count + deletions (acts_on Append asks)
-delete_count zero asks = omega arith
-delete_count (suc count) asks = let more = delete_count count asks in omega (arith, more)
+delete_count : (queue : LogQueue) (count : ℕ) (asks : List Ask) → deletions (acts_on queue (delete_asks queue count ++ asks)) ≡ count + deletions (acts_on queue asks)
+delete_count queue zero asks = omega arith
+delete_count Append (suc count) asks = let more = delete_count Append count asks in omega (arith, more)
+delete_count Rewrite (suc count) asks = let more = delete_count Rewrite count asks in omega (arith, more)
 
-pub delete_others : (count : ℕ) (asks : List Ask) → acts_on Rewrite (delete_asks count ++ asks) ≡ acts_on Rewrite asks
-delete_others zero asks = refl
-delete_others (suc count) asks = delete_others count asks
+one_synced : (queue other : LogQueue) (asks : List Ask) → AreSynced (acts_on other asks) → AreSynced (acts_on other (ask queue Delete ∷ asks))
+one_synced Append Append asks s = s
+one_synced Append Rewrite asks s = s
+one_synced Rewrite Append asks s = s
+one_synced Rewrite Rewrite asks s = s
 
-delete_shift : (count : ℕ) (asks : List Ask) → delete_asks count ++ (ask Append Delete ∷ asks) ≡ ask Append Delete ∷ (delete_asks count ++ asks)
-delete_shift zero asks = refl
-delete_shift (suc count) asks = ap (λ (l : List Ask). ask Append Delete ∷ l) (delete_shift count asks)
+-- of the other queue nothing is asked
+pub append_deletes_others : (count : ℕ) (asks : List Ask) → acts_on Rewrite (delete_asks Append count ++ asks) ≡ acts_on Rewrite asks
+append_deletes_others zero asks = refl
+append_deletes_others (suc count) asks = append_deletes_others count asks
 
-delete_sum : (more made count : ℕ) → more + made ≡ count → delete_asks count ≡ delete_asks more ++ delete_asks made
-delete_sum zero made count e = ap delete_asks (let same : count ≡ made = omega (arith, e) in same)
-delete_sum (suc more) made zero e = absurd (omega (arith, e))
-delete_sum (suc more) made (suc count) e = ap (λ (l : List Ask). ask Append Delete ∷ l) (delete_sum more made count (omega (arith, e)))
-
--- fewer deletions of so many
-pub delete_fewer : (made count : ℕ) → made ≤ count → delete_asks count ≡ delete_asks (count - made) ++ delete_asks made
-delete_fewer made count low = delete_sum (count - made) made count (omega (arith, low))
+pub rewrite_deletes_others : (count : ℕ) (asks : List Ask) → acts_on Append (delete_asks Rewrite count ++ asks) ≡ acts_on Append asks
+rewrite_deletes_others zero asks = refl
+rewrite_deletes_others (suc count) asks = rewrite_deletes_others count asks
 
 pub take_fewer : {X : Type 0} (P : X → Type 0) (m n : ℕ) (xs : List X) → m ≤ n → AllByRecursion P (take n xs) → AllByRecursion P (take m xs)
 take_fewer P zero n xs low all = tt
@@ -165,58 +185,78 @@ take_fewer P (suc m) n [] low all = tt
 take_fewer P (suc m) zero (x ∷ xs) low all = absurd (omega (arith, low))
 take_fewer P (suc m) (suc n) (x ∷ xs) low all = (all.0, take_fewer P m n xs (omega (arith, low)) all.1)
 
-module _ (deleted : DeletionsAreStored) (version : Version) (base : Bases) (tables : Tables) where
-  one_deleted : (asks : List Ask) (gone closed : List NumberedBytes) (oldest last : NumberedBytes)
-      → AreSynced (acts_on Append asks) → AreSynced (acts_on Rewrite asks) → begun (acts_on Append asks) ≡ gone ++ (oldest ∷ (closed ++ last ∷ [])) → deletions (acts_on Append asks) ≡ length gone
-      → IsExpired tables oldest → AreKeptStored version asks base [] tables → AreKeptStored version (ask Append Delete ∷ asks) base [] tables
-  one_deleted asks gone [] oldest last append rewrite is count expired s = deleted version asks base tables gone [] oldest last append rewrite is count expired s
-  one_deleted asks gone (next ∷ closed) oldest last append rewrite is count expired s = deleted version asks base tables gone (closed ++ last ∷ []) oldest next append rewrite is count expired s
-
-  pub all_deleted : (count : ℕ) (asks : List Ask) (gone closed : List NumberedBytes) (last : NumberedBytes)
-      → AreSynced (acts_on Append asks) → AreSynced (acts_on Rewrite asks) → begun (acts_on Append asks) ≡ gone ++ (closed ++ last ∷ []) → deletions (acts_on Append asks) ≡ length gone
-      → AllByRecursion (IsExpired tables) (take count closed) → count ≤ length closed
-      → AreKeptStored version asks base [] tables → AreKeptStored version (delete_asks count ++ asks) base [] tables
-  all_deleted zero asks gone closed last append rewrite is many all low s = s
-  all_deleted (suc count) asks gone [] last append rewrite is many all low s = absurd (omega (arith, low))
-  all_deleted (suc count) asks gone (oldest ∷ closed) last append rewrite is many all low s =
-      let one = one_deleted asks gone closed oldest last append rewrite is many all.0 s in
-      let long = length-append gone (oldest ∷ []) in
-      subst (λ (l : List Ask). AreKeptStored version l base [] tables) (delete_shift count asks)
-      (all_deleted count (ask Append Delete ∷ asks) (gone ++ oldest ∷ []) closed last append rewrite (is ∙ sym (append_assoc gone (oldest ∷ []) (closed ++ last ∷ []))) (omega (arith, many, long)) all.1 (omega (arith, low)) one)
-
 numbers_drop : (count : ℕ) (files : List NumberedBytes) → drop count (numbers files) ≡ numbers (drop count files)
 numbers_drop zero files = refl
 numbers_drop (suc count) [] = refl
 numbers_drop (suc count) (x ∷ files) = numbers_drop count files
 
--- the files that are left
-pub files_deleted : (count : ℕ) (asks : List Ask) (files other : QueueFiles) → AreFilesOf Append asks files → count ≤ length files.closed.items
-    → other.closed.items ≡ drop count files.closed.items → other.seq ≡ files.seq → other.len ≡ files.len → AreFilesOf Append (delete_asks count ++ asks) other
-files_deleted count asks files other f some closed seq len =
-    let low = numbers_few count files f.closed f.have some in
-    let last : NumberedBytes = (files.seq, f.bytes) in
-    let long = length-append f.gone (take count f.closed) in
-    let taken = length-take-le count f.closed low in
-    let more = delete_count count asks in
-    let was = f.deleted in record {
-      gone = f.gone ++ take count f.closed;
-      closed = drop count f.closed;
-      bytes = f.bytes;
-      are = delete_begun count asks ∙ f.are
-          ∙ ap (λ (l : List NumberedBytes). f.gone ++ (l ++ last ∷ [])) (sym (take-append-drop count f.closed)) ∙ ap (λ (l : List NumberedBytes). f.gone ++ l) (append_assoc (take count f.closed) (drop count f.closed) (last ∷ []))
-          ∙ sym (append_assoc f.gone (take count f.closed) (drop count f.closed ++ last ∷ []))
-          ∙ ap (λ (n : ℕ). (f.gone ++ take count f.closed) ++ (drop count f.closed ++ (n, f.bytes) ∷ [])) (sym seq);
-      deleted = omega (arith, more, was, long, taken);
-      have = closed ∙ ap (drop count) f.have ∙ numbers_drop count f.closed;
-      ends = len ∙ f.ends;
-    }
+-- as many closed files as numbers of them
+pub closed_few : (count : ℕ) (files : QueueFiles) (closed : List NumberedBytes) → files.closed.items ≡ numbers closed → count ≤ length files.closed.items → count ≤ length closed
+closed_few count files closed same few = let long = ap length same ∙ length-map closed (λ (file : NumberedBytes). file.0) in omega (arith, few, long)
 
--- ---- one turn of the loop
+module _ (queue : LogQueue) where
+  delete_shift : (count : ℕ) (asks : List Ask) → delete_asks queue count ++ (ask queue Delete ∷ asks) ≡ ask queue Delete ∷ (delete_asks queue count ++ asks)
+  delete_shift zero asks = refl
+  delete_shift (suc count) asks = ap (λ (l : List Ask). ask queue Delete ∷ l) (delete_shift count asks)
 
-pub more_deleted : (n : ℕ) (before old new : List Ask) → before ≡ delete_asks n ++ old → new ≡ ask Append Delete ∷ before → new ≡ delete_asks (n + 1) ++ old
-more_deleted n before old new is asked =
-    asked ∙ ap (λ (l : List Ask). ask Append Delete ∷ l) is ∙ ap (λ (m : ℕ). delete_asks m ++ old) (let e : suc n ≡ n + 1 = omega arith in e)
+  delete_sum : (more made count : ℕ) → more + made ≡ count → delete_asks queue count ≡ delete_asks queue more ++ delete_asks queue made
+  delete_sum zero made count e = ap (delete_asks queue) (let same : count ≡ made = omega (arith, e) in same)
+  delete_sum (suc more) made zero e = absurd (omega (arith, e))
+  delete_sum (suc more) made (suc count) e = ap (λ (l : List Ask). ask queue Delete ∷ l) (delete_sum more made count (omega (arith, e)))
 
-pub some_deleted : (n count : ℕ) → n < count → (before old new : List Ask) → before ≡ delete_asks n ++ old → MayBeAsked (ask Append Delete) before new → AreSomeDeleted count old new
-some_deleted n count low before old new is (inl e) = record { made = n; at_most = omega (arith, low); asked = e ∙ is }
-some_deleted n count low before old new is (inr e) = record { made = n + 1; at_most = omega (arith, low); asked = more_deleted n before old new is e }
+  -- fewer deletions of so many
+  pub delete_fewer : (made count : ℕ) → made ≤ count → delete_asks queue count ≡ delete_asks queue (count - made) ++ delete_asks queue made
+  delete_fewer made count low = delete_sum (count - made) made count (omega (arith, low))
+
+  module _ (deleted : DeletionsAreStored queue) (version : Version) (base : Bases) (tables : Tables) where
+    one_deleted : (asks : List Ask) (gone closed : List NumberedBytes) (oldest last : NumberedBytes)
+        → AreSynced (acts_on Append asks) → AreSynced (acts_on Rewrite asks) → begun (acts_on queue asks) ≡ gone ++ (oldest ∷ (closed ++ last ∷ [])) → deletions (acts_on queue asks) ≡ length gone
+        → IsExpired queue tables oldest.0 → AreKeptStored version asks base [] tables → AreKeptStored version (ask queue Delete ∷ asks) base [] tables
+    one_deleted asks gone [] oldest last append rewrite is count expired s = deleted version asks base tables gone [] oldest last append rewrite is count expired s
+    one_deleted asks gone (next ∷ closed) oldest last append rewrite is count expired s = deleted version asks base tables gone (closed ++ last ∷ []) oldest next append rewrite is count expired s
+
+    pub all_deleted : (count : ℕ) (asks : List Ask) (gone closed : List NumberedBytes) (last : NumberedBytes)
+        → AreSynced (acts_on Append asks) → AreSynced (acts_on Rewrite asks) → begun (acts_on queue asks) ≡ gone ++ (closed ++ last ∷ []) → deletions (acts_on queue asks) ≡ length gone
+        → AllByRecursion (IsExpired queue tables) (take count (numbers closed)) → count ≤ length closed
+        → AreKeptStored version asks base [] tables → AreKeptStored version (delete_asks queue count ++ asks) base [] tables
+    all_deleted zero asks gone closed last append rewrite is many all low s = s
+    all_deleted (suc count) asks gone [] last append rewrite is many all low s = absurd (omega (arith, low))
+    all_deleted (suc count) asks gone (oldest ∷ closed) last append rewrite is many all low s =
+        let one = one_deleted asks gone closed oldest last append rewrite is many all.0 s in
+        let long = length-append gone (oldest ∷ []) in
+        let more : deletions (acts_on queue (ask queue Delete ∷ asks)) ≡ 1 + deletions (acts_on queue asks) = delete_count queue 1 asks in
+        subst (λ (l : List Ask). AreKeptStored version l base [] tables) (delete_shift count asks)
+        (all_deleted count (ask queue Delete ∷ asks) (gone ++ oldest ∷ []) closed last (one_synced queue Append asks append) (one_synced queue Rewrite asks rewrite)
+        (delete_begun queue 1 asks ∙ is ∙ sym (append_assoc gone (oldest ∷ []) (closed ++ last ∷ []))) (omega (arith, more, many, long)) all.1 (omega (arith, low)) one)
+
+  -- the files that are left
+  pub files_deleted : (count : ℕ) (asks : List Ask) (files other : QueueFiles) → AreFilesOf queue asks files → count ≤ length files.closed.items
+      → other.closed.items ≡ drop count files.closed.items → other.seq ≡ files.seq → other.len ≡ files.len → AreFilesOf queue (delete_asks queue count ++ asks) other
+  files_deleted count asks files other f some closed seq len =
+      let low = closed_few count files f.closed f.have some in
+      let last : NumberedBytes = (files.seq, f.bytes) in
+      let long = length-append f.gone (take count f.closed) in
+      let taken = length-take-le count f.closed low in
+      let more = delete_count queue count asks in
+      let was = f.deleted in record {
+        gone = f.gone ++ take count f.closed;
+        closed = drop count f.closed;
+        bytes = f.bytes;
+        are = delete_begun queue count asks ∙ f.are
+            ∙ ap (λ (l : List NumberedBytes). f.gone ++ (l ++ last ∷ [])) (sym (take-append-drop count f.closed)) ∙ ap (λ (l : List NumberedBytes). f.gone ++ l) (append_assoc (take count f.closed) (drop count f.closed) (last ∷ []))
+            ∙ sym (append_assoc f.gone (take count f.closed) (drop count f.closed ++ last ∷ []))
+            ∙ ap (λ (n : ℕ). (f.gone ++ take count f.closed) ++ (drop count f.closed ++ (n, f.bytes) ∷ [])) (sym seq);
+        deleted = omega (arith, more, was, long, taken);
+        have = closed ∙ ap (drop count) f.have ∙ numbers_drop count f.closed;
+        ends = len ∙ f.ends;
+      }
+
+  -- ---- one turn of the loop
+
+  pub more_deleted : (n : ℕ) (before old new : List Ask) → before ≡ delete_asks queue n ++ old → new ≡ ask queue Delete ∷ before → new ≡ delete_asks queue (n + 1) ++ old
+  more_deleted n before old new is asked =
+      asked ∙ ap (λ (l : List Ask). ask queue Delete ∷ l) is ∙ ap (λ (m : ℕ). delete_asks queue m ++ old) (let e : suc n ≡ n + 1 = omega arith in e)
+
+  pub some_deleted : (n count : ℕ) → n < count → (before old new : List Ask) → before ≡ delete_asks queue n ++ old → MayBeAsked (ask queue Delete) before new → AreSomeDeleted queue count old new
+  some_deleted n count low before old new is (inl e) = record { made = n; at_most = omega (arith, low); asked = e ∙ is }
+  some_deleted n count low before old new is (inr e) = record { made = n + 1; at_most = omega (arith, low); asked = more_deleted n before old new is e }

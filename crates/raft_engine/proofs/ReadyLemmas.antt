@@ -17,7 +17,7 @@ use Rattle.raft_engine.specs.declared.missing.Missing.{Missing}
 use Rattle.raft_engine.specs.declared.missing.Missing.TheVariants.{Nothing, FirstFile, Cut}
 use Rattle.raft_engine.proofs.FoundLemmas.{one_last}
 
-no_last : {A : Type 0} (closed : List A) (last : A) → [] ≡ closed ++ last ∷ [] → ⊥
+pub no_last : {A : Type 0} (closed : List A) (last : A) → [] ≡ closed ++ last ∷ [] → ⊥
 no_last [] last e = absurd cc
 no_last (c ∷ closed) last e = absurd cc
 
@@ -34,7 +34,7 @@ module _ (queue : LogQueue) (version : Version) (files : List NumberedBytes) (ri
 
     pub first_ready : (missing : Missing) (left : List NumberedBytes) → missing ≡ FirstFile → left ≡ (1, []) ∷ [] → AreReadyBy queue version (missing_asks queue missing) files left
     first_ready missing left is first asks = record {
-      rising = rising;
+      accepted = first_accepted;
       ready = inl (record { none = none; asked = ap (λ (m : Missing). missing_asks queue m ++ asks) is; first = first });
     }
 
@@ -60,9 +60,9 @@ module _ (queue : LogQueue) (version : Version) (files : List NumberedBytes) (ri
     last_fault e (inl d) = inr (inl (record { closed = closed; last = last; split = split; damaged = d }))
     last_fault e (inr o) = inr (inr (record { closed = closed; last = last; split = split; other = o }))
 
-    pub untorn_ready : StopsAt (whole_file queue version last) (length last.1) → AreReadyBy queue version (missing_asks queue Nothing) files files
-    untorn_ready stops asks = record {
-      rising = rising;
+    pub untorn_ready : AreAccepted queue version files → StopsAt (whole_file queue version last) (length last.1) → AreReadyBy queue version (missing_asks queue Nothing) files files
+    untorn_ready accepted stops asks = record {
+      accepted = accepted;
       ready = inr (inl (record {
         asked = refl;
         same = refl;
@@ -70,10 +70,10 @@ module _ (queue : LogQueue) (version : Version) (files : List NumberedBytes) (ri
       }));
     }
 
-    pub cut_ready : (at : ℕ) (missing : Missing) (left : List NumberedBytes) → IsTornFrom (whole_file queue version last) (Some at) → missing ≡ Cut at → left ≡ cut_last at files
+    pub cut_ready : AreAccepted queue version files → (at : ℕ) (missing : Missing) (left : List NumberedBytes) → IsTornFrom (whole_file queue version last) (Some at) → missing ≡ Cut at → left ≡ cut_last at files
         → AreReadyBy queue version (missing_asks queue missing) files left
-    cut_ready at missing left torn is cut asks = record {
-      rising = rising;
+    cut_ready accepted at missing left torn is cut asks = record {
+      accepted = accepted;
       ready = inr (inr (record {
         at = at;
         closed = closed;

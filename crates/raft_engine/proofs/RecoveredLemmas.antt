@@ -1,7 +1,6 @@
 -- What a recovery gives of the files that are found.
-use Rattle.std.proofs.Common.{◌≡◌, ◌⊎◌, inl, inr, ℕ, ◌<◌, ◌^◌, List, ◌++◌, length, Vec, sym, ap, subst, ◌∙◌}
+use Rattle.std.proofs.Common.{◌≡◌, ◌⊎◌, inl, inr, ℕ, ◌+◌, ◌<◌, ◌^◌, List, [], ◌∷◌, ◌++◌, length, map, Vec, refl, sym, ap, subst, ◌∙◌, arith}
 use Rattle.std.specs.FinMap as finite
-use Rattle.std.specs.List.{AllByRecursion}
 use Rattle.std.specs.Global.{Global}
 use Rattle.raft_base.specs.Errors.{IsInvalidArgument}
 use Rattle.raft_base.specs.declared.errors.Error.{Error}
@@ -14,19 +13,21 @@ use Rattle.raft_records.specs.LogBatch.{Batch, empty_batch}
 use Rattle.raft_table.specs.Steps.{table_of}
 use Rattle.raft_history.specs.Batches.{Event, batches}
 use Rattle.raft_history.specs.Effects.{steps_of}
-use Rattle.raft_history.specs.Histories.{Apart, IsSmall}
+use Rattle.raft_history.specs.Histories.{Apart, IsSmall, Sound}
 use Rattle.raft_history.specs.RegionSteps.{steps_of_items, steps_on}
 use Rattle.raft_accessor.specs.Accessor.{Accessor}
 use Rattle.raft_files.specs.Asks.{NumberedBytes}
-use Rattle.raft_replay.specs.Segments.{CannotBeRead, SegmentsAreOf, SegmentsHold}
-use Rattle.raft_recover.specs.Files.{FilesCannotBeRead, FilesHold, bytes_of_files}
+use Rattle.raft_replay.specs.Segments.{SegmentsAreOf, SegmentsHold, parts_within}
+use Rattle.raft_replay.specs.Stops.{IsNothing, StopsAmong}
+use Rattle.raft_replay.specs.WrittenParts.{bytes_of_parts, bytes_of_segments}
+use Rattle.raft_recover.specs.Files.{AreWholeFiles, FilesHold, bytes_of_files, segment_shown, whole_file}
 use Rattle.raft_recover.specs.Recovery.{AreBothRecovered, MayReplayBoth}
-use Rattle.raft_engine_laws.specs.Groups.{HasNoMarker}
 use Rattle.raft_engine_laws.specs.Telling.{SayAllAtOpening, SayTheSame, TakeAway, told_items}
-use Rattle.raft_engine.specs.Opening.{ArePlain, AreRecovered, IsToldAtOpening, fronts_of, items_in, with_items}
+use Rattle.raft_engine.specs.Opening.{AreInRows, AreRecovered, IsToldAtOpening, fronts_of, items_in, with_items}
 use Rattle.raft_engine.specs.Unopened.{AreUnreadableAs, MayRecover}
 use Rattle.raft_engine.proofs.OpeningLemmas.{runs_found, says_all, take_away}
-use Rattle.raft_engine.proofs.PlainLemmas.{plain_are_apart}
+use Rattle.raft_engine_laws.specs.GroupsInRows.{AreGroupsInRows}
+use Rattle.raft_engine_laws.proofs.InRows.{rows_apart}
 
 module _
     (few_records : (queue : LogQueue) (version : Version) (files : List NumberedBytes) (h : List Event) → FilesHold queue version files h → bytes_of_files files < 2 ^ 63 → IsSmall h)
@@ -37,7 +38,7 @@ module _
     (append_segments rewrite_segments : List (Vec Part Global))
     (same_append : (h : List Event) → (FilesHold Append version append h → SegmentsHold append_segments h) × (SegmentsHold append_segments h → FilesHold Append version append h))
     (same_rewrite : (h : List Event) → (FilesHold Rewrite version rewrite h → SegmentsHold rewrite_segments h) × (SegmentsHold rewrite_segments h → FilesHold Rewrite version rewrite h))
-    (plain : ArePlain (SegmentsHold rewrite_segments)) (accessor : Accessor) (both : AreBothRecovered (SegmentsHold rewrite_segments) (SegmentsHold append_segments) accessor)
+    (rows : AreInRows (SegmentsHold rewrite_segments)) (accessor : Accessor) (both : AreBothRecovered (SegmentsHold rewrite_segments) (SegmentsHold append_segments) accessor)
     (told : Batch) (is_told : IsToldAtOpening (SegmentsHold append_segments) accessor.tables told) where
   append_held : FilesHold Append version append both.append
   append_held = (same_append both.append).1 both.append_held
@@ -51,8 +52,11 @@ module _
   rewrite_small : IsSmall both.rewrite
   rewrite_small = few_records Rewrite version rewrite both.rewrite rewrite_held few_rewrite
 
+  in_rows : AreGroupsInRows both.rewrite
+  in_rows = subst AreGroupsInRows (one rewrite_segments rows.batches both.rewrite rows.held both.rewrite_held) rows.rows
+
   apart : Apart both.rewrite
-  apart = subst Apart (one rewrite_segments plain.batches both.rewrite plain.held both.rewrite_held) (plain_are_apart plain.batches plain.plain)
+  apart = rows_apart both.rewrite in_rows
 
   abbrev all_items : List Item
   all_items = told_items (items_in both.append) ++ fronts_of is_told.of_tables.each
@@ -75,9 +79,18 @@ module _
     append_sound = both.append_sound append_small;
     rewrite_sound = both.rewrite_sound rewrite_small;
     apart = apart;
-    plain = subst (AllByRecursion HasNoMarker) (one rewrite_segments plain.batches both.rewrite plain.held both.rewrite_held) plain.plain;
+    rows = in_rows;
     reading = both.reading rewrite_small append_small apart;
     runs = runs_found accessor.tables is_told.of_tables.each is_told.of_tables.all is_told.of_tables.runs;
+    is_told = record {
+      removals = is_told.removals;
+      of_batches = record {
+        batches = is_told.of_batches.batches;
+        held = (same_append is_told.of_batches.batches).1 is_told.of_batches.held;
+        told = is_told.of_batches.told;
+      };
+      of_tables = is_told.of_tables;
+    };
     still_open = told_so ∙ ap (λ (l : List Item). record empty_batch { items = l }) items_so;
     away = subst TakeAway items_so (take_away away both.append is_told.of_tables.each);
     says = λ r. subst (λ (l : List Item). SayAllAtOpening (steps_of r (batches both.append)) (steps_on r (steps_of_items l)) (table_of r (finite.get accessor.tables r))) items_so
@@ -87,50 +100,73 @@ module _
 
 -- ---- why nothing is recovered
 
-unread : (queue : LogQueue) (version : Version) (files : List NumberedBytes) (segments : List (Vec Part Global))
-    → ((h : List Event) → (FilesHold queue version files h → SegmentsHold segments h) × (SegmentsHold segments h → FilesHold queue version files h))
-    → CannotBeRead segments → FilesCannotBeRead queue version files
-unread queue version files segments same c = record { unsound = λ h held small. c.unsound h ((same h).0 held) small }
+head_same : {A : Type 0} (x y : A) (xs ys : List A) → x ∷ xs ≡ y ∷ ys → x ≡ y
+head_same x y xs ys e = cc
+
+tail_same : {A : Type 0} (x y : A) (xs ys : List A) → x ∷ xs ≡ y ∷ ys → xs ≡ ys
+tail_same x y xs ys e = cc
+
+-- whole files, one after the other, are the parts of their segments, and have as many bytes
+whole_parts : (queue : LogQueue) (version : Version) (files : List NumberedBytes) (segments : List (Vec Part Global)) → AreWholeFiles queue version files segments
+    → parts_within segments ≡ map (whole_file queue version) files
+whole_parts queue version [] [] e = refl
+whole_parts queue version [] (s ∷ segments) e = absurd cc
+whole_parts queue version (f ∷ files) [] e = absurd cc
+whole_parts queue version (f ∷ files) (s ∷ segments) e =
+    let wholes : List (List Part) = map (λ (file : NumberedBytes). whole_file queue version file ∷ []) files in
+    let first : s.items ≡ whole_file queue version f ∷ [] = head_same s.items (whole_file queue version f ∷ []) (map segment_shown segments) wholes e in
+    let rest : map segment_shown segments ≡ wholes = tail_same s.items (whole_file queue version f ∷ []) (map segment_shown segments) wholes e in
+    ap (λ (l : List Part). l ++ parts_within segments) first ∙ ap (λ (l : List Part). whole_file queue version f ∷ l) (whole_parts queue version files segments rest)
+
+whole_bytes : (queue : LogQueue) (version : Version) (files : List NumberedBytes) (segments : List (Vec Part Global)) → AreWholeFiles queue version files segments
+    → bytes_of_segments segments ≡ bytes_of_files files
+whole_bytes queue version [] [] e = refl
+whole_bytes queue version [] (s ∷ segments) e = absurd cc
+whole_bytes queue version (f ∷ files) [] e = absurd cc
+whole_bytes queue version (f ∷ files) (s ∷ segments) e =
+    let wholes : List (List Part) = map (λ (file : NumberedBytes). whole_file queue version file ∷ []) files in
+    let first : s.items ≡ whole_file queue version f ∷ [] = head_same s.items (whole_file queue version f ∷ []) (map segment_shown segments) wholes e in
+    let rest : map segment_shown segments ≡ wholes = tail_same s.items (whole_file queue version f ∷ []) (map segment_shown segments) wholes e in
+    let one = ap bytes_of_parts first in
+    let more = whole_bytes queue version files segments rest in
+    omega (arith, one, more)
+
+-- segments of whole files of a queue, as many as files
+pub record AreSegmentsOfFiles (queue : LogQueue) (version : Version) (files : List NumberedBytes) (segments : List (Vec Part Global)) : Type 0 where
+  pub same : (h : List Event) → (FilesHold queue version files h → SegmentsHold segments h) × (SegmentsHold segments h → FilesHold queue version files h)
+  pub whole : AreWholeFiles queue version files segments
+  pub of_queue : SegmentsAreOf queue segments
+  pub count : length segments ≡ length files
+  pub few : bytes_of_files files < 2 ^ 63
+
+-- the same of a slice of them
+pub of_slice : (queue : LogQueue) (version : Version) (files : List NumberedBytes) (segments slice : List (Vec Part Global)) → slice ≡ segments → AreSegmentsOfFiles queue version files segments
+    → AreSegmentsOfFiles queue version files slice
+of_slice queue version files segments slice e s = subst (AreSegmentsOfFiles queue version files) (sym e) s
 
 pub unreadable_as : (version : Version) (workers : ℕ) (append rewrite : List NumberedBytes) (append_segments rewrite_segments : List (Vec Part Global)) (e : Error)
-    → ((h : List Event) → (FilesHold Append version append h → SegmentsHold append_segments h) × (SegmentsHold append_segments h → FilesHold Append version append h))
-    → ((h : List Event) → (FilesHold Rewrite version rewrite h → SegmentsHold rewrite_segments h) × (SegmentsHold rewrite_segments h → FilesHold Rewrite version rewrite h))
-    → SegmentsAreOf Append append_segments → SegmentsAreOf Rewrite rewrite_segments → length append_segments ≡ length append → length rewrite_segments ≡ length rewrite
-    → (MayReplayBoth workers rewrite_segments append_segments → CannotBeRead rewrite_segments ⊎ CannotBeRead append_segments)
+    → AreSegmentsOfFiles Append version append append_segments → AreSegmentsOfFiles Rewrite version rewrite rewrite_segments
+    → (MayReplayBoth workers rewrite_segments append_segments → bytes_of_segments rewrite_segments < 2 ^ 63 → bytes_of_segments append_segments < 2 ^ 63
+    → StopsAmong IsNothing Sound (parts_within rewrite_segments) e ⊎ StopsAmong IsNothing Sound (parts_within append_segments) e)
     → (¬ (MayReplayBoth workers rewrite_segments append_segments) → IsInvalidArgument e)
     → AreUnreadableAs version workers append rewrite e
-unreadable_as version workers append rewrite append_segments rewrite_segments e same_append same_rewrite of_append of_rewrite append_count rewrite_count refused fault = (
-  λ may. elim (refused (replay may)) [
-    | inl r ↦ inr (unread Rewrite version rewrite rewrite_segments same_rewrite r)
-    | inr a ↦ inl (unread Append version append append_segments same_append a)
-  ],
-  λ not. fault (λ both. not (recover both)),
-)
+unreadable_as version workers append rewrite append_segments rewrite_segments e a r place fault = record {
+  few = (a.few, r.few);
+  stops = λ may. elim (place (replay may) (few Rewrite rewrite rewrite_segments r) (few Append append append_segments a)) [
+    | inl s ↦ inr (subst (λ (parts : List Part). StopsAmong IsNothing Sound parts e) (whole_parts Rewrite version rewrite rewrite_segments r.whole) s)
+    | inr s ↦ inl (subst (λ (parts : List Part). StopsAmong IsNothing Sound parts e) (whole_parts Append version append append_segments a.whole) s)
+  ];
+  fault = λ not. fault (λ both. not (recover both));
+}
   where
+    few : (queue : LogQueue) (files : List NumberedBytes) (segments : List (Vec Part Global)) → AreSegmentsOfFiles queue version files segments → bytes_of_segments segments < 2 ^ 63
+    few queue files segments s = subst (λ (n : ℕ). n < 2 ^ 63) (sym (whole_bytes queue version files segments s.whole)) s.few
+
     replay : MayRecover workers append rewrite → MayReplayBoth workers rewrite_segments append_segments
     replay may = (
-      (may.0, may.1, subst (λ (n : ℕ). n < 2 ^ 62) (sym rewrite_count) may.3, of_rewrite),
-      (may.0, may.1, subst (λ (n : ℕ). n < 2 ^ 62) (sym append_count) may.2, of_append),
+      (may.0, may.1, subst (λ (n : ℕ). n < 2 ^ 62) (sym r.count) may.3, r.of_queue),
+      (may.0, may.1, subst (λ (n : ℕ). n < 2 ^ 62) (sym a.count) may.2, a.of_queue),
     )
 
     recover : MayReplayBoth workers rewrite_segments append_segments → MayRecover workers append rewrite
-    recover both = (both.0.0, both.0.1, subst (λ (n : ℕ). n < 2 ^ 62) append_count both.1.2, subst (λ (n : ℕ). n < 2 ^ 62) rewrite_count both.0.2)
-
--- the same of slices of the segments
-module _ (version : Version) (workers : ℕ) (append rewrite : List NumberedBytes) (append_segments rewrite_segments append_slice rewrite_slice : List (Vec Part Global)) (e : Error)
-    (same_slice : append_slice ≡ append_segments) (same_other : rewrite_slice ≡ rewrite_segments) where
-  abbrev SameAppend : List (Vec Part Global) → Type 0
-  SameAppend s = (h : List Event) → (FilesHold Append version append h → SegmentsHold s h) × (SegmentsHold s h → FilesHold Append version append h)
-
-  abbrev SameRewrite : List (Vec Part Global) → Type 0
-  SameRewrite s = (h : List Event) → (FilesHold Rewrite version rewrite h → SegmentsHold s h) × (SegmentsHold s h → FilesHold Rewrite version rewrite h)
-
-  pub unreadable_in : SameAppend append_segments → SameRewrite rewrite_segments → SegmentsAreOf Append append_segments → SegmentsAreOf Rewrite rewrite_segments
-      → length append_segments ≡ length append → length rewrite_segments ≡ length rewrite
-      → (MayReplayBoth workers rewrite_slice append_slice → CannotBeRead rewrite_slice ⊎ CannotBeRead append_slice)
-      → (¬ (MayReplayBoth workers rewrite_slice append_slice) → IsInvalidArgument e)
-      → AreUnreadableAs version workers append rewrite e
-  unreadable_in same_append same_rewrite of_append of_rewrite append_count rewrite_count refused fault =
-      unreadable_as version workers append rewrite append_slice rewrite_slice e (subst SameAppend (sym same_slice) same_append) (subst SameRewrite (sym same_other) same_rewrite)
-      (subst (SegmentsAreOf Append) (sym same_slice) of_append) (subst (SegmentsAreOf Rewrite) (sym same_other) of_rewrite)
-      (ap (λ (s : List (Vec Part Global)). length s) same_slice ∙ append_count) (ap (λ (s : List (Vec Part Global)). length s) same_other ∙ rewrite_count) refused fault
+    recover both = (both.0.0, both.0.1, subst (λ (n : ℕ). n < 2 ^ 62) a.count both.1.2, subst (λ (n : ℕ). n < 2 ^ 62) r.count both.0.2)

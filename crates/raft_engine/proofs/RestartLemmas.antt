@@ -22,11 +22,12 @@ use Rattle.raft_engine_fronts.specs.Done.{AreRisingFrom, numbers}
 use Rattle.raft_engine_fronts.specs.Fronts.{IsFrontWith}
 use Rattle.raft_engine_fronts.specs.TornTails.{FilesHoldTorn, IsFollowedAt, StopsAt}
 use Rattle.raft_engine.specs.CutFiles.{AreCut}
-use Rattle.raft_engine.specs.FoundFiles.{IsCut, IsFirstBegun, IsReady, IsUntorn}
+use Rattle.raft_engine.specs.FoundFiles.{IsCut, IsFirstBegun, IsLastOfOther, IsReady, IsUntorn}
 use Rattle.raft_engine.specs.KeptEngine.{KeptEngine}
 use Rattle.raft_engine.specs.Lasting.{AreFoundIn, IsLasting, IsLastingAfter}
 use Rattle.raft_engine.specs.Opened.{IsOpened}
-use Rattle.raft_engine.specs.Restarts.{AreAccepted, AreFromBefore, AreSegmentsOf, HaveSame, IsFoundByRestarts, IsKeptByRestarts, RestartsFind}
+use Rattle.raft_engine.specs.Restarts.{AreFromBefore, AreOpenable, AreSegmentsOf, HaveSame, IsFoundByRestarts, IsKeptByRestarts, RestartsFind}
+use Rattle.raft_engine.proofs.OpensLemmas.{openings_succeed}
 
 -- a front of all batches with the synced ones is all of them, if all are synced
 pub whole_front : (synced h front : List Event) → IsFrontWith synced h front → synced ≡ h → front ≡ h
@@ -74,7 +75,7 @@ module _
       (cut queue version c.closed c.last h c.at (subst (λ (fs : List NumberedBytes). FilesHoldTorn queue version fs h) c.split held) c.stops)
 
   -- segments hold what the files do
-  segments_one : (queue : LogQueue) (version : Version) (files : List NumberedBytes) (segments : List (Vec Part Global)) (g h : List Event) → (s : AreSegmentsOf queue version files segments)
+  pub segments_one : (queue : LogQueue) (version : Version) (files : List NumberedBytes) (segments : List (Vec Part Global)) (g h : List Event) → (s : AreSegmentsOf queue version files segments)
       → SegmentsHold segments g → FilesHoldTorn queue version files h → (g ≡ h) × IsSmall g
   segments_one queue version files segments g h s there held =
       let holds : FilesHold queue version s.cut g = (s.same g).1 there in (
@@ -132,11 +133,14 @@ module _
           subst (λ (fs : List NumberedBytes). FilesHold queue version fs h) (sym (c.cut ∙ ap (cut_last c.at) c.split))
           (cut queue version c.closed c.last h c.at (subst (λ (fs : List NumberedBytes). FilesHoldTorn queue version fs h) c.split held) c.torn.0)
 
-  one_accepted : (queue : LogQueue) (version : Version) (files : List NumberedBytes) (h : List Event) → AreRisingFrom 0 (numbers files) → FilesHoldTorn queue version files h → IsSoundIn queue h
-      → AreAccepted queue version files
-  one_accepted queue version files h rising held sound = record {
-    rising = rising;
-    undamaged = λ d. unfollowed queue version d.closed d.last h d.damaged.at (subst (λ (fs : List NumberedBytes). FilesHoldTorn queue version fs h) d.split held) d.damaged.stops d.damaged.followed;
+  one_openable : (queue : LogQueue) (version : Version) (files : List NumberedBytes) (h : List Event) → AreRisingFrom 0 (numbers files) → ¬ (IsLastOfOther queue version files)
+      → FilesHoldTorn queue version files h → IsSoundIn queue h → AreOpenable queue version files
+  one_openable queue version files h rising of_version held sound = record {
+    accepted = record {
+      rising = rising;
+      undamaged = λ d. unfollowed queue version d.closed d.last h d.damaged.at (subst (λ (fs : List NumberedBytes). FilesHoldTorn queue version fs h) d.split held) d.damaged.stops d.damaged.followed;
+      of_version = of_version;
+    };
     readable = λ asks later ready is few bad.
         let there = ready_held queue version asks later files ready h is held in
         bad.unsound h there (few_records queue version ready h there few) (record { queue = queue; sound = sound });
@@ -158,10 +162,16 @@ module _
         );
     accepted = λ append rewrite a r.
         let f = (l.left append rewrite a r).2 in (
-          one_accepted Append version append f.appended f.append_rising f.append_held f.append_sound,
-          one_accepted Rewrite version rewrite f.rewritten f.rewrite_rising f.rewrite_held f.rewrite_sound,
-          λ asked later ready is. record { batches = f.rewritten; held = ready_held Rewrite version asked later rewrite ready f.rewritten is f.rewrite_held; plain = f.plain },
+          one_openable Append version append f.appended f.append_rising (l.of_version Append append a) f.append_held f.append_sound,
+          one_openable Rewrite version rewrite f.rewritten f.rewrite_rising (l.of_version Rewrite rewrite r) f.rewrite_held f.rewrite_sound,
+          λ asked later ready is. record { batches = f.rewritten; held = ready_held Rewrite version asked later rewrite ready f.rewritten is f.rewrite_held; rows = f.rows },
         );
+    opens = λ append rewrite a r.
+        let f = (l.left append rewrite a r).2 in
+        openings_succeed version append rewrite
+        (one_openable Append version append f.appended f.append_rising (l.of_version Append append a) f.append_held f.append_sound)
+        (one_openable Rewrite version rewrite f.rewritten f.rewrite_rising (l.of_version Rewrite rewrite r) f.rewrite_held f.rewrite_sound)
+        (λ asked later ready is none. none f.rewritten (ready_held Rewrite version asked later rewrite ready f.rewritten is f.rewrite_held) f.rewrite_sound.markers f.rows);
     whole =
         restarts_find content version (files_of Append asks) (files_of Rewrite asks) (live content base l.batches) (λ tables. HaveRecords content tables (live content base l.batches)) (λ tables have. have) l.whole;
     told = λ queue told files left is cut_is. l.told queue told files left is cut_is;

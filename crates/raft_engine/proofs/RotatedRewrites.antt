@@ -14,7 +14,9 @@ use Rattle.raft_engine.specs.MovedAgain.{IsRewriteHalfRotated, IsRewriteRotated,
 use Rattle.raft_engine.specs.Stored.{AreKeptStored}
 use Rattle.raft_engine.specs.StoredAsks.{NewFilesAreStored, SyncsAreStored}
 use Rattle.raft_engine.specs.declared.queue_files.QueueFiles.{QueueFiles}
+use Rattle.raft_engine.specs.ReadBack.{IsReadBackAlone}
 use Rattle.raft_engine.proofs.FilesLemmas.{files_last, files_same}
+use Rattle.raft_engine.proofs.ReadBackLemmas.{rewrite_begun_read_back, same_read_back}
 
 -- a new file behind the last one
 rewrites_begun : (asks : List Ask) (files other : QueueFiles) → other.closed.items ≡ files.closed.items ++ files.seq ∷ [] → other.len ≡ 0
@@ -51,6 +53,7 @@ module _ (version : Version) (asks : List Ask) (append rewrite : QueueFiles) (un
       take_away = w.take_away;
       append_files = w.append_files;
       rewrite_files = files_same Rewrite asks asks rewrite rewrite' refl refl closed seq len w.rewrite_files;
+      read_back = w.read_back;
     };
   }
 
@@ -126,6 +129,8 @@ module _ (version : Version) (asks : List Ask) (append rewrite : QueueFiles) (un
                 append_files = subst (λ (l : List Ask). AreFilesOf Append l append) (sym are_asked)
                     (files_same Append asks (ask Rewrite (Begin (rewrite.seq + 1)) ∷ ask Rewrite Sync ∷ asks) append append refl refl refl refl refl w.append_files);
                 rewrite_files = subst (λ (l : List Ask). AreFilesOf Rewrite l rewrite') (ap (λ (n : ℕ). ask Rewrite (Begin n) ∷ ask Rewrite Sync ∷ asks) seq ∙ sym are_asked) next;
+                read_back = subst (λ (l : List Ask). IsReadBackAlone version l accessor) (sym are_asked)
+                    (rewrite_begun_read_back version (ask Rewrite Sync ∷ asks) (rewrite.seq + 1) accessor (same_read_back version asks (ask Rewrite Sync ∷ []) accessor refl refl w.read_back));
               };
             }
 

@@ -1,5 +1,5 @@
 -- What each ask makes of what is stored of an engine.
-use Rattle.std.proofs.Common.{◌≡◌, ℕ, ◌+◌, ◌<◌, true, List, [], ◌∷◌, ◌++◌, Some, length, map, refl, sym, subst, append-nil}
+use Rattle.std.proofs.Common.{◌≡◌, inl, inr, ℕ, ◌+◌, ◌<◌, true, List, [], ◌∷◌, ◌++◌, Some, length, map, refl, sym, ap, subst, append-nil}
 use Rattle.std.specs.FinMap as finite
 use Rattle.raft_base.specs.declared.compression_type.CompressionType.{CompressionType}
 use Rattle.raft_base.specs.declared.compression_type.CompressionType.TheVariants as compressions
@@ -33,11 +33,12 @@ use Rattle.raft_engine_fronts.specs.Contents.{AreBothTold, KeepsBytes}
 use Rattle.raft_engine_fronts.specs.Done.{LastFileIsNext}
 use Rattle.raft_engine.specs.BatchBytes.{bytes_for, place_at, placed_at}
 use Rattle.raft_engine.specs.KeptEngine.{KeptEngine}
-use Rattle.raft_engine.specs.Lasting.{AreSynced, IsLasting, IsLastingAfter}
+use Rattle.raft_engine.specs.Lasting.{AreSynced, IsBegunOrFound, IsLasting, IsLastingAfter}
 use Rattle.raft_engine.specs.Stored.{AreAllDone, AreEverLasting, AreKeptStored, AreStored, Bases}
 use Rattle.raft_engine.specs.StoredAsks.{DeletionsAreStored, FirstFilesAreStored, IsWritableBatch, NewFilesAreStored, SyncsAreStored, ToldBatchesAreStored, WhatIsDoneLasts, WrittenBatchesAreStored}
 use Rattle.raft_engine.proofs.DoneLemmas.{deeds_synced}
-use Rattle.raft_engine.proofs.PlainLemmas.{all-more}
+use Rattle.raft_engine_laws.proofs.InRows.{rows_alone}
+use Rattle.raft_engine.proofs.OfVersionLemmas.{both_not_other}
 use Rattle.raft_engine.proofs.UntoldLemmas.{placed_away, placed_steps}
 
 -- steps that say the same as untold ones, and others that are none, say the same
@@ -52,6 +53,11 @@ no_more x rest e = absurd cc
 same_rest : (a x : Ask) (asked rest : List Ask) → a ∷ asked ≡ x ∷ rest → asked ≡ rest
 same_rest a x asked rest e = cc
 
+-- what was asked first stays so
+pub first_on : (a : Ask) (asked : List Ask) → IsBegunOrFound asked → IsBegunOrFound (a ∷ asked)
+first_on a asked (inl f) = inl (a ∷ f.0, ap (λ (l : List Ask). a ∷ l) f.1)
+first_on a asked (inr f) = inr (a ∷ f.0, f.1, f.2, ap (λ (l : List Ask). a ∷ l) f.3)
+
 module _
     (lasts : WhatIsDoneLasts)
     (lose : (content : EntryIndex → List ℕ) (base : ℕ → Records) (appended rewritten : List Deed) (untold : List RegionStep)
@@ -60,7 +66,8 @@ module _
   lasting_stored : (version : Version) (asked : List Ask) (base : Bases) (untold : List Item) (tables : Tables) (s : AreStored version asked base untold tables)
       (content : EntryIndex → List ℕ) → AreBothTold asked content → (lasting : IsLastingAfter content version (base content) asked) × (lasting.batches ≡ written s.appended)
   lasting_stored version asked base untold tables s content told =
-      lasts content version (base content) asked s.appended s.rewritten s.append_done.done.done s.rewrite_done.done.done s.append_done.put.put s.plain
+      lasts content version (base content) asked s.appended s.rewritten s.append_done.done.done s.rewrite_done.done.done s.append_done.put.put
+      (both_not_other version asked s.append_done.of_version s.rewrite_done.of_version) s.rows
       (lose content (base content) s.appended s.rewritten (steps_of_items untold) tables (s.safe content told))
 
   stored_lasts : (version : Version) (asked : List Ask) (base : Bases) (untold : List Item) (tables : Tables) → AreStored version asked base untold tables
@@ -68,27 +75,29 @@ module _
   stored_lasts version asked base untold tables s content told = (lasting_stored version asked base untold tables s content told).0
 
   -- after nothing was asked
-  stored_at_first : (version : Version) (base : Bases) (untold : List Item) (tables : Tables) → AreStored version [] base untold tables → AreKeptStored version [] base untold tables
-  stored_at_first version base untold tables s = record { now = s; ever = go }
-    where
-      go : AreEverLasting version [] base
-      go content told [] earlier e begun = subst (λ (l : List Ask). IsLastingAfter content version (base content) l) e (stored_lasts version [] base untold tables s content told)
-      go content told (x ∷ later) earlier e begun = absurd (no_more x (later ++ earlier) e)
+  ever_at_first : (version : Version) (base : Bases) (untold : List Item) (tables : Tables) → AreStored version [] base untold tables → AreEverLasting version [] base
+  ever_at_first version base untold tables s content told [] earlier e begun =
+      subst (λ (l : List Ask). IsLastingAfter content version (base content) l) e (stored_lasts version [] base untold tables s content told)
+  ever_at_first version base untold tables s content told (x ∷ later) earlier e begun = absurd (no_more x (later ++ earlier) e)
 
   -- after one ask more
+  ever_on : (version : Version) (a : Ask) (asked : List Ask) (base : Bases) (untold : List Item) (tables : Tables) → KeepsBytes a.act
+      → AreEverLasting version asked base → AreStored version (a ∷ asked) base untold tables → AreEverLasting version (a ∷ asked) base
+  ever_on version a asked base untold tables kept ever s content told [] earlier e begun =
+      subst (λ (l : List Ask). IsLastingAfter content version (base content) l) e (stored_lasts version (a ∷ asked) base untold tables s content told)
+  ever_on version a asked base untold tables kept ever s content told (x ∷ later) earlier e begun =
+      ever content (keep asked a content kept told) later earlier (same_rest a x asked (later ++ earlier) e) begun
+
   pub goes_on : (version : Version) (a : Ask) (asked : List Ask) (base : Bases) (untold : List Item) (tables : Tables) → KeepsBytes a.act
-      → AreEverLasting version asked base → AreStored version (a ∷ asked) base untold tables → AreKeptStored version (a ∷ asked) base untold tables
-  goes_on version a asked base untold tables kept ever s = record { now = s; ever = go }
-    where
-      go : AreEverLasting version (a ∷ asked) base
-      go content told [] earlier e begun = subst (λ (l : List Ask). IsLastingAfter content version (base content) l) e (stored_lasts version (a ∷ asked) base untold tables s content told)
-      go content told (x ∷ later) earlier e begun = ever content (keep asked a content kept told) later earlier (same_rest a x asked (later ++ earlier) e) begun
+      → IsBegunOrFound asked → AreEverLasting version asked base → AreStored version (a ∷ asked) base untold tables → AreKeptStored version (a ∷ asked) base untold tables
+  goes_on version a asked base untold tables kept first ever s = record { first = first_on a asked first; now = s; ever = ever_on version a asked base untold tables kept ever s }
 
   -- what lasts of an engine
   pub stored_is_lasting : (content : EntryIndex → List ℕ) (engine : KeptEngine) → AreBothTold engine.asks content → (base : Bases) (untold : List Item) (tables : Tables) → AreKeptStored engine.version engine.asks base untold tables
       → (engine.intact ≡ true → engine.accessor.tables ≡ tables) → IsLasting content engine
   stored_is_lasting content engine told base untold tables k are =
       let l = lasting_stored engine.version engine.asks base untold tables k.now content told in record {
+        first = k.first;
         base = base content;
         now = l.0;
         has = λ intact. subst (λ (h : List Event). HaveRecords content engine.accessor.tables (live content (base content) h)) (sym l.1)
@@ -106,11 +115,12 @@ module _
       let base : Bases = λ content. no_base in
       let none_in : (queue : LogQueue) → AreAllDone queue version [] [] = λ queue. none queue version in
       let first_in : (queue : LogQueue) → AreAllDone queue version (Begin 1 ∷ []) [] = λ queue. first queue version (none queue version) in
-      let one = stored_at_first version base [] finite.empty (record { appended = []; rewritten = []; append_done = none_in Append; rewrite_done = none_in Rewrite; plain = tt; safe = λ content told. safe content }) in
-      let two = goes_on version (ask Append (Begin 1)) [] base [] finite.empty tt one.ever
-      (record { appended = []; rewritten = []; append_done = first_in Append; rewrite_done = none_in Rewrite; plain = tt; safe = λ content told. safe content }) in
-      goes_on version (ask Rewrite (Begin 1)) (ask Append (Begin 1) ∷ []) base [] finite.empty tt two.ever
-      (record { appended = []; rewritten = []; append_done = first_in Append; rewrite_done = first_in Rewrite; plain = tt; safe = λ content told. safe content })
+      let one = ever_at_first version base [] finite.empty (record { appended = []; rewritten = []; append_done = none_in Append; rewrite_done = none_in Rewrite; rows = tt; safe = λ content told. safe content }) in
+      let two = ever_on version (ask Append (Begin 1)) [] base [] finite.empty tt one
+      (record { appended = []; rewritten = []; append_done = first_in Append; rewrite_done = none_in Rewrite; rows = tt; safe = λ content told. safe content }) in
+      let now : AreStored version (ask Rewrite (Begin 1) ∷ ask Append (Begin 1) ∷ []) base [] finite.empty =
+      record { appended = []; rewritten = []; append_done = first_in Append; rewrite_done = first_in Rewrite; rows = tt; safe = λ content told. safe content } in
+      record { first = inl ([], refl); now = now; ever = ever_on version (ask Rewrite (Begin 1)) (ask Append (Begin 1) ∷ []) base [] finite.empty tt two now }
 
   -- ---- a sync
 
@@ -124,22 +134,22 @@ module _
     pub sync_stored : SyncsAreStored
     sync_stored Append version asked base untold tables k =
         let s = k.now in
-        goes_on version (ask Append Sync) asked base untold tables tt k.ever (record {
+        goes_on version (ask Append Sync) asked base untold tables tt k.first k.ever (record {
           appended = queue_deeds.Sync ∷ s.appended;
           rewritten = s.rewritten;
           append_done = done Append version (acts_on Append asked) s.appended s.append_done;
           rewrite_done = s.rewrite_done;
-          plain = s.plain;
+          rows = s.rows;
           safe = λ content told. safe_append content (base content) s.appended s.rewritten (steps_of_items untold) tables (s.safe content (keep asked (ask Append Sync) content tt told));
         })
     sync_stored Rewrite version asked base untold tables k =
         let s = k.now in
-        goes_on version (ask Rewrite Sync) asked base untold tables tt k.ever (record {
+        goes_on version (ask Rewrite Sync) asked base untold tables tt k.first k.ever (record {
           appended = s.appended;
           rewritten = queue_deeds.Sync ∷ s.rewritten;
           append_done = s.append_done;
           rewrite_done = done Rewrite version (acts_on Rewrite asked) s.rewritten s.rewrite_done;
-          plain = s.plain;
+          rows = s.rows;
           safe = λ content told. safe_rewrite content (base content) s.appended s.rewritten (steps_of_items untold) tables (s.safe content (keep asked (ask Rewrite Sync) content tt told));
         })
 
@@ -150,22 +160,22 @@ module _
       → NewFilesAreStored
   begin_stored done Append version asked base untold tables seq bytes next synced last less k =
       let s = k.now in
-      goes_on version (ask Append (Begin next)) asked base untold tables tt k.ever (record {
+      goes_on version (ask Append (Begin next)) asked base untold tables tt k.first k.ever (record {
         appended = s.appended;
         rewritten = s.rewritten;
         append_done = done Append version (acts_on Append asked) s.appended last.closed (seq, bytes) next synced last.files less s.append_done;
         rewrite_done = s.rewrite_done;
-        plain = s.plain;
+        rows = s.rows;
         safe = λ content told. s.safe content (keep asked (ask Append (Begin next)) content tt told);
       })
   begin_stored done Rewrite version asked base untold tables seq bytes next synced last less k =
       let s = k.now in
-      goes_on version (ask Rewrite (Begin next)) asked base untold tables tt k.ever (record {
+      goes_on version (ask Rewrite (Begin next)) asked base untold tables tt k.first k.ever (record {
         appended = s.appended;
         rewritten = s.rewritten;
         append_done = s.append_done;
         rewrite_done = done Rewrite version (acts_on Rewrite asked) s.rewritten last.closed (seq, bytes) next synced last.files less s.rewrite_done;
-        plain = s.plain;
+        rows = s.rows;
         safe = λ content told. s.safe content (keep asked (ask Rewrite (Begin next)) content tt told);
       })
 
@@ -201,12 +211,12 @@ module _
         let in_file = placed place compressions.None 0 batch.items w.tiled.tiled in
         let is_next : IsNextIn Append s.appended e = next Append version acts s.appended last.closed (seq, bytes) e s.append_done.done last.files refl in_file tt in
         goes_on version (ask Append (Put (bytes_for (record { id = record { queue = Append; seq = seq }; version = version }) batch))) asked base
-        (untold ++ told_items (taking_items tables batch.items)) new tt k.ever (record {
+        (untold ++ told_items (taking_items tables batch.items)) new tt k.first k.ever (record {
           appended = Write e ∷ s.appended;
           rewritten = s.rewritten;
           append_done = put Append version acts s.appended last.closed (seq, bytes) handle batch w refl refl last.files s.append_done;
           rewrite_done = s.rewrite_done;
-          plain = s.plain;
+          rows = s.rows;
           safe = λ content told. same content (base content) (Write e ∷ s.appended) s.rewritten (steps_of_items untold ++ taking_steps tables (steps_of_items e.items)) new
               (safe content (base content) s.appended s.rewritten (steps_of_items untold) tables new e (s.safe content (keep asked (ask Append (Put (bytes_for (record { id = record { queue = Append; seq = seq }; version = version }) batch))) content tt told)) is_next taken)
               (steps_of_items (untold ++ told_items (taking_items tables batch.items))) (more tables place compressions.None untold batch.items);
@@ -234,12 +244,12 @@ module _
         let taken : TakeAway items = placed_away place compressions.None batch.items away in
         let is_next : IsNextIn Rewrite s.rewritten e = next Rewrite version acts s.rewritten last.closed (seq, bytes) e s.rewrite_done.done last.files refl (in_file id items taken) (status items taken) in
         let steps : steps_of_items items ≡ steps_of_items batch.items = placed_steps place compressions.None batch.items away in
-        goes_on version (ask Rewrite (Put (bytes_for (record { id = id; version = version }) batch))) asked base [] tables tt k.ever (record {
+        goes_on version (ask Rewrite (Put (bytes_for (record { id = id; version = version }) batch))) asked base [] tables tt k.first k.ever (record {
           appended = s.appended;
           rewritten = Write e ∷ s.rewritten;
           append_done = s.append_done;
           rewrite_done = put Rewrite version acts s.rewritten last.closed (seq, bytes) handle batch w refl refl last.files s.rewrite_done;
-          plain = all-more HasNoMarker (written s.rewritten) e s.plain (unmarked id items taken);
+          rows = rows_alone (written s.rewritten) e (unmarked id items taken) s.rows;
           safe = λ content told. safe content (base content) s.appended s.rewritten (steps_of_items batch.items) tables e (s.safe content (keep asked (ask Rewrite (Put (bytes_for (record { id = id; version = version }) batch))) content tt told)) is_next
               (deeds_synced Append version (acts_on Append asked) s.appended s.append_done synced) (unmarked id items taken) [] (removals items taken)
               (λ r. all_told r (steps_of_items items) (steps_of_items batch.items) steps);
@@ -253,15 +263,15 @@ module _
       → ((content : EntryIndex → List ℕ) (base : ℕ → Records) (appended rewritten : List Deed) (tables : Tables) (n : ℕ)
       → IsSafe content base appended rewritten [] tables → IsSynced appended → IsSynced rewritten
       → AreLeastFrom Append n tables → IsSafe content base (Delete n ∷ appended) rewritten [] tables)
-      → DeletionsAreStored
+      → DeletionsAreStored Append
   delete_stored done safe version asked base tables gone rest oldest next append_synced rewrite_synced is count least k =
       let s = k.now in
-      goes_on version (ask Append asks.Delete) asked base [] tables tt k.ever (record {
+      goes_on version (ask Append asks.Delete) asked base [] tables tt k.first k.ever (record {
         appended = Delete (oldest.0 + 1) ∷ s.appended;
         rewritten = s.rewritten;
         append_done = done Append version (acts_on Append asked) s.appended gone rest oldest next is count s.append_done;
         rewrite_done = s.rewrite_done;
-        plain = s.plain;
+        rows = s.rows;
         safe = λ content told. safe content (base content) s.appended s.rewritten tables (oldest.0 + 1) (s.safe content (keep asked (ask Append asks.Delete) content tt told))
             (deeds_synced Append version (acts_on Append asked) s.appended s.append_done append_synced)
             (deeds_synced Rewrite version (acts_on Rewrite asked) s.rewritten s.rewrite_done rewrite_synced) least;

@@ -1,8 +1,9 @@
 -- What an engine keeps once a batch is written.
-use Rattle.std.proofs.Common.{◌≡◌, ◌⊎◌, inl, inr, ℕ, ◌+◌, Bool, true, false, List, [], ◌∷◌, ◌++◌, Some, Result, Ok, Err, IfErr, OnOk, OnErr, length, map, refl, sym, ap, ◌∙◌, subst, append-nil}
+use Rattle.std.proofs.Common.{◌≡◌, ◌≢◌, ◌⊎◌, inl, inr, ℕ, ◌+◌, Bool, true, false, List, [], ◌∷◌, ◌++◌, Some, Result, Ok, Err, IfErr, OnOk, OnErr, length, map, refl, sym, ap, ◌∙◌, subst, append-nil}
 use Rattle.raft_base.specs.Signature.{signature_in}
 use Rattle.raft_base.specs.declared.compression_type.CompressionType.TheVariants as compressions
 use Rattle.raft_base.specs.declared.errors.Error.{Error}
+use Rattle.raft_base.specs.declared.errors.Error.TheVariants as errors
 use Rattle.raft_base.specs.declared.pipe_log.FileId.{FileId}
 use Rattle.raft_base.specs.declared.pipe_log.LogFileContext.{LogFileContext}
 use Rattle.raft_base.specs.declared.pipe_log.LogQueue.TheVariants.{Append, Rewrite}
@@ -19,17 +20,20 @@ use Rattle.raft_accessor.specs.Writes.{Appending, AreWritten, after_items}
 use Rattle.raft_files.specs.Asks.{Ask, MayBeAsked, NumberedBytes, Put, Sync, acts_on, ask}
 use Rattle.raft_files.specs.Disk.{begun, deletions}
 use Rattle.raft_recover.specs.Files.{FilesHold}
+use Rattle.raft_engine_laws.specs.Stops as queue_deeds
 use Rattle.raft_engine_laws.specs.Telling.{TakeAway, taking_items, told_items}
 use Rattle.raft_engine_fronts.specs.Fronts.{ArePutWhole, WrittenBatchIsPut}
 use Rattle.raft_engine_fronts.proofs.TornLemmas.{whole_torn}
 use Rattle.raft_engine.specs.BatchBytes.{bytes_for, event_at, place_at, placed_at}
 use Rattle.raft_engine.specs.KeptEngine.{IsLastFile, KeptEngine}
 use Rattle.raft_engine.specs.KeptEngineView.{AreFilesOf, IsKeptBy}
+use Rattle.raft_engine.specs.ReadBack.{IsReadBackAlone, WrittenBatchesAreReadBack}
 use Rattle.raft_engine.specs.Stored.{AreKeptStored}
 use Rattle.raft_engine.specs.StoredAsks.{IsWritableBatch, SyncsAreStored, WrittenBatchesAreStored}
-use Rattle.raft_engine.specs.WrittenBatch.{AreFirstWritten, IsHalfWritten, IsOneMore, IsUnwritten, file_of, synced_if}
+use Rattle.raft_engine.specs.WrittenBatch.{AreFirstWritten, IsHalfWritten, IsOneMore, IsUnwritten, LacksRoom, file_of, synced_if}
 use Rattle.raft_engine.specs.declared.queue_files.QueueFiles.{QueueFiles}
 use Rattle.raft_engine.proofs.FilesLemmas.{files_last, files_put, files_same}
+use Rattle.raft_engine.proofs.ReadBackLemmas.{none_before, same_read_back}
 use Rattle.raft_engine.proofs.UntoldLemmas.{away-append, raised_same}
 
 -- a batch that can be put, and that the tables accept
@@ -114,10 +118,10 @@ module _
   placed_made = ap (λ (f : LogFileContext). placed_at f.id append.len made) is_file ∙ ap (λ (b : Batch). placed_at id append.len b) is_made
 
   -- the batch is half written
-  half_by : (sync : Bool) (new : List Ask) (untold' : Batch) (other : Accessor) (missing part : List Ask) → synced_if sync (its_ask ∷ []) ≡ missing ++ part → new ≡ part ++ asks
-      → (other ≡ accessor) ⊎ ((missing ≡ []) × AreFirstWritten Appending (placed_at id (length old_bytes) batch) accessor other)
-      → IsHalfWritten sync batch engine (record { version = version; asks = new; untold = untold'; accessor = other; intact = false })
-  half_by sync new untold' other missing part split e tables = record {
+  half_by : (sync : Bool) (new : List Ask) (untold' : Batch) (other : Accessor) (error : Error) (missing part : List Ask) → synced_if sync (its_ask ∷ []) ≡ missing ++ part → new ≡ part ++ asks
+      → (other ≡ accessor) ⊎ ((missing ≡ []) × LacksRoom error × AreFirstWritten Appending (placed_at id (length old_bytes) batch) accessor other)
+      → IsHalfWritten sync batch engine (record { version = version; asks = new; untold = untold'; accessor = other; intact = false }) error
+  half_by sync new untold' other error missing part split e tables = record {
     seq = append.seq;
     bytes = old_bytes;
     last = its_last;
@@ -126,19 +130,23 @@ module _
     tables = tables;
   }
 
-  module _ (sync : Bool) (new : List Ask) (untold' : Batch) (other : Accessor) where
+  -- what the tables accepted they accept where it was placed
+  pub placed_accepted : (items : List Item) → items ≡ placed_at file.id append.len made → AreAccepted accessor.tables items
+  placed_accepted items placed = subst (AreAccepted accessor.tables) (sym (placed ∙ placed_made)) accepted
+
+  module _ (sync : Bool) (new : List Ask) (untold' : Batch) (other : Accessor) (error : Error) where
     pub half_written : MayBeAsked (ask file.id.queue (Put (bytes_for file made))) asks new → other ≡ accessor
-        → IsHalfWritten sync batch engine (record { version = version; asks = new; untold = untold'; accessor = other; intact = false })
-    half_written (inl e) same = half_by sync new untold' other _ [] (sym (append-nil _)) e (inl same)
-    half_written (inr e) same = half_by sync new untold' other (synced_if sync []) (its_ask ∷ []) (parts_if sync its_ask) (e ∙ ask_made) (inl same)
+        → IsHalfWritten sync batch engine (record { version = version; asks = new; untold = untold'; accessor = other; intact = false }) error
+    half_written (inl e) same = half_by sync new untold' other error _ [] (sym (append-nil _)) e (inl same)
+    half_written (inr e) same = half_by sync new untold' other error (synced_if sync []) (its_ask ∷ []) (parts_if sync its_ask) (e ∙ ask_made) (inl same)
 
     pub whole_asked : new ≡ synced_if sync (ask file.id.queue (Put (bytes_for file made)) ∷ asks)
-        → (items : List Item) → items ≡ placed_at file.id append.len made → AreFirstWritten Appending items accessor other
-        → IsHalfWritten sync batch engine (record { version = version; asks = new; untold = untold'; accessor = other; intact = false })
-    whole_asked e items placed first =
+        → (items : List Item) → items ≡ placed_at file.id append.len made → AreFirstWritten Appending items accessor other → LacksRoom error
+        → IsHalfWritten sync batch engine (record { version = version; asks = new; untold = untold'; accessor = other; intact = false }) error
+    whole_asked e items placed first room =
         let are_items = placed ∙ placed_made ∙ ap (λ (n : ℕ). placed_at id n batch) (k.whole is_intact).append_files.ends in
-        half_by sync new untold' other [] _ refl (e ∙ ap (synced_if sync) ask_made ∙ front_if sync its_ask asks)
-        (inr (refl, subst (λ (l : List Item). AreFirstWritten Appending l accessor other) are_items first))
+        half_by sync new untold' other error [] _ refl (e ∙ ap (synced_if sync) ask_made ∙ front_if sync its_ask asks)
+        (inr (refl, room, subst (λ (l : List Item). AreFirstWritten Appending l accessor other) are_items first))
 
   -- the bytes were put or not, and the engine isn't intact any more
   pub kept_half : (new : List Ask) (append' rewrite' : QueueFiles) (untold' : Batch) (other : Accessor) → MayBeAsked (ask file.id.queue (Put (bytes_for file made))) asks new → IsKeptBy version new append' rewrite' untold' other false
@@ -192,9 +200,9 @@ module _
       untold_more = merged untold taken untold' told is_untold is_taken away
 
       -- the batch is written to the tables too
-      pub kept_more : (n : ℕ) (append' : QueueFiles) → n ≡ encoded_length batch.items batch.entry_bytes
+      pub kept_more : WrittenBatchesAreReadBack → (n : ℕ) (append' : QueueFiles) → n ≡ encoded_length batch.items batch.entry_bytes
           → append'.closed.items ≡ append.closed.items → append'.seq ≡ append.seq → append'.len ≡ append.len + n → IsKeptBy version new append' rewrite untold' other true
-      kept_more n append' long closed seq len =
+      kept_more read_back n append' long closed seq len =
           let w = k.whole is_intact in
           let bytes : List ℕ = bytes_for (record { id = id; version = version }) batch in
           let size : n ≡ length bytes = long ∙ sym (log_batch_length (signature_in version append.seq) batch.items batch.entry_bytes) in
@@ -211,8 +219,18 @@ module _
               take_away = away-append k.untold told w.take_away away;
               append_files = subst (λ (l : List Ask). AreFilesOf Append l append') (sym are_new) files;
               rewrite_files = subst (λ (l : List Ask). AreFilesOf Rewrite l rewrite) (sym are_new) others;
+              read_back = subst (λ (l : List Ask). IsReadBackAlone version l other) (sym are_new) (synced_back sync (written_back w.read_back));
             };
           }
+        where
+          written_back : IsReadBackAlone version asks accessor → IsReadBackAlone version (its_ask ∷ asks) other
+          written_back back none =
+              read_back version asks accessor other k.stored.now.append_done.done.done.first append.seq old_bytes batch its_last k.stored.now.append_done.done.done.rising ready.writable
+              (subst (λ (m : ℕ). AreWritten Appending (placed_at id m batch) accessor other) (k.whole is_intact).append_files.ends written_too) (back (none_before Rewrite version (its_ask ∷ []) asks none))
+
+          synced_back : (s : Bool) → IsReadBackAlone version (its_ask ∷ asks) other → IsReadBackAlone version (synced_if s (its_ask ∷ asks)) other
+          synced_back true back = same_read_back version (its_ask ∷ asks) (ask Append Sync ∷ []) other refl refl back
+          synced_back false back = back
 
       -- one batch more
       pub one_more : (put : WrittenBatchIsPut) → IsOneMore sync batch engine (record { version = version; asks = new; untold = untold'; accessor = other; intact = true })
@@ -221,11 +239,28 @@ module _
         bytes = old_bytes;
         last = its_last;
         asked = are_new;
+        before = queue_deeds.written k.stored.now.appended;
+        whole = k.stored.now.append_done.put.whole;
         held = held_more put;
         applied = subst (λ (n : ℕ). AreWritten Appending (placed_at id n batch) accessor other) (k.whole is_intact).append_files.ends written_too;
         untold = untold_more;
         others = ap (λ (b : Bool). record { version = version; asks = new; untold = untold'; accessor = other; intact = b }) (sym is_intact);
       }
+
+-- untold items aren't joined for want of room alone
+pub merge_room : {P : Type 0} (e : Error) → (e ≢ errors.Memory → (e ≡ errors.Full) × P) → LacksRoom e
+merge_room errors.Memory f = inl refl
+merge_room errors.Full f = inr refl
+merge_room (errors.Corruption text) f = inr (f (λ p. cc)).0
+merge_room (errors.InvalidArgument text) f = inr (f (λ p. cc)).0
+merge_room (errors.Io text) f = inr (f (λ p. cc)).0
+merge_room (errors.Codec text) f = inr (f (λ p. cc)).0
+merge_room (errors.Message text) f = inr (f (λ p. cc)).0
+merge_room (errors.TryAgain text) f = inr (f (λ p. cc)).0
+merge_room errors.EntryCompacted f = inr (f (λ p. cc)).0
+merge_room errors.EntryNotFound f = inr (f (λ p. cc)).0
+merge_room (errors.Other text) f = inr (f (λ p. cc)).0
+merge_room errors.Failed f = inr (f (λ p. cc)).0
 
 -- ---- a batch without items
 

@@ -131,9 +131,9 @@ pub record IsFirstBegun (queue : LogQueue) (asks later : List Ask) (files left :
   pub asked : later ≡ ask queue (Begin 1) ∷ asks
   pub first : left ≡ (1, []) ∷ []
 
--- the numbers of a queue's found files rise, and it is ready for what is put next: its first file is begun, if there is none, and a torn tail of its last file is cut off
+-- the found files of a queue can be made ready, and are ready for what is put next: its first file is begun, if there is none, and a torn tail of its last file is cut off
 pub record IsReady (queue : LogQueue) (version : Version) (asks later : List Ask) (files left : List NumberedBytes) : Type 0 where
-  pub rising : AreRisingFrom 0 (numbers files)
+  pub accepted : AreAccepted queue version files
   pub ready : IsFirstBegun queue asks later files left ⊎ IsTailCut queue version asks later files left
 
 -- the found files of a queue are ready, and are these then, once this is asked, which is missing

@@ -12,6 +12,7 @@ use Rattle.raft_files.specs.Disk.{begun, deletions}
 use Rattle.raft_engine_laws.specs.Telling.{TakeAway}
 use Rattle.raft_engine_fronts.specs.Done.{numbers}
 use Rattle.raft_engine.specs.KeptEngine.{KeptEngine}
+use Rattle.raft_engine.specs.ReadBack.{IsReadBackAlone}
 use Rattle.raft_engine.specs.Stored.{AreKeptStored, Bases}
 use Rattle.raft_engine.specs.declared.engine.Engine.TheInside.{Inside}
 use Rattle.raft_engine.specs.declared.queue_files.QueueFiles.{QueueFiles}
@@ -30,13 +31,14 @@ pub record AreFilesOf (queue : LogQueue) (asks : List Ask) (files : QueueFiles) 
   pub have : files.closed.items ≡ numbers closed
   pub ends : files.len ≡ length bytes
 
--- an intact engine has these tables, a batch of these untold items, which put nothing, and knows the files of both queues
-pub record IsIntact (asks : List Ask) (append rewrite : QueueFiles) (batch : Batch) (accessor : Accessor) (untold : List Item) (tables : Tables) : Type 0 where
+-- an intact engine has these tables, a batch of these untold items, which put nothing, and knows the files of both queues; if rewrite files that were found held no batch, its tables are read back of the append files
+pub record IsIntact (version : Version) (asks : List Ask) (append rewrite : QueueFiles) (batch : Batch) (accessor : Accessor) (untold : List Item) (tables : Tables) : Type 0 where
   pub are_tables : accessor.tables ≡ tables
   pub are_untold : batch ≡ record empty_batch { items = untold }
   pub take_away : TakeAway untold
   pub append_files : AreFilesOf Append asks append
   pub rewrite_files : AreFilesOf Rewrite asks rewrite
+  pub read_back : IsReadBackAlone version asks accessor
 
 -- what was asked of the files is stored as some tables and untold items, and lasted ever; those that it is stored as now an intact engine has
 pub record IsKeptBy (version : Version) (asks : List Ask) (append rewrite : QueueFiles) (batch : Batch) (accessor : Accessor) (intact : Bool) : Type 0 where
@@ -44,7 +46,7 @@ pub record IsKeptBy (version : Version) (asks : List Ask) (append rewrite : Queu
   pub untold : List Item
   pub tables : Tables
   pub stored : AreKeptStored version asks base untold tables
-  pub whole : intact ≡ true → IsIntact asks append rewrite batch accessor untold tables
+  pub whole : intact ≡ true → IsIntact version asks append rewrite batch accessor untold tables
 
 -- an engine keeps what was asked of its files
 abbrev pub IsKept : {F : Type 0} → (F → List Ask) → Inside F → Type 0

@@ -1,6 +1,5 @@
 -- What lasts of an engine, whenever the machine stops.
-use Rattle.std.specs.Prelude.{◌≡◌, ◌≢◌, ℕ, true, List, [], ◌∷◌, ◌++◌}
-use Rattle.std.specs.List.{AllByRecursion}
+use Rattle.std.specs.Prelude.{◌≡◌, ◌≢◌, ◌⊎◌, ℕ, true, List, [], ◌∷◌, ◌++◌}
 use Rattle.raft_base.specs.declared.entry_index.EntryIndex.{EntryIndex}
 use Rattle.raft_base.specs.declared.pipe_log.LogQueue.{LogQueue}
 use Rattle.raft_base.specs.declared.pipe_log.LogQueue.TheVariants.{Append, Rewrite}
@@ -9,18 +8,19 @@ use Rattle.raft_history.specs.Batches.{Event}
 use Rattle.raft_history.specs.BothQueues.{IsReadingOfBoth}
 use Rattle.raft_history.specs.Histories.{Apart, IsSoundIn}
 use Rattle.raft_history.specs.RegionSteps.{Tables}
-use Rattle.raft_files.specs.Asks.{Act, Ask, Begin, Cut, Delete, Found, NumberedBytes, Put, Read, Sync, acts_on}
+use Rattle.raft_files.specs.Asks.{Act, Ask, Begin, Cut, Delete, Found, NumberedBytes, Put, Read, Sync, acts_on, ask}
 use Rattle.raft_files.specs.Disk.{IsLeftOf, begun, files_of}
-use Rattle.raft_engine_laws.specs.Groups.{HasNoMarker}
+use Rattle.raft_engine_laws.specs.GroupsInRows.{AreGroupsInRows}
 use Rattle.raft_engine_laws.specs.Records.{Records, HaveRecords, live}
 use Rattle.raft_engine_fronts.specs.Contents.{AreTold, AreToldByFiles}
 use Rattle.raft_engine_fronts.specs.Done.{AreRisingFrom, numbers}
 use Rattle.raft_engine_fronts.specs.Fronts.{IsFrontWith}
 use Rattle.raft_engine_fronts.specs.TornTails.{FilesHoldTorn}
 use Rattle.raft_engine.specs.CutFiles.{AreCut}
+use Rattle.raft_engine.specs.FoundFiles.{IsLastOfOther}
 use Rattle.raft_engine.specs.KeptEngine.{KeptEngine}
 
--- in these files of both queues, whose numbers rise, stand batches that can be read, but for a torn tail of each queue, those of the rewrite queue of no group, and every reading of both queues gives tables with these records
+-- in these files of both queues, whose numbers rise, stand batches that can be read, but for a torn tail of each queue, in the rewrite queue each group in a row, and every reading of both queues gives tables with these records
 pub record AreFoundIn (content : EntryIndex → List ℕ) (version : Version) (append rewrite : List NumberedBytes) (records : ℕ → Records) : Type 0 where
   pub appended : List Event
   pub rewritten : List Event
@@ -31,7 +31,7 @@ pub record AreFoundIn (content : EntryIndex → List ℕ) (version : Version) (a
   pub append_sound : IsSoundIn Append appended
   pub rewrite_sound : IsSoundIn Rewrite rewritten
   pub apart : Apart rewritten
-  pub plain : AllByRecursion HasNoMarker rewritten
+  pub rows : AreGroupsInRows rewritten
   pub found : (tables : Tables) (cleaned : List ℕ) → IsReadingOfBoth rewritten appended tables cleaned → HaveRecords content tables records
 
 -- whatever is left of the files holds the records of a front of these batches, with the synced ones at least, and of what there was before them
@@ -64,6 +64,7 @@ AreSynced (Read place bytes ∷ earlier) = AreSynced earlier
 -- that they held at the last sync: all where nothing was put since. If the machine stops now, the files that are left
 -- hold the records of a front of the batches, with the synced ones at least; and if nothing is lost, those of all batches.
 -- Contents that were told by what was asked of a queue are those that its files have, once they are cut where reading stops.
+-- The last file of those that are left isn't of the other version.
 pub record IsLastingAfter (content : EntryIndex → List ℕ) (version : Version) (base : ℕ → Records) (asks : List Ask) : Type 0 where
   pub batches : List Event
   pub synced : List Event
@@ -72,6 +73,7 @@ pub record IsLastingAfter (content : EntryIndex → List ℕ) (version : Version
   pub left : IsFrontFound content version base asks synced batches
   pub told : (queue : LogQueue) → AreTold queue (acts_on queue asks) content → (files cut : List NumberedBytes) → IsLeftOf queue asks files → AreCut queue version files cut
       → AreToldByFiles queue cut content
+  pub of_version : (queue : LogQueue) (files : List NumberedBytes) → IsLeftOf queue asks files → ¬ (IsLastOfOther queue version files)
   pub whole : AreFoundIn content version (files_of Append asks) (files_of Rewrite asks) (live content base batches)
   pub all : AreSynced (acts_on Append asks) → synced ≡ batches
 
@@ -79,8 +81,15 @@ pub record IsLastingAfter (content : EntryIndex → List ℕ) (version : Version
 abbrev pub HaveBothBegun : List Ask → Type 0
 HaveBothBegun asks = (acts_on Append asks ≢ []) × (acts_on Rewrite asks ≢ [])
 
+-- what an engine asks before all else: it begins the first file of each queue, or it is opened over files that are found
+abbrev pub IsBegunOrFound : List Ask → Type 0
+IsBegunOrFound asks =
+    ((since : List Ask) × (asks ≡ since ++ ask Rewrite (Begin 1) ∷ ask Append (Begin 1) ∷ []))
+    ⊎ ((since : List Ask) × (append : List NumberedBytes) × (rewrite : List NumberedBytes) × (asks ≡ since ++ ask Rewrite (Found rewrite) ∷ ask Append (Found append) ∷ []))
+
 -- what lasts of an engine, now, where an intact one's tables have the records of all batches, and whenever the machine stops: after each ask, once files were begun or found in both queues
 pub record IsLasting (content : EntryIndex → List ℕ) (engine : KeptEngine) : Type 0 where
+  pub first : IsBegunOrFound engine.asks
   pub base : ℕ → Records
   pub now : IsLastingAfter content engine.version base engine.asks
   pub has : engine.intact ≡ true → HaveRecords content engine.accessor.tables (live content base now.batches)

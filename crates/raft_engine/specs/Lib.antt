@@ -18,6 +18,8 @@ pub mod Reads
 pub mod Rewriting
 pub mod Unmoved
 pub mod MovedAsks
+pub mod GroupBatches
+pub mod GroupAsks
 pub mod Moved
 pub mod MovedAgain
 -- rewrite files that no table needs
@@ -37,5 +39,10 @@ pub mod OpeningAsks
 pub mod ReadFound
 pub mod FoundRecords
 pub mod Markers
+pub mod GroupChecks
 pub mod Unopened
+pub mod ReadContexts
 pub mod OfVersion
+-- what was written is what is recovered
+pub mod ReadBack
+pub mod RoundTrip

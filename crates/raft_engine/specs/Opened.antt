@@ -13,14 +13,16 @@ use Rattle.raft_recover.specs.Files.{FilesHold}
 use Rattle.raft_engine_fronts.specs.TornTails.{FilesHoldTorn}
 use Rattle.raft_engine.specs.KeptEngine.{KeptEngine}
 use Rattle.raft_engine.specs.KeptEngineView.{AreFilesOf}
+use Rattle.raft_engine.specs.OpeningAsks.{AreWanted}
 use Rattle.raft_engine.specs.StoredFound.{AreStoredAlone, found_asks}
 use Rattle.raft_engine.specs.declared.queue_files.QueueFiles.{QueueFiles}
 
--- The tables are a reading of the batches that found files hold, but for a torn tail of each queue; what was asked first
--- are these files, and the append files hold the same batches still.
+-- The tables are a reading of the batches that found files hold, but for a torn tail of each queue; of these files is asked
+-- what an opening asks, and nothing else, and the append files hold the same batches still.
 pub record AreRead (version : Version) (append rewrite : List NumberedBytes) (asks : List Ask) (accessor : Accessor) : Type 0 where
-  pub since : List Ask
-  pub asked : asks ≡ since ++ found_asks append rewrite
+  pub wanted : List Ask
+  pub are_wanted : AreWanted version append rewrite accessor wanted
+  pub asked : asks ≡ wanted ++ found_asks append rewrite
   pub appended : List Event
   pub rewritten : List Event
   pub append_held : FilesHoldTorn Append version append appended

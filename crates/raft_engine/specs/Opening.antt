@@ -19,7 +19,7 @@ use Rattle.raft_history.specs.RegionSteps.{Tables, steps_of_items, steps_on}
 use Rattle.raft_accessor.specs.Accessor.{Accessor}
 use Rattle.raft_files.specs.Asks.{NumberedBytes}
 use Rattle.raft_recover.specs.Files.{FilesHold}
-use Rattle.raft_engine_laws.specs.Groups.{HasNoMarker}
+use Rattle.raft_engine_laws.specs.GroupsInRows.{AreGroupsInRows}
 use Rattle.raft_engine_laws.specs.Telling.{SayAllAtOpening, TakeAway, told_items}
 
 -- a batch with more items
@@ -58,14 +58,15 @@ pub record IsToldAtOpening (Held : List Event → Type 0) (tables : Tables) (tol
   pub of_batches : IsToldOf Held empty_batch removals
   pub of_tables : AreFrontsTold tables removals told
 
--- batches without a group marker
-pub record ArePlain (Held : List Event → Type 0) : Type 0 where
+-- batches of which each group stands in a row
+pub record AreInRows (Held : List Event → Type 0) : Type 0 where
   pub batches : List Event
   pub held : Held batches
-  pub plain : AllByRecursion HasNoMarker batches
+  pub rows : AreGroupsInRows batches
 
--- What a recovery gives of the files of both queues, of which those of the rewrite queue have no group marker: tables that
--- are a reading of the batches that the files hold, and what the rewrite queue is to be told, an open batch that puts nothing.
+-- What a recovery gives of the files of both queues, of which each group stands in a row: tables that
+-- are a reading of the batches that the files hold, and what the rewrite queue is to be told, an open batch that puts nothing
+-- and says all that an opening tells.
 pub record AreRecovered (version : Version) (append rewrite : List NumberedBytes) (accessor : Accessor) (told : Batch) : Type 0 where
   pub appended : List Event
   pub rewritten : List Event
@@ -74,9 +75,10 @@ pub record AreRecovered (version : Version) (append rewrite : List NumberedBytes
   pub append_sound : IsSoundIn Append appended
   pub rewrite_sound : IsSoundIn Rewrite rewritten
   pub apart : Apart rewritten
-  pub plain : AllByRecursion HasNoMarker rewritten
+  pub rows : AreGroupsInRows rewritten
   pub reading : IsReadingOfBoth rewritten appended accessor.tables accessor.cleaned
   pub runs : (r : ℕ) → AreTableEntries (table_of r (finite.get accessor.tables r)).entries
+  pub is_told : IsToldAtOpening (FilesHold Append version append) accessor.tables told
   pub still_open : told ≡ record empty_batch { items = told.items }
   pub away : TakeAway told.items
   pub says : (r : ℕ) → SayAllAtOpening (steps_of r (batches appended)) (steps_on r (steps_of_items told.items)) (table_of r (finite.get accessor.tables r))

@@ -1,33 +1,40 @@
 -- What is found again of an engine, once it was stopped.
-use Rattle.std.specs.Prelude.{◌≡◌, ◌↔◌, ℕ, ◌<◌, ◌^◌, true, List, [], ◌∷◌, ◌++◌, Vec}
+use Rattle.std.specs.Prelude.{◌≡◌, ◌⊎◌, ◌↔◌, ℕ, ◌+◌, ◌<◌, ◌≤◌, ◌^◌, true, List, [], ◌∷◌, ◌++◌, Some, Vec, length}
 use Rattle.std.specs.FinMap as finite
 use Rattle.std.specs.Global.{Global}
 use Rattle.raft_base.specs.declared.entry_index.EntryIndex.{EntryIndex}
+use Rattle.raft_base.specs.declared.errors.Error.{Error}
+use Rattle.raft_base.specs.declared.errors.Error.TheVariants as errors
+use Rattle.raft_base.specs.declared.pipe_log.FileBlockHandle.{FileBlockHandle}
 use Rattle.raft_base.specs.declared.pipe_log.LogQueue.{LogQueue}
 use Rattle.raft_base.specs.declared.pipe_log.LogQueue.TheVariants.{Append, Rewrite}
 use Rattle.raft_base.specs.declared.pipe_log.Version.{Version}
 use Rattle.raft_records.specs.FilePart.{Part}
+use Rattle.raft_records.specs.LogBatch.{Batch}
 use Rattle.raft_history.specs.Batches.{Event}
 use Rattle.raft_history.specs.BothQueues.{IsReadingOfBoth}
 use Rattle.raft_history.specs.RegionSteps.{Tables}
 use Rattle.raft_accessor.specs.Accessor.{Accessor}
 use Rattle.raft_files.specs.Asks.{Ask, Begin, NumberedBytes, acts_on, ask}
 use Rattle.raft_files.specs.Disk.{IsLeftOf, files_of}
+use Rattle.raft_files.specs.Places.{bytes_at}
 use Rattle.raft_replay.specs.Segments.{CannotBeRead, SegmentsHold}
 use Rattle.raft_recover.specs.Files.{FilesCannotBeRead, FilesHold, bytes_of_files}
 use Rattle.raft_recover.specs.Recovery.{AreBothRecovered}
 use Rattle.raft_engine_laws.specs.Records.{Records, HaveRecords, live}
-use Rattle.raft_engine_fronts.specs.Contents.{AreTold, AreToldByFiles}
-use Rattle.raft_engine_fronts.specs.Done.{AreRisingFrom, numbers}
+use Rattle.raft_engine_fronts.specs.Contents.{AreBothTold, AreTold, AreToldByFiles}
 use Rattle.raft_engine_fronts.specs.Fronts.{IsFrontWith}
 use Rattle.raft_engine_fronts.specs.TornTails.{FilesHoldTorn}
+use Rattle.raft_engine.specs.BatchBytes.{event_at}
 use Rattle.raft_engine.specs.CutFiles.{AreCut}
-use Rattle.raft_engine.specs.FoundFiles.{IsLastDamaged, IsReady}
+use Rattle.raft_engine.specs.FoundFiles.{AreAccepted, IsReady}
 use Rattle.raft_engine.specs.KeptEngine.{KeptEngine}
-use Rattle.raft_engine.specs.Lasting.{AreSynced, HaveBothBegun, IsLasting}
+use Rattle.raft_engine.specs.Lasting.{AreSynced, HaveBothBegun, IsBegunOrFound, IsLasting, IsLastingAfter}
 use Rattle.raft_engine.specs.Opened.{IsOpened}
-use Rattle.raft_engine.specs.Opening.{ArePlain}
+use Rattle.raft_engine.specs.Opening.{AreInRows}
 use Rattle.raft_engine.specs.StoredFound.{found_asks}
+use Rattle.raft_engine.specs.Unopened.{AreUnreadableAs, IsHalfOpened, IsUnopened, MayRecover}
+use Rattle.raft_engine.specs.WrittenBatch.{IsOneMore, file_of}
 
 -- ---- files that are left, cut and read
 
@@ -38,18 +45,24 @@ pub record AreSegmentsOf (queue : LogQueue) (version : Version) (files : List Nu
   pub few : bytes_of_files cut < 2 ^ 63
   pub same : (h : List Event) → FilesHold queue version cut h ↔ SegmentsHold segments h
 
--- Nothing is refused in these files of a queue: their numbers rise, the last one isn't damaged, and once they are ready, or cut where
--- reading stops, and have fewer than 2^63 bytes together, they can be read.
-pub record AreAccepted (queue : LogQueue) (version : Version) (files : List NumberedBytes) : Type 0 where
-  pub rising : AreRisingFrom 0 (numbers files)
-  pub undamaged : ¬ (IsLastDamaged queue version files)
+-- Nothing is refused in these files of a queue: they can be made ready, and once they are, or are cut where reading stops, and have
+-- fewer than 2^63 bytes together, they can be read.
+pub record AreOpenable (queue : LogQueue) (version : Version) (files : List NumberedBytes) : Type 0 where
+  pub accepted : AreAccepted queue version files
   pub readable : (asks later : List Ask) (ready : List NumberedBytes) → IsReady queue version asks later files ready → bytes_of_files ready < 2 ^ 63
       → ¬ (FilesCannotBeRead queue version ready)
   pub recoverable : (segments : List (Vec Part Global)) → AreSegmentsOf queue version files segments → ¬ (CannotBeRead segments)
 
--- once they are ready, these rewrite files hold no batch of a group
-abbrev pub AreOfNoGroup : Version → List NumberedBytes → Type 0
-AreOfNoGroup version files = (asks later : List Ask) (ready : List NumberedBytes) → IsReady Rewrite version asks later files ready → ArePlain (FilesHold Rewrite version ready)
+-- once they are ready, these rewrite files hold batches of which each group stands in a row
+abbrev pub HaveGroupsInRows : Version → List NumberedBytes → Type 0
+HaveGroupsInRows version files = (asks later : List Ask) (ready : List NumberedBytes) → IsReady Rewrite version asks later files ready → AreInRows (FilesHold Rewrite version ready)
+
+-- An opening of these files of both queues, by so many workers as may recover them, fails for want of memory alone, or of room, or where
+-- anything is to be asked of the files: then some, none or all of that was asked, and the error may be any, since nothing is said of the errors of files.
+abbrev pub OpeningsSucceed : Version → List NumberedBytes → List NumberedBytes → Type 0
+OpeningsSucceed version append rewrite =
+    (workers : ℕ) (asks : List Ask) (e : Error) → MayRecover workers append rewrite → IsUnopened (AreUnreadableAs version workers) version append rewrite asks e
+    → (e ≡ errors.Memory) ⊎ (e ≡ errors.Full) ⊎ IsHalfOpened version append rewrite asks
 
 -- ---- what a restart finds
 
@@ -61,24 +74,52 @@ pub record RestartsFind (version : Version) (append rewrite : List NumberedBytes
 
 -- What restarts find in the files that the machine leaves if it stops once all this was asked: in whatever is left, all of them
 -- the records of the same front of these batches, with the synced ones at least, and of what there was before them; and nothing
--- that is refused; if nothing is lost, the records of all batches. Contents that were told by what was asked of a queue are those
+-- that is refused, so that it can be opened; if nothing is lost, the records of all batches. Contents that were told by what was asked of a queue are those
 -- that its files have that are left, once they are cut where reading stops.
 pub record IsFoundByRestarts (content : EntryIndex → List ℕ) (version : Version) (base : ℕ → Records) (asks : List Ask) (synced batches : List Event) : Type 0 where
   pub left : (append rewrite : List NumberedBytes) → IsLeftOf Append asks append → IsLeftOf Rewrite asks rewrite
       → (standing : List Event) × IsFrontWith synced batches standing × RestartsFind version append rewrite (λ tables. HaveRecords content tables (live content base standing))
   pub accepted : (append rewrite : List NumberedBytes) → IsLeftOf Append asks append → IsLeftOf Rewrite asks rewrite
-      → AreAccepted Append version append × AreAccepted Rewrite version rewrite × AreOfNoGroup version rewrite
+      → AreOpenable Append version append × AreOpenable Rewrite version rewrite × HaveGroupsInRows version rewrite
+  pub opens : (append rewrite : List NumberedBytes) → IsLeftOf Append asks append → IsLeftOf Rewrite asks rewrite → OpeningsSucceed version append rewrite
   pub whole : RestartsFind version (files_of Append asks) (files_of Rewrite asks) (λ tables. HaveRecords content tables (live content base batches))
   pub told : (queue : LogQueue) → AreTold queue (acts_on queue asks) content → (files cut : List NumberedBytes) → IsLeftOf queue asks files → AreCut queue version files cut
       → AreToldByFiles queue cut content
 
 -- The records that there were before the batches of an engine: none where its first files were begun; and where it was opened over
--- found files, those that make, with the batches which the append files held, what every reading of the files gives.
+-- found files, those that make, with the batches which the append files held, what every reading of the files gives. One of both is so.
 pub record AreFromBefore (content : EntryIndex → List ℕ) (version : Version) (asks : List Ask) (base : ℕ → Records) : Type 0 where
+  pub either : IsBegunOrFound asks
   pub none : (since : List Ask) → asks ≡ since ++ ask Rewrite (Begin 1) ∷ ask Append (Begin 1) ∷ [] → HaveRecords content finite.empty base
   pub found : (since : List Ask) (append rewrite : List NumberedBytes) → asks ≡ since ++ found_asks append rewrite
       → (appended rewritten : List Event) → FilesHoldTorn Append version append appended → FilesHoldTorn Rewrite version rewrite rewritten
       → (tables : Tables) (cleaned : List ℕ) → IsReadingOfBoth rewritten appended tables cleaned → HaveRecords content tables (live content base appended)
+
+-- an entry's bytes stand at its place in these files of a queue, once the last one is cut where reading stops
+pub record StandsInCut (queue : LogQueue) (version : Version) (files : List NumberedBytes) (e : EntryIndex) : Type 0 where
+  pub cut : List NumberedBytes
+  pub are_cut : AreCut queue version files cut
+  pub place : FileBlockHandle
+  pub of_queue : place.id.queue ≡ queue
+  pub placed : e.entries ≡ Some place
+  pub block : List ℕ
+  pub stands : bytes_at cut place.id.seq place.offset place.len ≡ Some block
+  pub inside : e.entry_offset + e.entry_len ≤ length block
+
+-- Contents that are told by what was asked of an engine once it was opened, in the same version, over what a stop left of another one are those of the other
+-- one, for each entry whose bytes stand in what was left.
+abbrev pub FoundContentsStay : Type 0
+FoundContentsStay =
+    (content : EntryIndex → List ℕ) (version : Version) (base : ℕ → Records) (asks : List Ask) → IsLastingAfter content version base asks → AreBothTold asks content
+    → (append rewrite : List NumberedBytes) → IsLeftOf Append asks append → IsLeftOf Rewrite asks rewrite
+    → (engine : KeptEngine) → IsOpened version append rewrite engine → (other : EntryIndex → List ℕ) → AreBothTold engine.asks other
+    → (e : EntryIndex) → StandsInCut Append version append e ⊎ StandsInCut Rewrite version rewrite e → other e ≡ content e
+
+-- when a write with a sync returns, its batch is the last of the synced ones, behind all that were written before it
+abbrev pub SyncedBatchesLast : Type 0
+SyncedBatchesLast =
+    (content : EntryIndex → List ℕ) (batch : Batch) (old new : KeptEngine) (more : IsOneMore true batch old new) (before : IsLasting content old) (after : IsLasting content new)
+    → after.now.synced ≡ before.now.batches ++ event_at (file_of Append old more.seq).id (length more.bytes) batch ∷ []
 
 -- two tables have the same records: entries with their contents, and key values
 pub record HaveSame (content : EntryIndex → List ℕ) (tables others : Tables) : Type 0 where

@@ -1,7 +1,6 @@
 -- What each ask makes of what is stored.
 use Rattle.std.specs.Prelude.{◌≡◌, ◌≢◌, ℕ, ◌+◌, ◌<◌, ◌^◌, List, [], ◌∷◌, ◌++◌, Some, length}
 use Rattle.std.specs.FinMap as finite
-use Rattle.std.specs.List.{AllByRecursion}
 use Rattle.raft_base.specs.declared.entry_index.EntryIndex.{EntryIndex}
 use Rattle.raft_base.specs.declared.pipe_log.LogQueue.{LogQueue}
 use Rattle.raft_base.specs.declared.pipe_log.LogQueue.TheVariants.{Append, Rewrite}
@@ -15,7 +14,7 @@ use Rattle.raft_files.specs.Asks.{Ask, Begin, Delete, NumberedBytes, Put, Sync, 
 use Rattle.raft_files.specs.Disk.{begun, deletions}
 use Rattle.raft_engine_laws.specs.DeletedFiles.{AreLeastFrom}
 use Rattle.raft_engine_laws.specs.Records.{Records, no_base}
-use Rattle.raft_engine_laws.specs.Groups.{HasNoMarker}
+use Rattle.raft_engine_laws.specs.GroupsInRows.{AreGroupsInRows}
 use Rattle.raft_engine_laws.specs.Stops.{Deed, LoseNothing, synced, written}
 use Rattle.raft_engine_laws.specs.Telling.{TakeAway, taking_items, told_items}
 use Rattle.raft_engine_fronts.specs.Done.{AreDone}
@@ -23,15 +22,17 @@ use Rattle.raft_engine_fronts.specs.Fronts.{ArePut}
 use Rattle.raft_engine.specs.BatchBytes.{bytes_for, placed_at}
 use Rattle.raft_engine.specs.KeptEngine.{IsLastFile}
 use Rattle.raft_engine.specs.Lasting.{AreSynced, IsLastingAfter}
+use Rattle.raft_engine.specs.OfVersion.{NoneIsOther}
 use Rattle.raft_engine.specs.Stored.{AreKeptStored, Bases}
 
--- where what is done to both queues loses nothing in a stop, and no batch of the rewrite queue is of a group, the batches that were written last
+-- where what is done to both queues loses nothing in a stop, each group of the rewrite queue stands in a row, and no stop leaves a last file of the other version, the batches that were written last
 abbrev pub WhatIsDoneLasts : Type 0
 WhatIsDoneLasts =
     (content : EntryIndex → List ℕ) (version : Version) (base : ℕ → Records) (asks : List Ask) (appended rewritten : List Deed)
     → AreDone Append version (acts_on Append asks) appended → AreDone Rewrite version (acts_on Rewrite asks) rewritten
     → ArePut Append version (acts_on Append asks) (synced appended) (written appended)
-    → AllByRecursion HasNoMarker (written rewritten) → LoseNothing content base appended rewritten → (lasting : IsLastingAfter content version base asks) × (lasting.batches ≡ written appended)
+    → ((queue : LogQueue) → NoneIsOther queue version (acts_on queue asks))
+    → AreGroupsInRows (written rewritten) → LoseNothing content base appended rewritten → (lasting : IsLastingAfter content version base asks) × (lasting.batches ≡ written appended)
 
 -- the first file of each queue is stored as no tables
 abbrev pub FirstFilesAreStored : Type 0
@@ -77,11 +78,11 @@ ToldBatchesAreStored =
     → AreKeptStored version asks base batch.items tables
     → AreKeptStored version (ask Rewrite (Put (bytes_for (record { id = record { queue = Rewrite; seq = seq }; version = version }) batch)) ∷ asks) base [] tables
 
--- where both queues are synced and nothing is untold, the oldest append file may be deleted, if another one follows and no table needs it
-abbrev pub DeletionsAreStored : Type 0
-DeletionsAreStored =
+-- where both queues are synced and nothing is untold, the oldest file of this queue may be deleted, if another one follows and no table needs it
+abbrev pub DeletionsAreStored : LogQueue → Type 0
+DeletionsAreStored queue =
     (version : Version) (asks : List Ask) (base : Bases) (tables : Tables) (gone rest : List NumberedBytes) (oldest next : NumberedBytes)
     → AreSynced (acts_on Append asks) → AreSynced (acts_on Rewrite asks)
-    → begun (acts_on Append asks) ≡ gone ++ oldest ∷ next ∷ rest → deletions (acts_on Append asks) ≡ length gone
-    → AreLeastFrom Append (oldest.0 + 1) tables
-    → AreKeptStored version asks base [] tables → AreKeptStored version (ask Append Delete ∷ asks) base [] tables
+    → begun (acts_on queue asks) ≡ gone ++ oldest ∷ next ∷ rest → deletions (acts_on queue asks) ≡ length gone
+    → AreLeastFrom queue (oldest.0 + 1) tables
+    → AreKeptStored version asks base [] tables → AreKeptStored version (ask queue Delete ∷ asks) base [] tables

@@ -26,7 +26,7 @@ pub record AreReady (version : Version) (append rewrite append_left rewrite_left
   pub append_ready : IsReady Append version (found_asks append rewrite) between append append_left
   pub rewrite_ready : IsReady Rewrite version between asks rewrite rewrite_left
 
--- found files that are ready: those that were found held the same batches, but for a torn tail; the files that were begun are those that are left now, none of them deleted; and they were found first
+-- found files that are ready: those that were found held the same batches, but for a torn tail; the files that were begun are those that are left now, none of them deleted
 pub record AreMadeReady (version : Version) (append rewrite append_left rewrite_left : List NumberedBytes) (asks : List Ask) (appended rewritten : List Event) : Type 0 where
   pub append_held : FilesHoldTorn Append version append appended
   pub rewrite_held : FilesHoldTorn Rewrite version rewrite rewritten
@@ -34,8 +34,6 @@ pub record AreMadeReady (version : Version) (append rewrite append_left rewrite_
   pub rewrite_files : begun (acts_on Rewrite asks) ≡ rewrite_left
   pub append_none : deletions (acts_on Append asks) ≡ 0
   pub rewrite_none : deletions (acts_on Rewrite asks) ≡ 0
-  pub since : List Ask
-  pub asked : asks ≡ since ++ found_asks append rewrite
 
 -- found files that are made ready are so
 abbrev pub FoundFilesAreReady : Type 0

@@ -1,19 +1,22 @@
 -- Why found files aren't opened, and what lasts of them then.
-use Rattle.std.specs.Prelude.{◌≡◌, ◌≢◌, ◌⊎◌, ℕ, ◌<◌, ◌≤◌, ◌^◌, List, [], ◌∷◌, ◌++◌, length}
+use Rattle.std.specs.Prelude.{◌≡◌, ◌≢◌, ◌⊎◌, ℕ, ◌<◌, ◌≤◌, ◌^◌, List, length, map}
 use Rattle.raft_base.specs.Errors.{IsInvalidArgument}
 use Rattle.raft_base.specs.declared.errors.Error.{Error}
 use Rattle.raft_base.specs.declared.errors.Error.TheVariants as errors
+use Rattle.raft_base.specs.declared.pipe_log.LogQueue.{LogQueue}
 use Rattle.raft_base.specs.declared.pipe_log.LogQueue.TheVariants.{Append, Rewrite}
 use Rattle.raft_base.specs.declared.pipe_log.Version.{Version}
 use Rattle.raft_records.specs.LogBatch.{Batch, encoded_length}
+use Rattle.raft_history.specs.Histories.{Sound}
 use Rattle.raft_accessor.specs.Accessor.{Accessor}
 use Rattle.raft_files.specs.Asks.{Ask, NumberedBytes}
-use Rattle.raft_recover.specs.Files.{FilesCannotBeRead, FilesHold, bytes_of_files}
+use Rattle.raft_replay.specs.Stops.{IsNothing, StopsAmong}
+use Rattle.raft_recover.specs.Files.{FilesHold, bytes_of_files, whole_file}
 use Rattle.raft_engine.specs.FoundFiles.{AreAccepted, AreReadyBy, IsFoundFault}
 use Rattle.raft_engine.specs.FoundRecords.{HaveEverRecords}
-use Rattle.raft_engine.specs.Markers.{NoneIsUnmarked}
+use Rattle.raft_engine.specs.Markers.{NoneIsInRows}
 use Rattle.raft_engine.specs.Opening.{AreRecovered}
-use Rattle.raft_engine.specs.OpeningAsks.{AreAskedInPart, opening_asks}
+use Rattle.raft_engine.specs.OpeningAsks.{AreAskedInPart, AreWanted}
 use Rattle.raft_engine.specs.Stored.{Bases}
 use Rattle.raft_engine.specs.StoredFound.{found_asks}
 
@@ -31,16 +34,24 @@ MayRecover workers append rewrite = (0 < workers) × (workers ≤ 256) × (lengt
 abbrev pub AreManyAs : List NumberedBytes → Error → Type 0
 AreManyAs files e = (2 ^ 63 ≤ bytes_of_files files) × (e ≡ errors.Full)
 
--- the files of a queue can't be read; or there are too many workers or files, or no worker
-abbrev pub AreUnreadableAs : Version → ℕ → List NumberedBytes → List NumberedBytes → Error → Type 0
-AreUnreadableAs version workers append rewrite e =
-    (MayRecover workers append rewrite → FilesCannotBeRead Append version append ⊎ FilesCannotBeRead Rewrite version rewrite)
-    × (¬ (MayRecover workers append rewrite) → IsInvalidArgument e)
+-- the reading of a queue's files, one after the other, stops in one of them, at a batch that can't be read or that can't follow those before it; a refusal as corruption says where
+abbrev pub StopsInFiles : LogQueue → Version → List NumberedBytes → Error → Type 0
+StopsInFiles queue version files e = StopsAmong IsNothing Sound (map (whole_file queue version) files) e
 
--- why no tables are recovered of files that are ready: those of a queue have 2^63 bytes or more; the rewrite files have a group marker, or can't be read; or a recovery refuses them
-abbrev pub IsRecoveryFault : Version → ℕ → List NumberedBytes → List NumberedBytes → Error → Type 0
-IsRecoveryFault version workers append rewrite e =
-    AreManyAs append e ⊎ AreManyAs rewrite e ⊎ NoneIsUnmarked (FilesHold Rewrite version rewrite) ⊎ AreUnreadableAs version workers append rewrite e
+-- why a recovery refuses files that are ready
+abbrev pub Refusal : Type 1
+Refusal = List NumberedBytes → List NumberedBytes → Error → Type 0
+
+-- of files of fewer than 2^63 bytes the reading of a queue's stops at a batch; or there are too many workers or files, or no worker
+pub record AreUnreadableAs (version : Version) (workers : ℕ) (append rewrite : List NumberedBytes) (e : Error) : Type 0 where
+  pub few : (bytes_of_files append < 2 ^ 63) × (bytes_of_files rewrite < 2 ^ 63)
+  pub stops : MayRecover workers append rewrite → StopsInFiles Append version append e ⊎ StopsInFiles Rewrite version rewrite e
+  pub fault : ¬ (MayRecover workers append rewrite) → IsInvalidArgument e
+
+-- why no tables are recovered of files that are ready: those of a queue have 2^63 bytes or more; a recovery refuses them; or in the rewrite files a group doesn't stand in a row
+abbrev pub IsRecoveryFault : Refusal → Version → List NumberedBytes → List NumberedBytes → Error → Type 0
+IsRecoveryFault IsRefused version append rewrite e =
+    AreManyAs append e ⊎ AreManyAs rewrite e ⊎ IsRefused append rewrite e ⊎ NoneIsInRows (FilesHold Rewrite version rewrite)
 
 -- what the rewrite queue is to be told has 2^56 bytes or more
 pub record IsTooLongAs (version : Version) (append rewrite : List NumberedBytes) (e : Error) : Type 0 where
@@ -51,48 +62,32 @@ pub record IsTooLongAs (version : Version) (append rewrite : List NumberedBytes)
   pub full : e ≡ errors.Full
 
 -- once the found files of both queues are ready, no tables are recovered of them, or there is too much to tell
-pub record IsReadingFault (version : Version) (workers : ℕ) (append rewrite : List NumberedBytes) (e : Error) : Type 0 where
+pub record IsReadingFault (IsRefused : Refusal) (version : Version) (append rewrite : List NumberedBytes) (e : Error) : Type 0 where
   pub append_missing : List Ask
   pub rewrite_missing : List Ask
   pub append_left : List NumberedBytes
   pub rewrite_left : List NumberedBytes
   pub append_ready : AreReadyBy Append version append_missing append append_left
   pub rewrite_ready : AreReadyBy Rewrite version rewrite_missing rewrite rewrite_left
-  pub fault : IsRecoveryFault version workers append_left rewrite_left e ⊎ IsTooLongAs version append_left rewrite_left e
+  pub fault : IsRecoveryFault IsRefused version append_left rewrite_left e ⊎ IsTooLongAs version append_left rewrite_left e
 
 -- why nothing is asked of found files: those of a queue can't be made ready, or there is a fault of their reading; or there is no memory
-abbrev pub IsOpeningRefusal : Version → ℕ → List NumberedBytes → List NumberedBytes → Error → Type 0
-IsOpeningRefusal version workers append rewrite e =
-    e ≢ errors.Memory → IsFoundFault Append version append e ⊎ IsFoundFault Rewrite version rewrite e ⊎ IsReadingFault version workers append rewrite e
+abbrev pub IsOpeningRefusal : Refusal → Version → List NumberedBytes → List NumberedBytes → Error → Type 0
+IsOpeningRefusal IsRefused version append rewrite e =
+    e ≢ errors.Memory → IsFoundFault Append version append e ⊎ IsFoundFault Rewrite version rewrite e ⊎ IsReadingFault IsRefused version append rewrite e
 
 -- ---- what lasts
 
--- what an opening asks of found files, newest first: what is missing of both queues, and what tells the rewrite queue, behind its last file
-pub record AreWanted (version : Version) (append rewrite : List NumberedBytes) (wanted : List Ask) : Type 0 where
-  pub append_missing : List Ask
-  pub rewrite_missing : List Ask
-  pub append_left : List NumberedBytes
-  pub rewrite_left : List NumberedBytes
-  pub append_ready : AreReadyBy Append version append_missing append append_left
-  pub rewrite_ready : AreReadyBy Rewrite version rewrite_missing rewrite rewrite_left
-  pub accessor : Accessor
-  pub told : Batch
-  pub recovered : AreRecovered version append_left rewrite_left accessor told
-  pub closed : List NumberedBytes
-  pub seq : ℕ
-  pub bytes : List ℕ
-  pub last : rewrite_left ≡ closed ++ (seq, bytes) ∷ []
-  pub are : wanted ≡ opening_asks version append_missing rewrite_missing seq told
-
 -- of what an opening asks of found files some was asked, and whatever is left of the files, now and at each moment since they were found, has the same records
 pub record IsHalfOpened (version : Version) (append rewrite : List NumberedBytes) (asks : List Ask) : Type 0 where
+  pub accessor : Accessor
   pub wanted : List Ask
-  pub are_wanted : AreWanted version append rewrite wanted
+  pub are_wanted : AreWanted version append rewrite accessor wanted
   pub half : AreAskedInPart wanted (found_asks append rewrite) asks
   pub records : Bases
   pub ever : HaveEverRecords version asks records
 
 -- nothing was asked of the found files, for one of these reasons; or they are half opened
-abbrev pub IsUnopened : Version → ℕ → List NumberedBytes → List NumberedBytes → List Ask → Error → Type 0
-IsUnopened version workers append rewrite asks e =
-    ((asks ≡ found_asks append rewrite) × IsOpeningRefusal version workers append rewrite e) ⊎ IsHalfOpened version append rewrite asks
+abbrev pub IsUnopened : Refusal → Version → List NumberedBytes → List NumberedBytes → List Ask → Error → Type 0
+IsUnopened IsRefused version append rewrite asks e =
+    ((asks ≡ found_asks append rewrite) × IsOpeningRefusal IsRefused version append rewrite e) ⊎ IsHalfOpened version append rewrite asks

@@ -32,13 +32,15 @@ abbrev pub IsOnlySynced : Bool → KeptEngine → KeptEngine → Type 0
 IsOnlySynced sync old new = new ≡ record old { asks = synced_if sync old.asks }
 
 -- one batch more is written: its bytes, signed for the last file, are put behind those that it has, and synced, if that is
--- wanted, so that the append files hold it behind the batches that they held; its items, with their places there, are
--- written to the tables; what it takes away of the tables is untold; nothing else is asked or changed
+-- wanted, so that the append files, which held batches and no torn tail, hold it behind these; its items, with their places there,
+-- are written to the tables; what it takes away of the tables is untold; nothing else is asked or changed
 pub record IsOneMore (sync : Bool) (batch : Batch) (old new : KeptEngine) : Type 0 where
   pub seq : ℕ
   pub bytes : List ℕ
   pub last : IsLastFile Append old.asks seq bytes
   pub asked : new.asks ≡ synced_if sync (ask Append (Put (bytes_for (file_of Append old seq) batch)) ∷ old.asks)
+  pub before : List Event
+  pub whole : FilesHold Append old.version (begun (acts_on Append old.asks)) before
   pub held : (h : List Event) → FilesHold Append old.version (begun (acts_on Append old.asks)) h
       → FilesHold Append old.version (begun (acts_on Append new.asks)) (h ++ event_at (file_of Append old seq).id (length bytes) batch ∷ [])
   pub applied : AreWritten Appending (placed_at (file_of Append old seq).id (length bytes) batch) old.accessor new.accessor
@@ -67,16 +69,20 @@ pub record AreFirstWritten (w : Writing) (items : List Item) (old new : Accessor
   pub split : items ≡ front ++ rest
   pub written : AreWritten w front old new
 
--- a batch that the tables would take is put and synced in part, and the tables are as they were; or it is put and synced, and the
--- first ones of its items, with their places there, are written to the tables
-pub record IsHalfWritten (sync : Bool) (batch : Batch) (old new : KeptEngine) : Type 0 where
+-- there is no memory, or no room for more live records
+abbrev pub LacksRoom : Error → Type 0
+LacksRoom e = (e ≡ errors.Memory) ⊎ (e ≡ errors.Full)
+
+-- a batch that the tables would take is put and synced in part, and the tables are as they were; or it is put and synced, and for
+-- want of room the first ones of its items, with their places there, are written to the tables
+pub record IsHalfWritten (sync : Bool) (batch : Batch) (old new : KeptEngine) (e : Error) : Type 0 where
   pub seq : ℕ
   pub bytes : List ℕ
   pub last : IsLastFile Append old.asks seq bytes
   pub accepted : AreAcceptedOncePlaced old.accessor.tables batch.items
   pub half : IsHalfAsked (synced_if sync (ask Append (Put (bytes_for (file_of Append old seq) batch)) ∷ [])) old new
   pub tables : (new.accessor ≡ old.accessor)
-      ⊎ ((half.missing ≡ []) × AreFirstWritten Appending (placed_at (file_of Append old seq).id (length bytes) batch) old.accessor new.accessor)
+      ⊎ ((half.missing ≡ []) × LacksRoom e × AreFirstWritten Appending (placed_at (file_of Append old seq).id (length bytes) batch) old.accessor new.accessor)
 
 -- a queue's last file has more than 2^63 bytes
 pub record IsLastFull (queue : LogQueue) (asks : List Ask) : Type 0 where
@@ -95,7 +101,7 @@ IsRefusal engine batch _ = ⊥
 
 -- nothing was asked for one of these reasons, and the engine and the batch, of which this is left, are as they were; or it is half written
 abbrev pub IsUnwritten : Bool → Batch → Batch → KeptEngine → KeptEngine → Error → Type 0
-IsUnwritten sync batch left old new e = ((new ≡ old) × (left ≡ batch) × IsRefusal old batch e) ⊎ IsHalfWritten sync batch old new
+IsUnwritten sync batch left old new e = ((new ≡ old) × (left ≡ batch) × IsRefusal old batch e) ⊎ IsHalfWritten sync batch old new e
 
 -- the append queue is synced, and a new file of the next number is begun; nothing else is asked or changed
 pub record IsRotated (old new : KeptEngine) : Type 0 where

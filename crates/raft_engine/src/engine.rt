@@ -5,7 +5,7 @@ ghost use Rattle.std.specs.FinMap as finite;
 ghost use Rattle.raft_base.specs.declared.entry_index.EntryIndex.{EntryIndex};
 ghost use Rattle.raft_base.specs.declared.pipe_log.LogQueue.TheVariants.{Append, Rewrite};
 ghost use Rattle.raft_records.specs.LogBatch.{empty_batch, is_open};
-ghost use Rattle.raft_accessor.specs.AppendChecks.{AreAcceptedOncePlaced};
+ghost use Rattle.raft_accessor.specs.AppendChecks.{AreAccepted, AreAcceptedOncePlaced};
 ghost use Rattle.raft_accessor.specs.Writes.{Appending, AreWritten};
 ghost use Rattle.raft_files.specs.Asks.{Begin, Sync, ask};
 ghost use Rattle.raft_table.specs.KeyValues.{value_at};
@@ -17,19 +17,21 @@ ghost use Rattle.raft_engine.specs.Lasting.{IsLasting};
 ghost use Rattle.raft_files.specs.HeldFiles.{file_shown};
 ghost use Rattle.raft_engine.specs.Opened.{IsOpened};
 ghost use Rattle.raft_engine.specs.StoredFound.{found_asks};
-ghost use Rattle.raft_engine.specs.Unopened.{AreBothAccepted, IsUnopened};
+ghost use Rattle.raft_engine.specs.Unopened.{AreBothAccepted, AreUnreadableAs, IsUnopened};
 ghost use Rattle.raft_engine.specs.Purged.{ArePurged, IsUnpurged};
-ghost use Rattle.raft_engine.specs.WrittenBatch.{AreFirstWritten, IsOneMore, IsOnlySynced, IsRotated, IsUnrotated, IsUnwritten};
+ghost use Rattle.raft_engine.specs.WrittenBatch.{AreFirstWritten, IsOneMore, IsOnlySynced, IsRotated, IsUnrotated, IsUnwritten, LacksRoom};
 
 use crate::limits::{FIRST_SEQ, LAST_OFFSET};
 use crate::opened::open_files;
 use crate::purge::{count_below, delete_oldest, least_needed};
 use crate::put::{put, sync_if};
 use crate::queue_files::QueueFiles;
+use crate::read_back::batches_are_read_back;
 use crate::stored::{asks_are_stored, what_is_done_lasts};
 use crate::unopened::Unopened;
 use crate::untold::taken_away;
 use raft_accessor::MemTableAccessor;
+use raft_accessor::accessor::accepted_items_lack_room_alone;
 use raft_base::{Error, FileId, FileSeq, LogFileContext, LogQueue, Result, Version};
 use raft_engine_fronts::contents::told_contents_last;
 use raft_engine_fronts::fronts::asks_put_batches;
@@ -42,8 +44,11 @@ use std::marker::Model;
 use std::thread::Threads;
 
 mod again;
+mod files;
+mod over;
 mod reading;
 mod rewrite;
+mod round_trip;
 
 /// The logs of many regions: files that the machine keeps, and the tables of all batches that were written to them.
 ///
@@ -123,9 +128,11 @@ impl<F: EngineFiles> Engine<F> {
     /// The files are handed back. Nothing was asked of them where they are refused: `Corruption` where the number of a file
     /// isn't above that of the file before it; where a queue's last file is damaged (a batch that can be read stands behind one
     /// that can't be, where the header of that one says that it ends) or of the other version (its first batch can be read in
-    /// that one alone); and where the files can't be read. Other refusals of a reading: `Codec`, `Io`. `InvalidArgument` where a
-    /// batch of the rewrite files is of an atomic group, and for another number of workers than 1 to 256. `Full` where the files
-    /// of a queue have 2^63 bytes or more, or what is told has 2^56 bytes or more. `Memory`.
+    /// that one alone). Where a batch can't be read, or can't follow those before it, the refusal is that of `recover_both`: a
+    /// `Corruption` with the file and the offset in front of its text, `Codec` or `Io`. `InvalidArgument` where a batch of the
+    /// rewrite files goes on with an atomic group, or ends it, and doesn't stand right behind one that begins the group or goes
+    /// on with it, in the same file; and for another number of workers than 1 to 256. `Full` where the files of a queue have
+    /// 2^63 bytes or more, or what is told has 2^56 bytes or more. `Memory`.
     ///
     /// Those of `EngineFiles`: some of it was asked then, and whatever is left of the files has the records that were found. They
     /// may be found again, and opened.
@@ -145,7 +152,7 @@ impl<F: EngineFiles> Engine<F> {
             (map file_shown rewrite.items)) }
         ensures accepted { OnOk result (AreBothAccepted version (map file_shown append.items)
             (map file_shown rewrite.items)) }
-        ensures err { IfErr result (λ unopened. IsUnopened version workers (map file_shown append.items)
+        ensures err { IfErr result (λ unopened. IsUnopened (AreUnreadableAs version workers) version (map file_shown append.items)
             (map file_shown rewrite.items) (F.asked unopened.files) unopened.error) }
     {
         let mut files = files;
@@ -320,6 +327,7 @@ impl<F: EngineFiles> Engine<F> {
         asks_are_stored();
         asks_put_batches();
         told_items_take_away_the_same();
+        batches_are_read_back();
         batch.is_read_again();
         if !self.intact {
             return Err(Error::Failed);
@@ -364,7 +372,7 @@ impl<F: EngineFiles> Engine<F> {
         if !self.intact {
             return Err(Error::Failed);
         }
-        let least = least_needed(&self.accessor, self.append.seq)?;
+        let least = least_needed(&self.accessor, LogQueue::Append, self.append.seq)?;
         let count = count_below(&self.append.closed, least);
         if count == 0 {
             return Ok(0);
@@ -372,7 +380,12 @@ impl<F: EngineFiles> Engine<F> {
         self.tell()?;
         self.intact = false;
         self.files.sync(LogQueue::Rewrite)?;
-        delete_oldest(&mut self.files, &mut self.append.closed, count)?;
+        delete_oldest(
+            &mut self.files,
+            LogQueue::Append,
+            &mut self.append.closed,
+            count,
+        )?;
         self.intact = true;
         Ok(count)
     }
@@ -382,11 +395,14 @@ impl<F: EngineFiles> Engine<F> {
 ///
 /// # Errors
 ///
-/// Those of `apply_append_writes`. The first ones of the items are written then.
+/// Those of `apply_append_writes`, only `Memory` and `Full` where the tables accept the items. The first ones of them are written
+/// then.
 fn apply(accessor: &mut MemTableAccessor, batch: &mut LogBatch) -> Result<()>
     ensures ok { OnOk result (AreWritten Appending batch.old.items accessor.old accessor.new) }
     ensures err { OnErr result (AreFirstWritten Appending batch.old.items accessor.old accessor.new) }
+    ensures room { AreAccepted accessor.old.tables batch.old.items → IfErr result LacksRoom }
     ensures emptied { batch.new ≡ empty_batch }
 {
+    accepted_items_lack_room_alone();
     accessor.apply_append_writes(batch.drain())
 }

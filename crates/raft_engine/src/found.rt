@@ -11,7 +11,8 @@ ghost use Rattle.raft_engine.specs.FoundFiles.{AreAccepted, AreReadyBy, BeginsIn
 ghost use Rattle.raft_engine.specs.OpeningAsks.{missing_asks};
 ghost use Rattle.raft_engine_fronts.specs.TornTails.{IsFollowedAt};
 
-use crate::missing::{FIRST_SEQ, Missing};
+use crate::limits::FIRST_SEQ;
+use crate::missing::Missing;
 use raft_base::{Error, FileId, FileSeq, LogFileContext, LogQueue, Result, Version};
 use raft_records::laws::log_batches_are_read_again;
 use raft_records::{FilePart, LogBatch, next_batch, next_in, readable_front};

@@ -4,6 +4,7 @@
 mod block_reads;
 pub mod engine;
 mod found;
+mod group_moves;
 mod groups;
 mod limits;
 mod missing;
@@ -14,6 +15,7 @@ mod purge;
 mod purge_rewrites;
 mod put;
 mod queue_files;
+mod read_back;
 mod reading;
 mod recovered;
 mod removals;

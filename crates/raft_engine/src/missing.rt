@@ -3,11 +3,9 @@
 ghost use Rattle.std.specs.Prelude.{◌≡◌, ◌++◌, OnErr, OnOk};
 ghost use Rattle.raft_engine.specs.OpeningAsks.{AreAskedInPart, missing_asks};
 
-use raft_base::{FileSeq, LogQueue, Result};
+use crate::limits::FIRST_SEQ;
+use raft_base::{LogQueue, Result};
 use raft_files::EngineFiles;
-
-/// The number of a queue's first file.
-pub const FIRST_SEQ: FileSeq = 1;
 
 /// What is missing of a queue's found files before anything can be put behind them.
 #[derive(Clone, Copy)]

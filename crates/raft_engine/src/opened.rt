@@ -4,16 +4,18 @@ ghost use Rattle.std.specs.Prelude.{◌≡◌, ◌<◌, ◌+◌, ◌++◌, map, 
 ghost use Rattle.raft_files.specs.HeldFiles.{file_shown};
 ghost use Rattle.raft_engine.specs.Opened.{AreOpened};
 ghost use Rattle.raft_engine.specs.OpeningAsks.{AreAskedInPart, asks_that_tell};
+ghost use Rattle.raft_engine.specs.ReadContexts.{AreUnmergedAs, HaveReadFound};
 ghost use Rattle.raft_engine.specs.ReadFound.{IsToBeTold, reading_asks};
 ghost use Rattle.raft_engine.specs.StoredFound.{found_asks};
-ghost use Rattle.raft_engine.specs.Unopened.{AreBothAccepted, IsUnopened};
+ghost use Rattle.raft_engine.specs.Unopened.{AreBothAccepted, AreUnreadableAs, IsUnopened};
 
 use crate::put::put;
 use crate::queue_files::QueueFiles;
-use crate::reading::{Reading, read_found};
+use crate::reading::{Reading, read_found, read_over};
 use crate::stored_found::found_files_are_stored;
 use raft_accessor::MemTableAccessor;
 use raft_base::{FileId, FileSeq, LogFileContext, LogQueue, Result, Version};
+use raft_contexts::MemTableRecoverContext;
 use raft_files::EngineFiles;
 use std::alloc::Global;
 use std::thread::Threads;
@@ -48,13 +50,50 @@ pub fn open_files<R: Threads + Sync, F: EngineFiles>(
         (map file_shown rewrite.items) (F.asked files.new) o.append o.rewrite o.accessor) }
     ensures accepted { OnOk result (AreBothAccepted version (map file_shown append.items)
         (map file_shown rewrite.items)) }
-    ensures err { IfErr result (IsUnopened version workers (map file_shown append.items)
+    ensures err { IfErr result (IsUnopened (AreUnreadableAs version workers) version (map file_shown append.items)
         (map file_shown rewrite.items) (F.asked files.new)) }
 {
     found_files_are_stored();
     let mut reading = read_found(rt, alloc, version, append, rewrite, workers)?;
     complete(files, version, &mut reading)?;
     reading.rewrite.len += reading.told_len as u64;
+    Ok(Opened {
+        append: reading.append,
+        rewrite: reading.rewrite,
+        accessor: reading.accessor,
+    })
+}
+
+/// Opens found files as [`open_files`] does, with the contexts that read them.
+///
+/// # Errors
+///
+/// Those of `read_over`: nothing was asked then. Those of `EngineFiles`: some of it was asked then, and whatever is left of the
+/// files has the records that were found.
+pub fn open_over<F: EngineFiles>(
+    alloc: Global,
+    version: Version,
+    files: &mut F,
+    append: Vec<(FileSeq, Vec<u8>)>,
+    rewrite: Vec<(FileSeq, Vec<u8>)>,
+    appended: MemTableRecoverContext,
+    rewritten: MemTableRecoverContext,
+) -> Result<Opened>
+    requires asked { F.asked files.old
+        ≡ found_asks (map file_shown append.items) (map file_shown rewrite.items) }
+    requires read { HaveReadFound version (map file_shown append.items) (map file_shown rewrite.items) appended rewritten }
+    ensures ok { IfOk result (λ o. AreOpened version (map file_shown append.items)
+        (map file_shown rewrite.items) (F.asked files.new) o.append o.rewrite o.accessor) }
+    ensures accepted { OnOk result (AreBothAccepted version (map file_shown append.items)
+        (map file_shown rewrite.items)) }
+    ensures err { IfErr result (IsUnopened (AreUnmergedAs version appended rewritten) version (map file_shown append.items)
+        (map file_shown rewrite.items) (F.asked files.new)) }
+{
+    found_files_are_stored();
+    let mut reading = read_over(alloc, version, append, rewrite, appended, rewritten)?;
+    complete(files, version, &mut reading)?;
+    let told_len = reading.told_len as u64;
+    reading.rewrite.len += told_len;
     Ok(Opened {
         append: reading.append,
         rewrite: reading.rewrite,

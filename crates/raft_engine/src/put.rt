@@ -1,9 +1,10 @@
 //! A batch that is put behind the bytes of a file.
 
-ghost use Rattle.std.specs.Prelude.{◌≡◌, ◌≤◌, ◌^◌, OnOk, OnErr};
+ghost use Rattle.std.specs.Prelude.{◌≡◌, ◌⊎◌, ◌≤◌, ◌^◌, ◌++◌, OnOk, OnErr};
 ghost use Rattle.raft_records.specs.LogBatch.{encoded, encoded_length};
 ghost use Rattle.raft_files.specs.Asks.{IsAsked, MayBeAsked, Put, ask};
 ghost use Rattle.raft_engine.specs.BatchBytes.{bytes_for, placed_at};
+ghost use Rattle.raft_engine.specs.Purged.{put_asks};
 ghost use Rattle.raft_engine.specs.WrittenBatch.{synced_if};
 
 use raft_base::{FileBlockHandle, LogFileContext, LogQueue, Result};
@@ -40,6 +41,31 @@ pub fn put<F: EngineFiles>(
         len,
     });
     Ok(())
+}
+
+/// Puts an encoded batch of `len` bytes behind the last file of a queue, which ends at `offset`, if it has items.
+///
+/// # Errors
+///
+/// Those of `EngineFiles::append`.
+pub fn put_items<F: EngineFiles>(
+    files: &mut F,
+    file: &LogFileContext,
+    offset: u64,
+    batch: &mut LogBatch,
+    len: usize,
+) -> Result<()>
+    requires encoded { batch.old.stage ≡ encoded }
+    requires offset { offset ≤ 2 ^ 63 }
+    requires len { len ≡ encoded_length batch.old.items batch.old.entry_bytes }
+    ensures ok { OnOk result (F.asked files.new ≡ put_asks file.now batch.old ++ F.asked files.old) }
+    ensures err { OnErr result ((F.asked files.new ≡ F.asked files.old)
+        ⊎ (F.asked files.new ≡ put_asks file.now batch.old ++ F.asked files.old)) }
+{
+    if batch.is_empty() {
+        return Ok(());
+    }
+    put(files, file, offset, batch, len)
 }
 
 /// Syncs the append queue, if that is wanted.

@@ -4,12 +4,14 @@ ghost use Rattle.std.specs.Prelude.{◌≢◌, ◌↔◌, ◌<◌, ◌^◌, map,
 ghost use Rattle.raft_files.specs.HeldFiles.{file_shown};
 ghost use Rattle.raft_recover.specs.Files.{bytes_of_files};
 ghost use Rattle.raft_engine.specs.Opening.{AreRecovered};
-ghost use Rattle.raft_engine.specs.Unopened.{AreManyAs, IsRecoveryFault};
+ghost use Rattle.raft_engine.specs.ReadContexts.{AreUnmergedAs, HaveReadReady};
+ghost use Rattle.raft_engine.specs.Unopened.{AreManyAs, AreUnreadableAs, IsRecoveryFault};
 
-use crate::groups::check_plain;
+use crate::groups::check_groups;
 use crate::removals::told_at_opening;
 use raft_accessor::MemTableAccessor;
 use raft_base::{Error, FileSeq, LogQueue, Result, Version};
+use raft_contexts::MemTableRecoverContext;
 use raft_engine_laws::telling::told_items_take_away_the_same;
 use raft_records::LogBatch;
 use raft_recover::{file_segments, files_hold_few_records, recover_both};
@@ -21,8 +23,8 @@ use std::thread::Threads;
 ///
 /// # Errors
 ///
-/// `Full` where the files of a queue have 2^63 bytes or more; `InvalidArgument` where a batch of the rewrite files has a
-/// group marker; those of `recover_both`.
+/// `Full` where the files of a queue have 2^63 bytes or more; those of `recover_both`; `InvalidArgument` where an atomic group of
+/// the rewrite files doesn't stand in a row, in one file.
 pub fn recovered<R: Threads + Sync>(
     rt: &R,
     alloc: Global,
@@ -33,7 +35,7 @@ pub fn recovered<R: Threads + Sync>(
 ) -> Result<(MemTableAccessor, LogBatch)>
     ensures ok { IfOk result (λ found. AreRecovered version (map file_shown append.items)
         (map file_shown rewrite.items) found.0 found.1) }
-    ensures fault { IfErr result (λ e. e ≢ Error.Memory → IsRecoveryFault version workers
+    ensures fault { IfErr result (λ e. e ≢ Error.Memory → IsRecoveryFault (AreUnreadableAs version workers) version
         (map file_shown append.items) (map file_shown rewrite.items) e) }
 {
     files_hold_few_records();
@@ -44,9 +46,44 @@ pub fn recovered<R: Threads + Sync>(
     let appended = file_segments(LogQueue::Append, version, append)?;
     let rewritten = file_segments(LogQueue::Rewrite, version, rewrite)?;
     let (append, rewrite) = (appended.as_slice(), rewritten.as_slice());
-    check_plain(alloc, rewrite)?;
     let accessor = recover_both(rt, alloc, rewrite, append, workers)?;
+    check_groups(alloc, rewrite)?;
     let told = told_at_opening(alloc, append, &accessor)?;
+    Ok((accessor, told))
+}
+
+/// Recovers as [`recovered`] does, of the contexts that read the files.
+///
+/// # Errors
+///
+/// `Full` where the files of a queue have 2^63 bytes or more; `InvalidArgument` where an atomic group of the rewrite files doesn't
+/// stand in a row, in one file; those of `merge_append_context`; those of `told_at_opening`.
+pub fn recovered_over(
+    alloc: Global,
+    version: Version,
+    append: Vec<(FileSeq, Vec<u8>)>,
+    rewrite: Vec<(FileSeq, Vec<u8>)>,
+    appended: MemTableRecoverContext,
+    rewritten: MemTableRecoverContext,
+) -> Result<(MemTableAccessor, LogBatch)>
+    requires { HaveReadReady version (map file_shown append.items) (map file_shown rewrite.items) appended rewritten }
+    ensures ok { IfOk result (λ found. AreRecovered version (map file_shown append.items)
+        (map file_shown rewrite.items) found.0 found.1) }
+    ensures fault { IfErr result (λ e. e ≢ Error.Memory → IsRecoveryFault (AreUnmergedAs version appended rewritten) version
+        (map file_shown append.items) (map file_shown rewrite.items) e) }
+{
+    files_hold_few_records();
+    segments_read_as_one_history();
+    told_items_take_away_the_same();
+    check_few(&append)?;
+    check_few(&rewrite)?;
+    let append_segments = file_segments(LogQueue::Append, version, append)?;
+    let rewrite_segments = file_segments(LogQueue::Rewrite, version, rewrite)?;
+    check_groups(alloc, rewrite_segments.as_slice())?;
+    let mut both = rewritten;
+    both.merge_append_context(appended)?;
+    let accessor = both.finish()?;
+    let told = told_at_opening(alloc, append_segments.as_slice(), &accessor)?;
     Ok((accessor, told))
 }
 

@@ -8,17 +8,20 @@ ghost use Rattle.raft_engine_laws.specs.Records.{Records};
 ghost use Rattle.raft_engine_fronts.specs.Contents.{AreBothTold};
 ghost use Rattle.raft_engine.specs.KeptEngine.{KeptEngine};
 ghost use Rattle.raft_engine.specs.Lasting.{IsLasting, IsLastingAfter};
-ghost use Rattle.raft_engine.specs.Restarts.{AreFromBefore, IsFoundByRestarts, IsKeptByRestarts};
+ghost use Rattle.raft_engine.specs.Restarts.{AreFromBefore, FoundContentsStay, IsFoundByRestarts, IsKeptByRestarts, SyncedBatchesLast};
 
 use crate::engine::Engine;
+use crate::stored_found::found_files_are_stored;
+use raft_engine_fronts::contents::told_contents_last;
 use raft_engine_fronts::torn_tails::torn_tails_are_found;
 use raft_files::EngineFiles;
 use raft_recover::files_hold_few_records;
 
 /// States that restarts find what lasts, whatever files the machine leaves if it stops: every engine that is opened over them
 /// and every recovery of both queues has the records of a front of the batches that were written, with the synced ones at
-/// least, and of what there was before them; the files are neither damaged nor unreadable, nor of a group, and `recover_both`
-/// refuses them for want of memory alone; and where nothing is lost, what is found has the records of all batches.
+/// least, and of what there was before them; the files are neither damaged nor unreadable, nor of the other version, and
+/// each group stands in a row; `recover_both` refuses them for want of memory alone; and where nothing is lost, what is found has
+/// the records of all batches.
 pub fn restarts_find_what_lasts()
     ensures { (content : EntryIndex → List ℕ) (version : Version) (base : ℕ → Records) (asks : List Ask)
         (lasting : IsLastingAfter content version base asks)
@@ -29,10 +32,27 @@ pub fn restarts_find_what_lasts()
 }
 
 /// States which records there were before the batches that are known of an engine: none where it began its first files, and
-/// what was found where it was opened.
+/// what was found where it was opened; one of both is so.
 pub fn records_before_are_those_found()
     ensures { (content : EntryIndex → List ℕ) (engine : KeptEngine) (lasting : IsLasting content engine)
         → AreFromBefore content engine.version engine.asks lasting.base }
+{
+    torn_tails_are_found();
+}
+
+/// States that the contents of the entries that an engine finds stay: those that are told by what was asked of an engine which was
+/// opened over what a stop left of another one are those of the other one, for each entry whose bytes stand in what was left.
+pub fn found_contents_stay()
+    ensures { FoundContentsStay }
+{
+    found_files_are_stored();
+    told_contents_last();
+}
+
+/// States that a batch that was written with a sync is synced once that returns: of the batches that a stop leaves at least it
+/// is then the last one, behind all that were written before it. This is a law: it computes nothing.
+pub fn synced_batches_last()
+    ensures { SyncedBatchesLast }
 {
     torn_tails_are_found();
 }
@@ -42,8 +62,9 @@ impl<F: EngineFiles> Engine<F> {
     /// over the files that are left, and a recovery of both queues of them, has the records of all batches that were synced
     /// by then, and of a front of those since, and no others. It has those of an intact engine if all was synced, or if
     /// nothing is lost. The files are neither damaged nor unreadable, where those of a queue have fewer than 2^63 bytes:
-    /// `recover_both` refuses them for want of memory alone; with which error `open` fails isn't said. The contents of entries
-    /// are any that are told by what was asked, and the files that are left have these. This is a law: it computes nothing.
+    /// `recover_both` refuses them for want of memory alone, and `open` for this, for want of room, or once the files fail. The
+    /// contents of entries are any that are told by what was asked, and the files that are left have these. This is a law: it
+    /// computes nothing.
     pub fn what_is_left_is_opened(&self)
         ensures { (content : EntryIndex → List ℕ) → AreBothTold self.now.asks content
             → IsKeptByRestarts content self.now }

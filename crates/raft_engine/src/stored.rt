@@ -1,5 +1,6 @@
 //! Laws of what is stored of an engine.
 
+ghost use Rattle.raft_base.specs.declared.pipe_log.LogQueue.TheVariants.{Append};
 ghost use Rattle.raft_engine.specs.StoredAsks.{DeletionsAreStored, FirstFilesAreStored, NewFilesAreStored, SyncsAreStored, ToldBatchesAreStored, WhatIsDoneLasts, WrittenBatchesAreStored};
 
 use raft_engine_fronts::contents::told_contents_last;
@@ -27,14 +28,14 @@ pub fn what_is_done_lasts()
 /// States what each ask makes of what is stored: the first files are stored as no tables; a sync and a new file change
 /// nothing of it; a batch that is put behind the append queue's last file is stored as the tables that take it, and what
 /// it takes away is untold; once the append queue is synced, the rewrite queue may be told; and then, with both queues
-/// synced, files may be deleted that no table needs.
+/// synced, append files may be deleted that no table needs.
 pub fn asks_are_stored()
     ensures first { FirstFilesAreStored }
     ensures synced { SyncsAreStored }
     ensures begun { NewFilesAreStored }
     ensures written { WrittenBatchesAreStored }
     ensures told { ToldBatchesAreStored }
-    ensures deleted { DeletionsAreStored }
+    ensures deleted { DeletionsAreStored Append }
 {
     what_is_done_lasts();
     nothing_is_lost();

@@ -1,13 +1,15 @@
 //! Rewritten records that move to a new file of the rewrite queue, and rewrite files that no table needs.
 
 ghost use Rattle.std.specs.Prelude.{◌≡◌, IfErr, IfOk, None, OnErr, OnOk, true};
+ghost use Rattle.raft_base.specs.declared.pipe_log.LogQueue.TheVariants.{Rewrite};
 ghost use Rattle.raft_engine.specs.Moved.{IsReady};
 ghost use Rattle.raft_engine.specs.MovedAgain.{AreMovedAgain, AreUnmovedAgain, IsRewriteRotated, IsRewriteUnrotated};
-ghost use Rattle.raft_engine.specs.PurgedRewrites.{AreRewritesDeleted, AreRewritesExpired, AreRewritesHalfDeleted, AreRewritesPurged, AreRewritesUnpurged};
+ghost use Rattle.raft_engine.specs.Purged.{AreExpired};
+ghost use Rattle.raft_engine.specs.PurgedRewrites.{AreRewritesDeleted, AreRewritesHalfDeleted, AreRewritesPurged, AreRewritesUnpurged};
 
 use super::Engine;
-use crate::purge::count_below;
-use crate::purge_rewrites::{delete_oldest_rewrites, least_rewritten, rewrite_files_may_go};
+use crate::purge::{count_below, delete_oldest, least_needed};
+use crate::purge_rewrites::rewrite_files_may_go;
 use crate::rewriting::regions_of;
 use crate::stored::asks_are_stored;
 use raft_base::{Error, FileSeq, LogQueue, Result};
@@ -86,7 +88,7 @@ impl<F: EngineFiles> Engine<F> {
         if !self.intact {
             return Err(Error::Failed);
         }
-        let least = least_rewritten(&self.accessor, self.rewrite.seq)?;
+        let least = least_needed(&self.accessor, LogQueue::Rewrite, self.rewrite.seq)?;
         let count = count_below(&self.rewrite.closed, least);
         if count == 0 {
             return Ok(0);
@@ -103,7 +105,7 @@ impl<F: EngineFiles> Engine<F> {
     /// Those of `EngineFiles`: the engine isn't intact any more.
     fn delete_rewrite_files(&mut self, count: usize) -> Result<()>
         requires ready { IsReady self.old }
-        requires expired { AreRewritesExpired self.old count }
+        requires expired { AreExpired Rewrite self.old count }
         ensures ok { OnOk result (AreRewritesDeleted count self.old self.new) }
         ensures err { OnErr result (AreRewritesHalfDeleted count self.old self.new) }
     {
@@ -111,7 +113,12 @@ impl<F: EngineFiles> Engine<F> {
         asks_are_stored();
         self.intact = false;
         self.files.sync(LogQueue::Rewrite)?;
-        delete_oldest_rewrites(&mut self.files, &mut self.rewrite.closed, count)?;
+        delete_oldest(
+            &mut self.files,
+            LogQueue::Rewrite,
+            &mut self.rewrite.closed,
+            count,
+        )?;
         self.intact = true;
         Ok(())
     }

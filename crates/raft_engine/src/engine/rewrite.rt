@@ -9,8 +9,8 @@ ghost use Rattle.raft_engine.specs.WrittenBatch.{AreFirstWritten};
 use super::Engine;
 use crate::limits::LAST_OFFSET;
 use crate::moved::moves_are_stored;
-use crate::purge::put_items;
-use crate::put::put;
+use crate::put::{put, put_items};
+use crate::read_back::batches_are_read_back;
 use crate::rewriting::{moving_batch, regions_of};
 use crate::stored::asks_are_stored;
 use raft_accessor::MemTableAccessor;
@@ -115,6 +115,7 @@ impl<F: EngineFiles> Engine<F> {
         ensures err { IfErr result (IsRegionUnmoved gate region self.old self.new) }
     {
         moves_are_stored();
+        batches_are_read_back();
         if self.rewrite.len > LAST_OFFSET {
             return Err(Error::Full);
         }

@@ -17,8 +17,10 @@ returns-in_err-torn_tail-clause-fault c =
 pub returns-in-None-clause-ok : goal.returns-in-None-clause-ok
 returns-in-None-clause-ok c =
     let rising : AreRisingFrom 0 (numbers (map file_shown c.args.found.now.items)) = search rules in
+    let accepted = last_accepted c.args.queue c.args.version (map file_shown c.args.found.now.items) rising (map file_shown (take (length c.args.found.now.items - 1) c.args.found.now.items)) (file_shown c.in-Some.last.now)
+    (last_shown c.args.found.now.items c.deref.result.now c.in-Some.last.now c.deref.ensures.value c.in-Some.ensures.value) c.in_ok-torn_tail.ensures.undamaged c.in_ok-torn_tail.ensures.of_version in
     untorn_ready c.args.queue c.args.version (map file_shown c.args.found.now.items) rising (map file_shown (take (length c.args.found.now.items - 1) c.args.found.now.items)) (file_shown c.in-Some.last.now)
-    (last_shown c.args.found.now.items c.deref.result.now c.in-Some.last.now c.deref.ensures.value c.in-Some.ensures.value) (rw c.in-None.is at c.in_ok-torn_tail.ensures.ok)
+    (last_shown c.args.found.now.items c.deref.result.now c.in-Some.last.now c.deref.ensures.value c.in-Some.ensures.value) accepted (rw c.in-None.is at c.in_ok-torn_tail.ensures.ok)
 
 pub returns-in-None-clause-accepted : goal.returns-in-None-clause-accepted
 returns-in-None-clause-accepted c =
@@ -29,8 +31,10 @@ returns-in-None-clause-accepted c =
 pub returns-in-Some-2-clause-ok : goal.returns-in-Some-2-clause-ok
 returns-in-Some-2-clause-ok c =
     let rising : AreRisingFrom 0 (numbers (map file_shown c.args.found.now.items)) = search rules in
+    let accepted = last_accepted c.args.queue c.args.version (map file_shown c.args.found.now.items) rising (map file_shown (take (length c.args.found.now.items - 1) c.args.found.now.items)) (file_shown c.in-Some.last.now)
+    (last_shown c.args.found.now.items c.deref.result.now c.in-Some.last.now c.deref.ensures.value c.in-Some.ensures.value) c.in_ok-torn_tail.ensures.undamaged c.in_ok-torn_tail.ensures.of_version in
     cut_ready c.args.queue c.args.version (map file_shown c.args.found.now.items) rising (map file_shown (take (length c.args.found.now.items - 1) c.args.found.now.items)) (file_shown c.in-Some.last.now)
-    (last_shown c.args.found.now.items c.deref.result.now c.in-Some.last.now c.deref.ensures.value c.in-Some.ensures.value) c.in-Some-2.at c.cut_last.result (map file_shown c.cut_last.new.found.items)
+    (last_shown c.args.found.now.items c.deref.result.now c.in-Some.last.now c.deref.ensures.value c.in-Some.ensures.value) accepted c.in-Some-2.at c.cut_last.result (map file_shown c.cut_last.new.found.items)
     (rw c.in-Some-2.is at c.in_ok-torn_tail.ensures.ok) c.cut_last.ensures.missing c.cut_last.ensures.cut
 
 pub returns-in-Some-2-clause-accepted : goal.returns-in-Some-2-clause-accepted

@@ -1,9 +1,13 @@
 use Rattle.std.proofs.lemmas.Result.{err_from_is_err_and}
-use Rattle.std.proofs.Common.{subst, sym}
+use Rattle.std.proofs.Common.{List, map, subst}
+use Rattle.raft_base.specs.declared.pipe_log.FileId.{FileId}
+use Rattle.raft_records.specs.Item.{Item, item_of}
 use Rattle.raft_records.proofs.PartLemmas.{batch_inside}
-use Rattle.raft_engine.specs.Markers.{HaveNoMarker}
-use Rattle.raft_engine.proofs.PlainLemmas.{one_plain, all_plain}
-use Rattle.raft_engine.proofs.RefusedLemmas.{held_there, unheld}
+use Rattle.raft_history.specs.Batches.{marker_in}
+use Rattle.raft_history.specs.Histories.{HaveStatus}
+use Rattle.raft_engine_laws.specs.GroupsInRows.{MayStandBy}
+use Rattle.raft_engine.specs.GroupChecks.{IsInRow}
+use Rattle.raft_engine.proofs.RowLemmas.{batch_out, no_more, one_batch, unread}
 use Rattle.raft_engine.proofs.groups.check_part.Goals as goal
 
 pub loop-batch-preserved : goal.loop-batch-preserved
@@ -11,21 +15,24 @@ loop-batch-preserved c =
     let stands = rw c.in-Some.is at c.in_ok-batch.ensures.ok in
     record {
       inside = (batch_inside c.args.part.now c.loop-batch.at _ c.in-Some.next stands).1;
-      plain = one_plain c.args.part.now c.loop-batch.at c.in-Some.next _ c.loop-batch.invariant.plain stands (subst HaveNoMarker c.as_slice.ensures c.in_ok-check_items.ensures.ok);
+      rows = one_batch c.args.part.now c.loop-batch.at c.in-Some.next _ stands c.args.before c.loop-batch.left _ c.loop-batch.invariant.rows
+          (subst (λ (l : List Item). IsInRow c.args.part.now.id l c.loop-batch.left c.in_ok-left.left) c.as_slice.ensures
+          (subst (λ (f : FileId). IsInRow f (map item_of c.as_slice.result.now) c.loop-batch.left c.in_ok-left.left) c.id.ensures c.in_ok-left.ensures.ok));
     }
 
 pub returns-clause-ok : goal.returns-clause-ok
-returns-clause-ok c = all_plain c.args.part.now c.loop-batch.at c.loop-batch.invariant.plain (rw c.in_default.is at c.in_ok-batch.ensures.ok)
+returns-clause-ok c = no_more c.args.part.now c.loop-batch.at c.args.before c.loop-batch.left c.loop-batch.invariant.rows (rw c.in_default.is at c.in_ok-batch.ensures.ok)
 
 pub returns-in_err-batch-clause-refused : goal.returns-in_err-batch-clause-refused
 returns-in_err-batch-clause-refused c =
     let p = err_from_is_err_and c.from_residual.result c.from_residual.ensures.1 in
-    rw (p.1, p.2) (λ other h held all. unheld c.args.part.now c.loop-batch.at c.loop-batch.invariant.plain.stand (c.in_err-batch.ensures.refused other) c.in_err-batch.ensures.some h held)
+    rw (p.1, p.2) (λ other. unread c.args.part.now c.loop-batch.at c.args.before c.loop-batch.left c.loop-batch.invariant.rows (c.in_err-batch.ensures.refused other) c.in_err-batch.ensures.some)
 
-pub returns-in_err-check_items-clause-refused : goal.returns-in_err-check_items-clause-refused
-returns-in_err-check_items-clause-refused c =
+pub returns-in_err-left-clause-refused : goal.returns-in_err-left-clause-refused
+returns-in_err-left-clause-refused c =
     let stands = rw c.in-Some.is at c.in_ok-batch.ensures.ok in
-    let p = err_from_is_err_and c.from_residual-in_err-check_items.result c.from_residual-in_err-check_items.ensures.1 in
+    let p = err_from_is_err_and c.from_residual-in_err-left.result c.from_residual-in_err-left.ensures.1 in
     rw (p.1, p.2)
-    (λ other h held all. c.in_err-check_items.ensures.refused other
-    (subst HaveNoMarker (sym c.as_slice.ensures) (held_there HaveNoMarker c.args.part.now c.loop-batch.at c.in-Some.next _ c.loop-batch.invariant.plain.stand stands h held all)))
+    (λ other. batch_out c.args.part.now c.loop-batch.at c.in-Some.next _ stands c.args.before c.loop-batch.left c.loop-batch.invariant.rows
+    (subst (λ (l : List Item). HaveStatus c.args.part.now.id.queue l → ¬ (MayStandBy (marker_in c.args.part.now.id.queue l) c.args.part.now.id.seq c.loop-batch.left)) c.as_slice.ensures
+    (subst (λ (f : FileId). HaveStatus f.queue (map item_of c.as_slice.result.now) → ¬ (MayStandBy (marker_in f.queue (map item_of c.as_slice.result.now)) f.seq c.loop-batch.left)) c.id.ensures (c.in_err-left.ensures.refused other))))

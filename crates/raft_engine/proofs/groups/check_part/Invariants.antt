@@ -1,11 +1,11 @@
 use Rattle.std.proofs.Common.{◌-◌, ◌≤◌, length}
-use Rattle.raft_engine.proofs.PlainLemmas.{IsPlainPart}
+use Rattle.raft_engine.proofs.RowLemmas.{IsPartInRows}
 use Rattle.raft_engine.proofs.groups.check_part.Given as goal
 
 abbrev pub invariant-loop-batch : goal.invariant-loop-batch
 invariant-loop-batch l = record {
   inside : l.at ≤ length l.part.bytes;
-  plain : IsPlainPart l.part l.at;
+  rows : IsPartInRows l.part l.at l.fn.before l.left;
 }
 
 abbrev pub decreases-loop-batch : goal.decreases-loop-batch

@@ -7,4 +7,4 @@ pub returns-in_err-delete_oldest-clause-err : goal.returns-in_err-delete_oldest-
 returns-in_err-delete_oldest-clause-err g c =
     let p = err_from_is_err_and c.from_residual.result c.from_residual.ensures.1 in
     let low : c.loop.counter < c.args.count = search rules in
-    rw (p.1) (some_deleted c.loop.counter c.args.count low (g.F.EngineFiles.asked c.loop.files) (g.F.EngineFiles.asked c.args.files.now) (g.F.EngineFiles.asked c.delete_oldest.new.self) c.loop.invariant c.in_err-delete_oldest.ensures.err)
+    rw (p.1) (some_deleted c.args.queue c.loop.counter c.args.count low (g.F.EngineFiles.asked c.loop.files) (g.F.EngineFiles.asked c.args.files.now) (g.F.EngineFiles.asked c.delete_oldest.new.self) c.loop.invariant c.in_err-delete_oldest.ensures.err)

@@ -1,19 +1,21 @@
 use Rattle.std.proofs.Common.{true, false, List, refl, sym, subst, arith}
+use Rattle.raft_base.specs.declared.pipe_log.LogQueue.TheVariants.{Rewrite}
 use Rattle.raft_files.specs.Asks.{Ask}
 use Rattle.raft_engine.specs.KeptEngine.{KeptEngine}
 use Rattle.raft_engine.specs.Moved.{IsReady}
-use Rattle.raft_engine.specs.PurgedRewrites.{AreRewritesDeleted, AreRewritesExpired, AreRewritesHalfDeleted}
+use Rattle.raft_engine.specs.Purged.{AreExpired}
+use Rattle.raft_engine.specs.PurgedRewrites.{AreRewritesDeleted, AreRewritesHalfDeleted}
 use Rattle.raft_engine.proofs.KeptLemmas.{kept_broken}
 use Rattle.raft_engine.proofs.KeptRewritePurges.{few, is_deleted, kept_deleted, none_half, some_broken, some_half}
 use Rattle.raft_engine.proofs.RewrittenRegions.{on_any}
 use Rattle.raft_engine.proofs.engine.Engine.delete_rewrite_files.Goals as goal
 
-pub delete_oldest_rewrites-requires : goal.delete_oldest_rewrites-requires
-delete_oldest_rewrites-requires g c =
+pub delete_oldest-requires : goal.delete_oldest-requires
+delete_oldest-requires g c =
     let e = c.self.inside in
     let old : List Ask = g.F.EngineFiles.asked e.files in
     let ready : IsReady (record { version = e.version; asks = old; untold = e.untold; accessor = e.accessor; intact = e.intact }) = subst IsReady (sym c.self.view_is) c.requires.ready in
-    let x = subst (λ (o : KeptEngine). AreRewritesExpired o c.args.count) (sym c.self.view_is) c.requires.expired in
+    let x = subst (λ (o : KeptEngine). AreExpired Rewrite o c.args.count) (sym c.self.view_is) c.requires.expired in
     let low = few c.asks_are_stored.ensures.synced c.rewrite_files_may_go.ensures e.version old e.append e.rewrite e.untold e.accessor e.intact c.self.invariant ready.intact ready.synced ready.told c.args.count x in
     let long = e.rewrite.closed.ok in
     omega (arith, low, long)
@@ -29,45 +31,45 @@ returns-in_err-sync-clause-err g c =
     let e = c.self.inside in
     let old : List Ask = g.F.EngineFiles.asked e.files in
     let ready : IsReady (record { version = e.version; asks = old; untold = e.untold; accessor = e.accessor; intact = e.intact }) = subst IsReady (sym c.self.view_is) c.requires.ready in
-    let x = subst (λ (o : KeptEngine). AreRewritesExpired o c.args.count) (sym c.self.view_is) c.requires.expired in
+    let x = subst (λ (o : KeptEngine). AreExpired Rewrite o c.args.count) (sym c.self.view_is) c.requires.expired in
     on_any _ _ (subst (λ (o : KeptEngine). AreRewritesHalfDeleted c.args.count o (record { version = e.version; asks = g.F.EngineFiles.asked c.sync.new.self; untold = e.untold; accessor = e.accessor; intact = false })) c.self.view_is
     (none_half c.asks_are_stored.ensures.synced c.rewrite_files_may_go.ensures e.version old e.append e.rewrite e.untold e.accessor e.intact c.self.invariant ready.intact ready.synced ready.told c.args.count x
     (g.F.EngineFiles.asked c.sync.new.self) c.in_err-sync.ensures.err))
 
-pub invariant_of-self-in_err-delete_oldest_rewrites : goal.invariant_of-self-in_err-delete_oldest_rewrites
-invariant_of-self-in_err-delete_oldest_rewrites g c =
+pub invariant_of-self-in_err-delete_oldest : goal.invariant_of-self-in_err-delete_oldest
+invariant_of-self-in_err-delete_oldest g c =
     let e = c.self.inside in
     let old : List Ask = g.F.EngineFiles.asked e.files in
     let ready : IsReady (record { version = e.version; asks = old; untold = e.untold; accessor = e.accessor; intact = e.intact }) = subst IsReady (sym c.self.view_is) c.requires.ready in
-    let x = subst (λ (o : KeptEngine). AreRewritesExpired o c.args.count) (sym c.self.view_is) c.requires.expired in
+    let x = subst (λ (o : KeptEngine). AreExpired Rewrite o c.args.count) (sym c.self.view_is) c.requires.expired in
     some_broken c.asks_are_stored.ensures.synced c.rewrite_files_may_go.ensures e.version old e.append e.rewrite e.untold e.accessor e.intact c.self.invariant ready.intact ready.synced ready.told c.args.count x
-    (g.F.EngineFiles.asked c.sync.new.self) c.in_ok-sync.ensures.ok (g.F.EngineFiles.asked c.delete_oldest_rewrites.new.files) _ _ _ _ c.in_err-delete_oldest_rewrites.ensures.err
+    (g.F.EngineFiles.asked c.sync.new.self) c.in_ok-sync.ensures.ok (g.F.EngineFiles.asked c.delete_oldest.new.files) _ _ _ _ c.in_err-delete_oldest.ensures.err
 
-pub returns-in_err-delete_oldest_rewrites-clause-err : goal.returns-in_err-delete_oldest_rewrites-clause-err
-returns-in_err-delete_oldest_rewrites-clause-err g c =
+pub returns-in_err-delete_oldest-clause-err : goal.returns-in_err-delete_oldest-clause-err
+returns-in_err-delete_oldest-clause-err g c =
     let e = c.self.inside in
     let old : List Ask = g.F.EngineFiles.asked e.files in
     let ready : IsReady (record { version = e.version; asks = old; untold = e.untold; accessor = e.accessor; intact = e.intact }) = subst IsReady (sym c.self.view_is) c.requires.ready in
-    let x = subst (λ (o : KeptEngine). AreRewritesExpired o c.args.count) (sym c.self.view_is) c.requires.expired in
-    on_any _ _ (subst (λ (o : KeptEngine). AreRewritesHalfDeleted c.args.count o (record { version = e.version; asks = g.F.EngineFiles.asked c.delete_oldest_rewrites.new.files; untold = e.untold; accessor = e.accessor; intact = false })) c.self.view_is
+    let x = subst (λ (o : KeptEngine). AreExpired Rewrite o c.args.count) (sym c.self.view_is) c.requires.expired in
+    on_any _ _ (subst (λ (o : KeptEngine). AreRewritesHalfDeleted c.args.count o (record { version = e.version; asks = g.F.EngineFiles.asked c.delete_oldest.new.files; untold = e.untold; accessor = e.accessor; intact = false })) c.self.view_is
     (some_half c.asks_are_stored.ensures.synced c.rewrite_files_may_go.ensures e.version old e.append e.rewrite e.untold e.accessor e.intact c.self.invariant ready.intact ready.synced ready.told c.args.count x
-    (g.F.EngineFiles.asked c.sync.new.self) c.in_ok-sync.ensures.ok (g.F.EngineFiles.asked c.delete_oldest_rewrites.new.files) c.in_err-delete_oldest_rewrites.ensures.err))
+    (g.F.EngineFiles.asked c.sync.new.self) c.in_ok-sync.ensures.ok (g.F.EngineFiles.asked c.delete_oldest.new.files) c.in_err-delete_oldest.ensures.err))
 
 pub invariant_of-self-2 : goal.invariant_of-self-2
 invariant_of-self-2 g c =
     let e = c.self.inside in
     let old : List Ask = g.F.EngineFiles.asked e.files in
     let ready : IsReady (record { version = e.version; asks = old; untold = e.untold; accessor = e.accessor; intact = e.intact }) = subst IsReady (sym c.self.view_is) c.requires.ready in
-    let x = subst (λ (o : KeptEngine). AreRewritesExpired o c.args.count) (sym c.self.view_is) c.requires.expired in
+    let x = subst (λ (o : KeptEngine). AreExpired Rewrite o c.args.count) (sym c.self.view_is) c.requires.expired in
     kept_deleted c.asks_are_stored.ensures.synced c.rewrite_files_may_go.ensures e.version old e.append e.rewrite e.untold e.accessor e.intact c.self.invariant ready.intact ready.synced ready.told c.args.count x
-    (g.F.EngineFiles.asked c.sync.new.self) c.in_ok-sync.ensures.ok (g.F.EngineFiles.asked c.delete_oldest_rewrites.new.files) c.in_ok-delete_oldest_rewrites.ensures.asked _ c.in_ok-delete_oldest_rewrites.ensures.closed refl refl
+    (g.F.EngineFiles.asked c.sync.new.self) c.in_ok-sync.ensures.ok (g.F.EngineFiles.asked c.delete_oldest.new.files) c.in_ok-delete_oldest.ensures.asked _ c.in_ok-delete_oldest.ensures.closed refl refl
 
 pub returns-clause-ok : goal.returns-clause-ok
 returns-clause-ok g c =
     let e = c.self.inside in
     let old : List Ask = g.F.EngineFiles.asked e.files in
     let ready : IsReady (record { version = e.version; asks = old; untold = e.untold; accessor = e.accessor; intact = e.intact }) = subst IsReady (sym c.self.view_is) c.requires.ready in
-    let x = subst (λ (o : KeptEngine). AreRewritesExpired o c.args.count) (sym c.self.view_is) c.requires.expired in
-    subst (λ (o : KeptEngine). AreRewritesDeleted c.args.count o (record { version = e.version; asks = g.F.EngineFiles.asked c.delete_oldest_rewrites.new.files; untold = e.untold; accessor = e.accessor; intact = true })) c.self.view_is
+    let x = subst (λ (o : KeptEngine). AreExpired Rewrite o c.args.count) (sym c.self.view_is) c.requires.expired in
+    subst (λ (o : KeptEngine). AreRewritesDeleted c.args.count o (record { version = e.version; asks = g.F.EngineFiles.asked c.delete_oldest.new.files; untold = e.untold; accessor = e.accessor; intact = true })) c.self.view_is
     (is_deleted c.asks_are_stored.ensures.synced c.rewrite_files_may_go.ensures e.version old e.append e.rewrite e.untold e.accessor e.intact c.self.invariant ready.intact ready.synced ready.told c.args.count x
-    (g.F.EngineFiles.asked c.sync.new.self) c.in_ok-sync.ensures.ok (g.F.EngineFiles.asked c.delete_oldest_rewrites.new.files) c.in_ok-delete_oldest_rewrites.ensures.asked)
+    (g.F.EngineFiles.asked c.sync.new.self) c.in_ok-sync.ensures.ok (g.F.EngineFiles.asked c.delete_oldest.new.files) c.in_ok-delete_oldest.ensures.asked)

@@ -9,4 +9,4 @@ invariant_of-result g c =
     kept_new c.asks_are_stored.ensures.first c.args.version (g.F.EngineFiles.asked c.rotate-2.new.self) c.first.result c.first-2.result c.default.result c.in_ok-accessor.accessor
     (c.in_ok-rotate-2.ensures.ok ∙ ap (λ (l : List Ask). ask Rewrite (Begin 1) ∷ l) (c.in_ok-rotate.ensures.ok ∙ ap (λ (l : List Ask). ask Append (Begin 1) ∷ l) c.requires))
     c.first.ensures.closed c.first.ensures.seq c.first.ensures.len c.first-2.ensures.closed c.first-2.ensures.seq c.first-2.ensures.len
-    c.default.ensures c.in_ok-accessor.ensures.tables
+    c.default.ensures c.in_ok-accessor.ensures.tables c.in_ok-accessor.ensures.cleaned

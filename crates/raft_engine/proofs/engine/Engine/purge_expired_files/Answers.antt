@@ -1,5 +1,6 @@
 use Rattle.std.proofs.lemmas.Result.{err_from_is_err_and}
 use Rattle.std.proofs.Common.{rules, ◌≡◌, ◌≢◌, true, List, inl, inr, refl, sym, subst}
+use Rattle.raft_base.specs.declared.pipe_log.LogQueue.TheVariants.{Append}
 use Rattle.raft_files.specs.Asks.{Ask}
 use Rattle.raft_engine.specs.KeptEngine.{KeptEngine}
 use Rattle.raft_engine.specs.Moved.{IsTold}
@@ -12,17 +13,17 @@ returns-then-count-eq0-clause-ok g c =
     let e = c.self.inside in
     let old : List Ask = g.F.EngineFiles.asked e.files in
     let intact : e.intact ≡ true = search rules in
-    let expired = subst (λ (o : KeptEngine). AreExpired o c.count_below-count.result) c.self.view_is
+    let expired = subst (λ (o : KeptEngine). AreExpired Append o c.count_below-count.result) c.self.view_is
     (its_expired e.version old e.append e.rewrite e.untold e.accessor e.intact c.self.invariant intact c.in_ok-least.least c.count_below-count.result _ c.in_ok-least.ensures.ok c.deref.ensures.value c.count_below-count.ensures) in
     let zero : c.count_below-count.result ≡ 0 = search rules in
-    (subst (AreExpired _) zero expired, inl (refl, refl))
+    (subst (AreExpired Append _) zero expired, inl (refl, refl))
 
 pub returns-in_err-tell-clause-err : goal.returns-in_err-tell-clause-err
 returns-in_err-tell-clause-err g c =
     let e = c.self.inside in
     let old : List Ask = g.F.EngineFiles.asked e.files in
     let intact : e.intact ≡ true = search rules in
-    let expired = subst (λ (o : KeptEngine). AreExpired o c.count_below-count.result) c.self.view_is
+    let expired = subst (λ (o : KeptEngine). AreExpired Append o c.count_below-count.result) c.self.view_is
     (its_expired e.version old e.append e.rewrite e.untold e.accessor e.intact c.self.invariant intact c.in_ok-least.least c.count_below-count.result _ c.in_ok-least.ensures.ok c.deref.ensures.value c.count_below-count.ensures) in
     let some : c.count_below-count.result ≢ 0 = search rules in
     let p = err_from_is_err_and c.from_residual-in_err-tell.result c.from_residual-in_err-tell.ensures.1 in
@@ -33,7 +34,7 @@ invariant_of-self g c =
     let e = c.self.inside in
     let old : List Ask = g.F.EngineFiles.asked e.files in
     let intact : e.intact ≡ true = search rules in
-    let expired = subst (λ (o : KeptEngine). AreExpired o c.count_below-count.result) c.self.view_is
+    let expired = subst (λ (o : KeptEngine). AreExpired Append o c.count_below-count.result) c.self.view_is
     (its_expired e.version old e.append e.rewrite e.untold e.accessor e.intact c.self.invariant intact c.in_ok-least.least c.count_below-count.result _ c.in_ok-least.ensures.ok c.deref.ensures.value c.count_below-count.ensures) in
     let f = c.self-2.inside in
     let now : List Ask = g.F.EngineFiles.asked f.files in
@@ -47,7 +48,7 @@ returns-in_err-sync-clause-err g c =
     let e = c.self.inside in
     let old : List Ask = g.F.EngineFiles.asked e.files in
     let intact : e.intact ≡ true = search rules in
-    let expired = subst (λ (o : KeptEngine). AreExpired o c.count_below-count.result) c.self.view_is
+    let expired = subst (λ (o : KeptEngine). AreExpired Append o c.count_below-count.result) c.self.view_is
     (its_expired e.version old e.append e.rewrite e.untold e.accessor e.intact c.self.invariant intact c.in_ok-least.least c.count_below-count.result _ c.in_ok-least.ensures.ok c.deref.ensures.value c.count_below-count.ensures) in
     let f = c.self-2.inside in
     let now : List Ask = g.F.EngineFiles.asked f.files in
@@ -64,7 +65,7 @@ delete_oldest-requires g c =
     let e = c.self.inside in
     let old : List Ask = g.F.EngineFiles.asked e.files in
     let intact : e.intact ≡ true = search rules in
-    let expired = subst (λ (o : KeptEngine). AreExpired o c.count_below-count.result) c.self.view_is
+    let expired = subst (λ (o : KeptEngine). AreExpired Append o c.count_below-count.result) c.self.view_is
     (its_expired e.version old e.append e.rewrite e.untold e.accessor e.intact c.self.invariant intact c.in_ok-least.least c.count_below-count.result _ c.in_ok-least.ensures.ok c.deref.ensures.value c.count_below-count.ensures) in
     let f = c.self-2.inside in
     let now : List Ask = g.F.EngineFiles.asked f.files in
@@ -77,7 +78,7 @@ invariant_of-self-in_err-delete_oldest g c =
     let e = c.self.inside in
     let old : List Ask = g.F.EngineFiles.asked e.files in
     let intact : e.intact ≡ true = search rules in
-    let expired = subst (λ (o : KeptEngine). AreExpired o c.count_below-count.result) c.self.view_is
+    let expired = subst (λ (o : KeptEngine). AreExpired Append o c.count_below-count.result) c.self.view_is
     (its_expired e.version old e.append e.rewrite e.untold e.accessor e.intact c.self.invariant intact c.in_ok-least.least c.count_below-count.result _ c.in_ok-least.ensures.ok c.deref.ensures.value c.count_below-count.ensures) in
     let f = c.self-2.inside in
     let now : List Ask = g.F.EngineFiles.asked f.files in
@@ -91,7 +92,7 @@ returns-in_err-delete_oldest-clause-err g c =
     let e = c.self.inside in
     let old : List Ask = g.F.EngineFiles.asked e.files in
     let intact : e.intact ≡ true = search rules in
-    let expired = subst (λ (o : KeptEngine). AreExpired o c.count_below-count.result) c.self.view_is
+    let expired = subst (λ (o : KeptEngine). AreExpired Append o c.count_below-count.result) c.self.view_is
     (its_expired e.version old e.append e.rewrite e.untold e.accessor e.intact c.self.invariant intact c.in_ok-least.least c.count_below-count.result _ c.in_ok-least.ensures.ok c.deref.ensures.value c.count_below-count.ensures) in
     let f = c.self-2.inside in
     let now : List Ask = g.F.EngineFiles.asked f.files in
@@ -108,7 +109,7 @@ invariant_of-self-2 g c =
     let e = c.self.inside in
     let old : List Ask = g.F.EngineFiles.asked e.files in
     let intact : e.intact ≡ true = search rules in
-    let expired = subst (λ (o : KeptEngine). AreExpired o c.count_below-count.result) c.self.view_is
+    let expired = subst (λ (o : KeptEngine). AreExpired Append o c.count_below-count.result) c.self.view_is
     (its_expired e.version old e.append e.rewrite e.untold e.accessor e.intact c.self.invariant intact c.in_ok-least.least c.count_below-count.result _ c.in_ok-least.ensures.ok c.deref.ensures.value c.count_below-count.ensures) in
     let f = c.self-2.inside in
     let now : List Ask = g.F.EngineFiles.asked f.files in
@@ -123,7 +124,7 @@ returns-clause-ok g c =
     let e = c.self.inside in
     let old : List Ask = g.F.EngineFiles.asked e.files in
     let intact : e.intact ≡ true = search rules in
-    let expired = subst (λ (o : KeptEngine). AreExpired o c.count_below-count.result) c.self.view_is
+    let expired = subst (λ (o : KeptEngine). AreExpired Append o c.count_below-count.result) c.self.view_is
     (its_expired e.version old e.append e.rewrite e.untold e.accessor e.intact c.self.invariant intact c.in_ok-least.least c.count_below-count.result _ c.in_ok-least.ensures.ok c.deref.ensures.value c.count_below-count.ensures) in
     let f = c.self-2.inside in
     let now : List Ask = g.F.EngineFiles.asked f.files in

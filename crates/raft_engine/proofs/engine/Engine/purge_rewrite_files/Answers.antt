@@ -1,11 +1,12 @@
 use Rattle.std.proofs.lemmas.Result.{err_from_is_err_and}
 use Rattle.std.proofs.Common.{rules, ◌≡◌, ◌≢◌, true, List, inl, inr, refl, sym, ap, ◌∙◌, subst, arith}
+use Rattle.raft_base.specs.declared.pipe_log.LogQueue.TheVariants.{Rewrite}
 use Rattle.raft_files.specs.Asks.{Ask}
 use Rattle.raft_engine.specs.KeptEngine.{KeptEngine}
-use Rattle.raft_engine.specs.Purged.{front_below}
-use Rattle.raft_engine.specs.PurgedRewrites.{AreRewritesExpired}
-use Rattle.raft_engine.proofs.ExpiredRewrites.{are_rewrites_expired, told_expired}
+use Rattle.raft_engine.specs.Purged.{AreExpired, front_below}
+use Rattle.raft_engine.proofs.ExpiredRewrites.{told_expired}
 use Rattle.raft_engine.proofs.KeptRewritePurges.{untold_unpurged}
+use Rattle.raft_engine.proofs.PurgeLemmas.{are_expired}
 use Rattle.raft_engine.proofs.RewrittenRegions.{told_ready}
 use Rattle.raft_engine.proofs.engine.Engine.purge_rewrite_files.Goals as goal
 
@@ -17,9 +18,9 @@ returns-then-count-eq0-clause-ok g c =
     let counted = c.count_below-count.ensures ∙ ap (front_below c.in_ok-least.least) c.deref.ensures.value in
     let zero : c.count_below-count.result ≡ 0 = search rules in
     let d = c.self.invariant.stored.now.rewrite_done.done.done in
-    let expired = are_rewrites_expired (record { version = e.version; asks = old; untold = e.untold; accessor = e.accessor; intact = e.intact }) e.rewrite (c.self.invariant.whole intact).rewrite_files
+    let expired = are_expired Rewrite (record { version = e.version; asks = old; untold = e.untold; accessor = e.accessor; intact = e.intact }) e.rewrite (c.self.invariant.whole intact).rewrite_files
     d.first c.in_ok-least.least c.count_below-count.result d.rising c.in_ok-least.ensures.ok counted in
-    (subst (λ (o : KeptEngine). AreRewritesExpired o 0) c.self.view_is (subst (AreRewritesExpired _) zero expired), inl (refl, refl))
+    (subst (λ (o : KeptEngine). AreExpired Rewrite o 0) c.self.view_is (subst (AreExpired Rewrite _) zero expired), inl (refl, refl))
 
 pub returns-in_err-tell-clause-err : goal.returns-in_err-tell-clause-err
 returns-in_err-tell-clause-err g c =
@@ -29,10 +30,10 @@ returns-in_err-tell-clause-err g c =
     let some : c.count_below-count.result ≢ 0 = search rules in
     let counted = c.count_below-count.ensures ∙ ap (front_below c.in_ok-least.least) c.deref.ensures.value in
     let d = c.self.invariant.stored.now.rewrite_done.done.done in
-    let expired = are_rewrites_expired (record { version = e.version; asks = old; untold = e.untold; accessor = e.accessor; intact = e.intact }) e.rewrite (c.self.invariant.whole intact).rewrite_files
+    let expired = are_expired Rewrite (record { version = e.version; asks = old; untold = e.untold; accessor = e.accessor; intact = e.intact }) e.rewrite (c.self.invariant.whole intact).rewrite_files
     d.first c.in_ok-least.least c.count_below-count.result d.rising c.in_ok-least.ensures.ok counted in
     let p = err_from_is_err_and c.from_residual-in_err-tell.result c.from_residual-in_err-tell.ensures.1 in
-    rw (p.1, p.2) (untold_unpurged c.count_below-count.result _ _ _ (subst (λ (o : KeptEngine). AreRewritesExpired o c.count_below-count.result) c.self.view_is expired) some c.in_err-tell.ensures.err)
+    rw (p.1, p.2) (untold_unpurged c.count_below-count.result _ _ _ (subst (λ (o : KeptEngine). AreExpired Rewrite o c.count_below-count.result) c.self.view_is expired) some c.in_err-tell.ensures.err)
 
 pub delete_rewrite_files-requires-clause-ready : goal.delete_rewrite_files-requires-clause-ready
 delete_rewrite_files-requires-clause-ready g c =
@@ -47,10 +48,10 @@ delete_rewrite_files-requires-clause-expired g c =
     let intact : e.intact ≡ true = search rules in
     let counted = c.count_below-count.ensures ∙ ap (front_below c.in_ok-least.least) c.deref.ensures.value in
     let d = c.self.invariant.stored.now.rewrite_done.done.done in
-    let expired = are_rewrites_expired (record { version = e.version; asks = old; untold = e.untold; accessor = e.accessor; intact = e.intact }) e.rewrite (c.self.invariant.whole intact).rewrite_files
+    let expired = are_expired Rewrite (record { version = e.version; asks = old; untold = e.untold; accessor = e.accessor; intact = e.intact }) e.rewrite (c.self.invariant.whole intact).rewrite_files
     d.first c.in_ok-least.least c.count_below-count.result d.rising c.in_ok-least.ensures.ok counted in
     told_expired c.args.self.now c.tell.new.self c.count_below-count.result c.in_ok-tell.ensures.ok
-    (subst (λ (o : KeptEngine). AreRewritesExpired o c.count_below-count.result) c.self.view_is expired)
+    (subst (λ (o : KeptEngine). AreExpired Rewrite o c.count_below-count.result) c.self.view_is expired)
 
 pub returns-in_err-delete_rewrite_files-clause-err : goal.returns-in_err-delete_rewrite_files-clause-err
 returns-in_err-delete_rewrite_files-clause-err g c =
@@ -59,7 +60,7 @@ returns-in_err-delete_rewrite_files-clause-err g c =
     let intact : e.intact ≡ true = search rules in
     let counted = c.count_below-count.ensures ∙ ap (front_below c.in_ok-least.least) c.deref.ensures.value in
     let d = c.self.invariant.stored.now.rewrite_done.done.done in
-    let expired = are_rewrites_expired (record { version = e.version; asks = old; untold = e.untold; accessor = e.accessor; intact = e.intact }) e.rewrite (c.self.invariant.whole intact).rewrite_files
+    let expired = are_expired Rewrite (record { version = e.version; asks = old; untold = e.untold; accessor = e.accessor; intact = e.intact }) e.rewrite (c.self.invariant.whole intact).rewrite_files
     d.first c.in_ok-least.least c.count_below-count.result d.rising c.in_ok-least.ensures.ok counted in
     let some : c.count_below-count.result ≢ 0 = search rules in
     let p = err_from_is_err_and c.from_residual-in_err-delete_rewrite_files.result c.from_residual-in_err-delete_rewrite_files.ensures.1 in
@@ -68,7 +69,7 @@ returns-in_err-delete_rewrite_files-clause-err g c =
       is_told = c.in_ok-tell.ensures.ok;
       count = c.count_below-count.result;
       some = omega (arith, some);
-      expired = subst (λ (o : KeptEngine). AreRewritesExpired o c.count_below-count.result) c.self.view_is expired;
+      expired = subst (λ (o : KeptEngine). AreExpired Rewrite o c.count_below-count.result) c.self.view_is expired;
       half = c.in_err-delete_rewrite_files.ensures.err;
     })))
 
@@ -80,8 +81,8 @@ returns-clause-ok g c =
     let counted = c.count_below-count.ensures ∙ ap (front_below c.in_ok-least.least) c.deref.ensures.value in
     let some : c.count_below-count.result ≢ 0 = search rules in
     let d = c.self.invariant.stored.now.rewrite_done.done.done in
-    let expired = are_rewrites_expired (record { version = e.version; asks = old; untold = e.untold; accessor = e.accessor; intact = e.intact }) e.rewrite (c.self.invariant.whole intact).rewrite_files
+    let expired = are_expired Rewrite (record { version = e.version; asks = old; untold = e.untold; accessor = e.accessor; intact = e.intact }) e.rewrite (c.self.invariant.whole intact).rewrite_files
     d.first c.in_ok-least.least c.count_below-count.result d.rising c.in_ok-least.ensures.ok counted in (
-      subst (λ (o : KeptEngine). AreRewritesExpired o c.count_below-count.result) c.self.view_is expired,
+      subst (λ (o : KeptEngine). AreExpired Rewrite o c.count_below-count.result) c.self.view_is expired,
       inr (record { some = omega (arith, some); told = c.tell.new.self; is_told = c.in_ok-tell.ensures.ok; deleted = c.in_ok-delete_rewrite_files.ensures.ok }),
     )

@@ -209,7 +209,7 @@ invariant_of-self-2 g c =
     (made_applied c.moves_are_stored.ensures.read e.version old e.append e.rewrite e.untold e.accessor e.intact c.self.invariant
     c.moves_are_stored.ensures.moved ready.intact ready.synced ready.told c.args.gate c.args.region c.in-Some.table.now (sym c.in-Some.ensures.value) c.in-Some.ensures.own c.holds_one_run.ensures
     between c.in_ok-batch.batch m w c.new-file.result file c.finish_populate.new.self c.in_ok-len.ensures.ok c.put.new.batch.items c.rewrite_items.new.accessor c.in_ok-put.ensures.placed c.in_ok-rewrite_items.ensures.ok)
-    _ c.in_ok-len.len c.in_ok-len.ensures.len refl refl refl
+    c.batches_are_read_back.ensures.moved _ c.in_ok-len.len c.in_ok-len.ensures.len refl refl refl
 
 pub returns-clause-ok : goal.returns-clause-ok
 returns-clause-ok g c =

@@ -12,7 +12,7 @@ use Rattle.raft_engine.specs.WrittenBatch.{IsHalfWritten, IsOneMore, IsRefusal, 
 use Rattle.raft_engine.proofs.DrainLemmas.{all_first}
 use Rattle.raft_engine.proofs.KeptLemmas.{last_append}
 use Rattle.raft_engine.proofs.RefusalLemmas.{bytes_refusal, file_refusal, test_refusal}
-use Rattle.raft_engine.proofs.WriteLemmas.{IsReady, half_written, kept_half, kept_more, kept_put, none_tested, none_written, one_more, whole_asked}
+use Rattle.raft_engine.proofs.WriteLemmas.{IsReady, half_written, kept_half, kept_more, kept_put, merge_room, none_tested, none_written, one_more, placed_accepted, whole_asked}
 use Rattle.raft_engine.proofs.engine.Engine.write.Goals as goal
 
 pub returns-then-is_empty-clause-tested : goal.returns-then-is_empty-clause-tested
@@ -139,7 +139,7 @@ invariant_of-self-2 g c =
     c.args.sync (g.F.EngineFiles.asked c.put.new.files) (g.F.EngineFiles.asked c.sync_if.new.files) c.in_ok-put.ensures.ok c.in_ok-sync_if.ensures.ok c.apply.new.accessor
     c.put.new.batch.items c.in_ok-put.ensures.placed c.in_ok-apply.ensures.ok
     c.in_ok-taken.taken c.merge.new.self (rw (c.items-2.ensures) at c.in_ok-taken.ensures.ok) c.in_ok-merge.ensures.ok (c.told_items_take_away_the_same.ensures.away (taking_items e.accessor.tables c.args.batch.now.items))
-    c.in_ok-len.len _ c.in_ok-len.ensures.len refl refl refl
+    c.batches_are_read_back.ensures.written c.in_ok-len.len _ c.in_ok-len.ensures.len refl refl refl
 
 pub returns-clause-ok : goal.returns-clause-ok
 returns-clause-ok g c =
@@ -188,11 +188,11 @@ returns-in_err-put-clause-err g c =
     } in
     let file = c.new-file.ensures ∙ ap (λ (id : FileId). record { id = id; version = e.version }) c.new.ensures in
     let p = err_from_is_err_and c.from_residual-in_err-put.result c.from_residual-in_err-put.ensures.1 in
-    rw (p.1)
-    (inr (subst (λ (o : KeptEngine). IsHalfWritten c.args.sync c.args.batch.now o (record { version = e.version; asks = g.F.EngineFiles.asked c.put.new.files; untold = e.untold; accessor = e.accessor; intact = false })) c.self.view_is
+    rw (p.1, p.2)
+    (inr (subst (λ (o : KeptEngine). IsHalfWritten c.args.sync c.args.batch.now o (record { version = e.version; asks = g.F.EngineFiles.asked c.put.new.files; untold = e.untold; accessor = e.accessor; intact = false }) c.in_err-put.field-0.0) c.self.view_is
     (half_written c.asks_are_stored.ensures.written c.asks_are_stored.ensures.synced
     e.version old e.append e.rewrite e.untold e.accessor e.intact c.self.invariant intact c.args.batch.now ready c.new-file.result file c.finish_populate.new.self c.in_ok-len.ensures.ok
-    c.args.sync (g.F.EngineFiles.asked c.put.new.files) e.untold e.accessor c.in_err-put.ensures.err refl)))
+    c.args.sync (g.F.EngineFiles.asked c.put.new.files) e.untold e.accessor c.in_err-put.field-0.0 c.in_err-put.ensures.err refl)))
 
 pub returns-in_err-sync_if-clause-err : goal.returns-in_err-sync_if-clause-err
 returns-in_err-sync_if-clause-err g c =
@@ -212,11 +212,11 @@ returns-in_err-sync_if-clause-err g c =
     } in
     let file = c.new-file.ensures ∙ ap (λ (id : FileId). record { id = id; version = e.version }) c.new.ensures in
     let p = err_from_is_err_and c.from_residual-in_err-sync_if.result c.from_residual-in_err-sync_if.ensures.1 in
-    rw (p.1)
-    (inr (subst (λ (o : KeptEngine). IsHalfWritten c.args.sync c.args.batch.now o (record { version = e.version; asks = g.F.EngineFiles.asked c.sync_if.new.files; untold = e.untold; accessor = e.accessor; intact = false })) c.self.view_is
+    rw (p.1, p.2)
+    (inr (subst (λ (o : KeptEngine). IsHalfWritten c.args.sync c.args.batch.now o (record { version = e.version; asks = g.F.EngineFiles.asked c.sync_if.new.files; untold = e.untold; accessor = e.accessor; intact = false }) c.in_err-sync_if.field-0.0) c.self.view_is
     (half_written c.asks_are_stored.ensures.written c.asks_are_stored.ensures.synced
     e.version old e.append e.rewrite e.untold e.accessor e.intact c.self.invariant intact c.args.batch.now ready c.new-file.result file c.finish_populate.new.self c.in_ok-len.ensures.ok
-    c.args.sync (g.F.EngineFiles.asked c.sync_if.new.files) e.untold e.accessor (inr (c.in_err-sync_if.ensures.err ∙ c.in_ok-put.ensures.ok)) refl)))
+    c.args.sync (g.F.EngineFiles.asked c.sync_if.new.files) e.untold e.accessor c.in_err-sync_if.field-0.0 (inr (c.in_err-sync_if.ensures.err ∙ c.in_ok-put.ensures.ok)) refl)))
 
 pub returns-in_err-apply-clause-err : goal.returns-in_err-apply-clause-err
 returns-in_err-apply-clause-err g c =
@@ -236,12 +236,16 @@ returns-in_err-apply-clause-err g c =
     } in
     let file = c.new-file.ensures ∙ ap (λ (id : FileId). record { id = id; version = e.version }) c.new.ensures in
     let p = err_from_is_err_and c.from_residual-in_err-apply.result c.from_residual-in_err-apply.ensures.1 in
-    rw (p.1)
-    (inr (subst (λ (o : KeptEngine). IsHalfWritten c.args.sync c.args.batch.now o (record { version = e.version; asks = g.F.EngineFiles.asked c.sync_if.new.files; untold = e.untold; accessor = c.apply.new.accessor; intact = false })) c.self.view_is
+    rw (p.1, p.2)
+    (inr (subst (λ (o : KeptEngine). IsHalfWritten c.args.sync c.args.batch.now o (record { version = e.version; asks = g.F.EngineFiles.asked c.sync_if.new.files; untold = e.untold; accessor = c.apply.new.accessor; intact = false }) c.in_err-apply.field-0.0) c.self.view_is
     (whole_asked c.asks_are_stored.ensures.written c.asks_are_stored.ensures.synced
     e.version old e.append e.rewrite e.untold e.accessor e.intact c.self.invariant intact c.args.batch.now ready c.new-file.result file c.finish_populate.new.self c.in_ok-len.ensures.ok
-    c.args.sync (g.F.EngineFiles.asked c.sync_if.new.files) e.untold c.apply.new.accessor (c.in_ok-sync_if.ensures.ok ∙ ap (synced_if c.args.sync) c.in_ok-put.ensures.ok)
-    c.put.new.batch.items c.in_ok-put.ensures.placed c.in_err-apply.ensures.err)))
+    c.args.sync (g.F.EngineFiles.asked c.sync_if.new.files) e.untold c.apply.new.accessor c.in_err-apply.field-0.0 (c.in_ok-sync_if.ensures.ok ∙ ap (synced_if c.args.sync) c.in_ok-put.ensures.ok)
+    c.put.new.batch.items c.in_ok-put.ensures.placed c.in_err-apply.ensures.err
+    (c.in_err-apply.ensures.room
+    (placed_accepted c.asks_are_stored.ensures.written c.asks_are_stored.ensures.synced
+    e.version old e.append e.rewrite e.untold e.accessor e.intact c.self.invariant intact c.args.batch.now ready c.new-file.result file c.finish_populate.new.self c.in_ok-len.ensures.ok
+    c.put.new.batch.items c.in_ok-put.ensures.placed)))))
 
 pub returns-in_err-merge-clause-err : goal.returns-in_err-merge-clause-err
 returns-in_err-merge-clause-err g c =
@@ -261,12 +265,13 @@ returns-in_err-merge-clause-err g c =
     } in
     let file = c.new-file.ensures ∙ ap (λ (id : FileId). record { id = id; version = e.version }) c.new.ensures in
     let p = err_from_is_err_and c.from_residual-in_err-merge.result c.from_residual-in_err-merge.ensures.1 in
-    rw (p.1)
-    (inr (subst (λ (o : KeptEngine). IsHalfWritten c.args.sync c.args.batch.now o (record { version = e.version; asks = g.F.EngineFiles.asked c.sync_if.new.files; untold = c.merge.new.self; accessor = c.apply.new.accessor; intact = false })) c.self.view_is
+    rw (p.1, p.2)
+    (inr (subst (λ (o : KeptEngine). IsHalfWritten c.args.sync c.args.batch.now o (record { version = e.version; asks = g.F.EngineFiles.asked c.sync_if.new.files; untold = c.merge.new.self; accessor = c.apply.new.accessor; intact = false }) c.in_err-merge.field-0.0) c.self.view_is
     (whole_asked c.asks_are_stored.ensures.written c.asks_are_stored.ensures.synced
     e.version old e.append e.rewrite e.untold e.accessor e.intact c.self.invariant intact c.args.batch.now ready c.new-file.result file c.finish_populate.new.self c.in_ok-len.ensures.ok
-    c.args.sync (g.F.EngineFiles.asked c.sync_if.new.files) c.merge.new.self c.apply.new.accessor (c.in_ok-sync_if.ensures.ok ∙ ap (synced_if c.args.sync) c.in_ok-put.ensures.ok)
-    c.put.new.batch.items c.in_ok-put.ensures.placed (all_first Appending c.put.new.batch.items e.accessor c.apply.new.accessor c.in_ok-apply.ensures.ok))))
+    c.args.sync (g.F.EngineFiles.asked c.sync_if.new.files) c.merge.new.self c.apply.new.accessor c.in_err-merge.field-0.0 (c.in_ok-sync_if.ensures.ok ∙ ap (synced_if c.args.sync) c.in_ok-put.ensures.ok)
+    c.put.new.batch.items c.in_ok-put.ensures.placed (all_first Appending c.put.new.batch.items e.accessor c.apply.new.accessor c.in_ok-apply.ensures.ok)
+    (merge_room c.in_err-merge.field-0.0 c.in_err-merge.ensures.fault))))
 
 pub returns-in_err-check_append_writes-clause-err : goal.returns-in_err-check_append_writes-clause-err
 returns-in_err-check_append_writes-clause-err g c =

@@ -34,7 +34,7 @@ fn leaves_one(engine: &mut Engine<MemoryFiles>, deleted: usize) -> Result<bool> 
 }
 
 /// Tests whether what an engine holds is found once it moved again, and once the older rewrite file went.
-fn is_found_again<R: Threads + Sync>(
+pub fn is_found_again<R: Threads + Sync>(
     rt: &R,
     alloc: Global,
     engine: &mut Engine<MemoryFiles>,
@@ -52,7 +52,7 @@ fn is_found_again<R: Threads + Sync>(
 }
 
 /// Moves what the append files hold, and deletes all of them but the last.
-fn empty_append_files(engine: &mut Engine<MemoryFiles>) -> Result<bool> {
+pub fn empty_append_files(engine: &mut Engine<MemoryFiles>) -> Result<bool> {
     engine.rotate()?;
     engine.rewrite(FileSeq::MAX)?;
     engine.purge_expired_files()?;

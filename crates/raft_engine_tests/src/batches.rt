@@ -23,6 +23,8 @@ pub enum Part {
     Clean,
     /// The first group marker of a group.
     Begin(u64),
+    /// One between the first and the last.
+    Middle(u64),
     /// The last one.
     End(u64),
 }
@@ -89,6 +91,7 @@ fn add(alloc: Global, batch: &mut LogBatch, part: Part) -> Result<()>
         Part::Truncate(index) => batch.add_command(REGION, Command::Truncate { index }),
         Part::Clean => batch.add_command(REGION, Command::Clean),
         Part::Begin(id) => AtomicGroupBuilder::with_id(id).begin(batch),
+        Part::Middle(id) => go_on(alloc, batch, id),
         Part::End(id) => end(alloc, batch, id),
     }
 }
@@ -99,6 +102,16 @@ fn entries_from(alloc: Global, first: u64, end: u64) -> Result<Vec<Entry>> {
         entries.push(Entry { index })?;
     }
     Ok(entries)
+}
+
+/// Goes on with a group that another batch began.
+fn go_on(alloc: Global, batch: &mut LogBatch, id: u64) -> Result<()>
+    requires { batch.old.stage ≡ is_open }
+    ensures { OnOk result (batch.new.stage ≡ is_open) }
+{
+    let mut group = AtomicGroupBuilder::with_id(id);
+    group.begin(&mut LogBatch::default(alloc))?;
+    group.add(batch)
 }
 
 /// Ends a group that another batch began.

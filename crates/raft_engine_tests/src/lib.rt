@@ -1,5 +1,5 @@
 //! The rules that an engine over this layer keeps: for each a history that breaks it, with what that loses or brings
-//! back, and one that keeps it; a log of an engine, which is written and recovered; and an engine over files in memory.
+//! back, and one that keeps it; and an engine over files in memory, which is written and recovered.
 #![tactic(auto)]
 
 #[cfg(test)]
@@ -10,6 +10,8 @@ mod batches;
 mod cases;
 #[cfg(test)]
 mod engine;
+#[cfg(test)]
+mod groups;
 #[cfg(test)]
 mod opening;
 #[cfg(test)]

@@ -1,6 +1,7 @@
 //! Entries that an engine reads: the bytes that were added, in whichever file they are, by as few reads as there are blocks.
 
 use crate::batches::{Part, REGION, batch_of};
+use crate::reopened::{open, reopened};
 use crate::round_trip::entry_of;
 use raft_base::{FileBlockHandle, FileSeq, LogQueue, Version};
 use raft_engine::Engine;
@@ -8,8 +9,6 @@ use raft_files::{EngineFiles, MemoryFiles};
 use raft_records::{Command, Error, LogBatch, Result};
 use std::alloc::Global;
 use std::thread::Threads;
-
-type LogFiles = Vec<(FileSeq, Vec<u8>)>;
 
 /// The bytes of region 7's entries from index 1 on, two in each file.
 static TEXTS: [&str; 5] = ["one", "two", "three", "", "five"];
@@ -27,20 +26,6 @@ fn written(alloc: Global) -> Result<Engine<MemoryFiles>> {
             engine.rotate()?;
         }
     }
-    Ok(engine)
-}
-
-/// Opens an engine over files.
-fn open<R: Threads + Sync>(
-    rt: &R,
-    alloc: Global,
-    append: LogFiles,
-    rewrite: LogFiles,
-) -> Result<Engine<MemoryFiles>> {
-    let files = MemoryFiles::found(append, rewrite);
-    let append = files.copies(LogQueue::Append)?;
-    let rewrite = files.copies(LogQueue::Rewrite)?;
-    let engine = Engine::open(rt, alloc, Version::V2, files, append, rewrite, 1)?;
     Ok(engine)
 }
 
@@ -93,8 +78,7 @@ fn all_come_back<R: Threads + Sync>(rt: &R, alloc: Global) -> Result<bool> {
     if engine.purge_expired_files()? != 2 || !come_back(alloc, &mut engine)? {
         return Ok(false);
     }
-    let append = engine.files().copies(LogQueue::Append)?;
-    let mut found = open(rt, alloc, append, engine.files().copies(LogQueue::Rewrite)?)?;
+    let mut found = reopened(rt, alloc, &engine)?;
     come_back(alloc, &mut found)
 }
 
@@ -227,8 +211,7 @@ fn is_written_after_damage<R: Threads + Sync>(rt: &R, alloc: Global) -> Result<b
     }
     engine.write(&mut batch, true)?;
     engine.rotate()?;
-    let append = engine.files().copies(LogQueue::Append)?;
-    let mut found = open(rt, alloc, append, engine.files().copies(LogQueue::Rewrite)?)?;
+    let mut found = reopened(rt, alloc, &engine)?;
     Ok(fetched(alloc, &mut found, 2, 7, None)? == 5)
 }
 

@@ -28,7 +28,7 @@ pub fn open<R: Threads + Sync>(
 }
 
 /// Opens an engine over copies of the files of another one.
-fn reopened<R: Threads + Sync>(
+pub fn reopened<R: Threads + Sync>(
     rt: &R,
     alloc: Global,
     engine: &Engine<MemoryFiles>,

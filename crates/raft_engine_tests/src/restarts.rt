@@ -1,20 +1,13 @@
 //! Restarts of an engine: what was written is found again, each time; the laws are called where they speak of it.
 
 use crate::batches::Part::{Compact, Entries, Put};
-use crate::batches::{Part, REGION, batch_of};
-use crate::engine::text_of;
-use raft_base::{LogQueue, Version};
+use crate::reopened::{holds, reopened, write};
+use raft_base::Version;
 use raft_engine::Engine;
 use raft_files::MemoryFiles;
 use raft_records::{Error, Result};
 use std::alloc::Global;
 use std::thread::Threads;
-
-/// Writes a batch, which lasts then.
-fn write(alloc: Global, engine: &mut Engine<MemoryFiles>, parts: &[Part]) -> Result<()> {
-    let mut batch = batch_of(alloc, parts)?;
-    engine.write(&mut batch, true)
-}
 
 /// Opens an engine over copies of the files of another one.
 fn restarted<R: Threads + Sync>(
@@ -23,26 +16,15 @@ fn restarted<R: Threads + Sync>(
     engine: &Engine<MemoryFiles>,
 ) -> Result<Engine<MemoryFiles>> {
     engine.what_is_left_is_opened();
-    let append = engine.files().copies(LogQueue::Append)?;
-    let rewrite = engine.files().copies(LogQueue::Rewrite)?;
-    let files = MemoryFiles::found(append, rewrite);
-    let append = files.copies(LogQueue::Append)?;
-    let rewrite = files.copies(LogQueue::Rewrite)?;
-    let engine = Engine::open(rt, alloc, Version::V2, files, append, rewrite, 2)?;
-    Ok(engine)
-}
-
-/// Tests whether this is what an engine holds.
-fn holds(alloc: Global, engine: &Engine<MemoryFiles>, text: &str) -> Result<bool> {
-    Ok(text_of(alloc, engine.accessor().get(REGION))?.as_str() == text)
+    reopened(rt, alloc, engine)
 }
 
 /// Tests whether each restart has what was written before it, and the last one what was written after the first.
 fn restarts_find_all<R: Threads + Sync>(rt: &R, alloc: Global) -> Result<bool> {
     let mut engine = Engine::new(alloc, Version::V2, MemoryFiles::new(alloc))?;
-    write(alloc, &mut engine, &[Entries(1, 6), Put("v")])?;
+    write(alloc, &mut engine, &[Entries(1, 6), Put("v")], true)?;
     let mut second = restarted(rt, alloc, &engine)?;
-    write(alloc, &mut second, &[Compact(3), Put("w")])?;
+    write(alloc, &mut second, &[Compact(3), Put("w")], true)?;
     let third = restarted(rt, alloc, &second)?;
     third.what_is_left_is_opened();
     Ok(holds(alloc, &engine, "[1,6)k=v")? && holds(alloc, &third, "[3,6)k=w")?)

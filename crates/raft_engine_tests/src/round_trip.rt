@@ -1,13 +1,15 @@
-//! A log that is written, moved on, opened and recovered: each call once, with ample memory.
+//! An engine that is written, goes on, is opened, and is recovered of its append files: each call once, with ample memory.
 
 use raft_base::is_consecutive;
-use raft_log::Log;
+use raft_engine::Engine;
+use raft_files::{EngineFiles, MemoryFiles};
 use raft_memtable::{EntryIndex, MemTableAccessor};
 use raft_records::{
     Command, Error, FileBlockHandle, FileId, FileSeq, LogBatch, LogFileContext, LogQueue, Result,
     Version, entries_block_in, entry_bytes,
 };
 use raft_recover::recovered::recovered_text;
+use raft_recover::{recover, recover_both};
 use std::alloc::Global;
 use std::thread::Threads;
 
@@ -20,6 +22,12 @@ live 2 0
 const REWRITTEN: &str = "\
 7 entries 1..2 keys 1 append - rewrite 4
 cleaned -
+live 0 2
+";
+
+const MOVED: &str = "\
+7 entries 1..2 keys 1 append - rewrite 4
+cleaned 8
 live 0 2
 ";
 
@@ -47,11 +55,11 @@ pub(crate) fn cleaning(alloc: Global) -> Result<LogBatch> {
     Ok(batch)
 }
 
-fn write(log: &mut Log, mut batch: LogBatch) -> Result<()> {
+fn write(engine: &mut Engine<MemoryFiles>, mut batch: LogBatch) -> Result<()> {
     if !batch.is_open() {
         return Err(Error::Failed);
     }
-    log.write(&mut batch)
+    engine.write(&mut batch, false)
 }
 
 /// Gives a batch its places in file 4 of the rewrite queue.
@@ -74,33 +82,40 @@ pub(crate) fn has_lines(alloc: Global, accessor: &MemTableAccessor, lines: &str)
     Ok(recovered_text(alloc, accessor)?.as_str() == lines)
 }
 
-/// Returns a log of two files.
-pub(crate) fn written(alloc: Global) -> Result<Log> {
-    let mut log = Log::new(alloc, Version::V2, 1)?;
-    write(&mut log, records(alloc)?)?;
-    log.rotate(2)?;
-    write(&mut log, cleaning(alloc)?)?;
-    Ok(log)
+/// Returns an engine with two append files.
+pub(crate) fn written(alloc: Global) -> Result<Engine<MemoryFiles>> {
+    let mut engine = Engine::new(alloc, Version::V2, MemoryFiles::new(alloc))?;
+    write(&mut engine, records(alloc)?)?;
+    engine.rotate()?;
+    write(&mut engine, cleaning(alloc)?)?;
+    Ok(engine)
 }
 
-/// Tests whether the log and what is recovered of its files have the lines.
+/// Tests whether the engine, and what is recovered of its append files, and of both queues, has the lines.
 fn is_recovered<R: Threads + Sync>(rt: &R, alloc: Global) -> Result<bool> {
-    let log = written(alloc)?;
-    let whole = log.recover_files(rt, alloc, 4)?;
-    let segments = log.segments()?;
-    let cut = log.recover(rt, alloc, segments.as_slice(), 1)?;
+    let engine = written(alloc)?;
+    engine.what_was_written_is_recovered();
+    let append = engine.segments(LogQueue::Append)?;
+    let rewrite = engine.segments(LogQueue::Rewrite)?;
+    let by_four = recover(rt, alloc, append.as_slice(), LogQueue::Append, 4)?;
+    let by_one = recover(rt, alloc, append.as_slice(), LogQueue::Append, 1)?;
+    let both = recover_both(rt, alloc, rewrite.as_slice(), append.as_slice(), 2)?;
     Ok(
-        log.is_intact()
-            && has_lines(alloc, log.accessor(), WRITTEN)?
-            && has_lines(alloc, &whole, WRITTEN)?
-            && has_lines(alloc, &cut, WRITTEN)?,
+        engine.is_intact()
+            && has_lines(alloc, engine.accessor(), WRITTEN)?
+            && has_lines(alloc, &by_four, WRITTEN)?
+            && has_lines(alloc, &by_one, WRITTEN)?
+            && has_lines(alloc, &both, WRITTEN)?,
     )
 }
 
-/// Returns the files of a log, with their bytes.
-pub(crate) fn files_of(alloc: Global, log: &Log) -> Result<Vec<(FileSeq, Vec<u8>)>> {
+/// Returns the append files of an engine, with their bytes.
+pub(crate) fn files_of(
+    alloc: Global,
+    engine: &Engine<MemoryFiles>,
+) -> Result<Vec<(FileSeq, Vec<u8>)>> {
     let mut files = Vec::new(alloc);
-    for segment in log.segments()? {
+    for segment in engine.segments(LogQueue::Append)? {
         for part in segment {
             files.push((part.id().seq, Vec::from_slice(alloc, part.bytes())?))?;
         }
@@ -108,23 +123,63 @@ pub(crate) fn files_of(alloc: Global, log: &Log) -> Result<Vec<(FileSeq, Vec<u8>
     Ok(files)
 }
 
-/// Tests whether a log that is opened of the files has the lines.
-fn is_opened<R: Threads + Sync>(rt: &R, alloc: Global) -> Result<bool> {
-    let files = files_of(alloc, &written(alloc)?)?;
-    if files.is_empty() {
-        return Ok(false);
-    }
-    let log = Log::open(rt, alloc, Version::V2, files, 2)?;
-    Ok(log.is_intact() && log.last_seq() == 2 && has_lines(alloc, log.accessor(), WRITTEN)?)
+/// Opens an engine over append files, with these rewrite files.
+fn open<R: Threads + Sync>(
+    rt: &R,
+    alloc: Global,
+    append: Vec<(FileSeq, Vec<u8>)>,
+    rewrite: Vec<(FileSeq, Vec<u8>)>,
+) -> Result<Engine<MemoryFiles>> {
+    let files = MemoryFiles::found(append, rewrite);
+    let append = files.copies(LogQueue::Append)?;
+    let rewrite = files.copies(LogQueue::Rewrite)?;
+    Ok(Engine::open(rt, alloc, Version::V2, files, append, rewrite, 2)?)
 }
 
-/// Tests whether a rewriting moves the records, and a log hands out the cleaned regions.
-fn is_rewritten(alloc: Global) -> Result<bool> {
-    let mut log = written(alloc)?;
+/// Returns the number of the last append file.
+fn last_seq(engine: &Engine<MemoryFiles>) -> Option<FileSeq> {
+    match engine.files().files(LogQueue::Append).last() {
+        Some(file) => Some(file.0),
+        None => None,
+    }
+}
+
+/// Tests whether an engine that is opened over append files alone, and what is recovered of them then, has the lines.
+fn is_opened<R: Threads + Sync>(rt: &R, alloc: Global) -> Result<bool> {
+    let files = files_of(alloc, &written(alloc)?)?;
+    let engine = open(rt, alloc, files, Vec::new(alloc))?;
+    engine.what_was_written_is_recovered();
+    let append = engine.segments(LogQueue::Append)?;
+    let again = recover(rt, alloc, append.as_slice(), LogQueue::Append, 4)?;
+    Ok(
+        engine.is_intact()
+            && last_seq(&engine) == Some(2)
+            && has_lines(alloc, engine.accessor(), WRITTEN)?
+            && has_lines(alloc, &again, WRITTEN)?,
+    )
+}
+
+/// Tests whether a rewriting moves the records of recovered tables, which hand out the cleaned regions.
+fn is_rewritten<R: Threads + Sync>(rt: &R, alloc: Global) -> Result<bool> {
+    let append = written(alloc)?.segments(LogQueue::Append)?;
+    let mut tables = recover(rt, alloc, append.as_slice(), LogQueue::Append, 1)?;
     let mut moved = placed(records(alloc)?)?;
-    log.rewrite(&mut moved, Some(1), 4)?;
-    let logs = log.take_cleaned_region_logs()?;
-    Ok(!logs.is_empty() && has_lines(alloc, log.accessor(), REWRITTEN)?)
+    tables.apply_rewrite_writes(moved.drain(), Some(1), 4)?;
+    let logs = tables.take_cleaned_region_logs()?;
+    Ok(!logs.is_empty() && has_lines(alloc, &tables, REWRITTEN)?)
+}
+
+/// Tests whether an engine moves its records to file 4 of the rewrite queue, and its append files still give those places
+/// that they had.
+fn is_moved<R: Threads + Sync>(rt: &R, alloc: Global) -> Result<bool> {
+    let files = files_of(alloc, &written(alloc)?)?;
+    let fourth = vec![in alloc; (4, Vec::new(alloc))]?;
+    let mut engine = open(rt, alloc, files, fourth)?;
+    engine.rewrite(1)?;
+    engine.what_was_written_is_recovered();
+    let append = engine.segments(LogQueue::Append)?;
+    let again = recover(rt, alloc, append.as_slice(), LogQueue::Append, 4)?;
+    Ok(has_lines(alloc, engine.accessor(), MOVED)? && has_lines(alloc, &again, WRITTEN)?)
 }
 
 #[test]
@@ -147,27 +202,33 @@ fn files_are_opened(rt: HostRuntime) {
 
 #[test]
 fn rewritings_move_records(rt: HostRuntime) {
-    let mut held = is_rewritten(rt.alloc());
+    let mut held = is_rewritten(&rt, rt.alloc());
     if matches!(held, Err(Error::Memory)) {
-        held = is_rewritten(rt.alloc());
+        held = is_rewritten(&rt, rt.alloc());
     }
     assert!(rt; matches!(held, Ok(true)));
 }
 
-/// Tests whether a number that isn't above that of the last file is refused, and the log is as it was then.
+#[test]
+fn an_engine_moves_records(rt: HostRuntime) {
+    let mut held = is_moved(&rt, rt.alloc());
+    if matches!(held, Err(Error::Memory)) {
+        held = is_moved(&rt, rt.alloc());
+    }
+    assert!(rt; matches!(held, Ok(true)));
+}
+
+/// Tests whether a number that isn't above that of the last file is refused, and the files are as they were then.
 fn is_refused(alloc: Global, seq: FileSeq) -> Result<bool> {
-    let mut log = written(alloc)?;
-    match log.rotate(seq) {
+    let engine = written(alloc)?;
+    let append = engine.files().copies(LogQueue::Append)?;
+    let mut files = MemoryFiles::found(append, Vec::new(alloc));
+    match files.rotate(LogQueue::Append, seq) {
         Err(Error::InvalidArgument(_)) => {}
         Err(e) => return Err(e),
         Ok(()) => return Ok(false),
     }
-    let files = files_of(alloc, &log)?;
-    Ok(
-        log.is_intact()
-            && files == files_of(alloc, &written(alloc)?)?
-            && has_lines(alloc, log.accessor(), WRITTEN)?,
-    )
+    Ok(*files.files(LogQueue::Append) == files_of(alloc, &engine)?)
 }
 
 #[test]
@@ -181,7 +242,7 @@ fn a_number_that_is_not_above_the_last_one_is_refused(rt: HostRuntime) {
     }
 }
 
-/// Numbers of files without bytes, and whether a log of them is opened.
+/// Numbers of append files without bytes, and whether an engine is opened over them.
 static NUMBERS: [(&[FileSeq], bool); 6] = [
     (&[0], true),
     (&[1, 3], true),
@@ -191,18 +252,15 @@ static NUMBERS: [(&[FileSeq], bool); 6] = [
     (&[3, 4, 1], false),
 ];
 
-/// Tests whether a log of files of these numbers is opened.
+/// Tests whether an engine is opened over append files of these numbers.
 fn opens<R: Threads + Sync>(rt: &R, alloc: Global, numbers: &[FileSeq]) -> Result<bool> {
     let mut files = Vec::new(alloc);
     for seq in numbers {
         files.push((*seq, Vec::new(alloc)))?;
     }
-    if files.is_empty() {
-        return Ok(false);
-    }
-    match Log::open(rt, alloc, Version::V2, files, 1) {
+    match open(rt, alloc, files, Vec::new(alloc)) {
         Ok(_) => Ok(true),
-        Err(Error::InvalidArgument(_)) => Ok(false),
+        Err(Error::Corruption(_)) => Ok(false),
         Err(e) => Err(e),
     }
 }
@@ -218,17 +276,17 @@ fn files_are_opened_whose_numbers_rise(rt: HostRuntime) {
     }
 }
 
-/// Tests whether a log goes on in 300 files.
+/// Tests whether an engine goes on in 300 append files.
 fn goes_on(alloc: Global) -> Result<bool> {
-    let mut log = Log::new(alloc, Version::V2, 1)?;
-    for seq in 2..=300 {
-        log.rotate(seq)?;
+    let mut engine = Engine::new(alloc, Version::V2, MemoryFiles::new(alloc))?;
+    for _ in 2..=300 {
+        engine.rotate()?;
     }
-    Ok(log.last_seq() == 300 && log.segments()?.len() == 300)
+    Ok(last_seq(&engine) == Some(300) && engine.segments(LogQueue::Append)?.len() == 300)
 }
 
 #[test]
-fn a_log_has_many_files(rt: HostRuntime) {
+fn an_engine_has_many_files(rt: HostRuntime) {
     let mut held = goes_on(rt.alloc());
     if matches!(held, Err(Error::Memory)) {
         held = goes_on(rt.alloc());
@@ -255,21 +313,21 @@ pub(crate) fn entry_of(alloc: Global, index: u64, text: &str) -> Result<LogBatch
 /// The bytes of entries from index 1 on, two in each file.
 static TEXTS: [&str; 5] = ["one", "two", "three", "", "five"];
 
-/// Returns a log of these entries, each of which is a batch.
-fn written_texts(alloc: Global) -> Result<Log> {
-    let mut log = Log::new(alloc, Version::V2, 1)?;
+/// Returns an engine of these entries, each of which is a batch.
+fn written_texts(alloc: Global) -> Result<Engine<MemoryFiles>> {
+    let mut engine = Engine::new(alloc, Version::V2, MemoryFiles::new(alloc))?;
     for (index, text) in (1u64..).zip(&TEXTS) {
-        write(&mut log, entry_of(alloc, index, text)?)?;
+        write(&mut engine, entry_of(alloc, index, text)?)?;
         if index % 2 == 0 {
-            log.rotate(index)?;
+            engine.rotate()?;
         }
     }
-    Ok(log)
+    Ok(engine)
 }
 
-/// Tests whether these bytes stand at the place that the log's table has of an entry.
-fn stands(alloc: Global, log: &Log, index: u64, text: &str) -> Result<bool> {
-    let Some(entry) = log
+/// Tests whether these bytes stand at the place that the engine's table has of an entry.
+fn stands(alloc: Global, engine: &Engine<MemoryFiles>, index: u64, text: &str) -> Result<bool> {
+    let Some(entry) = engine
         .accessor()
         .get(7)
         .and_then(|table| table.get_entry(index))
@@ -279,7 +337,7 @@ fn stands(alloc: Global, log: &Log, index: u64, text: &str) -> Result<bool> {
     let Some(place) = entry.entries else {
         return Ok(false);
     };
-    for segment in log.segments()? {
+    for segment in engine.segments(LogQueue::Append)? {
         for part in segment {
             if part.id() == place.id {
                 let block = entries_block_in(&part, place)?;
@@ -292,9 +350,9 @@ fn stands(alloc: Global, log: &Log, index: u64, text: &str) -> Result<bool> {
 
 /// Tests whether the bytes of each entry stand at its place.
 fn all_stand(alloc: Global) -> Result<bool> {
-    let log = written_texts(alloc)?;
+    let engine = written_texts(alloc)?;
     for (index, text) in (1u64..).zip(&TEXTS) {
-        if !stands(alloc, &log, index, text)? {
+        if !stands(alloc, &engine, index, text)? {
             return Ok(false);
         }
     }

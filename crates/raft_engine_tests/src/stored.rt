@@ -1,9 +1,9 @@
 //! An engine over files in memory: each call once, with ample memory, and what a restart finds of its files.
 
-use crate::round_trip::{WRITTEN, cleaning, entry_of, files_of, has_lines, records, written};
+use crate::round_trip::{WRITTEN, cleaning, entry_of, has_lines, records};
 use raft_engine::Engine;
 use raft_files::MemoryFiles;
-use raft_records::{Error, FileSeq, LogBatch, LogQueue, Result, Version};
+use raft_records::{Error, FileId, FileSeq, LogBatch, LogFileContext, LogQueue, Result, Version};
 use raft_recover::{file_segments, recover_both};
 use std::alloc::Global;
 use std::thread::Threads;
@@ -15,7 +15,7 @@ fn write(engine: &mut Engine<MemoryFiles>, mut batch: LogBatch, sync: bool) -> R
     engine.write(&mut batch, sync)
 }
 
-/// Returns an engine with the batches of the log that `written` returns.
+/// Returns an engine with two append files, of a batch each.
 fn stored(alloc: Global) -> Result<Engine<MemoryFiles>> {
     let mut engine = Engine::new(alloc, Version::V2, MemoryFiles::new(alloc))?;
     write(&mut engine, records(alloc)?, true)?;
@@ -23,6 +23,23 @@ fn stored(alloc: Global) -> Result<Engine<MemoryFiles>> {
     write(&mut engine, cleaning(alloc)?, false)?;
     engine.sync()?;
     Ok(engine)
+}
+
+/// Returns the bytes of a batch, signed for an append file.
+fn bytes_of(alloc: Global, mut batch: LogBatch, seq: FileSeq) -> Result<Vec<u8>> {
+    if !batch.is_open() {
+        return Err(Error::Failed);
+    }
+    let _len = batch.finish_populate()?;
+    batch.prepare_write(&LogFileContext::new(FileId::new(LogQueue::Append, seq), Version::V2));
+    Ok(Vec::from_slice(alloc, batch.encoded_bytes())?)
+}
+
+/// Returns the append files that an engine has with these batches: each in a file of its own, and nothing else.
+fn files_with_batches(alloc: Global) -> Result<Vec<(FileSeq, Vec<u8>)>> {
+    let first = bytes_of(alloc, records(alloc)?, 1)?;
+    let second = bytes_of(alloc, cleaning(alloc)?, 2)?;
+    Ok(vec![in alloc; (1, first), (2, second)]?)
 }
 
 /// Returns the files of a queue, with their bytes.
@@ -38,11 +55,11 @@ fn copies(
     Ok(files)
 }
 
-/// Tests whether an engine has the files of the log, and what is recovered of them its tables.
+/// Tests whether an engine has the bytes of its batches, and what is recovered of them its tables.
 fn is_found<R: Threads + Sync>(rt: &R, alloc: Global) -> Result<bool> {
     let engine = stored(alloc)?;
     let append = copies(alloc, &engine, LogQueue::Append)?;
-    let has_files = append == files_of(alloc, &written(alloc)?)?;
+    let has_files = append == files_with_batches(alloc)?;
     let append = file_segments(LogQueue::Append, Version::V2, append)?;
     let rewrite = copies(alloc, &engine, LogQueue::Rewrite)?;
     let rewrite = file_segments(LogQueue::Rewrite, Version::V2, rewrite)?;
@@ -95,7 +112,7 @@ fn refuses_a_hole(alloc: Global) -> Result<bool> {
         Err(e) => return Err(e),
         Ok(()) => return Ok(false),
     }
-    let has_files = copies(alloc, &engine, LogQueue::Append)? == files_of(alloc, &written(alloc)?)?;
+    let has_files = copies(alloc, &engine, LogQueue::Append)? == files_with_batches(alloc)?;
     write(&mut engine, entry_of(alloc, 2, "two")?, true)?;
     Ok(has_files && engine.is_intact() && engine.last_index(7) == Some(2))
 }

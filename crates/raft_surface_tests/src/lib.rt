@@ -13,9 +13,11 @@ mod contexts;
 #[cfg(test)]
 mod definitions;
 #[cfg(test)]
-mod items;
+mod engine;
 #[cfg(test)]
-mod log;
+mod files;
+#[cfg(test)]
+mod items;
 #[cfg(test)]
 mod log_batches;
 #[cfg(test)]

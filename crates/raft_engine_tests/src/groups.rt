@@ -1,0 +1,226 @@
+//! Atomic groups in the rewrite files that are found: a whole group takes effect, an open or a dead one doesn't, and a group
+//! that doesn't stand in a row, in one file, is refused.
+
+use crate::again::{empty_append_files, is_found_again};
+use crate::batches::Part::{Begin, Clean, Compact, End, Entries, Middle, Put};
+use crate::batches::{Part, batch_of};
+use crate::reopened::{holds, is_found, open, write};
+use raft_base::{FileId, FileSeq, LogFileContext, LogQueue, Version};
+use raft_engine::Engine;
+use raft_files::MemoryFiles;
+use raft_records::{Error, LogBatch, Result};
+use std::alloc::Global;
+use std::thread::Threads;
+
+type LogFiles = Vec<(FileSeq, Vec<u8>)>;
+
+/// The batches of rewrite files, of each file those in one list.
+type Batches = &'static [&'static [&'static [Part]]];
+
+/// Returns the bytes of a batch of a rewrite file.
+fn bytes_of(alloc: Global, seq: FileSeq, parts: &[Part]) -> Result<Vec<u8>> {
+    let mut batch = batch_of(alloc, parts)?;
+    sealed(alloc, &mut batch, seq)
+}
+
+fn sealed(alloc: Global, batch: &mut LogBatch, seq: FileSeq) -> Result<Vec<u8>> {
+    if !batch.is_open() {
+        return Err(Error::Failed);
+    }
+    batch.finish_populate()?;
+    let file = LogFileContext::new(FileId::new(LogQueue::Rewrite, seq), Version::V2);
+    batch.prepare_write(&file);
+    let bytes = Vec::from_slice(alloc, batch.encoded_bytes())?;
+    Ok(bytes)
+}
+
+/// Returns rewrite files of these batches.
+fn files_of(alloc: Global, files: Batches) -> Result<LogFiles> {
+    let mut made = Vec::new(alloc);
+    let mut seq = 1;
+    for batches in files {
+        let mut bytes = Vec::new(alloc);
+        for parts in *batches {
+            bytes.extend_from_slice(bytes_of(alloc, seq, parts)?.as_slice())?;
+        }
+        made.push((seq, bytes))?;
+        seq = seq.saturating_add(1);
+    }
+    Ok(made)
+}
+
+/// Rewrite files of at most 9 of which each group stands in a row, and what they hold.
+static ROWS: [(Batches, &str); 7] = [
+    (
+        &[&[
+            &[Begin(7), Entries(1, 3)],
+            &[End(7), Entries(3, 5), Put("v")],
+        ]],
+        "[1,5)k=v",
+    ),
+    (
+        &[&[
+            &[Begin(7), Entries(1, 2)],
+            &[Middle(7), Entries(2, 3)],
+            &[End(7), Entries(3, 4)],
+        ]],
+        "[1,4)",
+    ),
+    (&[&[&[Entries(1, 3)], &[Begin(7), Entries(3, 5)]]], "[1,3)"),
+    (
+        &[
+            &[&[Entries(1, 3)], &[Begin(7), Clean], &[Middle(7), Put("v")]],
+            &[&[Entries(3, 5)]],
+        ],
+        "[1,5)",
+    ),
+    (
+        &[&[
+            &[Begin(7), Entries(4, 9)],
+            &[Begin(7), Entries(1, 2)],
+            &[End(7), Entries(2, 4)],
+        ]],
+        "[1,4)",
+    ),
+    (
+        &[&[
+            &[Begin(7), Entries(1, 3)],
+            &[End(7), Put("v")],
+            &[Begin(8), Entries(1, 3)],
+            &[End(8), Put("w")],
+        ]],
+        "[1,3)k=w",
+    ),
+    (
+        &[
+            &[&[Entries(1, 5), Put("v")]],
+            &[&[Begin(9), Entries(1, 3)], &[End(9), Entries(3, 5)]],
+        ],
+        "[1,5)k=v",
+    ),
+];
+
+/// Rewrite files with a group that doesn't stand in a row, in one file.
+static OUT: [Batches; 6] = [
+    &[&[&[End(7), Entries(1, 3)]]],
+    &[&[&[Middle(7), Entries(1, 3)], &[End(7)]]],
+    &[&[&[Begin(7), Entries(1, 3)]], &[&[End(7), Entries(3, 5)]]],
+    &[&[
+        &[Begin(7), Entries(1, 3)],
+        &[Put("v")],
+        &[End(7), Entries(3, 5)],
+    ]],
+    &[&[
+        &[Begin(7), Entries(1, 3)],
+        &[Begin(8)],
+        &[End(7), Entries(3, 5)],
+    ]],
+    &[&[
+        &[Begin(7), Entries(1, 3)],
+        &[End(7), Entries(3, 5)],
+        &[End(7), Put("v")],
+    ]],
+];
+
+/// Opens an engine over rewrite files alone.
+fn opened<R: Threads + Sync>(rt: &R, alloc: Global, files: Batches) -> Result<Engine<MemoryFiles>> {
+    open(rt, alloc, Vec::new(alloc), files_of(alloc, files)?)
+}
+
+/// Moves all to a new rewrite file, and deletes the older ones.
+fn purge(engine: &mut Engine<MemoryFiles>) -> Result<bool> {
+    engine.rewrite_again()?;
+    engine.purge_rewrite_files()?;
+    Ok(engine.files().files(LogQueue::Rewrite).len() == 1)
+}
+
+/// Tests whether rewrite files hold this, and still do after a restart, a purge and a change.
+fn are_held<R: Threads + Sync>(rt: &R, alloc: Global, files: Batches, left: &str) -> Result<bool> {
+    let mut engine = opened(rt, alloc, files)?;
+    if !holds(alloc, &engine, left)? || !is_found(rt, alloc, &engine, left)? {
+        return Ok(false);
+    }
+    if !purge(&mut engine)? || !is_found(rt, alloc, &engine, left)? {
+        return Ok(false);
+    }
+    write(alloc, &mut engine, &[Clean, Entries(2, 4)], false)?;
+    Ok(empty_append_files(&mut engine)? && is_found_again(rt, alloc, &mut engine, "[2,4)")?)
+}
+
+#[test]
+fn groups_in_rows_are_found(rt: HostRuntime) {
+    for (row, (files, left)) in ROWS.iter().enumerate() {
+        let mut held = are_held(&rt, rt.alloc(), *files, left);
+        if matches!(held, Err(Error::Memory)) {
+            held = are_held(&rt, rt.alloc(), *files, left);
+        }
+        assert!(rt; matches!(held, Ok(true)), "row {row}");
+    }
+}
+
+/// Tests whether rewrite files are refused.
+fn are_refused<R: Threads + Sync>(rt: &R, alloc: Global, files: Batches) -> Result<bool> {
+    match opened(rt, alloc, files) {
+        Ok(_) => Ok(false),
+        Err(Error::InvalidArgument(_)) => Ok(true),
+        Err(e) => Err(e),
+    }
+}
+
+#[test]
+fn groups_out_of_rows_are_refused(rt: HostRuntime) {
+    for (row, files) in OUT.iter().enumerate() {
+        let mut held = are_refused(&rt, rt.alloc(), *files);
+        if matches!(held, Err(Error::Memory)) {
+            held = are_refused(&rt, rt.alloc(), *files);
+        }
+        assert!(rt; matches!(held, Ok(true)), "row {row}");
+    }
+}
+
+/// The batches of a rewrite file that moves [1,3) again in a group, beside more entries, and what so many of them leave.
+static FRONTS: [(&[Part], &str); 6] = [
+    (&[Entries(1, 3), Put("v")], "[1,3)k=v"),
+    (&[Compact(2)], "[2,3)k=v"),
+    (&[Begin(7), Entries(2, 3)], "[2,3)k=v"),
+    (&[Middle(7), Entries(3, 5)], "[2,3)k=v"),
+    (&[End(7), Put("w")], "[2,5)k=w"),
+    (&[Begin(8), Clean], "[2,5)k=w"),
+];
+
+/// Tests whether an engine finds what so many of the batches leave, where the last file has that many and a part of the next
+/// one, and goes on.
+fn finds<R: Threads + Sync>(rt: &R, alloc: Global, bytes: &[u8], left: &str) -> Result<bool> {
+    let mut rewrite = Vec::new(alloc);
+    rewrite.push((1, Vec::from_slice(alloc, bytes)?))?;
+    let mut engine = open(rt, alloc, Vec::new(alloc), rewrite)?;
+    Ok(holds(alloc, &engine, left)? && purge(&mut engine)? && is_found(rt, alloc, &engine, left)?)
+}
+
+/// Tests it of each number of bytes.
+fn finds_fronts<R: Threads + Sync>(rt: &R, alloc: Global) -> Result<Option<usize>> {
+    let mut bytes = Vec::new(alloc);
+    let mut left = "";
+    for (parts, next) in &FRONTS {
+        for byte in bytes_of(alloc, 1, parts)?.as_slice() {
+            if !finds(rt, alloc, bytes.as_slice(), left)? {
+                return Ok(Some(bytes.len()));
+            }
+            bytes.push(*byte)?;
+        }
+        left = next;
+    }
+    if !finds(rt, alloc, bytes.as_slice(), left)? {
+        return Ok(Some(bytes.len()));
+    }
+    Ok(None)
+}
+
+#[test]
+fn fronts_of_groups_are_found(rt: HostRuntime) {
+    let mut failed = finds_fronts(&rt, rt.alloc());
+    if matches!(failed, Err(Error::Memory)) {
+        failed = finds_fronts(&rt, rt.alloc());
+    }
+    assert!(rt; matches!(failed, Ok(None)));
+}

@@ -1,0 +1,45 @@
+//! The files of an engine, from `raft_files`.
+
+use raft_base::{FileBlockHandle, FileSeq, LogQueue, Result};
+use raft_files::{Asked, EngineFiles, MemoryFiles};
+use std::alloc::Global;
+
+type LogFiles = Vec<(FileSeq, Vec<u8>)>;
+
+fn asks() {
+    let _new: fn() -> Asked = Asked::new;
+    let _put: fn(&mut Asked, LogQueue, &[u8]) = Asked::put;
+    let _begin: fn(&mut Asked, LogQueue, FileSeq) = Asked::begin;
+    let _sync: fn(&mut Asked, LogQueue) = Asked::sync;
+    let _delete: fn(&mut Asked, LogQueue) = Asked::delete;
+    let _cut: fn(&mut Asked, LogQueue, u64) = Asked::cut;
+    let _read: fn(&mut Asked, FileBlockHandle, &[u8]) = Asked::read;
+    let _found: fn(&mut Asked, LogQueue, &LogFiles) = Asked::found;
+}
+
+fn memory() {
+    let _new: fn(Global) -> MemoryFiles = MemoryFiles::new;
+    let _found: fn(LogFiles, LogFiles) -> MemoryFiles = MemoryFiles::found;
+    let _copies: fn(&MemoryFiles, LogQueue) -> Result<LogFiles> = MemoryFiles::copies;
+}
+
+fn files_of_memory<'a>(files: &'a MemoryFiles, queue: LogQueue) -> &'a LogFiles {
+    MemoryFiles::files(files, queue)
+}
+
+/// Makes each call of any files.
+fn calls<F: EngineFiles>(files: &mut F, queue: LogQueue, place: FileBlockHandle) -> Result<()> {
+    F::rotate(files, queue, 1)?;
+    F::append(files, queue, b"x")?;
+    F::sync(files, queue)?;
+    F::truncate(files, queue, 0)?;
+    F::delete_oldest(files, queue)?;
+    let _bytes: Vec<u8> = F::read(files, place)?;
+    Ok(())
+}
+
+#[test]
+fn files_are_handed_on(_rt: HostRuntime) {
+    asks();
+    memory();
+}

@@ -2,7 +2,7 @@
 SHELL := /bin/bash
 RT ?= rt
 export RT
-.PHONY: believe believe-check bench calls compare crashes cuttings demo demo-recover edits example hostile raftlog refused-memory rust rust-tests rust-unproved stack test wrong-bodies
+.PHONY: believe believe-check bench calls compare crashes cuttings demo demo-recover edits example hostile raftlog refused-memory rust rust-crashes rust-tests rust-unproved stack test wrong-bodies
 
 # Runs `raftlog` on an item batch, which says that the records of region 1 go. Nothing is proved.
 demo:
@@ -49,6 +49,13 @@ rust-tests:
 	RUSTDOCFLAGS='-D warnings' cargo doc --quiet --offline --no-deps --manifest-path rust/Cargo.toml
 	cargo test --quiet --offline --manifest-path rust/Cargo.toml
 	cargo test --quiet --offline --manifest-path rust/Cargo.toml --features global-allocator
+
+# Runs HISTORIES random histories of the engine of rust/ from a seed on, as `make rust-crashes SEED=7`, and opens what each stop of the
+# machine may leave of them, over the archive that `RAFT_FFI_ARCHIVE` names or the proved one.
+rust-crashes: export RATTLE_HEAP_ARCHIVE = $(dir $(shell $(RT) doc))c/liblibc_c.a
+rust-crashes: export CARGO_TARGET_DIR ?= $(CURDIR)/crates/raft_ffi/out/target
+rust-crashes:
+	@cd rust && SEED=$(SEED) HISTORIES=$(HISTORIES) cargo test --release --quiet --offline --test engine_crashes -- --nocapture
 
 # Builds an archive of `raft_ffi` without a proof, to try rust/ with, in a minute, and says how.
 rust-unproved:
@@ -107,15 +114,16 @@ compare:
 	@test -n "$(CASES)" || { echo "make compare CASES=folder: the folder with the cases has to be named"; exit 1; }
 	@tools/compare.py $(CASES) $(PROGRAM) $(WORKERS)
 
-# Proves `raft_example`, and tries its store in HISTORIES random histories from a seed on, as `make crashes SEED=7`: it is opened again
-# after a crash at each batch, and in the first BY_BYTES histories at each byte.
-HISTORIES ?= 500
-BY_BYTES ?= 20
+# Proves `raft_crashes` and `raft_group_crashes`, and goes through random histories of an engine from a seed on, as
+# `make crashes SEED=7 HISTORIES=100000`, and through a tenth as many of a store with atomic groups.
+HISTORIES ?= 1000
 crashes:
-	@mkdir -p crates/raft_example/out
-	@cd crates/raft_example && $(RT) run > out/run.log 2>&1 || { cat out/run.log; exit 1; }
-	@room=$$(mktemp -d) && cd "$$room" && $(CURDIR)/crates/raft_example/out/raft_example crashes $(SEED) $(HISTORIES) $(BY_BYTES); \
-	  status=$$?; rm -rf "$$room"; exit $$status
+	@for name in raft_crashes raft_group_crashes; do mkdir -p crates/$$name/out; done
+	@cd crates/raft_crashes && $(RT) run -- 1 0 > out/run.log 2>&1 || { cat out/run.log; exit 1; }
+	@cd crates/raft_group_crashes && $(RT) run -- 1 1 0 > out/run.log 2>&1 || { cat out/run.log; exit 1; }
+	@crates/raft_crashes/out/raft_crashes $(SEED) $(HISTORIES)
+	@room=$$(mktemp -d) && cd "$$room" && \
+	  $(CURDIR)/crates/raft_group_crashes/out/raft_group_crashes $(SEED) $$(($(HISTORIES) / 10)) 2; status=$$?; rm -rf "$$room"; exit $$status
 
 # Proves `raft_cuttings` and the crates below it, builds it, and says where it lies.
 cuttings:

@@ -1,6 +1,6 @@
 #!/usr/bin/env bash
 # The full check: `rt ci`, then what it can't look at: words that aren't UTF-8, a scan of a sound file, the frames of `raftlog` on
-# the stack, runs with little stack, crashes of the store of `raft_example`, its writes that fail half way, where there is a C
+# the stack, runs with little stack, crashes of more histories, writes of `raft_example` that fail half way, where there is a C
 # compiler some rows with memory refused, and where there is cargo the tests of rust/; first of all whether docs/BELIEVE.md and
 # docs/CALLS.md are what the definitions and the sources say, and the declarations of the Rust crate what the exports are. The last
 # line is that of `rt ci`, 'N passed, M failed'.
@@ -8,7 +8,8 @@ set -euo pipefail
 cd "$(dirname "$0")/.."
 program=crates/raftlog/out/raftlog
 scan=crates/raft_scan/out/raft_scan
-example=$PWD/crates/raft_example/out/raft_example
+crashes=$PWD/crates/raft_crashes/out/raft_crashes
+group_crashes=$PWD/crates/raft_group_crashes/out/raft_group_crashes
 frame_limit=16384
 room=$(mktemp -d)
 trap 'rm -rf "$room"' EXIT
@@ -35,8 +36,9 @@ if [ "$status" != 0 ] || [ -s "$room/err" ] || ! cmp -s "$room/out" "$room/wante
 fi
 tools/frames.py "$program" --show 3 --limit "$frame_limit"
 tools/stack.py "$program"
-(cd "$room" && "$example" crashes 1 25 1) | tee "$room/crashes"
-if ! grep -q '^[1-9][0-9]* recoveries, 0 different$' "$room/crashes"; then
+"$crashes" 1 500 2>&1 | tee "$room/crashes"
+(cd "$room" && "$group_crashes" 1 25 1) 2>&1 | tee -a "$room/crashes"
+if [ "$(grep -c '^[1-9].* recoveries$' "$room/crashes")" != 2 ]; then
   echo "crashes: none was tried"
   exit 1
 fi

@@ -1,12 +1,12 @@
 #!/usr/bin/env python3
-"""Stops the machine anywhere in a run of raft_engine_example, and opens each folder that may be left.
+"""Stops the machine anywhere in a run of raft_example, and opens each folder that may be left.
 
     tools/folder_stops.py [PROGRAM]
 
 `strace` lists what the run asks of the system. A disk keeps what was synced. Of what was written to a file since then it has a
 front, up to any byte; of the names that were made or deleted since the folder was synced the first ones. The program is run on each
 such folder: it has to open it, to find the batches that were synced and a front of those since, and to go on. A line for each folder
-where it doesn't, and status 1. PROGRAM is crates/raft_engine_example/out/raft_engine_example where it isn't given.
+where it doesn't, and status 1. PROGRAM is crates/raft_example/out/raft_example where it isn't given.
 """
 import argparse
 import re
@@ -168,7 +168,7 @@ def opened(program, files):
 
 def main():
     words = argparse.ArgumentParser(description=__doc__.splitlines()[0])
-    words.add_argument("program", type=Path, nargs="?", default=CRATES / "raft_engine_example/out/raft_engine_example")
+    words.add_argument("program", type=Path, nargs="?", default=CRATES / "raft_example/out/raft_example")
     program = words.parse_args().program.resolve()
     disk, stops, lefts = Disk(), 0, {}
     with tempfile.TemporaryDirectory(prefix="raft-engine-stops-") as room:

@@ -1,52 +1,180 @@
-//! A log store in a folder: it writes, reads, moves records and deletes files, and recovers after each restart.
+//! An engine over a folder: it writes, moves records, deletes a file, and is opened again, once behind a write that was torn.
 //!
-//! Without words it goes through what the store does, and prints each step. With the words `crashes SEED HISTORIES
-//! BY_BYTES` it tries crashes in so many random histories, and in the first `BY_BYTES` of them at each byte; its status
-//! is then 1 where a store recovered something else than it had to.
+//! The folder is the one that the first word names. Its records stay, and a further run goes on behind them. Without a word it is
+//! one of the program's own, which is removed at the end.
 #![tactic(auto)]
 
-mod contents;
-mod crashes;
-mod folder_pipe;
-mod logs;
+mod folder;
+mod folder_files;
 mod proposal;
-mod store;
-mod walk;
 
-use raft_base::{Error, Result};
-use raft_recover::command_words;
-use std::process::ExitCode;
+use folder::Disk;
+use folder_files::FolderFiles;
+use proposal::{Proposals, proposals_from};
+use raft_base::{Error, FileSeq, LogQueue, Result, Version};
+use raft_engine::Engine;
+use raft_records::{Command, LogBatch};
+use std::thread::Threads;
+use std::{env, fs};
 
-fn main(rt: HostRuntime) -> Result<ExitCode> {
-    let words = command_words(&rt)?;
-    if words.is_empty() {
-        walk::walk(&rt)?;
-        return Ok(ExitCode::SUCCESS);
-    }
-    let Some((seed, histories, by_bytes)) = numbers(words.as_slice()) else {
-        return Err(Error::invalid_argument(
-            rt.alloc(),
-            "usage: raft_example [crashes SEED HISTORIES BY_BYTES]",
-        ));
-    };
-    if crashes::try_all(&rt, seed, histories, by_bytes)? {
-        Ok(ExitCode::SUCCESS)
-    } else {
-        Ok(ExitCode::FAILURE)
+/// What the program asks of the machine.
+trait Host: Disk + Threads + Sync + Print {}
+
+impl<R: Disk + Threads + Sync + Print> Host for R {}
+
+type FolderEngine<'a, R> = Engine<FolderFiles<'a, R>>;
+
+/// The folder where no other one is named.
+const FOLDER: &str = "raft_example_logs";
+
+/// How many threads read the files at most.
+const WORKERS: usize = 2;
+
+/// The regions that are written to.
+const REGIONS: [u64; 2] = [7, 8];
+
+fn main(rt: HostRuntime) -> Result<()> {
+    match env::args(&rt)?.nth(1) {
+        Some(folder) => run(&rt, folder.as_str()),
+        None => {
+            clear(&rt)?;
+            run(&rt, FOLDER)?;
+            clear(&rt)
+        }
     }
 }
 
-/// Returns the three numbers after the word `crashes`, if these are the words.
-fn numbers(words: &[String]) -> Option<(u64, u64, u64)> {
-    let [word, seed, histories, by_bytes] = words else {
-        return None;
-    };
-    if word.as_str() != "crashes" {
-        return None;
+/// Removes the program's own folder, if it is there.
+fn clear<R: Host>(rt: &R) -> Result<()> {
+    if fs::exists(rt, FOLDER)? {
+        fs::remove_dir_all(rt, FOLDER)?;
     }
-    Some((
-        seed.as_str().parse::<u64>().ok()?,
-        histories.as_str().parse::<u64>().ok()?,
-        by_bytes.as_str().parse::<u64>().ok()?,
-    ))
+    Ok(())
+}
+
+/// Goes through what an engine does. Each engine is let go before the next one opens the folder.
+fn run<R: Host>(rt: &R, folder: &str) -> Result<()> {
+    write_and_move(rt, folder)?;
+    write_torn(rt, folder)?;
+    write_again(rt, folder)?;
+    show(rt, &open(rt, folder)?, "opened")
+}
+
+/// Opens the engine of a folder.
+fn open<'a, R: Host>(rt: &'a R, folder: &'a str) -> Result<FolderEngine<'a, R>> {
+    let found = FolderFiles::open(rt, folder)?;
+    let (files, append, rewrite) = (found.files, found.append, found.rewrite);
+    let engine = Engine::open(rt, rt.alloc(), Version::V2, files, append, rewrite, WORKERS)?;
+    Ok(engine)
+}
+
+/// Writes to two append files, moves what the first one has, and deletes it.
+fn write_and_move<'a, R: Host>(rt: &'a R, folder: &'a str) -> Result<()> {
+    let mut engine = open(rt, folder)?;
+    show(rt, &engine, "opened")?;
+    open_twice(rt, folder)?;
+    write_both(rt, &mut engine)?;
+    show(rt, &engine, "written")?;
+    let deleted = move_closed(&mut engine)?;
+    println!(rt; "append files deleted: {deleted}")?;
+    show(rt, &engine, "moved")
+}
+
+/// Tries to open a folder that an engine has open.
+fn open_twice<'a, R: Host>(rt: &'a R, folder: &'a str) -> Result<()> {
+    if let Err(Error::TryAgain(text)) = open(rt, folder) {
+        println!(rt; "not opened a second time: {text}")?;
+    }
+    Ok(())
+}
+
+/// Writes batches of two regions, to two append files.
+fn write_both<R: Host>(rt: &R, engine: &mut FolderEngine<'_, R>) -> Result<()> {
+    let texts = ["put x 1", "put y 2", "put z 3"];
+    write(rt, engine, 7, &texts, "a", true)?;
+    write(rt, engine, 8, &["put u 4", "put v 5"], "a", true)?;
+    engine.rotate()?;
+    write(rt, engine, 7, &["delete x"], "b", true)?;
+    keep_two(rt, engine, 7)
+}
+
+/// Moves what the closed append files have to the rewrite queue, deletes those that aren't needed, and returns how many.
+fn move_closed<R: Host>(engine: &mut FolderEngine<'_, R>) -> Result<usize> {
+    let gate = last_closed(engine);
+    engine.rewrite(gate)?;
+    engine.purge_expired_files()
+}
+
+/// Returns the number below that of the append file that is written to.
+fn last_closed<R: Host>(engine: &FolderEngine<'_, R>) -> FileSeq {
+    match engine.files().files(LogQueue::Append).last_key_value() {
+        Some((last, _)) => last.saturating_sub(1),
+        None => 0,
+    }
+}
+
+/// Writes a batch that isn't synced, and takes its last bytes away, as a machine may that stops before they are on the disk.
+fn write_torn<R: Host>(rt: &R, folder: &str) -> Result<()> {
+    let mut engine = open(rt, folder)?;
+    show(rt, &engine, "opened")?;
+    write(rt, &mut engine, 8, &["put w 6"], "c", false)?;
+    show(rt, &engine, "written")?;
+    if let Some((_, file)) = engine.files().files(LogQueue::Append).last_key_value() {
+        file.set_len(file.metadata()?.len().saturating_sub(5))?;
+    }
+    Ok(println!(rt; "torn, 5 bytes are lost")?)
+}
+
+/// Writes again what was lost.
+fn write_again<R: Host>(rt: &R, folder: &str) -> Result<()> {
+    let mut engine = open(rt, folder)?;
+    show(rt, &engine, "opened")?;
+    write(rt, &mut engine, 8, &["put w 6"], "c", true)?;
+    show(rt, &engine, "written")
+}
+
+/// Writes proposals behind the last one of a region, and who leads it.
+fn write<R: Host>(
+    rt: &R,
+    engine: &mut FolderEngine<'_, R>,
+    region: u64,
+    texts: &[&str],
+    leader: &str,
+    sync: bool,
+) -> Result<()> {
+    let alloc = rt.alloc();
+    let first = engine.last_index(region).unwrap_or(0).saturating_add(1);
+    let (key, value) = (
+        Vec::from_slice(alloc, b"leader")?,
+        Vec::from_slice(alloc, leader.as_bytes())?,
+    );
+    let mut batch = LogBatch::default(alloc);
+    batch.add_entries::<Proposals>(region, &proposals_from(alloc, first, texts)?)?;
+    batch.put(region, key, value)?;
+    engine.write(&mut batch, sync)
+}
+
+/// Drops all proposals of a region but the last two.
+fn keep_two<R: Host>(rt: &R, engine: &mut FolderEngine<'_, R>, region: u64) -> Result<()> {
+    let mut batch = LogBatch::default(rt.alloc());
+    if let Some(last) = engine.last_index(region) {
+        let index = last.saturating_sub(1);
+        batch.add_command(region, Command::Compact { index })?;
+    }
+    engine.write(&mut batch, true)
+}
+
+/// Prints what an engine has after a step: how many files; and of each region the first index and the last one, and who leads it.
+fn show<R: Host>(rt: &R, engine: &FolderEngine<'_, R>, step: &str) -> Result<()> {
+    let append = engine.files().files(LogQueue::Append).len();
+    let rewrite = engine.files().files(LogQueue::Rewrite).len();
+    println!(rt; "{step}: append files {append}, rewrite files {rewrite}")?;
+    for region in REGIONS {
+        let first = engine.first_index(region).unwrap_or(0);
+        let last = engine.last_index(region).unwrap_or(0);
+        let leader = engine.get(region, b"leader").unwrap_or(b"nobody");
+        let leader = String::from_utf8_lossy(rt.alloc(), leader)?;
+        println!(rt; "  region {region}: entries {first} to {last}, leader {leader}")?;
+    }
+    Ok(())
 }

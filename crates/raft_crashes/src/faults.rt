@@ -1,0 +1,262 @@
+//! Histories in which an engine loses records, or brings some back, that breaks one of the rules of docs/ENGINE.md: the same
+//! records, by the calls of an engine that can't break it. With one worker each byte of each batch is the last one that is left.
+
+use crate::change::Choice;
+use crate::change::Choice::{Clean, Compact, Delete, Entries, Put, SoundBatch, Truncate};
+use crate::faults::Step::{
+    Again, Purge, PurgeRewrites, Restart, Rewrite, Rotate, Sync, Synced, Write,
+};
+use crate::found::{Way, open};
+use crate::history::History;
+use crate::stops::{Host, Stops};
+use raft_base::{Error, FileSeq, LogQueue, Result, Version};
+
+/// A step of a history of region 1.
+#[derive(Clone, Copy)]
+enum Step {
+    /// Writes a batch, which isn't synced.
+    Write(&'static [Choice]),
+    /// Writes a batch, and syncs it.
+    Synced(&'static [Choice]),
+    Sync,
+    Rotate,
+    /// Moves what append files up to this one have.
+    Rewrite(FileSeq),
+    Again,
+    Purge,
+    PurgeRewrites,
+    Restart,
+}
+
+/// The histories, a fault each.
+static FAULTS: [&[Step]; 12] = [
+    // A run that replaces rewritten entries isn't told, and they come back once its append file is gone.
+    &[
+        Write(&[Entries(1, 10)]),
+        Rotate,
+        Rewrite(1),
+        Write(&[Entries(5, 7)]),
+        Write(&[Compact(7)]),
+        Rotate,
+        Purge,
+        Restart,
+        Write(&[Entries(8, 9)]),
+        Rotate,
+        Rewrite(3),
+        Purge,
+    ],
+    // The same by a truncation, after a restart, which finds the run in an append file.
+    &[
+        Write(&[Entries(1, 10)]),
+        Rotate,
+        Rewrite(1),
+        Write(&[Entries(5, 7)]),
+        Restart,
+        Write(&[Truncate(5)]),
+        Rotate,
+        Purge,
+    ],
+    // What isn't synced is told, or takes the place of what was synced, and power fails.
+    &[
+        Synced(&[Put("1")]),
+        Rotate,
+        Write(&[Put("2")]),
+        Purge,
+        Synced(&[Entries(1, 5)]),
+        Rotate,
+        Rewrite(2),
+        Write(&[Clean, Entries(1, 3)]),
+        Purge,
+        Again,
+        PurgeRewrites,
+    ],
+    // A deletion is told between the reading of a record and its rewriting.
+    &[
+        Write(&[Put("1"), Entries(1, 5)]),
+        Rotate,
+        Write(&[Delete, Compact(3)]),
+        Rewrite(1),
+        Write(&[Truncate(4)]),
+        Rewrite(2),
+        Rotate,
+        Purge,
+        Write(&[Clean]),
+        Rewrite(3),
+        Rotate,
+        Purge,
+    ],
+    // A Clean is told while records are moved again in several batches.
+    &[
+        Write(&[Entries(1, 5), Put("1")]),
+        Rotate,
+        Rewrite(1),
+        Again,
+        Write(&[Clean]),
+        Purge,
+        Again,
+        PurgeRewrites,
+        Rotate,
+        Purge,
+    ],
+    // A run replaces entries between their reading and their rewriting.
+    &[
+        Write(&[Entries(1, 3)]),
+        Rotate,
+        Rewrite(1),
+        Write(&[Entries(3, 5)]),
+        Rotate,
+        Write(&[Entries(2, 6)]),
+        Rewrite(2),
+        Rotate,
+        Rewrite(3),
+        Purge,
+    ],
+    // Records of a region are moved twice at once, and again.
+    &[
+        Write(&[Entries(1, 3)]),
+        Rotate,
+        Rewrite(1),
+        Write(&[Entries(3, 5)]),
+        Rotate,
+        Rewrite(2),
+        Rewrite(2),
+        Again,
+        Write(&[Entries(1, 3)]),
+        Rotate,
+        Rewrite(3),
+        Again,
+        Purge,
+        PurgeRewrites,
+    ],
+    // A rewrite file is deleted while its records are moved.
+    &[
+        Write(&[Entries(1, 5)]),
+        Rotate,
+        Rewrite(1),
+        Purge,
+        Again,
+        PurgeRewrites,
+        Restart,
+        Again,
+        PurgeRewrites,
+    ],
+    // Entries are moved in another order than that of their indexes.
+    &[
+        Write(&[Entries(1, 3)]),
+        Rotate,
+        Write(&[Entries(3, 5)]),
+        Rotate,
+        Rewrite(2),
+        Write(&[Entries(2, 7)]),
+        Rotate,
+        Rewrite(3),
+        Purge,
+        Again,
+        PurgeRewrites,
+    ],
+    // The bytes of entries are sound batches, of either version, and the tail is torn in them or behind them.
+    &[
+        Synced(&[Put("1")]),
+        Write(&[SoundBatch(1, Version::V1), SoundBatch(2, Version::V2)]),
+        Write(&[Put("2")]),
+        Rewrite(1),
+        Restart,
+        Again,
+    ],
+    // A deleted key is in a rewrite file, and is put again.
+    &[
+        Write(&[Put("1")]),
+        Rotate,
+        Rewrite(1),
+        Write(&[Delete]),
+        Rotate,
+        Purge,
+        Write(&[Put("")]),
+        Rotate,
+        Rewrite(3),
+        Restart,
+        Purge,
+        Again,
+        PurgeRewrites,
+    ],
+    // (of two batches that aren't synced the first one is damaged below)
+    &[
+        Synced(&[Entries(1, 3)]),
+        Write(&[Entries(3, 5)]),
+        Write(&[Entries(5, 7)]),
+    ],
+];
+
+/// Goes through all of them, in both versions, with one worker and with four, and returns how many they are.
+pub(crate) fn go_through<R: Host>(stops: &mut Stops<'_, R>) -> Result<u64> {
+    let mut count = 0u64;
+    for version in [Version::V1, Version::V2] {
+        for workers in [1, 4] {
+            for steps in &FAULTS {
+                let way = Way { version, workers };
+                take_all(stops, way, steps, count)?;
+                count = count.saturating_add(1);
+            }
+        }
+    }
+    Ok(count)
+}
+
+/// Takes the steps of a history, the one of this number.
+fn take_all<R: Host>(
+    stops: &mut Stops<'_, R>,
+    way: Way,
+    steps: &[Step],
+    number: u64,
+) -> Result<()> {
+    let different = stops.different;
+    let mut history = History::begin(stops, number, way, way.workers == 1)?;
+    for (at, step) in steps.iter().enumerate() {
+        let taken = take(stops, &mut history, *step);
+        stops.succeeds(taken)?;
+        if stops.different > different {
+            return stops.differs_in("fault", number, at as u64);
+        }
+    }
+    lose_page(stops, &history)
+}
+
+fn take<R: Host>(stops: &mut Stops<'_, R>, history: &mut History, step: Step) -> Result<()> {
+    match step {
+        Write(choices) => write(stops, history, choices, false),
+        Synced(choices) => write(stops, history, choices, true),
+        Sync => history.sync(stops),
+        Rotate => history.rotate(stops),
+        Rewrite(gate) => history.rewrite(stops, gate),
+        Again => history.rewrite_again(stops),
+        Purge => history.purge(stops, LogQueue::Append),
+        PurgeRewrites => history.purge(stops, LogQueue::Rewrite),
+        Restart => history.restart(stops),
+    }
+}
+
+fn write<R: Host>(
+    stops: &mut Stops<'_, R>,
+    history: &mut History,
+    choices: &[Choice],
+    sync: bool,
+) -> Result<()> {
+    let mut changes = Vec::new(stops.rt.alloc());
+    for choice in choices {
+        changes.push((1, *choice))?;
+    }
+    history.write(stops, changes.as_slice(), sync)
+}
+
+/// Opens the files where the first of two batches that aren't synced has lost what stands behind its header, which no front does:
+/// that has to be refused as damage.
+fn lose_page<R: Host>(stops: &mut Stops<'_, R>, history: &History) -> Result<()> {
+    let Some((append, rewrite)) = history.disk.with_lost_page()? else {
+        return Ok(());
+    };
+    match open(stops.rt, stops.rt.alloc(), history.way, append, rewrite) {
+        Err(Error::Corruption(_)) => Ok(()),
+        Err(e) => Err(e),
+        Ok(_) => stops.differs("a page was lost, and the files were opened"),
+    }
+}

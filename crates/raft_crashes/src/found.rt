@@ -1,0 +1,153 @@
+//! The records that files have, as they are read.
+
+use crate::noted_files::{LogFiles, NotedFiles};
+use crate::records::{Contents, Records};
+use raft_base::{EntryIndex, Error, FileId, LogQueue, Result, Version};
+use raft_engine::Engine;
+use raft_files::MemoryFiles;
+use raft_records::{LogBatch, entry_bytes};
+use raft_recover::{MemTable, MemTableAccessor, file_segments, recover_both};
+use std::alloc::Global;
+use std::collections::BTreeMap;
+use std::thread::Threads;
+
+/// How files are read.
+#[derive(Clone, Copy)]
+pub(crate) struct Way {
+    pub(crate) version: Version,
+    pub(crate) workers: usize,
+}
+
+/// Opens an engine over the files of both queues.
+pub(crate) fn open<R: Threads + Sync>(
+    rt: &R,
+    alloc: Global,
+    way: Way,
+    append: LogFiles,
+    rewrite: LogFiles,
+) -> Result<Engine<NotedFiles>> {
+    let files = NotedFiles {
+        files: MemoryFiles::found(append, rewrite),
+        asks: Vec::new(alloc),
+    };
+    let append = files.files.copies(LogQueue::Append)?;
+    let rewrite = files.files.copies(LogQueue::Rewrite)?;
+    let engine = Engine::open(rt, alloc, way.version, files, append, rewrite, way.workers)?;
+    Ok(engine)
+}
+
+/// Reads all records of an engine.
+pub(crate) fn records_of(alloc: Global, engine: &mut Engine<NotedFiles>) -> Result<Contents> {
+    let mut contents = BTreeMap::new(alloc);
+    for region in regions_of(alloc, engine.accessor())? {
+        let mut records = Records::new(alloc);
+        if let (Some(first), Some(last)) = (engine.first_index(region), engine.last_index(region)) {
+            let (end, mut entries) = (last.saturating_add(1), Vec::new(alloc));
+            engine.fetch_entries_to(region, first, end, None, &mut entries)?;
+            records.write(alloc, first, &entries)?;
+        }
+        let mut kept = Ok(());
+        engine.scan(region, None, None, false, |key, value| {
+            kept = put(alloc, &mut records, key, value);
+            kept.is_ok()
+        })?;
+        kept?;
+        let _ = contents.insert(region, records)?;
+    }
+    Ok(contents)
+}
+
+/// Recovers the tables of both queues, and reads their records in the files.
+pub(crate) fn recovered<R: Threads + Sync>(
+    rt: &R,
+    alloc: Global,
+    way: Way,
+    append: LogFiles,
+    rewrite: LogFiles,
+) -> Result<Contents> {
+    let files = MemoryFiles::found(append, rewrite);
+    let append = file_segments(
+        LogQueue::Append,
+        way.version,
+        files.copies(LogQueue::Append)?,
+    )?;
+    let rewrite = file_segments(
+        LogQueue::Rewrite,
+        way.version,
+        files.copies(LogQueue::Rewrite)?,
+    )?;
+    let tables = recover_both(
+        rt,
+        alloc,
+        rewrite.as_slice(),
+        append.as_slice(),
+        way.workers,
+    )?;
+    let mut contents = BTreeMap::new(alloc);
+    for region in regions_of(alloc, &tables)? {
+        if let Some(table) = tables.get(region) {
+            let _ = contents.insert(region, records_in(alloc, &files, table)?)?;
+        }
+    }
+    Ok(contents)
+}
+
+/// Returns the regions that have tables.
+fn regions_of(alloc: Global, accessor: &MemTableAccessor) -> Result<Vec<u64>> {
+    let mut regions = Vec::new(alloc);
+    for table in accessor.tables()? {
+        regions.push(table.region_id())?;
+    }
+    Ok(regions)
+}
+
+fn put(alloc: Global, records: &mut Records, key: &[u8], value: &[u8]) -> Result<()> {
+    let (key, value) = (Vec::from_slice(alloc, key)?, Vec::from_slice(alloc, value)?);
+    let _ = records.pairs.insert(key, value)?;
+    Ok(())
+}
+
+/// Reads the records of a table in these files.
+fn records_in(alloc: Global, files: &MemoryFiles, table: &MemTable) -> Result<Records> {
+    let mut records = Records::new(alloc);
+    let mut entries = Vec::new(alloc);
+    table.fetch_entries_to(
+        table.first_index().unwrap_or(0),
+        table.end(),
+        None,
+        &mut entries,
+    )?;
+    for entry in &entries {
+        let _ = records
+            .entries
+            .insert(entry.index, bytes_of(alloc, files, entry)?)?;
+    }
+    let mut pairs = Vec::new(alloc);
+    table.fetch_kvs_before(u64::MAX, &mut pairs)?;
+    table.fetch_rewritten_kvs(&mut pairs)?;
+    for (key, value) in pairs {
+        let _ = records.pairs.insert(key, value)?;
+    }
+    Ok(records)
+}
+
+/// Reads the bytes of an entry.
+fn bytes_of(alloc: Global, files: &MemoryFiles, entry: &EntryIndex) -> Result<Vec<u8>> {
+    let place = entry.entries.ok_or(Error::EntryNotFound)?;
+    let file = bytes_in(files, place.id).ok_or(Error::EntryNotFound)?;
+    let (_, behind) = file
+        .split_at_checked(place.offset as usize)
+        .ok_or(Error::EntryNotFound)?;
+    let block = behind.get(..place.len).ok_or(Error::EntryNotFound)?;
+    let block = LogBatch::decode_entries_block(alloc, block, place, entry.compression_type)?;
+    Ok(Vec::from_slice(alloc, entry_bytes(alloc, block.as_slice(), entry)?)?)
+}
+
+fn bytes_in(files: &MemoryFiles, id: FileId) -> Option<&[u8]> {
+    for (seq, bytes) in files.files(id.queue) {
+        if *seq == id.seq {
+            return Some(bytes.as_slice());
+        }
+    }
+    None
+}

@@ -1,0 +1,69 @@
+//! Stops an engine's machine in histories of all that the engine does, and opens what is left.
+//!
+//! `raft_crashes SEED COUNT` goes through some histories that are written down, each of which lost records or brought some back in an
+//! engine that broke a rule, and then through COUNT random ones from a seed on. After each ask of an engine's files it stops the
+//! machine: what was synced is left, and of the rest a front of each queue. What is left is recovered and opened, and the openings
+//! are stopped in turn. The records have to be those of the batches that are left, by plain maps that know nothing of the engine.
+//! Its status is 1 where something else was read.
+#![tactic(auto)]
+
+mod change;
+mod dice;
+mod disk;
+mod faults;
+mod found;
+mod history;
+mod noted_files;
+mod proposal;
+mod queue_disk;
+mod random;
+mod records;
+mod stops;
+
+use raft_base::{Error, Result};
+use raft_recover::command_words;
+use std::process::ExitCode;
+use stops::{Host, Stops};
+
+fn main(rt: HostRuntime) -> Result<ExitCode> {
+    let words = command_words(&rt)?;
+    let Some((seed, count)) = numbers(words.as_slice()) else {
+        return Err(Error::invalid_argument(rt.alloc(), "usage: raft_crashes SEED COUNT"));
+    };
+    if try_all(&rt, seed, count)? {
+        Ok(ExitCode::SUCCESS)
+    } else {
+        Ok(ExitCode::FAILURE)
+    }
+}
+
+/// Returns the two numbers, if these are the words.
+fn numbers(words: &[String]) -> Option<(u64, u64)> {
+    let [seed, count] = words else {
+        return None;
+    };
+    Some((
+        seed.as_str().parse::<u64>().ok()?,
+        count.as_str().parse::<u64>().ok()?,
+    ))
+}
+
+/// Goes through all histories, and prints how much was tried. Returns whether all was as it had to be.
+fn try_all<R: Host>(rt: &R, seed: u64, count: u64) -> Result<bool> {
+    let mut stops = Stops {
+        rt,
+        tried: 0,
+        recoveries: 0,
+        different: 0,
+    };
+    let faults = faults::go_through(&mut stops)?;
+    for number in 0..count {
+        random::go_through(&mut stops, seed.wrapping_add(number))?;
+    }
+    eprintln!(rt; "{} stops, {} recoveries", stops.tried, stops.recoveries)?;
+    let different = stops.different;
+    println!(rt;
+        "{faults} histories of faults, {count} from seed {seed} on: {different} different"
+    )?;
+    Ok(stops.different == 0)
+}

@@ -1,0 +1,54 @@
+//! Crashes of a store in random histories: after each batch and each deleted file, and in some histories after each
+//! byte, everything but the files is lost, and of these what wasn't synced from any batch or byte on.
+
+mod change;
+mod crash;
+mod dice;
+mod disk;
+mod history;
+mod tail;
+
+use crate::crashes::crash::{CRASHED, Crashes};
+use crate::crashes::history::{FOLDER, History};
+use crate::folder_pipe::clear;
+use crate::store::Host;
+use raft_base::Result;
+
+/// How many steps a history has.
+const STEPS: u64 = 40;
+
+/// Tries so many histories from a seed on, the first `by_bytes` of them at each byte, and prints how many crashes there
+/// were. Returns whether a store held after each of them what it had to.
+pub(crate) fn try_all<R: Host + Print + Eprint>(
+    rt: &R,
+    seed: u64,
+    histories: u64,
+    by_bytes: u64,
+) -> Result<bool> {
+    let mut crashes = Crashes {
+        rt,
+        each_byte: false,
+        tried: 0,
+        different: 0,
+    };
+    for number in 0..histories {
+        crashes.each_byte = number < by_bytes;
+        let different = crashes.different;
+        let mut history = History::begin(rt, seed.wrapping_add(number))?;
+        for step in 0..STEPS {
+            history.step(&mut crashes)?;
+            if crashes.different > different {
+                println!(rt; "history {number}, step {step}: different")?;
+                break;
+            }
+        }
+    }
+    clear(rt, FOLDER)?;
+    clear(rt, CRASHED)?;
+    eprintln!(rt; "{} recoveries", crashes.tried)?;
+    println!(rt;
+        "{histories} histories from seed {seed} on, {by_bytes} at each byte: {} different",
+        crashes.different
+    )?;
+    Ok(crashes.different == 0)
+}

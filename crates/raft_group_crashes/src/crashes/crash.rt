@@ -1,0 +1,91 @@
+//! Folders as a crash leaves them.
+
+use crate::contents::{contents_of, text_of};
+use crate::folder_pipe::FolderPipe;
+use crate::logs::Logs;
+use crate::store::{Host, Store};
+use raft_base::{LogQueue, Result};
+use raft_memtable::{MemTableAccessor, MemTableRecoverContextFactory};
+use raft_recover::{OpenGate, replay_segments};
+
+/// The folder that holds what a crash leaves.
+pub(crate) const CRASHED: &str = "raft_group_crashes_crashed";
+
+/// The least bytes of a file before a new one is begun.
+pub(crate) const FILE_SIZE: u64 = 200;
+
+/// Counts crashes after which a store doesn't hold what it has to.
+#[derive(Drop)]
+pub(crate) struct Crashes<'a, R: Host + Print> {
+    pub(crate) rt: &'a R,
+    /// Whether each byte of a batch may be the last that is written.
+    pub(crate) each_byte: bool,
+    pub(crate) tried: u64,
+    pub(crate) different: u64,
+}
+
+impl<'a, R: Host + Print> Crashes<'a, R> {
+    /// Opens the folder, with tables that so many threads recover, and looks whether the store holds what it has to.
+    pub(crate) fn reopen(&mut self, workers: usize, expected: &str) -> Result<()> {
+        self.tried = self.tried.saturating_add(1);
+        match self.recovered(workers) {
+            Ok(found) => self.compare(found.as_str(), expected),
+            Err(e) => {
+                self.different = self.different.saturating_add(1);
+                Ok(println!(self.rt; "{workers} workers refuse: {e}")?)
+            }
+        }
+    }
+
+    /// Counts and prints contents that aren't those that there have to be.
+    pub(crate) fn compare(&mut self, found: &str, expected: &str) -> Result<()> {
+        if found != expected {
+            self.different = self.different.saturating_add(1);
+            println!(self.rt; "found\n{found}in place of\n{expected}")?;
+        }
+        Ok(())
+    }
+
+    /// Returns what the store holds that is opened from the folder, with tables that so many workers recover.
+    fn recovered(&self, workers: usize) -> Result<String> {
+        let alloc = self.rt.alloc();
+        let mut store = Store::open(self.rt, CRASHED, FILE_SIZE, 1)?;
+        if workers > 1 {
+            store.tables = recover_files(self.rt, &store.pipe, workers)?;
+        }
+        text_of(alloc, &contents_of(alloc, &store)?)
+    }
+}
+
+/// Recovers the tables of both queues, each of whose files is read by the next worker that is free, however small it
+/// is.
+fn recover_files<R: Host>(
+    rt: &R,
+    pipe: &FolderPipe<'_, R>,
+    workers: usize,
+) -> Result<MemTableAccessor> {
+    let logs = Logs::read(rt.alloc(), pipe)?;
+    let factory = MemTableRecoverContextFactory::new();
+    let (rewrite, append) = (logs.rewrite.as_slice(), logs.append.as_slice());
+    let gate = OpenGate;
+    let mut both = replay_segments(
+        rt,
+        rt.alloc(),
+        &factory,
+        rewrite,
+        LogQueue::Rewrite,
+        workers,
+        &gate,
+    )?;
+    let new = replay_segments(
+        rt,
+        rt.alloc(),
+        &factory,
+        append,
+        LogQueue::Append,
+        workers,
+        &gate,
+    )?;
+    both.merge_append_context(new)?;
+    both.finish()
+}

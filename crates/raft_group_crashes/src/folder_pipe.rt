@@ -1,0 +1,253 @@
+//! Log files of both queues in a folder.
+
+ghost use Rattle.std.specs.Prelude.{◌≡◌, ◌≤◌, ◌<◌, ◌+◌, ◌^◌};
+
+use raft_base::{
+    Error, FileBlockHandle, FileId, FileSeq, LogFileContext, LogQueue, PipeLog, ReactiveBytes,
+    Result, Version,
+};
+use raft_records::FilePart;
+use std::alloc::Global;
+use std::fs;
+use std::fs::{File, OpenOptions};
+use std::io::{Read, Seek, SeekFrom, Write};
+use std::rt::Files;
+
+/// What a pipe asks of the machine: files, and memory.
+pub(crate) trait Disk: Files<File = File> + AllocGlobal + Clone + Drop {}
+
+impl<R: Files<File = File> + AllocGlobal + Clone + Drop> Disk for R {}
+
+/// The version of all files.
+const VERSION: Version = Version::V2;
+
+/// What was done to the files of a folder.
+#[derive(Drop)]
+pub(crate) enum FileChange {
+    /// These bytes were written behind the last file of a queue.
+    Written(FileId, Vec<u8>),
+    /// The last file of a queue was synced.
+    Synced(LogQueue),
+    /// The last file of a queue was synced, and the next one begun.
+    Begun(FileId),
+    /// The files of a queue below this one were deleted, the oldest first.
+    DeletedBelow(FileId),
+}
+
+/// The files of a queue at one moment, from the first to the last.
+#[derive(Clone, Copy)]
+struct Span {
+    first: FileSeq,
+    last: FileSeq,
+    ghost ordered: { first ≤ last },
+    ghost countable: { last + 1 < 2 ^ 64 },
+}
+
+/// The log files that lie in a folder at one moment, without file headers. Which ones they are doesn't change with
+/// the pipe's calls: after a rotation or a purge its owner makes a new one by [`FolderPipe::reopened`]. Each call opens
+/// the file that it needs; an engine keeps its files open.
+#[derive(Drop)]
+pub(crate) struct FolderPipe<'a, R: Disk> {
+    rt: &'a R,
+    folder: &'a str,
+    append: Span,
+    rewrite: Span,
+}
+
+impl<'a, R: Disk> FolderPipe<'a, R> {
+    ghost use Rattle.raft_group_crashes.specs.FileRanges.{range_in};
+
+    /// Opens the pipe over the files that the folder holds. A folder or a queue that isn't there yet is made, with file
+    /// 1.
+    pub(crate) fn open(rt: &'a R, folder: &'a str) -> Result<FolderPipe<'a, R>> {
+        fs::create_dir_all(rt, folder)?;
+        let pipe = FolderPipe {
+            rt,
+            folder,
+            append: span_in(rt, folder, LogQueue::Append)?,
+            rewrite: span_in(rt, folder, LogQueue::Rewrite)?,
+        };
+        for queue in [LogQueue::Append, LogQueue::Rewrite] {
+            pipe.make(FileId::new(queue, pipe.span(queue).last))?;
+        }
+        Ok(pipe)
+    }
+
+    /// Opens the pipe over the files that the same folder holds now.
+    pub(crate) fn reopened(&self) -> Result<FolderPipe<'a, R>> {
+        FolderPipe::open(self.rt, self.folder)
+    }
+
+    /// Returns the whole files of a queue, in order.
+    pub(crate) fn files(&self, queue: LogQueue) -> Result<Vec<FilePart>> {
+        let mut files = Vec::new(self.rt.alloc());
+        let span = self.span(queue);
+        for seq in span.first..=span.last {
+            let id = FileId::new(queue, seq);
+            let bytes = fs::read(self.rt, self.path(id)?.as_str())?;
+            files.push(FilePart::new(id, VERSION, 0, bytes)?)?;
+        }
+        Ok(files)
+    }
+
+    /// Drops the bytes of a file from `len` on, for good.
+    pub(crate) fn cut(&self, id: FileId, len: u64) -> Result<()> {
+        let mut options = OpenOptions::new();
+        let file = options.write(true).open(self.rt, self.path(id)?.as_str())?;
+        file.set_len(len)?;
+        Ok(file.sync_all()?)
+    }
+
+    /// Returns the path of a file.
+    pub(crate) fn path(&self, id: FileId) -> Result<String> {
+        path_in(self.rt.alloc(), self.folder, id)
+    }
+
+    /// Returns how many bytes a file has.
+    pub(crate) fn len_of(&self, id: FileId) -> Result<u64> {
+        Ok(fs::metadata(self.rt, self.path(id)?.as_str())?.len())
+    }
+
+    fn span(&self, queue: LogQueue) -> Span
+        ensures { (result.first, result.last)
+            ≡ range_in (self.now.append.first, self.now.append.last)
+            (self.now.rewrite.first, self.now.rewrite.last) queue }
+    {
+        match queue {
+            LogQueue::Append => self.append,
+            LogQueue::Rewrite => self.rewrite,
+        }
+    }
+
+    /// Makes a file that isn't there yet.
+    fn make(&self, id: FileId) -> Result<()> {
+        let mut options = OpenOptions::new();
+        options
+            .create(true)
+            .append(true)
+            .open(self.rt, self.path(id)?.as_str())?;
+        Ok(())
+    }
+}
+
+/// Removes a folder with all its files, if there is one.
+pub(crate) fn clear<R: Disk>(rt: &R, folder: &str) -> Result<()> {
+    if fs::exists(rt, folder)? {
+        fs::remove_dir_all(rt, folder)?;
+    }
+    Ok(())
+}
+
+/// Returns the path of a file in a folder.
+pub(crate) fn path_in(alloc: Global, folder: &str, id: FileId) -> Result<String> {
+    let extension = extension_of(id.queue);
+    Ok(format!(in alloc; "{folder}/{:016}{extension}", id.seq)?)
+}
+
+/// Returns how the names of a queue's files end.
+fn extension_of(queue: LogQueue) -> &'static str {
+    match queue {
+        LogQueue::Append => ".raftlog",
+        LogQueue::Rewrite => ".rewrite",
+    }
+}
+
+/// Returns the files of a queue that a folder holds; file 1 alone where it holds none. `Full` where none can follow
+/// them.
+fn span_in<R: Disk>(rt: &R, folder: &str, queue: LogQueue) -> Result<Span> {
+    let (mut first, mut last) = (FileSeq::MAX, 0);
+    for entry in fs::read_dir(rt, folder)? {
+        let entry = entry?;
+        if let Some(seq) = number_in(entry.file_name(), queue) {
+            first = first.min(seq);
+            last = last.max(seq);
+        }
+    }
+    if first > last {
+        return Ok(Span { first: 1, last: 1 });
+    }
+    if last >= FileSeq::MAX - 1 {
+        return Err(Error::Full);
+    }
+    Ok(Span { first, last })
+}
+
+/// Returns the number in the name of a file, if it is one of the queue.
+fn number_in(name: &str, queue: LogQueue) -> Option<FileSeq> {
+    name.strip_suffix(extension_of(queue))?.parse::<u64>().ok()
+}
+
+impl<R: Disk> PipeLog for FolderPipe<'_, R> {
+    ghost use Rattle.raft_group_crashes.specs.FileRanges.{range_in};
+
+    ghost file_range_of = { λ pipe queue. range_in (pipe.append.first, pipe.append.last)
+        (pipe.rewrite.first, pipe.rewrite.last) queue };
+
+    fn read_bytes(&self, alloc: Global, handle: FileBlockHandle) -> Result<Vec<u8>> {
+        let mut file = fs::open(self.rt, self.path(handle.id)?.as_str())?;
+        file.seek(SeekFrom::Start(handle.offset))?;
+        let mut bytes = vec![in alloc; 0; handle.len]?;
+        file.read_exact(&mut bytes)?;
+        Ok(bytes)
+    }
+
+    /// Appends to the last file. Where that fails the file is cut back to what it held.
+    fn append<T: ReactiveBytes>(&self, queue: LogQueue, bytes: &mut T) -> Result<FileBlockHandle> {
+        let id = FileId::new(queue, self.span(queue).last);
+        let bytes = bytes.as_bytes(&LogFileContext::new(id, VERSION));
+        let mut options = OpenOptions::new();
+        let mut file = options.append(true).open(self.rt, self.path(id)?.as_str())?;
+        let offset = file.seek(SeekFrom::End(0))?;
+        if let Err(e) = file.write_all(bytes) {
+            file.set_len(offset)?;
+            return Err(Error::from(e));
+        }
+        Ok(FileBlockHandle {
+            id,
+            offset,
+            len: bytes.len(),
+        })
+    }
+
+    fn sync(&self, queue: LogQueue) -> Result<()> {
+        let id = FileId::new(queue, self.span(queue).last);
+        Ok(fs::open(self.rt, self.path(id)?.as_str())?.sync_all()?)
+    }
+
+    fn file_span(&self, queue: LogQueue) -> (FileSeq, FileSeq) {
+        let span = self.span(queue);
+        (span.first, span.last)
+    }
+
+    fn total_size(&self, queue: LogQueue) -> usize {
+        let span = self.span(queue);
+        let mut total = 0usize;
+        for seq in span.first..=span.last {
+            if let Ok(len) = self.len_of(FileId::new(queue, seq)) {
+                total = total.saturating_add(len as usize);
+            }
+        }
+        total
+    }
+
+    /// Makes what the last file holds last, then the new file.
+    fn rotate(&self, queue: LogQueue) -> Result<()> {
+        self.sync(queue)?;
+        self.make(FileId::new(queue, self.span(queue).last + 1))?;
+        Ok(fs::open(self.rt, self.folder)?.sync_all()?)
+    }
+
+    /// Deletes the oldest file first, so that those that are left have no gap wherever it stops.
+    fn purge_to(&self, file_id: FileId) -> Result<usize> {
+        let span = self.span(file_id.queue);
+        let mut count = 0usize;
+        for seq in span.first..file_id.seq.min(span.last) {
+            fs::remove_file(
+                self.rt,
+                self.path(FileId::new(file_id.queue, seq))?.as_str(),
+            )?;
+            count = count.saturating_add(1);
+        }
+        Ok(count)
+    }
+}

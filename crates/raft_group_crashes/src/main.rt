@@ -1,0 +1,43 @@
+//! Crashes of a store with atomic groups in random histories: `raft_group_crashes SEED HISTORIES BY_BYTES` tries so many from a seed on,
+//! and in the first `BY_BYTES` of them each byte. Its status is 1 where a store recovered something else than it had to.
+//!
+//! The store is written over the calls below `Engine`, which has no atomic groups.
+#![tactic(auto)]
+
+mod contents;
+mod crashes;
+mod folder_pipe;
+mod logs;
+mod proposal;
+mod store;
+
+use raft_base::{Error, Result};
+use raft_recover::command_words;
+use std::process::ExitCode;
+
+fn main(rt: HostRuntime) -> Result<ExitCode> {
+    let words = command_words(&rt)?;
+    let Some((seed, histories, by_bytes)) = numbers(words.as_slice()) else {
+        return Err(Error::invalid_argument(
+            rt.alloc(),
+            "usage: raft_group_crashes SEED HISTORIES BY_BYTES",
+        ));
+    };
+    if crashes::try_all(&rt, seed, histories, by_bytes)? {
+        Ok(ExitCode::SUCCESS)
+    } else {
+        Ok(ExitCode::FAILURE)
+    }
+}
+
+/// Returns the three numbers, if these are the words.
+fn numbers(words: &[String]) -> Option<(u64, u64, u64)> {
+    let [seed, histories, by_bytes] = words else {
+        return None;
+    };
+    Some((
+        seed.as_str().parse::<u64>().ok()?,
+        histories.as_str().parse::<u64>().ok()?,
+        by_bytes.as_str().parse::<u64>().ok()?,
+    ))
+}

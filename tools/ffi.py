@@ -1,5 +1,5 @@
 #!/usr/bin/env python3
-"""Compares the declarations in rust/src/sys.rs with the exports of crates/raft_ffi: names, parameters, results, and the fields of
+"""Compares the declarations in rust/src/sys.rs and rust/src/sys/ with the exports of crates/raft_ffi: names, parameters, results, and the fields of
 the structs that cross. With an archive it also compares the symbols that the archive leaves to others with those that it
 may: `tools/ffi.py [libraft_ffi.a]`. It prints each difference, and fails where there is one."""
 
@@ -10,7 +10,7 @@ import sys
 
 TOP = pathlib.Path(__file__).resolve().parent.parent
 EXPORTS = TOP / "crates/raft_ffi/src"
-DECLARATIONS = TOP / "rust/src/sys.rs"
+DECLARATIONS = [TOP / "rust/src/sys.rs", *sorted((TOP / "rust/src/sys").glob("*.rs"))]
 
 # A type that crosses is a handle, or has another name in Rust, where the plain name is that of the safe type.
 IN_RUST = {
@@ -19,6 +19,10 @@ IN_RUST = {
     "Items": "Handle",
     "Batch": "Handle",
     "Slot": "Handle",
+    "Engine": "Handle",
+    "Found": "Handle",
+    "OrderHead": "OrderNumbers",
+    "Place": "PlaceNumbers",
     "Entry": "EntryNumbers",
     "Summary": "SummaryNumbers",
 }
@@ -82,11 +86,10 @@ def exports():
 
 
 def declarations(text):
-    block = text[text.index('unsafe extern "C" {') :]
-    block = block[: block.index("\n}\n")]
     head = re.compile(r"fn (\w+)\(([^)]*)\)\s*(?:-> (\w+))?;")
     return {
         name: (parameters(inside), result)
+        for block in re.findall(r'unsafe extern "C" {(.*?)\n}\n', text, re.S)
         for name, inside, result in head.findall(block)
     }
 
@@ -94,12 +97,13 @@ def declarations(text):
 def structs(text):
     """The fields of each struct with C's layout, in order, but for ghost fields and those without bytes."""
     head = re.compile(
-        r"#\[repr\(C\)\]\s*(?:#\[derive\([^)]*\)\]\s*)?(?:pub )?struct (\w+) \{(.*?)\n\}", re.S
+        r"#\[repr\(C\)\]\s*(?:#\[derive\([^)]*\)\]\s*)?(?:pub(?:\(super\))? )?struct (\w+) \{(.*?)\n\}", re.S
     )
     found = {}
     for name, inside in head.findall(without_comments(text)):
         lines = [line.strip().rstrip(",") for line in inside.splitlines()]
-        fields = [line.removeprefix("pub ").split(": ", 1) for line in lines if ": " in line]
+        lines = [re.sub(r"^pub(\(super\))? ", "", line) for line in lines]
+        fields = [line.split(": ", 1) for line in lines if ": " in line]
         found[in_rust(name)] = [
             (field, in_rust(kind))
             for field, kind in fields
@@ -137,7 +141,7 @@ def undefined(archive):
 
 
 def main(words):
-    rust = without_comments(DECLARATIONS.read_text())
+    rust = "\n".join(without_comments(path.read_text()) for path in DECLARATIONS)
     library = {}
     for path in sorted(EXPORTS.glob("*.rt")):
         library.update(structs(path.read_text()))
@@ -153,7 +157,7 @@ def main(words):
         found += [f"{archive} calls {name}" for name in sorted(calls - ALLOWED)]
     if not wanted:
         found.append("no export was found")
-    print("\n".join(found) if found else f"rust/src/sys.rs declares the {len(wanted)} exports as they are")
+    print("\n".join(found) if found else f"rust/src/sys.rs and sys/ declare the {len(wanted)} exports as they are")
     return 1 if found else 0
 
 

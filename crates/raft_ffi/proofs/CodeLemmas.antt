@@ -1,8 +1,8 @@
 -- The code of a refusal.
-use Rattle.std.proofs.Common.{◌≡◌, ◌≢◌, ◌∙◌, ap, ℕ, Result, Ok, Err, OnOk, IfErr}
+use Rattle.std.proofs.Common.{◌≡◌, ◌≢◌, ◌∙◌, ap, sym, ℕ, Result, Ok, Err, OnErr, OnOk, IfErr, Option, Some, None}
 use Rattle.raft_base.specs.declared.errors.Error.{Error}
 use Rattle.raft_base.specs.declared.errors.Error.TheVariants as errors
-use Rattle.raft_ffi.specs.Calls.{code_of, IsCodeOf}
+use Rattle.raft_ffi.specs.Calls.{BothHold, Holds, IsCodeOf, code_of}
 
 -- a call that was refused for this reason has the code of an error that has it
 pub refusal : {R : Type 0} (r : Result R Error) (code : ℕ) (P : Error → Type 0) → OnOk r (code ≡ 0) → IfErr r (λ e. code ≡ code_of e) → IfErr r P → code ≢ 0 → IsCodeOf P code
@@ -13,3 +13,32 @@ refusal (Err e) code P zero is fault some = (e, fault, is)
 pub failing : {R : Type 0} (r : Result R Error) (code : ℕ) → OnOk r (code ≡ 0) → IfErr r (λ e. code ≡ code_of e) → IfErr r (λ e. e ≡ errors.Failed) → code ≢ 0 → code ≡ 12
 failing (Ok x) code zero is failed some = absurd (some zero)
 failing (Err e) code zero is failed some = is ∙ ap code_of failed
+
+some_code : (e : Error) → code_of e ≢ 0
+some_code (errors.InvalidArgument text) h = absurd cc
+some_code (errors.Corruption text) h = absurd cc
+some_code (errors.Io fault) h = absurd cc
+some_code (errors.Codec fault) h = absurd cc
+some_code (errors.Message fault) h = absurd cc
+some_code (errors.TryAgain text) h = absurd cc
+some_code errors.EntryCompacted h = absurd cc
+some_code errors.EntryNotFound h = absurd cc
+some_code errors.Full h = absurd cc
+some_code (errors.Other text) h = absurd cc
+some_code errors.Memory h = absurd cc
+some_code errors.Failed h = absurd cc
+
+-- a call whose code is 0 passed
+pub passed : {R : Type 0} (r : Result R Error) (code : ℕ) (P : Type 0) → OnOk r P → IfErr r (λ e. code ≡ code_of e) → code ≡ 0 → P
+passed (Ok x) code P p is zero = p
+passed (Err e) code P p is zero = absurd (some_code e (sym is ∙ zero))
+
+-- a call whose code isn't 0 failed
+pub failed : {R : Type 0} (r : Result R Error) (code : ℕ) (P : Type 0) → OnOk r (code ≡ 0) → OnErr r P → code ≢ 0 → P
+failed (Ok x) code P zero p some = absurd (some zero)
+failed (Err e) code P zero p some = p
+
+-- what a handle holds is so, beside something else
+pub held_both : {V W : Type 0} (P : V → W → Type 0) (v : V) (o : Option W) → Holds (P v) o → BothHold P (Some v) o
+held_both P v (Some w) h = h
+held_both P v None h = absurd h

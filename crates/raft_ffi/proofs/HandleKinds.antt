@@ -15,6 +15,12 @@ use Rattle.raft_ffi.specs.contracts.slot.Slot as Slot
 use Rattle.raft_accessor.specs.contracts.accessor.MemTableAccessor as HeldTables
 use Rattle.raft_accessor.proofs.accessor.MemTableAccessor.TheLaws as held_tables
 use Rattle.raft_ffi.specs.contracts.tables.Tables as Tables
+use Rattle.raft_ffi.specs.contracts.held_engine.HeldEngine as HeldEngine
+use Rattle.raft_ffi.proofs.held_engine.HeldEngine.TheLaws as held_engine
+use Rattle.raft_ffi.specs.contracts.engine.Engine as Engine
+use Rattle.raft_ffi.specs.contracts.found_files.FoundFiles as HeldFound
+use Rattle.raft_ffi.proofs.found_files.FoundFiles.TheLaws as held_found
+use Rattle.raft_ffi.specs.contracts.found.Found as Found
 use Rattle.raft_ffi.proofs.HandleSteps.{Handle}
 
 abbrev pub batch : Handle
@@ -62,6 +68,26 @@ tables = record {
   of = HeldTables.the_row;
   laws = held_tables.the_row_laws;
   owner = Tables.the_type;
+  shown = λ d. (d.at, (d.alloc, d.value));
+  make = λ p a o. record { at = p; alloc = a; value = o };
+  made = λ p a o. refl;
+}
+
+abbrev pub engine : Handle
+engine = record {
+  of = HeldEngine.the_row;
+  laws = held_engine.the_row_laws;
+  owner = Engine.the_type;
+  shown = λ d. (d.at, (d.alloc, d.value));
+  make = λ p a o. record { at = p; alloc = a; value = o };
+  made = λ p a o. refl;
+}
+
+abbrev pub found : Handle
+found = record {
+  of = HeldFound.the_row;
+  laws = held_found.the_row_laws;
+  owner = Found.the_type;
   shown = λ d. (d.at, (d.alloc, d.value));
   make = λ p a o. record { at = p; alloc = a; value = o };
   made = λ p a o. refl;

@@ -11,3 +11,5 @@ pub mod RegionLemmas
 pub mod ExactLemmas
 pub mod StringLemmas
 pub mod SlotLemmas
+pub mod OrderLemmas
+pub mod OpenLemmas

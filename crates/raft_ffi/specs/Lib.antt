@@ -14,3 +14,8 @@ pub mod Batches
 pub mod Strings
 pub mod Pairs
 pub mod Slots
+pub mod HeldEngineView
+pub mod FoundFiles
+pub mod FoundFilesView
+pub mod Engines
+pub mod Taking

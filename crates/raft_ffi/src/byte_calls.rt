@@ -1,19 +1,25 @@
 //! Calls that read bytes alone.
 
-ghost use Rattle.std.specs.Prelude.{◌≡◌, ◌≢◌, ◌+◌, ◌^◌, ◌<◌, length, drop, OnOk, OnErr, IfErr, IfSome, MatchOption};
+ghost use Rattle.std.specs.Prelude.{◌≡◌, ◌≢◌, ◌+◌, ◌^◌, ◌<◌, ℕ, List, length, drop, take, IfOk, OnOk, OnErr, IfErr, IfSome, MatchOption};
 ghost use Rattle.raft_codec.specs.Reading.{HasNoFront};
 ghost use Rattle.raft_checksum.specs.Checksum.{crc32_of};
 ghost use Rattle.raft_base.specs.Signature.{signature_of};
 ghost use Rattle.raft_records.specs.FilePart.{AreBatchesUpTo, IsNextFault, part_of};
-ghost use Rattle.raft_records.specs.Header.{IsHeader};
+ghost use Rattle.byteorder.specs.Endian.{little_bytes};
+ghost use Rattle.raft_records.specs.Faults.{IsAnyCorruption};
+ghost use Rattle.raft_records.specs.Header.{IsEntryBlockOf, IsHeader};
 ghost use Rattle.raft_ffi.specs.Calls.{file_of, IsCodeOf};
 ghost use Rattle.raft_ffi.specs.Lengths.{HasLength};
 ghost use Rattle.raft_ffi.specs.Rooms.{HasText};
 
 use crate::status::{File, Status, answered};
 use raft_base::{Error, LogFileContext, Result, crc32};
+use raft_codec::codec;
 use raft_records::{LogBatch, next_in};
 use std::alloc::Global;
+
+/// How many bytes a checksum has.
+const CHECKSUM_LEN: usize = 4;
 
 /// Returns how long the log batch is whose header stands in front of the bytes; 0 where none does. So files can be cut
 /// between batches.
@@ -104,4 +110,67 @@ pub extern "C" fn raft_ffi_crc32(bytes: &[u8]) -> u32
     ensures { result ≡ crc32_of bytes.now }
 {
     crc32(bytes)
+}
+
+/// Tests the bytes of a whole entry block, and says how many of them, from the first on, are its entry bytes. A block without
+/// bytes has none.
+#[unsafe(no_mangle)]
+pub extern "C" fn raft_ffi_block_entries(
+    alloc: Global,
+    bytes: &[u8],
+    len: &mut usize,
+    text: &mut [u8],
+) -> Status
+    ensures ok { result.code ≡ 0
+        → IsEntryBlockOf (length bytes.now) bytes.now (take len.new bytes.now) }
+    ensures refused { result.code ≢ 0 → (entries : List ℕ)
+        → IsEntryBlockOf (length bytes.now) bytes.now entries → ⊥ }
+    ensures fault { result.code ≢ 0 → IsCodeOf IsAnyCorruption result.code }
+    ensures text { HasText result text.old text.new }
+{
+    let answer = match entries_len(alloc, bytes) {
+        Ok(found) => {
+            *len = found;
+            Ok(())
+        }
+        Err(e) => Err(e),
+    };
+    answered(alloc, &answer, text)
+}
+
+/// Returns how many bytes of a whole entry block, from the first on, are its entry bytes.
+///
+/// # Errors
+///
+/// `Corruption` where no checksum of the bytes before it stands at its end, or `Memory` for that text.
+fn entries_len(alloc: Global, bytes: &[u8]) -> Result<usize>
+    ensures ok { IfOk result (λ n. IsEntryBlockOf (length bytes.now) bytes.now (take n bytes.now)) }
+    ensures refused { OnErr result ((entries : List ℕ)
+        → IsEntryBlockOf (length bytes.now) bytes.now entries → ⊥) }
+    ensures fault { IfErr result IsAnyCorruption }
+{
+    let len = bytes.len();
+    if len == 0 {
+        return Ok(0);
+    }
+    if len <= CHECKSUM_LEN {
+        return Err(Error::corruption(alloc, "an entry block is too short"));
+    }
+    let (entries, seal) = bytes.split_at(len - CHECKSUM_LEN);
+    if checksum_of(seal) != crc32(entries) {
+        return Err(Error::corruption(alloc, "an entry block has another checksum"));
+    }
+    Ok(entries.len())
+}
+
+/// Returns the checksum that these four bytes are.
+fn checksum_of(seal: &[u8]) -> u32
+    requires { length seal.now ≡ CHECKSUM_LEN }
+    ensures { seal.now ≡ little_bytes 4 result }
+{
+    let mut rest = seal;
+    match codec::decode_u32_le(&mut rest) {
+        Ok(checksum) => checksum,
+        Err(_) => unreachable!(),
+    }
 }

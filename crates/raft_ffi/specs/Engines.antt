@@ -1,0 +1,59 @@
+-- What the calls of an engine make of it, and which orders they hand out.
+use Rattle.std.specs.Prelude.{◌≡◌, ◌⊎◌, ℕ, zero, suc, Bool, false, List, [], ◌∷◌, Option, take}
+use Rattle.raft_base.specs.declared.entry_index.EntryIndex.{EntryIndex}
+use Rattle.raft_base.specs.declared.errors.Error.{Error}
+use Rattle.raft_base.specs.declared.pipe_log.LogQueue.TheVariants.{Append}
+use Rattle.raft_base.specs.declared.pipe_log.Version.{Version}
+use Rattle.raft_contexts.specs.RecoverContext.{RecoverContext}
+use Rattle.raft_files.specs.Asks.{Act, Ask, Begin, Cut, Delete, Put, Sync, ask}
+use Rattle.raft_records.specs.LogBatch.{Batch}
+use Rattle.raft_engine_fronts.specs.Contents.{AreBothTold}
+use Rattle.raft_engine.specs.KeptEngine.{KeptEngine}
+use Rattle.raft_engine.specs.Lasting.{IsLasting}
+use Rattle.raft_engine.specs.ReadContexts.{AreUnmergedAs, HaveReadFound}
+use Rattle.raft_engine.specs.Unopened.{IsUnopened}
+use Rattle.raft_engine.specs.WrittenBatch.{IsOneMore, IsOnlySynced, IsUnwritten}
+use Rattle.raft_ffi.specs.Calls.{BothHold, Holds, IsCodeOf, queue_of}
+use Rattle.raft_ffi.specs.FoundFiles.{FilesSeen}
+use Rattle.raft_ffi.specs.declared.order_calls.OrderHead.{OrderHead}
+
+-- the act of a kind, with a number, of which these bytes are put
+abbrev pub act_of_kind : ℕ → ℕ → List ℕ → Act
+act_of_kind zero number bytes = Put bytes
+act_of_kind (suc zero) number bytes = Begin number
+act_of_kind (suc (suc zero)) number bytes = Sync
+act_of_kind (suc (suc (suc zero))) number bytes = Delete
+act_of_kind (suc (suc (suc (suc kind)))) number bytes = Cut number
+
+-- what is to be done, as the numbers of an order say, with the first of these bytes
+abbrev pub ask_in : OrderHead → List ℕ → Ask
+ask_in order bytes = ask (queue_of order.is_rewrite) (act_of_kind order.kind order.number (take order.len bytes))
+
+-- the contexts of both queues have read the found files, but for a torn tail of each
+abbrev pub HaveReadBoth : Version → Option FilesSeen → Option RecoverContext → Option RecoverContext → Type 0
+HaveReadBoth version found appended rewritten = Holds (λ f. BothHold (HaveReadFound version f.append f.rewrite) appended rewritten) found
+
+-- an error with this number says why a batch isn't written
+abbrev pub IsUnwrittenAs : Bool → ℕ → Option Batch → Option Batch → KeptEngine → KeptEngine → Type 0
+IsUnwrittenAs sync code batch left old new = BothHold (λ b l. IsCodeOf (IsUnwritten sync b l old new) code) batch left
+
+-- why found files aren't opened, whatever was ordered by then
+abbrev pub IsUnopenedAs : Version → FilesSeen → RecoverContext → RecoverContext → Error → Type 0
+IsUnopenedAs version found appended rewritten e =
+    (asks : List Ask) × IsUnopened (AreUnmergedAs version appended rewritten) version found.append found.rewrite asks e
+
+-- a sync of the append queue more is asked
+abbrev pub IsSynced : KeptEngine → KeptEngine → Type 0
+IsSynced old new = new ≡ record old { asks = ask Append Sync ∷ old.asks }
+
+-- an engine takes no further call, and is as it was else
+abbrev pub IsStopped : KeptEngine → KeptEngine → Type 0
+IsStopped old new = new ≡ record old { intact = false }
+
+-- a batch was empty, and at most a sync is ordered; or it is written
+abbrev pub IsWrittenOrNone : Bool → KeptEngine → KeptEngine → Batch → Type 0
+IsWrittenOrNone sync old new batch = ((batch.items ≡ []) × IsOnlySynced sync old new) ⊎ IsOneMore sync batch old new
+
+-- whichever contents are told by what was asked of an engine, what was synced lasts, whenever the machine stops or stopped
+abbrev pub Lasts : KeptEngine → Type 0
+Lasts engine = (content : EntryIndex → List ℕ) → AreBothTold engine.asks content → IsLasting content engine

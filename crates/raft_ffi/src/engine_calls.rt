@@ -1,0 +1,251 @@
+//! Calls of an engine whose files the caller keeps: what changes it leaves orders behind, which the caller carries out in turn.
+
+ghost use Rattle.std.specs.Prelude.{◌≡◌, ◌≢◌, true, false, Some, None, IsTrue, is_some, IfErr, IfOk, OnErr, OnOk};
+ghost use Rattle.raft_accessor.specs.AppendChecks.{AreAcceptedOncePlaced};
+ghost use Rattle.raft_engine.specs.Opened.{IsOpened};
+ghost use Rattle.raft_engine.specs.Purged.{ArePurged, IsUnpurged};
+ghost use Rattle.raft_engine.specs.PurgedRewrites.{AreRewritesPurged, AreRewritesUnpurged};
+ghost use Rattle.raft_engine.specs.ReadContexts.{HaveReadFound};
+ghost use Rattle.raft_engine.specs.Unopened.{AreBothAccepted};
+ghost use Rattle.raft_engine.specs.WrittenBatch.{IsRotated, IsUnrotated};
+ghost use Rattle.raft_records.specs.LogBatch.{empty_batch, is_open};
+ghost use Rattle.raft_ffi.specs.Calls.{BothHold, Holds, IsCodeOf, version_of};
+ghost use Rattle.raft_ffi.specs.Engines.{HaveReadBoth, IsStopped, IsSynced, IsUnopenedAs, IsUnwrittenAs, IsWrittenOrNone};
+ghost use Rattle.raft_ffi.specs.Rooms.{HasText};
+
+use crate::batch::Batch;
+use crate::context::Context;
+use crate::engine::Engine;
+use crate::found::Found;
+use crate::found_files::FoundFiles;
+use crate::held_engine::HeldEngine;
+use crate::status::{Status, answered};
+use raft_base::{Result, Version};
+use raft_contexts::MemTableRecoverContext;
+use raft_orders::HandedFiles;
+use std::alloc::Global;
+
+/// Returns the version that a flag names.
+fn version(is_signed: bool) -> Version
+    ensures { result ≡ version_of is_signed }
+{
+    if is_signed { Version::V2 } else { Version::V1 }
+}
+
+/// Opens found files, with the context of each queue that read them: one that has read the batches of its files, in order, but for a
+/// torn tail of the last one. The files and the contexts are gone then.
+#[unsafe(no_mangle)]
+pub extern "C" fn raft_ffi_engine_open(
+    alloc: Global,
+    engine: &mut Engine,
+    found: Found,
+    rewritten: Context,
+    appended: Context,
+    is_signed: bool,
+    text: &mut [u8],
+) -> Status
+    requires empty { engine.old.value ≡ None }
+    requires read { HaveReadBoth (version_of is_signed) found.value appended.value rewritten.value }
+    ensures ok { result.code ≡ 0 → BothHold
+        (λ f e. IsOpened (version_of is_signed) f.append f.rewrite e) found.value engine.new.value }
+    ensures accepted { result.code ≡ 0 → Holds
+        (λ f. AreBothAccepted (version_of is_signed) f.append f.rewrite) found.value }
+    ensures err { result.code ≢ 0 → engine.new.value ≡ None }
+    ensures fault { result.code ≢ 0 → Holds (λ f. BothHold
+        (λ a r. IsCodeOf (IsUnopenedAs (version_of is_signed) f a r) result.code)
+        appended.value rewritten.value) found.value }
+    ensures text { HasText result text.old text.new }
+{
+    let files = Box::into_inner(found.into_box());
+    let rewritten = Box::into_inner(rewritten.into_box());
+    let appended = Box::into_inner(appended.into_box());
+    let answer = open_into(
+        engine,
+        alloc,
+        version(is_signed),
+        files,
+        rewritten,
+        appended,
+    );
+    answered(alloc, &answer, text)
+}
+
+/// Opens found files, and puts the engine into a handle, which holds nothing where that fails.
+fn open_into(
+    engine: &mut Engine,
+    alloc: Global,
+    version: Version,
+    found: FoundFiles,
+    rewritten: MemTableRecoverContext,
+    appended: MemTableRecoverContext,
+) -> Result<()>
+    requires empty { engine.old.value ≡ None }
+    requires read { HaveReadFound version found.append found.rewrite appended rewritten }
+    ensures ok { OnOk result (Holds (IsOpened version found.append found.rewrite) engine.new.value) }
+    ensures accepted { OnOk result (AreBothAccepted version found.append found.rewrite) }
+    ensures err { OnErr result (engine.new.value ≡ None) }
+    ensures fault { IfErr result (IsUnopenedAs version found appended rewritten) }
+{
+    let held = open_engine(alloc, version, found, rewritten, appended)?;
+    engine.put(held);
+    Ok(())
+}
+
+/// Opens found files, on the heap.
+fn open_engine(
+    alloc: Global,
+    version: Version,
+    found: FoundFiles,
+    rewritten: MemTableRecoverContext,
+    appended: MemTableRecoverContext,
+) -> Result<Box<HeldEngine>>
+    requires { HaveReadFound version found.append found.rewrite appended rewritten }
+    ensures ok { IfOk result (λ b. IsOpened version found.append found.rewrite b.value) }
+    ensures accepted { OnOk result (AreBothAccepted version found.append found.rewrite) }
+    ensures fault { IfErr result (IsUnopenedAs version found appended rewritten) }
+{
+    let FoundFiles { append, rewrite } = found;
+    let files = HandedFiles::found(alloc, &append, &rewrite);
+    let engine = raft_engine::Engine::open_over(
+        alloc, version, files, append, rewrite, appended, rewritten,
+    )?;
+    Ok(Box::new(alloc, HeldEngine::of(engine))?)
+}
+
+/// Tests whether the engine takes further calls.
+#[unsafe(no_mangle)]
+pub extern "C" fn raft_ffi_engine_is_intact(alloc: Global, engine: &mut Engine) -> bool
+    requires held { IsTrue (is_some engine.old.value) }
+    ensures same { engine.new.value ≡ engine.old.value }
+    ensures intact { Holds (λ e. e.intact ≡ result) engine.old.value }
+{
+    let held = engine.take(alloc);
+    let is_intact = held.engine.is_intact();
+    engine.put(held);
+    is_intact
+}
+
+/// Writes an open batch, which is empty then. With `sync` a sync is ordered behind it.
+#[unsafe(no_mangle)]
+pub extern "C" fn raft_ffi_engine_write(
+    alloc: Global,
+    engine: &mut Engine,
+    batch: &mut Batch,
+    sync: bool,
+    text: &mut [u8],
+) -> Status
+    requires held { IsTrue (is_some engine.old.value) }
+    requires batch { IsTrue (is_some batch.old.value) }
+    requires open { Holds (λ b. b.stage ≡ is_open) batch.old.value }
+    ensures ok { result.code ≡ 0 → BothHold
+        (λ old new. Holds (IsWrittenOrNone sync old new) batch.old.value) engine.old.value
+        engine.new.value }
+    ensures emptied { result.code ≡ 0 → batch.new.value ≡ Some empty_batch }
+    ensures accepted { result.code ≡ 0 → Holds (λ e. e.intact ≡ true) engine.old.value }
+    ensures tested { result.code ≡ 0 → BothHold
+        (λ e b. AreAcceptedOncePlaced e.accessor.tables b.items) engine.old.value batch.old.value }
+    ensures err { result.code ≢ 0 → BothHold
+        (λ old new. IsUnwrittenAs sync result.code batch.old.value batch.new.value old new)
+        engine.old.value engine.new.value }
+    ensures text { HasText result text.old text.new }
+{
+    let mut held = engine.take(alloc);
+    let mut written = batch.take(alloc);
+    let answer = held.write(&mut *written, sync);
+    batch.put(written);
+    engine.put(held);
+    answered(alloc, &answer, text)
+}
+
+/// Orders that all that was written lasts.
+#[unsafe(no_mangle)]
+pub extern "C" fn raft_ffi_engine_sync(
+    alloc: Global,
+    engine: &mut Engine,
+    text: &mut [u8],
+) -> Status
+    requires held { IsTrue (is_some engine.old.value) }
+    ensures ok { result.code ≡ 0 → BothHold IsSynced engine.old.value engine.new.value }
+    ensures accepted { result.code ≡ 0 → Holds (λ e. e.intact ≡ true) engine.old.value }
+    ensures err { result.code ≢ 0 → BothHold IsStopped engine.old.value engine.new.value }
+    ensures fault { result.code ≢ 0 → Holds (λ e. e.intact ≡ false → result.code ≡ 12)
+        engine.old.value }
+    ensures text { HasText result text.old text.new }
+{
+    let mut held = engine.take(alloc);
+    let answer = held.sync();
+    engine.put(held);
+    answered(alloc, &answer, text)
+}
+
+/// Begins a new file of the append queue.
+#[unsafe(no_mangle)]
+pub extern "C" fn raft_ffi_engine_rotate(
+    alloc: Global,
+    engine: &mut Engine,
+    text: &mut [u8],
+) -> Status
+    requires held { IsTrue (is_some engine.old.value) }
+    ensures ok { result.code ≡ 0 → BothHold IsRotated engine.old.value engine.new.value }
+    ensures accepted { result.code ≡ 0 → Holds (λ e. e.intact ≡ true) engine.old.value }
+    ensures err { result.code ≢ 0 → BothHold
+        (λ old new. IsCodeOf (IsUnrotated old new) result.code) engine.old.value engine.new.value }
+    ensures text { HasText result text.old text.new }
+{
+    let mut held = engine.take(alloc);
+    let answer = held.engine.rotate();
+    engine.put(held);
+    answered(alloc, &answer, text)
+}
+
+/// Deletes the append files that no table needs, and says how many.
+#[unsafe(no_mangle)]
+pub extern "C" fn raft_ffi_engine_purge_expired_files(
+    alloc: Global,
+    engine: &mut Engine,
+    count: &mut usize,
+    text: &mut [u8],
+) -> Status
+    requires held { IsTrue (is_some engine.old.value) }
+    ensures ok { result.code ≡ 0 → BothHold (ArePurged count.new) engine.old.value engine.new.value }
+    ensures accepted { result.code ≡ 0 → Holds (λ e. e.intact ≡ true) engine.old.value }
+    ensures err { result.code ≢ 0 → BothHold
+        (λ old new. IsCodeOf (IsUnpurged old new) result.code) engine.old.value engine.new.value }
+    ensures text { HasText result text.old text.new }
+{
+    let mut held = engine.take(alloc);
+    let answer = held.purge_expired_files(count);
+    engine.put(held);
+    answered(alloc, &answer, text)
+}
+
+/// Deletes the rewrite files that no table needs, and says how many.
+#[unsafe(no_mangle)]
+pub extern "C" fn raft_ffi_engine_purge_rewrite_files(
+    alloc: Global,
+    engine: &mut Engine,
+    count: &mut usize,
+    text: &mut [u8],
+) -> Status
+    requires held { IsTrue (is_some engine.old.value) }
+    ensures ok { result.code ≡ 0 → BothHold (AreRewritesPurged count.new) engine.old.value
+        engine.new.value }
+    ensures accepted { result.code ≡ 0 → Holds (λ e. e.intact ≡ true) engine.old.value }
+    ensures err { result.code ≢ 0 → BothHold
+        (λ old new. IsCodeOf (AreRewritesUnpurged old new) result.code) engine.old.value
+        engine.new.value }
+    ensures text { HasText result text.old text.new }
+{
+    let mut held = engine.take(alloc);
+    let answer = held.purge_rewrite_files(count);
+    engine.put(held);
+    answered(alloc, &answer, text)
+}
+
+/// Frees the engine.
+#[unsafe(no_mangle)]
+pub extern "C" fn raft_ffi_engine_drop(engine: Engine)
+    requires held { IsTrue (is_some engine.value) }
+{
+    drop(engine.into_box());
+}

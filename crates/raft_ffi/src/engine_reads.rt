@@ -1,0 +1,206 @@
+//! Calls that read what an engine has.
+
+ghost use Rattle.std.specs.Prelude.{◌≡◌, ◌≢◌, ◌+◌, [], true, false, IsTrue, is_some, MatchOption};
+ghost use Rattle.std.specs.FinMap as finite;
+ghost use Rattle.raft_base.specs.Runs.{end_of};
+ghost use Rattle.raft_engine.specs.KeptEngine.{table_in};
+ghost use Rattle.raft_table.specs.Counts.{live};
+ghost use Rattle.raft_table.specs.Fetches.{IsFetchFault, range_answer};
+ghost use Rattle.raft_table.specs.TableEntries.{entry_at, start_of};
+ghost use Rattle.raft_ffi.specs.Calls.{queue_of, IsCodeOf, IsFound, Holds};
+ghost use Rattle.raft_ffi.specs.EntryData.{entry_found};
+ghost use Rattle.raft_ffi.specs.Reads.{AreRegionsIn, IsFetched, value_in};
+ghost use Rattle.raft_ffi.specs.Rooms.{IsCopied, HasText};
+ghost use Rattle.raft_ffi.specs.Summaries.{number_in, IsSummaryOf};
+
+use crate::engine::Engine;
+use crate::entries::Entry;
+use crate::reads::{entries_in, entry_in, find_regions, summary_in, value_in};
+use crate::status::{Maybe, Status, answered, memory_code, queue};
+use crate::table_reads::Summary;
+use std::alloc::Global;
+
+/// Says how many records are live in a queue.
+#[unsafe(no_mangle)]
+pub extern "C" fn raft_ffi_engine_live(
+    alloc: Global,
+    engine: &mut Engine,
+    is_rewrite: bool,
+) -> usize
+    requires held { IsTrue (is_some engine.old.value) }
+    ensures same { engine.new.value ≡ engine.old.value }
+    ensures live { Holds (λ e. result ≡ live (queue_of is_rewrite) e.accessor.counts) engine.old.value }
+{
+    let held = engine.take(alloc);
+    let count = held
+        .engine
+        .accessor()
+        .stats()
+        .live_entries(queue(is_rewrite));
+    engine.put(held);
+    count
+}
+
+/// Says what a region's table has, if there is one.
+#[unsafe(no_mangle)]
+pub extern "C" fn raft_ffi_engine_summary(
+    alloc: Global,
+    engine: &mut Engine,
+    region: u64,
+    summary: &mut Summary,
+) -> bool
+    requires held { IsTrue (is_some engine.old.value) }
+    ensures same { engine.new.value ≡ engine.old.value }
+    ensures found { Holds (λ e. IsFound (λ t. IsSummaryOf t summary.new)
+        (finite.get e.accessor.tables region) result) engine.old.value }
+{
+    let held = engine.take(alloc);
+    let found = summary_in(held.engine.accessor().get(region), summary);
+    engine.put(held);
+    found
+}
+
+/// Lists the regions that have a table, in rising order, as far as there is room, and says how many they are.
+#[unsafe(no_mangle)]
+pub extern "C" fn raft_ffi_engine_regions(
+    alloc: Global,
+    engine: &mut Engine,
+    regions: &mut [u64],
+    count: &mut usize,
+) -> u32
+    requires held { IsTrue (is_some engine.old.value) }
+    ensures same { engine.new.value ≡ engine.old.value }
+    ensures ok { result ≡ 0 → Holds
+        (λ e. AreRegionsIn e.accessor.tables regions.old regions.new count.new) engine.old.value }
+    ensures fault { result ≢ 0 → result ≡ 11 }
+{
+    let held = engine.take(alloc);
+    let answer = find_regions(alloc, held.engine.accessor(), regions, count);
+    engine.put(held);
+    memory_code(&answer)
+}
+
+/// Finds an entry of a region, if there is one.
+#[unsafe(no_mangle)]
+pub extern "C" fn raft_ffi_engine_entry(
+    alloc: Global,
+    engine: &mut Engine,
+    region: u64,
+    index: u64,
+    entry: &mut Entry,
+) -> bool
+    requires held { IsTrue (is_some engine.old.value) }
+    ensures same { engine.new.value ≡ engine.old.value }
+    ensures found { Holds (λ e. entry_found result entry.new
+        ≡ entry_at index (table_in e region).entries) engine.old.value }
+{
+    let held = engine.take(alloc);
+    let found = entry_in(held.engine.accessor().get(region), region, index, entry);
+    engine.put(held);
+    found
+}
+
+/// Lists the entries of a region from `begin` on and below `end`, as far as there is room, and says how many they are.
+/// With a maximal size it stops before the first one with which the total of lengths passes that size and exceeds the
+/// entry's own length. A region without a table has no entries.
+#[unsafe(no_mangle)]
+pub extern "C" fn raft_ffi_engine_entries(
+    alloc: Global,
+    engine: &mut Engine,
+    region: u64,
+    begin: u64,
+    end: u64,
+    max_size: Maybe,
+    entries: &mut [Entry],
+    count: &mut usize,
+    text: &mut [u8],
+) -> Status
+    requires held { IsTrue (is_some engine.old.value) }
+    ensures same { engine.new.value ≡ engine.old.value }
+    ensures ok { result.code ≡ 0 → Holds (λ e. IsFetched (number_in max_size) begin end
+        (table_in e region).entries entries.old entries.new count.new) engine.old.value }
+    ensures fault { result.code ≢ 0 → Holds (λ e. IsCodeOf
+        (IsFetchFault (range_answer begin end (table_in e region).entries)) result.code)
+        engine.old.value }
+    ensures text { HasText result text.old text.new }
+{
+    let held = engine.take(alloc);
+    let range = (begin, end);
+    let table = held.engine.accessor().get(region);
+    let answer = entries_in(alloc, table, region, range, max_size.size(), entries, count);
+    engine.put(held);
+    answered(alloc, &answer, text)
+}
+
+/// Finds the value of a region's key, if there is one: as much of it as there is room for, and how long it is.
+#[unsafe(no_mangle)]
+pub extern "C" fn raft_ffi_engine_value(
+    alloc: Global,
+    engine: &mut Engine,
+    region: u64,
+    key: &[u8],
+    value: &mut [u8],
+    len: &mut usize,
+) -> bool
+    requires held { IsTrue (is_some engine.old.value) }
+    ensures same { engine.new.value ≡ engine.old.value }
+    ensures found { Holds (λ e. IsFound (λ bytes. IsCopied bytes value.old value.new len.new)
+        (value_in e.accessor.tables region key.now) result) engine.old.value }
+{
+    let held = engine.take(alloc);
+    let found = value_in(held.engine.accessor().get(region), key, value, len);
+    engine.put(held);
+    found
+}
+
+/// Finds the least index of a region's entries, if it has any.
+#[unsafe(no_mangle)]
+pub extern "C" fn raft_ffi_engine_first_index(
+    alloc: Global,
+    engine: &mut Engine,
+    region: u64,
+    index: &mut u64,
+) -> bool
+    requires held { IsTrue (is_some engine.old.value) }
+    ensures same { engine.new.value ≡ engine.old.value }
+    ensures some { result ≡ true → Holds (λ e. ((table_in e region).entries ≢ [])
+        × (index.new ≡ start_of (table_in e region).entries)) engine.old.value }
+    ensures none { result ≡ false → Holds (λ e. (table_in e region).entries ≡ []) engine.old.value }
+{
+    let held = engine.take(alloc);
+    let found = held.engine.first_index(region);
+    engine.put(held);
+    match found {
+        Some(found) => {
+            *index = found;
+            true
+        }
+        None => false,
+    }
+}
+
+/// Finds the greatest index of a region's entries, if it has any.
+#[unsafe(no_mangle)]
+pub extern "C" fn raft_ffi_engine_last_index(
+    alloc: Global,
+    engine: &mut Engine,
+    region: u64,
+    index: &mut u64,
+) -> bool
+    requires held { IsTrue (is_some engine.old.value) }
+    ensures same { engine.new.value ≡ engine.old.value }
+    ensures some { result ≡ true → Holds
+        (λ e. index.new + 1 ≡ end_of (table_in e region).entries) engine.old.value }
+    ensures none { result ≡ false → Holds (λ e. (table_in e region).entries ≡ []) engine.old.value }
+{
+    let held = engine.take(alloc);
+    let found = held.engine.last_index(region);
+    engine.put(held);
+    match found {
+        Some(found) => {
+            *index = found;
+            true
+        }
+        None => false,
+    }
+}

@@ -1,0 +1,90 @@
+//! The blocks that are read where records move.
+
+ghost use Rattle.std.specs.Prelude.{◌≡◌, IfErr};
+
+use raft_accessor::MemTableAccessor;
+use raft_base::{EntryIndex, Error, FileBlockHandle, FileId, FileSeq, Result};
+use raft_table::MemTable;
+use std::alloc::Global;
+use std::collections::BTreeSet;
+
+/// Blocks, each once, and how many bytes they have together.
+#[derive(Drop)]
+struct Blocks {
+    places: Vec<FileBlockHandle>,
+    known: BTreeSet<(FileId, u64)>,
+    size: usize,
+}
+
+/// Returns the blocks that are read where records of tables move past a gate, those of one table after another, until they have
+/// `max_size` bytes.
+///
+/// # Errors
+///
+/// `Memory`.
+pub(crate) fn blocks_to_move(
+    alloc: Global,
+    accessor: &MemTableAccessor,
+    gate: Option<FileSeq>,
+    max_size: usize,
+) -> Result<Vec<FileBlockHandle>>
+    ensures memory { IfErr result (λ e. e ≡ Error.Memory) }
+{
+    let mut blocks = Blocks {
+        places: Vec::new(alloc),
+        known: BTreeSet::new(alloc),
+        size: 0,
+    };
+    let tables = accessor.tables()?;
+    for table in &tables {
+        if blocks.size >= max_size {
+            return Ok(blocks.places);
+        }
+        blocks.add_table(alloc, table, gate)?;
+    }
+    Ok(blocks.places)
+}
+
+impl Blocks {
+    /// Adds the blocks of entries of a table that move.
+    ///
+    /// # Errors
+    ///
+    /// `Memory`.
+    fn add_table(&mut self, alloc: Global, table: &MemTable, gate: Option<FileSeq>) -> Result<()>
+        ensures memory { IfErr result (λ e. e ≡ Error.Memory) }
+    {
+        let mut entries = Vec::new(alloc);
+        match gate {
+            Some(gate) => table.fetch_entry_indexes_before(gate, &mut entries)?,
+            None => table.fetch_rewritten_entry_indexes(&mut entries)?,
+        }
+        for entry in &entries {
+            self.add(entry)?;
+        }
+        Ok(())
+    }
+
+    /// Adds the block of an entry, if it isn't known.
+    ///
+    /// # Errors
+    ///
+    /// `Memory`.
+    fn add(&mut self, entry: &EntryIndex) -> Result<()>
+        ensures memory { IfErr result (λ e. e ≡ Error.Memory) }
+    {
+        let Some(place) = entry.entries else {
+            return Ok(());
+        };
+        if let Some(last) = self.places.last() {
+            if *last == place {
+                return Ok(());
+            }
+        }
+        if self.known.insert((place.id, place.offset))? {
+            self.places.push(place)?;
+            self.size = self.size.saturating_add(place.len);
+        }
+        Ok(())
+    }
+}

@@ -1,0 +1,161 @@
+//! Calls that move records of an engine to the rewrite queue, and that lend it the blocks which it reads for that.
+
+ghost use Rattle.std.specs.Prelude.{◌≡◌, ◌≢◌, true, IsTrue, is_some, List, IfErr, IfOk, OnOk};
+ghost use Rattle.raft_engine.specs.Moved.{IsRewritten, IsUnrewritten};
+ghost use Rattle.raft_engine.specs.MovedAgain.{AreMovedAgain, AreUnmovedAgain};
+ghost use Rattle.raft_ffi.specs.Calls.{BothHold, Holds, IsCodeOf};
+ghost use Rattle.raft_ffi.specs.Rooms.{HasText, IsCopied};
+
+use crate::engine::Engine;
+use crate::moving_blocks::blocks_to_move;
+use crate::rooms::copy_front;
+use crate::status::{Maybe, Status, answered, is_rewrite, memory_code, queue};
+use raft_accessor::MemTableAccessor;
+use raft_base::{Error, FileBlockHandle, FileId, FileSeq, Result};
+use std::alloc::Global;
+
+/// The place of an entry block.
+#[repr(C)]
+#[derive(Clone, Copy)]
+pub struct Place {
+    /// The file.
+    pub seq: u64,
+    pub offset: u64,
+    pub len: usize,
+    /// Whether the file is of the rewrite queue.
+    pub is_rewrite: bool,
+}
+
+/// Moves what the tables have in append files up to the gate to the rewrite queue. Where a block is to be read that isn't lent
+/// the number is 6; the engine is intact, and some regions may have moved. Lent blocks are let go.
+#[unsafe(no_mangle)]
+pub extern "C" fn raft_ffi_engine_rewrite(
+    alloc: Global,
+    engine: &mut Engine,
+    gate: u64,
+    text: &mut [u8],
+) -> Status
+    requires held { IsTrue (is_some engine.old.value) }
+    ensures ok { result.code ≡ 0 → BothHold (IsRewritten gate) engine.old.value engine.new.value }
+    ensures accepted { result.code ≡ 0 → Holds (λ e. e.intact ≡ true) engine.old.value }
+    ensures err { result.code ≢ 0 → BothHold
+        (λ old new. IsCodeOf (IsUnrewritten gate old new) result.code) engine.old.value
+        engine.new.value }
+    ensures text { HasText result text.old text.new }
+{
+    let mut held = engine.take(alloc);
+    let answer = held.rewrite(gate);
+    engine.put(held);
+    answered(alloc, &answer, text)
+}
+
+/// Moves what the tables have in rewrite files to a new one of them. Where a block is to be read that isn't lent the number is 6;
+/// the engine is intact, and some regions may have moved. Lent blocks are let go.
+#[unsafe(no_mangle)]
+pub extern "C" fn raft_ffi_engine_rewrite_again(
+    alloc: Global,
+    engine: &mut Engine,
+    text: &mut [u8],
+) -> Status
+    requires held { IsTrue (is_some engine.old.value) }
+    ensures ok { result.code ≡ 0 → BothHold AreMovedAgain engine.old.value engine.new.value }
+    ensures accepted { result.code ≡ 0 → Holds (λ e. e.intact ≡ true) engine.old.value }
+    ensures err { result.code ≢ 0 → BothHold
+        (λ old new. IsCodeOf (AreUnmovedAgain old new) result.code) engine.old.value
+        engine.new.value }
+    ensures text { HasText result text.old text.new }
+{
+    let mut held = engine.take(alloc);
+    let answer = held.rewrite_again();
+    engine.put(held);
+    answered(alloc, &answer, text)
+}
+
+/// Lists the blocks that are read where what the tables have in append files up to the gate moves, or without a gate what they have
+/// in rewrite files, each once, as far as there is room: those of the first regions, until they have `max_size` bytes. Says how
+/// many. Nothing rests on the list.
+#[unsafe(no_mangle)]
+pub extern "C" fn raft_ffi_engine_moving_blocks(
+    alloc: Global,
+    engine: &mut Engine,
+    gate: Maybe,
+    max_size: usize,
+    places: &mut [Place],
+    count: &mut usize,
+) -> u32
+    requires held { IsTrue (is_some engine.old.value) }
+    ensures same { engine.new.value ≡ engine.old.value }
+    ensures ok { result ≡ 0 → (found : List Place) × IsCopied found places.old places.new count.new }
+    ensures fault { result ≢ 0 → result ≡ 11 }
+{
+    let held = engine.take(alloc);
+    let answer = find_blocks(
+        alloc,
+        held.engine.accessor(),
+        gate.number(),
+        max_size,
+        places,
+        count,
+    );
+    engine.put(held);
+    memory_code(&answer)
+}
+
+/// Finds the blocks that are read.
+fn find_blocks(
+    alloc: Global,
+    accessor: &MemTableAccessor,
+    gate: Option<FileSeq>,
+    max_size: usize,
+    places: &mut [Place],
+    count: &mut usize,
+) -> Result<()>
+    ensures ok { OnOk result ((found : List Place) × IsCopied found places.old places.new count.new) }
+    ensures memory { IfErr result (λ e. e ≡ Error.Memory) }
+{
+    let found = blocks_to_move(alloc, accessor, gate, max_size)?;
+    let plain = plain_places(alloc, found.as_slice())?;
+    *count = copy_front(plain.as_slice(), places);
+    Ok(())
+}
+
+/// Returns places as plain data.
+fn plain_places(alloc: Global, found: &[FileBlockHandle]) -> Result<Vec<Place>>
+    ensures memory { IfErr result (λ e. e ≡ Error.Memory) }
+{
+    let mut plain = Vec::with_capacity(alloc, found.len())?;
+    for place in found {
+        plain.push(plain_place(*place))?;
+    }
+    Ok(plain)
+}
+
+/// Returns a place as plain data.
+fn plain_place(place: FileBlockHandle) -> Place {
+    Place {
+        seq: place.id.seq,
+        offset: place.offset,
+        len: place.len,
+        is_rewrite: is_rewrite(place.id.queue),
+    }
+}
+
+/// Lends the bytes that stand at a place, as many as the block has, until the next call that moves records. They are copied.
+#[unsafe(no_mangle)]
+pub extern "C" fn raft_ffi_engine_lend(
+    alloc: Global,
+    engine: &mut Engine,
+    is_rewrite: bool,
+    seq: u64,
+    offset: u64,
+    bytes: &[u8],
+) -> u32
+    requires held { IsTrue (is_some engine.old.value) }
+    ensures same { engine.new.value ≡ engine.old.value }
+    ensures fault { result ≢ 0 → result ≡ 11 }
+{
+    let mut held = engine.take(alloc);
+    let answer = held.lend(FileId::new(queue(is_rewrite), seq), offset, bytes);
+    engine.put(held);
+    memory_code(&answer)
+}

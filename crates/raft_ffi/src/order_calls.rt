@@ -1,0 +1,117 @@
+//! Calls that hand out what is to be done to an engine's files.
+
+ghost use Rattle.std.specs.Prelude.{◌≡◌, ◌<◌, ◌≤◌, true, false, Some, None, IsTrue, is_some, length};
+ghost use Rattle.raft_orders.specs.Orders.{ask_of, length_put, next_to_do};
+ghost use Rattle.raft_ffi.specs.Calls.{Holds};
+ghost use Rattle.raft_ffi.specs.Engines.{Lasts, ask_in};
+ghost use Rattle.raft_ffi.specs.Taking.{IsWaiting};
+
+use crate::engine::Engine;
+use crate::rooms::copy_front;
+use crate::status::is_rewrite;
+use crate::taking::Taking;
+use raft_orders::{NumberedOrder, Task};
+use std::alloc::Global;
+
+/// What is to be done to files, without its bytes.
+#[repr(C)]
+#[derive(Clone, Copy)]
+pub struct OrderHead {
+    /// How many orders there were before it.
+    pub at: u64,
+    /// The number of the file that is begun, or how many bytes the last file keeps.
+    pub number: u64,
+    /// How many bytes are put.
+    pub len: usize,
+    /// 0: put, 1: begin, 2: sync, 3: delete, 4: cut.
+    pub kind: u32,
+    /// Whether it is of the rewrite queue.
+    pub is_rewrite: bool,
+}
+
+/// Takes the oldest order that waits, if there is one, and copies its bytes, where there is room for them; `is_taken` says whether.
+/// Where there isn't it says how many they are. Orders have numbers from 0 on: what was asked of the files, in turn. Where none
+/// waits `at` is a number behind those of all orders. Whatever front of the orders was carried out when the machine stops, what was
+/// synced in it is found again.
+#[unsafe(no_mangle)]
+pub extern "C" fn raft_ffi_engine_take_order(
+    alloc: Global,
+    engine: &mut Engine,
+    order: &mut OrderHead,
+    bytes: &mut [u8],
+    is_taken: &mut bool,
+) -> bool
+    requires held { IsTrue (is_some engine.old.value) }
+    ensures same { engine.new.value ≡ engine.old.value }
+    ensures taken { is_taken.new ≡ true → Holds
+        (λ e. next_to_do e.asks order.new.at ≡ Some (ask_in order.new bytes.new)) engine.old.value }
+    ensures waits { result ≡ true → is_taken.new ≡ false → Holds
+        (λ e. (length bytes.old < order.new.len) × IsWaiting e.asks order.new.at order.new.len)
+        engine.old.value }
+    ensures none { result ≡ false → Holds (λ e. next_to_do e.asks order.new.at ≡ None)
+        engine.old.value }
+    ensures untaken { result ≡ false → is_taken.new ≡ false }
+    ensures lasts { Holds Lasts engine.old.value }
+{
+    let mut held = engine.take(alloc);
+    held.nothing_synced_is_lost();
+    let taking = held.take_order(bytes.len());
+    engine.put(held);
+    *is_taken = false;
+    match taking {
+        Taking::Taken(taken) => {
+            *order = head(&taken, bytes);
+            *is_taken = true;
+            true
+        }
+        Taking::TooLong(at, len) => {
+            order.at = at;
+            order.len = len;
+            true
+        }
+        Taking::NoneWaits(at) => {
+            order.at = at;
+            false
+        }
+    }
+}
+
+/// Returns what an order says, and copies its bytes.
+#[tactic(auto, using(crate::proofs::OrderLemmas::put_says, crate::proofs::OrderLemmas::plain_says))]
+fn head(taken: &NumberedOrder, bytes: &mut [u8]) -> OrderHead
+    requires { length_put taken.now.order.task ≤ length bytes.old }
+    ensures number { result.at ≡ taken.now.number }
+    ensures says { ask_in result bytes.new ≡ ask_of taken.now.order }
+{
+    let at = taken.number;
+    let is_rewrite = is_rewrite(taken.order.queue);
+    match &taken.order.task {
+        Task::Put(put) => OrderHead {
+            at,
+            number: 0,
+            len: copy_front(put.as_slice(), bytes),
+            kind: 0,
+            is_rewrite,
+        },
+        Task::Begin(seq) => plain_head(at, is_rewrite, 1, *seq),
+        Task::Sync => plain_head(at, is_rewrite, 2, 0),
+        Task::Delete => plain_head(at, is_rewrite, 3, 0),
+        Task::Cut(len) => plain_head(at, is_rewrite, 4, *len),
+    }
+}
+
+/// Returns what an order without bytes says.
+fn plain_head(at: u64, is_rewrite: bool, kind: u32, number: u64) -> OrderHead
+    ensures at { result.at ≡ at }
+    ensures queue { result.is_rewrite ≡ is_rewrite }
+    ensures kind { result.kind ≡ kind }
+    ensures number { result.number ≡ number }
+{
+    OrderHead {
+        at,
+        number,
+        len: 0,
+        kind,
+        is_rewrite,
+    }
+}

@@ -288,37 +288,34 @@ def page():
         "```",
         "",
         f"It says what it says by **{count} definitions, {total} lines in {len(files)} files**, found by following names from these",
-        "clauses. They are shown below as they stand in `specs/`, each file after those that it uses, with the line numbers of its file.",
+        "clauses. They are shown below as they stand in `specs/`, each below its comment, each file after those that it uses, with its line numbers.",
         "No proof can tell whether they say what is meant. That is what a reader has to believe, and then has to believe no code.",
         "",
         "In the clauses, `result` and `segments` stand for plain values: what the call returns is seen as an `Accessor` (the map from",
         "region to table, the cleaned regions in order, the counts), a part of a file as a `Part` (its file, version, offset and bytes).",
         "The contracts of all other calls on them, such as those that look up a table or make a part, speak of the same values.",
         "",
-        "| crate | file | definitions | lines |",
-        "|---|---|---|---|",
     ]
+    by_crate = {}
     for module in files:
         file = reading.files[module]
-        out.append(f"| `{file.crate}` | [{file.path.stem}](#{file.crate}-{file.path.stem.lower()}) | {len(by_file[module])} | {lines_of[module]} |")
-    out.append(f"| | {len(files)} files | {count} | {total} |")
+        by_crate.setdefault(file.crate, []).append(f"[{file.path.stem}](#{file.crate}-{file.path.stem.lower()})")
+    out += [f"- `{crate}`: " + ", ".join(named) for crate, named in by_crate.items()]
 
     out += ["", "## Words of std and of the kit's libraries", "", "They come with the toolchain, and are listed here by name alone."]
     for given in sorted({crate for crate, _ in reading.given}, key=lambda crate: (crate != "std", crate)):
         listed = sorted((name for crate, name in reading.given if crate == given), key=lambda n: (n.strip("◌").lower(), n))
         out += ["", *wrapped(f"Of `{given}`: " + ", ".join(f"`{name}`" for name in listed) + ".")]
-    out += ["", "## Types of the code", "", "Plain enums and structs, whose fields the definitions name.", ""]
+    named = {}
     for crate, place, name in sorted(reading.types, key=lambda t: (crates.index(t[0]), t[1:])):
-        path, at = type_line(crate, place, name)
-        out.append(f"- [`{name}`]({link(path, at)}) of `{crate}`, line {at} of `{path.relative_to(TOP / 'crates' / crate)}`")
+        named.setdefault(crate, []).append(f"[`{name}`]({link(*type_line(crate, place, name))})")
+    out += ["", "## Types of the code", "", "Plain enums and structs, whose fields the definitions name.", ""]
+    out += [f"- of `{crate}`: " + ", ".join(types) for crate, types in named.items()]
     for module in files:
         file = reading.files[module]
-        out += ["", f"## {file.crate} {file.path.stem}", ""]
-        out += [f"[{file.path.relative_to(TOP)}]({link(file.path)})", "", "```"]
-        for at, key in enumerate(sorted(by_file[module], key=lambda key: reading.met[key].line)):
+        out += ["", f"## [{file.crate} {file.path.stem}]({link(file.path)})", "", "```"]
+        for key in sorted(by_file[module], key=lambda key: reading.met[key].line):
             found = reading.met[key]
-            if at:
-                out.append("")
             for number, text in enumerate(found.lines, found.line):
                 out.append(f"{number:4} {text}")
         out.append("```")

@@ -1,5 +1,5 @@
 #!/usr/bin/env python3
-"""The page of all calls: what the four crates that users import from, raft_log, raft_files and raft_engine have, each with its signature and its first
+"""The page of all calls: what the four crates that users import from, raft_files and raft_engine have, each with its signature and its first
 sentence, types with their public fields and their variants.
 
     calls.py            writes docs/CALLS.md
@@ -18,7 +18,7 @@ from pathlib import Path
 
 TOP = Path(__file__).resolve().parent.parent
 PAGE = TOP / "docs/CALLS.md"
-USERS_CRATES = ("raft_base", "raft_records", "raft_memtable", "raft_recover", "raft_log", "raft_files", "raft_engine")
+USERS_CRATES = ("raft_base", "raft_records", "raft_memtable", "raft_recover", "raft_files", "raft_engine")
 
 HEAD = re.compile(r"^( *)pub (?:final )?(?:const |unsafe )*(fn|struct|enum|trait|const|type) (\w+)", re.M)
 METHOD = re.compile(r"^    (?:pub )?(?:final )?fn (\w+)", re.M)
@@ -195,10 +195,10 @@ def page():
     crates = {path.name: Crate(path.name) for path in (TOP / "crates").iterdir() if (path / "src/lib.rt").exists()}
     listed, lines = set(), [
         "# All calls", "",
-        "What the four crates that users import from, `raft_log`, and the engine's crates have, each with its signature and its first sentence. A name is",
+        "What the four crates that users import from, and the engine's crates have, each with its signature and its first sentence. A name is",
         "imported from the crate's root (`use raft_records::LogBatch;`) unless its module is named. `make calls` writes this page from the sources.",
         "What exactly a call does, and what it asks of its caller (`requires`), is said by its contract, which stands with it in `crates/`. Laws are",
-        "functions that compute nothing: their contracts are facts, of which [DEFINITIONS.md](DEFINITIONS.md) has each with its words.", "",
+        "functions that compute nothing: their contracts are facts. [DEFINITIONS.md](DEFINITIONS.md) has those that say a promise; others say what their names do.", "",
     ]
     for user in USERS_CRATES:
         lines += [f"## `{user}`", ""]

@@ -77,6 +77,11 @@ impl Context {
         })
     }
 
+    /// Gives the handle away.
+    pub(crate) fn into_handle(self) -> Result<ContextHandle> {
+        self.handle.ok_or_else(Error::failed)
+    }
+
     /// Replays the log batches of a part, which stand behind those that were replayed before. The bytes are lent, and
     /// nothing of them is kept.
     ///

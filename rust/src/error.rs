@@ -1,6 +1,9 @@
 //! Why a call was refused.
 
-use std::fmt;
+use crate::FileId;
+use std::hash::{Hash, Hasher};
+use std::sync::Arc;
+use std::{fmt, io};
 
 /// Why a call was refused, by kind.
 ///
@@ -20,13 +23,13 @@ pub enum ErrorKind {
     InvalidArgument,
     /// Bytes, or items read from them, are not what an engine writes.
     Corruption,
-    /// Bytes end where a type should stand. The library itself reads no file.
+    /// The system refused a call on a file, or bytes end where a type should stand.
     Io,
     /// A number's spelling is cut short or is none.
     Codec,
     /// A message refused to write itself. No call of this crate returns it.
     Message,
-    /// For layers above: the call may succeed later. No call of this crate returns it.
+    /// The call may succeed later: another engine has the folder open.
     TryAgain,
     /// The entries asked for were compacted away.
     EntryCompacted,
@@ -92,7 +95,7 @@ impl fmt::Display for ErrorKind {
     }
 }
 
-/// Why a call was refused: its kind, and the reason in words.
+/// Why a call was refused: its kind, the reason in words, and the file and the byte that it is about, where there is one.
 ///
 /// ```
 /// use raft_recover::{ErrorKind, LogBatch};
@@ -102,52 +105,139 @@ impl fmt::Display for ErrorKind {
 /// let refused = batch.clean(7).unwrap_err();
 /// assert_eq!(refused.kind, ErrorKind::InvalidArgument);
 /// assert_eq!(refused.to_string(), "Invalid Argument: the batch is no longer open");
+/// assert_eq!((refused.file, refused.offset), (None, None));
 /// # Ok::<(), raft_recover::Error>(())
 /// ```
-#[derive(Clone, PartialEq, Eq, Hash, Debug)]
+///
+/// Damaged bytes are named by their file and offset, and a refusal of the system is the source of the error:
+///
+/// ```
+/// use raft_recover::{Context, ErrorKind, FileId, FilePart, LogFile, Queue, Version};
+///
+/// let file = LogFile::new(Queue::Append, 3, Version::V2);
+/// let refused = Context::new()?.replay(FilePart::new(file, &[7; 100])).unwrap_err();
+/// assert_eq!(refused.kind, ErrorKind::Corruption);
+/// assert_eq!(refused.file, Some(FileId::new(Queue::Append, 3)));
+/// assert_eq!(refused.offset, Some(0));
+/// # Ok::<(), raft_recover::Error>(())
+/// ```
+#[derive(Clone, Debug)]
 #[non_exhaustive]
 pub struct Error {
     /// The kind of the refusal.
     pub kind: ErrorKind,
-    /// The reason in words, of at most 256 bytes.
+    /// The reason in words.
     pub text: String,
+    /// The log file that the refusal is about.
+    pub file: Option<FileId>,
+    /// Where in that file.
+    pub offset: Option<u64>,
+    source: Option<Arc<io::Error>>,
 }
 
 /// What a call returns that may be refused.
 pub type Result<T> = std::result::Result<T, Error>;
 
 impl Error {
-    /// Makes the refusal of a number of the library.
+    /// Makes the refusal of a number of the library. A place in front of its words is that of the refusal.
     pub(crate) fn of(code: u32, text: String) -> Error {
         let kind = u8::try_from(code).map(ErrorKind::try_from);
         let Ok(Ok(kind)) = kind else {
             unreachable!("the library has no error of number {code}")
         };
-        Error { kind, text }
+        let place = place_in(&text);
+        Error {
+            file: place.map(|(file, _)| file),
+            offset: place.map(|(_, offset)| offset),
+            ..Error::new(kind, text)
+        }
+    }
+
+    /// Makes a refusal that is about no file.
+    pub(crate) fn new(kind: ErrorKind, text: impl Into<String>) -> Error {
+        Error {
+            kind,
+            text: text.into(),
+            file: None,
+            offset: None,
+            source: None,
+        }
     }
 
     /// Makes the refusal of an argument that the library's contract excludes.
     pub(crate) fn invalid_argument(text: &str) -> Error {
-        Error {
-            kind: ErrorKind::InvalidArgument,
-            text: format!("Invalid Argument: {text}"),
-        }
+        Error::new(
+            ErrorKind::InvalidArgument,
+            format!("Invalid Argument: {text}"),
+        )
     }
 
     /// Makes the refusal for want of memory.
     pub(crate) fn memory() -> Error {
-        Error {
-            kind: ErrorKind::Memory,
-            text: "Memory".into(),
-        }
+        Error::new(ErrorKind::Memory, "Memory")
     }
 
     /// Makes the refusal of a value that an earlier refusal has emptied.
     pub(crate) fn failed() -> Error {
+        Error::new(ErrorKind::Failed, "Failed")
+    }
+
+    /// Makes the refusal of a value that this one has emptied.
+    pub(crate) fn as_failure(&self) -> Error {
         Error {
             kind: ErrorKind::Failed,
-            text: "Failed".into(),
+            text: format!("Failed: {}", self.text),
+            ..self.clone()
         }
+    }
+
+    /// Makes the refusal of bytes that aren't what an engine writes.
+    pub(crate) fn corruption(file: FileId, offset: u64, text: &str) -> Error {
+        Error::new(ErrorKind::Corruption, format!("Corruption: {text}")).at(file, offset)
+    }
+
+    /// Makes the refusal of the system, about something that these words name.
+    pub(crate) fn system(about: impl fmt::Display, source: io::Error) -> Error {
+        let text = format!("IO Error: {about}: {source}");
+        Error {
+            source: Some(Arc::new(source)),
+            ..Error::new(ErrorKind::Io, text)
+        }
+    }
+
+    /// Says which byte of a file the refusal is about.
+    pub(crate) fn at(mut self, file: FileId, offset: u64) -> Error {
+        if let Some((kind, reason)) = self.text.split_once(": ") {
+            self.text = format!("{kind}: {file}, offset {offset}: {reason}");
+        }
+        (self.file, self.offset) = (Some(file), Some(offset));
+        self
+    }
+}
+
+/// Reads the place in front of a refusal's words, as in `Corruption: append file 3, offset 17: ..`.
+fn place_in(text: &str) -> Option<(FileId, u64)> {
+    let (_, words) = text.split_once(": ")?;
+    let (place, _) = words.split_once(": ")?;
+    let (file, offset) = place.split_once(", offset ")?;
+    let (queue, seq) = file.split_once(" file ")?;
+    let file = FileId::new(queue.parse().ok()?, seq.parse().ok()?);
+    Some((file, offset.parse().ok()?))
+}
+
+impl PartialEq for Error {
+    /// Compares kinds, words and places.
+    fn eq(&self, other: &Error) -> bool {
+        let seen = |e: &Error| (e.kind, e.file, e.offset);
+        seen(self) == seen(other) && self.text == other.text
+    }
+}
+
+impl Eq for Error {}
+
+impl Hash for Error {
+    fn hash<H: Hasher>(&self, state: &mut H) {
+        (self.kind, &self.text, self.file, self.offset).hash(state);
     }
 }
 
@@ -157,4 +247,10 @@ impl fmt::Display for Error {
     }
 }
 
-impl std::error::Error for Error {}
+impl std::error::Error for Error {
+    /// Returns the refusal of the system, if that is the reason.
+    fn source(&self) -> Option<&(dyn std::error::Error + 'static)> {
+        let source = self.source.as_deref()?;
+        Some(source)
+    }
+}

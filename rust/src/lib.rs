@@ -1,35 +1,40 @@
-//! Recovery of raft-engine's tables from its log files on several threads, and the tables that an engine keeps.
+//! An engine that keeps the logs of many Raft groups in files, and loses nothing that was synced, whenever the machine stops; and
+//! the layer below it: recovery of raft-engine's tables from log files on several threads, and these tables.
 //!
-//! All that reads bytes and changes tables is the static library `raft_ffi`, each function of which is proved to meet its
-//! contract. This crate is a thin safe layer over it, with no dependency but std. It starts threads
-//! ([`recover`], [`recover_both`]); the library starts none, and opens no file.
+//! All that reads bytes, changes tables and decides what files are to have is the static library `raft_ffi`, each function of
+//! which is proved to meet its contract. This crate is a thin safe layer over it, with no dependency but std. It opens files and
+//! starts threads ([`Engine::open`], [`recover`], [`recover_both`]); the library does neither.
 //!
-//! ```no_run
-//! use raft_recover::{FilePart, LogFile, Queue, Version, recover};
+//! ```
+//! use raft_recover::{Engine, LogBatch, Options};
 //!
-//! # fn main() -> Result<(), Box<dyn std::error::Error>> {
-//! let bytes = std::fs::read("1.log")?;
-//! let file = LogFile::new(Queue::Append, 1, Version::V2);
-//! let tables = recover(&[FilePart::new(file, &bytes)], Queue::Append, 4)?;
-//! for region in tables.regions()? {
-//!     println!("{region}: {:?}", tables.summary(region));
+//! # let folder = std::env::temp_dir().join(format!("raft-recover-lib-{}", std::process::id()));
+//! let engine = Engine::open(&folder, Options::new())?;
+//! let mut batch = LogBatch::new()?;
+//! batch.add_entries(7, 1, &["an entry", "another one"])?;
+//! batch.put(7, b"state", b"leader")?;
+//! engine.write(&mut batch, true)?; // it lasts from here on
+//! for entry in engine.entries(7, ..)? {
+//!     println!("{}", String::from_utf8_lossy(&entry));
 //! }
-//! # Ok(())
-//! # }
+//! # std::fs::remove_dir_all(folder).unwrap();
+//! # Ok::<(), raft_recover::Error>(())
 //! ```
 //!
 //! | to | there is |
 //! |---|---|
+//! | keep logs in a folder | [`Engine`], [`Options`], [`LogBatch`] |
+//! | keep them elsewhere; test what a stop of the machine leaves | [`Files`]; [`MemoryFiles`] |
 //! | recover tables from files | [`recover`], [`recover_both`]; step by step [`Context`] |
 //! | read the tables, and change them | [`Tables`]; under locks of an engine's own [`Slot`] and [`slot_of`] |
-//! | write a batch | [`LogBatch`] |
+//! | write a batch to a file of your own | [`LogBatch`] |
 //! | read batches, item by item | [`Batches`], [`Batch`], [`Item`] |
 //! | find a torn tail, or cut a file | [`readable_front`], [`batch_len`] |
 //!
 //! # What is refused
 //!
-//! A call that can't be made returns an [`Error`] and changes nothing, unless its documentation says what it leaves. A call
-//! panics in one place alone, which [`Batch::get`] names. The library never unwinds.
+//! A call that can't be made returns an [`Error`], with the file and the byte where it is about some, and changes nothing, unless
+//! its documentation says what it leaves. A call panics in one place alone, which [`Batch::get`] names. The library never unwinds.
 //!
 //! # Memory
 //!
@@ -48,6 +53,7 @@ compile_error!("raft-recover is for x86_64-unknown-linux-gnu alone, as its libra
 
 mod batches;
 mod context;
+mod engine;
 mod entries;
 mod error;
 mod files;
@@ -62,6 +68,10 @@ pub use batches::{
     Batch, BatchIntoIter, BatchIter, Batches, Content, Item, batch_len, crc32, readable_front,
 };
 pub use context::{Context, Kept};
+pub use engine::{
+    Ask, Engine, Entries, Files, FolderFiles, MemoryFiles, Options, Purged, QueueStats, Stats,
+    Unsynced,
+};
 pub use entries::{Block, Entry, Pair};
 pub use error::{Error, ErrorKind, Result};
 pub use files::{FileId, FilePart, LogFile, Queue, Version};

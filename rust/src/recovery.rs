@@ -60,7 +60,7 @@ pub fn recover_both(
 }
 
 /// Reads parts on this many threads.
-fn read(parts: &[FilePart<'_>], queue: Queue, workers: usize) -> Result<Context> {
+pub(crate) fn read(parts: &[FilePart<'_>], queue: Queue, workers: usize) -> Result<Context> {
     read_stretches(&stretches(parts, workers.max(1)), queue)
 }
 

@@ -11,16 +11,25 @@
 //!   files of an atomic group by [`Tables::set_atomic_group`](crate::Tables::set_atomic_group) and that of `Slot`; the stage of
 //!   a batch, the last index of its entries and its offset by [`LogBatchHandle`]; the number of a slot and its regions,
 //!   and that a slot has no tables where it takes some, by [`SlotHandle`].
+//! - Contexts that an engine is opened with have read just the batches of its files, but for torn tails: `engine::found::Found`
+//!   alone makes a [`FoundHandle`], and reads and opens it with its contexts.
+//! - The orders of an engine are taken in their order, none twice ([`EngineHandle`] tests their numbers), and carried out so
+//!   before another call that orders something is made: `engine::orders::Turn` alone makes such calls.
 //!
 //! A `Global` of the library takes no bytes, and is not passed. A `&[T]` is passed as a pointer and a length. `tools/ffi.py`
 //! compares the declarations with the exports.
 
-use crate::{Block, Entry, Error, FileId, FilePart, LogFile, Pair, Queue, Result, Version};
+use crate::{
+    Block, Entry, Error, FileId, FilePart, LogFile, Pair, Queue, Result, Summary, Version,
+};
 use std::alloc::{Layout, handle_alloc_error};
 use std::cell::Cell;
 use std::ptr;
 
 mod context;
+mod engine;
+mod engine_calls;
+mod found;
 #[cfg(feature = "global-allocator")]
 mod heap;
 mod items;
@@ -29,6 +38,8 @@ mod slot;
 mod tables;
 
 pub(crate) use context::ContextHandle;
+pub(crate) use engine::{EngineHandle, Order, block_entries};
+pub(crate) use found::FoundHandle;
 pub(crate) use items::ItemsHandle;
 pub(crate) use log_batch::LogBatchHandle;
 pub(crate) use slot::{SlotHandle, slot_of};
@@ -711,6 +722,18 @@ impl From<Option<u64>> for Maybe {
 impl Maybe {
     fn number(self) -> Option<u64> {
         self.is_some.then_some(self.number)
+    }
+}
+
+impl From<SummaryNumbers> for Summary {
+    fn from(summary: SummaryNumbers) -> Summary {
+        Summary {
+            entries: summary.entries,
+            keys: summary.keys,
+            first_index: summary.first.number(),
+            append_seq: summary.append_seq.number(),
+            rewrite_seq: summary.rewrite_seq.number(),
+        }
     }
 }
 

@@ -8,7 +8,8 @@ mod common;
 
 use common::{batch_bytes, file, files, parts, run};
 use raft_recover::{
-    Batches, Context, ErrorKind, LogBatch, Queue, Result, Slot, Tables, recover, slot_of,
+    Batches, Context, Engine, ErrorKind, LogBatch, MemoryFiles, Options, Queue, Result, Slot,
+    Tables, recover, slot_of,
 };
 use std::alloc::{Layout, alloc, dealloc, realloc};
 use std::sync::Mutex;
@@ -209,4 +210,91 @@ fn every_request_refused_in_turn() {
             live.sum::<usize>().to_string()
         },
     );
+}
+
+/// Does with an engine all that it does. Counts the batches that it took.
+fn engine_steps(engine: &Engine<MemoryFiles>, written: &mut u64) -> Result<()> {
+    for index in 1..=4 {
+        let mut batch = LogBatch::new()?;
+        batch.add_entries(7, index, &["an entry"])?;
+        batch.compact(7, index - 1)?;
+        engine.write(&mut batch, index % 2 == 0)?;
+        *written += 1;
+    }
+    engine.rotate()?;
+    engine.rewrite(1)?;
+    engine.purge()?;
+    engine.rewrite_again()?;
+    engine.purge()?;
+    assert_eq!(engine.entries(7, ..)?.len(), 2);
+    engine.sync()
+}
+
+/// Opens an engine over files, and takes the steps, with so many requests granted. Where the engine has failed every call says so.
+/// Returns whether no request was refused.
+fn engine_run(files: &MemoryFiles, granted: i64, written: &mut u64) -> Result<bool> {
+    GRANTED.store(granted, SeqCst);
+    let opened = Engine::with_files(files.clone(), Options::new());
+    let result = opened
+        .as_ref()
+        .map_or(Ok(()), |engine| engine_steps(engine, written));
+    let is_over = GRANTED.swap(i64::MAX, SeqCst) > 0;
+    let engine = opened?;
+    let has_failed = engine.sync().is_err();
+    assert_eq!(engine.get(7, b"key").is_err(), has_failed);
+    assert_eq!(engine.entries(7, ..).is_err(), has_failed);
+    result.map(|()| is_over)
+}
+
+#[test]
+fn a_torn_tail_that_is_found_without_memory_is_cut_where_it_begins() {
+    let _turn = TURN.lock();
+    let sound = batch_bytes(file(1), |more| more.merge(&mut batch()).unwrap());
+    let torn = [&sound[..], &sound[..], &sound[..20]].concat();
+    for granted in 0.. {
+        let files = MemoryFiles::found(vec![(1, torn.clone())], vec![(1, vec![])]);
+        GRANTED.store(granted, SeqCst);
+        let opened = Engine::with_files(files.clone(), Options::new());
+        let is_over = GRANTED.swap(i64::MAX, SeqCst) > 0;
+        let len = files.files(Queue::Append)[0].1.len();
+        match opened {
+            Ok(engine) => {
+                assert_eq!(len, 2 * sound.len());
+                assert_eq!(engine.last_index(7).unwrap(), Some(11));
+            }
+            Err(e) => assert!(e.kind == ErrorKind::Memory && len == torn.len(), "{e}"),
+        }
+        if is_over {
+            return;
+        }
+    }
+}
+
+#[test]
+fn an_engine_without_memory_loses_nothing() {
+    let _turn = TURN.lock();
+    for granted in 0.. {
+        let (files, mut written) = (MemoryFiles::new(), 0);
+        let result = engine_run(&files, granted, &mut written);
+        if let Err(e) = &result {
+            assert_eq!(e.kind, ErrorKind::Memory, "{e}");
+        }
+        let opened = Engine::with_files(files, Options::new()).unwrap();
+        let last = opened.last_index(7).unwrap().unwrap_or(0);
+        assert!(
+            (written..=written + 1).contains(&last),
+            "{granted}: {last} of {written}"
+        );
+        drop(opened);
+        assert_eq!(
+            LIVE.load(SeqCst),
+            0,
+            "blocks are left after {granted} requests"
+        );
+        if result == Ok(true) {
+            println!("{granted} requests refused");
+            assert!(granted > 100, "{granted}");
+            return;
+        }
+    }
 }

@@ -1,14 +1,16 @@
 //! What the types are: which threads may have them, and which traits of std they have.
 
 use raft_recover::{
-    Batch, BatchIntoIter, BatchIter, Batches, Block, Content, Context, Entry, Error, ErrorKind,
-    FileId, FilePart, Item, Kept, LogBatch, LogFile, Pair, Queue, Slot, Stage, Summary, Tables,
-    Version,
+    Ask, Batch, BatchIntoIter, BatchIter, Batches, Block, Content, Context, Engine, Entries, Entry,
+    Error, ErrorKind, FileId, FilePart, Files, FolderFiles, Item, Kept, LogBatch, LogFile,
+    MemoryFiles, Options, Pair, Purged, Queue, QueueStats, Slot, Stage, Stats, Summary, Tables,
+    Unsynced, Version,
 };
 use std::collections::{BTreeSet, HashSet};
 use std::fmt::{Debug, Display};
 use std::hash::Hash;
 use std::iter::FusedIterator;
+use std::sync::Arc;
 
 /// Compiles where the types have the traits.
 macro_rules! all_are {
@@ -43,7 +45,15 @@ none_is!(Send => BatchIter<'static>);
 none_is!(Sync => BatchIter<'static>);
 
 all_are!(
+    Send, Sync, Debug, Unpin =>
+    Engine, Engine<MemoryFiles>, Engine<Arc<MemoryFiles>>, FolderFiles,
+);
+none_is!(Clone => Engine, Engine<MemoryFiles>, FolderFiles);
+all_are!(Files => FolderFiles, MemoryFiles, Arc<MemoryFiles>, Arc<dyn Files>);
+all_are!(Send, Sync, Debug, Clone, Default, Unpin => Entries, MemoryFiles, Options, Purged, Stats);
+all_are!(
     Send, Sync, Debug, Clone, PartialEq, Eq, Hash, Unpin =>
+    Ask, Options, Purged, QueueStats, Stats, Unsynced,
     Block, Content, Entry, Error, ErrorKind, FileId, FilePart<'static>, Item, Kept, LogFile, Pair,
     Queue, Stage, Summary, Version,
 );
@@ -56,7 +66,9 @@ all_are!(Display => Error, ErrorKind, FileId, Queue, Tables, Version);
 all_are!(TryFrom<u8> => ErrorKind, Queue, Version);
 all_are!(std::error::Error => Error);
 all_are!(Iterator, FusedIterator, Debug => BatchIter<'static>, BatchIntoIter, Batches<'static>);
+all_are!(Iterator, FusedIterator, ExactSizeIterator, DoubleEndedIterator => Entries);
 all_are!(ExactSizeIterator, DoubleEndedIterator => BatchIter<'static>, BatchIntoIter);
+all_are!(Copy, Default => Purged, QueueStats, Stats, Unsynced);
 all_are!(Send, Sync, Clone => Batches<'static>);
 
 #[test]

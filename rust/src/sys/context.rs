@@ -26,7 +26,7 @@ impl ContextHandle {
     }
 
     /// Gives the library's handle away.
-    fn into_raw(self) -> Handle {
+    pub(super) fn into_raw(self) -> Handle {
         let handle = self.0;
         mem::forget(self);
         handle

@@ -86,13 +86,7 @@ impl SlotHandle {
         let is_found = with(&self.0, |slot| unsafe {
             raft_ffi_slot_summary(slot, region, &mut summary)
         });
-        is_found.then(|| Summary {
-            entries: summary.entries,
-            keys: summary.keys,
-            first_index: summary.first.number(),
-            append_seq: summary.append_seq.number(),
-            rewrite_seq: summary.rewrite_seq.number(),
-        })
+        is_found.then(|| summary.into())
     }
 
     /// Lists the regions that were cleaned.

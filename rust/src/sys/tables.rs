@@ -56,13 +56,7 @@ impl TablesHandle {
         let is_found = with(&self.0, |tables| unsafe {
             raft_ffi_tables_summary(tables, region, &mut summary)
         });
-        is_found.then(|| Summary {
-            entries: summary.entries,
-            keys: summary.keys,
-            first_index: summary.first.number(),
-            append_seq: summary.append_seq.number(),
-            rewrite_seq: summary.rewrite_seq.number(),
-        })
+        is_found.then(|| summary.into())
     }
 
     /// Lists the regions that have a table.

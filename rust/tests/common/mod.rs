@@ -3,8 +3,13 @@
 #![allow(dead_code)]
 
 use raft_recover::{Block, Entry, FileId, FilePart, LogBatch, LogFile, Queue, Version, crc32};
-use std::fs;
-use std::path::Path;
+use std::path::{Path, PathBuf};
+use std::sync::atomic::{AtomicU64, Ordering::Relaxed};
+use std::{env, fs, process};
+
+pub mod both;
+pub mod hooked;
+pub mod model;
 
 /// A file of the append queue, signed.
 pub fn file(seq: u64) -> LogFile {
@@ -94,4 +99,37 @@ pub fn with_group_marker(mut bytes: Vec<u8>) -> Vec<u8> {
         *byte ^= change;
     }
     bytes
+}
+
+/// A folder of this test's own, in memory where the system has such ones. It is deleted at the end.
+pub struct TempFolder(PathBuf);
+
+impl TempFolder {
+    pub fn new() -> TempFolder {
+        static COUNT: AtomicU64 = AtomicU64::new(0);
+        let name = format!(
+            "raft-recover-{}-{}",
+            process::id(),
+            COUNT.fetch_add(1, Relaxed)
+        );
+        let memory = Path::new("/dev/shm");
+        let room = if memory.is_dir() {
+            memory.to_owned()
+        } else {
+            env::temp_dir()
+        };
+        let path = room.join(name);
+        fs::create_dir(&path).unwrap();
+        TempFolder(path)
+    }
+
+    pub fn path(&self) -> &Path {
+        &self.0
+    }
+}
+
+impl Drop for TempFolder {
+    fn drop(&mut self) {
+        let _ = fs::remove_dir_all(&self.0);
+    }
 }

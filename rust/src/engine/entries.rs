@@ -1,0 +1,163 @@
+//! Entries that were read.
+
+use crate::sys::block_entries;
+use crate::{Block, Entry, Error, Files, Result};
+use std::fmt;
+use std::iter::FusedIterator;
+use std::ops::Range;
+use std::vec;
+
+/// The bytes of entries of a region, in the order of their indexes.
+///
+/// All of them were read, with their checksums, so that nothing written later shows.
+///
+/// ```
+/// use raft_recover::{Engine, LogBatch, MemoryFiles, Options};
+///
+/// let engine = Engine::with_files(MemoryFiles::new(), Options::new())?;
+/// let mut batch = LogBatch::new()?;
+/// batch.add_entries(7, 10, &["one", "two", "three"])?;
+/// engine.write(&mut batch, false)?;
+///
+/// let mut entries = engine.entries(7, 11..)?;
+/// assert_eq!((entries.len(), entries.index()), (2, Some(11)));
+/// assert_eq!(entries.next().unwrap(), b"two");
+/// assert_eq!(entries.next().unwrap(), b"three");
+/// assert_eq!((entries.next(), entries.index()), (None, None));
+/// # Ok::<(), raft_recover::Error>(())
+/// ```
+#[derive(Clone, Default)]
+pub struct Entries {
+    /// The entry bytes of the blocks that hold them.
+    blocks: Vec<Vec<u8>>,
+    rest: vec::IntoIter<Place>,
+}
+
+/// Where the bytes of an entry are.
+#[derive(Clone)]
+struct Place {
+    index: u64,
+    block: usize,
+    bytes: Range<usize>,
+}
+
+impl Entries {
+    /// Reads entries by their blocks, each of them once.
+    ///
+    /// # Errors
+    ///
+    /// `Corruption` where no sound block with the bytes of an entry stands at its place, `Io`, `Memory`.
+    pub(super) fn read(files: &impl Files, entries: &[Entry]) -> Result<Entries> {
+        let (mut blocks, mut last) = (Vec::<Vec<u8>>::new(), None);
+        let mut places = Vec::new();
+        places
+            .try_reserve_exact(entries.len())
+            .map_err(|_| Error::memory())?;
+        for entry in entries {
+            if last != Some(entry.block) {
+                blocks.push(read_entry_bytes(files, entry.block)?);
+                last = Some(entry.block);
+            }
+            let block = blocks.len() - 1;
+            let bytes = bytes_of(entry, blocks[block].len())?;
+            let index = entry.index;
+            places.push(Place {
+                index,
+                block,
+                bytes,
+            });
+        }
+        Ok(Entries {
+            blocks,
+            rest: places.into_iter(),
+        })
+    }
+
+    /// Returns the index of the entry that comes next, if one does.
+    #[must_use]
+    pub fn index(&self) -> Option<u64> {
+        self.rest.as_slice().first().map(|place| place.index)
+    }
+
+    /// Returns the bytes at a place.
+    fn bytes(&self, place: Place) -> Vec<u8> {
+        self.blocks[place.block][place.bytes].to_vec()
+    }
+}
+
+impl Iterator for Entries {
+    type Item = Vec<u8>;
+
+    fn next(&mut self) -> Option<Vec<u8>> {
+        let place = self.rest.next()?;
+        Some(self.bytes(place))
+    }
+
+    fn size_hint(&self) -> (usize, Option<usize>) {
+        self.rest.size_hint()
+    }
+}
+
+impl DoubleEndedIterator for Entries {
+    fn next_back(&mut self) -> Option<Vec<u8>> {
+        let place = self.rest.next_back()?;
+        Some(self.bytes(place))
+    }
+}
+
+impl ExactSizeIterator for Entries {}
+
+impl FusedIterator for Entries {}
+
+impl fmt::Debug for Entries {
+    /// Shows how many entries are left, and the index of the next one.
+    fn fmt(&self, f: &mut fmt::Formatter<'_>) -> fmt::Result {
+        f.debug_struct("Entries")
+            .field("len", &self.len())
+            .field("index", &self.index())
+            .finish_non_exhaustive()
+    }
+}
+
+/// Reads the bytes of a block.
+///
+/// # Errors
+///
+/// `Io`, `Memory`.
+pub(super) fn read_block(files: &impl Files, block: Block) -> Result<Vec<u8>> {
+    let mut bytes = Vec::new();
+    bytes
+        .try_reserve_exact(block.len)
+        .map_err(|_| Error::memory())?;
+    bytes.resize(block.len, 0);
+    if block.len > 0 {
+        files
+            .read(block.file, block.offset, &mut bytes)
+            .map_err(|e| {
+                Error::system("the block can't be read", e).at(block.file, block.offset)
+            })?;
+    }
+    Ok(bytes)
+}
+
+/// Reads the entry bytes of a block, and tests their checksum. A block of no bytes has none.
+pub(super) fn read_entry_bytes(files: &impl Files, block: Block) -> Result<Vec<u8>> {
+    let mut bytes = read_block(files, block)?;
+    if block.len > 0 {
+        let len = block_entries(&bytes).map_err(|e| e.at(block.file, block.offset))?;
+        bytes.truncate(len);
+    }
+    Ok(bytes)
+}
+
+/// Returns where in the entry bytes of its block, which are so many, those of an entry are.
+fn bytes_of(entry: &Entry, len: usize) -> Result<Range<usize>> {
+    let from = entry.offset as usize;
+    let end = from.saturating_add(entry.len as usize);
+    if end > len {
+        let Block { file, offset, .. } = entry.block;
+        let text = "the bytes of an entry end behind those of its block";
+        return Err(Error::corruption(file, offset, text));
+    }
+    Ok(from..end)
+}

@@ -1,0 +1,157 @@
+//! The files that an engine writes.
+
+use crate::{FileId, Queue};
+use std::io;
+use std::sync::Arc;
+
+/// The files of both queues of an engine, by what it asks of a disk. [`FolderFiles`] keeps them in a folder, and [`MemoryFiles`]
+/// in memory.
+///
+/// An engine calls [`list`](Files::list) for each queue, and reads the files that it names. From then on the calls that change
+/// something come one after another, never two at once, and [`read`](Files::read) comes from any thread at any time. After an
+/// `Err` of a call that changes something an engine makes no further one.
+///
+/// That nothing is lost whenever the machine stops is proved of the calls alone, and of a disk that does with them what an
+/// implementor answers for:
+///
+/// - Of bytes that weren't synced a front stands when the machine stops: no hole, and no page of zeros in front of others. So
+///   files are neither made longer beforehand nor used again. Bytes that were synced aren't harmed by those behind them.
+/// - [`sync`](Files::sync) makes the names of new files and deletions last too, as a sync of the folder does.
+///   [`rotate`](Files::rotate) first syncs the file that it closes. [`truncate`](Files::truncate) is on the disk when it returns.
+/// - Files that are deleted go in the order in which that was asked, so that no stop leaves an older file where a younger one
+///   is gone.
+/// - After a call that failed half way either all is as before, or every later call that changes something fails. After a sync
+///   that failed no later one can be believed: a system may take bytes for synced that it has dropped. So the machine is started
+///   again before such files are listed.
+/// - [`read`](Files::read) returns the bytes that were written at the place, or fails.
+/// - All that [`list`](Files::list) names is on the disk, with its bytes: a process that was killed may have left bytes that a
+///   reader sees and a failure of power takes away. So files that are found are synced first, and their folder.
+/// - No two engines have the same files open.
+///
+/// Another disk is made of one that is there:
+///
+/// ```
+/// use raft_recover::{Engine, FileId, Files, LogBatch, MemoryFiles, Options, Queue};
+/// use std::io;
+/// use std::sync::atomic::{AtomicUsize, Ordering::Relaxed};
+///
+/// /// Files that count the syncs.
+/// struct Counting(MemoryFiles, AtomicUsize);
+///
+/// impl Files for Counting {
+///     fn list(&self, queue: Queue) -> io::Result<Vec<(u64, u64)>> {
+///         self.0.list(queue)
+///     }
+///     fn write(&self, file: FileId, bytes: &[u8]) -> io::Result<()> {
+///         self.0.write(file, bytes)
+///     }
+///     fn sync(&self, queue: Queue) -> io::Result<()> {
+///         self.1.fetch_add(1, Relaxed);
+///         self.0.sync(queue)
+///     }
+///     fn rotate(&self, file: FileId) -> io::Result<()> {
+///         self.0.rotate(file)
+///     }
+///     fn delete(&self, file: FileId) -> io::Result<()> {
+///         self.0.delete(file)
+///     }
+///     fn truncate(&self, file: FileId, len: u64) -> io::Result<()> {
+///         self.0.truncate(file, len)
+///     }
+///     fn read(&self, file: FileId, offset: u64, bytes: &mut [u8]) -> io::Result<()> {
+///         self.0.read(file, offset, bytes)
+///     }
+/// }
+///
+/// let engine = Engine::with_files(Counting(MemoryFiles::new(), 0.into()), Options::new())?;
+/// let before = engine.files().1.load(Relaxed);
+/// let mut batch = LogBatch::new()?;
+/// batch.put(7, b"key", b"value")?;
+/// engine.write(&mut batch, true)?;
+/// assert_eq!(engine.files().1.load(Relaxed) - before, 1);
+/// # Ok::<(), raft_recover::Error>(())
+/// ```
+///
+/// [`FolderFiles`]: crate::FolderFiles
+/// [`MemoryFiles`]: crate::MemoryFiles
+pub trait Files: Send + Sync {
+    /// Returns the files of a queue, oldest first: the number of each, and how many bytes it has.
+    ///
+    /// # Errors
+    ///
+    /// Those of the system.
+    fn list(&self, queue: Queue) -> io::Result<Vec<(u64, u64)>>;
+
+    /// Writes bytes behind those of a file, which is the last one of its queue.
+    ///
+    /// # Errors
+    ///
+    /// Those of the system: some of the bytes may be there.
+    fn write(&self, file: FileId, bytes: &[u8]) -> io::Result<()>;
+
+    /// Makes all that was asked of a queue so far outlast a stop of the machine.
+    ///
+    /// # Errors
+    ///
+    /// Those of the system.
+    fn sync(&self, queue: Queue) -> io::Result<()>;
+
+    /// Begins a new file of a queue, behind the last one, whose bytes are synced then.
+    ///
+    /// # Errors
+    ///
+    /// Those of the system: the file may be there.
+    fn rotate(&self, file: FileId) -> io::Result<()>;
+
+    /// Deletes the oldest file of a queue, which isn't its last one.
+    ///
+    /// # Errors
+    ///
+    /// Those of the system: the file may be gone.
+    fn delete(&self, file: FileId) -> io::Result<()>;
+
+    /// Cuts a file, which is the last one of its queue, to `len` bytes, if it has more.
+    ///
+    /// # Errors
+    ///
+    /// Those of the system.
+    fn truncate(&self, file: FileId, len: u64) -> io::Result<()>;
+
+    /// Fills `bytes` with those of a file from `offset` on.
+    ///
+    /// # Errors
+    ///
+    /// Those of the system, where the file is gone or ends before that too.
+    fn read(&self, file: FileId, offset: u64, bytes: &mut [u8]) -> io::Result<()>;
+}
+
+/// The files are those of what stands behind it.
+impl<F: Files + ?Sized> Files for Arc<F> {
+    fn list(&self, queue: Queue) -> io::Result<Vec<(u64, u64)>> {
+        (**self).list(queue)
+    }
+
+    fn write(&self, file: FileId, bytes: &[u8]) -> io::Result<()> {
+        (**self).write(file, bytes)
+    }
+
+    fn sync(&self, queue: Queue) -> io::Result<()> {
+        (**self).sync(queue)
+    }
+
+    fn rotate(&self, file: FileId) -> io::Result<()> {
+        (**self).rotate(file)
+    }
+
+    fn delete(&self, file: FileId) -> io::Result<()> {
+        (**self).delete(file)
+    }
+
+    fn truncate(&self, file: FileId, len: u64) -> io::Result<()> {
+        (**self).truncate(file, len)
+    }
+
+    fn read(&self, file: FileId, offset: u64, bytes: &mut [u8]) -> io::Result<()> {
+        (**self).read(file, offset, bytes)
+    }
+}

@@ -1,0 +1,353 @@
+//! The files of an engine in memory.
+
+use super::{Files, locks};
+use crate::{FileId, Queue};
+use std::collections::VecDeque;
+use std::sync::{Arc, Mutex};
+use std::{fmt, io};
+
+/// Something that was asked of files.
+#[derive(Clone, PartialEq, Eq, Hash, Debug)]
+#[non_exhaustive]
+pub enum Ask {
+    /// These bytes behind those of this file.
+    Write(FileId, Vec<u8>),
+    /// What was asked of the queue is to outlast a stop of the machine.
+    Sync(Queue),
+    /// A new file.
+    Begin(FileId),
+    /// The oldest file of its queue is to go.
+    Delete(FileId),
+    /// The file is to have this many bytes, if it has more.
+    Cut(FileId, u64),
+}
+
+impl Ask {
+    /// Returns the queue that it is asked of.
+    #[must_use]
+    pub const fn queue(&self) -> Queue {
+        match self {
+            Ask::Sync(queue) => *queue,
+            Ask::Write(file, _) | Ask::Begin(file) | Ask::Delete(file) | Ask::Cut(file, _) => {
+                file.queue
+            }
+        }
+    }
+}
+
+/// How much of what was asked of a queue and wasn't synced is done. By default it is nothing.
+#[derive(Clone, Copy, PartialEq, Eq, Hash, Debug, Default)]
+pub struct Unsynced {
+    /// Steps in the order in which they were asked: each byte that was written, each cut, and each new file is one.
+    pub steps: usize,
+    /// Files that were deleted, oldest first.
+    pub deletions: usize,
+}
+
+/// The files of both queues in memory, for tests. What was asked of them is kept, and each stop of the machine can be made of it.
+///
+/// A clone is another handle of the same files.
+///
+/// ```
+/// use raft_recover::{Engine, LogBatch, MemoryFiles, Options, Queue, Unsynced};
+///
+/// let files = MemoryFiles::new();
+/// let engine = Engine::with_files(files.clone(), Options::new())?;
+/// let mut batch = LogBatch::new()?;
+/// batch.put(7, b"key", b"old")?;
+/// engine.write(&mut batch, true)?;
+/// batch.put(7, b"key", b"new")?;
+/// engine.write(&mut batch, false)?;
+///
+/// let asked = files.asks().len();
+/// let most = files.unsynced(asked, Queue::Append); // the bytes of the second batch
+/// for steps in 0..=most.steps {
+///     let front = Unsynced { steps, ..most };
+///     let left = files.left(asked, front, Unsynced::default());
+///     let engine = Engine::with_files(left, Options::new())?;
+///     let expected: &[u8] = if front == most { b"new" } else { b"old" };
+///     assert_eq!(engine.get(7, b"key")?.unwrap(), expected);
+/// }
+/// # Ok::<(), raft_recover::Error>(())
+/// ```
+#[derive(Clone, Default)]
+pub struct MemoryFiles {
+    held: Arc<Mutex<Held>>,
+}
+
+/// Files, those that were found first, and all that was asked since then.
+#[derive(Default)]
+struct Held {
+    found: [Vec<(u64, Vec<u8>)>; 2],
+    files: [VecDeque<(u64, Vec<u8>)>; 2],
+    asks: Vec<Ask>,
+}
+
+impl MemoryFiles {
+    /// Makes files of which nothing was asked: there are none.
+    #[must_use]
+    pub fn new() -> MemoryFiles {
+        MemoryFiles::default()
+    }
+
+    /// Makes files that are found when the machine starts: the number and the bytes of each, oldest first.
+    #[must_use]
+    pub fn found(append: Vec<(u64, Vec<u8>)>, rewrite: Vec<(u64, Vec<u8>)>) -> MemoryFiles {
+        let found = [append, rewrite];
+        let files = found.clone().map(VecDeque::from);
+        let held = Held {
+            found,
+            files,
+            asks: Vec::new(),
+        };
+        MemoryFiles {
+            held: Arc::new(Mutex::new(held)),
+        }
+    }
+
+    /// Returns the files of a queue: the number and the bytes of each, oldest first.
+    #[must_use]
+    pub fn files(&self, queue: Queue) -> Vec<(u64, Vec<u8>)> {
+        let held = locks::lock(&self.held);
+        held.files[at(queue)].iter().cloned().collect()
+    }
+
+    /// Returns what was asked so far, oldest first. It is noted once it is done.
+    #[must_use]
+    pub fn asks(&self) -> Vec<Ask> {
+        locks::lock(&self.held).asks.clone()
+    }
+
+    /// Returns how much was asked so far.
+    #[must_use]
+    pub fn asked(&self) -> usize {
+        locks::lock(&self.held).asks.len()
+    }
+
+    /// Returns how much of a queue isn't synced once the first `asks` of what was asked are done.
+    #[must_use]
+    pub fn unsynced(&self, asks: usize, queue: Queue) -> Unsynced {
+        let held = locks::lock(&self.held);
+        let asks = held.asks.iter().take(asks);
+        asks.filter(|ask| ask.queue() == queue)
+            .fold(Unsynced::default(), |unsynced, ask| unsynced.and(ask))
+    }
+
+    /// Returns the files that a stop of the machine leaves once the first `asks` of what was asked are done: of each queue what
+    /// was synced, and so much of what wasn't.
+    #[must_use]
+    pub fn left(&self, asks: usize, append: Unsynced, rewrite: Unsynced) -> MemoryFiles {
+        let held = locks::lock(&self.held);
+        let left = |queue, stays| {
+            let mut queue_left = Left::of(&held.found[at(queue)]);
+            for ask in held.asks.iter().take(asks) {
+                if ask.queue() == queue {
+                    queue_left.take(ask);
+                }
+            }
+            queue_left.after_stop(stays)
+        };
+        let append = left(Queue::Append, append);
+        MemoryFiles::found(append, left(Queue::Rewrite, rewrite))
+    }
+}
+
+impl Files for MemoryFiles {
+    fn list(&self, queue: Queue) -> io::Result<Vec<(u64, u64)>> {
+        let held = locks::lock(&self.held);
+        let files = held.files[at(queue)].iter();
+        Ok(files
+            .map(|(seq, bytes)| (*seq, bytes.len() as u64))
+            .collect())
+    }
+
+    fn write(&self, file: FileId, bytes: &[u8]) -> io::Result<()> {
+        let mut held = locks::lock(&self.held);
+        held.last(file)?.extend_from_slice(bytes);
+        held.asks.push(Ask::Write(file, bytes.to_vec()));
+        Ok(())
+    }
+
+    fn sync(&self, queue: Queue) -> io::Result<()> {
+        locks::lock(&self.held).asks.push(Ask::Sync(queue));
+        Ok(())
+    }
+
+    fn rotate(&self, file: FileId) -> io::Result<()> {
+        let mut held = locks::lock(&self.held);
+        let files = &mut held.files[at(file.queue)];
+        if files.back().is_some_and(|(last, _)| *last >= file.seq) {
+            return refused("a new file has a greater number than the last one");
+        }
+        files.push_back((file.seq, Vec::new()));
+        held.asks.push(Ask::Begin(file));
+        Ok(())
+    }
+
+    fn delete(&self, file: FileId) -> io::Result<()> {
+        let mut held = locks::lock(&self.held);
+        let files = &mut held.files[at(file.queue)];
+        if files.len() < 2 || files[0].0 != file.seq {
+            return refused("the oldest file goes first, and the last one stays");
+        }
+        files.pop_front();
+        held.asks.push(Ask::Delete(file));
+        Ok(())
+    }
+
+    fn truncate(&self, file: FileId, len: u64) -> io::Result<()> {
+        let mut held = locks::lock(&self.held);
+        cut(held.last(file)?, len);
+        held.asks.push(Ask::Cut(file, len));
+        Ok(())
+    }
+
+    fn read(&self, file: FileId, offset: u64, bytes: &mut [u8]) -> io::Result<()> {
+        let held = locks::lock(&self.held);
+        let mut files = held.files[at(file.queue)].iter();
+        let Some((_, held)) = files.find(|(seq, _)| *seq == file.seq) else {
+            return Err(io::ErrorKind::NotFound.into());
+        };
+        let from = usize::try_from(offset).unwrap_or(usize::MAX);
+        let found = held.get(from..).and_then(|rest| rest.get(..bytes.len()));
+        bytes.copy_from_slice(found.ok_or(io::ErrorKind::UnexpectedEof)?);
+        Ok(())
+    }
+}
+
+impl Held {
+    /// Returns the bytes of a file, which is the last one of its queue.
+    fn last(&mut self, file: FileId) -> io::Result<&mut Vec<u8>> {
+        match self.files[at(file.queue)].back_mut() {
+            Some((seq, bytes)) if *seq == file.seq => Ok(bytes),
+            _ => refused("the file isn't the last one of its queue"),
+        }
+    }
+}
+
+impl Unsynced {
+    /// Returns how much isn't synced once this is done too.
+    fn and(self, ask: &Ask) -> Unsynced {
+        let Unsynced { steps, deletions } = self;
+        match ask {
+            Ask::Sync(_) => Unsynced::default(),
+            Ask::Write(_, bytes) => Unsynced {
+                steps: steps + bytes.len(),
+                deletions,
+            },
+            Ask::Cut(..) => Unsynced {
+                steps: steps + 1,
+                deletions,
+            },
+            // what stands in front of a new file was synced when it was begun
+            Ask::Begin(_) => Unsynced {
+                steps: 1,
+                deletions,
+            },
+            Ask::Delete(_) => Unsynced {
+                steps,
+                deletions: deletions + 1,
+            },
+        }
+    }
+}
+
+/// What a stop of the machine leaves of a queue.
+struct Left<'a> {
+    /// The files that stand for certain, those that were deleted too.
+    certain: Vec<(u64, Vec<u8>)>,
+    /// What was asked since then, in order.
+    since: Vec<&'a Ask>,
+    /// How many of the files were deleted for certain.
+    gone: usize,
+    /// How many were deleted since then.
+    going: usize,
+}
+
+impl<'a> Left<'a> {
+    /// Makes what is left of found files.
+    fn of(found: &[(u64, Vec<u8>)]) -> Left<'a> {
+        Left {
+            certain: found.to_vec(),
+            since: Vec::new(),
+            gone: 0,
+            going: 0,
+        }
+    }
+
+    /// Takes in what was asked next.
+    fn take(&mut self, ask: &'a Ask) {
+        match ask {
+            Ask::Sync(_) => {
+                self.settle(usize::MAX);
+                self.gone += std::mem::take(&mut self.going);
+            }
+            Ask::Begin(_) => {
+                self.settle(usize::MAX);
+                self.since.push(ask);
+            }
+            Ask::Delete(_) => self.going += 1,
+            Ask::Write(..) | Ask::Cut(..) => self.since.push(ask),
+        }
+    }
+
+    /// Does the first steps of what was asked since, and drops the rest.
+    fn settle(&mut self, mut steps: usize) {
+        for ask in self.since.drain(..) {
+            let last = self.certain.last_mut().map(|(_, bytes)| bytes);
+            match (ask, last) {
+                (Ask::Write(_, bytes), Some(last)) => {
+                    let front = bytes.len().min(steps);
+                    last.extend_from_slice(&bytes[..front]);
+                    steps -= front;
+                }
+                (Ask::Cut(_, len), Some(last)) if steps > 0 => {
+                    cut(last, *len);
+                    steps -= 1;
+                }
+                (Ask::Begin(file), _) if steps > 0 => {
+                    self.certain.push((file.seq, Vec::new()));
+                    steps -= 1;
+                }
+                _ => return,
+            }
+            if steps == 0 {
+                return;
+            }
+        }
+    }
+
+    /// Returns the files once so much more of it is done.
+    fn after_stop(mut self, stays: Unsynced) -> Vec<(u64, Vec<u8>)> {
+        self.settle(stays.steps);
+        let gone = self.gone + self.going.min(stays.deletions);
+        self.certain.split_off(gone.min(self.certain.len()))
+    }
+}
+
+impl fmt::Debug for MemoryFiles {
+    /// Shows how much was asked.
+    fn fmt(&self, f: &mut fmt::Formatter<'_>) -> fmt::Result {
+        f.debug_struct("MemoryFiles")
+            .field("asked", &self.asked())
+            .finish_non_exhaustive()
+    }
+}
+
+/// Returns where what is kept of a queue stands.
+const fn at(queue: Queue) -> usize {
+    match queue {
+        Queue::Append => 0,
+        Queue::Rewrite => 1,
+    }
+}
+
+/// Cuts bytes to a length, if they are more.
+fn cut(bytes: &mut Vec<u8>, len: u64) {
+    bytes.truncate(usize::try_from(len).unwrap_or(usize::MAX));
+}
+
+/// Refuses what no engine asks.
+fn refused<T>(why: &str) -> io::Result<T> {
+    Err(io::Error::new(io::ErrorKind::InvalidInput, why))
+}

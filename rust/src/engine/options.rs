@@ -1,0 +1,78 @@
+//! How an engine is opened, and when it begins and clears files.
+
+use crate::Version;
+use std::num::NonZero;
+use std::thread;
+
+/// How an engine is opened, and when it begins new files and clears old ones.
+///
+/// ```
+/// use raft_recover::{Options, Version};
+///
+/// let options = Options::new().recovery_threads(2).target_file_size(1 << 20);
+/// assert_eq!(options.version, Version::V2);
+/// assert_eq!(options.target_file_size, 1 << 20);
+/// ```
+#[derive(Clone, PartialEq, Eq, Hash, Debug)]
+#[non_exhaustive]
+#[must_use]
+pub struct Options {
+    /// The format of the files. Those of the other one are refused.
+    pub version: Version,
+    /// On how many threads the files are read when they are opened, the caller's with them. 0 are 1.
+    pub recovery_threads: usize,
+    /// With so many bytes the last append file is closed by the write that reaches them, and a new one begun.
+    pub target_file_size: u64,
+    /// Where the files of a queue have more bytes than this, `Engine::purge` moves what it needs to let old ones go.
+    pub purge_above: u64,
+}
+
+impl Options {
+    /// Files of version 2 of 64 MiB, read on up to four threads, with up to 1 GiB in each queue.
+    pub fn new() -> Options {
+        Options {
+            version: Version::V2,
+            recovery_threads: thread::available_parallelism()
+                .map_or(1, NonZero::get)
+                .min(4),
+            target_file_size: 64 << 20,
+            purge_above: 1 << 30,
+        }
+    }
+
+    /// Sets the format of the files.
+    pub fn version(self, version: Version) -> Options {
+        Options { version, ..self }
+    }
+
+    /// Sets on how many threads the files are read when they are opened.
+    pub fn recovery_threads(self, recovery_threads: usize) -> Options {
+        Options {
+            recovery_threads,
+            ..self
+        }
+    }
+
+    /// Sets with how many bytes the last append file is closed.
+    pub fn target_file_size(self, target_file_size: u64) -> Options {
+        Options {
+            target_file_size,
+            ..self
+        }
+    }
+
+    /// Sets above how many bytes of a queue's files `Engine::purge` moves what it needs.
+    pub fn purge_above(self, purge_above: u64) -> Options {
+        Options {
+            purge_above,
+            ..self
+        }
+    }
+}
+
+impl Default for Options {
+    /// Those of [`Options::new`].
+    fn default() -> Options {
+        Options::new()
+    }
+}

@@ -1,0 +1,140 @@
+//! What an engine orders is carried out, in turn.
+
+use super::{Engine, locks};
+use crate::sys::{EngineHandle, Order};
+use crate::{Error, ErrorKind, FileId, Files, Queue, Result};
+use std::sync::MutexGuard;
+use std::thread;
+
+/// The turn of a thread, which has it to itself: it makes calls that order something, and carries the orders out. An engine
+/// on which it panics has failed.
+pub(super) struct Turn<'a, F: Files> {
+    engine: &'a Engine<F>,
+    _guard: MutexGuard<'a, ()>,
+}
+
+impl<F: Files> Drop for Turn<'_, F> {
+    fn drop(&mut self) {
+        if thread::panicking() {
+            self.engine.fail(Error::new(
+                ErrorKind::Other,
+                "Other Error: a thread panicked in its turn",
+            ));
+        }
+    }
+}
+
+impl<F: Files> Engine<F> {
+    /// Waits for a turn.
+    ///
+    /// # Errors
+    ///
+    /// `Failed` where the engine has failed.
+    pub(super) fn turn(&self) -> Result<Turn<'_, F>> {
+        let turn = Turn {
+            engine: self,
+            _guard: locks::lock(&self.turn),
+        };
+        self.intact()?;
+        Ok(turn)
+    }
+
+    /// Tests that the engine hasn't failed.
+    ///
+    /// # Errors
+    ///
+    /// `Failed`, with the reason and its place.
+    pub(super) fn intact(&self) -> Result<()> {
+        match self.failure.get() {
+            None => Ok(()),
+            Some(reason) => Err(reason.as_failure()),
+        }
+    }
+
+    /// Notes why the engine has failed, and returns the reason.
+    pub(super) fn fail(&self, reason: Error) -> Error {
+        self.failure.get_or_init(|| reason.clone());
+        reason
+    }
+}
+
+impl<F: Files> Turn<'_, F> {
+    /// Makes a call that may order something, and carries that out.
+    ///
+    /// # Errors
+    ///
+    /// Those of the call; `Io` where an order can't be carried out, or `Memory`: the engine has failed then.
+    pub(super) fn call<T>(&self, call: impl FnOnce(&mut EngineHandle) -> Result<T>) -> Result<T> {
+        let mut tables = self.engine.tables();
+        let result = call(&mut tables);
+        if !tables.is_intact() {
+            let reason = result.err().unwrap_or_else(Error::failed);
+            return Err(self.engine.fail(reason));
+        }
+        let orders = tables.take_orders();
+        drop(tables);
+        self.carry_out(orders).map_err(|e| self.engine.fail(e))?;
+        result
+    }
+
+    /// Carries orders out, one after another.
+    fn carry_out(&self, orders: Result<Vec<Order>>) -> Result<()> {
+        for order in orders? {
+            match order {
+                Order::Write(queue, bytes) => self.write(queue, &bytes)?,
+                Order::Begin(file) => self.begin(file)?,
+                Order::Sync(queue) => self.sync(queue)?,
+                Order::DeleteOldest(queue) => self.delete_oldest(queue)?,
+                Order::Cut(queue, len) => self.cut(queue, len)?,
+            }
+        }
+        Ok(())
+    }
+
+    fn write(&self, queue: Queue, bytes: &[u8]) -> Result<()> {
+        let (file, len) = self.last(queue)?;
+        let written = self.engine.files.write(file, bytes);
+        written.map_err(|e| Error::system("a batch can't be written", e).at(file, len))?;
+        let len = len + bytes.len() as u64;
+        locks::lock(&self.engine.numbers).set_len(file, len);
+        Ok(())
+    }
+
+    fn begin(&self, file: FileId) -> Result<()> {
+        let begun = self.engine.files.rotate(file);
+        begun.map_err(|e| Error::system("the file can't be begun", e).at(file, 0))?;
+        locks::lock(&self.engine.numbers).set_len(file, 0);
+        Ok(())
+    }
+
+    fn sync(&self, queue: Queue) -> Result<()> {
+        let (file, len) = self.last(queue)?;
+        let synced = self.engine.files.sync(queue);
+        synced.map_err(|e| Error::system("the file can't be synced", e).at(file, len))?;
+        locks::lock(&self.engine.numbers).syncs += 1;
+        Ok(())
+    }
+
+    fn delete_oldest(&self, queue: Queue) -> Result<()> {
+        let oldest = locks::lock(&self.engine.numbers).files(queue).next();
+        let (file, _) = oldest.ok_or_else(Error::failed)?;
+        let deleted = self.engine.files.delete(file);
+        deleted.map_err(|e| Error::system("the file can't be deleted", e).at(file, 0))?;
+        locks::lock(&self.engine.numbers).forget(file);
+        Ok(())
+    }
+
+    fn cut(&self, queue: Queue, len: u64) -> Result<()> {
+        let (file, old) = self.last(queue)?;
+        let cut = self.engine.files.truncate(file, len);
+        cut.map_err(|e| Error::system("the file can't be cut", e).at(file, len))?;
+        locks::lock(&self.engine.numbers).set_len(file, len.min(old));
+        Ok(())
+    }
+
+    /// Returns the last file of a queue, and how many bytes it has.
+    fn last(&self, queue: Queue) -> Result<(FileId, u64)> {
+        let last = locks::lock(&self.engine.numbers).last(queue);
+        last.ok_or_else(Error::failed)
+    }
+}

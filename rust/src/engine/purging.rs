@@ -1,0 +1,182 @@
+//! Records that move, and files that go.
+
+use super::entries::{read_block, read_entry_bytes};
+use super::orders::Turn;
+use super::{Engine, locks};
+use crate::sys::EngineHandle;
+use crate::{Block, Error, ErrorKind, Files, Queue, Result};
+use std::ops::AddAssign;
+
+/// How many bytes of blocks a rewriting reads at once, and of one region at least.
+const BLOCKS_AT_ONCE: usize = 8 << 20;
+
+/// How many files a purge deleted.
+#[derive(Clone, Copy, PartialEq, Eq, Hash, Debug, Default)]
+#[non_exhaustive]
+pub struct Purged {
+    /// Files of the append queue.
+    pub append_files: usize,
+    /// Files of the rewrite queue.
+    pub rewrite_files: usize,
+}
+
+impl AddAssign for Purged {
+    fn add_assign(&mut self, more: Purged) {
+        self.append_files += more.append_files;
+        self.rewrite_files += more.rewrite_files;
+    }
+}
+
+impl<F: Files> Engine<F> {
+    /// Begins a new file of the append queue. All that was written lasts then.
+    ///
+    /// # Errors
+    ///
+    /// `Full` where the last file has the greatest number, `Memory`. `Io`, `Failed`: the engine has failed.
+    pub fn rotate(&self) -> Result<()> {
+        self.turn()?.call(EngineHandle::rotate)
+    }
+
+    /// Begins a new file of the append queue where the last one is long enough. Where that is refused a later write tries again, or
+    /// finds that the engine has failed.
+    pub(super) fn rotate_if_due(&self, turn: &Turn<'_, F>) {
+        let last = locks::lock(&self.numbers).last(Queue::Append);
+        if last.is_some_and(|(_, len)| len > 0 && len >= self.options.target_file_size) {
+            let _ = turn.call(EngineHandle::rotate);
+        }
+    }
+
+    /// Moves what the tables have in append files up to the one of number `gate` to the rewrite queue, so that
+    /// [`Engine::purge`] can delete these files. What is read stays the same.
+    ///
+    /// # Errors
+    ///
+    /// `Full` where a region's entries have 2^31 bytes or more; `Corruption` where bytes were damaged since they were written;
+    /// `InvalidArgument` where a key is that of the group markers; `Io` where they can't be read; `Memory`. Some records may have
+    /// moved then. `Io` of a change, `Failed`: the engine has failed.
+    pub fn rewrite(&self, gate: u64) -> Result<()> {
+        let last = locks::lock(&self.numbers).last(Queue::Append);
+        let gate = last.map_or(gate, |(file, _)| gate.min(file.seq));
+        let mut lent = Vec::new();
+        while let Some(more) = self.rewrite_some(&self.turn()?, gate, &lent)? {
+            lent = more;
+        }
+        Ok(())
+    }
+
+    /// Moves some regions past a gate. Where there are more it returns the blocks that these had, which aren't those of before.
+    fn rewrite_some(
+        &self,
+        turn: &Turn<'_, F>,
+        gate: u64,
+        before: &[Block],
+    ) -> Result<Option<Vec<Block>>> {
+        let lent = self.lend(Some(gate), BLOCKS_AT_ONCE)?;
+        match turn.call(|tables| tables.rewrite(gate)) {
+            Err(e) if e.kind == ErrorKind::TryAgain && lent != before => Ok(Some(lent)),
+            Err(e) => Err(self.placed(e, &lent)),
+            Ok(()) => Ok(None),
+        }
+    }
+
+    /// Moves what the tables have in rewrite files to a new one of them, so that [`Engine::purge`] can delete the older ones.
+    /// What is read stays the same. It pays where much of what these files have was compacted since, and holds what is left in
+    /// memory.
+    ///
+    /// # Errors
+    ///
+    /// Those of [`Engine::rewrite`].
+    pub fn rewrite_again(&self) -> Result<()> {
+        let turn = self.turn()?;
+        let lent = self.lend(None, usize::MAX)?;
+        turn.call(EngineHandle::rewrite_again)
+            .map_err(|e| self.placed(e, &lent))
+    }
+
+    /// Lends the tables the blocks that are read by a rewriting up to the gate, or by one of rewritten records: those of whole
+    /// regions, up to so many bytes. Returns them.
+    fn lend(&self, gate: Option<u64>, max_size: usize) -> Result<Vec<Block>> {
+        let blocks = self.tables().moving_blocks(gate, max_size)?;
+        for block in &blocks {
+            let bytes = read_block(&self.files, *block)?;
+            self.tables().lend(*block, &bytes)?;
+        }
+        Ok(blocks)
+    }
+
+    /// Says of a refusal which of the blocks that were lent is damaged, if that is the reason.
+    fn placed(&self, refused: Error, lent: &[Block]) -> Error {
+        if refused.kind != ErrorKind::Corruption || refused.file.is_some() {
+            return refused;
+        }
+        let damaged = lent
+            .iter()
+            .find_map(|block| read_entry_bytes(&self.files, *block).err());
+        damaged.unwrap_or(refused)
+    }
+
+    /// Deletes the files that no table needs, and returns how many. Where those of a queue have more bytes than
+    /// [`Options::purge_above`] it first moves what it needs: in the append queue until half of that is left, in the rewrite
+    /// queue where it has twice as many bytes as when its records moved last, or more.
+    ///
+    /// Files are deleted here alone, so a program calls it now and then, best from a thread of its own: threads that write
+    /// wait while it moves records. Where there is nothing to do it asks nothing of the files.
+    ///
+    /// [`Options::purge_above`]: crate::Options::purge_above
+    ///
+    /// # Errors
+    ///
+    /// Those of [`Engine::rewrite`].
+    pub fn purge(&self) -> Result<Purged> {
+        let mut purged = self.delete_files()?;
+        if let Some(gate) = self.gate_due() {
+            self.rewrite(gate)?;
+            purged += self.delete_files()?;
+        }
+        if self.is_moving_again_due() {
+            self.rewrite_again()?;
+            purged += self.delete_files()?;
+            let mut numbers = locks::lock(&self.numbers);
+            numbers.after_moving_again = numbers.bytes(Queue::Rewrite);
+        }
+        Ok(purged)
+    }
+
+    /// Deletes the files that no table needs.
+    fn delete_files(&self) -> Result<Purged> {
+        let turn = self.turn()?;
+        Ok(Purged {
+            append_files: turn.call(EngineHandle::purge_expired_files)?,
+            rewrite_files: turn.call(EngineHandle::purge_rewrite_files)?,
+        })
+    }
+
+    /// Returns up to which append file records have to move so that half of what may stay is left, if there are too many bytes.
+    fn gate_due(&self) -> Option<u64> {
+        let numbers = locks::lock(&self.numbers);
+        let mut bytes = numbers.bytes(Queue::Append);
+        if bytes <= self.options.purge_above {
+            return None;
+        }
+        let (last, _) = numbers.last(Queue::Append)?;
+        let closed = numbers
+            .files(Queue::Append)
+            .filter(|(file, _)| *file != last);
+        let mut gate = None;
+        for (file, len) in closed {
+            if bytes <= self.options.purge_above / 2 {
+                break;
+            }
+            bytes -= len;
+            gate = Some(file.seq);
+        }
+        gate
+    }
+
+    /// Tests whether the rewrite queue has too many bytes, and so many more than when its records moved last.
+    fn is_moving_again_due(&self) -> bool {
+        let numbers = locks::lock(&self.numbers);
+        let bytes = numbers.bytes(Queue::Rewrite);
+        bytes > self.options.purge_above && bytes / 2 >= numbers.after_moving_again
+    }
+}

@@ -1,0 +1,348 @@
+//! The handle of an engine.
+
+use super::engine_calls::{
+    OrderNumbers, PlaceNumbers, raft_ffi_block_entries, raft_ffi_engine_drop,
+    raft_ffi_engine_entries, raft_ffi_engine_entry, raft_ffi_engine_first_index,
+    raft_ffi_engine_is_intact, raft_ffi_engine_last_index, raft_ffi_engine_lend,
+    raft_ffi_engine_live, raft_ffi_engine_moving_blocks, raft_ffi_engine_purge_expired_files,
+    raft_ffi_engine_purge_rewrite_files, raft_ffi_engine_regions, raft_ffi_engine_rewrite,
+    raft_ffi_engine_rewrite_again, raft_ffi_engine_rotate, raft_ffi_engine_summary,
+    raft_ffi_engine_sync, raft_ffi_engine_take_order, raft_ffi_engine_value, raft_ffi_engine_write,
+};
+use super::{
+    EntryNumbers, Handle, LogBatchHandle, Status, SummaryNumbers, checked, entries, listed,
+    make_room, remembered,
+};
+use crate::{Block, Entry, FileId, Queue, Result, Summary};
+use std::ops::Range;
+
+/// What is to be done to the files of a queue.
+#[derive(Debug)]
+pub(crate) enum Order {
+    /// These bytes behind those of the last file.
+    Write(Queue, Vec<u8>),
+    /// A new file of this number.
+    Begin(FileId),
+    /// All of the queue is to last.
+    Sync(Queue),
+    /// The oldest file goes.
+    DeleteOldest(Queue),
+    /// The last file is to have this many bytes, if it has more.
+    Cut(Queue, u64),
+}
+
+/// Holds an engine.
+#[derive(Debug)]
+pub(crate) struct EngineHandle {
+    handle: Handle,
+    /// The number of the order that comes next.
+    next_order: u64,
+}
+
+// SAFETY: the library proves that its handle may move to another thread.
+unsafe impl Send for EngineHandle {}
+
+impl EngineHandle {
+    /// Holds the engine of a handle that isn't empty.
+    pub(super) fn of(handle: Handle) -> EngineHandle {
+        EngineHandle {
+            handle,
+            next_order: 0,
+        }
+    }
+
+    /// Says whether every batch whose bytes were ordered was applied.
+    pub(crate) fn is_intact(&mut self) -> bool {
+        // SAFETY: the handle holds an engine.
+        unsafe { raft_ffi_engine_is_intact(&mut self.handle) }
+    }
+
+    /// Writes an open batch, which is empty afterwards.
+    pub(crate) fn write(&mut self, batch: &mut LogBatchHandle) -> Result<()> {
+        batch.check_open()?;
+        // SAFETY: the handles hold an engine and an open batch.
+        checked(|text, text_len| unsafe {
+            raft_ffi_engine_write(&mut self.handle, batch.as_ptr(), false, text, text_len)
+        })
+    }
+
+    /// Orders that all that was written lasts.
+    pub(crate) fn sync(&mut self) -> Result<()> {
+        self.call(|engine, text, text_len| unsafe { raft_ffi_engine_sync(engine, text, text_len) })
+    }
+
+    /// Begins an append file.
+    pub(crate) fn rotate(&mut self) -> Result<()> {
+        self.call(|engine, text, text_len| unsafe {
+            raft_ffi_engine_rotate(engine, text, text_len)
+        })
+    }
+
+    /// Moves what append files up to the gate have, as far as its blocks are lent.
+    pub(crate) fn rewrite(&mut self, gate: u64) -> Result<()> {
+        self.call(|engine, text, text_len| unsafe {
+            raft_ffi_engine_rewrite(engine, gate, text, text_len)
+        })
+    }
+
+    /// Moves what rewrite files have to a new one, as far as its blocks are lent.
+    pub(crate) fn rewrite_again(&mut self) -> Result<()> {
+        self.call(|engine, text, text_len| unsafe {
+            raft_ffi_engine_rewrite_again(engine, text, text_len)
+        })
+    }
+
+    /// Deletes the append files that no table needs.
+    pub(crate) fn purge_expired_files(&mut self) -> Result<usize> {
+        let mut count = 0;
+        self.call(|engine, text, text_len| unsafe {
+            raft_ffi_engine_purge_expired_files(engine, &mut count, text, text_len)
+        })?;
+        Ok(count)
+    }
+
+    /// Deletes the rewrite files that no table needs.
+    pub(crate) fn purge_rewrite_files(&mut self) -> Result<usize> {
+        let mut count = 0;
+        self.call(|engine, text, text_len| unsafe {
+            raft_ffi_engine_purge_rewrite_files(engine, &mut count, text, text_len)
+        })?;
+        Ok(count)
+    }
+
+    /// Makes a call that asks nothing but an engine.
+    fn call(&mut self, call: impl FnOnce(*mut Handle, *mut u8, usize) -> Status) -> Result<()> {
+        checked(|text, text_len| call(&mut self.handle, text, text_len))
+    }
+
+    /// Takes all orders, in order. Bytes that follow one another in a queue come in one.
+    pub(crate) fn take_orders(&mut self) -> Result<Vec<Order>> {
+        let mut orders = Vec::new();
+        let mut none = Vec::new();
+        loop {
+            let bytes = match orders.last_mut() {
+                Some(Order::Write(_, bytes)) => bytes,
+                _ => &mut none,
+            };
+            let len = bytes.len();
+            let Some(order) = self.take_order(bytes)? else {
+                return Ok(orders);
+            };
+            let queue = queue_of(order.is_rewrite);
+            match (order.kind, orders.last_mut()) {
+                (0, Some(Order::Write(last, _))) if *last == queue => {}
+                (0, Some(Order::Write(_, bytes))) => {
+                    let bytes = bytes.split_off(len);
+                    orders.push(Order::Write(queue, bytes));
+                }
+                (0, _) => orders.push(Order::Write(queue, std::mem::take(&mut none))),
+                (1, _) => orders.push(Order::Begin(FileId::new(queue, order.number))),
+                (2, _) => orders.push(Order::Sync(queue)),
+                (3, _) => orders.push(Order::DeleteOldest(queue)),
+                _ => orders.push(Order::Cut(queue, order.number)),
+            }
+        }
+    }
+
+    /// Takes the oldest order, if there is one, and puts its bytes behind these.
+    fn take_order(&mut self, bytes: &mut Vec<u8>) -> Result<Option<OrderNumbers>> {
+        let len = bytes.len();
+        loop {
+            let (mut order, mut is_taken) = (OrderNumbers::default(), false);
+            let room = &mut bytes[len..];
+            // SAFETY: the handle holds an engine.
+            let is_found = unsafe {
+                raft_ffi_engine_take_order(
+                    &mut self.handle,
+                    &mut order,
+                    room.as_mut_ptr(),
+                    room.len(),
+                    &mut is_taken,
+                )
+            };
+            if !is_found {
+                assert_eq!(order.at, self.next_order, "an order is left out");
+                return Ok(None);
+            }
+            if is_taken {
+                assert_eq!(
+                    order.at, self.next_order,
+                    "an order is left out, or comes twice"
+                );
+                self.next_order += 1;
+                return Ok(Some(order));
+            }
+            make_room(bytes, len + order.len)?;
+        }
+    }
+
+    /// Lists the blocks that a rewriting up to the gate, or one of rewritten records, reads: those of whole regions, up to
+    /// this many bytes.
+    pub(crate) fn moving_blocks(
+        &mut self,
+        gate: Option<u64>,
+        max_size: usize,
+    ) -> Result<Vec<Block>> {
+        let places = listed(|room, len, count| {
+            // SAFETY: the handle holds an engine.
+            remembered(unsafe {
+                raft_ffi_engine_moving_blocks(
+                    &mut self.handle,
+                    gate.into(),
+                    max_size,
+                    room,
+                    len,
+                    count,
+                )
+            })
+        })?;
+        Ok(places.into_iter().map(Block::from).collect())
+    }
+
+    /// Lends the bytes of a block to the next call.
+    pub(crate) fn lend(&mut self, block: Block, bytes: &[u8]) -> Result<()> {
+        let is_rewrite = block.file.queue == Queue::Rewrite;
+        // SAFETY: the handle holds an engine.
+        remembered(unsafe {
+            raft_ffi_engine_lend(
+                &mut self.handle,
+                is_rewrite,
+                block.file.seq,
+                block.offset,
+                bytes.as_ptr(),
+                bytes.len(),
+            )
+        })
+    }
+
+    /// Finds the value of a key.
+    pub(crate) fn value(&mut self, region: u64, key: &[u8]) -> Result<Option<Vec<u8>>> {
+        let mut is_found = false;
+        let value = listed(|room, len, count| {
+            // SAFETY: the handle holds an engine.
+            is_found = unsafe {
+                raft_ffi_engine_value(
+                    &mut self.handle,
+                    region,
+                    key.as_ptr(),
+                    key.len(),
+                    room,
+                    len,
+                    count,
+                )
+            };
+            Ok(())
+        })?;
+        Ok(is_found.then_some(value))
+    }
+
+    /// Finds what a region's table has.
+    pub(crate) fn summary(&mut self, region: u64) -> Option<Summary> {
+        let mut summary = SummaryNumbers::default();
+        // SAFETY: the handle holds an engine.
+        let is_found = unsafe { raft_ffi_engine_summary(&mut self.handle, region, &mut summary) };
+        is_found.then(|| summary.into())
+    }
+
+    /// Finds the least index of a region's entries.
+    pub(crate) fn first_index(&mut self, region: u64) -> Option<u64> {
+        let mut index = 0;
+        // SAFETY: the handle holds an engine.
+        let is_found = unsafe { raft_ffi_engine_first_index(&mut self.handle, region, &mut index) };
+        is_found.then_some(index)
+    }
+
+    /// Finds the greatest index of a region's entries.
+    pub(crate) fn last_index(&mut self, region: u64) -> Option<u64> {
+        let mut index = 0;
+        // SAFETY: the handle holds an engine.
+        let is_found = unsafe { raft_ffi_engine_last_index(&mut self.handle, region, &mut index) };
+        is_found.then_some(index)
+    }
+
+    /// Finds an entry.
+    pub(crate) fn entry(&mut self, region: u64, index: u64) -> Option<Entry> {
+        let mut entry = EntryNumbers::default();
+        // SAFETY: the handle holds an engine.
+        let is_found =
+            unsafe { raft_ffi_engine_entry(&mut self.handle, region, index, &mut entry) };
+        is_found.then(|| entry.into())
+    }
+
+    /// Lists the entries of a range.
+    pub(crate) fn entries(
+        &mut self,
+        region: u64,
+        range: Range<u64>,
+        max_size: Option<u64>,
+    ) -> Result<Vec<Entry>> {
+        let list = listed(|room, len, count| {
+            // SAFETY: the handle holds an engine.
+            checked(|text, text_len| unsafe {
+                raft_ffi_engine_entries(
+                    &mut self.handle,
+                    region,
+                    range.start,
+                    range.end,
+                    max_size.into(),
+                    room,
+                    len,
+                    count,
+                    text,
+                    text_len,
+                )
+            })
+        })?;
+        Ok(entries(list))
+    }
+
+    /// Lists the regions.
+    pub(crate) fn regions(&mut self) -> Result<Vec<u64>> {
+        listed(|room, len, count| {
+            // SAFETY: the handle holds an engine.
+            remembered(unsafe { raft_ffi_engine_regions(&mut self.handle, room, len, count) })
+        })
+    }
+
+    /// Counts the live records of a queue.
+    pub(crate) fn live(&mut self, queue: Queue) -> usize {
+        // SAFETY: the handle holds an engine.
+        unsafe { raft_ffi_engine_live(&mut self.handle, queue == Queue::Rewrite) }
+    }
+}
+
+impl Drop for EngineHandle {
+    fn drop(&mut self) {
+        // SAFETY: the handle holds an engine, which is given away.
+        unsafe { raft_ffi_engine_drop(self.handle) }
+    }
+}
+
+impl From<PlaceNumbers> for Block {
+    fn from(place: PlaceNumbers) -> Block {
+        Block {
+            file: FileId::new(queue_of(place.is_rewrite), place.seq),
+            offset: place.offset,
+            len: place.len,
+        }
+    }
+}
+
+/// Returns the queue that a flag names.
+fn queue_of(is_rewrite: bool) -> Queue {
+    if is_rewrite {
+        Queue::Rewrite
+    } else {
+        Queue::Append
+    }
+}
+
+/// Tests the checksum of an entry block, and returns how many of its bytes are entry bytes.
+pub(crate) fn block_entries(bytes: &[u8]) -> Result<usize> {
+    let mut len = 0;
+    // SAFETY: the bytes are lent for the call.
+    checked(|text, text_len| unsafe {
+        raft_ffi_block_entries(bytes.as_ptr(), bytes.len(), &mut len, text, text_len)
+    })?;
+    Ok(len)
+}

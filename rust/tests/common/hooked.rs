@@ -1,0 +1,73 @@
+//! Files that ask a test before each call.
+
+#![allow(dead_code)]
+
+use raft_recover::{FileId, Files, MemoryFiles, Queue};
+use std::io;
+
+/// A call on files, but for `list`.
+#[derive(Clone, Copy, Debug)]
+pub enum Call<'a> {
+    Write(FileId, &'a [u8]),
+    Sync(Queue),
+    Rotate(FileId),
+    Delete(FileId),
+    Truncate(FileId, u64),
+    Read(FileId, u64),
+}
+
+impl Call<'_> {
+    /// Whether the call changes something.
+    pub fn is_change(&self) -> bool {
+        !matches!(self, Call::Read(..))
+    }
+}
+
+/// Files in memory that ask a test before each call. The call is made where the test says `Ok`.
+pub struct Hooked<H> {
+    pub files: MemoryFiles,
+    hook: H,
+}
+
+impl<H: Fn(Call<'_>) -> io::Result<()> + Send + Sync> Hooked<H> {
+    pub fn new(files: &MemoryFiles, hook: H) -> Hooked<H> {
+        let files = files.clone();
+        Hooked { files, hook }
+    }
+}
+
+impl<H: Fn(Call<'_>) -> io::Result<()> + Send + Sync> Files for Hooked<H> {
+    fn list(&self, queue: Queue) -> io::Result<Vec<(u64, u64)>> {
+        self.files.list(queue)
+    }
+
+    fn write(&self, file: FileId, bytes: &[u8]) -> io::Result<()> {
+        (self.hook)(Call::Write(file, bytes))?;
+        self.files.write(file, bytes)
+    }
+
+    fn sync(&self, queue: Queue) -> io::Result<()> {
+        (self.hook)(Call::Sync(queue))?;
+        self.files.sync(queue)
+    }
+
+    fn rotate(&self, file: FileId) -> io::Result<()> {
+        (self.hook)(Call::Rotate(file))?;
+        self.files.rotate(file)
+    }
+
+    fn delete(&self, file: FileId) -> io::Result<()> {
+        (self.hook)(Call::Delete(file))?;
+        self.files.delete(file)
+    }
+
+    fn truncate(&self, file: FileId, len: u64) -> io::Result<()> {
+        (self.hook)(Call::Truncate(file, len))?;
+        self.files.truncate(file, len)
+    }
+
+    fn read(&self, file: FileId, offset: u64, bytes: &mut [u8]) -> io::Result<()> {
+        (self.hook)(Call::Read(file, offset))?;
+        self.files.read(file, offset, bytes)
+    }
+}

@@ -1,0 +1,223 @@
+//! What an engine does where its files fail.
+
+mod common;
+
+use common::hooked::{Call, Hooked};
+use common::model::region_of;
+use raft_recover::{
+    Engine, Error, ErrorKind, FileId, Files, LogBatch, MemoryFiles, Options, Queue, Result,
+};
+use std::panic::{AssertUnwindSafe, catch_unwind};
+use std::sync::Arc;
+use std::sync::atomic::{AtomicBool, AtomicUsize, Ordering::SeqCst};
+use std::time::Duration;
+use std::{io, thread};
+
+/// A batch that puts a number under a key.
+fn batch(number: u64) -> LogBatch {
+    let mut batch = LogBatch::new().unwrap();
+    batch.add_entries(7, number, &[number.to_string()]).unwrap();
+    batch.put(7, b"a", &number.to_le_bytes()).unwrap();
+    batch
+}
+
+/// Steps that make each kind of change: writes with and without a sync, and what moves and deletes. Returns how many batches
+/// were written for certain, and the refusal.
+fn run<F: Files>(engine: &Engine<F>) -> (u64, Result<()>) {
+    let mut certain = 0;
+    let mut steps = || {
+        for number in 1..=6 {
+            engine.write(&mut batch(number), number % 2 == 0)?;
+            if number % 2 == 0 {
+                certain = number;
+            }
+        }
+        engine.rotate()?;
+        engine.rewrite(1)?;
+        engine.purge()?;
+        engine.write(&mut batch(7), false)?;
+        engine.rewrite_again()?;
+        engine.purge()?;
+        engine.sync()?;
+        certain = 7;
+        Ok(())
+    };
+    let result = steps();
+    (certain, result)
+}
+
+/// Every call on a failed engine.
+fn all_calls<F: Files>(engine: &Engine<F>) -> Vec<Error> {
+    let results = [
+        engine.write(&mut batch(9), false),
+        engine.sync(),
+        engine.rotate(),
+        engine.rewrite(1),
+        engine.rewrite_again(),
+        engine.purge().map(drop),
+        engine.entry(7, 1).map(drop),
+        engine.entries(7, ..).map(drop),
+        engine.get(7, b"a").map(drop),
+        engine.first_index(7).map(drop),
+        engine.last_index(7).map(drop),
+        engine.summary(7).map(drop),
+        engine.regions().map(drop),
+    ];
+    results
+        .into_iter()
+        .map(|result| result.unwrap_err())
+        .collect()
+}
+
+#[test]
+fn where_any_change_fails_every_later_call_says_so_and_nothing_is_lost() {
+    let count = AtomicUsize::new(0);
+    let counting = Hooked::new(&MemoryFiles::new(), |call: Call<'_>| {
+        count.fetch_add(usize::from(call.is_change()), SeqCst);
+        Ok(())
+    });
+    let engine = Engine::with_files(counting, Options::new()).unwrap();
+    let opening = count.load(SeqCst);
+    run(&engine).1.unwrap();
+    let changes = count.load(SeqCst);
+    assert!(changes > opening + 20, "{changes}");
+    for failing in opening..changes {
+        let made = AtomicUsize::new(0);
+        let files = MemoryFiles::new();
+        let hooked = Hooked::new(&files, |call: Call<'_>| {
+            if call.is_change() && made.fetch_add(1, SeqCst) == failing {
+                if let Call::Write(file, bytes) = call {
+                    files.write(file, &bytes[..bytes.len() / 2])?;
+                }
+                return Err(io::ErrorKind::StorageFull.into());
+            }
+            Ok(())
+        });
+        let engine = Engine::with_files(hooked, Options::new()).unwrap();
+        let (certain, result) = run(&engine);
+        let first = result.unwrap_err();
+        assert_eq!(first.kind, ErrorKind::Io);
+        assert!(first.file.is_some() && first.offset.is_some(), "{first}");
+        let source = std::error::Error::source(&first).unwrap();
+        let source: &io::Error = source.downcast_ref().unwrap();
+        assert_eq!(source.kind(), io::ErrorKind::StorageFull);
+        for e in all_calls(&engine) {
+            assert_eq!(e.kind, ErrorKind::Failed);
+            assert_eq!((e.file, e.offset), (first.file, first.offset));
+            assert_eq!(e.text, format!("Failed: {first}"));
+        }
+        assert_eq!(
+            made.load(SeqCst),
+            failing + 1,
+            "something was asked of failed files"
+        );
+        assert!(format!("{engine:?}").contains("failure: Some"));
+        let opened = Engine::with_files(files, Options::new()).unwrap();
+        let region = region_of(&opened, 7).unwrap();
+        let written = region.entries.len() as u64;
+        assert!(written >= certain, "{failing}: {written} of {certain}");
+        let indexes: Vec<_> = region.entries.keys().copied().collect();
+        assert_eq!(indexes, (1..=written).collect::<Vec<_>>());
+        let last = region.keys.get(&b"a"[..]).map(|value| value[0]);
+        assert_eq!(last.unwrap_or(0), written as u8);
+    }
+}
+
+#[test]
+fn an_opening_that_fails_can_be_made_again() {
+    let files = MemoryFiles::new();
+    let engine = Engine::with_files(files.clone(), Options::new()).unwrap();
+    run(&engine).1.unwrap();
+    engine.write(&mut batch(8), false).unwrap();
+    let append = files.files(Queue::Append);
+    let mut torn = append.clone();
+    torn.last_mut()
+        .unwrap()
+        .1
+        .truncate(append.last().unwrap().1.len() - 1);
+    for (failing, expected) in [(Some(0), 0), (Some(1), 1), (None, 7)] {
+        let found = MemoryFiles::found(torn.clone(), files.files(Queue::Rewrite));
+        let made = AtomicUsize::new(0);
+        let hooked = Hooked::new(&found, |call: Call<'_>| {
+            if call.is_change() && Some(made.fetch_add(1, SeqCst)) == failing {
+                return Err(io::ErrorKind::StorageFull.into());
+            }
+            Ok(())
+        });
+        let result = Engine::with_files(hooked, Options::new());
+        if let Err(e) = result {
+            assert_eq!(e.kind, ErrorKind::Io);
+            assert_eq!(found.asked(), expected);
+        }
+        let opened = Engine::with_files(found, Options::new()).unwrap();
+        assert_eq!(region_of(&opened, 7).unwrap().entries.len(), 7);
+    }
+}
+
+#[test]
+fn a_file_that_cant_be_read_is_named_and_the_engine_goes_on() {
+    let is_broken = AtomicBool::new(false);
+    let files = MemoryFiles::new();
+    let hooked = Hooked::new(&files, |call: Call<'_>| match call {
+        Call::Read(..) if is_broken.load(SeqCst) => Err(io::ErrorKind::PermissionDenied.into()),
+        _ => Ok(()),
+    });
+    let engine = Engine::with_files(Arc::new(hooked), Options::new()).unwrap();
+    engine.write(&mut batch(1), false).unwrap();
+    is_broken.store(true, SeqCst);
+    for e in [engine.entry(7, 1).map(drop), engine.rewrite(1)] {
+        let e = e.unwrap_err();
+        assert_eq!(e.kind, ErrorKind::Io);
+        assert_eq!(e.file, Some(FileId::new(Queue::Append, 1)));
+        assert!(e.offset.is_some());
+    }
+    let e = Engine::with_files(Arc::clone(engine.files()), Options::new())
+        .map(drop)
+        .unwrap_err();
+    assert_eq!((e.kind, e.offset), (ErrorKind::Io, Some(0)));
+    is_broken.store(false, SeqCst);
+    assert_eq!(engine.entry(7, 1).unwrap().unwrap(), b"1");
+    engine.write(&mut batch(2), true).unwrap();
+}
+
+#[test]
+fn files_that_panic_leave_a_failed_engine_and_nobody_waits_for_ever() {
+    let (entered, is_over) = (AtomicBool::new(false), AtomicBool::new(false));
+    let hooked = Hooked::new(&MemoryFiles::new(), |call: Call<'_>| {
+        if !matches!(call, Call::Sync(Queue::Append)) {
+            return Ok(());
+        }
+        if entered.swap(true, SeqCst) {
+            panic!("the disk is on fire");
+        }
+        while !is_over.load(SeqCst) {
+            thread::yield_now();
+        }
+        Ok(())
+    });
+    let engine = Engine::with_files(hooked, Options::new()).unwrap();
+    thread::scope(|scope| {
+        // while the first thread syncs the others hand in their batches, of which one of them then writes all
+        let first = scope.spawn(|| engine.write(&mut batch(1), true));
+        while !entered.load(SeqCst) {
+            thread::yield_now();
+        }
+        let others = [(); 4].map(|()| {
+            scope.spawn(|| {
+                let mut batch = LogBatch::new().unwrap();
+                batch.put(8, b"key", b"value").unwrap();
+                catch_unwind(AssertUnwindSafe(|| engine.write(&mut batch, true)))
+            })
+        });
+        thread::sleep(Duration::from_millis(200));
+        is_over.store(true, SeqCst);
+        first.join().unwrap().unwrap();
+        let results = others.map(|other| other.join().unwrap());
+        let failed = results.into_iter().filter_map(std::result::Result::ok);
+        let failed: Vec<_> = failed.map(|result| result.unwrap_err().kind).collect();
+        assert_eq!(failed, [ErrorKind::Failed; 3]);
+    });
+    for e in all_calls(&engine) {
+        assert_eq!(e.kind, ErrorKind::Failed);
+    }
+}

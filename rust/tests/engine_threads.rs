@@ -1,0 +1,270 @@
+//! An engine that several threads use at the same time.
+
+mod common;
+
+use common::hooked::{Call, Hooked};
+use raft_recover::{Engine, LogBatch, MemoryFiles, Options, Queue};
+use std::sync::atomic::{AtomicBool, AtomicUsize, Ordering::SeqCst};
+use std::sync::{Arc, Condvar, Mutex};
+use std::time::Duration;
+use std::{io, thread};
+
+/// A gate at which calls wait while it is closed, and which knows how many came to it.
+#[derive(Default)]
+struct Gate {
+    state: Mutex<(bool, usize)>,
+    changed: Condvar,
+}
+
+/// Opens a gate where it is dropped, also where a test fails.
+struct Closed<'a>(&'a Gate);
+
+impl Drop for Closed<'_> {
+    fn drop(&mut self) {
+        self.0.state.lock().unwrap().0 = false;
+        self.0.changed.notify_all();
+    }
+}
+
+impl Gate {
+    fn close(&self) -> Closed<'_> {
+        self.state.lock().unwrap().0 = true;
+        Closed(self)
+    }
+
+    /// Comes to the gate, and passes it once it is open.
+    fn pass(&self) {
+        let mut state = self.state.lock().unwrap();
+        if !state.0 {
+            return;
+        }
+        state.1 += 1;
+        self.changed.notify_all();
+        while state.0 {
+            state = self.changed.wait(state).unwrap();
+        }
+    }
+
+    /// Waits until this many calls came to the closed gate.
+    fn wait_for(&self, count: usize) {
+        let mut state = self.state.lock().unwrap();
+        while state.1 < count {
+            state = self.changed.wait(state).unwrap();
+        }
+    }
+}
+
+/// A batch with one entry.
+fn batch(region: u64, index: u64) -> LogBatch {
+    let mut batch = LogBatch::new().unwrap();
+    batch
+        .add_entries(region, index, &[index.to_string()])
+        .unwrap();
+    batch
+}
+
+#[test]
+fn threads_that_write_at_the_same_time_share_syncs() {
+    let files = MemoryFiles::new();
+    let hooked = Hooked::new(&files, |call: Call<'_>| {
+        if matches!(call, Call::Sync(_)) {
+            thread::sleep(Duration::from_millis(2));
+        }
+        Ok(())
+    });
+    let engine = Engine::with_files(hooked, Options::new()).unwrap();
+    let before = engine.stats().syncs;
+    let (threads, writes) = (8, 40);
+    thread::scope(|scope| {
+        for region in 0..threads {
+            let engine = &engine;
+            scope.spawn(move || {
+                for index in 1..=writes {
+                    engine.write(&mut batch(region, index), true).unwrap();
+                    assert_eq!(engine.last_index(region).unwrap(), Some(index));
+                }
+            });
+        }
+    });
+    let stats = engine.stats();
+    assert_eq!(stats.batches, threads * writes);
+    let syncs = stats.syncs - before;
+    assert!(
+        syncs >= writes && syncs * 3 <= stats.batches,
+        "{syncs} syncs"
+    );
+    let left = files.left(files.asked(), Default::default(), Default::default());
+    let opened = Engine::with_files(left, Options::new()).unwrap();
+    for region in 0..threads {
+        assert_eq!(opened.entries(region, ..).unwrap().len() as u64, writes);
+    }
+}
+
+#[test]
+fn nobody_goes_on_before_the_sync_and_all_who_wait_go_on_after_one() {
+    let gate = Arc::new(Gate::default());
+    let hooked = Hooked::new(&MemoryFiles::new(), |call: Call<'_>| {
+        if matches!(call, Call::Sync(_)) {
+            gate.pass();
+        }
+        Ok(())
+    });
+    let engine = Engine::with_files(hooked, Options::new()).unwrap();
+    let before = engine.stats().syncs;
+    let gone_on = AtomicUsize::new(0);
+    thread::scope(|scope| {
+        let closed = gate.close();
+        for region in 0..4 {
+            let (engine, gone_on) = (&engine, &gone_on);
+            scope.spawn(move || {
+                engine.write(&mut batch(region, 1), true).unwrap();
+                gone_on.fetch_add(1, SeqCst);
+            });
+        }
+        gate.wait_for(1);
+        thread::sleep(Duration::from_millis(200));
+        assert_eq!(gone_on.load(SeqCst), 0);
+        drop(closed);
+    });
+    let syncs = engine.stats().syncs - before;
+    assert!((1..4).contains(&syncs), "{syncs}");
+}
+
+#[test]
+fn reading_waits_for_no_sync() {
+    let gate = Arc::new(Gate::default());
+    let hooked = Hooked::new(&MemoryFiles::new(), |call: Call<'_>| {
+        if matches!(call, Call::Sync(_)) {
+            gate.pass();
+        }
+        Ok(())
+    });
+    let engine = Engine::with_files(hooked, Options::new()).unwrap();
+    engine.write(&mut batch(7, 1), false).unwrap();
+    thread::scope(|scope| {
+        let closed = gate.close();
+        scope.spawn(|| engine.write(&mut batch(7, 2), true).unwrap());
+        gate.wait_for(1);
+        assert_eq!(engine.entry(7, 1).unwrap().unwrap(), b"1");
+        assert_eq!(engine.entry(7, 2).unwrap().unwrap(), b"2");
+        assert_eq!(engine.entries(7, ..).unwrap().len(), 2);
+        assert_eq!(engine.get(7, b"key").unwrap(), None);
+        assert_eq!(engine.stats().batches, 2);
+        drop(closed);
+    });
+}
+
+#[test]
+fn an_entry_whose_bytes_are_on_their_way_is_waited_for() {
+    let gate = Arc::new(Gate::default());
+    let hooked = Hooked::new(&MemoryFiles::new(), |call: Call<'_>| {
+        if matches!(call, Call::Write(..)) {
+            gate.pass();
+        }
+        Ok(())
+    });
+    let engine = Engine::with_files(hooked, Options::new()).unwrap();
+    thread::scope(|scope| {
+        let closed = gate.close();
+        scope.spawn(|| engine.write(&mut batch(7, 1), false).unwrap());
+        gate.wait_for(1);
+        let reading = scope.spawn(|| engine.entry(7, 1));
+        thread::sleep(Duration::from_millis(20));
+        assert!(!reading.is_finished());
+        drop(closed);
+        assert_eq!(reading.join().unwrap().unwrap().unwrap(), b"1");
+    });
+}
+
+#[test]
+fn an_entry_that_moves_while_it_is_read_is_found() {
+    let gate = Arc::new(Gate::default());
+    let is_reader =
+        |call: Call<'_>| matches!(call, Call::Read(file, _) if file.queue == Queue::Append);
+    let is_held = AtomicBool::new(false);
+    let hooked = Hooked::new(&MemoryFiles::new(), |call: Call<'_>| {
+        if is_reader(call) && is_held.swap(false, SeqCst) {
+            gate.pass();
+        }
+        Ok(())
+    });
+    let engine = Engine::with_files(hooked, Options::new()).unwrap();
+    engine.write(&mut batch(7, 1), false).unwrap();
+    engine.rotate().unwrap();
+    is_held.store(true, SeqCst);
+    thread::scope(|scope| {
+        let closed = gate.close();
+        let reading = scope.spawn(|| engine.entries(7, 1..2));
+        gate.wait_for(1);
+        engine.rewrite(1).unwrap();
+        assert_eq!(engine.purge().unwrap().append_files, 1);
+        drop(closed);
+        let mut entries = reading.join().unwrap().unwrap();
+        assert_eq!(entries.next().unwrap(), b"1");
+    });
+}
+
+#[test]
+fn changes_come_one_after_another() {
+    let within = AtomicBool::new(false);
+    let hooked = Hooked::new(&MemoryFiles::new(), |call: Call<'_>| {
+        if !call.is_change() {
+            return Ok(());
+        }
+        if within.swap(true, SeqCst) {
+            return Err(io::Error::other("two changes at once"));
+        }
+        thread::yield_now();
+        within.store(false, SeqCst);
+        Ok(())
+    });
+    let options = Options::new().target_file_size(500).purge_above(1500);
+    let engine = Engine::with_files(hooked, options).unwrap();
+    thread::scope(|scope| {
+        for region in 0..4 {
+            let engine = &engine;
+            scope.spawn(move || {
+                for index in 1..=200 {
+                    engine
+                        .write(&mut batch(region, index), index % 10 == 0)
+                        .unwrap();
+                    let mut entries = engine.entries(region, ..).unwrap();
+                    assert_eq!(entries.len() as u64, index);
+                    assert_eq!(entries.next_back().unwrap(), index.to_string().into_bytes());
+                }
+            });
+        }
+        scope.spawn(|| {
+            while engine.stats().batches < 800 {
+                engine.purge().unwrap();
+            }
+        });
+    });
+    assert!(engine.stats().append.first_file > 1);
+}
+
+#[test]
+fn a_batch_that_is_refused_costs_the_others_nothing() {
+    let gate = Arc::new(Gate::default());
+    let hooked = Hooked::new(&MemoryFiles::new(), |call: Call<'_>| {
+        if matches!(call, Call::Sync(_)) {
+            gate.pass();
+        }
+        Ok(())
+    });
+    let engine = Engine::with_files(hooked, Options::new()).unwrap();
+    engine.write(&mut batch(7, 1), false).unwrap();
+    thread::scope(|scope| {
+        let closed = gate.close();
+        scope.spawn(|| engine.sync().unwrap());
+        gate.wait_for(1);
+        let rows = [(7, 3, true), (8, 1, true), (7, 9, false), (9, 1, false)];
+        let writing = rows.map(|(region, index, sync)| {
+            let engine = &engine;
+            scope.spawn(move || engine.write(&mut batch(region, index), sync))
+        });
+        drop(closed);
+        let are_written = writing.map(|writing| writing.join().unwrap().is_ok());
+        assert_eq!(are_written, [false, true, false, true]);
+    });
+}

@@ -1,0 +1,186 @@
+//! The files of an engine in a folder.
+
+mod common;
+
+use common::TempFolder;
+use raft_recover::{ErrorKind, FileId, Files, FolderFiles, Queue};
+use std::fs;
+use std::io;
+
+const FIRST: FileId = FileId::new(Queue::Append, 1);
+const SECOND: FileId = FileId::new(Queue::Append, 2);
+const REWRITTEN: FileId = FileId::new(Queue::Rewrite, 1);
+
+/// The names in a folder, in order.
+fn names(folder: &TempFolder) -> Vec<String> {
+    let entries = fs::read_dir(folder.path()).unwrap();
+    let mut names: Vec<_> = entries
+        .map(|entry| entry.unwrap().file_name().into_string().unwrap())
+        .collect();
+    names.sort();
+    names
+}
+
+/// Bytes of a file.
+fn read(files: &FolderFiles, file: FileId, offset: u64, len: usize) -> io::Result<Vec<u8>> {
+    let mut bytes = vec![0; len];
+    files.read(file, offset, &mut bytes)?;
+    Ok(bytes)
+}
+
+#[test]
+fn a_folder_is_made_where_there_is_none_and_not_its_parents() {
+    let room = TempFolder::new();
+    let path = room.path().join("new");
+    let files = FolderFiles::open(&path).unwrap();
+    assert_eq!(files.path(), path);
+    assert_eq!(files.list(Queue::Append).unwrap(), []);
+    assert_eq!(files.list(Queue::Rewrite).unwrap(), []);
+    let e = FolderFiles::open(room.path().join("no/folder")).unwrap_err();
+    assert_eq!(e.kind, ErrorKind::Io);
+    assert!(e.text.contains("no/folder"), "{e}");
+    let source = std::error::Error::source(&e).unwrap();
+    let source: &io::Error = source.downcast_ref().unwrap();
+    assert_eq!(source.kind(), io::ErrorKind::NotFound);
+}
+
+#[test]
+fn files_have_the_names_of_raft_engine() {
+    let room = TempFolder::new();
+    let files = FolderFiles::open(room.path()).unwrap();
+    files.rotate(FIRST).unwrap();
+    files.rotate(REWRITTEN).unwrap();
+    files.rotate(SECOND).unwrap();
+    let expected = [
+        "0000000000000001.raftlog",
+        "0000000000000001.rewrite",
+        "0000000000000002.raftlog",
+        "LOCK",
+    ];
+    assert_eq!(names(&room), expected);
+    assert_eq!(files.path_of(SECOND), room.path().join(expected[2]));
+    assert_eq!(files.list(Queue::Append).unwrap(), [(1, 0), (2, 0)]);
+    assert_eq!(files.list(Queue::Rewrite).unwrap(), [(1, 0)]);
+}
+
+#[test]
+fn one_engine_at_a_time_has_a_folder() {
+    let room = TempFolder::new();
+    let files = FolderFiles::open(room.path()).unwrap();
+    let e = FolderFiles::open(room.path()).unwrap_err();
+    assert_eq!(e.kind, ErrorKind::TryAgain);
+    assert!(
+        e.text.contains("LOCK: another engine has the folder open"),
+        "{e}"
+    );
+    drop(files);
+    FolderFiles::open(room.path()).unwrap();
+}
+
+#[test]
+fn bytes_are_written_at_the_end_and_read_anywhere() {
+    let room = TempFolder::new();
+    let files = FolderFiles::open(room.path()).unwrap();
+    files.rotate(FIRST).unwrap();
+    files.write(FIRST, b"one").unwrap();
+    files.write(FIRST, b" and two").unwrap();
+    files.sync(Queue::Append).unwrap();
+    assert_eq!(read(&files, FIRST, 4, 7).unwrap(), b"and two");
+    let e = read(&files, FIRST, 4, 8).unwrap_err();
+    assert_eq!(e.kind(), io::ErrorKind::UnexpectedEof);
+    let e = read(&files, REWRITTEN, 0, 1).unwrap_err();
+    assert_eq!(e.kind(), io::ErrorKind::NotFound);
+    files.truncate(FIRST, 20).unwrap();
+    assert_eq!(files.list(Queue::Append).unwrap(), [(1, 11)]);
+    files.truncate(FIRST, 7).unwrap();
+    files.write(FIRST, b"..").unwrap();
+    assert_eq!(read(&files, FIRST, 0, 9).unwrap(), b"one and..");
+}
+
+#[test]
+fn what_is_there_is_found() {
+    let room = TempFolder::new();
+    let files = FolderFiles::open(room.path()).unwrap();
+    for (file, bytes) in [(FIRST, "old"), (REWRITTEN, "moved"), (SECOND, "new")] {
+        files.rotate(file).unwrap();
+        files.write(file, bytes.as_bytes()).unwrap();
+    }
+    files.delete(FIRST).unwrap();
+    assert!(read(&files, FIRST, 0, 1).is_err());
+    drop(files);
+    let files = FolderFiles::open(room.path()).unwrap();
+    assert_eq!(files.list(Queue::Append).unwrap(), [(2, 3)]);
+    assert_eq!(files.list(Queue::Rewrite).unwrap(), [(1, 5)]);
+    assert_eq!(read(&files, SECOND, 0, 3).unwrap(), b"new");
+    files.write(SECOND, b"er").unwrap();
+    assert_eq!(read(&files, SECOND, 0, 5).unwrap(), b"newer");
+}
+
+#[test]
+fn names_that_are_none_of_log_files_are_left_alone_and_those_that_seem_so_are_refused() {
+    for name in ["LOG", "0000000000000001.raftlog.old", "a.log", "raftlog"] {
+        let room = TempFolder::new();
+        fs::write(room.path().join(name), "").unwrap();
+        let files = FolderFiles::open(room.path()).unwrap();
+        assert_eq!(files.list(Queue::Append).unwrap(), [], "{name}");
+        assert!(room.path().join(name).exists(), "{name}");
+    }
+    for name in [
+        "1.raftlog",
+        "00000000000000001.rewrite",
+        ".raftlog",
+        "+000000000000001.raftlog",
+    ] {
+        let room = TempFolder::new();
+        fs::write(room.path().join(name), "").unwrap();
+        let e = FolderFiles::open(room.path()).unwrap_err();
+        assert_eq!(e.kind, ErrorKind::InvalidArgument, "{name}");
+        assert!(e.text.contains(name), "{e}");
+    }
+}
+
+#[test]
+fn a_log_file_that_cant_be_opened_is_named() {
+    let room = TempFolder::new();
+    let path = room.path().join("0000000000000001.raftlog");
+    fs::create_dir(&path).unwrap();
+    let e = FolderFiles::open(room.path()).unwrap_err();
+    assert_eq!(e.kind, ErrorKind::Io);
+    assert!(e.text.contains(path.to_str().unwrap()), "{e}");
+}
+
+#[test]
+fn after_a_change_that_failed_none_is_made_and_files_can_be_read() {
+    type Ask = fn(&FolderFiles) -> io::Result<()>;
+    let failing: [(&str, Ask); 3] = [
+        ("a file that is there is begun", |files| files.rotate(FIRST)),
+        ("a file that is gone is deleted", |files| {
+            files.delete(FileId::new(Queue::Rewrite, 9))
+        }),
+        ("a file that isn't there is written to", |files| {
+            files.write(SECOND, b"..")
+        }),
+    ];
+    let changes: [Ask; 5] = [
+        |files| files.write(FIRST, b".."),
+        |files| files.sync(Queue::Append),
+        |files| files.rotate(SECOND),
+        |files| files.delete(FIRST),
+        |files| files.truncate(FIRST, 0),
+    ];
+    for (what, fails) in failing {
+        let room = TempFolder::new();
+        let files = FolderFiles::open(room.path()).unwrap();
+        files.rotate(FIRST).unwrap();
+        files.write(FIRST, b"one").unwrap();
+        fails(&files).expect_err(what);
+        for change in changes {
+            let e = change(&files).unwrap_err();
+            assert_eq!(e.to_string(), "an earlier change failed", "{what}");
+        }
+        assert_eq!(read(&files, FIRST, 0, 3).unwrap(), b"one");
+        drop(files);
+        let files = FolderFiles::open(room.path()).unwrap();
+        assert_eq!(files.list(Queue::Append).unwrap(), [(1, 3)], "{what}");
+    }
+}

@@ -1,0 +1,325 @@
+//! What a run of an engine over a folder asks of the system, by `strace`, and each folder that a stop of the machine may leave of
+//! it. Without `strace` nothing is tested here.
+
+mod common;
+
+use common::TempFolder;
+use common::model::{Region, region_of};
+use raft_recover::{Engine, LogBatch, Options};
+use std::cell::Cell;
+use std::collections::{BTreeMap, BTreeSet};
+use std::io::Write;
+use std::path::Path;
+use std::process::{Command, Stdio};
+use std::{env, fs};
+
+/// The variable that names the folder of a run.
+const FOLDER: &str = "RAFT_RECOVER_FOLDER";
+
+/// The calls of the system on files and names.
+const CALLS: &str = "openat,mkdir,write,fsync,fdatasync,ftruncate,unlink";
+
+/// The batches of a run: what each of them puts into region 7. The last one of each third takes away what moved before.
+fn fill(number: u64, batch: &mut LogBatch) {
+    if number.is_multiple_of(8) {
+        batch.compact(7, number - 3).unwrap();
+    }
+    batch.add_entries(7, number, &[number.to_string()]).unwrap();
+    batch.put(7, b"a", &number.to_le_bytes()).unwrap();
+}
+
+/// What region 7 has after so many batches.
+fn expected(count: u64) -> Region {
+    let first = if count < 8 { 1 } else { count / 8 * 8 - 3 };
+    let entries = (first..=count).map(|number| (number, number.to_string().into_bytes()));
+    let key = (count > 0).then(|| (b"a".to_vec(), count.to_le_bytes().to_vec()));
+    Region {
+        entries: entries.collect(),
+        keys: key.into_iter().collect(),
+    }
+}
+
+/// Opens the folder of a run, writes, begins and deletes files, and says what lasts. It is started by the other test.
+#[test]
+#[ignore = "the other test starts it"]
+fn run() {
+    let Some(folder) = env::var_os(FOLDER) else {
+        return;
+    };
+    let number = Cell::new(0);
+    for _ in 0..3 {
+        let engine = Engine::open(&folder, Options::new()).unwrap();
+        let write = |sync| {
+            number.set(number.get() + 1);
+            let mut batch = LogBatch::new().unwrap();
+            fill(number.get(), &mut batch);
+            engine.write(&mut batch, sync).unwrap();
+            if sync {
+                println!("lasts {}", number.get());
+            }
+        };
+        write(true);
+        write(false);
+        write(true);
+        engine.rotate().unwrap();
+        write(false);
+        engine.rewrite(1).unwrap();
+        write(false);
+        engine.purge().unwrap();
+        engine.rewrite_again().unwrap();
+        write(true);
+        engine.purge().unwrap();
+        write(false);
+        engine.sync().unwrap();
+        println!("lasts {}", number.get());
+        write(false);
+        drop(engine);
+        if number.get() == 16 {
+            let last = Path::new(&folder).join("0000000000000003.raftlog");
+            let mut last = fs::OpenOptions::new().append(true).open(last).unwrap();
+            last.write_all(b"a torn tail").unwrap();
+        }
+    }
+}
+
+/// A file: its bytes on the disk, and what was done to it since.
+#[derive(Clone, Default)]
+struct File {
+    synced: Vec<u8>,
+    since: Vec<Change>,
+}
+
+#[derive(Clone)]
+enum Change {
+    Bytes(Vec<u8>),
+    Cut(usize),
+}
+
+impl File {
+    /// All bytes that a stop may leave.
+    fn versions(&self) -> Vec<Vec<u8>> {
+        let mut bytes = self.synced.clone();
+        let mut versions = vec![bytes.clone()];
+        for change in &self.since {
+            match change {
+                Change::Bytes(more) => {
+                    for byte in more {
+                        bytes.push(*byte);
+                        versions.push(bytes.clone());
+                    }
+                }
+                Change::Cut(len) => {
+                    bytes.truncate(*len);
+                    versions.push(bytes.clone());
+                }
+            }
+        }
+        versions
+    }
+
+    fn sync(&mut self) {
+        self.synced = self.versions().pop().unwrap();
+        self.since.clear();
+    }
+}
+
+/// A folder: the files that it has, by numbers of their own, under the names on the disk, and the names made and deleted since.
+#[derive(Default)]
+struct Disk {
+    files: Vec<File>,
+    now: BTreeMap<String, usize>,
+    names: BTreeMap<String, usize>,
+    since: Vec<(String, Option<usize>)>,
+}
+
+/// The names and bytes of files that a stop leaves.
+type Left = BTreeMap<String, Vec<u8>>;
+
+impl Disk {
+    /// What a stop may leave: each version of one file, with the first and with the last version of the others.
+    fn lefts(&self) -> BTreeSet<Left> {
+        let mut lefts = BTreeSet::new();
+        for count in 0..=self.since.len() {
+            let mut names = self.names.clone();
+            for (name, file) in &self.since[..count] {
+                match file {
+                    Some(file) => names.insert(name.clone(), *file),
+                    None => names.remove(name),
+                };
+            }
+            let versions: BTreeMap<_, _> = names
+                .iter()
+                .map(|(name, file)| (name, self.files[*file].versions()))
+                .collect();
+            for is_last in [false, true] {
+                let end = |versions: &Vec<Vec<u8>>| {
+                    let end = if is_last {
+                        versions.last()
+                    } else {
+                        versions.first()
+                    };
+                    end.unwrap().clone()
+                };
+                let ends: Left = versions
+                    .iter()
+                    .map(|(name, v)| (name.to_string(), end(v)))
+                    .collect();
+                for (name, versions) in &versions {
+                    for version in versions {
+                        let mut left = ends.clone();
+                        left.insert(name.to_string(), version.clone());
+                        lefts.insert(left);
+                    }
+                }
+                lefts.insert(ends);
+            }
+        }
+        lefts
+    }
+
+    /// Takes in a call of the system on a name in the folder, and tells whether it changes what a stop may leave. Names of log
+    /// files that were made or deleted are synced before anything else, and so is a file that was cut.
+    fn take(&mut self, call: &Call) -> bool {
+        let name = call.name.clone();
+        let file = self.now.get(&name).copied();
+        let is_change = matches!(call.what.as_str(), "write" | "ftruncate" | "unlink");
+        if is_change || call.rest.contains("O_CREAT") {
+            assert!(self.since.iter().all(|(name, _)| name == "LOCK"));
+            let cut = |file: &File| matches!(file.since.last(), Some(Change::Cut(_)));
+            assert!(!self.files.iter().any(cut));
+        }
+        match (call.what.as_str(), file) {
+            ("openat", None) if call.rest.contains("O_CREAT") => {
+                self.files.push(File::default());
+                let file = self.files.len() - 1;
+                self.now.insert(name.clone(), file);
+                self.since.push((name, Some(file)));
+            }
+            ("write", Some(file)) => self.files[file]
+                .since
+                .push(Change::Bytes(call.bytes.clone())),
+            ("ftruncate", Some(file)) => {
+                let len = call.rest.rsplit(' ').next().unwrap().parse().unwrap();
+                self.files[file].since.push(Change::Cut(len));
+            }
+            ("fsync" | "fdatasync", Some(file)) => self.files[file].sync(),
+            ("fsync", None) if name.is_empty() => {
+                self.names = self.now.clone();
+                self.since.clear();
+            }
+            ("unlink", Some(_)) => {
+                self.now.remove(&name);
+                self.since.push((name, None));
+            }
+            _ => return false,
+        }
+        true
+    }
+}
+
+/// A call of the system: the name in the folder, the bytes that it writes, and all its words.
+struct Call {
+    what: String,
+    name: String,
+    bytes: Vec<u8>,
+    rest: String,
+}
+
+/// The strings of a line of `strace`, which come as `\x61\x62`.
+fn strings(line: &str) -> Vec<Vec<u8>> {
+    let quoted = line
+        .split(['"', '<', '>'])
+        .filter(|text| text.starts_with("\\x"));
+    quoted
+        .map(|text| {
+            let bytes = text.split("\\x").skip(1);
+            bytes
+                .map(|byte| u8::from_str_radix(byte, 16).unwrap())
+                .collect()
+        })
+        .collect()
+}
+
+/// Reads a line: a call on the folder, or what the run says lasts.
+fn read(line: &str, folder: &Path) -> Option<Result<Call, u64>> {
+    let (_, line) = line.split_once(' ')?;
+    let (what, words) = line.trim_start().split_once('(')?;
+    let (rest, result) = words.rsplit_once(") ")?;
+    if result.trim_start().starts_with("= -1") {
+        return None;
+    }
+    let strings = strings(rest);
+    if what == "write" && words.starts_with('1') {
+        let said = String::from_utf8_lossy(strings.last()?).into_owned();
+        let lasts = said
+            .lines()
+            .find_map(|line| line.strip_prefix("lasts ")?.parse().ok());
+        return lasts.map(Err);
+    }
+    let folder = folder.to_str().unwrap();
+    let paths = strings.iter().map(|path| String::from_utf8_lossy(path));
+    let name = paths
+        .filter_map(|path| Some(path.strip_prefix(folder)?.to_owned()))
+        .next()?;
+    Some(Ok(Call {
+        what: what.to_owned(),
+        name: name.trim_start_matches('/').to_owned(),
+        bytes: strings.last()?.clone(),
+        rest: rest.to_owned(),
+    }))
+}
+
+/// The lines that `strace` writes of a run in a folder, if there is `strace`, and it may.
+fn traced(room: &TempFolder, folder: &Path) -> Option<String> {
+    let log = room.path().join("calls");
+    let status = Command::new("strace")
+        .args(["-f", "-y", "-xx", "-s", "1000000", "-o"])
+        .arg(&log)
+        .arg(format!("--trace={CALLS}"))
+        .arg(env::current_exe().unwrap())
+        .args(["--exact", "run", "--ignored", "--nocapture"])
+        .env(FOLDER, folder)
+        .stdout(Stdio::null())
+        .stderr(Stdio::null())
+        .status()
+        .ok()?;
+    status.success().then(|| fs::read_to_string(log).unwrap())
+}
+
+#[test]
+fn each_folder_that_a_stop_may_leave_has_what_was_synced() {
+    let room = TempFolder::new();
+    let folder = room.path().join("run");
+    let Some(log) = traced(&room, &folder) else {
+        return println!("there is no strace: nothing was tested");
+    };
+    let (mut disk, mut certain, mut stops, mut opened) = (Disk::default(), 0, 0, 0);
+    let mut tried = BTreeSet::new();
+    for line in log.lines() {
+        match read(line, &folder) {
+            Some(Ok(call)) if disk.take(&call) => stops += 1,
+            Some(Err(lasts)) => certain = lasts,
+            _ => continue,
+        }
+        for left in disk.lefts() {
+            if !tried.insert((certain, left.clone())) {
+                continue;
+            }
+            let room = TempFolder::new();
+            for (name, bytes) in &left {
+                fs::write(room.path().join(name), bytes).unwrap();
+            }
+            let engine = Engine::open(room.path(), Options::new()).unwrap();
+            let count = engine.last_index(7).unwrap().unwrap_or(0);
+            assert!(
+                count >= certain,
+                "{count} of {certain} behind change {stops}: {left:?}"
+            );
+            assert_eq!(region_of(&engine, 7).unwrap(), expected(count));
+            opened += 1;
+        }
+    }
+    println!("{stops} changes, {opened} folders");
+    assert_eq!(certain, 23);
+    assert!(stops > 90 && opened > 1500, "{stops} {opened}");
+}

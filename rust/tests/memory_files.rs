@@ -1,0 +1,167 @@
+//! The files of an engine in memory, and what a stop of the machine leaves of them.
+
+use raft_recover::{Ask, FileId, Files, MemoryFiles, Queue, Unsynced};
+use std::io;
+
+const FIRST: FileId = FileId::new(Queue::Append, 1);
+const SECOND: FileId = FileId::new(Queue::Append, 2);
+const REWRITTEN: FileId = FileId::new(Queue::Rewrite, 1);
+const NONE: Unsynced = Unsynced {
+    steps: 0,
+    deletions: 0,
+};
+
+/// Files of which this was asked.
+fn asked(asks: &[Ask]) -> MemoryFiles {
+    let files = MemoryFiles::new();
+    for ask in asks {
+        match ask {
+            Ask::Write(file, bytes) => files.write(*file, bytes),
+            Ask::Sync(queue) => files.sync(*queue),
+            Ask::Begin(file) => files.rotate(*file),
+            Ask::Delete(file) => files.delete(*file),
+            Ask::Cut(file, len) => files.truncate(*file, *len),
+            _ => unreachable!(),
+        }
+        .unwrap();
+    }
+    assert_eq!(files.asks(), asks);
+    assert_eq!(files.asked(), asks.len());
+    files
+}
+
+fn write(file: FileId, bytes: &str) -> Ask {
+    Ask::Write(file, bytes.as_bytes().to_vec())
+}
+
+/// What each count of unsynced steps leaves of the append queue, all deletions done or none.
+fn lefts(files: &MemoryFiles, all_deleted: bool) -> Vec<String> {
+    let asks = files.asked();
+    let most = files.unsynced(asks, Queue::Append);
+    let deletions = if all_deleted { most.deletions } else { 0 };
+    (0..=most.steps)
+        .map(|steps| {
+            let left = files.left(asks, Unsynced { steps, deletions }, NONE);
+            let files = left.files(Queue::Append).into_iter();
+            let texts =
+                files.map(|(n, bytes)| format!("{n}:{}", String::from_utf8(bytes).unwrap()));
+            texts.collect::<Vec<_>>().join(" ")
+        })
+        .collect()
+}
+
+#[test]
+fn a_front_of_what_was_not_synced_is_left() {
+    let begun = [Ask::Begin(FIRST), Ask::Sync(Queue::Append)];
+    let rows: [(&[Ask], &[&str]); 7] = [
+        (&[], &["1:"]),
+        (&[write(FIRST, "ab")], &["1:", "1:a", "1:ab"]),
+        (&[write(FIRST, "ab"), Ask::Sync(Queue::Append)], &["1:ab"]),
+        (
+            &[
+                write(FIRST, "a"),
+                Ask::Sync(Queue::Append),
+                write(FIRST, "bc"),
+                write(FIRST, "d"),
+            ],
+            &["1:a", "1:ab", "1:abc", "1:abcd"],
+        ),
+        (
+            &[write(FIRST, "abc"), Ask::Cut(FIRST, 1), write(FIRST, "d")],
+            &["1:", "1:a", "1:ab", "1:abc", "1:a", "1:ad"],
+        ),
+        (&[write(FIRST, "a"), Ask::Begin(SECOND)], &["1:a", "1:a 2:"]),
+        (
+            &[write(FIRST, "a"), Ask::Begin(SECOND), write(SECOND, "b")],
+            &["1:a", "1:a 2:", "1:a 2:b"],
+        ),
+    ];
+    for (asks, expected) in rows {
+        let files = asked(&[&begun, asks].concat());
+        assert_eq!(lefts(&files, false), expected, "{asks:?}");
+    }
+}
+
+#[test]
+fn a_first_file_may_not_be_there() {
+    assert_eq!(lefts(&asked(&[]), false), [""]);
+    assert_eq!(lefts(&asked(&[Ask::Begin(FIRST)]), false), ["", "1:"]);
+}
+
+#[test]
+fn deletions_that_were_not_synced_may_not_be_done() {
+    let asks = [
+        Ask::Begin(FIRST),
+        write(FIRST, "a"),
+        Ask::Begin(SECOND),
+        Ask::Delete(FIRST),
+        write(SECOND, "b"),
+    ];
+    let files = asked(&asks);
+    assert_eq!(lefts(&files, true), ["", "2:", "2:b"]);
+    assert_eq!(lefts(&files, false), ["1:a", "1:a 2:", "1:a 2:b"]);
+    files.sync(Queue::Append).unwrap();
+    assert_eq!(lefts(&files, false), ["2:b"]);
+}
+
+#[test]
+fn one_queue_says_nothing_of_the_other() {
+    let files = asked(&[
+        Ask::Begin(FIRST),
+        Ask::Begin(REWRITTEN),
+        write(FIRST, "a"),
+        write(REWRITTEN, "b"),
+        Ask::Sync(Queue::Append),
+    ]);
+    let steps = [Queue::Append, Queue::Rewrite].map(|queue| files.unsynced(5, queue).steps);
+    assert_eq!(steps, [0, 2]);
+    let left = files.left(5, NONE, NONE);
+    assert_eq!(left.files(Queue::Append), [(1, b"a".to_vec())]);
+    assert_eq!(left.files(Queue::Rewrite), []);
+    let earlier = files.unsynced(4, Queue::Append);
+    assert_eq!(earlier.steps, 2);
+    let left = files.left(4, earlier, NONE);
+    assert_eq!(left.files(Queue::Append), [(1, b"a".to_vec())]);
+}
+
+#[test]
+fn what_was_found_stays() {
+    let files = MemoryFiles::found(vec![(3, b"abc".to_vec())], vec![(1, b"d".to_vec())]);
+    files.write(FileId::new(Queue::Append, 3), b"e").unwrap();
+    let left = files.left(1, NONE, NONE);
+    assert_eq!(left.files(Queue::Append), [(3, b"abc".to_vec())]);
+    assert_eq!(left.files(Queue::Rewrite), [(1, b"d".to_vec())]);
+    assert_eq!(left.asks(), []);
+}
+
+#[test]
+fn what_no_engine_asks_is_refused_and_changes_nothing() {
+    let files = asked(&[Ask::Begin(FIRST), Ask::Begin(SECOND), Ask::Begin(REWRITTEN)]);
+    let refused = [
+        files.write(FIRST, b"."),
+        files.truncate(FIRST, 0),
+        files.rotate(SECOND),
+        files.rotate(FIRST),
+        files.delete(SECOND),
+        files.delete(REWRITTEN),
+    ];
+    for refused in refused {
+        assert_eq!(refused.unwrap_err().kind(), io::ErrorKind::InvalidInput);
+    }
+    assert_eq!(files.asked(), 3);
+    let mut byte = [0];
+    let e = files.read(FIRST, 0, &mut byte).unwrap_err();
+    assert_eq!(e.kind(), io::ErrorKind::UnexpectedEof);
+    let e = files
+        .read(FileId::new(Queue::Append, 9), 0, &mut byte)
+        .unwrap_err();
+    assert_eq!(e.kind(), io::ErrorKind::NotFound);
+}
+
+#[test]
+fn a_clone_is_a_handle_of_the_same_files() {
+    let files = MemoryFiles::new();
+    files.clone().rotate(FIRST).unwrap();
+    assert_eq!(files.list(Queue::Append).unwrap(), [(1, 0)]);
+    assert_eq!(format!("{files:?}"), "MemoryFiles { asked: 1, .. }");
+}

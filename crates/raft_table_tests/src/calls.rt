@@ -316,3 +316,32 @@ fn tables_merge(rt: HostRuntime) -> Result<()> {
     }
     Ok(())
 }
+
+/// The text of a refused run of region 7 that leaves a hole.
+const HOLE: &str =
+    "region 7: a run from index 25 on leaves a hole behind the entries, which end before index 20";
+
+/// Tests whether a call was refused as corruption with this text.
+fn is_refused_as(given: Result<u64>, text: &str) -> bool {
+    match given {
+        Err(Error::Corruption(found)) => found.as_str() == text,
+        _ => false,
+    }
+}
+
+/// Leaves a hole by an append, by a replayed run, and by a table that is merged, and returns whether each is refused with its text.
+fn names_holes(alloc: Global) -> Result<bool> {
+    let (older, newer) = ((10, 20, 1), (25, 30, 2));
+    let mut store = LogStore::after(alloc, &[Append(older)])?;
+    let appended = is_refused_as(store.direct(Append(newer)), HOLE);
+    let replayed = is_refused_as(store.direct(Replay(LogQueue::Append, newer)), HOLE);
+    let mut table = LogStore::after(alloc, &[Append(newer)])?.table;
+    let merged = is_refused_as(store.merge(&mut table, false).map(|()| 0), HOLE);
+    Ok(appended && replayed && merged)
+}
+
+#[test]
+fn holes_are_named(rt: HostRuntime) -> Result<()> {
+    assert!(rt; names_holes(rt.alloc())?);
+    Ok(())
+}

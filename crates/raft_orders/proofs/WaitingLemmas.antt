@@ -1,6 +1,6 @@
 -- Orders that wait, of all that is to be done.
-use Rattle.std.proofs.Common.{◌≡◌, ℕ, zero, suc, ◌+◌, ◌-◌, ◌<◌, ◌≤◌, List, [], ◌∷◌, length, drop, map, option_map, slice_get, Option, Some, None, IfSome, IfNone, refl, sym, ap, subst, ◌∙◌, arith}
-use Rattle.std.proofs.lemmas.Option.{slice_get-map, slice_get_past}
+use Rattle.std.proofs.Common.{◌≡◌, ℕ, zero, suc, ◌+◌, ◌-◌, ◌≤◌, List, [], ◌∷◌, length, drop, map, option_map, slice_get, Option, Some, None, IfSome, IfNone, refl, sym, ap, subst, ◌∙◌, arith}
+use Rattle.std.proofs.lemmas.Option.{slice_get-map}
 use Rattle.std.proofs.lemmas.List.{drop-drop}
 use Rattle.raft_files.specs.Asks.{Ask}
 use Rattle.raft_orders.specs.Orders.{IsOrder, all_to_do, ask_of, next_to_do}

@@ -1,4 +1,4 @@
-use Rattle.std.proofs.Common.{◌≡◌, ◌∙◌, sym, ap, option_map}
+use Rattle.std.proofs.Common.{◌∙◌, sym, ap, option_map}
 use Rattle.raft_orders.specs.Orders.{ask_of, next_to_do}
 use Rattle.raft_orders.proofs.WaitingLemmas.{first_waits, option_map_twice}
 use Rattle.raft_orders.proofs.handed_files.HandedFiles.first_order.Goals as goal

@@ -1,9 +1,7 @@
 -- What the append queue gives alone, where the rewrite queue holds no batch.
 use Rattle.std.proofs.Common.{◌≡◌, ℕ, Bool, true, false, cond, List, [], ◌∷◌, ◌++◌, map, filter, Option, Some, None, option_map, refl, sym, ap, ◌∙◌, subst}
 use Rattle.std.specs.Prelude.{◌==◌, flat_map}
-use Rattle.std.specs.Cmp.{nat_cmp_total}
 use Rattle.std.specs.FinMap as finite
-use Rattle.std.specs.FinMap.{nat_cmp-IsAntisymmetric}
 use Rattle.std.specs.FinSet as finset
 use Rattle.std.specs.List.{AllByRecursion}
 use Rattle.std.specs.Option.{option_and_then}
@@ -19,10 +17,10 @@ use Rattle.raft_records.specs.declared.key_value.OpType.TheVariants as operation
 use Rattle.raft_base.specs.Runs.{end_of}
 use Rattle.raft_table.specs.KeyValues.{Keys}
 use Rattle.raft_table.specs.Marks.{entries_within}
-use Rattle.raft_table.specs.Overlay.{deleted_of, greatest_compaction, has_clean, is_unjoined, kept_if, least_cut, overlaid_table, overlay, rewritten_within}
+use Rattle.raft_table.specs.Overlay.{deleted_of, greatest_compaction, has_clean, is_unjoined, kept_if, least_cut, overlaid_table, overlay}
 use Rattle.raft_table.specs.Start.{entries_after_replay}
 use Rattle.raft_table.specs.Steps.{AtomicGroup, Clean, Compact, Del, Put, Run, Step, Truncate, after, after_step, table_of}
-use Rattle.raft_table.specs.Table.{Table, after_replay, empty_table}
+use Rattle.raft_table.specs.Table.{Table, empty_table}
 use Rattle.raft_table.proofs.MarkTables.{own_keys}
 use Rattle.raft_history.specs.Batches.{BatchSteps, Event, batches}
 use Rattle.raft_history.specs.BothQueues.{IsReadingOfBoth}
@@ -30,16 +28,13 @@ use Rattle.raft_history.specs.Effects.{effects, effects_behind, is_named, steps_
 use Rattle.raft_history.specs.Histories.{IsOneReading, IsSoundIn}
 use Rattle.raft_history.specs.RegionSteps.{RegionStep, Tables, content_step, is_reserved, pair_step, steps_of_items, steps_on}
 use Rattle.raft_history.proofs.SoundLemmas.{without_marker}
-use Rattle.raft_history.proofs.Words.{all_steps, with_step}
+use Rattle.raft_history.proofs.Words.{with_step}
 use Rattle.raft_history.proofs.WithoutMarkers.{plain_steps, unnamed_steps}
 use Rattle.raft_accessor.specs.Accessor.{Accessor}
-use Rattle.raft_files.specs.Asks.{Ask, NumberedBytes, acts_on}
-use Rattle.raft_files.specs.Disk.{begun}
-use Rattle.raft_engine_fronts.specs.TornTails.{FilesHoldTorn}
+use Rattle.raft_files.specs.Asks.{Ask, NumberedBytes}
 use Rattle.raft_engine_fronts.proofs.TornLemmas.{one_reading}
 use Rattle.raft_engine.specs.Opened.{AreRead}
 use Rattle.raft_engine.specs.ReadBack.{IsReadBackAlone}
-use Rattle.raft_engine.specs.StoredFound.{found_asks}
 use Rattle.raft_engine.proofs.ReadBackLemmas.{unmoved_self}
 
 some_is : {A : Type 0} {x y : A} → Some x ≡ Some y → x ≡ y

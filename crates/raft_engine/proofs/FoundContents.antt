@@ -1,13 +1,12 @@
 -- The contents of the entries that an opened engine finds.
-use Rattle.std.proofs.Common.{◌≡◌, ◌⊎◌, inl, inr, ℕ, List, [], ◌∷◌, ◌++◌, Some, length, take, refl, sym, ap, ◌∙◌, subst, arith}
+use Rattle.std.proofs.Common.{◌≡◌, ◌⊎◌, inl, inr, ℕ, List, [], ◌∷◌, ◌++◌, Some, length, take, sym, ap, ◌∙◌, subst, arith}
 use Rattle.std.proofs.lemmas.List.{take_all}
-use Rattle.raft_base.specs.declared.entry_index.EntryIndex.{EntryIndex}
 use Rattle.raft_base.specs.declared.pipe_log.LogQueue.{LogQueue}
 use Rattle.raft_base.specs.declared.pipe_log.LogQueue.TheVariants.{Append, Rewrite}
 use Rattle.raft_base.specs.declared.pipe_log.Version.{Version}
 use Rattle.raft_records.specs.Item.{Item}
 use Rattle.raft_records.specs.LogBatch.{Batch}
-use Rattle.raft_files.specs.Asks.{Act, Ask, NumberedBytes, Put, Sync, acts_on, ask}
+use Rattle.raft_files.specs.Asks.{Act, Ask, NumberedBytes, Put, Sync, acts_on}
 use Rattle.raft_files.specs.Disk.{begun, cut_last}
 use Rattle.raft_files.specs.Places.{bytes_at}
 use Rattle.raft_files.proofs.LastLemmas.{last_of}
@@ -20,7 +19,7 @@ use Rattle.raft_engine.specs.FoundFiles.{IsCut, IsFirstBegun, IsReady, IsUntorn}
 use Rattle.raft_engine.specs.KeptEngine.{KeptEngine}
 use Rattle.raft_engine.specs.Opened.{IsOpened}
 use Rattle.raft_engine.specs.OpeningAsks.{asks_that_tell}
-use Rattle.raft_engine.specs.Restarts.{FoundContentsStay, StandsInCut}
+use Rattle.raft_engine.specs.Restarts.{FoundContentsStay}
 use Rattle.raft_engine.specs.StoredFound.{AreMadeReady, AreReady, FoundFilesAreReady, found_asks}
 use Rattle.raft_engine.proofs.FoundLemmas.{one_last, one_stopped}
 use Rattle.raft_engine.proofs.ReadyLemmas.{both_ready, no_last, opening_split}

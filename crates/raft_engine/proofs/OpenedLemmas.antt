@@ -8,7 +8,7 @@ use Rattle.raft_records.specs.LogBatch.{Batch, empty_batch, encoded, encoded_len
 use Rattle.raft_records.proofs.FrameLemmas.{log_batch_length}
 use Rattle.raft_history.specs.Batches.{Event}
 use Rattle.raft_accessor.specs.Accessor.{Accessor}
-use Rattle.raft_files.specs.Asks.{Ask, NumberedBytes, Put, Sync, acts_on, ask}
+use Rattle.raft_files.specs.Asks.{Ask, NumberedBytes, Put, acts_on, ask}
 use Rattle.raft_files.specs.Disk.{begun}
 use Rattle.raft_recover.specs.Files.{FilesHold}
 use Rattle.raft_engine.specs.BatchBytes.{bytes_for}

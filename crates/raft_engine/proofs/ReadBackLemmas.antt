@@ -1,10 +1,9 @@
 -- Tables that are read back of the append files, once more is asked of the files.
-use Rattle.std.proofs.Common.{◌≡◌, ◌≢◌, inl, inr, ℕ, zero, suc, ◌≤◌, Bool, true, false, cond, List, [], ◌∷◌, ◌++◌, length, map, Option, Some, None, refl, sym, ap, ◌∙◌, subst, append_assoc, append-nil, arith}
+use Rattle.std.proofs.Common.{◌≡◌, ◌≢◌, inl, ℕ, zero, suc, ◌≤◌, List, [], ◌∷◌, ◌++◌, length, map, Option, Some, None, refl, sym, ap, ◌∙◌, subst, append_assoc, append-nil, arith}
 use Rattle.std.proofs.lemmas.List.{map-append}
 use Rattle.std.specs.FinMap as finite
 use Rattle.std.specs.List.{AllByRecursion}
 use Rattle.std.specs.Ordering.{nat_cmp}
-use Rattle.std.specs.Cmp.Lexicographic.{slice_cmp}
 use Rattle.raft_base.specs.declared.compression_type.CompressionType.{CompressionType}
 use Rattle.raft_base.specs.declared.compression_type.CompressionType.TheVariants as compressions
 use Rattle.raft_base.specs.declared.entry_index.EntryIndex.{EntryIndex}
@@ -25,16 +24,15 @@ use Rattle.raft_history.specs.GoingOn.{IsReadNext, PlacedItemsAreInFile, Reading
 use Rattle.raft_history.specs.Histories.{IsOneReading, last_from}
 use Rattle.raft_history.specs.RegionSteps.{Tables, cleaned_by_steps, steps_of_items, tables_after}
 use Rattle.raft_accessor.specs.Accessor.{Accessor}
-use Rattle.raft_accessor.specs.Writes.{Appending, AreWritten, Rewriting, listed_by_items}
-use Rattle.raft_contexts.specs.MovedPlaces.{AppendedItemsFollow, AreMovedEntries, AreMovedTables, IsMovedPair, IsMovedTable, ReadingLeavesRuns, RewritingMovesPlaces}
+use Rattle.raft_accessor.specs.Writes.{Rewriting, listed_by_items}
+use Rattle.raft_contexts.specs.MovedPlaces.{AppendedItemsFollow, AreMovedEntries, AreMovedTables, IsMovedPair, ReadingLeavesRuns, RewritingMovesPlaces}
 use Rattle.raft_contexts.specs.ReadItems.{AppendedItemsAreListed, AppendedItemsAreRead, ItemsAreRead}
-use Rattle.raft_files.specs.Asks as asks
 use Rattle.raft_files.specs.Asks.{Act, Ask, Begin, Found, NumberedBytes, Put, Sync, acts_on, ask}
 use Rattle.raft_files.specs.Disk.{begun}
 use Rattle.raft_recover.specs.Files.{FilesHold}
 use Rattle.raft_engine_laws.specs.Telling.{TakeAway, TakesAway}
 use Rattle.raft_engine_fronts.specs.Done.{AreRisingFrom, numbers}
-use Rattle.raft_engine_fronts.specs.Fronts.{ArePutWhole, WrittenBatchIsPut}
+use Rattle.raft_engine_fronts.specs.Fronts.{ArePutWhole}
 use Rattle.raft_engine_fronts.proofs.EventLemmas.{files_up_to, last_low}
 use Rattle.raft_engine_fronts.proofs.FrontLemmas.{begun_whole}
 use Rattle.raft_engine_fronts.proofs.StepLemmas as steps
@@ -42,10 +40,9 @@ use Rattle.raft_engine_fronts.proofs.TornLemmas.{whole_torn}
 use Rattle.raft_engine.specs.BatchBytes.{bytes_for, event_at, place_at, placed_at}
 use Rattle.raft_engine.specs.KeptEngine.{IsLastFile}
 use Rattle.raft_engine.specs.Purged.{asks_of_items, delete_asks, put_asks}
-use Rattle.raft_engine.specs.ReadBack.{IsReadBack, IsReadBackAlone, MovedBatchesAreReadBack, NoneFound, NothingMoved, PutNothing, WrittenBatchesAreReadBack}
-use Rattle.raft_engine.specs.Rewriting.{IsBatchMoving, batch_of}
+use Rattle.raft_engine.specs.ReadBack.{IsReadBackAlone, MovedBatchesAreReadBack, NoneFound, NothingMoved, WrittenBatchesAreReadBack}
+use Rattle.raft_engine.specs.Rewriting.{batch_of}
 use Rattle.raft_engine.specs.StoredAsks.{IsWritableBatch}
-use Rattle.raft_engine.proofs.UntoldLemmas.{placed_away}
 
 some_is : {A : Type 0} {x y : A} → Some x ≡ Some y → x ≡ y
 some_is e = cc

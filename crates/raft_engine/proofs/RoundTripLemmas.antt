@@ -1,6 +1,5 @@
 -- What was written is what is recovered.
-use Rattle.std.proofs.Common.{◌≡◌, inl, inr, ℕ, ◌<◌, ◌≤◌, ◌^◌, true, List, [], ◌∷◌, ◌++◌, Vec, drop, refl, sym, ap, ◌∙◌, subst, arith}
-use Rattle.std.specs.FinMap as finite
+use Rattle.std.proofs.Common.{◌≡◌, inl, inr, ℕ, ◌<◌, ◌^◌, List, [], ◌∷◌, ◌++◌, Vec, drop, sym, ap, ◌∙◌, subst, arith}
 use Rattle.std.specs.Global.{Global}
 use Rattle.raft_base.specs.declared.pipe_log.LogQueue.{LogQueue}
 use Rattle.raft_base.specs.declared.pipe_log.LogQueue.TheVariants.{Append, Rewrite}
@@ -14,17 +13,17 @@ use Rattle.raft_history.specs.RegionSteps.{Tables}
 use Rattle.raft_history.proofs.StretchOfHistory.{sound_in_front}
 use Rattle.raft_accessor.specs.Accessor.{Accessor, AreCountsOf, live_in_all}
 use Rattle.raft_contexts.specs.MovedPlaces.{AreMovedTables}
-use Rattle.raft_files.specs.Asks.{Act, Ask, NumberedBytes, acts_on}
-use Rattle.raft_files.specs.Disk.{IsLeftOf, MayStand, begun, cut_last, deletions, files_of}
+use Rattle.raft_files.specs.Asks.{Act, NumberedBytes, acts_on}
+use Rattle.raft_files.specs.Disk.{MayStand, begun, cut_last, files_of}
 use Rattle.raft_replay.specs.Segments.{SegmentsHold}
 use Rattle.raft_recover.specs.Files.{FilesHold, bytes_of_files, whole_file}
 use Rattle.raft_recover.specs.Recovery.{AreBothRecovered, IsRecovered}
-use Rattle.raft_engine_fronts.specs.Fronts.{ArePut, ArePutWhole, HoldFrontWith, IsFrontWith}
+use Rattle.raft_engine_fronts.specs.Fronts.{ArePut, HoldFrontWith}
 use Rattle.raft_engine_fronts.specs.TornTails.{FilesHoldTorn, IsFollowedAt, StopsAt}
 use Rattle.raft_engine.specs.KeptEngine.{KeptEngine}
 use Rattle.raft_engine.specs.Opened.{IsOpened}
 use Rattle.raft_engine.specs.ReadBack.{IsReadBack, NothingMoved}
-use Rattle.raft_engine.specs.RoundTrip.{AreReadOf, HasAllAppended, IsFoundIn, IsReadingOf, IsRecoveredAs, IsRoundTrip, ReadBackIsRoundTrip}
+use Rattle.raft_engine.specs.RoundTrip.{AreReadOf, IsFoundIn, IsReadingOf, IsRecoveredAs, ReadBackIsRoundTrip}
 use Rattle.raft_engine.proofs.AloneLemmas.{read_alone}
 use Rattle.raft_engine.proofs.LastingLemmas.{held_at_sync}
 use Rattle.raft_engine.proofs.RestartLemmas.{OneReading, segments_one}

@@ -1,5 +1,5 @@
 -- Files whose reading stops can't be read.
-use Rattle.std.proofs.Common.{◌≡◌, ◌≢◌, ◌⊎◌, inl, inr, ℕ, ◌<◌, List, [], ◌∷◌, ◌++◌, length, map, refl, sym, ap, ◌∙◌, subst, append_assoc, arith}
+use Rattle.std.proofs.Common.{◌≡◌, ◌≢◌, inl, inr, ℕ, List, [], ◌∷◌, ◌++◌, map, refl, sym, ap, ◌∙◌, subst, append_assoc, arith}
 use Rattle.raft_base.specs.declared.errors.Error.{Error}
 use Rattle.raft_base.specs.declared.errors.Error.TheVariants as errors
 use Rattle.raft_base.specs.declared.pipe_log.FileId.{FileId}
@@ -13,7 +13,7 @@ use Rattle.raft_history.specs.Histories.{IsSmall, Sound}
 use Rattle.raft_history.proofs.StretchOfHistory.{small_front, sound_front}
 use Rattle.raft_files.specs.Asks.{NumberedBytes}
 use Rattle.raft_replay.specs.Segments.{HoldsFrom}
-use Rattle.raft_replay.specs.Stops.{CannotFollowAt, GoneOn, IsNothing, IsUnreadableAt, StopsAmong, history_in}
+use Rattle.raft_replay.specs.Stops.{CannotFollowAt, GoneOn, IsNothing, StopsAmong, history_in}
 use Rattle.raft_replay.proofs.MachineOrderLemmas.{each_cut}
 use Rattle.raft_replay.proofs.SegmentLemmas.{batch_unique, parts_unique}
 use Rattle.raft_replay.proofs.Words.{PartHolds, PartsHold}

@@ -1,6 +1,5 @@
 -- Contexts that read the batches of files on other threads.
 use Rattle.std.specs.Prelude.{◌⊎◌, List}
-use Rattle.raft_base.specs.declared.errors.Error.{Error}
 use Rattle.raft_base.specs.declared.pipe_log.LogQueue.TheVariants.{Append, Rewrite}
 use Rattle.raft_base.specs.declared.pipe_log.Version.{Version}
 use Rattle.raft_history.specs.Batches.{Event}

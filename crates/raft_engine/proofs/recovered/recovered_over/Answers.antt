@@ -1,13 +1,12 @@
-use Rattle.std.proofs.lemmas.Result.{err_from_is_err_and}
-use Rattle.std.proofs.Common.{inl, inr, sym, ◌∙◌, map, subst, List, Vec, Ok, Err}
+use Rattle.std.proofs.Common.{map, subst, List, Vec, Ok}
 use Rattle.std.specs.Global.{Global}
 use Rattle.raft_records.specs.FilePart.{Part}
 use Rattle.raft_files.specs.HeldFiles.{file_shown}
 use Rattle.raft_replay.specs.Segments.{SegmentsHold}
-use Rattle.raft_recover.proofs.RecoveryLemmas.{both_finished, both_recovered}
+use Rattle.raft_recover.proofs.RecoveryLemmas.{both_recovered}
 use Rattle.raft_engine.specs.Opening.{AreInRows, IsToldAtOpening}
 use Rattle.raft_engine.proofs.RecoveredLemmas.{recovered_so}
-use Rattle.raft_engine.proofs.OverLemmas.{append_replayed, none_of_files, rewrite_replayed}
+use Rattle.raft_engine.proofs.OverLemmas.{append_replayed, rewrite_replayed}
 use Rattle.raft_engine.proofs.recovered.recovered_over.Goals as goal
 
 pub returns-clause-ok : goal.returns-clause-ok

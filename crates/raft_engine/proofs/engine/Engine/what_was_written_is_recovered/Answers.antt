@@ -1,4 +1,4 @@
-use Rattle.std.proofs.Common.{ap, subst, ◌∙◌}
+use Rattle.std.proofs.Common.{subst}
 use Rattle.raft_engine_laws.specs.Stops.{synced, written}
 use Rattle.raft_engine.specs.KeptEngine.{KeptEngine}
 use Rattle.raft_engine.specs.KeptEngineView.{engine_shown}

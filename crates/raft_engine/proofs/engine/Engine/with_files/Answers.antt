@@ -1,4 +1,4 @@
-use Rattle.std.proofs.Common.{◌≡◌, refl, sym, ap, subst, ◌∙◌, List}
+use Rattle.std.proofs.Common.{refl, sym, ap, subst, ◌∙◌, List}
 use Rattle.std.specs.Fn.{FnOnceReturnsAtMut}
 use Rattle.raft_files.specs.Asks.{Ask}
 use Rattle.raft_engine.specs.KeptEngine.{KeptEngine}

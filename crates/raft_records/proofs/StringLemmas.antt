@@ -1,18 +1,20 @@
 -- On entries with their bytes.
-use Rattle.std.proofs.Common.{◌≡◌, ◌≢◌, true, ℕ, zero, suc, ◌+◌, ◌-◌, ◌^◌, ◌<◌, ◌≤◌, List, [], ◌∷◌, ◌++◌, map, length, take, drop, get_or, set, refl, sym, ap, ◌∙◌, subst, append_assoc, add-one, arith}
+use Rattle.std.proofs.Common.{◌≡◌, ◌≢◌, true, ℕ, zero, suc, ◌+◌, ◌-◌, ◌^◌, ◌<◌, ◌≤◌, List, [], ◌∷◌, ◌++◌, map, length, take, drop, get_or, set, ◌↔◌, refl, sym, ap, ◌∙◌, subst, append_assoc, add-one, arith}
 use Rattle.std.specs.Prelude.{nat_eq}
 use Rattle.std.specs.List.{concat}
 use Rattle.std.proofs.lemmas.Bool.{eqb-true}
 use Rattle.std.proofs.lemmas.List.{length-append, length-drop, length-map, length-set, drop_more, drop-append-le}
 use Rattle.raft_base.specs.declared.entry_index.EntryIndex.{EntryIndex}
+use Rattle.raft_base.specs.NoEntry.{no_entry}
 use Rattle.raft_base.specs.Runs.{IsConsecutive}
-use Rattle.raft_base.proofs.ConsecutiveLemmas.{IsConsecutiveFrom, from_start, consecutive_from, started}
-use Rattle.raft_records.specs.Item.{Item, entries_item}
-use Rattle.raft_records.specs.ItemBatch.{entry_bytes_of, entry_lengths, with_offsets_from}
+use Rattle.raft_base.proofs.ConsecutiveLemmas.{IsConsecutiveFrom, from_first, from_start, consecutive_from, started}
+use Rattle.raft_records.specs.Grammar.{end_behind}
+use Rattle.raft_records.specs.Item.{Item, entries, entries_item}
+use Rattle.raft_records.specs.ItemBatch.{FitsBehind, entry_bytes_of, entry_lengths, with_offsets_from}
 use Rattle.raft_records.specs.LogBatch.{Stage, Batch, is_open, with_entries_added}
 use Rattle.raft_records.specs.Buffer.{entry_bytes_in, IsHeld}
 use Rattle.raft_records.proofs.BatchLemmas.{end_push}
-use Rattle.raft_records.proofs.LayLemmas.{end_of_laid}
+use Rattle.raft_records.proofs.LayLemmas.{end_of_laid, laid_fits}
 use Rattle.raft_records.proofs.BufferLemmas.{open_entries, held_open, cut_to}
 use Rattle.raft_records.proofs.StageLemmas.{batch_with, open_held, entries_are, reheld}
 use Rattle.raft_records.specs.Entries.{entry_with_index, with_lengths}
@@ -139,6 +141,78 @@ found_room es found strings old new before counts is written fits whole =
 
 pub found_consecutive : (es found seen : List EntryIndex) (strings : List (List ℕ)) → seen ≡ found → found ≡ with_lengths es strings → IsConsecutive es → IsConsecutive seen
 found_consecutive es found seen strings same is h = subst IsConsecutive (sym (same ∙ is)) (lengths_consecutive es strings h)
+
+-- ---- messages
+
+-- the entries of messages, whose bytes stand from s on
+abbrev pub laid_messages : {X : Type 0} → (X → ℕ) → (X → List ℕ) → ℕ → List X → List EntryIndex
+laid_messages index_of bytes_of s xs =
+    with_offsets_from s (with_lengths (map (λ x. entry_with_index (index_of x)) xs) (map bytes_of xs))
+
+-- the entry of a message, whose bytes are so many from an offset on
+abbrev pub message_entry : ℕ → ℕ → ℕ → EntryIndex
+message_entry index offset len = record no_entry { index = index; entry_offset = offset; entry_len = len }
+
+-- the first i messages are written behind the bytes that were there, and what is left of them completes their entries
+pub record AreLaid {X : Type 0} (index_of : X → ℕ) (bytes_of : X → List ℕ) (xs : List X) (i : ℕ) (start buf : List ℕ) (now : List EntryIndex) : Type 0 where
+  pub keeps : Keeps start buf
+  pub room : 16 ≤ length buf
+  pub bytes : buf ++ concat (map bytes_of (drop i xs)) ≡ start ++ concat (map bytes_of xs)
+  pub laid : now ++ laid_messages index_of bytes_of (length buf - 16) (drop i xs) ≡ laid_messages index_of bytes_of (length start - 16) xs
+  pub small : 0 < i → length buf < 16 + 2 ^ 31
+
+pub laid_more : {X : Type 0} (index_of : X → ℕ) (bytes_of : X → List ℕ) (xs : List X) (i : ℕ) (start buf new : List ℕ) (now : List EntryIndex) (x : X) (index offset len : ℕ) → AreLaid index_of bytes_of xs i start buf now → i < length xs → x ≡ get_or xs i x → new ≡ buf ++ bytes_of x → length new < 16 + 2 ^ 31 → index ≡ index_of x → offset ≡ length buf - 16 → len ≡ length (bytes_of x) → AreLaid index_of bytes_of xs (i + 1) start new (now ++ message_entry index offset len ∷ [])
+laid_more {X} index_of bytes_of xs i start buf new now x index offset len w lt there appended fits named at counted =
+    let next = next_is xs i x lt there in
+    let behind = drop (i + 1) xs in
+    let rest = concat (map bytes_of behind) in
+    let ends : length new - 16 ≡ length buf - 16 + length (bytes_of x) = omega (arith, w.room, ap length appended, length-append buf (bytes_of x)) in
+    let tail = laid_messages index_of bytes_of (length buf - 16 + length (bytes_of x)) behind in
+    record {
+      keeps = keeps_more start buf (bytes_of x) new w.keeps appended;
+      room = omega (arith, w.room, ap length appended, length-append buf (bytes_of x));
+      bytes = ap (λ (t : List ℕ). t ++ rest) appended ∙ append_assoc buf (bytes_of x) rest ∙ ap (λ (ys : List X). buf ++ concat (map bytes_of ys)) (sym next) ∙ w.bytes;
+      laid =
+          append_assoc now (message_entry index offset len ∷ []) (laid_messages index_of bytes_of (length new - 16) behind)
+          ∙ ap (λ (n : ℕ). now ++ message_entry index offset len ∷ laid_messages index_of bytes_of n behind) ends
+          ∙ ap (λ (n : ℕ). now ++ message_entry n offset len ∷ tail) named
+          ∙ ap (λ (n : ℕ). now ++ message_entry (index_of x) n len ∷ tail) at
+          ∙ ap (λ (n : ℕ). now ++ message_entry (index_of x) (length buf - 16) n ∷ tail) counted
+          ∙ ap (λ (ys : List X). now ++ laid_messages index_of bytes_of (length buf - 16) ys) (sym next)
+          ∙ w.laid;
+      small = λ some. fits;
+    }
+
+pub laid_past : {X : Type 0} (index_of : X → ℕ) (bytes_of : X → List ℕ) (xs : List X) (i : ℕ) (start buf : List ℕ) (now : List EntryIndex) (x : X) → AreLaid index_of bytes_of xs i start buf now → i < length xs → x ≡ get_or xs i x → 16 ≤ length start → 16 + 2 ^ 31 ≤ length buf + length (bytes_of x) → 2 ^ 31 ≤ length start - 16 + length (concat (map bytes_of xs))
+laid_past index_of bytes_of xs i start buf now x w lt there room past =
+    let next = next_is xs i x lt there in
+    let rest = concat (map bytes_of (drop (i + 1) xs)) in
+    let whole = ap (λ ys. length (buf ++ concat (map bytes_of ys))) (sym next) ∙ ap length w.bytes in
+    omega (arith, room, past, whole, length-append buf (bytes_of x ++ rest), length-append (bytes_of x) rest, length-append start (concat (map bytes_of xs)))
+
+-- entries that were laid behind those of a batch
+laid_is : {X : Type 0} (index_of : X → ℕ) (bytes_of : X → List ℕ) (xs : List X) (old : List ℕ) (found : List EntryIndex) (before : ℕ) → found ≡ laid_messages index_of bytes_of (length old - 16) xs → length old ≡ 16 + before → found ≡ laid_messages index_of bytes_of before xs
+laid_is index_of bytes_of xs old found before laid whole =
+    let start : length old - 16 ≡ before = omega (arith, whole) in
+    laid ∙ ap (λ (s : ℕ). laid_messages index_of bytes_of s xs) start
+
+-- they fit behind it, and end where the bytes end
+pub laid_messages_fit : {X : Type 0} (index_of : X → ℕ) (bytes_of : X → List ℕ) (xs : List X) (old new : List ℕ) (found : List EntryIndex) (before : ℕ) → IsConsecutive (map (λ x. entry_with_index (index_of x)) xs) → found ≡ laid_messages index_of bytes_of (length old - 16) xs → new ≡ old ++ concat (map bytes_of xs) → length new < 16 + 2 ^ 31 → length old ≡ 16 + before → FitsBehind before (entries found) × (end_behind before found ≡ length new - 16)
+laid_messages_fit index_of bytes_of xs old new found before h laid written fits whole =
+    let es = map (λ x. entry_with_index (index_of x)) xs in
+    let strings = map bytes_of xs in
+    let is = laid_is index_of bytes_of xs old found before laid whole in
+    let total = lengths_total es strings (same_counts bytes_of index_of xs) in
+    let len : length new ≡ length old + length (concat strings) = ap length written ∙ length-append old (concat strings) in (
+      subst (λ (f : List EntryIndex). FitsBehind before (entries f)) (sym is) (laid_fits before (with_lengths es strings) (lengths_consecutive es strings h) (omega (arith, total, len, fits, whole))),
+      ap (end_behind before) is ∙ end_of_laid before (with_lengths es strings) ∙ omega (arith, total, len, whole),
+    )
+
+pub with_first_message : {X : Type 0} (index_of : X → ℕ) (xs : List X) (x : X) → 0 < length xs → x ≡ get_or xs 0 x → IsConsecutive (map (λ x. entry_with_index (index_of x)) xs) ↔ IsConsecutiveFrom (index_of x) (map (λ x. entry_with_index (index_of x)) xs)
+with_first_message index_of [] x l h = absurd (omega arith)
+with_first_message {X} index_of (y ∷ ys) x l h =
+    let es = map (λ x. entry_with_index (index_of x)) (y ∷ ys) in
+    subst (λ (z : X). IsConsecutive es ↔ IsConsecutiveFrom (index_of z) es) (sym h) (from_first (entry_with_index (index_of y)) (map (λ x. entry_with_index (index_of x)) ys), consecutive_from (index_of y) es)
 
 -- a refused addition, cut off again
 pub cut_held : (stage : Stage) (items kept : List Item) (old mid new cut : List ℕ) (n : ℕ) → stage ≡ is_open → IsHeld stage items (entry_bytes_in items old) old → drop 16 mid ≡ drop 16 old → Keeps mid new → n ≡ length mid → cut ≡ take n new → kept ≡ items → IsHeld stage kept (entry_bytes_in kept cut) cut

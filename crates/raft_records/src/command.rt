@@ -8,6 +8,7 @@ ghost use Rattle.raft_records.specs.Faults.{IsCommandFault};
 ghost use Rattle.raft_records.specs.Sizes.{command_size};
 ghost use Rattle.raft_records.specs.Spelling.{command_bytes};
 
+use crate::number::append_number;
 use raft_base::{AllocResult, Error, Result};
 use raft_codec::codec;
 use raft_codec::codec::BytesSlice;
@@ -117,7 +118,7 @@ fn append_indexed(buf: &mut Vec<u8>, kind: u8, index: u64) -> AllocResult<()>
 {
     let len = buf.len();
     buf.push(kind)?;
-    if let Err(e) = codec::append_var_u64(buf, index) {
+    if let Err(e) = append_number(buf, index) {
         buf.truncate(len);
         return Err(e);
     }

@@ -10,6 +10,7 @@ ghost use Rattle.raft_records.specs.ItemBatch.{raised_entry, CanRaise};
 ghost use Rattle.raft_records.specs.Sizes.{entries_size, at_most_usize};
 ghost use Rattle.raft_records.specs.Spelling.{Keeps, tails_bytes, entries_bytes};
 
+use crate::number::append_number;
 use raft_base::{
     AllocResult, CompressionType, EntryIndex, Error, FileBlockHandle, Result, is_consecutive,
 };
@@ -123,7 +124,7 @@ impl EntryIndexes {
         ensures ok { OnOk result (buf.new.items ≡ buf.old.items ++ entries_bytes self.now.0.items) }
         ensures err { OnErr result (Keeps buf.old.items buf.new.items) }
     {
-        codec::append_var_u64(buf, self.0.len() as u64)?;
+        append_number(buf, self.0.len() as u64)?;
         match self.0.first() {
             Some(first) => append_run(buf, first.index, self.0.as_slice()),
             None => Ok(()),
@@ -188,9 +189,9 @@ fn append_run(buf: &mut Vec<u8>, first: u64, entries: &[EntryIndex]) -> AllocRes
         ≡ buf.old.items ++ (varint first ++ tails_bytes entries.now)) }
     ensures err { OnErr result (Keeps buf.old.items buf.new.items) }
 {
-    codec::append_var_u64(buf, first)?;
+    append_number(buf, first)?;
     for entry in entries {
-        codec::append_var_u64(buf, tail_offset(entry))?;
+        append_number(buf, tail_offset(entry))?;
     }
     Ok(())
 }

@@ -11,6 +11,7 @@ ghost use Rattle.raft_records.specs.ReadWords.{change_of};
 ghost use Rattle.raft_records.specs.Sizes.{pair_size, at_most_usize};
 ghost use Rattle.raft_records.specs.Spelling.{Keeps, byte_string, pair_bytes, IsWritablePair};
 
+use crate::number::append_number;
 use raft_base::{AllocResult, Error, FileId, Result};
 use raft_codec::codec;
 use raft_codec::codec::BytesSlice;
@@ -231,7 +232,7 @@ fn append_byte_string(buf: &mut Vec<u8>, text: &[u8]) -> AllocResult<()>
     ensures ok { OnOk result (buf.new.items ≡ buf.old.items ++ byte_string text.now) }
     ensures err { OnErr result (Keeps buf.old.items buf.new.items) }
 {
-    codec::append_var_u64(buf, text.len() as u64)?;
+    append_number(buf, text.len() as u64)?;
     buf.extend_from_slice(text)
 }
 

@@ -13,6 +13,7 @@ pub mod laws;
 pub mod log_batch;
 pub mod log_item;
 pub mod log_item_batch;
+mod number;
 pub mod print;
 pub mod read_batch;
 

@@ -11,6 +11,7 @@ ghost use Rattle.raft_records.specs.Range.{IsInRange};
 ghost use Rattle.raft_records.specs.Sizes.{item_size, at_most_usize};
 ghost use Rattle.raft_records.specs.Spelling.{Keeps, item_bytes, content_bytes, IsWritable};
 
+use crate::number::append_number;
 use crate::{Command, EntryIndexes, KeyValue, OpType};
 use raft_base::{AllocResult, CompressionType, EntryIndex, Error, FileBlockHandle, Result};
 use raft_codec::codec;
@@ -187,7 +188,7 @@ impl LogItem {
         ensures ok { OnOk result (buf.new.items ≡ buf.old.items ++ item_bytes (item_of self.now)) }
         ensures err { OnErr result (Keeps buf.old.items buf.new.items) }
     {
-        codec::append_var_u64(buf, self.raft_group_id)?;
+        append_number(buf, self.raft_group_id)?;
         self.content.write(buf)
     }
 

@@ -18,6 +18,7 @@ ghost use Rattle.raft_records.specs.declared.key_value.OpType.TheVariants.{Put, 
 mod places;
 
 use crate::checksum::{LOG_BATCH_CHECKSUM_LEN, sign};
+use crate::number::append_number;
 use crate::{Command, LogItem, LogItemContent, OpType, ReadBatch};
 use byteorder::{ByteOrder, LittleEndian};
 use places::{place_items, raise_item_offsets, set_offsets};
@@ -26,7 +27,6 @@ use raft_base::{
     Message, Result,
 };
 use raft_checksum::crc32;
-use raft_codec::codec;
 use raft_codec::codec::BytesSlice;
 use std::alloc::Global;
 use std::marker::Model;
@@ -186,6 +186,22 @@ impl LogItemBatch {
     {
         let start = self.entries_size();
         let end = set_offsets(&mut entry_indexes, start);
+        Ok(self.add(LogItem::new_entry_indexes(region, entry_indexes), end)?)
+    }
+
+    /// Adds entries of a region that have their offsets, behind the bytes of the batch, up to `end`. On `Err` the
+    /// batch is as it was.
+    pub(crate) fn add_laid_entries(
+        &mut self,
+        region: u64,
+        entry_indexes: Vec<EntryIndex>,
+        end: u32,
+    ) -> AllocResult<()>
+        requires fits { FitsBehind (entry_bytes_of self.old) (entries entry_indexes.items) }
+        requires end { end ≡ end_of_content (entry_bytes_of self.old) (entries entry_indexes.items) }
+        ensures ok { OnOk result (self.new ≡ self.old ++ entries_item region entry_indexes.items ∷ []) }
+        ensures err { OnErr result (self.new ≡ self.old) }
+    {
         self.add(LogItem::new_entry_indexes(region, entry_indexes), end)
     }
 
@@ -200,7 +216,7 @@ impl LogItemBatch {
         ensures memory { IfErr result (λ e. e ≡ Error.Memory) }
     {
         let entries_size = self.entries_size;
-        self.add(LogItem::new_command(region, command), entries_size)
+        Ok(self.add(LogItem::new_command(region, command), entries_size)?)
     }
 
     /// Adds the removal of a region's key.
@@ -215,10 +231,10 @@ impl LogItemBatch {
         ensures memory { IfErr result (λ e. e ≡ Error.Memory) }
     {
         let entries_size = self.entries_size();
-        self.add(
+        Ok(self.add(
             LogItem::new_kv(region, OpType::Del, key, None),
             entries_size,
-        )
+        )?)
     }
 
     /// Adds a value of a region's key.
@@ -233,10 +249,10 @@ impl LogItemBatch {
         ensures memory { IfErr result (λ e. e ≡ Error.Memory) }
     {
         let entries_size = self.entries_size();
-        self.add(
+        Ok(self.add(
             LogItem::new_kv(region, OpType::Put, key, Some(value)),
             entries_size,
-        )
+        )?)
     }
 
     /// Adds a message as the value of a region's key.
@@ -400,14 +416,13 @@ impl LogItemBatch {
     /// Adds an item whose entries' bytes, if any, begin where those of the batch end, and end at
     /// `entries_size`.
     #[inline(always)]
-    pub(crate) fn add(&mut self, item: LogItem, entries_size: u32) -> Result<()>
+    pub(crate) fn add(&mut self, item: LogItem, entries_size: u32) -> AllocResult<()>
         requires fits { FitsBehind (entry_bytes_of self.old) (content_of item.content) }
         requires in_bytes { IsInBytes (content_of item.content) }
         requires end { entries_size
             ≡ end_of_content (entry_bytes_of self.old) (content_of item.content) }
         ensures ok { OnOk result (self.new ≡ self.old ++ item_of item ∷ []) }
         ensures err { OnErr result (self.new ≡ self.old) }
-        ensures memory { IfErr result (λ e. e ≡ Error.Memory) }
     {
         item.numbers_fit();
         let size = item.approximate_size();
@@ -478,7 +493,7 @@ fn write_items(buf: &mut Vec<u8>, items: &[LogItem]) -> AllocResult<()>
         ≡ buf.old.items ++ (item_batch_bytes (map item_of items.now) ++ no_checksum)) }
     ensures err { OnErr result (Keeps buf.old.items buf.new.items) }
 {
-    codec::append_var_u64(buf, items.len() as u64)?;
+    append_number(buf, items.len() as u64)?;
     for item in items {
         item.write(buf)?;
     }

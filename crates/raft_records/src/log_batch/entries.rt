@@ -1,6 +1,6 @@
 //! Entries with their bytes in batches, and batches put together.
 
-ghost use Rattle.std.specs.Prelude.{◌≡◌, ◌≢◌, ◌+◌, ◌-◌, ◌^◌, ◌<◌, ◌≤◌, [], ◌∷◌, ◌++◌, map, length, IfOk, IfErr, OnOk, OnErr, drop, vec_capacity};
+ghost use Rattle.std.specs.Prelude.{◌≡◌, ◌≢◌, ◌+◌, ◌-◌, ◌^◌, ◌<◌, ◌≤◌, [], ◌∷◌, ◌++◌, map, length, IfOk, IfErr, OnOk, OnErr, drop, IsTrue, ◌↔◌, vec_len, vec_capacity};
 ghost use Rattle.std.specs.List.{concat};
 ghost use Rattle.raft_base.specs.Runs.{IsConsecutive};
 ghost use Rattle.raft_records.specs.Entries.{entry_with_index, with_lengths};
@@ -13,8 +13,7 @@ ghost use Rattle.raft_records.specs.Spelling.{Keeps};
 use super::{MAX_LOG_BATCH_BUFFER_CAP, MAX_LOG_ENTRIES_SIZE_PER_BATCH};
 use crate::header::{LOG_BATCH_HEADER_LEN, reserve_header};
 use crate::{LogBatch, LogItemBatch};
-use raft_base::{AllocResult, EntryIndex, Error, Message, MessageExt, Result, is_consecutive};
-use std::alloc::Global;
+use raft_base::{AllocResult, CompressionType, EntryIndex, Error, Message, MessageExt, Result};
 use std::mem;
 
 /// The most bytes that the buffer of an open batch has.
@@ -219,60 +218,71 @@ fn write_messages<M: MessageExt>(
         (map (λ e. entry_with_index (M.index_of e)) entries.now)
         (entry_bytes_of item_batch.old + length (concat (map M.Entry.bytes_of entries.now)))) }
 {
-    let mut entry_indexes = indexed_entries::<M>(*buf.allocator(), entries)?;
-    if !is_consecutive(entry_indexes.as_slice()) {
+    let mut entry_indexes = Vec::with_capacity(*buf.allocator(), entries.len())?;
+    if !have_consecutive_indexes::<M>(entries) {
         return Err(Error::invalid_argument(
             *buf.allocator(),
             "the indexes of the entries are not consecutive",
         ));
     }
     append_messages::<M>(buf, &mut entry_indexes, entries)?;
-    item_batch.add_entry_indexes(region, entry_indexes)
+    let end = (buf.len() - LOG_BATCH_HEADER_LEN) as u32;
+    Ok(item_batch.add_laid_entries(region, entry_indexes, end)?)
 }
 
-/// Returns entries with the indexes of messages, in their order, without lengths.
-fn indexed_entries<M: MessageExt>(
-    alloc: Global,
-    entries: &[M::Entry],
-) -> AllocResult<Vec<EntryIndex>>
-    ensures { IfOk result (λ es. es.items
-        ≡ map (λ e. entry_with_index (M.index_of e)) entries.now) }
+/// Tests whether the indexes of messages rise by one from message to message and none is 2^64 - 1.
+fn have_consecutive_indexes<M: MessageExt>(entries: &[M::Entry]) -> bool
+    ensures { IsTrue result ↔ IsConsecutive (map (λ e. entry_with_index (M.index_of e)) entries.now) }
 {
-    let mut entry_indexes = Vec::with_capacity(alloc, entries.len())?;
+    let mut index = match entries.first() {
+        Some(first) => M::index(first),
+        None => return true,
+    };
     for entry in entries {
-        entry_indexes.push(EntryIndex {
-            index: M::index(entry),
-            ..EntryIndex::default()
-        })?;
+        if M::index(entry) != index || index == u64::MAX {
+            return false;
+        }
+        index += 1;
     }
-    Ok(entry_indexes)
+    true
 }
 
-/// Appends the bytes of messages, and sets the lengths of their entries. `Full` where an open batch's buffer
-/// may not have so many. On `Err` some bytes may follow those of the buffer.
+/// Appends the bytes of messages, and the entries that they are to a list with room for them, each with index,
+/// offset and length. `Full` where an open batch's buffer may not have so many. On `Err` some bytes may follow
+/// those of the buffer.
 fn append_messages<M: MessageExt>(
     buf: &mut Vec<u8>,
     entry_indexes: &mut Vec<EntryIndex>,
     entries: &[M::Entry],
 ) -> Result<()>
     requires room { 16 ≤ length buf.old.items }
-    requires counts { length entry_indexes.old.items ≡ length entries.now }
+    requires none { vec_len entry_indexes.old ≡ 0 }
+    requires places { length entries.now ≤ vec_capacity entry_indexes.old }
     ensures bytes { OnOk result
         (buf.new.items ≡ buf.old.items ++ concat (map M.Entry.bytes_of entries.now)) }
-    ensures lengths { OnOk result (entry_indexes.new.items
-        ≡ with_lengths entry_indexes.old.items (map M.Entry.bytes_of entries.now)) }
+    ensures laid { OnOk result (entry_indexes.new.items
+        ≡ with_offsets_from (length buf.old.items - 16)
+        (with_lengths (map (λ e. entry_with_index (M.index_of e)) entries.now)
+        (map M.Entry.bytes_of entries.now))) }
     ensures accepted { OnOk result (entries.now ≢ [] → length buf.new.items < 16 + 2 ^ 31) }
     ensures err { OnErr result (Keeps buf.old.items buf.new.items) }
     ensures fault { IfErr result (IsBytesFault (OneRefuses M.Entry.refuses entries.now)
         (length buf.old.items - 16 + length (concat (map M.Entry.bytes_of entries.now)))) }
 {
-    for (i, entry) in entries.iter().enumerate() {
+    for entry in entries {
         let start = buf.len();
         entry.write_to_vec(buf)?;
-        if buf.len() > MOST_OPEN_BYTES {
+        let end = buf.len();
+        if end > MOST_OPEN_BYTES {
             return Err(Error::Full);
         }
-        entry_indexes[i].entry_len = (buf.len() - start) as u32;
+        entry_indexes.push_reserved(EntryIndex {
+            index: M::index(entry),
+            entries: None,
+            compression_type: CompressionType::None,
+            entry_offset: (start - LOG_BATCH_HEADER_LEN) as u32,
+            entry_len: (end - start) as u32,
+        });
     }
     Ok(())
 }

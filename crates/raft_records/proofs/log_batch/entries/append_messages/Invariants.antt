@@ -1,5 +1,12 @@
-use Rattle.raft_records.proofs.StringLemmas.{IsStringing}
+use Rattle.std.proofs.Common.{◌≡◌, ◌≤◌, length}
+use Rattle.std.specs.Vec.{vec_len, vec_capacity}
+use Rattle.raft_records.proofs.StringLemmas.{AreLaid}
 use Rattle.raft_records.proofs.log_batch.entries.append_messages.Given as goal
 
-abbrev pub invariant-loop-i : goal.invariant-loop-i
-invariant-loop-i g l = IsStringing g.M.Entry.Message.bytes_of l.fn.entry_indexes.items l.entries l.i l.fn.buf.items l.buf.items l.entry_indexes.items
+-- the entries so far are laid, and there is room for the others
+abbrev pub invariant-loop-entry : goal.invariant-loop-entry
+invariant-loop-entry g l = record {
+  laid : AreLaid g.M.MessageExt.index_of g.M.Entry.Message.bytes_of l.entries l.entry-index l.fn.buf.items l.buf.items l.entry_indexes.items;
+  len : vec_len l.entry_indexes ≡ l.entry-index;
+  places : length l.entries ≤ vec_capacity l.entry_indexes;
+}

@@ -1,0 +1,11 @@
+use Rattle.std.proofs.Common.{◌↔◌, drop, map}
+use Rattle.raft_base.specs.Runs.{IsConsecutive}
+use Rattle.raft_base.proofs.ConsecutiveLemmas.{IsConsecutiveFrom}
+use Rattle.raft_records.specs.Entries.{entry_with_index}
+use Rattle.raft_records.proofs.log_batch.entries.have_consecutive_indexes.Given as goal
+
+-- what is left to see decides
+abbrev pub invariant-loop-entry : goal.invariant-loop-entry
+invariant-loop-entry g l =
+    IsConsecutive (map (λ e. entry_with_index (g.M.MessageExt.index_of e)) l.entries)
+    ↔ IsConsecutiveFrom l.index (map (λ e. entry_with_index (g.M.MessageExt.index_of e)) (drop l.entry-index l.entries))

@@ -1,0 +1,8 @@
+use Rattle.raft_codec.specs.Varint.{varint}
+use Rattle.raft_codec.proofs.VarintLemmas.{septets_last}
+use Rattle.raft_records.proofs.number.append_number.Goals as goal
+
+pub returns-then-number-lt128-clause-ok : goal.returns-then-number-lt128-clause-ok
+unfolding varint
+returns-then-number-lt128-clause-ok c =
+    rw (septets_last 9 c.args.number c.if-number-lt128.true) (c.in_ok-push.ensures.items)

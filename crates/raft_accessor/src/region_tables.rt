@@ -232,6 +232,7 @@ impl RegionTables {
     /// Puts a run that is read again into its region's table, which is made where there is none, and
     /// returns where the entries of the table began and ended before. Where nothing is returned, tables
     /// and counts are as they were.
+    #[inline(always)]
     pub(crate) fn try_replay(
         &mut self,
         queue: LogQueue,

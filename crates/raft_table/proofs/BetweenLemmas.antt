@@ -1,6 +1,6 @@
 -- Blocks put between others.
 use Rattle.std.proofs.Common.{◌≡◌, ℕ, zero, suc, ◌+◌, ◌-◌, ◌<◌, ◌≤◌, ◌^◌, min, Bool, true, false, List, [], ◌∷◌, ◌++◌, length, get_or, take, drop, refl, sym, ap, ◌∙◌, subst, arith, inl, inr}
-use Rattle.std.proofs.lemmas.List.{append_assoc, length-append, length-drop, length-take-le, take_more, drop_more, drop-append-le}
+use Rattle.std.proofs.lemmas.List.{nil_from_length, append_assoc, length-append, length-drop, length-take-le, take_more, drop_more, drop-append-le}
 use Rattle.std.proofs.lemmas.Bool.{cases_lt}
 use Rattle.raft_base.specs.declared.pipe_log.LogQueue.TheVariants.{Append, Rewrite}
 use Rattle.raft_table.specs.Blocks.{BlockSpans, entries_in_blocks, AreDistinctBlocks}
@@ -122,6 +122,19 @@ pushed_length j x ys t ss e =
     let z = j + count ys in
     length-append ss (drop k (x ∷ [])) ∙ ap (λ n. length ss + n) (length-drop k (x ∷ []) ∙ sym (length-drop k (z ∷ []))) ∙ sym (length-append ss (drop k (z ∷ [])))
     ∙ ap length (pushed_starts j z ys t ss e refl) ∙ length-starts j (joined_blocks ys (t ∷ []))
+
+-- a block after others adds one block and its first index, or none where it has the place of the last
+pub pushed_count : (x : ℕ) (ys : List BlockSpans) (t : BlockSpans) → length ys + length (drop (seam ys (t ∷ [])) (x ∷ [])) ≡ length (joined_blocks ys (t ∷ []))
+pushed_count x ys t =
+    let k = drop (seam ys (t ∷ [])) (x ∷ []) in
+    ap (λ n. n + length k) (sym (length-starts 0 ys)) ∙ sym (length-append (starts_of 0 ys) k) ∙ pushed_length 0 x ys t (starts_of 0 ys) refl
+
+pub none_left : (x k : ℕ) → length (drop k (x ∷ [])) ≡ 0 → drop k (x ∷ []) ≡ []
+none_left x k e = nil_from_length (drop k (x ∷ [])) e
+
+pub one_left : (x k : ℕ) → 0 < length (drop k (x ∷ [])) → drop k (x ∷ []) ≡ x ∷ []
+one_left x zero l = refl
+one_left x (suc k) l = let n = length-drop (suc k) (x ∷ []) in absurd (omega arith)
 
 -- numbers of entries and of a run between them
 pub between_fits : {i n j m : ℕ} {bs ys : List BlockSpans} {ss us : List ℕ} {r q : ℕ} → AreKept i n bs ss r → AreKept j m ys us q → (p : ℕ) → 0 < length (entries_in_blocks j ys) → p + length (entries_in_blocks j ys) < length (entries_in_blocks i bs) → (0 < m) × (p + m < n) × (i + n < 2 ^ 64) × (q ≤ m) × (r ≤ n)

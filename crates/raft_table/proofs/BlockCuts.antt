@@ -1,11 +1,11 @@
 -- What a cut leaves of blocks.
-use Rattle.std.proofs.Common.{◌≡◌, ◌^◌, ℕ, zero, suc, ◌+◌, ◌-◌, ◌<◌, ◌≤◌, min, List, [], ◌∷◌, ◌++◌, length, get_or, set, take, drop, refl, sym, ap, ◌∙◌, subst, arith}
+use Rattle.std.proofs.Common.{◌≡◌, ◌≢◌, inl, inr, ◌^◌, ℕ, zero, suc, ◌+◌, ◌-◌, ◌<◌, ◌≤◌, min, List, [], ◌∷◌, ◌++◌, length, get_or, set, take, drop, refl, sym, ap, ◌∙◌, subst, arith}
 use Rattle.std.proofs.lemmas.List.{nil_from_length, append-nil, length-drop, length-take-le, take-append-drop}
 use Rattle.raft_base.specs.declared.pipe_log.LogQueue.TheVariants.{Append, Rewrite}
 use Rattle.raft_base.specs.Runs.{end_of, entries_of_block}
 use Rattle.raft_base.proofs.ConsecutiveLemmas.{end_bounded}
 use Rattle.raft_table.specs.Blocks.{BlockSpans, entries_in_blocks, Differs, AreDistinctBlocks}
-use Rattle.raft_table.specs.BlockWords.{count, starts_of, AreKept, first_spans, without_first_spans, first_of_last, without_first_of_first, IsAt, IsIndexOf}
+use Rattle.raft_table.specs.BlockWords.{count, starts_of, AreStarts, AreKept, first_spans, without_first_spans, first_of_last, without_first_of_first, IsAt, IsIndexOf}
 use Rattle.raft_table.specs.TableEntries.{AreTableEntries, start_of, placed_in, entry_count}
 use Rattle.raft_table.proofs.PlaceLemmas.{entries_in_both}
 use Rattle.raft_table.proofs.RunLemmas.{start-of_rising, end_of-run}
@@ -46,6 +46,55 @@ found {i} {n} {x} {k} {o} {bs} h f w e l = let m = h.len in subst (λ z. IsAt z 
 
 pub kept_length : {i n : ℕ} {bs : List BlockSpans} {ss : List ℕ} {r : ℕ} → AreKept i n bs ss r → length ss ≡ length bs
 kept_length {i} {n} {bs} h = ap length h.starts ∙ length-starts i bs
+
+-- what is kept, with these first indexes
+pub kept_with : {i n : ℕ} {bs : List BlockSpans} {ss us : List ℕ} {r : ℕ} → AreKept i n bs ss r → us ≡ starts_of i bs → AreKept i n bs us r
+kept_with h e = record { table_entries = h.table_entries; distinct = h.distinct; starts = e; len = h.len; rewritten = h.rewritten }
+
+-- a table's blocks end below 2^64
+some_count : (bs : List BlockSpans) → AreDistinctBlocks bs → 0 < length bs → 0 < count bs
+some_count [] d l = l
+some_count (b ∷ bs) d l = let h = d.0 in omega arith
+
+pub kept_bounded : {i n : ℕ} {bs : List BlockSpans} {ss : List ℕ} {r : ℕ} → AreKept i n bs ss r → 0 < length bs → i + count bs < 2 ^ 64
+kept_bounded {i} {n} {bs} h l =
+    let k = h.len in
+    let s = some_count bs h.distinct l in
+    let b = (kept_facts h).bounded (omega arith) in
+    omega arith
+
+-- an index within, and where it is found
+pub within_of : {i n x : ℕ} {bs : List BlockSpans} {ss : List ℕ} {r : ℕ} → AreKept i n bs ss r → (w : ℕ) → x ≡ i + w → w < n
+    → (i ≤ x) × (x < i + count bs)
+within_of h w e l = let k = h.len in (omega arith, omega arith)
+
+pub spot_at : {k o : ℕ} {bs : List BlockSpans} (i x : ℕ) → IsAt (x - i) bs k o → (w : ℕ) → x ≡ i + w → IsAt w bs k o
+spot_at {k} {o} {bs} i x a w e = subst (λ z. IsAt z bs k o) (let q : x - i ≡ w = omega arith in q) a
+
+-- first indexes that are kept, if any are: as many as blocks, and what a cut leaves of them
+pub starts_kept : (i : ℕ) (bs : List BlockSpans) (ss : List ℕ) → AreStarts i bs ss → 0 < length ss → ss ≡ starts_of i bs
+starts_kept i bs ss (inl e) l = absurd (omega (arith, ap length e))
+starts_kept i bs ss (inr e) l = e
+
+pub starts_length : (i : ℕ) (bs : List BlockSpans) (ss : List ℕ) → AreStarts i bs ss → ss ≢ [] → length ss ≡ length bs
+starts_length i bs ss (inl e) d = absurd (d e)
+starts_length i bs ss (inr e) d = ap length e ∙ length-starts i bs
+
+pub starts_dropped : (i x k : ℕ) (bs cs : List BlockSpans) (ss us : List ℕ) → AreStarts i bs ss → k < length bs → (ss ≡ [] → us ≡ [])
+    → (ss ≢ [] → us ≡ set (drop k ss) 0 x) → set (drop k (starts_of i bs)) 0 x ≡ starts_of x cs → AreStarts x cs us
+starts_dropped i x k bs cs ss us (inl e) l f g h = inl (f e)
+starts_dropped i x k bs cs ss us (inr e) l f g h =
+    let d : ss ≢ [] = λ (z : ss ≡ []). let n = ap length z in let m = ap length e ∙ length-starts i bs in absurd (omega arith) in
+    inr (g d ∙ ap (λ xs. set (drop k xs) 0 x) e ∙ h)
+
+take_none : (k : ℕ) (xs : List ℕ) → xs ≡ [] → take k xs ≡ []
+take_none zero xs e = refl
+take_none (suc k) xs e = rw e refl
+
+pub starts_taken : (i k : ℕ) (bs cs : List BlockSpans) (ss us : List ℕ) → AreStarts i bs ss → us ≡ take k ss
+    → take k (starts_of i bs) ≡ starts_of i cs → AreStarts i cs us
+starts_taken i k bs cs ss us (inl e) f h = inl (f ∙ take_none k ss e)
+starts_taken i k bs cs ss us (inr e) f h = inr (f ∙ ap (take k) e ∙ h)
 
 pub kept_nil : (i n : ℕ) (bs : List BlockSpans) (ss : List ℕ) (r : ℕ) → bs ≡ [] → ss ≡ [] → n ≡ 0 → r ≡ 0 → AreKept i n bs ss r
 unfolding placed_in

@@ -16,7 +16,7 @@ use Rattle.raft_table.proofs.RunLemmas.{start-of_rising, end_of-run}
 use Rattle.raft_table.proofs.PlaceLemmas.{entry_count-append, entries_in_one}
 use Rattle.raft_table.proofs.SoundLemmas.{sound_rising, cut_counts}
 use Rattle.raft_table.proofs.BlockLemmas.{length-spread, rises_spread, length-expanded, length-starts, rises_expanded}
-use Rattle.raft_table.proofs.BlockCuts.{IsFront, kept_facts, kept_length}
+use Rattle.raft_table.proofs.BlockCuts.{IsFront, kept_with, kept_facts, kept_length}
 use Rattle.raft_table.proofs.BlockJoins.{seam_cut, kept_put}
 
 rises_behind : (s : ℕ) (a b : List EntryIndex) → RisesFrom s (a ++ b) → RisesFrom (s + length a) b
@@ -156,3 +156,17 @@ kept_join {i} {n} {j} {m} {bs} {ys} {ss} {tt} {r} {q} h g w k o rest l d f p s e
 pub blocks_filled : (i : ℕ) (bs : List BlockSpans) → 0 < length (entries_in_blocks i bs) → 0 < length bs
 blocks_filled i [] l = l
 blocks_filled i (b ∷ bs) l = omega arith
+
+-- the same without first indexes
+pub kept_join_few : {i n j m : ℕ} {bs ys : List BlockSpans} {ss us : List ℕ} {r q : ℕ} → AreKept i n bs ss r → AreKept j m ys us q → (w k o : ℕ)
+    → 0 < w → w ≤ n → IsFront i w k bs (first_of_last o (take k bs)) → 0 < m → AreTableEntries (take w (entries_in_blocks i bs) ++ entries_in_blocks j ys)
+    → IsKeptAs i (w + m) (joined_blocks (first_of_last o (take k bs)) ys) (starts_of i (joined_blocks (first_of_last o (take k bs)) ys)) (min r w + q)
+    (take w (entries_in_blocks i bs) ++ entries_in_blocks j ys)
+kept_join_few {i} {n} {j} {m} {bs} {ys} {ss} {us} {r} {q} h g w k o l d f p s =
+    let joined = joined_blocks (first_of_last o (take k bs)) ys in
+    let a = kept_join h g w k o (length bs) l d f p s refl in
+    let e : joined ++ drop (length bs) bs ≡ joined = ap (λ xs. joined ++ xs) (drop_all (length bs) bs (omega arith)) ∙ append-nil joined in
+    record {
+      kept = subst (λ xs. AreKept i (w + m) xs (starts_of i xs) (min r w + q)) e (kept_with a.kept refl);
+      entries = ap (entries_in_blocks i) (sym e) ∙ a.entries;
+    }

@@ -1,6 +1,6 @@
 -- Blocks and their entries: how many, from which indexes on, and one after the other.
 use Rattle.std.proofs.Common.{◌≡◌, ℕ, zero, suc, ◌+◌, ◌-◌, ◌<◌, ◌≤◌, ◌^◌, true, List, [], ◌∷◌, ◌++◌, length, get_or, take, drop, refl, sym, ap, ◌∙◌, arith}
-use Rattle.std.proofs.lemmas.List.{append_assoc, length-append}
+use Rattle.std.proofs.lemmas.List.{append_assoc, length-append, take_more}
 use Rattle.std.specs.List.{AllByRecursion}
 use Rattle.std.specs.List.Sorted.{IsNonDecreasingBy}
 use Rattle.raft_base.specs.declared.pipe_log.FileBlockHandle.{FileBlockHandle}
@@ -127,3 +127,8 @@ pub count_take_more : (j : ℕ) (bs : List BlockSpans) (d : BlockSpans) → j < 
 count_take_more j [] d l = absurd (omega arith)
 count_take_more zero (b ∷ bs) d l = omega arith
 count_take_more (suc j) (b ∷ bs) d l = let h = count_take_more j bs d (omega arith) in omega arith
+
+-- the first index of one more block
+pub starts_more : (i k : ℕ) (bs : List BlockSpans) (d : BlockSpans) → k < length bs
+    → starts_of i (take (k + 1) bs) ≡ starts_of i (take k bs) ++ (i + count (take k bs)) ∷ []
+starts_more i k bs d l = ap (starts_of i) (take_more bs k d l) ∙ starts-append i (take k bs) (get_or bs k d ∷ [])

@@ -1,6 +1,7 @@
 -- Where an entry stands among blocks.
 use Rattle.std.proofs.Common.{◌≡◌, ℕ, zero, suc, ◌+◌, ◌-◌, ◌<◌, ◌≤◌, false, true, eqb, List, [], ◌∷◌, ◌++◌, length, get_or, take, drop, refl, sym, ap, ◌∙◌, subst, arith, inl, inr, Some}
-use Rattle.std.proofs.lemmas.List.{append_assoc, drop-drop, drop_at, drop-append-le, take-append-le, take-append-drop, drop_more, take_all, length-take-le, get_or-drop}
+use Rattle.std.proofs.lemmas.Bool.{cases_lt}
+use Rattle.std.proofs.lemmas.List.{get_or_default, append_assoc, drop-drop, drop_at, drop-append-le, take-append-le, take-append-drop, drop_more, take_all, length-take-le, get_or-drop}
 use Rattle.std.proofs.Math.Nat.{eq-or-lt_of_le}
 use Rattle.std.proofs.lemmas.Bool.Decides.{nat_tests}
 use Rattle.std.specs.List.Sorted.{IsNonDecreasingBy}
@@ -160,3 +161,26 @@ entry_is i p k o bs b s d a e f =
     let head : get_or (drop p es) 0 d ≡ entry_of (i + p) b.handle s = rw (tail, drop_more b.spans o s inside, ← f) refl in
     let z : p + 0 ≡ p = omega arith in
     sym (sym (get_or-drop p es 0 d ∙ ap (λ m. get_or es m d) z) ∙ head)
+
+-- blocks that are walked until so many entries are behind: the next block is there, and the entry stands in it, or behind it
+pub walked_within : (k o p : ℕ) (bs : List BlockSpans) → count (take k bs) + o ≡ p → p < count bs → k < length bs
+walked_within k o p bs e l = elim (cases_lt k (length bs)) [
+  | inl h ↦ h
+  | inr h ↦ let t = ap count (take_all k bs h) in absurd (omega arith)
+]
+
+pub walked_found : (k o p : ℕ) (bs : List BlockSpans) (b : BlockSpans) → count (take k bs) + o ≡ p → k < length bs → b ≡ get_or bs k b
+    → o < length b.spans → IsAt p bs k o
+walked_found k o p bs b e l f h = record {
+  block = l;
+  spot = e;
+  inside = λ d. let z : get_or bs k d ≡ b = get_or_default bs k d b l ∙ sym f in subst (λ (y : BlockSpans). o < length y.spans) (sym z) h;
+}
+
+pub walked_more : (k o p : ℕ) (bs : List BlockSpans) (b : BlockSpans) → count (take k bs) + o ≡ p → k < length bs → b ≡ get_or bs k b
+    → length b.spans ≤ o → count (take (k + 1) bs) + (o - length b.spans) ≡ p
+walked_more k o p bs b e l f h =
+    let z : k + 1 ≡ suc k = omega arith in
+    let m = count_take_more k bs b l in
+    let n : length b.spans ≡ length (get_or bs k b).spans = ap (λ (y : BlockSpans). length y.spans) f in
+    rw z (omega arith)

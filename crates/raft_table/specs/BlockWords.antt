@@ -1,5 +1,5 @@
 -- How a table keeps its blocks, and what its own calls do to them.
-use Rattle.std.specs.Prelude.{◌≡◌, ℕ, ◌+◌, ◌<◌, ◌≤◌, List, [], ◌∷◌, ◌++◌, length, take, drop, map, slice_index_or, if◌then◌else◌}
+use Rattle.std.specs.Prelude.{◌≡◌, ◌⊎◌, ℕ, ◌+◌, ◌<◌, ◌≤◌, List, [], ◌∷◌, ◌++◌, length, take, drop, map, slice_index_or, if◌then◌else◌}
 use Rattle.raft_base.specs.declared.pipe_log.LogQueue.TheVariants.{Rewrite}
 use Rattle.raft_base.specs.declared.entry_index.EntryIndex.{EntryIndex}
 use Rattle.raft_table.specs.Blocks.{BlockSpans, entries_in_blocks, AreDistinctBlocks}
@@ -29,6 +29,10 @@ with_spans (s ∷ ss) (e ∷ es) = record e { entry_offset = s.0; entry_len = s.
 abbrev pub starts_of : ℕ → List BlockSpans → List ℕ
 starts_of i [] = []
 starts_of i (b ∷ bs) = i ∷ starts_of (i + length b.spans) bs
+
+-- the first index of each block, or none at all
+abbrev pub AreStarts : ℕ → List BlockSpans → List ℕ → Type 0
+AreStarts i bs ss = (ss ≡ []) ⊎ (ss ≡ starts_of i bs)
 
 -- what a table keeps: its entries in longest blocks, the first index of each block, how many entries there are, and how many of them are rewritten
 pub record AreKept (i n : ℕ) (bs : List BlockSpans) (ss : List ℕ) (r : ℕ) : Type 0 where

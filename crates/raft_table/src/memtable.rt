@@ -251,6 +251,7 @@ impl MemTable {
     /// returns whether it did. It does not where those refuse, nor where the table has records of the
     /// other queue. The table and the counts are then as they were.
     #[doc(hidden)]
+    #[inline(always)]
     pub fn try_replay(&mut self, queue: LogQueue, run: &Run<'_>, stats: &mut GlobalStats) -> bool
         requires run { IsRunIn queue (run_shown run.now) }
         requires counted { IsCounted self.old stats.old }

@@ -41,6 +41,7 @@ impl MemTableAccessor {
     /// Puts a run that is read again, and returns where the entries of its region's table, which is made
     /// where there is none, ended before. Nothing is returned where [`MemTableAccessor::take_step`] refuses
     /// the run, as for want of memory. All tables are then as they were.
+    #[inline(never)]
     pub fn try_replay_run(&mut self, queue: LogQueue, id: u64, run: &[EntryIndex]) -> Option<u64>
         requires run { IsRunIn queue run.now }
         ensures changed { IsTableChanged (after_replay queue (table_in self.old.tables id) run.now)
@@ -81,6 +82,7 @@ impl MemTableAccessor {
     /// Does what [`MemTableAccessor::try_replay_spans`] does, and returns where the entries of the table
     /// began as well, in front of where they ended.
     #[doc(hidden)]
+    #[inline(always)]
     pub fn try_replay_block(
         &mut self,
         queue: LogQueue,
@@ -115,6 +117,7 @@ impl MemTableAccessor {
     }
 
     /// Does what [`MemTableAccessor::try_replay_block`] does with any run.
+    #[inline(always)]
     fn try_replay(&mut self, queue: LogQueue, id: u64, run: &Run<'_>) -> Option<(u64, u64)>
         requires run { IsRunIn queue (run_shown run.now) }
         ensures changed { IsTableChanged

@@ -16,7 +16,7 @@ mod put_runs;
 mod runs;
 
 use crate::memtable::block::Block;
-use crate::memtable::entries::block_deques::find;
+use crate::memtable::entries::block_deques::spot_of;
 use raft_base::{CompressionType, EntryIndex, LogQueue};
 use std::alloc::Global;
 use std::collections::VecDeque;
@@ -30,7 +30,7 @@ pub struct Entries {
     first: u64,
     len: usize,
     blocks: VecDeque<Block>,
-    /// The index of each block's first entry.
+    /// The index of each block's first entry, or none: few blocks are walked.
     starts: VecDeque<u64>,
     /// How many entries, from the front on, are rewritten.
     rewritten: usize,
@@ -62,14 +62,16 @@ impl Model for Entries {
     ghost use Rattle.std.specs.Prelude.{List};
     ghost use Rattle.raft_base.specs.declared.entry_index.EntryIndex.{EntryIndex};
     ghost use Rattle.raft_table.specs.Blocks.{blocks_shown, entries_in_blocks};
-    ghost use Rattle.raft_table.specs.BlockWords.{AreKept};
+    ghost use Rattle.raft_table.specs.BlockWords.{AreKept, AreStarts, starts_of};
 
     ghost Value = { List EntryIndex };
 
     ghost view = { λ a. entries_in_blocks a.first (blocks_shown a.blocks.items) };
 
     ghost invariant = { λ a.
-        AreKept a.first a.len (blocks_shown a.blocks.items) a.starts.items a.rewritten };
+        AreKept a.first a.len (blocks_shown a.blocks.items)
+        (starts_of a.first (blocks_shown a.blocks.items)) a.rewritten
+        × AreStarts a.first (blocks_shown a.blocks.items) a.starts.items };
 }
 
 impl Entries {
@@ -164,7 +166,7 @@ impl Entries {
         if index - self.first >= self.len as u64 {
             return None;
         }
-        let (nth, at) = find(&self.starts, self.first, self.len, index);
+        let (nth, at) = spot_of(&self.blocks, &self.starts, self.first, self.len, index);
         let block = &self.blocks[nth];
         let span = block.spans[at];
         Some(EntryIndex {

@@ -4,7 +4,7 @@ ghost use Rattle.std.specs.Prelude.{◌≡◌, ◌≢◌, ◌+◌, ◌⊎◌, �
 ghost use Rattle.std.specs.List.Sorted.{IsNonDecreasingBy};
 ghost use Rattle.std.specs.VecDeque.{deque_len, deque_capacity};
 ghost use Rattle.raft_table.specs.Blocks.{BlockSpans, block_spans, blocks_shown};
-ghost use Rattle.raft_table.specs.BlockWords.{count, starts_of, first_of_last, joined_blocks, seam, IsIndexOf, IsAt};
+ghost use Rattle.raft_table.specs.BlockWords.{count, starts_of, AreStarts, first_of_last, joined_blocks, seam, IsIndexOf, IsAt};
 
 use crate::memtable::block::Block;
 use raft_base::{AllocResult, FileBlockHandle};
@@ -21,6 +21,42 @@ fn count_at_or_below(starts: &VecDeque<u64>, index: u64) -> usize
         index < slice_index_or starts.now.items j d }
 {
     starts.partition_point(|start: &u64| -> bool { *start <= index })
+}
+
+/// Up to so many blocks are walked: their first indexes aren't kept.
+pub(super) const FEW: usize = 3;
+
+/// Returns the block and the offset in it of the entry with an index, among `len` entries from the
+/// index `first` on.
+pub(super) fn spot_of(
+    blocks: &VecDeque<Block>,
+    starts: &VecDeque<u64>,
+    first: u64,
+    len: usize,
+    index: u64,
+) -> (usize, usize)
+    requires starts { AreStarts first (blocks_shown blocks.now.items) starts.now.items }
+    requires within { (first ≤ index) × (index < first + count (blocks_shown blocks.now.items)) }
+    ensures { IsAt (index - first) (blocks_shown blocks.now.items) result.0 result.1 }
+{
+    if starts.is_empty() {
+        return spot_among(blocks, (index - first) as usize);
+    }
+    find(starts, first, len, index)
+}
+
+/// Returns the block and the offset in it of the entry after so many.
+fn spot_among(blocks: &VecDeque<Block>, behind: usize) -> (usize, usize)
+    requires { behind < count (blocks_shown blocks.now.items) }
+    ensures { IsAt behind (blocks_shown blocks.now.items) result.0 result.1 }
+{
+    let mut nth = 0;
+    let mut rest = behind;
+    while blocks[nth].spans.len() <= rest {
+        rest -= blocks[nth].spans.len();
+        nth += 1;
+    }
+    (nth, rest)
 }
 
 /// Returns the block and the offset in it of the entry with an index, among `len` entries from the
@@ -98,6 +134,7 @@ pub(super) fn spans_behind(
 }
 
 /// Tests whether two places are one.
+#[inline(always)]
 pub(super) fn is_same(a: &FileBlockHandle, b: &FileBlockHandle) -> bool
     ensures { MatchBool result (a.now ≡ b.now) (a.now ≢ b.now) }
 {
@@ -144,6 +181,32 @@ pub(super) fn put_blocks(
     Ok(())
 }
 
+/// Puts more blocks after so many first ones, of the last of which so many entries stay. Where the two
+/// that meet have the same place they are one block.
+pub(super) fn put_few_blocks(
+    blocks: &mut VecDeque<Block>,
+    spot: (usize, usize),
+    more: &mut VecDeque<Block>,
+) -> AllocResult<()>
+    requires within { (0 < spot.0) × (spot.0 ≤ length blocks.old.items) }
+    requires kept { (d : Block) → 0 < spot.0
+        → spot.1 ≤ length (slice_index_or blocks.old.items (spot.0 - 1) d).spans.items }
+    requires more { 0 < length more.old.items }
+    ensures ok { OnOk result (blocks_shown blocks.new.items
+        ≡ joined_blocks (first_of_last spot.1 (take spot.0 (blocks_shown blocks.old.items)))
+        (blocks_shown more.old.items)) }
+    ensures emptied { OnOk result (more.new.items ≡ []) }
+    ensures err { OnErr result ((blocks_shown blocks.new.items ≡ blocks_shown blocks.old.items)
+        × (blocks_shown more.new.items ≡ blocks_shown more.old.items)) }
+{
+    blocks.reserve(more.len())?;
+    let mut no_starts = VecDeque::new(*blocks.allocator());
+    meet(blocks, spot, more, &mut no_starts)?;
+    blocks.truncate(spot.0);
+    append(blocks, more);
+    Ok(())
+}
+
 /// Makes room for the elements of two deques in one of them: in the longer one where the first
 /// lacks it.
 fn make_room<T>(deque: &mut VecDeque<T>, more: &mut VecDeque<T>) -> AllocResult<()>
@@ -171,8 +234,7 @@ fn meet(
     requires within { spot.0 ≤ length blocks.old.items }
     requires kept { (d : Block) → 0 < spot.0
         → spot.1 ≤ length (slice_index_or blocks.old.items (spot.0 - 1) d).spans.items }
-    requires more { (0 < length more.old.items) ×
-        (length more_starts.old.items ≡ length more.old.items) }
+    requires more { 0 < length more.old.items }
     ensures front { OnOk result (take spot.0 (blocks_shown blocks.new.items)
         ++ blocks_shown more.new.items
         ≡ joined_blocks (first_of_last spot.1 (take spot.0 (blocks_shown blocks.old.items)))
@@ -216,13 +278,79 @@ fn drop_front<T: Drop>(deque: &mut VecDeque<T>)
     drop(deque.pop_front());
 }
 
-/// Puts a block, whose first entry has this index, after others. Where it has the place of the
-/// last of them its entries go after those of that one.
-pub(super) fn push_block(
+/// Puts a block, whose first entry has this index, after others, the first of which starts at
+/// `first`. Few blocks get no first indexes.
+#[inline(always)]
+pub(super) fn push_behind(
+    blocks: &mut VecDeque<Block>,
+    starts: &mut VecDeque<u64>,
+    first: u64,
+    index: u64,
+    block: Block,
+) -> AllocResult<()>
+    requires starts { AreStarts first (blocks_shown blocks.old.items) starts.old.items }
+    requires bounded { 0 < length blocks.old.items
+        → first + count (blocks_shown blocks.old.items) < 2 ^ 64 }
+    ensures blocks { OnOk result (blocks_shown blocks.new.items
+        ≡ joined_blocks (blocks_shown blocks.old.items) (block_spans block ∷ [])) }
+    ensures starts { OnOk result ((starts.new.items ≡ [])
+        ⊎ (starts.new.items ≡ starts_of first (blocks_shown blocks.old.items)
+        ++ drop (seam (blocks_shown blocks.old.items) (block_spans block ∷ [])) (index ∷ []))) }
+    ensures err { OnErr result ((blocks_shown blocks.new.items ≡ blocks_shown blocks.old.items)
+        × AreStarts first (blocks_shown blocks.old.items) starts.new.items) }
+{
+    if starts.is_empty() && blocks.len() < FEW {
+        return push_block(blocks, block);
+    }
+    keep_starts(blocks, starts, first)?;
+    push_with_start(blocks, starts, index, block)
+}
+
+/// Keeps the first indexes of blocks, the first of which starts at `first`, where they aren't kept.
+#[inline(always)]
+pub(super) fn keep_starts(
+    blocks: &VecDeque<Block>,
+    starts: &mut VecDeque<u64>,
+    first: u64,
+) -> AllocResult<()>
+    requires starts { AreStarts first (blocks_shown blocks.now.items) starts.old.items }
+    requires bounded { 0 < length blocks.now.items
+        → first + count (blocks_shown blocks.now.items) < 2 ^ 64 }
+    ensures ok { OnOk result
+        (starts.new.items ≡ starts_of first (blocks_shown blocks.now.items)) }
+    ensures err { OnErr result (starts.new.items ≡ starts.old.items) }
+{
+    if !starts.is_empty() {
+        return Ok(());
+    }
+    starts.reserve(blocks.len())?;
+    push_starts(blocks, starts, first);
+    Ok(())
+}
+
+/// Appends the first indexes of blocks, for which there is room, to none.
+#[inline(never)]
+fn push_starts(blocks: &VecDeque<Block>, starts: &mut VecDeque<u64>, first: u64)
+    requires none { starts.old.items ≡ [] }
+    requires room { length blocks.now.items ≤ deque_capacity starts.old }
+    requires bounded { 0 < length blocks.now.items
+        → first + count (blocks_shown blocks.now.items) < 2 ^ 64 }
+    ensures { starts.new.items ≡ starts_of first (blocks_shown blocks.now.items) }
+{
+    let mut index = first;
+    for i in 0..blocks.len() {
+        starts.push_back_reserved(index);
+        index += blocks[i].spans.len() as u64;
+    }
+}
+
+/// Puts a block, whose first entry has this index, after others, and the index after theirs.
+#[inline(always)]
+pub(super) fn push_with_start(
     blocks: &mut VecDeque<Block>,
     starts: &mut VecDeque<u64>,
     index: u64,
-    mut block: Block,
+    block: Block,
 ) -> AllocResult<()>
     ensures blocks { OnOk result (blocks_shown blocks.new.items
         ≡ joined_blocks (blocks_shown blocks.old.items) (block_spans block ∷ [])) }
@@ -232,6 +360,24 @@ pub(super) fn push_block(
     ensures err { OnErr result ((blocks_shown blocks.new.items ≡ blocks_shown blocks.old.items)
         × (starts.new.items ≡ starts.old.items)) }
 {
+    starts.reserve(1)?;
+    let len = blocks.len();
+    push_block(blocks, block)?;
+    if len == blocks.len() {
+        return Ok(());
+    }
+    starts.push_back_reserved(index);
+    Ok(())
+}
+
+/// Puts a block after others. Where it has the place of the last of them its entries go after those
+/// of that one.
+#[inline(never)]
+fn push_block(blocks: &mut VecDeque<Block>, mut block: Block) -> AllocResult<()>
+    ensures ok { OnOk result (blocks_shown blocks.new.items
+        ≡ joined_blocks (blocks_shown blocks.old.items) (block_spans block ∷ [])) }
+    ensures err { OnErr result (blocks_shown blocks.new.items ≡ blocks_shown blocks.old.items) }
+{
     let len = blocks.len();
     if len > 0 {
         let last = len - 1;
@@ -240,35 +386,24 @@ pub(super) fn push_block(
             return lengthen(&mut blocks[last], kept, &mut block.spans);
         }
     }
-    make_room_behind(blocks, starts)?;
+    make_first_room(blocks)?;
     blocks.push_back(block)?;
-    starts.push_back_reserved(index);
     Ok(())
 }
 
-/// Makes room for a block and its start after the others.
-fn make_room_behind(blocks: &mut VecDeque<Block>, starts: &mut VecDeque<u64>) -> AllocResult<()>
-    ensures items { (blocks.new.items ≡ blocks.old.items) × (starts.new.items ≡ starts.old.items) }
-    ensures ok { OnOk result (deque_len starts.new < deque_capacity starts.new) }
+/// Makes room for few blocks where there is none: few regions with few entries have more.
+#[inline(always)]
+fn make_first_room(blocks: &mut VecDeque<Block>) -> AllocResult<()>
+    ensures { blocks.new.items ≡ blocks.old.items }
 {
-    if blocks.capacity() == 0 {
-        return make_first_room(blocks, starts);
+    if blocks.capacity() > 0 {
+        return Ok(());
     }
-    starts.reserve(1)
-}
-
-/// Makes room for three blocks and their starts: few regions with few entries have more.
-#[cold]
-#[inline(never)]
-fn make_first_room(blocks: &mut VecDeque<Block>, starts: &mut VecDeque<u64>) -> AllocResult<()>
-    ensures items { (blocks.new.items ≡ blocks.old.items) × (starts.new.items ≡ starts.old.items) }
-    ensures ok { OnOk result (deque_len starts.new < deque_capacity starts.new) }
-{
-    blocks.reserve_exact(3)?;
-    starts.reserve_exact(3)
+    blocks.reserve_exact(FEW)
 }
 
 /// Keeps so many entries of a block, and moves more after them.
+#[inline(never)]
 fn lengthen(block: &mut Block, kept: usize, more: &mut VecDeque<(u32, u32)>) -> AllocResult<()>
     requires { kept ≤ length block.old.spans.items }
     ensures handle { block.new.handle ≡ block.old.handle }

@@ -1,6 +1,6 @@
 //! Entries that go, from the front or from the back.
 
-ghost use Rattle.std.specs.Prelude.{◌≡◌, ◌+◌, ◌≤◌, ◌<◌, [], length, take, drop, slice_index_or};
+ghost use Rattle.std.specs.Prelude.{◌≡◌, ◌≢◌, ◌+◌, ◌≤◌, ◌<◌, [], length, take, drop, set, slice_index_or};
 ghost use Rattle.raft_table.specs.Blocks.{blocks_shown};
 ghost use Rattle.raft_table.specs.BlockWords.{first_of_last, without_first_of_first};
 ghost use Rattle.raft_base.specs.Runs.{end_of};
@@ -12,7 +12,7 @@ use crate::global_stats::GlobalStats;
 use crate::memtable::block::Block;
 use crate::memtable::bounds::capped;
 use crate::memtable::entries::Entries;
-use crate::memtable::entries::block_deques::{find, search};
+use crate::memtable::entries::block_deques::spot_of;
 use raft_base::LogQueue;
 use std::collections::VecDeque;
 
@@ -105,10 +105,9 @@ impl Entries {
             return;
         }
         let index = self.first + count as u64;
-        let (nth, dropped) = find(&self.starts, self.first, self.len, index);
+        let (nth, dropped) = spot_of(&self.blocks, &self.starts, self.first, self.len, index);
         drop_front_blocks(&mut self.blocks, nth, dropped);
-        drop_first(&mut self.starts, nth);
-        self.starts[0] = index;
+        drop_front_starts(&mut self.starts, nth, index);
         self.first = index;
         self.len -= count;
         self.rewritten -= self.rewritten.min(count);
@@ -123,7 +122,8 @@ impl Entries {
             self.clear();
             return;
         }
-        let (nth, last) = search(&self.starts, self.first + (count - 1) as u64);
+        let index = self.first + (count - 1) as u64;
+        let (nth, last) = spot_of(&self.blocks, &self.starts, self.first, self.len, index);
         keep_front_blocks(&mut self.blocks, nth, last + 1);
         self.starts.truncate(nth + 1);
         self.len = count;
@@ -161,6 +161,20 @@ fn drop_front_blocks(blocks: &mut VecDeque<Block>, nth: usize, dropped: usize)
 {
     drop_first(blocks, nth);
     drop_spans(&mut blocks[0], dropped);
+}
+
+/// Drops so many first indexes, and sets the one that is then in front, if there are any.
+fn drop_front_starts(starts: &mut VecDeque<u64>, nth: usize, index: u64)
+    requires { starts.old.items ≢ [] → nth < length starts.old.items }
+    ensures none { starts.old.items ≡ [] → starts.new.items ≡ [] }
+    ensures some { starts.old.items ≢ [] → starts.new.items
+        ≡ set (drop nth starts.old.items) 0 index }
+{
+    if starts.is_empty() {
+        return;
+    }
+    drop_first(starts, nth);
+    starts[0] = index;
 }
 
 /// Drops so many entries of a block.

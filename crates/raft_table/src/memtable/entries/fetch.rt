@@ -8,7 +8,7 @@ ghost use Rattle.raft_table.specs.Fetches.{Fetches, IsFetchFault, IsLimitCount, 
 ghost use Rattle.raft_table.specs.Rewriting.{may_move};
 
 use crate::memtable::entries::Entries;
-use crate::memtable::entries::block_deques::find;
+use crate::memtable::entries::block_deques::spot_of;
 use crate::memtable::entries::block_walks::{count_from, movable_from, push_entries};
 use raft_base::{EntryIndex, Error, FileSeq, LogQueue, Result};
 
@@ -72,7 +72,8 @@ impl Entries {
         if at >= self.len {
             return None;
         }
-        let (nth, _) = find(&self.starts, self.first, self.len, self.first + at as u64);
+        let index = self.first + at as u64;
+        let (nth, _) = spot_of(&self.blocks, &self.starts, self.first, self.len, index);
         Some(self.blocks[nth].handle.id.seq)
     }
 
@@ -104,7 +105,8 @@ impl Entries {
         if at == end {
             return 0;
         }
-        let spot = find(&self.starts, self.first, self.len, self.first + at as u64);
+        let index = self.first + at as u64;
+        let spot = spot_of(&self.blocks, &self.starts, self.first, self.len, index);
         movable_from(&self.blocks, spot, at, end, gate)
     }
 
@@ -121,12 +123,8 @@ impl Entries {
         if start == end {
             return 0;
         }
-        let spot = find(
-            &self.starts,
-            self.first,
-            self.len,
-            self.first + start as u64,
-        );
+        let index = self.first + start as u64;
+        let spot = spot_of(&self.blocks, &self.starts, self.first, self.len, index);
         count_from(&self.blocks, spot, start, end, limit)
     }
 
@@ -141,12 +139,8 @@ impl Entries {
     {
         vec.reserve(end - start)?;
         if start < end {
-            let spot = find(
-                &self.starts,
-                self.first,
-                self.len,
-                self.first + start as u64,
-            );
+            let index = self.first + start as u64;
+            let spot = spot_of(&self.blocks, &self.starts, self.first, self.len, index);
             push_entries(vec, self.first, &self.blocks, spot, start, end);
         }
         Ok(())

@@ -12,7 +12,8 @@ ghost use Rattle.raft_table.specs.Queues.{count_in};
 use crate::memtable::block::Block;
 use crate::memtable::entries::Entries;
 use crate::memtable::entries::block_deques::{
-    find, is_same, push_block, put_blocks, search, spans_behind, spot_behind,
+    FEW, find, is_same, keep_starts, push_behind, push_with_start, put_blocks, put_few_blocks,
+    search, spans_behind, spot_behind, spot_of,
 };
 use crate::memtable::run::Run;
 use raft_base::{AllocResult, EntryIndex, FileBlockHandle, LogQueue};
@@ -41,6 +42,7 @@ impl Entries {
     }
 
     /// Puts the entries of one block, from an index on, after the others.
+    #[inline(always)]
     fn push(
         &mut self,
         index: u64,
@@ -56,9 +58,10 @@ impl Entries {
     {
         let count = spans.len();
         let rewritten = rewritten_in(handle.id.queue, count);
-        push_block(
+        push_behind(
             &mut self.blocks,
             &mut self.starts,
+            self.first,
             index,
             Block { handle, spans },
         )?;
@@ -69,6 +72,7 @@ impl Entries {
     }
 
     /// Keeps the first `keep` entries, and puts the entries of a run after them.
+    #[inline(always)]
     pub(super) fn lay(&mut self, keep: usize, run: &Run<'_>) -> AllocResult<()>
         requires keep { keep ≤ length self.old }
         requires run { 0 < length (run_shown run.now) }
@@ -90,6 +94,7 @@ impl Entries {
     }
 
     /// Keeps the first `keep` entries, and puts these after them.
+    #[inline(never)]
     fn lay_entries(&mut self, keep: usize, run: &[EntryIndex]) -> AllocResult<()>
         requires keep { keep ≤ length self.old }
         requires run { 0 < length run.now }
@@ -110,6 +115,7 @@ impl Entries {
     }
 
     /// Keeps the first `keep` entries, and puts those of one block, from an index on, after them.
+    #[inline(always)]
     fn lay_block(
         &mut self,
         keep: usize,
@@ -146,7 +152,35 @@ impl Entries {
             run.clear();
             return Ok(());
         }
+        if self.are_few_with(run) {
+            return self.join_few(keep, run);
+        }
         self.join(keep, run)
+    }
+
+    /// Tests whether there are few blocks, those of a run with them.
+    fn are_few_with(&self, run: &Entries) -> bool {
+        self.blocks.len() <= FEW && run.blocks.len() <= FEW - self.blocks.len()
+    }
+
+    /// Does what [`Entries::join`] does, and keeps no first indexes of blocks.
+    fn join_few(&mut self, keep: usize, run: &mut Entries) -> AllocResult<()>
+        requires keep { (0 < keep) × (keep ≤ length self.old) }
+        requires run { 0 < length run.old }
+        requires table_entries { AreTableEntries (take keep self.old ++ run.old) }
+        ensures ok { OnOk result ((self.new ≡ take keep self.old ++ run.old) × (run.new ≡ [])) }
+        ensures err { OnErr result ((self.new ≡ self.old) × (run.new ≡ run.old)) }
+    {
+        let index = self.first + (keep - 1) as u64;
+        let (nth, last) = spot_of(&self.blocks, &self.starts, self.first, self.len, index);
+        put_few_blocks(&mut self.blocks, (nth + 1, last + 1), &mut run.blocks)?;
+        self.starts.clear();
+        run.starts.clear();
+        self.len = keep + run.len;
+        self.rewritten = self.rewritten.min(keep) + run.rewritten;
+        run.len = 0;
+        run.rewritten = 0;
+        Ok(())
     }
 
     /// Keeps the first `keep` entries, of which there are some, and moves a run after them.
@@ -157,6 +191,8 @@ impl Entries {
         ensures ok { OnOk result ((self.new ≡ take keep self.old ++ run.old) × (run.new ≡ [])) }
         ensures err { OnErr result ((self.new ≡ self.old) × (run.new ≡ run.old)) }
     {
+        keep_starts(&self.blocks, &mut self.starts, self.first)?;
+        keep_starts(&run.blocks, &mut run.starts, run.first)?;
         let (nth, last) = search(&self.starts, self.first + (keep - 1) as u64);
         let rest = self.blocks.len();
         put_blocks(
@@ -184,6 +220,7 @@ impl Entries {
             ≡ take at self.old ++ run ++ drop (at + length run) self.old) }
         ensures err { OnErr result (self.new ≡ self.old) }
     {
+        keep_starts(&self.blocks, &mut self.starts, self.first)?;
         let kept = self.rewritten.min(at);
         let end = at + run.len;
         let passed = self.rewritten.min(end);
@@ -197,7 +234,8 @@ impl Entries {
         let spot = spot_behind(&self.starts, self.first, at);
         let mut blocks = run.blocks;
         let mut starts = run.starts;
-        push_block(&mut blocks, &mut starts, index, Block { handle, spans })?;
+        keep_starts(&blocks, &mut starts, run.first)?;
+        push_with_start(&mut blocks, &mut starts, index, Block { handle, spans })?;
         put_blocks(
             &mut self.blocks,
             &mut self.starts,

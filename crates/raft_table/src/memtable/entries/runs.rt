@@ -121,6 +121,7 @@ impl Entries {
 
     /// Does what [`Entries::replay_run`] does where nothing hinders it, and returns whether it did.
     /// Where it did not, the entries and the counts are as they were.
+    #[inline(always)]
     pub fn try_replay_run(
         &mut self,
         run: &Run<'_>,
@@ -257,6 +258,7 @@ impl Entries {
     }
 
     /// Keeps the first `keep` entries and puts a run of `queue`, for which there is room, after them.
+    #[inline(always)]
     fn exchange_run(
         &mut self,
         keep: usize,

@@ -7,4 +7,4 @@ use Rattle.raft_table.proofs.memtable.entries.Entries.block_count.Goals as goal
 pub returns : goal.returns
 returns c =
     let n = length-map c.self.inside.blocks.items block_spans in
-    rw (← c.self.view_is, block_count_is c.self.inside.first (blocks_shown c.self.inside.blocks.items) c.self.invariant.distinct) (omega (arith, c.self.inside.blocks.ok))
+    rw (← c.self.view_is, block_count_is c.self.inside.first (blocks_shown c.self.inside.blocks.items) c.self.invariant.0.distinct) (omega (arith, c.self.inside.blocks.ok))

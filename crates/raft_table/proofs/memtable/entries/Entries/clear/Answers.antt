@@ -1,7 +1,7 @@
-use Rattle.std.proofs.Common.{refl, ap}
+use Rattle.std.proofs.Common.{inl, [], refl, ap}
 use Rattle.raft_table.specs.Blocks.{blocks_shown}
-use Rattle.raft_table.proofs.BlockCuts.{kept_nil}
+use Rattle.raft_table.proofs.BlockCuts.{kept_with, kept_nil}
 use Rattle.raft_table.proofs.memtable.entries.Entries.clear.Goals as goal
 
 pub invariant_of-self : goal.invariant_of-self
-invariant_of-self c = kept_nil _ _ _ _ _ (ap blocks_shown c.clear.ensures.items) c.clear-2.ensures.items refl refl
+invariant_of-self c = (kept_with (kept_nil _ _ _ [] _ (ap blocks_shown c.clear.ensures.items) refl refl refl) refl, inl c.clear-2.ensures.items)

@@ -1,46 +1,47 @@
-use Rattle.std.proofs.Common.{◌+◌, length, arith, refl, ap, ◌∙◌}
-use Rattle.std.proofs.lemmas.List.{length-drop, drop_all}
+use Rattle.std.proofs.Common.{◌+◌, arith, refl, ap, ◌∙◌}
+use Rattle.std.proofs.lemmas.List.{drop_all}
 use Rattle.raft_table.specs.Blocks.{blocks_shown, entries_in_blocks}
-use Rattle.raft_table.proofs.BlockCuts.{found, index_of, kept_length, kept_facts, kept_drop}
+use Rattle.raft_table.specs.BlockWords.{starts_of}
+use Rattle.raft_table.proofs.BlockCuts.{kept_with, within_of, spot_at, starts_length, starts_dropped, kept_facts, kept_drop}
 use Rattle.raft_table.proofs.BlockQueues.{block_within, spot_inside}
 use Rattle.raft_table.proofs.memtable.entries.Entries.drop_front.Goals as goal
 
 pub returns-then-count-self : goal.returns-then-count-self
-returns-then-count-self c = let l = (kept_facts c.self.invariant).length in rw (← c.self.view_is, drop_all c.args.count (entries_in_blocks c.self.inside.first (blocks_shown c.self.inside.blocks.items)) (omega arith)) c.clear.ensures
+returns-then-count-self c = let l = (kept_facts c.self.invariant.0).length in rw (← c.self.view_is, drop_all c.args.count (entries_in_blocks c.self.inside.first (blocks_shown c.self.inside.blocks.items)) (omega arith)) c.clear.ensures
 
 pub overflow_add-index : goal.overflow_add-index
-overflow_add-index c = let f = (kept_facts c.self.invariant) in let l = f.length in let h = rw (← c.self.view_is) at c.requires in let b = f.bounded (omega arith) in omega arith
+overflow_add-index c = let f = (kept_facts c.self.invariant.0) in let l = f.length in let h = rw (← c.self.view_is) at c.requires in let b = f.bounded (omega arith) in omega arith
 
-pub find-nth-requires : goal.find-nth-requires
-find-nth-requires c = index_of c.self.invariant c.args.count refl (let l = (kept_facts c.self.invariant).length in let h = rw (← c.self.view_is) at c.requires in omega arith)
+pub spot_of-nth-requires-clause-within : goal.spot_of-nth-requires-clause-within
+spot_of-nth-requires-clause-within c = within_of c.self.invariant.0 c.args.count refl (let l = (kept_facts c.self.invariant.0).length in let h = rw (← c.self.view_is) at c.requires in omega arith)
 
 pub drop_front_blocks-requires-clause-nth : goal.drop_front_blocks-requires-clause-nth
-drop_front_blocks-requires-clause-nth c = block_within c.self.inside.blocks.items (found c.self.invariant c.find-nth.ensures (c.args.count) refl (let l = (kept_facts c.self.invariant).length in let h = rw (← c.self.view_is) at c.requires in omega arith))
+drop_front_blocks-requires-clause-nth c = block_within c.self.inside.blocks.items (spot_at c.self.inside.first _ c.spot_of-nth.ensures c.args.count refl)
 
 pub drop_front_blocks-requires-clause-dropped : goal.drop_front_blocks-requires-clause-dropped
-drop_front_blocks-requires-clause-dropped c d = let w = spot_inside c.self.inside.blocks.items (found c.self.invariant c.find-nth.ensures (c.args.count) refl (let l = (kept_facts c.self.invariant).length in let h = rw (← c.self.view_is) at c.requires in omega arith)) d in omega arith
+drop_front_blocks-requires-clause-dropped c d = let w = spot_inside c.self.inside.blocks.items (spot_at c.self.inside.first _ c.spot_of-nth.ensures c.args.count refl) d in omega arith
 
-pub drop_first-requires : goal.drop_first-requires
-drop_first-requires c = let a = (found c.self.invariant c.find-nth.ensures (c.args.count) refl (let l = (kept_facts c.self.invariant).length in let h = rw (← c.self.view_is) at c.requires in omega arith)) in let w = a.block in let n = kept_length c.self.invariant in omega arith
-
-pub index_mut-requires : goal.index_mut-requires
-index_mut-requires c =
-    let a = (found c.self.invariant c.find-nth.ensures (c.args.count) refl (let l = (kept_facts c.self.invariant).length in let h = rw (← c.self.view_is) at c.requires in omega arith)) in
-    let w = a.block in
-    let n = kept_length c.self.invariant in
-    let d = ap length c.drop_first.ensures ∙ length-drop c.find-nth.result.0 c.self.inside.starts.items in
-    omega (arith, c.drop_first.new.deque.ok)
+pub drop_front_starts-requires : goal.drop_front_starts-requires
+drop_front_starts-requires c d =
+    let w = (spot_at c.self.inside.first _ c.spot_of-nth.ensures c.args.count refl).block in
+    let n = starts_length c.self.inside.first (blocks_shown c.self.inside.blocks.items) c.self.inside.starts.items c.self.invariant.1 d in
+    omega arith
 
 pub overflow_sub-self : goal.overflow_sub-self
-overflow_sub-self c = let l = (kept_facts c.self.invariant).length in let h = rw (← c.self.view_is) at c.requires in omega arith
+overflow_sub-self c = let l = (kept_facts c.self.invariant.0).length in let h = rw (← c.self.view_is) at c.requires in omega arith
 
 pub invariant_of-self : goal.invariant_of-self
 invariant_of-self c =
-    rw (c.drop_front_blocks.ensures, c.drop_first.ensures, c.min.ensures)
-    (kept_drop c.self.inside.first c.self.inside.len c.args.count c.find-nth.result.0 c.find-nth.result.1 (blocks_shown c.self.inside.blocks.items) c.self.inside.starts.items c.self.inside.rewritten c.self.invariant (found c.self.invariant c.find-nth.ensures (c.args.count) refl (let l = (kept_facts c.self.invariant).length in let h = rw (← c.self.view_is) at c.requires in omega arith))).0
+    let a = spot_at c.self.inside.first _ c.spot_of-nth.ensures c.args.count refl in
+    let k = (kept_drop c.self.inside.first c.self.inside.len c.args.count c.spot_of-nth.result.0 c.spot_of-nth.result.1 (blocks_shown c.self.inside.blocks.items) (starts_of c.self.inside.first (blocks_shown c.self.inside.blocks.items)) c.self.inside.rewritten c.self.invariant.0 a).0 in
+    rw (c.drop_front_blocks.ensures, c.min.ensures) (
+      kept_with k refl,
+      starts_dropped c.self.inside.first (c.self.inside.first + c.args.count) c.spot_of-nth.result.0 (blocks_shown c.self.inside.blocks.items) _
+          c.self.inside.starts.items c.drop_front_starts.new.starts.items c.self.invariant.1 a.block c.drop_front_starts.ensures.none c.drop_front_starts.ensures.some k.starts,
+    )
 
 pub returns : goal.returns
 returns c =
     rw (← c.self.view_is)
     (ap (entries_in_blocks (c.self.inside.first + c.args.count)) c.drop_front_blocks.ensures
-    ∙ (kept_drop c.self.inside.first c.self.inside.len c.args.count c.find-nth.result.0 c.find-nth.result.1 (blocks_shown c.self.inside.blocks.items) c.self.inside.starts.items c.self.inside.rewritten c.self.invariant (found c.self.invariant c.find-nth.ensures (c.args.count) refl (let l = (kept_facts c.self.invariant).length in let h = rw (← c.self.view_is) at c.requires in omega arith))).1)
+    ∙ (kept_drop c.self.inside.first c.self.inside.len c.args.count c.spot_of-nth.result.0 c.spot_of-nth.result.1 (blocks_shown c.self.inside.blocks.items) (starts_of c.self.inside.first (blocks_shown c.self.inside.blocks.items)) c.self.inside.rewritten c.self.invariant.0 (spot_at c.self.inside.first _ c.spot_of-nth.ensures c.args.count refl)).1)

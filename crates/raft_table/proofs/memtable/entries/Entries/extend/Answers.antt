@@ -1,21 +1,21 @@
 use Rattle.std.proofs.Common.{arith, refl}
-use Rattle.raft_table.proofs.BlockCuts.{found, index_of, kept_facts}
+use Rattle.raft_table.proofs.BlockCuts.{within_of, spot_at, kept_facts}
 use Rattle.raft_table.proofs.memtable.entries.Entries.extend.Goals as goal
 
-pub overflow_add-self-inside : goal.overflow_add-self-inside
-overflow_add-self-inside c = let f = kept_facts c.self.invariant in let l = f.length in let h = rw (← c.self.view_is) at c.requires.within in let b = f.bounded (omega arith) in omega arith
+pub overflow_add-index : goal.overflow_add-index
+overflow_add-index c = let f = kept_facts c.self.invariant.0 in let l = f.length in let h = rw (← c.self.view_is) at c.requires.within in let b = f.bounded (omega arith) in omega arith
 
-pub find-spot-requires : goal.find-spot-requires
-find-spot-requires c = index_of c.self.invariant c.args.start refl (let l = (kept_facts c.self.invariant).length in let h = rw (← c.self.view_is) at c.requires.within in let o = c.requires.order in omega arith)
+pub spot_of-spot-requires-clause-within : goal.spot_of-spot-requires-clause-within
+spot_of-spot-requires-clause-within c = within_of c.self.invariant.0 c.args.start refl (let l = (kept_facts c.self.invariant.0).length in let h = rw (← c.self.view_is) at c.requires.within in let o = c.requires.order in omega arith)
 
 pub push_entries-requires-clause-spot : goal.push_entries-requires-clause-spot
-push_entries-requires-clause-spot c = found c.self.invariant c.find-spot.ensures c.args.start refl (let l = (kept_facts c.self.invariant).length in let h = rw (← c.self.view_is) at c.requires.within in let o = c.requires.order in omega arith)
+push_entries-requires-clause-spot c = spot_at c.self.inside.first _ c.spot_of-spot.ensures c.args.start refl
 
 pub push_entries-requires-clause-distinct : goal.push_entries-requires-clause-distinct
-push_entries-requires-clause-distinct c = c.self.invariant.distinct
+push_entries-requires-clause-distinct c = c.self.invariant.0.distinct
 
 pub push_entries-requires-clause-within : goal.push_entries-requires-clause-within
-push_entries-requires-clause-within c = let l = (kept_facts c.self.invariant).length in let n = c.self.invariant.len in let h = rw (← c.self.view_is) at c.requires.within in omega arith
+push_entries-requires-clause-within c = let l = (kept_facts c.self.invariant.0).length in let n = c.self.invariant.0.len in let h = rw (← c.self.view_is) at c.requires.within in omega arith
 
 pub push_entries-requires-clause-bounded : goal.push_entries-requires-clause-bounded
-push_entries-requires-clause-bounded c = let f = kept_facts c.self.invariant in let l = f.length in let h = rw (← c.self.view_is) at c.requires.within in let b = f.bounded (omega arith) in omega arith
+push_entries-requires-clause-bounded c = let f = kept_facts c.self.invariant.0 in let l = f.length in let h = rw (← c.self.view_is) at c.requires.within in let b = f.bounded (omega arith) in omega arith

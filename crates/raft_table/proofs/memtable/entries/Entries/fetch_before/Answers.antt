@@ -10,20 +10,20 @@ use Rattle.raft_table.proofs.FetchLemmas.{appended_before_is}
 use Rattle.raft_table.proofs.memtable.entries.Entries.fetch_before.Goals as goal
 
 pub movable-count-requires-clause-order : goal.movable-count-requires-clause-order
-movable-count-requires-clause-order c = let b = (kept_facts c.self.invariant).both in omega arith
+movable-count-requires-clause-order c = let b = (kept_facts c.self.invariant.0).both in omega arith
 
 pub movable-count-requires-clause-within : goal.movable-count-requires-clause-within
-movable-count-requires-clause-within c = let l = (kept_facts c.self.invariant).length in rw (← c.self.view_is) (omega arith)
+movable-count-requires-clause-within c = let l = (kept_facts c.self.invariant.0).length in rw (← c.self.view_is) (omega arith)
 
 count_is : (c : goal.After-extend-arg-1) → c.movable-count.result ≡ prefix_len (is_placed_before c.args.gate) (drop c.self.inside.rewritten (entries_in_blocks c.self.inside.first (blocks_shown c.self.inside.blocks.items)))
 count_is c =
-    let l = (kept_facts c.self.invariant).length in
+    let l = (kept_facts c.self.invariant.0).length in
     (rw (← c.self.view_is) at c.movable-count.ensures) ∙ (ap (λ xs. prefix_len (is_placed_before c.args.gate) (drop c.self.inside.rewritten xs)) (take_all c.self.inside.len (entries_in_blocks c.self.inside.first (blocks_shown c.self.inside.blocks.items)) (omega arith)))
 
 room : (c : goal.After-extend-arg-1) → c.self.inside.rewritten + c.movable-count.result ≤ c.self.inside.len
 room c =
-    let l = (kept_facts c.self.invariant).length in
-    let b = (kept_facts c.self.invariant).both in
+    let l = (kept_facts c.self.invariant.0).length in
+    let b = (kept_facts c.self.invariant.0).both in
     let n = count_is c in
     let p = prefix_len-le-length (is_placed_before c.args.gate) (drop c.self.inside.rewritten (entries_in_blocks c.self.inside.first (blocks_shown c.self.inside.blocks.items))) in
     omega (arith, length-drop c.self.inside.rewritten (entries_in_blocks c.self.inside.first (blocks_shown c.self.inside.blocks.items)))
@@ -32,12 +32,12 @@ pub overflow_add-start : goal.overflow_add-start
 overflow_add-start c = let r = room c in omega arith
 
 pub extend-requires-clause-within : goal.extend-requires-clause-within
-extend-requires-clause-within c = let r = room c in let l = (kept_facts c.self.invariant).length in rw (← c.self.view_is) (omega arith)
+extend-requires-clause-within c = let r = room c in let l = (kept_facts c.self.invariant.0).length in rw (← c.self.view_is) (omega arith)
 
 pub returns-clause-ok : goal.returns-clause-ok
 returns-clause-ok c =
-    let l = (kept_facts c.self.invariant).length in
+    let l = (kept_facts c.self.invariant.0).length in
     let n : c.movable-count.result ≡ prefix_len (is_placed_before c.args.gate) (drop c.self.inside.rewritten (entries_in_blocks c.self.inside.first (blocks_shown c.self.inside.blocks.items))) =
     (rw (← c.self.view_is) at c.movable-count.ensures) ∙ ap (λ xs. prefix_len (is_placed_before c.args.gate) (drop c.self.inside.rewritten xs)) (take_all c.self.inside.len (entries_in_blocks c.self.inside.first (blocks_shown c.self.inside.blocks.items)) (omega arith)) in
     rw (← c.self.view_is)
-    (on_ok_weaker c.extend.result (λ h. (rw (← c.self.view_is) at h) ∙ ap (λ xs. c.args.vec.now.items ++ xs) (sym (appended_before_is c.args.gate c.movable-count.result c.self.inside.rewritten (entries_in_blocks c.self.inside.first (blocks_shown c.self.inside.blocks.items)) c.self.invariant.table_entries c.self.invariant.rewritten n))) c.extend.ensures.ok)
+    (on_ok_weaker c.extend.result (λ h. (rw (← c.self.view_is) at h) ∙ ap (λ xs. c.args.vec.now.items ++ xs) (sym (appended_before_is c.args.gate c.movable-count.result c.self.inside.rewritten (entries_in_blocks c.self.inside.first (blocks_shown c.self.inside.blocks.items)) c.self.invariant.0.table_entries c.self.invariant.0.rewritten n))) c.extend.ensures.ok)

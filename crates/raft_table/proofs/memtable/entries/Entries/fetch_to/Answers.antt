@@ -10,26 +10,26 @@ use Rattle.raft_table.proofs.FetchLemmas.{range_none, range_below, range_behind,
 use Rattle.raft_table.proofs.memtable.entries.Entries.fetch_to.Goals as goal
 
 pub returns-then-self-eq0-clause-fault : goal.returns-then-self-eq0-clause-fault
-returns-then-self-eq0-clause-fault c = rw (← c.self.view_is, (kept_facts c.self.invariant).empty (omega arith), range_none c.args.begin c.args.end (omega arith)) tt
+returns-then-self-eq0-clause-fault c = rw (← c.self.view_is, (kept_facts c.self.invariant.0).empty (omega arith), range_none c.args.begin c.args.end (omega arith)) tt
 
 pub returns-then-begin-self-clause-fault : goal.returns-then-begin-self-clause-fault
 returns-then-begin-self-clause-fault c =
-    let l = (kept_facts c.self.invariant).length in
-    let s = (kept_facts c.self.invariant).start (omega arith) in
+    let l = (kept_facts c.self.invariant.0).length in
+    let s = (kept_facts c.self.invariant.0).start (omega arith) in
     rw (← c.self.view_is, range_below c.args.begin c.args.end (entries_in_blocks c.self.inside.first (blocks_shown c.self.inside.blocks.items)) (omega arith) (omega arith) (omega arith)) tt
 
 pub returns-then-end-self-clause-fault : goal.returns-then-end-self-clause-fault
 returns-then-end-self-clause-fault c =
-    let l = (kept_facts c.self.invariant).length in
-    let s = (kept_facts c.self.invariant).start (omega arith) in
-    rw (← c.self.view_is, range_behind c.args.begin c.args.end (entries_in_blocks c.self.inside.first (blocks_shown c.self.inside.blocks.items)) c.self.invariant.table_entries (omega arith) (omega arith) (omega arith) (omega arith)) tt
+    let l = (kept_facts c.self.invariant.0).length in
+    let s = (kept_facts c.self.invariant.0).start (omega arith) in
+    rw (← c.self.view_is, range_behind c.args.begin c.args.end (entries_in_blocks c.self.inside.first (blocks_shown c.self.inside.blocks.items)) c.self.invariant.0.table_entries (omega arith) (omega arith) (omega arith) (omega arith)) tt
 
 pub count_within-count-requires-clause-within : goal.count_within-count-requires-clause-within
-count_within-count-requires-clause-within c = let l = (kept_facts c.self.invariant).length in rw (← c.self.view_is) (omega arith)
+count_within-count-requires-clause-within c = let l = (kept_facts c.self.invariant.0).length in rw (← c.self.view_is) (omega arith)
 
 pub extend-requires-clause-within : goal.extend-requires-clause-within
 extend-requires-clause-within c =
-    let l = (kept_facts c.self.invariant).length in
+    let l = (kept_facts c.self.invariant.0).length in
     let t = c.count_within-count.ensures.there in
     let n = length-drop (c.args.begin - c.self.inside.first) (take (c.args.end - c.self.inside.first) c.args.self.now) in
     let m = length-take (c.args.end - c.self.inside.first) c.args.self.now in
@@ -38,17 +38,17 @@ extend-requires-clause-within c =
 
 is_found : (c : goal.After-extend) → range_answer c.args.begin c.args.end c.args.self.now ≡ Found
 is_found c =
-    let l = (kept_facts c.self.invariant).length in
-    let s = (kept_facts c.self.invariant).start (omega arith) in
-    rw (← c.self.view_is) (range_found c.args.begin c.args.end (entries_in_blocks c.self.inside.first (blocks_shown c.self.inside.blocks.items)) c.self.invariant.table_entries (omega arith) (omega arith) (omega arith) (omega arith))
+    let l = (kept_facts c.self.invariant.0).length in
+    let s = (kept_facts c.self.invariant.0).start (omega arith) in
+    rw (← c.self.view_is) (range_found c.args.begin c.args.end (entries_in_blocks c.self.inside.first (blocks_shown c.self.inside.blocks.items)) c.self.invariant.0.table_entries (omega arith) (omega arith) (omega arith) (omega arith))
 
 pub returns-clause-ok : goal.returns-clause-ok
 returns-clause-ok c =
-    let l = (kept_facts c.self.invariant).length in
-    let s : start_of (entries_in_blocks c.self.inside.first (blocks_shown c.self.inside.blocks.items)) ≡ c.self.inside.first = (kept_facts c.self.invariant).start (omega arith) in
+    let l = (kept_facts c.self.invariant.0).length in
+    let s : start_of (entries_in_blocks c.self.inside.first (blocks_shown c.self.inside.blocks.items)) ≡ c.self.inside.first = (kept_facts c.self.invariant.0).start (omega arith) in
     let w = rw (← c.self.view_is) at c.count_within-count.ensures in
     rw (is_found c, ← c.self.view_is)
-    (on_ok_weaker c.extend.result (λ h. fetched_part c.args.limit c.args.begin c.args.end c.count_within-count.result (entries_in_blocks c.self.inside.first (blocks_shown c.self.inside.blocks.items)) c.args.vec.now.items c.extend.new.vec.items c.self.invariant.table_entries (omega arith) (omega arith) (rw s w) (rw (s, c.self.view_is) h)) c.extend.ensures.ok)
+    (on_ok_weaker c.extend.result (λ h. fetched_part c.args.limit c.args.begin c.args.end c.count_within-count.result (entries_in_blocks c.self.inside.first (blocks_shown c.self.inside.blocks.items)) c.args.vec.now.items c.extend.new.vec.items c.self.invariant.0.table_entries (omega arith) (omega arith) (rw s w) (rw (s, c.self.view_is) h)) c.extend.ensures.ok)
 
 pub returns-clause-fault : goal.returns-clause-fault
 returns-clause-fault c =

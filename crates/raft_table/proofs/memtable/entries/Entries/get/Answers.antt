@@ -1,6 +1,5 @@
 use Rattle.std.proofs.Common.{◌-◌, arith, sym}
 use Rattle.raft_table.specs.Blocks.{block_spans, blocks_shown, entries_in_blocks}
-use Rattle.raft_table.specs.BlockWords.{IsAt}
 use Rattle.raft_table.proofs.BlockLemmas.{rises_expanded}
 use Rattle.raft_table.proofs.BlockSearch.{entry_at_spot}
 use Rattle.raft_table.proofs.BlockCuts.{kept_facts}
@@ -13,32 +12,26 @@ returns-then-index-self c = rw (← c.self.view_is) (sym (entry_at_low c.args.in
 
 pub returns-then-index-self-2 : goal.returns-then-index-self-2
 returns-then-index-self-2 c =
-    let l = (kept_facts c.self.invariant).length in
+    let l = (kept_facts c.self.invariant.0).length in
     rw (← c.self.view_is) (sym (entry_at_past c.args.index (c.args.index - c.self.inside.first) c.self.inside.first (entries_in_blocks c.self.inside.first (blocks_shown c.self.inside.blocks.items)) (omega arith) (omega arith) (rises_expanded c.self.inside.first (blocks_shown c.self.inside.blocks.items))))
 
-pub find-nth-requires : goal.find-nth-requires
-find-nth-requires c = let l = c.self.invariant.len in (c.self.inside.first, (blocks_shown c.self.inside.blocks.items), c.self.invariant.starts, omega arith, omega arith)
-
-at : (c : goal.After-find-nth) → IsAt (c.args.index - c.self.inside.first) (blocks_shown c.self.inside.blocks.items) c.find-nth.result.0 c.find-nth.result.1
-at c = let l = c.self.invariant.len in c.find-nth.ensures c.self.inside.first (blocks_shown c.self.inside.blocks.items) c.self.invariant.starts (omega arith) (omega arith)
+pub spot_of-nth-requires-clause-within : goal.spot_of-nth-requires-clause-within
+spot_of-nth-requires-clause-within c = let l = c.self.invariant.0.len in (omega arith, omega arith)
 
 pub index-block-requires : goal.index-block-requires
 index-block-requires c =
-    let l = c.self.invariant.len in
-    let a = c.find-nth.ensures c.self.inside.first (blocks_shown c.self.inside.blocks.items) c.self.invariant.starts (omega arith) (omega arith) in
+    let a = c.spot_of-nth.ensures in
     let w = block_within c.self.inside.blocks.items a in omega (arith, c.self.inside.blocks.ok)
 
 pub index-span-requires : goal.index-span-requires
 index-span-requires c =
-    let l = c.self.invariant.len in
-    let a = c.find-nth.ensures c.self.inside.first (blocks_shown c.self.inside.blocks.items) c.self.invariant.starts (omega arith) (omega arith) in
+    let a = c.spot_of-nth.ensures in
     let b = block_at c.self.inside.blocks.items c.index-block.result.now a c.index-block.ensures in
     let w = b.inside in omega (arith, c.index-block.result.now.spans.ok)
 
 pub returns : goal.returns
 returns c =
-    let l = c.self.invariant.len in
-    let a = c.find-nth.ensures c.self.inside.first (blocks_shown c.self.inside.blocks.items) c.self.invariant.starts (omega arith) (omega arith) in
+    let a = c.spot_of-nth.ensures in
     let b = block_at c.self.inside.blocks.items c.index-block.result.now a c.index-block.ensures in
     rw (← c.self.view_is)
-    (entry_at_spot c.args.index c.self.inside.first c.find-nth.result.0 c.find-nth.result.1 (blocks_shown c.self.inside.blocks.items) (block_spans c.index-block.result.now) c.index-span.result.now (omega arith) a b.same c.index-span.ensures)
+    (entry_at_spot c.args.index c.self.inside.first c.spot_of-nth.result.0 c.spot_of-nth.result.1 (blocks_shown c.self.inside.blocks.items) (block_spans c.index-block.result.now) c.index-span.result.now (omega arith) a b.same c.index-span.ensures)

@@ -1,7 +1,7 @@
-use Rattle.std.proofs.Common.{refl, ap}
+use Rattle.std.proofs.Common.{inl, [], refl, ap}
 use Rattle.raft_table.specs.Blocks.{blocks_shown}
-use Rattle.raft_table.proofs.BlockCuts.{kept_nil}
+use Rattle.raft_table.proofs.BlockCuts.{kept_with, kept_nil}
 use Rattle.raft_table.proofs.memtable.entries.Entries.new.Goals as goal
 
 pub invariant_of-result : goal.invariant_of-result
-invariant_of-result c = kept_nil _ _ _ _ _ (ap blocks_shown c.new.ensures.items) c.new-2.ensures.items refl refl
+invariant_of-result c = (kept_with (kept_nil _ _ _ [] _ (ap blocks_shown c.new.ensures.items) refl refl refl) refl, inl c.new-2.ensures.items)

@@ -12,13 +12,13 @@ use Rattle.raft_table.proofs.memtable.entries.Entries.truncate_from.Goals as goa
 
 pub returns-then-self-eq0-clause-entries : goal.returns-then-self-eq0-clause-entries
 unfolding below
-returns-then-self-eq0-clause-entries c = rw (← c.self.view_is, (kept_facts c.self.invariant).empty (omega arith)) refl
+returns-then-self-eq0-clause-entries c = rw (← c.self.view_is, (kept_facts c.self.invariant.0).empty (omega arith)) refl
 
 pub count_behind-rewritten-requires : goal.count_behind-rewritten-requires
-count_behind-rewritten-requires c = let l = (kept_facts c.self.invariant).length in rw (← c.self.view_is) (omega arith)
+count_behind-rewritten-requires c = let l = (kept_facts c.self.invariant.0).length in rw (← c.self.view_is) (omega arith)
 
 pub keep_front-requires : goal.keep_front-requires
-keep_front-requires c = let l = (kept_facts c.self.invariant).length in rw (← c.self.view_is) (omega arith)
+keep_front-requires c = let l = (kept_facts c.self.invariant.0).length in rw (← c.self.view_is) (omega arith)
 
 pub delete-requires : goal.delete-requires
 delete-requires c = rw c.count_behind-rewritten.ensures.rewritten (few_behind Rewrite c.min-keep.result c.args.self.now c.args.stats.now c.requires)
@@ -31,9 +31,9 @@ cut c = rw (c.self.view_is) c.keep_front.ensures
 
 pub returns-clause-entries : goal.returns-clause-entries
 returns-clause-entries c =
-    let l = (kept_facts c.self.invariant).length in
-    let s = (kept_facts c.self.invariant).start (omega arith) in
-    rw (← c.self.view_is, cut c) (front_below c.args.index c.self.inside.first c.min-keep.result (entries_in_blocks c.self.inside.first (blocks_shown c.self.inside.blocks.items)) c.self.invariant.table_entries s (omega arith))
+    let l = (kept_facts c.self.invariant.0).length in
+    let s = (kept_facts c.self.invariant.0).start (omega arith) in
+    rw (← c.self.view_is, cut c) (front_below c.args.index c.self.inside.first c.min-keep.result (entries_in_blocks c.self.inside.first (blocks_shown c.self.inside.blocks.items)) c.self.invariant.0.table_entries s (omega arith))
 
 pub returns-clause-recounted : goal.returns-clause-recounted
 returns-clause-recounted c =
@@ -44,19 +44,19 @@ returns-clause-recounted c =
 
 pub returns-then-self-eq0-clause-counts : goal.returns-then-self-eq0-clause-counts
 unfolding from
-returns-then-self-eq0-clause-counts c = none_above c.args.stats.now c.args.index c.args.self.now (rw (← c.self.view_is, (kept_facts c.self.invariant).empty (omega arith)) refl)
+returns-then-self-eq0-clause-counts c = none_above c.args.stats.now c.args.index c.args.self.now (rw (← c.self.view_is, (kept_facts c.self.invariant.0).empty (omega arith)) refl)
 
 pub returns-clause-dropped : goal.returns-clause-dropped
 returns-clause-dropped c =
-    let l = (kept_facts c.self.invariant).length in
+    let l = (kept_facts c.self.invariant.0).length in
     rw (← c.self.view_is, cut c, length-take-le c.min-keep.result (entries_in_blocks c.self.inside.first (blocks_shown c.self.inside.blocks.items)) (omega arith)) (omega arith)
 
 pub returns-clause-counts : goal.returns-clause-counts
 returns-clause-counts c =
     let es = entries_in_blocks c.self.inside.first (blocks_shown c.self.inside.blocks.items) in
-    let l = (kept_facts c.self.invariant).length in
-    let s = (kept_facts c.self.invariant).start (omega arith) in
-    let d : drop c.min-keep.result es ≡ from c.args.index es = behind_from c.args.index c.self.inside.first c.min-keep.result es c.self.invariant.table_entries s (omega arith) in
+    let l = (kept_facts c.self.invariant.0).length in
+    let s = (kept_facts c.self.invariant.0).start (omega arith) in
+    let d : drop c.min-keep.result es ≡ from c.args.index es = behind_from c.args.index c.self.inside.first c.min-keep.result es c.self.invariant.0.table_entries s (omega arith) in
     rw (← c.self.view_is, ← d)
     (same_deleted c.args.stats.now c.delete.new.self c.delete-2.new.self _ _ _ _ c.delete.ensures.after c.delete-2.ensures.after
     (rw (c.self.view_is) c.count_behind-rewritten.ensures.rewritten) (rw (c.self.view_is) c.count_behind-rewritten.ensures.appended))

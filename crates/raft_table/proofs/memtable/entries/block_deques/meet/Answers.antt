@@ -7,7 +7,7 @@ use Rattle.raft_table.proofs.memtable.entries.block_deques.meet.Goals as goal
 
 other : (c : goal.After-blocks-1) → AreMet c.args.spot.0 c.args.spot.1 (blocks_shown c.args.blocks.now.items) (blocks_shown (set c.args.blocks.now.items (c.args.spot.0 - 1) c.shorten.new.block)) (blocks_shown c.args.more.now.items) (blocks_shown c.args.more.now.items) 0
 other c = met_other c.args.spot.0 c.args.spot.1 c.args.blocks.now.items c.args.more.now.items c.index.result.now c.index_mut.result.now c.shorten.new.block c.index-2.result.now
-    (omega arith) c.requires.within c.requires.more.0 c.index.ensures c.index-2.ensures c.if-not-is_same.ensures c.index_mut.ensures.value c.shorten.ensures.handle c.shorten.ensures.spans
+    (omega arith) c.requires.within c.requires.more c.index.ensures c.index-2.ensures c.if-not-is_same.ensures c.index_mut.ensures.value c.shorten.ensures.handle c.shorten.ensures.spans
 
 pub returns-then-not-is_same-clause-front : goal.returns-then-not-is_same-clause-front
 returns-then-not-is_same-clause-front c = (other c).front
@@ -25,14 +25,14 @@ returns-in_err-lengthen-clause-err c =
     let w = c.requires.within in
     rw p.1 (
       set_same c.args.blocks.now.items (c.args.spot.0 - 1) c.index_mut-2.result.now c.lengthen.new.block (omega arith) c.index_mut-2.ensures.value c.lengthen.ensures.handle h.0,
-      set_same c.args.more.now.items 0 c.index_mut-3.result.now (record { handle = c.index_mut-3.result.now.handle; spans = c.lengthen.new.more }) c.requires.more.0 c.index_mut-3.ensures.value refl h.1,
+      set_same c.args.more.now.items 0 c.index_mut-3.result.now (record { handle = c.index_mut-3.result.now.handle; spans = c.lengthen.new.more }) c.requires.more c.index_mut-3.ensures.value refl h.1,
       refl,
     )
 
 same : (c : goal.After-drop_front-2) → AreMet c.args.spot.0 c.args.spot.1 (blocks_shown c.args.blocks.now.items) (blocks_shown (set c.args.blocks.now.items (c.args.spot.0 - 1) c.lengthen.new.block)) (blocks_shown c.args.more.now.items) (blocks_shown (drop 1 c.args.more.now.items)) 1
 same c = met_same c.args.spot.0 c.args.spot.1 c.args.blocks.now.items c.args.more.now.items c.index.result.now c.index_mut-2.result.now c.lengthen.new.block c.index_mut-3.result.now
-    (omega arith) c.requires.within c.requires.more.0 c.index.ensures c.index_mut-3.ensures.value
-    (c.if-not-is_same.ensures ∙ ap (λ (y : Block). y.handle) (one_block c.args.more.now.items 0 c.index-2.result.now c.index_mut-3.result.now c.requires.more.0 c.index-2.ensures c.index_mut-3.ensures.value))
+    (omega arith) c.requires.within c.requires.more c.index.ensures c.index_mut-3.ensures.value
+    (c.if-not-is_same.ensures ∙ ap (λ (y : Block). y.handle) (one_block c.args.more.now.items 0 c.index-2.result.now c.index_mut-3.result.now c.requires.more c.index-2.ensures c.index_mut-3.ensures.value))
     c.index_mut-2.ensures.value c.lengthen.ensures.handle c.in_ok-lengthen.ensures.ok
 
 left : (c : goal.After-drop_front-2) → c.drop_front.new.deque.items ≡ drop 1 c.args.more.now.items

@@ -1,5 +1,5 @@
-use Rattle.std.proofs.Common.{◌≡◌, ◌-◌, ◌<◌, List, [], ◌∷◌, ◌++◌, length, take, set, arith, refl, sym, ap, ◌∙◌}
-use Rattle.std.proofs.lemmas.List.{append-nil, take_all}
+use Rattle.std.proofs.Common.{◌≡◌, ◌-◌, ◌<◌, List, [], ◌∷◌, ◌++◌, length, take, set, arith, refl, ap, ◌∙◌}
+use Rattle.std.proofs.lemmas.List.{take_all}
 use Rattle.std.proofs.lemmas.Result.{on_ok_weaker, IfErr-weaker}
 use Rattle.raft_table.specs.Blocks.{block_spans, blocks_shown}
 use Rattle.raft_table.specs.BlockWords.{joined_blocks, seam}
@@ -23,28 +23,21 @@ pushed c h =
     pushed_same k c.args.blocks.now.items b c.lengthen.new.block c.args.block (omega (arith, c.args.blocks.now.ok)) c.index_mut.ensures.value (same c) c.lengthen.ensures.handle
     (h ∙ ap (λ ys. ys ++ c.args.block.spans.items) (take_all c.len-kept.result b.spans.items (omega arith)))
 
-pub returns-then-is_same-clause-blocks : goal.returns-then-is_same-clause-blocks
-returns-then-is_same-clause-blocks c = on_ok_weaker c.lengthen.result (λ h. (pushed c h).0) c.lengthen.ensures.ok
-
-pub returns-then-is_same-clause-starts : goal.returns-then-is_same-clause-starts
-returns-then-is_same-clause-starts c = on_ok_weaker c.lengthen.result (λ h. rw (pushed c h).1 (sym (append-nil c.args.starts.now.items))) c.lengthen.ensures.ok
+pub returns-then-is_same-clause-ok : goal.returns-then-is_same-clause-ok
+returns-then-is_same-clause-ok c = on_ok_weaker c.lengthen.result (λ h. (pushed c h).0) c.lengthen.ensures.ok
 
 pub returns-then-is_same-clause-err : goal.returns-then-is_same-clause-err
 returns-then-is_same-clause-err c =
-    IfErr-weaker c.lengthen.result _ _ (λ e h. (set_same c.args.blocks.now.items (c.len-len.result - 1) c.index_mut.result.now c.lengthen.new.block (last c) c.index_mut.ensures.value c.lengthen.ensures.handle h.0, refl)) c.lengthen.ensures.err
+    IfErr-weaker c.lengthen.result _ _ (λ e h. set_same c.args.blocks.now.items (c.len-len.result - 1) c.index_mut.result.now c.lengthen.new.block (last c) c.index_mut.ensures.value c.lengthen.ensures.handle h.0) c.lengthen.ensures.err
 
-added : (c : goal.After-push_back_reserved) → (blocks_shown (c.args.blocks.now.items ++ c.args.block ∷ []) ≡ joined_blocks (blocks_shown c.args.blocks.now.items) (block_spans c.args.block ∷ [])) × (seam (blocks_shown c.args.blocks.now.items) (block_spans c.args.block ∷ []) ≡ 0)
-added c = elim c.if-len-gt0.branch [
-  | then-len-gt0+else-is_same w ↦ pushed_other (c.len-len.result - 1) c.args.blocks.now.items w.index.result.now c.args.block (omega (arith, w.if-len-gt0.true, c.args.blocks.now.ok)) w.index.ensures w.if-is_same.ensures
-  | else-len-gt0 w ↦ first c.args.blocks.now.items (omega (arith, w.if-len-gt0.false, c.args.blocks.now.ok))
-]
+pub returns-clause-ok : goal.returns-clause-ok
+returns-clause-ok c =
+    ap blocks_shown (c.in_ok-push_back.ensures.items ∙ ap (λ bs. bs ++ c.args.block ∷ []) c.make_first_room.ensures)
+    ∙ elim c.if-len-gt0.branch [
+      | then-len-gt0+else-is_same w ↦ (pushed_other (c.len-len.result - 1) c.args.blocks.now.items w.index.result.now c.args.block (omega (arith, w.if-len-gt0.true, c.args.blocks.now.ok)) w.index.ensures w.if-is_same.ensures).0
+      | else-len-gt0 w ↦ first c.args.blocks.now.items (omega (arith, w.if-len-gt0.false, c.args.blocks.now.ok))
+    ]
   where
-    first : (bs : List Block) → length bs ≡ 0 → (blocks_shown (bs ++ c.args.block ∷ []) ≡ joined_blocks (blocks_shown bs) (block_spans c.args.block ∷ [])) × (seam (blocks_shown bs) (block_spans c.args.block ∷ []) ≡ 0)
-    first [] l = (refl, refl)
+    first : (bs : List Block) → length bs ≡ 0 → blocks_shown (bs ++ c.args.block ∷ []) ≡ joined_blocks (blocks_shown bs) (block_spans c.args.block ∷ [])
+    first [] l = refl
     first (x ∷ bs) l = absurd (omega arith)
-
-pub returns-clause-blocks : goal.returns-clause-blocks
-returns-clause-blocks c = ap blocks_shown (c.in_ok-push_back.ensures.items ∙ ap (λ bs. bs ++ c.args.block ∷ []) c.make_room_behind.ensures.items.0) ∙ (added c).0
-
-pub returns-clause-starts : goal.returns-clause-starts
-returns-clause-starts c = c.push_back_reserved.ensures.items ∙ ap (λ xs. xs ++ c.args.index ∷ []) c.make_room_behind.ensures.items.1 ∙ rw (added c).1 refl

@@ -1,0 +1,15 @@
+use Rattle.std.proofs.Common.{◌++◌, take, sym, ap, ◌∙◌}
+use Rattle.std.proofs.lemmas.List.{take-map, map-append}
+use Rattle.raft_table.specs.Blocks.{block_spans, blocks_shown}
+use Rattle.raft_table.specs.BlockWords.{first_of_last, joined_blocks}
+use Rattle.raft_table.proofs.memtable.entries.block_deques.put_few_blocks.Goals as goal
+
+pub returns-clause-ok : goal.returns-clause-ok
+returns-clause-ok c =
+    let k = c.args.spot.0 in
+    let b = c.meet.new.blocks.items in
+    let m = c.meet.new.more.items in
+    ap blocks_shown (c.append.ensures.items ∙ ap (λ xs. xs ++ m) c.truncate.ensures.items)
+    ∙ map-append block_spans (take k b) m ∙ ap (λ ys. ys ++ blocks_shown m) (sym (take-map block_spans k b))
+    ∙ c.in_ok-meet.ensures.front
+    ∙ ap (λ xs. joined_blocks (first_of_last c.args.spot.1 (take k (blocks_shown xs))) (blocks_shown c.args.more.now.items)) c.reserve.ensures.items

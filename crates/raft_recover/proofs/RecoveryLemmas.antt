@@ -136,11 +136,6 @@ module _ (queue : LogQueue) (version : Version) (ss : List (Vec Part Global)) (f
 
 -- ---- the contexts of both queues
 
--- a reading, or its refusal
-pub replayed_or_refused : (segments : List (Vec Part Global)) (r : Result RecoverContext Error) → IfOk r (IsReplayed HasRead HasReadExactly segments) → IfErr r (λ e. e ≢ errors.Memory → CannotBeRead segments) → IsReplayedOrRefused segments r
-replayed_or_refused segments (Ok m) replayed refused = replayed
-replayed_or_refused segments (Err e) replayed refused = refused
-
 -- segments that hold no small history can't be read
 few_or_unread : (segments : List (Vec Part Global)) (h : List Event) → SegmentsHold segments h → IsSmall h ⊎ CannotBeRead segments
 few_or_unread segments h held = elim (ltb (records_in (flat_map (λ (e : Event). steps_of_items e.items) h)) (2 ^ 63)) as (λ b. ltb (records_in (flat_map (λ (e : Event). steps_of_items e.items) h)) (2 ^ 63) ≡ b → IsSmall h ⊎ CannotBeRead segments) [
@@ -195,11 +190,6 @@ module _ (rewrite append : List (Vec Part Global)) (rewrite_of : SegmentsAreOf R
     exact_counts = counted;
   }
   both_recovered new merged (Err e) reads counted = tt
-
--- a context that has taken in the other queue hands out its tables
-pub both_finished : {A : Type 0} (new : RecoverContext) (r : Result A Error) (P : Error → Type 0) → new.stage ≡ stages.Overlaid → IfErr r (λ e. (e ≡ errors.Failed) × (new.stage ≡ stages.Failed)) → IfErr r P
-both_finished new (Ok a) P overlaid failed = tt
-both_finished new (Err e) P overlaid failed = absurd (subst is_failed (sym failed.1 ∙ overlaid) tt)
 
 -- with a whole append queue both give its records alone
 pub both_whole : (rewrite append : List (Vec Part Global)) (r : Result Accessor Error) → IfOk r (AreBothRecovered (SegmentsHold rewrite) (SegmentsHold append)) → (h k : List Event) (tables : Tables) (cleaned : List ℕ) → SegmentsHold rewrite h → SegmentsHold append k → IsSmall h → IsSmall k → Apart h

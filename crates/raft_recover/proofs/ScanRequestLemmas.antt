@@ -90,21 +90,6 @@ asks_none_plain words plain none scan asked = by_flag scan.past_damage asked.nam
     by_flag true behind form files = plain behind form
     by_flag false behind form files = none scan (subst (λ (ws : List (List ℕ)). NamesFiles ws scan) (sym form) files)
 
--- without words no scan is asked for
-pub asks_none_empty : (words : List (List ℕ)) → length words < 1 → AsksNoScan words
-asks_none_empty (w ∷ ws) none scan asked = absurd (omega (arith, none))
-asks_none_empty [] none scan asked = by_flag scan.past_damage asked.named asked.form asked.files
-  where
-    by_flag : (b : Bool) (behind : List (List ℕ)) → [] ≡ flag_words b behind → NamesFiles behind scan → ⊥
-    by_flag true behind form files = cc
-    by_flag false behind form files = let split : [] ≡ files.queue ∷ files.version ∷ files.path_words = form ∙ files.form in cc
-
--- what was asked for, whichever form the words have
-pub asked_past : (words named : List (List ℕ)) (r : Option AskedScan) → words ≡ codes "--past-damage" ∷ named
-    → IfSome r (λ scan. (scan.past_damage ≡ true) × NamesFiles named scan) → IfSome r (AsksScan words)
-asked_past words named None split found = tt
-asked_past words named (Some scan) split found = asks_past words named scan split found.0 found.1
-
 -- ---- files
 
 module _ (past : Bool) (queue : LogQueue) (version : Version) where

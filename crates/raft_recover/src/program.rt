@@ -91,7 +91,6 @@ pub fn run_without_words<E: Write>(error: &io::Error, err: &mut E) -> u8
     RAFTLOG.without_words(error, err)
 }
 
-/// Prints what is asked for.
 fn answer<S: Files + AllocGlobal + Threads + Sync, R: Read, W: Write>(
     rt: &S,
     request: Request<'_>,
@@ -112,7 +111,6 @@ fn answer<S: Files + AllocGlobal + Threads + Sync, R: Read, W: Write>(
     }
 }
 
-/// Reads files and prints their tables.
 fn print_files<S: Files + AllocGlobal + Threads + Sync, W: Write>(
     rt: &S,
     recovery: RecoverWords<'_>,

@@ -55,7 +55,6 @@ pub fn recovered_text(alloc: Global, accessor: &MemTableAccessor) -> Result<Stri
     Ok(text)
 }
 
-/// Sorts tables by their regions.
 fn sort_by_region(tables: &mut Vec<&MemTable>)
     ensures moved { IsPermutation tables.old.items tables.new.items }
     ensures rises { IsNonDecreasingBy (λ t. t.now.region_id) tables.new.items }
@@ -67,7 +66,6 @@ fn sort_by_region(tables: &mut Vec<&MemTable>)
     );
 }
 
-/// Appends the lines of tables.
 fn append_tables(tables: &[&MemTable], text: &mut String) -> AllocResult<()>
     ensures { OnOk result (string_bytes text.new
         ≡ string_bytes text.old ++ flat_map table_line (map (λ t. t.now) tables.now)) }
@@ -78,7 +76,6 @@ fn append_tables(tables: &[&MemTable], text: &mut String) -> AllocResult<()>
     Ok(())
 }
 
-/// Appends the line of a table.
 fn append_table(table: &MemTable, text: &mut String) -> AllocResult<()>
     ensures { OnOk result (string_bytes text.new ≡ string_bytes text.old ++ table_line table.now) }
 {
@@ -114,7 +111,6 @@ fn append_seq(seq: Option<FileSeq>, text: &mut String) -> AllocResult<()>
     }
 }
 
-/// Appends the line of the cleaned regions.
 fn append_cleaned(regions: &[u64], text: &mut String) -> AllocResult<()>
     ensures { OnOk result (string_bytes text.new ≡ string_bytes text.old ++ cleaned_line
         regions.now) }
@@ -129,7 +125,6 @@ fn append_cleaned(regions: &[u64], text: &mut String) -> AllocResult<()>
     text.push('\n')
 }
 
-/// Appends the line of the live counts.
 fn append_live(stats: &GlobalStats, text: &mut String) -> AllocResult<()>
     ensures { OnOk result (string_bytes text.new ≡ string_bytes text.old ++ live_line stats.now) }
 {

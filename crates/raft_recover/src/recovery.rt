@@ -24,9 +24,7 @@ use crate::shares::{bytes_of, equal_shares};
 use raft_accessor::MemTableAccessor;
 use raft_base::{Error, FileSeq, LogQueue, Result, Version};
 use raft_contexts::{MemTableRecoverContext, MemTableRecoverContextFactory};
-use raft_replay::{
-    OpenGate, Segment, are_accepted, argument_fault, replay_segment, replay_segments,
-};
+use raft_replay::{OpenGate, Segment, check_arguments, replay_accepted, replay_segment};
 use std::alloc::Global;
 use std::io::Write;
 use std::thread::{Threads, join};
@@ -71,6 +69,7 @@ pub fn recover<R: Threads + Sync>(
     ensures fault { ¬ (MayReplay queue workers segments.entry.now)
         → IfErr result (λ e. e ≢ Error.Memory → IsInvalidArgument e) }
 {
+    check_arguments(alloc, segments, queue, workers)?;
     let context = replayed(rt, alloc, segments, queue, workers)?;
     context.finish()
 }
@@ -114,32 +113,11 @@ pub fn recover_both<R: Threads + Sync>(
         → IfOk result (λ accessor. HaveSameRecords accessor.tables tables
         × (accessor.cleaned ≡ cleaned)) }
 {
-    check_segments(alloc, rewrite, LogQueue::Rewrite, workers)?;
-    check_segments(alloc, append, LogQueue::Append, workers)?;
+    check_arguments(alloc, rewrite, LogQueue::Rewrite, workers)?;
+    check_arguments(alloc, append, LogQueue::Append, workers)?;
     let (mut both, appended) = both_replayed(rt, alloc, rewrite, append, workers)?;
     both.merge_append_context(appended)?;
     both.finish()
-}
-
-/// Tests whether so many workers may replay the segments of a queue.
-///
-/// # Errors
-///
-/// `InvalidArgument` where they may not, `Memory` for the text.
-fn check_segments(
-    alloc: Global,
-    segments: &[Segment],
-    queue: LogQueue,
-    workers: usize,
-) -> Result<()>
-    ensures ok { OnOk result (MayReplay queue workers segments.entry.now) }
-    ensures err { OnErr result (¬ (MayReplay queue workers segments.entry.now)) }
-    ensures fault { IfErr result (λ e. e ≢ Error.Memory → IsInvalidArgument e) }
-{
-    if are_accepted(segments, queue, workers) {
-        return Ok(());
-    }
-    Err(Error::invalid_argument(alloc, argument_fault(segments, queue, workers)))
 }
 
 /// Returns the contexts of the rewrite queue and of the append queue. Two workers or more read both queues
@@ -206,17 +184,12 @@ fn replayed<R: Threads + Sync>(
     queue: LogQueue,
     workers: usize,
 ) -> Result<MemTableRecoverContext>
+    requires { MayReplay queue workers segments.now }
     ensures ok { IfOk result (IsReplayed HasRead HasReadExactly segments.entry.now) }
-    ensures accepted { OnOk result (MayReplay queue workers segments.entry.now) }
-    ensures refused { MayReplay queue workers segments.entry.now
-        → IfErr result (λ e. e ≢ Error.Memory → CannotBeRead segments.entry.now) }
-    ensures place { MayReplay queue workers segments.entry.now
-        → IfErr result (λ e. e ≢ Error.Memory
+    ensures refused { IfErr result (λ e. e ≢ Error.Memory → CannotBeRead segments.entry.now) }
+    ensures place { IfErr result (λ e. e ≢ Error.Memory
         → StopsAmong IsNothing Sound (parts_within segments.entry.now) e) }
-    ensures fault { ¬ (MayReplay queue workers segments.entry.now)
-        → IfErr result (λ e. e ≢ Error.Memory → IsInvalidArgument e) }
 {
-    check_segments(alloc, segments, queue, workers)?;
     let shares = equal_shares(alloc, segments, workers, LEAST_SHARE)?;
     replayed_as(rt, alloc, segments, shares.as_slice(), queue, workers)
 }
@@ -232,14 +205,15 @@ fn replayed_as<R: Threads + Sync>(
     queue: LogQueue,
     workers: usize,
 ) -> Result<MemTableRecoverContext>
-    requires { (h : List Event) → SegmentsHold segments.now h ↔ SegmentsHold shares.now h }
+    requires same { (h : List Event) → SegmentsHold segments.now h ↔ SegmentsHold shares.now h }
+    requires accepted { MayReplay queue workers shares.now }
     ensures ok { IfOk result (IsReplayed HasRead HasReadExactly segments.entry.now) }
     ensures refused { IfErr result (λ e. e ≢ Error.Memory → CannotBeRead segments.entry.now) }
     ensures place { IfErr result (λ e. e ≢ Error.Memory
         → StopsAmong IsNothing Sound (parts_within segments.entry.now) e) }
 {
     let factory = MemTableRecoverContextFactory::new();
-    match replay_segments(rt, alloc, &factory, shares, queue, workers, &OpenGate) {
+    match replay_accepted(rt, alloc, &factory, shares, queue, workers, &OpenGate) {
         Ok(context) => Ok(context),
         Err(Error::Memory) => Err(Error::Memory),
         Err(_) => replayed_in_turn(alloc, segments),
@@ -284,7 +258,7 @@ pub fn recover_segments<R: Threads + Sync>(
     ensures fault { ¬ (MayReplay queue workers segments.entry.now)
         → IfErr result (λ e. e ≢ Error.Memory → IsInvalidArgument e) }
 {
-    check_segments(alloc, segments, queue, workers)?;
+    check_arguments(alloc, segments, queue, workers)?;
     let context = replayed_as(rt, alloc, segments, segments, queue, workers)?;
     context.finish()
 }

@@ -55,7 +55,6 @@ impl<'a> Request<'a> {
     }
 }
 
-/// Returns the file whose item batch the words ask for.
 fn batch_request(words: &[String]) -> Option<LogFileContext>
     ensures asked { IfSome result (AsksBatch (map string_bytes words.now)) }
     ensures refused { IfNone result
@@ -70,7 +69,6 @@ fn batch_request(words: &[String]) -> Option<LogFileContext>
     context_named(queue.as_str(), seq.as_str(), version.as_str())
 }
 
-/// Returns the file, with its version, that a queue, a number and a version name.
 fn context_named(queue: &str, seq: &str, version: &str) -> Option<LogFileContext>
     ensures named { IfSome result (NamesContext queue.now seq.now version.now) }
     ensures refused { IfNone result
@@ -82,11 +80,6 @@ fn context_named(queue: &str, seq: &str, version: &str) -> Option<LogFileContext
     Some(LogFileContext::new(FileId::new(queue, seq), version))
 }
 
-/// Returns the recovery that the words ask for.
-///
-/// # Errors
-///
-/// `Memory`, and only where they ask for tables.
 fn recovery_request<'a>(alloc: Global, words: &'a [String]) -> Result<Option<RecoverWords<'a>>>
     ensures asked { IfOk result (λ r. IfSome r (λ recovery.
         AsksRecovery (map string_bytes words.now) (asks_for recovery))) }
@@ -147,7 +140,6 @@ pub(crate) fn paths_named<'a>(
     Ok(Some(paths?))
 }
 
-/// Returns the paths so far and one more, if there was memory for those and is for this one.
 fn with_path<'a>(
     paths: Result<Vec<(FileSeq, &'a str)>>,
     path: (FileSeq, &'a str),

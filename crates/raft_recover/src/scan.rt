@@ -115,11 +115,6 @@ pub(crate) fn both(first: bool, second: bool) -> bool
     first && second
 }
 
-/// Returns what stands at a byte of a part.
-///
-/// # Errors
-///
-/// `Memory`.
 fn found_at(alloc: Global, part: &FilePart, at: usize) -> Result<Finding>
     requires { at < length part.now.bytes }
     ensures ok { IfOk result (IsFound part.now at) }
@@ -132,7 +127,6 @@ fn found_at(alloc: Global, part: &FilePart, at: usize) -> Result<Finding>
     }
 }
 
-/// Returns what is found where this batch stands.
 fn batch_found(
     alloc: Global,
     part: &FilePart,
@@ -153,11 +147,6 @@ fn batch_found(
     }
 }
 
-/// Returns what is found where no batch can be read.
-///
-/// # Errors
-///
-/// `Memory`, where that is the reason.
 fn damage_found(alloc: Global, part: &FilePart, at: usize, reason: Error) -> Result<Finding>
     requires inside { at ≤ length part.now.bytes }
     requires none { reason ≢ Error.Memory
@@ -227,7 +216,6 @@ fn block_state(part: &FilePart, at: usize, items_at: usize) -> BlockState
     }
 }
 
-/// Appends the line of what was found at a byte of a part.
 fn append_finding(
     part: &FilePart,
     at: usize,
@@ -252,7 +240,6 @@ fn append_finding(
     }
 }
 
-/// Appends the line of the end of a part.
 fn append_end(part: &FilePart, text: &mut String) -> AllocResult<()>
     ensures { OnOk result (string_bytes text.new ≡ string_bytes text.old ++ end_line part.now) }
 {
@@ -260,7 +247,6 @@ fn append_end(part: &FilePart, text: &mut String) -> AllocResult<()>
     text.push_str(" end\n")
 }
 
-/// Appends the file and the offset in it of a byte of a part.
 fn append_place(part: &FilePart, at: usize, text: &mut String) -> AllocResult<()>
     requires { at ≤ length part.now.bytes }
     ensures { OnOk result
@@ -272,7 +258,6 @@ fn append_place(part: &FilePart, at: usize, text: &mut String) -> AllocResult<()
     write!(text, "{queue} file {} offset {offset}", id.seq)
 }
 
-/// Returns the word for a queue.
 fn queue_name(queue: LogQueue) -> &'static str
     ensures { result.now ≡ queue_word queue }
 {
@@ -282,7 +267,6 @@ fn queue_name(queue: LogQueue) -> &'static str
     }
 }
 
-/// Returns the word for an entry block.
 fn block_word(block: BlockState) -> &'static str
     ensures { result.now ≡ block_word block }
 {
@@ -293,7 +277,6 @@ fn block_word(block: BlockState) -> &'static str
     }
 }
 
-/// Says why no batch can be read.
 fn reason_text(reason: &Error) -> &str
     ensures { result.now ≡ reason_text reason.now }
 {

@@ -79,11 +79,6 @@ pub fn scan_without_words<E: Write>(error: &io::Error, err: &mut E) -> u8
     SCAN.without_words(error, err)
 }
 
-/// Returns the scan that the words ask for, if they ask for one.
-///
-/// # Errors
-///
-/// `Memory`, and only where they ask for one.
 fn scan_request<'a>(alloc: Global, words: &'a [String]) -> Result<Option<ScanWords<'a>>>
     ensures asked { IfOk result (λ r. IfSome r (λ scan.
         AsksScan (map string_bytes words.now) (scan_asked scan))) }

@@ -85,9 +85,7 @@ fn append_short(
     ensures memory { IfErr result (λ e. e ≡ Error.Memory) }
 {
     for part in segment {
-        let count = (part.bytes().len() / share)
-            .saturating_mul(PARTS_PER_SHARE)
-            .max(1);
+        let count = (part.bytes().len() / share).saturating_mul(PARTS_PER_SHARE);
         parts.append(&mut cut_part(alloc, part.clone()?, count)?)?;
     }
     Ok(())

@@ -42,9 +42,6 @@ SegmentReads segment h = PartsHold segment.items h
 -- ---- one segment more
 
 module _ {M : Type 0} (stands_for stands_exactly : M → List Event → Type 0) (exact_stands : (m : M) (h : List Event) → stands_exactly m h → stands_for m h) where
-  pub piece_begun : (segments : List (Vec Part Global)) (from : ℕ) (m : M) → from ≤ length segments → stands_exactly m [] → IsPiece stands_exactly segments from 0 m
-  piece_begun segments from m inside new = record { inside = omega arith; history = []; held = refl; exact = λ small. new }
-
   module _ (segments : List (Vec Part Global)) (from count : ℕ) (m : M) (piece : IsPiece stands_exactly segments from count m) (segment : Vec Part Global)
       (inside : from + count < length segments) (is : segment ≡ get_or segments (from + count) segment) where
     one_longer : take (count + 1) (drop from segments) ≡ take count (drop from segments) ++ segment ∷ []

@@ -37,10 +37,6 @@ module _ (id : FileId) (version : Version) where
 
 -- ---- one part more
 
--- a part that isn't cut
-pub part_alone : (part : Part) → ArePartsOf part (part ∷ [])
-part_alone part = record { in_turn = (refl, refl, refl, tt); bytes = append-nil part.bytes }
-
 -- the last part, cut in two
 last_cut : (whole left : Part) (old : List Part) (at : ℕ) → ArePartsOf whole (old ++ left ∷ []) → at ≤ length left.bytes
     → ArePartsOf whole (old ++ bytes_before left at ∷ rest_of left at ∷ [])

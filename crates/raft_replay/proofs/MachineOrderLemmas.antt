@@ -149,26 +149,6 @@ module _ {M : Type 0} (stands_for stands_exactly : M → List Event → Type 0) 
           (sound_back (histories_in_turn underway.histories) (underway.last ++ next.first) (subst Sound two good));
     }
 
-  -- one machine alone
-  pub replayed_alone : (segments : List (Vec Part Global)) (m : M) → IsUnderway stands_exactly segments [] m → IsReplayed stands_for stands_exactly segments m
-  replayed_alone segments m underway = alone underway.histories underway.last underway.held underway.stand underway.exact
-    where
-      alone : (hs : List (List Event)) (last : List Event) → SegmentsHold segments (histories_in_turn hs ++ last)
-          → (IsSmall (histories_in_turn hs ++ last) → StandForEach stands_exactly [] hs) → (IsSmall (histories_in_turn hs ++ last) → stands_exactly m last)
-          → IsReplayed stands_for stands_exactly segments m
-      alone [] last held none exact = record {
-        history = last;
-        held = held;
-        stands = λ small. exact_stands m last (exact small);
-        exact = λ small apart. exact small;
-      }
-      alone (h ∷ hs) last held none exact = record {
-        history = h ++ histories_in_turn hs ++ last;
-        held = held;
-        stands = λ small. absurd (none small);
-        exact = λ small apart. absurd (none small);
-      }
-
   module _ (segments : List (Vec Part Global)) (ms : List M) (line : AreInOrder stands_exactly segments ms) (queue : LogQueue) (of : SegmentsAreOf queue segments) where
     -- all of them merged
     pub replayed_merged : (m : M) → IsMerged stands_for stands_exactly ms m → IsReplayed stands_for stands_exactly segments m

@@ -56,7 +56,6 @@ fn batch_end(alloc: Global, part: &FilePart, least: usize) -> Option<usize>
     if at < bytes.len() { Some(at) } else { None }
 }
 
-/// Returns how long the batch in front is, if it has a header and is whole.
 fn batch_length(alloc: Global, bytes: &[u8]) -> Option<usize>
     ensures header { IfSome result (λ len. (offset : ℕ) × HasHeader bytes.now offset len) }
     ensures some { IfSome result (λ len. 0 < len) }

@@ -19,4 +19,4 @@ pub use segment::{
     Segment, replay_bytes, replay_segment, segments_hold_few_records, segments_read_as_one_history,
     written_batches_are_held,
 };
-pub use workers::{MAX_WORKERS, SEGMENT_LIMIT, are_accepted, argument_fault, replay_segments};
+pub use workers::{MAX_WORKERS, SEGMENT_LIMIT, check_arguments, replay_accepted, replay_segments};

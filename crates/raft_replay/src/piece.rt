@@ -52,7 +52,6 @@ impl<M: ReplayMachine> Piece<M> {
         Piece::begin(alloc, factory, number)
     }
 
-    /// Makes a piece of no segments.
     fn begin<F: Factory<M>>(alloc: Global, factory: &F, from: usize) -> Result<Piece<M>>
         requires { (m : M) → F.gives factory.now m → M.stands_exactly m [] }
         ensures empty { IfOk result (λ p. (p.from ≡ from) × (p.count ≡ 0)) }
@@ -102,7 +101,6 @@ impl<M: ReplayMachine> Piece<M> {
         Piece::machines(alloc, pieces)
     }
 
-    /// Returns the machines of the pieces.
     fn machines(alloc: Global, pieces: Vec<Piece<M>>) -> Result<Vec<M>>
         ensures ok { IfOk result (λ v. v.items ≡ map (λ p. p.machine.value) pieces.items) }
         ensures fault { IfErr result (λ e. e ≡ Error.Memory) }

@@ -66,7 +66,6 @@ pub fn merge_pieces<M: ReplayMachine, R: Threads + Sync>(
     merge_at_once(rt, pieces, plan, queue, MAX_LEVELS)
 }
 
-/// Tests whether the plan is of these pieces.
 fn fits<M: ReplayMachine>(pieces: &Vec<M>, plan: &Plan) -> bool
     ensures { IsTrue result ↔ (leaves plan.now ≡ vec_len pieces.now) }
 {
@@ -124,7 +123,6 @@ fn oldest_of<'a, M: ReplayMachine>(
     Ok(piece)
 }
 
-/// Merges a machine with all that waits for it.
 fn merge_waiting<M: ReplayMachine>(
     mut merged: M,
     mut waiting: Vec<Waiting<'_, M>>,
@@ -209,7 +207,6 @@ pub(crate) fn merge_at_once<M: ReplayMachine, R: Threads + Sync>(
     }
 }
 
-/// Tests whether the plan has pieces to merge.
 fn is_join(plan: &Plan) -> bool {
     matches!(plan, Plan::Join(_, _))
 }
@@ -232,7 +229,6 @@ fn both<R: Threads, F: FnOnce() -> A + Send, G: FnOnce() -> B, A: Send, B>(
     (one, second())
 }
 
-/// Divides the pieces into those of the first plan and those of the second.
 #[tactic(auto, using(crate::proofs::MergeLemmas::leaves_positive))]
 fn divide<M: ReplayMachine>(
     mut pieces: Vec<M>,
@@ -250,7 +246,6 @@ fn divide<M: ReplayMachine>(
     Ok((pieces, rest))
 }
 
-/// Merges two merged neighbors, or returns the first refusal of either.
 fn merge_both<M: ReplayMachine>(older: Result<M>, newer: Result<M>, queue: LogQueue) -> Result<M>
     ensures { (xs ys zs : List M) → zs ≡ xs ++ ys
         → Merges M.stands_for M.stands_exactly queue xs older

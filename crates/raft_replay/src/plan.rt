@@ -84,7 +84,6 @@ impl Plan {
         }
     }
 
-    /// Lets a single piece go.
     fn let_one_go(self)
         requires { self ≡ Plan.One }
     {

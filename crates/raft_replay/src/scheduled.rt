@@ -1,6 +1,6 @@
 //! Given schedules, on one thread.
 
-ghost use Rattle.std.specs.Prelude.{◌≡◌, ◌≢◌, ◌+◌, ◌^◌, ◌<◌, ◌↔◌, All, EachIndex, List, [], length, slice_index, IfOk, IfErr, OnOk, IsTrue, if◌then◌else◌, vec_len, Vec};
+ghost use Rattle.std.specs.Prelude.{◌≡◌, ◌≢◌, ◌+◌, ◌^◌, ◌<◌, ◌↔◌, All, EachIndex, List, [], length, slice_index, IfOk, IfErr, IfNone, OnOk, OnSome, IsTrue, if◌then◌else◌, vec_len, Vec};
 ghost use Rattle.std.specs.Global.{Global};
 ghost use Rattle.raft_records.specs.FilePart.{Part};
 ghost use Rattle.raft_base.specs.Errors.{IsInvalidArgument};
@@ -11,7 +11,7 @@ ghost use Rattle.raft_replay.specs.Replays.{IsReplayed};
 ghost use Rattle.raft_replay.specs.Schedules.{IsSchedule, switches, count_below, pieces_in};
 
 use crate::pieces::merge_in_turn;
-use crate::workers::{MAX_WORKERS, argument_fault};
+use crate::workers::workers_fault;
 use crate::{Plan, Segment, replay_segment};
 use raft_base::{Error, Factory, LogQueue, Result};
 use raft_history::ReplayMachine;
@@ -46,9 +46,8 @@ pub fn replay_scheduled<M: ReplayMachine, F: Factory<M>>(
     ensures fault { (IsSchedule segments.entry.now queue workers draws.entry.now plan.entry.now → ⊥)
         → IfErr result (λ e. e ≢ Error.Memory → IsInvalidArgument e) }
 {
-    if !is_schedule(segments, queue, workers, draws, plan) {
-        let fault = schedule_fault(segments, queue, workers, draws);
-        return Err(Error::InvalidArgument(String::from_str(alloc, fault)?));
+    if let Some(fault) = schedule_fault(segments, queue, workers, draws, plan) {
+        return Err(Error::invalid_argument(alloc, fault));
     }
     let mut machines = Vec::new(alloc);
     let last = replay_in_order(alloc, factory, segments, draws, &mut machines)?;
@@ -73,64 +72,48 @@ pub fn piece_count(segments: usize, draws: &[usize]) -> usize
     pieces
 }
 
-/// Tests whether another worker draws this segment than the one before it.
 fn switches(draws: &[usize], n: usize) -> bool
     ensures { result ≡ switches draws.now n }
 {
     n > 0 && drawer(draws, n) != drawer(draws, n - 1)
 }
 
-/// Returns who draws the segment.
 fn drawer(draws: &[usize], n: usize) -> usize
     ensures { result ≡ slice_index draws.now n }
 {
     if n < draws.len() { draws[n] } else { 0 }
 }
 
-/// Tests whether the arguments fit one another.
-fn is_schedule(
-    segments: &[Segment],
-    queue: LogQueue,
-    workers: usize,
-    draws: &[usize],
-    plan: &Plan,
-) -> bool
-    ensures { IsTrue result ↔ IsSchedule segments.now queue workers draws.now plan.now }
-{
-    if workers == 0 || workers > MAX_WORKERS || !segments_are_of(segments, queue) {
-        return false;
-    }
-    if !are_known(draws, workers) {
-        return false;
-    }
-    fits_pieces(plan, segments.len(), draws)
-}
-
-/// Says why a schedule may not be replayed: as [`argument_fault`], or since a worker isn't there, or else since the
-/// plan is of other pieces.
 fn schedule_fault(
     segments: &[Segment],
     queue: LogQueue,
     workers: usize,
     draws: &[usize],
-) -> &'static str {
-    if workers == 0 || workers > MAX_WORKERS || !segments_are_of(segments, queue) {
-        return argument_fault(segments, queue, workers);
+    plan: &Plan,
+) -> Option<&'static str>
+    ensures none { IfNone result (IsSchedule segments.entry.now queue workers draws.entry.now
+        plan.entry.now) }
+    ensures some { OnSome result (IsSchedule segments.entry.now queue workers draws.entry.now
+        plan.entry.now → ⊥) }
+{
+    if let Some(fault) = workers_fault(segments, queue, workers) {
+        return Some(fault);
     }
     if !are_known(draws, workers) {
-        return "a draw of a worker that isn't there";
+        return Some("a draw of a worker that isn't there");
     }
-    "a plan of another number of pieces"
+    if !fits_pieces(plan, segments.len(), draws) {
+        return Some("a plan of another number of pieces");
+    }
+    None
 }
 
-/// Tests whether each of the workers is one of so many.
 fn are_known(draws: &[usize], workers: usize) -> bool
     ensures { IsTrue result ↔ EachIndex draws.now (λ n. slice_index draws.now n < workers) }
 {
     draws.iter().all(|worker| *worker < workers)
 }
 
-/// Tests whether the plan is of the pieces that so many segments make, if there are any.
 fn fits_pieces(plan: &Plan, segments: usize, draws: &[usize]) -> bool
     requires { segments + 1 < 2 ^ 64 }
     ensures { IsTrue result ↔ (0 < segments → leaves plan.now ≡ pieces_in segments draws.now) }
@@ -145,7 +128,6 @@ pub(crate) fn segments_are_of(segments: &[Segment], queue: LogQueue) -> bool
     segments.iter().all(|segment| parts_are_of(segment, queue))
 }
 
-/// Tests whether every part is of the queue.
 fn parts_are_of(parts: &Vec<FilePart>, queue: LogQueue) -> bool
     ensures { IsTrue result ↔ All (λ part. part.id.queue ≡ queue) parts.now.items }
 {

@@ -46,7 +46,6 @@ pub fn replay_segment<M: ReplayMachine>(machine: &mut M, segment: &Segment) -> R
     Ok(())
 }
 
-/// Replays the batches of a part.
 fn replay_part<M: ReplayMachine>(machine: &mut M, part: &FilePart) -> Result<()>
     ensures ok { OnOk result (HasReplayed (HoldsFrom part.now 0) M.stands_for M.stands_exactly
         machine.old machine.new) }
@@ -143,7 +142,6 @@ fn io_placed(alloc: Global, error: io::Error, id: FileId, offset: u64) -> AllocR
     Ok(io::Error::new(error.kind(), text.as_str()))
 }
 
-/// Returns the name of a queue in texts.
 fn queue_name(queue: LogQueue) -> &'static str
     ensures { result.now ≡ queue_text queue }
 {

@@ -1,13 +1,13 @@
 //! Segments that any number of workers replay, each the next one that is left.
 
-ghost use Rattle.std.specs.Prelude.{◌≡◌, ◌≢◌, ◌+◌, ◌^◌, ◌<◌, ◌≤◌, ◌↔◌, IsTrue, List, [], length, All, IfOk, IfErr, OnOk, Vec, vec_len};
+ghost use Rattle.std.specs.Prelude.{◌≡◌, ◌≢◌, ◌+◌, ◌^◌, ◌<◌, ◌≤◌, List, [], length, All, IfOk, IfErr, IfNone, OnOk, OnErr, OnSome, Vec, vec_len};
 ghost use Rattle.std.specs.Global.{Global};
 ghost use Rattle.raft_records.specs.FilePart.{Part};
 ghost use Rattle.raft_base.specs.Errors.{IsInvalidArgument};
 ghost use Rattle.raft_replay.specs.Covers.{IsPieceOf, CoverOnce, AreDone, Gives};
 ghost use Rattle.raft_tickets.specs.Draws.{Tickets, IsSeatOf, IsNewSeatOf};
 ghost use Rattle.raft_replay.specs.WorkedWords.{IsBack, HasRefusal};
-ghost use Rattle.raft_replay.specs.Segments.{CannotBeRead, MayReplay};
+ghost use Rattle.raft_replay.specs.Segments.{CannotBeRead, MayReplay, SegmentsAreOf};
 ghost use Rattle.raft_replay.specs.Replays.{IsReplayed};
 
 use crate::piece::Piece;
@@ -57,10 +57,31 @@ pub fn replay_segments<M: ReplayMachine, F: Factory<M>, G: Gate, R: Threads + Sy
     ensures fault { ¬ (MayReplay queue workers segments.entry.now)
         → IfErr result (λ e. e ≢ Error.Memory → IsInvalidArgument e) }
 {
-    if !are_accepted(segments, queue, workers) {
-        let fault = argument_fault(segments, queue, workers);
-        return Err(Error::InvalidArgument(String::from_str(alloc, fault)?));
-    }
+    check_arguments(alloc, segments, queue, workers)?;
+    replay_accepted(rt, alloc, factory, segments, queue, workers, gate)
+}
+
+/// Does what [`replay_segments`] does with arguments that were tested.
+///
+/// # Errors
+///
+/// Those of [`replay_segments`] but for its arguments.
+#[doc(hidden)]
+pub fn replay_accepted<M: ReplayMachine, F: Factory<M>, G: Gate, R: Threads + Sync>(
+    rt: &R,
+    alloc: Global,
+    factory: &F,
+    segments: &[Segment],
+    queue: LogQueue,
+    workers: usize,
+    gate: &G,
+) -> Result<M>
+    requires factory { (m : M) → F.gives factory.now m → M.stands_exactly m [] }
+    requires accepted { MayReplay queue workers segments.now }
+    ensures ok { IfOk result (IsReplayed M.stands_for M.stands_exactly segments.entry.now) }
+    ensures refused { IfErr result (λ e. e ≢ Error.Memory → ¬ (F.may_refuse factory.entry.now e)
+        → CannotBeRead segments.entry.now) }
+{
     let pieces = drawn_pieces(rt, alloc, factory, segments, workers, gate)?;
     let machines = Piece::line_up(alloc, pieces)?;
     if machines.is_empty() {
@@ -70,28 +91,60 @@ pub fn replay_segments<M: ReplayMachine, F: Factory<M>, G: Gate, R: Threads + Sy
     merge_at_once(rt, machines, &plan, queue, MAX_LEVELS)
 }
 
-/// Tests whether so many workers may replay these segments: 1 to 256 workers, fewer than 2^62 segments, and every part
-/// of the queue.
-pub fn are_accepted(segments: &[Segment], queue: LogQueue, workers: usize) -> bool
-    ensures { IsTrue result ↔ MayReplay queue workers segments.now }
+/// Tests whether so many workers may replay these segments.
+///
+/// # Errors
+///
+/// `InvalidArgument` for another number of workers than 1 to 256, for a part of another queue and for 2^62 segments
+/// and more; `Memory` for the text.
+#[doc(hidden)]
+pub fn check_arguments(
+    alloc: Global,
+    segments: &[Segment],
+    queue: LogQueue,
+    workers: usize,
+) -> Result<()>
+    ensures ok { OnOk result (MayReplay queue workers segments.entry.now) }
+    ensures err { OnErr result (¬ (MayReplay queue workers segments.entry.now)) }
+    ensures fault { IfErr result (λ e. e ≢ Error.Memory → IsInvalidArgument e) }
 {
-    if workers == 0 || workers > MAX_WORKERS || segments.len() >= SEGMENT_LIMIT {
-        return false;
+    match argument_fault(segments, queue, workers) {
+        None => Ok(()),
+        Some(fault) => Err(Error::invalid_argument(alloc, fault)),
     }
-    segments_are_of(segments, queue)
 }
 
-/// Returns why workers may not replay these segments, where [`are_accepted`] refuses them: another number of workers
-/// than 1 to 256, else a part of another queue, else too many segments. Of accepted arguments the text says nothing.
-#[doc(hidden)]
-pub fn argument_fault(segments: &[Segment], queue: LogQueue, workers: usize) -> &'static str {
+fn argument_fault(segments: &[Segment], queue: LogQueue, workers: usize) -> Option<&'static str>
+    ensures none { IfNone result (MayReplay queue workers segments.entry.now) }
+    ensures some { OnSome result (¬ (MayReplay queue workers segments.entry.now)) }
+{
+    if let Some(fault) = workers_fault(segments, queue, workers) {
+        return Some(fault);
+    }
+    if segments.len() >= SEGMENT_LIMIT {
+        return Some("2^62 segments or more");
+    }
+    None
+}
+
+/// Returns why so many workers can't replay segments of this queue, however many there are.
+pub(crate) fn workers_fault(
+    segments: &[Segment],
+    queue: LogQueue,
+    workers: usize,
+) -> Option<&'static str>
+    ensures none { IfNone result ((0 < workers) × (workers ≤ 256)
+        × SegmentsAreOf queue segments.entry.now) }
+    ensures some { OnSome result ((0 < workers) × (workers ≤ 256)
+        × SegmentsAreOf queue segments.entry.now → ⊥) }
+{
     if workers == 0 || workers > MAX_WORKERS {
-        return "another number of workers than 1 to 256";
+        return Some("another number of workers than 1 to 256");
     }
     if !segments_are_of(segments, queue) {
-        return "a part of another queue";
+        return Some("a part of another queue");
     }
-    "2^62 segments or more"
+    None
 }
 
 /// Returns the pieces that the workers make: each segment is in one of them. No more workers are started than
@@ -123,7 +176,6 @@ fn drawn_pieces<M: ReplayMachine, F: Factory<M>, G: Gate, R: Threads + Sync>(
     Ok(pieces)
 }
 
-/// Returns the seats and the pieces of all workers, or the refusal of one.
 fn gather<M: ReplayMachine>(
     alloc: Global,
     worked: Vec<Worked<M>>,
@@ -151,7 +203,6 @@ struct Worked<M: ReplayMachine> {
     pieces: Result<Vec<Piece<M>>>,
 }
 
-/// Runs the workers of all seats at once; each gives its seat back.
 fn run_workers<M: ReplayMachine, F: Factory<M>, G: Gate, R: Threads + Sync>(
     rt: &R,
     alloc: Global,
@@ -186,7 +237,6 @@ fn run_workers<M: ReplayMachine, F: Factory<M>, G: Gate, R: Threads + Sync>(
     Ok(thread::map_vec(rt, seats, &one)?)
 }
 
-/// Replays the segments that the seat draws, until none is left.
 fn replay_drawn<M: ReplayMachine, F: Factory<M>, G: Gate>(
     alloc: Global,
     factory: &F,

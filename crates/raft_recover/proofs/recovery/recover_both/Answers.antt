@@ -8,13 +8,13 @@ use Rattle.raft_recover.proofs.recovery.recover_both.Goals as goal
 
 pub returns-clause-ok : goal.returns-clause-ok
 returns-clause-ok g c =
-    both_recovered c.args.rewrite.now c.args.append.now c.in_ok-check_segments.ensures.ok.3 c.in_ok-check_segments-2.ensures.ok.3 c.in_ok-both.both c.in_ok-both.appended c.in_ok-both.ensures.rewritten c.in_ok-both.ensures.appended
+    both_recovered c.args.rewrite.now c.args.append.now c.in_ok-check_arguments.ensures.ok.3 c.in_ok-check_arguments-2.ensures.ok.3 c.in_ok-both.both c.in_ok-both.appended c.in_ok-both.ensures.rewritten c.in_ok-both.ensures.appended
     c.merge_append_context.new.self c.in_ok-merge_append_context.ensures.exact c.finish.result c.finish.ensures.overlaid c.finish.ensures.exact_counts
 
 pub returns-clause-whole : goal.returns-clause-whole
 returns-clause-whole g c =
     both_whole c.args.rewrite.now c.args.append.now c.finish.result
-    (both_recovered c.args.rewrite.now c.args.append.now c.in_ok-check_segments.ensures.ok.3 c.in_ok-check_segments-2.ensures.ok.3 c.in_ok-both.both c.in_ok-both.appended c.in_ok-both.ensures.rewritten c.in_ok-both.ensures.appended
+    (both_recovered c.args.rewrite.now c.args.append.now c.in_ok-check_arguments.ensures.ok.3 c.in_ok-check_arguments-2.ensures.ok.3 c.in_ok-both.both c.in_ok-both.appended c.in_ok-both.ensures.rewritten c.in_ok-both.ensures.appended
     c.merge_append_context.new.self c.in_ok-merge_append_context.ensures.exact c.finish.result c.finish.ensures.overlaid c.finish.ensures.exact_counts)
 
 pub returns-in_err-merge_append_context-clause-refused : goal.returns-in_err-merge_append_context-clause-refused

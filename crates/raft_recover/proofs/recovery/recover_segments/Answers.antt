@@ -8,7 +8,7 @@ use Rattle.raft_recover.proofs.recovery.recover_segments.Goals as goal
 
 pub returns-clause-ok : goal.returns-clause-ok
 returns-clause-ok g c =
-    recovered c.args.queue c.args.segments.now c.in_ok-check_segments.ensures.ok.3 c.in_ok-context.context c.in_ok-context.ensures.ok c.finish.result c.finish.ensures.reading c.finish.ensures.exact_counts
+    recovered c.args.queue c.args.segments.now c.in_ok-check_arguments.ensures.ok.3 c.in_ok-context.context c.in_ok-context.ensures.ok c.finish.result c.finish.ensures.reading c.finish.ensures.exact_counts
 
 pub returns-clause-refused : goal.returns-clause-refused
 returns-clause-refused g c good =

@@ -1,4 +1,4 @@
-use Rattle.std.proofs.Common.{List, refl, sym, subst}
+use Rattle.std.proofs.Common.{List, sym, subst}
 use Rattle.raft_replay.specs.MachineOrder.{AreInOrder}
 use Rattle.raft_replay.proofs.MachineOrderLemmas.{finished, merged_ok, merged_err}
 use Rattle.raft_replay.proofs.scheduled.replay_scheduled.Goals as goal
@@ -9,8 +9,7 @@ returns-clause-ok g c =
     let line =
     subst (λ (l : List g.row.M.Denot). AreInOrder g.M.ReplayMachine.stands_exactly c.args.segments.now l) (sym c.in_ok-push.ensures.items)
     (finished g.M.ReplayMachine.stands_for g.M.ReplayMachine.stands_exactly laws.exact_stands c.args.segments.now c.replay_in_order.new.machines.items c.in_ok-last.last c.in_ok-last.ensures.ok) in
-    let schedule = c.if-not-is_schedule.ensures.0 refl in
-    merged_ok g.M.ReplayMachine.stands_for g.M.ReplayMachine.stands_exactly laws.exact_stands c.args.segments.now c.push.new.self.items line c.args.queue schedule.of_queue c.merge_in_turn.result c.merge_in_turn.ensures
+    merged_ok g.M.ReplayMachine.stands_for g.M.ReplayMachine.stands_exactly laws.exact_stands c.args.segments.now c.push.new.self.items line c.args.queue c.in_default.ensures.none.of_queue c.merge_in_turn.result c.merge_in_turn.ensures
 
 pub returns-clause-refused : goal.returns-clause-refused
 returns-clause-refused g c schedule =

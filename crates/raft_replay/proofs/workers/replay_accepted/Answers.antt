@@ -1,15 +1,15 @@
-use Rattle.std.proofs.Common.{◌≡◌, List, [], vec_len, refl, sym, ◌∙◌, subst, arith}
+use Rattle.std.proofs.Common.{◌≡◌, List, [], vec_len, sym, ◌∙◌, subst, arith}
 use Rattle.std.proofs.lemmas.Bool.Decides.{Decides-eqb}
 use Rattle.std.proofs.lemmas.List.{nil_from_length}
 use Rattle.std.proofs.lemmas.Result.{err_from_is_err_and}
 use Rattle.raft_replay.specs.MachineOrder.{AreInOrder}
 use Rattle.raft_replay.proofs.MachineOrderLemmas.{if_ok, merged_ok, merged_err, replayed_none}
-use Rattle.raft_replay.proofs.workers.replay_segments.Goals as goal
+use Rattle.raft_replay.proofs.workers.replay_accepted.Goals as goal
 
 pub returns-in_err-pieces-clause-refused : goal.returns-in_err-pieces-clause-refused
-returns-in_err-pieces-clause-refused g c good =
-    let p = err_from_is_err_and c.from_residual-in_err-pieces.result c.from_residual-in_err-pieces.ensures.1 in
-    rw (p.1, p.2) (λ not_memory not_own. c.in_err-pieces.ensures.refused not_memory not_own)
+returns-in_err-pieces-clause-refused g c =
+    let p = err_from_is_err_and c.from_residual.result c.from_residual.ensures.1 in
+    rw (p.1, p.2) c.in_err-pieces.ensures.refused
 
 pub returns-then-is_empty-clause-ok : goal.returns-then-is_empty-clause-ok
 returns-then-is_empty-clause-ok g c =
@@ -19,18 +19,17 @@ returns-then-is_empty-clause-ok g c =
     let none = (Decides-eqb (vec_len c.in_ok-machines.machines) 0).0 (sym c.is_empty.ensures ∙ c.if-is_empty.true) in
     let held = c.in_ok-machines.machines.ok.0 in nil_from_length c.in_ok-machines.machines.items (omega arith) in
     if_ok c.new_target.result
-    (λ m given. replayed_none g.M.ReplayMachine.stands_for g.M.ReplayMachine.stands_exactly laws.exact_stands c.args.segments.now m (subst (λ (l : List g.row.M.Denot). AreInOrder g.M.ReplayMachine.stands_exactly c.args.segments.now l) empty line) (c.requires m given))
+    (λ m given. replayed_none g.M.ReplayMachine.stands_for g.M.ReplayMachine.stands_exactly laws.exact_stands c.args.segments.now m (subst (λ (l : List g.row.M.Denot). AreInOrder g.M.ReplayMachine.stands_exactly c.args.segments.now l) empty line) (c.requires.factory m given))
     c.new_target.ensures.ok
 
 pub returns-clause-ok : goal.returns-clause-ok
 returns-clause-ok g c =
     let laws = g.met.M.ReplayMachine g.world.𝓛 g.world.𝓜 g.world.𝓡 ((λ s x. x), (λ x. x), (λ x. x), λ x. x) in
     let line = c.in_ok-machines.ensures.ok c.args.segments.now c.in_ok-pieces.ensures.pieces c.in_ok-pieces.ensures.tile in
-    let good = c.if-not-are_accepted.ensures.0 refl in
-    merged_ok g.M.ReplayMachine.stands_for g.M.ReplayMachine.stands_exactly laws.exact_stands c.args.segments.now c.in_ok-machines.machines.items line c.args.queue good.3 c.merge_at_once.result c.merge_at_once.ensures
+    merged_ok g.M.ReplayMachine.stands_for g.M.ReplayMachine.stands_exactly laws.exact_stands c.args.segments.now c.in_ok-machines.machines.items line c.args.queue c.requires.accepted.3 c.merge_at_once.result c.merge_at_once.ensures
 
 pub returns-clause-refused : goal.returns-clause-refused
-returns-clause-refused g c good =
+returns-clause-refused g c =
     let laws = g.met.M.ReplayMachine g.world.𝓛 g.world.𝓜 g.world.𝓡 ((λ s x. x), (λ x. x), (λ x. x), λ x. x) in
     let line = c.in_ok-machines.ensures.ok c.args.segments.now c.in_ok-pieces.ensures.pieces c.in_ok-pieces.ensures.tile in
-    merged_err g.M.ReplayMachine.stands_for g.M.ReplayMachine.stands_exactly laws.exact_stands c.args.segments.now c.in_ok-machines.machines.items line c.args.queue good.3 (g.F.Factory.may_refuse c.args.factory.now) c.merge_at_once.result c.merge_at_once.ensures
+    merged_err g.M.ReplayMachine.stands_for g.M.ReplayMachine.stands_exactly laws.exact_stands c.args.segments.now c.in_ok-machines.machines.items line c.args.queue c.requires.accepted.3 (g.F.Factory.may_refuse c.args.factory.now) c.merge_at_once.result c.merge_at_once.ensures

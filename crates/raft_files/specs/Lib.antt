@@ -6,4 +6,5 @@ pub mod Notes
 pub mod Disk
 pub mod Places
 pub mod HeldFiles
+pub mod MemoryFaults
 pub mod HeldFilesView

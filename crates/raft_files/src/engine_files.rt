@@ -1,6 +1,7 @@
 //! The files that an engine writes.
 
-ghost use Rattle.std.specs.Prelude.{◌≡◌, List, IfOk, OnOk, OnErr};
+ghost use Rattle.std.specs.Prelude.{◌≡◌, List, IfErr, IfOk, OnOk, OnErr};
+ghost use Rattle.raft_base.specs.declared.errors.Error.{Error};
 ghost use Rattle.raft_files.specs.Asks.{Ask, Begin, Cut, Delete, IsAsked, MayBeAsked, Put, Read, Sync, ask};
 
 use raft_base::{FileBlockHandle, FileSeq, LogQueue, Result};
@@ -27,30 +28,38 @@ pub trait EngineFiles {
     /// What was asked so far, newest first.
     ghost asked: { Self → List Ask };
 
+    /// A call that asks this, behind all that was asked so far, may fail with this error: any, if nothing else is said.
+    ghost may_fail: { List Ask → Ask → Error → Type 0 } = { λ _ _ _. Unit {0} };
+
     /// Puts bytes behind those of the queue's last file.
     fn append(&mut self, queue: LogQueue, bytes: &[u8]) -> Result<()>
         ensures ok { OnOk result (IsAsked (ask queue (Put bytes.now)) (asked self.old) (asked self.new)) }
-        ensures err { OnErr result (MayBeAsked (ask queue (Put bytes.now)) (asked self.old) (asked self.new)) };
+        ensures err { OnErr result (MayBeAsked (ask queue (Put bytes.now)) (asked self.old) (asked self.new)) }
+        ensures fault { IfErr result (may_fail (asked self.old) (ask queue (Put bytes.now))) };
 
     /// Begins a new file of the queue with this number, behind the last one, whose bytes are synced then.
     fn rotate(&mut self, queue: LogQueue, seq: FileSeq) -> Result<()>
         ensures ok { OnOk result (IsAsked (ask queue (Begin seq)) (asked self.old) (asked self.new)) }
-        ensures err { OnErr result (MayBeAsked (ask queue (Begin seq)) (asked self.old) (asked self.new)) };
+        ensures err { OnErr result (MayBeAsked (ask queue (Begin seq)) (asked self.old) (asked self.new)) }
+        ensures fault { IfErr result (may_fail (asked self.old) (ask queue (Begin seq))) };
 
     /// Makes all that was asked of the queue so far outlast a stop of the machine.
     fn sync(&mut self, queue: LogQueue) -> Result<()>
         ensures ok { OnOk result (IsAsked (ask queue Sync) (asked self.old) (asked self.new)) }
-        ensures err { OnErr result (asked self.new ≡ asked self.old) };
+        ensures err { OnErr result (asked self.new ≡ asked self.old) }
+        ensures fault { IfErr result (may_fail (asked self.old) (ask queue Sync)) };
 
     /// Deletes the queue's oldest file.
     fn delete_oldest(&mut self, queue: LogQueue) -> Result<()>
         ensures ok { OnOk result (IsAsked (ask queue Delete) (asked self.old) (asked self.new)) }
-        ensures err { OnErr result (MayBeAsked (ask queue Delete) (asked self.old) (asked self.new)) };
+        ensures err { OnErr result (MayBeAsked (ask queue Delete) (asked self.old) (asked self.new)) }
+        ensures fault { IfErr result (may_fail (asked self.old) (ask queue Delete)) };
 
     /// Cuts the queue's last file to `len` bytes, if it has more.
     fn truncate(&mut self, queue: LogQueue, len: u64) -> Result<()>
         ensures ok { OnOk result (IsAsked (ask queue (Cut len)) (asked self.old) (asked self.new)) }
-        ensures err { OnErr result (MayBeAsked (ask queue (Cut len)) (asked self.old) (asked self.new)) };
+        ensures err { OnErr result (MayBeAsked (ask queue (Cut len)) (asked self.old) (asked self.new)) }
+        ensures fault { IfErr result (may_fail (asked self.old) (ask queue (Cut len))) };
 
     /// Returns the bytes at a place. That these are the ones that were put there is no clause: what was read is noted.
     fn read(&mut self, place: FileBlockHandle) -> Result<Vec<u8>>

@@ -5,6 +5,7 @@ ghost use Rattle.std.specs.Prelude.{◌≡◌, ◌≢◌, ◌<◌, List, [], ◌
 ghost use Rattle.raft_files.specs.Asks.{Begin, Cut, Delete, Found, IsAsked, Put, Read, Sync, ask};
 ghost use Rattle.raft_files.specs.Disk.{cut_last, files_of, put_behind};
 ghost use Rattle.raft_files.specs.HeldFiles.{IsAt, file_shown};
+ghost use Rattle.raft_files.specs.MemoryFaults.{IsMemoryFault};
 ghost use Rattle.raft_files.specs.Places.{IsNext, bytes_at, stretch_of};
 
 use crate::{Asked, EngineFiles};
@@ -89,6 +90,8 @@ impl MemoryFiles {
 
 impl EngineFiles for MemoryFiles {
     ghost asked = { λ f. f };
+
+    ghost may_fail = { IsMemoryFault };
 
     /// Puts bytes behind those of the queue's last file.
     ///

@@ -116,6 +116,8 @@ impl HandedFiles {
 impl EngineFiles for HandedFiles {
     ghost asked = { λ f. f.asks };
 
+    ghost may_fail = { λ _ _. IsUnordered };
+
     /// Orders that bytes are put.
     ///
     /// # Errors

@@ -1,5 +1,6 @@
--- Asks of which some were made.
-use Rattle.std.proofs.Common.{◌≡◌, ◌≢◌, ℕ, Result, Ok, Err, OnOk, OnErr, List, [], ◌∷◌, ◌++◌, inl, inr, refl, sym, ap, ◌∙◌, subst, append_assoc, append-nil}
+-- Asks of which one failed.
+use Rattle.std.proofs.Common.{◌≡◌, ◌≢◌, ℕ, Result, Ok, Err, IfErr, OnOk, OnErr, List, [], ◌∷◌, ◌++◌, inl, inr, refl, sym, ap, ◌∙◌, subst, append_assoc}
+use Rattle.raft_base.specs.declared.errors.Error.{Error}
 use Rattle.raft_base.specs.declared.pipe_log.LogQueue.{LogQueue}
 use Rattle.raft_base.specs.declared.pipe_log.LogQueue.TheVariants.{Rewrite}
 use Rattle.raft_base.specs.declared.pipe_log.Version.{Version}
@@ -7,54 +8,74 @@ use Rattle.raft_records.specs.Item.{Item}
 use Rattle.raft_records.specs.LogBatch.{Batch}
 use Rattle.raft_files.specs.Asks.{Ask, Begin, Cut, MayBeAsked, Put, Sync, ask}
 use Rattle.raft_engine.specs.BatchBytes.{bytes_for}
-use Rattle.raft_engine.specs.OpeningAsks.{AreAskedInPart, asks_that_tell, missing_asks}
+use Rattle.raft_engine.specs.OpeningAsks.{Failures, FailsAmong, asks_that_tell, missing_asks}
 use Rattle.raft_engine.specs.StoredFound.{told_asks}
 use Rattle.raft_engine.specs.declared.missing.Missing.{Missing}
 use Rattle.raft_engine.specs.declared.missing.Missing.TheVariants as missings
 
--- none of them
-pub none_asked : (wanted old : List Ask) → AreAskedInPart wanted old old
-none_asked wanted old = record { missing = wanted; made = []; split = sym (append-nil wanted); asked = refl }
+-- of what is wanted, newest first, some, none or all was asked, the oldest first
+pub record AreAskedInPart (wanted old new : List Ask) : Type 0 where
+  pub missing : List Ask
+  pub made : List Ask
+  pub split : wanted ≡ missing ++ made
+  pub asked : new ≡ made ++ old
 
--- one, or none
-pub may_asked : (a : Ask) (old new : List Ask) → MayBeAsked a old new → AreAskedInPart (a ∷ []) old new
-may_asked a old new (inl same) = record { missing = a ∷ []; made = []; split = refl; asked = same }
-may_asked a old new (inr one) = record { missing = []; made = a ∷ []; split = refl; asked = one }
+module _ (MayFail : Failures) where
+  pub asked_part : (wanted old new : List Ask) (e : Error) → FailsAmong MayFail wanted old new e → AreAskedInPart wanted old new
+  asked_part wanted old new e f = elim f.asked [
+    | inl none ↦ record { missing = f.later ++ f.failed ∷ []; made = f.earlier; split = f.split ∙ sym (append_assoc f.later (f.failed ∷ []) f.earlier); asked = none }
+    | inr one ↦ record { missing = f.later; made = f.failed ∷ f.earlier; split = f.split; asked = one }
+  ]
 
-may_so : {T E : Type 0} (r : Result T E) (a : Ask) (old new : List Ask) → OnErr r (MayBeAsked a old new) → OnErr r (AreAskedInPart (a ∷ []) old new)
-may_so (Ok t) a old new may = tt
-may_so (Err e) a old new may = may_asked a old new may
+  -- ---- one ask
 
--- what is missing
-pub first_asked : {T E : Type 0} (r : Result T E) (queue : LogQueue) (missing : Missing) (old new : List Ask) → missing ≡ missings.FirstFile → OnErr r (MayBeAsked (ask queue (Begin 1)) old new)
-    → OnErr r (AreAskedInPart (missing_asks queue missing) old new)
-first_asked r queue missing old new is may = subst (λ (m : Missing). OnErr r (AreAskedInPart (missing_asks queue m) old new)) (sym is) (may_so r (ask queue (Begin 1)) old new may)
+  pub one_failed : (a : Ask) (old new : List Ask) (e : Error) → MayBeAsked a old new → MayFail old a e → FailsAmong MayFail (a ∷ []) old new e
+  one_failed a old new e may why = record { later = []; failed = a; earlier = []; split = refl; asked = may; why = why }
 
-pub cut_asked : {T E : Type 0} (r : Result T E) (queue : LogQueue) (missing : Missing) (len : ℕ) (old new : List Ask) → missing ≡ missings.Cut len → OnErr r (MayBeAsked (ask queue (Cut len)) old new)
-    → OnErr r (AreAskedInPart (missing_asks queue missing) old new)
-cut_asked r queue missing len old new is may = subst (λ (m : Missing). OnErr r (AreAskedInPart (missing_asks queue m) old new)) (sym is) (may_so r (ask queue (Cut len)) old new may)
+  one_so : {T : Type 0} (r : Result T Error) (a : Ask) (old new : List Ask) → OnErr r (MayBeAsked a old new) → IfErr r (MayFail old a) → IfErr r (FailsAmong MayFail (a ∷ []) old new)
+  one_so (Ok t) a old new may why = tt
+  one_so (Err e) a old new may why = one_failed a old new e may why
 
--- some of the first ones
-pub part_asked : (more first old new : List Ask) → AreAskedInPart first old new → AreAskedInPart (more ++ first) old new
-part_asked more first old new p = record {
-  missing = more ++ p.missing;
-  made = p.made;
-  split = ap (λ (l : List Ask). more ++ l) p.split ∙ sym (append_assoc more p.missing p.made);
-  asked = p.asked;
-}
+  -- what is missing
+  pub first_failed : {T : Type 0} (r : Result T Error) (queue : LogQueue) (missing : Missing) (old new : List Ask) → missing ≡ missings.FirstFile
+      → OnErr r (MayBeAsked (ask queue (Begin 1)) old new) → IfErr r (MayFail old (ask queue (Begin 1))) → IfErr r (FailsAmong MayFail (missing_asks queue missing) old new)
+  first_failed r queue missing old new is may why =
+      subst (λ (m : Missing). IfErr r (FailsAmong MayFail (missing_asks queue m) old new)) (sym is) (one_so r (ask queue (Begin 1)) old new may why)
 
--- the first ones, and some of the others
-pub more_asked : (more first old between new : List Ask) → between ≡ first ++ old → AreAskedInPart more between new → AreAskedInPart (more ++ first) old new
-more_asked more first old between new all p = record {
-  missing = p.missing;
-  made = p.made ++ first;
-  split = ap (λ (l : List Ask). l ++ first) p.split ∙ append_assoc p.missing p.made first;
-  asked = p.asked ∙ ap (λ (l : List Ask). p.made ++ l) all ∙ sym (append_assoc p.made first old);
-}
+  pub cut_failed : {T : Type 0} (r : Result T Error) (queue : LogQueue) (missing : Missing) (len : ℕ) (old new : List Ask) → missing ≡ missings.Cut len
+      → OnErr r (MayBeAsked (ask queue (Cut len)) old new) → IfErr r (MayFail old (ask queue (Cut len))) → IfErr r (FailsAmong MayFail (missing_asks queue missing) old new)
+  cut_failed r queue missing len old new is may why =
+      subst (λ (m : Missing). IfErr r (FailsAmong MayFail (missing_asks queue m) old new)) (sym is) (one_so r (ask queue (Cut len)) old new may why)
 
-pub some_more : {T E : Type 0} (r : Result T E) (more first old between new : List Ask) → between ≡ first ++ old → OnErr r (AreAskedInPart more between new) → OnErr r (AreAskedInPart (more ++ first) old new)
-some_more (Ok t) more first old between new all p = tt
-some_more (Err e) more first old between new all p = more_asked more first old between new all p
+  -- ---- one among others
+
+  -- among the first ones
+  pub part_failed : (more first old new : List Ask) (e : Error) → FailsAmong MayFail first old new e → FailsAmong MayFail (more ++ first) old new e
+  part_failed more first old new e f = record {
+    later = more ++ f.later;
+    failed = f.failed;
+    earlier = f.earlier;
+    split = ap (λ (l : List Ask). more ++ l) f.split ∙ sym (append_assoc more f.later (f.failed ∷ f.earlier));
+    asked = f.asked;
+    why = f.why;
+  }
+
+  -- behind the first ones
+  pub more_failed : (more first old between new : List Ask) (e : Error) → between ≡ first ++ old → FailsAmong MayFail more between new e → FailsAmong MayFail (more ++ first) old new e
+  more_failed more first old between new e all f =
+      let same : f.earlier ++ between ≡ (f.earlier ++ first) ++ old = ap (λ (l : List Ask). f.earlier ++ l) all ∙ sym (append_assoc f.earlier first old) in
+      record {
+        later = f.later;
+        failed = f.failed;
+        earlier = f.earlier ++ first;
+        split = ap (λ (l : List Ask). l ++ first) f.split ∙ append_assoc f.later (f.failed ∷ f.earlier) first;
+        asked = subst (λ (l : List Ask). MayBeAsked f.failed l new) same f.asked;
+        why = subst (λ (l : List Ask). MayFail l f.failed e) same f.why;
+      }
+
+  pub some_failed : {T : Type 0} (r : Result T Error) (more first old between new : List Ask) → between ≡ first ++ old → IfErr r (FailsAmong MayFail more between new) → IfErr r (FailsAmong MayFail (more ++ first) old new)
+  some_failed (Ok t) more first old between new all f = tt
+  some_failed (Err e) more first old between new all f = more_failed more first old between new e all f
 
 -- ---- what tells the rewrite queue
 
@@ -65,22 +86,31 @@ some_tell version seq told (item ∷ items) some = refl
 pub none_tell : (version : Version) (seq : ℕ) (told : Batch) (items : List Item) → items ≡ [] → asks_that_tell version seq told items ≡ []
 none_tell version seq told items none = ap (asks_that_tell version seq told) none
 
--- a put that may have been made
-pub put_in_part : (version : Version) (seq : ℕ) (told : Batch) (old new : List Ask) (a : Ask) → told.items ≢ [] → a ≡ ask Rewrite (Put (bytes_for (record { id = record { queue = Rewrite; seq = seq }; version = version }) told))
-    → MayBeAsked a old new → AreAskedInPart (asks_that_tell version seq told told.items) old new
-put_in_part version seq told old new a some is may =
-    subst (λ (l : List Ask). AreAskedInPart l old new) (ap (λ (x : Ask). ask Rewrite Sync ∷ x ∷ []) is ∙ sym (some_tell version seq told told.items some))
-    (part_asked (ask Rewrite Sync ∷ []) (a ∷ []) old new (may_asked a old new may))
+module _ (MayFail : Failures) where
+  -- a put that failed
+  pub put_failed : (version : Version) (seq : ℕ) (told : Batch) (old new : List Ask) (a : Ask) (e : Error) → told.items ≢ []
+      → a ≡ ask Rewrite (Put (bytes_for (record { id = record { queue = Rewrite; seq = seq }; version = version }) told))
+      → MayBeAsked a old new → MayFail old a e → FailsAmong MayFail (asks_that_tell version seq told told.items) old new e
+  put_failed version seq told old new a e some is may why =
+      subst (λ (l : List Ask). FailsAmong MayFail l old new e) (ap (λ (x : Ask). ask Rewrite Sync ∷ x ∷ []) is ∙ sym (some_tell version seq told told.items some))
+      (part_failed MayFail (ask Rewrite Sync ∷ []) (a ∷ []) old new e (one_failed MayFail a old new e may why))
 
--- the sync that follows it, in any case
-pub told_so : {E : Type 0} (r : Result Unit E) (version : Version) (seq : ℕ) (told : Batch) (old between new : List Ask) → told.items ≢ []
-    → between ≡ ask Rewrite (Put (bytes_for (record { id = record { queue = Rewrite; seq = seq }; version = version }) told)) ∷ old
-    → OnOk r (new ≡ ask Rewrite Sync ∷ between) → OnErr r (new ≡ between)
-    → OnOk r (new ≡ asks_that_tell version seq told told.items ++ old) × OnErr r (AreAskedInPart (asks_that_tell version seq told told.items) old new)
-told_so (Ok u) version seq told old between new some put all none =
-    (all ∙ ap (λ (l : List Ask). ask Rewrite Sync ∷ l) put ∙ ap (λ (l : List Ask). l ++ old) (sym (some_tell version seq told told.items some)), tt)
-told_so (Err e) version seq told old between new some put all none = (
-  tt,
-  subst (λ (l : List Ask). AreAskedInPart l old new) (sym (some_tell version seq told told.items some))
-      (record { missing = ask Rewrite Sync ∷ []; made = ask Rewrite (Put (bytes_for (record { id = record { queue = Rewrite; seq = seq }; version = version }) told)) ∷ []; split = refl; asked = none ∙ put }),
-)
+  -- the sync that follows it, in any case
+  pub told_so : (r : Result Unit Error) (version : Version) (seq : ℕ) (told : Batch) (old between new : List Ask) → told.items ≢ []
+      → between ≡ ask Rewrite (Put (bytes_for (record { id = record { queue = Rewrite; seq = seq }; version = version }) told)) ∷ old
+      → OnOk r (new ≡ ask Rewrite Sync ∷ between) → OnErr r (new ≡ between) → IfErr r (MayFail between (ask Rewrite Sync))
+      → OnOk r (new ≡ asks_that_tell version seq told told.items ++ old) × IfErr r (FailsAmong MayFail (asks_that_tell version seq told told.items) old new)
+  told_so (Ok u) version seq told old between new some put all none why =
+      (all ∙ ap (λ (l : List Ask). ask Rewrite Sync ∷ l) put ∙ ap (λ (l : List Ask). l ++ old) (sym (some_tell version seq told told.items some)), tt)
+  told_so (Err e) version seq told old between new some put all none why = (
+    tt,
+    subst (λ (l : List Ask). FailsAmong MayFail l old new e) (sym (some_tell version seq told told.items some))
+        (record {
+          later = [];
+          failed = ask Rewrite Sync;
+          earlier = ask Rewrite (Put (bytes_for (record { id = record { queue = Rewrite; seq = seq }; version = version }) told)) ∷ [];
+          split = refl;
+          asked = inl (none ∙ put);
+          why = subst (λ (l : List Ask). MayFail l (ask Rewrite Sync) e) put why;
+        }),
+  )

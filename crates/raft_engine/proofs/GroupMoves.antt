@@ -66,7 +66,7 @@ on_none : (r : ℕ) → entries_on r [] ≡ []
 on_none r = ap (λ (l : List Step). flat_map run_of l) (own_none r)
 
 -- the last file, with more bytes
-last_more : (asks : List Ask) (seq : ℕ) (bytes more : List ℕ) → IsLastFile Rewrite asks seq bytes → IsLastFile Rewrite (ask Rewrite (Put more) ∷ asks) seq (bytes ++ more)
+pub last_more : (asks : List Ask) (seq : ℕ) (bytes more : List ℕ) → IsLastFile Rewrite asks seq bytes → IsLastFile Rewrite (ask Rewrite (Put more) ∷ asks) seq (bytes ++ more)
 last_more asks seq bytes more l = record { closed = l.closed; files = ap (put_behind more) l.files ∙ last_of (λ old. old ++ more) l.closed (seq, bytes) }
 
 reserved : is_reserved reserved_key ≡ true

@@ -18,6 +18,7 @@ mod FrontFiles
 mod LeftBytes
 mod UnreadLemmas
 mod OpensLemmas
+mod CopiesLemmas
 mod RestartLemmas
 mod SyncedLemmas
 mod FoundContents
@@ -26,6 +27,9 @@ mod DoneLemmas
 mod UntoldLemmas
 mod StoredLemmas
 mod FilesLemmas
+mod PartLemmas
+mod WrittenBoth
+mod GroupPutLemmas
 mod KeptLemmas
 mod WriteLemmas
 mod NeededLemmas
@@ -43,6 +47,9 @@ mod GroupPuts
 mod GroupMoves
 mod TakenMoves
 mod KeptMoves
+mod GroupReadBack
+mod KeptGroups
+mod MovedRegions
 mod KeptTells
 mod ExpiredRewrites
 mod DeletedRewrites

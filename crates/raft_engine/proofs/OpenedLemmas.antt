@@ -1,6 +1,7 @@
 -- What an engine is made of when it is opened.
-use Rattle.std.proofs.Common.{◌≡◌, ◌≢◌, ℕ, ◌+◌, List, [], ◌∷◌, ◌++◌, true, refl, sym, ap, ◌∙◌, subst, append_assoc, arith}
+use Rattle.std.proofs.Common.{◌≡◌, ◌≢◌, ◌⊎◌, inr, Result, Ok, Err, IfErr, OnOk, ℕ, ◌+◌, List, [], ◌∷◌, ◌++◌, true, refl, sym, ap, ◌∙◌, subst, append_assoc, arith}
 use Rattle.raft_base.specs.Signature.{signature_in}
+use Rattle.raft_base.specs.declared.errors.Error.{Error}
 use Rattle.raft_base.specs.declared.pipe_log.LogQueue.TheVariants.{Append, Rewrite}
 use Rattle.raft_base.specs.declared.pipe_log.Version.{Version}
 use Rattle.raft_records.specs.Item.{Item}
@@ -15,7 +16,7 @@ use Rattle.raft_engine.specs.BatchBytes.{bytes_for}
 use Rattle.raft_engine.specs.FoundRecords.{FoundRecordsLast, HaveEverRecords}
 use Rattle.raft_engine.specs.KeptEngineView.{AreFilesOf, IsKeptBy}
 use Rattle.raft_engine.specs.Opened.{AreOpened}
-use Rattle.raft_engine.specs.OpeningAsks.{AreAskedInPart, AreWanted, asks_that_tell, missing_asks, opening_asks}
+use Rattle.raft_engine.specs.OpeningAsks.{AreWanted, Failures, FailsAmong, asks_that_tell, missing_asks, opening_asks}
 use Rattle.raft_engine.specs.ReadFound.{AreReadFound, reading_asks}
 use Rattle.raft_engine.specs.Stored.{Bases}
 use Rattle.raft_engine.specs.StoredFound.{AreMadeReady, AreReady, AreStoredAlone, FoundFilesAreReady, FoundFilesAreStored, found_asks, told_asks}
@@ -24,6 +25,7 @@ use Rattle.raft_engine.specs.declared.queue_files.QueueFiles.{QueueFiles}
 use Rattle.raft_engine.specs.declared.reading.Reading.{Reading}
 use Rattle.raft_engine.proofs.FilesLemmas.{files_same, files_told}
 use Rattle.raft_engine.proofs.AloneLemmas.{opened_read_back}
+use Rattle.raft_engine.proofs.AskedLemmas.{AreAskedInPart, asked_part}
 use Rattle.raft_engine.proofs.ReadyLemmas.{both_ready, opening_split}
 
 -- a batch tells the same once it is encoded
@@ -167,12 +169,12 @@ module _ (ready : FoundFilesAreReady) (stored : FoundFilesAreStored) (lasting : 
     rewrite_known = all_known.rewrite_known;
   }
 
-  pub half_opened : (later : List Ask) → AreAskedInPart (reading_asks version r) first later → IsHalfOpened version append rewrite later
-  half_opened later half = record {
+  pub half_opened : (MayFail : Failures) (later : List Ask) (e : Error) → FailsAmong MayFail (reading_asks version r) first later e → IsHalfOpened MayFail version append rewrite later e
+  half_opened MayFail later e failed = record {
     accessor = r.accessor;
     wanted = reading_asks version r;
     are_wanted = are_wanted;
-    half = half;
+    failed = failed;
     records = all.0;
     ever = λ content more earlier e begun.
         all.1 content (half.missing ++ more) earlier
@@ -180,8 +182,21 @@ module _ (ready : FoundFilesAreReady) (stored : FoundFilesAreStored) (lasting : 
         ∙ sym (append_assoc half.missing more earlier)) begun;
   }
     where
+      half : AreAskedInPart (reading_asks version r) first later
+      half = asked_part MayFail (reading_asks version r) first later e failed
+
       all : (records : Bases) × HaveEverRecords version (asks_that_tell version r.rewrite.seq f.told f.told.items ++ asked) records
       all = lasting version asked append rewrite f.append_left f.rewrite_left r.accessor f.told are_ready f.recovered f.rewrite_of.closed r.rewrite.seq f.rewrite_of.bytes f.rewrite_of.split f.writable
+
+-- ---- in any case
+
+pub on_ok : {T : Type 0} {A : Type 0} (r : Result T Error) → A → OnOk r A
+on_ok (Ok t) a = a
+on_ok (Err e) a = tt
+
+pub unopened_half : {T : Type 0} (P Q : Error → Type 0) (r : Result T Error) → IfErr r Q → IfErr r (λ e. P e ⊎ Q e)
+unopened_half P Q (Ok t) half = tt
+unopened_half P Q (Err e) half = inr half
 
 -- an engine that was opened
 pub kept_opened : (version : Version) (append rewrite : List NumberedBytes) (asks : List Ask) (append_known rewrite_known : QueueFiles) (untold : Batch) (accessor : Accessor)

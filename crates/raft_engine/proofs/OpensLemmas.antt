@@ -1,19 +1,27 @@
 -- An opening of files in which nothing is refused fails for few reasons.
-use Rattle.std.proofs.Common.{◌≡◌, ◌≢◌, ◌⊎◌, inl, inr, ℕ, ◌<◌, ◌^◌, List, [], ◌∷◌, ◌++◌, length, take, refl, sym, ap, ◌∙◌, subst, arith, length-append}
+use Rattle.std.proofs.Common.{◌≡◌, ◌≢◌, ◌⊎◌, inl, inr, ◌<◌, ◌^◌, List, [], ◌∷◌, ◌++◌, length, take, refl, sym, ap, ◌∙◌, subst, arith, length-append}
 use Rattle.raft_base.specs.declared.errors.Error.{Error}
 use Rattle.raft_base.specs.declared.errors.Error.TheVariants as errors
 use Rattle.raft_base.specs.declared.pipe_log.LogQueue.{LogQueue}
 use Rattle.raft_base.specs.declared.pipe_log.LogQueue.TheVariants.{Append, Rewrite}
 use Rattle.raft_base.specs.declared.pipe_log.Version.{Version}
+use Rattle.raft_history.specs.Batches.{Event}
+use Rattle.raft_history.specs.Contexts.{Suits, files_of}
+use Rattle.raft_history.specs.Histories.{FilesFrom, IsSmall, IsSoundIn}
+use Rattle.raft_contexts.specs.OverlaidContext.{IsMergeAppendFault}
+use Rattle.raft_contexts.specs.RecoverContext.{HasRead, RecoverContext}
 use Rattle.raft_files.specs.Asks.{Ask, NumberedBytes}
 use Rattle.raft_files.specs.Disk.{cut_last}
 use Rattle.raft_files.proofs.LastLemmas.{last_of}
-use Rattle.raft_recover.specs.Files.{FilesHold}
+use Rattle.raft_recover.specs.Files.{FilesCannotBeRead, FilesHold, bytes_of_files}
+use Rattle.raft_engine_fronts.specs.TornTails.{FilesHoldTorn}
+use Rattle.raft_engine_laws.specs.GroupsInRows.{AreGroupsInRows}
 use Rattle.raft_engine.specs.FoundFiles.{AreAccepted, IsCut, IsFirstBegun, IsFoundFault, IsReady, IsUntorn}
-use Rattle.raft_engine.specs.Markers.{NoneIsInRows}
-use Rattle.raft_engine.specs.Restarts.{AreOpenable, OpeningsSucceed}
+use Rattle.raft_engine.specs.Markers.{NoneIsHeld, NoneIsInRows}
+use Rattle.raft_engine.specs.ReadContexts.{AreUnmergedAs}
+use Rattle.raft_engine.specs.Restarts.{OpeningsOverSucceed, OpeningsSucceed}
 use Rattle.raft_engine.proofs.UnreadLemmas.{stops_unread}
-use Rattle.raft_engine.specs.Unopened.{AreUnreadableAs, IsReadingFault, IsRecoveryFault, IsTooLongAs, MayRecover}
+use Rattle.raft_engine.specs.Unopened.{AreUnrecoveredAs, IsOpeningRefusal, IsReadingFault, IsRecoveryFault, IsTooLongAs, Refusal}
 
 -- ---- refusals
 
@@ -51,47 +59,128 @@ ready_count queue version asks later files left r few = go r.ready
         let m = length-append c.closed (c.last ∷ []) in
         omega (arith, cut, old, n, m, few)
 
-module _ (version : Version) (append rewrite : List NumberedBytes) (a : AreOpenable Append version append) (b : AreOpenable Rewrite version rewrite)
-    (marked : (asks later : List Ask) (ready : List NumberedBytes) → IsReady Rewrite version asks later rewrite ready → ¬ (NoneIsInRows (FilesHold Rewrite version ready)))
-    (workers : ℕ) (e : Error) (other : e ≢ errors.Memory) (may : MayRecover workers append rewrite) where
-  module _ (f : IsReadingFault (AreUnreadableAs version workers) version append rewrite e) where
-    append_ready : IsReady Append version [] (f.append_missing ++ []) append f.append_left
-    append_ready = f.append_ready []
+-- what is known of the files: they can be made ready, and hold these batches then, which can be read, each group of the rewrite files in a row
+pub record AreSoundFiles (version : Version) (append rewrite : List NumberedBytes) : Type 0 where
+  pub append_accepted : AreAccepted Append version append
+  pub rewrite_accepted : AreAccepted Rewrite version rewrite
+  pub appended : List Event
+  pub rewritten : List Event
+  pub append_sound : IsSoundIn Append appended
+  pub rewrite_sound : IsSoundIn Rewrite rewritten
+  pub rows : AreGroupsInRows rewritten
+  pub append_found : FilesHoldTorn Append version append appended
+  pub rewrite_found : FilesHoldTorn Rewrite version rewrite rewritten
+  pub append_held : (asks later : List Ask) (ready : List NumberedBytes) → IsReady Append version asks later append ready → FilesHold Append version ready appended
+  pub rewrite_held : (asks later : List Ask) (ready : List NumberedBytes) → IsReady Rewrite version asks later rewrite ready → FilesHold Rewrite version ready rewritten
 
-    rewrite_ready : IsReady Rewrite version [] (f.rewrite_missing ++ []) rewrite f.rewrite_left
-    rewrite_ready = f.rewrite_ready []
+-- ---- contexts
 
-    may_left : MayRecover workers f.append_left f.rewrite_left
-    may_left = (
-      may.0,
-      may.1,
-      ready_count Append version [] (f.append_missing ++ []) append f.append_left append_ready may.2,
-      ready_count Rewrite version [] (f.rewrite_missing ++ []) rewrite f.rewrite_left rewrite_ready may.3,
-    )
+-- a context that has read batches of a queue is of that queue
+suits : (queue : LogQueue) (c : RecoverContext) (h : List Event) → IsSoundIn queue h → HasRead c h → Suits queue c.context.files
+suits queue c h sound read = subst (Suits queue) (sym read.stands.files) (go h sound.files)
+  where
+    go : (h : List Event) → FilesFrom queue 0 h → Suits queue (files_of h)
+    go [] files = tt
+    go (e ∷ h) files = files.0
 
-    is_full : e ≡ errors.Full
-    is_full = go f.fault
+-- contexts that have read the batches of both queues can't be put over each other for want of room alone
+merge_full : (e : Error) → e ≢ errors.Memory → (rewritten appended : RecoverContext) (h g : List Event) → IsSoundIn Rewrite h → IsSoundIn Append g → HasRead rewritten h → HasRead appended g
+    → IsMergeAppendFault rewritten appended e → e ≡ errors.Full
+merge_full (errors.InvalidArgument text) other rewritten appended h g sound_h sound_g read_h read_g f =
+    absurd (f (record { rewrite_suits = suits Rewrite rewritten h sound_h read_h; append_suits = suits Append appended g sound_g read_g }))
+merge_full errors.Full other rewritten appended h g sound_h sound_g read_h read_g f = refl
+merge_full errors.Failed other rewritten appended h g sound_h sound_g read_h read_g f = absurd (elim f [ inl n ↦ n read_h.stage | inr n ↦ n read_g.stage ])
+merge_full errors.Memory other rewritten appended h g sound_h sound_g read_h read_g f = absurd (other refl)
+merge_full (errors.Corruption text) other rewritten appended h g sound_h sound_g read_h read_g f = absurd f
+merge_full (errors.Io fault) other rewritten appended h g sound_h sound_g read_h read_g f = absurd f
+merge_full (errors.Codec fault) other rewritten appended h g sound_h sound_g read_h read_g f = absurd f
+merge_full (errors.Message fault) other rewritten appended h g sound_h sound_g read_h read_g f = absurd f
+merge_full (errors.TryAgain text) other rewritten appended h g sound_h sound_g read_h read_g f = absurd f
+merge_full errors.EntryCompacted other rewritten appended h g sound_h sound_g read_h read_g f = absurd f
+merge_full errors.EntryNotFound other rewritten appended h g sound_h sound_g read_h read_g f = absurd f
+merge_full (errors.Other text) other rewritten appended h g sound_h sound_g read_h read_g f = absurd f
+
+-- ---- the files
+
+module _
+    (one : (queue : LogQueue) (version : Version) (files : List NumberedBytes) (g h : List Event) → FilesHold queue version files g → FilesHold queue version files h → g ≡ h)
+    (few_records : (queue : LogQueue) (version : Version) (files : List NumberedBytes) (h : List Event) → FilesHold queue version files h → bytes_of_files files < 2 ^ 63 → IsSmall h)
+    (version : Version) (append rewrite : List NumberedBytes) (s : AreSoundFiles version append rewrite) where
+  -- ---- what a reading of them refuses
+
+  module _ (IsRefused : Refusal) (e : Error) (f : IsReadingFault IsRefused version append rewrite e) where
+    append_left : FilesHold Append version f.append_left s.appended
+    append_left = s.append_held [] (f.append_missing ++ []) f.append_left (f.append_ready [])
+
+    rewrite_left : FilesHold Rewrite version f.rewrite_left s.rewritten
+    rewrite_left = s.rewrite_held [] (f.rewrite_missing ++ []) f.rewrite_left (f.rewrite_ready [])
+
+    is_full : (IsRefused f.append_left f.rewrite_left e → e ≡ errors.Full) → e ≡ errors.Full
+    is_full refused = go f.fault
       where
-        go : IsRecoveryFault (AreUnreadableAs version workers) version f.append_left f.rewrite_left e ⊎ IsTooLongAs version f.append_left f.rewrite_left e → e ≡ errors.Full
+        go : IsRecoveryFault IsRefused f.append_left f.rewrite_left e ⊎ IsTooLongAs version f.append_left f.rewrite_left e → e ≡ errors.Full
         go (inl (inl many)) = many.1
         go (inl (inr (inl many))) = many.1
-        go (inl (inr (inr (inl u)))) = absurd (elim (u.stops may_left) [
-          | inl stops ↦ a.readable [] (f.append_missing ++ []) f.append_left append_ready u.few.0 (stops_unread Append version f.append_left e other stops)
-          | inr stops ↦ b.readable [] (f.rewrite_missing ++ []) f.rewrite_left rewrite_ready u.few.1 (stops_unread Rewrite version f.rewrite_left e other stops)
-        ])
-        go (inl (inr (inr (inr none)))) = absurd (marked [] (f.rewrite_missing ++ []) f.rewrite_left rewrite_ready none)
+        go (inl (inr (inr refusal))) = refused refusal
         go (inr long) = long.full
 
-pub openings_succeed : (version : Version) (append rewrite : List NumberedBytes) → AreOpenable Append version append → AreOpenable Rewrite version rewrite
-    → ((asks later : List Ask) (ready : List NumberedBytes) → IsReady Rewrite version asks later rewrite ready → ¬ (NoneIsInRows (FilesHold Rewrite version ready)))
-    → OpeningsSucceed version append rewrite
-openings_succeed version append rewrite a b marked workers asks e may (inr half) = inr (inr half)
-openings_succeed version append rewrite a b marked workers asks e may (inl refused) = elim (memory_or e) [
-  | inl memory ↦ inl memory
-  | inr other ↦ inr (inl (go other (refused.1 other)))
-]
-  where
-    go : e ≢ errors.Memory → IsFoundFault Append version append e ⊎ (IsFoundFault Rewrite version rewrite e ⊎ IsReadingFault (AreUnreadableAs version workers) version append rewrite e) → e ≡ errors.Full
-    go other (inl fault) = absurd (no_fault Append version append e a.accepted fault)
-    go other (inr (inl fault)) = absurd (no_fault Rewrite version rewrite e b.accepted fault)
-    go other (inr (inr fault)) = is_full version append rewrite a b marked workers e other may fault
+  -- an opening that is refused only so in reading is refused for want of memory or room
+  memory_or_full : (IsRefused : Refusal) (e : Error) → (e ≢ errors.Memory → IsReadingFault IsRefused version append rewrite e → e ≡ errors.Full)
+      → IsOpeningRefusal IsRefused version append rewrite e → (e ≡ errors.Memory) ⊎ (e ≡ errors.Full)
+  memory_or_full IsRefused e full refused = elim (memory_or e) [
+    | inl memory ↦ inl memory
+    | inr other ↦ inr (go other (refused other))
+  ]
+    where
+      go : e ≢ errors.Memory → IsFoundFault Append version append e ⊎ (IsFoundFault Rewrite version rewrite e ⊎ IsReadingFault IsRefused version append rewrite e) → e ≡ errors.Full
+      go other (inl fault) = absurd (no_fault Append version append e s.append_accepted fault)
+      go other (inr (inl fault)) = absurd (no_fault Rewrite version rewrite e s.rewrite_accepted fault)
+      go other (inr (inr fault)) = full other fault
+
+  -- ---- by workers
+
+  sound_unread : (queue : LogQueue) (files : List NumberedBytes) (h : List Event) → FilesHold queue version files h → bytes_of_files files < 2 ^ 63 → IsSoundIn queue h
+      → ¬ (FilesCannotBeRead queue version files)
+  sound_unread queue files h held few sound bad = bad.unsound h held (few_records queue version files h held few) (record { queue = queue; sound = sound })
+
+  pub openings_succeed : OpeningsSucceed version append rewrite
+  openings_succeed workers e may refused =
+      memory_or_full (AreUnrecoveredAs version workers) e (λ other f. is_full (AreUnrecoveredAs version workers) e f (λ u. absurd (unrecovered other f u))) refused
+    where
+      unrecovered : e ≢ errors.Memory → (f : IsReadingFault (AreUnrecoveredAs version workers) version append rewrite e) → ¬ (AreUnrecoveredAs version workers f.append_left f.rewrite_left e)
+      unrecovered other f (inl u) =
+          elim (u.stops (
+            may.0,
+            may.1,
+            ready_count Append version [] (f.append_missing ++ []) append f.append_left (f.append_ready []) may.2,
+            ready_count Rewrite version [] (f.rewrite_missing ++ []) rewrite f.rewrite_left (f.rewrite_ready []) may.3,
+          )) [
+            | inl stops ↦ sound_unread Append f.append_left s.appended (append_left (AreUnrecoveredAs version workers) e f) u.few.0 s.append_sound (stops_unread Append version f.append_left e other stops)
+            | inr stops ↦ sound_unread Rewrite f.rewrite_left s.rewritten (rewrite_left (AreUnrecoveredAs version workers) e f) u.few.1 s.rewrite_sound (stops_unread Rewrite version f.rewrite_left e other stops)
+          ]
+      unrecovered other f (inr o) =
+          o.out (subst AreGroupsInRows (one Rewrite version f.rewrite_left s.rewritten o.batches (rewrite_left (AreUnrecoveredAs version workers) e f) o.held) s.rows)
+
+  -- ---- over contexts
+
+  pub openings_over_succeed : OpeningsOverSucceed version append rewrite
+  openings_over_succeed appended rewritten e have refused =
+      memory_or_full (AreUnmergedAs version appended rewritten) e (λ other f. is_full (AreUnmergedAs version appended rewritten) e f (unmerged other f)) refused
+    where
+      unmerged : e ≢ errors.Memory → (f : IsReadingFault (AreUnmergedAs version appended rewritten) version append rewrite e) → AreUnmergedAs version appended rewritten f.append_left f.rewrite_left e
+          → e ≡ errors.Full
+      unmerged other f u = go u.why
+        where
+          held : FilesHold Append version f.append_left s.appended
+          held = append_left (AreUnmergedAs version appended rewritten) e f
+
+          rewrite_there : FilesHold Rewrite version f.rewrite_left s.rewritten
+          rewrite_there = rewrite_left (AreUnmergedAs version appended rewritten) e f
+
+          go : IsMergeAppendFault rewritten appended e ⊎ (NoneIsHeld (FilesHold Append version f.append_left) ⊎ NoneIsInRows (FilesHold Rewrite version f.rewrite_left) e) → e ≡ errors.Full
+          go (inl fault) =
+              let read = have s.appended s.rewritten s.append_found s.rewrite_found in
+              merge_full e other rewritten appended s.rewritten s.appended s.rewrite_sound s.append_sound
+              (read.1 (few_records Rewrite version f.rewrite_left s.rewritten rewrite_there u.few.1)).0 (read.0 (few_records Append version f.append_left s.appended held u.few.0)).0 fault
+          go (inr (inl none)) = absurd (none s.appended held)
+          go (inr (inr none)) = absurd ((none s.rewritten rewrite_there s.rewrite_sound.markers).0 s.rows)

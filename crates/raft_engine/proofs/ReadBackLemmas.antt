@@ -63,7 +63,7 @@ took_away place compression (command c) t = tt
 took_away place compression (pair p) t = t
 
 -- so they did before they were placed
-took_all_away : (place : FileBlockHandle) (compression : CompressionType) (items : List Item) → TakeAway (map (placed_item place compression) items) → TakeAway items
+pub took_all_away : (place : FileBlockHandle) (compression : CompressionType) (items : List Item) → TakeAway (map (placed_item place compression) items) → TakeAway items
 took_all_away place compression [] t = tt
 took_all_away place compression (item ∷ items) t = (took_away place compression item.content t.0, took_all_away place compression items t.1)
 
@@ -80,7 +80,7 @@ module _ (queue : LogQueue) (version : Version) (acts : List Act) (closed : List
   abbrev id : FileId
   id = record { queue = queue; seq = seq }
 
-  held_more : (h : List Event) → FilesHold queue version (begun acts) h
+  pub held_more : (h : List Event) → FilesHold queue version (begun acts) h
       → FilesHold queue version (begun (Put (bytes_for (record { id = id; version = version }) batch) ∷ acts)) (h ++ event_at id (length bytes) batch ∷ [])
   held_more h held =
       let before : ArePutWhole queue version (Sync ∷ acts) h h = record { put = (refl, whole_torn queue version (begun acts) h held); whole = held } in
@@ -232,7 +232,7 @@ written_read_back appended listed again follow sound_on reading_on placed_in ver
 
 -- ---- a batch that moves records
 
-none_listed : (gate : Option ℕ) (seq : ℕ) (items : List Item) → listed_by_items (Rewriting gate seq) items ≡ []
+pub none_listed : (gate : Option ℕ) (seq : ℕ) (items : List Item) → listed_by_items (Rewriting gate seq) items ≡ []
 none_listed gate seq [] = refl
 none_listed gate seq (item ∷ items) = none_listed gate seq items
 

@@ -13,7 +13,7 @@ use Rattle.raft_records.specs.LogBatch.{Batch, empty_batch}
 use Rattle.raft_table.specs.Steps.{table_of}
 use Rattle.raft_history.specs.Batches.{Event, batches}
 use Rattle.raft_history.specs.Effects.{steps_of}
-use Rattle.raft_history.specs.Histories.{Apart, IsSmall, Sound}
+use Rattle.raft_history.specs.Histories.{Apart, IsSmall, IsSoundIn, Sound}
 use Rattle.raft_history.specs.RegionSteps.{steps_of_items, steps_on}
 use Rattle.raft_accessor.specs.Accessor.{Accessor}
 use Rattle.raft_files.specs.Asks.{NumberedBytes}
@@ -23,6 +23,7 @@ use Rattle.raft_replay.specs.WrittenParts.{bytes_of_parts, bytes_of_segments}
 use Rattle.raft_recover.specs.Files.{AreWholeFiles, FilesHold, bytes_of_files, segment_shown, whole_file}
 use Rattle.raft_recover.specs.Recovery.{AreBothRecovered, MayReplayBoth}
 use Rattle.raft_engine_laws.specs.Telling.{SayAllAtOpening, SayTheSame, TakeAway, told_items}
+use Rattle.raft_engine.specs.Markers.{AreOutOfRows, NoneIsInRows}
 use Rattle.raft_engine.specs.Opening.{AreInRows, AreRecovered, IsToldAtOpening, fronts_of, items_in, with_items}
 use Rattle.raft_engine.specs.Unopened.{AreUnreadableAs, MayRecover}
 use Rattle.raft_engine.proofs.OpeningLemmas.{runs_found, says_all, take_away}
@@ -170,3 +171,11 @@ unreadable_as version workers append rewrite append_segments rewrite_segments e 
 
     recover : MayReplayBoth workers rewrite_segments append_segments → MayRecover workers append rewrite
     recover both = (both.0.0, both.0.1, subst (λ (n : ℕ). n < 2 ^ 62) a.count both.1.2, subst (λ (n : ℕ). n < 2 ^ 62) r.count both.0.2)
+
+-- where the rewrite files hold batches that can be read, a group of theirs doesn't stand in a row
+pub out_of_rows : ((queue : LogQueue) (version : Version) (files : List NumberedBytes) (h : List Event) → FilesHold queue version files h → bytes_of_files files < 2 ^ 63 → IsSmall h)
+    → (version : Version) (rewrite : List NumberedBytes) (h : List Event) (e : Error) → FilesHold Rewrite version rewrite h → bytes_of_files rewrite < 2 ^ 63 → (IsSmall h → IsSoundIn Rewrite h)
+    → NoneIsInRows (FilesHold Rewrite version rewrite) e → AreOutOfRows (FilesHold Rewrite version rewrite) e
+out_of_rows few_records version rewrite h e held few sound none =
+    let why = none h held (sound (few_records Rewrite version rewrite h held few)).markers in
+    record { batches = h; held = held; out = why.0; invalid = why.1 }

@@ -13,7 +13,7 @@ use Rattle.raft_history.specs.Histories.{Apart, IsSmall, IsSoundIn}
 use Rattle.raft_history.specs.RegionSteps.{Tables}
 use Rattle.raft_accessor.specs.Accessor.{Accessor}
 use Rattle.raft_files.specs.Asks.{Ask, NumberedBytes}
-use Rattle.raft_files.specs.Disk.{cut_last, files_of}
+use Rattle.raft_files.specs.Disk.{IsLeftOf, cut_last, files_of}
 use Rattle.raft_replay.specs.Segments.{SegmentsHold}
 use Rattle.raft_recover.specs.Files.{FilesHold, bytes_of_files, whole_file}
 use Rattle.raft_recover.specs.Recovery.{AreBothRecovered}
@@ -27,7 +27,7 @@ use Rattle.raft_engine.specs.KeptEngine.{KeptEngine}
 use Rattle.raft_engine.specs.Lasting.{AreFoundIn, IsLasting, IsLastingAfter}
 use Rattle.raft_engine.specs.Opened.{IsOpened}
 use Rattle.raft_engine.specs.Restarts.{AreFromBefore, AreOpenable, AreSegmentsOf, HaveSame, IsFoundByRestarts, IsKeptByRestarts, RestartsFind}
-use Rattle.raft_engine.proofs.OpensLemmas.{openings_succeed}
+use Rattle.raft_engine.proofs.OpensLemmas.{AreSoundFiles, openings_over_succeed, openings_succeed}
 
 -- a front of all batches with the synced ones is all of them, if all are synced
 pub whole_front : (synced h front : List Event) → IsFrontWith synced h front → synced ≡ h → front ≡ h
@@ -151,6 +151,26 @@ module _
 
   -- ---- a moment
 
+  held_once : (queue : LogQueue) (version : Version) (files : List NumberedBytes) (g h : List Event) → FilesHold queue version files g → FilesHold queue version files h → g ≡ h
+  held_once queue version files g h first second = one queue version files g h (whole queue version files g first) (whole queue version files h second)
+
+  sound_files : (content : EntryIndex → List ℕ) (version : Version) (base : ℕ → Records) (asks : List Ask) (l : IsLastingAfter content version base asks) (append rewrite : List NumberedBytes)
+      → IsLeftOf Append asks append → IsLeftOf Rewrite asks rewrite → AreSoundFiles version append rewrite
+  sound_files content version base asks l append rewrite a r =
+      let f = (l.left append rewrite a r).2 in record {
+        append_accepted = (one_openable Append version append f.appended f.append_rising (l.of_version Append append a) f.append_held f.append_sound).accepted;
+        rewrite_accepted = (one_openable Rewrite version rewrite f.rewritten f.rewrite_rising (l.of_version Rewrite rewrite r) f.rewrite_held f.rewrite_sound).accepted;
+        appended = f.appended;
+        rewritten = f.rewritten;
+        append_sound = f.append_sound;
+        rewrite_sound = f.rewrite_sound;
+        rows = f.rows;
+        append_found = f.append_held;
+        rewrite_found = f.rewrite_held;
+        append_held = λ asked later ready is. ready_held Append version asked later append ready f.appended is f.append_held;
+        rewrite_held = λ asked later ready is. ready_held Rewrite version asked later rewrite ready f.rewritten is f.rewrite_held;
+      }
+
   pub found_by_restarts : (content : EntryIndex → List ℕ) (version : Version) (base : ℕ → Records) (asks : List Ask) (l : IsLastingAfter content version base asks)
       → IsFoundByRestarts content version base asks l.synced l.batches
   found_by_restarts content version base asks l = record {
@@ -166,12 +186,8 @@ module _
           one_openable Rewrite version rewrite f.rewritten f.rewrite_rising (l.of_version Rewrite rewrite r) f.rewrite_held f.rewrite_sound,
           λ asked later ready is. record { batches = f.rewritten; held = ready_held Rewrite version asked later rewrite ready f.rewritten is f.rewrite_held; rows = f.rows },
         );
-    opens = λ append rewrite a r.
-        let f = (l.left append rewrite a r).2 in
-        openings_succeed version append rewrite
-        (one_openable Append version append f.appended f.append_rising (l.of_version Append append a) f.append_held f.append_sound)
-        (one_openable Rewrite version rewrite f.rewritten f.rewrite_rising (l.of_version Rewrite rewrite r) f.rewrite_held f.rewrite_sound)
-        (λ asked later ready is none. none f.rewritten (ready_held Rewrite version asked later rewrite ready f.rewritten is f.rewrite_held) f.rewrite_sound.markers f.rows);
+    opens = λ append rewrite a r. openings_succeed held_once few_records version append rewrite (sound_files content version base asks l append rewrite a r);
+    opens_over = λ append rewrite a r. openings_over_succeed held_once few_records version append rewrite (sound_files content version base asks l append rewrite a r);
     whole =
         restarts_find content version (files_of Append asks) (files_of Rewrite asks) (live content base l.batches) (λ tables. HaveRecords content tables (live content base l.batches)) (λ tables have. have) l.whole;
     told = λ queue told files left is cut_is. l.told queue told files left is cut_is;

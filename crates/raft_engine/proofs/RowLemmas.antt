@@ -1,6 +1,7 @@
 -- Batches of found files of which each group stands in a row, one after another.
 use Rattle.std.proofs.Common.{◌≡◌, ℕ, ◌<◌, List, [], ◌∷◌, ◌++◌, Option, None, length, refl, sym, ap, ◌∙◌, subst, append_assoc, append-nil, arith}
 use Rattle.std.specs.List.{AllByRecursion}
+use Rattle.raft_base.specs.declared.errors.Error.{Error}
 use Rattle.raft_base.specs.declared.pipe_log.FileId.{FileId}
 use Rattle.raft_records.specs.FilePart.{IsBatchAt, Part}
 use Rattle.raft_records.specs.Item.{Item}
@@ -12,11 +13,9 @@ use Rattle.raft_replay.specs.Stops.{IsUnreadableAt}
 use Rattle.raft_replay.proofs.SegmentLemmas.{batch_none, batch_unique}
 use Rattle.raft_engine_laws.specs.GroupsInRows.{MayStandBy, StandBehind, open_behind}
 use Rattle.raft_engine_laws.proofs.InRows.{open_more, rows_back, rows_both, rows_front}
-use Rattle.raft_engine.specs.GroupChecks.{AreHeldInRows, IsInRow, NoneStandBehind}
+use Rattle.raft_engine.specs.GroupChecks.{AreHeldInRows, IsInRow, IsOutOfRow, NoneStandBehind}
+use Rattle.raft_engine.specs.Markers.{HaveStatuses}
 use Rattle.raft_engine.specs.Opening.{AreInRows}
-
-abbrev HaveStatuses : List Event → Type 0
-HaveStatuses h = AllByRecursion (λ (e : Event). HaveStatus e.file.queue e.items) h
 
 all_back : {A : Type 0} (P : A → Type 0) (xs ys : List A) → AllByRecursion P (xs ++ ys) → AllByRecursion P ys
 all_back P [] ys all = all
@@ -82,15 +81,16 @@ module _ (part : Part) (at next : ℕ) (items : List Item) (stands : IsBatchAt p
     leave = r.leaves ∙ sym (open_more left t.batches (e ∷ []));
   }
 
-  pub batch_out : (left middle : Option (ℕ × ℕ)) → IsPartInRows part at left middle → (HaveStatus part.id.queue items → ¬ (MayStandBy (marker_in part.id.queue items) part.id.seq middle))
-      → NoneStandBehind (HoldsFrom part 0) left
-  batch_out left middle t none h held all rows =
+  pub batch_out : (left middle : Option (ℕ × ℕ)) (error : Error) → IsPartInRows part at left middle → IsOutOfRow part.id items middle error → NoneStandBehind (HoldsFrom part 0) left error
+  batch_out left middle error t none h held all =
       let b = t.back h held in
       let n = begins b.rest b.held in
       let split : h ≡ t.batches ++ (e ∷ n.rest) = b.split ∙ ap (λ (l : List Event). t.batches ++ l) n.split in
       let status = all_back (λ (x : Event). HaveStatus x.file.queue x.items) t.batches (e ∷ n.rest) (subst HaveStatuses split all) in
-      let stands_so = rows_back left t.batches (e ∷ n.rest) (subst (StandBehind left) split rows) in
-      none status.0 (subst (MayStandBy (marker_in part.id.queue items) part.id.seq) (sym t.leave) stands_so.0)
+      let why = none status.0 in (
+        λ rows. why.0 (subst (MayStandBy (marker_in part.id.queue items) part.id.seq) (sym t.leave) (rows_back left t.batches (e ∷ n.rest) (subst (StandBehind left) split rows)).0),
+        why.1,
+      )
 
 pub no_more : (part : Part) (at : ℕ) (left later : Option (ℕ × ℕ)) → IsPartInRows part at left later → at ≡ length part.bytes → AreHeldInRows (HoldsFrom part 0) left later
 no_more part at left later t ends = record {
@@ -105,8 +105,9 @@ no_more part at left later t ends = record {
     none [] held = refl
     none (x ∷ rest) held = let n = batch_inside part at x.items held.1.0 held.1.1 in absurd (omega (arith, ends, n.0, n.1))
 
-pub unread : (part : Part) (at : ℕ) (left later : Option (ℕ × ℕ)) → IsPartInRows part at left later → IsUnreadableAt part at → at < length part.bytes → NoneStandBehind (HoldsFrom part 0) left
-unread part at left later t none before h held all rows = let b = t.back h held in go b.rest b.held
+pub unread : (part : Part) (at : ℕ) (left later : Option (ℕ × ℕ)) (error : Error) → IsPartInRows part at left later → IsUnreadableAt part at → at < length part.bytes
+    → NoneStandBehind (HoldsFrom part 0) left error
+unread part at left later error t none before h held all = let b = t.back h held in absurd (go b.rest b.held)
   where
     go : (rest : List Event) → HoldsFrom part at rest → ⊥
     go [] ends = omega (arith, ends, before)
@@ -159,15 +160,19 @@ module _ {A : Type 0} (Holds : A → List Event → Type 0) (all : List A) (left
     leave = t.leave;
   }
 
-  pub rows_out : (xs : List A) (x : A) (more : List A) (middle : Option (ℕ × ℕ)) → xs ≡ x ∷ more → AreSomeInRows Holds all xs left middle → NoneStandBehind (Holds x) middle → NoneStandBehind (EachHolds Holds all) left
-  rows_out xs x more middle e t none h held status rows =
+  pub rows_out : (xs : List A) (x : A) (more : List A) (middle : Option (ℕ × ℕ)) (error : Error) → xs ≡ x ∷ more → AreSomeInRows Holds all xs left middle → NoneStandBehind (Holds x) middle error
+      → NoneStandBehind (EachHolds Holds all) left error
+  rows_out xs x more middle error e t none h held status =
       let b = t.back h held in
       let a = subst (λ (l : List A). EachHolds Holds l b.rest) e b.held in
       let split : h ≡ t.batches ++ (a.first ++ a.rest) = b.split ∙ ap (λ (l : List Event). t.batches ++ l) a.split in
-      let behind = rows_back left t.batches (a.first ++ a.rest) (subst (StandBehind left) split rows) in
-      none a.first a.first_held
-      (all_front (λ (x : Event). HaveStatus x.file.queue x.items) a.first a.rest (all_back (λ (x : Event). HaveStatus x.file.queue x.items) t.batches (a.first ++ a.rest) (subst HaveStatuses split status)))
-      (subst (λ (o : Option (ℕ × ℕ)). StandBehind o a.first) (sym t.leave) (rows_front (open_behind left t.batches) a.first a.rest behind))
+      let why = none a.first a.first_held
+      (all_front (λ (x : Event). HaveStatus x.file.queue x.items) a.first a.rest (all_back (λ (x : Event). HaveStatus x.file.queue x.items) t.batches (a.first ++ a.rest) (subst HaveStatuses split status))) in (
+        λ rows. why.0
+            (subst (λ (o : Option (ℕ × ℕ)). StandBehind o a.first) (sym t.leave)
+            (rows_front (open_behind left t.batches) a.first a.rest (rows_back left t.batches (a.first ++ a.rest) (subst (StandBehind left) split rows)))),
+        why.1,
+      )
 
 -- all, behind none
 pub all_rows : (Held : List Event → Type 0) (later : Option (ℕ × ℕ)) → AreHeldInRows Held None later → AreInRows Held

@@ -1,4 +1,4 @@
--- What the batches of an atomic group make of what is stored. No call of an engine puts such batches yet.
+-- What the batches of an atomic group make of what is stored.
 use Rattle.std.specs.Prelude.{◌≡◌, ℕ, ◌<◌, List, [], ◌∷◌, ◌++◌, flat_map, Some, None, length, take}
 use Rattle.std.specs.FinMap as finite
 use Rattle.std.specs.List.{AllByRecursion}

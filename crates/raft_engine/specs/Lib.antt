@@ -19,8 +19,11 @@ pub mod Rewriting
 pub mod Unmoved
 pub mod MovedAsks
 pub mod GroupBatches
+pub mod GroupParts
+pub mod GroupPlaces
 pub mod GroupAsks
 pub mod Moved
+pub mod MovedGroups
 pub mod MovedAgain
 -- rewrite files that no table needs
 pub mod PurgedRewrites

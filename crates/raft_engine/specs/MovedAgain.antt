@@ -1,11 +1,12 @@
 -- Rewritten records that an engine moves to a new file of the rewrite queue.
-use Rattle.std.specs.Prelude.{◌≡◌, ◌⊎◌, ℕ, ◌+◌, ◌-◌, ◌^◌, true, List, [], ◌∷◌, ◌++◌, None}
+use Rattle.std.specs.Prelude.{◌≡◌, ◌⊎◌, ℕ, ◌+◌, ◌-◌, ◌^◌, true, List, [], ◌∷◌, ◌++◌}
 use Rattle.raft_base.specs.declared.errors.Error.{Error}
 use Rattle.raft_base.specs.declared.errors.Error.TheVariants as errors
 use Rattle.raft_base.specs.declared.pipe_log.LogQueue.TheVariants.{Rewrite}
 use Rattle.raft_files.specs.Asks.{Ask, Begin, Sync, ask}
 use Rattle.raft_engine.specs.KeptEngine.{IsLastFile, KeptEngine}
-use Rattle.raft_engine.specs.Moved.{AreRegions, AreRegionsRewritten, AreSomeRewritten, IsTold, IsUntold}
+use Rattle.raft_engine.specs.Moved.{AreRegions, IsTold, IsUntold}
+use Rattle.raft_engine.specs.MovedGroups.{AreRegionsMovedAgain, AreSomeRegionsMovedAgain}
 use Rattle.raft_engine.specs.WrittenBatch.{IsHalfDone}
 
 -- ---- a new file
@@ -48,7 +49,7 @@ pub record AreMovedAgain (old new : KeptEngine) : Type 0 where
   pub is_begun : IsRewriteRotated told begun
   pub regions : List ℕ
   pub all : AreRegions old.accessor.tables regions
-  pub moved : AreRegionsRewritten None regions begun new
+  pub moved : AreRegionsMovedAgain regions begun new
 
 -- all is told, and no new file is begun, or in part
 pub record IsToldAlone (old new : KeptEngine) (e : Error) : Type 0 where
@@ -66,7 +67,7 @@ pub record AreSomeMovedAgain (old new : KeptEngine) (e : Error) : Type 0 where
   pub is_begun : IsRewriteRotated told begun
   pub regions : List ℕ
   pub all : AreRegions old.accessor.tables regions
-  pub some : AreSomeRewritten None regions begun new e
+  pub some : AreSomeRegionsMovedAgain regions begun new e
 
 -- it isn't told, or in part: where nothing was asked, for one of those reasons, the engine is as it was; or it is told alone; or of the
 -- records some moved

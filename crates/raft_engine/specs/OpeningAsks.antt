@@ -1,5 +1,6 @@
 -- What is asked when found files are opened.
 use Rattle.std.specs.Prelude.{◌≡◌, ℕ, List, [], ◌∷◌, ◌++◌}
+use Rattle.raft_base.specs.declared.errors.Error.{Error}
 use Rattle.raft_base.specs.declared.pipe_log.LogQueue.{LogQueue}
 use Rattle.raft_base.specs.declared.pipe_log.LogQueue.TheVariants.{Append, Rewrite}
 use Rattle.raft_base.specs.declared.pipe_log.Version.{Version}
@@ -7,7 +8,7 @@ use Rattle.raft_records.specs.Item.{Item}
 use Rattle.raft_records.specs.LogBatch.{Batch}
 use Rattle.raft_accessor.specs.Accessor.{Accessor}
 use Rattle.raft_files.specs.Asks as asks
-use Rattle.raft_files.specs.Asks.{Ask, Begin, NumberedBytes, ask}
+use Rattle.raft_files.specs.Asks.{Ask, Begin, MayBeAsked, NumberedBytes, ask}
 use Rattle.raft_engine.specs.FoundFiles.{AreReadyBy}
 use Rattle.raft_engine.specs.Opening.{AreRecovered}
 use Rattle.raft_engine.specs.StoredFound.{told_asks}
@@ -20,12 +21,19 @@ missing_asks queue Nothing = []
 missing_asks queue FirstFile = ask queue (Begin 1) ∷ []
 missing_asks queue (Cut len) = ask queue (asks.Cut len) ∷ []
 
--- of what is wanted, newest first, some, none or all was asked, the oldest first
-pub record AreAskedInPart (wanted old new : List Ask) : Type 0 where
-  pub missing : List Ask
-  pub made : List Ask
-  pub split : wanted ≡ missing ++ made
-  pub asked : new ≡ made ++ old
+-- with which errors calls of files may fail that ask this, behind all that was asked so far
+abbrev pub Failures : Type 1
+Failures = List Ask → Ask → Error → Type 0
+
+-- Of what is wanted, newest first, all was asked that is older than one ask; the call that asked this one failed with this error, and it
+-- was asked or not.
+pub record FailsAmong (MayFail : Failures) (wanted old new : List Ask) (e : Error) : Type 0 where
+  pub later : List Ask
+  pub failed : Ask
+  pub earlier : List Ask
+  pub split : wanted ≡ later ++ failed ∷ earlier
+  pub asked : MayBeAsked failed (earlier ++ old) new
+  pub why : MayFail (earlier ++ old) failed e
 
 -- what tells the rewrite queue a batch of these items, behind the last file of this number
 abbrev pub asks_that_tell : Version → ℕ → Batch → List Item → List Ask

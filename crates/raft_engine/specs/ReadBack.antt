@@ -1,5 +1,5 @@
 -- Tables that are read back of the append files.
-use Rattle.std.specs.Prelude.{◌≡◌, ℕ, List, [], ◌∷◌, ◌++◌, Option, length}
+use Rattle.std.specs.Prelude.{◌≡◌, ℕ, List, [], ◌∷◌, ◌++◌, Option, None, length}
 use Rattle.std.specs.List.{AllByRecursion}
 use Rattle.raft_base.specs.declared.pipe_log.LogQueue.{LogQueue}
 use Rattle.raft_base.specs.declared.pipe_log.LogQueue.TheVariants.{Append, Rewrite}
@@ -19,6 +19,7 @@ use Rattle.raft_engine_laws.specs.Telling.{TakeAway}
 use Rattle.raft_engine_fronts.specs.Done.{AreRisingFrom, numbers}
 use Rattle.raft_engine_fronts.specs.TornTails.{FilesHoldTorn}
 use Rattle.raft_engine.specs.BatchBytes.{bytes_for, placed_at}
+use Rattle.raft_engine.specs.GroupBatches.{IsGroupMoving, placed_from, puts_asks}
 use Rattle.raft_engine.specs.KeptEngine.{IsLastFile}
 use Rattle.raft_engine.specs.Rewriting.{IsBatchMoving}
 use Rattle.raft_engine.specs.StoredAsks.{IsWritableBatch}
@@ -67,3 +68,11 @@ MovedBatchesAreReadBack =
     → IsLastFile Rewrite asks seq bytes → FilesHold Rewrite version (begun (acts_on Rewrite asks)) rewritten → IsWritableBatch batch → IsBatchMoving gate t before asks batch
     → AreWritten (Rewriting gate seq) (placed_at (record { queue = Rewrite; seq = seq }) (length bytes) batch) old new → IsReadBack version asks old
     → IsReadBack version (ask Rewrite (Put (bytes_for (record { id = record { queue = Rewrite; seq = seq }; version = version }) batch)) ∷ asks) new
+
+-- so do the batches of a group that moves a table's rewritten records, put there one after another, once the items of all are written to the tables
+abbrev pub MovedGroupsAreReadBack : Type 0
+MovedGroupsAreReadBack =
+    (version : Version) (before asks : List Ask) (old new : Accessor) (seq : ℕ) (bytes : List ℕ) (group : ℕ) (t : Table) (batches : List Batch) (rewritten : List Event)
+    → IsLastFile Rewrite asks seq bytes → FilesHold Rewrite version (begun (acts_on Rewrite asks)) rewritten → AllByRecursion IsWritableBatch batches → IsGroupMoving t before asks group batches
+    → AreWritten (Rewriting None seq) (placed_from (record { queue = Rewrite; seq = seq }) (length bytes) batches) old new → IsReadBack version asks old
+    → IsReadBack version (puts_asks (record { id = record { queue = Rewrite; seq = seq }; version = version }) batches asks) new

@@ -1,5 +1,6 @@
 -- Contexts that read the batches of files on other threads.
-use Rattle.std.specs.Prelude.{◌⊎◌, List}
+use Rattle.std.specs.Prelude.{◌⊎◌, ◌<◌, ◌^◌, List}
+use Rattle.raft_base.specs.declared.errors.Error.{Error}
 use Rattle.raft_base.specs.declared.pipe_log.LogQueue.TheVariants.{Append, Rewrite}
 use Rattle.raft_base.specs.declared.pipe_log.Version.{Version}
 use Rattle.raft_history.specs.Batches.{Event}
@@ -7,10 +8,9 @@ use Rattle.raft_history.specs.Histories.{Apart, IsSmall}
 use Rattle.raft_contexts.specs.OverlaidContext.{IsMergeAppendFault}
 use Rattle.raft_contexts.specs.RecoverContext.{HasRead, HasReadExactly, RecoverContext}
 use Rattle.raft_files.specs.Asks.{NumberedBytes}
-use Rattle.raft_recover.specs.Files.{FilesHold}
+use Rattle.raft_recover.specs.Files.{FilesHold, bytes_of_files}
 use Rattle.raft_engine_fronts.specs.TornTails.{FilesHoldTorn}
-use Rattle.raft_engine.specs.Markers.{NoneIsHeld}
-use Rattle.raft_engine.specs.Unopened.{Refusal}
+use Rattle.raft_engine.specs.Markers.{NoneIsHeld, NoneIsInRows}
 
 -- a context has read these batches, where they name few records, and exactly where their effects are apart
 abbrev pub HasReadAll : RecoverContext → List Event → Type 0
@@ -26,6 +26,7 @@ abbrev pub HaveReadReady : Version → List NumberedBytes → List NumberedBytes
 HaveReadReady version append rewrite appended rewritten =
     (g h : List Event) → FilesHold Append version append g → FilesHold Rewrite version rewrite h → HasReadAll appended g × HasReadAll rewritten h
 
--- why no tables are made of contexts: they can't be put over each other, or an append file can't be read
-abbrev pub AreUnmergedAs : Version → RecoverContext → RecoverContext → Refusal
-AreUnmergedAs version appended rewritten append rewrite e = IsMergeAppendFault rewritten appended e ⊎ NoneIsHeld (FilesHold Append version append)
+-- of files of fewer than 2^63 bytes no tables are made: contexts can't be put over each other, an append file can't be read, or the rewrite files can't or have a group that doesn't stand in a row
+pub record AreUnmergedAs (version : Version) (appended rewritten : RecoverContext) (append rewrite : List NumberedBytes) (e : Error) : Type 0 where
+  pub few : (bytes_of_files append < 2 ^ 63) × (bytes_of_files rewrite < 2 ^ 63)
+  pub why : IsMergeAppendFault rewritten appended e ⊎ NoneIsHeld (FilesHold Append version append) ⊎ NoneIsInRows (FilesHold Rewrite version rewrite) e

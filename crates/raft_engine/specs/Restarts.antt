@@ -15,6 +15,7 @@ use Rattle.raft_history.specs.Batches.{Event}
 use Rattle.raft_history.specs.BothQueues.{IsReadingOfBoth}
 use Rattle.raft_history.specs.RegionSteps.{Tables}
 use Rattle.raft_accessor.specs.Accessor.{Accessor}
+use Rattle.raft_contexts.specs.RecoverContext.{RecoverContext}
 use Rattle.raft_files.specs.Asks.{Ask, Begin, NumberedBytes, acts_on, ask}
 use Rattle.raft_files.specs.Disk.{IsLeftOf, files_of}
 use Rattle.raft_files.specs.Places.{bytes_at}
@@ -33,7 +34,8 @@ use Rattle.raft_engine.specs.Lasting.{AreSynced, HaveBothBegun, IsBegunOrFound, 
 use Rattle.raft_engine.specs.Opened.{IsOpened}
 use Rattle.raft_engine.specs.Opening.{AreInRows}
 use Rattle.raft_engine.specs.StoredFound.{found_asks}
-use Rattle.raft_engine.specs.Unopened.{AreUnreadableAs, IsHalfOpened, IsUnopened, MayRecover}
+use Rattle.raft_engine.specs.ReadContexts.{AreUnmergedAs, HaveReadFound}
+use Rattle.raft_engine.specs.Unopened.{AreUnrecoveredAs, IsOpeningRefusal, MayRecover}
 use Rattle.raft_engine.specs.WrittenBatch.{IsOneMore, file_of}
 
 -- ---- files that are left, cut and read
@@ -57,12 +59,18 @@ pub record AreOpenable (queue : LogQueue) (version : Version) (files : List Numb
 abbrev pub HaveGroupsInRows : Version → List NumberedBytes → Type 0
 HaveGroupsInRows version files = (asks later : List Ask) (ready : List NumberedBytes) → IsReady Rewrite version asks later files ready → AreInRows (FilesHold Rewrite version ready)
 
--- An opening of these files of both queues, by so many workers as may recover them, fails for want of memory alone, or of room, or where
--- anything is to be asked of the files: then some, none or all of that was asked, and the error may be any, since nothing is said of the errors of files.
+-- an opening of these files of both queues, by so many workers as may recover them, is refused for want of memory alone, or of room
 abbrev pub OpeningsSucceed : Version → List NumberedBytes → List NumberedBytes → Type 0
 OpeningsSucceed version append rewrite =
-    (workers : ℕ) (asks : List Ask) (e : Error) → MayRecover workers append rewrite → IsUnopened (AreUnreadableAs version workers) version append rewrite asks e
-    → (e ≡ errors.Memory) ⊎ (e ≡ errors.Full) ⊎ IsHalfOpened version append rewrite asks
+    (workers : ℕ) (e : Error) → MayRecover workers append rewrite → IsOpeningRefusal (AreUnrecoveredAs version workers) version append rewrite e
+    → (e ≡ errors.Memory) ⊎ (e ≡ errors.Full)
+
+-- so is one over contexts that have read them
+abbrev pub OpeningsOverSucceed : Version → List NumberedBytes → List NumberedBytes → Type 0
+OpeningsOverSucceed version append rewrite =
+    (appended rewritten : RecoverContext) (e : Error) → HaveReadFound version append rewrite appended rewritten
+    → IsOpeningRefusal (AreUnmergedAs version appended rewritten) version append rewrite e
+    → (e ≡ errors.Memory) ⊎ (e ≡ errors.Full)
 
 -- ---- what a restart finds
 
@@ -82,6 +90,7 @@ pub record IsFoundByRestarts (content : EntryIndex → List ℕ) (version : Vers
   pub accepted : (append rewrite : List NumberedBytes) → IsLeftOf Append asks append → IsLeftOf Rewrite asks rewrite
       → AreOpenable Append version append × AreOpenable Rewrite version rewrite × HaveGroupsInRows version rewrite
   pub opens : (append rewrite : List NumberedBytes) → IsLeftOf Append asks append → IsLeftOf Rewrite asks rewrite → OpeningsSucceed version append rewrite
+  pub opens_over : (append rewrite : List NumberedBytes) → IsLeftOf Append asks append → IsLeftOf Rewrite asks rewrite → OpeningsOverSucceed version append rewrite
   pub whole : RestartsFind version (files_of Append asks) (files_of Rewrite asks) (λ tables. HaveRecords content tables (live content base batches))
   pub told : (queue : LogQueue) → AreTold queue (acts_on queue asks) content → (files cut : List NumberedBytes) → IsLeftOf queue asks files → AreCut queue version files cut
       → AreToldByFiles queue cut content

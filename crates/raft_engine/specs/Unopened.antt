@@ -14,9 +14,9 @@ use Rattle.raft_replay.specs.Stops.{IsNothing, StopsAmong}
 use Rattle.raft_recover.specs.Files.{FilesHold, bytes_of_files, whole_file}
 use Rattle.raft_engine.specs.FoundFiles.{AreAccepted, AreReadyBy, IsFoundFault}
 use Rattle.raft_engine.specs.FoundRecords.{HaveEverRecords}
-use Rattle.raft_engine.specs.Markers.{NoneIsInRows}
+use Rattle.raft_engine.specs.Markers.{AreOutOfRows}
 use Rattle.raft_engine.specs.Opening.{AreRecovered}
-use Rattle.raft_engine.specs.OpeningAsks.{AreAskedInPart, AreWanted}
+use Rattle.raft_engine.specs.OpeningAsks.{AreWanted, Failures, FailsAmong}
 use Rattle.raft_engine.specs.Stored.{Bases}
 use Rattle.raft_engine.specs.StoredFound.{found_asks}
 
@@ -48,10 +48,13 @@ pub record AreUnreadableAs (version : Version) (workers : ℕ) (append rewrite :
   pub stops : MayRecover workers append rewrite → StopsInFiles Append version append e ⊎ StopsInFiles Rewrite version rewrite e
   pub fault : ¬ (MayRecover workers append rewrite) → IsInvalidArgument e
 
--- why no tables are recovered of files that are ready: those of a queue have 2^63 bytes or more; a recovery refuses them; or in the rewrite files a group doesn't stand in a row
-abbrev pub IsRecoveryFault : Refusal → Version → List NumberedBytes → List NumberedBytes → Error → Type 0
-IsRecoveryFault IsRefused version append rewrite e =
-    AreManyAs append e ⊎ AreManyAs rewrite e ⊎ IsRefused append rewrite e ⊎ NoneIsInRows (FilesHold Rewrite version rewrite)
+-- these can't be read, or in the rewrite files a group doesn't stand in a row
+abbrev pub AreUnrecoveredAs : Version → ℕ → Refusal
+AreUnrecoveredAs version workers append rewrite e = AreUnreadableAs version workers append rewrite e ⊎ AreOutOfRows (FilesHold Rewrite version rewrite) e
+
+-- why no tables are recovered of files that are ready: those of a queue have 2^63 bytes or more, or a recovery refuses them
+abbrev pub IsRecoveryFault : Refusal → List NumberedBytes → List NumberedBytes → Error → Type 0
+IsRecoveryFault IsRefused append rewrite e = AreManyAs append e ⊎ AreManyAs rewrite e ⊎ IsRefused append rewrite e
 
 -- what the rewrite queue is to be told has 2^56 bytes or more
 pub record IsTooLongAs (version : Version) (append rewrite : List NumberedBytes) (e : Error) : Type 0 where
@@ -69,7 +72,7 @@ pub record IsReadingFault (IsRefused : Refusal) (version : Version) (append rewr
   pub rewrite_left : List NumberedBytes
   pub append_ready : AreReadyBy Append version append_missing append append_left
   pub rewrite_ready : AreReadyBy Rewrite version rewrite_missing rewrite rewrite_left
-  pub fault : IsRecoveryFault IsRefused version append_left rewrite_left e ⊎ IsTooLongAs version append_left rewrite_left e
+  pub fault : IsRecoveryFault IsRefused append_left rewrite_left e ⊎ IsTooLongAs version append_left rewrite_left e
 
 -- why nothing is asked of found files: those of a queue can't be made ready, or there is a fault of their reading; or there is no memory
 abbrev pub IsOpeningRefusal : Refusal → Version → List NumberedBytes → List NumberedBytes → Error → Type 0
@@ -78,16 +81,17 @@ IsOpeningRefusal IsRefused version append rewrite e =
 
 -- ---- what lasts
 
--- of what an opening asks of found files some was asked, and whatever is left of the files, now and at each moment since they were found, has the same records
-pub record IsHalfOpened (version : Version) (append rewrite : List NumberedBytes) (asks : List Ask) : Type 0 where
+-- Of what an opening asks of found files all was asked that is older than one ask, whose call failed with this error. Whatever is left
+-- of the files, now and at each moment since they were found, has the same records.
+pub record IsHalfOpened (MayFail : Failures) (version : Version) (append rewrite : List NumberedBytes) (asks : List Ask) (e : Error) : Type 0 where
   pub accessor : Accessor
   pub wanted : List Ask
   pub are_wanted : AreWanted version append rewrite accessor wanted
-  pub half : AreAskedInPart wanted (found_asks append rewrite) asks
+  pub failed : FailsAmong MayFail wanted (found_asks append rewrite) asks e
   pub records : Bases
   pub ever : HaveEverRecords version asks records
 
 -- nothing was asked of the found files, for one of these reasons; or they are half opened
-abbrev pub IsUnopened : Refusal → Version → List NumberedBytes → List NumberedBytes → List Ask → Error → Type 0
-IsUnopened IsRefused version append rewrite asks e =
-    ((asks ≡ found_asks append rewrite) × IsOpeningRefusal IsRefused version append rewrite e) ⊎ IsHalfOpened version append rewrite asks
+abbrev pub IsUnopened : Refusal → Failures → Version → List NumberedBytes → List NumberedBytes → List Ask → Error → Type 0
+IsUnopened IsRefused MayFail version append rewrite asks e =
+    ((asks ≡ found_asks append rewrite) × IsOpeningRefusal IsRefused version append rewrite e) ⊎ IsHalfOpened MayFail version append rewrite asks e

@@ -17,7 +17,7 @@ ghost use Rattle.raft_engine.specs.Lasting.{IsLasting};
 ghost use Rattle.raft_files.specs.HeldFiles.{file_shown};
 ghost use Rattle.raft_engine.specs.Opened.{IsOpened};
 ghost use Rattle.raft_engine.specs.StoredFound.{found_asks};
-ghost use Rattle.raft_engine.specs.Unopened.{AreBothAccepted, AreUnreadableAs, IsUnopened};
+ghost use Rattle.raft_engine.specs.Unopened.{AreBothAccepted, AreUnrecoveredAs, IsUnopened};
 ghost use Rattle.raft_engine.specs.Purged.{ArePurged, IsUnpurged};
 ghost use Rattle.raft_engine.specs.WrittenBatch.{AreFirstWritten, IsOneMore, IsOnlySynced, IsRotated, IsUnrotated, IsUnwritten, LacksRoom};
 
@@ -44,7 +44,9 @@ use std::marker::Model;
 use std::thread::Threads;
 
 mod again;
+mod copies;
 mod files;
+mod groups;
 mod over;
 mod reading;
 mod rewrite;
@@ -152,8 +154,8 @@ impl<F: EngineFiles> Engine<F> {
             (map file_shown rewrite.items)) }
         ensures accepted { OnOk result (AreBothAccepted version (map file_shown append.items)
             (map file_shown rewrite.items)) }
-        ensures err { IfErr result (λ unopened. IsUnopened (AreUnreadableAs version workers) version (map file_shown append.items)
-            (map file_shown rewrite.items) (F.asked unopened.files) unopened.error) }
+        ensures err { IfErr result (λ unopened. IsUnopened (AreUnrecoveredAs version workers) F.may_fail version
+            (map file_shown append.items) (map file_shown rewrite.items) (F.asked unopened.files) unopened.error) }
     {
         let mut files = files;
         match open_files(rt, alloc, version, &mut files, append, rewrite, workers) {

@@ -6,7 +6,7 @@ ghost use Rattle.raft_history.specs.Histories.{HaveStatus};
 ghost use Rattle.raft_records.specs.Item.{item_of};
 ghost use Rattle.raft_replay.specs.Segments.{EachHolds, HoldsFrom, SegmentsHold};
 ghost use Rattle.raft_engine_laws.specs.GroupsInRows.{MayStandBy, open_by};
-ghost use Rattle.raft_engine.specs.GroupChecks.{AreHeldInRows, IsInRow, NoneStandBehind, marker_shown};
+ghost use Rattle.raft_engine.specs.GroupChecks.{AreHeldInRows, IsInRow, IsOutOfRow, NoneStandBehind, marker_shown};
 ghost use Rattle.raft_engine.specs.Markers.{NoneIsInRows};
 ghost use Rattle.raft_engine.specs.Opening.{AreInRows};
 
@@ -24,8 +24,8 @@ use std::alloc::Global;
 /// `next_batch`.
 pub fn check_groups(alloc: Global, segments: &[Segment]) -> Result<()>
     ensures ok { OnOk result (AreInRows (SegmentsHold segments.now)) }
-    ensures refused { IfErr result
-        (λ e. e ≢ Error.Memory → NoneIsInRows (SegmentsHold segments.now)) }
+    ensures fault { IfErr result
+        (λ e. e ≢ Error.Memory → NoneIsInRows (SegmentsHold segments.now) e) }
 {
     let mut left = None;
     for segment in segments {
@@ -43,8 +43,8 @@ fn check_segment(
 ) -> Result<Option<(u64, FileSeq)>>
     ensures ok { IfOk result
         (AreHeldInRows (EachHolds (λ part. HoldsFrom part 0) segment.now.items) before) }
-    ensures refused { IfErr result (λ e. e ≢ Error.Memory
-        → NoneStandBehind (EachHolds (λ part. HoldsFrom part 0) segment.now.items) before) }
+    ensures fault { IfErr result (λ e. e ≢ Error.Memory
+        → NoneStandBehind (EachHolds (λ part. HoldsFrom part 0) segment.now.items) before e) }
 {
     let mut left = before;
     for part in segment {
@@ -60,8 +60,8 @@ fn check_part(
     before: Option<(u64, FileSeq)>,
 ) -> Result<Option<(u64, FileSeq)>>
     ensures ok { IfOk result (AreHeldInRows (HoldsFrom part.now 0) before) }
-    ensures refused { IfErr result
-        (λ e. e ≢ Error.Memory → NoneStandBehind (HoldsFrom part.now 0) before) }
+    ensures fault { IfErr result
+        (λ e. e ≢ Error.Memory → NoneStandBehind (HoldsFrom part.now 0) before e) }
 {
     let mut at = 0;
     let mut left = before;
@@ -80,9 +80,8 @@ fn check_batch(
     before: Option<(u64, FileSeq)>,
 ) -> Result<Option<(u64, FileSeq)>>
     ensures ok { IfOk result (IsInRow file (map item_of items.now) before) }
-    ensures refused { IfErr result (λ e. e ≢ Error.Memory
-        → HaveStatus file.queue (map item_of items.now)
-        → ¬ (MayStandBy (marker_in file.queue (map item_of items.now)) file.seq before)) }
+    ensures fault { IfErr result (λ e. e ≢ Error.Memory
+        → IsOutOfRow file (map item_of items.now) before e) }
 {
     let marker = group_marker(alloc, file.queue, items)?;
     if !may_stand(marker, file.seq, before) {

@@ -4,13 +4,16 @@
 mod block_reads;
 pub mod engine;
 mod found;
+mod group_batches;
 mod group_moves;
+mod group_puts;
 mod groups;
 mod limits;
 mod missing;
 mod moved;
 pub mod of_version;
 mod opened;
+mod parts;
 mod purge;
 mod purge_rewrites;
 mod put;

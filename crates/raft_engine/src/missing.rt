@@ -1,7 +1,7 @@
 //! What is missing of found files.
 
-ghost use Rattle.std.specs.Prelude.{◌≡◌, ◌++◌, OnErr, OnOk};
-ghost use Rattle.raft_engine.specs.OpeningAsks.{AreAskedInPart, missing_asks};
+ghost use Rattle.std.specs.Prelude.{◌≡◌, ◌++◌, IfErr, OnOk};
+ghost use Rattle.raft_engine.specs.OpeningAsks.{FailsAmong, missing_asks};
 
 use crate::limits::FIRST_SEQ;
 use raft_base::{LogQueue, Result};
@@ -26,8 +26,8 @@ impl Missing {
     /// Those of `EngineFiles::rotate` and `EngineFiles::truncate`.
     pub fn ask<F: EngineFiles>(self, files: &mut F, queue: LogQueue) -> Result<()>
         ensures ok { OnOk result (F.asked files.new ≡ missing_asks queue self ++ F.asked files.old) }
-        ensures err { OnErr result
-            (AreAskedInPart (missing_asks queue self) (F.asked files.old) (F.asked files.new)) }
+        ensures err { IfErr result
+            (FailsAmong F.may_fail (missing_asks queue self) (F.asked files.old) (F.asked files.new)) }
     {
         match self {
             Missing::Nothing => Ok(()),

@@ -1,13 +1,14 @@
 //! What an engine is made of when it is opened over found files.
 
-ghost use Rattle.std.specs.Prelude.{◌≡◌, ◌<◌, ◌+◌, ◌++◌, map, IfErr, IfOk, OnErr, OnOk};
+ghost use Rattle.std.specs.Prelude.{◌≡◌, ◌++◌, List, map, IfErr, IfOk, OnOk};
+ghost use Rattle.raft_files.specs.Asks.{NumberedBytes};
 ghost use Rattle.raft_files.specs.HeldFiles.{file_shown};
 ghost use Rattle.raft_engine.specs.Opened.{AreOpened};
-ghost use Rattle.raft_engine.specs.OpeningAsks.{AreAskedInPart, asks_that_tell};
+ghost use Rattle.raft_engine.specs.OpeningAsks.{FailsAmong, asks_that_tell};
 ghost use Rattle.raft_engine.specs.ReadContexts.{AreUnmergedAs, HaveReadFound};
-ghost use Rattle.raft_engine.specs.ReadFound.{IsToBeTold, reading_asks};
+ghost use Rattle.raft_engine.specs.ReadFound.{AreReadFound, IsToBeTold, reading_asks};
 ghost use Rattle.raft_engine.specs.StoredFound.{found_asks};
-ghost use Rattle.raft_engine.specs.Unopened.{AreBothAccepted, AreUnreadableAs, IsUnopened};
+ghost use Rattle.raft_engine.specs.Unopened.{AreBothAccepted, AreUnrecoveredAs, IsHalfOpened, IsUnopened};
 
 use crate::put::put;
 use crate::queue_files::QueueFiles;
@@ -50,18 +51,11 @@ pub fn open_files<R: Threads + Sync, F: EngineFiles>(
         (map file_shown rewrite.items) (F.asked files.new) o.append o.rewrite o.accessor) }
     ensures accepted { OnOk result (AreBothAccepted version (map file_shown append.items)
         (map file_shown rewrite.items)) }
-    ensures err { IfErr result (IsUnopened (AreUnreadableAs version workers) version (map file_shown append.items)
-        (map file_shown rewrite.items) (F.asked files.new)) }
+    ensures err { IfErr result (IsUnopened (AreUnrecoveredAs version workers) F.may_fail version
+        (map file_shown append.items) (map file_shown rewrite.items) (F.asked files.new)) }
 {
-    found_files_are_stored();
-    let mut reading = read_found(rt, alloc, version, append, rewrite, workers)?;
-    complete(files, version, &mut reading)?;
-    reading.rewrite.len += reading.told_len as u64;
-    Ok(Opened {
-        append: reading.append,
-        rewrite: reading.rewrite,
-        accessor: reading.accessor,
-    })
+    let reading = read_found(rt, alloc, version, append, rewrite, workers)?;
+    opened_from(files, version, reading)
 }
 
 /// Opens found files as [`open_files`] does, with the contexts that read them.
@@ -86,14 +80,34 @@ pub fn open_over<F: EngineFiles>(
         (map file_shown rewrite.items) (F.asked files.new) o.append o.rewrite o.accessor) }
     ensures accepted { OnOk result (AreBothAccepted version (map file_shown append.items)
         (map file_shown rewrite.items)) }
-    ensures err { IfErr result (IsUnopened (AreUnmergedAs version appended rewritten) version (map file_shown append.items)
-        (map file_shown rewrite.items) (F.asked files.new)) }
+    ensures err { IfErr result (IsUnopened (AreUnmergedAs version appended rewritten) F.may_fail version
+        (map file_shown append.items) (map file_shown rewrite.items) (F.asked files.new)) }
+{
+    let reading = read_over(alloc, version, append, rewrite, appended, rewritten)?;
+    opened_from(files, version, reading)
+}
+
+/// Asks of found files what their reading says, and returns what is known of them then, with the tables that they give.
+///
+/// # Errors
+///
+/// Those of `EngineFiles`: some of it was asked then, and whatever is left of the files has the records that were found.
+fn opened_from<F: EngineFiles>(
+    files: &mut F,
+    version: Version,
+    mut reading: Reading,
+) -> Result<Opened>
+    requires { IsToBeTold reading }
+    ensures ok { (append rewrite : List NumberedBytes) → F.asked files.old ≡ found_asks append rewrite
+        → AreReadFound version append rewrite reading
+        → IfOk result (λ o. AreOpened version append rewrite (F.asked files.new) o.append o.rewrite o.accessor) }
+    ensures err { (append rewrite : List NumberedBytes) → F.asked files.old ≡ found_asks append rewrite
+        → AreReadFound version append rewrite reading
+        → IfErr result (IsHalfOpened F.may_fail version append rewrite (F.asked files.new)) }
 {
     found_files_are_stored();
-    let mut reading = read_over(alloc, version, append, rewrite, appended, rewritten)?;
     complete(files, version, &mut reading)?;
-    let told_len = reading.told_len as u64;
-    reading.rewrite.len += told_len;
+    reading.rewrite.len += reading.told_len as u64;
     Ok(Opened {
         append: reading.append,
         rewrite: reading.rewrite,
@@ -111,7 +125,7 @@ fn complete<F: EngineFiles>(files: &mut F, version: Version, reading: &mut Readi
     requires { IsToBeTold reading.old }
     ensures ok { OnOk result
         (F.asked files.new ≡ reading_asks version reading.old ++ F.asked files.old) }
-    ensures err { OnErr result (AreAskedInPart (reading_asks version reading.old)
+    ensures err { IfErr result (FailsAmong F.may_fail (reading_asks version reading.old)
         (F.asked files.old) (F.asked files.new)) }
     ensures same { reading.new ≡ record reading.old { told = reading.new.told } }
 {
@@ -129,7 +143,7 @@ fn tell<F: EngineFiles>(files: &mut F, version: Version, reading: &mut Reading) 
     requires { IsToBeTold reading.old }
     ensures ok { OnOk result (F.asked files.new
         ≡ asks_that_tell version reading.old.rewrite.seq reading.old.told reading.old.told.items ++ F.asked files.old) }
-    ensures err { OnErr result (AreAskedInPart
+    ensures err { IfErr result (FailsAmong F.may_fail
         (asks_that_tell version reading.old.rewrite.seq reading.old.told reading.old.told.items)
         (F.asked files.old) (F.asked files.new)) }
     ensures same { reading.new ≡ record reading.old { told = reading.new.told } }

@@ -1,6 +1,6 @@
 //! A batch that is put behind the bytes of a file.
 
-ghost use Rattle.std.specs.Prelude.{◌≡◌, ◌⊎◌, ◌≤◌, ◌^◌, ◌++◌, OnOk, OnErr};
+ghost use Rattle.std.specs.Prelude.{◌≡◌, ◌⊎◌, ◌≤◌, ◌^◌, ◌++◌, IfErr, OnOk, OnErr};
 ghost use Rattle.raft_records.specs.LogBatch.{encoded, encoded_length};
 ghost use Rattle.raft_files.specs.Asks.{IsAsked, MayBeAsked, Put, ask};
 ghost use Rattle.raft_engine.specs.BatchBytes.{bytes_for, placed_at};
@@ -31,6 +31,8 @@ pub fn put<F: EngineFiles>(
         (F.asked files.old) (F.asked files.new)) }
     ensures err { OnErr result (MayBeAsked (ask file.now.id.queue (Put (bytes_for file.now batch.old)))
         (F.asked files.old) (F.asked files.new)) }
+    ensures fault { IfErr result (F.may_fail (F.asked files.old)
+        (ask file.now.id.queue (Put (bytes_for file.now batch.old)))) }
     ensures placed { OnOk result (batch.new.items ≡ placed_at file.now.id offset batch.old) }
 {
     batch.prepare_write(file);

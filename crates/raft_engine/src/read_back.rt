@@ -1,6 +1,6 @@
 //! Laws of tables that are read back of the append files.
 
-ghost use Rattle.raft_engine.specs.ReadBack.{MovedBatchesAreReadBack, WrittenBatchesAreReadBack};
+ghost use Rattle.raft_engine.specs.ReadBack.{MovedBatchesAreReadBack, MovedGroupsAreReadBack, WrittenBatchesAreReadBack};
 ghost use Rattle.raft_engine.specs.RoundTrip.{ReadBackIsRoundTrip};
 
 use raft_contexts::reading::{
@@ -15,10 +15,11 @@ use raft_history::histories::{
 use raft_recover::files_hold_few_records;
 
 /// States that what the append files hold is read back as the tables: with a batch more, as the tables that take it; and
-/// where records move to the rewrite queue, as before, so that only places differ.
+/// where records move to the rewrite queue, in one batch or in a group, as before, so that only places differ.
 pub fn batches_are_read_back()
     ensures written { WrittenBatchesAreReadBack }
     ensures moved { MovedBatchesAreReadBack }
+    ensures groups { MovedGroupsAreReadBack }
 {
     appended_items_are_read_as_steps();
     items_are_read_as_steps();

@@ -6,7 +6,7 @@ ghost use Rattle.raft_files.specs.HeldFiles.{file_shown};
 ghost use Rattle.raft_engine.specs.FoundFiles.{AreAccepted};
 ghost use Rattle.raft_engine.specs.ReadContexts.{AreUnmergedAs, HaveReadFound};
 ghost use Rattle.raft_engine.specs.ReadFound.{AreReadFound};
-ghost use Rattle.raft_engine.specs.Unopened.{AreUnreadableAs, IsOpeningRefusal};
+ghost use Rattle.raft_engine.specs.Unopened.{AreUnrecoveredAs, IsOpeningRefusal};
 
 use crate::found::made_ready;
 use crate::missing::Missing;
@@ -52,7 +52,7 @@ pub fn read_found<R: Threads + Sync>(
         (map file_shown rewrite.items)) }
     ensures append_accepted { OnOk result (AreAccepted Append version (map file_shown append.items)) }
     ensures rewrite_accepted { OnOk result (AreAccepted Rewrite version (map file_shown rewrite.items)) }
-    ensures fault { IfErr result (IsOpeningRefusal (AreUnreadableAs version workers) version (map file_shown append.items)
+    ensures fault { IfErr result (IsOpeningRefusal (AreUnrecoveredAs version workers) version (map file_shown append.items)
         (map file_shown rewrite.items)) }
 {
     let (mut append, mut rewrite) = (append, rewrite);

@@ -5,7 +5,7 @@ ghost use Rattle.raft_files.specs.HeldFiles.{file_shown};
 ghost use Rattle.raft_recover.specs.Files.{bytes_of_files};
 ghost use Rattle.raft_engine.specs.Opening.{AreRecovered};
 ghost use Rattle.raft_engine.specs.ReadContexts.{AreUnmergedAs, HaveReadReady};
-ghost use Rattle.raft_engine.specs.Unopened.{AreManyAs, AreUnreadableAs, IsRecoveryFault};
+ghost use Rattle.raft_engine.specs.Unopened.{AreManyAs, AreUnrecoveredAs, IsRecoveryFault};
 
 use crate::groups::check_groups;
 use crate::removals::told_at_opening;
@@ -35,7 +35,7 @@ pub fn recovered<R: Threads + Sync>(
 ) -> Result<(MemTableAccessor, LogBatch)>
     ensures ok { IfOk result (λ found. AreRecovered version (map file_shown append.items)
         (map file_shown rewrite.items) found.0 found.1) }
-    ensures fault { IfErr result (λ e. e ≢ Error.Memory → IsRecoveryFault (AreUnreadableAs version workers) version
+    ensures fault { IfErr result (λ e. e ≢ Error.Memory → IsRecoveryFault (AreUnrecoveredAs version workers)
         (map file_shown append.items) (map file_shown rewrite.items) e) }
 {
     files_hold_few_records();
@@ -69,7 +69,7 @@ pub fn recovered_over(
     requires { HaveReadReady version (map file_shown append.items) (map file_shown rewrite.items) appended rewritten }
     ensures ok { IfOk result (λ found. AreRecovered version (map file_shown append.items)
         (map file_shown rewrite.items) found.0 found.1) }
-    ensures fault { IfErr result (λ e. e ≢ Error.Memory → IsRecoveryFault (AreUnmergedAs version appended rewritten) version
+    ensures fault { IfErr result (λ e. e ≢ Error.Memory → IsRecoveryFault (AreUnmergedAs version appended rewritten)
         (map file_shown append.items) (map file_shown rewrite.items) e) }
 {
     files_hold_few_records();

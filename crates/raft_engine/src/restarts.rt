@@ -62,7 +62,7 @@ impl<F: EngineFiles> Engine<F> {
     /// over the files that are left, and a recovery of both queues of them, has the records of all batches that were synced
     /// by then, and of a front of those since, and no others. It has those of an intact engine if all was synced, or if
     /// nothing is lost. The files are neither damaged nor unreadable, where those of a queue have fewer than 2^63 bytes:
-    /// `recover_both` refuses them for want of memory alone, and `open` for this, for want of room, or once the files fail. The
+    /// `recover_both` refuses them for want of memory alone, `open` and `open_over` for this, for want of room, or once the files fail. The
     /// contents of entries are any that are told by what was asked, and the files that are left have these. This is a law: it
     /// computes nothing.
     pub fn what_is_left_is_opened(&self)

@@ -24,7 +24,7 @@ use std::alloc::Global;
 /// # Errors
 ///
 /// `Memory`.
-fn entries_to_move(
+pub fn entries_to_move(
     alloc: Global,
     table: &MemTable,
     gate: Option<FileSeq>,
@@ -53,7 +53,7 @@ fn entries_to_move(
 /// # Errors
 ///
 /// `Memory`.
-fn pairs_to_move(
+pub fn pairs_to_move(
     alloc: Global,
     table: &MemTable,
     gate: Option<FileSeq>,
@@ -79,7 +79,7 @@ fn pairs_to_move(
 /// # Errors
 ///
 /// `InvalidArgument` for the key of the group markers, `Memory`.
-fn put_pairs(batch: &mut LogBatch, region: u64, pairs: Vec<(Vec<u8>, Vec<u8>)>) -> Result<()>
+pub fn put_pairs(batch: &mut LogBatch, region: u64, pairs: Vec<(Vec<u8>, Vec<u8>)>) -> Result<()>
     requires { batch.old.stage ≡ is_open }
     ensures ok { OnOk result (batch.new ≡ with_puts batch.old region (pairs_shown pairs.items)) }
     ensures ordinary { OnOk result (AreOrdinary (pairs_shown pairs.items)) }

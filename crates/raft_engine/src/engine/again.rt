@@ -1,6 +1,6 @@
 //! Rewritten records that move to a new file of the rewrite queue, and rewrite files that no table needs.
 
-ghost use Rattle.std.specs.Prelude.{◌≡◌, IfErr, IfOk, None, OnErr, OnOk, true};
+ghost use Rattle.std.specs.Prelude.{◌≡◌, IfErr, IfOk, OnErr, OnOk, true};
 ghost use Rattle.raft_base.specs.declared.pipe_log.LogQueue.TheVariants.{Rewrite};
 ghost use Rattle.raft_engine.specs.Moved.{IsReady};
 ghost use Rattle.raft_engine.specs.MovedAgain.{AreMovedAgain, AreUnmovedAgain, IsRewriteRotated, IsRewriteUnrotated};
@@ -18,19 +18,19 @@ use raft_files::EngineFiles;
 impl<F: EngineFiles> Engine<F> {
     /// Moves what the tables have in rewrite files to a new one of them. First all that was written last is synced, and what the
     /// rewrite queue isn't told yet is put there; then it is synced, and a new file is begun in it; then for each region the
-    /// rewritten entries are read, and put with the rewritten keys in the new file, in one batch of each region. What the tables
-    /// have stays the same, in other places, so that the older rewrite files may be deleted
-    /// ([`Engine::purge_rewrite_files`]). What moved isn't synced yet.
+    /// rewritten entries are read, and put with the rewritten keys in the new file: in one batch, or, where these entries are
+    /// several with more than 128 KiB together, in an atomic group of several. What the tables have stays the same, in other places, so that the older
+    /// rewrite files may be deleted ([`Engine::purge_rewrite_files`]). What moved isn't synced yet.
     ///
     /// # Errors
     ///
     /// `Failed` where the engine isn't intact; `Full` where what is untold has 2^56 bytes or more, or the last rewrite file more
     /// than 2^63; `Memory`. The engine is then as it was. `Full` where that file has the greatest number, or `Memory`: what is
-    /// untold is told then, and no file begun. `Full` where a region's batch has 2^31 bytes of entries or 2^56 bytes in all, or
-    /// the new file more than 2^63; `Corruption` where the bytes of an entry aren't found at its place; `InvalidArgument` where a
-    /// key is that of the group markers; those of `EngineFiles::read`; `Memory`. The records of some regions moved then, and the
-    /// engine is intact. The other ones of `EngineFiles`, and `Memory` or `Full` once a batch was asked for: it isn't intact any
-    /// more.
+    /// untold is told then, and no file begun. `Full` where a batch has 2^31 bytes of entries or 2^56 bytes in all, or would
+    /// begin past 2^63 in the new file; `Corruption` where the bytes of an entry aren't found at its place; `InvalidArgument`
+    /// where a key is that of the group markers; those of `EngineFiles::read`; `Memory`. The records of some regions moved then,
+    /// and the engine is intact. The other ones of `EngineFiles`, and `Memory` or `Full` once a batch was asked for: it isn't
+    /// intact any more. A group of which not all batches were put changes nothing.
     pub fn rewrite_again(&mut self) -> Result<()>
         ensures ok { OnOk result (AreMovedAgain self.old self.new) }
         ensures accepted { OnOk result (self.old.intact ≡ true) }
@@ -42,7 +42,7 @@ impl<F: EngineFiles> Engine<F> {
         let regions = regions_of(&self.accessor)?;
         self.tell()?;
         self.rotate_rewrite()?;
-        self.rewrite_regions(regions.as_slice(), None)
+        self.move_regions_again(regions.as_slice())
     }
 
     /// Begins a new file of the rewrite queue, in which the next batch is put. All in the older ones lasts then.

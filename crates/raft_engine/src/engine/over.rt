@@ -22,8 +22,8 @@ impl<F: EngineFiles> Engine<F> {
     ///
     /// # Errors
     ///
-    /// The files are handed back. Nothing was asked of them where they are refused, as by `open`; where an append file but the last
-    /// one can't be read; and where the contexts can't be put over each other: `Failed` where one of them doesn't read on,
+    /// The files are handed back. Nothing was asked of them where they are refused, as by `open`; where a file but the last
+    /// one of its queue can't be read; and where the contexts can't be put over each other: `Failed` where one of them doesn't read on,
     /// `InvalidArgument` where one is of the other queue, `Full` where both hold more than 2^64 - 1 records. `Memory`.
     ///
     /// Those of `EngineFiles`: some of it was asked then, and whatever is left of the files has the records that were found. They
@@ -44,8 +44,8 @@ impl<F: EngineFiles> Engine<F> {
             (map file_shown rewrite.items)) }
         ensures accepted { OnOk result (AreBothAccepted version (map file_shown append.items)
             (map file_shown rewrite.items)) }
-        ensures err { IfErr result (λ unopened. IsUnopened (AreUnmergedAs version appended rewritten) version (map file_shown append.items)
-            (map file_shown rewrite.items) (F.asked unopened.files) unopened.error) }
+        ensures err { IfErr result (λ unopened. IsUnopened (AreUnmergedAs version appended rewritten) F.may_fail version
+            (map file_shown append.items) (map file_shown rewrite.items) (F.asked unopened.files) unopened.error) }
     {
         let mut files = files;
         match open_over(

@@ -109,7 +109,7 @@ impl<F: EngineFiles> Engine<F> {
     /// engine is then as it was, but for reads. Those of `EngineFiles::append`, and `Memory` or `Full` once the batch was asked
     /// for: the engine isn't intact any more, and the tables are as they were or, once it was put, have the first ones of its
     /// items.
-    fn rewrite_region(&mut self, region: u64, gate: Option<FileSeq>) -> Result<()>
+    pub(crate) fn rewrite_region(&mut self, region: u64, gate: Option<FileSeq>) -> Result<()>
         requires { IsReady self.old }
         ensures ok { OnOk result (IsRegionRewritten gate region self.old self.new) }
         ensures err { IfErr result (IsRegionUnmoved gate region self.old self.new) }
@@ -148,7 +148,7 @@ impl<F: EngineFiles> Engine<F> {
 /// # Errors
 ///
 /// Those of `apply_rewrite_writes`. The first ones of the items are written then.
-fn rewrite_items(
+pub(super) fn rewrite_items(
     accessor: &mut MemTableAccessor,
     batch: &mut LogBatch,
     gate: Option<FileSeq>,

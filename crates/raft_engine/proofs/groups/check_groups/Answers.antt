@@ -19,11 +19,11 @@ returns-clause-ok c =
     (last_rows _ c.args.segments.now None (drop c.loop-segment.segment-index c.args.segments.now) c.loop-segment.left (drop_all c.loop-segment.segment-index c.args.segments.now c.loop-segment-test.false)
     c.loop-segment.invariant)
 
-pub returns-in_err-left-clause-refused : goal.returns-in_err-left-clause-refused
-returns-in_err-left-clause-refused c =
+pub returns-in_err-left-clause-fault : goal.returns-in_err-left-clause-fault
+returns-in_err-left-clause-fault c =
     let p = err_from_is_err_and c.from_residual.result c.from_residual.ensures.1 in
     rw (p.1, p.2)
     (λ other. rows_out (λ (segment : Vec Part Global). EachHolds (λ (part : Part). HoldsFrom part 0) segment.items) c.args.segments.now None (drop c.loop-segment.segment-index c.args.segments.now) c.segment-item.result
-    (drop (c.loop-segment.segment-index + 1) c.args.segments.now) c.loop-segment.left
+    (drop (c.loop-segment.segment-index + 1) c.args.segments.now) c.loop-segment.left _
     (drop_more c.args.segments.now c.loop-segment.segment-index c.segment-item.result c.loop-segment-test.true ∙ ap (λ s. s ∷ drop (c.loop-segment.segment-index + 1) c.args.segments.now) (sym c.segment-item.is))
-    c.loop-segment.invariant (c.in_err-left.ensures.refused other))
+    c.loop-segment.invariant (c.in_err-left.ensures.fault other))

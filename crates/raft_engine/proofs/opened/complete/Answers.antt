@@ -3,7 +3,7 @@ use Rattle.std.proofs.Common.{◌++◌, List, ap, ◌∙◌, sym, append_assoc}
 use Rattle.raft_base.specs.declared.pipe_log.LogQueue.TheVariants.{Append, Rewrite}
 use Rattle.raft_files.specs.Asks.{Ask}
 use Rattle.raft_engine.specs.OpeningAsks.{asks_that_tell, missing_asks}
-use Rattle.raft_engine.proofs.AskedLemmas.{more_asked, part_asked, some_more}
+use Rattle.raft_engine.proofs.AskedLemmas.{more_failed, part_failed, some_failed}
 use Rattle.raft_engine.proofs.opened.complete.Goals as goal
 
 pub returns-in_err-ask-clause-err : goal.returns-in_err-ask-clause-err
@@ -12,9 +12,9 @@ returns-in_err-ask-clause-err g c =
     let p = err_from_is_err_and c.from_residual.result c.from_residual.ensures.1 in
     let am : List Ask = missing_asks Append r.append_missing in
     let rm : List Ask = missing_asks Rewrite r.rewrite_missing in
-    rw (p.1)
-    (part_asked (asks_that_tell c.args.version r.rewrite.seq r.told r.told.items) (rm ++ am) (g.F.EngineFiles.asked c.args.files.now) (g.F.EngineFiles.asked c.ask.new.files)
-    (part_asked rm am (g.F.EngineFiles.asked c.args.files.now) (g.F.EngineFiles.asked c.ask.new.files) c.in_err-ask.ensures.err))
+    rw (p.1, p.2)
+    (part_failed (g.F.EngineFiles.may_fail) (asks_that_tell c.args.version r.rewrite.seq r.told r.told.items) (rm ++ am) (g.F.EngineFiles.asked c.args.files.now) (g.F.EngineFiles.asked c.ask.new.files) _
+    (part_failed (g.F.EngineFiles.may_fail) rm am (g.F.EngineFiles.asked c.args.files.now) (g.F.EngineFiles.asked c.ask.new.files) _ c.in_err-ask.ensures.err))
 
 pub returns-in_err-ask-2-clause-err : goal.returns-in_err-ask-2-clause-err
 returns-in_err-ask-2-clause-err g c =
@@ -22,14 +22,14 @@ returns-in_err-ask-2-clause-err g c =
     let p = err_from_is_err_and c.from_residual-in_err-ask-2.result c.from_residual-in_err-ask-2.ensures.1 in
     let am : List Ask = missing_asks Append r.append_missing in
     let rm : List Ask = missing_asks Rewrite r.rewrite_missing in
-    rw (p.1)
-    (part_asked (asks_that_tell c.args.version r.rewrite.seq r.told r.told.items) (rm ++ am) (g.F.EngineFiles.asked c.args.files.now) (g.F.EngineFiles.asked c.ask-2.new.files)
-    (more_asked rm am (g.F.EngineFiles.asked c.args.files.now) (g.F.EngineFiles.asked c.ask.new.files) (g.F.EngineFiles.asked c.ask-2.new.files) c.in_ok-ask.ensures.ok c.in_err-ask-2.ensures.err))
+    rw (p.1, p.2)
+    (part_failed (g.F.EngineFiles.may_fail) (asks_that_tell c.args.version r.rewrite.seq r.told r.told.items) (rm ++ am) (g.F.EngineFiles.asked c.args.files.now) (g.F.EngineFiles.asked c.ask-2.new.files) _
+    (more_failed (g.F.EngineFiles.may_fail) rm am (g.F.EngineFiles.asked c.args.files.now) (g.F.EngineFiles.asked c.ask.new.files) (g.F.EngineFiles.asked c.ask-2.new.files) _ c.in_ok-ask.ensures.ok c.in_err-ask-2.ensures.err))
 
 pub returns-clause-err : goal.returns-clause-err
 returns-clause-err g c =
     let r = c.args.reading.now in
     let am : List Ask = missing_asks Append r.append_missing in
     let rm : List Ask = missing_asks Rewrite r.rewrite_missing in
-    some_more c.tell.result (asks_that_tell c.args.version r.rewrite.seq r.told r.told.items) (rm ++ am) (g.F.EngineFiles.asked c.args.files.now) (g.F.EngineFiles.asked c.ask-2.new.files) (g.F.EngineFiles.asked c.tell.new.files)
+    some_failed (g.F.EngineFiles.may_fail) c.tell.result (asks_that_tell c.args.version r.rewrite.seq r.told r.told.items) (rm ++ am) (g.F.EngineFiles.asked c.args.files.now) (g.F.EngineFiles.asked c.ask-2.new.files) (g.F.EngineFiles.asked c.tell.new.files)
     (c.in_ok-ask-2.ensures.ok ∙ ap (λ (l : List Ask). rm ++ l) c.in_ok-ask.ensures.ok ∙ sym (append_assoc rm am (g.F.EngineFiles.asked c.args.files.now))) c.tell.ensures.err

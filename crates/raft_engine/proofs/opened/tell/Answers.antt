@@ -5,7 +5,7 @@ use Rattle.raft_base.specs.declared.pipe_log.LogFileContext.{LogFileContext}
 use Rattle.raft_base.specs.declared.pipe_log.LogQueue.TheVariants.{Rewrite}
 use Rattle.raft_files.specs.Asks.{Ask, Put, ask}
 use Rattle.raft_engine.specs.BatchBytes.{bytes_for}
-use Rattle.raft_engine.proofs.AskedLemmas.{put_in_part, told_so}
+use Rattle.raft_engine.proofs.AskedLemmas.{put_failed, told_so}
 use Rattle.raft_engine.proofs.opened.tell.Goals as goal
 
 pub returns-in_err-put-clause-err : goal.returns-in_err-put-clause-err
@@ -15,8 +15,8 @@ returns-in_err-put-clause-err g c =
     let put = ap (λ (f : LogFileContext). ask f.id.queue (Put (bytes_for f r.told))) is in
     let some : r.told.items ≢ [] = search rules in
     let p = err_from_is_err_and c.from_residual.result c.from_residual.ensures.1 in
-    rw (p.1)
-    (put_in_part c.args.version r.rewrite.seq r.told (g.F.EngineFiles.asked c.args.files.now) (g.F.EngineFiles.asked c.put.new.files) (ask c.new-file.result.id.queue (Put (bytes_for c.new-file.result r.told))) some put c.in_err-put.ensures.err)
+    rw (p.1, p.2)
+    (put_failed (g.F.EngineFiles.may_fail) c.args.version r.rewrite.seq r.told (g.F.EngineFiles.asked c.args.files.now) (g.F.EngineFiles.asked c.put.new.files) (ask c.new-file.result.id.queue (Put (bytes_for c.new-file.result r.told))) _ some put c.in_err-put.ensures.err c.in_err-put.ensures.fault)
 
 pub returns-clause-ok : goal.returns-clause-ok
 returns-clause-ok g c =
@@ -24,8 +24,8 @@ returns-clause-ok g c =
     let is : c.new-file.result ≡ record { id = record { queue = Rewrite; seq = r.rewrite.seq }; version = c.args.version } = c.new-file.ensures ∙ ap (λ (id : FileId). record { id = id; version = c.args.version }) c.new.ensures in
     let put = ap (λ (f : LogFileContext). ask f.id.queue (Put (bytes_for f r.told))) is in
     let some : r.told.items ≢ [] = search rules in
-    (told_so c.sync.result c.args.version r.rewrite.seq r.told (g.F.EngineFiles.asked c.args.files.now) (g.F.EngineFiles.asked c.put.new.files) (g.F.EngineFiles.asked c.sync.new.self) some
-    (c.in_ok-put.ensures.ok ∙ ap (λ (a : Ask). a ∷ g.F.EngineFiles.asked c.args.files.now) put) c.sync.ensures.ok c.sync.ensures.err).0
+    (told_so (g.F.EngineFiles.may_fail) c.sync.result c.args.version r.rewrite.seq r.told (g.F.EngineFiles.asked c.args.files.now) (g.F.EngineFiles.asked c.put.new.files) (g.F.EngineFiles.asked c.sync.new.self) some
+    (c.in_ok-put.ensures.ok ∙ ap (λ (a : Ask). a ∷ g.F.EngineFiles.asked c.args.files.now) put) c.sync.ensures.ok c.sync.ensures.err c.sync.ensures.fault).0
 
 pub returns-clause-err : goal.returns-clause-err
 returns-clause-err g c =
@@ -33,5 +33,5 @@ returns-clause-err g c =
     let is : c.new-file.result ≡ record { id = record { queue = Rewrite; seq = r.rewrite.seq }; version = c.args.version } = c.new-file.ensures ∙ ap (λ (id : FileId). record { id = id; version = c.args.version }) c.new.ensures in
     let put = ap (λ (f : LogFileContext). ask f.id.queue (Put (bytes_for f r.told))) is in
     let some : r.told.items ≢ [] = search rules in
-    (told_so c.sync.result c.args.version r.rewrite.seq r.told (g.F.EngineFiles.asked c.args.files.now) (g.F.EngineFiles.asked c.put.new.files) (g.F.EngineFiles.asked c.sync.new.self) some
-    (c.in_ok-put.ensures.ok ∙ ap (λ (a : Ask). a ∷ g.F.EngineFiles.asked c.args.files.now) put) c.sync.ensures.ok c.sync.ensures.err).1
+    (told_so (g.F.EngineFiles.may_fail) c.sync.result c.args.version r.rewrite.seq r.told (g.F.EngineFiles.asked c.args.files.now) (g.F.EngineFiles.asked c.put.new.files) (g.F.EngineFiles.asked c.sync.new.self) some
+    (c.in_ok-put.ensures.ok ∙ ap (λ (a : Ask). a ∷ g.F.EngineFiles.asked c.args.files.now) put) c.sync.ensures.ok c.sync.ensures.err c.sync.ensures.fault).1

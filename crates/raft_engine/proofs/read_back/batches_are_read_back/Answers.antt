@@ -1,3 +1,4 @@
+use Rattle.raft_engine.proofs.GroupReadBack.{groups_read_back}
 use Rattle.raft_engine.proofs.ReadBackLemmas.{moved_read_back, written_read_back}
 use Rattle.raft_engine.proofs.read_back.batches_are_read_back.Goals as goal
 
@@ -8,3 +9,6 @@ returns-clause-written c =
 
 pub returns-clause-moved : goal.returns-clause-moved
 returns-clause-moved c = moved_read_back c.rewriting_changes_places_alone.ensures.rewritten c.rewriting_changes_places_alone.ensures.read
+
+pub returns-clause-groups : goal.returns-clause-groups
+returns-clause-groups c = groups_read_back c.rewriting_changes_places_alone.ensures.rewritten c.rewriting_changes_places_alone.ensures.read

@@ -6,9 +6,10 @@ use Rattle.raft_base.specs.declared.pipe_log.LogQueue.TheVariants.{Append, Rewri
 use Rattle.raft_records.specs.FilePart.{Part}
 use Rattle.raft_files.specs.HeldFiles.{file_shown}
 use Rattle.raft_replay.specs.Segments.{SegmentsHold}
+use Rattle.raft_recover.specs.Files.{FilesHold}
 use Rattle.raft_recover.specs.Recovery.{AreBothRecovered}
 use Rattle.raft_engine.specs.Opening.{AreInRows, IsToldAtOpening}
-use Rattle.raft_engine.proofs.RecoveredLemmas.{AreSegmentsOfFiles, of_slice, recovered_so, unreadable_as}
+use Rattle.raft_engine.proofs.RecoveredLemmas.{AreSegmentsOfFiles, of_slice, out_of_rows, recovered_so, unreadable_as}
 use Rattle.raft_engine.proofs.recovered.recovered.Goals as goal
 
 pub returns-clause-ok : goal.returns-clause-ok
@@ -50,10 +51,15 @@ returns-in_err-accessor-clause-fault g c =
 
 pub returns-in_err-check_groups-clause-fault : goal.returns-in_err-check_groups-clause-fault
 returns-in_err-check_groups-clause-fault g c =
+    let rewrite = map file_shown c.args.rewrite.items in
+    let both = c.in_ok-accessor.ensures.ok in
+    let held : FilesHold Rewrite c.args.version rewrite both.rewrite =
+    (c.in_ok-rewritten.ensures.same both.rewrite).1 (subst (λ (l : List (Vec Part Global)). SegmentsHold l both.rewrite) c.as_slice-rewrite.ensures.value both.rewrite_held) in
     let p = err_from_is_err_and c.from_residual-in_err-check_groups.result c.from_residual-in_err-check_groups.ensures.1 in
     rw (p.1, p.2)
-    (λ other. inr (inr (inr (λ h held all. c.in_err-check_groups.ensures.refused other h
-    (subst (λ (l : List (Vec Part Global)). SegmentsHold l h) (sym c.as_slice-rewrite.ensures.value) ((c.in_ok-rewritten.ensures.same h).0 held)) all))))
+    (λ other. inr (inr (inr (out_of_rows c.files_hold_few_records.ensures c.args.version rewrite both.rewrite _ held c.in_ok-check_few-2.ensures.ok both.rewrite_sound
+    (λ h there status. c.in_err-check_groups.ensures.fault other h
+    (subst (λ (l : List (Vec Part Global)). SegmentsHold l h) (sym c.as_slice-rewrite.ensures.value) ((c.in_ok-rewritten.ensures.same h).0 there)) status)))))
 
 pub returns-in_err-told-clause-fault : goal.returns-in_err-told-clause-fault
 returns-in_err-told-clause-fault g c =

@@ -1,8 +1,9 @@
-use Rattle.std.proofs.Common.{None, inl, inr, subst, sym}
+use Rattle.std.proofs.Common.{inl, inr, subst, sym}
 use Rattle.std.proofs.lemmas.Result.{err_from_is_err_and}
 use Rattle.raft_engine.specs.KeptEngine.{KeptEngine}
-use Rattle.raft_engine.specs.Moved.{AreRegions, AreRegionsRewritten, AreSomeRewritten}
+use Rattle.raft_engine.specs.Moved.{AreRegions}
 use Rattle.raft_engine.specs.MovedAgain.{AreMovedAgain, AreUnmovedAgain}
+use Rattle.raft_engine.specs.MovedGroups.{AreRegionsMovedAgain, AreSomeRegionsMovedAgain}
 use Rattle.raft_engine.proofs.RewrittenRegions.{if_err_so, ok_so}
 use Rattle.raft_engine.proofs.engine.Engine.rewrite_again.Goals as goal
 
@@ -14,7 +15,7 @@ returns-in_err-rotate_rewrite-clause-err g c =
 
 pub returns-clause-ok : goal.returns-clause-ok
 returns-clause-ok g c =
-    ok_so (AreRegionsRewritten None c.as_slice.result.now c.rotate_rewrite.new.self c.rewrite_regions.new.self) (AreMovedAgain c.args.self.now c.rewrite_regions.new.self) c.rewrite_regions.result
+    ok_so (AreRegionsMovedAgain c.as_slice.result.now c.rotate_rewrite.new.self c.move_regions_again.new.self) (AreMovedAgain c.args.self.now c.move_regions_again.new.self) c.move_regions_again.result
     (λ moved. record {
       told = c.tell.new.self;
       is_told = c.in_ok-tell.ensures.ok;
@@ -24,11 +25,11 @@ returns-clause-ok g c =
       all = subst (λ (o : KeptEngine). AreRegions o.accessor.tables c.as_slice.result.now) c.self.view_is
           (subst (AreRegions c.self.inside.accessor.tables) (sym c.as_slice.ensures.value) c.in_ok-regions.ensures.ok);
       moved = moved;
-    }) c.rewrite_regions.ensures.ok
+    }) c.move_regions_again.ensures.ok
 
 pub returns-clause-err : goal.returns-clause-err
 returns-clause-err g c =
-    if_err_so (AreSomeRewritten None c.as_slice.result.now c.rotate_rewrite.new.self c.rewrite_regions.new.self) (AreUnmovedAgain c.args.self.now c.rewrite_regions.new.self) c.rewrite_regions.result
+    if_err_so (AreSomeRegionsMovedAgain c.as_slice.result.now c.rotate_rewrite.new.self c.move_regions_again.new.self) (AreUnmovedAgain c.args.self.now c.move_regions_again.new.self) c.move_regions_again.result
     (λ e some. inr (inr (record {
       was = c.in_ok-tell.ensures.accepted;
       told = c.tell.new.self;
@@ -39,4 +40,4 @@ returns-clause-err g c =
       all = subst (λ (o : KeptEngine). AreRegions o.accessor.tables c.as_slice.result.now) c.self.view_is
           (subst (AreRegions c.self.inside.accessor.tables) (sym c.as_slice.ensures.value) c.in_ok-regions.ensures.ok);
       some = some;
-    }))) c.rewrite_regions.ensures.err
+    }))) c.move_regions_again.ensures.err

@@ -1,0 +1,264 @@
+-- Batches of a group that are made, put and written to the tables, one after another.
+use Rattle.std.proofs.Common.{◌≡◌, ◌≢◌, inl, inr, ℕ, ◌+◌, ◌<◌, ◌≤◌, ◌^◌, List, [], ◌∷◌, ◌++◌, length, map, take, refl, sym, ap, ◌∙◌, subst, append_assoc, append-nil, length-append, arith}
+use Rattle.std.proofs.lemmas.Grind.{flat_map-append}
+use Rattle.std.proofs.lemmas.List.{map-append}
+use Rattle.std.specs.List.{AllByRecursion}
+use Rattle.raft_base.specs.declared.pipe_log.FileId.{FileId}
+use Rattle.raft_base.specs.declared.pipe_log.LogFileContext.{LogFileContext}
+use Rattle.raft_records.specs.Item.{Item}
+use Rattle.raft_records.specs.LogBatch.{Batch, Stage, approximate_length, encoded, encoded_length, is_open}
+use Rattle.raft_accessor.specs.Accessor.{Accessor}
+use Rattle.raft_accessor.specs.Writes.{AreWritten, Writing}
+use Rattle.raft_engine.proofs.WrittenBoth.{written_append}
+use Rattle.raft_files.specs.Asks.{Ask, MayBeAsked, Put, ask}
+use Rattle.raft_engine.specs.BatchBytes.{bytes_for, placed_at}
+use Rattle.raft_engine.specs.GroupBatches.{placed_from, puts_asks}
+use Rattle.raft_engine.specs.GroupPlaces.{AreFirstPut, BeginInTime, IsOneTooLong, as_encoded, end_from, items_of_batches}
+use Rattle.raft_engine.specs.StoredAsks.{IsWritableBatch}
+use Rattle.raft_engine.specs.WrittenBatch.{AreFirstWritten}
+use Rattle.raft_engine.proofs.PartLemmas.{each_more}
+
+-- ---- one batch more at the end
+
+len_of : Batch → ℕ
+len_of batch = encoded_length batch.items batch.entry_bytes
+
+end_more : (offset : ℕ) (xs : List Batch) (b : Batch)
+    → end_from offset (xs ++ b ∷ []) ≡ end_from offset xs + encoded_length b.items b.entry_bytes
+end_more offset [] b = refl
+end_more offset (x ∷ xs) b = end_more (offset + encoded_length x.items x.entry_bytes) xs b
+
+time_more : (offset : ℕ) (xs : List Batch) (b : Batch) → BeginInTime offset xs → end_from offset xs ≤ 2 ^ 63
+    → BeginInTime offset (xs ++ b ∷ [])
+time_more offset [] b h low = (low, tt)
+time_more offset (x ∷ xs) b h low = (h.0, time_more (offset + encoded_length x.items x.entry_bytes) xs b h.1 low)
+
+asks_more : (file : LogFileContext) (xs : List Batch) (b : Batch) (asks : List Ask)
+    → puts_asks file (xs ++ b ∷ []) asks ≡ ask file.id.queue (Put (bytes_for file b)) ∷ puts_asks file xs asks
+asks_more file [] b asks = refl
+asks_more file (x ∷ xs) b asks = asks_more file xs b (ask file.id.queue (Put (bytes_for file x)) ∷ asks)
+
+placed_more : (id : FileId) (offset : ℕ) (xs : List Batch) (b : Batch)
+    → placed_from id offset (xs ++ b ∷ []) ≡ placed_from id offset xs ++ placed_at id (end_from offset xs) b
+placed_more id offset [] b = append-nil (placed_at id offset b)
+placed_more id offset (x ∷ xs) b =
+    ap (λ (l : List Item). placed_at id offset x ++ l) (placed_more id (offset + encoded_length x.items x.entry_bytes) xs b)
+    ∙ sym (append_assoc (placed_at id offset x) (placed_from id (offset + encoded_length x.items x.entry_bytes) xs) (placed_at id (end_from offset (x ∷ xs)) b))
+
+items_more : (xs : List Batch) (b : Batch) → items_of_batches (xs ++ b ∷ []) ≡ items_of_batches xs ++ b.items
+items_more xs b = flat_map-append (λ (x : Batch). x.items) xs (b ∷ []) ∙ ap (λ (l : List Item). items_of_batches xs ++ l) (append-nil b.items)
+
+moved_over : (front : List Batch) (b : Batch) (left rest all : List Batch) → left ≡ b ∷ rest → front ++ left ≡ all
+    → (front ++ b ∷ []) ++ rest ≡ all
+moved_over front b left rest all e split = append_assoc front (b ∷ []) rest ∙ ap (λ (l : List Batch). front ++ l) (sym e) ∙ split
+
+take_front : {X : Type 0} (a b : List X) → take (length a) (a ++ b) ≡ a
+take_front [] b = refl
+take_front (x ∷ a) b = ap (λ l. x ∷ l) (take_front a b)
+
+-- ---- bytes that are made
+
+-- the bytes of the first batches are made, and these are left
+pub record AreMadeSoFar (all : List Batch) (offset : ℕ) (made : List Batch) (end : ℕ) (rest : List Batch) : Type 0 where
+  pub front : List Batch
+  pub split : front ++ rest ≡ all
+  pub are : made ≡ map as_encoded front
+  pub ends : end ≡ end_from offset front
+  pub writable : AllByRecursion IsWritableBatch front
+  pub in_time : BeginInTime offset front
+  pub opened : AllByRecursion (λ (b : Batch). b.stage ≡ is_open) rest
+  pub some : AllByRecursion (λ (b : Batch). b.items ≢ []) rest
+
+pub none_made : (all : List Batch) (offset : ℕ) (made : List Batch) → made ≡ []
+    → AllByRecursion (λ (b : Batch). b.stage ≡ is_open) all → AllByRecursion (λ (b : Batch). b.items ≢ []) all
+    → AreMadeSoFar all offset made offset all
+none_made all offset made none opened some = record { front = []; split = refl; are = none; ends = refl; writable = tt; in_time = tt; opened = opened; some = some }
+
+module _ (all : List Batch) (offset : ℕ) (made : List Batch) (end : ℕ) (left : List Batch) (b : Batch) (rest : List Batch) (next : left ≡ b ∷ rest) (h : AreMadeSoFar all offset made end left) where
+  pub next_open : b.stage ≡ is_open
+  next_open = (subst (AllByRecursion (λ (x : Batch). x.stage ≡ is_open)) next h.opened).0
+
+  pub next_some : b.items ≢ []
+  next_some = (subst (AllByRecursion (λ (x : Batch). x.items ≢ [])) next h.some).0
+
+  pub one_made : (after : List Batch) (new : Batch) (len more : ℕ) → new ≡ as_encoded b → after ≡ made ++ new ∷ []
+      → len ≡ encoded_length b.items b.entry_bytes → more ≡ end + len → end ≤ 2 ^ 63 → IsWritableBatch b
+      → AreMadeSoFar all offset after more rest
+  one_made after new len more is pushed long ends low w = record {
+    front = h.front ++ b ∷ [];
+    split = moved_over h.front b left rest all next h.split;
+    are = pushed ∙ ap (λ (x : Batch). made ++ x ∷ []) is ∙ ap (λ (l : List Batch). l ++ as_encoded b ∷ []) h.are ∙ sym (map-append as_encoded h.front (b ∷ []));
+    ends = ends ∙ ap (λ n. end + n) long ∙ ap (λ n. n + encoded_length b.items b.entry_bytes) h.ends ∙ sym (end_more offset h.front b);
+    writable = each_more IsWritableBatch h.front b h.writable w;
+    in_time = time_more offset h.front b h.in_time (subst (λ n. n ≤ 2 ^ 63) h.ends low);
+    opened = (subst (AllByRecursion (λ (x : Batch). x.stage ≡ is_open)) next h.opened).1;
+    some = (subst (AllByRecursion (λ (x : Batch). x.items ≢ [])) next h.some).1;
+  }
+
+  pub begins_late : 2 ^ 63 < end → IsOneTooLong offset all
+  begins_late late = record {
+    front = h.front;
+    batch = b;
+    back = rest;
+    split = sym h.split ∙ ap (λ (l : List Batch). h.front ++ l) next;
+    long = inl (subst (λ n. 2 ^ 63 < n) h.ends late);
+  }
+
+  pub is_long : 2 ^ 56 ≤ encoded_length b.items b.entry_bytes → IsOneTooLong offset all
+  is_long long = record {
+    front = h.front;
+    batch = b;
+    back = rest;
+    split = sym h.split ∙ ap (λ (l : List Batch). h.front ++ l) next;
+    long = inr long;
+  }
+
+-- all are made
+pub record AreAllMade (all : List Batch) (offset : ℕ) (made : List Batch) (end : ℕ) : Type 0 where
+  pub are : made ≡ map as_encoded all
+  pub ends : end ≡ end_from offset all
+  pub writable : AllByRecursion IsWritableBatch all
+  pub in_time : BeginInTime offset all
+
+pub all_made : (all : List Batch) (offset : ℕ) (made : List Batch) (end : ℕ) (left : List Batch) → left ≡ []
+    → AreMadeSoFar all offset made end left → AreAllMade all offset made end
+all_made all offset made end left none h =
+    let is : h.front ≡ all = sym (append-nil h.front) ∙ ap (λ (l : List Batch). h.front ++ l) (sym none) ∙ h.split in record {
+      are = h.are ∙ ap (map as_encoded) is;
+      ends = h.ends ∙ ap (end_from offset) is;
+      writable = subst (AllByRecursion IsWritableBatch) is h.writable;
+      in_time = subst (BeginInTime offset) is h.in_time;
+    }
+
+-- ---- batches that are put
+
+-- the first batches are put, and these are left
+pub record ArePutSoFar (file : LogFileContext) (offset : ℕ) (all : List Batch) (old now : List Ask) (placed : List Batch) (at : ℕ) (rest : List Batch) : Type 0 where
+  pub front : List Batch
+  pub split : front ++ rest ≡ all
+  pub asked : now ≡ puts_asks file front old
+  pub places : items_of_batches placed ≡ placed_from file.id offset front
+  pub ends : at ≡ end_from offset front
+  pub made : AllByRecursion (λ (b : Batch). b.stage ≡ encoded) rest
+  pub in_time : BeginInTime at rest
+
+pub none_put : (file : LogFileContext) (offset : ℕ) (all : List Batch) (asks : List Ask) (placed : List Batch)
+    → placed ≡ [] → AllByRecursion (λ (b : Batch). b.stage ≡ encoded) all → BeginInTime offset all
+    → ArePutSoFar file offset all asks asks placed offset all
+none_put file offset all asks placed none made in_time = record { front = []; split = refl; asked = refl; places = ap items_of_batches none; ends = refl; made = made; in_time = in_time }
+
+-- the length of a batch whose bytes are made
+size_is : (stage : Stage) (items : List Item) (bytes : List ℕ) → stage ≡ encoded
+    → approximate_length stage items bytes ≡ encoded_length items bytes
+size_is stage [] bytes e = refl
+size_is stage (item ∷ items) bytes e = ap (λ s. approximate_length s (item ∷ items) bytes) e
+
+module _ (file : LogFileContext) (offset : ℕ) (all : List Batch) (old now : List Ask) (placed : List Batch) (at : ℕ) (left : List Batch) (b : Batch) (rest : List Batch) (next : left ≡ b ∷ rest)
+    (h : ArePutSoFar file offset all old now placed at left) where
+  pub next_made : b.stage ≡ encoded
+  next_made = (subst (AllByRecursion (λ (x : Batch). x.stage ≡ encoded)) next h.made).0
+
+  pub next_size : (len : ℕ) → len ≡ approximate_length b.stage b.items b.entry_bytes
+      → len ≡ encoded_length b.items b.entry_bytes
+  next_size len e = e ∙ size_is b.stage b.items b.entry_bytes next_made
+
+  pub next_low : at ≤ 2 ^ 63
+  next_low = (subst (BeginInTime at) next h.in_time).0
+
+  whole_split : all ≡ h.front ++ b ∷ rest
+  whole_split = sym h.split ∙ ap (λ (l : List Batch). h.front ++ l) next
+
+  asked_more : (new : List Ask) → new ≡ ask file.id.queue (Put (bytes_for file b)) ∷ now
+      → new ≡ puts_asks file (h.front ++ b ∷ []) old
+  asked_more new e = e ∙ ap (λ (l : List Ask). ask file.id.queue (Put (bytes_for file b)) ∷ l) h.asked ∙ sym (asks_more file h.front b old)
+
+  pub one_put : (new : List Ask) (put : Batch) (after : List Batch) (len more : ℕ)
+      → new ≡ ask file.id.queue (Put (bytes_for file b)) ∷ now → put.items ≡ placed_at file.id at b
+      → after ≡ placed ++ put ∷ []
+      → len ≡ approximate_length b.stage b.items b.entry_bytes → more ≡ at + len
+      → ArePutSoFar file offset all old new after more rest
+  one_put new put after len more e places pushed long ends = record {
+    front = h.front ++ b ∷ [];
+    split = moved_over h.front b left rest all next h.split;
+    asked = asked_more new e;
+    places = ap items_of_batches pushed ∙ items_more placed put ∙ ap (λ (l : List Item). l ++ put.items) h.places ∙ ap (λ (l : List Item). placed_from file.id offset h.front ++ l) places
+        ∙ ap (λ n. placed_from file.id offset h.front ++ placed_at file.id n b) h.ends ∙ sym (placed_more file.id offset h.front b);
+    ends = at_more ∙ ap (λ n. n + encoded_length b.items b.entry_bytes) h.ends ∙ sym (end_more offset h.front b);
+    made = (subst (AllByRecursion (λ (x : Batch). x.stage ≡ encoded)) next h.made).1;
+    in_time = subst (λ n. BeginInTime n rest) (sym at_more) (subst (BeginInTime at) next h.in_time).1;
+  }
+    where
+      at_more : more ≡ at + encoded_length b.items b.entry_bytes
+      at_more = ends ∙ ap (λ n. at + n) (next_size len long)
+
+  -- it is put too, and no more
+  pub first_put : (new : List Ask) → new ≡ ask file.id.queue (Put (bytes_for file b)) ∷ now
+      → AreFirstPut file all old new
+  first_put new e = record {
+    count = length (h.front ++ b ∷ []);
+    at_most =
+        let long = ap length whole_split ∙ length-append h.front (b ∷ rest) in
+        let front = length-append h.front (b ∷ []) in
+        omega (arith, long, front);
+    asked = asked_more new e ∙ ap (λ (l : List Batch). puts_asks file l old) (sym (
+        ap (take (length (h.front ++ b ∷ []))) (whole_split ∙ sym (append_assoc h.front (b ∷ []) rest)) ∙ take_front (h.front ++ b ∷ []) rest));
+  }
+
+  -- or it isn't
+  pub may_put : (new : List Ask) → MayBeAsked (ask file.id.queue (Put (bytes_for file b))) now new
+      → AreFirstPut file all old new
+  may_put new (inl e) = record {
+    count = length h.front;
+    at_most =
+        let long = ap length whole_split ∙ length-append h.front (b ∷ rest) in
+        omega (arith, long);
+    asked = e ∙ h.asked ∙ ap (λ (l : List Batch). puts_asks file l old) (sym (ap (take (length h.front)) whole_split ∙ take_front h.front (b ∷ rest)));
+  }
+  may_put new (inr e) = first_put new e
+
+-- all are put
+pub all_put : (file : LogFileContext) (offset : ℕ) (all : List Batch) (old now : List Ask) (placed : List Batch) (at : ℕ) (left : List Batch)
+    → left ≡ [] → ArePutSoFar file offset all old now placed at left
+    → (now ≡ puts_asks file all old) × (items_of_batches placed ≡ placed_from file.id offset all)
+all_put file offset all old now placed at left none h =
+    let is : h.front ≡ all = sym (append-nil h.front) ∙ ap (λ (l : List Batch). h.front ++ l) (sym none) ∙ h.split in
+    (h.asked ∙ ap (λ (l : List Batch). puts_asks file l old) is, h.places ∙ ap (placed_from file.id offset) is)
+
+-- ---- items that are written
+
+-- the items of the first batches are written, and these are left
+pub record AreWrittenSoFar (w : Writing) (all : List Batch) (old now : Accessor) (rest : List Batch) : Type 0 where
+  pub front : List Batch
+  pub split : front ++ rest ≡ all
+  pub written : AreWritten w (items_of_batches front) old now
+
+pub none_written : (w : Writing) (all : List Batch) (a : Accessor) → AreWrittenSoFar w all a a all
+none_written w all a = record { front = []; split = refl; written = record { asked = tt; accepted = tt; tables = refl; cleaned = sym (append-nil a.cleaned); counts = refl } }
+
+pub one_written : (w : Writing) (all : List Batch) (old now new : Accessor) (left : List Batch) (b : Batch) (rest : List Batch)
+    → left ≡ b ∷ rest → AreWritten w b.items now new → AreWrittenSoFar w all old now left
+    → AreWrittenSoFar w all old new rest
+one_written w all old now new left b rest next wrote h = record {
+  front = h.front ++ b ∷ [];
+  split = moved_over h.front b left rest all next h.split;
+  written = subst (λ (l : List Item). AreWritten w l old new) (sym (items_more h.front b)) (written_append w (items_of_batches h.front) b.items old now new h.written wrote);
+}
+
+pub all_written : (w : Writing) (all : List Batch) (old now : Accessor) (left : List Batch) → left ≡ []
+    → AreWrittenSoFar w all old now left → AreWritten w (items_of_batches all) old now
+all_written w all old now left none h =
+    subst (λ (l : List Batch). AreWritten w (items_of_batches l) old now) (sym (append-nil h.front) ∙ ap (λ (l : List Batch). h.front ++ l) (sym none) ∙ h.split) h.written
+
+pub first_written : (w : Writing) (all : List Batch) (old now new : Accessor) (left : List Batch) (b : Batch) (rest : List Batch)
+    → left ≡ b ∷ rest → AreFirstWritten w b.items now new → AreWrittenSoFar w all old now left
+    → AreFirstWritten w (items_of_batches all) old new
+first_written w all old now new left b rest next f h = record {
+  front = items_of_batches h.front ++ f.front;
+  rest = f.rest ++ items_of_batches rest;
+  split =
+      ap items_of_batches (sym h.split ∙ ap (λ (l : List Batch). h.front ++ l) next) ∙ flat_map-append (λ (x : Batch). x.items) h.front (b ∷ rest)
+      ∙ ap (λ (l : List Item). items_of_batches h.front ++ (l ++ items_of_batches rest)) f.split
+      ∙ ap (λ (l : List Item). items_of_batches h.front ++ l) (append_assoc f.front f.rest (items_of_batches rest))
+      ∙ sym (append_assoc (items_of_batches h.front) f.front (f.rest ++ items_of_batches rest));
+  written = written_append w (items_of_batches h.front) f.front old now new h.written f.written;
+}

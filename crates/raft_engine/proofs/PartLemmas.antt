@@ -1,0 +1,299 @@
+-- Parts of entries, and batches that have one each.
+use Rattle.std.proofs.Common.{◌≡◌, ◌≢◌, ◌⊎◌, inl, inr, ℕ, zero, suc, ◌+◌, ◌<◌, ◌≤◌, ◌^◌, List, [], ◌∷◌, ◌++◌, get_or, length, map, take, drop, refl, sym, ap, ◌∙◌, subst, append_assoc, append-nil, None, arith}
+use Rattle.std.proofs.lemmas.Grind.{flat_map-append}
+use Rattle.std.proofs.lemmas.List.{length-take, length-take-le, map-append, take-append-drop, take_all, take_more}
+use Rattle.std.specs.List.{AllByRecursion}
+use Rattle.raft_base.specs.Runs.{IsConsecutive, IsRun, RisesFrom}
+use Rattle.raft_base.specs.declared.entry_index.EntryIndex.{EntryIndex}
+use Rattle.raft_base.specs.declared.errors.Error.{Error}
+use Rattle.raft_records.specs.LogBatch.{Batch}
+use Rattle.raft_records.specs.declared.atomic_group.AtomicGroupStatus.TheVariants.{Begin, End}
+use Rattle.raft_table.specs.Table.{Table}
+use Rattle.raft_files.specs.Asks.{Ask}
+use Rattle.raft_engine_laws.specs.Moving.{AreOrdinary}
+use Rattle.raft_engine.specs.GroupBatches.{ArePartsRead, EntriesPart, batches_behind, group_batches, marker_batch, part_batch}
+use Rattle.raft_engine.specs.GroupParts.{AreCutInto, AreOnePart, ArePartsAdded, ArePartsRefused, IsFirstPart, IsGroupInParts, IsGroupRefused, IsPartRead, IsPartRefused, bytes_of_entries, entries_of_parts}
+use Rattle.raft_engine.specs.Reads.{AreOnlyRead, AreReadByBlocks, AreReads}
+use Rattle.raft_engine.specs.Rewriting.{moving_entries, moving_pairs, with_puts}
+use Rattle.raft_engine.specs.Unmoved.{AreKeysRefused}
+use Rattle.raft_engine.proofs.ReadKept.{read_only, unread_only}
+
+-- ---- the first part
+
+pub bytes_append : (a b : List EntryIndex) → bytes_of_entries (a ++ b) ≡ bytes_of_entries a + bytes_of_entries b
+bytes_append [] b = omega arith
+bytes_append (e ∷ a) b = let rest = bytes_append a b in omega (arith, rest)
+
+-- so many entries are counted, which have so many bytes
+pub record AreCounted (es : List EntryIndex) (i count bytes : ℕ) : Type 0 where
+  pub counted : count ≡ i
+  pub sum : bytes ≡ bytes_of_entries (take i es)
+  pub part : (bytes ≤ 131072) ⊎ (count ≤ 1)
+  pub low : bytes < 2 ^ 33
+
+pub none_counted : (es : List EntryIndex) → AreCounted es 0 0 0
+none_counted es = record { counted = refl; sum = refl; part = inr (omega arith); low = omega arith }
+
+module _ (es : List EntryIndex) (i count bytes more : ℕ) (d : EntryIndex) (less : i < length es) (len : ℕ) (is_len : len ≡ (get_or es i d).entry_len)
+    (is_more : more ≡ bytes + len) (h : AreCounted es i count bytes) where
+  sum_more : more ≡ bytes_of_entries (take (i + 1) es)
+  sum_more =
+      let all = ap bytes_of_entries (take_more es i d less) ∙ bytes_append (take i es) (get_or es i d ∷ []) in
+      let sum = h.sum in
+      omega (arith, all, sum, is_more, is_len)
+
+  pub one_counted : len < 2 ^ 32 → (0 < count → more ≤ 131072) → AreCounted es (i + 1) (count + 1) more
+  one_counted small fits =
+      let counted = h.counted in
+      let low = h.low in record {
+        counted = ap (λ n. n + 1) counted;
+        sum = sum_more;
+        part = part count fits;
+        low = low_more count refl fits;
+      }
+    where
+      part : (n : ℕ) → (0 < n → more ≤ 131072) → (more ≤ 131072) ⊎ (n + 1 ≤ 1)
+      part zero f = inr (omega arith)
+      part (suc n) f = inl (f (omega arith))
+
+      none : (n : ℕ) → count ≡ 0 → i ≡ 0
+      none n e = let counted = h.counted in omega (arith, counted, e)
+
+      low_more : (n : ℕ) → count ≡ n → (0 < count → more ≤ 131072) → more < 2 ^ 33
+      low_more zero e f =
+          let first : bytes ≡ 0 = h.sum ∙ ap (λ k. bytes_of_entries (take k es)) (none 0 e) in
+          omega (arith, first, is_more, small)
+      low_more (suc n) e f = let k = f (omega (arith, e)) in omega (arith, k)
+
+  pub first_part : 0 < count → 131072 < more → IsFirstPart es count
+  first_part some many =
+      let counted = h.counted in
+      let long = length-take count es in record {
+        at_most = omega (arith, counted, less);
+        some = λ e. some;
+        part = subst (λ n. AreOnePart (take n es)) (sym counted) (part h.part);
+        longest = λ l. longest;
+      }
+    where
+      part : (bytes ≤ 131072) ⊎ (count ≤ 1) → AreOnePart (take i es)
+      part (inl few) = inl (subst (λ n. n ≤ 131072) h.sum few)
+      part (inr one) =
+          let counted = h.counted in
+          let long = length-take i es in
+          inr (omega (arith, long, one, counted, less))
+
+      longest : AreOnePart (take (count + 1) es) → ⊥
+      longest (inl few) =
+          let counted = h.counted in
+          let sum = sum_more ∙ ap (λ n. bytes_of_entries (take (n + 1) es)) (sym counted) in
+          absurd (omega (arith, sum, few, many))
+      longest (inr one) =
+          let counted = h.counted in
+          let long = length-take (count + 1) es in
+          absurd (omega (arith, long, one, counted, less, some))
+
+pub whole_part : (es : List EntryIndex) (i count bytes : ℕ) → length es ≤ i → i ≤ length es
+    → AreCounted es i count bytes → IsFirstPart es count
+whole_part es i count bytes end at_most h =
+    let counted = h.counted in record {
+      at_most = omega (arith, counted, at_most);
+      some = λ some. above es some (omega (arith, counted, end));
+      part = subst (λ n. AreOnePart (take n es)) (sym counted) (part h.part);
+      longest = λ l. absurd (omega (arith, l, counted, end));
+    }
+  where
+    above : (l : List EntryIndex) → l ≢ [] → length l ≤ count → 0 < count
+    above [] some le = absurd (some refl)
+    above (e ∷ l) some le = omega (arith, le)
+
+    part : (bytes ≤ 131072) ⊎ (count ≤ 1) → AreOnePart (take i es)
+    part (inl few) = inl (subst (λ n. n ≤ 131072) h.sum few)
+    part (inr one) =
+        let counted = h.counted in
+        let long = ap length (take_all i es end) in
+        inr (omega (arith, long, one, counted, at_most))
+
+-- ---- consecutive entries in two pieces
+
+rises_front : (s : ℕ) (a b : List EntryIndex) → RisesFrom s (a ++ b) → RisesFrom s a
+rises_front s [] b h = tt
+rises_front s (e ∷ a) b h = (h.0, rises_front (suc s) a b h.1)
+
+rises_back : (s : ℕ) (a b : List EntryIndex) → RisesFrom s (a ++ b) → IsRun b
+rises_back s [] [] h = tt
+rises_back s [] (x ∷ b) h = subst (λ k. RisesFrom (suc k) b) (sym h.0) h.1
+rises_back s (e ∷ a) b h = rises_back (suc s) a b h.1
+
+run_front : (a b : List EntryIndex) → IsRun (a ++ b) → IsRun a
+run_front [] b h = tt
+run_front (e ∷ a) b h = rises_front (suc e.index) a b h
+
+run_back : (a b : List EntryIndex) → IsRun (a ++ b) → IsRun b
+run_back [] b h = h
+run_back (e ∷ a) b h = rises_back (suc e.index) a b h
+
+each_front : {X : Type 0} (P : X → Type 0) (a b : List X) → AllByRecursion P (a ++ b) → AllByRecursion P a
+each_front P [] b h = tt
+each_front P (x ∷ a) b h = (h.0, each_front P a b h.1)
+
+each_back : {X : Type 0} (P : X → Type 0) (a b : List X) → AllByRecursion P (a ++ b) → AllByRecursion P b
+each_back P [] b h = h
+each_back P (x ∷ a) b h = each_back P a b h.1
+
+pub each_more : {X : Type 0} (P : X → Type 0) (xs : List X) (x : X) → AllByRecursion P xs → P x
+    → AllByRecursion P (xs ++ x ∷ [])
+each_more P [] x h k = (k, tt)
+each_more P (y ∷ xs) x h k = (h.0, each_more P xs x h.1 k)
+
+pub front_consecutive : (n : ℕ) (es : List EntryIndex) → IsConsecutive es → IsConsecutive (take n es)
+front_consecutive n es h =
+    let both = subst IsConsecutive (sym (take-append-drop n es)) h in
+    record { run = run_front (take n es) (drop n es) both.run; bounded = each_front _ (take n es) (drop n es) both.bounded }
+
+pub back_consecutive : (n : ℕ) (es : List EntryIndex) → IsConsecutive es → IsConsecutive (drop n es)
+back_consecutive n es h =
+    let both = subst IsConsecutive (sym (take-append-drop n es)) h in
+    record { run = run_back (take n es) (drop n es) both.run; bounded = each_back _ (take n es) (drop n es) both.bounded }
+
+-- ---- parts that are read, one after another
+
+reads_both : (a b : List Ask) → AreReads a → AreReads b → AreReads (a ++ b)
+reads_both [] b h k = k
+reads_both (x ∷ a) b h k = (h.0, reads_both a b h.1 k)
+
+pub both_read : (old between new : List Ask) → AreOnlyRead old between → AreOnlyRead between new → AreOnlyRead old new
+both_read old between new a b = record {
+  reads = b.reads ++ a.reads;
+  only = reads_both b.reads a.reads b.only a.only;
+  asked = b.asked ∙ ap (λ (l : List Ask). b.reads ++ l) a.asked ∙ sym (append_assoc b.reads a.reads old);
+}
+
+pub parts_only : (parts : List EntriesPart) (old new : List Ask) → ArePartsRead parts old new → AreOnlyRead old new
+parts_only [] old new e = record { reads = []; only = tt; asked = e }
+parts_only (part ∷ parts) old new r = both_read old r.0 new (read_only part.0 part.1 old r.0 r.1) (parts_only parts r.0 new r.2)
+
+parts_one_more : (parts : List EntriesPart) (part : EntriesPart) (old now new : List Ask) → ArePartsRead parts old now
+    → AreReadByBlocks part.0 part.1 now new → ArePartsRead (parts ++ part ∷ []) old new
+parts_one_more [] part old now new r k = (new, subst (λ (l : List Ask). AreReadByBlocks part.0 part.1 l new) r k, refl)
+parts_one_more (p ∷ parts) part old now new r k = (r.0, r.1, parts_one_more parts part r.0 now new r.2 k)
+
+pub part_only : (es : List EntryIndex) (old new : List Ask) (e : Error) → IsPartRefused es old new e
+    → AreOnlyRead old new
+part_only es old new e (inl u) = unread_only es old new e u
+part_only es old new e (inr r) = read_only es r.0 old new r.1
+
+cut_more : (es : List EntryIndex) (parts : List EntriesPart) (rest : List EntryIndex) (n : ℕ) (strings : List (List ℕ))
+    → AreCutInto es parts rest → rest ≢ [] → IsFirstPart rest n
+    → AreCutInto es (parts ++ (take n rest, strings) ∷ []) (drop n rest)
+cut_more es [] rest n strings e some f =
+    let long : length (take n rest) ≡ n = length-take-le n rest f.at_most in (
+      (λ none. some (sym e ∙ none)),
+      subst (λ (l : List EntryIndex). IsFirstPart l (length (take n rest))) (sym e) (subst (IsFirstPart rest) (sym long) f),
+      ap (λ (k : ℕ). take k rest) (sym long) ∙ ap (λ (l : List EntryIndex). take (length (take n rest)) l) (sym e),
+      ap (λ (l : List EntryIndex). drop (length (take n rest)) l) e ∙ ap (λ (k : ℕ). drop k rest) long,
+    )
+cut_more es (p ∷ parts) rest n strings h some f =
+    (h.0, h.1, h.2, cut_more (drop (length p.0) es) parts rest n strings h.3 some f)
+
+-- batches of the first parts stand behind others, and these entries are left
+pub record ArePartsSoFar (es : List EntryIndex) (group id : ℕ) (old now : List Ask) (before after : List Batch) (rest : List EntryIndex) : Type 0 where
+  pub parts : List EntriesPart
+  pub entries : entries_of_parts parts ++ rest ≡ es
+  pub cut : AreCutInto es parts rest
+  pub read : ArePartsRead parts old now
+  pub added : after ≡ before ++ map (part_batch group id) parts
+  pub consecutive : IsConsecutive rest
+
+pub none_so_far : (es : List EntryIndex) (group id : ℕ) (asks : List Ask) (before : List Batch) → IsConsecutive es
+    → ArePartsSoFar es group id asks asks before before es
+none_so_far es group id asks before c = record { parts = []; entries = refl; cut = refl; read = refl; added = sym (append-nil before); consecutive = c }
+
+pub part_more : (es : List EntryIndex) (group id : ℕ) (old now new : List Ask) (before after next : List Batch) (rest : List EntryIndex) (n : ℕ) (batch : Batch)
+    → rest ≢ [] → IsFirstPart rest n → IsPartRead group id (take n rest) now new batch → next ≡ after ++ batch ∷ []
+    → ArePartsSoFar es group id old now before after rest → ArePartsSoFar es group id old new before next (drop n rest)
+part_more es group id old now new before after next rest n batch some first r pushed h = record {
+  parts = h.parts ++ part ∷ [];
+  entries =
+      ap (λ (l : List EntryIndex). l ++ drop n rest) (flat_map-append (λ (p : EntriesPart). p.0) h.parts (part ∷ []) ∙ ap (λ (l : List EntryIndex). entries_of_parts h.parts ++ l) (append-nil (take n rest)))
+      ∙ append_assoc (entries_of_parts h.parts) (take n rest) (drop n rest) ∙ ap (λ (l : List EntryIndex). entries_of_parts h.parts ++ l) (take-append-drop n rest) ∙ h.entries;
+  cut = cut_more es h.parts rest n r.strings h.cut some first;
+  read = parts_one_more h.parts part old now new h.read r.read;
+  added =
+      pushed ∙ ap (λ (l : List Batch). l ++ batch ∷ []) h.added ∙ append_assoc before (map (part_batch group id) h.parts) (batch ∷ [])
+      ∙ ap (λ (b : Batch). before ++ (map (part_batch group id) h.parts ++ b ∷ [])) r.is
+      ∙ ap (λ (l : List Batch). before ++ l) (sym (map-append (part_batch group id) h.parts (part ∷ [])));
+  consecutive = back_consecutive n rest h.consecutive;
+}
+  where
+    part : EntriesPart
+    part = (take n rest, r.strings)
+
+pub parts_added : (es : List EntryIndex) (group id : ℕ) (old now : List Ask) (before after : List Batch) (rest : List EntryIndex)
+    → rest ≡ [] → ArePartsSoFar es group id old now before after rest
+    → ArePartsAdded es group id old now before after
+parts_added es group id old now before after rest none h = record {
+  parts = h.parts;
+  entries = sym (append-nil (entries_of_parts h.parts)) ∙ ap (λ (l : List EntryIndex). entries_of_parts h.parts ++ l) (sym none) ∙ h.entries;
+  cut = subst (AreCutInto es h.parts) none h.cut;
+  read = h.read;
+  added = h.added;
+}
+
+pub so_far_only : (es : List EntryIndex) (group id : ℕ) (old now : List Ask) (before after : List Batch) (rest : List EntryIndex)
+    → ArePartsSoFar es group id old now before after rest → AreOnlyRead old now
+so_far_only es group id old now before after rest h = parts_only h.parts old now h.read
+
+pub parts_refused : (es : List EntryIndex) (group id : ℕ) (old now new : List Ask) (before after : List Batch) (rest : List EntryIndex) (n : ℕ) (e : Error)
+    → ArePartsSoFar es group id old now before after rest → IsFirstPart rest n
+    → IsPartRefused (take n rest) now new e → ArePartsRefused es old new e
+parts_refused es group id old now new before after rest n e h first refused = record {
+  parts = h.parts;
+  rest = rest;
+  cut = h.cut;
+  count = n;
+  next = first;
+  between = now;
+  read = h.read;
+  refused = refused;
+}
+
+-- ---- all batches
+
+behind_is : (group id : ℕ) (parts : List EntriesPart) (ps : List (List ℕ × List ℕ))
+    → map (part_batch group id) parts ++ with_puts (marker_batch group End) id ps ∷ [] ≡ batches_behind group id parts ps
+behind_is group id [] ps = refl
+behind_is group id (part ∷ parts) ps = ap (λ (l : List Batch). part_batch group id part ∷ l) (behind_is group id parts ps)
+
+module _ (t : Table) (group : ℕ) (es : List EntryIndex) (are : es ≡ moving_entries None t.entries) (old new : List Ask) (first after : List Batch) (is_first : first ≡ marker_batch group Begin ∷ [])
+    (a : ArePartsAdded es group t.region_id old new first after) where
+  pub group_made : (ps : List (List ℕ × List ℕ)) (last : Batch) (all : List Batch) → ps ≡ moving_pairs None t.keys
+      → AreOrdinary ps → last ≡ with_puts (marker_batch group End) t.region_id ps
+      → all ≡ after ++ last ∷ [] → IsGroupInParts t old new group all
+  group_made ps last all of_table ordinary is_last pushed = record {
+    moving = record {
+      parts = a.parts;
+      entries = a.entries ∙ are;
+      read = a.read;
+      ordinary = subst AreOrdinary of_table ordinary;
+      are = pushed ∙ ap (λ (b : Batch). after ++ b ∷ []) is_last
+          ∙ ap (λ (l : List Batch). l ++ with_puts (marker_batch group End) t.region_id ps ∷ []) (a.added ∙ ap (λ (l : List Batch). l ++ map (part_batch group t.region_id) a.parts) is_first)
+          ∙ ap (λ (l : List Batch). marker_batch group Begin ∷ l) (behind_is group t.region_id a.parts ps) ∙ ap (group_batches group t.region_id a.parts) of_table;
+    };
+    cut = subst (λ (l : List EntryIndex). AreCutInto l a.parts []) are a.cut;
+  }
+
+  pub keys_refused : (ps : List (List ℕ × List ℕ)) (e : Error) → ps ≡ moving_pairs None t.keys → AreKeysRefused ps e
+      → IsGroupRefused t old new e
+  keys_refused ps e of_table refused = inr (record {
+    parts = a.parts;
+    cut = subst (λ (l : List EntryIndex). AreCutInto l a.parts []) are a.cut;
+    read = a.read;
+    refused = subst (λ (l : List (List ℕ × List ℕ)). AreKeysRefused l e) of_table refused;
+  })
+
+  pub added_only : AreOnlyRead old new
+  added_only = parts_only a.parts old new a.read
+
+pub group_refused : (t : Table) (es : List EntryIndex) (old new : List Ask) (e : Error)
+    → es ≡ moving_entries None t.entries → ArePartsRefused es old new e → IsGroupRefused t old new e
+group_refused t es old new e are refused = inl (subst (λ (l : List EntryIndex). ArePartsRefused l old new e) are refused)

@@ -1,0 +1,7 @@
+use Rattle.std.proofs.Common.{take}
+use Rattle.raft_engine.specs.Moved.{IsReady}
+use Rattle.raft_engine.specs.MovedGroups.{AreRegionsMovedAgain}
+use Rattle.raft_engine.proofs.engine.Engine.move_regions_again.Given as goal
+
+abbrev pub invariant-loop-region : goal.invariant-loop-region
+invariant-loop-region g l = IsReady l.self × AreRegionsMovedAgain (take l.region-index l.regions) l.initial.self l.self

@@ -1,0 +1,127 @@
+//! Rewritten records of regions that move to a new file of the rewrite queue, in one batch of a region or in an atomic group.
+
+ghost use Rattle.std.specs.Prelude.{◌≡◌, ◌⊎◌, ◌↔◌, IfErr, IfOk, IsTrue, None, OnErr, OnOk};
+ghost use Rattle.std.specs.FinMap as finite;
+ghost use Rattle.raft_accessor.specs.Writes.{AreWritten, Rewriting};
+ghost use Rattle.raft_engine.specs.GroupPlaces.{items_of_batches};
+ghost use Rattle.raft_engine.specs.Moved.{IsReady};
+ghost use Rattle.raft_engine.specs.MovedGroups.{AreRegionsMovedAgain, AreSomeRegionsMovedAgain, IsGroupMoved, IsGroupUnmoved, IsOnePartOf, IsRegionMovedAgain, IsRegionUnmovedAgain};
+ghost use Rattle.raft_engine.specs.WrittenBatch.{AreFirstWritten};
+
+use super::Engine;
+use super::rewrite::rewrite_items;
+use crate::group_batches::moving_group;
+use crate::group_moves::moved_groups_are_stored;
+use crate::group_puts::{encode_all, put_all};
+use crate::moved::moves_are_stored;
+use crate::parts::part_len;
+use crate::read_back::batches_are_read_back;
+use crate::rewriting::entries_to_move;
+use raft_accessor::MemTableAccessor;
+use raft_base::{Error, FileId, FileSeq, LogFileContext, LogQueue, Result};
+use raft_files::EngineFiles;
+use raft_records::LogBatch;
+
+impl<F: EngineFiles> Engine<F> {
+    /// Moves what the tables of these regions have in rewrite files to the last one of them, one region after another.
+    ///
+    /// # Errors
+    ///
+    /// Those of `move_region_again`. The regions before the refused one moved then.
+    pub(crate) fn move_regions_again(&mut self, regions: &[u64]) -> Result<()>
+        requires { IsReady self.old }
+        ensures ok { OnOk result (AreRegionsMovedAgain regions.now self.old self.new) }
+        ensures err { IfErr result (AreSomeRegionsMovedAgain regions.now self.old self.new) }
+    {
+        for region in regions {
+            self.move_region_again(*region)?;
+        }
+        Ok(())
+    }
+
+    /// Moves what a region's table has in rewrite files to the last one of them: in one batch if its entries are one part, else
+    /// in an atomic group.
+    ///
+    /// # Errors
+    ///
+    /// `Memory`: the engine is then as it was. Those of `rewrite_region` and `move_group`.
+    fn move_region_again(&mut self, region: u64) -> Result<()>
+        requires { IsReady self.old }
+        ensures ok { OnOk result (IsRegionMovedAgain region self.old self.new) }
+        ensures err { IfErr result (IsRegionUnmovedAgain region self.old self.new) }
+    {
+        if self.is_one_part(region)? {
+            return self.rewrite_region(region, None);
+        }
+        self.move_group(region)
+    }
+
+    /// Tests whether the entries that a region's table has in rewrite files are one part.
+    ///
+    /// # Errors
+    ///
+    /// `Memory`.
+    fn is_one_part(&self, region: u64) -> Result<bool>
+        ensures ok { IfOk result (λ one. IsTrue one ↔ IsOnePartOf region self.now) }
+        ensures memory { IfErr result (λ e. e ≡ Error.Memory) }
+    {
+        let Some(table) = self.accessor.get(region) else {
+            return Ok(true);
+        };
+        let entries = entries_to_move(self.append.allocator(), table, None)?;
+        Ok(part_len(entries.as_slice()) == entries.len())
+    }
+
+    /// Moves what a region's table has in rewrite files to the last one of them in an atomic group of that file's number: its
+    /// entries are read, and then its batches are put behind the file's bytes, one after another. A region without a table is left as
+    /// it is.
+    ///
+    /// # Errors
+    ///
+    /// `Full` where a batch would begin past 2^63 in the file, or has 2^56 bytes or more, and those of `moving_group`: the
+    /// engine is then as it was, but for reads. Those of `EngineFiles::append`, and `Memory` or `Full` once a batch was asked
+    /// for: the engine isn't intact any more. The first ones of the batches were put then, and the tables are as they were; or all
+    /// were, and the tables have the first ones of their items.
+    fn move_group(&mut self, region: u64) -> Result<()>
+        requires { IsReady self.old }
+        ensures ok { OnOk result (((finite.get self.old.accessor.tables region ≡ None) × (self.new ≡ self.old))
+            ⊎ IsGroupMoved region self.old self.new) }
+        ensures err { IfErr result (IsGroupUnmoved region self.old self.new) }
+    {
+        moves_are_stored();
+        moved_groups_are_stored();
+        batches_are_read_back();
+        let Some(table) = self.accessor.get(region) else {
+            return Ok(());
+        };
+        let seq = self.rewrite.seq;
+        let batches = moving_group(self.append.allocator(), &mut self.files, table, seq)?;
+        let (made, end) = encode_all(batches, self.rewrite.len)?;
+        let file = LogFileContext::new(FileId::new(LogQueue::Rewrite, seq), self.version);
+        self.intact = false;
+        let placed = put_all(&mut self.files, &file, self.rewrite.len, made)?;
+        rewrite_all(&mut self.accessor, placed, seq)?;
+        self.rewrite.len = end;
+        self.intact = true;
+        Ok(())
+    }
+}
+
+/// Writes the items of batches that move records within the rewrite queue to a file of it to the tables, one batch after
+/// another.
+///
+/// # Errors
+///
+/// Those of `apply_rewrite_writes`. The first ones of the items are written then.
+fn rewrite_all(accessor: &mut MemTableAccessor, batches: Vec<LogBatch>, seq: FileSeq) -> Result<()>
+    ensures ok { OnOk result (AreWritten (Rewriting None seq) (items_of_batches batches.items)
+        accessor.old accessor.new) }
+    ensures err { OnErr result (AreFirstWritten (Rewriting None seq)
+        (items_of_batches batches.items) accessor.old accessor.new) }
+{
+    for batch in batches {
+        let mut batch = batch;
+        rewrite_items(accessor, &mut batch, None, seq)?;
+    }
+    Ok(())
+}

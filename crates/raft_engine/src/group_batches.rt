@@ -1,0 +1,159 @@
+//! The batches of an atomic group that move a region's rewritten records.
+
+ghost use Rattle.std.specs.Prelude.{◌≡◌, ◌≢◌, None, Some, IfOk, IfErr, OnOk, OnErr};
+ghost use Rattle.raft_base.specs.Runs.{IsConsecutive};
+ghost use Rattle.raft_records.specs.Group.{IsRunning};
+ghost use Rattle.raft_records.specs.declared.atomic_group.AtomicGroupStatus.TheVariants.{Begin, End};
+ghost use Rattle.raft_table.specs.KeyValues.{pairs_shown};
+ghost use Rattle.raft_engine_laws.specs.Moving.{AreOrdinary};
+ghost use Rattle.raft_engine.specs.GroupBatches.{marker_batch};
+ghost use Rattle.raft_engine.specs.GroupParts.{ArePartsAdded, ArePartsRefused, IsGroupInParts, IsGroupRefused, IsPartRead, IsPartRefused};
+ghost use Rattle.raft_engine.specs.Reads.{AreOnlyRead};
+ghost use Rattle.raft_engine.specs.Rewriting.{with_puts};
+ghost use Rattle.raft_engine.specs.Unmoved.{AreKeysRefused};
+
+use crate::block_reads::read_by_blocks;
+use crate::parts::part_len;
+use crate::rewriting::{entries_to_move, pairs_to_move, put_pairs};
+use raft_base::{EntryIndex, Error, Result};
+use raft_files::EngineFiles;
+use raft_records::{AtomicGroupBuilder, LogBatch};
+use raft_table::MemTable;
+use std::alloc::Global;
+
+/// Returns the batches of a group of what a table has in rewrite files: a Begin, a batch for each part of the entries, and an
+/// End with the keys. It reads the bytes of the entries, each block of a part once for all neighbors in it.
+///
+/// # Errors
+///
+/// Those of [`read_by_blocks`]; `Full` where the entries of a part have 2^31 bytes or more; `InvalidArgument` for the key of
+/// the group markers. Nothing but reads is asked then.
+pub fn moving_group<F: EngineFiles>(
+    alloc: Global,
+    files: &mut F,
+    table: &MemTable,
+    group: u64,
+) -> Result<Vec<LogBatch>>
+    ensures ok { IfOk result (λ batches. IsGroupInParts table.now (F.asked files.old)
+        (F.asked files.new) group batches.items) }
+    ensures err { OnErr result (AreOnlyRead (F.asked files.old) (F.asked files.new)) }
+    ensures refused { IfErr result (λ e. e ≢ Error.Memory → IsGroupRefused table.now
+        (F.asked files.old) (F.asked files.new) e) }
+{
+    let entries = entries_to_move(alloc, table, None)?;
+    let pairs = pairs_to_move(alloc, table, None)?;
+    let region = table.region_id();
+    let mut builder = AtomicGroupBuilder::with_id(group);
+    let mut batches = Vec::new(alloc);
+    batches.push(begin_batch(alloc, &mut builder)?)?;
+    push_parts(
+        files,
+        region,
+        entries.as_slice(),
+        &mut builder,
+        &mut batches,
+    )?;
+    batches.push(end_batch(alloc, region, pairs, &mut builder)?)?;
+    Ok(batches)
+}
+
+/// Returns the batch that begins a group: it has nothing else.
+///
+/// # Errors
+///
+/// `Memory`.
+fn begin_batch(alloc: Global, builder: &mut AtomicGroupBuilder) -> Result<LogBatch>
+    requires { builder.old.state ≡ None }
+    ensures ok { IfOk result (λ batch. batch ≡ marker_batch builder.old.id Begin) }
+    ensures state { OnOk result (builder.new ≡ record builder.old { state = Some Begin }) }
+    ensures memory { IfErr result (λ e. e ≡ Error.Memory) }
+{
+    let mut batch = LogBatch::default(alloc);
+    builder.begin(&mut batch)?;
+    Ok(batch)
+}
+
+/// Adds the batches that go on with a group behind others of it: one for each part of a region's entries, which are read.
+///
+/// # Errors
+///
+/// Those of [`read_by_blocks`]; `Full` where the entries of a part have 2^31 bytes or more. Nothing but reads is asked then, and
+/// some batches may be added.
+fn push_parts<F: EngineFiles>(
+    files: &mut F,
+    region: u64,
+    entries: &[EntryIndex],
+    builder: &mut AtomicGroupBuilder,
+    batches: &mut Vec<LogBatch>,
+) -> Result<()>
+    requires running { IsRunning builder.old.state }
+    requires consecutive { IsConsecutive entries.now }
+    ensures ok { OnOk result (ArePartsAdded entries.now builder.old.id region (F.asked files.old)
+        (F.asked files.new) batches.old.items batches.new.items) }
+    ensures state { OnOk result (IsRunning builder.new.state) }
+    ensures id { OnOk result (builder.new.id ≡ builder.old.id) }
+    ensures err { OnErr result (AreOnlyRead (F.asked files.old) (F.asked files.new)) }
+    ensures refused { IfErr result (λ e. e ≢ Error.Memory → ArePartsRefused entries.now
+        (F.asked files.old) (F.asked files.new) e) }
+{
+    let mut rest = entries;
+    while !rest.is_empty() {
+        let (part, behind) = rest.split_at(part_len(rest));
+        batches.push(part_batch(*batches.allocator(), files, region, part, builder)?)?;
+        rest = behind;
+    }
+    Ok(())
+}
+
+/// Returns a batch that goes on with a group: it has some entries of a region, which are read.
+///
+/// # Errors
+///
+/// Those of [`read_by_blocks`]; `Full` where these bytes are 2^31 or more. Nothing but reads is asked then.
+fn part_batch<F: EngineFiles>(
+    alloc: Global,
+    files: &mut F,
+    region: u64,
+    entries: &[EntryIndex],
+    builder: &mut AtomicGroupBuilder,
+) -> Result<LogBatch>
+    requires running { IsRunning builder.old.state }
+    requires consecutive { IsConsecutive entries.now }
+    ensures ok { IfOk result (IsPartRead builder.old.id region entries.now (F.asked files.old)
+        (F.asked files.new)) }
+    ensures state { OnOk result (IsRunning builder.new.state) }
+    ensures id { OnOk result (builder.new.id ≡ builder.old.id) }
+    ensures err { OnErr result (AreOnlyRead (F.asked files.old) (F.asked files.new)) }
+    ensures refused { IfErr result (λ e. e ≢ Error.Memory → IsPartRefused entries.now
+        (F.asked files.old) (F.asked files.new) e) }
+{
+    let strings = read_by_blocks(alloc, files, entries)?;
+    let mut batch = LogBatch::default(alloc);
+    builder.add(&mut batch)?;
+    batch.add_raw_entries(region, Vec::from_slice(alloc, entries)?, strings)?;
+    Ok(batch)
+}
+
+/// Returns the batch that ends a group, in which keys of a region are put.
+///
+/// # Errors
+///
+/// `InvalidArgument` for the key of the group markers, `Memory`.
+fn end_batch(
+    alloc: Global,
+    region: u64,
+    pairs: Vec<(Vec<u8>, Vec<u8>)>,
+    builder: &mut AtomicGroupBuilder,
+) -> Result<LogBatch>
+    requires { IsRunning builder.old.state }
+    ensures ok { IfOk result (λ batch. batch
+        ≡ with_puts (marker_batch builder.old.id End) region (pairs_shown pairs.items)) }
+    ensures ordinary { OnOk result (AreOrdinary (pairs_shown pairs.items)) }
+    ensures refused { IfErr result (λ e. e ≢ Error.Memory
+        → AreKeysRefused (pairs_shown pairs.items) e) }
+{
+    let mut batch = LogBatch::default(alloc);
+    builder.end(&mut batch)?;
+    put_pairs(&mut batch, region, pairs)?;
+    Ok(batch)
+}

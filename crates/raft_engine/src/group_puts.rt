@@ -1,0 +1,78 @@
+//! Batches of an atomic group that are put one after another.
+
+ghost use Rattle.std.specs.Prelude.{◌≡◌, ◌≢◌, [], map, IfOk, IfErr, OnOk, OnErr};
+ghost use Rattle.std.specs.List.{AllByRecursion};
+ghost use Rattle.raft_records.specs.LogBatch.{Batch, is_open, encoded};
+ghost use Rattle.raft_engine.specs.GroupBatches.{placed_from, puts_asks};
+ghost use Rattle.raft_engine.specs.GroupPlaces.{AreFirstPut, BeginInTime, IsOneTooLong, as_encoded, end_from, items_of_batches};
+ghost use Rattle.raft_engine.specs.StoredAsks.{IsWritableBatch};
+
+use crate::limits::LAST_OFFSET;
+use crate::put::put;
+use raft_base::{Error, LogFileContext, Result};
+use raft_files::EngineFiles;
+use raft_records::LogBatch;
+
+/// Makes the bytes of batches, which are to be put one after another from an offset on. Returns the batches, and the offset
+/// behind the last one.
+///
+/// # Errors
+///
+/// `Full` where one would begin past 2^63, or has 2^56 bytes or more; `Memory`. The batches are gone then.
+pub fn encode_all(batches: Vec<LogBatch>, offset: u64) -> Result<(Vec<LogBatch>, u64)>
+    requires opened { AllByRecursion (λ (b : Batch). b.stage ≡ is_open) batches.items }
+    requires some { AllByRecursion (λ (b : Batch). b.items ≢ []) batches.items }
+    ensures ok { IfOk result (λ made. made.0.items ≡ map as_encoded batches.items) }
+    ensures end { IfOk result (λ made. made.1 ≡ end_from offset batches.items) }
+    ensures writable { OnOk result (AllByRecursion IsWritableBatch batches.items) }
+    ensures in_time { OnOk result (BeginInTime offset batches.items) }
+    ensures refused { IfErr result (λ e. e ≢ Error.Memory
+        → (e ≡ Error.Full) × IsOneTooLong offset batches.items) }
+{
+    let mut made = Vec::new(*batches.allocator());
+    let mut end = offset;
+    for batch in batches {
+        if end > LAST_OFFSET {
+            return Err(Error::Full);
+        }
+        let mut batch = batch;
+        batch.is_read_again();
+        end += batch.finish_populate()? as u64;
+        made.push(batch)?;
+    }
+    Ok((made, end))
+}
+
+/// Puts encoded batches behind the last file of a queue, one after another from the offset on at which it ends, and gives
+/// their items their places there.
+///
+/// # Errors
+///
+/// Those of `EngineFiles::append`, and `Memory`: the first ones of the batches were put then.
+pub fn put_all<F: EngineFiles>(
+    files: &mut F,
+    file: &LogFileContext,
+    offset: u64,
+    batches: Vec<LogBatch>,
+) -> Result<Vec<LogBatch>>
+    requires encoded { AllByRecursion (λ (b : Batch). b.stage ≡ encoded) batches.items }
+    requires in_time { BeginInTime offset batches.items }
+    ensures ok { OnOk result (F.asked files.new
+        ≡ puts_asks file.now batches.items (F.asked files.old)) }
+    ensures placed { IfOk result (λ placed. items_of_batches placed.items
+        ≡ placed_from file.now.id offset batches.items) }
+    ensures err { OnErr result (AreFirstPut file.now batches.items (F.asked files.old)
+        (F.asked files.new)) }
+{
+    let mut placed = Vec::new(*batches.allocator());
+    let mut at = offset;
+    for batch in batches {
+        let mut batch = batch;
+        batch.is_read_again();
+        let len = batch.approximate_size();
+        put(files, file, at, &mut batch, len)?;
+        at += len as u64;
+        placed.push(batch)?;
+    }
+    Ok(placed)
+}

@@ -3,7 +3,7 @@
 
 ghost use Rattle.std.specs.Prelude.{◌≡◌};
 
-use crate::batches::Part::{Clean, Compact, Delete, Entries, Put, Truncate};
+use crate::batches::Part::{Clean, Compact, Delete, Entries, Large, Put, Truncate};
 use crate::batches::{Part, batch_of};
 use crate::reopened::{holds, is_found, moved, open, write};
 use raft_base::{FileBlockHandle, FileSeq, LogQueue, Version};
@@ -140,14 +140,14 @@ impl EngineFiles for Failing {
     }
 }
 
-/// Makes an engine over files of which so many calls are left once it wrote [1,3) and `k=v`.
-fn started(alloc: Global, left: usize) -> Result<Engine<Failing>> {
+/// Makes an engine over files of which so many calls are left once it wrote these entries and `k=v`.
+fn started(alloc: Global, left: usize, entries: Part) -> Result<Engine<Failing>> {
     let files = Failing {
         files: MemoryFiles::new(alloc),
         left: left.saturating_add(4),
     };
     let mut engine = Engine::new(alloc, Version::V2, files)?;
-    let mut batch = batch_of(alloc, &[Entries(1, 3), Put("v")])?;
+    let mut batch = batch_of(alloc, &[entries, Put("v")])?;
     engine.write(&mut batch, true)?;
     Ok(engine)
 }
@@ -161,9 +161,35 @@ fn move_twice(engine: &mut Engine<Failing>) -> Result<usize> {
     engine.purge_rewrite_files()
 }
 
+/// Entries that move while files fail, what is found then, and how many calls of the files it takes.
+struct Moving {
+    entries: Part,
+    text: &'static str,
+    calls: usize,
+}
+
+/// Entries that are one part, and such that are two: these move in a group of four batches, and their block is read twice.
+static MOVING: [Moving; 2] = [
+    Moving {
+        entries: Entries(1, 3),
+        text: "[1,3)k=v",
+        calls: 16,
+    },
+    Moving {
+        entries: Large(1, 4),
+        text: "[1,4)k=v",
+        calls: 20,
+    },
+];
+
 /// Tests whether all is found where files fail after so many calls; and returns whether they did.
-fn finds_after<R: Threads + Sync>(rt: &R, alloc: Global, left: usize) -> Result<(bool, bool)> {
-    let mut engine = started(alloc, left)?;
+fn finds_after<R: Threads + Sync>(
+    rt: &R,
+    alloc: Global,
+    left: usize,
+    moving: &Moving,
+) -> Result<(bool, bool)> {
+    let mut engine = started(alloc, left, moving.entries)?;
     let failed = match move_twice(&mut engine) {
         Ok(_) => false,
         Err(Error::Failed) => true,
@@ -172,13 +198,17 @@ fn finds_after<R: Threads + Sync>(rt: &R, alloc: Global, left: usize) -> Result<
     let files = &engine.files().files;
     let append = files.copies(LogQueue::Append)?;
     let found = open(rt, alloc, append, files.copies(LogQueue::Rewrite)?)?;
-    Ok((failed, holds(alloc, &found, "[1,3)k=v")?))
+    Ok((failed, holds(alloc, &found, moving.text)?))
 }
 
 /// Returns after how many calls no file fails any more, if all is found at each number of calls up to it.
-fn calls_to_move<R: Threads + Sync>(rt: &R, alloc: Global) -> Result<Option<usize>> {
+fn calls_to_move<R: Threads + Sync>(
+    rt: &R,
+    alloc: Global,
+    moving: &Moving,
+) -> Result<Option<usize>> {
     for left in 0usize..40 {
-        let (failed, found) = finds_after(rt, alloc, left)?;
+        let (failed, found) = finds_after(rt, alloc, left, moving)?;
         if !found {
             return Ok(None);
         }
@@ -191,9 +221,15 @@ fn calls_to_move<R: Threads + Sync>(rt: &R, alloc: Global) -> Result<Option<usiz
 
 #[test]
 fn files_that_fail_lose_nothing(rt: HostRuntime) {
-    let mut calls = calls_to_move(&rt, rt.alloc());
-    if matches!(calls, Err(Error::Memory)) {
-        calls = calls_to_move(&rt, rt.alloc());
+    for moving in &MOVING {
+        let mut calls = calls_to_move(&rt, rt.alloc(), moving);
+        if matches!(calls, Err(Error::Memory)) {
+            calls = calls_to_move(&rt, rt.alloc(), moving);
+        }
+        assert!(rt;
+            matches!(calls, Ok(Some(calls)) if calls == moving.calls),
+            "{}",
+            moving.text
+        );
     }
-    assert!(rt; matches!(calls, Ok(Some(16))));
 }

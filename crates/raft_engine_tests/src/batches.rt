@@ -13,8 +13,10 @@ pub const REGION: u64 = 1;
 /// An item of a batch.
 #[derive(Clone, Copy)]
 pub enum Part {
-    /// Entries from the first index on and below the second.
+    /// Entries from the first index on and below the second, of one byte each.
     Entries(u64, u64),
+    /// Such entries of 60 KiB each.
+    Large(u64, u64),
     /// A value of the key `k`.
     Put(&'static str),
     Delete,
@@ -29,21 +31,23 @@ pub enum Part {
     End(u64),
 }
 
-/// The bytes of an entry.
+/// The bytes of a large entry.
+static LARGE: [u8; 61_440] = [b'x'; 61_440];
+
+/// An entry.
 #[derive(Clone, Copy, PartialEq, Debug, Drop)]
 struct Entry {
     index: u64,
+    bytes: &'static [u8],
 }
 
 impl Message for Entry {
-    ghost use Rattle.std.specs.Prelude.{[], ◌∷◌};
-
-    ghost bytes_of = { λ entry. 120 ∷ [] };
+    ghost bytes_of = { λ entry. entry.bytes.now };
 
     ghost refuses = { λ entry code. ⊥ };
 
     fn write_to_vec(&self, buf: &mut Vec<u8>) -> std::result::Result<(), MessageError> {
-        match buf.push(b'x') {
+        match buf.extend_from_slice(self.bytes) {
             Ok(()) => Ok(()),
             Err(_) => Err(MessageError::Memory),
         }
@@ -80,7 +84,11 @@ fn add(alloc: Global, batch: &mut LogBatch, part: Part) -> Result<()>
 {
     match part {
         Part::Entries(first, end) => {
-            batch.add_entries::<Entries>(REGION, entries_from(alloc, first, end)?.as_slice())
+            batch.add_entries::<Entries>(REGION, entries_from(alloc, first, end, b"x")?.as_slice())
+        }
+        Part::Large(first, end) => {
+            let entries = entries_from(alloc, first, end, &LARGE)?;
+            batch.add_entries::<Entries>(REGION, entries.as_slice())
         }
         Part::Put(value) => {
             let value = Vec::from_slice(alloc, value.as_bytes())?;
@@ -96,10 +104,10 @@ fn add(alloc: Global, batch: &mut LogBatch, part: Part) -> Result<()>
     }
 }
 
-fn entries_from(alloc: Global, first: u64, end: u64) -> Result<Vec<Entry>> {
+fn entries_from(alloc: Global, first: u64, end: u64, bytes: &'static [u8]) -> Result<Vec<Entry>> {
     let mut entries = Vec::new(alloc);
     for index in first..end {
-        entries.push(Entry { index })?;
+        entries.push(Entry { index, bytes })?;
     }
     Ok(entries)
 }

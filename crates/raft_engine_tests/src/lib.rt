@@ -13,6 +13,8 @@ mod engine;
 #[cfg(test)]
 mod groups;
 #[cfg(test)]
+mod moved_groups;
+#[cfg(test)]
 mod opening;
 #[cfg(test)]
 mod purged;

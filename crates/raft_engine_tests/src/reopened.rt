@@ -33,8 +33,7 @@ pub fn reopened<R: Threads + Sync>(
     alloc: Global,
     engine: &Engine<MemoryFiles>,
 ) -> Result<Engine<MemoryFiles>> {
-    let append = engine.files().copies(LogQueue::Append)?;
-    open(rt, alloc, append, engine.files().copies(LogQueue::Rewrite)?)
+    Engine::open_copies(rt, alloc, Version::V2, engine.files(), 2)
 }
 
 pub fn write(

@@ -108,6 +108,17 @@ where
     Engine::<F>::open::<R>(rt, alloc, version, files, append, rewrite, workers)
 }
 
+/// Opens an engine over copies of files in memory.
+fn open_engine_of_copies<R: Threads + Sync>(
+    rt: &R,
+    alloc: Global,
+    version: Version,
+    files: &MemoryFiles,
+    workers: usize,
+) -> Result<Engine<MemoryFiles>> {
+    Engine::<MemoryFiles>::open_copies::<R>(rt, alloc, version, files, workers)
+}
+
 fn accessor_of_engine<'a, F: EngineFiles>(engine: &'a Engine<F>) -> &'a MemTableAccessor {
     Engine::<F>::accessor(engine)
 }

@@ -1,0 +1,81 @@
+//! A region whose rewritten entries are more than one part moves in an atomic group.
+
+use crate::again::{empty_append_files, is_found_again};
+use crate::batches::Part::{Large, Put};
+use crate::reopened::{is_found, write};
+use raft_base::{FileId, LogQueue, Version};
+use raft_engine::Engine;
+use raft_files::MemoryFiles;
+use raft_records::AtomicGroupStatus::{Begin, End, Middle};
+use raft_records::{AtomicGroupStatus, Error, FilePart, Result, next_batch};
+use std::alloc::Global;
+use std::thread::Threads;
+
+/// Entries of 60 KiB each, of which two are one part, and a key.
+const TEXT: &str = "[1,4)k=v";
+
+type Marker = Option<(u64, AtomicGroupStatus)>;
+
+/// Makes an engine that moved them to its first rewrite file.
+fn grown(alloc: Global) -> Result<Engine<MemoryFiles>> {
+    let mut engine = Engine::new(alloc, Version::V2, MemoryFiles::new(alloc))?;
+    write(alloc, &mut engine, &[Large(1, 4), Put("v")], false)?;
+    empty_append_files(&mut engine)?;
+    Ok(engine)
+}
+
+/// Returns the group marker that each batch of a rewrite file begins with, of five batches at most.
+fn markers_in(alloc: Global, part: &FilePart) -> Result<Vec<Marker>> {
+    let mut markers = Vec::new(alloc);
+    let mut at = 0;
+    for _ in 0u8..5 {
+        let Some((batch, next)) = next_batch(part, at.min(part.bytes().len()))? else {
+            return Ok(markers);
+        };
+        if let Some(item) = batch.as_slice().first() {
+            markers.push(AtomicGroupStatus::parse(alloc, item)?)?;
+        }
+        at = next;
+    }
+    Ok(markers)
+}
+
+/// Returns those of the last rewrite file.
+fn last_markers(alloc: Global, engine: &Engine<MemoryFiles>) -> Result<Vec<Marker>> {
+    let Some((seq, bytes)) = engine.files().copies(LogQueue::Rewrite)?.pop() else {
+        return Ok(Vec::new(alloc));
+    };
+    let file = FileId::new(LogQueue::Rewrite, seq);
+    markers_in(alloc, &FilePart::new(file, Version::V2, 0, bytes)?)
+}
+
+/// Tests whether the last rewrite file has a group of its number, with two parts.
+fn has_group(alloc: Global, engine: &Engine<MemoryFiles>, seq: u64) -> Result<bool> {
+    let group = [
+        Some((seq, Begin)),
+        Some((seq, Middle)),
+        Some((seq, Middle)),
+        Some((seq, End)),
+    ];
+    Ok(last_markers(alloc, engine)?.as_slice() == group.as_slice())
+}
+
+/// Tests whether all is found once it moved in a group, and once it moved in another one and the older files went.
+fn moves_in_groups<R: Threads + Sync>(rt: &R, alloc: Global) -> Result<bool> {
+    let mut engine = grown(alloc)?;
+    engine.rewrite_again()?;
+    if !has_group(alloc, &engine, 2)? || !is_found(rt, alloc, &engine, TEXT)? {
+        return Ok(false);
+    }
+    engine.purge_rewrite_files()?;
+    Ok(is_found_again(rt, alloc, &mut engine, TEXT)? && has_group(alloc, &engine, 3)?)
+}
+
+#[test]
+fn large_regions_move_in_groups(rt: HostRuntime) {
+    let mut held = moves_in_groups(&rt, rt.alloc());
+    if matches!(held, Err(Error::Memory)) {
+        held = moves_in_groups(&rt, rt.alloc());
+    }
+    assert!(rt; matches!(held, Ok(true)));
+}

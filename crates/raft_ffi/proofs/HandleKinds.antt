@@ -9,9 +9,6 @@ use Rattle.raft_ffi.specs.contracts.context.Context as Context
 use Rattle.raft_ffi.specs.contracts.item_list.ItemList as HeldItems
 use Rattle.raft_ffi.proofs.item_list.ItemList.TheLaws as held_items
 use Rattle.raft_ffi.specs.contracts.items.Items as Items
-use Rattle.raft_shared.specs.contracts.slot.Slot as HeldSlot
-use Rattle.raft_shared.proofs.slot.Slot.TheLaws as held_slot
-use Rattle.raft_ffi.specs.contracts.slot.Slot as Slot
 use Rattle.raft_accessor.specs.contracts.accessor.MemTableAccessor as HeldTables
 use Rattle.raft_accessor.proofs.accessor.MemTableAccessor.TheLaws as held_tables
 use Rattle.raft_ffi.specs.contracts.tables.Tables as Tables
@@ -48,16 +45,6 @@ items = record {
   of = HeldItems.the_row;
   laws = held_items.the_row_laws;
   owner = Items.the_type;
-  shown = λ d. (d.at, (d.alloc, d.value));
-  make = λ p a o. record { at = p; alloc = a; value = o };
-  made = λ p a o. refl;
-}
-
-abbrev pub slot : Handle
-slot = record {
-  of = HeldSlot.the_row;
-  laws = held_slot.the_row_laws;
-  owner = Slot.the_type;
   shown = λ d. (d.at, (d.alloc, d.value));
   make = λ p a o. record { at = p; alloc = a; value = o };
   made = λ p a o. refl;

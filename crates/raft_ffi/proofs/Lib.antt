@@ -10,6 +10,6 @@ pub mod CodeLemmas
 pub mod RegionLemmas
 pub mod ExactLemmas
 pub mod StringLemmas
-pub mod SlotLemmas
 pub mod OrderLemmas
 pub mod OpenLemmas
+pub mod PairLemmas

@@ -1,5 +1,5 @@
 -- Orders as numbers and bytes.
-use Rattle.std.proofs.Common.{◌≡◌, ℕ, ◌≤◌, Bool, List, ◌++◌, length, take, drop, refl, sym, ap, ◌∙◌, arith}
+use Rattle.std.proofs.Common.{◌≡◌, ℕ, ◌≤◌, Bool, List, ◌++◌, length, take, drop, refl, ap, ◌∙◌}
 use Rattle.std.proofs.lemmas.List.{take_all, take_at}
 use Rattle.raft_base.specs.declared.pipe_log.LogQueue.{LogQueue}
 use Rattle.raft_files.specs.Asks.{Put, ask}

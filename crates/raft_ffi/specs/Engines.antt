@@ -13,6 +13,7 @@ use Rattle.raft_engine.specs.Lasting.{IsLasting}
 use Rattle.raft_engine.specs.ReadContexts.{AreUnmergedAs, HaveReadFound}
 use Rattle.raft_engine.specs.Unopened.{IsUnopened}
 use Rattle.raft_engine.specs.WrittenBatch.{IsOneMore, IsOnlySynced, IsUnwritten}
+use Rattle.raft_orders.specs.Refusals.{IsUnordered}
 use Rattle.raft_ffi.specs.Calls.{BothHold, Holds, IsCodeOf, queue_of}
 use Rattle.raft_ffi.specs.FoundFiles.{FilesSeen}
 use Rattle.raft_ffi.specs.declared.order_calls.OrderHead.{OrderHead}
@@ -37,10 +38,10 @@ HaveReadBoth version found appended rewritten = Holds (λ f. BothHold (HaveReadF
 abbrev pub IsUnwrittenAs : Bool → ℕ → Option Batch → Option Batch → KeptEngine → KeptEngine → Type 0
 IsUnwrittenAs sync code batch left old new = BothHold (λ b l. IsCodeOf (IsUnwritten sync b l old new) code) batch left
 
--- why found files aren't opened, whatever was ordered by then
+-- why found files aren't opened, whatever was ordered by then; an order fails for want of memory or of numbers
 abbrev pub IsUnopenedAs : Version → FilesSeen → RecoverContext → RecoverContext → Error → Type 0
 IsUnopenedAs version found appended rewritten e =
-    (asks : List Ask) × IsUnopened (AreUnmergedAs version appended rewritten) version found.append found.rewrite asks e
+    (asks : List Ask) × IsUnopened (AreUnmergedAs version appended rewritten) (λ _ _. IsUnordered) version found.append found.rewrite asks e
 
 -- a sync of the append queue more is asked
 abbrev pub IsSynced : KeptEngine → KeptEngine → Type 0

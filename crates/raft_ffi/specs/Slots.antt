@@ -1,23 +1,42 @@
--- How the calls of a slot change it.
-use Rattle.std.specs.Prelude.{◌≡◌, ℕ, Bool, Option}
-use Rattle.raft_shared.specs.Slot.{Slot}
+-- Tables that are divided into slots: what of a batch concerns a slot, and a table that moves.
+use Rattle.std.specs.Prelude.{◌≡◌, ◌⊎◌, ℕ, ◌+◌, ◌^◌, ◌≤◌, ◌==◌, List, Option, Some, None, filter}
+use Rattle.std.specs.FinMap as finite
+use Rattle.raft_base.specs.declared.errors.Error.{Error}
+use Rattle.raft_base.specs.declared.errors.Error.TheVariants.{Full, Memory}
+use Rattle.raft_base.specs.declared.pipe_log.LogQueue.{LogQueue}
+use Rattle.raft_records.specs.Item.{Item}
+use Rattle.raft_records.specs.LogBatch.{Batch}
+use Rattle.raft_history.specs.RegionSteps.{Tables}
 use Rattle.raft_table.specs.Table.{Table}
-use Rattle.raft_ffi.specs.Changes.{IsChangedTo, IsRemoved, no_tables, without_cleaned}
+use Rattle.raft_accessor.specs.Accessor.{Accessor, AreCountsOf, live_in_all, slot_of, table_in}
+use Rattle.raft_accessor.specs.AppendChecks.{AreAcceptedOncePlaced}
+use Rattle.raft_accessor.specs.Writes.{Writing}
+use Rattle.raft_table.specs.Table.{live_of}
+use Rattle.raft_ffi.specs.Changes.{IsStoppedAt}
 
--- a region's table in the slot becomes the outcome of a change, as in the tables of all regions, and the slot keeps its number
-pub record IsSlotChangedTo (outcome : Option Table) (region : ℕ) (old new : Slot) : Type 0 where
-  pub content : IsChangedTo outcome region old.content new.content
-  pub number : new.number ≡ old.number
+-- the items whose regions are of the slot of this number, in order
+abbrev pub share_of : ℕ → List Item → List Item
+share_of number items = filter (λ item. slot_of item.raft_group_id == number) items
 
--- a region has no table in the slot, and stands in its list of cleaned regions if the flag says so
-pub record IsSlotRemoved (region : ℕ) (is_listed : Bool) (old new : Slot) : Type 0 where
-  pub content : IsRemoved region is_listed old.content new.content
-  pub number : new.number ≡ old.number
+-- tables accept the items of a batch that are of a slot, once these have their places
+unfoldable pub AcceptsShareOncePlaced : ℕ → Accessor → Batch → Type 0
+AcceptsShareOncePlaced number a b = AreAcceptedOncePlaced a.tables (share_of number b.items)
 
--- the slot of a number, without tables
-abbrev pub empty_slot : ℕ → Slot
-empty_slot number = record { number = number; content = no_tables }
+-- nothing is written for want of memory; or the first of the items are written up to one that is refused, for this reason, and no others
+abbrev pub IsShareRefused : Writing → List Item → Accessor → Accessor → Error → Type 0
+IsShareRefused w share old new e = ((e ≡ Memory) × (new ≡ old)) ⊎ IsStoppedAt w share old new e
 
--- all of a slot, but for the list of cleaned regions, which is empty
-abbrev pub slot_without_cleaned : Slot → Slot
-slot_without_cleaned s = record s { content = without_cleaned s.content }
+-- tables with that of a region in place of its own, if there is one
+abbrev pub with_moved : ℕ → Option Table → Tables → Tables
+with_moved region None tables = tables
+with_moved region (Some table) tables = finite.insert tables region table
+
+-- the table of a region that the source had stands in the others, which stay as they were else; the live counts are those of the tables
+pub record IsMoved (region : ℕ) (source old new : Accessor) : Type 0 where
+  pub tables : new.tables ≡ with_moved region (finite.get source.tables region) old.tables
+  pub cleaned : new.cleaned ≡ old.cleaned
+  pub counts : AreCountsOf new.tables new.counts
+
+-- why a table doesn't move: want of memory, or too many records would be live in a queue
+abbrev pub IsMoveFault : ℕ → Accessor → Accessor → Error → Type 0
+IsMoveFault region source others e = (e ≡ Memory) ⊎ ((e ≡ Full) × ((q : LogQueue) × (2 ^ 64 ≤ live_in_all q others.tables + live_of q (table_in source.tables region))))

@@ -251,6 +251,7 @@ pub extern "C" fn raft_ffi_context_kept(
     ensures same { context.new.value ≡ context.old.value }
     ensures ok { result.code ≡ 0 → Holds (λ c. AreKept (kept_of c.context) kept.new)
         context.old.value }
+    ensures accepted { result.code ≡ 0 → Holds (λ c. c.stage ≢ Failed) context.old.value }
     ensures fault { result.code ≢ 0 → Holds (λ c. IsCodeOf
         (λ e. (e ≡ Error.Failed) × (c.stage ≡ Failed)) result.code) context.old.value }
     ensures text { HasText result text.old text.new }
@@ -264,6 +265,7 @@ pub extern "C" fn raft_ffi_context_kept(
 /// Says how much a context holds.
 fn count_kept(context: &MemTableRecoverContext, kept: &mut KeptNumbers) -> Result<()>
     ensures ok { OnOk result (AreKept (kept_of context.now.context) kept.new) }
+    ensures accepted { OnOk result (context.now.stage ≢ Failed) }
     ensures fault { IfErr result (λ e. (e ≡ Error.Failed) × (context.now.stage ≡ Failed)) }
 {
     *kept = kept_numbers(context.kept()?);
@@ -308,6 +310,7 @@ pub extern "C" fn raft_ffi_context_finish(
     ensures overlaid { result.code ≡ 0 → BothHold (λ c a. (rewrite append : List Event)
         → IsOfBothExactly c rewrite append → IsReadingOfBoth rewrite append a.tables a.cleaned)
         context.value tables.new.value }
+    ensures accepted { result.code ≡ 0 → Holds (λ c. c.stage ≢ Failed) context.value }
     ensures err { result.code ≢ 0 → tables.new.value ≡ None }
     ensures fault { result.code ≢ 0 → Holds (λ c. IsCodeOf
         (IsMemoryOr (λ e. (e ≡ Error.Failed) × (c.stage ≡ Failed))) result.code) context.value }
@@ -330,6 +333,7 @@ fn finished(alloc: Global, context: MemTableRecoverContext) -> Result<Box<MemTab
     ensures reading { IfOk result (λ a. HasTablesRead context a.value) }
     ensures overlaid { (rewrite append : List Event) → IsOfBothExactly context rewrite append
         → IfOk result (λ a. IsReadingOfBoth rewrite append a.value.tables a.value.cleaned) }
+    ensures accepted { OnOk result (context.stage ≢ Failed) }
     ensures fault { IfErr result
         (IsMemoryOr (λ e. (e ≡ Error.Failed) × (context.stage ≡ Failed))) }
 {

@@ -1,6 +1,6 @@
 //! Calls that read what an engine has.
 
-ghost use Rattle.std.specs.Prelude.{◌≡◌, ◌≢◌, ◌+◌, [], true, false, IsTrue, is_some, MatchOption};
+ghost use Rattle.std.specs.Prelude.{◌≡◌, ◌≢◌, ◌+◌, [], true, false, IsTrue, is_some};
 ghost use Rattle.std.specs.FinMap as finite;
 ghost use Rattle.raft_base.specs.Runs.{end_of};
 ghost use Rattle.raft_engine.specs.KeptEngine.{table_in};

@@ -1,6 +1,6 @@
 //! Files that are found when an engine is opened.
 
-ghost use Rattle.std.specs.Prelude.{◌≡◌, [], IfErr, OnErr, OnOk};
+ghost use Rattle.std.specs.Prelude.{◌≡◌, IfErr, OnErr, OnOk};
 ghost use Rattle.raft_ffi.specs.FoundFiles.{no_files, with_file};
 
 use raft_base::{Error, FileSeq, LogQueue, Result};

@@ -1,6 +1,6 @@
 //! Calls that move records of an engine to the rewrite queue, and that lend it the blocks which it reads for that.
 
-ghost use Rattle.std.specs.Prelude.{◌≡◌, ◌≢◌, true, IsTrue, is_some, List, IfErr, IfOk, OnOk};
+ghost use Rattle.std.specs.Prelude.{◌≡◌, ◌≢◌, true, IsTrue, is_some, List, IfErr, OnOk};
 ghost use Rattle.raft_engine.specs.Moved.{IsRewritten, IsUnrewritten};
 ghost use Rattle.raft_engine.specs.MovedAgain.{AreMovedAgain, AreUnmovedAgain};
 ghost use Rattle.raft_ffi.specs.Calls.{BothHold, Holds, IsCodeOf};

@@ -2,10 +2,12 @@
 
 ghost use Rattle.std.specs.Prelude.{◌≡◌, ◌≢◌, IsTrue, Some, None, is_some};
 ghost use Rattle.raft_base.specs.declared.pipe_log.LogQueue.TheVariants.{Append, Rewrite};
+ghost use Rattle.raft_accessor.specs.Accessor.{table_in};
 ghost use Rattle.raft_ffi.specs.Calls.{Holds};
-ghost use Rattle.raft_ffi.specs.Pairs.{ArePairsIn, pairs_in};
+ghost use Rattle.raft_ffi.specs.Pairs.{ArePairsIn, AreScannedIn, bound_in, pairs_in};
 
-use crate::pairs::{pairs_before_in, rewritten_pairs_in};
+use crate::engine::Engine;
+use crate::pairs::{bound, pairs_before_in, rewritten_pairs_in, scan_in};
 use crate::status::memory_code;
 use crate::tables::Tables;
 use std::alloc::Global;
@@ -58,5 +60,63 @@ pub extern "C" fn raft_ffi_tables_rewritten_pairs(
     let table = held.get(region);
     let answer = rewritten_pairs_in(alloc, table, region, lens, count, bytes, len);
     tables.put(held);
+    memory_code(&answer)
+}
+
+/// Lists the pairs of a region whose key is at or above `start` and, where that is asked for, below `end`, in the order of the keys,
+/// as [`raft_ffi_tables_pairs_before`] does.
+#[unsafe(no_mangle)]
+pub extern "C" fn raft_ffi_tables_scan(
+    alloc: Global,
+    tables: &mut Tables,
+    region: u64,
+    start: &[u8],
+    end: &[u8],
+    is_bounded: bool,
+    lens: &mut [usize],
+    count: &mut usize,
+    bytes: &mut [u8],
+    len: &mut usize,
+) -> u32
+    requires held { IsTrue (is_some tables.old.value) }
+    ensures same { tables.new.value ≡ tables.old.value }
+    ensures ok { result ≡ 0 → Holds (λ a. AreScannedIn start.now (bound_in is_bounded end.now)
+        (table_in a.tables region).keys lens.old lens.new count.new bytes.old bytes.new len.new) tables.old.value }
+    ensures fault { result ≢ 0 → result ≡ 11 }
+{
+    let held = tables.take(alloc);
+    let table = held.get(region);
+    let end = bound(is_bounded, end);
+    let answer = scan_in(alloc, table, region, start, end, lens, count, bytes, len);
+    tables.put(held);
+    memory_code(&answer)
+}
+
+/// Lists the pairs of a region whose key is at or above `start` and, where that is asked for, below `end`, in the order of the keys,
+/// as [`raft_ffi_tables_pairs_before`] does.
+#[unsafe(no_mangle)]
+pub extern "C" fn raft_ffi_engine_scan(
+    alloc: Global,
+    engine: &mut Engine,
+    region: u64,
+    start: &[u8],
+    end: &[u8],
+    is_bounded: bool,
+    lens: &mut [usize],
+    count: &mut usize,
+    bytes: &mut [u8],
+    len: &mut usize,
+) -> u32
+    requires held { IsTrue (is_some engine.old.value) }
+    ensures same { engine.new.value ≡ engine.old.value }
+    ensures ok { result ≡ 0 → Holds (λ e. AreScannedIn start.now (bound_in is_bounded end.now)
+        (table_in e.accessor.tables region).keys lens.old lens.new count.new bytes.old bytes.new len.new) engine.old.value }
+    ensures fault { result ≢ 0 → result ≡ 11 }
+{
+    let held = engine.take(alloc);
+    let table = held.engine.accessor().get(region);
+    let end = bound(is_bounded, end);
+    let answer = scan_in(alloc, table, region, start, end, lens, count, bytes, len);
+    engine.put(held);
     memory_code(&answer)
 }

@@ -217,7 +217,7 @@ pub extern "C" fn raft_ffi_tables_apply_append(
 }
 
 /// Writes items of the append queue to the tables, in order.
-fn apply_append(accessor: &mut MemTableAccessor, items: ItemList) -> Result<()>
+pub(crate) fn apply_append(accessor: &mut MemTableAccessor, items: ItemList) -> Result<()>
     ensures ok { OnOk result (AreWritten Appending items accessor.old accessor.new) }
     ensures refused { IfErr result (IsStoppedAt Appending items accessor.old accessor.new) }
 {
@@ -253,7 +253,7 @@ pub extern "C" fn raft_ffi_tables_apply_rewrite(
 }
 
 /// Writes items that were rewritten to a file of the rewrite queue to the tables, in order.
-fn apply_rewrite(
+pub(crate) fn apply_rewrite(
     accessor: &mut MemTableAccessor,
     items: ItemList,
     gate: Option<u64>,

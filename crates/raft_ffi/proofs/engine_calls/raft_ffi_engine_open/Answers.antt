@@ -1,4 +1,4 @@
-use Rattle.std.proofs.Common.{IfErr, OnOk, Option, Some, sym, subst}
+use Rattle.std.proofs.Common.{IfErr, OnOk, Option, Some, subst}
 use Rattle.raft_base.specs.declared.pipe_log.Version.{Version}
 use Rattle.raft_contexts.specs.RecoverContext.{RecoverContext}
 use Rattle.raft_engine.specs.KeptEngine.{KeptEngine}

@@ -1,9 +1,19 @@
-//! Times an engine in a folder, which has to be a new one: `speed <folder> [seconds] [megabytes]`. Writes of one batch each, with and
-//! without a sync, by one thread and by four; then the opening of a log of so many megabytes, on one, two and four threads.
+//! Times an engine in a folder, which has to be a new one: `speed <folder> [rounds] [megabytes]`, and says the best of all rounds.
+//!
+//! A round writes batches of eight entries of 128 bytes and a key, each by one call, for half a second: without and with a sync, from
+//! one thread and from four. Then it recovers a log of so many megabytes from memory, and opens its folder, on 1, 2 and 4 threads.
 
-use raft_recover::{Engine, LogBatch, Options, Result};
+use raft_recover::{Engine, FilePart, LogBatch, LogFile, Options, Queue, Result, recover};
 use std::time::{Duration, Instant};
 use std::{env, fs, path::Path, thread};
+
+const HALF_A_SECOND: Duration = Duration::from_millis(500);
+
+/// The threads that write, and whether they sync.
+const WRITING: [(u64, bool); 4] = [(1, false), (4, false), (1, true), (4, true)];
+
+/// On how many threads a log is read.
+const READING: [usize; 3] = [1, 2, 4];
 
 /// A batch of a region: eight entries of 128 bytes, and how far it has come.
 fn batch(region: u64, first: u64) -> Result<LogBatch> {
@@ -13,39 +23,34 @@ fn batch(region: u64, first: u64) -> Result<LogBatch> {
     Ok(batch)
 }
 
-/// Writes from so many threads for some time, and says how many batches a second that were.
-fn write(folder: &Path, threads: u64, sync: bool, time: Duration) -> Result<()> {
+/// Writes from so many threads, and returns how many batches a second that were, and how many of them a sync.
+fn write(folder: &Path, threads: u64, sync: bool) -> Result<(f64, f64)> {
     let engine = Engine::open(folder, Options::new())?;
     let begun = Instant::now();
     thread::scope(|scope| {
-        let writing = (0..threads).map(|region| {
-            let engine = &engine;
-            scope.spawn(move || {
-                let mut first = engine.last_index(region)?.map_or(1, |last| last + 1);
-                while begun.elapsed() < time {
-                    engine.write(&mut batch(region, first)?, sync)?;
-                    first += 8;
-                }
-                Ok(())
-            })
-        });
-        let writing: Vec<_> = writing.collect();
+        let write = |region| -> Result<()> {
+            let mut first = engine.last_index(region)?.map_or(1, |last| last + 1);
+            while begun.elapsed() < HALF_A_SECOND {
+                engine.write(&mut batch(region, first)?, sync)?;
+                first += 8;
+            }
+            Ok(())
+        };
+        let writing: Vec<_> = (0..threads)
+            .map(|region| scope.spawn(move || write(region)))
+            .collect();
         let mut results = writing
             .into_iter()
             .map(|thread| thread.join().expect("no panic"));
         results.try_for_each(|result| result)
     })?;
     let (stats, seconds) = (engine.stats(), begun.elapsed().as_secs_f64());
-    println!(
-        "{threads} threads, sync {sync}: {:.0} batches a second, {:.1} of them a sync",
-        stats.batches as f64 / seconds,
-        stats.batches as f64 / stats.syncs as f64,
-    );
-    Ok(())
+    let batches = stats.batches as f64;
+    Ok((batches / seconds, batches / stats.syncs as f64))
 }
 
-/// Fills a folder, and says how long it takes to open it.
-fn open(folder: &Path, bytes: u64) -> Result<()> {
+/// Fills a folder with batches of a thousand regions.
+fn fill(folder: &Path, bytes: u64) -> Result<()> {
     let engine = Engine::open(folder, Options::new())?;
     for n in 0.. {
         engine.write(&mut batch(n % 1000, n / 1000 * 8 + 1)?, false)?;
@@ -53,32 +58,88 @@ fn open(folder: &Path, bytes: u64) -> Result<()> {
             break;
         }
     }
-    drop(engine);
-    for threads in [1, 2, 4, 1, 2, 4] {
-        let begun = Instant::now();
-        let engine = Engine::open(folder, Options::new().recovery_threads(threads))?;
-        let (time, stats) = (begun.elapsed(), engine.stats());
-        println!(
-            "{} bytes on {threads} threads: {time:.1?}",
-            stats.append.bytes
-        );
+    engine.sync()
+}
+
+/// Reads the append files of a folder.
+fn read(folder: &Path) -> Result<Vec<(LogFile, Vec<u8>)>> {
+    let engine = Engine::open(folder, Options::new())?;
+    let mut files = Vec::new();
+    let append = engine.stats().append;
+    for seq in append.first_file..=append.last_file {
+        let file = LogFile::new(Queue::Append, seq, engine.options().version);
+        let path = engine.files().path_of(file.into());
+        files.push((file, fs::read(path).expect("a file of the folder")));
     }
-    Ok(())
+    Ok(files)
+}
+
+/// Returns how many milliseconds a call takes.
+fn time<T>(call: impl FnOnce() -> Result<T>) -> Result<f64> {
+    let begun = Instant::now();
+    let answer = call()?;
+    let time = begun.elapsed().as_secs_f64() * 1e3;
+    drop(answer);
+    Ok(time)
 }
 
 fn main() -> std::result::Result<(), Box<dyn std::error::Error>> {
     let words: Vec<_> = env::args().collect();
-    let folder = Path::new(words.get(1).ok_or("speed <folder> [seconds] [megabytes]")?);
+    let folder = Path::new(words.get(1).ok_or("speed <folder> [rounds] [megabytes]")?);
     let number = |i: usize, otherwise| words.get(i).map_or(Ok(otherwise), |word| word.parse());
-    let time = Duration::from_secs(number(2, 2)?);
+    let rounds = number(2, 5)?;
     fs::create_dir(folder)?;
-    for (threads, sync) in [(1, false), (4, false), (1, true), (4, true)] {
-        write(
-            &folder.join(format!("{threads}-{sync}")),
-            threads,
-            sync,
-            time,
-        )?;
+    let log = folder.join("log");
+    fill(&log, number(3, 200)? << 20)?;
+    let files = read(&log)?;
+    let parts: Vec<_> = cut(&files);
+    let mut written = [(0.0, 0.0); 4];
+    let (mut recovered, mut opened) = ([f64::MAX; 3], [f64::MAX; 3]);
+    for round in 0..rounds {
+        for (best, (threads, sync)) in written.iter_mut().zip(WRITING) {
+            let path = folder.join(format!("{round}-{threads}-{sync}"));
+            let now = write(&path, threads, sync)?;
+            fs::remove_dir_all(path)?;
+            if now.0 > best.0 {
+                *best = now;
+            }
+        }
+        for (i, threads) in READING.into_iter().enumerate() {
+            let now = time(|| recover(&parts, Queue::Append, threads))?;
+            recovered[i] = now.min(recovered[i]);
+            let options = Options::new().recovery_threads(threads);
+            opened[i] = time(|| Engine::open(&log, options))?.min(opened[i]);
+        }
     }
-    Ok(open(&folder.join("log"), number(3, 200)? << 20)?)
+    for ((threads, sync), (rate, share)) in WRITING.into_iter().zip(written) {
+        let share = sync.then(|| format!(", {share:.1} a sync"));
+        let share = share.unwrap_or_default();
+        println!("{threads} threads, sync {sync}: {rate:.0} batches a second{share}");
+    }
+    for (i, threads) in READING.into_iter().enumerate() {
+        let (recovered, opened) = (recovered[i], opened[i]);
+        println!("{threads} threads: recovered in {recovered:.0} ms, opened in {opened:.0} ms");
+    }
+    Ok(())
+}
+
+/// Cuts files between batches into parts of a megabyte or more.
+fn cut(files: &[(LogFile, Vec<u8>)]) -> Vec<FilePart<'_>> {
+    let mut parts = Vec::new();
+    for (file, bytes) in files {
+        let (mut from, mut at) = (0, 0);
+        while let Some(len) = raft_recover::batch_len(&bytes[at..]) {
+            at += len;
+            if at - from >= 1 << 20 || at == bytes.len() {
+                let (offset, bytes) = (from as u64, &bytes[from..at]);
+                parts.push(FilePart {
+                    offset,
+                    bytes,
+                    ..FilePart::new(*file, bytes)
+                });
+                from = at;
+            }
+        }
+    }
+    parts
 }

@@ -3,7 +3,6 @@
 
 use raft_recover::{
     FilePart, LogBatch, LogFile, Queue, SLOTS, Slot, Tables, Version, readable_front, recover,
-    slot_of,
 };
 use std::io::Write;
 use std::sync::Mutex;
@@ -30,11 +29,10 @@ fn write(log: &Mutex<Log>, slots: &[Mutex<Slot>; SLOTS], mut batch: LogBatch) ->
     log.file.sync_data()?;
     batch.written(FILE.into(), log.len)?;
     log.len += bytes.len() as u64;
-    for item in batch.into_items()? {
-        let mut slot = slots[slot_of(item.region)]
-            .lock()
-            .expect("no thread panics");
-        slot.write(&item, FILE.into())?;
+    let items = batch.into_items()?;
+    for number in items.slots() {
+        let mut slot = slots[number].lock().expect("no thread panics");
+        slot.apply_append(&items)?;
     }
     Ok(())
 }

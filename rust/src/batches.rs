@@ -1,12 +1,23 @@
 //! Batches, item by item.
 
 use crate::sys::{self, ItemsHandle};
-use crate::{Entry, Error, FilePart, Result};
+use crate::{Entry, Error, FilePart, Result, slot_of};
+use std::collections::BTreeSet;
 use std::fmt;
 use std::iter::FusedIterator;
 use std::ops::Range;
 
 /// What is said of a region.
+///
+/// ```
+/// use raft_recover::{Content, Item, LogBatch};
+///
+/// let mut batch = LogBatch::new()?;
+/// batch.compact(7, 10)?;
+/// let content = Content::Compact { index: 10 };
+/// assert_eq!(batch.into_items()?.get(0), Some(Item { region: 7, content }));
+/// # Ok::<(), raft_recover::Error>(())
+/// ```
 #[derive(Clone, PartialEq, Eq, Hash, Debug)]
 pub struct Item {
     /// The region; of a group marker the group.
@@ -16,6 +27,20 @@ pub struct Item {
 }
 
 /// What an item says.
+///
+/// ```
+/// use raft_recover::{Content, LogBatch};
+///
+/// let mut batch = LogBatch::new()?;
+/// batch.put(7, b"key", b"value")?;
+/// for item in batch.into_items()? {
+///     match item.content {
+///         Content::Put { key, value } => assert_eq!((key, value), (b"key".to_vec(), b"value".to_vec())),
+///         content => panic!("{content:?}"),
+///     }
+/// }
+/// # Ok::<(), raft_recover::Error>(())
+/// ```
 #[derive(Clone, PartialEq, Eq, Hash, Debug)]
 pub enum Content {
     /// New entries.
@@ -66,7 +91,7 @@ pub enum Content {
 /// # Ok::<(), raft_recover::Error>(())
 /// ```
 ///
-/// It is applied once:
+/// Tables take it, so they apply it once; slots share it, each for its own items:
 ///
 /// ```compile_fail,E0382
 /// use raft_recover::{LogBatch, Tables};
@@ -82,18 +107,49 @@ pub struct Batch {
 
 impl Batch {
     /// Returns how many items there are.
+    ///
+    /// ```
+    /// # use raft_recover::LogBatch;
+    /// # let mut batch = LogBatch::new()?;
+    /// batch.compact(7, 10)?;
+    /// batch.clean(8)?;
+    /// let items = batch.into_items()?;
+    /// assert_eq!(items.len(), 2);
+    /// # Ok::<(), raft_recover::Error>(())
+    /// ```
     #[must_use]
     pub fn len(&self) -> usize {
         self.handle.len()
     }
 
     /// Tests whether there are no items.
+    ///
+    /// ```
+    /// # use raft_recover::LogBatch;
+    /// # let mut batch = LogBatch::new()?;
+    /// batch.compact(7, 10)?;
+    /// batch.clean(8)?;
+    /// let items = batch.into_items()?;
+    /// assert!(!items.is_empty());
+    /// # Ok::<(), raft_recover::Error>(())
+    /// ```
     #[must_use]
     pub fn is_empty(&self) -> bool {
         self.len() == 0
     }
 
     /// Returns an item, if there is one.
+    ///
+    /// ```
+    /// # use raft_recover::LogBatch;
+    /// # let mut batch = LogBatch::new()?;
+    /// batch.compact(7, 10)?;
+    /// batch.clean(8)?;
+    /// let items = batch.into_items()?;
+    /// assert_eq!(items.get(1).unwrap().region, 8);
+    /// assert_eq!(items.get(2), None);
+    /// # Ok::<(), raft_recover::Error>(())
+    /// ```
     ///
     /// # Panics
     ///
@@ -106,6 +162,17 @@ impl Batch {
 
     /// Returns the items, in order.
     ///
+    /// ```
+    /// # use raft_recover::LogBatch;
+    /// # let mut batch = LogBatch::new()?;
+    /// batch.compact(7, 10)?;
+    /// batch.clean(8)?;
+    /// let items = batch.into_items()?;
+    /// let regions: Vec<_> = items.iter().map(|item| item.region).collect();
+    /// assert_eq!(regions, [7, 8]);
+    /// # Ok::<(), raft_recover::Error>(())
+    /// ```
+    ///
     /// # Panics
     ///
     /// The iterator does where [`Batch::get`] does.
@@ -116,9 +183,35 @@ impl Batch {
         }
     }
 
+    /// Returns the numbers of the slots that the regions of its items are of, in rising order: of those to which it is to be
+    /// written by [`Slot::apply_append`](crate::Slot::apply_append).
+    ///
+    /// ```
+    /// # use raft_recover::{LogBatch, slot_of};
+    /// # let mut batch = LogBatch::new()?;
+    /// batch.compact(7, 10)?;
+    /// batch.clean(8)?;
+    /// let items = batch.into_items()?;
+    /// let slots: Vec<_> = items.slots();
+    /// assert_eq!(slots.len(), 2);
+    /// assert!(slots.contains(&slot_of(7)));
+    /// # Ok::<(), raft_recover::Error>(())
+    /// ```
+    #[must_use]
+    pub fn slots(&self) -> Vec<usize> {
+        let regions = (0..self.len()).filter_map(|i| self.handle.region(i));
+        let numbers: BTreeSet<_> = regions.map(slot_of).collect();
+        Vec::from_iter(numbers)
+    }
+
     /// Makes one of a handle.
     pub(crate) fn of(handle: ItemsHandle) -> Batch {
         Batch { handle }
+    }
+
+    /// Returns the handle.
+    pub(crate) fn handle(&self) -> &ItemsHandle {
+        &self.handle
     }
 
     /// Takes the handle out.
@@ -156,6 +249,18 @@ impl IntoIterator for Batch {
 }
 
 /// The items of a batch that is lent, by [`Batch::iter`].
+///
+/// ```
+/// # use raft_recover::LogBatch;
+/// # let mut batch = LogBatch::new()?;
+/// batch.compact(7, 10)?;
+/// batch.clean(8)?;
+/// let items = batch.into_items()?;
+/// let mut last_first = items.iter().rev();
+/// assert_eq!(last_first.next().unwrap().region, 8);
+/// assert_eq!(last_first.len(), 1);
+/// # Ok::<(), raft_recover::Error>(())
+/// ```
 #[derive(Clone, Debug)]
 #[must_use = "an iterator does nothing until it is asked"]
 pub struct BatchIter<'a> {
@@ -164,6 +269,17 @@ pub struct BatchIter<'a> {
 }
 
 /// The items of a batch that is given away.
+///
+/// ```
+/// # use raft_recover::LogBatch;
+/// # let mut batch = LogBatch::new()?;
+/// batch.compact(7, 10)?;
+/// batch.clean(8)?;
+/// let items = batch.into_items()?;
+/// let regions: Vec<_> = items.into_iter().map(|item| item.region).collect();
+/// assert_eq!(regions, [7, 8]);
+/// # Ok::<(), raft_recover::Error>(())
+/// ```
 #[derive(Debug)]
 #[must_use = "an iterator does nothing until it is asked"]
 pub struct BatchIntoIter {
@@ -262,6 +378,19 @@ pub struct Batches<'a> {
 impl<'a> Batches<'a> {
     /// Reads a part from its first byte on.
     ///
+    /// ```
+    /// # use raft_recover::{Batches, FilePart, LogBatch, LogFile, Queue, Version};
+    /// # let file = LogFile::new(Queue::Append, 1, Version::V2);
+    /// # let mut batch = LogBatch::new()?;
+    /// # batch.clean(7)?;
+    /// # let len = batch.finish()?;
+    /// # batch.sign(file)?;
+    /// # let bytes = batch.bytes()?;
+    /// let batches = Batches::new(FilePart::new(file, &bytes))?;
+    /// assert_eq!(batches.count(), 1);
+    /// # Ok::<(), raft_recover::Error>(())
+    /// ```
+    ///
     /// # Errors
     ///
     /// `InvalidArgument` where the bytes end past offset 2^64 - 1.
@@ -271,6 +400,21 @@ impl<'a> Batches<'a> {
     }
 
     /// Returns where in the part the next batch begins; nothing behind a refusal, and at the end.
+    ///
+    /// ```
+    /// # use raft_recover::{Batches, FilePart, LogBatch, LogFile, Queue, Version};
+    /// # let file = LogFile::new(Queue::Append, 1, Version::V2);
+    /// # let mut batch = LogBatch::new()?;
+    /// # batch.clean(7)?;
+    /// # let len = batch.finish()?;
+    /// # batch.sign(file)?;
+    /// # let bytes = batch.bytes()?;
+    /// let mut batches = Batches::new(FilePart::new(file, &bytes))?;
+    /// assert_eq!(batches.next_at(), Some(0));
+    /// batches.next();
+    /// assert_eq!(batches.next_at(), Some(len));
+    /// # Ok::<(), raft_recover::Error>(())
+    /// ```
     #[must_use]
     pub fn next_at(&self) -> Option<usize> {
         self.at

@@ -5,6 +5,14 @@ use crate::{Error, FilePart, Queue, Result, Tables};
 use std::fmt;
 
 /// How much a context holds. A number that 64 bits don't hold is 2^64 - 1.
+///
+/// ```
+/// use raft_recover::{Context, Kept};
+///
+/// let nothing = Kept { entries: 0, keys: 0, marks: 0, deleted_keys: 0, cleaned: 0, waiting_items: 0 };
+/// assert_eq!(Context::new()?.kept()?, nothing);
+/// # Ok::<(), raft_recover::Error>(())
+/// ```
 #[derive(Clone, Copy, PartialEq, Eq, Hash, Debug)]
 pub struct Kept {
     /// Entries in all tables.
@@ -68,6 +76,12 @@ pub struct Context {
 impl Context {
     /// Makes a context that has read nothing.
     ///
+    /// ```
+    /// let tables = raft_recover::Context::new()?.finish()?;
+    /// assert_eq!(tables.regions()?, []);
+    /// # Ok::<(), raft_recover::Error>(())
+    /// ```
+    ///
     /// # Errors
     ///
     /// `Memory`.
@@ -85,6 +99,20 @@ impl Context {
     /// Replays the log batches of a part, which stand behind those that were replayed before. The bytes are lent, and
     /// nothing of them is kept.
     ///
+    /// ```
+    /// # use raft_recover::{Context, FilePart, LogBatch, LogFile, Queue, Version};
+    /// # let file = LogFile::new(Queue::Append, 1, Version::V2);
+    /// # let mut batch = LogBatch::new()?;
+    /// # batch.add_entries(7, 1, &["an entry"])?;
+    /// # batch.finish()?;
+    /// # batch.sign(file)?;
+    /// # let bytes = batch.bytes()?;
+    /// let mut context = Context::new()?;
+    /// context.replay(FilePart::new(file, &bytes))?;
+    /// assert_eq!(context.kept()?.entries, 1);
+    /// # Ok::<(), raft_recover::Error>(())
+    /// ```
+    ///
     /// # Errors
     ///
     /// `InvalidArgument` where the bytes end past offset 2^64 - 1, and then the context stays as it is. `Corruption`, `Codec`
@@ -98,6 +126,22 @@ impl Context {
     }
 
     /// Takes in the context of the batches that follow, all of this queue.
+    ///
+    /// ```
+    /// # use raft_recover::{Context, FilePart, LogBatch, LogFile, Queue, Version};
+    /// # let file = LogFile::new(Queue::Append, 1, Version::V2);
+    /// # let mut batch = LogBatch::new()?;
+    /// # batch.add_entries(7, 1, &["an entry"])?;
+    /// # batch.finish()?;
+    /// # batch.sign(file)?;
+    /// # let bytes = batch.bytes()?;
+    /// let mut newer = Context::new()?;
+    /// newer.replay(FilePart::new(file, &bytes))?;
+    /// let mut older = Context::new()?;
+    /// older.merge(newer, Queue::Append)?;
+    /// assert_eq!(older.kept()?.entries, 1);
+    /// # Ok::<(), raft_recover::Error>(())
+    /// ```
     ///
     /// # Errors
     ///
@@ -113,6 +157,22 @@ impl Context {
     /// Takes in the context of the append queue; this one is that of the rewrite queue. It then serves `kept` and `finish`
     /// alone.
     ///
+    /// ```
+    /// # use raft_recover::{Context, FilePart, LogBatch, LogFile, Queue, Version};
+    /// # let file = LogFile::new(Queue::Append, 1, Version::V2);
+    /// # let mut batch = LogBatch::new()?;
+    /// # batch.add_entries(7, 1, &["an entry"])?;
+    /// # batch.finish()?;
+    /// # batch.sign(file)?;
+    /// # let bytes = batch.bytes()?;
+    /// let mut append = Context::new()?;
+    /// append.replay(FilePart::new(file, &bytes))?;
+    /// let mut both = Context::new()?;
+    /// both.overlay(append)?;
+    /// assert_eq!(both.finish()?.regions()?, [7]);
+    /// # Ok::<(), raft_recover::Error>(())
+    /// ```
+    ///
     /// # Errors
     ///
     /// `InvalidArgument` where one of the two is of the other queue; `Full`, `Memory`, `Failed`. Both are lost then.
@@ -125,6 +185,21 @@ impl Context {
 
     /// Says how much the context holds.
     ///
+    /// ```
+    /// # use raft_recover::{Context, FilePart, LogBatch, LogFile, Queue, Version};
+    /// # let file = LogFile::new(Queue::Append, 1, Version::V2);
+    /// # let mut batch = LogBatch::new()?;
+    /// # batch.add_entries(7, 1, &["an entry"])?;
+    /// # batch.finish()?;
+    /// # batch.sign(file)?;
+    /// # let bytes = batch.bytes()?;
+    /// let mut context = Context::new()?;
+    /// context.replay(FilePart::new(file, &bytes))?;
+    /// let kept = context.kept()?;
+    /// assert_eq!((kept.entries, kept.keys, kept.marks), (1, 0, 1));
+    /// # Ok::<(), raft_recover::Error>(())
+    /// ```
+    ///
     /// # Errors
     ///
     /// `Memory`, `Failed`. The context stays as it is.
@@ -133,6 +208,21 @@ impl Context {
     }
 
     /// Returns the tables.
+    ///
+    /// ```
+    /// # use raft_recover::{Context, FilePart, LogBatch, LogFile, Queue, Version};
+    /// # let file = LogFile::new(Queue::Append, 1, Version::V2);
+    /// # let mut batch = LogBatch::new()?;
+    /// # batch.add_entries(7, 1, &["an entry"])?;
+    /// # batch.finish()?;
+    /// # batch.sign(file)?;
+    /// # let bytes = batch.bytes()?;
+    /// let mut context = Context::new()?;
+    /// context.replay(FilePart::new(file, &bytes))?;
+    /// let expected = "7 entries 1..2 keys 0 append 1 rewrite -\ncleaned -\nlive 1 0\n";
+    /// assert_eq!(context.finish()?.to_string(), expected);
+    /// # Ok::<(), raft_recover::Error>(())
+    /// ```
     ///
     /// # Errors
     ///

@@ -16,6 +16,7 @@ mod locks;
 mod memory_files;
 mod options;
 mod orders;
+mod pairs;
 mod purging;
 mod stats;
 
@@ -24,6 +25,7 @@ pub use files::Files;
 pub use folder_files::FolderFiles;
 pub use memory_files::{Ask, MemoryFiles, Unsynced};
 pub use options::Options;
+pub use pairs::Pairs;
 pub use purging::Purged;
 pub use stats::{QueueStats, Stats};
 
@@ -126,6 +128,16 @@ impl Engine {
     /// Opens a folder, or makes it. Its files are read on several threads ([`Options::recovery_threads`]). The torn tail of
     /// a queue's last file, which a stop in the midst of a write leaves, is cut.
     ///
+    /// ```
+    /// use raft_recover::{Engine, Options};
+    ///
+    /// # let folder = std::env::temp_dir().join(format!("raft-recover-open-{}", std::process::id()));
+    /// let engine = Engine::open(&folder, Options::new())?;
+    /// assert_eq!(engine.files().path(), folder);
+    /// # std::fs::remove_dir_all(folder).unwrap();
+    /// # Ok::<(), raft_recover::Error>(())
+    /// ```
+    ///
     /// # Errors
     ///
     /// Those of [`FolderFiles::open`] and [`Engine::with_files`].
@@ -136,6 +148,14 @@ impl Engine {
 
 impl<F: Files> Engine<F> {
     /// Opens an engine over files.
+    ///
+    /// ```
+    /// use raft_recover::{Engine, MemoryFiles, Options};
+    ///
+    /// let engine = Engine::with_files(MemoryFiles::new(), Options::new())?;
+    /// assert_eq!(engine.regions()?, []);
+    /// # Ok::<(), raft_recover::Error>(())
+    /// ```
     ///
     /// # Errors
     ///
@@ -161,12 +181,29 @@ impl<F: Files> Engine<F> {
     }
 
     /// Returns the files.
+    ///
+    /// ```
+    /// # use raft_recover::{Engine, MemoryFiles, Options};
+    /// # let engine = Engine::with_files(MemoryFiles::new(), Options::new())?;
+    /// let asked = engine.files().asked();
+    /// engine.sync()?;
+    /// assert!(engine.files().asked() > asked);
+    /// # Ok::<(), raft_recover::Error>(())
+    /// ```
     #[must_use]
     pub fn files(&self) -> &F {
         &self.files
     }
 
     /// Returns how the engine was opened.
+    ///
+    /// ```
+    /// # use raft_recover::{Engine, MemoryFiles, Options};
+    /// let options = Options::new().target_file_size(1 << 20);
+    /// let engine = Engine::with_files(MemoryFiles::new(), options.clone())?;
+    /// assert_eq!(engine.options(), &options);
+    /// # Ok::<(), raft_recover::Error>(())
+    /// ```
     pub fn options(&self) -> &Options {
         &self.options
     }
@@ -185,6 +222,20 @@ impl<F: Files> Engine<F> {
     /// Writes a batch, which is empty afterwards. With `sync` all that was written lasts once the call returns `Ok`. The batch is
     /// whole or not there at all, whenever the machine stops.
     ///
+    /// ```
+    /// # use raft_recover::{Engine, LogBatch, MemoryFiles, Options};
+    /// # let engine = Engine::with_files(MemoryFiles::new(), Options::new())?;
+    /// # let mut batch = LogBatch::new()?;
+    /// batch.add_entries(7, 1, &["an entry"])?;
+    /// engine.write(&mut batch, true)?;
+    /// batch.add_entries(7, 2, &["another one"])?; // the batch is empty again
+    /// engine.write(&mut batch, false)?;
+    /// batch.add_entries(7, 9, &["behind a hole"])?;
+    /// engine.write(&mut batch, true).unwrap_err();
+    /// assert_eq!(engine.last_index(7)?, Some(2));
+    /// # Ok::<(), raft_recover::Error>(())
+    /// ```
+    ///
     /// # Errors
     ///
     /// `InvalidArgument` where the batch is no longer open; `Corruption` where its entries leave a hole behind those of their
@@ -196,6 +247,16 @@ impl<F: Files> Engine<F> {
     }
 
     /// Makes all that was written last.
+    ///
+    /// ```
+    /// # use raft_recover::{Engine, LogBatch, MemoryFiles, Options};
+    /// # let engine = Engine::with_files(MemoryFiles::new(), Options::new())?;
+    /// # let mut batch = LogBatch::new()?;
+    /// batch.put(7, b"key", b"value")?;
+    /// engine.write(&mut batch, false)?;
+    /// engine.sync()?; // it lasts from here on
+    /// # Ok::<(), raft_recover::Error>(())
+    /// ```
     ///
     /// # Errors
     ///
@@ -235,6 +296,17 @@ impl<F: Files> Engine<F> {
 
     /// Returns an entry of a region, if there is one.
     ///
+    /// ```
+    /// # use raft_recover::{Engine, LogBatch, MemoryFiles, Options};
+    /// # let engine = Engine::with_files(MemoryFiles::new(), Options::new())?;
+    /// # let mut batch = LogBatch::new()?;
+    /// batch.add_entries(7, 10, &["one", "two", "three"])?;
+    /// engine.write(&mut batch, true)?;
+    /// assert_eq!(engine.entry(7, 11)?.unwrap(), b"two");
+    /// assert_eq!(engine.entry(7, 13)?, None);
+    /// # Ok::<(), raft_recover::Error>(())
+    /// ```
+    ///
     /// # Errors
     ///
     /// `Corruption` where its bytes were damaged since they were written; `Io`, `Memory`, `Failed`.
@@ -244,6 +316,18 @@ impl<F: Files> Engine<F> {
     }
 
     /// Returns the entries of a range of indexes. A bound that is left open is that of the region's entries.
+    ///
+    /// ```
+    /// # use raft_recover::{Engine, LogBatch, MemoryFiles, Options};
+    /// # let engine = Engine::with_files(MemoryFiles::new(), Options::new())?;
+    /// # let mut batch = LogBatch::new()?;
+    /// batch.add_entries(7, 10, &["one", "two", "three"])?;
+    /// engine.write(&mut batch, true)?;
+    /// assert_eq!(engine.entries(7, ..)?.len(), 3);
+    /// assert_eq!(engine.entries(7, 11..=12)?.index(), Some(11));
+    /// assert!(engine.entries(7, 11..14).is_err());
+    /// # Ok::<(), raft_recover::Error>(())
+    /// ```
     ///
     /// # Errors
     ///
@@ -255,6 +339,17 @@ impl<F: Files> Engine<F> {
     }
 
     /// Returns the entries of a range of indexes up to `max_size` bytes in all, and one at least.
+    ///
+    /// ```
+    /// # use raft_recover::{Engine, LogBatch, MemoryFiles, Options};
+    /// # let engine = Engine::with_files(MemoryFiles::new(), Options::new())?;
+    /// # let mut batch = LogBatch::new()?;
+    /// batch.add_entries(7, 10, &["one", "two", "three"])?;
+    /// engine.write(&mut batch, true)?;
+    /// let entries = engine.entries_up_to(7, 10.., 6)?;
+    /// assert_eq!(entries.collect::<Vec<_>>(), [b"one", b"two"]);
+    /// # Ok::<(), raft_recover::Error>(())
+    /// ```
     ///
     /// # Errors
     ///
@@ -281,6 +376,18 @@ impl<F: Files> Engine<F> {
 
     /// Returns the value of a region's key, if there is one.
     ///
+    /// ```
+    /// # use raft_recover::{Engine, LogBatch, MemoryFiles, Options};
+    /// # let engine = Engine::with_files(MemoryFiles::new(), Options::new())?;
+    /// # let mut batch = LogBatch::new()?;
+    /// batch.add_entries(7, 10, &["one", "two", "three"])?;
+    /// batch.put(7, b"key", b"value")?;
+    /// engine.write(&mut batch, true)?;
+    /// assert_eq!(engine.get(7, b"key")?.unwrap(), b"value");
+    /// assert_eq!(engine.get(8, b"key")?, None);
+    /// # Ok::<(), raft_recover::Error>(())
+    /// ```
+    ///
     /// # Errors
     ///
     /// `Memory`, `Failed`.
@@ -288,7 +395,41 @@ impl<F: Files> Engine<F> {
         self.look_up(|tables| tables.value(region, key))
     }
 
+    /// Returns the keys of a region in a range with their values, in the order of the keys.
+    ///
+    /// ```
+    /// # use raft_recover::{Engine, LogBatch, MemoryFiles, Options};
+    /// # let engine = Engine::with_files(MemoryFiles::new(), Options::new())?;
+    /// # let mut batch = LogBatch::new()?;
+    /// batch.add_entries(7, 10, &["one", "two", "three"])?;
+    /// batch.put(7, b"key", b"value")?;
+    /// engine.write(&mut batch, true)?;
+    /// let mut pairs = engine.scan(7, &b"a"[..]..)?;
+    /// assert_eq!(pairs.next(), Some((b"key".to_vec(), b"value".to_vec())));
+    /// assert_eq!(engine.scan(7, &b"l"[..]..)?.next(), None);
+    /// # Ok::<(), raft_recover::Error>(())
+    /// ```
+    ///
+    /// # Errors
+    ///
+    /// `Memory`, `Failed`.
+    pub fn scan<'a>(&self, region: u64, range: impl RangeBounds<&'a [u8]>) -> Result<Pairs> {
+        let (start, end) = pairs::ends_of(&range);
+        let found = self.look_up(|tables| tables.scan(region, &start, end.as_deref()))?;
+        Ok(Pairs::of(found))
+    }
+
     /// Returns the least index of a region's entries, if it has some.
+    ///
+    /// ```
+    /// # use raft_recover::{Engine, LogBatch, MemoryFiles, Options};
+    /// # let engine = Engine::with_files(MemoryFiles::new(), Options::new())?;
+    /// # let mut batch = LogBatch::new()?;
+    /// batch.add_entries(7, 10, &["one", "two", "three"])?;
+    /// engine.write(&mut batch, true)?;
+    /// assert_eq!((engine.first_index(7)?, engine.first_index(8)?), (Some(10), None));
+    /// # Ok::<(), raft_recover::Error>(())
+    /// ```
     ///
     /// # Errors
     ///
@@ -299,6 +440,16 @@ impl<F: Files> Engine<F> {
 
     /// Returns the greatest index of a region's entries, if it has some.
     ///
+    /// ```
+    /// # use raft_recover::{Engine, LogBatch, MemoryFiles, Options};
+    /// # let engine = Engine::with_files(MemoryFiles::new(), Options::new())?;
+    /// # let mut batch = LogBatch::new()?;
+    /// batch.add_entries(7, 10, &["one", "two", "three"])?;
+    /// engine.write(&mut batch, true)?;
+    /// assert_eq!((engine.last_index(7)?, engine.last_index(8)?), (Some(12), None));
+    /// # Ok::<(), raft_recover::Error>(())
+    /// ```
+    ///
     /// # Errors
     ///
     /// `Failed`.
@@ -307,6 +458,18 @@ impl<F: Files> Engine<F> {
     }
 
     /// Returns what a region's table has, if there is one.
+    ///
+    /// ```
+    /// # use raft_recover::{Engine, LogBatch, MemoryFiles, Options};
+    /// # let engine = Engine::with_files(MemoryFiles::new(), Options::new())?;
+    /// # let mut batch = LogBatch::new()?;
+    /// batch.add_entries(7, 10, &["one", "two", "three"])?;
+    /// batch.put(7, b"key", b"value")?;
+    /// engine.write(&mut batch, true)?;
+    /// let summary = engine.summary(7)?.unwrap();
+    /// assert_eq!((summary.entries, summary.keys), (3, 1));
+    /// # Ok::<(), raft_recover::Error>(())
+    /// ```
     ///
     /// # Errors
     ///
@@ -317,6 +480,16 @@ impl<F: Files> Engine<F> {
 
     /// Returns all regions that have a table.
     ///
+    /// ```
+    /// # use raft_recover::{Engine, LogBatch, MemoryFiles, Options};
+    /// # let engine = Engine::with_files(MemoryFiles::new(), Options::new())?;
+    /// # let mut batch = LogBatch::new()?;
+    /// batch.add_entries(7, 10, &["one", "two", "three"])?;
+    /// engine.write(&mut batch, true)?;
+    /// assert_eq!(engine.regions()?, [7]);
+    /// # Ok::<(), raft_recover::Error>(())
+    /// ```
+    ///
     /// # Errors
     ///
     /// `Memory`, `Failed`.
@@ -325,6 +498,18 @@ impl<F: Files> Engine<F> {
     }
 
     /// Returns what the engine has, in numbers.
+    ///
+    /// ```
+    /// # use raft_recover::{Engine, LogBatch, MemoryFiles, Options};
+    /// # let engine = Engine::with_files(MemoryFiles::new(), Options::new())?;
+    /// # let mut batch = LogBatch::new()?;
+    /// batch.add_entries(7, 10, &["one", "two", "three"])?;
+    /// batch.put(7, b"key", b"value")?;
+    /// engine.write(&mut batch, true)?;
+    /// let stats = engine.stats();
+    /// assert_eq!((stats.batches, stats.append.files, stats.append.records), (1, 1, 4));
+    /// # Ok::<(), raft_recover::Error>(())
+    /// ```
     #[must_use]
     pub fn stats(&self) -> Stats {
         let live = [Queue::Append, Queue::Rewrite].map(|queue| self.tables().live(queue));

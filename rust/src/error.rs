@@ -136,6 +136,18 @@ pub struct Error {
 }
 
 /// What a call returns that may be refused.
+///
+/// ```
+/// use raft_recover::{LogBatch, Result};
+///
+/// fn cleaned(region: u64) -> Result<LogBatch> {
+///     let mut batch = LogBatch::new()?;
+///     batch.clean(region)?;
+///     Ok(batch)
+/// }
+///
+/// assert!(cleaned(7).is_ok());
+/// ```
 pub type Result<T> = std::result::Result<T, Error>;
 
 impl Error {

@@ -122,6 +122,12 @@ pub struct FileId {
 
 impl FileId {
     /// Makes one of its parts.
+    ///
+    /// ```
+    /// use raft_recover::{FileId, Queue};
+    ///
+    /// assert_eq!(FileId::new(Queue::Rewrite, 3), FileId { queue: Queue::Rewrite, seq: 3 });
+    /// ```
     #[must_use]
     pub const fn new(queue: Queue, seq: u64) -> FileId {
         FileId { queue, seq }
@@ -141,6 +147,13 @@ impl From<LogFile> for FileId {
 }
 
 /// A log file and its format.
+///
+/// ```
+/// use raft_recover::{LogFile, Queue, Version};
+///
+/// let file = LogFile { queue: Queue::Append, seq: 3, version: Version::V2 };
+/// assert_eq!(file, LogFile::new(Queue::Append, 3, Version::V2));
+/// ```
 #[derive(Clone, Copy, PartialEq, Eq, PartialOrd, Ord, Hash, Debug)]
 pub struct LogFile {
     /// The queue.
@@ -153,6 +166,12 @@ pub struct LogFile {
 
 impl LogFile {
     /// Makes one of its parts.
+    ///
+    /// ```
+    /// use raft_recover::{LogFile, Queue, Version};
+    ///
+    /// assert_eq!(LogFile::new(Queue::Append, 3, Version::V2).seq, 3);
+    /// ```
     #[must_use]
     pub const fn new(queue: Queue, seq: u64, version: Version) -> LogFile {
         LogFile {
@@ -196,6 +215,13 @@ pub struct FilePart<'a> {
 
 impl<'a> FilePart<'a> {
     /// Makes the part that begins at offset 0.
+    ///
+    /// ```
+    /// use raft_recover::{FilePart, LogFile, Queue, Version};
+    ///
+    /// let part = FilePart::new(LogFile::new(Queue::Append, 1, Version::V2), b"bytes");
+    /// assert_eq!((part.offset, part.bytes), (0, &b"bytes"[..]));
+    /// ```
     #[must_use]
     pub const fn new(file: LogFile, bytes: &'a [u8]) -> FilePart<'a> {
         FilePart {

@@ -5,6 +5,16 @@ use crate::{Batch, Error, FileId, LogFile, Result};
 use std::fmt;
 
 /// How far a batch has come.
+///
+/// ```
+/// use raft_recover::{LogBatch, Stage};
+///
+/// let mut batch = LogBatch::new()?;
+/// assert_eq!(batch.stage(), Stage::Open);
+/// batch.finish()?;
+/// assert_eq!(batch.stage(), Stage::Encoded);
+/// # Ok::<(), raft_recover::Error>(())
+/// ```
 #[derive(Clone, Copy, PartialEq, Eq, PartialOrd, Ord, Hash, Debug)]
 pub enum Stage {
     /// Items may be added.
@@ -84,6 +94,13 @@ impl LogBatch {
 
     /// Makes an open batch without items.
     ///
+    /// ```
+    /// use raft_recover::LogBatch;
+    ///
+    /// assert!(LogBatch::new()?.into_items()?.is_empty());
+    /// # Ok::<(), raft_recover::Error>(())
+    /// ```
+    ///
     /// # Errors
     ///
     /// `Memory`.
@@ -92,12 +109,30 @@ impl LogBatch {
     }
 
     /// Returns how far the batch has come.
+    ///
+    /// ```
+    /// # use raft_recover::{LogBatch, LogFile, Queue, Stage, Version};
+    /// # let mut batch = LogBatch::new()?;
+    /// batch.finish()?;
+    /// batch.sign(LogFile::new(Queue::Append, 1, Version::V2))?;
+    /// assert_eq!(batch.stage(), Stage::Signed);
+    /// # Ok::<(), raft_recover::Error>(())
+    /// ```
     #[must_use]
     pub fn stage(&self) -> Stage {
         self.handle.stage()
     }
 
     /// Returns about how many bytes the batch will have, and how many it has once they are made.
+    ///
+    /// ```
+    /// # use raft_recover::LogBatch;
+    /// # let mut batch = LogBatch::new()?;
+    /// batch.clean(7)?;
+    /// assert!(batch.approximate_size() > 0);
+    /// assert_eq!(batch.finish()?, batch.approximate_size());
+    /// # Ok::<(), raft_recover::Error>(())
+    /// ```
     #[must_use]
     pub fn approximate_size(&self) -> usize {
         self.handle.size()
@@ -105,6 +140,16 @@ impl LogBatch {
 
     /// Adds entries of a region: their bytes in the order of their indexes, which rise by one from `first` on. No entries add
     /// nothing.
+    ///
+    /// ```
+    /// # use raft_recover::LogBatch;
+    /// # let mut batch = LogBatch::new()?;
+    /// batch.add_entries(7, 10, &["one", "two"])?;
+    /// batch.add_entries(8, 1, &[vec![0; 100]])?;
+    /// batch.add_entries(7, u64::MAX, &["the last index is kept free"]).unwrap_err();
+    /// assert_eq!(batch.into_items()?.len(), 2);
+    /// # Ok::<(), raft_recover::Error>(())
+    /// ```
     ///
     /// # Errors
     ///
@@ -121,6 +166,14 @@ impl LogBatch {
 
     /// Adds that all records of a region go.
     ///
+    /// ```
+    /// # use raft_recover::{Content, LogBatch};
+    /// # let mut batch = LogBatch::new()?;
+    /// batch.clean(7)?;
+    /// assert_eq!(batch.into_items()?.get(0).unwrap().content, Content::Clean);
+    /// # Ok::<(), raft_recover::Error>(())
+    /// ```
+    ///
     /// # Errors
     ///
     /// `InvalidArgument` where the batch is no longer open, `Memory`.
@@ -129,6 +182,14 @@ impl LogBatch {
     }
 
     /// Adds that the entries of a region below an index go.
+    ///
+    /// ```
+    /// # use raft_recover::{Content, LogBatch};
+    /// # let mut batch = LogBatch::new()?;
+    /// batch.compact(7, 10)?;
+    /// assert_eq!(batch.into_items()?.get(0).unwrap().content, Content::Compact { index: 10 });
+    /// # Ok::<(), raft_recover::Error>(())
+    /// ```
     ///
     /// # Errors
     ///
@@ -139,6 +200,14 @@ impl LogBatch {
 
     /// Adds that the entries of a region from an index on go.
     ///
+    /// ```
+    /// # use raft_recover::{Content, LogBatch};
+    /// # let mut batch = LogBatch::new()?;
+    /// batch.truncate(7, 10)?;
+    /// assert_eq!(batch.into_items()?.get(0).unwrap().content, Content::Truncate { index: 10 });
+    /// # Ok::<(), raft_recover::Error>(())
+    /// ```
+    ///
     /// # Errors
     ///
     /// `InvalidArgument` where the batch is no longer open, `Memory`.
@@ -147,6 +216,15 @@ impl LogBatch {
     }
 
     /// Adds that a key of a region gets a value.
+    ///
+    /// ```
+    /// # use raft_recover::LogBatch;
+    /// # let mut batch = LogBatch::new()?;
+    /// batch.put(7, b"key", b"value")?;
+    /// batch.put(7, b"__\x01", b"of a group").unwrap_err();
+    /// assert_eq!(batch.into_items()?.len(), 1);
+    /// # Ok::<(), raft_recover::Error>(())
+    /// ```
     ///
     /// # Errors
     ///
@@ -157,6 +235,14 @@ impl LogBatch {
 
     /// Adds that a key of a region goes.
     ///
+    /// ```
+    /// # use raft_recover::{Content, LogBatch};
+    /// # let mut batch = LogBatch::new()?;
+    /// batch.delete(7, b"key")?;
+    /// assert_eq!(batch.into_items()?.get(0).unwrap().content, Content::Delete { key: b"key".to_vec() });
+    /// # Ok::<(), raft_recover::Error>(())
+    /// ```
+    ///
     /// # Errors
     ///
     /// `InvalidArgument` where the batch is no longer open, `Memory`.
@@ -165,6 +251,16 @@ impl LogBatch {
     }
 
     /// Moves all items of another batch to the end of this one. The other one is then empty.
+    ///
+    /// ```
+    /// # use raft_recover::LogBatch;
+    /// # let mut batch = LogBatch::new()?;
+    /// let mut more = LogBatch::new()?;
+    /// more.clean(8)?;
+    /// batch.merge(&mut more)?;
+    /// assert_eq!((batch.into_items()?.len(), more.into_items()?.len()), (1, 0));
+    /// # Ok::<(), raft_recover::Error>(())
+    /// ```
     ///
     /// # Errors
     ///
@@ -176,6 +272,16 @@ impl LogBatch {
 
     /// Makes the bytes, and returns how many they are: none without items. Nothing is added from then on.
     ///
+    /// ```
+    /// # use raft_recover::LogBatch;
+    /// # let mut batch = LogBatch::new()?;
+    /// batch.clean(7)?;
+    /// let len = batch.finish()?;
+    /// assert!(len > 0);
+    /// batch.clean(8).unwrap_err();
+    /// # Ok::<(), raft_recover::Error>(())
+    /// ```
+    ///
     /// # Errors
     ///
     /// `InvalidArgument` where the batch is no longer open, `Full` where it would have 2^56 bytes or more, `Memory`.
@@ -184,6 +290,19 @@ impl LogBatch {
     }
 
     /// Signs the bytes for a file. It may be repeated for other files.
+    ///
+    /// ```
+    /// # use raft_recover::{LogBatch, LogFile, Queue, Version};
+    /// # let mut batch = LogBatch::new()?;
+    /// batch.clean(7)?;
+    /// batch.finish()?;
+    /// let signed = |batch: &mut LogBatch, seq| {
+    ///     batch.sign(LogFile::new(Queue::Append, seq, Version::V2))?;
+    ///     batch.bytes()
+    /// };
+    /// assert_ne!(signed(&mut batch, 1)?, signed(&mut batch, 2)?);
+    /// # Ok::<(), raft_recover::Error>(())
+    /// ```
     ///
     /// # Errors
     ///
@@ -196,6 +315,16 @@ impl LogBatch {
 
     /// Returns the bytes to write.
     ///
+    /// ```
+    /// # use raft_recover::{LogBatch, LogFile, Queue, Version};
+    /// # let mut batch = LogBatch::new()?;
+    /// batch.clean(7)?;
+    /// let len = batch.finish()?;
+    /// batch.sign(LogFile::new(Queue::Append, 1, Version::V2))?;
+    /// assert_eq!(batch.bytes()?.len(), len);
+    /// # Ok::<(), raft_recover::Error>(())
+    /// ```
+    ///
     /// # Errors
     ///
     /// `InvalidArgument` where they aren't signed.
@@ -205,6 +334,18 @@ impl LogBatch {
 
     /// Gives each entry and each key value its place: the bytes were written to the file that they are signed for, from
     /// `offset` on.
+    ///
+    /// ```
+    /// # use raft_recover::{FileId, LogBatch, LogFile, Queue, Version};
+    /// # let mut batch = LogBatch::new()?;
+    /// let file = LogFile::new(Queue::Append, 1, Version::V2);
+    /// batch.add_entries(7, 1, &["an entry"])?;
+    /// batch.finish()?;
+    /// batch.sign(file)?;
+    /// batch.written(FileId::new(Queue::Append, 2), 0).unwrap_err();
+    /// batch.written(file.into(), 0)?;
+    /// # Ok::<(), raft_recover::Error>(())
+    /// ```
     ///
     /// # Errors
     ///
@@ -220,6 +361,16 @@ impl LogBatch {
     }
 
     /// Takes the items out, to apply them to tables or to read them. Entries can be read after [`LogBatch::written`] alone.
+    ///
+    /// ```
+    /// # use raft_recover::LogBatch;
+    /// # let mut batch = LogBatch::new()?;
+    /// batch.clean(7)?;
+    /// for item in batch.into_items()? {
+    ///     assert_eq!(item.region, 7);
+    /// }
+    /// # Ok::<(), raft_recover::Error>(())
+    /// ```
     ///
     /// # Errors
     ///

@@ -1,11 +1,16 @@
 //! The tables of a part of all regions, to be kept under a lock of their own.
 
-use crate::sys::{self, SlotHandle, TablesHandle};
-use crate::{Content, Entry, Error, FileId, Item, LogBatch, Pair, Queue, Result, Summary};
+use crate::sys;
+use crate::{Batch, Content, Entry, Error, FileId, Item, LogBatch, Queue, Result, Tables};
 use std::fmt;
-use std::ops::Range;
+use std::ops::Deref;
 
 /// How many slots there are.
+///
+/// ```
+/// assert_eq!(raft_recover::Tables::new()?.into_slots()?.len(), raft_recover::SLOTS);
+/// # Ok::<(), raft_recover::Error>(())
+/// ```
 pub const SLOTS: usize = 128;
 
 /// The key of the group markers, which no table has.
@@ -24,11 +29,12 @@ pub fn slot_of(region: u64) -> usize {
 }
 
 /// The tables of the regions whose slot has one number, those of them that were cleaned, and how many of their records are
-/// live. Its calls do to these regions what those of [`Tables`] do.
+/// live. It is read as [`Tables`] are, and its changes do to these regions what those of `Tables` do.
 ///
 /// It is `Send` and not `Sync`: an engine keeps a `[Mutex<Slot>; SLOTS]`, made of the slots of [`Tables::into_slots`], and
 /// locks that of [`slot_of`] a region. A change for a region of another slot is refused by `InvalidArgument`; such a region has
-/// no table here. After a refused change all is as it was.
+/// no table here. After a refused change all is as it was, but for
+/// the items of a batch, which say themselves what stays.
 ///
 /// ```
 /// use raft_recover::{Content, FileId, Item, Queue, Tables, slot_of};
@@ -63,187 +69,199 @@ pub fn slot_of(region: u64) -> usize {
 /// [`Tables`]: crate::Tables
 /// [`Tables::into_slots`]: crate::Tables::into_slots
 pub struct Slot {
-    handle: SlotHandle,
+    number: usize,
+    tables: Tables,
 }
 
 impl Slot {
     /// Makes the slot of a number, without tables.
     ///
+    /// ```
+    /// use raft_recover::{SLOTS, Slot};
+    ///
+    /// assert_eq!(Slot::new(5)?.cleaned(), []);
+    /// Slot::new(SLOTS).unwrap_err();
+    /// # Ok::<(), raft_recover::Error>(())
+    /// ```
+    ///
     /// # Errors
     ///
     /// `InvalidArgument` where the number isn't below [`SLOTS`], `Memory`.
     pub fn new(number: usize) -> Result<Slot> {
-        Ok(Slot {
-            handle: SlotHandle::new(number)?,
-        })
+        if number >= SLOTS {
+            return Err(Error::invalid_argument(
+                "a slot has a number of 128 or more",
+            ));
+        }
+        let tables = Tables::new()?;
+        Ok(Slot { number, tables })
     }
 
-    /// Makes the slot of a number with the tables that others have of its regions, and lists these regions as cleaned.
-    pub(crate) fn filled(
-        number: usize,
-        cleaned: &[u64],
-        tables: &mut TablesHandle,
-    ) -> Result<Slot> {
-        Ok(Slot {
-            handle: SlotHandle::filled(number, cleaned, tables)?,
-        })
+    /// Takes the table of a region, if there is one, out of tables. Where that is refused it is gone.
+    pub(crate) fn take_table(&mut self, region: u64, tables: &mut Tables) -> Result<()> {
+        self.check(region)?;
+        tables.handle.move_table(region, &mut self.tables.handle)
+    }
+
+    /// Tests that a region is one of the slot's.
+    fn check(&self, region: u64) -> Result<()> {
+        if slot_of(region) == self.number {
+            return Ok(());
+        }
+        Err(Error::invalid_argument("a region is of another slot"))
     }
 
     /// Returns the number of the slot.
+    ///
+    /// ```
+    /// assert_eq!(raft_recover::Slot::new(5)?.number(), 5);
+    /// # Ok::<(), raft_recover::Error>(())
+    /// ```
     #[must_use]
     pub fn number(&self) -> usize {
-        self.handle.number()
-    }
-
-    /// Returns how many records of its tables are live in a queue.
-    #[must_use]
-    pub fn live(&self, queue: Queue) -> usize {
-        self.handle.live(queue)
-    }
-
-    /// Returns the regions that were cleaned, in order.
-    #[must_use]
-    pub fn cleaned(&self) -> Vec<u64> {
-        self.handle.cleaned()
-    }
-
-    /// Returns what a region's table has, if there is one.
-    #[must_use]
-    pub fn summary(&self, region: u64) -> Option<Summary> {
-        self.handle.summary(region)
-    }
-
-    /// Returns an entry of a region, if there is one.
-    #[must_use]
-    pub fn entry(&self, region: u64, index: u64) -> Option<Entry> {
-        self.handle.entry(region, index)
-    }
-
-    /// Returns the entries of a range of indexes, as `Tables::entries` does.
-    ///
-    /// # Errors
-    ///
-    /// Those of `Tables::entries`.
-    pub fn entries(
-        &self,
-        region: u64,
-        range: Range<u64>,
-        max_size: Option<u64>,
-    ) -> Result<Vec<Entry>> {
-        self.handle.entries(region, range, max_size)
-    }
-
-    /// Returns the appended entries of a region from the first on while their file is at or below `gate`.
-    ///
-    /// # Errors
-    ///
-    /// `Memory`.
-    pub fn entries_before(&self, region: u64, gate: u64) -> Result<Vec<Entry>> {
-        self.handle.entries_before(region, gate)
-    }
-
-    /// Returns the rewritten entries of a region.
-    ///
-    /// # Errors
-    ///
-    /// `Memory`.
-    pub fn rewritten_entries(&self, region: u64) -> Result<Vec<Entry>> {
-        self.handle.rewritten_entries(region)
-    }
-
-    /// Returns the value of a region's key, if there is one.
-    #[must_use]
-    pub fn value(&self, region: u64, key: &[u8]) -> Option<Vec<u8>> {
-        self.handle.value(region, key)
-    }
-
-    /// Returns the appended keys of a region with their values, up to a file: those in append files at or below `gate`, in
-    /// the order of the keys.
-    ///
-    /// # Errors
-    ///
-    /// `Memory`.
-    pub fn pairs_before(&self, region: u64, gate: u64) -> Result<Vec<Pair>> {
-        self.handle.pairs_before(region, gate)
-    }
-
-    /// Returns the rewritten keys of a region with their values, in the order of the keys.
-    ///
-    /// # Errors
-    ///
-    /// `Memory`.
-    pub fn rewritten_pairs(&self, region: u64) -> Result<Vec<Pair>> {
-        self.handle.rewritten_pairs(region)
-    }
-
-    /// Returns all keys of a region with their values, in the order of the keys.
-    ///
-    /// # Errors
-    ///
-    /// `Memory`.
-    pub fn pairs(&self, region: u64) -> Result<Vec<Pair>> {
-        let mut pairs = self.pairs_before(region, u64::MAX)?;
-        pairs.extend(self.rewritten_pairs(region)?);
-        pairs.sort_unstable_by(|a, b| a.key.cmp(&b.key));
-        Ok(pairs)
+        self.number
     }
 
     /// Puts new entries of the append queue after those of a region below their start. All others go; where
     /// there are no new ones, all stay.
     ///
+    /// ```
+    /// # use raft_recover::{Block, Entry, FileId, Queue, Slot, slot_of};
+    /// # let block = |queue, seq| Block { file: FileId::new(queue, seq), offset: 16, len: 34 };
+    /// # let place = |queue, seq, index| Entry { index, block: block(queue, seq), offset: 0, len: 10 };
+    /// # let mut slot = Slot::new(slot_of(7))?;
+    /// let run = [1, 2, 3].map(|index| place(Queue::Append, 9, index));
+    /// slot.append(7, &run)?;
+    /// slot.append(7, &[place(Queue::Append, 9, 2)])?;
+    /// assert_eq!(slot.entry(7, 3), None); // the new run ends below
+    /// slot.append(7, &[place(Queue::Append, 9, 9)]).unwrap_err(); // a hole
+    /// # Ok::<(), raft_recover::Error>(())
+    /// ```
+    ///
     /// # Errors
     ///
     /// Those of `Tables::append`, and `InvalidArgument` for a region of another slot.
     pub fn append(&mut self, region: u64, entries: &[Entry]) -> Result<()> {
-        self.handle.append(region, entries)
+        self.check(region)?;
+        self.tables.append(region, entries)
     }
 
     /// Drops the entries of a region below an index, and returns how many those were.
+    ///
+    /// ```
+    /// # use raft_recover::{Block, Entry, FileId, Queue, Slot, slot_of};
+    /// # let block = |queue, seq| Block { file: FileId::new(queue, seq), offset: 16, len: 34 };
+    /// # let place = |queue, seq, index| Entry { index, block: block(queue, seq), offset: 0, len: 10 };
+    /// # let mut slot = Slot::new(slot_of(7))?;
+    /// let run = [1, 2, 3].map(|index| place(Queue::Append, 9, index));
+    /// slot.append(7, &run)?;
+    /// assert_eq!(slot.compact(7, 3)?, 2);
+    /// assert_eq!(slot.summary(7).unwrap().first_index, Some(3));
+    /// # Ok::<(), raft_recover::Error>(())
+    /// ```
     ///
     /// # Errors
     ///
     /// `InvalidArgument` for a region of another slot, `Memory`.
     pub fn compact(&mut self, region: u64, index: u64) -> Result<u64> {
-        self.handle.compact(region, index)
+        self.check(region)?;
+        self.tables.compact(region, index)
     }
 
     /// Drops the entries of a region at or above an index, and returns how many those were.
+    ///
+    /// ```
+    /// # use raft_recover::{Block, Entry, FileId, Queue, Slot, slot_of};
+    /// # let block = |queue, seq| Block { file: FileId::new(queue, seq), offset: 16, len: 34 };
+    /// # let place = |queue, seq, index| Entry { index, block: block(queue, seq), offset: 0, len: 10 };
+    /// # let mut slot = Slot::new(slot_of(7))?;
+    /// let run = [1, 2, 3].map(|index| place(Queue::Append, 9, index));
+    /// slot.append(7, &run)?;
+    /// assert_eq!(slot.truncate(7, 3)?, 1);
+    /// assert_eq!(slot.entry(7, 3), None);
+    /// # Ok::<(), raft_recover::Error>(())
+    /// ```
     ///
     /// # Errors
     ///
     /// `InvalidArgument` for a region of another slot, `Memory`.
     pub fn truncate(&mut self, region: u64, index: u64) -> Result<u64> {
-        self.handle.truncate(region, index)
+        self.check(region)?;
+        self.tables.truncate(region, index)
     }
 
     /// Puts a key of a region with its value, which were written to this file.
+    ///
+    /// ```
+    /// # use raft_recover::{FileId, Queue, Slot, slot_of};
+    /// # let mut slot = Slot::new(slot_of(7))?;
+    /// slot.put(7, b"key", b"value", FileId::new(Queue::Append, 9))?;
+    /// assert_eq!(slot.value(7, b"key").unwrap(), b"value");
+    /// # Ok::<(), raft_recover::Error>(())
+    /// ```
     ///
     /// # Errors
     ///
     /// `InvalidArgument` for a region of another slot, `Full`, `Memory`.
     pub fn put(&mut self, region: u64, key: &[u8], value: &[u8], file: FileId) -> Result<()> {
-        self.handle.put(region, key, value, file)
+        self.check(region)?;
+        self.tables.put(region, key, value, file)
     }
 
     /// Deletes a key of a region and its value.
+    ///
+    /// ```
+    /// # use raft_recover::{FileId, Queue, Slot, slot_of};
+    /// # let mut slot = Slot::new(slot_of(7))?;
+    /// slot.put(7, b"key", b"value", FileId::new(Queue::Append, 9))?;
+    /// slot.delete(7, b"key")?;
+    /// assert_eq!(slot.value(7, b"key"), None);
+    /// # Ok::<(), raft_recover::Error>(())
+    /// ```
     ///
     /// # Errors
     ///
     /// `InvalidArgument` for a region of another slot, `Memory`.
     pub fn delete(&mut self, region: u64, key: &[u8]) -> Result<()> {
-        self.handle.delete(region, key)
+        self.check(region)?;
+        self.tables.delete(region, key)
     }
 
     /// Gives entries of a region the places of a run of the rewrite queue, as far as they may move, as `Tables::rewrite` does.
+    ///
+    /// ```
+    /// # use raft_recover::{Block, Entry, FileId, Queue, Slot, slot_of};
+    /// # let block = |queue, seq| Block { file: FileId::new(queue, seq), offset: 16, len: 34 };
+    /// # let place = |queue, seq, index| Entry { index, block: block(queue, seq), offset: 0, len: 10 };
+    /// # let mut slot = Slot::new(slot_of(7))?;
+    /// let run = [1, 2, 3].map(|index| place(Queue::Append, 9, index));
+    /// slot.append(7, &run)?;
+    /// let moved = run.map(|entry| place(Queue::Rewrite, 2, entry.index));
+    /// slot.rewrite(7, &moved, Some(8))?; // they are in file 9
+    /// assert_eq!(slot.entry(7, 1), Some(run[0]));
+    /// slot.rewrite(7, &moved, Some(9))?;
+    /// assert_eq!(slot.entry(7, 1), Some(moved[0]));
+    /// # Ok::<(), raft_recover::Error>(())
+    /// ```
     ///
     /// # Errors
     ///
     /// Those of `Tables::rewrite`, and `InvalidArgument` for a region of another slot.
     pub fn rewrite(&mut self, region: u64, entries: &[Entry], gate: Option<u64>) -> Result<()> {
-        self.handle.rewrite(region, entries, gate)
+        self.check(region)?;
+        self.tables.rewrite(region, entries, gate)
     }
 
     /// Moves the pair of a region's key to the file of number `seq` of the rewrite queue, as `Tables::rewrite_key` does.
+    ///
+    /// ```
+    /// # use raft_recover::{FileId, Queue, Slot, slot_of};
+    /// # let mut slot = Slot::new(slot_of(7))?;
+    /// slot.put(7, b"key", b"value", FileId::new(Queue::Append, 9))?;
+    /// slot.rewrite_key(7, b"key", Some(9), 2)?;
+    /// assert_eq!(slot.summary(7).unwrap().rewrite_seq, Some(2));
+    /// # Ok::<(), raft_recover::Error>(())
+    /// ```
     ///
     /// # Errors
     ///
@@ -255,47 +273,163 @@ impl Slot {
         gate: Option<u64>,
         seq: u64,
     ) -> Result<()> {
-        self.handle.rewrite_key(region, key, gate, seq)
+        self.check(region)?;
+        self.tables.rewrite_key(region, key, gate, seq)
     }
 
     /// Sets the first and the last file of a region's atomic group, once the group's End is written.
+    ///
+    /// ```
+    /// # use raft_recover::{FileId, Queue, Slot, slot_of};
+    /// # let mut slot = Slot::new(slot_of(7))?;
+    /// slot.put(7, b"key", b"value", FileId::new(Queue::Append, 9))?;
+    /// slot.rewrite_key(7, b"key", Some(9), 2)?;
+    /// slot.set_atomic_group(7, 1, 2)?;
+    /// assert_eq!(slot.summary(7).unwrap().rewrite_seq, Some(1));
+    /// # Ok::<(), raft_recover::Error>(())
+    /// ```
     ///
     /// # Errors
     ///
     /// `InvalidArgument` where `start` is above `end` or for a region of another slot, `Memory`.
     pub fn set_atomic_group(&mut self, region: u64, start: u64, end: u64) -> Result<()> {
-        if start > end {
-            return Err(Error::invalid_argument(
-                "an atomic group starts behind its end",
-            ));
-        }
-        self.handle.set_atomic_group(region, start, end)
+        self.check(region)?;
+        self.tables.set_atomic_group(region, start, end)
     }
 
     /// Takes a region's table away, and returns whether there was one. Where that is asked for, it lists the region as cleaned,
     /// also where it has no table.
     ///
+    /// ```
+    /// # use raft_recover::{FileId, Queue, Slot, slot_of};
+    /// # let mut slot = Slot::new(slot_of(7))?;
+    /// slot.put(7, b"key", b"value", FileId::new(Queue::Append, 9))?;
+    /// assert!(slot.remove(7, true)?);
+    /// assert!(!slot.remove(7, false)?);
+    /// assert_eq!(slot.cleaned(), [7]);
+    /// # Ok::<(), raft_recover::Error>(())
+    /// ```
+    ///
     /// # Errors
     ///
     /// `InvalidArgument` for a region of another slot; `Memory`, where the region is to be listed.
     pub fn remove(&mut self, region: u64, is_listed: bool) -> Result<bool> {
-        self.handle.remove(region, is_listed)
+        self.check(region)?;
+        self.tables.remove(region, is_listed)
     }
 
-    /// Moves the cleaned regions into an open batch as a `Clean` for each, in order. The list is then empty.
+    /// Hands out the cleaned regions as an open batch, as `Tables::take_cleaned_logs` does.
     ///
-    /// The batch belongs in the rewrite queue, once the append queue is synced. So does what else takes rewritten records
-    /// away, which is not listed: compactions, truncations, deletions of keys, and each run that replaces entries, as the
-    /// truncation at its first index.
+    /// ```
+    /// # use raft_recover::{Content, Slot, slot_of};
+    /// # let mut slot = Slot::new(slot_of(7))?;
+    /// slot.remove(7, true)?;
+    /// let batch = slot.take_cleaned_logs()?;
+    /// assert_eq!(batch.into_items()?.get(0).unwrap().content, Content::Clean);
+    /// assert_eq!(slot.cleaned(), []);
+    /// # Ok::<(), raft_recover::Error>(())
+    /// ```
     ///
     /// # Errors
     ///
-    /// `InvalidArgument` where the batch is no longer open, `Memory`. List and batch are then as they were.
-    pub fn take_cleaned_logs(&mut self, batch: &mut LogBatch) -> Result<()> {
-        self.handle.cleaned_logs(batch.handle_mut())
+    /// `Memory`. The list is then as it was.
+    pub fn take_cleaned_logs(&mut self) -> Result<LogBatch> {
+        self.tables.take_cleaned_logs()
+    }
+
+    /// Tests whether [`Slot::apply_append`] would accept those items of a batch whose regions are of the slot, once it is written
+    /// to the append queue. It changes nothing, and the stage of the batch doesn't matter. The batch is accepted where each slot
+    /// accepts it.
+    ///
+    /// ```
+    /// # use raft_recover::{LogBatch, Slot, slot_of};
+    /// # let slot = Slot::new(slot_of(7))?;
+    /// let mut batch = LogBatch::new()?;
+    /// batch.add_entries(7, 1, &["an entry"])?;
+    /// slot.check_append(&batch)?;
+    /// batch.add_entries(7, 9, &["behind a hole"])?;
+    /// slot.check_append(&batch).unwrap_err();
+    /// # Ok::<(), raft_recover::Error>(())
+    /// ```
+    ///
+    /// # Errors
+    ///
+    /// `Corruption` where an item would be refused: the text names the region, the index and the reason. `Memory`.
+    pub fn check_append(&self, batch: &LogBatch) -> Result<()> {
+        self.tables.handle.check_share(self.number, batch.handle())
+    }
+
+    /// Writes those items of a batch of the append queue whose regions are of the slot, in order. The others are those of other
+    /// slots ([`Batch::slots`]).
+    ///
+    /// ```
+    /// use raft_recover::{LogBatch, LogFile, Queue, Tables, Version};
+    ///
+    /// let mut slots = Tables::new()?.into_slots()?;
+    /// let file = LogFile::new(Queue::Append, 1, Version::V2);
+    /// let mut batch = LogBatch::new()?;
+    /// for region in 0..4 {
+    ///     batch.add_entries(region, 1, &["an entry"])?;
+    /// }
+    /// for slot in &slots {
+    ///     slot.check_append(&batch)?;
+    /// }
+    /// batch.finish()?;
+    /// batch.sign(file)?;
+    /// batch.written(file.into(), 0)?; // the bytes are in the file
+    /// let items = batch.into_items()?;
+    /// for number in items.slots() {
+    ///     slots[number].apply_append(&items)?;
+    /// }
+    /// assert_eq!(slots.iter().map(|slot| slot.live(Queue::Append)).sum::<usize>(), 4);
+    /// # Ok::<(), raft_recover::Error>(())
+    /// ```
+    ///
+    /// # Errors
+    ///
+    /// `Corruption`, `Full` or `Memory` at the first item that is refused. The items in front of it are written, and nothing
+    /// else.
+    pub fn apply_append(&mut self, batch: &Batch) -> Result<()> {
+        self.tables.handle.apply_share(self.number, batch.handle())
+    }
+
+    /// Writes those items of a batch whose regions are of the slot, in order. It was rewritten to the file of number `seq` of the
+    /// rewrite queue, with a gate as for `Tables::apply_rewrite`.
+    ///
+    /// ```
+    /// # use raft_recover::{FileId, LogBatch, LogFile, Queue, Slot, Version, slot_of};
+    /// # let mut slot = Slot::new(slot_of(7))?;
+    /// slot.put(7, b"key", b"value", FileId::new(Queue::Append, 9))?;
+    /// let file = LogFile::new(Queue::Rewrite, 2, Version::V2);
+    /// let mut batch = LogBatch::new()?;
+    /// batch.put(7, b"key", b"value")?;
+    /// batch.finish()?;
+    /// batch.sign(file)?;
+    /// batch.written(file.into(), 0)?;
+    /// slot.apply_rewrite(&batch.into_items()?, Some(9), 2)?;
+    /// assert_eq!(slot.live(Queue::Rewrite), 1);
+    /// # Ok::<(), raft_recover::Error>(())
+    /// ```
+    ///
+    /// # Errors
+    ///
+    /// As [`Slot::apply_append`].
+    pub fn apply_rewrite(&mut self, batch: &Batch, gate: Option<u64>, seq: u64) -> Result<()> {
+        self.tables
+            .handle
+            .rewrite_share(self.number, batch.handle(), gate, seq)
     }
 
     /// Writes a new item of the append queue, which was written to this file. A group marker changes nothing.
+    ///
+    /// ```
+    /// # use raft_recover::{Content, FileId, Item, Queue, Slot, slot_of};
+    /// # let mut slot = Slot::new(slot_of(7))?;
+    /// let content = Content::Put { key: b"key".to_vec(), value: b"value".to_vec() };
+    /// slot.write(&Item { region: 7, content }, FileId::new(Queue::Append, 9))?;
+    /// assert_eq!(slot.value(7, b"key").unwrap(), b"value");
+    /// # Ok::<(), raft_recover::Error>(())
+    /// ```
     ///
     /// # Errors
     ///
@@ -319,6 +453,15 @@ impl Slot {
             Content::Put { key, value } => self.put(region, key, value, file),
             Content::Delete { key } => self.delete(region, key),
         }
+    }
+}
+
+/// A slot is read as its tables are.
+impl Deref for Slot {
+    type Target = Tables;
+
+    fn deref(&self) -> &Tables {
+        &self.tables
     }
 }
 

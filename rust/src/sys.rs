@@ -8,9 +8,8 @@
 //!   `Clone`), and is freed once (by `Drop`, unless a call takes it).
 //! - Slices are lent for the call alone. They overlap nowhere: what is written is behind a `&mut` or of the call's own.
 //! - Numbers and stages that a contract bounds are tested where they come in: the part of a file by [`FilePart::check`]; the
-//!   files of an atomic group by [`Tables::set_atomic_group`](crate::Tables::set_atomic_group) and that of `Slot`; the stage of
-//!   a batch, the last index of its entries and its offset by [`LogBatchHandle`]; the number of a slot and its regions,
-//!   and that a slot has no tables where it takes some, by [`SlotHandle`].
+//!   files of an atomic group by [`Tables::set_atomic_group`](crate::Tables::set_atomic_group); the stage of a batch, the last
+//!   index of its entries and its offset by [`LogBatchHandle`].
 //! - Contexts that an engine is opened with have read just the batches of its files, but for torn tails: `engine::found::Found`
 //!   alone makes a [`FoundHandle`], and reads and opens it with its contexts.
 //! - The orders of an engine are taken in their order, none twice ([`EngineHandle`] tests their numbers), and carried out so
@@ -34,7 +33,6 @@ mod found;
 mod heap;
 mod items;
 mod log_batch;
-mod slot;
 mod tables;
 
 pub(crate) use context::ContextHandle;
@@ -42,7 +40,6 @@ pub(crate) use engine::{EngineHandle, Order, block_entries};
 pub(crate) use found::FoundHandle;
 pub(crate) use items::ItemsHandle;
 pub(crate) use log_batch::LogBatchHandle;
-pub(crate) use slot::{SlotHandle, slot_of};
 pub(crate) use tables::TablesHandle;
 
 /// The pointer of a box in the library, null where there is none.
@@ -328,6 +325,21 @@ unsafe extern "C" {
         bytes_len: usize,
         len: *mut usize,
     ) -> u32;
+    fn raft_ffi_tables_scan(
+        tables: *mut Handle,
+        region: u64,
+        start: *const u8,
+        start_len: usize,
+        end: *const u8,
+        end_len: usize,
+        is_bounded: bool,
+        lens: *mut usize,
+        lens_len: usize,
+        count: *mut usize,
+        bytes: *mut u8,
+        bytes_len: usize,
+        len: *mut usize,
+    ) -> u32;
     fn raft_ffi_tables_check_append(
         tables: *mut Handle,
         batch: *mut Handle,
@@ -431,147 +443,36 @@ unsafe extern "C" {
     fn raft_ffi_batch_drop(batch: Handle);
 
     fn raft_ffi_slot_of(region: u64) -> usize;
-    fn raft_ffi_slot_new(slot: *mut Handle, number: usize) -> u32;
-    fn raft_ffi_slot_number(slot: *mut Handle) -> usize;
-    fn raft_ffi_slot_take_tables(slot: *mut Handle, tables: *mut Handle);
-    fn raft_ffi_slot_live(slot: *mut Handle, is_rewrite: bool) -> usize;
-    fn raft_ffi_slot_summary(slot: *mut Handle, region: u64, summary: *mut SummaryNumbers) -> bool;
-    fn raft_ffi_slot_cleaned(slot: *mut Handle, regions: *mut u64, regions_len: usize) -> usize;
-    fn raft_ffi_slot_entry(
-        slot: *mut Handle,
+    fn raft_ffi_tables_move_table(
+        tables: *mut Handle,
+        to: *mut Handle,
         region: u64,
-        index: u64,
-        entry: *mut EntryNumbers,
-    ) -> bool;
-    fn raft_ffi_slot_entries(
-        slot: *mut Handle,
-        region: u64,
-        begin: u64,
-        end: u64,
-        max_size: Maybe,
-        entries: *mut EntryNumbers,
-        entries_len: usize,
-        count: *mut usize,
         text: *mut u8,
         text_len: usize,
     ) -> Status;
-    fn raft_ffi_slot_entries_before(
-        slot: *mut Handle,
-        region: u64,
-        gate: u64,
-        entries: *mut EntryNumbers,
-        entries_len: usize,
-        count: *mut usize,
-    ) -> u32;
-    fn raft_ffi_slot_rewritten_entries(
-        slot: *mut Handle,
-        region: u64,
-        entries: *mut EntryNumbers,
-        entries_len: usize,
-        count: *mut usize,
-    ) -> u32;
-    fn raft_ffi_slot_value(
-        slot: *mut Handle,
-        region: u64,
-        key: *const u8,
-        key_len: usize,
-        value: *mut u8,
-        value_len: usize,
-        len: *mut usize,
-    ) -> bool;
-    fn raft_ffi_slot_pairs_before(
-        slot: *mut Handle,
-        region: u64,
-        gate: u64,
-        lens: *mut usize,
-        lens_len: usize,
-        count: *mut usize,
-        bytes: *mut u8,
-        bytes_len: usize,
-        len: *mut usize,
-    ) -> u32;
-    fn raft_ffi_slot_rewritten_pairs(
-        slot: *mut Handle,
-        region: u64,
-        lens: *mut usize,
-        lens_len: usize,
-        count: *mut usize,
-        bytes: *mut u8,
-        bytes_len: usize,
-        len: *mut usize,
-    ) -> u32;
-    fn raft_ffi_slot_append(
-        slot: *mut Handle,
-        region: u64,
-        entries: *const EntryNumbers,
-        entries_len: usize,
+    fn raft_ffi_slot_check_append(
+        tables: *mut Handle,
+        number: usize,
+        batch: *mut Handle,
         text: *mut u8,
         text_len: usize,
     ) -> Status;
-    fn raft_ffi_slot_compact(
-        slot: *mut Handle,
-        region: u64,
-        index: u64,
-        dropped: *mut u64,
+    fn raft_ffi_slot_apply_append(
+        tables: *mut Handle,
+        number: usize,
+        items: *mut Handle,
         text: *mut u8,
         text_len: usize,
     ) -> Status;
-    fn raft_ffi_slot_truncate(
-        slot: *mut Handle,
-        region: u64,
-        index: u64,
-        dropped: *mut u64,
-        text: *mut u8,
-        text_len: usize,
-    ) -> Status;
-    fn raft_ffi_slot_put(
-        slot: *mut Handle,
-        region: u64,
-        key: *const u8,
-        key_len: usize,
-        value: *const u8,
-        value_len: usize,
-        is_rewrite: bool,
-        seq: u64,
-        text: *mut u8,
-        text_len: usize,
-    ) -> Status;
-    fn raft_ffi_slot_delete(
-        slot: *mut Handle,
-        region: u64,
-        key: *const u8,
-        key_len: usize,
-        text: *mut u8,
-        text_len: usize,
-    ) -> Status;
-    fn raft_ffi_slot_rewrite(
-        slot: *mut Handle,
-        region: u64,
-        entries: *const EntryNumbers,
-        entries_len: usize,
-        gate: Maybe,
-        text: *mut u8,
-        text_len: usize,
-    ) -> Status;
-    fn raft_ffi_slot_rewrite_key(
-        slot: *mut Handle,
-        region: u64,
-        key: *const u8,
-        key_len: usize,
+    fn raft_ffi_slot_apply_rewrite(
+        tables: *mut Handle,
+        number: usize,
+        items: *mut Handle,
         gate: Maybe,
         seq: u64,
         text: *mut u8,
         text_len: usize,
     ) -> Status;
-    fn raft_ffi_slot_atomic_group(slot: *mut Handle, region: u64, start: u64, end: u64) -> u32;
-    fn raft_ffi_slot_remove(
-        slot: *mut Handle,
-        region: u64,
-        is_listed: bool,
-        found: *mut bool,
-    ) -> u32;
-    fn raft_ffi_slot_cleaned_logs(slot: *mut Handle, batch: *mut Handle) -> u32;
-    fn raft_ffi_slot_drop(slot: Handle);
 
     fn raft_ffi_batch_len(bytes: *const u8, bytes_len: usize) -> usize;
     fn raft_ffi_readable_front(
@@ -825,4 +726,10 @@ pub(crate) fn batch_len(bytes: &[u8]) -> Option<usize> {
 pub(crate) fn crc32(bytes: &[u8]) -> u32 {
     // SAFETY: the bytes are lent for the call.
     unsafe { raft_ffi_crc32(bytes.as_ptr(), bytes.len()) }
+}
+
+/// Returns the number of the slot that holds a region's table.
+pub(crate) fn slot_of(region: u64) -> usize {
+    // SAFETY: the library asks nothing.
+    unsafe { raft_ffi_slot_of(region) }
 }

@@ -2,11 +2,20 @@
 
 use crate::sys::TablesHandle;
 use crate::{Batch, Entry, Error, FileId, LogBatch, Pair, Queue, Result, SLOTS, Slot, slot_of};
-use std::array::from_fn;
 use std::fmt;
 use std::ops::Range;
 
 /// What a region's table has.
+///
+/// ```
+/// use raft_recover::{FileId, Queue, Summary, Tables};
+///
+/// let mut tables = Tables::new()?;
+/// tables.put(7, b"key", b"value", FileId::new(Queue::Append, 9))?;
+/// let expected = Summary { entries: 0, keys: 1, first_index: None, append_seq: Some(9), rewrite_seq: None };
+/// assert_eq!(tables.summary(7), Some(expected));
+/// # Ok::<(), raft_recover::Error>(())
+/// ```
 #[derive(Clone, Copy, PartialEq, Eq, Hash, Debug)]
 pub struct Summary {
     /// How many entries.
@@ -75,7 +84,7 @@ pub struct Summary {
 /// newer.cleaned();
 /// ```
 pub struct Tables {
-    handle: TablesHandle,
+    pub(crate) handle: TablesHandle,
 }
 
 impl Tables {
@@ -86,6 +95,11 @@ impl Tables {
 
     /// Makes no tables.
     ///
+    /// ```
+    /// assert_eq!(raft_recover::Tables::new()?.to_string(), "cleaned -\nlive 0 0\n");
+    /// # Ok::<(), raft_recover::Error>(())
+    /// ```
+    ///
     /// # Errors
     ///
     /// `Memory`.
@@ -94,12 +108,28 @@ impl Tables {
     }
 
     /// Returns how many records are live in a queue.
+    ///
+    /// ```
+    /// # use raft_recover::{FileId, Queue, Tables};
+    /// # let mut tables = Tables::new()?;
+    /// tables.put(7, b"key", b"value", FileId::new(Queue::Append, 9))?;
+    /// assert_eq!((tables.live(Queue::Append), tables.live(Queue::Rewrite)), (1, 0));
+    /// # Ok::<(), raft_recover::Error>(())
+    /// ```
     #[must_use]
     pub fn live(&self, queue: Queue) -> usize {
         self.handle.live(queue)
     }
 
     /// Returns the regions that have a table, in rising order.
+    ///
+    /// ```
+    /// # use raft_recover::{FileId, Queue, Tables};
+    /// # let mut tables = Tables::new()?;
+    /// tables.put(7, b"key", b"value", FileId::new(Queue::Append, 9))?;
+    /// assert_eq!(tables.regions()?, [7]);
+    /// # Ok::<(), raft_recover::Error>(())
+    /// ```
     ///
     /// # Errors
     ///
@@ -109,18 +139,48 @@ impl Tables {
     }
 
     /// Returns the regions that were cleaned, in the order of their `Clean`s.
+    ///
+    /// ```
+    /// # use raft_recover::Tables;
+    /// # let mut tables = Tables::new()?;
+    /// tables.remove(7, true)?;
+    /// assert_eq!(tables.cleaned(), [7]);
+    /// # Ok::<(), raft_recover::Error>(())
+    /// ```
     #[must_use]
     pub fn cleaned(&self) -> Vec<u64> {
         self.handle.cleaned()
     }
 
     /// Returns what a region's table has, if there is one.
+    ///
+    /// ```
+    /// # use raft_recover::{FileId, Queue, Tables};
+    /// # let mut tables = Tables::new()?;
+    /// tables.put(7, b"key", b"value", FileId::new(Queue::Append, 9))?;
+    /// let summary = tables.summary(7).unwrap();
+    /// assert_eq!((summary.keys, summary.append_seq), (1, Some(9)));
+    /// assert_eq!(tables.summary(8), None);
+    /// # Ok::<(), raft_recover::Error>(())
+    /// ```
     #[must_use]
     pub fn summary(&self, region: u64) -> Option<Summary> {
         self.handle.summary(region)
     }
 
     /// Returns an entry of a region, if there is one.
+    ///
+    /// ```
+    /// # use raft_recover::{Block, Entry, FileId, Queue, Tables};
+    /// # let block = |queue, seq| Block { file: FileId::new(queue, seq), offset: 16, len: 34 };
+    /// # let place = |queue, seq, index| Entry { index, block: block(queue, seq), offset: 0, len: 10 };
+    /// # let mut tables = Tables::new()?;
+    /// let run = [1, 2, 3].map(|index| place(Queue::Append, 9, index));
+    /// tables.append(7, &run)?;
+    /// assert_eq!(tables.entry(7, 2), Some(run[1]));
+    /// assert_eq!(tables.entry(7, 4), None);
+    /// # Ok::<(), raft_recover::Error>(())
+    /// ```
     #[must_use]
     pub fn entry(&self, region: u64, index: u64) -> Option<Entry> {
         self.handle.entry(region, index)
@@ -128,6 +188,19 @@ impl Tables {
 
     /// Returns the entries of a range of indexes, in order. With a maximal size it stops before the first one with which the
     /// total of lengths passes that size and exceeds the entry's own length. A region without a table has no entries.
+    ///
+    /// ```
+    /// # use raft_recover::{Block, Entry, FileId, Queue, Tables};
+    /// # let block = |queue, seq| Block { file: FileId::new(queue, seq), offset: 16, len: 34 };
+    /// # let place = |queue, seq, index| Entry { index, block: block(queue, seq), offset: 0, len: 10 };
+    /// # let mut tables = Tables::new()?;
+    /// let run = [1, 2, 3].map(|index| place(Queue::Append, 9, index));
+    /// tables.append(7, &run)?;
+    /// assert_eq!(tables.entries(7, 2..4, None)?, run[1..]);
+    /// assert_eq!(tables.entries(7, 1..4, Some(25))?, run[..2]); // the third one would pass 25 bytes
+    /// assert!(tables.entries(7, 1..5, None).is_err());
+    /// # Ok::<(), raft_recover::Error>(())
+    /// ```
     ///
     /// # Errors
     ///
@@ -144,6 +217,18 @@ impl Tables {
 
     /// Returns the appended entries of a region from the first on while their file is at or below `gate`.
     ///
+    /// ```
+    /// # use raft_recover::{Block, Entry, FileId, Queue, Tables};
+    /// # let block = |queue, seq| Block { file: FileId::new(queue, seq), offset: 16, len: 34 };
+    /// # let place = |queue, seq, index| Entry { index, block: block(queue, seq), offset: 0, len: 10 };
+    /// # let mut tables = Tables::new()?;
+    /// let run = [1, 2, 3].map(|index| place(Queue::Append, 9, index));
+    /// tables.append(7, &run)?;
+    /// assert_eq!(tables.entries_before(7, 8)?, []);
+    /// assert_eq!(tables.entries_before(7, 9)?, run);
+    /// # Ok::<(), raft_recover::Error>(())
+    /// ```
+    ///
     /// # Errors
     ///
     /// `Memory`.
@@ -153,6 +238,19 @@ impl Tables {
 
     /// Returns the rewritten entries of a region.
     ///
+    /// ```
+    /// # use raft_recover::{Block, Entry, FileId, Queue, Tables};
+    /// # let block = |queue, seq| Block { file: FileId::new(queue, seq), offset: 16, len: 34 };
+    /// # let place = |queue, seq, index| Entry { index, block: block(queue, seq), offset: 0, len: 10 };
+    /// # let mut tables = Tables::new()?;
+    /// let run = [1, 2, 3].map(|index| place(Queue::Append, 9, index));
+    /// tables.append(7, &run)?;
+    /// let moved = [1, 2].map(|index| place(Queue::Rewrite, 2, index));
+    /// tables.rewrite(7, &moved, Some(9))?;
+    /// assert_eq!(tables.rewritten_entries(7)?, moved);
+    /// # Ok::<(), raft_recover::Error>(())
+    /// ```
+    ///
     /// # Errors
     ///
     /// `Memory`.
@@ -161,6 +259,15 @@ impl Tables {
     }
 
     /// Returns the value of a region's key, if there is one.
+    ///
+    /// ```
+    /// # use raft_recover::{FileId, Queue, Tables};
+    /// # let mut tables = Tables::new()?;
+    /// tables.put(7, b"key", b"value", FileId::new(Queue::Append, 9))?;
+    /// assert_eq!(tables.value(7, b"key").unwrap(), b"value");
+    /// assert_eq!(tables.value(7, b"another"), None);
+    /// # Ok::<(), raft_recover::Error>(())
+    /// ```
     #[must_use]
     pub fn value(&self, region: u64, key: &[u8]) -> Option<Vec<u8>> {
         self.handle.value(region, key)
@@ -168,6 +275,15 @@ impl Tables {
 
     /// Returns the appended keys of a region with their values, up to a file: those in append files at or below `gate`, in
     /// the order of the keys.
+    ///
+    /// ```
+    /// # use raft_recover::{FileId, Queue, Tables};
+    /// # let mut tables = Tables::new()?;
+    /// tables.put(7, b"key", b"value", FileId::new(Queue::Append, 9))?;
+    /// assert_eq!(tables.pairs_before(7, 8)?.len(), 0);
+    /// assert_eq!(tables.pairs_before(7, 9)?.len(), 1);
+    /// # Ok::<(), raft_recover::Error>(())
+    /// ```
     ///
     /// # Errors
     ///
@@ -178,6 +294,15 @@ impl Tables {
 
     /// Returns the rewritten keys of a region with their values, in the order of the keys.
     ///
+    /// ```
+    /// # use raft_recover::{FileId, Queue, Tables};
+    /// # let mut tables = Tables::new()?;
+    /// tables.put(7, b"key", b"value", FileId::new(Queue::Append, 9))?;
+    /// tables.rewrite_key(7, b"key", Some(9), 2)?;
+    /// assert_eq!(tables.rewritten_pairs(7)?[0].value, b"value");
+    /// # Ok::<(), raft_recover::Error>(())
+    /// ```
+    ///
     /// # Errors
     ///
     /// `Memory`.
@@ -187,18 +312,40 @@ impl Tables {
 
     /// Returns all keys of a region with their values, in the order of the keys.
     ///
+    /// ```
+    /// # use raft_recover::{FileId, Queue, Tables};
+    /// # let mut tables = Tables::new()?;
+    /// tables.put(7, b"key", b"value", FileId::new(Queue::Append, 9))?;
+    /// for pair in tables.pairs(7)? {
+    ///     assert_eq!((pair.key, pair.value), (b"key".to_vec(), b"value".to_vec()));
+    /// }
+    /// # Ok::<(), raft_recover::Error>(())
+    /// ```
+    ///
     /// # Errors
     ///
     /// `Memory`.
     pub fn pairs(&self, region: u64) -> Result<Vec<Pair>> {
-        let mut pairs = self.pairs_before(region, u64::MAX)?;
-        pairs.extend(self.rewritten_pairs(region)?);
-        pairs.sort_unstable_by(|a, b| a.key.cmp(&b.key));
-        Ok(pairs)
+        self.handle.pairs(region)
     }
 
     /// Tests whether [`Tables::apply_append`] would accept the items of a batch once it is written to the append queue. It
     /// changes nothing, and the stage of the batch doesn't matter.
+    ///
+    /// ```
+    /// # use raft_recover::{Block, Entry, FileId, LogBatch, Queue, Tables};
+    /// # let block = |queue, seq| Block { file: FileId::new(queue, seq), offset: 16, len: 34 };
+    /// # let place = |queue, seq, index| Entry { index, block: block(queue, seq), offset: 0, len: 10 };
+    /// # let mut tables = Tables::new()?;
+    /// let run = [1, 2, 3].map(|index| place(Queue::Append, 9, index));
+    /// tables.append(7, &run)?;
+    /// let mut batch = LogBatch::new()?;
+    /// batch.add_entries(7, 4, &["the next one"])?;
+    /// tables.check_append(&batch)?;
+    /// batch.add_entries(7, 9, &["behind a hole"])?;
+    /// tables.check_append(&batch).unwrap_err();
+    /// # Ok::<(), raft_recover::Error>(())
+    /// ```
     ///
     /// # Errors
     ///
@@ -213,6 +360,16 @@ impl Tables {
     /// away, which is not listed: compactions, truncations, deletions of keys, and each run that replaces entries, as the
     /// truncation at its first index.
     ///
+    /// ```
+    /// # use raft_recover::{Content, Tables};
+    /// # let mut tables = Tables::new()?;
+    /// tables.remove(7, true)?;
+    /// let batch = tables.take_cleaned_logs()?;
+    /// assert_eq!(batch.into_items()?.get(0).unwrap().content, Content::Clean);
+    /// assert_eq!(tables.cleaned(), []);
+    /// # Ok::<(), raft_recover::Error>(())
+    /// ```
+    ///
     /// # Errors
     ///
     /// `Memory`. The list is then as it was.
@@ -222,6 +379,19 @@ impl Tables {
 
     /// Puts new entries of the append queue after those of a region below their start. All others go; where
     /// there are no new ones, all stay.
+    ///
+    /// ```
+    /// # use raft_recover::{Block, Entry, FileId, Queue, Tables};
+    /// # let block = |queue, seq| Block { file: FileId::new(queue, seq), offset: 16, len: 34 };
+    /// # let place = |queue, seq, index| Entry { index, block: block(queue, seq), offset: 0, len: 10 };
+    /// # let mut tables = Tables::new()?;
+    /// let run = [1, 2, 3].map(|index| place(Queue::Append, 9, index));
+    /// tables.append(7, &run)?;
+    /// tables.append(7, &[place(Queue::Append, 9, 2)])?;
+    /// assert_eq!(tables.entry(7, 3), None); // the new run ends below
+    /// tables.append(7, &[place(Queue::Append, 9, 9)]).unwrap_err(); // a hole
+    /// # Ok::<(), raft_recover::Error>(())
+    /// ```
     ///
     /// # Errors
     ///
@@ -233,6 +403,18 @@ impl Tables {
 
     /// Drops the entries of a region below an index, and returns how many those were.
     ///
+    /// ```
+    /// # use raft_recover::{Block, Entry, FileId, Queue, Tables};
+    /// # let block = |queue, seq| Block { file: FileId::new(queue, seq), offset: 16, len: 34 };
+    /// # let place = |queue, seq, index| Entry { index, block: block(queue, seq), offset: 0, len: 10 };
+    /// # let mut tables = Tables::new()?;
+    /// let run = [1, 2, 3].map(|index| place(Queue::Append, 9, index));
+    /// tables.append(7, &run)?;
+    /// assert_eq!(tables.compact(7, 3)?, 2);
+    /// assert_eq!(tables.summary(7).unwrap().first_index, Some(3));
+    /// # Ok::<(), raft_recover::Error>(())
+    /// ```
+    ///
     /// # Errors
     ///
     /// `Memory`.
@@ -241,6 +423,18 @@ impl Tables {
     }
 
     /// Drops the entries of a region at or above an index, and returns how many those were.
+    ///
+    /// ```
+    /// # use raft_recover::{Block, Entry, FileId, Queue, Tables};
+    /// # let block = |queue, seq| Block { file: FileId::new(queue, seq), offset: 16, len: 34 };
+    /// # let place = |queue, seq, index| Entry { index, block: block(queue, seq), offset: 0, len: 10 };
+    /// # let mut tables = Tables::new()?;
+    /// let run = [1, 2, 3].map(|index| place(Queue::Append, 9, index));
+    /// tables.append(7, &run)?;
+    /// assert_eq!(tables.truncate(7, 3)?, 1);
+    /// assert_eq!(tables.entry(7, 3), None);
+    /// # Ok::<(), raft_recover::Error>(())
+    /// ```
     ///
     /// # Errors
     ///
@@ -251,6 +445,14 @@ impl Tables {
 
     /// Puts a key of a region with its value, which were written to this file.
     ///
+    /// ```
+    /// # use raft_recover::{FileId, Queue, Tables};
+    /// # let mut tables = Tables::new()?;
+    /// tables.put(7, b"key", b"value", FileId::new(Queue::Append, 9))?;
+    /// assert_eq!(tables.value(7, b"key").unwrap(), b"value");
+    /// # Ok::<(), raft_recover::Error>(())
+    /// ```
+    ///
     /// # Errors
     ///
     /// `Full`, `Memory`.
@@ -259,6 +461,15 @@ impl Tables {
     }
 
     /// Deletes a key of a region and its value.
+    ///
+    /// ```
+    /// # use raft_recover::{FileId, Queue, Tables};
+    /// # let mut tables = Tables::new()?;
+    /// tables.put(7, b"key", b"value", FileId::new(Queue::Append, 9))?;
+    /// tables.delete(7, b"key")?;
+    /// assert_eq!(tables.value(7, b"key"), None);
+    /// # Ok::<(), raft_recover::Error>(())
+    /// ```
     ///
     /// # Errors
     ///
@@ -270,6 +481,21 @@ impl Tables {
     /// Gives entries of a region the places of a run of the rewrite queue, as far as they may move: with a gate those in files
     /// at or below it, without one those that are rewritten already.
     ///
+    /// ```
+    /// # use raft_recover::{Block, Entry, FileId, Queue, Tables};
+    /// # let block = |queue, seq| Block { file: FileId::new(queue, seq), offset: 16, len: 34 };
+    /// # let place = |queue, seq, index| Entry { index, block: block(queue, seq), offset: 0, len: 10 };
+    /// # let mut tables = Tables::new()?;
+    /// let run = [1, 2, 3].map(|index| place(Queue::Append, 9, index));
+    /// tables.append(7, &run)?;
+    /// let moved = run.map(|entry| place(Queue::Rewrite, 2, entry.index));
+    /// tables.rewrite(7, &moved, Some(8))?; // they are in file 9
+    /// assert_eq!(tables.entry(7, 1), Some(run[0]));
+    /// tables.rewrite(7, &moved, Some(9))?;
+    /// assert_eq!(tables.entry(7, 1), Some(moved[0]));
+    /// # Ok::<(), raft_recover::Error>(())
+    /// ```
+    ///
     /// # Errors
     ///
     /// `InvalidArgument` where the indexes don't rise by one or a place is in the append queue; `Corruption` where the run
@@ -280,6 +506,15 @@ impl Tables {
 
     /// Moves the pair of a region's key to the file of number `seq` of the rewrite queue: one in the append queue where there is
     /// a gate and its file is at or below it, one in the rewrite queue always.
+    ///
+    /// ```
+    /// # use raft_recover::{FileId, Queue, Tables};
+    /// # let mut tables = Tables::new()?;
+    /// tables.put(7, b"key", b"value", FileId::new(Queue::Append, 9))?;
+    /// tables.rewrite_key(7, b"key", Some(9), 2)?;
+    /// assert_eq!(tables.summary(7).unwrap().rewrite_seq, Some(2));
+    /// # Ok::<(), raft_recover::Error>(())
+    /// ```
     ///
     /// # Errors
     ///
@@ -296,6 +531,16 @@ impl Tables {
 
     /// Sets the first and the last file of a region's atomic group, once the group's End is written.
     ///
+    /// ```
+    /// # use raft_recover::{FileId, Queue, Tables};
+    /// # let mut tables = Tables::new()?;
+    /// tables.put(7, b"key", b"value", FileId::new(Queue::Append, 9))?;
+    /// tables.rewrite_key(7, b"key", Some(9), 2)?;
+    /// tables.set_atomic_group(7, 1, 2)?;
+    /// assert_eq!(tables.summary(7).unwrap().rewrite_seq, Some(1));
+    /// # Ok::<(), raft_recover::Error>(())
+    /// ```
+    ///
     /// # Errors
     ///
     /// `InvalidArgument` where `start` is above `end`, `Memory`.
@@ -311,6 +556,16 @@ impl Tables {
     /// Takes a region's table away, and returns whether there was one. Where that is asked for, it lists the region as cleaned,
     /// also where it has no table.
     ///
+    /// ```
+    /// # use raft_recover::{FileId, Queue, Tables};
+    /// # let mut tables = Tables::new()?;
+    /// tables.put(7, b"key", b"value", FileId::new(Queue::Append, 9))?;
+    /// assert!(tables.remove(7, true)?);
+    /// assert!(!tables.remove(7, false)?);
+    /// assert_eq!(tables.cleaned(), [7]);
+    /// # Ok::<(), raft_recover::Error>(())
+    /// ```
+    ///
     /// # Errors
     ///
     /// `Memory`, where the region is to be listed.
@@ -321,24 +576,44 @@ impl Tables {
     /// Divides the tables and the cleaned regions into slots, in the order of their numbers. A region's table and its entries
     /// in the list go to the slot of [`slot_of`] the region; within a slot the list keeps its order.
     ///
+    /// ```
+    /// # use raft_recover::{FileId, Queue, Tables, slot_of};
+    /// # let mut tables = Tables::new()?;
+    /// tables.put(7, b"key", b"value", FileId::new(Queue::Append, 9))?;
+    /// let slots = tables.into_slots()?;
+    /// assert_eq!(slots[slot_of(7)].value(7, b"key").unwrap(), b"value");
+    /// # Ok::<(), raft_recover::Error>(())
+    /// ```
+    ///
     /// # Errors
     ///
     /// `Memory`. The tables are then gone.
     pub fn into_slots(mut self) -> Result<[Slot; SLOTS]> {
-        let mut cleaned: [Vec<u64>; SLOTS] = from_fn(|_| Vec::new());
+        let slots: Result<Vec<_>> = (0..SLOTS).map(Slot::new).collect();
+        let mut slots = slots?;
         for region in self.cleaned() {
-            cleaned[slot_of(region)].push(region);
+            slots[slot_of(region)].remove(region, true)?;
         }
-        let slots = (0..)
-            .zip(&cleaned)
-            .map(|(number, regions)| Slot::filled(number, regions, &mut self.handle))
-            .collect::<Result<Vec<_>>>()?;
+        for region in self.regions()? {
+            slots[slot_of(region)].take_table(region, &mut self)?;
+        }
         Ok(slots
             .try_into()
             .expect("there are as many slots as numbers"))
     }
 
     /// Merges the tables of a newer neighbor, each into the table of its region. Its list of cleaned regions is dropped.
+    ///
+    /// ```
+    /// # use raft_recover::{FileId, Queue, Tables};
+    /// # let mut tables = Tables::new()?;
+    /// tables.put(7, b"key", b"value", FileId::new(Queue::Append, 9))?;
+    /// let mut newer = Tables::new()?;
+    /// newer.put(7, b"key", b"new", FileId::new(Queue::Append, 10))?;
+    /// tables.merge_newer(newer)?;
+    /// assert_eq!(tables.value(7, b"key").unwrap(), b"new");
+    /// # Ok::<(), raft_recover::Error>(())
+    /// ```
     ///
     /// # Errors
     ///
@@ -349,6 +624,17 @@ impl Tables {
 
     /// Merges appended tables, each into the rewritten table of its region. Their list of cleaned regions is dropped.
     ///
+    /// ```
+    /// # use raft_recover::{FileId, Queue, Tables};
+    /// # let mut tables = Tables::new()?;
+    /// tables.put(7, b"key", b"value", FileId::new(Queue::Append, 9))?;
+    /// let mut both = Tables::new()?;
+    /// both.put(7, b"key", b"old", FileId::new(Queue::Rewrite, 1))?;
+    /// both.merge_append(tables)?;
+    /// assert_eq!(both.value(7, b"key").unwrap(), b"value");
+    /// # Ok::<(), raft_recover::Error>(())
+    /// ```
+    ///
     /// # Errors
     ///
     /// As [`Tables::merge_newer`].
@@ -357,6 +643,20 @@ impl Tables {
     }
 
     /// Writes the items of a batch of the append queue to the tables, in order.
+    ///
+    /// ```
+    /// # use raft_recover::{LogBatch, LogFile, Queue, Tables, Version};
+    /// # let mut tables = Tables::new()?;
+    /// let file = LogFile::new(Queue::Append, 9, Version::V2);
+    /// let mut batch = LogBatch::new()?;
+    /// batch.put(7, b"key", b"value")?;
+    /// batch.finish()?;
+    /// batch.sign(file)?;
+    /// batch.written(file.into(), 0)?;
+    /// tables.apply_append(batch.into_items()?)?;
+    /// assert_eq!(tables.summary(7).unwrap().append_seq, Some(9));
+    /// # Ok::<(), raft_recover::Error>(())
+    /// ```
     ///
     /// # Errors
     ///
@@ -369,6 +669,22 @@ impl Tables {
     /// Writes the items of a batch that was rewritten to the file of number `seq` of the rewrite queue to the tables, in order.
     /// With a gate the places that move are those in append files at or below it, without one those that are rewritten
     /// already.
+    ///
+    /// ```
+    /// # use raft_recover::{FileId, LogBatch, LogFile, Queue, Tables, Version};
+    /// # let mut tables = Tables::new()?;
+    /// tables.put(7, b"key", b"value", FileId::new(Queue::Append, 9))?;
+    /// let file = LogFile::new(Queue::Rewrite, 2, Version::V2);
+    /// let mut batch = LogBatch::new()?;
+    /// batch.put(7, b"key", b"value")?;
+    /// batch.finish()?;
+    /// batch.sign(file)?;
+    /// batch.written(file.into(), 0)?;
+    /// tables.apply_rewrite(batch.into_items()?, Some(9), 2)?;
+    /// let summary = tables.summary(7).unwrap();
+    /// assert_eq!((summary.append_seq, summary.rewrite_seq), (None, Some(2)));
+    /// # Ok::<(), raft_recover::Error>(())
+    /// ```
     ///
     /// # Errors
     ///

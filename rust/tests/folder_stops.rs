@@ -59,9 +59,10 @@ fn run() {
             }
         };
         write(true);
-        write(false);
         write(true);
+        write(false);
         engine.rotate().unwrap();
+        println!("lasts {}", number.get());
         write(false);
         engine.rewrite(1).unwrap();
         write(false);
@@ -130,6 +131,8 @@ struct Disk {
     now: BTreeMap<String, usize>,
     names: BTreeMap<String, usize>,
     since: Vec<(String, Option<usize>)>,
+    /// Whether it was opened, and the names that were found aren't synced.
+    is_found: bool,
 }
 
 /// The names and bytes of files that a stop leaves.
@@ -178,7 +181,7 @@ impl Disk {
     }
 
     /// Takes in a call of the system on a name in the folder, and tells whether it changes what a stop may leave. Names of log
-    /// files that were made or deleted are synced before anything else, and so is a file that was cut.
+    /// files that were found, made or deleted are synced before anything else, and so is a file that was cut.
     fn take(&mut self, call: &Call) -> bool {
         let name = call.name.clone();
         let file = self.now.get(&name).copied();
@@ -187,7 +190,9 @@ impl Disk {
             assert!(self.since.iter().all(|(name, _)| name == "LOCK"));
             let cut = |file: &File| matches!(file.since.last(), Some(Change::Cut(_)));
             assert!(!self.files.iter().any(cut));
+            assert!(!self.is_found);
         }
+        self.is_found |= name == "LOCK";
         match (call.what.as_str(), file) {
             ("openat", None) if call.rest.contains("O_CREAT") => {
                 self.files.push(File::default());
@@ -206,6 +211,7 @@ impl Disk {
             ("fsync", None) if name.is_empty() => {
                 self.names = self.now.clone();
                 self.since.clear();
+                self.is_found = false;
             }
             ("unlink", Some(_)) => {
                 self.now.remove(&name);
@@ -286,6 +292,13 @@ fn traced(room: &TempFolder, folder: &Path) -> Option<String> {
     status.success().then(|| fs::read_to_string(log).unwrap())
 }
 
+/// Which line has a call on this path.
+fn line_of(log: &str, what: &str, path: &Path) -> Option<usize> {
+    let path = path.to_str().unwrap().as_bytes();
+    let is_it = |line: &str| line.contains(what) && strings(line).iter().any(|text| text == path);
+    log.lines().position(is_it)
+}
+
 #[test]
 fn each_folder_that_a_stop_may_leave_has_what_was_synced() {
     let room = TempFolder::new();
@@ -293,6 +306,15 @@ fn each_folder_that_a_stop_may_leave_has_what_was_synced() {
     let Some(log) = traced(&room, &folder) else {
         return println!("there is no strace: nothing was tested");
     };
+    // the name of the folder itself is on the disk before anything lasts
+    let (made, synced) = (
+        line_of(&log, "mkdir(", &folder),
+        line_of(&log, "fsync(", room.path()),
+    );
+    let lasts = log
+        .lines()
+        .position(|line| matches!(read(line, &folder), Some(Err(_))));
+    assert!(made.is_some() && made < synced && synced < lasts);
     let (mut disk, mut certain, mut stops, mut opened) = (Disk::default(), 0, 0, 0);
     let mut tried = BTreeSet::new();
     for line in log.lines() {

@@ -212,12 +212,38 @@ fn every_request_refused_in_turn() {
     );
 }
 
+/// A slot to which its share of a batch was written.
+fn slot_with_share() -> Result<Slot> {
+    let mut batch = LogBatch::new()?;
+    batch.add_entries(7, 10, &["one", "three"])?;
+    batch.put(7, b"key", b"value")?;
+    batch.clean((8..).find(|id| slot_of(*id) != slot_of(7)).unwrap())?;
+    let mut slot = Slot::new(slot_of(7))?;
+    slot.check_append(&batch)?;
+    batch.finish()?;
+    batch.sign(file(1))?;
+    batch.written(file(1).into(), 0)?;
+    slot.apply_append(&batch.into_items()?)?;
+    assert_eq!(slot.regions()?, [7]);
+    assert_eq!(slot.pairs(7)?.len(), 1);
+    Ok(slot)
+}
+
+#[test]
+fn a_share_is_tested_and_written_without_leaks_where_memory_is_refused() {
+    let _turn = TURN.lock();
+    let live = |slot: Slot| slot.live(Queue::Append).to_string();
+    let refused = refused_in_turn("3", slot_with_share, live);
+    assert!(refused > 20, "{refused}");
+}
+
 /// Does with an engine all that it does. Counts the batches that it took.
 fn engine_steps(engine: &Engine<MemoryFiles>, written: &mut u64) -> Result<()> {
     for index in 1..=4 {
         let mut batch = LogBatch::new()?;
         batch.add_entries(7, index, &["an entry"])?;
         batch.compact(7, index - 1)?;
+        batch.put(7, b"key", b"value")?;
         engine.write(&mut batch, index % 2 == 0)?;
         *written += 1;
     }
@@ -227,6 +253,7 @@ fn engine_steps(engine: &Engine<MemoryFiles>, written: &mut u64) -> Result<()> {
     engine.rewrite_again()?;
     engine.purge()?;
     assert_eq!(engine.entries(7, ..)?.len(), 2);
+    assert_eq!(engine.scan(7, ..)?.len(), 1);
     engine.sync()
 }
 

@@ -3,8 +3,8 @@
 use raft_recover::{
     Ask, Batch, BatchIntoIter, BatchIter, Batches, Block, Content, Context, Engine, Entries, Entry,
     Error, ErrorKind, FileId, FilePart, Files, FolderFiles, Item, Kept, LogBatch, LogFile,
-    MemoryFiles, Options, Pair, Purged, Queue, QueueStats, Slot, Stage, Stats, Summary, Tables,
-    Unsynced, Version,
+    MemoryFiles, Options, Pair, Pairs, Purged, Queue, QueueStats, Slot, Stage, Stats, Summary,
+    Tables, Unsynced, Version,
 };
 use std::collections::{BTreeSet, HashSet};
 use std::fmt::{Debug, Display};
@@ -50,7 +50,7 @@ all_are!(
 );
 none_is!(Clone => Engine, Engine<MemoryFiles>, FolderFiles);
 all_are!(Files => FolderFiles, MemoryFiles, Arc<MemoryFiles>, Arc<dyn Files>);
-all_are!(Send, Sync, Debug, Clone, Default, Unpin => Entries, MemoryFiles, Options, Purged, Stats);
+all_are!(Send, Sync, Debug, Clone, Default, Unpin => Entries, MemoryFiles, Options, Pairs, Purged, Stats);
 all_are!(
     Send, Sync, Debug, Clone, PartialEq, Eq, Hash, Unpin =>
     Ask, Options, Purged, QueueStats, Stats, Unsynced,
@@ -66,7 +66,7 @@ all_are!(Display => Error, ErrorKind, FileId, Queue, Tables, Version);
 all_are!(TryFrom<u8> => ErrorKind, Queue, Version);
 all_are!(std::error::Error => Error);
 all_are!(Iterator, FusedIterator, Debug => BatchIter<'static>, BatchIntoIter, Batches<'static>);
-all_are!(Iterator, FusedIterator, ExactSizeIterator, DoubleEndedIterator => Entries);
+all_are!(Iterator, FusedIterator, ExactSizeIterator, DoubleEndedIterator => Entries, Pairs);
 all_are!(ExactSizeIterator, DoubleEndedIterator => BatchIter<'static>, BatchIntoIter);
 all_are!(Copy, Default => Purged, QueueStats, Stats, Unsynced);
 all_are!(Send, Sync, Clone => Batches<'static>);

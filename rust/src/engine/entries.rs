@@ -74,6 +74,19 @@ impl Entries {
     }
 
     /// Returns the index of the entry that comes next, if one does.
+    ///
+    /// ```
+    /// # use raft_recover::{Engine, LogBatch, MemoryFiles, Options};
+    /// # let engine = Engine::with_files(MemoryFiles::new(), Options::new())?;
+    /// # let mut batch = LogBatch::new()?;
+    /// batch.add_entries(7, 10, &["one", "two", "three"])?;
+    /// engine.write(&mut batch, true)?;
+    /// let mut entries = engine.entries(7, 11..)?;
+    /// assert_eq!(entries.index(), Some(11));
+    /// entries.next();
+    /// assert_eq!(entries.index(), Some(12));
+    /// # Ok::<(), raft_recover::Error>(())
+    /// ```
     #[must_use]
     pub fn index(&self) -> Option<u64> {
         self.rest.as_slice().first().map(|place| place.index)

@@ -77,12 +77,33 @@ use std::sync::Arc;
 pub trait Files: Send + Sync {
     /// Returns the files of a queue, oldest first: the number of each, and how many bytes it has.
     ///
+    /// ```
+    /// # use raft_recover::{FileId, Files, MemoryFiles, Queue};
+    /// # let files = MemoryFiles::new();
+    /// # let file = FileId::new(Queue::Append, 1);
+    /// files.rotate(file)?;
+    /// files.write(file, b"bytes")?;
+    /// assert_eq!(files.list(Queue::Append)?, [(1, 5)]);
+    /// # Ok::<(), std::io::Error>(())
+    /// ```
+    ///
     /// # Errors
     ///
     /// Those of the system.
     fn list(&self, queue: Queue) -> io::Result<Vec<(u64, u64)>>;
 
     /// Writes bytes behind those of a file, which is the last one of its queue.
+    ///
+    /// ```
+    /// # use raft_recover::{FileId, Files, MemoryFiles, Queue};
+    /// # let files = MemoryFiles::new();
+    /// # let file = FileId::new(Queue::Append, 1);
+    /// files.rotate(file)?;
+    /// files.write(file, b"bytes")?;
+    /// files.write(file, b", and more")?;
+    /// assert_eq!(files.list(Queue::Append)?, [(1, 15)]);
+    /// # Ok::<(), std::io::Error>(())
+    /// ```
     ///
     /// # Errors
     ///
@@ -91,12 +112,34 @@ pub trait Files: Send + Sync {
 
     /// Makes all that was asked of a queue so far outlast a stop of the machine.
     ///
+    /// ```
+    /// # use raft_recover::{FileId, Files, MemoryFiles, Queue};
+    /// # let files = MemoryFiles::new();
+    /// # let file = FileId::new(Queue::Append, 1);
+    /// files.rotate(file)?;
+    /// files.write(file, b"bytes")?;
+    /// files.sync(Queue::Append)?;
+    /// assert_eq!(files.unsynced(files.asked(), Queue::Append).steps, 0);
+    /// # Ok::<(), std::io::Error>(())
+    /// ```
+    ///
     /// # Errors
     ///
     /// Those of the system.
     fn sync(&self, queue: Queue) -> io::Result<()>;
 
     /// Begins a new file of a queue, behind the last one, whose bytes are synced then.
+    ///
+    /// ```
+    /// # use raft_recover::{FileId, Files, MemoryFiles, Queue};
+    /// # let files = MemoryFiles::new();
+    /// # let file = FileId::new(Queue::Append, 1);
+    /// files.rotate(file)?;
+    /// files.write(file, b"bytes")?;
+    /// files.rotate(FileId::new(Queue::Append, 2))?;
+    /// assert_eq!(files.list(Queue::Append)?, [(1, 5), (2, 0)]);
+    /// # Ok::<(), std::io::Error>(())
+    /// ```
     ///
     /// # Errors
     ///
@@ -105,6 +148,18 @@ pub trait Files: Send + Sync {
 
     /// Deletes the oldest file of a queue, which isn't its last one.
     ///
+    /// ```
+    /// # use raft_recover::{FileId, Files, MemoryFiles, Queue};
+    /// # let files = MemoryFiles::new();
+    /// # let file = FileId::new(Queue::Append, 1);
+    /// files.rotate(file)?;
+    /// files.write(file, b"bytes")?;
+    /// files.rotate(FileId::new(Queue::Append, 2))?;
+    /// files.delete(file)?;
+    /// assert_eq!(files.list(Queue::Append)?, [(2, 0)]);
+    /// # Ok::<(), std::io::Error>(())
+    /// ```
+    ///
     /// # Errors
     ///
     /// Those of the system: the file may be gone.
@@ -112,12 +167,36 @@ pub trait Files: Send + Sync {
 
     /// Cuts a file, which is the last one of its queue, to `len` bytes, if it has more.
     ///
+    /// ```
+    /// # use raft_recover::{FileId, Files, MemoryFiles, Queue};
+    /// # let files = MemoryFiles::new();
+    /// # let file = FileId::new(Queue::Append, 1);
+    /// files.rotate(file)?;
+    /// files.write(file, b"bytes")?;
+    /// files.truncate(file, 2)?;
+    /// assert_eq!(files.list(Queue::Append)?, [(1, 2)]);
+    /// # Ok::<(), std::io::Error>(())
+    /// ```
+    ///
     /// # Errors
     ///
     /// Those of the system.
     fn truncate(&self, file: FileId, len: u64) -> io::Result<()>;
 
     /// Fills `bytes` with those of a file from `offset` on.
+    ///
+    /// ```
+    /// # use raft_recover::{FileId, Files, MemoryFiles, Queue};
+    /// # let files = MemoryFiles::new();
+    /// # let file = FileId::new(Queue::Append, 1);
+    /// files.rotate(file)?;
+    /// files.write(file, b"bytes")?;
+    /// let mut bytes = [0; 3];
+    /// files.read(file, 1, &mut bytes)?;
+    /// assert_eq!(&bytes, b"yte");
+    /// assert!(files.read(file, 4, &mut bytes).is_err());
+    /// # Ok::<(), std::io::Error>(())
+    /// ```
     ///
     /// # Errors
     ///

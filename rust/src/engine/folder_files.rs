@@ -47,6 +47,15 @@ impl FolderFiles {
     /// Opens a folder with all log files in it. One that isn't there yet is made, in a folder that is. The files, their names and
     /// that of the folder are on the disk then.
     ///
+    /// ```
+    /// # use raft_recover::FolderFiles;
+    /// # let path = std::env::temp_dir().join(format!("raft-recover-open-files-{}", std::process::id()));
+    /// let files = FolderFiles::open(&path)?;
+    /// assert!(path.join("LOCK").is_file());
+    /// # std::fs::remove_dir_all(path).unwrap();
+    /// # Ok::<(), raft_recover::Error>(())
+    /// ```
+    ///
     /// # Errors
     ///
     /// `TryAgain` where another engine has the folder open; `InvalidArgument` where a name ends like that of a log file and is
@@ -80,12 +89,30 @@ impl FolderFiles {
     }
 
     /// Returns the folder.
+    ///
+    /// ```
+    /// # use raft_recover::FolderFiles;
+    /// # let path = std::env::temp_dir().join(format!("raft-recover-path-{}", std::process::id()));
+    /// assert_eq!(FolderFiles::open(&path)?.path(), path);
+    /// # std::fs::remove_dir_all(path).unwrap();
+    /// # Ok::<(), raft_recover::Error>(())
+    /// ```
     #[must_use]
     pub fn path(&self) -> &Path {
         &self.path
     }
 
     /// Returns the path of a log file, whether it is there or not.
+    ///
+    /// ```
+    /// # use raft_recover::{FileId, FolderFiles, Queue};
+    /// # let path = std::env::temp_dir().join(format!("raft-recover-path-of-{}", std::process::id()));
+    /// let files = FolderFiles::open(&path)?;
+    /// let first = files.path_of(FileId::new(Queue::Append, 1));
+    /// assert_eq!(first, path.join("0000000000000001.raftlog"));
+    /// # std::fs::remove_dir_all(path).unwrap();
+    /// # Ok::<(), raft_recover::Error>(())
+    /// ```
     #[must_use]
     pub fn path_of(&self, file: FileId) -> PathBuf {
         self.path.join(name_of(file))

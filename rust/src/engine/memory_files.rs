@@ -7,6 +7,16 @@ use std::sync::{Arc, Mutex};
 use std::{fmt, io};
 
 /// Something that was asked of files.
+///
+/// ```
+/// # use raft_recover::{Ask, FileId, Files, MemoryFiles, Queue};
+/// # let files = MemoryFiles::new();
+/// # let file = FileId::new(Queue::Append, 1);
+/// files.rotate(file)?;
+/// files.write(file, b"bytes")?;
+/// assert_eq!(files.asks(), [Ask::Begin(file), Ask::Write(file, b"bytes".to_vec())]);
+/// # Ok::<(), std::io::Error>(())
+/// ```
 #[derive(Clone, PartialEq, Eq, Hash, Debug)]
 #[non_exhaustive]
 pub enum Ask {
@@ -24,6 +34,16 @@ pub enum Ask {
 
 impl Ask {
     /// Returns the queue that it is asked of.
+    ///
+    /// ```
+    /// # use raft_recover::{FileId, Files, MemoryFiles, Queue};
+    /// # let files = MemoryFiles::new();
+    /// # let file = FileId::new(Queue::Append, 1);
+    /// files.rotate(file)?;
+    /// files.write(file, b"bytes")?;
+    /// assert!(files.asks().iter().all(|ask| ask.queue() == Queue::Append));
+    /// # Ok::<(), std::io::Error>(())
+    /// ```
     #[must_use]
     pub const fn queue(&self) -> Queue {
         match self {
@@ -36,6 +56,17 @@ impl Ask {
 }
 
 /// How much of what was asked of a queue and wasn't synced is done. By default it is nothing.
+///
+/// ```
+/// # use raft_recover::{FileId, Files, MemoryFiles, Queue, Unsynced};
+/// # let files = MemoryFiles::new();
+/// # let file = FileId::new(Queue::Append, 1);
+/// files.rotate(file)?;
+/// files.write(file, b"bytes")?;
+/// // the new file, and its five bytes
+/// assert_eq!(files.unsynced(2, Queue::Append), Unsynced { steps: 6, deletions: 0 });
+/// # Ok::<(), std::io::Error>(())
+/// ```
 #[derive(Clone, Copy, PartialEq, Eq, Hash, Debug, Default)]
 pub struct Unsynced {
     /// Steps in the order in which they were asked: each byte that was written, each cut, and each new file is one.
@@ -85,12 +116,28 @@ struct Held {
 
 impl MemoryFiles {
     /// Makes files of which nothing was asked: there are none.
+    ///
+    /// ```
+    /// use raft_recover::{Files, MemoryFiles, Queue};
+    ///
+    /// assert_eq!(MemoryFiles::new().list(Queue::Append)?, []);
+    /// # Ok::<(), std::io::Error>(())
+    /// ```
     #[must_use]
     pub fn new() -> MemoryFiles {
         MemoryFiles::default()
     }
 
     /// Makes files that are found when the machine starts: the number and the bytes of each, oldest first.
+    ///
+    /// ```
+    /// use raft_recover::{Files, MemoryFiles, Queue};
+    ///
+    /// let files = MemoryFiles::found(vec![(3, b"bytes".to_vec())], vec![]);
+    /// assert_eq!(files.list(Queue::Append)?, [(3, 5)]);
+    /// assert_eq!(files.asked(), 0);
+    /// # Ok::<(), std::io::Error>(())
+    /// ```
     #[must_use]
     pub fn found(append: Vec<(u64, Vec<u8>)>, rewrite: Vec<(u64, Vec<u8>)>) -> MemoryFiles {
         let found = [append, rewrite];
@@ -106,6 +153,16 @@ impl MemoryFiles {
     }
 
     /// Returns the files of a queue: the number and the bytes of each, oldest first.
+    ///
+    /// ```
+    /// # use raft_recover::{FileId, Files, MemoryFiles, Queue};
+    /// # let files = MemoryFiles::new();
+    /// # let file = FileId::new(Queue::Append, 1);
+    /// files.rotate(file)?;
+    /// files.write(file, b"bytes")?;
+    /// assert_eq!(files.files(Queue::Append), [(1, b"bytes".to_vec())]);
+    /// # Ok::<(), std::io::Error>(())
+    /// ```
     #[must_use]
     pub fn files(&self, queue: Queue) -> Vec<(u64, Vec<u8>)> {
         let held = locks::lock(&self.held);
@@ -113,18 +170,51 @@ impl MemoryFiles {
     }
 
     /// Returns what was asked so far, oldest first. It is noted once it is done.
+    ///
+    /// ```
+    /// # use raft_recover::{Ask, FileId, Files, MemoryFiles, Queue};
+    /// # let files = MemoryFiles::new();
+    /// # let file = FileId::new(Queue::Append, 1);
+    /// files.rotate(file)?;
+    /// files.write(file, b"bytes")?;
+    /// files.sync(Queue::Append)?;
+    /// assert_eq!(files.asks().last(), Some(&Ask::Sync(Queue::Append)));
+    /// # Ok::<(), std::io::Error>(())
+    /// ```
     #[must_use]
     pub fn asks(&self) -> Vec<Ask> {
         locks::lock(&self.held).asks.clone()
     }
 
     /// Returns how much was asked so far.
+    ///
+    /// ```
+    /// # use raft_recover::{FileId, Files, MemoryFiles, Queue};
+    /// # let files = MemoryFiles::new();
+    /// # let file = FileId::new(Queue::Append, 1);
+    /// files.rotate(file)?;
+    /// files.write(file, b"bytes")?;
+    /// assert_eq!(files.asked(), files.asks().len());
+    /// # Ok::<(), std::io::Error>(())
+    /// ```
     #[must_use]
     pub fn asked(&self) -> usize {
         locks::lock(&self.held).asks.len()
     }
 
     /// Returns how much of a queue isn't synced once the first `asks` of what was asked are done.
+    ///
+    /// ```
+    /// # use raft_recover::{FileId, Files, MemoryFiles, Queue, Unsynced};
+    /// # let files = MemoryFiles::new();
+    /// # let file = FileId::new(Queue::Append, 1);
+    /// files.rotate(file)?;
+    /// files.write(file, b"bytes")?;
+    /// files.sync(Queue::Append)?;
+    /// assert_eq!(files.unsynced(2, Queue::Append).steps, 6); // before the sync
+    /// assert_eq!(files.unsynced(3, Queue::Append), Unsynced::default());
+    /// # Ok::<(), std::io::Error>(())
+    /// ```
     #[must_use]
     pub fn unsynced(&self, asks: usize, queue: Queue) -> Unsynced {
         let held = locks::lock(&self.held);
@@ -135,6 +225,20 @@ impl MemoryFiles {
 
     /// Returns the files that a stop of the machine leaves once the first `asks` of what was asked are done: of each queue what
     /// was synced, and so much of what wasn't.
+    ///
+    /// ```
+    /// # use raft_recover::{FileId, Files, MemoryFiles, Queue, Unsynced};
+    /// # let files = MemoryFiles::new();
+    /// # let file = FileId::new(Queue::Append, 1);
+    /// files.rotate(file)?;
+    /// files.write(file, b"bytes")?;
+    /// files.sync(Queue::Append)?;
+    /// files.write(file, b", and more")?;
+    /// let front = Unsynced { steps: 5, deletions: 0 };
+    /// let left = files.left(files.asked(), front, Unsynced::default());
+    /// assert_eq!(left.files(Queue::Append), [(1, b"bytes, and".to_vec())]);
+    /// # Ok::<(), std::io::Error>(())
+    /// ```
     #[must_use]
     pub fn left(&self, asks: usize, append: Unsynced, rewrite: Unsynced) -> MemoryFiles {
         let held = locks::lock(&self.held);

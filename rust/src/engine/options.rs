@@ -29,6 +29,11 @@ pub struct Options {
 
 impl Options {
     /// Files of version 2 of 64 MiB, read on up to four threads, with up to 1 GiB in each queue.
+    ///
+    /// ```
+    /// # use raft_recover::Options;
+    /// assert_eq!(Options::new(), Options::default());
+    /// ```
     pub fn new() -> Options {
         Options {
             version: Version::V2,
@@ -41,11 +46,21 @@ impl Options {
     }
 
     /// Sets the format of the files.
+    ///
+    /// ```
+    /// # use raft_recover::{Options, Version};
+    /// assert_eq!(Options::new().version(Version::V1).version, Version::V1);
+    /// ```
     pub fn version(self, version: Version) -> Options {
         Options { version, ..self }
     }
 
     /// Sets on how many threads the files are read when they are opened.
+    ///
+    /// ```
+    /// # use raft_recover::Options;
+    /// assert_eq!(Options::new().recovery_threads(8).recovery_threads, 8);
+    /// ```
     pub fn recovery_threads(self, recovery_threads: usize) -> Options {
         Options {
             recovery_threads,
@@ -54,6 +69,11 @@ impl Options {
     }
 
     /// Sets with how many bytes the last append file is closed.
+    ///
+    /// ```
+    /// # use raft_recover::Options;
+    /// assert_eq!(Options::new().target_file_size(1 << 20).target_file_size, 1 << 20);
+    /// ```
     pub fn target_file_size(self, target_file_size: u64) -> Options {
         Options {
             target_file_size,
@@ -62,6 +82,11 @@ impl Options {
     }
 
     /// Sets above how many bytes of a queue's files `Engine::purge` moves what it needs.
+    ///
+    /// ```
+    /// # use raft_recover::Options;
+    /// assert_eq!(Options::new().purge_above(1 << 20).purge_above, 1 << 20);
+    /// ```
     pub fn purge_above(self, purge_above: u64) -> Options {
         Options {
             purge_above,

@@ -11,6 +11,18 @@ use std::ops::AddAssign;
 const BLOCKS_AT_ONCE: usize = 8 << 20;
 
 /// How many files a purge deleted.
+///
+/// ```
+/// use raft_recover::{Engine, MemoryFiles, Options};
+///
+/// let engine = Engine::with_files(MemoryFiles::new(), Options::new())?;
+/// engine.rotate()?;
+/// let mut purged = engine.purge()?;
+/// assert_eq!((purged.append_files, purged.rewrite_files), (1, 0));
+/// purged += engine.purge()?;
+/// assert_eq!(purged.append_files, 1); // there was no other one to delete
+/// # Ok::<(), raft_recover::Error>(())
+/// ```
 #[derive(Clone, Copy, PartialEq, Eq, Hash, Debug, Default)]
 #[non_exhaustive]
 pub struct Purged {
@@ -30,6 +42,18 @@ impl AddAssign for Purged {
 impl<F: Files> Engine<F> {
     /// Begins a new file of the append queue. All that was written lasts then.
     ///
+    /// ```
+    /// # use raft_recover::{Engine, LogBatch, MemoryFiles, Options};
+    /// # let engine = Engine::with_files(MemoryFiles::new(), Options::new())?;
+    /// # let mut batch = LogBatch::new()?;
+    /// batch.add_entries(7, 10, &["one", "two", "three"])?;
+    /// batch.put(7, b"key", b"value")?;
+    /// engine.write(&mut batch, true)?;
+    /// engine.rotate()?;
+    /// assert_eq!((engine.stats().append.files, engine.stats().append.last_file), (2, 2));
+    /// # Ok::<(), raft_recover::Error>(())
+    /// ```
+    ///
     /// # Errors
     ///
     /// `Full` where the last file has the greatest number, `Memory`. `Io`, `Failed`: the engine has failed.
@@ -48,6 +72,22 @@ impl<F: Files> Engine<F> {
 
     /// Moves what the tables have in append files up to the one of number `gate` to the rewrite queue, so that
     /// [`Engine::purge`] can delete these files. What is read stays the same.
+    ///
+    /// ```
+    /// # use raft_recover::{Engine, LogBatch, MemoryFiles, Options};
+    /// # let engine = Engine::with_files(MemoryFiles::new(), Options::new())?;
+    /// # let mut batch = LogBatch::new()?;
+    /// batch.add_entries(7, 10, &["one", "two", "three"])?;
+    /// batch.put(7, b"key", b"value")?;
+    /// engine.write(&mut batch, true)?;
+    /// engine.rotate()?;
+    /// engine.rewrite(1)?;
+    /// let stats = engine.stats();
+    /// assert_eq!((stats.append.records, stats.rewrite.records), (0, 4));
+    /// assert_eq!(engine.purge()?.append_files, 1);
+    /// assert_eq!(engine.entry(7, 11)?.unwrap(), b"two");
+    /// # Ok::<(), raft_recover::Error>(())
+    /// ```
     ///
     /// # Errors
     ///
@@ -83,9 +123,25 @@ impl<F: Files> Engine<F> {
     /// What is read stays the same. It pays where much of what these files have was compacted since, and holds what is left in
     /// memory.
     ///
+    /// ```
+    /// # use raft_recover::{Engine, LogBatch, MemoryFiles, Options};
+    /// # let engine = Engine::with_files(MemoryFiles::new(), Options::new())?;
+    /// # let mut batch = LogBatch::new()?;
+    /// batch.add_entries(7, 10, &["one", "two", "three"])?;
+    /// batch.put(7, b"key", b"value")?;
+    /// engine.write(&mut batch, true)?;
+    /// engine.rewrite(1)?;
+    /// batch.compact(7, 12)?;
+    /// engine.write(&mut batch, true)?;
+    /// engine.rewrite_again()?;
+    /// assert_eq!(engine.purge()?.rewrite_files, 1);
+    /// assert_eq!(engine.entry(7, 12)?.unwrap(), b"three");
+    /// # Ok::<(), raft_recover::Error>(())
+    /// ```
+    ///
     /// # Errors
     ///
-    /// Those of [`Engine::rewrite`].
+    /// Those of [`Engine::rewrite`]; but a region whose entries fit no batch moves in several.
     pub fn rewrite_again(&self) -> Result<()> {
         let turn = self.turn()?;
         let lent = self.lend(None, usize::MAX)?;
@@ -121,6 +177,20 @@ impl<F: Files> Engine<F> {
     ///
     /// Files are deleted here alone, so a program calls it now and then, best from a thread of its own: threads that write
     /// wait while it moves records. Where there is nothing to do it asks nothing of the files.
+    ///
+    /// ```
+    /// # use raft_recover::{Engine, LogBatch, MemoryFiles, Options};
+    /// # let engine = Engine::with_files(MemoryFiles::new(), Options::new())?;
+    /// # let mut batch = LogBatch::new()?;
+    /// batch.add_entries(7, 10, &["one", "two", "three"])?;
+    /// batch.put(7, b"key", b"value")?;
+    /// engine.write(&mut batch, true)?;
+    /// batch.clean(7)?;
+    /// engine.write(&mut batch, true)?;
+    /// engine.rotate()?;
+    /// assert_eq!(engine.purge()?.append_files, 1);
+    /// # Ok::<(), raft_recover::Error>(())
+    /// ```
     ///
     /// [`Options::purge_above`]: crate::Options::purge_above
     ///

@@ -5,6 +5,19 @@ use crate::Queue;
 use std::collections::BTreeMap;
 
 /// What an engine has, and what it did since it was opened.
+///
+/// ```
+/// use raft_recover::{Engine, LogBatch, MemoryFiles, Options};
+///
+/// let engine = Engine::with_files(MemoryFiles::new(), Options::new())?;
+/// let before = engine.stats().syncs;
+/// let mut batch = LogBatch::new()?;
+/// batch.put(7, b"key", b"value")?;
+/// engine.write(&mut batch, true)?;
+/// let stats = engine.stats();
+/// assert_eq!((stats.batches, stats.syncs - before), (1, 1));
+/// # Ok::<(), raft_recover::Error>(())
+/// ```
 #[derive(Clone, Copy, PartialEq, Eq, Hash, Debug, Default)]
 #[non_exhaustive]
 pub struct Stats {
@@ -19,6 +32,16 @@ pub struct Stats {
 }
 
 /// The files of a queue.
+///
+/// ```
+/// use raft_recover::{Engine, MemoryFiles, Options};
+///
+/// let engine = Engine::with_files(MemoryFiles::new(), Options::new())?;
+/// let append = engine.stats().append;
+/// assert_eq!((append.first_file, append.last_file, append.files), (1, 1, 1));
+/// assert_eq!((append.bytes, append.records), (0, 0));
+/// # Ok::<(), raft_recover::Error>(())
+/// ```
 #[derive(Clone, Copy, PartialEq, Eq, Hash, Debug, Default)]
 #[non_exhaustive]
 pub struct QueueStats {

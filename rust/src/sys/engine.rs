@@ -6,14 +6,15 @@ use super::engine_calls::{
     raft_ffi_engine_is_intact, raft_ffi_engine_last_index, raft_ffi_engine_lend,
     raft_ffi_engine_live, raft_ffi_engine_moving_blocks, raft_ffi_engine_purge_expired_files,
     raft_ffi_engine_purge_rewrite_files, raft_ffi_engine_regions, raft_ffi_engine_rewrite,
-    raft_ffi_engine_rewrite_again, raft_ffi_engine_rotate, raft_ffi_engine_summary,
-    raft_ffi_engine_sync, raft_ffi_engine_take_order, raft_ffi_engine_value, raft_ffi_engine_write,
+    raft_ffi_engine_rewrite_again, raft_ffi_engine_rotate, raft_ffi_engine_scan,
+    raft_ffi_engine_summary, raft_ffi_engine_sync, raft_ffi_engine_take_order,
+    raft_ffi_engine_value, raft_ffi_engine_write,
 };
 use super::{
     EntryNumbers, Handle, LogBatchHandle, Status, SummaryNumbers, checked, entries, listed,
-    make_room, remembered,
+    make_room, pairs, remembered,
 };
-use crate::{Block, Entry, FileId, Queue, Result, Summary};
+use crate::{Block, Entry, FileId, Pair, Queue, Result, Summary};
 use std::ops::Range;
 
 /// What is to be done to the files of a queue.
@@ -234,6 +235,36 @@ impl EngineHandle {
             Ok(())
         })?;
         Ok(is_found.then_some(value))
+    }
+
+    /// Lists the keys from one on and below another, if that is there, with their values.
+    pub(crate) fn scan(
+        &mut self,
+        region: u64,
+        start: &[u8],
+        end: Option<&[u8]>,
+    ) -> Result<Vec<Pair>> {
+        let (is_bounded, end) = (end.is_some(), end.unwrap_or_default());
+        pairs(|lens, lens_len, count, bytes, bytes_len, len| {
+            // SAFETY: the handle holds an engine.
+            remembered(unsafe {
+                raft_ffi_engine_scan(
+                    &mut self.handle,
+                    region,
+                    start.as_ptr(),
+                    start.len(),
+                    end.as_ptr(),
+                    end.len(),
+                    is_bounded,
+                    lens,
+                    lens_len,
+                    count,
+                    bytes,
+                    bytes_len,
+                    len,
+                )
+            })
+        })
     }
 
     /// Finds what a region's table has.

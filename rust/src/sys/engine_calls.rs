@@ -151,6 +151,21 @@ unsafe extern "C" {
         text: *mut u8,
         text_len: usize,
     ) -> Status;
+    pub(super) fn raft_ffi_engine_scan(
+        engine: *mut Handle,
+        region: u64,
+        start: *const u8,
+        start_len: usize,
+        end: *const u8,
+        end_len: usize,
+        is_bounded: bool,
+        lens: *mut usize,
+        lens_len: usize,
+        count: *mut usize,
+        bytes: *mut u8,
+        bytes_len: usize,
+        len: *mut usize,
+    ) -> u32;
     pub(super) fn raft_ffi_engine_regions(
         engine: *mut Handle,
         regions: *mut u64,

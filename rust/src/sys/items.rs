@@ -56,15 +56,16 @@ impl ItemsHandle {
         with(&self.0, |items| unsafe { raft_ffi_items_len(items) })
     }
 
+    /// Finds the region of an item.
+    pub(crate) fn region(&self, i: usize) -> Option<u64> {
+        Some(self.head(i)?.region)
+    }
+
     /// Finds an item.
     pub(crate) fn item(&self, i: usize) -> Option<Item> {
-        let mut head = ItemHead::default();
-        // SAFETY: the handle holds items.
-        let is_found = with(&self.0, |items| unsafe {
-            raft_ffi_items_head(items, i, &mut head)
-        });
+        let head = self.head(i)?;
         let index = head.number;
-        is_found.then(|| Item {
+        Some(Item {
             region: head.region,
             content: match head.kind {
                 0 => Content::Entries(self.entries(i)),
@@ -78,6 +79,16 @@ impl ItemsHandle {
                 _ => Content::Delete { key: self.key(i) },
             },
         })
+    }
+
+    /// Finds what an item says, without its lists.
+    fn head(&self, i: usize) -> Option<ItemHead> {
+        let mut head = ItemHead::default();
+        // SAFETY: the handle holds items.
+        let is_found = with(&self.0, |items| unsafe {
+            raft_ffi_items_head(items, i, &mut head)
+        });
+        is_found.then_some(head)
     }
 
     /// Lists the entries of an item that has some.

@@ -2,15 +2,17 @@
 
 use super::{
     EntryNumbers, Handle, ItemsHandle, LogBatchHandle, SummaryNumbers, checked, entries, found,
-    listed, numbers, pairs, raft_ffi_tables_append, raft_ffi_tables_apply_append,
+    listed, numbers, pairs, raft_ffi_slot_apply_append, raft_ffi_slot_apply_rewrite,
+    raft_ffi_slot_check_append, raft_ffi_tables_append, raft_ffi_tables_apply_append,
     raft_ffi_tables_apply_rewrite, raft_ffi_tables_atomic_group, raft_ffi_tables_check_append,
     raft_ffi_tables_cleaned, raft_ffi_tables_cleaned_logs, raft_ffi_tables_compact,
     raft_ffi_tables_delete, raft_ffi_tables_drop, raft_ffi_tables_entries,
     raft_ffi_tables_entries_before, raft_ffi_tables_entry, raft_ffi_tables_live,
-    raft_ffi_tables_merge_append, raft_ffi_tables_merge_newer, raft_ffi_tables_new,
-    raft_ffi_tables_pairs_before, raft_ffi_tables_put, raft_ffi_tables_regions,
-    raft_ffi_tables_remove, raft_ffi_tables_rewrite, raft_ffi_tables_rewrite_key,
-    raft_ffi_tables_rewritten_entries, raft_ffi_tables_rewritten_pairs, raft_ffi_tables_summary,
+    raft_ffi_tables_merge_append, raft_ffi_tables_merge_newer, raft_ffi_tables_move_table,
+    raft_ffi_tables_new, raft_ffi_tables_pairs_before, raft_ffi_tables_put,
+    raft_ffi_tables_regions, raft_ffi_tables_remove, raft_ffi_tables_rewrite,
+    raft_ffi_tables_rewrite_key, raft_ffi_tables_rewritten_entries,
+    raft_ffi_tables_rewritten_pairs, raft_ffi_tables_scan, raft_ffi_tables_summary,
     raft_ffi_tables_truncate, raft_ffi_tables_value, remembered, with,
 };
 use crate::{Entry, FileId, Pair, Queue, Result, Summary};
@@ -176,6 +178,31 @@ impl TablesHandle {
         })
     }
 
+    /// Lists the keys and values.
+    pub(crate) fn pairs(&self, region: u64) -> Result<Vec<Pair>> {
+        let none: &[u8] = &[];
+        pairs(|lens, lens_len, count, bytes, bytes_len, len| {
+            // SAFETY: the handle holds tables.
+            remembered(with(&self.0, |tables| unsafe {
+                raft_ffi_tables_scan(
+                    tables,
+                    region,
+                    none.as_ptr(),
+                    0,
+                    none.as_ptr(),
+                    0,
+                    false,
+                    lens,
+                    lens_len,
+                    count,
+                    bytes,
+                    bytes_len,
+                    len,
+                )
+            }))
+        })
+    }
+
     /// Tests whether the items of a batch would be accepted.
     pub(crate) fn check_append(&self, batch: &LogBatchHandle) -> Result<()> {
         checked(|text, text_len| {
@@ -183,6 +210,18 @@ impl TablesHandle {
                 // SAFETY: the handles hold tables and a batch.
                 with(&batch.0, |batch| unsafe {
                     raft_ffi_tables_check_append(tables, batch, text, text_len)
+                })
+            })
+        })
+    }
+
+    /// Tests whether those items of a batch would be accepted whose regions are of a slot.
+    pub(crate) fn check_share(&self, number: usize, batch: &LogBatchHandle) -> Result<()> {
+        checked(|text, text_len| {
+            with(&self.0, |tables| {
+                // SAFETY: the handles hold tables and a batch.
+                with(&batch.0, |batch| unsafe {
+                    raft_ffi_slot_check_append(tables, number, batch, text, text_len)
                 })
             })
         })
@@ -334,6 +373,14 @@ impl TablesHandle {
         Ok(is_found)
     }
 
+    /// Moves the table of a region into others.
+    pub(crate) fn move_table(&mut self, region: u64, to: &mut TablesHandle) -> Result<()> {
+        // SAFETY: both handles hold tables.
+        checked(|text, text_len| unsafe {
+            raft_ffi_tables_move_table(self.0.as_ptr(), to.0.as_ptr(), region, text, text_len)
+        })
+    }
+
     /// Merges newer tables.
     pub(crate) fn merge_newer(&mut self, newer: TablesHandle) -> Result<()> {
         let newer = newer.into_raw();
@@ -372,6 +419,40 @@ impl TablesHandle {
         // SAFETY: the handles hold tables and items, and the items are given away.
         checked(|text, text_len| unsafe {
             raft_ffi_tables_apply_rewrite(self.0.as_ptr(), items, gate.into(), seq, text, text_len)
+        })
+    }
+
+    /// Writes those items of the append queue whose regions are of a slot.
+    pub(crate) fn apply_share(&mut self, number: usize, items: &ItemsHandle) -> Result<()> {
+        checked(|text, text_len| {
+            // SAFETY: the handles hold tables and items.
+            with(&items.0, |items| unsafe {
+                raft_ffi_slot_apply_append(self.0.as_ptr(), number, items, text, text_len)
+            })
+        })
+    }
+
+    /// Writes those rewritten items whose regions are of a slot.
+    pub(crate) fn rewrite_share(
+        &mut self,
+        number: usize,
+        items: &ItemsHandle,
+        gate: Option<u64>,
+        seq: u64,
+    ) -> Result<()> {
+        checked(|text, text_len| {
+            // SAFETY: the handles hold tables and items.
+            with(&items.0, |items| unsafe {
+                raft_ffi_slot_apply_rewrite(
+                    self.0.as_ptr(),
+                    number,
+                    items,
+                    gate.into(),
+                    seq,
+                    text,
+                    text_len,
+                )
+            })
         })
     }
 }

@@ -1,0 +1,128 @@
+//! Recovery reads on all its threads at the same time: in a heap of this test's own each thread waits, at the library's first request
+//! for memory, until all of them have come to one.
+#![cfg(not(feature = "global-allocator"))]
+
+mod common;
+
+use common::{batch_bytes, file, parts};
+use raft_recover::{Engine, MemoryFiles, Options, Queue, recover};
+use std::collections::HashSet;
+use std::ffi::c_void;
+use std::sync::{Condvar, Mutex};
+use std::thread::{self, ThreadId};
+use std::time::Duration;
+
+/// The threads of which a recovery is to consist, and those that came to a request.
+#[derive(Default)]
+struct Meeting {
+    expected: usize,
+    come: HashSet<ThreadId>,
+    is_missed: bool,
+}
+
+static MEETING: Mutex<Option<Meeting>> = Mutex::new(None);
+static HAS_COME: Condvar = Condvar::new();
+
+/// Comes to the meeting, if there is one, and waits for the others.
+fn meet() {
+    let mut meeting = MEETING.lock().unwrap();
+    if let Some(meeting) = &mut *meeting {
+        meeting.come.insert(thread::current().id());
+        HAS_COME.notify_all();
+    }
+    let is_waiting = |meeting: &mut Option<Meeting>| {
+        let meeting = meeting.as_ref();
+        meeting.is_some_and(|meeting| !meeting.is_missed && meeting.come.len() < meeting.expected)
+    };
+    let waited = HAS_COME.wait_timeout_while(meeting, Duration::from_secs(20), is_waiting);
+    let (mut meeting, timeout) = waited.unwrap();
+    if timeout.timed_out() {
+        // who waited in vain goes on, and nobody waits any more
+        meeting.as_mut().unwrap().is_missed = true;
+    }
+}
+
+/// Makes a call in which each thread waits for so many, and returns how many came, if none was missed.
+fn threads_in<T>(expected: usize, call: impl FnOnce() -> T) -> (T, Option<usize>) {
+    let meeting = Meeting {
+        expected,
+        ..Meeting::default()
+    };
+    *MEETING.lock().unwrap() = Some(meeting);
+    let answer = call();
+    let meeting = MEETING.lock().unwrap().take().unwrap();
+    let come = (!meeting.is_missed).then_some(meeting.come.len());
+    (answer, come)
+}
+
+#[repr(C)]
+struct Tried {
+    ok: bool,
+    p: *mut c_void,
+}
+
+unsafe extern "C" {
+    fn malloc(n: usize) -> *mut c_void;
+    fn realloc(p: *mut c_void, n: usize) -> *mut c_void;
+    fn free(p: *mut c_void);
+}
+
+fn tried(p: *mut c_void) -> Tried {
+    assert!(!p.is_null());
+    Tried { ok: true, p }
+}
+
+#[unsafe(no_mangle)]
+extern "C" fn rattle_alloc(n: usize, _a: usize) -> Tried {
+    meet();
+    // SAFETY: any size may be asked for; blocks are aligned to 16 bytes.
+    tried(unsafe { malloc(n.max(1)) })
+}
+
+#[unsafe(no_mangle)]
+unsafe extern "C" fn rattle_realloc(p: *mut c_void, _kept: usize, n: usize, _a: usize) -> Tried {
+    // SAFETY: the block came from `tried`.
+    tried(unsafe { realloc(p, n.max(1)) })
+}
+
+#[unsafe(no_mangle)]
+unsafe extern "C" fn rattle_dealloc(p: *mut c_void) {
+    // SAFETY: the block came from `tried`.
+    unsafe { free(p) }
+}
+
+/// The bytes of eight files.
+fn files() -> Vec<Vec<u8>> {
+    (1..=8)
+        .map(|seq| batch_bytes(file(seq), |batch| batch.clean(seq).unwrap()))
+        .collect()
+}
+
+/// One test at a time has the heap.
+static TURN: Mutex<()> = Mutex::new(());
+
+#[test]
+fn all_threads_of_a_recovery_read_at_the_same_time() {
+    let _turn = TURN.lock();
+    let files = files();
+    let parts = parts(&files);
+    for workers in 1..=8 {
+        let call = || recover(&parts, Queue::Append, workers);
+        let (tables, come) = threads_in(workers, call);
+        assert_eq!(tables.unwrap().cleaned(), [1, 2, 3, 4, 5, 6, 7, 8]);
+        assert_eq!(come, Some(workers));
+    }
+}
+
+#[test]
+fn an_engine_is_opened_on_as_many_threads_as_its_options_say() {
+    let _turn = TURN.lock();
+    let files: Vec<_> = (1..).zip(files()).collect();
+    for threads in 1..=8 {
+        let found = MemoryFiles::found(files.clone(), vec![(1, vec![])]);
+        let options = Options::new().recovery_threads(threads);
+        let (engine, come) = threads_in(1, || Engine::with_files(found, options));
+        assert_eq!(engine.unwrap().regions().unwrap(), []);
+        assert_eq!(come, Some(threads));
+    }
+}

@@ -313,7 +313,7 @@ def page():
     out += [f"- of `{crate}`: " + ", ".join(types) for crate, types in named.items()]
     for module in files:
         file = reading.files[module]
-        out += ["", f"## [{file.crate} {file.path.stem}]({link(file.path)})", "", "```"]
+        out += ["", f"## [{file.crate} {file.path.stem}]({link(file.path)})", "```"]
         for key in sorted(by_file[module], key=lambda key: reading.met[key].line):
             found = reading.met[key]
             for number, text in enumerate(found.lines, found.line):

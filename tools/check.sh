@@ -2,8 +2,8 @@
 # The full check: `rt ci`, then what it can't look at: words that aren't UTF-8, a scan of a sound file, the frames of `raftlog` on
 # the stack, runs with little stack, crashes of more histories, writes of `raft_example` that fail half way, where there is a C
 # compiler some rows with memory refused, and where there is cargo the tests of rust/; first of all whether docs/BELIEVE.md and
-# docs/CALLS.md are what the definitions and the sources say, and the declarations of the Rust crate what the exports are. The last
-# line is that of `rt ci`, 'N passed, M failed'.
+# docs/CALLS.md are what the definitions and the sources say, the declarations of the Rust crate what the exports are, and whether
+# each wrong body can be applied. The last line is that of `rt ci`, 'N passed, M failed'.
 set -euo pipefail
 cd "$(dirname "$0")/.."
 program=crates/raftlog/out/raftlog
@@ -17,6 +17,7 @@ trap 'rm -rf "$room"' EXIT
 tools/believe.py --check
 tools/calls.py --check
 tools/ffi.py
+tools/wrong_bodies.py --applies
 # (`rt ci` puts back the libraries that it finds in out/, which may be of other sources; tools/archive.py is to find its own)
 rm -rf crates/*/out/rlib
 "${RT:-rt}" ci | tee "$room/proved"

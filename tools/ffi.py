@@ -18,7 +18,6 @@ IN_RUST = {
     "Tables": "Handle",
     "Items": "Handle",
     "Batch": "Handle",
-    "Slot": "Handle",
     "Engine": "Handle",
     "Found": "Handle",
     "OrderHead": "OrderNumbers",

@@ -1,13 +1,17 @@
 #!/usr/bin/env python3
 """Tries wrong bodies: edits of a crate's source that the prover has to refuse.
 
-    tools/wrong_bodies.py [--applies] [--folder NAME] [CRATE..] [CRATE/EDIT..]
+    tools/wrong_bodies.py [--applies] [--name] [--folder NAME] [CRATE..] [CRATE/EDIT..]
 
 tries crates/CRATE/wrong-bodies/*.edit of the crates that are named, or of all, over a copy of the repository, and lists
 those that are not refused, and those that are refused by a proof file alone: it names a step that the wrong body took
 away, which says nothing of the contract. CRATE/EDIT is one of them, as `raft_table/absorb_by_own_queue`, with or without
 `.edit`. --applies only looks whether each edit can be applied, in must-fail/ too, and proves nothing.
 --folder must-fail tries that folder's edits in the same way. RT names the toolchain's command, where it is not `rt`.
+
+A line `clause: NAME ..` of an edit names the clauses that refuse it (`ensures`: one without a name): then it counts as refused
+only where the check leaves one of them unproved of a function that the edit changes. --name writes that line into the edits that
+are tried and have none; where it writes none, an invariant of a loop or a premise of a call refuses the body.
 
 Wrong bodies of different functions go into one check, since a function is proved from its own body and the contracts of
 what it calls. One that a check says nothing of, or one with a refused function below it, is tried once more by itself;
@@ -27,6 +31,9 @@ FUNCTION = re.compile(r"( *)(?:pub(?:\([a-z]+\))? )?(?:final )?(?:const )?(?:uns
 VERDICT = re.compile(r"^fn (\S+): (.*)", re.M)
 WAITS = re.compile(r"it (?:calls|waits for)[^;]*")
 ANSWER = re.compile(r"^(?:so far: )?(?:\./)?proofs/(\S+)/\w+\.antt:\d+:\d+: error", re.M)
+# goals of a function that are left, and goals whose answer is wrong
+LEFT = re.compile(r"`(returns[\w-]*)` of (?:\./)?proofs/(\S+)/\w+\.antt must prove")
+WRONG = re.compile(r"^(?:so far: )?(?:\./)?(proofs/(\S+)/\w+\.antt):(\d+):\d+: error", re.M)
 GONE = re.compile(r"^(?:so far: )?(?:note: )?(?:\./)?proofs/(?:(\S+)/)?\w+\.antt:\d+:\d+: .*(?:has no field|is not in scope|has no `|was not admitted)", re.M)
 # a message that goes on in the next line, which is indented
 BROKEN = re.compile(r"\n  (?=\S)")
@@ -38,12 +45,14 @@ class Edit:
     """A wrong body: texts that stand once in a file of the crate, and what each is replaced by."""
 
     def __init__(self, path):
-        self.path, self.name, self.pairs = path, os.path.basename(path).removesuffix(".edit"), []
+        self.path, self.name, self.pairs, self.clauses = path, os.path.basename(path).removesuffix(".edit"), [], []
         file = old = None
         with open(path, encoding="utf-8") as lines:
             for line in lines.read().split("\n"):
                 if line.startswith("file: "):
                     file = line.removeprefix("file: ").strip()
+                elif line.startswith("clause: "):
+                    self.clauses += line.split()[1:]
                 elif line.startswith("old: "):
                     old = line.removeprefix("old: ")
                 elif line.startswith("new:"):
@@ -61,6 +70,13 @@ class Edit:
             made[file] = made[file].replace(old, new)
         texts.update(made)
         return None
+
+    def name_clauses(self, clauses):
+        """Writes these clauses into the edit, if there are any and it names none."""
+        if clauses and not self.clauses:
+            self.clauses = sorted(clauses)
+            with open(self.path, "a", encoding="utf-8") as file:
+                file.write(f"clause: {' '.join(self.clauses)}\n")
 
     def functions(self, texts):
         """The functions that it changes, as pairs of file and name; a change outside of functions has the name None."""
@@ -92,7 +108,8 @@ class Crate:
 
     def check(self, edits):
         """Checks the crate with these wrong bodies in it. Answers whether the crate is proved, or None where the check did not reach the prover,
-        for each function whether it was refused for its own body, by more than a step that its proof file misses, and what the check printed."""
+        for each function whether it was refused for its own body, by more than a step that its proof file misses, and what the check printed.
+        Keeps in `unproved` the clauses of each function that were left unproved."""
         texts = dict(self.texts)
         for edit in edits:
             edit.apply(texts)
@@ -105,21 +122,47 @@ class Crate:
         verdicts = {tuple(name.split("::")): verdict for name, verdict in VERDICT.findall(ran.stdout)}
         gone = {(self.name, *path.split("/")) for path in GONE.findall(BROKEN.sub(" ", ran.stdout)) if path}
         refused = {name: (is_own(verdict) or name in answered) and name not in gone for name, verdict in verdicts.items()}
+        self.unproved = self.clauses_left(ran.stdout)
         reached = ran.returncode == 0 or ran.returncode == 1 and re.search(r"^logic=not-proved", ran.stdout, re.M)
         return ran.returncode == 0 if reached else None, refused, ran.stdout
 
-    def is_refused(self, edit, refused):
-        """Whether a function that the edit changes is among those that were refused for their own body. A method is named below the module of its
-        type, which may be the one above that of its file."""
+    def clauses_left(self, said):
+        """For each function the names of its clauses that a check left unproved, or whose answer it refused."""
+        left = {}
+        for goal, path in LEFT.findall(said):
+            left.setdefault((self.name, *path.split("/")), set()).add(clause_of(goal))
+        for file, path, row in WRONG.findall(said):
+            with open(f"{self.folder}/{file}", encoding="utf-8") as lines:
+                heads = [re.match(r"(?:pub )?(returns[\w-]*)", it) for it in lines.read().split("\n")[: int(row)]]
+            goal = next((it[1] for it in reversed(heads) if it), None)
+            if goal:
+                left.setdefault((self.name, *path.split("/")), set()).add(clause_of(goal))
+        return left
+
+    def named(self, edit, functions):
+        """Which of these functions the edit changes. A method is named below the module of its type, which may be the one above that of its file."""
+        found = []
         for file, function in edit.functions(self.texts):
             path = (self.name, *module_of(file))
             for above in (path, path[:-1]):
-                named = [it for it in refused if it[: len(above)] == above and it[-1] == function]
+                named = [it for it in functions if it[: len(above)] == above and it[-1] == function]
                 if named:
                     break
-            if any(refused[it] for it in named):
-                return True
-        return False
+            found += named
+        return found
+
+    def is_refused(self, edit, refused):
+        """Whether a function that the edit changes is among those that were refused for their own body, by a clause that the edit names if it names any."""
+        return any(refused[it] for it in self.named(edit, refused)) and (not edit.clauses or bool(self.clauses_of(edit) & set(edit.clauses)))
+
+    def clauses_of(self, edit):
+        """The clauses of the functions that the edit changes which the last check left unproved."""
+        return {it for name in self.named(edit, self.unproved) for it in self.unproved[name]}
+
+
+def clause_of(goal):
+    """The name of the clause that a goal is of; `ensures` where it has none."""
+    return goal.rpartition("-clause-")[2] if "-clause-" in goal else "ensures"
 
 
 def is_own(verdict):
@@ -176,8 +219,9 @@ def say(text):
     print(text, flush=True)
 
 
-def tried(crate, edits):
-    """Tries the edits, and answers a line for each that is not refused, and one for each that a proof file alone refuses."""
+def tried(crate, edits, names):
+    """Tries the edits, and answers a line for each that is not refused, and one for each that a proof file alone refuses. Where it is to name
+    clauses, it writes those that refuse an edit into it."""
     alone, rest = [], list(rounds(crate, edits))
     while rest:
         these = rest.pop(0)
@@ -189,8 +233,12 @@ def tried(crate, edits):
         if is_proved is None:
             half = len(these) // 2
             rest = [these[:half], these[half:], *rest]
-        else:
-            alone += [it for it in these if not crate.is_refused(it, refused)]
+            continue
+        for edit in these:
+            if not crate.is_refused(edit, refused):
+                alone.append(edit)
+            elif names:
+                edit.name_clauses(crate.clauses_of(edit))
     faults, by_proof = [], []
     for edit in alone:
         say(f"{crate.name}: {edit.name} by itself")
@@ -201,6 +249,10 @@ def tried(crate, edits):
             faults.append(f"{crate.name}/{edit.name}: NOT REFUSED")
         elif is_by_proof_alone(said):
             by_proof.append(f"{crate.name}/{edit.name}: refused by a proof file alone: {first_error(said)}")
+        elif edit.clauses and not crate.clauses_of(edit) & set(edit.clauses):
+            faults.append(f"{crate.name}/{edit.name}: refused, and not by the clause that it names")
+        elif names:
+            edit.name_clauses(crate.clauses_of(edit))
     return faults, by_proof
 
 
@@ -283,8 +335,8 @@ def main(words):
         del words[at : at + 2]
         if folder not in ("must-fail", "wrong-bodies"):
             sys.exit("--folder: must-fail or wrong-bodies")
-    only_looks = "--applies" in words
-    asked = asked_of([it for it in words if it != "--applies"])
+    only_looks, names = "--applies" in words, "--name" in words
+    asked = asked_of([it for it in words if it not in ("--applies", "--name")])
     with_edits(asked, ("must-fail", "wrong-bodies") if only_looks else (folder,))
     faults, by_proof = applies(asked), []
     if not only_looks and not faults:
@@ -299,7 +351,7 @@ def main(words):
             for name, named in asked.items():
                 edits = [it for it in edits_in(name, folder) if not named or it.name in named]
                 if edits:
-                    missed, by_file = tried(Crate(name, f"{room}/crates/{name}"), edits)
+                    missed, by_file = tried(Crate(name, f"{room}/crates/{name}"), edits, names)
                     faults += missed
                     by_proof += by_file
         say(f"{len(faults)} wrong bodies not refused, {len(by_proof)} refused by a proof file alone")

@@ -149,7 +149,9 @@ overlaid_alone r ss (Some t) own = there (has_clean ss) ∙ ap (λ (x : Table). 
     there true = refl
     there false = refl
 
-    rebuilt : (n : ℕ) (es fs : List EntryIndex) (ks ls : Keys) (g g' : Option (ℕ × ℕ)) → n ≡ t.region_id → es ≡ fs → ks ≡ ls → g ≡ g' → ◌≡◌ {A = Table} (record { region_id = n; entries = es; keys = ks; atomic_group = g }) (record { region_id = t.region_id; entries = fs; keys = ls; atomic_group = g' })
+    rebuilt : (n : ℕ) (es fs : List EntryIndex) (ks ls : Keys) (g g' : Option (ℕ × ℕ)) → n ≡ t.region_id → es ≡ fs → ks ≡ ls → g ≡ g' →
+        ◌≡◌ {A = Table} (record { region_id = n; entries = es; keys = ks; atomic_group = g })
+        (record { region_id = t.region_id; entries = fs; keys = ls; atomic_group = g' })
     rebuilt n es fs ks ls g g' a b c d = rw (a, b, c, d) refl
 
     group : (b : Bool) → cond b t.atomic_group None ≡ t.atomic_group

@@ -33,7 +33,7 @@ apply_so (Err x) w s items old new e len p = tt
 -- ---- the first ones
 
 -- what was taken, and what is left
-parted : {X Z : Type 0} (s u : IntoIter X Z) (xs : List X) → Yields into_iter_steps s xs u → into_iter_items s ≡ xs ++ into_iter_items u
+pub parted : {X Z : Type 0} (s u : IntoIter X Z) (xs : List X) → Yields into_iter_steps s xs u → into_iter_items s ≡ xs ++ into_iter_items u
 parted s u [] y = ap into_iter_items y
 parted s u (x ∷ xs) y = y.1.0 ∙ ap (λ l. x ∷ l) (parted y.0 u xs y.2)
 

@@ -35,7 +35,8 @@ none_held queue version h held = go h (one_file queue version (1, []) h held)
     go (e ∷ h) held = absurd (omega (arith, stands_inside (whole_file queue version (1, [])) 0 held.1.0 e.items held.1.1))
 
 -- where the last file is cut, it held the same batches and a torn tail
-cut_torn : (queue : LogQueue) (version : Version) (closed : List NumberedBytes) (last : NumberedBytes) (at : ℕ) (h : List Event) → at < length last.1 → IsUnreadableAt (whole_file queue version last) at → ¬ (IsFollowedAt (whole_file queue version last) at)
+cut_torn : (queue : LogQueue) (version : Version) (closed : List NumberedBytes) (last : NumberedBytes) (at : ℕ) (h : List Event) →
+    at < length last.1 → IsUnreadableAt (whole_file queue version last) at → ¬ (IsFollowedAt (whole_file queue version last) at)
     → FilesHold queue version (closed ++ (last.0, take at last.1) ∷ []) h → FilesHoldTorn queue version (closed ++ last ∷ []) h
 cut_torn queue version [] last at h less none alone held = record {
   at = at;

@@ -114,7 +114,8 @@ pub last_shown : (items xs : List (ℕ × Vec ℕ Global)) (last : ℕ × Vec �
 last_shown items xs last same e =
     let there : slice_get items (length items - 1) ≡ Some last = subst (λ (l : List (ℕ × Vec ℕ Global)). slice_get l (length l - 1) ≡ Some last) same (sym e) in
     let lt : length items - 1 < length items = slice_get_within items (length items - 1) last there in
-    let split : items ≡ take (length items - 1) items ++ last ∷ [] = at_last items (length items - 1) last (omega (arith, lt)) ∙ ap (λ x. take (length items - 1) items ++ x ∷ []) (get_or_from_slice_get items (length items - 1) last last there) in
+    let split : items ≡ take (length items - 1) items ++ last ∷ [] = at_last items (length items - 1) last (omega (arith, lt))
+    ∙ ap (λ x. take (length items - 1) items ++ x ∷ []) (get_or_from_slice_get items (length items - 1) last last there) in
     ap (map file_shown) split ∙ map-append file_shown (take (length items - 1) items) (last ∷ [])
 
 -- ---- files that begin in the other version

@@ -182,11 +182,18 @@ module _ (read : ReadsAreStored) (version : Version) (asks : List Ask) (append r
       moved = same batch.items e;
     }
       where
-        written : (items : List Item) → items ≡ [] → AreWritten (Rewriting gate rewrite.seq) (placed_at (record { queue = Rewrite; seq = rewrite.seq }) (length (k.whole is_intact).rewrite_files.bytes) (record batch { items = items })) accessor accessor
+        written : (items : List Item) → items ≡ [] →
+            AreWritten (Rewriting gate rewrite.seq)
+            (placed_at (record { queue = Rewrite; seq = rewrite.seq }) (length (k.whole is_intact).rewrite_files.bytes)
+            (record batch { items = items })) accessor accessor
         written [] e = record { asked = tt; accepted = tt; tables = refl; cleaned = sym (append-nil accessor.cleaned); counts = refl }
         written (item ∷ items) e = absurd cc
 
-        same : (items : List Item) → items ≡ [] → record engine { asks = between } ≡ record engine { asks = put_asks (record { id = record { queue = Rewrite; seq = rewrite.seq }; version = version }) (record batch { items = items }) ++ between }
+        same : (items : List Item) → items ≡ [] →
+            record engine { asks = between } ≡ record engine {
+              asks = put_asks (record { id = record { queue = Rewrite; seq = rewrite.seq }; version = version })
+                  (record batch { items = items }) ++ between;
+            }
         same [] e = refl
         same (item ∷ items) e = absurd cc
 
@@ -217,7 +224,8 @@ module _ (read : ReadsAreStored) (version : Version) (asks : List Ask) (append r
           }
 
       -- or it isn't
-      pub may_broken : PutBatchesAreStored → (new : List Ask) (append' rewrite' : QueueFiles) (untold' : Batch) (accessor' : Accessor) → MayBeAsked (ask Rewrite (Put (bytes_for file batch))) between new → IsKeptBy version new append' rewrite' untold' accessor' false
+      pub may_broken : PutBatchesAreStored → (new : List Ask) (append' rewrite' : QueueFiles) (untold' : Batch) (accessor' : Accessor) →
+          MayBeAsked (ask Rewrite (Put (bytes_for file batch))) between new → IsKeptBy version new append' rewrite' untold' accessor' false
       may_broken put new append' rewrite' untold' accessor' (inl e) = record {
         base = k.base;
         untold = [];
@@ -244,7 +252,8 @@ module _ (read : ReadsAreStored) (version : Version) (asks : List Ask) (append r
 
       module _ (new : List Ask) (is_new : new ≡ ask Rewrite (Put (bytes_for file batch)) ∷ between) (accessor' : Accessor)
           (applied : AreWritten (Rewriting gate rewrite.seq) (placed_at file.id (length its_bytes) batch) accessor accessor') where
-        pub kept_moved : MovedBatchesAreReadBack → (rewrite' : QueueFiles) (len : ℕ) → len ≡ encoded_length batch.items batch.entry_bytes → rewrite'.closed.items ≡ rewrite.closed.items → rewrite'.seq ≡ rewrite.seq → rewrite'.len ≡ rewrite.len + len
+        pub kept_moved : MovedBatchesAreReadBack → (rewrite' : QueueFiles) (len : ℕ) → len ≡ encoded_length batch.items batch.entry_bytes →
+            rewrite'.closed.items ≡ rewrite.closed.items → rewrite'.seq ≡ rewrite.seq → rewrite'.len ≡ rewrite.len + len
             → IsKeptBy version new append rewrite' untold accessor' true
         kept_moved moved_back rewrite' len is_len closed seq is = record {
           base = k.base;

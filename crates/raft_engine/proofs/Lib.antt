@@ -65,4 +65,6 @@ mod RotatedRewrites
 mod ReadBackLemmas
 mod AloneLemmas
 mod RoundTripLemmas
+mod FaultLemmas
+mod MovingFaultLemmas
 pub mod OverLemmas

@@ -178,7 +178,10 @@ says_all same append rewrite found cleaned each sound_append sound_rewrite both 
   indexes = λ i.
       ap (λ ss. is_index_spoken ss i) split ∙ any-append (speaks_of_index i) removals fronts
       ∙ ap (λ b. b || is_index_spoken fronts i) ((same (items_in append) r).indexes i ∙ ap (λ ss. is_index_spoken ss i) kept)
-      ∙ ap (λ b. is_index_spoken (steps_of r (batches append)) i || b) (fronts_speak r i each ∙ list_any-IsPermutation (speaks r i) each (finite.values found) all ∙ speaks_at r i found (own_found append rewrite found cleaned sound_rewrite both) ∙ sym (or_none (nat_lt i (start_of (table_of r (finite.get found r)).entries))))
+      ∙ ap (λ b. is_index_spoken (steps_of r (batches append)) i || b)
+      (fronts_speak r i each ∙ list_any-IsPermutation (speaks r i) each (finite.values found) all
+      ∙ speaks_at r i found (own_found append rewrite found cleaned sound_rewrite both)
+      ∙ sym (or_none (nat_lt i (start_of (table_of r (finite.get found r)).entries))))
       ∙ sym (any-append (speaks_of_index i) (steps_of r (batches append)) (Compact (start_of (table_of r (finite.get found r)).entries) ∷ []));
   keys = λ key.
       ap (λ ss. is_key_dropped ss key) split ∙ any-append (drops_key key) removals fronts

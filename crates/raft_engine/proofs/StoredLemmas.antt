@@ -218,7 +218,9 @@ module _
           rewrite_done = s.rewrite_done;
           rows = s.rows;
           safe = λ content told. same content (base content) (Write e ∷ s.appended) s.rewritten (steps_of_items untold ++ taking_steps tables (steps_of_items e.items)) new
-              (safe content (base content) s.appended s.rewritten (steps_of_items untold) tables new e (s.safe content (keep asked (ask Append (Put (bytes_for (record { id = record { queue = Append; seq = seq }; version = version }) batch))) content tt told)) is_next taken)
+              (safe content (base content) s.appended s.rewritten (steps_of_items untold) tables new e
+              (s.safe content (keep asked (ask Append
+              (Put (bytes_for (record { id = record { queue = Append; seq = seq }; version = version }) batch))) content tt told)) is_next taken)
               (steps_of_items (untold ++ told_items (taking_items tables batch.items))) (more tables place compressions.None untold batch.items);
         })
 
@@ -250,7 +252,8 @@ module _
           append_done = s.append_done;
           rewrite_done = put Rewrite version acts s.rewritten last.closed (seq, bytes) handle batch w refl refl last.files s.rewrite_done;
           rows = rows_alone (written s.rewritten) e (unmarked id items taken) s.rows;
-          safe = λ content told. safe content (base content) s.appended s.rewritten (steps_of_items batch.items) tables e (s.safe content (keep asked (ask Rewrite (Put (bytes_for (record { id = id; version = version }) batch))) content tt told)) is_next
+          safe = λ content told. safe content (base content) s.appended s.rewritten (steps_of_items batch.items) tables e
+              (s.safe content (keep asked (ask Rewrite (Put (bytes_for (record { id = id; version = version }) batch))) content tt told)) is_next
               (deeds_synced Append version (acts_on Append asked) s.appended s.append_done synced) (unmarked id items taken) [] (removals items taken)
               (λ r. all_told r (steps_of_items items) (steps_of_items batch.items) steps);
         })

@@ -32,7 +32,9 @@ puts_taken : (gate : Option ℕ) (seq id : ℕ) (ps : List (List ℕ × List ℕ
 puts_taken gate seq id [] m t out ordinary moved there = (m, refl)
 puts_taken gate seq id (p ∷ ps) m t out ordinary moved there = go (rewritten_in gate seq t.keys p.0 (file_at t.keys p.0)) refl (λ k u rest e. puts_taken gate seq id ps k u out ordinary.1 rest e) moved
   where
-    first : (x : Option Keys) → rewritten_in gate seq t.keys p.0 (file_at t.keys p.0) ≡ x → after_content (Rewriting gate seq) id (finite.get m id) (put_item id (record { queue = Rewrite; seq = seq }) p).content ≡ option_map Some (option_map {U = Table} (λ keys. record t { keys = keys }) x)
+    first : (x : Option Keys) → rewritten_in gate seq t.keys p.0 (file_at t.keys p.0) ≡ x →
+        after_content (Rewriting gate seq) id (finite.get m id) (put_item id (record { queue = Rewrite; seq = seq }) p).content ≡ option_map Some
+        (option_map {U = Table} (λ keys. record t { keys = keys }) x)
     first x e =
         ap (λ (o : Option Table). after_content (Rewriting gate seq) id o (put_item id (record { queue = Rewrite; seq = seq }) p).content) there
         ∙ ap (λ b. cond b (Some (Some t)) (option_map Some (option_map {U = Table} (λ keys. record t { keys = keys }) (rewritten_in gate seq t.keys p.0 (file_at t.keys p.0))))) ordinary.0

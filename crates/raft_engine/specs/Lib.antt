@@ -27,6 +27,9 @@ pub mod MovedGroups
 pub mod MovedAgain
 -- rewrite files that no table needs
 pub mod PurgedRewrites
+-- why a call breaks an engine
+pub mod Faults
+pub mod MovingFaults
 -- opening
 pub mod FoundFiles
 pub mod QueueFilesOf

@@ -25,7 +25,7 @@ missing_asks queue (Cut len) = ask queue (asks.Cut len) ∷ []
 abbrev pub Failures : Type 1
 Failures = List Ask → Ask → Error → Type 0
 
--- Of what is wanted, newest first, all was asked that is older than one ask; the call that asked this one failed with this error, and it
+-- Of what is wanted, newest first, all was asked that is older than one ask; a call that asks this one may fail with this error, and it
 -- was asked or not.
 pub record FailsAmong (MayFail : Failures) (wanted old new : List Ask) (e : Error) : Type 0 where
   pub later : List Ask

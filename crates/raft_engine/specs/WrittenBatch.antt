@@ -69,7 +69,7 @@ pub record AreFirstWritten (w : Writing) (items : List Item) (old new : Accessor
   pub split : items ≡ front ++ rest
   pub written : AreWritten w front old new
 
--- there is no memory, or no room for more live records
+-- there is no memory, or, says the error, no room for more live records: it is `Memory` or `Full`
 abbrev pub LacksRoom : Error → Type 0
 LacksRoom e = (e ≡ errors.Memory) ⊎ (e ≡ errors.Full)
 

@@ -13,6 +13,7 @@ ghost use Rattle.raft_base.specs.Runs.{end_of};
 ghost use Rattle.raft_table.specs.TableEntries.{start_of};
 ghost use Rattle.raft_engine_fronts.specs.Contents.{AreBothTold};
 ghost use Rattle.raft_engine.specs.KeptEngine.{table_in};
+ghost use Rattle.raft_engine.specs.Faults.{Breaks, IsFirstFault, IsPurgeFault, IsRotationFault, IsSyncFault, IsWritingFault};
 ghost use Rattle.raft_engine.specs.Lasting.{IsLasting};
 ghost use Rattle.raft_files.specs.HeldFiles.{file_shown};
 ghost use Rattle.raft_engine.specs.Opened.{IsOpened};
@@ -103,6 +104,7 @@ impl<F: EngineFiles> Engine<F> {
         ensures tables { IfOk result (λ engine. engine.accessor.tables ≡ finite.empty) }
         ensures cleaned { IfOk result (λ engine. engine.accessor.cleaned ≡ []) }
         ensures intact { IfOk result (λ engine. engine.intact ≡ true) }
+        ensures fault { IfErr result (IsFirstFault F.may_fail) }
     {
         asks_are_stored();
         let mut files = files;
@@ -250,7 +252,8 @@ impl<F: EngineFiles> Engine<F> {
             ≡ record self.old { asks = ask Append Sync ∷ self.old.asks }) }
         ensures accepted { OnOk result (self.old.intact ≡ true) }
         ensures err { OnErr result (self.new ≡ record self.old { intact = false }) }
-        ensures fault { self.old.intact ≡ false → IfErr result (λ e. e ≡ Error.Failed) }
+        ensures refused { self.old.intact ≡ false → IfErr result (λ e. e ≡ Error.Failed) }
+        ensures fault { IfErr result (IsSyncFault F.may_fail self.old) }
     {
         asks_are_stored();
         if !self.intact {
@@ -270,6 +273,7 @@ impl<F: EngineFiles> Engine<F> {
     fn sync_if_wanted(&mut self, sync: bool) -> Result<()>
         ensures ok { OnOk result (IsOnlySynced sync self.old self.new) }
         ensures err { OnErr result (self.new ≡ record self.old { intact = false }) }
+        ensures fault { IfErr result (λ e. (sync ≡ true) × IsSyncFault F.may_fail self.old e) }
     {
         if sync {
             return self.sync();
@@ -287,6 +291,7 @@ impl<F: EngineFiles> Engine<F> {
         ensures ok { OnOk result (IsRotated self.old self.new) }
         ensures accepted { OnOk result (self.old.intact ≡ true) }
         ensures err { IfErr result (IsUnrotated self.old self.new) }
+        ensures fault { IfErr result (λ e. Breaks self.old self.new → IsRotationFault F.may_fail self.old self.new e) }
     {
         asks_are_stored();
         if !self.intact {
@@ -325,6 +330,8 @@ impl<F: EngineFiles> Engine<F> {
         ensures tested { OnOk result
             (AreAcceptedOncePlaced self.old.accessor.tables batch.old.items) }
         ensures err { IfErr result (IsUnwritten sync batch.old batch.new self.old self.new) }
+        ensures fault { IfErr result (λ e. Breaks self.old self.new
+            → IsWritingFault F.may_fail sync batch.old self.old self.new e) }
     {
         asks_are_stored();
         asks_put_batches();
@@ -369,6 +376,8 @@ impl<F: EngineFiles> Engine<F> {
         ensures ok { IfOk result (λ count. ArePurged count self.old self.new) }
         ensures accepted { OnOk result (self.old.intact ≡ true) }
         ensures err { IfErr result (IsUnpurged self.old self.new) }
+        ensures fault { IfErr result (λ e. Breaks self.old self.new
+            → IsPurgeFault F.may_fail Append self.old self.new e) }
     {
         asks_are_stored();
         if !self.intact {

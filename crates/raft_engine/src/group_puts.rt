@@ -2,9 +2,11 @@
 
 ghost use Rattle.std.specs.Prelude.{◌≡◌, ◌≢◌, [], map, IfOk, IfErr, OnOk, OnErr};
 ghost use Rattle.std.specs.List.{AllByRecursion};
+ghost use Rattle.raft_base.specs.declared.pipe_log.LogQueue.TheVariants.{Rewrite};
 ghost use Rattle.raft_records.specs.LogBatch.{Batch, is_open, encoded};
 ghost use Rattle.raft_engine.specs.GroupBatches.{placed_from, puts_asks};
 ghost use Rattle.raft_engine.specs.GroupPlaces.{AreFirstPut, BeginInTime, IsOneTooLong, as_encoded, end_from, items_of_batches};
+ghost use Rattle.raft_engine.specs.MovingFaults.{FailsBehind, IsItemRefusal};
 ghost use Rattle.raft_engine.specs.StoredAsks.{IsWritableBatch};
 
 use crate::limits::LAST_OFFSET;
@@ -63,6 +65,8 @@ pub fn put_all<F: EngineFiles>(
         ≡ placed_from file.now.id offset batches.items) }
     ensures err { OnErr result (AreFirstPut file.now batches.items (F.asked files.old)
         (F.asked files.new)) }
+    ensures fault { file.now.id.queue ≡ Rewrite → IfErr result (FailsBehind F.may_fail IsItemRefusal
+        (F.asked files.old) (F.asked files.new)) }
 {
     let mut placed = Vec::new(*batches.allocator());
     let mut at = offset;

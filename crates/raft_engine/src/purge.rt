@@ -2,6 +2,7 @@
 
 ghost use Rattle.std.specs.Prelude.{◌≡◌, ◌≤◌, ◌++◌, drop, map, IfErr, IfOk, OnErr, OnOk};
 ghost use Rattle.std.specs.Vec.{vec_len};
+ghost use Rattle.raft_engine.specs.OpeningAsks.{FailsAmong};
 ghost use Rattle.raft_engine.specs.Purged.{AreSomeDeleted, IsLeastNeeded, delete_asks, front_below, least_among};
 
 use raft_accessor::MemTableAccessor;
@@ -64,6 +65,8 @@ pub fn delete_oldest<F: EngineFiles>(
     ensures asked { OnOk result (F.asked files.new ≡ delete_asks queue count ++ F.asked files.old) }
     ensures closed { OnOk result (closed.new.items ≡ drop count closed.old.items) }
     ensures err { OnErr result (AreSomeDeleted queue count (F.asked files.old) (F.asked files.new)) }
+    ensures fault { IfErr result (FailsAmong F.may_fail (delete_asks queue count) (F.asked files.old)
+        (F.asked files.new)) }
 {
     for _ in 0..count {
         files.delete_oldest(queue)?;

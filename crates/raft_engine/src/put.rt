@@ -1,9 +1,10 @@
 //! A batch that is put behind the bytes of a file.
 
-ghost use Rattle.std.specs.Prelude.{◌≡◌, ◌⊎◌, ◌≤◌, ◌^◌, ◌++◌, IfErr, OnOk, OnErr};
+ghost use Rattle.std.specs.Prelude.{◌≡◌, ◌⊎◌, ◌≤◌, ◌^◌, [], ◌++◌, IfErr, OnOk, OnErr};
 ghost use Rattle.raft_records.specs.LogBatch.{encoded, encoded_length};
 ghost use Rattle.raft_files.specs.Asks.{IsAsked, MayBeAsked, Put, ask};
 ghost use Rattle.raft_engine.specs.BatchBytes.{bytes_for, placed_at};
+ghost use Rattle.raft_engine.specs.OpeningAsks.{FailsAmong};
 ghost use Rattle.raft_engine.specs.Purged.{put_asks};
 ghost use Rattle.raft_engine.specs.WrittenBatch.{synced_if};
 
@@ -63,6 +64,8 @@ pub fn put_items<F: EngineFiles>(
     ensures ok { OnOk result (F.asked files.new ≡ put_asks file.now batch.old ++ F.asked files.old) }
     ensures err { OnErr result ((F.asked files.new ≡ F.asked files.old)
         ⊎ (F.asked files.new ≡ put_asks file.now batch.old ++ F.asked files.old)) }
+    ensures fault { IfErr result (FailsAmong F.may_fail (put_asks file.now batch.old)
+        (F.asked files.old) (F.asked files.new)) }
 {
     if batch.is_empty() {
         return Ok(());
@@ -78,6 +81,8 @@ pub fn put_items<F: EngineFiles>(
 pub fn sync_if<F: EngineFiles>(files: &mut F, sync: bool) -> Result<()>
     ensures ok { OnOk result (F.asked files.new ≡ synced_if sync (F.asked files.old)) }
     ensures err { OnErr result (F.asked files.new ≡ F.asked files.old) }
+    ensures fault { IfErr result (FailsAmong F.may_fail (synced_if sync []) (F.asked files.old)
+        (F.asked files.new)) }
 {
     if sync {
         return files.sync(LogQueue::Append);

@@ -16,7 +16,25 @@ use Rattle.raft_files.specs.Disk.{NumberedBytes, begun, put_behind}
 use Rattle.raft_files.specs.Places.{bytes_at}
 use Rattle.raft_engine_laws.specs.Contents.{bytes_of, HaveBytes}
 use Rattle.raft_engine_laws.proofs.ContentLemmas.{added_bytes}
-use Rattle.raft_engine_fronts.specs.Contents.{AreToldByFiles, AreToldByReads, AreTold, AreBothTold, KeepsBytes, bytes_in, content_at, content_of, AreTrueReads, AreBothTrueReads, placed_entries, HaveContents, AreToldByWritten, TellContents, TellSoundContents, WrittenEntryIsTold, AddedEntriesAreTold}
+use Rattle.raft_engine_fronts.specs.Contents.{
+  AreToldByFiles,
+  AreToldByReads,
+  AreTold,
+  AreBothTold,
+  KeepsBytes,
+  bytes_in,
+  content_at,
+  content_of,
+  AreTrueReads,
+  AreBothTrueReads,
+  placed_entries,
+  HaveContents,
+  AreToldByWritten,
+  TellContents,
+  TellSoundContents,
+  WrittenEntryIsTold,
+  AddedEntriesAreTold,
+}
 use Rattle.raft_engine_fronts.proofs.PlaceLemmas.{bytes_stay, block_found}
 
 -- ---- they last

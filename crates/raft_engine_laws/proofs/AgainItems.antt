@@ -45,12 +45,17 @@ module _ (content : EntryIndex → List ℕ) (seq id : ℕ) (t w : Table) (sound
       let c : (a : List EntryIndex) × (b : List EntryIndex) × (todo ≡ a ++ b) × AreCopies content (g ∷ gs) a × AreCopies content (flat_map run_of ss) b = copies_split content (g ∷ gs) (flat_map run_of ss) todo copies in
       go (λ o q b. steps_again ss o q v u b all.1) c.0 c.1 c.2 c.3 c.4
     where
-      go : ((o q : Option Table) (b : List EntryIndex) → IsMidway (table_of id o) (table_of id q) b → AreCopies content (flat_map run_of ss) b → afters_again seq id o ss ≡ Some v → after Rewrite id q ss ≡ Some u → AreRecordsMoved content to t (table_of id v) w (table_of id u))
+      go : ((o q : Option Table) (b : List EntryIndex) → IsMidway (table_of id o) (table_of id q) b → AreCopies content (flat_map run_of ss) b →
+          afters_again seq id o ss ≡ Some v → after Rewrite id q ss ≡ Some u → AreRecordsMoved content to t (table_of id v) w (table_of id u))
           → (a b : List EntryIndex) → todo ≡ a ++ b → AreCopies content (g ∷ gs) a → AreCopies content (flat_map run_of ss) b → AreRecordsMoved content to t (table_of id v) w (table_of id u)
       go rest [] b two k l = absurd k
       go rest (m ∷ ms) b two k l = rest _ _ b (run_again content seq id t w sound told (table_of id o) (table_of id q) todo b m ms g gs h two k) l
-          (sym (ap (λ (x : Option (List EntryIndex)). option_and_then (λ u. afters_again seq id u ss) (option_map Some (option_map {U = Table} (λ es. record (table_of id o) { entries = es }) x))) (takes content seq id t w sound told (table_of id o) (table_of id q) todo b m ms g gs h two k)) ∙ is)
-          (sym (ap (λ (x : Option (List EntryIndex)). option_and_then (λ u. after Rewrite id u ss) (option_map Some (option_map {U = Table} (λ es. record (table_of id q) { entries = es }) x))) (reads content seq id t w sound told (table_of id o) (table_of id q) todo b m ms g gs h two k)) ∙ puts)
+          (sym (ap (λ (x : Option (List EntryIndex)). option_and_then (λ u. afters_again seq id u ss)
+          (option_map Some (option_map {U = Table} (λ es. record (table_of id o) { entries = es }) x)))
+          (takes content seq id t w sound told (table_of id o) (table_of id q) todo b m ms g gs h two k)) ∙ is)
+          (sym (ap (λ (x : Option (List EntryIndex)). option_and_then (λ u. after Rewrite id u ss)
+          (option_map Some (option_map {U = Table} (λ es. record (table_of id q) { entries = es }) x)))
+          (reads content seq id t w sound told (table_of id o) (table_of id q) todo b m ms g gs h two k)) ∙ puts)
   steps_again (Put key value file ∷ ss) o q v u todo all h copies is puts = go (λ o q h is puts. steps_again ss o q v u todo all.1 h copies is puts) (after_again seq (table_of id o) (Put key value file)) refl is
     where
       go : ((o q : Option Table) → IsMidway (table_of id o) (table_of id q) todo → afters_again seq id o ss ≡ Some v → after Rewrite id q ss ≡ Some u → AreRecordsMoved content to t (table_of id v) w (table_of id u))
@@ -65,7 +70,8 @@ module _ (content : EntryIndex → List ℕ) (seq id : ℕ) (t w : Table) (sound
   steps_again (Clean ∷ ss) o q v u todo all h copies is puts = absurd all.0
 
   -- from the tables as they were
-  pub all_again : (ss : List Step) (o q v u : Option Table) → AllByRecursion (IsStepAgain to t.keys) ss → table_of id o ≡ t → table_of id q ≡ w → (flat_map run_of ss ≡ []) ⊎ AreCopies content (flat_map run_of ss) (placed_in Rewrite t.entries)
+  pub all_again : (ss : List Step) (o q v u : Option Table) → AllByRecursion (IsStepAgain to t.keys) ss → table_of id o ≡ t → table_of id q ≡ w →
+      (flat_map run_of ss ≡ []) ⊎ AreCopies content (flat_map run_of ss) (placed_in Rewrite t.entries)
       → afters_again seq id o ss ≡ Some v → after Rewrite id q ss ≡ Some u → AreRecordsMoved content to t (table_of id v) w (table_of id u)
   all_again ss o q v u all at_o at_q (inl none) is puts = steps_again ss o q v u [] all (subst (λ k. IsMidway k (table_of id q) []) (sym at_o) (subst (λ p. IsMidway t p []) (sym at_q) (record {
     done = [];
@@ -78,17 +84,19 @@ module _ (content : EntryIndex → List ℕ) (seq id : ℕ) (t w : Table) (sound
     read = told;
     pairs = λ key. inl (refl, refl);
   }))) (subst (λ l. AreCopies content l []) (sym none) tt) is puts
-  all_again ss o q v u all at_o at_q (inr copies) is puts = steps_again ss o q v u (placed_in Rewrite t.entries) all (subst (λ k. IsMidway k (table_of id q) (placed_in Rewrite t.entries)) (sym at_o) (subst (λ p. IsMidway t p (placed_in Rewrite t.entries)) (sym at_q) (record {
-    done = [];
-    copies = [];
-    rest = [];
-    split = sym (append-nil (placed_in Rewrite t.entries));
-    copied = tt;
-    ends = inl refl;
-    entries = sound.in_front;
-    read = told;
-    pairs = λ key. inl (refl, refl);
-  }))) copies is puts
+  all_again ss o q v u all at_o at_q (inr copies) is puts = steps_again ss o q v u (placed_in Rewrite t.entries) all
+      (subst (λ k. IsMidway k (table_of id q) (placed_in Rewrite t.entries)) (sym at_o)
+      (subst (λ p. IsMidway t p (placed_in Rewrite t.entries)) (sym at_q) (record {
+        done = [];
+        copies = [];
+        rest = [];
+        split = sym (append-nil (placed_in Rewrite t.entries));
+        copied = tt;
+        ends = inl refl;
+        entries = sound.in_front;
+        read = told;
+        pairs = λ key. inl (refl, refl);
+      }))) copies is puts
 
 -- ---- all regions
 
@@ -101,7 +109,9 @@ module _ (file : FileId) (seq : ℕ) (keys : Keys) (m n : Tables) (id : ℕ) (re
   pair_again : (op : OpType) (key : List ℕ) (value : Option (List ℕ)) (at : Option FileId) (v : List ℕ) (f : FileId) → op ≡ operations.Put → value ≡ Some v → at ≡ Some f
       → option_and_then (λ t. later (with_table m id t)) (option_map Some (after_rewrite_pair None seq (table_of id (finite.get m id)) op key value)) ≡ Some n → tables_again seq m (with_step id (pair_step op key value at) rest) ≡ Some n
   pair_again operations.Put key (Some value) (Some at) v f a b c e =
-      elim (after_rewrite_key None seq (table_of id (finite.get m id)) key) as (λ o. option_and_then (λ t. later (with_table m id t)) (option_map Some o) ≡ Some n → option_and_then (λ t. tables_again seq (with_table m id t) rest) (option_map Some o) ≡ Some n) [
+      elim (after_rewrite_key None seq (table_of id (finite.get m id)) key)
+      as (λ o. option_and_then (λ t. later (with_table m id t)) (option_map Some o) ≡ Some n →
+      option_and_then (λ t. tables_again seq (with_table m id t) rest) (option_map Some o) ≡ Some n) [
         | None ↦ λ e. absurd (none_some e)
         | Some t ↦ λ e. h _ e
       ] e
@@ -109,10 +119,14 @@ module _ (file : FileId) (seq : ℕ) (keys : Keys) (m n : Tables) (id : ℕ) (re
   pair_again operations.Put key None at v f a b c e = absurd (none_some b)
   pair_again operations.Del key value at v f a b c e = absurd cc
 
-  content_again : (content : Content) → MovesAgain file keys content → option_and_then (λ t. later (with_table m id t)) (after_content (Rewriting None seq) id (finite.get m id) content) ≡ Some n → tables_again seq m (with_step id (content_step content) rest) ≡ Some n
+  content_again : (content : Content) → MovesAgain file keys content →
+      option_and_then (λ t. later (with_table m id t)) (after_content (Rewriting None seq) id (finite.get m id) content) ≡ Some n →
+      tables_again seq m (with_step id (content_step content) rest) ≡ Some n
   content_again (entries []) a e = absurd a
   content_again (entries (x ∷ es)) a e =
-      elim (after_rewrite None (table_of id (finite.get m id)) (x ∷ es)) as (λ o. option_and_then (λ t. later (with_table m id t)) (option_map Some o) ≡ Some n → option_and_then (λ t. tables_again seq (with_table m id t) rest) (option_map Some o) ≡ Some n) [
+      elim (after_rewrite None (table_of id (finite.get m id)) (x ∷ es))
+      as (λ o. option_and_then (λ t. later (with_table m id t)) (option_map Some o) ≡ Some n →
+      option_and_then (λ t. tables_again seq (with_table m id t) rest) (option_map Some o) ≡ Some n) [
         | None ↦ λ e. absurd (none_some e)
         | Some t ↦ λ e. h _ e
       ] e
@@ -127,7 +141,9 @@ module _ (file : FileId) (seq : ℕ) (keys : Keys) (m n : Tables) (id : ℕ) (re
         | inr q ↦ pair_again p.op_type p.key p.value p.file_id q.stored.value file q.put q.value q.in_file e
       ]
 
-items_again : (file : FileId) (seq : ℕ) (keys : ℕ → Keys) (m n : Tables) (items : List Item) → AllByRecursion (λ (item : Item). MovesAgain file (keys item.raft_group_id) item.content) items → after_items (Rewriting None seq) m items ≡ Some n → tables_again seq m (steps_of_items items) ≡ Some n
+items_again : (file : FileId) (seq : ℕ) (keys : ℕ → Keys) (m n : Tables) (items : List Item) →
+    AllByRecursion (λ (item : Item). MovesAgain file (keys item.raft_group_id) item.content) items →
+    after_items (Rewriting None seq) m items ≡ Some n → tables_again seq m (steps_of_items items) ≡ Some n
 items_again file seq keys m n [] all e = e
 items_again file seq keys m n (item ∷ items) all e =
     content_again file seq (keys item.raft_group_id) m n item.raft_group_id (steps_of_items items) (λ k. after_items (Rewriting None seq) k items) (λ k. items_again file seq keys k n items all.1) item.content all.0 e
@@ -144,7 +160,9 @@ again_by_region seq m n (s ∷ steps) e r = go (λ k e. again_by_region seq k n 
     go rest (Some u) k e = elim (by_region r s.region) [
       | inl same ↦ subst (λ q. afters_again seq q (finite.get m q) (steps_on q (s ∷ steps)) ≡ Some (finite.get n q)) (sym same)
           (ap (afters_again seq s.region (finite.get m s.region)) (own_head s steps) ∙ ap (option_and_then (λ u. afters_again seq s.region u (steps_on s.region steps))) k
-          ∙ subst (λ o. afters_again seq s.region o (steps_on s.region steps) ≡ Some (finite.get n s.region)) (with_own m s.region u) (subst (λ q. afters_again seq q (finite.get (with_table m s.region u) q) (steps_on q steps) ≡ Some (finite.get n q)) same (rest (with_table m s.region u) e)))
+          ∙ subst (λ o. afters_again seq s.region o (steps_on s.region steps) ≡ Some (finite.get n s.region)) (with_own m s.region u)
+          (subst (λ q. afters_again seq q (finite.get (with_table m s.region u) q) (steps_on q steps) ≡ Some (finite.get n q)) same
+          (rest (with_table m s.region u) e)))
       | inr other ↦ ap (afters_again seq r (finite.get m r)) (own_other r s steps other.0) ∙ subst (λ o. afters_again seq r o (steps_on r steps) ≡ Some (finite.get n r)) (with_other m s.region r u other.1) (rest (with_table m s.region u) e)
     ]
 
@@ -158,13 +176,17 @@ one_step file keys (pair p) (inl r) s e = absurd (none_some (sym (ap (λ b. cond
 one_step file keys (pair p) (inr q) s e = go (is_reserved p.key) e
   where
     is : pair_step p.op_type p.key p.value p.file_id ≡ Some (Put p.key q.stored.value file)
-    is = ap (λ (op : OpType). pair_step op p.key p.value p.file_id) q.put ∙ ap (λ (v : Option (List ℕ)). pair_step operations.Put p.key v p.file_id) q.value ∙ ap (λ (f : Option FileId). pair_step operations.Put p.key (Some q.stored.value) f) q.in_file
+    is = ap (λ (op : OpType). pair_step op p.key p.value p.file_id) q.put
+        ∙ ap (λ (v : Option (List ℕ)). pair_step operations.Put p.key v p.file_id) q.value
+        ∙ ap (λ (f : Option FileId). pair_step operations.Put p.key (Some q.stored.value) f) q.in_file
 
     go : (b : Bool) → cond b None (pair_step p.op_type p.key p.value p.file_id) ≡ Some s → IsStepAgain file keys s
     go true e = absurd (none_some e)
     go false e = subst (IsStepAgain file keys) (some_is (sym is ∙ e)) (q.stored, q.there, q.queue, refl, refl)
 
-each_step : (file : FileId) (keys : ℕ → Keys) (items : List Item) → AllByRecursion (λ (item : Item). MovesAgain file (keys item.raft_group_id) item.content) items → AllByRecursion (λ (i : RegionStep). IsStepAgain file (keys i.region) i.step) (steps_of_items items)
+each_step : (file : FileId) (keys : ℕ → Keys) (items : List Item) →
+    AllByRecursion (λ (item : Item). MovesAgain file (keys item.raft_group_id) item.content) items →
+    AllByRecursion (λ (i : RegionStep). IsStepAgain file (keys i.region) i.step) (steps_of_items items)
 each_step file keys [] h = tt
 each_step file keys (item ∷ items) h = go (content_step item.content) (one_step file (keys item.raft_group_id) item.content h.0) (each_step file keys items h.1)
   where
@@ -188,5 +210,6 @@ pub region_again : (content : EntryIndex → List ℕ) (seq r : ℕ) (m n : Tabl
     → AreRecordsMoved content (record { queue = Rewrite; seq = seq }) (table_of r (finite.get m r)) (table_of r (finite.get n r)) (table_of r w) (table_of r u)
 region_again content seq r m n items w u a is sound told puts =
     all_again content seq r (table_of r (finite.get m r)) (table_of r w) sound told (steps_on r (steps_of_items items)) (finite.get m r) w (finite.get n r) u
-    (on_own (λ q s. IsStepAgain (record { queue = Rewrite; seq = seq }) (table_of q (finite.get m q)).keys s) r (steps_of_items items) (each_step (record { queue = Rewrite; seq = seq }) (λ q. (table_of q (finite.get m q)).keys) items a.contents))
+    (on_own (λ q s. IsStepAgain (record { queue = Rewrite; seq = seq }) (table_of q (finite.get m q)).keys s) r (steps_of_items items)
+    (each_step (record { queue = Rewrite; seq = seq }) (λ q. (table_of q (finite.get m q)).keys) items a.contents))
     refl refl (a.copied r) (again_by_region seq m n (steps_of_items items) (items_again (record { queue = Rewrite; seq = seq }) seq (λ q. (table_of q (finite.get m q)).keys) m n items a.contents is) r) puts

@@ -122,7 +122,8 @@ module _ (content : EntryIndex → List ℕ) (seq id : ℕ) (t w : Table) (sound
     pub pairs : (key : List ℕ) → IsPairMoved to t.keys k.keys w.keys p.keys key
 
   -- a run of copies
-  module _ (k p : Table) (todo todo' : List EntryIndex) (m : EntryIndex) (ms : List EntryIndex) (g : EntryIndex) (gs : List EntryIndex) (h : IsAgain k p todo) (two : todo ≡ m ∷ ms ++ todo') (copies : AreCopies content (g ∷ gs) (m ∷ ms)) where
+  module _ (k p : Table) (todo todo' : List EntryIndex) (m : EntryIndex) (ms : List EntryIndex) (g : EntryIndex) (gs : List EntryIndex)
+      (h : IsAgain k p todo) (two : todo ≡ m ∷ ms ++ todo') (copies : AreCopies content (g ∷ gs) (m ∷ ms)) where
     abbrev back : List EntryIndex
     back = todo' ++ (h.rest ++ apps)
 
@@ -130,7 +131,8 @@ module _ (content : EntryIndex → List ℕ) (seq id : ℕ) (t w : Table) (sound
     rew_is = h.split ∙ ap (λ l. h.done ++ (l ++ h.rest)) two ∙ ap (λ l. h.done ++ l) (append_assoc (m ∷ ms) todo' h.rest)
 
     all_is : t.entries ≡ h.done ++ (m ∷ ms ++ back)
-    all_is = sound.in_front ∙ ap (λ l. l ++ apps) rew_is ∙ append_assoc h.done (m ∷ ms ++ (todo' ++ h.rest)) apps ∙ ap (λ l. h.done ++ l) (append_assoc (m ∷ ms) (todo' ++ h.rest) apps ∙ ap (λ l. m ∷ ms ++ l) (append_assoc todo' h.rest apps))
+    all_is = sound.in_front ∙ ap (λ l. l ++ apps) rew_is ∙ append_assoc h.done (m ∷ ms ++ (todo' ++ h.rest)) apps
+        ∙ ap (λ l. h.done ++ l) (append_assoc (m ∷ ms) (todo' ++ h.rest) apps ∙ ap (λ l. m ∷ ms ++ l) (append_assoc todo' h.rest apps))
 
     rising : RisesFrom (start_of t.entries) (h.copies ++ (m ∷ ms ++ back))
     rising = copied_rise content (start_of t.entries) h.copies h.done (m ∷ ms ++ back) h.copied (subst (RisesFrom (start_of t.entries)) all_is (rises t.entries sound.consecutive.run))
@@ -140,7 +142,9 @@ module _ (content : EntryIndex → List ℕ) (seq id : ℕ) (t w : Table) (sound
 
     in_place : is_misplaced None (length h.copies) (entry_count Rewrite (h.copies ++ (m ∷ ms ++ back))) ≡ false
     in_place =
-        ap (λ l. is_misplaced None (length h.copies) (length l)) (placed_in-append Rewrite h.copies (m ∷ ms ++ back) ∙ ap (λ l. l ++ placed_in Rewrite (m ∷ ms ++ back)) (each_placed Rewrite h.copies (copies_placed content h.copies h.done h.copied)))
+        ap (λ l. is_misplaced None (length h.copies) (length l))
+        (placed_in-append Rewrite h.copies (m ∷ ms ++ back)
+        ∙ ap (λ l. l ++ placed_in Rewrite (m ∷ ms ++ back)) (each_placed Rewrite h.copies (copies_placed content h.copies h.done h.copied)))
         ∙ ap (is_misplaced None (length h.copies)) (length-append h.copies (placed_in Rewrite (m ∷ ms ++ back)))
         ∙ not_misplaced (length h.copies) (length (placed_in Rewrite (m ∷ ms ++ back)))
 
@@ -162,7 +166,9 @@ module _ (content : EntryIndex → List ℕ) (seq id : ℕ) (t w : Table) (sound
             ap (λ l. entries_after_replay Rewrite l (g ∷ gs)) all ∙ read_over m (ms ++ (todo' ++ h.rest)) g gs (front_run all) copies.0.0
           where
             front_run : rew ≡ m ∷ ms ++ (todo' ++ h.rest) → IsRun (m ∷ ms ++ (todo' ++ h.rest))
-            front_run all = run_is (start_of t.entries) (m ∷ ms ++ (todo' ++ h.rest)) (rises_front (start_of t.entries) (m ∷ ms ++ (todo' ++ h.rest)) apps (subst (RisesFrom (start_of t.entries)) (sound.in_front ∙ ap (λ l. l ++ apps) all) (rises t.entries sound.consecutive.run)))
+            front_run all = run_is (start_of t.entries) (m ∷ ms ++ (todo' ++ h.rest))
+                (rises_front (start_of t.entries) (m ∷ ms ++ (todo' ++ h.rest)) apps
+                (subst (RisesFrom (start_of t.entries)) (sound.in_front ∙ ap (λ l. l ++ apps) all) (rises t.entries sound.consecutive.run)))
               where
                 rises_front : (s : ℕ) (a b : List EntryIndex) → RisesFrom s (a ++ b) → RisesFrom s a
                 rises_front s [] b h = tt
@@ -194,7 +200,8 @@ module _ (content : EntryIndex → List ℕ) (seq id : ℕ) (t w : Table) (sound
       → IsAgain (table_of id v) (record p { keys = finite.insert p.keys key (record { value = value; file = file }) }) todo
   put_again k p todo key value file v h a is = go (now_there None seq t.keys w.keys k.keys p.keys key a.0 a.1 h.pairs)
     where
-      moved : after_rewrite_key None seq k key ≡ Some (record k { keys = finite.insert k.keys key (record a.0 { file = to }) }) → IsAgain (table_of id v) (record p { keys = finite.insert p.keys key (record { value = value; file = file }) }) todo
+      moved : after_rewrite_key None seq k key ≡ Some (record k { keys = finite.insert k.keys key (record a.0 { file = to }) }) →
+          IsAgain (table_of id v) (record p { keys = finite.insert p.keys key (record { value = value; file = file }) }) todo
       moved e = subst (λ (o : Option Table). IsAgain (table_of id o) (record p { keys = finite.insert p.keys key (record { value = value; file = file }) }) todo) (same_some _ v (sym (ap (option_map Some) e) ∙ is))
           (record {
             done = h.done;
@@ -209,7 +216,9 @@ module _ (content : EntryIndex → List ℕ) (seq id : ℕ) (t w : Table) (sound
                 (one_more None seq t.keys w.keys k.keys p.keys key a.0 value a.1 a.3 h.pairs);
           })
 
-      by : (x : Stored) → finite.get k.keys key ≡ Some x → x.file.queue ≡ Rewrite → (b : Bool) → nat_lt seq x.file.seq ≡ b → after_rewrite_key None seq k key ≡ option_map (λ keys. record k { keys = keys }) (cond b None (Some (finite.insert k.keys key (record x { file = to }))))
+      by : (x : Stored) → finite.get k.keys key ≡ Some x → x.file.queue ≡ Rewrite → (b : Bool) → nat_lt seq x.file.seq ≡ b →
+          after_rewrite_key None seq k key ≡ option_map (λ keys. record k { keys = keys })
+          (cond b None (Some (finite.insert k.keys key (record x { file = to }))))
       by x there q b low =
           ap (option_map (λ keys. record k { keys = keys })) (
           ap (λ (o : Option Stored). rewritten_in None seq k.keys key (option_map (λ (y : Stored). y.file) o)) there

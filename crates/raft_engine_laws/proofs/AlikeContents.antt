@@ -52,11 +52,14 @@ module _ (told content : EntryIndex → List ℕ) where
   items_alike [] h = tt
   items_alike (item ∷ items) h = go (content_step item.content) (λ s e. step_alike item.content s h.0 e) (items_alike items h.1)
     where
-      go : (o : Option Step) → ((s : Step) → o ≡ Some s → IsStepAlike s) → AllByRecursion (λ (i : RegionStep). IsStepAlike i.step) (steps_of_items items) → AllByRecursion (λ (i : RegionStep). IsStepAlike i.step) (with_step item.raft_group_id o (steps_of_items items))
+      go : (o : Option Step) → ((s : Step) → o ≡ Some s → IsStepAlike s) →
+          AllByRecursion (λ (i : RegionStep). IsStepAlike i.step) (steps_of_items items) →
+          AllByRecursion (λ (i : RegionStep). IsStepAlike i.step) (with_step item.raft_group_id o (steps_of_items items))
       go None each rest = rest
       go (Some s) each rest = (each s refl, rest)
 
-  history_alike : (h : List Event) → AllByRecursion (λ (e : Event). AllByRecursion (λ (item : Item). AreToldAlike told content item.content) e.items) h → AllByRecursion (λ (i : RegionStep). IsStepAlike i.step) (flat_map (λ (e : Event). steps_of_items e.items) h)
+  history_alike : (h : List Event) → AllByRecursion (λ (e : Event). AllByRecursion (λ (item : Item). AreToldAlike told content item.content) e.items)
+      h → AllByRecursion (λ (i : RegionStep). IsStepAlike i.step) (flat_map (λ (e : Event). steps_of_items e.items) h)
   history_alike [] a = tt
   history_alike (e ∷ h) a = each_of_both (λ (i : RegionStep). IsStepAlike i.step) (steps_of_items e.items) (flat_map (λ (e : Event). steps_of_items e.items) h) (items_alike e.items a.0) (history_alike h a.1)
 

@@ -64,7 +64,9 @@ module _ (content : EntryIndex → List ℕ) where
   run_alike id t u [] v h is = (Some u, refl, ap (λ (o : Option Table). told (table_of id o).entries) (sym (same_some (Some t) v is)) ∙ h)
   run_alike id t u (e ∷ run) v h is = go (starts_in_front t.entries e.index || leaves_hole t.entries e.index) refl is
     where
-      go : (b : Bool) → (starts_in_front t.entries e.index || leaves_hole t.entries e.index) ≡ b → option_map Some (option_map {U = Table} (λ es. record t { entries = es }) (cond b None (Some (below e.index t.entries ++ e ∷ run)))) ≡ Some v → IsTakenAlike id v (option_map Some (after_append u (e ∷ run)))
+      go : (b : Bool) → (starts_in_front t.entries e.index || leaves_hole t.entries e.index) ≡ b →
+          option_map Some (option_map {U = Table} (λ es. record t { entries = es }) (cond b None (Some (below e.index t.entries ++ e ∷ run)))) ≡ Some
+          v → IsTakenAlike id v (option_map Some (after_append u (e ∷ run)))
       go true k is = absurd cc
       go false k is = (
         Some (record u { entries = below e.index u.entries ++ e ∷ run }),
@@ -74,7 +76,9 @@ module _ (content : EntryIndex → List ℕ) where
             ∙ ap (λ l. l ++ told (e ∷ run)) (told_below content e.index t.entries ∙ ap (filter (λ x. nat_lt x.0 e.index)) h ∙ sym (told_below content e.index u.entries)) ∙ sym (told-append content (below e.index u.entries) (e ∷ run)),
       )
 
-  put_alike : (id : ℕ) (o p v : Option Table) → AreAlike id o p → (op : OpType) (key : List ℕ) (value : Option (List ℕ)) (file : Option FileId) → option_map Some (after_pair (table_of id o) op key value file) ≡ Some v → IsTakenAlike id v (option_map Some (after_pair (table_of id p) op key value file))
+  put_alike : (id : ℕ) (o p v : Option Table) → AreAlike id o p → (op : OpType) (key : List ℕ) (value : Option (List ℕ)) (file : Option FileId) →
+      option_map Some (after_pair (table_of id o) op key value file) ≡ Some v →
+      IsTakenAlike id v (option_map Some (after_pair (table_of id p) op key value file))
   put_alike id o p v h operations.Put key (Some value) (Some file) is = (_, refl, ap (λ (o : Option Table). told (table_of id o).entries) (sym (same_some _ v is)) ∙ h)
   put_alike id o p v h operations.Put key (Some value) None is = absurd cc
   put_alike id o p v h operations.Put key None file is = absurd cc
@@ -83,10 +87,20 @@ module _ (content : EntryIndex → List ℕ) where
   content_alike : (id : ℕ) (o p v : Option Table) → AreAlike id o p → (c : Content) → after_content Appending id o c ≡ Some v → IsTakenAlike id v (after_content Appending id p c)
   content_alike id o p v h (entries es) is = run_alike id (table_of id o) (table_of id p) es v h is
   content_alike id o p v h (command commands.Clean) is = (None, refl, ap (λ (o : Option Table). told (table_of id o).entries) (sym (same_some _ v is)))
-  content_alike id o p v h (command (commands.Compact i)) is =
-      (_, refl, ap (λ (o : Option Table). told (table_of id o).entries) (sym (same_some (Some (record (table_of id o) { entries = from i (table_of id o).entries })) v is)) ∙ told_from content i (table_of id o).entries ∙ ap (filter (λ x. nat_le i x.0)) h ∙ sym (told_from content i (table_of id p).entries))
-  content_alike id o p v h (command (commands.Truncate i)) is =
-      (_, refl, ap (λ (o : Option Table). told (table_of id o).entries) (sym (same_some (Some (record (table_of id o) { entries = below i (table_of id o).entries })) v is)) ∙ told_below content i (table_of id o).entries ∙ ap (filter (λ x. nat_lt x.0 i)) h ∙ sym (told_below content i (table_of id p).entries))
+  content_alike id o p v h (command (commands.Compact i)) is = (
+    _,
+    refl,
+    ap (λ (o : Option Table). told (table_of id o).entries)
+        (sym (same_some (Some (record (table_of id o) { entries = from i (table_of id o).entries })) v is))
+        ∙ told_from content i (table_of id o).entries ∙ ap (filter (λ x. nat_le i x.0)) h ∙ sym (told_from content i (table_of id p).entries),
+  )
+  content_alike id o p v h (command (commands.Truncate i)) is = (
+    _,
+    refl,
+    ap (λ (o : Option Table). told (table_of id o).entries)
+        (sym (same_some (Some (record (table_of id o) { entries = below i (table_of id o).entries })) v is))
+        ∙ told_below content i (table_of id o).entries ∙ ap (filter (λ x. nat_lt x.0 i)) h ∙ sym (told_below content i (table_of id p).entries),
+  )
   content_alike id o p v h (pair x) is = go (is_reserved x.key) is
     where
       go : (b : Bool) → (if b then Some o else option_map Some (with_change Appending (table_of id o) x)) ≡ Some v → IsTakenAlike id v (if b then Some p else option_map Some (with_change Appending (table_of id p) x))
@@ -114,10 +128,14 @@ module _ (content : EntryIndex → List ℕ) where
           → (later : Tables) × (option_and_then (λ t. after_items Appending (with_table n item.raft_group_id t) items) (after_content Appending item.raft_group_id (finite.get n item.raft_group_id) item.content) ≡ Some later)
       go rest None e k = absurd cc
       go rest (Some v) e k =
-          let a : IsTakenAlike item.raft_group_id v (after_content Appending item.raft_group_id (finite.get n item.raft_group_id) item.content) = content_alike item.raft_group_id (finite.get m item.raft_group_id) (finite.get n item.raft_group_id) v (all item.raft_group_id) item.content e in
-          let b : (later : Tables) × (after_items Appending (with_table n item.raft_group_id a.0) items ≡ Some later) = rest (with_table m item.raft_group_id v) (with_table n item.raft_group_id a.0) (with_alike m n item.raft_group_id v a.0 all a.2) k in
+          let a : IsTakenAlike item.raft_group_id v
+          (after_content Appending item.raft_group_id (finite.get n item.raft_group_id) item.content) = content_alike item.raft_group_id
+          (finite.get m item.raft_group_id) (finite.get n item.raft_group_id) v (all item.raft_group_id) item.content e in
+          let b : (later : Tables) × (after_items Appending (with_table n item.raft_group_id a.0) items ≡ Some later) = rest
+          (with_table m item.raft_group_id v) (with_table n item.raft_group_id a.0) (with_alike m n item.raft_group_id v a.0 all a.2) k in
           (b.0, ap (option_and_then (λ t. after_items Appending (with_table n item.raft_group_id t) items)) a.1 ∙ b.1)
 
   -- a batch that some tables take, any with the same records take
-  pub alike_taken : (m n new : Tables) (records : ℕ → Records) (items : List Item) → HaveRecords content m records → HaveRecords content n records → after_items Appending m items ≡ Some new → (later : Tables) × (after_items Appending n items ≡ Some later)
+  pub alike_taken : (m n new : Tables) (records : ℕ → Records) (items : List Item) → HaveRecords content m records → HaveRecords content n records →
+      after_items Appending m items ≡ Some new → (later : Tables) × (after_items Appending n items ≡ Some later)
   alike_taken m n new records items a b is = items_alike m n new items (λ r. (a r).entries ∙ sym (b r).entries) is

@@ -23,9 +23,14 @@ completed_last (Some m) before p = by m.status (open_stretch (markers_of m.group
 pub last_low : (before : List Numbered) (n : ℕ) (bs : List BatchSteps) → AllByRecursion (λ (e : Effect). e.last.number < n + length bs) (effects_behind before (numbered_from n bs))
 unfolding effects_behind
 last_low before n [] = tt
-last_low before n (b ∷ bs) = each-append (λ (e : Effect). e.last.number < n + suc (length bs)) (completed_by b.marker before record { number = n; batch = b }) (effects_behind (before ++ record { number = n; batch = b } ∷ []) (numbered_from (suc n) bs))
-    (each_weaker (λ (e : Effect). e.last.number ≡ n) (λ (e : Effect). e.last.number < n + suc (length bs)) (λ e is. omega (arith, is)) (completed_by b.marker before record { number = n; batch = b }) (completed_last b.marker before record { number = n; batch = b }))
-    (each_weaker (λ (e : Effect). e.last.number < suc n + length bs) (λ (e : Effect). e.last.number < n + suc (length bs)) (λ e low. omega (arith, low)) (effects_behind (before ++ record { number = n; batch = b } ∷ []) (numbered_from (suc n) bs)) (last_low (before ++ record { number = n; batch = b } ∷ []) (suc n) bs))
+last_low before n (b ∷ bs) = each-append (λ (e : Effect). e.last.number < n + suc (length bs))
+    (completed_by b.marker before record { number = n; batch = b })
+    (effects_behind (before ++ record { number = n; batch = b } ∷ []) (numbered_from (suc n) bs))
+    (each_weaker (λ (e : Effect). e.last.number ≡ n) (λ (e : Effect). e.last.number < n + suc (length bs)) (λ e is. omega (arith, is))
+    (completed_by b.marker before record { number = n; batch = b }) (completed_last b.marker before record { number = n; batch = b }))
+    (each_weaker (λ (e : Effect). e.last.number < suc n + length bs) (λ (e : Effect). e.last.number < n + suc (length bs))
+    (λ e low. omega (arith, low)) (effects_behind (before ++ record { number = n; batch = b } ∷ []) (numbered_from (suc n) bs))
+    (last_low (before ++ record { number = n; batch = b } ∷ []) (suc n) bs))
 
 pub apart_more : (es : List Effect) (f : Effect) → EachApart es → AllByRecursion (λ (e : Effect). AreApart e f) es → EachApart (es ++ f ∷ [])
 apart_more [] f h k = (tt, tt)
@@ -38,7 +43,9 @@ effects_more h b = effects-append h (b ∷ []) ∙ ap (λ l. effects h ++ l) (ef
 pub apart_plain : (h : List BatchSteps) (b : BatchSteps) → b.marker ≡ None → EachApart (effects h) → EachApart (effects (h ++ b ∷ []))
 apart_plain h b plain apart = subst EachApart (sym (effects_more h b ∙ ap (λ m. effects h ++ completed_by m (numbered_from 0 h) record { number = length h; batch = b }) plain))
     (apart_more (effects h) record { earlier = []; last = record { number = length h; batch = b } } apart
-    (each_weaker (λ (e : Effect). e.last.number < 0 + length h) (λ (e : Effect). AreApart e record { earlier = []; last = record { number = length h; batch = b } }) (λ e low over. absurd (omega (arith, low, over.1))) (effects h) (last_low [] 0 h)))
+    (each_weaker (λ (e : Effect). e.last.number < 0 + length h)
+    (λ (e : Effect). AreApart e record { earlier = []; last = record { number = length h; batch = b } })
+    (λ e low over. absurd (omega (arith, low, over.1))) (effects h) (last_low [] 0 h)))
 
 -- a batch that begins a group or goes on with one takes no effect
 pub effects_held : (h : List BatchSteps) (b : BatchSteps) → IsBeforeEnd b.marker → effects (h ++ b ∷ []) ≡ effects h

@@ -37,6 +37,8 @@ module _ (content : EntryIndex → List ℕ) (n : ℕ) (dropped later rewrite : 
     read = h.read;
     each = λ r. subst (λ l. IsRegionKept content r (steps_of r (batches later)) l (table_of r (finite.get h.rewritten r)) (table_of r (finite.get tables r))) (sym (own_none r))
         (shorter_kept content r n (steps_of r (batches dropped)) (steps_of r (batches later)) (table_of r (finite.get h.rewritten r)) (table_of r (finite.get tables r))
-        (subst (λ l. IsRegionKept content r l [] (table_of r (finite.get h.rewritten r)) (table_of r (finite.get tables r))) (parts r) (subst (λ l. IsRegionKept content r (steps_of r (batches (dropped ++ later))) l (table_of r (finite.get h.rewritten r)) (table_of r (finite.get tables r))) (own_none r) (h.each r)))
+        (subst (λ l. IsRegionKept content r l [] (table_of r (finite.get h.rewritten r)) (table_of r (finite.get tables r))) (parts r)
+        (subst (λ l. IsRegionKept content r (steps_of r (batches (dropped ++ later))) l (table_of r (finite.get h.rewritten r))
+        (table_of r (finite.get tables r))) (own_none r) (h.each r)))
         (steps_below n r dropped below front.items) (needs r));
   }

@@ -91,7 +91,8 @@ module _ (content : EntryIndex → List ℕ) where
           ∙ ap (entries_told content) (append_assoc left (unspoken (s ∷ []) (table_of id o).entries) (put_by s) ∙ ap (λ l. left ++ l) (sym (entries_after id (table_of id o) u s e)))
 
       go : ((u : Option Table) → after_step Append (table_of id o) s ≡ Some u → after Append id u ss ≡ Some v → (after_changes content (after_change content rs s) ss).entries ≡ entries_told content (left ++ (table_of id v).entries))
-          → (x : Option (Option Table)) → after_step Append (table_of id o) s ≡ x → option_and_then (λ u. after Append id u ss) x ≡ Some v → (after_changes content (after_change content rs s) ss).entries ≡ entries_told content (left ++ (table_of id v).entries)
+          → (x : Option (Option Table)) → after_step Append (table_of id o) s ≡ x → option_and_then (λ u. after Append id u ss) x ≡ Some v →
+          (after_changes content (after_change content rs s) ss).entries ≡ entries_told content (left ++ (table_of id v).entries)
       go rest None e k = absurd cc
       go rest (Some u) e k = rest u e k
 

@@ -32,7 +32,11 @@ no_entries floor cut = go (is_unjoined cut (end_of []) [])
     go false = ap (λ l. l ++ []) (within-nil floor cut)
 
 no_pairs : (ss : List Step) (key : List ℕ) → finite.get (empty_table 0).keys key ≡ finite.get (pairs_over finite.empty (without (deleted_of finset.empty ss) finite.empty)) key
-no_pairs ss key = finite.get-empty (slice_cmp nat_cmp) key ∙ sym (get-pairs_over finite.empty (without (deleted_of finset.empty ss) finite.empty) key ∙ ap (λ o. option_or o (finite.get (without (deleted_of finset.empty ss) finite.empty) key)) (finite.get-empty (slice_cmp nat_cmp) key) ∙ get-without (deleted_of finset.empty ss) finite.empty key ∙ ap (λ o. cond (not (finset.contains (deleted_of finset.empty ss) key)) o None) (finite.get-empty (slice_cmp nat_cmp) key) ∙ both (not (finset.contains (deleted_of finset.empty ss) key)))
+no_pairs ss key = finite.get-empty (slice_cmp nat_cmp) key
+    ∙ sym (get-pairs_over finite.empty (without (deleted_of finset.empty ss) finite.empty) key
+    ∙ ap (λ o. option_or o (finite.get (without (deleted_of finset.empty ss) finite.empty) key)) (finite.get-empty (slice_cmp nat_cmp) key)
+    ∙ get-without (deleted_of finset.empty ss) finite.empty key ∙ ap (λ o. cond (not (finset.contains (deleted_of finset.empty ss) key)) o None)
+    (finite.get-empty (slice_cmp nat_cmp) key) ∙ both (not (finset.contains (deleted_of finset.empty ss) key)))
   where
     both : (b : Bool) → ◌≡◌ {A = Option Stored} (cond b None None) None
     both true = refl
@@ -48,19 +52,34 @@ overlaid_records id ss (Some a) w = go (has_clean ss)
 overlaid_records id ss None (Some w) = go (has_clean ss) refl
   where
     go : (b : Bool) → has_clean ss ≡ b → HasRecordsOf (table_of id (kept_if (cond b false true) (overlay ss (empty_table id) w))) (overlay ss (empty_table id) w)
-    go true c = record { entries = sym (ap (λ b. cond b [] (rewritten_within (greatest_compaction ss) (least_cut ss) [] w.entries ++ [])) c); pairs = λ key. sym (ap (λ b. finite.get (cond b finite.empty (pairs_over finite.empty (without (deleted_of finset.empty ss) w.keys))) key) c) }
+    go true c = record {
+      entries = sym (ap (λ b. cond b [] (rewritten_within (greatest_compaction ss) (least_cut ss) [] w.entries ++ [])) c);
+      pairs = λ key. sym (ap (λ b. finite.get (cond b finite.empty (pairs_over finite.empty (without (deleted_of finset.empty ss) w.keys))) key) c);
+    }
     go false c = record { entries = refl; pairs = λ key. refl }
 overlaid_records id ss None None = go (has_clean ss) refl
   where
     go : (b : Bool) → has_clean ss ≡ b → HasRecordsOf (table_of id (kept_if (cond b false false) (overlay ss (empty_table id) (empty_table id)))) (overlay ss (empty_table id) (empty_table id))
-    go true c = record { entries = sym (ap (λ b. cond b [] (rewritten_within (greatest_compaction ss) (least_cut ss) [] [] ++ [])) c); pairs = λ key. sym (ap (λ b. finite.get (cond b finite.empty (pairs_over finite.empty (without (deleted_of finset.empty ss) finite.empty))) key) c) }
-    go false c = record { entries = sym (ap (λ b. cond b [] (rewritten_within (greatest_compaction ss) (least_cut ss) [] [] ++ [])) c ∙ no_entries (greatest_compaction ss) (least_cut ss)); pairs = λ key. no_pairs ss key ∙ sym (ap (λ b. finite.get (cond b finite.empty (pairs_over finite.empty (without (deleted_of finset.empty ss) finite.empty))) key) c) }
+    go true c = record {
+      entries = sym (ap (λ b. cond b [] (rewritten_within (greatest_compaction ss) (least_cut ss) [] [] ++ [])) c);
+      pairs = λ key. sym (ap (λ b. finite.get (cond b finite.empty (pairs_over finite.empty (without (deleted_of finset.empty ss) finite.empty)))
+          key) c);
+    }
+    go false c = record {
+      entries = sym (ap (λ b. cond b [] (rewritten_within (greatest_compaction ss) (least_cut ss) [] [] ++ [])) c
+          ∙ no_entries (greatest_compaction ss) (least_cut ss));
+      pairs = λ key. no_pairs ss key
+          ∙ sym (ap (λ b. finite.get (cond b finite.empty (pairs_over finite.empty (without (deleted_of finset.empty ss) finite.empty))) key) c);
+    }
 
 -- no step of the append queue leaves the rewritten table as it is
 pub unnamed_records : (id : ℕ) (w : Option Table) → HasRecordsOf (table_of id w) (overlay [] (empty_table id) (table_of id w))
 unnamed_records id w = record {
   entries = sym (append-nil _ ∙ within-whole (table_of id w).entries);
-  pairs = λ key. sym (get-pairs_over finite.empty (without finset.empty (table_of id w).keys) key ∙ ap (λ o. option_or o (finite.get (without finset.empty (table_of id w).keys) key)) (finite.get-empty (slice_cmp nat_cmp) key) ∙ get-without finset.empty (table_of id w).keys key ∙ ap (λ b. cond (not b) (finite.get (table_of id w).keys key) None) (finset.contains-empty (slice_cmp nat_cmp) key));
+  pairs = λ key. sym (get-pairs_over finite.empty (without finset.empty (table_of id w).keys) key
+      ∙ ap (λ o. option_or o (finite.get (without finset.empty (table_of id w).keys) key)) (finite.get-empty (slice_cmp nat_cmp) key)
+      ∙ get-without finset.empty (table_of id w).keys key ∙ ap (λ b. cond (not b) (finite.get (table_of id w).keys key) None)
+      (finset.contains-empty (slice_cmp nat_cmp) key));
 }
 
 module _ (append rewrite : List Event) (found : Tables) (cleaned : List ℕ) (both : IsReadingOfBoth rewrite append found cleaned) (r : ℕ) where
@@ -71,7 +90,9 @@ module _ (append rewrite : List Event) (found : Tables) (cleaned : List ℕ) (bo
   pub both_records : HasRecordsOf (table_of r (finite.get found r)) (overlay kept (table_of r (finite.get both.appended r)) (table_of r (finite.get both.rewritten r)))
   both_records = subst (λ (o : Option Table). HasRecordsOf (table_of r o) (overlay kept (table_of r (finite.get both.appended r)) (table_of r (finite.get both.rewritten r)))) (sym (both.overlaid r)) (go (is_named r (batches append)) refl)
     where
-      go : (b : Bool) → is_named r (batches append) ≡ b → HasRecordsOf (table_of r (cond b (overlaid_table r kept (finite.get both.appended r) (finite.get both.rewritten r)) (finite.get both.rewritten r))) (overlay kept (table_of r (finite.get both.appended r)) (table_of r (finite.get both.rewritten r)))
+      go : (b : Bool) → is_named r (batches append) ≡ b →
+          HasRecordsOf (table_of r (cond b (overlaid_table r kept (finite.get both.appended r) (finite.get both.rewritten r))
+          (finite.get both.rewritten r))) (overlay kept (table_of r (finite.get both.appended r)) (table_of r (finite.get both.rewritten r)))
       go true x = overlaid_records r kept (finite.get both.appended r) (finite.get both.rewritten r)
       go false x =
           let none : kept ≡ [] = (named-steps r (batches append)).0 x in

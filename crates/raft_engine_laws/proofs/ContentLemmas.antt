@@ -39,6 +39,7 @@ added_bytes [] strings before behind = tt
 added_bytes (e ∷ es) [] before behind = tt
 added_bytes (e ∷ es) (bytes ∷ strings) before behind = (
   ap (take (length bytes)) (drop_at before (concat (bytes ∷ strings) ++ behind) (length before) refl) ∙ ap (take (length bytes)) (append_assoc bytes (concat strings) behind) ∙ take_at bytes (concat strings ++ behind) (length bytes) refl,
-  subst (λ (l : List ℕ). HaveBytes l (with_offsets_from (length before + length bytes) (with_lengths es strings)) strings) (append_assoc before bytes (concat strings ++ behind) ∙ ap (λ l. before ++ l) (sym (append_assoc bytes (concat strings) behind)))
+  subst (λ (l : List ℕ). HaveBytes l (with_offsets_from (length before + length bytes) (with_lengths es strings)) strings)
+      (append_assoc before bytes (concat strings ++ behind) ∙ ap (λ l. before ++ l) (sym (append_assoc bytes (concat strings) behind)))
       (subst (λ (n : ℕ). HaveBytes ((before ++ bytes) ++ (concat strings ++ behind)) (with_offsets_from n (with_lengths es strings)) strings) (length-append before bytes) (added_bytes es strings (before ++ bytes) behind)),
 )

@@ -108,7 +108,9 @@ module _ (content : EntryIndex → List ℕ) where
         ap (λ n. with_places (g ∷ gs) m.index n es) count
         ∙ ap (λ l. l ++ take (length (m ∷ ms)) (from m.index (g ∷ gs)) ++ from (m.index + length (m ∷ ms)) es) (below_front s m.index front (m ∷ ms ++ back) rising at)
         ∙ ap (λ l. front ++ l ++ from (m.index + length (m ∷ ms)) es) (takes (length (m ∷ ms)) refl)
-        ∙ ap (λ l. front ++ (g ∷ gs) ++ l) (ap (from (m.index + length (m ∷ ms))) whole ∙ from_front s (m.index + length (m ∷ ms)) (front ++ m ∷ ms) back (subst (RisesFrom s) whole rising) (let a = at in let c = length-append front (m ∷ ms) in omega (arith, a, c)))
+        ∙ ap (λ l. front ++ (g ∷ gs) ++ l)
+        (ap (from (m.index + length (m ∷ ms))) whole ∙ from_front s (m.index + length (m ∷ ms)) (front ++ m ∷ ms) back
+        (subst (RisesFrom s) whole rising) (let a = at in let c = length-append front (m ∷ ms) in omega (arith, a, c)))
         ∙ append_assoc front (g ∷ gs) back
 
     -- the copies take the places of the middle

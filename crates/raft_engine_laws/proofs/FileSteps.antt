@@ -54,7 +54,9 @@ items_below : (n : ℕ) (file : FileId) (items : List Item) → file.seq < n →
 items_below n file [] h k = tt
 items_below n file (item ∷ items) h k = go (content_step item.content) (λ s e. step_below n file item.content s h k.0 e) (items_below n file items h k.1)
   where
-    go : (o : Option Step) → ((s : Step) → o ≡ Some s → IsStepBelow n s) → AllByRecursion (λ (i : RegionStep). IsStepBelow n i.step) (steps_of_items items) → AllByRecursion (λ (i : RegionStep). IsStepBelow n i.step) (with_step item.raft_group_id o (steps_of_items items))
+    go : (o : Option Step) → ((s : Step) → o ≡ Some s → IsStepBelow n s) →
+        AllByRecursion (λ (i : RegionStep). IsStepBelow n i.step) (steps_of_items items) → AllByRecursion (λ (i : RegionStep). IsStepBelow n i.step)
+        (with_step item.raft_group_id o (steps_of_items items))
     go None each rest = rest
     go (Some s) each rest = (each s refl, rest)
 

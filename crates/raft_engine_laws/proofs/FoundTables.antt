@@ -18,7 +18,8 @@ use Rattle.raft_engine_laws.proofs.OverlaidPairs.{overlaid_pairs}
 use Rattle.raft_engine_laws.proofs.RecoveredRegion.{recovered_entries}
 use Rattle.raft_engine_laws.proofs.SameRecords.{HasRecordsOf}
 
-module _ (content : EntryIndex → List ℕ) (append rewrite : List Event) (untold : List RegionStep) (tables found : Tables) (cleaned : List ℕ) (h : AreKept content append rewrite untold tables) (both : IsReadingOfBoth rewrite append found cleaned) where
+module _ (content : EntryIndex → List ℕ) (append rewrite : List Event) (untold : List RegionStep) (tables found : Tables) (cleaned : List ℕ)
+    (h : AreKept content append rewrite untold tables) (both : IsReadingOfBoth rewrite append found cleaned) where
   abbrev kept : ℕ → List Step
   kept r = steps_of r (batches append)
 
@@ -37,6 +38,10 @@ module _ (content : EntryIndex → List ℕ) (append rewrite : List Event) (unto
 
   pub kept_found : AreFound content tables found
   kept_found = record {
-    entries = λ r. subst (AreMoved content (table_of r (finite.get tables r)).entries) (sym (found_records r).entries) (recovered_entries content r (kept r) (steps_on r untold) (table_of r (finite.get h.rewritten r)) (table_of r (finite.get tables r)) (h.each r));
-    pairs = λ r key. subst (IsMovedPair (finite.get (table_of r (finite.get tables r)).keys key)) (sym ((found_records r).pairs key)) (overlaid_pairs content r (kept r) (steps_on r untold) (table_of r (finite.get h.rewritten r)) (table_of r (finite.get tables r)) (h.each r) key);
+    entries = λ r. subst (AreMoved content (table_of r (finite.get tables r)).entries) (sym (found_records r).entries)
+        (recovered_entries content r (kept r) (steps_on r untold) (table_of r (finite.get h.rewritten r)) (table_of r (finite.get tables r))
+        (h.each r));
+    pairs = λ r key. subst (IsMovedPair (finite.get (table_of r (finite.get tables r)).keys key)) (sym ((found_records r).pairs key))
+        (overlaid_pairs content r (kept r) (steps_on r untold) (table_of r (finite.get h.rewritten r)) (table_of r (finite.get tables r))
+        (h.each r) key);
   }

@@ -59,7 +59,9 @@ joined_front older newer h k = go older.front newer.front h k
     go Begun Begun h k = tt
 
 pub ends_none-append : (h k : List Event) → EndNoOlderGroup h → EndNoOlderGroup k → EndNoOlderGroup (h ++ k)
-ends_none-append h k a b g = subst (λ (x : WaitingGroup). IsNotEnded x.front) (sym (ap (group_in g) (batches-append h k) ∙ group_in-append g (batches h) (batches k))) (joined_front (group_in g (batches h)) (group_in g (batches k)) (a g) (b g))
+ends_none-append h k a b g = subst (λ (x : WaitingGroup). IsNotEnded x.front)
+    (sym (ap (group_in g) (batches-append h k) ∙ group_in-append g (batches h) (batches k)))
+    (joined_front (group_in g (batches h)) (group_in g (batches k)) (a g) (b g))
 
 -- the front of a group in one batch
 abbrev front_in_one : ℕ → BatchSteps → Bool → GroupFront
@@ -99,7 +101,9 @@ ends_none-open e held g = subst IsNotEnded (sym (front_is g (batch_of e))) (go (
 -- a group that begins in the first batch
 begun_first : (g : ℕ) (begin : Event) (rest : List Event) → IsMarked g Begin begin → (group_in g (batches (begin ∷ rest))).front ≡ Begun
 unfolding front_of markers_of
-begun_first g begin rest marked = ap (λ (m : Option GroupMarker). front_of (cond (is_of g m) (record { number = 0; batch = batch_of begin } ∷ markers_of g (numbered_from 1 (batches rest))) (markers_of g (numbered_from 1 (batches rest))))) marked
+begun_first g begin rest marked = ap (λ (m : Option GroupMarker). front_of
+    (cond (is_of g m) (record { number = 0; batch = batch_of begin } ∷ markers_of g (numbered_from 1 (batches rest)))
+    (markers_of g (numbered_from 1 (batches rest))))) marked
     ∙ ap (λ b. front_of (cond b (record { number = 0; batch = batch_of begin } ∷ markers_of g (numbered_from 1 (batches rest))) (markers_of g (numbered_from 1 (batches rest))))) (eq-eqb g g refl)
     ∙ ap (λ (m : Option GroupMarker). front_behind m (batch_of begin).steps (batch_of begin).seq (front_of (markers_of g (numbered_from 1 (batches rest))))) marked
 

@@ -57,7 +57,9 @@ module _ (h ms : List Event) (g : ℕ) (begin end : Event) (group : IsWholeGroup
   pub group_apart : Apart h → Apart (h ++ begin ∷ (ms ++ end ∷ []))
   group_apart apart = record { each = subst (λ l. EachApart (effects l)) (sym row_is) (row_apart g (batches h) (steps_of_items begin.items) begin.file.seq (map read_of ms) (steps_of_items end.items) end.file.seq apart.each) }
 
-  all_steps_are : (steps_of_items begin.items ++ flat_map (λ (p : Numbered). p.batch.steps) (numbered_from (suc (length (batches h))) (middles g (map read_of ms)))) ++ steps_of_items end.items ≡ flat_map (λ (e : Event). steps_of_items e.items) (begin ∷ (ms ++ end ∷ []))
+  all_steps_are : (steps_of_items begin.items ++ flat_map (λ (p : Numbered). p.batch.steps)
+      (numbered_from (suc (length (batches h))) (middles g (map read_of ms)))) ++ steps_of_items end.items ≡ flat_map
+      (λ (e : Event). steps_of_items e.items) (begin ∷ (ms ++ end ∷ []))
   all_steps_are =
       append_assoc (steps_of_items begin.items) _ (steps_of_items end.items)
       ∙ ap (λ l. steps_of_items begin.items ++ (l ++ steps_of_items end.items)) (steps_between g (suc (length (batches h))) ms)

@@ -30,7 +30,9 @@ use Rattle.raft_engine_laws.proofs.ToldRegion.{told_kept}
 module _ (content : EntryIndex → List ℕ) (append rewrite : List Event) (untold : List RegionStep) (tables : Tables) (e : Event) (h : AreKept content append rewrite untold tables) (next : IsRewrittenNext rewrite e) where
   -- the store with this batch, where each region is kept so
   pub kept_with : (put : Tables) → IsOneReading Rewrite (rewrite ++ e ∷ []) put []
-      → (untold' : List RegionStep) (new : Tables) → ((r : ℕ) → IsRegionKept content r (steps_of r (batches append)) (steps_on r untold') (table_of r (finite.get put r)) (table_of r (finite.get new r))) → AreKept content append (rewrite ++ e ∷ []) untold' new
+      → (untold' : List RegionStep) (new : Tables) →
+      ((r : ℕ) → IsRegionKept content r (steps_of r (batches append)) (steps_on r untold') (table_of r (finite.get put r))
+      (table_of r (finite.get new r))) → AreKept content append (rewrite ++ e ∷ []) untold' new
   kept_with put read untold' new each = record {
     append_sound = h.append_sound;
     rewrite_sound = record {
@@ -47,7 +49,10 @@ module _ (content : EntryIndex → List ℕ) (append rewrite : List Event) (unto
 
   -- a batch that leaves its group open changes nothing
   pub held_kept : LeavesOpen e → AreKept content append (rewrite ++ e ∷ []) untold tables
-  held_kept held = kept_with h.rewritten (reading_of (rewrite ++ e ∷ []) h.rewritten (λ r. ap (after Rewrite r None) (ap (steps_of r) (batches-append rewrite (e ∷ [])) ∙ held_adds r (batches rewrite) (batch_of e) held) ∙ h.read.tables_read r)) untold tables h.each
+  held_kept held = kept_with h.rewritten
+      (reading_of (rewrite ++ e ∷ []) h.rewritten
+      (λ r. ap (after Rewrite r None) (ap (steps_of r) (batches-append rewrite (e ∷ [])) ∙ held_adds r (batches rewrite) (batch_of e) held)
+      ∙ h.read.tables_read r)) untold tables h.each
 
 -- records move: the batch has copies of them, behind what the rewritten tables have of the first
 pub moved_kept : (content : EntryIndex → List ℕ) (append rewrite : List Event) (tables new rewritten put : Tables) (e : Event) → AreKept content append rewrite [] tables → IsRewrittenNext rewrite e
@@ -57,7 +62,8 @@ pub moved_kept : (content : EntryIndex → List ℕ) (append rewrite : List Even
 moved_kept content append rewrite tables new rewritten put e h next read read_put moves = kept_with content append rewrite [] tables e h next put read_put [] new each
   where
     moves_so : (r : ℕ) → AreRecordsMoved content e.file (table_of r (finite.get tables r)) (table_of r (finite.get new r)) (table_of r (finite.get h.rewritten r)) (table_of r (finite.get put r))
-    moves_so r = subst (λ (o : Option Table). AreRecordsMoved content e.file (table_of r (finite.get tables r)) (table_of r (finite.get new r)) (table_of r o) (table_of r (finite.get put r))) (same_some _ _ (sym (read.tables_read r) ∙ h.read.tables_read r)) (moves r)
+    moves_so r = subst (λ (o : Option Table). AreRecordsMoved content e.file (table_of r (finite.get tables r)) (table_of r (finite.get new r))
+        (table_of r o) (table_of r (finite.get put r))) (same_some _ _ (sym (read.tables_read r) ∙ h.read.tables_read r)) (moves r)
 
     each : (r : ℕ) → IsRegionKept content r (steps_of r (batches append)) (steps_on r []) (table_of r (finite.get put r)) (table_of r (finite.get new r))
     each r =
@@ -65,7 +71,8 @@ moved_kept content append rewrite tables new rewritten put e h next read read_pu
         (rewrite_kept content r (steps_of r (batches append)) e.file (table_of r (finite.get h.rewritten r)) (table_of r (finite.get put r)) (table_of r (finite.get tables r)) (table_of r (finite.get new r))
         (subst (λ l. IsRegionKept content r (steps_of r (batches append)) l (table_of r (finite.get h.rewritten r)) (table_of r (finite.get tables r))) (own_none r) (h.each r)) (moves_so r))
 
-module _ (content : EntryIndex → List ℕ) (append rewrite : List Event) (untold : List RegionStep) (tables : Tables) (e : Event) (h : AreKept content append rewrite untold tables) (next : IsRewrittenNext rewrite e) (plain : HasNoMarker e) where
+module _ (content : EntryIndex → List ℕ) (append rewrite : List Event) (untold : List RegionStep) (tables : Tables) (e : Event)
+    (h : AreKept content append rewrite untold tables) (next : IsRewrittenNext rewrite e) (plain : HasNoMarker e) where
   pub put_more : (n : Tables) × (tables_after Rewrite h.rewritten (steps_of_items e.items) ≡ Some n)
   put_more = steps_taken h.rewritten (steps_of_items e.items)
 
@@ -77,14 +84,19 @@ module _ (content : EntryIndex → List ℕ) (append rewrite : List Event) (unto
   put_by_region r = reading_by_region Rewrite h.rewritten put_tables (steps_of_items e.items) put_more.1 r
 
   pub read_more : (r : ℕ) → after Rewrite r None (steps_of r (batches (rewrite ++ e ∷ []))) ≡ Some (finite.get put_tables r)
-  read_more r = ap (after Rewrite r None) (plain_more r rewrite e plain) ∙ after-append Rewrite r None (steps_of r (batches rewrite)) (steps_on r (steps_of_items e.items)) ∙ ap (option_and_then (λ u. after Rewrite r u (steps_on r (steps_of_items e.items)))) (h.read.tables_read r) ∙ put_by_region r
+  read_more r = ap (after Rewrite r None) (plain_more r rewrite e plain) ∙ after-append Rewrite r None (steps_of r (batches rewrite))
+      (steps_on r (steps_of_items e.items)) ∙ ap (option_and_then (λ u. after Rewrite r u (steps_on r (steps_of_items e.items))))
+      (h.read.tables_read r) ∙ put_by_region r
 
   -- the rewrite queue is told some of it
   pub telling_kept : (left : List RegionStep) → ((r : ℕ) → AreRemovals (steps_on r (steps_of_items e.items))) → ((r : ℕ) → SayTheSame (steps_on r (steps_of_items e.items) ++ steps_on r left) (steps_on r untold))
       → AreKept content append (rewrite ++ e ∷ []) left tables
   telling_kept left removals same = kept_with content append rewrite untold tables e h next put_tables (reading_of (rewrite ++ e ∷ []) put_tables read_more) left tables
-      (λ r. told_kept content r (steps_of r (batches append)) (steps_on r untold) (finite.get h.rewritten r) (table_of r (finite.get tables r)) (h.each r) (steps_on r (steps_of_items e.items)) (steps_on r left) (removals r) (same r) (finite.get put_tables r) (put_by_region r))
+      (λ r. told_kept content r (steps_of r (batches append)) (steps_on r untold) (finite.get h.rewritten r) (table_of r (finite.get tables r))
+      (h.each r) (steps_on r (steps_of_items e.items)) (steps_on r left) (removals r) (same r) (finite.get put_tables r) (put_by_region r))
 
   -- and all of it
   pub told_all_kept : ((r : ℕ) → AreRemovals (steps_on r (steps_of_items e.items))) → ((r : ℕ) → SayTheSame (steps_on r (steps_of_items e.items)) (steps_on r untold)) → AreKept content append (rewrite ++ e ∷ []) [] tables
-  told_all_kept removals same = telling_kept [] removals (λ r. subst (λ l. SayTheSame l (steps_on r untold)) (sym (ap (λ l. steps_on r (steps_of_items e.items) ++ l) (own_none r) ∙ append-nil (steps_on r (steps_of_items e.items)))) (same r))
+  told_all_kept removals same = telling_kept [] removals
+      (λ r. subst (λ l. SayTheSame l (steps_on r untold))
+      (sym (ap (λ l. steps_on r (steps_of_items e.items) ++ l) (own_none r) ∙ append-nil (steps_on r (steps_of_items e.items)))) (same r))

@@ -64,11 +64,16 @@ pair_least q key s (e ∷ es) h is = go (eq_by_cmp (slice_cmp nat_cmp) key e.0) 
         (sym (same_queue e.1.file.queue (ap (λ (x : Stored). x.file.queue) same ∙ is)))
         (subst (λ (x : Stored). IsLeastAt (lesser (Some e.1.file.seq) (least (seqs_of q es))) x.file.seq) same (first_least e.1.file.seq (least (seqs_of q es))))
 
-    there : (b : Bool) → IsLeastAt (least (seqs_of q es)) s.file.seq → IsLeastAt (least (map (λ (e : List ℕ × Stored). e.1.file.seq) (cond b (e ∷ filter (λ (e : List ℕ × Stored). is_same q e.1.file.queue) es) (filter (λ (e : List ℕ × Stored). is_same q e.1.file.queue) es)))) s.file.seq
+    there : (b : Bool) → IsLeastAt (least (seqs_of q es)) s.file.seq →
+        IsLeastAt (least (map (λ (e : List ℕ × Stored). e.1.file.seq)
+        (cond b (e ∷ filter (λ (e : List ℕ × Stored). is_same q e.1.file.queue) es) (filter (λ (e : List ℕ × Stored). is_same q e.1.file.queue) es))))
+        s.file.seq
     there true h = later_least (Some e.1.file.seq) (least (seqs_of q es)) s.file.seq h
     there false h = h
 
-    go : (b : Bool) → cond b (Some e.1) (find (slice_cmp nat_cmp) key es) ≡ Some s → (find (slice_cmp nat_cmp) key es ≡ Some s → s.file.queue ≡ q → IsLeastAt (least (seqs_of q es)) s.file.seq) → IsLeastAt (least (seqs_of q (e ∷ es))) s.file.seq
+    go : (b : Bool) → cond b (Some e.1) (find (slice_cmp nat_cmp) key es) ≡ Some s →
+        (find (slice_cmp nat_cmp) key es ≡ Some s → s.file.queue ≡ q → IsLeastAt (least (seqs_of q es)) s.file.seq) →
+        IsLeastAt (least (seqs_of q (e ∷ es))) s.file.seq
     go true h rest = here (some_is h)
     go false h rest = there (is_same q e.1.file.queue) (rest h is)
 
@@ -87,5 +92,7 @@ at_least n m o least h = let k : n ≤ h.0 = least h.0 h.1 in let l = h.2 in ome
 pub needs_none : (q : LogQueue) (t : Table) (n : ℕ) → ((seq : ℕ) → least_of q t ≡ Some seq → n ≤ seq) → (((m : ℕ) → first_entry_seq q t.entries ≡ Some m → n ≤ m) → AreFrom n (placed_in q t.entries)) → NeedsNoneBelow q n t
 needs_none q t n low entries = record {
   entries = entries (λ m e. at_least n m (least_of q t) low (of_queue q t m (first_of (first_entry_seq q t.entries) (least (seqs_in q t.keys)) m e)));
-  pairs = λ key s e is. at_least n s.file.seq (least_of q t) low (of_queue q t s.file.seq (later_least (first_entry_seq q t.entries) (least (seqs_in q t.keys)) s.file.seq (pair_least q key s (finite.entries t.keys) (sym (finite.get-entries t.keys key) ∙ e) is)));
+  pairs = λ key s e is. at_least n s.file.seq (least_of q t) low
+      (of_queue q t s.file.seq (later_least (first_entry_seq q t.entries) (least (seqs_in q t.keys)) s.file.seq
+      (pair_least q key s (finite.entries t.keys) (sym (finite.get-entries t.keys key) ∙ e) is)));
 }

@@ -41,7 +41,9 @@ below_after n id o v (s ∷ ss) h k is = go (λ u k e. below_after n id u v ss h
     go : ((u : Option Table) → AreBelow n (table_of id u).entries → after Append id u ss ≡ Some v → AreBelow n (table_of id v).entries)
         → (x : Option (Option Table)) → after_step Append (table_of id o) s ≡ x → option_and_then (λ u. after Append id u ss) x ≡ Some v → AreBelow n (table_of id v).entries
     go rest None e m = absurd cc
-    go rest (Some u) e m = rest u (subst (AreBelow n) (sym (entries_after id (table_of id o) u s e)) (each-append (λ (x : EntryIndex). IsSeqBelow n (place_seq x.entries)) (unspoken (s ∷ []) (table_of id o).entries) (put_by s) (all_left (λ (x : EntryIndex). IsSeqBelow n (place_seq x.entries)) (s ∷ []) (table_of id o).entries k) (put_below n s h.0))) m
+    go rest (Some u) e m = rest u (subst (AreBelow n) (sym (entries_after id (table_of id o) u s e))
+        (each-append (λ (x : EntryIndex). IsSeqBelow n (place_seq x.entries)) (unspoken (s ∷ []) (table_of id o).entries) (put_by s)
+        (all_left (λ (x : EntryIndex). IsSeqBelow n (place_seq x.entries)) (s ∷ []) (table_of id o).entries k) (put_below n s h.0))) m
 
 -- steps leave of what they made what they leave of what was there before
 pub left_after : (id : ℕ) (o v : Option Table) (ss : List Step) → AreSteps ss → after Append id o ss ≡ Some v → unspoken ss (table_of id v).entries ≡ unspoken ss (table_of id o).entries
@@ -57,7 +59,9 @@ left_after id o v (s ∷ ss) good is = go (λ u k. left_after id u v ss good.1 k
         ∙ ap (unspoken (s ∷ [])) (rest u k)
         ∙ unspoken-swap ss (s ∷ []) (table_of id u).entries
         ∙ ap (λ l. unspoken ss (unspoken (s ∷ []) l)) (entries_after id (table_of id o) u s e)
-        ∙ ap (unspoken ss) (unspoken-append (s ∷ []) (unspoken (s ∷ []) (table_of id o).entries) (put_by s) ∙ ap (λ l. unspoken (s ∷ []) (unspoken (s ∷ []) (table_of id o).entries) ++ l) (put_spoken s good.0) ∙ append-nil _ ∙ unspoken-twice (s ∷ []) (table_of id o).entries)
+        ∙ ap (unspoken ss) (unspoken-append (s ∷ []) (unspoken (s ∷ []) (table_of id o).entries) (put_by s)
+        ∙ ap (λ l. unspoken (s ∷ []) (unspoken (s ∷ []) (table_of id o).entries) ++ l) (put_spoken s good.0) ∙ append-nil _
+        ∙ unspoken-twice (s ∷ []) (table_of id o).entries)
         ∙ unspoken-steps (s ∷ []) ss (table_of id o).entries
 
 -- entries of a queue among those of which each index is such a one
@@ -77,7 +81,8 @@ none_placed content n [] es m low high = refl
 none_placed content n (k ∷ ks) [] m low high = absurd m
 none_placed content n (k ∷ ks) (e ∷ es) m low high = go (is_placed_in Append k) refl high (λ r. none_placed content n ks es m.1 low.1 r)
   where
-    go : (b : Bool) → is_placed_in Append k ≡ b → AreFrom n (cond b (k ∷ placed_in Append ks) (placed_in Append ks)) → (AreFrom n (placed_in Append ks) → placed_in Append ks ≡ []) → cond b (k ∷ placed_in Append ks) (placed_in Append ks) ≡ []
+    go : (b : Bool) → is_placed_in Append k ≡ b → AreFrom n (cond b (k ∷ placed_in Append ks) (placed_in Append ks)) →
+        (AreFrom n (placed_in Append ks) → placed_in Append ks ≡ []) → cond b (k ∷ placed_in Append ks) (placed_in Append ks) ≡ []
     go false p r rest = rest r
     go true p r rest = absurd (elim m.0.0.1 [
       | inl same ↦ seq_clash n (place_seq k.entries) (subst (λ (x : EntryIndex). IsSeqBelow n (place_seq x.entries)) (sym same) low.0) r.0

@@ -24,7 +24,9 @@ from_low n i es h = each_filter (λ (e : EntryIndex). IsSeqBelow n (place_seq e.
 
 step_low : (n id : ℕ) (t : Table) (v : Option Table) (s : Step) → IsStepBelow n s → AreBelow n t.entries → after_step Rewrite t s ≡ Some v → AreBelow n (table_of id v).entries
 step_low n id t v (Run []) h k is = subst (λ (u : Option Table). AreBelow n (table_of id u).entries) (same_some (Some t) v is) k
-step_low n id t v (Run (e ∷ run)) h k is = subst (λ (u : Option Table). AreBelow n (table_of id u).entries) (same_some (Some (record t { entries = cond (leaves_hole t.entries e.index) (e ∷ run) (below e.index t.entries ++ e ∷ run) })) v is) (go (leaves_hole t.entries e.index))
+step_low n id t v (Run (e ∷ run)) h k is = subst (λ (u : Option Table). AreBelow n (table_of id u).entries)
+    (same_some (Some (record t { entries = cond (leaves_hole t.entries e.index) (e ∷ run) (below e.index t.entries ++ e ∷ run) })) v is)
+    (go (leaves_hole t.entries e.index))
   where
     go : (b : Bool) → AreBelow n (cond b (e ∷ run) (below e.index t.entries ++ e ∷ run))
     go true = h

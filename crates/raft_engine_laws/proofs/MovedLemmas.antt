@@ -51,7 +51,8 @@ module _ (content : EntryIndex → List ℕ) where
   moved_left ss [] [] h = tt
   moved_left ss [] (e ∷ es) h = absurd h
   moved_left ss (k ∷ ks) [] h = absurd h
-  moved_left ss (k ∷ ks) (e ∷ es) h = subst (λ (b : Bool). AreMoved content (cond (not b) (k ∷ unspoken ss ks) (unspoken ss ks)) (unspoken ss (e ∷ es))) (sym (ap (is_index_spoken ss) h.0.0.0)) (go (is_index_spoken ss e.index) (moved_left ss ks es h.1))
+  moved_left ss (k ∷ ks) (e ∷ es) h = subst (λ (b : Bool). AreMoved content (cond (not b) (k ∷ unspoken ss ks) (unspoken ss ks))
+      (unspoken ss (e ∷ es))) (sym (ap (is_index_spoken ss) h.0.0.0)) (go (is_index_spoken ss e.index) (moved_left ss ks es h.1))
     where
       go : (b : Bool) → AreMoved content (unspoken ss ks) (unspoken ss es) → AreMoved content (cond (not b) (k ∷ unspoken ss ks) (unspoken ss ks)) (cond (not b) (e ∷ unspoken ss es) (unspoken ss es))
       go true rest = rest

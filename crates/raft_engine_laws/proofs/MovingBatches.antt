@@ -74,7 +74,8 @@ module _ (content : EntryIndex → List ℕ) (append rewrite : List Event) (tabl
   own_sound = subst (λ (o : Option Table). AreTableEntries (table_of id o).entries) there (h.each id).sound
 
   moved_by : (copies middle back : List EntryIndex) → placed_in Append t.entries ≡ middle ++ back → AllByRecursion (λ (x : EntryIndex). may_move (Some gate) x ≡ true) middle → AreCopies content copies middle
-      → after_items (Rewriting (Some gate) e.file.seq) tables (moving_items id to copies b.pairs) ≡ Some new → after Rewrite id (finite.get h.rewritten id) (steps_on id (steps_of_items (moving_items id to copies b.pairs))) ≡ Some (finite.get put id)
+      → after_items (Rewriting (Some gate) e.file.seq) tables (moving_items id to copies b.pairs) ≡ Some new →
+      after Rewrite id (finite.get h.rewritten id) (steps_on id (steps_of_items (moving_items id to copies b.pairs))) ≡ Some (finite.get put id)
       → IsMovedBy content to id tables new t (finite.get h.rewritten id) (finite.get put id)
   moved_by [] [] back split gated copied is puts = record {
     own = pairs_moved content gate e.file.seq id tables new t there own_sound (finite.get h.rewritten id) (finite.get put id) own_told b.pairs b.ordinary b.fetched is puts;
@@ -94,7 +95,9 @@ module _ (content : EntryIndex → List ℕ) (append rewrite : List Event) (tabl
 
   put_same : (r : ℕ) → IsOther r id → finite.get put r ≡ finite.get h.rewritten r
   put_same r other = sym (same_some (finite.get h.rewritten r) (finite.get put r)
-      (sym (ap (after Rewrite r (finite.get h.rewritten r)) (ap (λ l. steps_on r (steps_of_items l)) items_are ∙ own_items r id (moving_items id to b.copies b.pairs) other (moving_own id to b.copies b.pairs))) ∙ put_by_region content append rewrite [] tables e h next plain r))
+      (sym (ap (after Rewrite r (finite.get h.rewritten r))
+      (ap (λ l. steps_on r (steps_of_items l)) items_are ∙ own_items r id (moving_items id to b.copies b.pairs) other
+      (moving_own id to b.copies b.pairs))) ∙ put_by_region content append rewrite [] tables e h next plain r))
 
   pub moves : (r : ℕ) → AreRecordsMoved content to (table_of r (finite.get tables r)) (table_of r (finite.get new r)) (table_of r (finite.get h.rewritten r)) (table_of r (finite.get put r))
   moves r = elim (by_region r id) [

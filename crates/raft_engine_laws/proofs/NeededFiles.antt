@@ -89,7 +89,8 @@ module _ (content : EntryIndex → List ℕ) (append rewrite : List Event) (unto
   front_none : placed_in Append parts.0 ≡ []
   front_none =
       sym (left_each kept (placed_in Append parts.0) (placed_such (λ i. is_index_spoken kept i ≡ false) parts.0 (moved_each content (λ i. is_index_spoken kept i ≡ false) parts.0 _ parts.3 (each_left kept k.seen))))
-      ∙ no_front (unspoken kept (placed_in Append parts.0)) _ (sym (unspoken-append kept (placed_in Append parts.0) (placed_in Append parts.1)) ∙ ap (unspoken kept) (sym (ap (placed_in Append) parts.2 ∙ placed_in-append Append parts.0 parts.1)) ∙ k.spoken)
+      ∙ no_front (unspoken kept (placed_in Append parts.0)) _ (sym (unspoken-append kept (placed_in Append parts.0) (placed_in Append parts.1))
+      ∙ ap (unspoken kept) (sym (ap (placed_in Append) parts.2 ∙ placed_in-append Append parts.0 parts.1)) ∙ k.spoken)
 
   own_order : (high : ℕ) × InOrder Append 0 high (table_of r k.own).entries
   own_order =
@@ -99,7 +100,9 @@ module _ (content : EntryIndex → List ℕ) (append rewrite : List Event) (unto
   -- the first entry that has its place in the append queue has the least file of all that have
   appended_from : (n : ℕ) → ((m : ℕ) → first_entry_seq Append es ≡ Some m → n ≤ m) → AreFrom n (placed_in Append es)
   appended_from n first = first_is_least n Append 0 own_order.0 (placed_in Append es)
-      (subst (InOrder Append 0 own_order.0) (sym (ap (placed_in Append) parts.2 ∙ placed_in-append Append parts.0 parts.1 ∙ ap (λ l. l ++ placed_in Append parts.1) front_none)) (some_in_order content 0 own_order.0 parts.1 (table_of r k.own).entries parts.4 own_order.1)) first
+      (subst (InOrder Append 0 own_order.0)
+      (sym (ap (placed_in Append) parts.2 ∙ placed_in-append Append parts.0 parts.1 ∙ ap (λ l. l ++ placed_in Append parts.1) front_none))
+      (some_in_order content 0 own_order.0 parts.1 (table_of r k.own).entries parts.4 own_order.1)) first
 
   rewrite_order : (high : ℕ) × InOrder Rewrite 0 high (table_of r (finite.get h.rewritten r)).entries
   rewrite_order =

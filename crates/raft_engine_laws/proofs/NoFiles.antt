@@ -63,5 +63,6 @@ none_kept content = record {
   apart = record { each = tt };
   rewritten = no_tables;
   read = reading_of [] no_tables (λ r. ap (λ (o : Option Table). Some o) (sym (none r)));
-  each = λ r. subst (λ l. IsRegionKept content r [] l (table_of r (finite.get no_tables r)) (table_of r (finite.get no_tables r))) (sym (own_none r)) (subst (λ (o : Option Table). IsRegionKept content r [] [] (table_of r o) (table_of r o)) (sym (none r)) (new_kept content r));
+  each = λ r. subst (λ l. IsRegionKept content r [] l (table_of r (finite.get no_tables r)) (table_of r (finite.get no_tables r))) (sym (own_none r))
+      (subst (λ (o : Option Table). IsRegionKept content r [] [] (table_of r o) (table_of r o)) (sym (none r)) (new_kept content r));
 }

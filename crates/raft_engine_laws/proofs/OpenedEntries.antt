@@ -32,7 +32,8 @@ own_spoken id kept own good is =
     some_is e = cc
 
 -- the first own entry is at the cut or above it
-first_at_cut : (id : ℕ) (kept : List Step) (own : Option Table) (e : EntryIndex) (es : List EntryIndex) (cut : ℕ) → AreSteps kept → after Append id None kept ≡ Some own → (table_of id own).entries ≡ e ∷ es → least_cut kept ≡ Some cut → cut ≤ e.index
+first_at_cut : (id : ℕ) (kept : List Step) (own : Option Table) (e : EntryIndex) (es : List EntryIndex) (cut : ℕ) → AreSteps kept →
+    after Append id None kept ≡ Some own → (table_of id own).entries ≡ e ∷ es → least_cut kept ≡ Some cut → cut ≤ e.index
 first_at_cut id kept own e es cut good is there c =
     let head : entry_at e.index (e ∷ es) ≡ Some e = ap (λ b. cond b (Some e) (entry_at e.index es)) (self e.index) in
     let word = sym (last_entry_stands e.index id own kept good is) ∙ ap (entry_at e.index) there ∙ head in
@@ -125,7 +126,8 @@ module _ (id : ℕ) (kept : List Step) (own : Option Table) (rewritten : List En
   pub leaves : LeavesOf kept own_entries rewritten (cond (has_clean kept) own_entries (rewritten_within (greatest_compaction kept) (least_cut kept) own_entries rewritten ++ own_entries))
   leaves = go (has_clean kept) refl
     where
-      by_join : has_clean kept ≡ false → (b : Bool) → is_unjoined (least_cut kept) (end_of rewritten) own_entries ≡ b → LeavesOf kept own_entries rewritten (cond b [] (entries_within (greatest_compaction kept) (least_cut kept) rewritten) ++ own_entries)
+      by_join : has_clean kept ≡ false → (b : Bool) → is_unjoined (least_cut kept) (end_of rewritten) own_entries ≡ b →
+          LeavesOf kept own_entries rewritten (cond b [] (entries_within (greatest_compaction kept) (least_cut kept) rewritten) ++ own_entries)
       by_join c true u = record { left = []; split = refl; told = told_is (start_of own_entries) ∙ lie_in_front c own_entries refl (least_cut kept) refl u }
       by_join c false u = subst (λ l. LeavesOf kept own_entries rewritten (l ++ own_entries)) (unspoken_within kept rewritten c)
           (record { left = unspoken kept rewritten; split = refl; told = told_is (start_of (unspoken kept rewritten ++ own_entries)) ∙ from_first (unspoken kept rewritten) refl })

@@ -91,5 +91,6 @@ module _ (content : EntryIndex → List ℕ) (append rewrite : List Event) (foun
       apart = next.apart;
       rewritten = later.0;
       read = reading_of (rewrite ++ e ∷ []) later.0 read_more;
-      each = λ r. subst (λ l. IsRegionKept content r (kept r) l (table_of r (finite.get later.0 r)) (table_of r (finite.get found r))) (sym (own_none r)) (region r (steps_on r (steps_of_items e.items)) (finite.get later.0 r) (removals r) (told r) (put_by_region r));
+      each = λ r. subst (λ l. IsRegionKept content r (kept r) l (table_of r (finite.get later.0 r)) (table_of r (finite.get found r)))
+          (sym (own_none r)) (region r (steps_on r (steps_of_items e.items)) (finite.get later.0 r) (removals r) (told r) (put_by_region r));
     }

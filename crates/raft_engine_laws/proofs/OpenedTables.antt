@@ -32,7 +32,9 @@ module _ (content : EntryIndex → List ℕ) (id : ℕ) (kept : List Step) (own 
     (own_places : placed_in Append (table_of id own).entries ≡ (table_of id own).entries) (places : placed_in Rewrite (table_of id rewritten).entries ≡ (table_of id rewritten).entries)
     (own_files : (key : List ℕ) (s : Stored) → last_pair key kept ≡ Some s → s.file.queue ≡ Append) (files : (key : List ℕ) (s : Stored) → finite.get (table_of id rewritten).keys key ≡ Some s → s.file.queue ≡ Rewrite)
     (told : List Step) (removals : AreRemovals told)
-    (indexes : (i : ℕ) → is_index_spoken told i ≡ is_index_spoken (kept ++ Compact (start_of (overlay kept (table_of id own) (table_of id rewritten)).entries) ∷ []) i) (drops : (key : List ℕ) → list_any (drops_key key) told ≡ list_any (drops_key key) kept)
+    (indexes : (i : ℕ) → is_index_spoken told i ≡ is_index_spoken
+    (kept ++ Compact (start_of (overlay kept (table_of id own) (table_of id rewritten)).entries) ∷ []) i)
+    (drops : (key : List ℕ) → list_any (drops_key key) told ≡ list_any (drops_key key) kept)
     (puts : after Rewrite id rewritten told ≡ Some put) where
   abbrev found : Table
   found = overlay kept (table_of id own) (table_of id rewritten)
@@ -80,10 +82,17 @@ module _ (content : EntryIndex → List ℕ) (id : ℕ) (kept : List Step) (own 
     seen = found.entries;
     over = record { split = l.split ∙ ap (λ x. x ++ own_entries) (sym (ap (unspoken kept) l.split ∙ unspoken-append kept l.left own_entries ∙ ap (λ x. unspoken kept l.left ++ x) spoken ∙ append-nil _ ∙ left_unspoken)); spoken = spoken };
     moved = moved_self content found.entries;
-    told = unspoken-none (table_of id put).entries ∙ put_entries ∙ sym (ap (placed_in Rewrite) l.split ∙ placed_in-append Rewrite l.left own_entries ∙ ap (λ x. placed_in Rewrite l.left ++ x) (ap (placed_in Rewrite) (sym own_places) ∙ placed_in_other Append Rewrite refl own_entries) ∙ append-nil _ ∙ left_placed);
+    told = unspoken-none (table_of id put).entries ∙ put_entries
+        ∙ sym (ap (placed_in Rewrite) l.split ∙ placed_in-append Rewrite l.left own_entries
+        ∙ ap (λ x. placed_in Rewrite l.left ++ x) (ap (placed_in Rewrite) (sym own_places) ∙ placed_in_other Append Rewrite refl own_entries)
+        ∙ append-nil _ ∙ left_placed);
     covers = λ i k. absurd (false≢true k);
-    spoken = ap (unspoken kept) (ap (placed_in Append) l.split ∙ placed_in-append Append l.left own_entries ∙ ap (λ x. x ++ placed_in Append own_entries) (ap (placed_in Append) (sym left_placed) ∙ placed_in_other Rewrite Append refl l.left) ∙ own_places) ∙ spoken;
-    pair_moved = λ key k. subst (λ o. IsMovedPair o (last_pair key kept)) (sym (overlaid_pair_is kept (table_of id own).keys old.keys last key ∙ ap (λ b. cond b (last_pair key kept) (finite.get old.keys key)) k)) (moved_pair (last_pair key kept));
+    spoken = ap (unspoken kept) (ap (placed_in Append) l.split ∙ placed_in-append Append l.left own_entries
+        ∙ ap (λ x. x ++ placed_in Append own_entries) (ap (placed_in Append) (sym left_placed) ∙ placed_in_other Rewrite Append refl l.left)
+        ∙ own_places) ∙ spoken;
+    pair_moved = λ key k. subst (λ o. IsMovedPair o (last_pair key kept))
+        (sym (overlaid_pair_is kept (table_of id own).keys old.keys last key ∙ ap (λ b. cond b (last_pair key kept) (finite.get old.keys key)) k))
+        (moved_pair (last_pair key kept));
     pair_told = λ key s e q. elim (by_speaking kept (table_of id own).keys old.keys last key (λ o. o ≡ Some s) e) [
       | inl on ↦ absurd (apart (sym (own_files key s on.1) ∙ q))
       | inr off ↦ put_pair key ∙ whole_left kept (table_of id own).keys old.keys last key off.0 ∙ off.1

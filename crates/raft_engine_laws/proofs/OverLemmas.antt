@@ -73,14 +73,18 @@ entries_after id t v (Run []) is =
     ap (λ (u : Option Table). (table_of id u).entries) (sym (same_some (Some t) v is)) ∙ sym (unspoken-other (Run []) t.entries (λ i. refl)) ∙ sym (append-nil (unspoken (Run [] ∷ []) t.entries))
 entries_after id t v (Run (e ∷ run)) is = go (leaves_hole t.entries e.index) is
   where
-    go : (b : Bool) → option_map Some (option_map {U = Table} (λ es. record t { entries = es }) (cond b None (Some (below e.index t.entries ++ e ∷ run)))) ≡ Some v → (table_of id v).entries ≡ unspoken (Run (e ∷ run) ∷ []) t.entries ++ e ∷ run
+    go : (b : Bool) → option_map Some
+        (option_map {U = Table} (λ es. record t { entries = es }) (cond b None (Some (below e.index t.entries ++ e ∷ run)))) ≡ Some v →
+        (table_of id v).entries ≡ unspoken (Run (e ∷ run) ∷ []) t.entries ++ e ∷ run
     go true k = absurd cc
     go false k = ap (λ (u : Option Table). (table_of id u).entries) (sym (same_some _ v k)) ∙ ap (λ l. l ++ e ∷ run) (sym (unspoken-run e run t.entries))
 entries_after id t v (Compact i) is = ap (λ (u : Option Table). (table_of id u).entries) (sym (same_some _ v is)) ∙ sym (unspoken-compact i t.entries) ∙ sym (append-nil (unspoken (Compact i ∷ []) t.entries))
 entries_after id t v (Truncate i) is = ap (λ (u : Option Table). (table_of id u).entries) (sym (same_some _ v is)) ∙ sym (unspoken-truncate i t.entries) ∙ sym (append-nil (unspoken (Truncate i ∷ []) t.entries))
-entries_after id t v (Put key value file) is = ap (λ (u : Option Table). (table_of id u).entries) (sym (same_some _ v is)) ∙ sym (unspoken-other (Put key value file) t.entries (λ i. refl)) ∙ sym (append-nil (unspoken (Put key value file ∷ []) t.entries))
+entries_after id t v (Put key value file) is = ap (λ (u : Option Table). (table_of id u).entries) (sym (same_some _ v is))
+    ∙ sym (unspoken-other (Put key value file) t.entries (λ i. refl)) ∙ sym (append-nil (unspoken (Put key value file ∷ []) t.entries))
 entries_after id t v (Del key) is = ap (λ (u : Option Table). (table_of id u).entries) (sym (same_some _ v is)) ∙ sym (unspoken-other (Del key) t.entries (λ i. refl)) ∙ sym (append-nil (unspoken (Del key ∷ []) t.entries))
-entries_after id t v (AtomicGroup a b) is = ap (λ (u : Option Table). (table_of id u).entries) (sym (same_some _ v is)) ∙ sym (unspoken-other (AtomicGroup a b) t.entries (λ i. refl)) ∙ sym (append-nil (unspoken (AtomicGroup a b ∷ []) t.entries))
+entries_after id t v (AtomicGroup a b) is = ap (λ (u : Option Table). (table_of id u).entries) (sym (same_some _ v is))
+    ∙ sym (unspoken-other (AtomicGroup a b) t.entries (λ i. refl)) ∙ sym (append-nil (unspoken (AtomicGroup a b ∷ []) t.entries))
 entries_after id t v Clean is = ap (λ (u : Option Table). (table_of id u).entries) (sym (same_some _ v is)) ∙ sym (unspoken-clean t.entries) ∙ sym (append-nil (unspoken (Clean ∷ []) t.entries))
 
 -- ---- the own table takes what the whole one takes
@@ -117,7 +121,9 @@ own_taken id ss own x v (Run (e ∷ r)) h run is = go (leaves_hole (table_of id 
     go true t k = absurd cc
     go false t k = (
       Some (record (table_of id own) { entries = below e.index (table_of id own).entries ++ e ∷ r }),
-      ap (λ b. option_map Some (option_map {U = Table} (λ es. record (table_of id own) { entries = es }) (cond b None (Some (below e.index (table_of id own).entries ++ e ∷ r))))) (no_hole ss (table_of id own).entries (table_of id x).entries e.index h run t),
+      ap (λ b. option_map Some (option_map {U = Table} (λ es. record (table_of id own) { entries = es })
+          (cond b None (Some (below e.index (table_of id own).entries ++ e ∷ r)))))
+          (no_hole ss (table_of id own).entries (table_of id x).entries e.index h run t),
     )
 own_taken id ss own x v (Compact i) h run is = (Some (record (table_of id own) { entries = from i (table_of id own).entries }), refl)
 own_taken id ss own x v (Truncate i) h run is = (Some (record (table_of id own) { entries = below i (table_of id own).entries }), refl)
@@ -140,7 +146,12 @@ step_over id ss own x v s good h run is =
 -- what more steps take, their own table takes, and it stays behind what they leave
 pub steps_over : (id : ℕ) (ss : List Step) (own x v : Option Table) (tt : List Step) → AreSteps tt → IsOver ss (table_of id own).entries (table_of id x).entries → IsTableOf id (table_of id x) → after Append id x tt ≡ Some v
     → (w : Option Table) × (after Append id own tt ≡ Some w) × IsOver (ss ++ tt) (table_of id w).entries (table_of id v).entries
-steps_over id ss own x v [] good h at is = (own, refl, subst (λ l. IsOver l (table_of id own).entries (table_of id v).entries) (sym (append-nil ss)) (subst (λ (u : Option Table). IsOver ss (table_of id own).entries (table_of id u).entries) (same_some x v is) h))
+steps_over id ss own x v [] good h at is = (
+  own,
+  refl,
+  subst (λ l. IsOver l (table_of id own).entries (table_of id v).entries) (sym (append-nil ss))
+      (subst (λ (u : Option Table). IsOver ss (table_of id own).entries (table_of id u).entries) (same_some x v is) h),
+)
 steps_over id ss own x v (s ∷ tt) good h at is = go (λ ss own u at h k. steps_over id ss own u v tt good.1 h at k) (after_step Append (table_of id x) s) refl is
   where
     go : ((ss : List Step) (own u : Option Table) → IsTableOf id (table_of id u) → IsOver ss (table_of id own).entries (table_of id u).entries → after Append id u tt ≡ Some v

@@ -93,7 +93,13 @@ step_behind n id own x v (Run []) h r is = (Some (table_of id own), refl, subst 
 step_behind n id own x v (Run (e ∷ run)) h r is = (
   _,
   refl,
-  subst (λ (u : Option Table). AreBehind n (record (table_of id own) { entries = cond (leaves_hole (table_of id own).entries e.index) (e ∷ run) (below e.index (table_of id own).entries ++ e ∷ run) }) (table_of id u)) (same_some (Some (record (table_of id x) { entries = cond (leaves_hole (table_of id x).entries e.index) (e ∷ run) (below e.index (table_of id x).entries ++ e ∷ run) })) v is)
+  subst (λ (u : Option Table). AreBehind n
+      (record (table_of id own) {
+        entries = cond (leaves_hole (table_of id own).entries e.index) (e ∷ run)
+            (below e.index (table_of id own).entries ++ e ∷ run);
+      }) (table_of id u))
+      (same_some (Some (record (table_of id x)
+      { entries = cond (leaves_hole (table_of id x).entries e.index) (e ∷ run) (below e.index (table_of id x).entries ++ e ∷ run) })) v is)
       (record { entries = run_behind n e.index (table_of id own).entries (table_of id x).entries (e ∷ run) r h.entries; pairs = h.pairs }),
 )
 step_behind n id own x v (Compact i) h r is = (
@@ -111,17 +117,39 @@ step_behind n id own x v (Truncate i) h r is = (
 step_behind n id own x v (Put k value file) h r is = (
   _,
   refl,
-  subst (λ (u : Option Table). AreBehind n (record (table_of id own) { keys = finite.insert (table_of id own).keys k (record { value = value; file = file }) }) (table_of id u)) (same_some (Some (record (table_of id x) { keys = finite.insert (table_of id x).keys k (record { value = value; file = file }) })) v is)
-      (record { entries = h.entries; pairs = λ key. rw (finite.get-insert nat_list_cmp_total (table_of id own).keys k (record { value = value; file = file }) key, finite.get-insert nat_list_cmp_total (table_of id x).keys k (record { value = value; file = file }) key) (pair_behind n (is_same_key key k) (Some (record { value = value; file = file })) (finite.get (table_of id own).keys key) (finite.get (table_of id x).keys key) (h.pairs key)) }),
+  subst (λ (u : Option Table). AreBehind n
+      (record (table_of id own) { keys = finite.insert (table_of id own).keys k (record { value = value; file = file }) }) (table_of id u))
+      (same_some (Some (record (table_of id x) { keys = finite.insert (table_of id x).keys k (record { value = value; file = file }) })) v is)
+      (record {
+        entries = h.entries;
+        pairs = λ key. rw (
+          finite.get-insert nat_list_cmp_total (table_of id own).keys k (record { value = value; file = file }) key,
+          finite.get-insert nat_list_cmp_total (table_of id x).keys k (record { value = value; file = file }) key,
+        )
+            (pair_behind n (is_same_key key k) (Some (record { value = value; file = file })) (finite.get (table_of id own).keys key)
+            (finite.get (table_of id x).keys key) (h.pairs key));
+      }),
 )
 step_behind n id own x v (Del k) h r is = (
   _,
   refl,
   subst (λ (u : Option Table). AreBehind n (record (table_of id own) { keys = finite.remove (table_of id own).keys k }) (table_of id u)) (same_some (Some (record (table_of id x) { keys = finite.remove (table_of id x).keys k })) v is)
-      (record { entries = h.entries; pairs = λ key. rw (finite.get-remove nat_list_cmp_total (table_of id own).keys k key, finite.get-remove nat_list_cmp_total (table_of id x).keys k key) (pair_behind n (is_same_key key k) None (finite.get (table_of id own).keys key) (finite.get (table_of id x).keys key) (h.pairs key)) }),
+      (record {
+        entries = h.entries;
+        pairs = λ key. rw (
+          finite.get-remove nat_list_cmp_total (table_of id own).keys k key,
+          finite.get-remove nat_list_cmp_total
+              (table_of id x).keys k key,
+        ) (pair_behind n (is_same_key key k) None (finite.get (table_of id own).keys key)
+            (finite.get (table_of id x).keys key) (h.pairs key));
+      }),
 )
-step_behind n id own x v (AtomicGroup a b) h r is =
-    (_, refl, subst (λ (u : Option Table). AreBehind n (record (table_of id own) { atomic_group = Some (a, b) }) (table_of id u)) (same_some (Some (record (table_of id x) { atomic_group = Some (a, b) })) v is) (record { entries = h.entries; pairs = h.pairs }))
+step_behind n id own x v (AtomicGroup a b) h r is = (
+  _,
+  refl,
+  subst (λ (u : Option Table). AreBehind n (record (table_of id own) { atomic_group = Some (a, b) }) (table_of id u))
+      (same_some (Some (record (table_of id x) { atomic_group = Some (a, b) })) v is) (record { entries = h.entries; pairs = h.pairs }),
+)
 step_behind n id own x v Clean h r is = (None, refl, subst (λ (u : Option Table). AreBehind n (table_of id None) (table_of id u)) (same_some None v is) (record { entries = nothing_behind n; pairs = λ key. same_pair n _ }))
 
 pub steps_behind : (n id : ℕ) (own x v : Option Table) (ss : List Step) → AreSteps ss → AreBehind n (table_of id own) (table_of id x) → IsTableOf id (table_of id x) → after Rewrite id x ss ≡ Some v
@@ -129,7 +157,8 @@ pub steps_behind : (n id : ℕ) (own x v : Option Table) (ss : List Step) → Ar
 steps_behind n id own x v [] good h at is = (own, refl, subst (λ (u : Option Table). AreBehind n (table_of id own) (table_of id u)) (same_some x v is) h)
 steps_behind n id own x v (s ∷ ss) good h at is = go (λ own u at h k. steps_behind n id own u v ss good.1 h at k) (after_step Rewrite (table_of id x) s) refl is
   where
-    go : ((own u : Option Table) → IsTableOf id (table_of id u) → AreBehind n (table_of id own) (table_of id u) → after Rewrite id u ss ≡ Some v → (w : Option Table) × (after Rewrite id own ss ≡ Some w) × AreBehind n (table_of id w) (table_of id v))
+    go : ((own u : Option Table) → IsTableOf id (table_of id u) → AreBehind n (table_of id own) (table_of id u) → after Rewrite id u ss ≡ Some v →
+        (w : Option Table) × (after Rewrite id own ss ≡ Some w) × AreBehind n (table_of id w) (table_of id v))
         → (y : Option (Option Table)) → after_step Rewrite (table_of id x) s ≡ y → option_and_then (λ u. after Rewrite id u ss) y ≡ Some v
         → (w : Option Table) × (after Rewrite id own (s ∷ ss) ≡ Some w) × AreBehind n (table_of id w) (table_of id v)
     go rest None e k = absurd cc

@@ -18,7 +18,8 @@ use Rattle.raft_engine_laws.specs.Telling.{SayEnough, SayTheSame}
 use Rattle.raft_engine_laws.proofs.TestLemmas.{or_none, any-append}
 use Rattle.raft_engine_laws.proofs.UnspokenLemmas.{unspoken_same, spoken-append, unspoken-steps, unspoken-run}
 
-quiet_kept : (content : EntryIndex → List ℕ) (id : ℕ) (kept untold fewer : List Step) (rewritten t : Table) → IsRegionKept content id kept untold rewritten t → SayEnough untold fewer rewritten.entries → IsRegionKept content id kept fewer rewritten t
+quiet_kept : (content : EntryIndex → List ℕ) (id : ℕ) (kept untold fewer : List Step) (rewritten t : Table) →
+    IsRegionKept content id kept untold rewritten t → SayEnough untold fewer rewritten.entries → IsRegionKept content id kept fewer rewritten t
 quiet_kept content id kept untold fewer rewritten t k q = record {
   steps = k.steps;
   sound = k.sound;
@@ -58,6 +59,8 @@ quiet_run untold e run es all = record {
 }
 
 -- what says the same stands for the untold steps
-pub same_kept : (content : EntryIndex → List ℕ) (append rewrite : List Event) (untold other : List RegionStep) (tables : Tables) → AreKept content append rewrite untold tables → ((r : ℕ) → SayTheSame (steps_on r other) (steps_on r untold)) → AreKept content append rewrite other tables
+pub same_kept : (content : EntryIndex → List ℕ) (append rewrite : List Event) (untold other : List RegionStep) (tables : Tables) →
+    AreKept content append rewrite untold tables → ((r : ℕ) → SayTheSame (steps_on r other) (steps_on r untold)) →
+    AreKept content append rewrite other tables
 same_kept content append rewrite untold other tables h same = fewer_kept content append rewrite untold other tables h.rewritten h h.read
     (λ r. record { covers = λ i is. sym ((same r).indexes i) ∙ is; entries = unspoken_same (steps_on r other) (steps_on r untold) (table_of r (finite.get h.rewritten r)).entries (same r).indexes; keys = (same r).keys })

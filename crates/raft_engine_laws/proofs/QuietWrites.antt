@@ -40,12 +40,19 @@ taking_on tables r (s ∷ steps) = go (is_on r s) refl (takes_from tables s) ref
     same : is_on r s ≡ true → takes_from tables s ≡ takes_away (end_of (table_of r (finite.get tables r)).entries) s.step
     same k = ap (λ q. takes_away (end_of (table_of q (finite.get tables q)).entries) s.step) (sym (eqb-true r s.region k))
 
-    first : (b : Bool) → is_on r s ≡ true → takes_from tables s ≡ b → cond b (s.step ∷ steps_on r (taking_steps tables steps)) (steps_on r (taking_steps tables steps)) ≡ cond (takes_away (end_of (table_of r (finite.get tables r)).entries) s.step) (s.step ∷ steps_on r (taking_steps tables steps)) (steps_on r (taking_steps tables steps))
+    first : (b : Bool) → is_on r s ≡ true → takes_from tables s ≡ b →
+        cond b (s.step ∷ steps_on r (taking_steps tables steps)) (steps_on r (taking_steps tables steps)) ≡ cond
+        (takes_away (end_of (table_of r (finite.get tables r)).entries) s.step) (s.step ∷ steps_on r (taking_steps tables steps))
+        (steps_on r (taking_steps tables steps))
     first b k l = ap (λ c. cond c (s.step ∷ steps_on r (taking_steps tables steps)) (steps_on r (taking_steps tables steps))) (sym l ∙ same k)
 
     go : (a : Bool) → is_on r s ≡ a → (b : Bool) → takes_from tables s ≡ b → steps_on r (taking_steps tables steps) ≡ filter (takes_away (end_of (table_of r (finite.get tables r)).entries)) (steps_on r steps)
-        → steps_on r (cond b (s ∷ taking_steps tables steps) (taking_steps tables steps)) ≡ filter (takes_away (end_of (table_of r (finite.get tables r)).entries)) (map (λ i. i.step) (cond a (s ∷ filter (is_on r) steps) (filter (is_on r) steps)))
-    go true k true l ih = own_cons r s (taking_steps tables steps) ∙ ap (λ c. cond c (s.step ∷ steps_on r (taking_steps tables steps)) (steps_on r (taking_steps tables steps))) k ∙ first true k l ∙ ap (λ m. cond (takes_away (end_of (table_of r (finite.get tables r)).entries) s.step) (s.step ∷ m) m) ih
+        → steps_on r (cond b (s ∷ taking_steps tables steps) (taking_steps tables steps)) ≡ filter
+        (takes_away (end_of (table_of r (finite.get tables r)).entries))
+        (map (λ i. i.step) (cond a (s ∷ filter (is_on r) steps) (filter (is_on r) steps)))
+    go true k true l ih = own_cons r s (taking_steps tables steps)
+        ∙ ap (λ c. cond c (s.step ∷ steps_on r (taking_steps tables steps)) (steps_on r (taking_steps tables steps))) k ∙ first true k l
+        ∙ ap (λ m. cond (takes_away (end_of (table_of r (finite.get tables r)).entries) s.step) (s.step ∷ m) m) ih
     go true k false l ih = first false k l ∙ ap (λ m. cond (takes_away (end_of (table_of r (finite.get tables r)).entries) s.step) (s.step ∷ m) m) ih
     go false k true l ih = own_cons r s (taking_steps tables steps) ∙ ap (λ c. cond c (s.step ∷ steps_on r (taking_steps tables steps)) (steps_on r (taking_steps tables steps))) k ∙ ih
     go false k false l ih = ih
@@ -131,7 +138,8 @@ enough end untold ss taking es same low = subst (λ l. SayEnough (untold ++ ss) 
 
 -- ---- a batch
 
-module _ (content : EntryIndex → List ℕ) (base : ℕ → Records) (appended rewritten : List Deed) (untold : List RegionStep) (tables new : Tables) (e : Event) (h : IsSafe content base appended rewritten untold tables) (next : IsNextIn Append appended e)
+module _ (content : EntryIndex → List ℕ) (base : ℕ → Records) (appended rewritten : List Deed) (untold : List RegionStep) (tables new : Tables)
+    (e : Event) (h : IsSafe content base appended rewritten untold tables) (next : IsNextIn Append appended e)
     (taken : after_items Appending tables e.items ≡ Some new) where
   abbrev steps : List RegionStep
   steps = steps_of_items e.items
@@ -139,7 +147,8 @@ module _ (content : EntryIndex → List ℕ) (base : ℕ → Records) (appended 
   abbrev taking : List RegionStep
   taking = taking_steps tables steps
 
-  enough_said : (n : ℕ) (before : Tables) → MayBeGone rewritten n → IsOneReading Rewrite (in_files_from n (written rewritten)) before [] → (r : ℕ) → SayEnough (steps_on r (untold ++ steps)) (steps_on r (untold ++ taking)) (table_of r (finite.get before r)).entries
+  enough_said : (n : ℕ) (before : Tables) → MayBeGone rewritten n → IsOneReading Rewrite (in_files_from n (written rewritten)) before [] → (r : ℕ) →
+      SayEnough (steps_on r (untold ++ steps)) (steps_on r (untold ++ taking)) (table_of r (finite.get before r)).entries
   enough_said n before g read r =
       let a : AreKept content (in_files_from (deleted appended) (written appended)) (in_files_from n (written rewritten)) untold tables = h.kept (deleted appended) n (all_gone appended) g in
       let same : finite.get before r ≡ finite.get a.rewritten r = same_some _ _ (sym (read.tables_read r) ∙ a.read.tables_read r) in

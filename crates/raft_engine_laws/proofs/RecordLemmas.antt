@@ -41,7 +41,9 @@ module _ (content : EntryIndex → List ℕ) where
   told_below i [] = refl
   told_below i (e ∷ es) = go (nat_lt e.index i) (told_below i es)
     where
-      go : (b : Bool) → told (filter (λ e. nat_lt e.index i) es) ≡ filter (λ x. nat_lt x.0 i) (told es) → told (cond b (e ∷ filter (λ e. nat_lt e.index i) es) (filter (λ e. nat_lt e.index i) es)) ≡ cond b ((e.index, content e) ∷ filter (λ x. nat_lt x.0 i) (told es)) (filter (λ x. nat_lt x.0 i) (told es))
+      go : (b : Bool) → told (filter (λ e. nat_lt e.index i) es) ≡ filter (λ x. nat_lt x.0 i) (told es) →
+          told (cond b (e ∷ filter (λ e. nat_lt e.index i) es) (filter (λ e. nat_lt e.index i) es)) ≡ cond b
+          ((e.index, content e) ∷ filter (λ x. nat_lt x.0 i) (told es)) (filter (λ x. nat_lt x.0 i) (told es))
       go true ih = ap (λ l. (e.index, content e) ∷ l) ih
       go false ih = ih
 
@@ -50,16 +52,21 @@ module _ (content : EntryIndex → List ℕ) where
   told_from i [] = refl
   told_from i (e ∷ es) = go (nat_le i e.index) (told_from i es)
     where
-      go : (b : Bool) → told (filter (λ e. nat_le i e.index) es) ≡ filter (λ x. nat_le i x.0) (told es) → told (cond b (e ∷ filter (λ e. nat_le i e.index) es) (filter (λ e. nat_le i e.index) es)) ≡ cond b ((e.index, content e) ∷ filter (λ x. nat_le i x.0) (told es)) (filter (λ x. nat_le i x.0) (told es))
+      go : (b : Bool) → told (filter (λ e. nat_le i e.index) es) ≡ filter (λ x. nat_le i x.0) (told es) →
+          told (cond b (e ∷ filter (λ e. nat_le i e.index) es) (filter (λ e. nat_le i e.index) es)) ≡ cond b
+          ((e.index, content e) ∷ filter (λ x. nat_le i x.0) (told es)) (filter (λ x. nat_le i x.0) (told es))
       go true ih = ap (λ l. (e.index, content e) ∷ l) ih
       go false ih = ih
 
   -- ---- new steps
 
-  run_has : (id : ℕ) (t : Table) (v : Option Table) (rs : Records) (e : EntryIndex) (run : List EntryIndex) → HasRecords content t rs → after_write t (Run (e ∷ run)) ≡ Some v → HasRecords content (table_of id v) (after_change content rs (Run (e ∷ run)))
+  run_has : (id : ℕ) (t : Table) (v : Option Table) (rs : Records) (e : EntryIndex) (run : List EntryIndex) → HasRecords content t rs →
+      after_write t (Run (e ∷ run)) ≡ Some v → HasRecords content (table_of id v) (after_change content rs (Run (e ∷ run)))
   run_has id t v rs e run h is = go (starts_in_front t.entries e.index || leaves_hole t.entries e.index) is
     where
-      go : (b : Bool) → option_map Some (option_map {U = Table} (λ es. record t { entries = es }) (cond b None (Some (below e.index t.entries ++ e ∷ run)))) ≡ Some v → HasRecords content (table_of id v) (after_change content rs (Run (e ∷ run)))
+      go : (b : Bool) → option_map Some
+          (option_map {U = Table} (λ es. record t { entries = es }) (cond b None (Some (below e.index t.entries ++ e ∷ run)))) ≡ Some v →
+          HasRecords content (table_of id v) (after_change content rs (Run (e ∷ run)))
       go true is = absurd cc
       go false is = subst (λ (u : Option Table). HasRecords content (table_of id u) (after_change content rs (Run (e ∷ run)))) (same_some _ v is) (record {
         entries = told-append (below e.index t.entries) (e ∷ run) ∙ ap (λ l. l ++ told (e ∷ run)) (told_below e.index t.entries ∙ ap (filter (λ x. nat_lt x.0 e.index)) h.entries);
@@ -101,7 +108,9 @@ module _ (content : EntryIndex → List ℕ) where
       (record { entries = told_from i t.entries ∙ ap (filter (λ x. nat_le i x.0)) h.entries; values = h.values })
   write_has id t v rs (Truncate i) h is = subst (λ (u : Option Table). HasRecords content (table_of id u) (after_change content rs (Truncate i))) (same_some (Some (record t { entries = below i t.entries })) v is)
       (record { entries = told_below i t.entries ∙ ap (filter (λ x. nat_lt x.0 i)) h.entries; values = h.values })
-  write_has id t v rs (Put key value file) h is = subst (λ (u : Option Table). HasRecords content (table_of id u) (after_change content rs (Put key value file))) (same_some _ v is) (put_has t rs key (record { value = value; file = file }) h)
+  write_has id t v rs (Put key value file) h
+      is = subst (λ (u : Option Table). HasRecords content (table_of id u) (after_change content rs (Put key value file))) (same_some _ v is)
+      (put_has t rs key (record { value = value; file = file }) h)
   write_has id t v rs (Del key) h is = subst (λ (u : Option Table). HasRecords content (table_of id u) (after_change content rs (Del key))) (same_some _ v is) (del_has t rs key h)
   write_has id t v rs (AtomicGroup a b) h is = subst (λ (u : Option Table). HasRecords content (table_of id u) rs) (same_some _ v is) (record { entries = h.entries; values = h.values })
   write_has id t v rs Clean h is = subst (λ (u : Option Table). HasRecords content (table_of id u) no_records) (same_some None v is) (none_has id)
@@ -126,11 +135,16 @@ module _ (content : EntryIndex → List ℕ) where
       ∙ changes-append (base r) (steps_on r (flat_map (λ (e : Event). steps_of_items e.items) h)) (steps_on r (flat_map (λ (e : Event). steps_of_items e.items) k))
 
   live-one : (base : ℕ → Records) (h : List Event) (e : Event) (r : ℕ) → live content base (h ++ e ∷ []) r ≡ after_changes content (live content base h r) (steps_on r (steps_of_items e.items))
-  live-one base h e r = live-append base h (e ∷ []) r ∙ ap (after_changes content (live content base h r)) (own-append r (steps_of_items e.items) [] ∙ ap (λ l. steps_on r (steps_of_items e.items) ++ l) (own_none r) ∙ append-nil (steps_on r (steps_of_items e.items)))
+  live-one base h e r = live-append base h (e ∷ []) r
+      ∙ ap (after_changes content (live content base h r))
+      (own-append r (steps_of_items e.items) [] ∙ ap (λ l. steps_on r (steps_of_items e.items) ++ l) (own_none r)
+      ∙ append-nil (steps_on r (steps_of_items e.items)))
 
   -- tables that take a batch have the records after it
   pub taken_have : (base : ℕ → Records) (m n : Tables) (h : List Event) (e : Event) → HaveRecords content m (live content base h) → after_items Appending m e.items ≡ Some n → HaveRecords content n (live content base (h ++ e ∷ []))
-  taken_have base m n h e has is r = subst (HasRecords content (table_of r (finite.get n r))) (sym (live-one base h e r)) (writes_have r (finite.get m r) (finite.get n r) (live content base h r) (steps_on r (steps_of_items e.items)) (has r) (items_by_region m n e.items is r))
+  taken_have base m n h e has is r = subst (HasRecords content (table_of r (finite.get n r))) (sym (live-one base h e r))
+      (writes_have r (finite.get m r) (finite.get n r) (live content base h r) (steps_on r (steps_of_items e.items)) (has r)
+      (items_by_region m n e.items is r))
 
   live-none : (base : ℕ → Records) (r : ℕ) → live content base [] r ≡ base r
   unfolding live

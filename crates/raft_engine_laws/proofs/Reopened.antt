@@ -33,7 +33,8 @@ on_all r (e ∷ h) = own-append r (steps_of_items e.items) (all_steps_of h) ∙ 
 pub all_steps : (r : ℕ) (h : List Event) → FilesFrom Append 0 h → steps_on r (all_steps_of h) ≡ steps_of r (batches h)
 all_steps r h files = on_all r h ∙ sym (plain_steps r (batches h) (without_marker 0 h files))
 
-module _ (content : EntryIndex → List ℕ) (append rewrite : List Event) (untold : List RegionStep) (tables found : Tables) (cleaned : List ℕ) (h : AreKept content append rewrite untold tables) (both : IsReadingOfBoth rewrite append found cleaned) where
+module _ (content : EntryIndex → List ℕ) (append rewrite : List Event) (untold : List RegionStep) (tables found : Tables) (cleaned : List ℕ)
+    (h : AreKept content append rewrite untold tables) (both : IsReadingOfBoth rewrite append found cleaned) where
   abbrev kept : ℕ → List Step
   kept r = steps_of r (batches append)
 

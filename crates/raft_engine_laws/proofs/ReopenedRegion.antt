@@ -41,7 +41,8 @@ module _ (content : EntryIndex → List ℕ) (id : ℕ) (kept untold : List Step
   left_placed = placed-left Rewrite kept rewritten.entries ∙ ap (unspoken kept) places
 
   left_over : unspoken kept again.entries ≡ unspoken kept rewritten.entries
-  left_over = ap (unspoken kept) entries_are ∙ unspoken-append kept (unspoken kept rewritten.entries) own_entries ∙ ap (λ l. unspoken kept (unspoken kept rewritten.entries) ++ l) h.over.spoken ∙ append-nil _ ∙ unspoken-twice kept rewritten.entries
+  left_over = ap (unspoken kept) entries_are ∙ unspoken-append kept (unspoken kept rewritten.entries) own_entries
+      ∙ ap (λ l. unspoken kept (unspoken kept rewritten.entries) ++ l) h.over.spoken ∙ append-nil _ ∙ unspoken-twice kept rewritten.entries
 
   sound : AreTableEntries again.entries
   sound = record {
@@ -62,12 +63,19 @@ module _ (content : EntryIndex → List ℕ) (id : ℕ) (kept untold : List Step
     seen = again.entries;
     over = record { split = entries_are ∙ ap (λ l. l ++ own_entries) (sym left_over); spoken = h.over.spoken };
     moved = moved_self other again.entries;
-    told = sym (ap (placed_in Rewrite) entries_are ∙ placed_in-append Rewrite (unspoken kept rewritten.entries) own_entries ∙ ap (λ l. l ++ placed_in Rewrite own_entries) left_placed ∙ ap (λ l. unspoken kept rewritten.entries ++ l) (ap (placed_in Rewrite) (sym own_places) ∙ placed_in_other Append Rewrite refl own_entries) ∙ append-nil _);
+    told = sym (ap (placed_in Rewrite) entries_are ∙ placed_in-append Rewrite (unspoken kept rewritten.entries) own_entries
+        ∙ ap (λ l. l ++ placed_in Rewrite own_entries) left_placed
+        ∙ ap (λ l. unspoken kept rewritten.entries ++ l) (ap (placed_in Rewrite) (sym own_places) ∙ placed_in_other Append Rewrite refl own_entries)
+        ∙ append-nil _);
     covers = λ i k. k;
     spoken =
-        ap (unspoken kept) (ap (placed_in Append) entries_are ∙ placed_in-append Append (unspoken kept rewritten.entries) own_entries ∙ ap (λ l. l ++ placed_in Append own_entries) (ap (placed_in Append) (sym left_placed) ∙ placed_in_other Rewrite Append refl (unspoken kept rewritten.entries)) ∙ own_places)
+        ap (unspoken kept) (ap (placed_in Append) entries_are ∙ placed_in-append Append (unspoken kept rewritten.entries) own_entries
+        ∙ ap (λ l. l ++ placed_in Append own_entries)
+        (ap (placed_in Append) (sym left_placed) ∙ placed_in_other Rewrite Append refl (unspoken kept rewritten.entries)) ∙ own_places)
         ∙ h.over.spoken;
-    pair_moved = λ key k. subst (λ o. IsMovedPair o (last_pair key kept)) (sym (overlaid_pair_is kept (table_of id h.own).keys rewritten.keys last key ∙ ap (λ b. cond b (last_pair key kept) (finite.get rewritten.keys key)) k)) (moved_pair (last_pair key kept));
+    pair_moved = λ key k. subst (λ o. IsMovedPair o (last_pair key kept))
+        (sym (overlaid_pair_is kept (table_of id h.own).keys rewritten.keys last key
+        ∙ ap (λ b. cond b (last_pair key kept) (finite.get rewritten.keys key)) k)) (moved_pair (last_pair key kept));
     pair_told = λ key s e q. elim (by_speaking kept (table_of id h.own).keys rewritten.keys last key (λ o. o ≡ Some s) e) [
       | inl on ↦ absurd (apart (sym (own_files key s on.1) ∙ q))
       | inr off ↦ whole_left kept (table_of id h.own).keys rewritten.keys last key off.0 ∙ off.1

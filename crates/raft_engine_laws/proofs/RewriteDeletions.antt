@@ -54,7 +54,10 @@ module _ (content : EntryIndex → List ℕ) (n : ℕ) (append dropped later : L
   split : (r : ℕ) → (gone : Option Table) × (after Rewrite r None (steps_of r (batches dropped)) ≡ Some gone) × (after Rewrite r gone (steps_of r (batches later)) ≡ Some (finite.get h.rewritten r))
   split r = go (after Rewrite r None (steps_of r (batches dropped))) refl (sym (ap (after Rewrite r None) (two r) ∙ after-append Rewrite r None (steps_of r (batches dropped)) (steps_of r (batches later))) ∙ h.read.tables_read r)
     where
-      go : (x : Option (Option Table)) → after Rewrite r None (steps_of r (batches dropped)) ≡ x → option_and_then (λ u. after Rewrite r u (steps_of r (batches later))) x ≡ Some (finite.get h.rewritten r) → (gone : Option Table) × (after Rewrite r None (steps_of r (batches dropped)) ≡ Some gone) × (after Rewrite r gone (steps_of r (batches later)) ≡ Some (finite.get h.rewritten r))
+      go : (x : Option (Option Table)) → after Rewrite r None (steps_of r (batches dropped)) ≡ x →
+          option_and_then (λ u. after Rewrite r u (steps_of r (batches later))) x ≡ Some (finite.get h.rewritten r) →
+          (gone : Option Table) × (after Rewrite r None (steps_of r (batches dropped)) ≡ Some gone) ×
+          (after Rewrite r gone (steps_of r (batches later)) ≡ Some (finite.get h.rewritten r))
       go None e k = absurd cc
       go (Some u) e k = (u, e, k)
 
@@ -67,12 +70,18 @@ module _ (content : EntryIndex → List ℕ) (n : ℕ) (append dropped later : L
     where
       no_own : (key : List ℕ) (o : Option Stored) → finite.get (table_of r (split r).0).keys key ≡ o → IsPairBehind n (finite.get (table_of r None).keys key) o
       no_own key None e = finite.get-empty (slice_cmp nat_cmp) key
-      no_own key (Some s) e = inr (finite.get-empty (slice_cmp nat_cmp) key, pair_below n key (steps_of r (batches dropped)) s (steps_below n r dropped below old.items) (sym (last_pair_stands Rewrite key r (split r).0 (steps_of r (batches dropped)) (split r).1) ∙ e))
+      no_own key (Some s) e = inr (
+        finite.get-empty (slice_cmp nat_cmp) key,
+        pair_below n key (steps_of r (batches dropped)) s
+            (steps_below n r dropped below old.items) (sym (last_pair_stands Rewrite key r (split r).0 (steps_of r (batches dropped)) (split r).1) ∙ e),
+      )
 
   behind : (r : ℕ) → AreBehind n (table_of r (finite.get alone r)) (table_of r (finite.get h.rewritten r))
   behind r =
       let b : (w : Option Table) × (after Rewrite r None (steps_of r (batches later)) ≡ Some w) × AreBehind n (table_of r w) (table_of r (finite.get h.rewritten r)) =
-      steps_behind n r None (split r).0 (finite.get h.rewritten r) (steps_of r (batches later)) (steps_good r later rest.items) (gone_low r) (table_after Rewrite r None (split r).0 (steps_of r (batches dropped)) (steps_good r dropped old.items) (no_table r) (split r).1) (split r).2 in
+      steps_behind n r None (split r).0 (finite.get h.rewritten r) (steps_of r (batches later)) (steps_good r later rest.items) (gone_low r)
+      (table_after Rewrite r None (split r).0 (steps_of r (batches dropped)) (steps_good r dropped old.items) (no_table r) (split r).1)
+      (split r).2 in
       subst (λ (u : Option Table). AreBehind n (table_of r u) (table_of r (finite.get h.rewritten r))) (same_some b.0 (finite.get alone r) (sym b.1 ∙ read.tables_read r)) b.2
 
   -- the front of the rewrite files is deleted

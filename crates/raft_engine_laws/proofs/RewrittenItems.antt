@@ -35,7 +35,8 @@ no_tail (x ∷ a) b e = absurd cc
 in_place : (gate n : ℕ) → is_misplaced (Some gate) n n ≡ false
 in_place gate n = grind (arith, nat_tests)
 
-module _ (content : EntryIndex → List ℕ) (gate seq id : ℕ) (tables new : Tables) (t : Table) (there : finite.get tables id ≡ Some t) (sound : AreTableEntries t.entries) (w put : Option Table) (told : (table_of id w).entries ≡ placed_in Rewrite t.entries) where
+module _ (content : EntryIndex → List ℕ) (gate seq id : ℕ) (tables new : Tables) (t : Table) (there : finite.get tables id ≡ Some t)
+    (sound : AreTableEntries t.entries) (w put : Option Table) (told : (table_of id w).entries ≡ placed_in Rewrite t.entries) where
   abbrev to : FileId
   to = record { queue = Rewrite; seq = seq }
 
@@ -85,7 +86,8 @@ module _ (content : EntryIndex → List ℕ) (gate seq id : ℕ) (tables new : T
     }
 
   -- of entries and pairs
-  module _ (m : EntryIndex) (ms back : List EntryIndex) (x : EntryIndex) (gs : List EntryIndex) (split : placed_in Append t.entries ≡ m ∷ ms ++ back) (move : AllByRecursion (λ (e : EntryIndex). may_move (Some gate) e ≡ true) (m ∷ ms)) (copies : AreCopies content (x ∷ gs) (m ∷ ms))
+  module _ (m : EntryIndex) (ms back : List EntryIndex) (x : EntryIndex) (gs : List EntryIndex) (split : placed_in Append t.entries ≡ m ∷ ms ++ back)
+      (move : AllByRecursion (λ (e : EntryIndex). may_move (Some gate) e ≡ true) (m ∷ ms)) (copies : AreCopies content (x ∷ gs) (m ∷ ms))
       (ps : List (List ℕ × List ℕ)) (ordinary : AreOrdinary ps) (fetched : AllByRecursion (IsFetched (Some gate) t.keys) ps)
       (is : after_items (Rewriting (Some gate) seq) tables (record { raft_group_id = id; content = entries (x ∷ gs) } ∷ put_items id (record { queue = Rewrite; seq = seq }) ps) ≡ Some new)
       (puts : after Rewrite id w (steps_on id (steps_of_items (record { raft_group_id = id; content = entries (x ∷ gs) } ∷ put_items id (record { queue = Rewrite; seq = seq }) ps))) ≡ Some put) where
@@ -110,8 +112,12 @@ module _ (content : EntryIndex → List ℕ) (gate seq id : ℕ) (tables new : T
 
     after_first : after_items (Rewriting (Some gate) seq) (with_table tables id (Some moved)) (put_items id to ps) ≡ Some new
     after_first =
-        subst (λ (o : Option (List EntryIndex)). option_and_then (λ o. after_items (Rewriting (Some gate) seq) (with_table tables id o) (put_items id to ps)) (option_map Some (option_map {U = Table} (λ es. record t { entries = es }) o)) ≡ Some new) takes
-        (subst (λ (o : Option Table). option_and_then (λ o. after_items (Rewriting (Some gate) seq) (with_table tables id o) (put_items id to ps)) (option_map Some (option_map {U = Table} (λ es. record (table_of id o) { entries = es }) (entries_after_rewrite (Some gate) (x ∷ gs) (table_of id o).entries))) ≡ Some new) there is)
+        subst (λ (o : Option (List EntryIndex)). option_and_then
+        (λ o. after_items (Rewriting (Some gate) seq) (with_table tables id o) (put_items id to ps))
+        (option_map Some (option_map {U = Table} (λ es. record t { entries = es }) o)) ≡ Some new) takes
+        (subst (λ (o : Option Table). option_and_then (λ o. after_items (Rewriting (Some gate) seq) (with_table tables id o) (put_items id to ps))
+        (option_map Some (option_map {U = Table} (λ es. record (table_of id o) { entries = es })
+        (entries_after_rewrite (Some gate) (x ∷ gs) (table_of id o).entries))) ≡ Some new) there is)
 
     kept : (table_of id (finite.get new id) ≡ record moved { keys = keys.0 }) × ((r : ℕ) → IsOther r id → finite.get new r ≡ finite.get (with_table tables id (Some moved)) r)
     kept = puts_move (Some gate) seq id ps (with_table tables id (Some moved)) new moved keys.0 ordinary keys.1 (with_own tables id (Some moved)) after_first
@@ -119,12 +125,15 @@ module _ (content : EntryIndex → List ℕ) (gate seq id : ℕ) (tables new : T
     pub others : (r : ℕ) → IsOther r id → finite.get new r ≡ finite.get tables r
     others r other = kept.1 r other ∙ with_other tables id r (Some moved) other.1
 
-    run_step : (v : Option Table) × (after Rewrite id w (steps_on id (steps_of_items (record { raft_group_id = id; content = entries (x ∷ gs) } ∷ put_items id to ps))) ≡ Some v) × ((table_of id v).entries ≡ front ++ x ∷ gs) × ((table_of id v).keys ≡ put_all to (table_of id w).keys ps)
+    run_step : (v : Option Table) ×
+        (after Rewrite id w (steps_on id (steps_of_items (record { raft_group_id = id; content = entries (x ∷ gs) } ∷ put_items id to ps))) ≡ Some v)
+        × ((table_of id v).entries ≡ front ++ x ∷ gs) × ((table_of id v).keys ≡ put_all to (table_of id w).keys ps)
     run_step =
         let rest = puts_read id to ps (Some (record (table_of id w) { entries = front ++ x ∷ gs })) ordinary in (
           rest.0,
           ap (after Rewrite id w) (own_head (record { region = id; step = Run (x ∷ gs) }) (steps_of_items (put_items id to ps)))
-              ∙ ap (λ (o : Option (List EntryIndex)). option_and_then (λ u. after Rewrite id u (steps_on id (steps_of_items (put_items id to ps)))) (option_map Some (option_map {U = Table} (λ es. record (table_of id w) { entries = es }) o))) reads
+              ∙ ap (λ (o : Option (List EntryIndex)). option_and_then (λ u. after Rewrite id u (steps_on id (steps_of_items (put_items id to ps))))
+              (option_map Some (option_map {U = Table} (λ es. record (table_of id w) { entries = es }) o))) reads
               ∙ rest.1,
           rest.2,
           rest.3,

@@ -94,7 +94,10 @@ module _ (content : EntryIndex → List ℕ) (id : ℕ) (kept : List Step) (file
 
   back_spoken : unspoken kept (placed_in Append r.back) ≡ []
   back_spoken = no_back (unspoken kept (placed_in Append r.front ++ placed_in Append r.middle)) (unspoken kept (placed_in Append r.back))
-      (sym (unspoken-append kept (placed_in Append r.front ++ placed_in Append r.middle) (placed_in Append r.back)) ∙ ap (unspoken kept) (append_assoc (placed_in Append r.front) (placed_in Append r.middle) (placed_in Append r.back) ∙ ap (λ l. placed_in Append r.front ++ l) (sym (placed_in-append Append r.middle r.back)) ∙ sym (placed_in-append Append r.front (r.middle ++ r.back)) ∙ ap (placed_in Append) (sym r.split)) ∙ h.spoken)
+      (sym (unspoken-append kept (placed_in Append r.front ++ placed_in Append r.middle) (placed_in Append r.back))
+      ∙ ap (unspoken kept) (append_assoc (placed_in Append r.front) (placed_in Append r.middle) (placed_in Append r.back)
+      ∙ ap (λ l. placed_in Append r.front ++ l) (sym (placed_in-append Append r.middle r.back))
+      ∙ sym (placed_in-append Append r.front (r.middle ++ r.back)) ∙ ap (placed_in Append) (sym r.split)) ∙ h.spoken)
 
   same_value : (s : Stored) (o : Option Stored) → IsMovedPair (Some s) o → IsMovedPair (Some (record s { file = file })) o
   same_value s None m = absurd m

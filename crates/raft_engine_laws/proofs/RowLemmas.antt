@@ -25,7 +25,8 @@ middles_are g n (x ∷ xs) = middles_are g (suc n) xs
 
 middles_held : (g : ℕ) (h : List BatchSteps) (xs : List (List RegionStep × ℕ)) → effects (h ++ middles g xs) ≡ effects h
 middles_held g h [] = ap effects (append-nil h)
-middles_held g h (x ∷ xs) = ap effects (sym (append_assoc h (batch_with_marker x.0 g Middle x.1 ∷ []) (middles g xs))) ∙ middles_held g (h ++ batch_with_marker x.0 g Middle x.1 ∷ []) xs ∙ effects_held h (batch_with_marker x.0 g Middle x.1) (λ e. absurd cc)
+middles_held g h (x ∷ xs) = ap effects (sym (append_assoc h (batch_with_marker x.0 g Middle x.1 ∷ []) (middles g xs)))
+    ∙ middles_held g (h ++ batch_with_marker x.0 g Middle x.1 ∷ []) xs ∙ effects_held h (batch_with_marker x.0 g Middle x.1) (λ e. absurd cc)
 
 module _ (g : ℕ) (h : List BatchSteps) (is : List RegionStep) (seq : ℕ) (xs : List (List RegionStep × ℕ)) (js : List RegionStep) (last : ℕ) where
   abbrev pub begun : List BatchSteps
@@ -49,7 +50,10 @@ module _ (g : ℕ) (h : List BatchSteps) (is : List RegionStep) (seq : ℕ) (xs 
   zero_plus = omega arith
 
   open_is : open_stretch (markers_of g (numbered_from 0 (h ++ begun))) ≡ numbered_from (length h) begun
-  open_is = ap (λ l. open_stretch (markers_of g l)) (numbered_from-append 0 h begun ∙ ap (λ (n : ℕ). numbered_from 0 h ++ numbered_from n begun) zero_plus) ∙ ap open_stretch (markers_of-append g (numbered_from 0 h) (numbered_from (length h) begun) ∙ ap (λ l. markers_of g (numbered_from 0 h) ++ l) (marked (length h)))
+  open_is = ap (λ l. open_stretch (markers_of g l))
+      (numbered_from-append 0 h begun ∙ ap (λ (n : ℕ). numbered_from 0 h ++ numbered_from n begun) zero_plus)
+      ∙ ap open_stretch (markers_of-append g (numbered_from 0 h) (numbered_from (length h) begun)
+      ∙ ap (λ l. markers_of g (numbered_from 0 h) ++ l) (marked (length h)))
       ∙ open_stretch-append (markers_of g (numbered_from 0 h)) (numbered_from (length h) begun) ∙ stretch_is (length h)
 
   begun_held : effects (h ++ begun) ≡ effects h
@@ -57,7 +61,9 @@ module _ (g : ℕ) (h : List BatchSteps) (is : List RegionStep) (seq : ℕ) (xs 
 
   -- the group is one effect behind all others
   pub row_effects : effects ((h ++ begun) ++ batch_with_marker js g End last ∷ []) ≡ effects h ++ group ∷ []
-  row_effects = effects_more (h ++ begun) (batch_with_marker js g End last) ∙ ap (λ l. l ++ completed_as End (open_stretch (markers_of g (numbered_from 0 (h ++ begun)))) closing) begun_held ∙ ap (λ l. effects h ++ completed_as End l closing) open_is
+  row_effects = effects_more (h ++ begun) (batch_with_marker js g End last)
+      ∙ ap (λ l. l ++ completed_as End (open_stretch (markers_of g (numbered_from 0 (h ++ begun)))) closing) begun_held
+      ∙ ap (λ l. effects h ++ completed_as End l closing) open_is
 
   -- apart from all of them
   pub row_apart : EachApart (effects h) → EachApart (effects ((h ++ begun) ++ batch_with_marker js g End last ∷ []))

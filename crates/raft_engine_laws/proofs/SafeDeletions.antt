@@ -20,7 +20,8 @@ use Rattle.raft_engine_laws.proofs.StopLemmas.{IsSplitAt, split_at, IsDeletedOrN
 lower_least : (queue : LogQueue) (m n : ℕ) (tables : Tables) → m ≤ n → AreLeastFrom queue n tables → AreLeastFrom queue m tables
 lower_least queue m n tables l low r seq e = let k : n ≤ seq = low r seq e in omega (arith, l, k)
 
-module _ (content : EntryIndex → List ℕ) (base : ℕ → Records) (appended rewritten : List Deed) (tables : Tables) (n : ℕ) (h : IsSafe content base appended rewritten [] tables) (append_synced : IsSynced appended) (rewrite_synced : IsSynced rewritten) where
+module _ (content : EntryIndex → List ℕ) (base : ℕ → Records) (appended rewritten : List Deed) (tables : Tables) (n : ℕ)
+    (h : IsSafe content base appended rewritten [] tables) (append_synced : IsSynced appended) (rewrite_synced : IsSynced rewritten) where
   abbrev all : List Event
   all = written appended
 
@@ -48,7 +49,8 @@ module _ (content : EntryIndex → List ℕ) (base : ℕ → Records) (appended 
   }
     where
       here : (i j : ℕ) → MayBeGone appended' i → MayBeGone rewritten' j → AreKept content (in_files_from i (written appended')) (in_files_from j (written rewritten')) [] tables
-      here i j g k = subst (λ l. AreKept content (in_files_from i l) (in_files_from j (written rewritten')) [] tables) (sym same_all) (subst (λ l. AreKept content (in_files_from i all) (in_files_from j l) [] tables) (sym same_moved) (kept i j g k))
+      here i j g k = subst (λ l. AreKept content (in_files_from i l) (in_files_from j (written rewritten')) [] tables) (sym same_all)
+          (subst (λ l. AreKept content (in_files_from i all) (in_files_from j l) [] tables) (sym same_moved) (kept i j g k))
 
   pub append_deleted : AreLeastFrom Append n tables → IsSafe content base (Delete n ∷ appended) rewritten [] tables
   append_deleted low = deletion (Delete n ∷ appended) rewritten refl refl append_synced rewrite_synced (λ i j g k. go i j k (deleted_or_not appended n i g))

@@ -95,7 +95,8 @@ all_held h [] opens = ap (λ l. effects (batches l)) (append-nil h)
 all_held h (e ∷ k) opens =
     ap (λ l. effects (batches l)) (sym (append_assoc h (e ∷ []) k)) ∙ all_held (h ++ e ∷ []) k opens.1 ∙ ap effects (batches-append h (e ∷ [])) ∙ effects_held (batches h) (batch_of e) opens.0
 
-module _ (content : EntryIndex → List ℕ) (base : ℕ → Records) (appended rewritten : List Deed) (tables new : Tables) (e : Event) (h : IsSafe content base appended rewritten [] tables) (next : IsNextIn Rewrite rewritten e) (synced : IsSynced appended) where
+module _ (content : EntryIndex → List ℕ) (base : ℕ → Records) (appended rewritten : List Deed) (tables new : Tables) (e : Event)
+    (h : IsSafe content base appended rewritten [] tables) (next : IsNextIn Rewrite rewritten e) (synced : IsSynced appended) where
   abbrev left_of : ℕ → List Event
   left_of n = in_files_from n (written rewritten)
 
@@ -121,7 +122,8 @@ module _ (content : EntryIndex → List ℕ) (base : ℕ → Records) (appended 
   again_safe plain moves is = moved_safe content base appended rewritten tables new e h next synced (λ n k. alone_apart (left_of n) e plain (there n k).apart)
       (λ n before put k read read_put r. subst (λ f. AreRecordsMoved content f (table_of r (finite.get tables r)) (table_of r (finite.get new r)) (table_of r (finite.get before r)) (table_of r (finite.get put r))) (sym file_is)
       (region_again content e.file.seq r tables new e.items (finite.get before r) (finite.get put r) (subst (λ f. MoveAgain content tables f e.items) file_is moves) is (sound n k r) (told n k before read r)
-      (read_on r (steps_of r (batches (left_of n))) (steps_on r (steps_of_items e.items)) (finite.get before r) (finite.get put r) (read.tables_read r) (sym (ap (after Rewrite r None) (plain_more r (left_of n) e plain)) ∙ read_put.tables_read r))))
+      (read_on r (steps_of r (batches (left_of n))) (steps_on r (steps_of_items e.items)) (finite.get before r) (finite.get put r)
+      (read.tables_read r) (sym (ap (after Rewrite r None) (plain_more r (left_of n) e plain)) ∙ read_put.tables_read r))))
 
   -- with a whole group
   module _ (earlier middles : List Event) (g : ℕ) (begin : Event) (all : written rewritten ≡ earlier ++ begin ∷ middles) (group : IsWholeGroup g begin middles e) (in_file : AreInFileOf e.file.seq (begin ∷ middles)) where

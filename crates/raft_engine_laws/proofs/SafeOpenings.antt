@@ -159,4 +159,6 @@ module _ (append rewrite : List Event) (found : Tables) (cleaned : List ℕ) (so
         where
           go : (others w : List Event) → (x : IsLeft (Write e ∷ Stop rewrite 0 ∷ []) others w) → (others ≡ rewrite) ⊎ (others ≡ rewrite ++ e ∷ []) → GoesOn append w (live content (base content) append)
           go others w x (inl s) = subst (λ l. GoesOn append l (live content (base content) append)) (sym (x.left ∙ all_left Rewrite (Write e ∷ Stop rewrite 0 ∷ []) rewrite others x.gone sound_rewrite.files refl x.may_go.at_most s)) as_found
-          go others w x (inr s) = subst (λ l. GoesOn append l (live content (base content) append)) (sym (x.left ∙ all_left Rewrite (Write e ∷ Stop rewrite 0 ∷ []) (rewrite ++ e ∷ []) others x.gone after_telling.rewrite_sound.files refl x.may_go.at_most s)) (as_kept (rewrite ++ e ∷ []) after_telling)
+          go others w x (inr s) = subst (λ l. GoesOn append l (live content (base content) append))
+              (sym (x.left ∙ all_left Rewrite (Write e ∷ Stop rewrite 0 ∷ []) (rewrite ++ e ∷ []) others x.gone after_telling.rewrite_sound.files refl
+              x.may_go.at_most s)) (as_kept (rewrite ++ e ∷ []) after_telling)

@@ -24,7 +24,8 @@ use Rattle.raft_engine_laws.proofs.RecordLemmas.{moved_have}
 use Rattle.raft_engine_laws.proofs.RewriteReadings.{reading_there}
 use Rattle.raft_engine_laws.proofs.StopLemmas.{from_more, last_low, whole_stands, gone_unwritten, synced_left, all_gone}
 
-module _ (content : EntryIndex → List ℕ) (base : ℕ → Records) (appended rewritten : List Deed) (untold : List RegionStep) (tables : Tables) (e : Event) (h : IsSafe content base appended rewritten untold tables) (next : IsNextIn Rewrite rewritten e) where
+module _ (content : EntryIndex → List ℕ) (base : ℕ → Records) (appended rewritten : List Deed) (untold : List RegionStep) (tables : Tables)
+    (e : Event) (h : IsSafe content base appended rewritten untold tables) (next : IsNextIn Rewrite rewritten e) where
   abbrev all : List Event
   all = written appended
 
@@ -56,7 +57,8 @@ module _ (content : EntryIndex → List ℕ) (base : ℕ → Records) (appended 
     left = λ standing append r rewrite x y. go standing append r rewrite x y y.stands;
   }
     where
-      go : (standing append r rewrite : List Event) → IsLeft appended standing append → (y : IsLeft (Write e ∷ rewritten) r rewrite) → MayStand rewritten r ⊎ (r ≡ moved ++ e ∷ []) → IsKeptWith content append rewrite (live content base standing)
+      go : (standing append r rewrite : List Event) → IsLeft appended standing append → (y : IsLeft (Write e ∷ rewritten) r rewrite) →
+          MayStand rewritten r ⊎ (r ≡ moved ++ e ∷ []) → IsKeptWith content append rewrite (live content base standing)
       go standing append r rewrite x y (inl s) = h.left standing append r rewrite x (record { stands = s; gone = y.gone; may_go = gone_unwritten rewritten e y.gone y.may_go; left = y.left })
       go standing append r rewrite x y (inr s) =
           let may_go = gone_unwritten rewritten e y.gone y.may_go in
@@ -94,7 +96,8 @@ module _ (content : EntryIndex → List ℕ) (base : ℕ → Records) (appended 
   told_safe synced plain others removals same = with_synced synced others tables h.has
       (λ m n g k. let a = h.kept m n g k in telling_kept content (in_files_from m all) (in_files_from n moved) untold tables e a (next_of n (alone_apart (in_files_from n moved) e plain a.apart)) plain others removals same)
 
-module _ (content : EntryIndex → List ℕ) (base : ℕ → Records) (appended rewritten : List Deed) (tables new : Tables) (e : Event) (h : IsSafe content base appended rewritten [] tables) (next : IsNextIn Rewrite rewritten e) (synced : IsSynced appended) where
+module _ (content : EntryIndex → List ℕ) (base : ℕ → Records) (appended rewritten : List Deed) (tables new : Tables) (e : Event)
+    (h : IsSafe content base appended rewritten [] tables) (next : IsNextIn Rewrite rewritten e) (synced : IsSynced appended) where
   abbrev left_of : ℕ → List Event
   left_of n = in_files_from n (written rewritten)
 
@@ -105,12 +108,14 @@ module _ (content : EntryIndex → List ℕ) (base : ℕ → Records) (appended 
       → IsSafe content base appended (Write e ∷ rewritten) [] new
   moved_safe apart moves = with_synced content base appended rewritten [] tables e h next synced [] new
       (λ r. let n = deleted rewritten in let a = reading_there (left_of n) in let b = reading_there (left_of n ++ e ∷ []) in
-      moved_have content e.file (table_of r (finite.get tables r)) (table_of r (finite.get new r)) (table_of r (finite.get a.0 r)) (table_of r (finite.get b.0 r)) (live content base (written appended) r) (moves n a.0 b.0 (all_gone rewritten) a.1 b.1 r) (h.has r))
+      moved_have content e.file (table_of r (finite.get tables r)) (table_of r (finite.get new r)) (table_of r (finite.get a.0 r))
+      (table_of r (finite.get b.0 r)) (live content base (written appended) r) (moves n a.0 b.0 (all_gone rewritten) a.1 b.1 r) (h.has r))
       (λ m n g k. let a = reading_there (left_of n) in let b = reading_there (left_of n ++ e ∷ []) in
       moved_kept content (in_files_from m (written appended)) (left_of n) tables new a.0 b.0 e (h.kept m n g k) (next_of content base appended rewritten [] tables e h next n (apart n k)) a.1 b.1 (moves n a.0 b.0 k a.1 b.1))
 
   -- a batch with copies of one region's records
-  pub moving_safe : HasNoMarker e → (gate id : ℕ) (t : Table) → finite.get tables id ≡ Some t → IsMovingBatch content gate id t e → after_items (Rewriting (Some gate) e.file.seq) tables e.items ≡ Some new → IsSafe content base appended (Write e ∷ rewritten) [] new
+  pub moving_safe : HasNoMarker e → (gate id : ℕ) (t : Table) → finite.get tables id ≡ Some t → IsMovingBatch content gate id t e →
+      after_items (Rewriting (Some gate) e.file.seq) tables e.items ≡ Some new → IsSafe content base appended (Write e ∷ rewritten) [] new
   moving_safe plain gate id t there batch is = with_synced content base appended rewritten [] tables e h next synced [] new
       (λ r. let m = deleted appended in let n = deleted rewritten in let a = h.kept m n (all_gone appended) (all_gone rewritten) in
       moved_have content _ _ _ _ _ (live content base (written appended) r) (moves content (in_files_from m (written appended)) (left_of n) tables new e a (next_there n a.apart) plain gate id t there batch is r) (h.has r))

@@ -47,12 +47,15 @@ module _ (content : EntryIndex → List ℕ) (base : ℕ → Records) (appended 
       rewrite_sorted = let p = stands_in_front rewritten r y.stands in files_front Rewrite 0 r p.0 (subst (FilesFrom Rewrite 0) p.1 h.rewrite_files)
 
       -- a restart goes on with it, also where contents are told otherwise from then on
-      pub restarted : (other : EntryIndex → List ℕ) (before : ℕ → Records) → HaveRecords other found (live other before standing) → IsSafe other before (Stop standing x.gone ∷ appended) (Stop r y.gone ∷ rewritten) (all_steps_of append) found
+      pub restarted : (other : EntryIndex → List ℕ) (before : ℕ → Records) → HaveRecords other found (live other before standing) →
+          IsSafe other before (Stop standing x.gone ∷ appended) (Stop r y.gone ∷ rewritten) (all_steps_of append) found
       restarted other before has = record {
         append_files = sorted;
         rewrite_files = rewrite_sorted;
         has = has;
-        kept = λ m n g k. so (in_files_from m standing) (in_files_from n r) (ap (λ i. in_files_from i standing) (just_gone appended standing x.gone m g) ∙ sym x.left) (ap (λ i. in_files_from i r) (just_gone rewritten r y.gone n k) ∙ sym y.left);
+        kept = λ m n g k. so (in_files_from m standing) (in_files_from n r)
+            (ap (λ i. in_files_from i standing) (just_gone appended standing x.gone m g) ∙ sym x.left)
+            (ap (λ i. in_files_from i r) (just_gone rewritten r y.gone n k) ∙ sym y.left);
         left = λ s a q w u v. record {
           untold = all_steps_of append;
           tables = found;
@@ -69,7 +72,8 @@ module _ (content : EntryIndex → List ℕ) (base : ℕ → Records) (appended 
       restarted_same = restarted content base nothing_lost
 
 -- what is safe loses nothing by a stop
-pub lose_nothing : (content : EntryIndex → List ℕ) (base : ℕ → Records) (appended rewritten : List Deed) (untold : List RegionStep) (tables : Tables) → IsSafe content base appended rewritten untold tables → LoseNothing content base appended rewritten
+pub lose_nothing : (content : EntryIndex → List ℕ) (base : ℕ → Records) (appended rewritten : List Deed) (untold : List RegionStep)
+    (tables : Tables) → IsSafe content base appended rewritten untold tables → LoseNothing content base appended rewritten
 lose_nothing content base appended rewritten untold tables h = record {
   readable = λ standing append others rewrite x y. (
     append_readable content base appended rewritten untold tables tables h standing append others rewrite x y,

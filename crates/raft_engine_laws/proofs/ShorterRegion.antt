@@ -43,7 +43,8 @@ module _ (content : EntryIndex → List ℕ) (id n : ℕ) (dropped later : List 
   split : (gone : Option Table) × (after Append id None dropped ≡ Some gone) × (after Append id gone later ≡ Some h.own)
   split = go (after Append id None dropped) refl (sym (after-append Append id None dropped later) ∙ h.read)
     where
-      go : (x : Option (Option Table)) → after Append id None dropped ≡ x → option_and_then (λ u. after Append id u later) x ≡ Some h.own → (gone : Option Table) × (after Append id None dropped ≡ Some gone) × (after Append id gone later ≡ Some h.own)
+      go : (x : Option (Option Table)) → after Append id None dropped ≡ x → option_and_then (λ u. after Append id u later) x ≡ Some h.own →
+          (gone : Option Table) × (after Append id None dropped ≡ Some gone) × (after Append id gone later ≡ Some h.own)
       go None e k = absurd cc
       go (Some u) e k = (u, e, k)
 
@@ -73,7 +74,9 @@ module _ (content : EntryIndex → List ℕ) (id n : ℕ) (dropped later : List 
   -- no entry of the first part has its place in the append queue
   first_none : placed_in Append front.0 ≡ []
   first_none =
-      sym (left_each (dropped ++ later) (placed_in Append front.0) (placed_such (λ i. is_index_spoken (dropped ++ later) i ≡ false) front.0 (moved_each content (λ i. is_index_spoken (dropped ++ later) i ≡ false) front.0 _ front.3 (each_left (dropped ++ later) h.seen))))
+      sym (left_each (dropped ++ later) (placed_in Append front.0)
+      (placed_such (λ i. is_index_spoken (dropped ++ later) i ≡ false) front.0
+      (moved_each content (λ i. is_index_spoken (dropped ++ later) i ≡ false) front.0 _ front.3 (each_left (dropped ++ later) h.seen))))
       ∙ no_front (unspoken (dropped ++ later) (placed_in Append front.0)) _ (sym (unspoken-append (dropped ++ later) (placed_in Append front.0) _) ∙ ap (unspoken (dropped ++ later)) (sym appended) ∙ h.spoken)
     where
       no_front : (a b : List EntryIndex) → a ++ b ≡ [] → a ≡ []
@@ -95,7 +98,10 @@ module _ (content : EntryIndex → List ℕ) (id n : ℕ) (dropped later : List 
   pub shorter_spoken : unspoken later (placed_in Append t.entries) ≡ []
   shorter_spoken =
       ap (unspoken later) (appended ∙ ap (λ l. l ++ (placed_in Append back.0 ++ placed_in Append back.1)) first_none ∙ ap (λ l. l ++ placed_in Append back.1) second_none)
-      ∙ gone_each later (placed_in Append back.1) (placed_such (λ i. is_index_spoken later i ≡ true) back.1 (moved_each content (λ i. is_index_spoken later i ≡ true) back.1 (table_of id alone.0).entries back.4 (each_gone later (table_of id alone.0).entries alone.2.spoken)))
+      ∙ gone_each later (placed_in Append back.1)
+      (placed_such (λ i. is_index_spoken later i ≡ true) back.1
+      (moved_each content (λ i. is_index_spoken later i ≡ true) back.1 (table_of id alone.0).entries back.4
+      (each_gone later (table_of id alone.0).entries alone.2.spoken)))
 
   -- ---- keys
 

@@ -47,7 +47,8 @@ unfolding in_files_from
 last_low q n s t [] f l = l
 last_low q n s t (e ∷ h) f l = go (keeps n e) (last_low q n e.file.seq e.file.seq h f.2 (omega arith)) (last_low q n s e.file.seq h f.2 (let k : t ≤ e.file.seq = f.1 in omega (arith, k, l)))
   where
-    go : (b : Bool) → last_from e.file.seq (filter (keeps n) h) ≤ last_from e.file.seq h → last_from s (filter (keeps n) h) ≤ last_from e.file.seq h → last_from s (cond b (e ∷ filter (keeps n) h) (filter (keeps n) h)) ≤ last_from e.file.seq h
+    go : (b : Bool) → last_from e.file.seq (filter (keeps n) h) ≤ last_from e.file.seq h → last_from s (filter (keeps n) h) ≤ last_from e.file.seq h →
+        last_from s (cond b (e ∷ filter (keeps n) h) (filter (keeps n) h)) ≤ last_from e.file.seq h
     go true a b = a
     go false a b = b
 

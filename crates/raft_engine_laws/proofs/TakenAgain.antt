@@ -40,7 +40,8 @@ entries_run r id e es items same =
 -- steps on another region, or of a key
 step_none : (r : ℕ) (s : RegionStep) (steps : List RegionStep) → run_of s.step ≡ [] → flat_map run_of (steps_on r (s ∷ steps)) ≡ flat_map run_of (steps_on r steps)
 step_none r s steps none = elim (by_region r s.region) [
-  | inl same ↦ ap (λ q. flat_map run_of (steps_on q (s ∷ steps))) same ∙ ap (λ (l : List Step). flat_map run_of l) (own_head s steps) ∙ ap (λ (l : List EntryIndex). l ++ flat_map run_of (steps_on s.region steps)) none ∙ ap (λ q. flat_map run_of (steps_on q steps)) (sym same)
+  | inl same ↦ ap (λ q. flat_map run_of (steps_on q (s ∷ steps))) same ∙ ap (λ (l : List Step). flat_map run_of l) (own_head s steps)
+      ∙ ap (λ (l : List EntryIndex). l ++ flat_map run_of (steps_on s.region steps)) none ∙ ap (λ q. flat_map run_of (steps_on q steps)) (sym same)
   | inr other ↦ ap (λ (l : List Step). flat_map run_of l) (own_other r s steps other.0)
 ]
 

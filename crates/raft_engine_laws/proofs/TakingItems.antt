@@ -46,9 +46,13 @@ module _ (tables : Tables) where
       go None k true l ih = ap (λ o. with_step item.raft_group_id o (steps_of_items (taking_items tables items))) k ∙ ih
       go None k false l ih = ih
       go (Some s) k true l ih = ap (λ o. with_step item.raft_group_id o (steps_of_items (taking_items tables items))) k ∙ ap (λ l. record { region = item.raft_group_id; step = s } ∷ l) ih
-          ∙ ap (λ c. cond c (record { region = item.raft_group_id; step = s } ∷ taking_steps tables (steps_of_items items)) (taking_steps tables (steps_of_items items))) (sym (word (end_of (table_of item.raft_group_id (finite.get tables item.raft_group_id)).entries) item.content s k ∙ l))
+          ∙ ap (λ c. cond c (record { region = item.raft_group_id; step = s } ∷ taking_steps tables (steps_of_items items))
+          (taking_steps tables (steps_of_items items)))
+          (sym (word (end_of (table_of item.raft_group_id (finite.get tables item.raft_group_id)).entries) item.content s k ∙ l))
       go (Some s) k false l ih = ih
-          ∙ ap (λ c. cond c (record { region = item.raft_group_id; step = s } ∷ taking_steps tables (steps_of_items items)) (taking_steps tables (steps_of_items items))) (sym (word (end_of (table_of item.raft_group_id (finite.get tables item.raft_group_id)).entries) item.content s k ∙ l))
+          ∙ ap (λ c. cond c (record { region = item.raft_group_id; step = s } ∷ taking_steps tables (steps_of_items items))
+          (taking_steps tables (steps_of_items items)))
+          (sym (word (end_of (table_of item.raft_group_id (finite.get tables item.raft_group_id)).entries) item.content s k ∙ l))
 
   -- what is told of the items that take something away
   pub taking_told : (items : List Item) (r : ℕ) → SayTheSame (steps_on r (steps_of_items (told_items (taking_items tables items)))) (steps_on r (taking_steps tables (steps_of_items items)))
@@ -72,9 +76,14 @@ module _ (tables : Tables) where
     pub placed_same : (items : List Item) → told_items (taking_items tables (map (placed_item place compression) items)) ≡ told_items (taking_items tables items)
     placed_same [] = refl
     placed_same (item ∷ items) =
-        ap (λ b. told_items (cond b (placed_item place compression item ∷ (taking_items tables (map (placed_item place compression) items))) (taking_items tables (map (placed_item place compression) items)))) (placed_takes (end_of (table_of item.raft_group_id (finite.get tables item.raft_group_id)).entries) item.content)
+        ap (λ b. told_items (cond b (placed_item place compression item ∷ (taking_items tables (map (placed_item place compression) items)))
+        (taking_items tables (map (placed_item place compression) items))))
+        (placed_takes (end_of (table_of item.raft_group_id (finite.get tables item.raft_group_id)).entries) item.content)
         ∙ go (item_takes_from tables item) (placed_same items)
       where
-        go : (b : Bool) → told_items (taking_items tables (map (placed_item place compression) items)) ≡ told_items (taking_items tables items) → told_items (cond b (placed_item place compression item ∷ (taking_items tables (map (placed_item place compression) items))) (taking_items tables (map (placed_item place compression) items))) ≡ told_items (cond b (item ∷ taking_items tables items) (taking_items tables items))
+        go : (b : Bool) → told_items (taking_items tables (map (placed_item place compression) items)) ≡ told_items (taking_items tables items) →
+            told_items (cond b (placed_item place compression item ∷ (taking_items tables (map (placed_item place compression) items)))
+            (taking_items tables (map (placed_item place compression) items))) ≡ told_items
+            (cond b (item ∷ taking_items tables items) (taking_items tables items))
         go true ih = ap (λ l. l ++ told_items (taking_items tables (map (placed_item place compression) items))) (placed_told item.raft_group_id item.content) ∙ ap (λ l. told_of item.raft_group_id item.content ++ l) ih
         go false ih = ih

@@ -128,7 +128,8 @@ steps_away (item ∷ items) h = go (content_step item.content) (one item.content
         at true e = absurd (none_some e)
         at false e = subst IsRemoval (some_is e) tt
 
-    go : (o : Option Step) → ((s : Step) → o ≡ Some s → IsRemoval s) → AllByRecursion (λ (i : RegionStep). IsRemoval i.step) (steps_of_items items) → AllByRecursion (λ (i : RegionStep). IsRemoval i.step) (with_step item.raft_group_id o (steps_of_items items))
+    go : (o : Option Step) → ((s : Step) → o ≡ Some s → IsRemoval s) → AllByRecursion (λ (i : RegionStep). IsRemoval i.step) (steps_of_items items) →
+        AllByRecursion (λ (i : RegionStep). IsRemoval i.step) (with_step item.raft_group_id o (steps_of_items items))
     go None h rest = rest
     go (Some s) h rest = (h s refl, rest)
 

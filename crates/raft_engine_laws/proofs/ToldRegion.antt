@@ -89,7 +89,9 @@ module _ (content : EntryIndex → List ℕ) (id : ℕ) (kept untold : List Step
     seen = h.seen;
     over = h.over;
     moved = h.moved;
-    told = ap (unspoken left) (removals_entries Rewrite id rewritten after_all told removals is) ∙ unspoken-steps told left (table_of id rewritten).entries ∙ unspoken_same (told ++ left) untold (table_of id rewritten).entries same.indexes ∙ h.told;
+    told = ap (unspoken left) (removals_entries Rewrite id rewritten after_all told removals is)
+        ∙ unspoken-steps told left (table_of id rewritten).entries ∙ unspoken_same (told ++ left) untold (table_of id rewritten).entries same.indexes
+        ∙ h.told;
     covers = λ i k. h.covers i (sym (same.indexes i) ∙ spoken-append told left i ∙ or_later (is_index_spoken told i) (is_index_spoken left i) k);
     spoken = h.spoken;
     pair_moved = h.pair_moved;

@@ -117,8 +117,12 @@ module _ (content : EntryIndex → List ℕ) (id : ℕ) (kept untold : List Step
     own = own_taken.0;
     read = after-append Append id None kept (s ∷ []) ∙ ap (option_and_then (λ u. after Append id u (s ∷ []))) h.read ∙ ap (option_and_then (λ u. after Append id u [])) own_taken.1;
     seen = unspoken (s ∷ []) h.seen ++ put_by s;
-    over = subst (λ l. IsOver (kept ++ s ∷ []) l (unspoken (s ∷ []) h.seen ++ put_by s)) (sym (entries_after id (table_of id h.own) own_taken.0 s own_taken.1)) (over_one kept s (table_of id h.own).entries h.seen (put_by s) h.over (put_spoken s good));
-    moved = subst (λ l. AreMoved content l (unspoken (s ∷ []) h.seen ++ put_by s)) (sym es_are) (moved-append content (unspoken (s ∷ []) t.entries) (unspoken (s ∷ []) h.seen) (put_by s) (put_by s) (moved_left content (s ∷ []) t.entries h.seen h.moved) (moved_self content (put_by s)));
+    over = subst (λ l. IsOver (kept ++ s ∷ []) l (unspoken (s ∷ []) h.seen ++ put_by s))
+        (sym (entries_after id (table_of id h.own) own_taken.0 s own_taken.1))
+        (over_one kept s (table_of id h.own).entries h.seen (put_by s) h.over (put_spoken s good));
+    moved = subst (λ l. AreMoved content l (unspoken (s ∷ []) h.seen ++ put_by s)) (sym es_are)
+        (moved-append content (unspoken (s ∷ []) t.entries) (unspoken (s ∷ []) h.seen) (put_by s) (put_by s)
+        (moved_left content (s ∷ []) t.entries h.seen h.moved) (moved_self content (put_by s)));
     told = unspoken_more untold rewritten.entries ∙ ap (unspoken (s ∷ [])) h.told ∙ sym rewritten_part;
     covers = λ i k. both_more (λ x. speaks_of_index i x) (h.covers i) k;
     spoken = appended_part;

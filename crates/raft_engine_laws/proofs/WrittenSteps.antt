@@ -34,7 +34,9 @@ pub read_again : (t : Table) (v : Option Table) (s : Step) → after_write t s �
 read_again t v (Run []) is = (is, tt)
 read_again t v (Run (e ∷ run)) is = go (starts_in_front t.entries e.index) (leaves_hole t.entries e.index) refl is
   where
-    go : (a b : Bool) → leaves_hole t.entries e.index ≡ b → option_map Some (option_map {U = Table} (λ es. record t { entries = es }) (cond (a || b) None (Some (below e.index t.entries ++ e ∷ run)))) ≡ Some v → (after_step Append t (Run (e ∷ run)) ≡ Some v) × (leaves_hole t.entries e.index ≡ false)
+    go : (a b : Bool) → leaves_hole t.entries e.index ≡ b →
+        option_map Some (option_map {U = Table} (λ es. record t { entries = es }) (cond (a || b) None (Some (below e.index t.entries ++ e ∷ run)))) ≡
+        Some v → (after_step Append t (Run (e ∷ run)) ≡ Some v) × (leaves_hole t.entries e.index ≡ false)
     go true b h k = absurd cc
     go false true h k = absurd cc
     go false false h k = (ap (λ b. option_map Some (option_map {U = Table} (λ es. record t { entries = es }) (cond b None (Some (below e.index t.entries ++ e ∷ run))))) h ∙ k, h)

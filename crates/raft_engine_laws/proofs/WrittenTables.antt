@@ -62,7 +62,9 @@ write_sound id t v (Run (e ∷ run)) h mine is = go (starts_in_front t.entries e
     low : AreTableEntries (below e.index t.entries)
     low = below_sound e.index t.entries h
 
-    go : (a b : Bool) → leaves_hole t.entries e.index ≡ b → option_map Some (option_map {U = Table} (λ es. record t { entries = es }) (cond (a || b) None (Some (below e.index t.entries ++ e ∷ run)))) ≡ Some v → AreTableEntries (table_of id v).entries
+    go : (a b : Bool) → leaves_hole t.entries e.index ≡ b →
+        option_map Some (option_map {U = Table} (λ es. record t { entries = es }) (cond (a || b) None (Some (below e.index t.entries ++ e ∷ run)))) ≡
+        Some v → AreTableEntries (table_of id v).entries
     go true b k is = absurd cc
     go false true k is = absurd cc
     go false false k is = subst (λ (u : Option Table). AreTableEntries (table_of id u).entries) (same_some _ v is) (record {
@@ -80,10 +82,13 @@ write_sound id t v (AtomicGroup a b) h mine is = subst (λ (u : Option Table). A
 write_sound id t v Clean h mine is = subst (λ (u : Option Table). AreTableEntries (table_of id u).entries) (same_some None v is) AreTableEntries-nil
 
 -- many steps
-pub writes_kept : (content : EntryIndex → List ℕ) (id : ℕ) (kept untold : List Step) (rewritten : Table) (o v : Option Table) (ss : List Step) → IsRegionKept content id kept untold rewritten (table_of id o) → AreSteps ss → AllByRecursion (IsStepOfQueue Append) ss
+pub writes_kept : (content : EntryIndex → List ℕ) (id : ℕ) (kept untold : List Step) (rewritten : Table) (o v : Option Table) (ss : List Step) →
+    IsRegionKept content id kept untold rewritten (table_of id o) → AreSteps ss → AllByRecursion (IsStepOfQueue Append) ss
     → after_writes id o ss ≡ Some v → IsRegionKept content id (kept ++ ss) (untold ++ ss) rewritten (table_of id v)
 writes_kept content id kept untold rewritten o v [] h good mine is =
-    subst (λ l. IsRegionKept content id l (untold ++ []) rewritten (table_of id v)) (sym (append-nil kept)) (subst (λ l. IsRegionKept content id kept l rewritten (table_of id v)) (sym (append-nil untold)) (subst (λ (u : Option Table). IsRegionKept content id kept untold rewritten (table_of id u)) (same_some o v is) h))
+    subst (λ l. IsRegionKept content id l (untold ++ []) rewritten (table_of id v)) (sym (append-nil kept))
+    (subst (λ l. IsRegionKept content id kept l rewritten (table_of id v)) (sym (append-nil untold))
+    (subst (λ (u : Option Table). IsRegionKept content id kept untold rewritten (table_of id u)) (same_some o v is) h))
 writes_kept content id kept untold rewritten o v (s ∷ ss) h good mine is = go (λ kept untold u h k. writes_kept content id kept untold rewritten u v ss h good.1 mine.1 k) (after_write (table_of id o) s) refl is
   where
     go : ((kept untold : List Step) (u : Option Table) → IsRegionKept content id kept untold rewritten (table_of id u) → after_writes id u ss ≡ Some v → IsRegionKept content id (kept ++ ss) (untold ++ ss) rewritten (table_of id v))
@@ -102,7 +107,9 @@ tables_written tables [] = Some tables
 tables_written tables (s ∷ steps) = option_and_then (λ t. tables_written (with_table tables s.region t) steps) (after_write (table_of s.region (finite.get tables s.region)) s.step)
 
 module _ (m n : Tables) (id : ℕ) (rest : List RegionStep) (later : Tables → Option Tables) (h : (k : Tables) → later k ≡ Some n → tables_written k rest ≡ Some n) where
-  pair-written : (op : OpType) (key : List ℕ) (value : Option (List ℕ)) (file : Option FileId) → option_and_then (λ t. later (with_table m id t)) (option_map Some (after_pair (table_of id (finite.get m id)) op key value file)) ≡ Some n → tables_written m (with_step id (pair_step op key value file) rest) ≡ Some n
+  pair-written : (op : OpType) (key : List ℕ) (value : Option (List ℕ)) (file : Option FileId) →
+      option_and_then (λ t. later (with_table m id t)) (option_map Some (after_pair (table_of id (finite.get m id)) op key value file)) ≡ Some n →
+      tables_written m (with_step id (pair_step op key value file) rest) ≡ Some n
   pair-written operations.Put key (Some value) (Some file) e = h _ e
   pair-written operations.Put key (Some value) None e = absurd (none_some e)
   pair-written operations.Put key None file e = absurd (none_some e)
@@ -110,7 +117,8 @@ module _ (m n : Tables) (id : ℕ) (rest : List RegionStep) (later : Tables → 
 
   content-written : (content : Content) → option_and_then (λ t. later (with_table m id t)) (after_content Appending id (finite.get m id) content) ≡ Some n → tables_written m (with_step id (content_step content) rest) ≡ Some n
   content-written (entries es) e =
-      elim (after_append (table_of id (finite.get m id)) es) as (λ o. option_and_then (λ t. later (with_table m id t)) (option_map Some o) ≡ Some n → option_and_then (λ t. tables_written (with_table m id t) rest) (option_map Some o) ≡ Some n) [
+      elim (after_append (table_of id (finite.get m id)) es) as (λ o. option_and_then (λ t. later (with_table m id t)) (option_map Some o) ≡ Some n →
+      option_and_then (λ t. tables_written (with_table m id t) rest) (option_map Some o) ≡ Some n) [
         | None ↦ λ e. absurd (none_some e)
         | Some t ↦ λ e. h _ e
       ] e
@@ -118,7 +126,9 @@ module _ (m n : Tables) (id : ℕ) (rest : List RegionStep) (later : Tables → 
   content-written (command (commands.Compact i)) e = h _ e
   content-written (command (commands.Truncate i)) e = h _ e
   content-written (pair p) e =
-      elim (is_reserved p.key) as (λ b. option_and_then (λ t. later (with_table m id t)) (if b then Some (finite.get m id) else option_map Some (with_change Appending (table_of id (finite.get m id)) p)) ≡ Some n → tables_written m (with_step id (if b then None else pair_step p.op_type p.key p.value p.file_id) rest) ≡ Some n) [
+      elim (is_reserved p.key) as (λ b. option_and_then (λ t. later (with_table m id t))
+      (if b then Some (finite.get m id) else option_map Some (with_change Appending (table_of id (finite.get m id)) p)) ≡ Some n →
+      tables_written m (with_step id (if b then None else pair_step p.op_type p.key p.value p.file_id) rest) ≡ Some n) [
         | true ↦ λ e. h m (subst (λ k. later k ≡ Some n) (with_same m id) e)
         | false ↦ λ e. pair-written p.op_type p.key p.value p.file_id e
       ] e
@@ -139,7 +149,9 @@ written_by_region m n (s ∷ steps) e r = go (λ k e. written_by_region k n step
     go rest (Some u) k e = elim (by_region r s.region) [
       | inl same ↦ subst (λ q. after_writes q (finite.get m q) (steps_on q (s ∷ steps)) ≡ Some (finite.get n q)) (sym same)
           (ap (after_writes s.region (finite.get m s.region)) (own_head s steps) ∙ ap (option_and_then (λ u. after_writes s.region u (steps_on s.region steps))) k
-          ∙ subst (λ o. after_writes s.region o (steps_on s.region steps) ≡ Some (finite.get n s.region)) (with_own m s.region u) (subst (λ q. after_writes q (finite.get (with_table m s.region u) q) (steps_on q steps) ≡ Some (finite.get n q)) same (rest (with_table m s.region u) e)))
+          ∙ subst (λ o. after_writes s.region o (steps_on s.region steps) ≡ Some (finite.get n s.region)) (with_own m s.region u)
+          (subst (λ q. after_writes q (finite.get (with_table m s.region u) q) (steps_on q steps) ≡ Some (finite.get n q)) same
+          (rest (with_table m s.region u) e)))
       | inr other ↦ ap (after_writes r (finite.get m r)) (own_other r s steps other.0) ∙ subst (λ o. after_writes r o (steps_on r steps) ≡ Some (finite.get n r)) (with_other m s.region r u other.1) (rest (with_table m s.region u) e)
     ]
 

@@ -1,10 +1,14 @@
 //! Rewritten records that move to a new file of the rewrite queue, and rewrite files that no table needs.
 
-ghost use Rattle.std.specs.Prelude.{◌≡◌, IfErr, IfOk, OnErr, OnOk, true};
+ghost use Rattle.std.specs.Prelude.{◌≡◌, [], ◌∷◌, ◌++◌, IfErr, IfOk, OnErr, OnOk, true};
 ghost use Rattle.raft_base.specs.declared.pipe_log.LogQueue.TheVariants.{Rewrite};
+ghost use Rattle.raft_files.specs.Asks.{Sync, ask};
+ghost use Rattle.raft_engine.specs.Faults.{Breaks, IsPurgeFault};
 ghost use Rattle.raft_engine.specs.Moved.{IsReady};
 ghost use Rattle.raft_engine.specs.MovedAgain.{AreMovedAgain, AreUnmovedAgain, IsRewriteRotated, IsRewriteUnrotated};
-ghost use Rattle.raft_engine.specs.Purged.{AreExpired};
+ghost use Rattle.raft_engine.specs.MovingFaults.{IsAgainFault, IsRewriteRotationFault};
+ghost use Rattle.raft_engine.specs.OpeningAsks.{FailsAmong};
+ghost use Rattle.raft_engine.specs.Purged.{AreExpired, delete_asks};
 ghost use Rattle.raft_engine.specs.PurgedRewrites.{AreRewritesDeleted, AreRewritesHalfDeleted, AreRewritesPurged, AreRewritesUnpurged};
 
 use super::Engine;
@@ -35,6 +39,8 @@ impl<F: EngineFiles> Engine<F> {
         ensures ok { OnOk result (AreMovedAgain self.old self.new) }
         ensures accepted { OnOk result (self.old.intact ≡ true) }
         ensures err { IfErr result (AreUnmovedAgain self.old self.new) }
+        ensures fault { IfErr result (λ e. Breaks self.old self.new
+            → IsAgainFault F.may_fail self.old self.new e) }
     {
         if !self.intact {
             return Err(Error::Failed);
@@ -55,6 +61,8 @@ impl<F: EngineFiles> Engine<F> {
         requires { self.old.intact ≡ true }
         ensures ok { OnOk result (IsRewriteRotated self.old self.new) }
         ensures err { IfErr result (IsRewriteUnrotated self.old self.new) }
+        ensures fault { IfErr result (λ e. Breaks self.old self.new
+            → IsRewriteRotationFault F.may_fail self.old self.new e) }
     {
         asks_are_stored();
         if self.rewrite.seq == FileSeq::MAX {
@@ -84,6 +92,8 @@ impl<F: EngineFiles> Engine<F> {
         ensures ok { IfOk result (λ count. AreRewritesPurged count self.old self.new) }
         ensures accepted { OnOk result (self.old.intact ≡ true) }
         ensures err { IfErr result (AreRewritesUnpurged self.old self.new) }
+        ensures fault { IfErr result (λ e. Breaks self.old self.new
+            → IsPurgeFault F.may_fail Rewrite self.old self.new e) }
     {
         if !self.intact {
             return Err(Error::Failed);
@@ -108,6 +118,8 @@ impl<F: EngineFiles> Engine<F> {
         requires expired { AreExpired Rewrite self.old count }
         ensures ok { OnOk result (AreRewritesDeleted count self.old self.new) }
         ensures err { OnErr result (AreRewritesHalfDeleted count self.old self.new) }
+        ensures fault { IfErr result (FailsAmong F.may_fail (delete_asks Rewrite count ++ ask Rewrite Sync ∷ [])
+            self.old.asks self.new.asks) }
     {
         rewrite_files_may_go();
         asks_are_stored();

@@ -4,8 +4,10 @@ ghost use Rattle.std.specs.Prelude.{◌≡◌, ◌⊎◌, ◌↔◌, IfErr, IfOk
 ghost use Rattle.std.specs.FinMap as finite;
 ghost use Rattle.raft_accessor.specs.Writes.{AreWritten, Rewriting};
 ghost use Rattle.raft_engine.specs.GroupPlaces.{items_of_batches};
+ghost use Rattle.raft_engine.specs.Faults.{Breaks};
 ghost use Rattle.raft_engine.specs.Moved.{IsReady};
 ghost use Rattle.raft_engine.specs.MovedGroups.{AreRegionsMovedAgain, AreSomeRegionsMovedAgain, IsGroupMoved, IsGroupUnmoved, IsOnePartOf, IsRegionMovedAgain, IsRegionUnmovedAgain};
+ghost use Rattle.raft_engine.specs.MovingFaults.{FailsBehind, IsItemRefusal};
 ghost use Rattle.raft_engine.specs.WrittenBatch.{AreFirstWritten};
 
 use super::Engine;
@@ -32,6 +34,8 @@ impl<F: EngineFiles> Engine<F> {
         requires { IsReady self.old }
         ensures ok { OnOk result (AreRegionsMovedAgain regions.now self.old self.new) }
         ensures err { IfErr result (AreSomeRegionsMovedAgain regions.now self.old self.new) }
+        ensures fault { IfErr result (λ e. Breaks self.old self.new
+            → FailsBehind F.may_fail IsItemRefusal self.old.asks self.new.asks e) }
     {
         for region in regions {
             self.move_region_again(*region)?;
@@ -49,6 +53,8 @@ impl<F: EngineFiles> Engine<F> {
         requires { IsReady self.old }
         ensures ok { OnOk result (IsRegionMovedAgain region self.old self.new) }
         ensures err { IfErr result (IsRegionUnmovedAgain region self.old self.new) }
+        ensures fault { IfErr result (λ e. Breaks self.old self.new
+            → FailsBehind F.may_fail IsItemRefusal self.old.asks self.new.asks e) }
     {
         if self.is_one_part(region)? {
             return self.rewrite_region(region, None);
@@ -87,6 +93,8 @@ impl<F: EngineFiles> Engine<F> {
         ensures ok { OnOk result (((finite.get self.old.accessor.tables region ≡ None) × (self.new ≡ self.old))
             ⊎ IsGroupMoved region self.old self.new) }
         ensures err { IfErr result (IsGroupUnmoved region self.old self.new) }
+        ensures fault { IfErr result (λ e. Breaks self.old self.new
+            → FailsBehind F.may_fail IsItemRefusal self.old.asks self.new.asks e) }
     {
         moves_are_stored();
         moved_groups_are_stored();
@@ -118,6 +126,7 @@ fn rewrite_all(accessor: &mut MemTableAccessor, batches: Vec<LogBatch>, seq: Fil
         accessor.old accessor.new) }
     ensures err { OnErr result (AreFirstWritten (Rewriting None seq)
         (items_of_batches batches.items) accessor.old accessor.new) }
+    ensures fault { IfErr result IsItemRefusal }
 {
     for batch in batches {
         let mut batch = batch;

@@ -3,8 +3,10 @@
 ghost use Rattle.std.specs.Prelude.{◌≡◌, IfErr, OnErr, OnOk, true};
 ghost use Rattle.raft_records.specs.LogBatch.{empty_batch};
 ghost use Rattle.raft_accessor.specs.Writes.{AreWritten, Rewriting};
+ghost use Rattle.raft_engine.specs.Faults.{Breaks, IsTellingFault};
 ghost use Rattle.raft_engine.specs.Moved.{AreRegionsRewritten, AreSomeRewritten, IsReady, IsRegionRewritten, IsRegionUnmoved, IsRewritten, IsTold, IsUnrewritten, IsUntold};
-ghost use Rattle.raft_engine.specs.WrittenBatch.{AreFirstWritten};
+ghost use Rattle.raft_engine.specs.MovingFaults.{AreTaken, FailsBehind, IsItemRefusal, IsRewritingFault, IsUntaken};
+ghost use Rattle.raft_engine.specs.WrittenBatch.{AreFirstWritten, LacksRoom};
 
 use super::Engine;
 use crate::limits::LAST_OFFSET;
@@ -36,6 +38,8 @@ impl<F: EngineFiles> Engine<F> {
         ensures ok { OnOk result (IsRewritten gate self.old self.new) }
         ensures accepted { OnOk result (self.old.intact ≡ true) }
         ensures err { IfErr result (IsUnrewritten gate self.old self.new) }
+        ensures fault { IfErr result (λ e. Breaks self.old self.new
+            → IsRewritingFault F.may_fail self.old self.new e) }
     {
         if !self.intact {
             return Err(Error::Failed);
@@ -54,6 +58,8 @@ impl<F: EngineFiles> Engine<F> {
         requires { IsReady self.old }
         ensures ok { OnOk result (AreRegionsRewritten gate regions.now self.old self.new) }
         ensures err { IfErr result (AreSomeRewritten gate regions.now self.old self.new) }
+        ensures fault { IfErr result (λ e. Breaks self.old self.new
+            → FailsBehind F.may_fail (IsUntaken gate) self.old.asks self.new.asks e) }
     {
         for region in regions {
             self.rewrite_region(*region, gate)?;
@@ -71,6 +77,8 @@ impl<F: EngineFiles> Engine<F> {
         ensures ok { OnOk result (IsTold self.old self.new) }
         ensures accepted { OnOk result (self.old.intact ≡ true) }
         ensures err { IfErr result (IsUntold self.old self.new) }
+        ensures fault { IfErr result (λ e. Breaks self.old self.new
+            → IsTellingFault F.may_fail self.old self.new e) }
     {
         asks_are_stored();
         self.untold.is_read_again();
@@ -113,6 +121,8 @@ impl<F: EngineFiles> Engine<F> {
         requires { IsReady self.old }
         ensures ok { OnOk result (IsRegionRewritten gate region self.old self.new) }
         ensures err { IfErr result (IsRegionUnmoved gate region self.old self.new) }
+        ensures fault { IfErr result (λ e. Breaks self.old self.new
+            → FailsBehind F.may_fail (IsUntaken gate) self.old.asks self.new.asks e) }
     {
         moves_are_stored();
         batches_are_read_back();
@@ -158,6 +168,8 @@ pub(super) fn rewrite_items(
         (AreWritten (Rewriting gate seq) batch.old.items accessor.old accessor.new) }
     ensures err { OnErr result
         (AreFirstWritten (Rewriting gate seq) batch.old.items accessor.old accessor.new) }
+    ensures fault { IfErr result IsItemRefusal }
+    ensures room { AreTaken gate seq accessor.old.tables batch.old.items → IfErr result LacksRoom }
     ensures emptied { batch.new ≡ empty_batch }
 {
     accessor.apply_rewrite_writes(batch.drain(), gate, seq)

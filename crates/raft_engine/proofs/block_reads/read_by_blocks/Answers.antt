@@ -27,4 +27,5 @@ pub loop-entry-preserved : goal.loop-entry-preserved
 loop-entry-preserved g c =
     let less : c.loop-entry.entry-index < length c.args.entries.now = search rules in
     let n = block_at c.loop-entry.entry-index c.args.entries.now _ c.loop-entry.strings.items c.loop-entry.last c.in_ok-block.block _ _ _ c.loop-entry.invariant c.in_ok-block.ensures.ok in
-    bytes_at c.loop-entry.entry-index c.args.entries.now _ c.loop-entry.strings.items c.push.new.self.items c.in_ok-bytes_in.field-0 c.in_ok-block.block _ _ _ less n c.as_slice.ensures.value c.in_ok-bytes_in.ensures.ok c.in_ok-push.ensures.items
+    bytes_at c.loop-entry.entry-index c.args.entries.now _ c.loop-entry.strings.items c.push.new.self.items c.in_ok-bytes_in.field-0
+    c.in_ok-block.block _ _ _ less n c.as_slice.ensures.value c.in_ok-bytes_in.ensures.ok c.in_ok-push.ensures.items

@@ -31,5 +31,6 @@ returns-clause-err g c =
     let r = c.args.reading.now in
     let am : List Ask = missing_asks Append r.append_missing in
     let rm : List Ask = missing_asks Rewrite r.rewrite_missing in
-    some_failed (g.F.EngineFiles.may_fail) c.tell.result (asks_that_tell c.args.version r.rewrite.seq r.told r.told.items) (rm ++ am) (g.F.EngineFiles.asked c.args.files.now) (g.F.EngineFiles.asked c.ask-2.new.files) (g.F.EngineFiles.asked c.tell.new.files)
+    some_failed (g.F.EngineFiles.may_fail) c.tell.result (asks_that_tell c.args.version r.rewrite.seq r.told r.told.items) (rm ++ am)
+    (g.F.EngineFiles.asked c.args.files.now) (g.F.EngineFiles.asked c.ask-2.new.files) (g.F.EngineFiles.asked c.tell.new.files)
     (c.in_ok-ask-2.ensures.ok ∙ ap (λ (l : List Ask). rm ++ l) c.in_ok-ask.ensures.ok ∙ sym (append_assoc rm am (g.F.EngineFiles.asked c.args.files.now))) c.tell.ensures.err

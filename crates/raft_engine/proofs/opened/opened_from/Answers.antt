@@ -13,7 +13,9 @@ returns-in_err-complete-clause-err g c =
     let later : List Ask = g.F.EngineFiles.asked c.complete.new.files in
     let p = err_from_is_err_and c.from_residual.result c.from_residual.ensures.1 in
     rw (p.1, p.2)
-    (λ append rewrite asked found. half_opened c.found_files_are_stored.ensures.ready c.found_files_are_stored.ensures.stored c.found_files_are_stored.ensures.records c.args.version append rewrite c.args.reading found (g.F.EngineFiles.may_fail) later c.in_err-complete.field-0.0
+    (λ append rewrite asked found. half_opened c.found_files_are_stored.ensures.ready c.found_files_are_stored.ensures.stored
+    c.found_files_are_stored.ensures.records c.args.version append rewrite c.args.reading found (g.F.EngineFiles.may_fail) later
+    c.in_err-complete.field-0.0
     (subst (λ (l : List Ask). FailsAmong (g.F.EngineFiles.may_fail) (reading_asks c.args.version c.args.reading) l later c.in_err-complete.field-0.0) asked c.in_err-complete.ensures.err))
 
 pub returns-clause-ok : goal.returns-clause-ok

@@ -16,7 +16,9 @@ returns-in_err-put-clause-err g c =
     let some : r.told.items ≢ [] = search rules in
     let p = err_from_is_err_and c.from_residual.result c.from_residual.ensures.1 in
     rw (p.1, p.2)
-    (put_failed (g.F.EngineFiles.may_fail) c.args.version r.rewrite.seq r.told (g.F.EngineFiles.asked c.args.files.now) (g.F.EngineFiles.asked c.put.new.files) (ask c.new-file.result.id.queue (Put (bytes_for c.new-file.result r.told))) _ some put c.in_err-put.ensures.err c.in_err-put.ensures.fault)
+    (put_failed (g.F.EngineFiles.may_fail) c.args.version r.rewrite.seq r.told (g.F.EngineFiles.asked c.args.files.now)
+    (g.F.EngineFiles.asked c.put.new.files) (ask c.new-file.result.id.queue (Put (bytes_for c.new-file.result r.told))) _ some put
+    c.in_err-put.ensures.err c.in_err-put.ensures.fault)
 
 pub returns-clause-ok : goal.returns-clause-ok
 returns-clause-ok g c =

@@ -15,16 +15,23 @@ returns-clause-ok c =
     let append = map file_shown c.args.append.items in
     let rewrite = map file_shown c.args.rewrite.items in
     let rows : AreInRows (SegmentsHold c.in_ok-rewrite_segments.rewrite_segments.items) = subst (λ (l : List (Vec Part Global)). AreInRows (SegmentsHold l)) c.as_slice.ensures.value c.in_ok-check_groups.ensures.ok in
-    let told : IsToldAtOpening (SegmentsHold c.in_ok-append_segments.append_segments.items) c.in_ok-accessor.accessor.tables c.in_ok-told.told = subst (λ (l : List (Vec Part Global)). IsToldAtOpening (SegmentsHold l) c.in_ok-accessor.accessor.tables c.in_ok-told.told) c.as_slice-2.ensures.value c.in_ok-told.ensures.ok in
-    let older = rewrite_replayed c.args.version append rewrite c.args.appended c.args.rewritten c.requires c.in_ok-append_segments.append_segments.items c.in_ok-rewrite_segments.rewrite_segments.items c.in_ok-append_segments.ensures.same c.in_ok-rewrite_segments.ensures.same
+    let told : IsToldAtOpening (SegmentsHold c.in_ok-append_segments.append_segments.items) c.in_ok-accessor.accessor.tables
+    c.in_ok-told.told = subst (λ (l : List (Vec Part Global)). IsToldAtOpening (SegmentsHold l) c.in_ok-accessor.accessor.tables
+    c.in_ok-told.told) c.as_slice-2.ensures.value c.in_ok-told.ensures.ok in
+    let older = rewrite_replayed c.args.version append rewrite c.args.appended c.args.rewritten c.requires
+    c.in_ok-append_segments.append_segments.items c.in_ok-rewrite_segments.rewrite_segments.items c.in_ok-append_segments.ensures.same
+    c.in_ok-rewrite_segments.ensures.same
     told.of_batches.batches rows.batches told.of_batches.held rows.held in
-    let newer = append_replayed c.args.version append rewrite c.args.appended c.args.rewritten c.requires c.in_ok-append_segments.append_segments.items c.in_ok-rewrite_segments.rewrite_segments.items c.in_ok-append_segments.ensures.same c.in_ok-rewrite_segments.ensures.same
+    let newer = append_replayed c.args.version append rewrite c.args.appended c.args.rewritten c.requires
+    c.in_ok-append_segments.append_segments.items c.in_ok-rewrite_segments.rewrite_segments.items c.in_ok-append_segments.ensures.same
+    c.in_ok-rewrite_segments.ensures.same
     told.of_batches.batches rows.batches told.of_batches.held rows.held in
     recovered_so c.files_hold_few_records.ensures c.segments_read_as_one_history.ensures c.told_items_take_away_the_same.ensures.same c.told_items_take_away_the_same.ensures.away
     c.args.version append rewrite c.in_ok-check_few.ensures.ok c.in_ok-check_few-2.ensures.ok
     c.in_ok-append_segments.append_segments.items c.in_ok-rewrite_segments.rewrite_segments.items c.in_ok-append_segments.ensures.same c.in_ok-rewrite_segments.ensures.same
     rows c.in_ok-accessor.accessor
-    (both_recovered c.in_ok-rewrite_segments.rewrite_segments.items c.in_ok-append_segments.append_segments.items c.in_ok-rewrite_segments.ensures.of_queue c.in_ok-append_segments.ensures.of_queue c.args.rewritten c.args.appended older newer
+    (both_recovered c.in_ok-rewrite_segments.rewrite_segments.items c.in_ok-append_segments.append_segments.items
+    c.in_ok-rewrite_segments.ensures.of_queue c.in_ok-append_segments.ensures.of_queue c.args.rewritten c.args.appended older newer
     c.merge_append_context.new.self c.in_ok-merge_append_context.ensures.exact (Ok c.in_ok-accessor.accessor) c.in_ok-accessor.ensures.overlaid c.in_ok-accessor.ensures.exact_counts)
     c.in_ok-told.told told
 

@@ -9,10 +9,17 @@ use Rattle.raft_engine.proofs.removals.tell_segment.Goals as goal
 
 pub loop-part-preserved : goal.loop-part-preserved
 loop-part-preserved c =
-    next_told _ c.args.segment.now.items (drop c.loop-part.part-index c.args.segment.now.items) c.part-item.result (drop (c.loop-part.part-index + 1) c.args.segment.now.items) c.args.told.now c.loop-part.told c.tell_part.new.told (subst (λ (xs : List Part). drop c.loop-part.part-index xs ≡ c.part-item.result ∷ drop (c.loop-part.part-index + 1) xs) c.deref-part-items.ensures.value (drop_more c.deref-part-items.result.now c.loop-part.part-index c.part-item.result c.loop-part-test.true ∙ ap (λ s. s ∷ drop (c.loop-part.part-index + 1) c.deref-part-items.result.now) (sym c.part-item.is))) c.loop-part.invariant c.in_ok-tell_part.ensures.ok
+    next_told _ c.args.segment.now.items (drop c.loop-part.part-index c.args.segment.now.items) c.part-item.result
+    (drop (c.loop-part.part-index + 1) c.args.segment.now.items) c.args.told.now c.loop-part.told c.tell_part.new.told
+    (subst (λ (xs : List Part). drop c.loop-part.part-index xs ≡ c.part-item.result ∷ drop (c.loop-part.part-index + 1) xs)
+    c.deref-part-items.ensures.value (drop_more c.deref-part-items.result.now c.loop-part.part-index c.part-item.result c.loop-part-test.true
+    ∙ ap (λ s. s ∷ drop (c.loop-part.part-index + 1) c.deref-part-items.result.now) (sym c.part-item.is))) c.loop-part.invariant
+    c.in_ok-tell_part.ensures.ok
 
 pub returns-clause-ok : goal.returns-clause-ok
-returns-clause-ok c = last_told _ c.args.segment.now.items (drop c.loop-part.part-index c.args.segment.now.items) c.args.told.now c.loop-part.told (subst (λ (xs : List Part). drop c.loop-part.part-index xs ≡ []) c.deref-part-items.ensures.value (drop_all c.loop-part.part-index c.deref-part-items.result.now c.loop-part-test.false)) c.loop-part.invariant
+returns-clause-ok c = last_told _ c.args.segment.now.items (drop c.loop-part.part-index c.args.segment.now.items) c.args.told.now c.loop-part.told
+    (subst (λ (xs : List Part). drop c.loop-part.part-index xs ≡ []) c.deref-part-items.ensures.value
+    (drop_all c.loop-part.part-index c.deref-part-items.result.now c.loop-part-test.false)) c.loop-part.invariant
 
 pub returns-in_err-tell_part-clause-refused : goal.returns-in_err-tell_part-clause-refused
 returns-in_err-tell_part-clause-refused c =

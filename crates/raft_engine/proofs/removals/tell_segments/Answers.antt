@@ -10,10 +10,15 @@ use Rattle.raft_engine.proofs.removals.tell_segments.Goals as goal
 
 pub loop-segment-preserved : goal.loop-segment-preserved
 loop-segment-preserved c =
-    next_told _ c.args.segments.now (drop c.loop-segment.segment-index c.args.segments.now) c.segment-item.result (drop (c.loop-segment.segment-index + 1) c.args.segments.now) c.args.told.now c.loop-segment.told c.tell_segment.new.told (drop_more c.args.segments.now c.loop-segment.segment-index c.segment-item.result c.loop-segment-test.true ∙ ap (λ s. s ∷ drop (c.loop-segment.segment-index + 1) c.args.segments.now) (sym c.segment-item.is)) c.loop-segment.invariant c.in_ok-tell_segment.ensures.ok
+    next_told _ c.args.segments.now (drop c.loop-segment.segment-index c.args.segments.now) c.segment-item.result
+    (drop (c.loop-segment.segment-index + 1) c.args.segments.now) c.args.told.now c.loop-segment.told c.tell_segment.new.told
+    (drop_more c.args.segments.now c.loop-segment.segment-index c.segment-item.result c.loop-segment-test.true
+    ∙ ap (λ s. s ∷ drop (c.loop-segment.segment-index + 1) c.args.segments.now) (sym c.segment-item.is)) c.loop-segment.invariant
+    c.in_ok-tell_segment.ensures.ok
 
 pub returns-clause-ok : goal.returns-clause-ok
-returns-clause-ok c = last_told _ c.args.segments.now (drop c.loop-segment.segment-index c.args.segments.now) c.args.told.now c.loop-segment.told (drop_all c.loop-segment.segment-index c.args.segments.now c.loop-segment-test.false) c.loop-segment.invariant
+returns-clause-ok c = last_told _ c.args.segments.now (drop c.loop-segment.segment-index c.args.segments.now) c.args.told.now c.loop-segment.told
+    (drop_all c.loop-segment.segment-index c.args.segments.now c.loop-segment-test.false) c.loop-segment.invariant
 
 pub returns-in_err-tell_segment-clause-refused : goal.returns-in_err-tell_segment-clause-refused
 returns-in_err-tell_segment-clause-refused c =

@@ -9,4 +9,5 @@ pub returns-clause-append : goal.returns-clause-append
 returns-clause-append c = λ content n gone append rewrite tables h below low. shorter content n gone append rewrite tables h below (λ r. append_needs content (gone ++ append) rewrite [] tables h r n low)
 
 pub returns-clause-rewrite : goal.returns-clause-rewrite
-returns-clause-rewrite c = λ content n append gone rewrite tables h below low ends_none. purged content n append gone rewrite tables h (none_across gone rewrite ends_none) below (λ r. rewrite_needs content append (gone ++ rewrite) [] tables h r refl n low)
+returns-clause-rewrite c = λ content n append gone rewrite tables h below low ends_none. purged content n append gone rewrite tables h
+    (none_across gone rewrite ends_none) below (λ r. rewrite_needs content append (gone ++ rewrite) [] tables h r refl n low)

@@ -12,4 +12,5 @@ pub returns-clause-again : goal.returns-clause-again
 returns-clause-again c = again_safe
 
 pub returns-clause-group : goal.returns-clause-group
-returns-clause-group c = λ content base appended rewritten tables new e h next synced earlier middles g begin all group in_file moves is. group_safe content base appended rewritten tables new e h next synced earlier middles g begin all group in_file moves is
+returns-clause-group c = λ content base appended rewritten tables new e h next synced earlier middles g begin all group in_file moves is. group_safe
+    content base appended rewritten tables new e h next synced earlier middles g begin all group in_file moves is

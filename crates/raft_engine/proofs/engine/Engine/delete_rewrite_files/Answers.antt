@@ -1,13 +1,16 @@
-use Rattle.std.proofs.Common.{true, false, List, refl, sym, subst, arith}
+use Rattle.std.proofs.Common.{true, false, List, refl, sym, subst, arith, [], ◌∷◌, ◌++◌}
 use Rattle.raft_base.specs.declared.pipe_log.LogQueue.TheVariants.{Rewrite}
-use Rattle.raft_files.specs.Asks.{Ask}
+use Rattle.raft_files.specs.Asks.{Ask, Sync, ask}
 use Rattle.raft_engine.specs.KeptEngine.{KeptEngine}
 use Rattle.raft_engine.specs.Moved.{IsReady}
-use Rattle.raft_engine.specs.Purged.{AreExpired}
+use Rattle.raft_engine.specs.Purged.{AreExpired, delete_asks}
 use Rattle.raft_engine.specs.PurgedRewrites.{AreRewritesDeleted, AreRewritesHalfDeleted}
 use Rattle.raft_engine.proofs.KeptLemmas.{kept_broken}
 use Rattle.raft_engine.proofs.KeptRewritePurges.{few, is_deleted, kept_deleted, none_half, some_broken, some_half}
 use Rattle.raft_engine.proofs.RewrittenRegions.{on_any}
+use Rattle.std.proofs.lemmas.Result.{err_from_is_err_and}
+use Rattle.raft_engine.specs.OpeningAsks.{FailsAmong}
+use Rattle.raft_engine.proofs.FaultLemmas.{deletion_behind, sync_before}
 use Rattle.raft_engine.proofs.engine.Engine.delete_rewrite_files.Goals as goal
 
 pub delete_oldest-requires : goal.delete_oldest-requires
@@ -51,7 +54,14 @@ returns-in_err-delete_oldest-clause-err g c =
     let old : List Ask = g.F.EngineFiles.asked e.files in
     let ready : IsReady (record { version = e.version; asks = old; untold = e.untold; accessor = e.accessor; intact = e.intact }) = subst IsReady (sym c.self.view_is) c.requires.ready in
     let x = subst (λ (o : KeptEngine). AreExpired Rewrite o c.args.count) (sym c.self.view_is) c.requires.expired in
-    on_any _ _ (subst (λ (o : KeptEngine). AreRewritesHalfDeleted c.args.count o (record { version = e.version; asks = g.F.EngineFiles.asked c.delete_oldest.new.files; untold = e.untold; accessor = e.accessor; intact = false })) c.self.view_is
+    on_any _ _ (subst (λ (o : KeptEngine). AreRewritesHalfDeleted c.args.count o
+    (record {
+      version = e.version;
+      asks = g.F.EngineFiles.asked c.delete_oldest.new.files;
+      untold = e.untold;
+      accessor = e.accessor;
+      intact = false;
+    })) c.self.view_is
     (some_half c.asks_are_stored.ensures.synced c.rewrite_files_may_go.ensures e.version old e.append e.rewrite e.untold e.accessor e.intact c.self.invariant ready.intact ready.synced ready.told c.args.count x
     (g.F.EngineFiles.asked c.sync.new.self) c.in_ok-sync.ensures.ok (g.F.EngineFiles.asked c.delete_oldest.new.files) c.in_err-delete_oldest.ensures.err))
 
@@ -73,3 +83,23 @@ returns-clause-ok g c =
     subst (λ (o : KeptEngine). AreRewritesDeleted c.args.count o (record { version = e.version; asks = g.F.EngineFiles.asked c.delete_oldest.new.files; untold = e.untold; accessor = e.accessor; intact = true })) c.self.view_is
     (is_deleted c.asks_are_stored.ensures.synced c.rewrite_files_may_go.ensures e.version old e.append e.rewrite e.untold e.accessor e.intact c.self.invariant ready.intact ready.synced ready.told c.args.count x
     (g.F.EngineFiles.asked c.sync.new.self) c.in_ok-sync.ensures.ok (g.F.EngineFiles.asked c.delete_oldest.new.files) c.in_ok-delete_oldest.ensures.asked)
+
+pub returns-in_err-sync-clause-fault : goal.returns-in_err-sync-clause-fault
+returns-in_err-sync-clause-fault g c =
+    let e = c.self.inside in
+    let old : List Ask = g.F.EngineFiles.asked e.files in
+    let new : List Ask = g.F.EngineFiles.asked c.sync.new.self in
+    let p = err_from_is_err_and c.from_residual.result c.from_residual.ensures.1 in
+    rw (p.1, p.2)
+    (subst (λ (o : KeptEngine). FailsAmong (g.F.EngineFiles.may_fail) (delete_asks Rewrite c.args.count ++ ask Rewrite Sync ∷ []) o.asks new c.in_err-sync.field-0.0) c.self.view_is
+    (sync_before (g.F.EngineFiles.may_fail) Rewrite c.args.count old new c.in_err-sync.field-0.0 c.in_err-sync.ensures.err c.in_err-sync.ensures.fault))
+
+pub returns-in_err-delete_oldest-clause-fault : goal.returns-in_err-delete_oldest-clause-fault
+returns-in_err-delete_oldest-clause-fault g c =
+    let e = c.self.inside in
+    let old : List Ask = g.F.EngineFiles.asked e.files in
+    let new : List Ask = g.F.EngineFiles.asked c.delete_oldest.new.files in
+    let p = err_from_is_err_and c.from_residual-in_err-delete_oldest.result c.from_residual-in_err-delete_oldest.ensures.1 in
+    rw (p.1, p.2)
+    (subst (λ (o : KeptEngine). FailsAmong (g.F.EngineFiles.may_fail) (delete_asks Rewrite c.args.count ++ ask Rewrite Sync ∷ []) o.asks new c.in_err-delete_oldest.field-0.0) c.self.view_is
+    (deletion_behind (g.F.EngineFiles.may_fail) Rewrite c.args.count old (g.F.EngineFiles.asked c.sync.new.self) new c.in_err-delete_oldest.field-0.0 c.in_ok-sync.ensures.ok c.in_err-delete_oldest.ensures.fault))

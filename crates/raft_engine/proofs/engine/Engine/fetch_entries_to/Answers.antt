@@ -63,7 +63,8 @@ returns-clause-ok g c =
     let range = of_range c.args.region c.args.begin c.args.end c.args.max_size _ c.in-Some.table.now c.new-indexes.result.items es there c.new-indexes.ensures.items c.in_ok-fetch_entries_to.ensures.ok in
     let counted : c.len.result ≡ length es = search rules in
     let r : AreReadByBlocks es strings old new = subst (λ (l : List EntryIndex). AreReadByBlocks l strings old new) c.as_slice.ensures.value c.in_ok-found.ensures.ok in
-    subst (λ (o : KeptEngine). AreFetched c.args.region c.args.begin c.args.end c.args.max_size c.len.result before after o (record { version = e.version; asks = new; untold = e.untold; accessor = e.accessor; intact = e.intact })) c.self.view_is
+    subst (λ (o : KeptEngine). AreFetched c.args.region c.args.begin c.args.end c.args.max_size c.len.result before after o
+    (record { version = e.version; asks = new; untold = e.untold; accessor = e.accessor; intact = e.intact })) c.self.view_is
     (fetched c.told_contents_are_those_that_were_added.ensures.read c.args.region c.args.begin c.args.end c.args.max_size c.len.result before
     (record { version = e.version; asks = old; untold = e.untold; accessor = e.accessor; intact = e.intact })
     (record { version = e.version; asks = new; untold = e.untold; accessor = e.accessor; intact = e.intact })

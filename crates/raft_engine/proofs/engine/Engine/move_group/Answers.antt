@@ -17,6 +17,8 @@ use Rattle.raft_engine.specs.MovedGroups.{IsGroupHalfMoved, IsGroupMoved, IsGrou
 use Rattle.raft_engine.specs.WrittenBatch.{AreFirstWritten}
 use Rattle.raft_engine.proofs.KeptGroups.{all_broken, first_broken, group_half, group_kept, group_long, group_moved, group_open, group_reads, group_some, group_unmade, made_encoded, made_first, made_in_time, made_places, made_put}
 use Rattle.raft_engine.proofs.KeptMoves.{kept_read}
+use Rattle.raft_engine.specs.MovingFaults.{FailsBehind, IsItemRefusal}
+use Rattle.raft_engine.proofs.MovingFaultLemmas.{Grows, all_behind, behind_more, group_not_empty}
 use Rattle.raft_engine.proofs.engine.Engine.move_group.Goals as goal
 
 pub invariant_of-self : goal.invariant_of-self
@@ -234,3 +236,47 @@ returns-clause-ok g c =
     c.in_ok-batches.batches.items p
     c.moved_groups_are_stored.ensures ready.synced ready.told c.in-Some.ensures.own c.in_ok-made.ensures.writable
     new is_new c.rewrite_all.new.accessor applied))
+
+pub returns-in_err-placed-clause-fault : goal.returns-in_err-placed-clause-fault
+returns-in_err-placed-clause-fault g c =
+    let e = c.self.inside in
+    let old : List Ask = g.F.EngineFiles.asked e.files in
+    let between : List Ask = g.F.EngineFiles.asked c.moving_group.new.files in
+    let before : KeptEngine = record { version = e.version; asks = old; untold = e.untold; accessor = e.accessor; intact = e.intact } in
+    let ready : IsReady before = subst IsReady (sym c.self.view_is) c.requires in
+    let p : IsGroupInParts c.in-Some.table.now old between e.rewrite.seq c.in_ok-batches.batches.items = c.in_ok-batches.ensures.ok in
+    let only = group_reads c.moves_are_stored.ensures.read e.version old e.append e.rewrite e.untold e.accessor e.intact
+    c.self.invariant ready.intact c.args.region c.in-Some.table.now (sym c.in-Some.ensures.value) between
+    c.in_ok-batches.batches.items p in
+    let grows : Grows old between = record { more = only.reads; is = only.asked } in
+    let new : List Ask = g.F.EngineFiles.asked c.put_all.new.files in
+    let file : LogFileContext = record { id = record { queue = Rewrite; seq = e.rewrite.seq }; version = e.version } in
+    let is_file : c.new-file.result ≡ file =
+    c.new-file.ensures ∙ ap (λ (id : FileId). record { id = id; version = e.version }) c.new.ensures in
+    let q = err_from_is_err_and c.from_residual-in_err-placed.result c.from_residual-in_err-placed.ensures.1 in
+    rw (q.1, q.2)
+    (λ broken. subst (λ (o : KeptEngine). FailsBehind (g.F.EngineFiles.may_fail) IsItemRefusal o.asks new c.in_err-placed.field-0.0) c.self.view_is
+    (behind_more (g.F.EngineFiles.may_fail) IsItemRefusal old between new c.in_err-placed.field-0.0 grows (c.in_err-placed.ensures.fault (ap (λ (f : LogFileContext). f.id.queue) is_file))))
+
+pub returns-in_err-rewrite_all-clause-fault : goal.returns-in_err-rewrite_all-clause-fault
+returns-in_err-rewrite_all-clause-fault g c =
+    let e = c.self.inside in
+    let old : List Ask = g.F.EngineFiles.asked e.files in
+    let between : List Ask = g.F.EngineFiles.asked c.moving_group.new.files in
+    let before : KeptEngine = record { version = e.version; asks = old; untold = e.untold; accessor = e.accessor; intact = e.intact } in
+    let ready : IsReady before = subst IsReady (sym c.self.view_is) c.requires in
+    let p : IsGroupInParts c.in-Some.table.now old between e.rewrite.seq c.in_ok-batches.batches.items = c.in_ok-batches.ensures.ok in
+    let only = group_reads c.moves_are_stored.ensures.read e.version old e.append e.rewrite e.untold e.accessor e.intact
+    c.self.invariant ready.intact c.args.region c.in-Some.table.now (sym c.in-Some.ensures.value) between
+    c.in_ok-batches.batches.items p in
+    let grows : Grows old between = record { more = only.reads; is = only.asked } in
+    let new : List Ask = g.F.EngineFiles.asked c.put_all.new.files in
+    let file : LogFileContext = record { id = record { queue = Rewrite; seq = e.rewrite.seq }; version = e.version } in
+    let is_file : c.new-file.result ≡ file =
+    c.new-file.ensures ∙ ap (λ (id : FileId). record { id = id; version = e.version }) c.new.ensures in
+    let is_new : new ≡ puts_asks file c.in_ok-batches.batches.items between =
+    made_put c.new-file.result file is_file c.in_ok-batches.batches.items c.in_ok-made.made.items c.in_ok-made.ensures.ok between new c.in_ok-placed.ensures.ok in
+    let q = err_from_is_err_and c.from_residual-in_err-rewrite_all.result c.from_residual-in_err-rewrite_all.ensures.1 in
+    rw (q.1, q.2)
+    (λ broken. subst (λ (o : KeptEngine). FailsBehind (g.F.EngineFiles.may_fail) IsItemRefusal o.asks new c.in_err-rewrite_all.field-0.0) c.self.view_is
+    (all_behind (g.F.EngineFiles.may_fail) IsItemRefusal file c.in_ok-batches.batches.items old between new c.in_err-rewrite_all.field-0.0 refl (group_not_empty _ _ _ _ _ p) grows is_new c.in_err-rewrite_all.ensures.fault))

@@ -5,6 +5,9 @@ use Rattle.raft_engine.specs.Moved.{IsRegionUnmoved}
 use Rattle.raft_engine.specs.MovedGroups.{IsGroupUnmoved, IsOnePartOf, IsRegionMovedAgain, IsRegionUnmovedAgain}
 use Rattle.raft_engine.proofs.MovedRegions.{group_again, group_not_again}
 use Rattle.raft_engine.proofs.RewrittenRegions.{if_err_so, ok_so}
+use Rattle.raft_engine.specs.Faults.{Breaks}
+use Rattle.raft_engine.specs.MovingFaults.{FailsBehind, IsItemRefusal, IsUntaken}
+use Rattle.raft_engine.proofs.MovingFaultLemmas.{behind_so}
 use Rattle.raft_engine.proofs.engine.Engine.move_region_again.Goals as goal
 
 pub returns-clause-ok : goal.returns-clause-ok
@@ -31,3 +34,10 @@ pub returns-in_err-is_one_part-clause-err : goal.returns-in_err-is_one_part-clau
 returns-in_err-is_one_part-clause-err g c =
     let p = err_from_is_err_and c.from_residual.result c.from_residual.ensures.1 in
     rw (p.1, p.2) (inl (refl, c.in_err-is_one_part.ensures.memory))
+
+pub returns-then-branch-clause-fault : goal.returns-then-branch-clause-fault
+returns-then-branch-clause-fault g c =
+    let old = c.args.self.now in
+    let new = c.rewrite_region.new.self in
+    if_err_so (λ e. Breaks old new → FailsBehind (g.F.EngineFiles.may_fail) (IsUntaken None) old.asks new.asks e) (λ e. Breaks old new → FailsBehind (g.F.EngineFiles.may_fail) IsItemRefusal old.asks new.asks e) c.rewrite_region.result
+    (λ e f broken. behind_so (g.F.EngineFiles.may_fail) (IsUntaken None) IsItemRefusal old.asks new.asks e (λ refusal. refusal) (f broken)) c.rewrite_region.ensures.fault

@@ -1,7 +1,8 @@
-use Rattle.std.proofs.Common.{List, ◌∷◌, ap, ◌∙◌}
+use Rattle.std.proofs.Common.{List, ◌∷◌, ap, ◌∙◌, inl, inr, subst}
 use Rattle.raft_base.specs.declared.pipe_log.LogQueue.TheVariants.{Append, Rewrite}
 use Rattle.raft_files.specs.Asks.{Ask, Begin, ask}
 use Rattle.raft_engine.proofs.KeptLemmas.{kept_new}
+use Rattle.std.proofs.lemmas.Result.{err_from_is_err_and}
 use Rattle.raft_engine.proofs.engine.Engine.new.Goals as goal
 
 pub invariant_of-result : goal.invariant_of-result
@@ -10,3 +11,14 @@ invariant_of-result g c =
     (c.in_ok-rotate-2.ensures.ok ∙ ap (λ (l : List Ask). ask Rewrite (Begin 1) ∷ l) (c.in_ok-rotate.ensures.ok ∙ ap (λ (l : List Ask). ask Append (Begin 1) ∷ l) c.requires))
     c.first.ensures.closed c.first.ensures.seq c.first.ensures.len c.first-2.ensures.closed c.first-2.ensures.seq c.first-2.ensures.len
     c.default.ensures c.in_ok-accessor.ensures.tables c.in_ok-accessor.ensures.cleaned
+
+pub returns-in_err-rotate-clause-fault : goal.returns-in_err-rotate-clause-fault
+returns-in_err-rotate-clause-fault g c =
+    let p = err_from_is_err_and c.from_residual-in_err-rotate.result c.from_residual-in_err-rotate.ensures.1 in
+    rw (p.1, p.2) (inr (inl (subst (λ (l : List Ask). g.F.EngineFiles.may_fail l (ask Append (Begin 1)) c.in_err-rotate.field-0.0) c.requires c.in_err-rotate.ensures.fault)))
+
+pub returns-in_err-rotate-2-clause-fault : goal.returns-in_err-rotate-2-clause-fault
+returns-in_err-rotate-2-clause-fault g c =
+    let p = err_from_is_err_and c.from_residual-in_err-rotate-2.result c.from_residual-in_err-rotate-2.ensures.1 in
+    rw (p.1, p.2) (inr (inr (subst (λ (l : List Ask). g.F.EngineFiles.may_fail l (ask Rewrite (Begin 1)) c.in_err-rotate-2.field-0.0)
+    (c.in_ok-rotate.ensures.ok ∙ ap (λ (l : List Ask). ask Append (Begin 1) ∷ l) c.requires) c.in_err-rotate-2.ensures.fault)))

@@ -8,6 +8,7 @@ use Rattle.raft_engine.proofs.ExpiredRewrites.{told_expired}
 use Rattle.raft_engine.proofs.KeptRewritePurges.{untold_unpurged}
 use Rattle.raft_engine.proofs.PurgeLemmas.{are_expired}
 use Rattle.raft_engine.proofs.RewrittenRegions.{told_ready}
+use Rattle.raft_engine.proofs.FaultLemmas.{telling_purge, told_purge}
 use Rattle.raft_engine.proofs.engine.Engine.purge_rewrite_files.Goals as goal
 
 pub returns-then-count-eq0-clause-ok : goal.returns-then-count-eq0-clause-ok
@@ -86,3 +87,30 @@ returns-clause-ok g c =
       subst (λ (o : KeptEngine). AreExpired Rewrite o c.count_below-count.result) c.self.view_is expired,
       inr (record { some = omega (arith, some); told = c.tell.new.self; is_told = c.in_ok-tell.ensures.ok; deleted = c.in_ok-delete_rewrite_files.ensures.ok }),
     )
+
+pub returns-in_err-tell-clause-fault : goal.returns-in_err-tell-clause-fault
+returns-in_err-tell-clause-fault g c =
+    let e = c.self.inside in
+    let old : List Ask = g.F.EngineFiles.asked e.files in
+    let intact : e.intact ≡ true = search rules in
+    let counted = c.count_below-count.ensures ∙ ap (front_below c.in_ok-least.least) c.deref.ensures.value in
+    let d = c.self.invariant.stored.now.rewrite_done.done.done in
+    let expired = are_expired Rewrite (record { version = e.version; asks = old; untold = e.untold; accessor = e.accessor; intact = e.intact }) e.rewrite (c.self.invariant.whole intact).rewrite_files
+    d.first c.in_ok-least.least c.count_below-count.result d.rising c.in_ok-least.ensures.ok counted in
+    let its = subst (λ (o : KeptEngine). AreExpired Rewrite o c.count_below-count.result) c.self.view_is expired in
+    let p = err_from_is_err_and c.from_residual-in_err-tell.result c.from_residual-in_err-tell.ensures.1 in
+    rw (p.1, p.2) (λ broken. telling_purge (g.F.EngineFiles.may_fail) Rewrite c.count_below-count.result c.args.self.now its c.tell.new.self c.in_err-tell.field-0.0 (c.in_err-tell.ensures.fault broken))
+
+pub returns-in_err-delete_rewrite_files-clause-fault : goal.returns-in_err-delete_rewrite_files-clause-fault
+returns-in_err-delete_rewrite_files-clause-fault g c =
+    let e = c.self.inside in
+    let old : List Ask = g.F.EngineFiles.asked e.files in
+    let intact : e.intact ≡ true = search rules in
+    let counted = c.count_below-count.ensures ∙ ap (front_below c.in_ok-least.least) c.deref.ensures.value in
+    let d = c.self.invariant.stored.now.rewrite_done.done.done in
+    let expired = are_expired Rewrite (record { version = e.version; asks = old; untold = e.untold; accessor = e.accessor; intact = e.intact }) e.rewrite (c.self.invariant.whole intact).rewrite_files
+    d.first c.in_ok-least.least c.count_below-count.result d.rising c.in_ok-least.ensures.ok counted in
+    let its = subst (λ (o : KeptEngine). AreExpired Rewrite o c.count_below-count.result) c.self.view_is expired in
+    let p = err_from_is_err_and c.from_residual-in_err-delete_rewrite_files.result c.from_residual-in_err-delete_rewrite_files.ensures.1 in
+    rw (p.1, p.2) (λ broken. told_purge (g.F.EngineFiles.may_fail) Rewrite c.count_below-count.result c.args.self.now its c.tell.new.self
+    c.delete_rewrite_files.new.self c.in_err-delete_rewrite_files.field-0.0 c.in_ok-tell.ensures.ok c.in_err-delete_rewrite_files.ensures.fault)

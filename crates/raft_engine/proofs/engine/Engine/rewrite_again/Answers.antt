@@ -4,7 +4,10 @@ use Rattle.raft_engine.specs.KeptEngine.{KeptEngine}
 use Rattle.raft_engine.specs.Moved.{AreRegions}
 use Rattle.raft_engine.specs.MovedAgain.{AreMovedAgain, AreUnmovedAgain}
 use Rattle.raft_engine.specs.MovedGroups.{AreRegionsMovedAgain, AreSomeRegionsMovedAgain}
-use Rattle.raft_engine.proofs.RewrittenRegions.{if_err_so, ok_so}
+use Rattle.raft_engine.proofs.RewrittenRegions.{if_err_so, ok_so, told_ready}
+use Rattle.raft_engine.specs.Faults.{Breaks}
+use Rattle.raft_engine.specs.MovingFaults.{FailsBehind, IsAgainFault, IsItemRefusal}
+use Rattle.raft_engine.proofs.MovingFaultLemmas.{begun_grows, begun_intact, behind_more, grows_on, told_grows}
 use Rattle.raft_engine.proofs.engine.Engine.rewrite_again.Goals as goal
 
 pub returns-in_err-rotate_rewrite-clause-err : goal.returns-in_err-rotate_rewrite-clause-err
@@ -41,3 +44,27 @@ returns-clause-err g c =
           (subst (AreRegions c.self.inside.accessor.tables) (sym c.as_slice.ensures.value) c.in_ok-regions.ensures.ok);
       some = some;
     }))) c.move_regions_again.ensures.err
+
+pub returns-in_err-tell-clause-fault : goal.returns-in_err-tell-clause-fault
+returns-in_err-tell-clause-fault g c =
+    let p = err_from_is_err_and c.from_residual-in_err-tell.result c.from_residual-in_err-tell.ensures.1 in
+    rw (p.1, p.2) (λ broken. inl (c.in_err-tell.ensures.fault broken))
+
+pub returns-in_err-rotate_rewrite-clause-fault : goal.returns-in_err-rotate_rewrite-clause-fault
+returns-in_err-rotate_rewrite-clause-fault g c =
+    let ready = told_ready c.args.self.now c.tell.new.self c.in_ok-tell.ensures.accepted c.in_ok-tell.ensures.ok in
+    let p = err_from_is_err_and c.from_residual-in_err-rotate_rewrite.result c.from_residual-in_err-rotate_rewrite.ensures.1 in
+    rw (p.1, p.2) (λ broken. inr (inl (record { told = c.tell.new.self; is_told = c.in_ok-tell.ensures.ok; fault = c.in_err-rotate_rewrite.ensures.fault (ready.intact, broken.1) })))
+
+pub returns-clause-fault : goal.returns-clause-fault
+returns-clause-fault g c =
+    let old = c.args.self.now in
+    let told = c.tell.new.self in
+    let begun = c.rotate_rewrite.new.self in
+    let new = c.move_regions_again.new.self in
+    let is_told = c.in_ok-tell.ensures.ok in
+    let ready = told_ready old told c.in_ok-tell.ensures.accepted is_told in
+    let is_begun = c.in_ok-rotate_rewrite.ensures.ok in
+    let grows = grows_on old.asks told.asks begun.asks (told_grows old told is_told) (begun_grows told begun is_begun) in
+    if_err_so (λ e. Breaks begun new → FailsBehind (g.F.EngineFiles.may_fail) IsItemRefusal begun.asks new.asks e) (λ e. Breaks old new → IsAgainFault (g.F.EngineFiles.may_fail) old new e) c.move_regions_again.result
+    (λ e f broken. inr (inr (behind_more (g.F.EngineFiles.may_fail) IsItemRefusal old.asks begun.asks new.asks e grows (f (begun_intact told begun is_begun ready.intact, broken.1))))) c.move_regions_again.ensures.fault

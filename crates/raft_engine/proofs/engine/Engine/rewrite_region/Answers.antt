@@ -1,5 +1,6 @@
 use Rattle.std.proofs.lemmas.Result.{err_from_is_err_and}
 use Rattle.std.proofs.Common.{rules, ◌≡◌, ◌≢◌, ◌<◌, ◌^◌, List, [], true, false, inr, refl, sym, ap, ◌∙◌, subst}
+use Rattle.std.specs.FinMap as finite
 use Rattle.raft_base.specs.declared.errors.Error.TheVariants as errors
 use Rattle.raft_base.specs.declared.pipe_log.FileId.{FileId}
 use Rattle.raft_files.specs.Asks.{Ask}
@@ -10,6 +11,12 @@ use Rattle.raft_engine.specs.StoredAsks.{IsWritableBatch}
 use Rattle.raft_engine.proofs.KeptMoves.{batch_refused, bytes_refused, file_refused, half_moved, kept_moved, kept_read, made_applied, made_asked, made_broken, made_first, made_half, none_moved, put_broken, region_moved}
 use Rattle.raft_engine.proofs.ReadKept.{read_only}
 use Rattle.raft_engine.proofs.RefusalLemmas.{rewrite_full}
+use Rattle.raft_base.specs.declared.pipe_log.LogFileContext.{LogFileContext}
+use Rattle.raft_base.specs.declared.pipe_log.LogQueue.TheVariants.{Rewrite}
+use Rattle.raft_records.specs.LogBatch.{Batch}
+use Rattle.raft_engine.specs.BatchBytes.{bytes_for, placed_at}
+use Rattle.raft_engine.specs.MovingFaults.{AreTaken, FailsBehind, IsUntaken}
+use Rattle.raft_engine.proofs.MovingFaultLemmas.{Grows, put_behind, untaken, untaken_behind}
 use Rattle.raft_engine.proofs.engine.Engine.rewrite_region.Goals as goal
 
 pub invariant_of-self : goal.invariant_of-self
@@ -171,7 +178,14 @@ returns-in_err-rewrite_items-clause-err g c =
     let file = c.new-file.ensures ∙ ap (λ (id : FileId). record { id = id; version = e.version }) c.new.ensures in
     let p = err_from_is_err_and c.from_residual-in_err-rewrite_items.result c.from_residual-in_err-rewrite_items.ensures.1 in
     rw (p.1)
-    (inr (subst (λ (o : KeptEngine). IsRegionHalfMoved c.args.gate c.args.region o (record { version = e.version; asks = (g.F.EngineFiles.asked c.put.new.files); untold = e.untold; accessor = c.rewrite_items.new.accessor; intact = false })) c.self.view_is
+    (inr (subst (λ (o : KeptEngine). IsRegionHalfMoved c.args.gate c.args.region o
+    (record {
+      version = e.version;
+      asks = (g.F.EngineFiles.asked c.put.new.files);
+      untold = e.untold;
+      accessor = c.rewrite_items.new.accessor;
+      intact = false;
+    })) c.self.view_is
     (half_moved c.moves_are_stored.ensures.read e.version old e.append e.rewrite e.untold e.accessor e.intact c.self.invariant
     c.moves_are_stored.ensures.moved ready.intact ready.synced ready.told c.args.gate c.args.region c.in-Some.table.now (sym c.in-Some.ensures.value) c.in-Some.ensures.own c.holds_one_run.ensures
     between c.in_ok-batch.batch m w (g.F.EngineFiles.asked c.put.new.files) c.rewrite_items.new.accessor (inr (
@@ -227,7 +241,14 @@ returns-clause-ok g c =
       short = c.in_ok-len.ensures.accepted;
     } in
     let file = c.new-file.ensures ∙ ap (λ (id : FileId). record { id = id; version = e.version }) c.new.ensures in
-    inr (subst (λ (o : KeptEngine). IsRegionMoved c.args.gate c.args.region o (record { version = e.version; asks = (g.F.EngineFiles.asked c.put.new.files); untold = e.untold; accessor = c.rewrite_items.new.accessor; intact = true })) c.self.view_is
+    inr (subst (λ (o : KeptEngine). IsRegionMoved c.args.gate c.args.region o
+    (record {
+      version = e.version;
+      asks = (g.F.EngineFiles.asked c.put.new.files);
+      untold = e.untold;
+      accessor = c.rewrite_items.new.accessor;
+      intact = true;
+    })) c.self.view_is
     (region_moved c.moves_are_stored.ensures.read e.version old e.append e.rewrite e.untold e.accessor e.intact c.self.invariant
     c.moves_are_stored.ensures.moved ready.intact ready.synced ready.told c.args.gate c.args.region c.in-Some.table.now (sym c.in-Some.ensures.value) c.in-Some.ensures.own c.holds_one_run.ensures
     between c.in_ok-batch.batch m w (g.F.EngineFiles.asked c.put.new.files)
@@ -238,3 +259,41 @@ returns-clause-ok g c =
     (made_applied c.moves_are_stored.ensures.read e.version old e.append e.rewrite e.untold e.accessor e.intact c.self.invariant
     c.moves_are_stored.ensures.moved ready.intact ready.synced ready.told c.args.gate c.args.region c.in-Some.table.now (sym c.in-Some.ensures.value) c.in-Some.ensures.own c.holds_one_run.ensures
     between c.in_ok-batch.batch m w c.new-file.result file c.finish_populate.new.self c.in_ok-len.ensures.ok c.put.new.batch.items c.rewrite_items.new.accessor c.in_ok-put.ensures.placed c.in_ok-rewrite_items.ensures.ok)))
+
+pub returns-in_err-put-clause-fault : goal.returns-in_err-put-clause-fault
+returns-in_err-put-clause-fault g c =
+    let e = c.self.inside in
+    let old : List Ask = g.F.EngineFiles.asked e.files in
+    let between : List Ask = g.F.EngineFiles.asked c.moving_batch.new.files in
+    let m = c.in_ok-batch.ensures.ok in
+    let grows : Grows old between = record { more = m.read.reads; is = m.read.asked } in
+    let its : LogFileContext = record { id = record { queue = Rewrite; seq = e.rewrite.seq }; version = e.version } in
+    let file : c.new-file.result ≡ its = c.new-file.ensures ∙ ap (λ (id : FileId). record { id = id; version = e.version }) c.new.ensures in
+    let queue : c.new-file.result.id.queue ≡ Rewrite = ap (λ (f : LogFileContext). f.id.queue) file in
+    let new : List Ask = g.F.EngineFiles.asked c.put.new.files in
+    let p = err_from_is_err_and c.from_residual-in_err-put.result c.from_residual-in_err-put.ensures.1 in
+    rw (p.1, p.2)
+    (λ broken. subst (λ (o : KeptEngine). FailsBehind (g.F.EngineFiles.may_fail) (IsUntaken c.args.gate) o.asks new c.in_err-put.field-0.0) c.self.view_is
+    (put_behind (g.F.EngineFiles.may_fail) (IsUntaken c.args.gate) c.new-file.result.id.queue (bytes_for c.new-file.result c.finish_populate.new.self)
+    old between new c.in_err-put.field-0.0 queue grows c.in_err-put.ensures.err c.in_err-put.ensures.fault))
+
+pub returns-in_err-rewrite_items-clause-fault : goal.returns-in_err-rewrite_items-clause-fault
+returns-in_err-rewrite_items-clause-fault g c =
+    let e = c.self.inside in
+    let old : List Ask = g.F.EngineFiles.asked e.files in
+    let between : List Ask = g.F.EngineFiles.asked c.moving_batch.new.files in
+    let m = c.in_ok-batch.ensures.ok in
+    let grows : Grows old between = record { more = m.read.reads; is = m.read.asked } in
+    let its : LogFileContext = record { id = record { queue = Rewrite; seq = e.rewrite.seq }; version = e.version } in
+    let file : c.new-file.result ≡ its = c.new-file.ensures ∙ ap (λ (id : FileId). record { id = id; version = e.version }) c.new.ensures in
+    let queue : c.new-file.result.id.queue ≡ Rewrite = ap (λ (f : LogFileContext). f.id.queue) file in
+    let new : List Ask = g.F.EngineFiles.asked c.put.new.files in
+    let placed : c.put.new.batch.items ≡ placed_at its.id e.rewrite.len c.in_ok-batch.batch =
+    c.in_ok-put.ensures.placed ∙ ap (λ (f : LogFileContext). placed_at f.id e.rewrite.len c.finish_populate.new.self) file ∙ ap (λ (b : Batch). placed_at its.id e.rewrite.len b) c.in_ok-len.ensures.ok in
+    let p = err_from_is_err_and c.from_residual-in_err-rewrite_items.result c.from_residual-in_err-rewrite_items.ensures.1 in
+    rw (p.1, p.2)
+    (λ broken. subst (λ (o : KeptEngine). FailsBehind (g.F.EngineFiles.may_fail) (IsUntaken c.args.gate) o.asks new c.in_err-rewrite_items.field-0.0) c.self.view_is
+    (untaken_behind (g.F.EngineFiles.may_fail) (IsUntaken c.args.gate) c.new-file.result.id.queue (bytes_for c.new-file.result c.finish_populate.new.self) old between new c.in_err-rewrite_items.field-0.0 queue grows c.in_ok-put.ensures.ok
+    (untaken c.args.gate e.accessor.tables c.in-Some.table.now old between c.in_ok-batch.batch e.rewrite.seq e.rewrite.len c.in_err-rewrite_items.field-0.0
+    (ap (finite.get e.accessor.tables) c.in-Some.ensures.own ∙ sym c.in-Some.ensures.value) c.holds_one_run.ensures m c.in_err-rewrite_items.ensures.fault
+    (λ taken. c.in_err-rewrite_items.ensures.room (subst (AreTaken c.args.gate e.rewrite.seq e.accessor.tables) (sym placed) taken)))))

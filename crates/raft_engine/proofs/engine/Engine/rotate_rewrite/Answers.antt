@@ -1,10 +1,15 @@
 use Rattle.std.proofs.lemmas.Result.{err_from_is_err_and}
-use Rattle.std.proofs.Common.{rules, ◌≡◌, ◌-◌, ◌^◌, true, false, inl, inr, subst, ap, ◌∙◌, refl}
+use Rattle.std.proofs.Common.{rules, ◌≡◌, ◌-◌, ◌^◌, true, false, inl, inr, subst, ap, ◌∙◌, refl, ◌+◌, List}
 use Rattle.raft_base.specs.declared.errors.Error.TheVariants as errors
 use Rattle.raft_engine.specs.KeptEngine.{KeptEngine}
 use Rattle.raft_engine.specs.MovedAgain.{IsRewriteHalfRotated, IsRewriteRotated, IsRewriteRotationRefusal}
 use Rattle.raft_engine.proofs.KeptLemmas.{kept_broken}
 use Rattle.raft_engine.proofs.RotatedRewrites.{greatest_refusal, half_rotated, is_rotated, kept_between, kept_rotated, none_rotated, rewrites_listed}
+use Rattle.raft_base.specs.declared.pipe_log.LogQueue.TheVariants.{Rewrite}
+use Rattle.raft_files.specs.Asks.{Ask, Begin, Sync, ask}
+use Rattle.raft_engine.specs.MovingFaults.{IsRewriteRotationFault}
+use Rattle.raft_engine.proofs.FaultLemmas.{first_of_two, second_of_two}
+use Rattle.raft_engine.proofs.FilesLemmas.{files_last}
 use Rattle.raft_engine.proofs.engine.Engine.rotate_rewrite.Goals as goal
 
 pub invariant_of-self : goal.invariant_of-self
@@ -75,3 +80,38 @@ returns-then-self-clause-err g c =
       subst (λ (o : KeptEngine). IsRewriteRotationRefusal o errors.Full) c.self.view_is
           (greatest_refusal e.version (g.F.EngineFiles.asked e.files) e.append e.rewrite e.untold e.accessor e.intact c.self.invariant intact great),
     )
+
+pub returns-in_err-rotate-clause-fault : goal.returns-in_err-rotate-clause-fault
+returns-in_err-rotate-clause-fault g c =
+    let e = c.self.inside in
+    let old : List Ask = g.F.EngineFiles.asked e.files in
+    let intact : e.intact ≡ true = search rules in
+    let p = err_from_is_err_and c.from_residual-in_err-rotate.result c.from_residual-in_err-rotate.ensures.1 in
+    rw (p.1, p.2)
+    (λ broken. subst (λ (o : KeptEngine). IsRewriteRotationFault (g.F.EngineFiles.may_fail) o
+    (record { version = e.version; asks = g.F.EngineFiles.asked c.rotate.new.self; untold = e.untold; accessor = e.accessor; intact = false })
+    c.in_err-rotate.field-0.0) c.self.view_is
+    (record {
+      seq = e.rewrite.seq;
+      bytes = (c.self.invariant.whole intact).rewrite_files.bytes;
+      last = files_last Rewrite old e.rewrite (c.self.invariant.whole intact).rewrite_files;
+      failed = second_of_two (g.F.EngineFiles.may_fail) (ask Rewrite (Begin (e.rewrite.seq + 1))) (ask Rewrite Sync) old (g.F.EngineFiles.asked c.sync.new.self) (g.F.EngineFiles.asked c.rotate.new.self) c.in_err-rotate.field-0.0
+          c.in_ok-sync.ensures.ok (rw (c.close_last.ensures.seq) at c.in_err-rotate.ensures.err) (rw (c.close_last.ensures.seq) at c.in_err-rotate.ensures.fault);
+    }))
+
+pub returns-in_err-sync-clause-fault : goal.returns-in_err-sync-clause-fault
+returns-in_err-sync-clause-fault g c =
+    let e = c.self.inside in
+    let old : List Ask = g.F.EngineFiles.asked e.files in
+    let intact : e.intact ≡ true = search rules in
+    let p = err_from_is_err_and c.from_residual-in_err-sync.result c.from_residual-in_err-sync.ensures.1 in
+    rw (p.1, p.2)
+    (λ broken. subst (λ (o : KeptEngine). IsRewriteRotationFault (g.F.EngineFiles.may_fail) o
+    (record { version = e.version; asks = g.F.EngineFiles.asked c.sync.new.self; untold = e.untold; accessor = e.accessor; intact = false })
+    c.in_err-sync.field-0.0) c.self.view_is
+    (record {
+      seq = e.rewrite.seq;
+      bytes = (c.self.invariant.whole intact).rewrite_files.bytes;
+      last = files_last Rewrite old e.rewrite (c.self.invariant.whole intact).rewrite_files;
+      failed = first_of_two (g.F.EngineFiles.may_fail) (ask Rewrite (Begin (e.rewrite.seq + 1))) (ask Rewrite Sync) old (g.F.EngineFiles.asked c.sync.new.self) c.in_err-sync.field-0.0 c.in_err-sync.ensures.err c.in_err-sync.ensures.fault;
+    }))

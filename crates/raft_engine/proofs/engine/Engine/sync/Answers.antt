@@ -1,4 +1,7 @@
-use Rattle.std.proofs.Common.{rules, ◌≡◌, true}
+use Rattle.std.proofs.lemmas.Result.{err_from_is_err_and}
+use Rattle.std.proofs.Common.{rules, ◌≡◌, true, inr, subst}
+use Rattle.raft_engine.specs.Faults.{IsSyncFault}
+use Rattle.raft_engine.specs.KeptEngine.{KeptEngine}
 use Rattle.raft_engine.proofs.KeptLemmas.{kept_broken, kept_synced}
 use Rattle.raft_engine.proofs.engine.Engine.sync.Goals as goal
 
@@ -14,3 +17,10 @@ invariant_of-self-2 g c =
     let intact : e.intact ≡ true = search rules in
     kept_synced e.version (g.F.EngineFiles.asked e.files) e.append e.rewrite e.untold e.accessor e.intact c.self.invariant intact
     c.asks_are_stored.ensures.synced (g.F.EngineFiles.asked c.sync.new.self) c.in_ok-sync.ensures.ok
+
+pub returns-in_err-sync-clause-fault : goal.returns-in_err-sync-clause-fault
+returns-in_err-sync-clause-fault g c =
+    let e = c.self.inside in
+    let intact : e.intact ≡ true = search rules in
+    let p = err_from_is_err_and c.from_residual.result c.from_residual.ensures.1 in
+    rw (p.1, p.2) (subst (λ (o : KeptEngine). IsSyncFault (g.F.EngineFiles.may_fail) o c.in_err-sync.field-0.0) c.self.view_is (inr (intact, c.in_err-sync.ensures.fault)))

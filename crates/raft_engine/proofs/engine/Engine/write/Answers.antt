@@ -13,6 +13,9 @@ use Rattle.raft_engine.proofs.DrainLemmas.{all_first}
 use Rattle.raft_engine.proofs.KeptLemmas.{last_append}
 use Rattle.raft_engine.proofs.RefusalLemmas.{bytes_refusal, file_refusal, test_refusal}
 use Rattle.raft_engine.proofs.WriteLemmas.{IsReady, half_written, kept_half, kept_more, kept_put, merge_room, none_tested, none_written, one_more, placed_accepted, whole_asked}
+use Rattle.raft_base.specs.declared.pipe_log.LogFileContext.{LogFileContext}
+use Rattle.raft_engine.specs.Faults.{IsWritingFault}
+use Rattle.raft_engine.proofs.FaultLemmas.{writing_of_none, writing_put, writing_sync, writing_whole}
 use Rattle.raft_engine.proofs.engine.Engine.write.Goals as goal
 
 pub returns-then-is_empty-clause-tested : goal.returns-then-is_empty-clause-tested
@@ -158,7 +161,14 @@ returns-clause-ok g c =
       accepted = rw (c.items.ensures) at c.in_ok-check_append_writes.ensures.ok;
     } in
     let file = c.new-file.ensures ∙ ap (λ (id : FileId). record { id = id; version = e.version }) c.new.ensures in
-    inr (subst (λ (o : KeptEngine). IsOneMore c.args.sync c.args.batch.now o (record { version = e.version; asks = g.F.EngineFiles.asked c.sync_if.new.files; untold = c.merge.new.self; accessor = c.apply.new.accessor; intact = true })) c.self.view_is
+    inr (subst (λ (o : KeptEngine). IsOneMore c.args.sync c.args.batch.now o
+    (record {
+      version = e.version;
+      asks = g.F.EngineFiles.asked c.sync_if.new.files;
+      untold = c.merge.new.self;
+      accessor = c.apply.new.accessor;
+      intact = true;
+    })) c.self.view_is
     (one_more c.asks_are_stored.ensures.written c.asks_are_stored.ensures.synced
     e.version old e.append e.rewrite e.untold e.accessor e.intact c.self.invariant intact c.args.batch.now ready c.new-file.result file c.finish_populate.new.self c.in_ok-len.ensures.ok
     c.args.sync (g.F.EngineFiles.asked c.put.new.files) (g.F.EngineFiles.asked c.sync_if.new.files) c.in_ok-put.ensures.ok c.in_ok-sync_if.ensures.ok c.apply.new.accessor
@@ -189,7 +199,9 @@ returns-in_err-put-clause-err g c =
     let file = c.new-file.ensures ∙ ap (λ (id : FileId). record { id = id; version = e.version }) c.new.ensures in
     let p = err_from_is_err_and c.from_residual-in_err-put.result c.from_residual-in_err-put.ensures.1 in
     rw (p.1, p.2)
-    (inr (subst (λ (o : KeptEngine). IsHalfWritten c.args.sync c.args.batch.now o (record { version = e.version; asks = g.F.EngineFiles.asked c.put.new.files; untold = e.untold; accessor = e.accessor; intact = false }) c.in_err-put.field-0.0) c.self.view_is
+    (inr (subst (λ (o : KeptEngine). IsHalfWritten c.args.sync c.args.batch.now o
+    (record { version = e.version; asks = g.F.EngineFiles.asked c.put.new.files; untold = e.untold; accessor = e.accessor; intact = false })
+    c.in_err-put.field-0.0) c.self.view_is
     (half_written c.asks_are_stored.ensures.written c.asks_are_stored.ensures.synced
     e.version old e.append e.rewrite e.untold e.accessor e.intact c.self.invariant intact c.args.batch.now ready c.new-file.result file c.finish_populate.new.self c.in_ok-len.ensures.ok
     c.args.sync (g.F.EngineFiles.asked c.put.new.files) e.untold e.accessor c.in_err-put.field-0.0 c.in_err-put.ensures.err refl)))
@@ -213,7 +225,9 @@ returns-in_err-sync_if-clause-err g c =
     let file = c.new-file.ensures ∙ ap (λ (id : FileId). record { id = id; version = e.version }) c.new.ensures in
     let p = err_from_is_err_and c.from_residual-in_err-sync_if.result c.from_residual-in_err-sync_if.ensures.1 in
     rw (p.1, p.2)
-    (inr (subst (λ (o : KeptEngine). IsHalfWritten c.args.sync c.args.batch.now o (record { version = e.version; asks = g.F.EngineFiles.asked c.sync_if.new.files; untold = e.untold; accessor = e.accessor; intact = false }) c.in_err-sync_if.field-0.0) c.self.view_is
+    (inr (subst (λ (o : KeptEngine). IsHalfWritten c.args.sync c.args.batch.now o
+    (record { version = e.version; asks = g.F.EngineFiles.asked c.sync_if.new.files; untold = e.untold; accessor = e.accessor; intact = false })
+    c.in_err-sync_if.field-0.0) c.self.view_is
     (half_written c.asks_are_stored.ensures.written c.asks_are_stored.ensures.synced
     e.version old e.append e.rewrite e.untold e.accessor e.intact c.self.invariant intact c.args.batch.now ready c.new-file.result file c.finish_populate.new.self c.in_ok-len.ensures.ok
     c.args.sync (g.F.EngineFiles.asked c.sync_if.new.files) e.untold e.accessor c.in_err-sync_if.field-0.0 (inr (c.in_err-sync_if.ensures.err ∙ c.in_ok-put.ensures.ok)) refl)))
@@ -237,7 +251,14 @@ returns-in_err-apply-clause-err g c =
     let file = c.new-file.ensures ∙ ap (λ (id : FileId). record { id = id; version = e.version }) c.new.ensures in
     let p = err_from_is_err_and c.from_residual-in_err-apply.result c.from_residual-in_err-apply.ensures.1 in
     rw (p.1, p.2)
-    (inr (subst (λ (o : KeptEngine). IsHalfWritten c.args.sync c.args.batch.now o (record { version = e.version; asks = g.F.EngineFiles.asked c.sync_if.new.files; untold = e.untold; accessor = c.apply.new.accessor; intact = false }) c.in_err-apply.field-0.0) c.self.view_is
+    (inr (subst (λ (o : KeptEngine). IsHalfWritten c.args.sync c.args.batch.now o
+    (record {
+      version = e.version;
+      asks = g.F.EngineFiles.asked c.sync_if.new.files;
+      untold = e.untold;
+      accessor = c.apply.new.accessor;
+      intact = false;
+    }) c.in_err-apply.field-0.0) c.self.view_is
     (whole_asked c.asks_are_stored.ensures.written c.asks_are_stored.ensures.synced
     e.version old e.append e.rewrite e.untold e.accessor e.intact c.self.invariant intact c.args.batch.now ready c.new-file.result file c.finish_populate.new.self c.in_ok-len.ensures.ok
     c.args.sync (g.F.EngineFiles.asked c.sync_if.new.files) e.untold c.apply.new.accessor c.in_err-apply.field-0.0 (c.in_ok-sync_if.ensures.ok ∙ ap (synced_if c.args.sync) c.in_ok-put.ensures.ok)
@@ -266,7 +287,14 @@ returns-in_err-merge-clause-err g c =
     let file = c.new-file.ensures ∙ ap (λ (id : FileId). record { id = id; version = e.version }) c.new.ensures in
     let p = err_from_is_err_and c.from_residual-in_err-merge.result c.from_residual-in_err-merge.ensures.1 in
     rw (p.1, p.2)
-    (inr (subst (λ (o : KeptEngine). IsHalfWritten c.args.sync c.args.batch.now o (record { version = e.version; asks = g.F.EngineFiles.asked c.sync_if.new.files; untold = c.merge.new.self; accessor = c.apply.new.accessor; intact = false }) c.in_err-merge.field-0.0) c.self.view_is
+    (inr (subst (λ (o : KeptEngine). IsHalfWritten c.args.sync c.args.batch.now o
+    (record {
+      version = e.version;
+      asks = g.F.EngineFiles.asked c.sync_if.new.files;
+      untold = c.merge.new.self;
+      accessor = c.apply.new.accessor;
+      intact = false;
+    }) c.in_err-merge.field-0.0) c.self.view_is
     (whole_asked c.asks_are_stored.ensures.written c.asks_are_stored.ensures.synced
     e.version old e.append e.rewrite e.untold e.accessor e.intact c.self.invariant intact c.args.batch.now ready c.new-file.result file c.finish_populate.new.self c.in_ok-len.ensures.ok
     c.args.sync (g.F.EngineFiles.asked c.sync_if.new.files) c.merge.new.self c.apply.new.accessor c.in_err-merge.field-0.0 (c.in_ok-sync_if.ensures.ok ∙ ap (synced_if c.args.sync) c.in_ok-put.ensures.ok)
@@ -297,3 +325,123 @@ returns-then-self-gt-LAST_OFFSET-clause-err g c =
       subst (λ (o : KeptEngine). IsRefusal o c.args.batch.now errors.Full) c.self.view_is
           (file_refusal e.version (g.F.EngineFiles.asked e.files) e.append e.rewrite e.untold e.accessor e.intact c.args.batch.now c.self.invariant intact many),
     )
+
+pub returns-then-is_empty-clause-fault : goal.returns-then-is_empty-clause-fault
+returns-then-is_empty-clause-fault g c =
+    let e = c.self.inside in
+    let none : c.args.batch.now.items ≡ [] = search rules in
+    let intact : e.intact ≡ true = search rules in
+    let kept = c.self.invariant in
+    let last = subst (λ (o : KeptEngine). IsLastFile Append o.asks e.append.seq (kept.whole intact).append_files.bytes) c.self.view_is
+    (last_append e.version (g.F.EngineFiles.asked e.files) e.append e.rewrite e.untold e.accessor e.intact kept intact) in
+    let was : c.args.self.now.intact ≡ true = search rules in
+    writing_of_none (g.F.EngineFiles.may_fail) c.sync_if_wanted.result c.args.sync c.args.batch.now c.args.self.now c.sync_if_wanted.new.self
+    e.append.seq (kept.whole intact).append_files.bytes last was none c.sync_if_wanted.ensures.err c.sync_if_wanted.ensures.fault
+
+pub returns-in_err-put-clause-fault : goal.returns-in_err-put-clause-fault
+returns-in_err-put-clause-fault g c =
+    let e = c.self.inside in
+    let old : List Ask = g.F.EngineFiles.asked e.files in
+    let intact : e.intact ≡ true = search rules in
+    let some : c.args.batch.now.items ≢ [] = search rules in
+    let its : LogFileContext = record { id = record { queue = Append; seq = e.append.seq }; version = e.version } in
+    let file : c.new-file.result ≡ its = c.new-file.ensures ∙ ap (λ (id : FileId). record { id = id; version = e.version }) c.new.ensures in
+    let new : List Ask = g.F.EngineFiles.asked c.put.new.files in
+    let p = err_from_is_err_and c.from_residual-in_err-put.result c.from_residual-in_err-put.ensures.1 in
+    rw (p.1, p.2)
+    (λ broken. subst (λ (o : KeptEngine). IsWritingFault (g.F.EngineFiles.may_fail) c.args.sync c.args.batch.now o
+    (record { version = e.version; asks = new; untold = e.untold; accessor = e.accessor; intact = false }) c.in_err-put.field-0.0) c.self.view_is
+    (record {
+      seq = e.append.seq;
+      bytes = (c.self.invariant.whole intact).append_files.bytes;
+      last = last_append e.version old e.append e.rewrite e.untold e.accessor e.intact c.self.invariant intact;
+      why = inl (writing_put (g.F.EngineFiles.may_fail) c.new-file.result its c.finish_populate.new.self c.args.batch.now c.args.sync old new
+          c.in_err-put.field-0.0 file c.in_ok-len.ensures.ok some c.in_err-put.ensures.err c.in_err-put.ensures.fault);
+    }))
+
+pub returns-in_err-sync_if-clause-fault : goal.returns-in_err-sync_if-clause-fault
+returns-in_err-sync_if-clause-fault g c =
+    let e = c.self.inside in
+    let old : List Ask = g.F.EngineFiles.asked e.files in
+    let intact : e.intact ≡ true = search rules in
+    let some : c.args.batch.now.items ≢ [] = search rules in
+    let its : LogFileContext = record { id = record { queue = Append; seq = e.append.seq }; version = e.version } in
+    let file : c.new-file.result ≡ its = c.new-file.ensures ∙ ap (λ (id : FileId). record { id = id; version = e.version }) c.new.ensures in
+    let new : List Ask = g.F.EngineFiles.asked c.sync_if.new.files in
+    let p = err_from_is_err_and c.from_residual-in_err-sync_if.result c.from_residual-in_err-sync_if.ensures.1 in
+    rw (p.1, p.2)
+    (λ broken. subst (λ (o : KeptEngine). IsWritingFault (g.F.EngineFiles.may_fail) c.args.sync c.args.batch.now o
+    (record { version = e.version; asks = new; untold = e.untold; accessor = e.accessor; intact = false }) c.in_err-sync_if.field-0.0)
+    c.self.view_is
+    (record {
+      seq = e.append.seq;
+      bytes = (c.self.invariant.whole intact).append_files.bytes;
+      last = last_append e.version old e.append e.rewrite e.untold e.accessor e.intact c.self.invariant intact;
+      why = inl (writing_sync (g.F.EngineFiles.may_fail) c.new-file.result its c.finish_populate.new.self c.args.batch.now c.args.sync old
+          (g.F.EngineFiles.asked c.put.new.files) new c.in_err-sync_if.field-0.0 file c.in_ok-len.ensures.ok some c.in_ok-put.ensures.ok
+          c.in_err-sync_if.ensures.fault);
+    }))
+
+pub returns-in_err-apply-clause-fault : goal.returns-in_err-apply-clause-fault
+returns-in_err-apply-clause-fault g c =
+    let e = c.self.inside in
+    let old : List Ask = g.F.EngineFiles.asked e.files in
+    let intact : e.intact ≡ true = search rules in
+    let some : c.args.batch.now.items ≢ [] = search rules in
+    let its : LogFileContext = record { id = record { queue = Append; seq = e.append.seq }; version = e.version } in
+    let file : c.new-file.result ≡ its = c.new-file.ensures ∙ ap (λ (id : FileId). record { id = id; version = e.version }) c.new.ensures in
+    let ready : IsReady e.accessor.tables c.args.batch.now = record {
+      writable = record {
+        tiled = c.is_read_again.ensures.tiled;
+        in_range = c.is_read_again.ensures.in_range;
+        in_bytes = c.is_read_again.ensures.in_bytes;
+        some = some;
+        short = c.in_ok-len.ensures.accepted;
+      };
+      accepted = rw (c.items.ensures) at c.in_ok-check_append_writes.ensures.ok;
+    } in
+    let new : List Ask = g.F.EngineFiles.asked c.sync_if.new.files in
+    let p = err_from_is_err_and c.from_residual-in_err-apply.result c.from_residual-in_err-apply.ensures.1 in
+    rw (p.1, p.2)
+    (λ broken. subst (λ (o : KeptEngine). IsWritingFault (g.F.EngineFiles.may_fail) c.args.sync c.args.batch.now o
+    (record { version = e.version; asks = new; untold = e.untold; accessor = c.apply.new.accessor; intact = false }) c.in_err-apply.field-0.0)
+    c.self.view_is
+    (record {
+      seq = e.append.seq;
+      bytes = (c.self.invariant.whole intact).append_files.bytes;
+      last = last_append e.version old e.append e.rewrite e.untold e.accessor e.intact c.self.invariant intact;
+      why = inr (
+        some,
+        writing_whole c.new-file.result its c.finish_populate.new.self c.args.batch.now c.args.sync old (g.F.EngineFiles.asked c.put.new.files) new file c.in_ok-len.ensures.ok some c.in_ok-put.ensures.ok c.in_ok-sync_if.ensures.ok,
+        c.in_err-apply.ensures.room
+            (placed_accepted c.asks_are_stored.ensures.written c.asks_are_stored.ensures.synced
+            e.version old e.append e.rewrite e.untold e.accessor e.intact c.self.invariant intact c.args.batch.now ready c.new-file.result file c.finish_populate.new.self c.in_ok-len.ensures.ok
+            c.put.new.batch.items c.in_ok-put.ensures.placed),
+      );
+    }))
+
+pub returns-in_err-merge-clause-fault : goal.returns-in_err-merge-clause-fault
+returns-in_err-merge-clause-fault g c =
+    let e = c.self.inside in
+    let old : List Ask = g.F.EngineFiles.asked e.files in
+    let intact : e.intact ≡ true = search rules in
+    let some : c.args.batch.now.items ≢ [] = search rules in
+    let its : LogFileContext = record { id = record { queue = Append; seq = e.append.seq }; version = e.version } in
+    let file : c.new-file.result ≡ its = c.new-file.ensures ∙ ap (λ (id : FileId). record { id = id; version = e.version }) c.new.ensures in
+    let new : List Ask = g.F.EngineFiles.asked c.sync_if.new.files in
+    let p = err_from_is_err_and c.from_residual-in_err-merge.result c.from_residual-in_err-merge.ensures.1 in
+    rw (p.1, p.2)
+    (λ broken. subst (λ (o : KeptEngine). IsWritingFault (g.F.EngineFiles.may_fail) c.args.sync c.args.batch.now o
+    (record { version = e.version; asks = new; untold = c.merge.new.self; accessor = c.apply.new.accessor; intact = false })
+    c.in_err-merge.field-0.0) c.self.view_is
+    (record {
+      seq = e.append.seq;
+      bytes = (c.self.invariant.whole intact).append_files.bytes;
+      last = last_append e.version old e.append e.rewrite e.untold e.accessor e.intact c.self.invariant intact;
+      why = inr (
+        some,
+        writing_whole c.new-file.result its c.finish_populate.new.self c.args.batch.now c.args.sync old
+            (g.F.EngineFiles.asked c.put.new.files) new file c.in_ok-len.ensures.ok some c.in_ok-put.ensures.ok c.in_ok-sync_if.ensures.ok,
+        merge_room c.in_err-merge.field-0.0 c.in_err-merge.ensures.fault,
+      );
+    }))

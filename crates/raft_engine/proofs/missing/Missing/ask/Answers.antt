@@ -7,4 +7,5 @@ returns-in-FirstFile-clause-err g c =
 
 pub returns-in-Cut-clause-err : goal.returns-in-Cut-clause-err
 returns-in-Cut-clause-err g c =
-    cut_failed (g.F.EngineFiles.may_fail) c.truncate.result c.args.queue c.args.self c.in-Cut.len (g.F.EngineFiles.asked c.args.files.now) (g.F.EngineFiles.asked c.truncate.new.self) c.in-Cut.is c.truncate.ensures.err c.truncate.ensures.fault
+    cut_failed (g.F.EngineFiles.may_fail) c.truncate.result c.args.queue c.args.self c.in-Cut.len (g.F.EngineFiles.asked c.args.files.now)
+    (g.F.EngineFiles.asked c.truncate.new.self) c.in-Cut.is c.truncate.ensures.err c.truncate.ensures.fault

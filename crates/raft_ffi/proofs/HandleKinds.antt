@@ -2,22 +2,22 @@
 use mathlib.Core.Path.{refl}
 use Rattle.raft_records.specs.contracts.log_batch.LogBatch as HeldBatch
 use Rattle.raft_records.proofs.log_batch.LogBatch.TheLaws as held_batch
-use Rattle.raft_ffi.specs.contracts.batch.Batch as Batch
+use Rattle.raft_ffi.specs.contracts.handles.Batch as Batch
 use Rattle.raft_contexts.specs.contracts.recover_context.MemTableRecoverContext as HeldContext
 use Rattle.raft_contexts.proofs.recover_context.MemTableRecoverContext.TheLaws as held_context
-use Rattle.raft_ffi.specs.contracts.context.Context as Context
+use Rattle.raft_ffi.specs.contracts.handles.Context as Context
 use Rattle.raft_ffi.specs.contracts.item_list.ItemList as HeldItems
 use Rattle.raft_ffi.proofs.item_list.ItemList.TheLaws as held_items
-use Rattle.raft_ffi.specs.contracts.items.Items as Items
+use Rattle.raft_ffi.specs.contracts.handles.Items as Items
 use Rattle.raft_accessor.specs.contracts.accessor.MemTableAccessor as HeldTables
 use Rattle.raft_accessor.proofs.accessor.MemTableAccessor.TheLaws as held_tables
-use Rattle.raft_ffi.specs.contracts.tables.Tables as Tables
+use Rattle.raft_ffi.specs.contracts.handles.Tables as Tables
 use Rattle.raft_ffi.specs.contracts.held_engine.HeldEngine as HeldEngine
 use Rattle.raft_ffi.proofs.held_engine.HeldEngine.TheLaws as held_engine
-use Rattle.raft_ffi.specs.contracts.engine.Engine as Engine
+use Rattle.raft_ffi.specs.contracts.handles.Engine as Engine
 use Rattle.raft_ffi.specs.contracts.found_files.FoundFiles as HeldFound
 use Rattle.raft_ffi.proofs.found_files.FoundFiles.TheLaws as held_found
-use Rattle.raft_ffi.specs.contracts.found.Found as Found
+use Rattle.raft_ffi.specs.contracts.handles.Found as Found
 use Rattle.raft_ffi.proofs.HandleSteps.{Handle}
 
 abbrev pub batch : Handle

@@ -15,6 +15,7 @@ use Rattle.raft_ffi.specs.FoundFiles.{FilesSeen}
 pub for_memory : (version : Version) (found : FilesSeen) (appended rewritten : RecoverContext) (e : Error) → e ≡ errors.Memory → IsUnopenedAs version found appended rewritten e
 for_memory version found appended rewritten e is = (found_asks found.append found.rewrite, inl (refl, λ other. absurd (other is)))
 
-pub for_reason : (version : Version) (found : FilesSeen) (appended rewritten : RecoverContext) (asks : List Ask) (u e : Error) → IsUnopened (AreUnmergedAs version appended rewritten) (λ _ _. IsUnordered) version found.append found.rewrite asks u → e ≡ u
+pub for_reason : (version : Version) (found : FilesSeen) (appended rewritten : RecoverContext) (asks : List Ask) (u e : Error)
+    → IsUnopened (AreUnmergedAs version appended rewritten) (λ _ _. IsUnordered) version found.append found.rewrite asks u → e ≡ u
     → IsUnopenedAs version found appended rewritten e
 for_reason version found appended rewritten asks u e why same = (asks, subst (IsUnopened (AreUnmergedAs version appended rewritten) (λ _ _. IsUnordered) version found.append found.rewrite asks) (sym same) why)

@@ -42,6 +42,9 @@ next_entry first k lens low =
     let more : first + k + 1 ≡ first + (k + 1) = omega arith in
     at_drop_more (entries_from (first + k)) lens k 0 low ∙ ap (λ j. entry_with_index (first + k) ∷ entries_from j (drop (k + 1) lens)) more
 
-pub one_entry_more : (first k : ℕ) (lens : List ℕ) (found new : List EntryIndex) → k < length lens → found ++ entries_from (first + k) (drop k lens) ≡ entries_from first lens → new ≡ found ++ entry_with_index (first + k) ∷ [] → new ++ entries_from (first + (k + 1)) (drop (k + 1) lens) ≡ entries_from first lens
+pub one_entry_more : (first k : ℕ) (lens : List ℕ) (found new : List EntryIndex) → k < length lens → found ++ entries_from (first + k) (drop k lens) ≡ entries_from first lens
+    → new ≡ found ++ entry_with_index (first + k) ∷ [] → new ++ entries_from (first + (k + 1)) (drop (k + 1) lens) ≡ entries_from first lens
 one_entry_more first k lens found new low h is =
-    ap (λ l. l ++ entries_from (first + (k + 1)) (drop (k + 1) lens)) is ∙ append_assoc found (entry_with_index (first + k) ∷ []) (entries_from (first + (k + 1)) (drop (k + 1) lens)) ∙ ap (λ l. found ++ l) (sym (next_entry first k lens low)) ∙ h
+    ap (λ l. l ++ entries_from (first + (k + 1)) (drop (k + 1) lens)) is
+    ∙ append_assoc found (entry_with_index (first + k) ∷ []) (entries_from (first + (k + 1)) (drop (k + 1) lens))
+    ∙ ap (λ l. found ++ l) (sym (next_entry first k lens low)) ∙ h

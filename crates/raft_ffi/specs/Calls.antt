@@ -4,6 +4,7 @@ use Rattle.raft_base.specs.declared.errors.Error.{Error}
 use Rattle.raft_base.specs.declared.errors.Error.TheVariants as errors
 use Rattle.raft_base.specs.declared.pipe_log.LogQueue.{LogQueue}
 use Rattle.raft_base.specs.declared.pipe_log.LogQueue.TheVariants.{Append, Rewrite}
+use Rattle.raft_base.specs.declared.pipe_log.FileId.{FileId}
 use Rattle.raft_base.specs.declared.pipe_log.LogFileContext.{LogFileContext}
 use Rattle.raft_base.specs.declared.pipe_log.Version.{Version}
 use Rattle.raft_base.specs.declared.pipe_log.Version.TheVariants.{V1, V2}
@@ -14,6 +15,10 @@ abbrev pub queue_of : Bool → LogQueue
 queue_of false = Append
 queue_of true = Rewrite
 
+-- the file of a queue with a number
+abbrev pub id_of : Bool → ℕ → FileId
+id_of is_rewrite seq = record { queue = queue_of is_rewrite; seq = seq }
+
 -- the version that a flag names
 abbrev pub version_of : Bool → Version
 version_of false = V1
@@ -21,7 +26,7 @@ version_of true = V2
 
 -- the file that its number and its flags name
 abbrev pub file_of : File → LogFileContext
-file_of file = record { id = record { queue = queue_of file.is_rewrite; seq = file.seq }; version = version_of file.is_signed }
+file_of file = record { id = id_of file.is_rewrite file.seq; version = version_of file.is_signed }
 
 -- the number of an error; 0 is none's
 abbrev pub code_of : Error → ℕ
@@ -47,6 +52,10 @@ abbrev pub Holds : {V : Type 0} → (V → Type 0) → Option V → Type 0
 Holds P None = ⊥
 Holds P (Some v) = P v
 
+-- a number is that of an error for which what a handle holds is refused
+abbrev pub IsCodeFor : {V : Type 0} → (V → Error → Type 0) → Option V → ℕ → Type 0
+IsCodeFor IsFault held code = Holds (λ v. IsCodeOf (IsFault v) code) held
+
 -- what there is was found, if the flag says so, and is as this says
 abbrev pub IsFound : {X : Type 0} → (X → Type 0) → Option X → Bool → Type 0
 IsFound P None found = found ≡ false
@@ -56,6 +65,15 @@ IsFound P (Some x) found = (found ≡ true) × P x
 abbrev pub BothHold : {V W : Type 0} → (V → W → Type 0) → Option V → Option W → Type 0
 BothHold P (Some v) (Some w) = P v w
 BothHold P _ _ = ⊥
+
+-- a number is that of an error for which what two handles hold is refused
+abbrev pub IsCodeForBoth : {V W : Type 0} → (V → W → Error → Type 0) → Option V → Option W → ℕ → Type 0
+IsCodeForBoth IsFault one other code = BothHold (λ v w. IsCodeOf (IsFault v w) code) one other
+
+-- three handles hold what this says of the three
+abbrev pub AllHold : {U V W : Type 0} → (U → V → W → Type 0) → Option U → Option V → Option W → Type 0
+AllHold P (Some u) (Some v) (Some w) = P u v w
+AllHold P _ _ _ = ⊥
 
 -- what a handle holds, and where the next batch begins
 abbrev pub next_shown : {V : Type 0} → Option V → ℕ → Option (V × ℕ)

@@ -1,13 +1,21 @@
 -- How the calls of a running engine change tables.
-use Rattle.std.specs.Prelude.{◌≡◌, ◌⊎◌, ℕ, List, ◌++◌, [], ◌∷◌, Bool, Option, Some, if◌then◌else◌}
+use Rattle.std.specs.Prelude.{◌≡◌, ◌⊎◌, ℕ, ◌+◌, List, ◌++◌, [], ◌∷◌, length, Bool, Option, Some, if◌then◌else◌}
 use Rattle.std.specs.FinMap as finite
+use Rattle.raft_base.specs.declared.entry_index.EntryIndex.{EntryIndex}
 use Rattle.raft_base.specs.declared.errors.Error.{Error}
 use Rattle.raft_base.specs.declared.errors.Error.TheVariants.{Memory}
+use Rattle.raft_base.specs.declared.pipe_log.FileId.{FileId}
+use Rattle.raft_base.specs.declared.pipe_log.LogQueue.TheVariants.{Append, Rewrite}
 use Rattle.raft_records.specs.Item.{Item}
 use Rattle.raft_accessor.specs.Accessor.{Accessor, table_in, AreCountsOf}
 use Rattle.raft_accessor.specs.Merges.{AreTablesMerged}
 use Rattle.raft_accessor.specs.Writes.{Writing, AreItemsRefused}
-use Rattle.raft_table.specs.Table.{Table}
+use Rattle.raft_table.specs.Change.{IsListFault}
+use Rattle.raft_table.specs.KeyValues.{file_at}
+use Rattle.raft_table.specs.Rewriting.{entries_after_rewrite, IsRewriteFault}
+use Rattle.raft_table.specs.Start.{entries_after_append, IsTableRunFault}
+use Rattle.raft_table.specs.Table.{Table, after_append, after_rewrite, after_rewrite_key, with_pair, IsTablePutFault, IsKeyRewriteFault}
+use Rattle.raft_table.specs.TableEntries.{below, from}
 use Rattle.raft_ffi.specs.Calls.{IsCodeOf}
 
 -- a region's table becomes the outcome of a change, and all others stay; the live counts are those of the tables
@@ -27,6 +35,60 @@ pub record IsRemoved (region : ℕ) (is_listed : Bool) (old new : Accessor) : Ty
 abbrev pub IsMemoryOr : (Error → Type 0) → Error → Type 0
 IsMemoryOr IsFault e = (e ≡ Memory) ⊎ IsFault e
 
+-- new entries stand behind those of a region below their start
+abbrev pub AreAppended : List EntryIndex → ℕ → Accessor → Accessor → Type 0
+AreAppended entries region old new = IsChangedTo (after_append (table_in old.tables region) entries) region old new
+
+-- why entries aren't appended
+abbrev pub AreUnappended : List EntryIndex → ℕ → Accessor → Error → Type 0
+AreUnappended entries region old = IsMemoryOr (λ e. IsListFault Append entries e
+    ⊎ IsTableRunFault Append old.counts (table_in old.tables region).entries (entries_after_append (table_in old.tables region).entries entries) e)
+
+-- the entries of a region below an index go
+abbrev pub IsCompacted : ℕ → ℕ → Accessor → Accessor → Type 0
+IsCompacted index region old new = IsChangedTo (Some (record (table_in old.tables region) { entries = from index (table_in old.tables region).entries })) region old new
+
+-- the entries of a region from an index on go
+abbrev pub IsTruncated : ℕ → ℕ → Accessor → Accessor → Type 0
+IsTruncated index region old new = IsChangedTo (Some (record (table_in old.tables region) { entries = below index (table_in old.tables region).entries })) region old new
+
+-- so many entries of a region went
+abbrev pub AreDropped : ℕ → ℕ → Accessor → Accessor → Type 0
+AreDropped count region old new = count + length (table_in new.tables region).entries ≡ length (table_in old.tables region).entries
+
+-- a key of a region has a value, which was written to a file
+abbrev pub IsPut : List ℕ → List ℕ → FileId → ℕ → Accessor → Accessor → Type 0
+IsPut key value file region old new = IsChangedTo (Some (with_pair (table_in old.tables region) key value file)) region old new
+
+-- why a key gets no value
+abbrev pub IsUnput : List ℕ → FileId → ℕ → Accessor → Error → Type 0
+IsUnput key file region old = IsMemoryOr (IsTablePutFault file.queue old.counts (file_at (table_in old.tables region).keys key))
+
+-- a key of a region goes
+abbrev pub IsDeleted : List ℕ → ℕ → Accessor → Accessor → Type 0
+IsDeleted key region old new = IsChangedTo (Some (record (table_in old.tables region) { keys = finite.remove (table_in old.tables region).keys key })) region old new
+
+-- the entries of a region have the places of a run, as far as they may move
+abbrev pub AreRewritten : Option ℕ → List EntryIndex → ℕ → Accessor → Accessor → Type 0
+AreRewritten gate entries region old new = IsChangedTo (after_rewrite gate (table_in old.tables region) entries) region old new
+
+-- why entries don't get their places
+abbrev pub AreUnrewritten : Option ℕ → List EntryIndex → ℕ → Accessor → Error → Type 0
+AreUnrewritten gate entries region old = IsMemoryOr (λ e. IsListFault Rewrite entries e
+    ⊎ IsRewriteFault (length entries) old.counts (entries_after_rewrite gate entries (table_in old.tables region).entries) e)
+
+-- the pair of a region's key is in a rewrite file, if it may move
+abbrev pub IsKeyRewritten : Option ℕ → ℕ → List ℕ → ℕ → Accessor → Accessor → Type 0
+IsKeyRewritten gate seq key region old new = IsChangedTo (after_rewrite_key gate seq (table_in old.tables region) key) region old new
+
+-- why the pair of a key doesn't move
+abbrev pub IsKeyUnrewritten : Option ℕ → ℕ → List ℕ → ℕ → Accessor → Error → Type 0
+IsKeyUnrewritten gate seq key region old = IsMemoryOr (IsKeyRewriteFault old.counts (after_rewrite_key gate seq (table_in old.tables region) key))
+
+-- a region's atomic group is in these files
+abbrev pub IsGroupSet : ℕ → ℕ → ℕ → Accessor → Accessor → Type 0
+IsGroupSet start end region old new = IsChangedTo (Some (record (table_in old.tables region) { atomic_group = Some (start, end) })) region old new
+
 -- no tables
 abbrev pub no_tables : Accessor
 no_tables = record { tables = finite.empty; cleaned = []; counts = record { append = 0; written = 0; deleted = 0 } }
@@ -44,8 +106,8 @@ pub record IsStoppedAt (w : Writing) (items : List Item) (old new : Accessor) (e
   pub refused : AreItemsRefused w taken old new e
 
 -- the first of the items are written up to one that is refused, and no others; the code is that of its reason
-abbrev pub AreSomeWritten : Writing → List Item → ℕ → Accessor → Accessor → Type 0
-AreSomeWritten w items code old new = IsCodeOf (IsStoppedAt w items old new) code
+abbrev pub AreSomeWritten : Writing → ℕ → List Item → Accessor → Accessor → Type 0
+AreSomeWritten w code items old new = IsCodeOf (IsStoppedAt w items old new) code
 
 -- all of it, but for the list of cleaned regions, which is empty
 abbrev pub without_cleaned : Accessor → Accessor

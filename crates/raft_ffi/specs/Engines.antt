@@ -52,8 +52,8 @@ abbrev pub IsStopped : KeptEngine → KeptEngine → Type 0
 IsStopped old new = new ≡ record old { intact = false }
 
 -- a batch was empty, and at most a sync is ordered; or it is written
-abbrev pub IsWrittenOrNone : Bool → KeptEngine → KeptEngine → Batch → Type 0
-IsWrittenOrNone sync old new batch = ((batch.items ≡ []) × IsOnlySynced sync old new) ⊎ IsOneMore sync batch old new
+abbrev pub IsWrittenOrNone : Bool → Batch → KeptEngine → KeptEngine → Type 0
+IsWrittenOrNone sync batch old new = ((batch.items ≡ []) × IsOnlySynced sync old new) ⊎ IsOneMore sync batch old new
 
 -- whichever contents are told by what was asked of an engine, what was synced lasts, whenever the machine stops or stopped
 abbrev pub Lasts : KeptEngine → Type 0

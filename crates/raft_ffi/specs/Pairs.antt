@@ -1,15 +1,11 @@
 -- Keys with their values, as plain data.
 use Rattle.std.specs.Prelude.{ℕ, ◌-◌, ◌^◌, Bool, true, false, List, [], ◌∷◌, ◌++◌, filter, length, flat_map, Option, Some, None}
-use Rattle.std.specs.FinMap as finite
 use Rattle.std.specs.Cmp.Lexicographic.{slice_cmp}
 use Rattle.std.specs.List.Sorted.{IsPermutation, IsSortedBy}
 use Rattle.std.specs.Ordering.{is_lt, nat_cmp}
-use Rattle.raft_base.specs.declared.pipe_log.LogQueue.{LogQueue}
 use Rattle.raft_base.specs.declared.pipe_log.LogQueue.TheVariants.{Append, Rewrite}
-use Rattle.raft_history.specs.RegionSteps.{Tables}
 use Rattle.raft_table.specs.KeyValues.{Keys, pairs_up_to}
 use Rattle.raft_table.specs.Scan.{is_between}
-use Rattle.raft_table.specs.Steps.{table_of}
 use Rattle.raft_ffi.specs.Rooms.{IsCopied}
 
 -- the length of each key and of its value, in turn
@@ -25,9 +21,10 @@ pub record ArePairsIn (pairs : List (List ℕ × List ℕ)) (old_lens new_lens :
   pub lens : IsCopied (lengths_of pairs) old_lens new_lens count
   pub bytes : IsCopied (bytes_of pairs) old_bytes new_bytes len
 
--- the pairs of a region in a queue whose file is at or below the gate, if there is one, in the order of the keys
-abbrev pub pairs_in : Tables → ℕ → LogQueue → Option ℕ → List (List ℕ × List ℕ)
-pairs_in tables region queue gate = pairs_up_to queue gate (table_of region (finite.get tables region)).keys
+-- the pairs of a region that move past a gate, or without one those that are rewritten, in the order of the keys
+abbrev pub moving_pairs : Option ℕ → Keys → List (List ℕ × List ℕ)
+moving_pairs None keys = pairs_up_to Rewrite None keys
+moving_pairs (Some gate) keys = pairs_up_to Append (Some gate) keys
 
 -- a bound that the flag says is there
 abbrev pub bound_in : Bool → List ℕ → Option (List ℕ)

@@ -1,6 +1,6 @@
 //! Calls of batches that are written: items are added to one, its bytes are made, and signed for a file.
 
-ghost use Rattle.std.specs.Prelude.{◌≡◌, ◌≢◌, ℕ, ◌+◌, ◌-◌, ◌^◌, ◌<◌, ◌≤◌, [], IsTrue, IfOk, IfErr, OnOk, OnErr, Option, Some, None, is_some, length, map};
+ghost use Rattle.std.specs.Prelude.{◌≡◌, ◌≢◌, ℕ, ◌+◌, ◌-◌, ◌^◌, ◌<◌, ◌≤◌, [], IsTrue, IfErr, OnOk, OnErr, Option, Some, None, is_some, length, map};
 ghost use Rattle.std.specs.List.{concat};
 ghost use Rattle.raft_base.specs.Signature.{signature_of};
 ghost use Rattle.raft_records.specs.Group.{reserved_key, IsKeyRefusal};
@@ -10,13 +10,12 @@ ghost use Rattle.raft_records.specs.Sizes.{HaveSmallNumbers};
 ghost use Rattle.raft_records.specs.declared.command.Command.TheVariants.{Clean, Compact, Truncate};
 ghost use Rattle.raft_records.specs.declared.key_value.OpType.TheVariants.{Put, Del};
 ghost use Rattle.raft_ffi.specs.Batches.{at_stage, place_at, written_to};
-ghost use Rattle.raft_ffi.specs.Calls.{file_of, IsCodeOf, Holds, BothHold};
+ghost use Rattle.raft_ffi.specs.Calls.{file_of, AllHold, BothHold, Holds, IsCodeOf};
 ghost use Rattle.raft_ffi.specs.Rooms.{IsCopied, HasText};
 ghost use Rattle.raft_ffi.specs.Strings.{entries_from, strings_of, HasStrings};
 
-use crate::batch::Batch;
-use crate::item_list::{ItemList, items_of};
-use crate::items::Items;
+use crate::handles::{Batch, Handle, Items};
+use crate::item_list::items_of;
 use crate::rooms::copy_front;
 use crate::status::{File, Status, answered, memory_code, queue};
 use crate::strings::{consecutive, strings};
@@ -32,13 +31,7 @@ pub extern "C" fn raft_ffi_batch_new(alloc: Global, batch: &mut Batch) -> u32
     ensures err { result ≢ 0 → batch.new.value ≡ None }
     ensures fault { result ≢ 0 → result ≡ 11 }
 {
-    match Box::new(alloc, LogBatch::default(alloc)) {
-        Ok(held) => {
-            batch.put(held);
-            0
-        }
-        Err(_) => 11,
-    }
+    memory_code(&batch.put_new(alloc, LogBatch::default(alloc)))
 }
 
 /// Says how far a batch has come: 0 while it is open, 1 once its bytes are made, 2 once they are signed.
@@ -54,7 +47,6 @@ pub extern "C" fn raft_ffi_batch_stage(alloc: Global, batch: &mut Batch) -> u32
     stage
 }
 
-/// Returns how far a batch has come.
 fn stage_of(batch: &LogBatch) -> u32
     ensures { result ≡ stage_number batch.now.stage }
 {
@@ -118,7 +110,6 @@ pub extern "C" fn raft_ffi_batch_add_entries(
     answered(alloc, &answer, text)
 }
 
-/// Adds entries of a region to an open batch.
 fn add_entries(
     alloc: Global,
     batch: &mut LogBatch,
@@ -229,7 +220,6 @@ pub extern "C" fn raft_ffi_batch_put(
     answered(alloc, &answer, text)
 }
 
-/// Adds to an open batch that a key of a region gets a value.
 fn put(alloc: Global, batch: &mut LogBatch, region: u64, key: &[u8], value: &[u8]) -> Result<()>
     requires { batch.old.stage ≡ is_open }
     ensures ok { OnOk result (batch.new ≡ with_item batch.old (pair_item region Put key.now (Some value.now))) }
@@ -262,7 +252,6 @@ pub extern "C" fn raft_ffi_batch_delete(
     memory_code(&answer)
 }
 
-/// Adds to an open batch that a key of a region goes.
 fn delete(alloc: Global, batch: &mut LogBatch, region: u64, key: &[u8]) -> Result<()>
     requires { batch.old.stage ≡ is_open }
     ensures ok { OnOk result (batch.new ≡ with_item batch.old (pair_item region Del key.now None)) }
@@ -285,8 +274,8 @@ pub extern "C" fn raft_ffi_batch_merge(
     requires more_held { IsTrue (is_some more.old.value) }
     requires open { Holds (λ b. b.stage ≡ is_open) batch.old.value }
     requires more_open { Holds (λ b. b.stage ≡ is_open) more.old.value }
-    ensures ok { result.code ≡ 0 → BothHold (λ old new. Holds
-        (λ rhs. new ≡ with_batch old rhs) more.old.value) batch.old.value batch.new.value }
+    ensures ok { result.code ≡ 0 → AllHold (λ rhs old new. new ≡ with_batch old rhs)
+        more.old.value batch.old.value batch.new.value }
     ensures emptied { result.code ≡ 0 → more.new.value ≡ Some empty_batch }
     ensures accepted { result.code ≡ 0 → BothHold (λ old rhs. length old.entry_bytes
         + length rhs.entry_bytes < 2 ^ 31) batch.old.value more.old.value }
@@ -334,7 +323,6 @@ pub extern "C" fn raft_ffi_batch_finish(
     answered(alloc, &answer, text)
 }
 
-/// Makes the bytes of an open batch, and says how many they are.
 fn finish(batch: &mut LogBatch, len: &mut usize) -> Result<()>
     requires { batch.old.stage ≡ is_open }
     ensures ok { OnOk result (batch.new ≡ at_stage encoded batch.old) }
@@ -381,7 +369,6 @@ pub extern "C" fn raft_ffi_batch_bytes(alloc: Global, batch: &mut Batch, bytes: 
     len
 }
 
-/// Copies the bytes of a signed batch as far as there is room, and returns how many they are.
 fn copy_bytes(batch: &LogBatch, room: &mut [u8]) -> usize
     requires { IsSealedStage batch.now.stage }
     ensures bytes { (signature : Option ℕ) → batch.now.stage ≡ sealed signature →
@@ -432,21 +419,10 @@ pub extern "C" fn raft_ffi_batch_into_items(alloc: Global, batch: Batch, items: 
     ensures err { result ≢ 0 → items.new.value ≡ None }
     ensures fault { result ≢ 0 → result ≡ 11 }
 {
-    match boxed_items(alloc, Box::into_inner(batch.into_box())) {
-        Ok(held) => {
-            items.put(held);
-            0
-        }
+    match items_of(alloc, Box::into_inner(batch.into_box())) {
+        Ok(found) => memory_code(&items.put_new(alloc, found)),
         Err(_) => 11,
     }
-}
-
-/// Takes the items out of a batch.
-fn boxed_items(alloc: Global, batch: LogBatch) -> Result<Box<ItemList>>
-    ensures ok { IfOk result (λ b. b.value ≡ batch.items) }
-    ensures memory { IfErr result (λ e. e ≡ Error.Memory) }
-{
-    Ok(Box::new(alloc, items_of(alloc, batch)?)?)
 }
 
 /// Frees the batch.

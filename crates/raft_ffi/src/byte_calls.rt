@@ -1,6 +1,6 @@
 //! Calls that read bytes alone.
 
-ghost use Rattle.std.specs.Prelude.{◌≡◌, ◌≢◌, ◌+◌, ◌^◌, ◌<◌, ℕ, List, length, drop, take, IfOk, OnOk, OnErr, IfErr, IfSome, MatchOption};
+ghost use Rattle.std.specs.Prelude.{◌≡◌, ◌≢◌, ◌+◌, ◌^◌, ◌<◌, ℕ, List, length, drop, take, IfOk, OnOk, OnErr, IfErr};
 ghost use Rattle.raft_codec.specs.Reading.{HasNoFront};
 ghost use Rattle.raft_checksum.specs.Checksum.{crc32_of};
 ghost use Rattle.raft_base.specs.Signature.{signature_of};
@@ -54,30 +54,9 @@ pub extern "C" fn raft_ffi_readable_front(
         (IsNextFault (signature_of (file_of file)) (drop len.new bytes.now)) result.code }
     ensures text { HasText result text.old text.new }
 {
-    let answer = find_front(alloc, &file.context(), offset, bytes, len);
-    answered(alloc, &answer, text)
-}
-
-/// Finds where the readable batches end that the bytes begin with.
-fn find_front(
-    alloc: Global,
-    file: &LogFileContext,
-    offset: u64,
-    bytes: &[u8],
-    len: &mut usize,
-) -> Result<()>
-    requires ends { offset + length bytes.now < 2 ^ 64 }
-    ensures readable { AreBatchesUpTo (part_of file.now offset bytes.now) len.new }
-    ensures whole { OnOk result (len.new ≡ length bytes.now) }
-    ensures cut { OnErr result (len.new < length bytes.now) }
-    ensures fault { IfErr result (IsNextFault (signature_of file.now) (drop len.new bytes.now)) }
-{
-    let (end, error) = walk_front(alloc, file, offset, bytes);
+    let (end, answer) = walk_front(alloc, &file.context(), offset, bytes);
     *len = end;
-    match error {
-        Some(error) => Err(error),
-        None => Ok(()),
-    }
+    answered(alloc, &answer, text)
 }
 
 /// Returns where the readable batches end that the bytes begin with, and why the batch there can't be read.
@@ -86,20 +65,19 @@ fn walk_front(
     file: &LogFileContext,
     offset: u64,
     bytes: &[u8],
-) -> (usize, Option<Error>)
+) -> (usize, Result<()>)
     requires ends { offset + length bytes.now < 2 ^ 64 }
     ensures readable { AreBatchesUpTo (part_of file.now offset bytes.now) result.0 }
-    ensures whole { MatchOption result.1 (result.0 ≡ length bytes.now)
-        (λ e. result.0 < length bytes.now) }
-    ensures fault { IfSome result.1
-        (IsNextFault (signature_of file.now) (drop result.0 bytes.now)) }
+    ensures whole { OnOk result.1 (result.0 ≡ length bytes.now) }
+    ensures cut { OnErr result.1 (result.0 < length bytes.now) }
+    ensures fault { IfErr result.1 (IsNextFault (signature_of file.now) (drop result.0 bytes.now)) }
 {
     let mut at = 0;
     loop {
         match next_in(alloc, file, offset, bytes, at) {
             Ok(Some((_, next))) => at = next,
-            Ok(None) => return (at, None),
-            Err(error) => return (at, Some(error)),
+            Ok(None) => return (at, Ok(())),
+            Err(error) => return (at, Err(error)),
         }
     }
 }
@@ -139,10 +117,6 @@ pub extern "C" fn raft_ffi_block_entries(
 }
 
 /// Returns how many bytes of a whole entry block, from the first on, are its entry bytes.
-///
-/// # Errors
-///
-/// `Corruption` where no checksum of the bytes before it stands at its end, or `Memory` for that text.
 fn entries_len(alloc: Global, bytes: &[u8]) -> Result<usize>
     ensures ok { IfOk result (λ n. IsEntryBlockOf (length bytes.now) bytes.now (take n bytes.now)) }
     ensures refused { OnErr result ((entries : List ℕ)
@@ -163,7 +137,6 @@ fn entries_len(alloc: Global, bytes: &[u8]) -> Result<usize>
     Ok(entries.len())
 }
 
-/// Returns the checksum that these four bytes are.
 fn checksum_of(seal: &[u8]) -> u32
     requires { length seal.now ≡ CHECKSUM_LEN }
     ensures { seal.now ≡ little_bytes 4 result }

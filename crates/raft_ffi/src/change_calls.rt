@@ -1,25 +1,18 @@
 //! Calls that change the table of a region.
 
-ghost use Rattle.std.specs.Prelude.{◌≡◌, ◌≢◌, ◌⊎◌, ◌+◌, IsTrue, Some, is_some, map, length};
-ghost use Rattle.std.specs.FinMap as finite;
+ghost use Rattle.std.specs.Prelude.{◌≡◌, ◌≢◌, IsTrue, is_some, map};
 ghost use Rattle.raft_base.specs.declared.pipe_log.LogQueue.TheVariants.{Append, Rewrite};
-ghost use Rattle.raft_accessor.specs.Accessor.{table_in};
-ghost use Rattle.raft_table.specs.Change.{IsListFault};
-ghost use Rattle.raft_table.specs.KeyValues.{file_at};
-ghost use Rattle.raft_table.specs.Rewriting.{entries_after_rewrite, IsRewriteFault};
-ghost use Rattle.raft_table.specs.Start.{entries_after_append, IsTableRunFault};
-ghost use Rattle.raft_table.specs.Table.{after_append, after_rewrite, after_rewrite_key, with_pair, IsTablePutFault, IsKeyRewriteFault};
-ghost use Rattle.raft_table.specs.TableEntries.{from, below, IsRunIn};
-ghost use Rattle.raft_ffi.specs.Calls.{queue_of, IsCodeOf, Holds, BothHold};
-ghost use Rattle.raft_ffi.specs.Changes.{IsChangedTo, IsMemoryOr};
+ghost use Rattle.raft_table.specs.TableEntries.{IsRunIn};
+ghost use Rattle.raft_ffi.specs.Calls.{BothHold, IsCodeFor, id_of};
+ghost use Rattle.raft_ffi.specs.Changes.{AreAppended, AreDropped, AreRewritten, AreUnappended, AreUnrewritten, IsCompacted, IsDeleted, IsKeyRewritten, IsKeyUnrewritten, IsPut, IsTruncated, IsUnput};
 ghost use Rattle.raft_ffi.specs.EntryData.{entry_of};
 ghost use Rattle.raft_ffi.specs.Rooms.{HasText};
 ghost use Rattle.raft_ffi.specs.Summaries.{number_in};
 
 use crate::changes::{append, compact, delete, put, rewrite, rewrite_key, truncate};
 use crate::entries::Entry;
+use crate::handles::{Handle, Tables};
 use crate::status::{Maybe, Status, answered, queue};
-use crate::tables::Tables;
 use raft_base::FileId;
 use std::alloc::Global;
 
@@ -34,14 +27,12 @@ pub extern "C" fn raft_ffi_tables_append(
     text: &mut [u8],
 ) -> Status
     requires held { IsTrue (is_some tables.old.value) }
-    ensures ok { result.code ≡ 0 → BothHold (λ old new. IsChangedTo
-        (after_append (table_in old.tables region) (map entry_of entries.now)) region old new) tables.old.value tables.new.value }
+    ensures ok { result.code ≡ 0 → BothHold (AreAppended (map entry_of entries.now) region)
+        tables.old.value tables.new.value }
     ensures accepted { result.code ≡ 0 → IsRunIn Append (map entry_of entries.now) }
     ensures err { result.code ≢ 0 → tables.new.value ≡ tables.old.value }
-    ensures fault { result.code ≢ 0 → Holds (λ old. IsCodeOf (IsMemoryOr
-        (λ e. IsListFault Append (map entry_of entries.now) e
-        ⊎ IsTableRunFault Append old.counts (table_in old.tables region).entries
-        (entries_after_append (table_in old.tables region).entries (map entry_of entries.now)) e)) result.code) tables.old.value }
+    ensures fault { result.code ≢ 0
+        → IsCodeFor (AreUnappended (map entry_of entries.now) region) tables.old.value result.code }
     ensures text { HasText result text.old text.new }
 {
     let mut held = tables.take(alloc);
@@ -61,12 +52,8 @@ pub extern "C" fn raft_ffi_tables_compact(
     text: &mut [u8],
 ) -> Status
     requires held { IsTrue (is_some tables.old.value) }
-    ensures ok { result.code ≡ 0 → BothHold (λ old new. IsChangedTo
-        (Some (record (table_in old.tables region)
-        { entries = from index (table_in old.tables region).entries })) region old new) tables.old.value tables.new.value }
-    ensures dropped { result.code ≡ 0 → BothHold (λ old new.
-        dropped.new + length (table_in new.tables region).entries
-        ≡ length (table_in old.tables region).entries) tables.old.value tables.new.value }
+    ensures ok { result.code ≡ 0 → BothHold (IsCompacted index region) tables.old.value tables.new.value }
+    ensures dropped { result.code ≡ 0 → BothHold (AreDropped dropped.new region) tables.old.value tables.new.value }
     ensures err { result.code ≢ 0 → tables.new.value ≡ tables.old.value }
     ensures memory { result.code ≢ 0 → result.code ≡ 11 }
     ensures text { HasText result text.old text.new }
@@ -88,12 +75,8 @@ pub extern "C" fn raft_ffi_tables_truncate(
     text: &mut [u8],
 ) -> Status
     requires held { IsTrue (is_some tables.old.value) }
-    ensures ok { result.code ≡ 0 → BothHold (λ old new. IsChangedTo
-        (Some (record (table_in old.tables region)
-        { entries = below index (table_in old.tables region).entries })) region old new) tables.old.value tables.new.value }
-    ensures dropped { result.code ≡ 0 → BothHold (λ old new.
-        dropped.new + length (table_in new.tables region).entries
-        ≡ length (table_in old.tables region).entries) tables.old.value tables.new.value }
+    ensures ok { result.code ≡ 0 → BothHold (IsTruncated index region) tables.old.value tables.new.value }
+    ensures dropped { result.code ≡ 0 → BothHold (AreDropped dropped.new region) tables.old.value tables.new.value }
     ensures err { result.code ≢ 0 → tables.new.value ≡ tables.old.value }
     ensures memory { result.code ≢ 0 → result.code ≡ 11 }
     ensures text { HasText result text.old text.new }
@@ -117,13 +100,11 @@ pub extern "C" fn raft_ffi_tables_put(
     text: &mut [u8],
 ) -> Status
     requires held { IsTrue (is_some tables.old.value) }
-    ensures ok { result.code ≡ 0 → BothHold (λ old new. IsChangedTo
-        (Some (with_pair (table_in old.tables region) key.now value.now
-        (record { queue = queue_of is_rewrite; seq = seq }))) region old new) tables.old.value tables.new.value }
+    ensures ok { result.code ≡ 0 → BothHold
+        (IsPut key.now value.now (id_of is_rewrite seq) region) tables.old.value tables.new.value }
     ensures err { result.code ≢ 0 → tables.new.value ≡ tables.old.value }
-    ensures fault { result.code ≢ 0 → Holds (λ old. IsCodeOf (IsMemoryOr
-        (IsTablePutFault (queue_of is_rewrite) old.counts
-        (file_at (table_in old.tables region).keys key.now))) result.code) tables.old.value }
+    ensures fault { result.code ≢ 0 → IsCodeFor
+        (IsUnput key.now (id_of is_rewrite seq) region) tables.old.value result.code }
     ensures text { HasText result text.old text.new }
 {
     let file = FileId::new(queue(is_rewrite), seq);
@@ -143,9 +124,7 @@ pub extern "C" fn raft_ffi_tables_delete(
     text: &mut [u8],
 ) -> Status
     requires held { IsTrue (is_some tables.old.value) }
-    ensures ok { result.code ≡ 0 → BothHold (λ old new. IsChangedTo
-        (Some (record (table_in old.tables region)
-        { keys = finite.remove (table_in old.tables region).keys key.now })) region old new) tables.old.value tables.new.value }
+    ensures ok { result.code ≡ 0 → BothHold (IsDeleted key.now region) tables.old.value tables.new.value }
     ensures err { result.code ≢ 0 → tables.new.value ≡ tables.old.value }
     ensures memory { result.code ≢ 0 → result.code ≡ 11 }
     ensures text { HasText result text.old text.new }
@@ -168,15 +147,12 @@ pub extern "C" fn raft_ffi_tables_rewrite(
     text: &mut [u8],
 ) -> Status
     requires held { IsTrue (is_some tables.old.value) }
-    ensures ok { result.code ≡ 0 → BothHold (λ old new. IsChangedTo
-        (after_rewrite (number_in gate) (table_in old.tables region) (map entry_of entries.now)) region old new) tables.old.value tables.new.value }
+    ensures ok { result.code ≡ 0 → BothHold
+        (AreRewritten (number_in gate) (map entry_of entries.now) region) tables.old.value tables.new.value }
     ensures accepted { result.code ≡ 0 → IsRunIn Rewrite (map entry_of entries.now) }
     ensures err { result.code ≢ 0 → tables.new.value ≡ tables.old.value }
-    ensures fault { result.code ≢ 0 → Holds (λ old. IsCodeOf (IsMemoryOr
-        (λ e. IsListFault Rewrite (map entry_of entries.now) e
-        ⊎ IsRewriteFault (length (map entry_of entries.now)) old.counts
-        (entries_after_rewrite (number_in gate) (map entry_of entries.now)
-        (table_in old.tables region).entries) e)) result.code) tables.old.value }
+    ensures fault { result.code ≢ 0 → IsCodeFor
+        (AreUnrewritten (number_in gate) (map entry_of entries.now) region) tables.old.value result.code }
     ensures text { HasText result text.old text.new }
 {
     let mut held = tables.take(alloc);
@@ -198,12 +174,11 @@ pub extern "C" fn raft_ffi_tables_rewrite_key(
     text: &mut [u8],
 ) -> Status
     requires held { IsTrue (is_some tables.old.value) }
-    ensures ok { result.code ≡ 0 → BothHold (λ old new. IsChangedTo
-        (after_rewrite_key (number_in gate) seq (table_in old.tables region) key.now) region old new) tables.old.value tables.new.value }
+    ensures ok { result.code ≡ 0 → BothHold
+        (IsKeyRewritten (number_in gate) seq key.now region) tables.old.value tables.new.value }
     ensures err { result.code ≢ 0 → tables.new.value ≡ tables.old.value }
-    ensures fault { result.code ≢ 0 → Holds (λ old. IsCodeOf (IsMemoryOr
-        (IsKeyRewriteFault old.counts
-        (after_rewrite_key (number_in gate) seq (table_in old.tables region) key.now))) result.code) tables.old.value }
+    ensures fault { result.code ≢ 0 → IsCodeFor
+        (IsKeyUnrewritten (number_in gate) seq key.now region) tables.old.value result.code }
     ensures text { HasText result text.old text.new }
 {
     let mut held = tables.take(alloc);

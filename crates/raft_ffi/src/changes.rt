@@ -1,16 +1,11 @@
 //! Changes of the table of a region, among those of all regions.
 
-ghost use Rattle.std.specs.Prelude.{◌≡◌, ◌⊎◌, ◌+◌, Some, OnOk, OnErr, IfOk, IfErr, map, length};
-ghost use Rattle.std.specs.FinMap as finite;
+ghost use Rattle.std.specs.Prelude.{◌≡◌, OnOk, OnErr, IfOk, IfErr, map};
 ghost use Rattle.raft_base.specs.declared.pipe_log.LogQueue.TheVariants.{Append, Rewrite};
 ghost use Rattle.raft_accessor.specs.Accessor.{table_in};
-ghost use Rattle.raft_table.specs.Change.{after_change, IsAllowed, IsAnswer, IsChangeFault, IsListFault};
-ghost use Rattle.raft_table.specs.KeyValues.{file_at};
-ghost use Rattle.raft_table.specs.Rewriting.{entries_after_rewrite, IsRewriteFault};
-ghost use Rattle.raft_table.specs.Start.{entries_after_append, IsTableRunFault};
-ghost use Rattle.raft_table.specs.Table.{after_append, after_rewrite, after_rewrite_key, with_pair, IsTablePutFault, IsKeyRewriteFault};
-ghost use Rattle.raft_table.specs.TableEntries.{from, below, IsRunIn};
-ghost use Rattle.raft_ffi.specs.Changes.{IsChangedTo, IsMemoryOr};
+ghost use Rattle.raft_table.specs.Change.{after_change, IsAllowed, IsAnswer, IsChangeFault};
+ghost use Rattle.raft_table.specs.TableEntries.{IsRunIn};
+ghost use Rattle.raft_ffi.specs.Changes.{AreAppended, AreDropped, AreRewritten, AreUnappended, AreUnrewritten, IsChangedTo, IsCompacted, IsDeleted, IsKeyRewritten, IsKeyUnrewritten, IsMemoryOr, IsPut, IsTruncated, IsUnput};
 ghost use Rattle.raft_ffi.specs.EntryData.{entry_of};
 
 use crate::entries::{Entry, entry_indexes};
@@ -35,42 +30,30 @@ fn change_table(tables: &mut MemTableAccessor, region: u64, change: TableChange)
     answer
 }
 
-/// Puts new entries of the append queue after those of a region below their start. All others go; where
-/// there are no new ones, all stay.
 pub(crate) fn append(
     alloc: Global,
     tables: &mut MemTableAccessor,
     region: u64,
     entries: &[Entry],
 ) -> Result<()>
-    ensures ok { OnOk result (IsChangedTo
-        (after_append (table_in tables.old.tables region) (map entry_of entries.now)) region
-        tables.old tables.new) }
+    ensures ok { OnOk result (AreAppended (map entry_of entries.now) region tables.old tables.new) }
     ensures accepted { OnOk result (IsRunIn Append (map entry_of entries.now)) }
     ensures err { OnErr result (tables.new ≡ tables.old) }
-    ensures fault { IfErr result (IsMemoryOr
-        (λ e. IsListFault Append (map entry_of entries.now) e
-        ⊎ IsTableRunFault Append tables.old.counts (table_in tables.old.tables region).entries
-        (entries_after_append (table_in tables.old.tables region).entries
-        (map entry_of entries.now)) e)) }
+    ensures fault { IfErr result (AreUnappended (map entry_of entries.now) region tables.old) }
 {
     let run = entry_indexes(alloc, entries)?;
     change_table(tables, region, TableChange::Append(run))?;
     Ok(())
 }
 
-/// Drops the entries of a region below an index, and says how many those were.
 pub(crate) fn compact(
     tables: &mut MemTableAccessor,
     region: u64,
     index: u64,
     dropped: &mut u64,
 ) -> Result<()>
-    ensures ok { OnOk result (IsChangedTo (Some (record (table_in tables.old.tables region)
-        { entries = from index (table_in tables.old.tables region).entries })) region
-        tables.old tables.new) }
-    ensures dropped { OnOk result (dropped.new + length (table_in tables.new.tables region).entries
-        ≡ length (table_in tables.old.tables region).entries) }
+    ensures ok { OnOk result (IsCompacted index region tables.old tables.new) }
+    ensures dropped { OnOk result (AreDropped dropped.new region tables.old tables.new) }
     ensures err { OnErr result (tables.new ≡ tables.old) }
     ensures memory { IfErr result (λ e. e ≡ Error.Memory) }
 {
@@ -78,18 +61,14 @@ pub(crate) fn compact(
     Ok(())
 }
 
-/// Drops the entries of a region at or above an index, and says how many those were.
 pub(crate) fn truncate(
     tables: &mut MemTableAccessor,
     region: u64,
     index: u64,
     dropped: &mut u64,
 ) -> Result<()>
-    ensures ok { OnOk result (IsChangedTo (Some (record (table_in tables.old.tables region)
-        { entries = below index (table_in tables.old.tables region).entries })) region
-        tables.old tables.new) }
-    ensures dropped { OnOk result (dropped.new + length (table_in tables.new.tables region).entries
-        ≡ length (table_in tables.old.tables region).entries) }
+    ensures ok { OnOk result (IsTruncated index region tables.old tables.new) }
+    ensures dropped { OnOk result (AreDropped dropped.new region tables.old tables.new) }
     ensures err { OnErr result (tables.new ≡ tables.old) }
     ensures memory { IfErr result (λ e. e ≡ Error.Memory) }
 {
@@ -97,7 +76,6 @@ pub(crate) fn truncate(
     Ok(())
 }
 
-/// Puts a key of a region with its value, which were written to this file.
 pub(crate) fn put(
     alloc: Global,
     tables: &mut MemTableAccessor,
@@ -106,12 +84,9 @@ pub(crate) fn put(
     value: &[u8],
     file_id: FileId,
 ) -> Result<()>
-    ensures ok { OnOk result (IsChangedTo
-        (Some (with_pair (table_in tables.old.tables region) key.now value.now file_id)) region
-        tables.old tables.new) }
+    ensures ok { OnOk result (IsPut key.now value.now file_id region tables.old tables.new) }
     ensures err { OnErr result (tables.new ≡ tables.old) }
-    ensures fault { IfErr result (IsMemoryOr (IsTablePutFault file_id.queue tables.old.counts
-        (file_at (table_in tables.old.tables region).keys key.now))) }
+    ensures fault { IfErr result (IsUnput key.now file_id region tables.old) }
 {
     let key = Vec::from_slice(alloc, key)?;
     let value = Vec::from_slice(alloc, value)?;
@@ -124,16 +99,13 @@ pub(crate) fn put(
     Ok(())
 }
 
-/// Deletes a key of a region and its value.
 pub(crate) fn delete(
     alloc: Global,
     tables: &mut MemTableAccessor,
     region: u64,
     key: &[u8],
 ) -> Result<()>
-    ensures ok { OnOk result (IsChangedTo (Some (record (table_in tables.old.tables region)
-        { keys = finite.remove (table_in tables.old.tables region).keys key.now })) region
-        tables.old tables.new) }
+    ensures ok { OnOk result (IsDeleted key.now region tables.old tables.new) }
     ensures err { OnErr result (tables.new ≡ tables.old) }
     ensures memory { IfErr result (λ e. e ≡ Error.Memory) }
 {
@@ -142,7 +114,6 @@ pub(crate) fn delete(
     Ok(())
 }
 
-/// Gives entries of a region the places of a run of the rewrite queue, as far as they may move.
 pub(crate) fn rewrite(
     alloc: Global,
     tables: &mut MemTableAccessor,
@@ -150,16 +121,10 @@ pub(crate) fn rewrite(
     entries: &[Entry],
     gate: Option<u64>,
 ) -> Result<()>
-    ensures ok { OnOk result (IsChangedTo
-        (after_rewrite gate (table_in tables.old.tables region) (map entry_of entries.now)) region
-        tables.old tables.new) }
+    ensures ok { OnOk result (AreRewritten gate (map entry_of entries.now) region tables.old tables.new) }
     ensures accepted { OnOk result (IsRunIn Rewrite (map entry_of entries.now)) }
     ensures err { OnErr result (tables.new ≡ tables.old) }
-    ensures fault { IfErr result (IsMemoryOr
-        (λ e. IsListFault Rewrite (map entry_of entries.now) e
-        ⊎ IsRewriteFault (length (map entry_of entries.now)) tables.old.counts
-        (entries_after_rewrite gate (map entry_of entries.now)
-        (table_in tables.old.tables region).entries) e)) }
+    ensures fault { IfErr result (AreUnrewritten gate (map entry_of entries.now) region tables.old) }
 {
     let run = entry_indexes(alloc, entries)?;
     let moved = TableChange::Rewrite { entries: run, gate };
@@ -167,7 +132,6 @@ pub(crate) fn rewrite(
     Ok(())
 }
 
-/// Moves the pair of a region's key to a file of the rewrite queue, if it may move.
 pub(crate) fn rewrite_key(
     alloc: Global,
     tables: &mut MemTableAccessor,
@@ -176,12 +140,9 @@ pub(crate) fn rewrite_key(
     gate: Option<u64>,
     seq: u64,
 ) -> Result<()>
-    ensures ok { OnOk result (IsChangedTo
-        (after_rewrite_key gate seq (table_in tables.old.tables region) key.now) region
-        tables.old tables.new) }
+    ensures ok { OnOk result (IsKeyRewritten gate seq key.now region tables.old tables.new) }
     ensures err { OnErr result (tables.new ≡ tables.old) }
-    ensures fault { IfErr result (IsMemoryOr (IsKeyRewriteFault tables.old.counts
-        (after_rewrite_key gate seq (table_in tables.old.tables region) key.now))) }
+    ensures fault { IfErr result (IsKeyUnrewritten gate seq key.now region tables.old) }
 {
     let key = Vec::from_slice(alloc, key)?;
     change_table(tables, region, TableChange::RewriteKey { key, gate, seq })?;

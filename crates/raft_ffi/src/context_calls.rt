@@ -1,28 +1,24 @@
 //! Calls of contexts, which rebuild the tables from log files.
 
-ghost use Rattle.std.specs.Prelude.{◌≡◌, ◌≢◌, ◌⊎◌, ◌+◌, ◌^◌, ◌<◌, ◌++◌, [], List, IsTrue, IfOk, IfErr, OnOk, Some, None, is_some, length};
-ghost use Rattle.raft_history.specs.Batches.{Event};
-ghost use Rattle.raft_history.specs.BothQueues.{IsReadingOfBoth};
-ghost use Rattle.raft_history.specs.Histories.{IsSmall, Sound, Apart, IsOfQueue};
+ghost use Rattle.std.specs.Prelude.{◌≡◌, ◌≢◌, ◌⊎◌, ◌+◌, ◌^◌, ◌<◌, [], IsTrue, IfOk, IfErr, OnOk, Some, None, is_some, length};
+ghost use Rattle.raft_history.specs.Histories.{Sound};
 ghost use Rattle.raft_history.specs.Kept.{kept_of};
-ghost use Rattle.raft_accessor.specs.Accessor.{AreCountsOf};
 ghost use Rattle.raft_contexts.specs.KeptShown.{kept_shown};
-ghost use Rattle.raft_contexts.specs.OverlaidContext.{IsOverlaidWith, IsOfBothExactly, IsMergeAppendFault};
+ghost use Rattle.raft_contexts.specs.OverlaidContext.{IsOverlaidWith, IsMergeAppendFault};
 ghost use Rattle.raft_contexts.specs.RecoverContext.{blank_context, HasRead, HasReadExactly, IsMergedWith, IsNeighborFault};
 ghost use Rattle.raft_contexts.specs.declared.context_stage.ContextStage.TheVariants.{Failed, Reading};
 ghost use Rattle.raft_records.specs.FilePart.{part_of};
 ghost use Rattle.raft_replay.specs.Replays.{HasReplayed, CannotFollow};
 ghost use Rattle.raft_replay.specs.Segments.{HoldsFrom};
 ghost use Rattle.raft_replay.specs.Stops.{StopsByFault};
-ghost use Rattle.raft_ffi.specs.Calls.{queue_of, file_of, IsCodeOf, Holds, BothHold};
+ghost use Rattle.raft_ffi.specs.Calls.{AllHold, BothHold, Holds, IsCodeFor, IsCodeForBoth, file_of, queue_of};
 ghost use Rattle.raft_ffi.specs.Changes.{IsMemoryOr};
-ghost use Rattle.raft_ffi.specs.Contexts.{HasTablesRead, IsOverlaidExactly};
+ghost use Rattle.raft_ffi.specs.Contexts.{AreOfTwoQueues, AreTablesOf, AreUnsound, HasBothRead, HasTablesRead, IsOfFailed, IsOverlaidExactly, StandsForBoth, StandsForBothExactly};
 ghost use Rattle.raft_ffi.specs.KeptNumbers.{capped, AreKept};
 ghost use Rattle.raft_ffi.specs.Rooms.{HasText, IsRefusedFor};
 
-use crate::context::Context;
-use crate::status::{File, Status, answered, queue};
-use crate::tables::Tables;
+use crate::handles::{Context, Handle, Tables};
+use crate::status::{File, Status, answered, memory_code, queue};
 use raft_accessor::MemTableAccessor;
 use raft_base::{Error, LogFileContext, LogQueue, Result};
 use raft_contexts::{Kept, MemTableRecoverContext};
@@ -51,22 +47,10 @@ pub extern "C" fn raft_ffi_context_new(alloc: Global, context: &mut Context) -> 
     ensures err { result ≢ 0 → context.new.value ≡ None }
     ensures fault { result ≢ 0 → result ≡ 11 }
 {
-    match new_context(alloc) {
-        Ok(held) => {
-            context.put(held);
-            0
-        }
+    match MemTableRecoverContext::new(alloc) {
+        Ok(held) => memory_code(&context.put_new(alloc, held)),
         Err(_) => 11,
     }
-}
-
-/// Makes a context on the heap that has read nothing.
-fn new_context(alloc: Global) -> Result<Box<MemTableRecoverContext>>
-    ensures ok { IfOk result (λ b. b.value ≡ blank_context) }
-    ensures exact { IfOk result (λ b. HasReadExactly b.value []) }
-    ensures memory { IfErr result (λ e. e ≡ Error.Memory) }
-{
-    Ok(Box::new(alloc, MemTableRecoverContext::new(alloc)?)?)
 }
 
 /// Replays the batches of bytes that stand in the file from `offset` on. Where that is refused the
@@ -143,22 +127,17 @@ pub extern "C" fn raft_ffi_context_merge(
 ) -> Status
     requires held { IsTrue (is_some context.old.value) }
     requires newer { IsTrue (is_some newer.value) }
-    ensures ok { result.code ≡ 0 → BothHold (λ old new. Holds
-        (λ rhs. IsMergedWith (queue_of is_rewrite) rhs old new) newer.value)
+    ensures ok { result.code ≡ 0 → AllHold (IsMergedWith (queue_of is_rewrite)) newer.value
         context.old.value context.new.value }
-    ensures stands { result.code ≡ 0 → BothHold (λ old new. Holds (λ rhs. (h g : List Event)
-        → IsSmall (h ++ g) → HasRead old h → HasRead rhs g → HasRead new (h ++ g)) newer.value)
-        context.old.value context.new.value }
-    ensures exact { result.code ≡ 0 → BothHold (λ old new. Holds (λ rhs. (h g : List Event)
-        → IsSmall (h ++ g) → Apart (h ++ g) → HasReadExactly old h → HasReadExactly rhs g
-        → HasReadExactly new (h ++ g)) newer.value) context.old.value context.new.value }
+    ensures stands { result.code ≡ 0 → AllHold StandsForBoth newer.value context.old.value
+        context.new.value }
+    ensures exact { result.code ≡ 0 → AllHold StandsForBothExactly newer.value context.old.value
+        context.new.value }
     ensures err { result.code ≢ 0 → context.new.value ≡ None }
-    ensures refused { result.code ≢ 0 → result.code ≢ 11 → BothHold (λ old rhs. (h g : List Event)
-        → IsSmall (h ++ g) → IsOfQueue (queue_of is_rewrite) (h ++ g) → HasRead old h
-        → HasRead rhs g → ¬ (Sound (h ++ g))) context.old.value newer.value }
-    ensures fault { result.code ≢ 0 → BothHold
-        (λ old rhs. IsCodeOf (IsNeighborFault (queue_of is_rewrite) old rhs) result.code)
-        context.old.value newer.value }
+    ensures refused { result.code ≢ 0 → result.code ≢ 11
+        → BothHold (AreUnsound (queue_of is_rewrite)) context.old.value newer.value }
+    ensures fault { result.code ≢ 0 → IsCodeForBoth (IsNeighborFault (queue_of is_rewrite))
+        context.old.value newer.value result.code }
     ensures failed { result.code ≢ 0 → BothHold (λ old rhs. (old.stage ≢ Reading) ⊎ (rhs.stage ≢ Reading)
         → result.code ≡ 12) context.old.value newer.value }
     ensures text { HasText result text.old text.new }
@@ -173,21 +152,15 @@ pub extern "C" fn raft_ffi_context_merge(
     answered(alloc, &answer, text)
 }
 
-/// Takes in the context of the batches that follow.
 fn merge(
     context: &mut MemTableRecoverContext,
     newer: MemTableRecoverContext,
     queue: LogQueue,
 ) -> Result<()>
     ensures ok { OnOk result (IsMergedWith queue newer context.old context.new) }
-    ensures stands { (h g : List Event) → IsSmall (h ++ g) → HasRead context.old h
-        → HasRead newer g → OnOk result (HasRead context.new (h ++ g)) }
-    ensures exact { (h g : List Event) → IsSmall (h ++ g) → Apart (h ++ g)
-        → HasReadExactly context.old h → HasReadExactly newer g
-        → OnOk result (HasReadExactly context.new (h ++ g)) }
-    ensures refused { IfErr result (λ e. e ≢ Error.Memory → (h g : List Event)
-        → IsSmall (h ++ g) → IsOfQueue queue (h ++ g) → HasRead context.old h
-        → HasRead newer g → ¬ (Sound (h ++ g))) }
+    ensures stands { OnOk result (StandsForBoth newer context.old context.new) }
+    ensures exact { OnOk result (StandsForBothExactly newer context.old context.new) }
+    ensures refused { IfErr result (λ e. e ≢ Error.Memory → AreUnsound queue context.old newer) }
     ensures fault { IfErr result (IsNeighborFault queue context.old newer) }
     ensures failed { (context.old.stage ≢ Reading) ⊎ (newer.stage ≢ Reading)
         → IfErr result (λ e. e ≡ Error.Failed) }
@@ -206,14 +179,15 @@ pub extern "C" fn raft_ffi_context_overlay(
 ) -> Status
     requires held { IsTrue (is_some context.old.value) }
     requires append { IsTrue (is_some append.value) }
-    ensures ok { result.code ≡ 0 → BothHold (λ old new. Holds
-        (λ rhs. IsOverlaidWith rhs old new) append.value) context.old.value context.new.value }
-    ensures exact { result.code ≡ 0 → BothHold (λ old new. Holds
-        (λ rhs. IsOverlaidExactly rhs old new) append.value) context.old.value context.new.value }
+    ensures ok { result.code ≡ 0 → AllHold IsOverlaidWith append.value context.old.value
+        context.new.value }
+    ensures exact { result.code ≡ 0 → AllHold IsOverlaidExactly append.value context.old.value
+        context.new.value }
     ensures err { result.code ≢ 0 → context.new.value ≡ None }
-    ensures fault { result.code ≢ 0 → BothHold
-        (λ old rhs. IsCodeOf (IsMergeAppendFault old rhs) result.code) context.old.value
-        append.value }
+    ensures fault { result.code ≢ 0 → IsCodeForBoth IsMergeAppendFault context.old.value
+        append.value result.code }
+    ensures memory { result.code ≢ 0 → BothHold (λ old rhs. AreOfTwoQueues old rhs
+        → result.code ≡ 11) context.old.value append.value }
     ensures failed { result.code ≢ 0 → BothHold (λ old rhs. (old.stage ≢ Reading) ⊎ (rhs.stage ≢ Reading)
         → result.code ≡ 12) context.old.value append.value }
     ensures text { HasText result text.old text.new }
@@ -228,11 +202,11 @@ pub extern "C" fn raft_ffi_context_overlay(
     answered(alloc, &answer, text)
 }
 
-/// Takes in the context of the append queue.
 fn overlay(context: &mut MemTableRecoverContext, append: MemTableRecoverContext) -> Result<()>
     ensures ok { OnOk result (IsOverlaidWith append context.old context.new) }
     ensures exact { OnOk result (IsOverlaidExactly append context.old context.new) }
     ensures fault { IfErr result (IsMergeAppendFault context.old append) }
+    ensures memory { AreOfTwoQueues context.old append → IfErr result (λ e. e ≡ Error.Memory) }
     ensures failed { (context.old.stage ≢ Reading) ⊎ (append.stage ≢ Reading)
         → IfErr result (λ e. e ≡ Error.Failed) }
 {
@@ -252,8 +226,7 @@ pub extern "C" fn raft_ffi_context_kept(
     ensures ok { result.code ≡ 0 → Holds (λ c. AreKept (kept_of c.context) kept.new)
         context.old.value }
     ensures accepted { result.code ≡ 0 → Holds (λ c. c.stage ≢ Failed) context.old.value }
-    ensures fault { result.code ≢ 0 → Holds (λ c. IsCodeOf
-        (λ e. (e ≡ Error.Failed) × (c.stage ≡ Failed)) result.code) context.old.value }
+    ensures fault { result.code ≢ 0 → IsCodeFor IsOfFailed context.old.value result.code }
     ensures text { HasText result text.old text.new }
 {
     let held = context.take(alloc);
@@ -262,17 +235,15 @@ pub extern "C" fn raft_ffi_context_kept(
     answered(alloc, &answer, text)
 }
 
-/// Says how much a context holds.
 fn count_kept(context: &MemTableRecoverContext, kept: &mut KeptNumbers) -> Result<()>
     ensures ok { OnOk result (AreKept (kept_of context.now.context) kept.new) }
     ensures accepted { OnOk result (context.now.stage ≢ Failed) }
-    ensures fault { IfErr result (λ e. (e ≡ Error.Failed) × (context.now.stage ≡ Failed)) }
+    ensures fault { IfErr result (IsOfFailed context.now) }
 {
     *kept = kept_numbers(context.kept()?);
     Ok(())
 }
 
-/// Returns six numbers of 64 bits.
 fn kept_numbers(kept: Kept) -> KeptNumbers
     ensures { AreKept (kept_shown kept) result }
 {
@@ -286,7 +257,6 @@ fn kept_numbers(kept: Kept) -> KeptNumbers
     }
 }
 
-/// Returns a number, or 2^64 - 1 in place of a greater one.
 fn capped(number: u128) -> u64
     ensures { result ≡ capped number }
 {
@@ -303,17 +273,13 @@ pub extern "C" fn raft_ffi_context_finish(
 ) -> Status
     requires held { IsTrue (is_some context.value) }
     requires empty { tables.old.value ≡ None }
-    ensures ok { result.code ≡ 0 → BothHold (λ c a. (a.tables ≡ c.context.regions.tables)
-        × (a.cleaned ≡ c.context.cleaned) × AreCountsOf a.tables a.counts)
-        context.value tables.new.value }
+    ensures ok { result.code ≡ 0 → BothHold AreTablesOf context.value tables.new.value }
     ensures reading { result.code ≡ 0 → BothHold HasTablesRead context.value tables.new.value }
-    ensures overlaid { result.code ≡ 0 → BothHold (λ c a. (rewrite append : List Event)
-        → IsOfBothExactly c rewrite append → IsReadingOfBoth rewrite append a.tables a.cleaned)
-        context.value tables.new.value }
+    ensures overlaid { result.code ≡ 0 → BothHold HasBothRead context.value tables.new.value }
     ensures accepted { result.code ≡ 0 → Holds (λ c. c.stage ≢ Failed) context.value }
     ensures err { result.code ≢ 0 → tables.new.value ≡ None }
-    ensures fault { result.code ≢ 0 → Holds (λ c. IsCodeOf
-        (IsMemoryOr (λ e. (e ≡ Error.Failed) × (c.stage ≡ Failed))) result.code) context.value }
+    ensures fault { result.code ≢ 0 → IsCodeFor (λ c. IsMemoryOr (IsOfFailed c))
+        context.value result.code }
     ensures text { HasText result text.old text.new }
 {
     let answer = match finished(alloc, Box::into_inner(context.into_box())) {
@@ -326,16 +292,12 @@ pub extern "C" fn raft_ffi_context_finish(
     answered(alloc, &answer, text)
 }
 
-/// Makes the tables of a context, on the heap.
 fn finished(alloc: Global, context: MemTableRecoverContext) -> Result<Box<MemTableAccessor>>
-    ensures ok { IfOk result (λ a. (a.value.tables ≡ context.context.regions.tables)
-        × (a.value.cleaned ≡ context.context.cleaned) × AreCountsOf a.value.tables a.value.counts) }
+    ensures ok { IfOk result (λ a. AreTablesOf context a.value) }
     ensures reading { IfOk result (λ a. HasTablesRead context a.value) }
-    ensures overlaid { (rewrite append : List Event) → IsOfBothExactly context rewrite append
-        → IfOk result (λ a. IsReadingOfBoth rewrite append a.value.tables a.value.cleaned) }
+    ensures overlaid { IfOk result (λ a. HasBothRead context a.value) }
     ensures accepted { OnOk result (context.stage ≢ Failed) }
-    ensures fault { IfErr result
-        (IsMemoryOr (λ e. (e ≡ Error.Failed) × (context.stage ≡ Failed))) }
+    ensures fault { IfErr result (IsMemoryOr (IsOfFailed context)) }
 {
     let accessor = context.finish()?;
     Ok(Box::new(alloc, accessor)?)

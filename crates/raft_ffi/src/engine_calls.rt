@@ -1,6 +1,6 @@
 //! Calls of an engine whose files the caller keeps: what changes it leaves orders behind, which the caller carries out in turn.
 
-ghost use Rattle.std.specs.Prelude.{◌≡◌, ◌≢◌, true, false, Some, None, IsTrue, is_some, IfErr, IfOk, OnErr, OnOk};
+ghost use Rattle.std.specs.Prelude.{◌≡◌, ◌≢◌, true, false, Some, None, IsTrue, is_some, IfErr, OnErr, OnOk};
 ghost use Rattle.raft_accessor.specs.AppendChecks.{AreAcceptedOncePlaced};
 ghost use Rattle.raft_engine.specs.Opened.{IsOpened};
 ghost use Rattle.raft_engine.specs.Purged.{ArePurged, IsUnpurged};
@@ -9,28 +9,18 @@ ghost use Rattle.raft_engine.specs.ReadContexts.{HaveReadFound};
 ghost use Rattle.raft_engine.specs.Unopened.{AreBothAccepted};
 ghost use Rattle.raft_engine.specs.WrittenBatch.{IsRotated, IsUnrotated};
 ghost use Rattle.raft_records.specs.LogBatch.{empty_batch, is_open};
-ghost use Rattle.raft_ffi.specs.Calls.{BothHold, Holds, IsCodeOf, version_of};
+ghost use Rattle.raft_ffi.specs.Calls.{AllHold, BothHold, Holds, IsCodeForBoth, version_of};
 ghost use Rattle.raft_ffi.specs.Engines.{HaveReadBoth, IsStopped, IsSynced, IsUnopenedAs, IsUnwrittenAs, IsWrittenOrNone};
 ghost use Rattle.raft_ffi.specs.Rooms.{HasText};
 
-use crate::batch::Batch;
-use crate::context::Context;
-use crate::engine::Engine;
-use crate::found::Found;
 use crate::found_files::FoundFiles;
+use crate::handles::{Batch, Context, Engine, Found, Handle};
 use crate::held_engine::HeldEngine;
-use crate::status::{Status, answered};
+use crate::status::{Status, answered, version};
 use raft_base::{Result, Version};
 use raft_contexts::MemTableRecoverContext;
 use raft_orders::HandedFiles;
 use std::alloc::Global;
-
-/// Returns the version that a flag names.
-fn version(is_signed: bool) -> Version
-    ensures { result ≡ version_of is_signed }
-{
-    if is_signed { Version::V2 } else { Version::V1 }
-}
 
 /// Opens found files, with the context of each queue that read them: one that has read the batches of its files, in order, but for a
 /// torn tail of the last one. The files and the contexts are gone then.
@@ -51,9 +41,8 @@ pub extern "C" fn raft_ffi_engine_open(
     ensures accepted { result.code ≡ 0 → Holds
         (λ f. AreBothAccepted (version_of is_signed) f.append f.rewrite) found.value }
     ensures err { result.code ≢ 0 → engine.new.value ≡ None }
-    ensures fault { result.code ≢ 0 → Holds (λ f. BothHold
-        (λ a r. IsCodeOf (IsUnopenedAs (version_of is_signed) f a r) result.code)
-        appended.value rewritten.value) found.value }
+    ensures fault { result.code ≢ 0 → Holds (λ f. IsCodeForBoth
+        (IsUnopenedAs (version_of is_signed) f) appended.value rewritten.value result.code) found.value }
     ensures text { HasText result text.old text.new }
 {
     let files = Box::into_inner(found.into_box());
@@ -86,30 +75,13 @@ fn open_into(
     ensures err { OnErr result (engine.new.value ≡ None) }
     ensures fault { IfErr result (IsUnopenedAs version found appended rewritten) }
 {
-    let held = open_engine(alloc, version, found, rewritten, appended)?;
-    engine.put(held);
-    Ok(())
-}
-
-/// Opens found files, on the heap.
-fn open_engine(
-    alloc: Global,
-    version: Version,
-    found: FoundFiles,
-    rewritten: MemTableRecoverContext,
-    appended: MemTableRecoverContext,
-) -> Result<Box<HeldEngine>>
-    requires { HaveReadFound version found.append found.rewrite appended rewritten }
-    ensures ok { IfOk result (λ b. IsOpened version found.append found.rewrite b.value) }
-    ensures accepted { OnOk result (AreBothAccepted version found.append found.rewrite) }
-    ensures fault { IfErr result (IsUnopenedAs version found appended rewritten) }
-{
     let FoundFiles { append, rewrite } = found;
     let files = HandedFiles::found(alloc, &append, &rewrite);
-    let engine = raft_engine::Engine::open_over(
+    let opened = raft_engine::Engine::open_over(
         alloc, version, files, append, rewrite, appended, rewritten,
     )?;
-    Ok(Box::new(alloc, HeldEngine::of(engine))?)
+    engine.put_new(alloc, HeldEngine::of(opened))?;
+    Ok(())
 }
 
 /// Tests whether the engine takes further calls.
@@ -137,9 +109,8 @@ pub extern "C" fn raft_ffi_engine_write(
     requires held { IsTrue (is_some engine.old.value) }
     requires batch { IsTrue (is_some batch.old.value) }
     requires open { Holds (λ b. b.stage ≡ is_open) batch.old.value }
-    ensures ok { result.code ≡ 0 → BothHold
-        (λ old new. Holds (IsWrittenOrNone sync old new) batch.old.value) engine.old.value
-        engine.new.value }
+    ensures ok { result.code ≡ 0 → AllHold (IsWrittenOrNone sync) batch.old.value
+        engine.old.value engine.new.value }
     ensures emptied { result.code ≡ 0 → batch.new.value ≡ Some empty_batch }
     ensures accepted { result.code ≡ 0 → Holds (λ e. e.intact ≡ true) engine.old.value }
     ensures tested { result.code ≡ 0 → BothHold
@@ -173,7 +144,7 @@ pub extern "C" fn raft_ffi_engine_sync(
     ensures text { HasText result text.old text.new }
 {
     let mut held = engine.take(alloc);
-    let answer = held.sync();
+    let answer = held.engine.sync();
     engine.put(held);
     answered(alloc, &answer, text)
 }
@@ -188,8 +159,8 @@ pub extern "C" fn raft_ffi_engine_rotate(
     requires held { IsTrue (is_some engine.old.value) }
     ensures ok { result.code ≡ 0 → BothHold IsRotated engine.old.value engine.new.value }
     ensures accepted { result.code ≡ 0 → Holds (λ e. e.intact ≡ true) engine.old.value }
-    ensures err { result.code ≢ 0 → BothHold
-        (λ old new. IsCodeOf (IsUnrotated old new) result.code) engine.old.value engine.new.value }
+    ensures err { result.code ≢ 0 → IsCodeForBoth IsUnrotated engine.old.value engine.new.value
+        result.code }
     ensures text { HasText result text.old text.new }
 {
     let mut held = engine.take(alloc);
@@ -209,8 +180,8 @@ pub extern "C" fn raft_ffi_engine_purge_expired_files(
     requires held { IsTrue (is_some engine.old.value) }
     ensures ok { result.code ≡ 0 → BothHold (ArePurged count.new) engine.old.value engine.new.value }
     ensures accepted { result.code ≡ 0 → Holds (λ e. e.intact ≡ true) engine.old.value }
-    ensures err { result.code ≢ 0 → BothHold
-        (λ old new. IsCodeOf (IsUnpurged old new) result.code) engine.old.value engine.new.value }
+    ensures err { result.code ≢ 0 → IsCodeForBoth IsUnpurged engine.old.value engine.new.value
+        result.code }
     ensures text { HasText result text.old text.new }
 {
     let mut held = engine.take(alloc);
@@ -231,9 +202,8 @@ pub extern "C" fn raft_ffi_engine_purge_rewrite_files(
     ensures ok { result.code ≡ 0 → BothHold (AreRewritesPurged count.new) engine.old.value
         engine.new.value }
     ensures accepted { result.code ≡ 0 → Holds (λ e. e.intact ≡ true) engine.old.value }
-    ensures err { result.code ≢ 0 → BothHold
-        (λ old new. IsCodeOf (AreRewritesUnpurged old new) result.code) engine.old.value
-        engine.new.value }
+    ensures err { result.code ≢ 0 → IsCodeForBoth AreRewritesUnpurged engine.old.value
+        engine.new.value result.code }
     ensures text { HasText result text.old text.new }
 {
     let mut held = engine.take(alloc);

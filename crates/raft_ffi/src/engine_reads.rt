@@ -1,20 +1,18 @@
 //! Calls that read what an engine has.
 
 ghost use Rattle.std.specs.Prelude.{◌≡◌, ◌≢◌, ◌+◌, [], true, false, IsTrue, is_some};
-ghost use Rattle.std.specs.FinMap as finite;
 ghost use Rattle.raft_base.specs.Runs.{end_of};
 ghost use Rattle.raft_engine.specs.KeptEngine.{table_in};
 ghost use Rattle.raft_table.specs.Counts.{live};
 ghost use Rattle.raft_table.specs.Fetches.{IsFetchFault, range_answer};
-ghost use Rattle.raft_table.specs.TableEntries.{entry_at, start_of};
-ghost use Rattle.raft_ffi.specs.Calls.{queue_of, IsCodeOf, IsFound, Holds};
-ghost use Rattle.raft_ffi.specs.EntryData.{entry_found};
-ghost use Rattle.raft_ffi.specs.Reads.{AreRegionsIn, IsFetched, value_in};
-ghost use Rattle.raft_ffi.specs.Rooms.{IsCopied, HasText};
-ghost use Rattle.raft_ffi.specs.Summaries.{number_in, IsSummaryOf};
+ghost use Rattle.raft_table.specs.TableEntries.{start_of};
+ghost use Rattle.raft_ffi.specs.Calls.{Holds, IsCodeFor, IsFound, queue_of};
+ghost use Rattle.raft_ffi.specs.Reads.{AreRegionsIn, IsEntryIn, IsFetched, IsSummaryIn, IsValueIn};
+ghost use Rattle.raft_ffi.specs.Rooms.{HasText};
+ghost use Rattle.raft_ffi.specs.Summaries.{number_in};
 
-use crate::engine::Engine;
 use crate::entries::Entry;
+use crate::handles::{Engine, Handle};
 use crate::reads::{entries_in, entry_in, find_regions, summary_in, value_in};
 use crate::status::{Maybe, Status, answered, memory_code, queue};
 use crate::table_reads::Summary;
@@ -51,11 +49,10 @@ pub extern "C" fn raft_ffi_engine_summary(
 ) -> bool
     requires held { IsTrue (is_some engine.old.value) }
     ensures same { engine.new.value ≡ engine.old.value }
-    ensures found { Holds (λ e. IsFound (λ t. IsSummaryOf t summary.new)
-        (finite.get e.accessor.tables region) result) engine.old.value }
+    ensures found { Holds (λ e. IsSummaryIn region result summary.new e.accessor) engine.old.value }
 {
     let held = engine.take(alloc);
-    let found = summary_in(held.engine.accessor().get(region), summary);
+    let found = summary_in(held.engine.accessor(), region, summary);
     engine.put(held);
     found
 }
@@ -91,11 +88,11 @@ pub extern "C" fn raft_ffi_engine_entry(
 ) -> bool
     requires held { IsTrue (is_some engine.old.value) }
     ensures same { engine.new.value ≡ engine.old.value }
-    ensures found { Holds (λ e. entry_found result entry.new
-        ≡ entry_at index (table_in e region).entries) engine.old.value }
+    ensures found { Holds (λ e. IsEntryIn region index result entry.new e.accessor)
+        engine.old.value }
 {
     let held = engine.take(alloc);
-    let found = entry_in(held.engine.accessor().get(region), region, index, entry);
+    let found = entry_in(held.engine.accessor(), region, index, entry);
     engine.put(held);
     found
 }
@@ -119,15 +116,23 @@ pub extern "C" fn raft_ffi_engine_entries(
     ensures same { engine.new.value ≡ engine.old.value }
     ensures ok { result.code ≡ 0 → Holds (λ e. IsFetched (number_in max_size) begin end
         (table_in e region).entries entries.old entries.new count.new) engine.old.value }
-    ensures fault { result.code ≢ 0 → Holds (λ e. IsCodeOf
-        (IsFetchFault (range_answer begin end (table_in e region).entries)) result.code)
-        engine.old.value }
+    ensures fault { result.code ≢ 0 → IsCodeFor
+        (λ e. IsFetchFault (range_answer begin end (table_in e region).entries)) engine.old.value
+        result.code }
     ensures text { HasText result text.old text.new }
 {
     let held = engine.take(alloc);
     let range = (begin, end);
-    let table = held.engine.accessor().get(region);
-    let answer = entries_in(alloc, table, region, range, max_size.size(), entries, count);
+    let accessor = held.engine.accessor();
+    let answer = entries_in(
+        alloc,
+        accessor,
+        region,
+        range,
+        max_size.size(),
+        entries,
+        count,
+    );
     engine.put(held);
     answered(alloc, &answer, text)
 }
@@ -144,11 +149,12 @@ pub extern "C" fn raft_ffi_engine_value(
 ) -> bool
     requires held { IsTrue (is_some engine.old.value) }
     ensures same { engine.new.value ≡ engine.old.value }
-    ensures found { Holds (λ e. IsFound (λ bytes. IsCopied bytes value.old value.new len.new)
-        (value_in e.accessor.tables region key.now) result) engine.old.value }
+    ensures found { Holds
+        (λ e. IsValueIn region key.now result value.old value.new len.new e.accessor)
+        engine.old.value }
 {
     let held = engine.take(alloc);
-    let found = value_in(held.engine.accessor().get(region), key, value, len);
+    let found = value_in(held.engine.accessor(), region, key, value, len);
     engine.put(held);
     found
 }
@@ -170,13 +176,7 @@ pub extern "C" fn raft_ffi_engine_first_index(
     let held = engine.take(alloc);
     let found = held.engine.first_index(region);
     engine.put(held);
-    match found {
-        Some(found) => {
-            *index = found;
-            true
-        }
-        None => false,
-    }
+    found_number(found, index)
 }
 
 /// Finds the greatest index of a region's entries, if it has any.
@@ -196,9 +196,15 @@ pub extern "C" fn raft_ffi_engine_last_index(
     let held = engine.take(alloc);
     let found = held.engine.last_index(region);
     engine.put(held);
+    found_number(found, index)
+}
+
+fn found_number(found: Option<u64>, number: &mut u64) -> bool
+    ensures { IsFound (λ n. number.new ≡ n) found result }
+{
     match found {
         Some(found) => {
-            *index = found;
+            *number = found;
             true
         }
         None => false,

@@ -27,7 +27,6 @@ pub struct Entry {
     pub is_placed: bool,
 }
 
-/// Returns an entry of the tables.
 pub(crate) fn entry_index(entry: &Entry) -> EntryIndex
     ensures { result ≡ entry_of entry.now }
 {
@@ -45,7 +44,6 @@ pub(crate) fn entry_index(entry: &Entry) -> EntryIndex
     }
 }
 
-/// Returns entries of the tables.
 pub(crate) fn entry_indexes(alloc: Global, entries: &[Entry]) -> Result<Vec<EntryIndex>>
     ensures ok { IfOk result (λ v. v.items ≡ map entry_of entries.now) }
     ensures memory { IfErr result (λ e. e ≡ Error.Memory) }
@@ -57,7 +55,6 @@ pub(crate) fn entry_indexes(alloc: Global, entries: &[Entry]) -> Result<Vec<Entr
     Ok(found)
 }
 
-/// Returns an entry as plain data.
 pub(crate) fn plain(entry: &EntryIndex) -> Entry
     ensures { entry_of result ≡ entry.now }
 {
@@ -85,7 +82,6 @@ pub(crate) fn plain(entry: &EntryIndex) -> Entry
     }
 }
 
-/// Copies entries that were found as far as there is room, and returns how many they are.
 pub(crate) fn copy_entries(found: &[EntryIndex], room: &mut [Entry]) -> usize
     ensures { AreEntriesIn found.now room.old room.new result }
 {

@@ -4,8 +4,8 @@ ghost use Rattle.std.specs.Prelude.{◌≡◌, ◌≢◌, Some, None, IsTrue, is
 ghost use Rattle.raft_ffi.specs.Calls.{BothHold, queue_of};
 ghost use Rattle.raft_ffi.specs.FoundFiles.{no_files, with_file};
 
-use crate::found::Found;
 use crate::found_files::FoundFiles;
+use crate::handles::{Found, Handle};
 use crate::status::{memory_code, queue};
 use std::alloc::Global;
 
@@ -17,13 +17,7 @@ pub extern "C" fn raft_ffi_found_new(alloc: Global, found: &mut Found) -> u32
     ensures err { result ≢ 0 → found.new.value ≡ None }
     ensures fault { result ≢ 0 → result ≡ 11 }
 {
-    match Box::new(alloc, FoundFiles::new(alloc)) {
-        Ok(held) => {
-            found.put(held);
-            0
-        }
-        Err(_) => 11,
-    }
+    memory_code(&found.put_new(alloc, FoundFiles::new(alloc)))
 }
 
 /// Adds a file of a queue behind the others, with a copy of its bytes.

@@ -27,7 +27,6 @@ impl Model for FoundFiles {
 }
 
 impl FoundFiles {
-    /// Makes one without files.
     pub(crate) fn new(alloc: Global) -> FoundFiles
         ensures { result ≡ no_files }
     {
@@ -37,11 +36,6 @@ impl FoundFiles {
         }
     }
 
-    /// Adds a file of a queue behind the others, with a copy of its bytes.
-    ///
-    /// # Errors
-    ///
-    /// `Memory`. The files are then as they were.
     pub(crate) fn add(
         &mut self,
         alloc: Global,

@@ -1,6 +1,6 @@
 //! An engine whose files the caller keeps.
 
-ghost use Rattle.std.specs.Prelude.{◌≡◌, true, false, IfErr, OnErr, OnOk};
+ghost use Rattle.std.specs.Prelude.{◌≡◌, true, IfErr, OnOk};
 ghost use Rattle.raft_accessor.specs.AppendChecks.{AreAcceptedOncePlaced};
 ghost use Rattle.raft_engine.specs.Moved.{IsRewritten, IsUnrewritten};
 ghost use Rattle.raft_engine.specs.MovedAgain.{AreMovedAgain, AreUnmovedAgain};
@@ -8,7 +8,7 @@ ghost use Rattle.raft_engine.specs.Purged.{ArePurged, IsUnpurged};
 ghost use Rattle.raft_engine.specs.PurgedRewrites.{AreRewritesPurged, AreRewritesUnpurged};
 ghost use Rattle.raft_engine.specs.WrittenBatch.{IsUnwritten};
 ghost use Rattle.raft_records.specs.LogBatch.{empty_batch, is_open};
-ghost use Rattle.raft_ffi.specs.Engines.{IsStopped, IsSynced, IsWrittenOrNone, Lasts};
+ghost use Rattle.raft_ffi.specs.Engines.{IsWrittenOrNone, Lasts};
 ghost use Rattle.raft_ffi.specs.Taking.{IsTaking};
 
 use crate::taking::{Taking, take_within};
@@ -38,7 +38,6 @@ impl Model for HeldEngine {
 }
 
 impl HeldEngine {
-    /// Makes one of an engine.
     pub(crate) fn of(engine: Engine<HandedFiles>) -> HeldEngine
         ensures { result ≡ engine }
     {
@@ -52,14 +51,9 @@ impl HeldEngine {
         self.engine.nothing_synced_is_lost();
     }
 
-    /// Writes an open batch, which is empty then.
-    ///
-    /// # Errors
-    ///
-    /// Those of `Engine::write`.
     pub(crate) fn write(&mut self, batch: &mut LogBatch, sync: bool) -> Result<()>
         requires { batch.old.stage ≡ is_open }
-        ensures ok { OnOk result (IsWrittenOrNone sync self.old self.new batch.old) }
+        ensures ok { OnOk result (IsWrittenOrNone sync batch.old self.old self.new) }
         ensures emptied { OnOk result (batch.new ≡ empty_batch) }
         ensures accepted { OnOk result (self.old.intact ≡ true) }
         ensures tested { OnOk result
@@ -69,25 +63,6 @@ impl HeldEngine {
         self.engine.write(batch, sync)
     }
 
-    /// Orders that all that was written lasts.
-    ///
-    /// # Errors
-    ///
-    /// Those of `Engine::sync`.
-    pub(crate) fn sync(&mut self) -> Result<()>
-        ensures ok { OnOk result (IsSynced self.old self.new) }
-        ensures accepted { OnOk result (self.old.intact ≡ true) }
-        ensures err { OnErr result (IsStopped self.old self.new) }
-        ensures fault { self.old.intact ≡ false → IfErr result (λ e. e ≡ Error.Failed) }
-    {
-        self.engine.sync()
-    }
-
-    /// Deletes the append files that no table needs, and says how many.
-    ///
-    /// # Errors
-    ///
-    /// Those of `Engine::purge_expired_files`.
     pub(crate) fn purge_expired_files(&mut self, count: &mut usize) -> Result<()>
         ensures ok { OnOk result (ArePurged count.new self.old self.new) }
         ensures accepted { OnOk result (self.old.intact ≡ true) }
@@ -97,11 +72,6 @@ impl HeldEngine {
         Ok(())
     }
 
-    /// Deletes the rewrite files that no table needs, and says how many.
-    ///
-    /// # Errors
-    ///
-    /// Those of `Engine::purge_rewrite_files`.
     pub(crate) fn purge_rewrite_files(&mut self, count: &mut usize) -> Result<()>
         ensures ok { OnOk result (AreRewritesPurged count.new self.old self.new) }
         ensures accepted { OnOk result (self.old.intact ≡ true) }
@@ -111,7 +81,6 @@ impl HeldEngine {
         Ok(())
     }
 
-    /// Takes the oldest order that waits, if its bytes aren't more than there is room for.
     pub(crate) fn take_order(&mut self, room: usize) -> Taking
         ensures taking { IsTaking self.old.asks room result }
         ensures same { self.new ≡ self.old }
@@ -124,10 +93,6 @@ impl HeldEngine {
     }
 
     /// Keeps a copy of the bytes that stand at a place, for the next call that moves records.
-    ///
-    /// # Errors
-    ///
-    /// `Memory`.
     pub(crate) fn lend(&mut self, file: FileId, offset: u64, bytes: &[u8]) -> Result<()>
         ensures same { self.new ≡ self.old }
         ensures memory { IfErr result (λ e. e ≡ Error.Memory) }
@@ -140,10 +105,6 @@ impl HeldEngine {
     }
 
     /// Moves what the tables have in append files up to the gate, and lets go of all bytes that were lent.
-    ///
-    /// # Errors
-    ///
-    /// Those of `Engine::rewrite`.
     pub(crate) fn rewrite(&mut self, gate: FileSeq) -> Result<()>
         ensures ok { OnOk result (IsRewritten gate self.old self.new) }
         ensures accepted { OnOk result (self.old.intact ≡ true) }
@@ -155,10 +116,6 @@ impl HeldEngine {
     }
 
     /// Moves what the tables have in rewrite files, and lets go of all bytes that were lent.
-    ///
-    /// # Errors
-    ///
-    /// Those of `Engine::rewrite_again`.
     pub(crate) fn rewrite_again(&mut self) -> Result<()>
         ensures ok { OnOk result (AreMovedAgain self.old self.new) }
         ensures accepted { OnOk result (self.old.intact ≡ true) }
@@ -169,7 +126,6 @@ impl HeldEngine {
         answer
     }
 
-    /// Lets go of all bytes that were lent.
     fn clear_lent(&mut self)
         ensures { self.new ≡ self.old }
     {

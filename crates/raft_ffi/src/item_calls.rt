@@ -10,9 +10,9 @@ ghost use Rattle.raft_ffi.specs.ItemLists.{IsHeadOf, kind_of, number_of, entries
 ghost use Rattle.raft_ffi.specs.Rooms.{AreEntriesIn, IsCopied, HasText};
 
 use crate::entries::{Entry, copy_entries};
+use crate::handles::{Handle, Items};
 use crate::item_list::ItemList;
-use crate::items::Items;
-use crate::rooms::copy_front;
+use crate::rooms::copy_found;
 use crate::status::{File, Status, answered};
 use raft_base::{EntryIndex, LogFileContext, Result};
 use raft_records::{Command, LogItem, LogItemContent, OpType, next_in};
@@ -52,33 +52,10 @@ pub extern "C" fn raft_ffi_items_next(
         (IsMemoryOr (IsNextFault (signature_of (file_of file)) (drop at bytes.now))) result.code }
     ensures text { HasText result text.old text.new }
 {
-    let answer = read_next(alloc, items, file, offset, bytes, at, next);
+    let answer = put_next(alloc, items, &file.context(), offset, bytes, at, next);
     answered(alloc, &answer, text)
 }
 
-/// Puts the items of the next batch of a file, if there is one, where none are.
-fn read_next(
-    alloc: Global,
-    items: &mut Items,
-    file: File,
-    offset: u64,
-    bytes: &[u8],
-    at: usize,
-    next: &mut usize,
-) -> Result<()>
-    requires empty { items.old.value ≡ None }
-    requires inside { at ≤ length bytes.now }
-    requires ends { offset + length bytes.now < 2 ^ 64 }
-    ensures ok { OnOk result (IsNext (part_of (file_of file) offset bytes.now) at
-        (next_shown items.new.value next.new)) }
-    ensures err { OnErr result (items.new.value ≡ None) }
-    ensures fault { IfErr result
-        (IsMemoryOr (IsNextFault (signature_of (file_of file)) (drop at bytes.now))) }
-{
-    put_next(alloc, items, &file.context(), offset, bytes, at, next)
-}
-
-/// Puts the items of the next batch, if there is one, where none are.
 fn put_next(
     alloc: Global,
     items: &mut Items,
@@ -98,7 +75,7 @@ fn put_next(
         (IsMemoryOr (IsNextFault (signature_of file.now) (drop at bytes.now))) }
 {
     if let Some((batch, behind)) = next_in(alloc, file, offset, bytes, at)? {
-        items.put(Box::new(alloc, ItemList::of(batch.into_items()))?);
+        items.put_new(alloc, ItemList::of(batch.into_items()))?;
         *next = behind;
     }
     Ok(())
@@ -171,7 +148,7 @@ pub extern "C" fn raft_ffi_items_key(
         (key_at xs i) result) items.old.value }
 {
     let held = items.take(alloc);
-    let found = find_key(&*held, i, key, len);
+    let found = copy_found(key_of(&*held, i), key, len);
     items.put(held);
     found
 }
@@ -191,7 +168,7 @@ pub extern "C" fn raft_ffi_items_value(
         (value_at xs i) result) items.old.value }
 {
     let held = items.take(alloc);
-    let found = find_value(&*held, i, value, len);
+    let found = copy_found(value_of(&*held, i), value, len);
     items.put(held);
     found
 }
@@ -204,14 +181,12 @@ pub extern "C" fn raft_ffi_items_drop(items: Items)
     drop(items.into_box());
 }
 
-/// Returns an item, if there is one.
 fn item_at(items: &ItemList, i: usize) -> Option<&LogItem>
     ensures { option_map (λ item. item_of item.now) result ≡ slice_get items.now i }
 {
     items.as_slice().get(i)
 }
 
-/// Finds what an item says, if there is one.
 fn find_head(items: &ItemList, i: usize, head: &mut ItemHead) -> bool
     ensures { IsFound (λ item. IsHeadOf item head.new) (slice_get items.now i) result }
 {
@@ -224,7 +199,6 @@ fn find_head(items: &ItemList, i: usize, head: &mut ItemHead) -> bool
     }
 }
 
-/// Returns what an item says, without its lists.
 fn head_of(item: &LogItem) -> ItemHead
     ensures { IsHeadOf (item_of item.now) result }
 {
@@ -253,7 +227,6 @@ fn said_by(content: &LogItemContent) -> (u32, u64)
     }
 }
 
-/// Lists the entries of an item, if it has some, as far as there is room.
 fn find_entries(items: &ItemList, i: usize, room: &mut [Entry], count: &mut usize) -> bool
     ensures { IsFound (λ es. AreEntriesIn es room.old room.new count.new) (entries_at items.now i) result }
 {
@@ -266,35 +239,6 @@ fn find_entries(items: &ItemList, i: usize, room: &mut [Entry], count: &mut usiz
     }
 }
 
-/// Finds the key of an item, if it changes one.
-fn find_key(items: &ItemList, i: usize, room: &mut [u8], len: &mut usize) -> bool
-    ensures { IsFound (λ bytes. IsCopied bytes room.old room.new len.new) (key_at items.now i)
-        result }
-{
-    match key_of(items, i) {
-        Some(key) => {
-            *len = copy_front(key, room);
-            true
-        }
-        None => false,
-    }
-}
-
-/// Finds the value of an item, if it puts one.
-fn find_value(items: &ItemList, i: usize, room: &mut [u8], len: &mut usize) -> bool
-    ensures { IsFound (λ bytes. IsCopied bytes room.old room.new len.new) (value_at items.now i)
-        result }
-{
-    match value_of(items, i) {
-        Some(value) => {
-            *len = copy_front(value, room);
-            true
-        }
-        None => false,
-    }
-}
-
-/// Returns the entries of an item, if it has some.
 fn entries_of(items: &ItemList, i: usize) -> Option<&[EntryIndex]>
     ensures { option_map (λ es. es.now) result ≡ entries_at items.now i }
 {
@@ -304,7 +248,6 @@ fn entries_of(items: &ItemList, i: usize) -> Option<&[EntryIndex]>
     }
 }
 
-/// Returns the key of an item, if it changes one.
 fn key_of(items: &ItemList, i: usize) -> Option<&[u8]>
     ensures { option_map (λ key. key.now) result ≡ key_at items.now i }
 {
@@ -314,7 +257,6 @@ fn key_of(items: &ItemList, i: usize) -> Option<&[u8]>
     }
 }
 
-/// Returns the value of an item, if it puts one.
 fn value_of(items: &ItemList, i: usize) -> Option<&[u8]>
     ensures { option_map (λ value. value.now) result ≡ value_at items.now i }
 {

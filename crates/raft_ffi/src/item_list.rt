@@ -28,21 +28,18 @@ impl Model for ItemList {
 }
 
 impl ItemList {
-    /// Makes a list of items.
     pub(crate) fn of(items: Vec<LogItem>) -> ItemList
         ensures { result ≡ map item_of items.items }
     {
         ItemList { items }
     }
 
-    /// Returns the items.
     pub(crate) fn as_slice(&self) -> &[LogItem]
         ensures { map item_of result.now ≡ self.now }
     {
         self.items.as_slice()
     }
 
-    /// Hands out the items, in order.
     pub(crate) fn drain(self) -> vec::IntoIter<LogItem>
         ensures items { map item_of (into_iter_items result) ≡ self }
         ensures len { into_iter_len result ≡ length self }
@@ -53,10 +50,6 @@ impl ItemList {
 }
 
 /// Takes the items out of a batch, which is gone then.
-///
-/// # Errors
-///
-/// `Memory`. The items are then gone.
 pub(crate) fn items_of(alloc: Global, mut batch: LogBatch) -> Result<ItemList>
     ensures ok { IfOk result (λ list. list ≡ batch.items) }
     ensures memory { IfErr result (λ e. e ≡ Error.Memory) }

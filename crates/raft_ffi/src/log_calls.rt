@@ -3,13 +3,12 @@
 ghost use Rattle.std.specs.Prelude.{◌≡◌, ◌≢◌, IsTrue, IfErr, OnOk, OnErr, Some, None, is_some};
 ghost use Rattle.raft_accessor.specs.AppendChecks.{AreRefusedOncePlaced, IsAppendCheckFault};
 ghost use Rattle.raft_ffi.specs.Batches.{cleans_of, AcceptsOncePlaced};
-ghost use Rattle.raft_ffi.specs.Calls.{IsCodeOf, BothHold};
+ghost use Rattle.raft_ffi.specs.Calls.{BothHold, IsCodeForBoth};
 ghost use Rattle.raft_ffi.specs.Changes.{without_cleaned};
 ghost use Rattle.raft_ffi.specs.Rooms.{HasText};
 
-use crate::batch::Batch;
+use crate::handles::{Batch, Handle, Tables};
 use crate::status::{Status, answered, memory_code};
-use crate::tables::Tables;
 use raft_accessor::MemTableAccessor;
 use raft_base::{Error, Result};
 use raft_records::LogBatch;
@@ -31,8 +30,8 @@ pub extern "C" fn raft_ffi_tables_check_append(
     ensures ok { result.code ≡ 0 → BothHold AcceptsOncePlaced tables.old.value batch.old.value }
     ensures refused { result.code ≢ 0 → result.code ≢ 11 → BothHold
         (λ a b. AreRefusedOncePlaced a.tables b.items) tables.old.value batch.old.value }
-    ensures fault { result.code ≢ 0 → BothHold (λ a b. IsCodeOf
-        (IsAppendCheckFault a.tables b.items) result.code) tables.old.value batch.old.value }
+    ensures fault { result.code ≢ 0 → IsCodeForBoth
+        (λ a b. IsAppendCheckFault a.tables b.items) tables.old.value batch.old.value result.code }
     ensures text { HasText result text.old text.new }
 {
     let held = tables.take(alloc);
@@ -43,7 +42,6 @@ pub extern "C" fn raft_ffi_tables_check_append(
     answered(alloc, &answer, text)
 }
 
-/// Tests whether the tables would accept the items of a batch, once they have their places.
 fn check_append(accessor: &MemTableAccessor, batch: &LogBatch) -> Result<()>
     ensures ok { OnOk result (AcceptsOncePlaced accessor.now batch.now) }
     ensures refused { IfErr result (λ e. e ≢ Error.Memory

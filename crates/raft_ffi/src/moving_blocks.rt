@@ -2,6 +2,9 @@
 
 ghost use Rattle.std.specs.Prelude.{◌≡◌, IfErr};
 
+use crate::moving_calls::Place;
+use crate::reads::moving_entries;
+use crate::status::is_rewrite;
 use raft_accessor::MemTableAccessor;
 use raft_base::{EntryIndex, Error, FileBlockHandle, FileId, FileSeq, Result};
 use raft_table::MemTable;
@@ -11,27 +14,25 @@ use std::collections::BTreeSet;
 /// Blocks, each once, and how many bytes they have together.
 #[derive(Drop)]
 struct Blocks {
-    places: Vec<FileBlockHandle>,
+    places: Vec<Place>,
+    last: Option<FileBlockHandle>,
     known: BTreeSet<(FileId, u64)>,
     size: usize,
 }
 
 /// Returns the blocks that are read where records of tables move past a gate, those of one table after another, until they have
 /// `max_size` bytes.
-///
-/// # Errors
-///
-/// `Memory`.
 pub(crate) fn blocks_to_move(
     alloc: Global,
     accessor: &MemTableAccessor,
     gate: Option<FileSeq>,
     max_size: usize,
-) -> Result<Vec<FileBlockHandle>>
+) -> Result<Vec<Place>>
     ensures memory { IfErr result (λ e. e ≡ Error.Memory) }
 {
     let mut blocks = Blocks {
         places: Vec::new(alloc),
+        last: None,
         known: BTreeSet::new(alloc),
         size: 0,
     };
@@ -47,18 +48,10 @@ pub(crate) fn blocks_to_move(
 
 impl Blocks {
     /// Adds the blocks of entries of a table that move.
-    ///
-    /// # Errors
-    ///
-    /// `Memory`.
     fn add_table(&mut self, alloc: Global, table: &MemTable, gate: Option<FileSeq>) -> Result<()>
         ensures memory { IfErr result (λ e. e ≡ Error.Memory) }
     {
-        let mut entries = Vec::new(alloc);
-        match gate {
-            Some(gate) => table.fetch_entry_indexes_before(gate, &mut entries)?,
-            None => table.fetch_rewritten_entry_indexes(&mut entries)?,
-        }
+        let entries = moving_entries(alloc, table, gate)?;
         for entry in &entries {
             self.add(entry)?;
         }
@@ -66,23 +59,23 @@ impl Blocks {
     }
 
     /// Adds the block of an entry, if it isn't known.
-    ///
-    /// # Errors
-    ///
-    /// `Memory`.
     fn add(&mut self, entry: &EntryIndex) -> Result<()>
         ensures memory { IfErr result (λ e. e ≡ Error.Memory) }
     {
         let Some(place) = entry.entries else {
             return Ok(());
         };
-        if let Some(last) = self.places.last() {
-            if *last == place {
-                return Ok(());
-            }
+        if self.last == Some(place) {
+            return Ok(());
         }
+        self.last = Some(place);
         if self.known.insert((place.id, place.offset))? {
-            self.places.push(place)?;
+            self.places.push(Place {
+                seq: place.id.seq,
+                offset: place.offset,
+                len: place.len,
+                is_rewrite: is_rewrite(place.id.queue),
+            })?;
             self.size = self.size.saturating_add(place.len);
         }
         Ok(())

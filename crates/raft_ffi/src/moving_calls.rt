@@ -3,15 +3,15 @@
 ghost use Rattle.std.specs.Prelude.{◌≡◌, ◌≢◌, true, IsTrue, is_some, List, IfErr, OnOk};
 ghost use Rattle.raft_engine.specs.Moved.{IsRewritten, IsUnrewritten};
 ghost use Rattle.raft_engine.specs.MovedAgain.{AreMovedAgain, AreUnmovedAgain};
-ghost use Rattle.raft_ffi.specs.Calls.{BothHold, Holds, IsCodeOf};
+ghost use Rattle.raft_ffi.specs.Calls.{BothHold, Holds, IsCodeForBoth};
 ghost use Rattle.raft_ffi.specs.Rooms.{HasText, IsCopied};
 
-use crate::engine::Engine;
+use crate::handles::{Engine, Handle};
 use crate::moving_blocks::blocks_to_move;
 use crate::rooms::copy_front;
-use crate::status::{Maybe, Status, answered, is_rewrite, memory_code, queue};
+use crate::status::{Maybe, Status, answered, memory_code, queue};
 use raft_accessor::MemTableAccessor;
-use raft_base::{Error, FileBlockHandle, FileId, FileSeq, Result};
+use raft_base::{Error, FileId, FileSeq, Result};
 use std::alloc::Global;
 
 /// The place of an entry block.
@@ -38,9 +38,8 @@ pub extern "C" fn raft_ffi_engine_rewrite(
     requires held { IsTrue (is_some engine.old.value) }
     ensures ok { result.code ≡ 0 → BothHold (IsRewritten gate) engine.old.value engine.new.value }
     ensures accepted { result.code ≡ 0 → Holds (λ e. e.intact ≡ true) engine.old.value }
-    ensures err { result.code ≢ 0 → BothHold
-        (λ old new. IsCodeOf (IsUnrewritten gate old new) result.code) engine.old.value
-        engine.new.value }
+    ensures err { result.code ≢ 0 → IsCodeForBoth (IsUnrewritten gate) engine.old.value
+        engine.new.value result.code }
     ensures text { HasText result text.old text.new }
 {
     let mut held = engine.take(alloc);
@@ -60,9 +59,8 @@ pub extern "C" fn raft_ffi_engine_rewrite_again(
     requires held { IsTrue (is_some engine.old.value) }
     ensures ok { result.code ≡ 0 → BothHold AreMovedAgain engine.old.value engine.new.value }
     ensures accepted { result.code ≡ 0 → Holds (λ e. e.intact ≡ true) engine.old.value }
-    ensures err { result.code ≢ 0 → BothHold
-        (λ old new. IsCodeOf (AreUnmovedAgain old new) result.code) engine.old.value
-        engine.new.value }
+    ensures err { result.code ≢ 0 → IsCodeForBoth AreUnmovedAgain engine.old.value
+        engine.new.value result.code }
     ensures text { HasText result text.old text.new }
 {
     let mut held = engine.take(alloc);
@@ -101,7 +99,6 @@ pub extern "C" fn raft_ffi_engine_moving_blocks(
     memory_code(&answer)
 }
 
-/// Finds the blocks that are read.
 fn find_blocks(
     alloc: Global,
     accessor: &MemTableAccessor,
@@ -114,30 +111,8 @@ fn find_blocks(
     ensures memory { IfErr result (λ e. e ≡ Error.Memory) }
 {
     let found = blocks_to_move(alloc, accessor, gate, max_size)?;
-    let plain = plain_places(alloc, found.as_slice())?;
-    *count = copy_front(plain.as_slice(), places);
+    *count = copy_front(found.as_slice(), places);
     Ok(())
-}
-
-/// Returns places as plain data.
-fn plain_places(alloc: Global, found: &[FileBlockHandle]) -> Result<Vec<Place>>
-    ensures memory { IfErr result (λ e. e ≡ Error.Memory) }
-{
-    let mut plain = Vec::with_capacity(alloc, found.len())?;
-    for place in found {
-        plain.push(plain_place(*place))?;
-    }
-    Ok(plain)
-}
-
-/// Returns a place as plain data.
-fn plain_place(place: FileBlockHandle) -> Place {
-    Place {
-        seq: place.id.seq,
-        offset: place.offset,
-        len: place.len,
-        is_rewrite: is_rewrite(place.id.queue),
-    }
 }
 
 /// Lends the bytes that stand at a place, as many as the block has, until the next call that moves records. They are copied.

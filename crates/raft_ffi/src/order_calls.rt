@@ -6,7 +6,7 @@ ghost use Rattle.raft_ffi.specs.Calls.{Holds};
 ghost use Rattle.raft_ffi.specs.Engines.{Lasts, ask_in};
 ghost use Rattle.raft_ffi.specs.Taking.{IsWaiting};
 
-use crate::engine::Engine;
+use crate::handles::{Engine, Handle};
 use crate::rooms::copy_front;
 use crate::status::is_rewrite;
 use crate::taking::Taking;
@@ -100,7 +100,6 @@ fn head(taken: &NumberedOrder, bytes: &mut [u8]) -> OrderHead
     }
 }
 
-/// Returns what an order without bytes says.
 fn plain_head(at: u64, is_rewrite: bool, kind: u32, number: u64) -> OrderHead
     ensures at { result.at ≡ at }
     ensures queue { result.is_rewrite ≡ is_rewrite }

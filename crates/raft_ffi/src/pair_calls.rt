@@ -3,13 +3,13 @@
 ghost use Rattle.std.specs.Prelude.{◌≡◌, ◌≢◌, IsTrue, Some, None, is_some};
 ghost use Rattle.raft_base.specs.declared.pipe_log.LogQueue.TheVariants.{Append, Rewrite};
 ghost use Rattle.raft_accessor.specs.Accessor.{table_in};
+ghost use Rattle.raft_table.specs.KeyValues.{pairs_up_to};
 ghost use Rattle.raft_ffi.specs.Calls.{Holds};
-ghost use Rattle.raft_ffi.specs.Pairs.{ArePairsIn, AreScannedIn, bound_in, pairs_in};
+ghost use Rattle.raft_ffi.specs.Pairs.{ArePairsIn, AreScannedIn, bound_in};
 
-use crate::engine::Engine;
-use crate::pairs::{bound, pairs_before_in, rewritten_pairs_in, scan_in};
+use crate::handles::{Engine, Handle, Tables};
+use crate::pairs::{bound, find_moving_pairs, scan_in};
 use crate::status::memory_code;
-use crate::tables::Tables;
 use std::alloc::Global;
 
 /// Lists the appended pairs of a region whose file is at or below a gate, in the order of the keys: the length of each key and of its
@@ -28,13 +28,13 @@ pub extern "C" fn raft_ffi_tables_pairs_before(
 ) -> u32
     requires held { IsTrue (is_some tables.old.value) }
     ensures same { tables.new.value ≡ tables.old.value }
-    ensures ok { result ≡ 0 → Holds (λ a. ArePairsIn (pairs_in a.tables region Append (Some gate))
+    ensures ok { result ≡ 0 → Holds
+        (λ a. ArePairsIn (pairs_up_to Append (Some gate) (table_in a.tables region).keys)
         lens.old lens.new count.new bytes.old bytes.new len.new) tables.old.value }
     ensures fault { result ≢ 0 → result ≡ 11 }
 {
     let held = tables.take(alloc);
-    let table = held.get(region);
-    let answer = pairs_before_in(alloc, table, region, gate, lens, count, bytes, len);
+    let answer = find_moving_pairs(alloc, &*held, region, Some(gate), lens, count, bytes, len);
     tables.put(held);
     memory_code(&answer)
 }
@@ -52,13 +52,13 @@ pub extern "C" fn raft_ffi_tables_rewritten_pairs(
 ) -> u32
     requires held { IsTrue (is_some tables.old.value) }
     ensures same { tables.new.value ≡ tables.old.value }
-    ensures ok { result ≡ 0 → Holds (λ a. ArePairsIn (pairs_in a.tables region Rewrite None)
+    ensures ok { result ≡ 0 → Holds
+        (λ a. ArePairsIn (pairs_up_to Rewrite None (table_in a.tables region).keys)
         lens.old lens.new count.new bytes.old bytes.new len.new) tables.old.value }
     ensures fault { result ≢ 0 → result ≡ 11 }
 {
     let held = tables.take(alloc);
-    let table = held.get(region);
-    let answer = rewritten_pairs_in(alloc, table, region, lens, count, bytes, len);
+    let answer = find_moving_pairs(alloc, &*held, region, None, lens, count, bytes, len);
     tables.put(held);
     memory_code(&answer)
 }
@@ -85,9 +85,8 @@ pub extern "C" fn raft_ffi_tables_scan(
     ensures fault { result ≢ 0 → result ≡ 11 }
 {
     let held = tables.take(alloc);
-    let table = held.get(region);
     let end = bound(is_bounded, end);
-    let answer = scan_in(alloc, table, region, start, end, lens, count, bytes, len);
+    let answer = scan_in(alloc, &*held, region, start, end, lens, count, bytes, len);
     tables.put(held);
     memory_code(&answer)
 }
@@ -114,9 +113,9 @@ pub extern "C" fn raft_ffi_engine_scan(
     ensures fault { result ≢ 0 → result ≡ 11 }
 {
     let held = engine.take(alloc);
-    let table = held.engine.accessor().get(region);
+    let accessor = held.engine.accessor();
     let end = bound(is_bounded, end);
-    let answer = scan_in(alloc, table, region, start, end, lens, count, bytes, len);
+    let answer = scan_in(alloc, accessor, region, start, end, lens, count, bytes, len);
     engine.put(held);
     memory_code(&answer)
 }

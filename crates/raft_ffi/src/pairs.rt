@@ -1,20 +1,19 @@
 //! Keys with their values, found and copied.
 
-ghost use Rattle.std.specs.Prelude.{◌≡◌, ℕ, List, filter, OnOk, IfOk, IfErr, Some, None, option_map};
+ghost use Rattle.std.specs.Prelude.{◌≡◌, ℕ, List, filter, OnOk, IfOk, IfErr, Some};
 ghost use Rattle.std.specs.List.Sorted.{IsPermutation};
 ghost use Rattle.std.specs.Option.{option_copied};
-ghost use Rattle.raft_base.specs.declared.pipe_log.LogQueue.TheVariants.{Append, Rewrite};
-ghost use Rattle.raft_table.specs.KeyValues.{pairs_shown, pairs_up_to};
+ghost use Rattle.raft_accessor.specs.Accessor.{table_in};
+ghost use Rattle.raft_table.specs.KeyValues.{pairs_shown};
 ghost use Rattle.raft_table.specs.Scan.{is_below, is_between};
-ghost use Rattle.raft_table.specs.Steps.{table_of};
-ghost use Rattle.raft_ffi.specs.Pairs.{AreInKeyOrder, ArePairsIn, AreScanned, AreScannedIn, bound_in, bytes_of, lengths_of, pairs_of_both};
+ghost use Rattle.raft_ffi.specs.Pairs.{AreInKeyOrder, ArePairsIn, AreScanned, AreScannedIn, bound_in, bytes_of, lengths_of, moving_pairs, pairs_of_both};
 
 use crate::rooms::copy_front;
+use raft_accessor::MemTableAccessor;
 use raft_base::{Error, Result};
 use raft_table::MemTable;
 use std::alloc::Global;
 
-/// Returns a bound that a flag says is there.
 pub(crate) fn bound(is_bounded: bool, key: &[u8]) -> Option<&[u8]>
     ensures { option_copied result ≡ bound_in is_bounded key.now }
 {
@@ -24,7 +23,7 @@ pub(crate) fn bound(is_bounded: bool, key: &[u8]) -> Option<&[u8]>
 /// Finds the pairs of a region whose key is at or above `start` and below `end`, if that is there, in the order of the keys.
 pub(crate) fn scan_in(
     alloc: Global,
-    table: Option<&MemTable>,
+    accessor: &MemTableAccessor,
     region: u64,
     start: &[u8],
     end: Option<&[u8]>,
@@ -34,66 +33,44 @@ pub(crate) fn scan_in(
     len: &mut usize,
 ) -> Result<()>
     ensures ok { OnOk result (AreScannedIn start.now (option_copied end.entry)
-        (table_of region (option_map (λ t. t.now) table.entry)).keys lens.old lens.new count.new
-        bytes.old bytes.new len.new) }
+        (table_in accessor.now.tables region).keys lens.old lens.new count.new bytes.old bytes.new
+        len.new) }
     ensures memory { IfErr result (λ e. e ≡ Error.Memory) }
 {
-    let found = scanned(alloc, table, region, start, end)?;
+    let found = scanned(alloc, accessor, region, start, end)?;
     copy_pairs(alloc, &found, lens, count, bytes, len)
 }
 
-/// Finds the appended pairs of a region whose file is at or below a gate.
-pub(crate) fn pairs_before_in(
+pub(crate) fn find_moving_pairs(
     alloc: Global,
-    table: Option<&MemTable>,
+    accessor: &MemTableAccessor,
     region: u64,
-    gate: u64,
+    gate: Option<u64>,
     lens: &mut [usize],
     count: &mut usize,
     bytes: &mut [u8],
     len: &mut usize,
 ) -> Result<()>
-    ensures ok { OnOk result (ArePairsIn (pairs_up_to Append (Some gate)
-        (table_of region (option_map (λ t. t.now) table.entry)).keys)
+    ensures ok { OnOk result (ArePairsIn (moving_pairs gate (table_in accessor.now.tables region).keys)
         lens.old lens.new count.new bytes.old bytes.new len.new) }
     ensures memory { IfErr result (λ e. e ≡ Error.Memory) }
 {
-    let found = pairs_before(alloc, table, region, gate)?;
+    let found = pairs_in(alloc, accessor, region, gate)?;
     copy_pairs(alloc, &found, lens, count, bytes, len)
 }
 
-/// Finds the rewritten pairs of a region.
-pub(crate) fn rewritten_pairs_in(
-    alloc: Global,
-    table: Option<&MemTable>,
-    region: u64,
-    lens: &mut [usize],
-    count: &mut usize,
-    bytes: &mut [u8],
-    len: &mut usize,
-) -> Result<()>
-    ensures ok { OnOk result (ArePairsIn (pairs_up_to Rewrite None
-        (table_of region (option_map (λ t. t.now) table.entry)).keys)
-        lens.old lens.new count.new bytes.old bytes.new len.new) }
-    ensures memory { IfErr result (λ e. e ≡ Error.Memory) }
-{
-    let found = rewritten_pairs(alloc, table, region)?;
-    copy_pairs(alloc, &found, lens, count, bytes, len)
-}
-
-/// Returns the pairs of a region whose key is at or above `start` and below `end`, if that is there, in the order of the keys.
 fn scanned(
     alloc: Global,
-    table: Option<&MemTable>,
+    accessor: &MemTableAccessor,
     region: u64,
     start: &[u8],
     end: Option<&[u8]>,
 ) -> Result<Vec<(Vec<u8>, Vec<u8>)>>
     ensures ok { IfOk result (λ v. AreScanned start.now (option_copied end.entry)
-        (table_of region (option_map (λ t. t.now) table.entry)).keys (pairs_shown v.items)) }
+        (table_in accessor.now.tables region).keys (pairs_shown v.items)) }
     ensures memory { IfErr result (λ e. e ≡ Error.Memory) }
 {
-    let mut found = pairs_of_both(alloc, table, region)?;
+    let mut found = pairs_of_both(alloc, accessor, region)?;
     keep_between(&mut found, start, end);
     sort_by_key(&mut found);
     Ok(found)
@@ -102,20 +79,53 @@ fn scanned(
 /// Returns all pairs of a region: those in append files, and then those in rewrite files.
 fn pairs_of_both(
     alloc: Global,
-    table: Option<&MemTable>,
+    accessor: &MemTableAccessor,
     region: u64,
 ) -> Result<Vec<(Vec<u8>, Vec<u8>)>>
     ensures ok { IfOk result (λ v. pairs_shown v.items
-        ≡ pairs_of_both (table_of region (option_map (λ t. t.now) table.entry)).keys) }
+        ≡ pairs_of_both (table_in accessor.now.tables region).keys) }
     ensures memory { IfErr result (λ e. e ≡ Error.Memory) }
 {
-    let mut found = pairs_before(alloc, table, region, u64::MAX)?;
-    let mut rewritten = rewritten_pairs(alloc, table, region)?;
+    let mut found = pairs_in(alloc, accessor, region, Some(u64::MAX))?;
+    let mut rewritten = pairs_in(alloc, accessor, region, None)?;
     found.append(&mut rewritten)?;
     Ok(found)
 }
 
-/// Keeps the pairs whose key is at or above `start` and below `end`, if that is there.
+fn pairs_in(
+    alloc: Global,
+    accessor: &MemTableAccessor,
+    region: u64,
+    gate: Option<u64>,
+) -> Result<Vec<(Vec<u8>, Vec<u8>)>>
+    ensures ok { IfOk result (λ v. pairs_shown v.items
+        ≡ moving_pairs gate (table_in accessor.now.tables region).keys) }
+    ensures memory { IfErr result (λ e. e ≡ Error.Memory) }
+{
+    match accessor.get(region) {
+        Some(table) => moving_pairs(alloc, table, gate),
+        None => moving_pairs(alloc, &MemTable::new(alloc, region), gate),
+    }
+}
+
+/// Returns the pairs of a table that move past a gate: the appended ones whose file is at or below it; without a gate those
+/// that are rewritten.
+fn moving_pairs(
+    alloc: Global,
+    table: &MemTable,
+    gate: Option<u64>,
+) -> Result<Vec<(Vec<u8>, Vec<u8>)>>
+    ensures ok { IfOk result (λ v. pairs_shown v.items ≡ moving_pairs gate table.now.keys) }
+    ensures memory { IfErr result (λ e. e ≡ Error.Memory) }
+{
+    let mut found = Vec::new(alloc);
+    match gate {
+        Some(gate) => table.fetch_kvs_before(gate, &mut found)?,
+        None => table.fetch_rewritten_kvs(&mut found)?,
+    }
+    Ok(found)
+}
+
 fn keep_between(pairs: &mut Vec<(Vec<u8>, Vec<u8>)>, start: &[u8], end: Option<&[u8]>)
     ensures { pairs_shown pairs.new.items
         ≡ filter (λ (p : List ℕ × List ℕ). is_between (Some start.now) (option_copied end.entry)
@@ -124,14 +134,12 @@ fn keep_between(pairs: &mut Vec<(Vec<u8>, Vec<u8>)>, start: &[u8], end: Option<&
     pairs.retain(|pair| is_between(pair.0.as_slice(), start, end));
 }
 
-/// Tests whether a key is at or above `start` and below `end`, if that is there.
 fn is_between(key: &[u8], start: &[u8], end: Option<&[u8]>) -> bool
     ensures { result ≡ is_between (Some start.now) (option_copied end.entry) key.now }
 {
     start.cmp(key).is_le() && is_below(key, end)
 }
 
-/// Tests whether a key is below `end`, if that is there.
 fn is_below(key: &[u8], end: Option<&[u8]>) -> bool
     ensures { result ≡ is_below (option_copied end.entry) key.now }
 {
@@ -141,7 +149,6 @@ fn is_below(key: &[u8], end: Option<&[u8]>) -> bool
     }
 }
 
-/// Puts pairs in the order of their keys.
 fn sort_by_key(pairs: &mut Vec<(Vec<u8>, Vec<u8>)>)
     ensures same { IsPermutation (pairs_shown pairs.old.items) (pairs_shown pairs.new.items) }
     ensures rising { AreInKeyOrder (pairs_shown pairs.new.items) }
@@ -149,46 +156,6 @@ fn sort_by_key(pairs: &mut Vec<(Vec<u8>, Vec<u8>)>)
     pairs.sort_unstable_by(|a, b| a.0.cmp(&b.0));
 }
 
-/// Returns the appended pairs of a region whose file is at or below a gate.
-fn pairs_before(
-    alloc: Global,
-    table: Option<&MemTable>,
-    region: u64,
-    gate: u64,
-) -> Result<Vec<(Vec<u8>, Vec<u8>)>>
-    ensures ok { IfOk result (λ v. pairs_shown v.items
-        ≡ pairs_up_to Append (Some gate)
-        (table_of region (option_map (λ t. t.now) table.entry)).keys) }
-    ensures memory { IfErr result (λ e. e ≡ Error.Memory) }
-{
-    let mut found = Vec::new(alloc);
-    match table {
-        Some(table) => table.fetch_kvs_before(gate, &mut found)?,
-        None => MemTable::new(alloc, region).fetch_kvs_before(gate, &mut found)?,
-    }
-    Ok(found)
-}
-
-/// Returns the rewritten pairs of a region.
-fn rewritten_pairs(
-    alloc: Global,
-    table: Option<&MemTable>,
-    region: u64,
-) -> Result<Vec<(Vec<u8>, Vec<u8>)>>
-    ensures ok { IfOk result (λ v. pairs_shown v.items
-        ≡ pairs_up_to Rewrite None
-        (table_of region (option_map (λ t. t.now) table.entry)).keys) }
-    ensures memory { IfErr result (λ e. e ≡ Error.Memory) }
-{
-    let mut found = Vec::new(alloc);
-    match table {
-        Some(table) => table.fetch_rewritten_kvs(&mut found)?,
-        None => MemTable::new(alloc, region).fetch_rewritten_kvs(&mut found)?,
-    }
-    Ok(found)
-}
-
-/// Copies the lengths and the bytes of pairs as far as there is room, and says how many these are.
 fn copy_pairs(
     alloc: Global,
     pairs: &[(Vec<u8>, Vec<u8>)],
@@ -208,7 +175,6 @@ fn copy_pairs(
     Ok(())
 }
 
-/// Returns the length of each key and of its value, in turn.
 fn lengths(alloc: Global, pairs: &[(Vec<u8>, Vec<u8>)]) -> Result<Vec<usize>>
     ensures ok { IfOk result (λ v. v.items ≡ lengths_of (pairs_shown pairs.now)) }
     ensures memory { IfErr result (λ e. e ≡ Error.Memory) }
@@ -221,7 +187,6 @@ fn lengths(alloc: Global, pairs: &[(Vec<u8>, Vec<u8>)]) -> Result<Vec<usize>>
     Ok(found)
 }
 
-/// Returns the bytes of each key and of its value, in turn.
 fn concatenated(alloc: Global, pairs: &[(Vec<u8>, Vec<u8>)]) -> Result<Vec<u8>>
     ensures ok { IfOk result (λ v. v.items ≡ bytes_of (pairs_shown pairs.now)) }
     ensures memory { IfErr result (λ e. e ≡ Error.Memory) }

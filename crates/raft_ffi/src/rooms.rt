@@ -1,5 +1,7 @@
 //! What is found, put into the room that the caller has for it.
 
+ghost use Rattle.std.specs.Prelude.{option_map};
+ghost use Rattle.raft_ffi.specs.Calls.{IsFound};
 ghost use Rattle.raft_ffi.specs.Rooms.{IsCopied};
 
 /// Copies what was found as far as there is room, and returns how much it is.
@@ -11,4 +13,18 @@ pub(crate) fn copy_front<T: Copy>(found: &[T], room: &mut [T]) -> usize
     let (to, _) = room.split_at_mut(count);
     to.copy_from_slice(front);
     found.len()
+}
+
+/// Copies bytes that may have been found as far as there is room, and says whether they were, and how many they are.
+pub(crate) fn copy_found(found: Option<&[u8]>, room: &mut [u8], len: &mut usize) -> bool
+    ensures { IsFound (λ bytes. IsCopied bytes room.old room.new len.new)
+        (option_map (λ v. v.now) found.entry) result }
+{
+    match found {
+        Some(found) => {
+            *len = copy_front(found, room);
+            true
+        }
+        None => false,
+    }
 }

@@ -37,7 +37,6 @@ pub(crate) fn move_table(
     Ok(())
 }
 
-/// Takes the table of a region away, if there is one.
 fn take_table(from: &mut MemTableAccessor, region: u64) -> Option<MemTable>
     ensures removed { IsRemoved region false from.old from.new }
     ensures table { result ≡ finite.get from.old.tables region }
@@ -52,7 +51,6 @@ fn take_table(from: &mut MemTableAccessor, region: u64) -> Option<MemTable>
     }
 }
 
-/// Tests whether tables would accept the share of a slot in a batch, once its items have their places.
 pub(crate) fn check_share(
     alloc: Global,
     accessor: &MemTableAccessor,
@@ -69,7 +67,6 @@ pub(crate) fn check_share(
     accessor.check_append_writes(share.as_slice())
 }
 
-/// Writes the share of a slot in items of the append queue to tables, in order.
 pub(crate) fn apply_share(
     alloc: Global,
     accessor: &mut MemTableAccessor,
@@ -85,7 +82,6 @@ pub(crate) fn apply_share(
     apply_append(accessor, ItemList::of(share))
 }
 
-/// Writes the share of a slot in items that were rewritten to a file of the rewrite queue to tables, in order.
 pub(crate) fn rewrite_share(
     alloc: Global,
     accessor: &mut MemTableAccessor,
@@ -104,7 +100,6 @@ pub(crate) fn rewrite_share(
     apply_rewrite(accessor, ItemList::of(share), gate, seq)
 }
 
-/// Returns copies of the items whose regions are of a slot, in order.
 fn share_of(alloc: Global, number: usize, items: &[LogItem]) -> Result<Vec<LogItem>>
     ensures ok { IfOk result (λ share. map item_of share.items
         ≡ share_of number (map item_of items.now)) }

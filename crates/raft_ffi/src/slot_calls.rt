@@ -4,17 +4,15 @@ ghost use Rattle.std.specs.Prelude.{◌≡◌, ◌≢◌, ◌<◌, false, IsTrue
 ghost use Rattle.raft_accessor.specs.Accessor.{slot_of};
 ghost use Rattle.raft_accessor.specs.AppendChecks.{AreRefusedOncePlaced, IsAppendCheckFault};
 ghost use Rattle.raft_accessor.specs.Writes.{Appending, AreWritten, Rewriting};
-ghost use Rattle.raft_ffi.specs.Calls.{BothHold, Holds, IsCodeOf};
+ghost use Rattle.raft_ffi.specs.Calls.{AllHold, BothHold, IsCodeForBoth, IsCodeOf};
 ghost use Rattle.raft_ffi.specs.Changes.{IsRemoved};
 ghost use Rattle.raft_ffi.specs.Rooms.{HasText};
 ghost use Rattle.raft_ffi.specs.Slots.{AcceptsShareOncePlaced, IsMoved, IsMoveFault, IsShareRefused, share_of};
 ghost use Rattle.raft_ffi.specs.Summaries.{number_in};
 
-use crate::batch::Batch;
-use crate::items::Items;
+use crate::handles::{Batch, Handle, Items, Tables};
 use crate::shares::{apply_share, check_share, move_table, rewrite_share};
 use crate::status::{Maybe, Status, answered};
-use crate::tables::Tables;
 use raft_accessor::slot_of;
 use std::alloc::Global;
 
@@ -40,11 +38,11 @@ pub extern "C" fn raft_ffi_tables_move_table(
     requires held { IsTrue (is_some tables.old.value) }
     requires to { IsTrue (is_some to.old.value) }
     ensures removed { BothHold (IsRemoved region false) tables.old.value tables.new.value }
-    ensures ok { result.code ≡ 0 → Holds (λ source. BothHold (IsMoved region source) to.old.value
-        to.new.value) tables.old.value }
+    ensures ok { result.code ≡ 0 → AllHold (IsMoved region) tables.old.value to.old.value
+        to.new.value }
     ensures err { result.code ≢ 0 → to.new.value ≡ to.old.value }
-    ensures fault { result.code ≢ 0 → BothHold (λ source others. IsCodeOf (IsMoveFault region source
-        others) result.code) tables.old.value to.old.value }
+    ensures fault { result.code ≢ 0 → IsCodeForBoth (IsMoveFault region) tables.old.value
+        to.old.value result.code }
     ensures text { HasText result text.old text.new }
 {
     let mut held = tables.take(alloc);
@@ -74,9 +72,9 @@ pub extern "C" fn raft_ffi_slot_check_append(
     ensures refused { result.code ≢ 0 → result.code ≢ 11 → BothHold
         (λ a b. AreRefusedOncePlaced a.tables (share_of number b.items)) tables.old.value
         batch.old.value }
-    ensures fault { result.code ≢ 0 → BothHold (λ a b. IsCodeOf
-        (IsAppendCheckFault a.tables (share_of number b.items)) result.code) tables.old.value
-        batch.old.value }
+    ensures fault { result.code ≢ 0 → IsCodeForBoth
+        (λ a b. IsAppendCheckFault a.tables (share_of number b.items)) tables.old.value
+        batch.old.value result.code }
     ensures text { HasText result text.old text.new }
 {
     let held = tables.take(alloc);
@@ -100,12 +98,11 @@ pub extern "C" fn raft_ffi_slot_apply_append(
     requires held { IsTrue (is_some tables.old.value) }
     requires items { IsTrue (is_some items.old.value) }
     ensures same { items.new.value ≡ items.old.value }
-    ensures ok { result.code ≡ 0 → BothHold (λ old new. Holds
-        (λ xs. AreWritten Appending (share_of number xs) old new) items.old.value) tables.old.value
-        tables.new.value }
-    ensures refused { result.code ≢ 0 → BothHold (λ old new. Holds (λ xs. IsCodeOf
-        (IsShareRefused Appending (share_of number xs) old new) result.code) items.old.value)
-        tables.old.value tables.new.value }
+    ensures ok { result.code ≡ 0 → AllHold (λ xs. AreWritten Appending (share_of number xs))
+        items.old.value tables.old.value tables.new.value }
+    ensures refused { result.code ≢ 0 → AllHold (λ xs old new. IsCodeOf
+        (IsShareRefused Appending (share_of number xs) old new) result.code)
+        items.old.value tables.old.value tables.new.value }
     ensures text { HasText result text.old text.new }
 {
     let mut held = tables.take(alloc);
@@ -132,12 +129,12 @@ pub extern "C" fn raft_ffi_slot_apply_rewrite(
     requires held { IsTrue (is_some tables.old.value) }
     requires items { IsTrue (is_some items.old.value) }
     ensures same { items.new.value ≡ items.old.value }
-    ensures ok { result.code ≡ 0 → BothHold (λ old new. Holds
-        (λ xs. AreWritten (Rewriting (number_in gate) seq) (share_of number xs) old new)
-        items.old.value) tables.old.value tables.new.value }
-    ensures refused { result.code ≢ 0 → BothHold (λ old new. Holds (λ xs. IsCodeOf
-        (IsShareRefused (Rewriting (number_in gate) seq) (share_of number xs) old new)
-        result.code) items.old.value) tables.old.value tables.new.value }
+    ensures ok { result.code ≡ 0 → AllHold
+        (λ xs. AreWritten (Rewriting (number_in gate) seq) (share_of number xs))
+        items.old.value tables.old.value tables.new.value }
+    ensures refused { result.code ≢ 0 → AllHold (λ xs old new. IsCodeOf
+        (IsShareRefused (Rewriting (number_in gate) seq) (share_of number xs) old new) result.code)
+        items.old.value tables.old.value tables.new.value }
     ensures text { HasText result text.old text.new }
 {
     let mut held = tables.take(alloc);

@@ -1,7 +1,7 @@
 //! What calls take and return, in numbers.
 
 ghost use Rattle.std.specs.Prelude.{◌≡◌, OnOk, OnErr, IfErr};
-ghost use Rattle.raft_ffi.specs.Calls.{code_of, queue_of, file_of};
+ghost use Rattle.raft_ffi.specs.Calls.{code_of, file_of, queue_of, version_of};
 ghost use Rattle.raft_ffi.specs.Rooms.{IsTextIn, IsTextOf, HasText};
 ghost use Rattle.raft_ffi.specs.Summaries.{number_in};
 
@@ -36,7 +36,6 @@ pub struct Status {
     pub text_len: usize,
 }
 
-/// Returns the queue that a flag names.
 pub(crate) fn queue(is_rewrite: bool) -> LogQueue
     ensures { result ≡ queue_of is_rewrite }
 {
@@ -47,7 +46,12 @@ pub(crate) fn queue(is_rewrite: bool) -> LogQueue
     }
 }
 
-/// Whether a queue is the rewrite queue.
+pub(crate) fn version(is_signed: bool) -> Version
+    ensures { result ≡ version_of is_signed }
+{
+    if is_signed { Version::V2 } else { Version::V1 }
+}
+
 pub(crate) fn is_rewrite(queue: LogQueue) -> bool
     ensures { queue_of result ≡ queue }
 {
@@ -58,7 +62,6 @@ pub(crate) fn is_rewrite(queue: LogQueue) -> bool
 }
 
 impl Maybe {
-    /// Returns the number, if there is one.
     pub(crate) fn number(self) -> Option<u64>
         ensures { result ≡ number_in self }
     {
@@ -69,7 +72,6 @@ impl Maybe {
         }
     }
 
-    /// Returns the size, if there is one.
     pub(crate) fn size(self) -> Option<usize>
         ensures { result ≡ number_in self }
     {
@@ -80,7 +82,6 @@ impl Maybe {
         }
     }
 
-    /// Makes one of a number that may be there.
     pub(crate) fn of(number: Option<u64>) -> Maybe
         ensures { number_in result ≡ number }
     {
@@ -98,20 +99,14 @@ impl Maybe {
 }
 
 impl File {
-    /// Returns the file and its version.
     pub(crate) fn context(&self) -> LogFileContext
         ensures { result ≡ file_of self.now }
     {
-        let version = if self.is_signed {
-            Version::V2
-        } else {
-            Version::V1
-        };
-        LogFileContext::new(FileId::new(queue(self.is_rewrite), self.seq), version)
+        let id = FileId::new(queue(self.is_rewrite), self.seq);
+        LogFileContext::new(id, version(self.is_signed))
     }
 }
 
-/// Returns the number of an error.
 pub(crate) fn code(e: &Error) -> u32
     ensures { result ≡ code_of e.now }
 {

@@ -1,26 +1,21 @@
 //! Calls that read the tables of all regions.
 
 ghost use Rattle.std.specs.Prelude.{◌≡◌, ◌≢◌, IsTrue, is_some};
-ghost use Rattle.std.specs.FinMap as finite;
 ghost use Rattle.raft_base.specs.declared.pipe_log.LogQueue.TheVariants.{Rewrite};
 ghost use Rattle.raft_accessor.specs.Accessor.{table_in};
 ghost use Rattle.raft_table.specs.Counts.{live};
 ghost use Rattle.raft_table.specs.Fetches.{IsFetchFault, range_answer, appended_before};
-ghost use Rattle.raft_table.specs.TableEntries.{entry_at, placed_in};
-ghost use Rattle.raft_ffi.specs.Calls.{queue_of, IsCodeOf, IsFound, Holds};
-ghost use Rattle.raft_ffi.specs.EntryData.{entry_found};
-ghost use Rattle.raft_ffi.specs.Reads.{AreRegionsIn, IsFetched, value_in};
+ghost use Rattle.raft_table.specs.TableEntries.{placed_in};
+ghost use Rattle.raft_ffi.specs.Calls.{Holds, IsCodeFor, queue_of};
+ghost use Rattle.raft_ffi.specs.Reads.{AreRegionsIn, IsEntryIn, IsFetched, IsSummaryIn, IsValueIn};
 ghost use Rattle.raft_ffi.specs.Rooms.{AreEntriesIn, IsCopied, HasText};
-ghost use Rattle.raft_ffi.specs.Summaries.{number_in, IsSummaryOf};
+ghost use Rattle.raft_ffi.specs.Summaries.{number_in};
 
 use crate::entries::Entry;
-use crate::reads::{
-    entries_before_in, entries_in, entry_in, find_regions, rewritten_entries_in, summary_in,
-    value_in,
-};
+use crate::handles::{Handle, Tables};
+use crate::reads::{entries_in, entry_in, find_moving, find_regions, summary_in, value_in};
 use crate::rooms::copy_front;
 use crate::status::{Maybe, Status, answered, memory_code, queue};
-use crate::tables::Tables;
 use std::alloc::Global;
 
 /// What a table has.
@@ -64,11 +59,10 @@ pub extern "C" fn raft_ffi_tables_summary(
 ) -> bool
     requires held { IsTrue (is_some tables.old.value) }
     ensures same { tables.new.value ≡ tables.old.value }
-    ensures found { Holds (λ a. IsFound (λ t. IsSummaryOf t summary.new)
-        (finite.get a.tables region) result) tables.old.value }
+    ensures found { Holds (IsSummaryIn region result summary.new) tables.old.value }
 {
     let held = tables.take(alloc);
-    let found = summary_in(held.get(region), summary);
+    let found = summary_in(&*held, region, summary);
     tables.put(held);
     found
 }
@@ -122,11 +116,10 @@ pub extern "C" fn raft_ffi_tables_entry(
 ) -> bool
     requires held { IsTrue (is_some tables.old.value) }
     ensures same { tables.new.value ≡ tables.old.value }
-    ensures found { Holds (λ a. entry_found result entry.new
-        ≡ entry_at index (table_in a.tables region).entries) tables.old.value }
+    ensures found { Holds (IsEntryIn region index result entry.new) tables.old.value }
 {
     let held = tables.take(alloc);
-    let found = entry_in(held.get(region), region, index, entry);
+    let found = entry_in(&*held, region, index, entry);
     tables.put(held);
     found
 }
@@ -150,15 +143,22 @@ pub extern "C" fn raft_ffi_tables_entries(
     ensures same { tables.new.value ≡ tables.old.value }
     ensures ok { result.code ≡ 0 → Holds (λ a. IsFetched (number_in max_size) begin end
         (table_in a.tables region).entries entries.old entries.new count.new) tables.old.value }
-    ensures fault { result.code ≢ 0 → Holds (λ a. IsCodeOf
-        (IsFetchFault (range_answer begin end (table_in a.tables region).entries)) result.code)
-        tables.old.value }
+    ensures fault { result.code ≢ 0 → IsCodeFor
+        (λ a. IsFetchFault (range_answer begin end (table_in a.tables region).entries)) tables.old.value
+        result.code }
     ensures text { HasText result text.old text.new }
 {
     let held = tables.take(alloc);
     let range = (begin, end);
-    let table = held.get(region);
-    let answer = entries_in(alloc, table, region, range, max_size.size(), entries, count);
+    let answer = entries_in(
+        alloc,
+        &*held,
+        region,
+        range,
+        max_size.size(),
+        entries,
+        count,
+    );
     tables.put(held);
     answered(alloc, &answer, text)
 }
@@ -182,7 +182,7 @@ pub extern "C" fn raft_ffi_tables_entries_before(
     ensures fault { result ≢ 0 → result ≡ 11 }
 {
     let held = tables.take(alloc);
-    let answer = entries_before_in(alloc, held.get(region), region, gate, entries, count);
+    let answer = find_moving(alloc, &*held, region, Some(gate), entries, count);
     tables.put(held);
     memory_code(&answer)
 }
@@ -204,7 +204,7 @@ pub extern "C" fn raft_ffi_tables_rewritten_entries(
     ensures fault { result ≢ 0 → result ≡ 11 }
 {
     let held = tables.take(alloc);
-    let answer = rewritten_entries_in(alloc, held.get(region), region, entries, count);
+    let answer = find_moving(alloc, &*held, region, None, entries, count);
     tables.put(held);
     memory_code(&answer)
 }
@@ -221,11 +221,11 @@ pub extern "C" fn raft_ffi_tables_value(
 ) -> bool
     requires held { IsTrue (is_some tables.old.value) }
     ensures same { tables.new.value ≡ tables.old.value }
-    ensures found { Holds (λ a. IsFound (λ bytes. IsCopied bytes value.old value.new len.new)
-        (value_in a.tables region key.now) result) tables.old.value }
+    ensures found { Holds (IsValueIn region key.now result value.old value.new len.new)
+        tables.old.value }
 {
     let held = tables.take(alloc);
-    let found = value_in(held.get(region), key, value, len);
+    let found = value_in(&*held, region, key, value, len);
     tables.put(held);
     found
 }

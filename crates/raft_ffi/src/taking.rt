@@ -16,7 +16,6 @@ pub(crate) enum Taking {
     NoneWaits(u64),
 }
 
-/// Takes the oldest order that waits, if its bytes aren't more than there is room for.
 pub(crate) fn take_within(files: &mut HandedFiles, room: usize) -> Taking
     ensures taking { IsTaking files.old.asks room result }
     ensures same { files.new.asks ≡ files.old.asks }

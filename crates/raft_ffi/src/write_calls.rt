@@ -1,19 +1,17 @@
 //! Calls that make tables, and change those of several regions.
 
-ghost use Rattle.std.specs.Prelude.{◌≡◌, ◌≢◌, ◌≤◌, IsTrue, IfOk, IfErr, OnOk, OnErr, Some, None, is_some};
+ghost use Rattle.std.specs.Prelude.{◌≡◌, ◌≢◌, ◌≤◌, IsTrue, IfErr, OnOk, OnErr, Some, None, is_some};
 ghost use Rattle.std.specs.FinMap as finite;
-ghost use Rattle.raft_accessor.specs.Accessor.{table_in};
 ghost use Rattle.raft_accessor.specs.Merges.{with_newer, with_appended, AreTablesLeft, AreOthersLeft, IsNewerFault, IsAppendedFault, IsMergeRefusal};
 ghost use Rattle.raft_accessor.specs.Writes.{Appending, Rewriting, AreWritten};
-ghost use Rattle.raft_ffi.specs.Calls.{IsCodeOf, Holds, BothHold};
-ghost use Rattle.raft_ffi.specs.Changes.{IsChangedTo, IsRemoved, AreSomeWritten, AreMerged, IsStoppedAt, no_tables};
+ghost use Rattle.raft_ffi.specs.Calls.{AllHold, BothHold, Holds, IsCodeOf};
+ghost use Rattle.raft_ffi.specs.Changes.{AreMerged, AreSomeWritten, IsGroupSet, IsRemoved, IsStoppedAt, no_tables};
 ghost use Rattle.raft_ffi.specs.Rooms.{HasText};
 ghost use Rattle.raft_ffi.specs.Summaries.{number_in};
 
+use crate::handles::{Handle, Items, Tables};
 use crate::item_list::ItemList;
-use crate::items::Items;
 use crate::status::{Maybe, Status, answered, memory_code};
-use crate::tables::Tables;
 use raft_accessor::MemTableAccessor;
 use raft_base::{Error, Result};
 use std::alloc::Global;
@@ -26,21 +24,10 @@ pub extern "C" fn raft_ffi_tables_new(alloc: Global, tables: &mut Tables) -> u32
     ensures err { result ≢ 0 → tables.new.value ≡ None }
     ensures fault { result ≢ 0 → result ≡ 11 }
 {
-    match new_tables(alloc) {
-        Ok(held) => {
-            tables.put(held);
-            0
-        }
+    match MemTableAccessor::new(alloc) {
+        Ok(held) => memory_code(&tables.put_new(alloc, held)),
         Err(_) => 11,
     }
-}
-
-/// Makes no tables, on the heap.
-fn new_tables(alloc: Global) -> Result<Box<MemTableAccessor>>
-    ensures ok { IfOk result (λ b. b.value ≡ no_tables) }
-    ensures memory { IfErr result (λ e. e ≡ Error.Memory) }
-{
-    Ok(Box::new(alloc, MemTableAccessor::new(alloc)?)?)
 }
 
 /// Sets the first and the last file of a region's atomic group, once the group's End is written.
@@ -54,9 +41,7 @@ pub extern "C" fn raft_ffi_tables_atomic_group(
 ) -> u32
     requires held { IsTrue (is_some tables.old.value) }
     requires range { start ≤ end }
-    ensures ok { result ≡ 0 → BothHold (λ old new. IsChangedTo
-        (Some (record (table_in old.tables region) { atomic_group = Some (start, end) })) region old
-        new) tables.old.value tables.new.value }
+    ensures ok { result ≡ 0 → BothHold (IsGroupSet start end region) tables.old.value tables.new.value }
     ensures err { result ≢ 0 → tables.new.value ≡ tables.old.value }
     ensures fault { result ≢ 0 → result ≡ 11 }
 {
@@ -66,7 +51,6 @@ pub extern "C" fn raft_ffi_tables_atomic_group(
     memory_code(&answer)
 }
 
-/// Sets the first and the last file of a region's atomic group.
 fn set_atomic_group(
     accessor: &mut MemTableAccessor,
     region: u64,
@@ -74,8 +58,7 @@ fn set_atomic_group(
     end: u64,
 ) -> Result<()>
     requires { start ≤ end }
-    ensures ok { OnOk result (IsChangedTo (Some (record (table_in accessor.old.tables region)
-        { atomic_group = Some (start, end) })) region accessor.old accessor.new) }
+    ensures ok { OnOk result (IsGroupSet start end region accessor.old accessor.new) }
     ensures err { OnErr result (accessor.new ≡ accessor.old) }
     ensures memory { IfErr result (λ e. e ≡ Error.Memory) }
 {
@@ -107,7 +90,6 @@ pub extern "C" fn raft_ffi_tables_remove(
     memory_code(&answer)
 }
 
-/// Takes a region's table away, and lists the region where that is asked for.
 fn remove(
     accessor: &mut MemTableAccessor,
     region: u64,
@@ -134,19 +116,19 @@ pub extern "C" fn raft_ffi_tables_merge_newer(
 ) -> Status
     requires held { IsTrue (is_some tables.old.value) }
     requires newer { IsTrue (is_some newer.value) }
-    ensures ok { result.code ≡ 0 → BothHold (λ old new. Holds
-        (λ rhs. AreMerged with_newer rhs old new) newer.value) tables.old.value tables.new.value }
-    ensures err { result.code ≢ 0 → result.code ≢ 11 → BothHold (λ old new. Holds
-        (λ rhs. AreTablesLeft with_newer old.tables rhs.tables new.tables) newer.value)
-        tables.old.value tables.new.value }
-    ensures others { result.code ≢ 0 → BothHold (λ old new. Holds
-        (λ rhs. AreOthersLeft with_newer old.tables rhs.tables new.tables) newer.value)
-        tables.old.value tables.new.value }
+    ensures ok { result.code ≡ 0 → AllHold (AreMerged with_newer) newer.value tables.old.value
+        tables.new.value }
+    ensures err { result.code ≢ 0 → result.code ≢ 11 → AllHold
+        (λ rhs old new. AreTablesLeft with_newer old.tables rhs.tables new.tables)
+        newer.value tables.old.value tables.new.value }
+    ensures others { result.code ≢ 0 → AllHold
+        (λ rhs old new. AreOthersLeft with_newer old.tables rhs.tables new.tables)
+        newer.value tables.old.value tables.new.value }
     ensures cleaned { BothHold (λ old new. new.cleaned ≡ old.cleaned) tables.old.value
         tables.new.value }
-    ensures fault { result.code ≢ 0 → BothHold (λ old new. Holds (λ rhs. IsCodeOf
+    ensures fault { result.code ≢ 0 → AllHold (λ rhs old new. IsCodeOf
         (IsMergeRefusal (IsNewerFault new.counts) old.tables rhs.tables) result.code)
-        newer.value) tables.old.value tables.new.value }
+        newer.value tables.old.value tables.new.value }
     ensures text { HasText result text.old text.new }
 {
     let mut held = tables.take(alloc);
@@ -167,20 +149,19 @@ pub extern "C" fn raft_ffi_tables_merge_append(
 ) -> Status
     requires held { IsTrue (is_some tables.old.value) }
     requires append { IsTrue (is_some append.value) }
-    ensures ok { result.code ≡ 0 → BothHold (λ old new. Holds
-        (λ rhs. AreMerged with_appended rhs old new) append.value) tables.old.value
+    ensures ok { result.code ≡ 0 → AllHold (AreMerged with_appended) append.value tables.old.value
         tables.new.value }
-    ensures err { result.code ≢ 0 → result.code ≢ 11 → BothHold (λ old new. Holds
-        (λ rhs. AreTablesLeft with_appended old.tables rhs.tables new.tables) append.value)
-        tables.old.value tables.new.value }
-    ensures others { result.code ≢ 0 → BothHold (λ old new. Holds
-        (λ rhs. AreOthersLeft with_appended old.tables rhs.tables new.tables) append.value)
-        tables.old.value tables.new.value }
+    ensures err { result.code ≢ 0 → result.code ≢ 11 → AllHold
+        (λ rhs old new. AreTablesLeft with_appended old.tables rhs.tables new.tables)
+        append.value tables.old.value tables.new.value }
+    ensures others { result.code ≢ 0 → AllHold
+        (λ rhs old new. AreOthersLeft with_appended old.tables rhs.tables new.tables)
+        append.value tables.old.value tables.new.value }
     ensures cleaned { BothHold (λ old new. new.cleaned ≡ old.cleaned) tables.old.value
         tables.new.value }
-    ensures fault { result.code ≢ 0 → BothHold (λ old new. Holds (λ rhs. IsCodeOf
+    ensures fault { result.code ≢ 0 → AllHold (λ rhs old new. IsCodeOf
         (IsMergeRefusal (IsAppendedFault new.counts) old.tables rhs.tables) result.code)
-        append.value) tables.old.value tables.new.value }
+        append.value tables.old.value tables.new.value }
     ensures text { HasText result text.old text.new }
 {
     let mut held = tables.take(alloc);
@@ -202,11 +183,10 @@ pub extern "C" fn raft_ffi_tables_apply_append(
 ) -> Status
     requires held { IsTrue (is_some tables.old.value) }
     requires items { IsTrue (is_some items.value) }
-    ensures ok { result.code ≡ 0 → BothHold (λ old new. Holds
-        (λ xs. AreWritten Appending xs old new) items.value) tables.old.value tables.new.value }
-    ensures refused { result.code ≢ 0 → BothHold (λ old new. Holds
-        (λ xs. AreSomeWritten Appending xs result.code old new) items.value) tables.old.value
+    ensures ok { result.code ≡ 0 → AllHold (AreWritten Appending) items.value tables.old.value
         tables.new.value }
+    ensures refused { result.code ≢ 0 → AllHold (AreSomeWritten Appending result.code) items.value
+        tables.old.value tables.new.value }
     ensures text { HasText result text.old text.new }
 {
     let mut held = tables.take(alloc);
@@ -216,7 +196,6 @@ pub extern "C" fn raft_ffi_tables_apply_append(
     answered(alloc, &answer, text)
 }
 
-/// Writes items of the append queue to the tables, in order.
 pub(crate) fn apply_append(accessor: &mut MemTableAccessor, items: ItemList) -> Result<()>
     ensures ok { OnOk result (AreWritten Appending items accessor.old accessor.new) }
     ensures refused { IfErr result (IsStoppedAt Appending items accessor.old accessor.new) }
@@ -237,11 +216,10 @@ pub extern "C" fn raft_ffi_tables_apply_rewrite(
 ) -> Status
     requires held { IsTrue (is_some tables.old.value) }
     requires items { IsTrue (is_some items.value) }
-    ensures ok { result.code ≡ 0 → BothHold (λ old new. Holds
-        (λ xs. AreWritten (Rewriting (number_in gate) seq) xs old new) items.value)
-        tables.old.value tables.new.value }
-    ensures refused { result.code ≢ 0 → BothHold (λ old new. Holds
-        (λ xs. AreSomeWritten (Rewriting (number_in gate) seq) xs result.code old new) items.value)
+    ensures ok { result.code ≡ 0 → AllHold (AreWritten (Rewriting (number_in gate) seq))
+        items.value tables.old.value tables.new.value }
+    ensures refused { result.code ≢ 0 → AllHold
+        (AreSomeWritten (Rewriting (number_in gate) seq) result.code) items.value
         tables.old.value tables.new.value }
     ensures text { HasText result text.old text.new }
 {
@@ -252,7 +230,6 @@ pub extern "C" fn raft_ffi_tables_apply_rewrite(
     answered(alloc, &answer, text)
 }
 
-/// Writes items that were rewritten to a file of the rewrite queue to the tables, in order.
 pub(crate) fn apply_rewrite(
     accessor: &mut MemTableAccessor,
     items: ItemList,

@@ -3,3 +3,6 @@ use Rattle.raft_ffi.proofs.context_calls.overlay.Goals as goal
 
 pub returns-clause-exact : goal.returns-clause-exact
 returns-clause-exact c = overlaid c.merge_append_context.result c.args.append c.args.context.now c.merge_append_context.new.self c.merge_append_context.ensures.exact
+
+pub returns-clause-memory : goal.returns-clause-memory
+returns-clause-memory c = λ two. c.merge_append_context.ensures.memory two.rewritten two.appended two.small.0 two.small.1 two.queues.0 two.queues.1 two.read.0 two.read.1

@@ -1,9 +1,0 @@
--- A handle may go to another thread, as what it holds may.
-use denote.Param.Send.{IsSend}
-use Rattle.raft_ffi.proofs.held_engine.HeldEngine.TheSendSync.{the_send as held}
-use Rattle.raft_ffi.proofs.HandleKinds.{engine}
-use Rattle.raft_ffi.proofs.SendSteps as steps
-use Rattle.raft_ffi.specs.contracts.engine.Engine.{the_row}
-
-pub send : IsSend the_row
-send = steps.send engine held

@@ -1,0 +1,24 @@
+use Rattle.std.proofs.lemmas.Result.{err_from_is_err_and}
+use Rattle.std.proofs.Common.{sym, subst, ◌∙◌}
+use Rattle.raft_engine.specs.ReadContexts.{HaveReadFound}
+use Rattle.raft_ffi.specs.Engines.{IsUnopenedAs}
+use Rattle.raft_ffi.specs.FoundFiles.{FilesSeen}
+use Rattle.raft_ffi.specs.FoundFilesView.{files_seen}
+use Rattle.raft_ffi.proofs.OpenLemmas.{for_memory, for_reason}
+use Rattle.raft_ffi.proofs.engine_calls.open_into.Goals as goal
+
+pub open_over-requires-clause-read : goal.open_over-requires-clause-read
+open_over-requires-clause-read c =
+    subst (λ (f : FilesSeen). HaveReadFound c.args.version f.append f.rewrite c.args.appended c.args.rewritten) (sym c.found.view_is) c.requires.read
+
+pub returns-in_err-opened-clause-fault : goal.returns-in_err-opened-clause-fault
+returns-in_err-opened-clause-fault c =
+    let p = err_from_is_err_and c.from_residual.result c.from_residual.ensures.1 in
+    rw (p.1)
+    (subst (λ (f : FilesSeen). IsUnopenedAs c.args.version f c.args.appended c.args.rewritten p.0) c.found.view_is
+    (for_reason c.args.version (files_seen c.found.inside) c.args.appended c.args.rewritten _ _ p.0 c.in_err-opened.ensures.err p.2))
+
+pub returns-in_err-put_new-clause-fault : goal.returns-in_err-put_new-clause-fault
+returns-in_err-put_new-clause-fault c =
+    let p = err_from_is_err_and c.from_residual-in_err-put_new.result c.from_residual-in_err-put_new.ensures.1 in
+    rw (p.1) (for_memory c.args.version c.args.found c.args.appended c.args.rewritten p.0 (p.2 ∙ c.in_err-put_new.ensures.memory))

@@ -1,0 +1,344 @@
+//! Values on the heap behind pointers that C keeps.
+
+ghost use Rattle.std.specs.Prelude.{◌≡◌, List, Option, Some, None, IsTrue, is_some, IfErr, OnErr, OnOk};
+ghost use Rattle.std.specs.Coded.{coded_option};
+ghost use Rattle.raft_accessor.specs.Accessor.{Accessor};
+ghost use Rattle.raft_accessor.specs.AccessorCode.{accessor_code};
+ghost use Rattle.raft_accessor.specs.contracts.accessor.MemTableAccessor.{the_row as tables_row};
+ghost use Rattle.raft_contexts.specs.RecoverContext.{RecoverContext};
+ghost use Rattle.raft_contexts.specs.RecoverContextCode.{recover_context_code};
+ghost use Rattle.raft_contexts.specs.contracts.recover_context.MemTableRecoverContext.{the_row as context_row};
+ghost use Rattle.raft_engine.specs.KeptEngine.{KeptEngine};
+ghost use Rattle.raft_engine.specs.KeptEngineCode.{engine_code};
+ghost use Rattle.raft_records.specs.Item.{Item};
+ghost use Rattle.raft_records.specs.LogBatch.{Batch as BatchSeen};
+ghost use Rattle.raft_records.specs.contracts.log_batch.LogBatch.{the_row as batch_row};
+ghost use Rattle.raft_ffi.specs.FoundFiles.{FilesSeen, files_code};
+ghost use Rattle.raft_ffi.specs.Handles.{handle_owned};
+ghost use Rattle.raft_ffi.specs.contracts.found_files.FoundFiles.{the_row as found_row};
+ghost use Rattle.raft_ffi.specs.contracts.held_engine.HeldEngine.{the_row as engine_row};
+ghost use Rattle.raft_ffi.specs.contracts.item_list.ItemList.{the_row as items_row};
+
+use crate::found_files::FoundFiles;
+use crate::held_engine::HeldEngine;
+use crate::item_list::ItemList;
+use crate::parts::Parts;
+use raft_accessor::MemTableAccessor;
+use raft_base::{Error, Result};
+use raft_contexts::MemTableRecoverContext;
+use raft_records::LogBatch;
+use std::alloc::Global;
+use std::marker::Model;
+use std::mem;
+
+/// A type of handles: each holds a value on the heap, or nothing. C keeps it as a pointer, null where it holds nothing.
+pub(crate) trait Handle: Sized + Drop {
+    /// What one holds.
+    type Held: Drop;
+
+    /// What this one holds.
+    ghost value: { Self → Option Self.Held };
+
+    /// Makes a handle that holds nothing.
+    fn empty(alloc: Global) -> Self
+        ensures { value result ≡ None };
+
+    /// Makes a handle of the parts of a box.
+    fn of_parts(parts: Parts<Self::Held, Global>) -> Self
+        ensures { value result ≡ Some parts.value };
+
+    /// Returns the parts of the box.
+    fn into_parts(self) -> Parts<Self::Held, Global>
+        requires { IsTrue (is_some (value self)) }
+        ensures { value self ≡ Some result.value };
+
+    /// Returns what is held.
+    final fn into_box(self) -> Box<Self::Held>
+        requires { IsTrue (is_some (value self)) }
+        ensures { value self ≡ Some result.value }
+    {
+        self.into_parts().into_box()
+    }
+
+    /// Takes out what is held.
+    final fn take(&mut self, alloc: Global) -> Box<Self::Held>
+        requires { IsTrue (is_some (value self.old)) }
+        ensures value { value self.old ≡ Some result.value }
+        ensures emptied { value self.new ≡ None }
+    {
+        mem::replace(self, Self::empty(alloc)).into_box()
+    }
+
+    /// Puts a value in.
+    final fn put(&mut self, held: Box<Self::Held>)
+        ensures { value self.new ≡ Some held.value }
+    {
+        *self = Self::of_parts(Parts::of(held));
+    }
+
+    /// Puts a value in that isn't on the heap yet.
+    ///
+    /// # Errors
+    ///
+    /// `Memory`. The handle is then as it was.
+    final fn put_new(&mut self, alloc: Global, held: Self::Held) -> Result<()>
+        ensures ok { OnOk result (value self.new ≡ Some held) }
+        ensures err { OnErr result (value self.new ≡ value self.old) }
+        ensures memory { IfErr result (λ e. e ≡ Error.Memory) }
+    {
+        self.put(Box::new(alloc, held)?);
+        Ok(())
+    }
+}
+
+/// A batch, or nothing.
+#[repr(C)]
+#[derive(Drop)]
+pub struct Batch {
+    at: *mut u8,
+    alloc: Global,
+    pub ghost value: { Option BatchSeen } by { coded_option batch_row.coded },
+}
+
+impl Model for Batch {
+    ghost also_owns = { λ h. handle_owned batch_row h.alloc h.at h.value };
+}
+
+impl Handle for Batch {
+    type Held = LogBatch;
+
+    ghost value = { λ h. h.value };
+
+    fn empty(alloc: Global) -> Batch {
+        Batch {
+            at: std::ptr::null_mut(),
+            alloc,
+        }
+    }
+
+    fn of_parts(parts: Parts<LogBatch, Global>) -> Batch
+        ensures { result.value ≡ Some parts.value }
+    {
+        let Parts { ptr, alloc } = parts;
+        let at = ptr as *mut u8;
+        Batch { at, alloc }
+    }
+
+    fn into_parts(self) -> Parts<LogBatch, Global> {
+        let Batch { at, alloc } = self;
+        let ptr = at as *mut LogBatch;
+        Parts { ptr, alloc }
+    }
+}
+
+unsafe impl Send for Batch {}
+
+/// A context, or nothing.
+#[repr(C)]
+#[derive(Drop)]
+pub struct Context {
+    at: *mut u8,
+    alloc: Global,
+    pub ghost value: { Option RecoverContext } by { coded_option recover_context_code },
+}
+
+impl Model for Context {
+    ghost also_owns = { λ h. handle_owned context_row h.alloc h.at h.value };
+}
+
+impl Handle for Context {
+    type Held = MemTableRecoverContext;
+
+    ghost value = { λ h. h.value };
+
+    fn empty(alloc: Global) -> Context {
+        Context {
+            at: std::ptr::null_mut(),
+            alloc,
+        }
+    }
+
+    fn of_parts(parts: Parts<MemTableRecoverContext, Global>) -> Context
+        ensures { result.value ≡ Some parts.value }
+    {
+        let Parts { ptr, alloc } = parts;
+        let at = ptr as *mut u8;
+        Context { at, alloc }
+    }
+
+    fn into_parts(self) -> Parts<MemTableRecoverContext, Global> {
+        let Context { at, alloc } = self;
+        let ptr = at as *mut MemTableRecoverContext;
+        Parts { ptr, alloc }
+    }
+}
+
+unsafe impl Send for Context {}
+
+/// An engine, or nothing.
+#[repr(C)]
+#[derive(Drop)]
+pub struct Engine {
+    at: *mut u8,
+    alloc: Global,
+    pub ghost value: { Option KeptEngine } by { coded_option engine_code },
+}
+
+impl Model for Engine {
+    ghost also_owns = { λ h. handle_owned engine_row h.alloc h.at h.value };
+}
+
+impl Handle for Engine {
+    type Held = HeldEngine;
+
+    ghost value = { λ h. h.value };
+
+    fn empty(alloc: Global) -> Engine {
+        Engine {
+            at: std::ptr::null_mut(),
+            alloc,
+        }
+    }
+
+    fn of_parts(parts: Parts<HeldEngine, Global>) -> Engine
+        ensures { result.value ≡ Some parts.value }
+    {
+        let Parts { ptr, alloc } = parts;
+        let at = ptr as *mut u8;
+        Engine { at, alloc }
+    }
+
+    fn into_parts(self) -> Parts<HeldEngine, Global> {
+        let Engine { at, alloc } = self;
+        let ptr = at as *mut HeldEngine;
+        Parts { ptr, alloc }
+    }
+}
+
+unsafe impl Send for Engine {}
+
+/// Found files, or nothing.
+#[repr(C)]
+#[derive(Drop)]
+pub struct Found {
+    at: *mut u8,
+    alloc: Global,
+    pub ghost value: { Option FilesSeen } by { coded_option files_code },
+}
+
+impl Model for Found {
+    ghost also_owns = { λ h. handle_owned found_row h.alloc h.at h.value };
+}
+
+impl Handle for Found {
+    type Held = FoundFiles;
+
+    ghost value = { λ h. h.value };
+
+    fn empty(alloc: Global) -> Found {
+        Found {
+            at: std::ptr::null_mut(),
+            alloc,
+        }
+    }
+
+    fn of_parts(parts: Parts<FoundFiles, Global>) -> Found
+        ensures { result.value ≡ Some parts.value }
+    {
+        let Parts { ptr, alloc } = parts;
+        let at = ptr as *mut u8;
+        Found { at, alloc }
+    }
+
+    fn into_parts(self) -> Parts<FoundFiles, Global> {
+        let Found { at, alloc } = self;
+        let ptr = at as *mut FoundFiles;
+        Parts { ptr, alloc }
+    }
+}
+
+unsafe impl Send for Found {}
+
+/// Items, or nothing.
+#[repr(C)]
+#[derive(Drop)]
+pub struct Items {
+    at: *mut u8,
+    alloc: Global,
+    pub ghost value: { Option (List Item) } by { coded_option items_row.coded },
+}
+
+impl Model for Items {
+    ghost also_owns = { λ h. handle_owned items_row h.alloc h.at h.value };
+}
+
+impl Handle for Items {
+    type Held = ItemList;
+
+    ghost value = { λ h. h.value };
+
+    fn empty(alloc: Global) -> Items {
+        Items {
+            at: std::ptr::null_mut(),
+            alloc,
+        }
+    }
+
+    fn of_parts(parts: Parts<ItemList, Global>) -> Items
+        ensures { result.value ≡ Some parts.value }
+    {
+        let Parts { ptr, alloc } = parts;
+        let at = ptr as *mut u8;
+        Items { at, alloc }
+    }
+
+    fn into_parts(self) -> Parts<ItemList, Global> {
+        let Items { at, alloc } = self;
+        let ptr = at as *mut ItemList;
+        Parts { ptr, alloc }
+    }
+}
+
+unsafe impl Send for Items {}
+
+/// Tables, or nothing.
+#[repr(C)]
+#[derive(Drop)]
+pub struct Tables {
+    at: *mut u8,
+    alloc: Global,
+    pub ghost value: { Option Accessor } by { coded_option accessor_code },
+}
+
+impl Model for Tables {
+    ghost also_owns = { λ h. handle_owned tables_row h.alloc h.at h.value };
+}
+
+impl Handle for Tables {
+    type Held = MemTableAccessor;
+
+    ghost value = { λ h. h.value };
+
+    fn empty(alloc: Global) -> Tables {
+        Tables {
+            at: std::ptr::null_mut(),
+            alloc,
+        }
+    }
+
+    fn of_parts(parts: Parts<MemTableAccessor, Global>) -> Tables
+        ensures { result.value ≡ Some parts.value }
+    {
+        let Parts { ptr, alloc } = parts;
+        let at = ptr as *mut u8;
+        Tables { at, alloc }
+    }
+
+    fn into_parts(self) -> Parts<MemTableAccessor, Global> {
+        let Tables { at, alloc } = self;
+        let ptr = at as *mut MemTableAccessor;
+        Parts { ptr, alloc }
+    }
+}
+
+unsafe impl Send for Tables {}

@@ -1,9 +1,8 @@
 //! An engine: the logs of many regions, in files that it writes.
 
 use crate::sys::EngineHandle;
-use crate::{Entry, Error, LogBatch, Queue, Result, Summary};
+use crate::{Error, Queue, Result};
 use std::fmt;
-use std::ops::{Bound, Range, RangeBounds};
 use std::path::Path;
 use std::sync::{Mutex, MutexGuard, OnceLock};
 
@@ -14,11 +13,15 @@ mod folder_files;
 mod found;
 mod locks;
 mod memory_files;
+mod numbers;
 mod options;
 mod orders;
 mod pairs;
+mod purged;
 mod purging;
+mod reading;
 mod stats;
+mod writing;
 
 pub use entries::Entries;
 pub use files::Files;
@@ -26,13 +29,12 @@ pub use folder_files::FolderFiles;
 pub use memory_files::{Ask, MemoryFiles, Unsynced};
 pub use options::Options;
 pub use pairs::Pairs;
-pub use purging::Purged;
+pub use purged::Purged;
 pub use stats::{QueueStats, Stats};
 
-use commit::{Commits, Group};
+use commit::Commits;
 use found::Found;
-use orders::Turn;
-use stats::Numbers;
+use numbers::Numbers;
 
 /// The logs of many regions: tables in memory, and the files of all batches that were written, in a folder or behind any
 /// [`Files`].
@@ -213,290 +215,6 @@ impl<F: Files> Engine<F> {
         locks::lock(&self.tables)
     }
 
-    /// Makes a call that reads the tables.
-    fn look_up<T>(&self, call: impl FnOnce(&mut EngineHandle) -> Result<T>) -> Result<T> {
-        self.intact()?;
-        call(&mut self.tables())
-    }
-
-    /// Writes a batch, which is empty afterwards. With `sync` all that was written lasts once the call returns `Ok`. The batch is
-    /// whole or not there at all, whenever the machine stops.
-    ///
-    /// ```
-    /// # use raft_recover::{Engine, LogBatch, MemoryFiles, Options};
-    /// # let engine = Engine::with_files(MemoryFiles::new(), Options::new())?;
-    /// # let mut batch = LogBatch::new()?;
-    /// batch.add_entries(7, 1, &["an entry"])?;
-    /// engine.write(&mut batch, true)?;
-    /// batch.add_entries(7, 2, &["another one"])?; // the batch is empty again
-    /// engine.write(&mut batch, false)?;
-    /// batch.add_entries(7, 9, &["behind a hole"])?;
-    /// engine.write(&mut batch, true).unwrap_err();
-    /// assert_eq!(engine.last_index(7)?, Some(2));
-    /// # Ok::<(), raft_recover::Error>(())
-    /// ```
-    ///
-    /// # Errors
-    ///
-    /// `InvalidArgument` where the batch is no longer open; `Corruption` where its entries leave a hole behind those of their
-    /// region, or don't fit otherwise; `Full` where it has 2^56 bytes or more, or its file more than 2^63; `Memory`. Engine and batch
-    /// are then as they were. `Io`, `Failed`: the engine has failed, and the batch may be in the files or not.
-    pub fn write(&self, batch: &mut LogBatch, sync: bool) -> Result<()> {
-        self.intact()?;
-        self.commits.write(batch, sync, |group| self.lead(group))
-    }
-
-    /// Makes all that was written last.
-    ///
-    /// ```
-    /// # use raft_recover::{Engine, LogBatch, MemoryFiles, Options};
-    /// # let engine = Engine::with_files(MemoryFiles::new(), Options::new())?;
-    /// # let mut batch = LogBatch::new()?;
-    /// batch.put(7, b"key", b"value")?;
-    /// engine.write(&mut batch, false)?;
-    /// engine.sync()?; // it lasts from here on
-    /// # Ok::<(), raft_recover::Error>(())
-    /// ```
-    ///
-    /// # Errors
-    ///
-    /// `Memory`, `Io`, `Failed`: the engine has failed, but for `Memory`.
-    pub fn sync(&self) -> Result<()> {
-        self.write(&mut LogBatch::new()?, true)
-    }
-
-    /// Writes the batches of all threads that wait, syncs once for those who want that, and begins a file where it is due.
-    fn lead(&self, group: &mut Group<'_>) {
-        let turn = self.turn();
-        group.take();
-        match turn {
-            Ok(turn) => self.write_group(&turn, group),
-            Err(e) => group.end(&Err(e)),
-        }
-    }
-
-    fn write_group(&self, turn: &Turn<'_, F>, group: &mut Group<'_>) {
-        let written = turn.call(|tables| {
-            for commit in group.commits() {
-                commit.write(tables);
-            }
-            Ok(())
-        });
-        if written.is_err() {
-            return group.end(&written);
-        }
-        locks::lock(&self.numbers).batches += group.unrefused();
-        group.release_unsynced();
-        if !group.commits().is_empty() {
-            let synced = turn.call(EngineHandle::sync);
-            group.end(&synced);
-        }
-        self.rotate_if_due(turn);
-    }
-
-    /// Returns an entry of a region, if there is one.
-    ///
-    /// ```
-    /// # use raft_recover::{Engine, LogBatch, MemoryFiles, Options};
-    /// # let engine = Engine::with_files(MemoryFiles::new(), Options::new())?;
-    /// # let mut batch = LogBatch::new()?;
-    /// batch.add_entries(7, 10, &["one", "two", "three"])?;
-    /// engine.write(&mut batch, true)?;
-    /// assert_eq!(engine.entry(7, 11)?.unwrap(), b"two");
-    /// assert_eq!(engine.entry(7, 13)?, None);
-    /// # Ok::<(), raft_recover::Error>(())
-    /// ```
-    ///
-    /// # Errors
-    ///
-    /// `Corruption` where its bytes were damaged since they were written; `Io`, `Memory`, `Failed`.
-    pub fn entry(&self, region: u64, index: u64) -> Result<Option<Vec<u8>>> {
-        let mut entries = self.read(|tables| Ok(Vec::from_iter(tables.entry(region, index))))?;
-        Ok(entries.next())
-    }
-
-    /// Returns the entries of a range of indexes. A bound that is left open is that of the region's entries.
-    ///
-    /// ```
-    /// # use raft_recover::{Engine, LogBatch, MemoryFiles, Options};
-    /// # let engine = Engine::with_files(MemoryFiles::new(), Options::new())?;
-    /// # let mut batch = LogBatch::new()?;
-    /// batch.add_entries(7, 10, &["one", "two", "three"])?;
-    /// engine.write(&mut batch, true)?;
-    /// assert_eq!(engine.entries(7, ..)?.len(), 3);
-    /// assert_eq!(engine.entries(7, 11..=12)?.index(), Some(11));
-    /// assert!(engine.entries(7, 11..14).is_err());
-    /// # Ok::<(), raft_recover::Error>(())
-    /// ```
-    ///
-    /// # Errors
-    ///
-    /// Where the range isn't empty: `EntryCompacted` where it begins below the region's first entry, `EntryNotFound` where it
-    /// ends behind the last one, or there is none. `Corruption` where bytes were damaged since they were written; `Io`, `Memory`,
-    /// `Failed`.
-    pub fn entries(&self, region: u64, range: impl RangeBounds<u64>) -> Result<Entries> {
-        self.read(|tables| places(tables, region, &range, None))
-    }
-
-    /// Returns the entries of a range of indexes up to `max_size` bytes in all, and one at least.
-    ///
-    /// ```
-    /// # use raft_recover::{Engine, LogBatch, MemoryFiles, Options};
-    /// # let engine = Engine::with_files(MemoryFiles::new(), Options::new())?;
-    /// # let mut batch = LogBatch::new()?;
-    /// batch.add_entries(7, 10, &["one", "two", "three"])?;
-    /// engine.write(&mut batch, true)?;
-    /// let entries = engine.entries_up_to(7, 10.., 6)?;
-    /// assert_eq!(entries.collect::<Vec<_>>(), [b"one", b"two"]);
-    /// # Ok::<(), raft_recover::Error>(())
-    /// ```
-    ///
-    /// # Errors
-    ///
-    /// Those of [`Engine::entries`].
-    pub fn entries_up_to(
-        &self,
-        region: u64,
-        range: impl RangeBounds<u64>,
-        max_size: u64,
-    ) -> Result<Entries> {
-        self.read(|tables| places(tables, region, &range, Some(max_size)))
-    }
-
-    /// Reads the entries that a call finds. Their bytes may not be written yet, or have moved meanwhile: in a turn neither is so.
-    fn read(&self, find: impl Fn(&mut EngineHandle) -> Result<Vec<Entry>>) -> Result<Entries> {
-        let found = self.look_up(&find)?;
-        if let Ok(entries) = Entries::read(&self.files, &found) {
-            return Ok(entries);
-        }
-        let _turn = self.turn()?;
-        let found = self.look_up(&find)?;
-        Entries::read(&self.files, &found)
-    }
-
-    /// Returns the value of a region's key, if there is one.
-    ///
-    /// ```
-    /// # use raft_recover::{Engine, LogBatch, MemoryFiles, Options};
-    /// # let engine = Engine::with_files(MemoryFiles::new(), Options::new())?;
-    /// # let mut batch = LogBatch::new()?;
-    /// batch.add_entries(7, 10, &["one", "two", "three"])?;
-    /// batch.put(7, b"key", b"value")?;
-    /// engine.write(&mut batch, true)?;
-    /// assert_eq!(engine.get(7, b"key")?.unwrap(), b"value");
-    /// assert_eq!(engine.get(8, b"key")?, None);
-    /// # Ok::<(), raft_recover::Error>(())
-    /// ```
-    ///
-    /// # Errors
-    ///
-    /// `Memory`, `Failed`.
-    pub fn get(&self, region: u64, key: &[u8]) -> Result<Option<Vec<u8>>> {
-        self.look_up(|tables| tables.value(region, key))
-    }
-
-    /// Returns the keys of a region in a range with their values, in the order of the keys.
-    ///
-    /// ```
-    /// # use raft_recover::{Engine, LogBatch, MemoryFiles, Options};
-    /// # let engine = Engine::with_files(MemoryFiles::new(), Options::new())?;
-    /// # let mut batch = LogBatch::new()?;
-    /// batch.add_entries(7, 10, &["one", "two", "three"])?;
-    /// batch.put(7, b"key", b"value")?;
-    /// engine.write(&mut batch, true)?;
-    /// let mut pairs = engine.scan(7, &b"a"[..]..)?;
-    /// assert_eq!(pairs.next(), Some((b"key".to_vec(), b"value".to_vec())));
-    /// assert_eq!(engine.scan(7, &b"l"[..]..)?.next(), None);
-    /// # Ok::<(), raft_recover::Error>(())
-    /// ```
-    ///
-    /// # Errors
-    ///
-    /// `Memory`, `Failed`.
-    pub fn scan<'a>(&self, region: u64, range: impl RangeBounds<&'a [u8]>) -> Result<Pairs> {
-        let (start, end) = pairs::ends_of(&range);
-        let found = self.look_up(|tables| tables.scan(region, &start, end.as_deref()))?;
-        Ok(Pairs::of(found))
-    }
-
-    /// Returns the least index of a region's entries, if it has some.
-    ///
-    /// ```
-    /// # use raft_recover::{Engine, LogBatch, MemoryFiles, Options};
-    /// # let engine = Engine::with_files(MemoryFiles::new(), Options::new())?;
-    /// # let mut batch = LogBatch::new()?;
-    /// batch.add_entries(7, 10, &["one", "two", "three"])?;
-    /// engine.write(&mut batch, true)?;
-    /// assert_eq!((engine.first_index(7)?, engine.first_index(8)?), (Some(10), None));
-    /// # Ok::<(), raft_recover::Error>(())
-    /// ```
-    ///
-    /// # Errors
-    ///
-    /// `Failed`.
-    pub fn first_index(&self, region: u64) -> Result<Option<u64>> {
-        self.look_up(|tables| Ok(tables.first_index(region)))
-    }
-
-    /// Returns the greatest index of a region's entries, if it has some.
-    ///
-    /// ```
-    /// # use raft_recover::{Engine, LogBatch, MemoryFiles, Options};
-    /// # let engine = Engine::with_files(MemoryFiles::new(), Options::new())?;
-    /// # let mut batch = LogBatch::new()?;
-    /// batch.add_entries(7, 10, &["one", "two", "three"])?;
-    /// engine.write(&mut batch, true)?;
-    /// assert_eq!((engine.last_index(7)?, engine.last_index(8)?), (Some(12), None));
-    /// # Ok::<(), raft_recover::Error>(())
-    /// ```
-    ///
-    /// # Errors
-    ///
-    /// `Failed`.
-    pub fn last_index(&self, region: u64) -> Result<Option<u64>> {
-        self.look_up(|tables| Ok(tables.last_index(region)))
-    }
-
-    /// Returns what a region's table has, if there is one.
-    ///
-    /// ```
-    /// # use raft_recover::{Engine, LogBatch, MemoryFiles, Options};
-    /// # let engine = Engine::with_files(MemoryFiles::new(), Options::new())?;
-    /// # let mut batch = LogBatch::new()?;
-    /// batch.add_entries(7, 10, &["one", "two", "three"])?;
-    /// batch.put(7, b"key", b"value")?;
-    /// engine.write(&mut batch, true)?;
-    /// let summary = engine.summary(7)?.unwrap();
-    /// assert_eq!((summary.entries, summary.keys), (3, 1));
-    /// # Ok::<(), raft_recover::Error>(())
-    /// ```
-    ///
-    /// # Errors
-    ///
-    /// `Failed`.
-    pub fn summary(&self, region: u64) -> Result<Option<Summary>> {
-        self.look_up(|tables| Ok(tables.summary(region)))
-    }
-
-    /// Returns all regions that have a table.
-    ///
-    /// ```
-    /// # use raft_recover::{Engine, LogBatch, MemoryFiles, Options};
-    /// # let engine = Engine::with_files(MemoryFiles::new(), Options::new())?;
-    /// # let mut batch = LogBatch::new()?;
-    /// batch.add_entries(7, 10, &["one", "two", "three"])?;
-    /// engine.write(&mut batch, true)?;
-    /// assert_eq!(engine.regions()?, [7]);
-    /// # Ok::<(), raft_recover::Error>(())
-    /// ```
-    ///
-    /// # Errors
-    ///
-    /// `Memory`, `Failed`.
-    pub fn regions(&self) -> Result<Vec<u64>> {
-        self.look_up(EngineHandle::regions)
-    }
-
     /// Returns what the engine has, in numbers.
     ///
     /// ```
@@ -531,36 +249,4 @@ impl<F: Files> fmt::Debug for Engine<F> {
             .field("failure", &self.failure.get())
             .finish_non_exhaustive()
     }
-}
-
-/// Finds the places of the entries of a range.
-fn places(
-    tables: &mut EngineHandle,
-    region: u64,
-    range: &impl RangeBounds<u64>,
-    max_size: Option<u64>,
-) -> Result<Vec<Entry>> {
-    match closed(tables, region, range) {
-        Some(range) => tables.entries(region, range, max_size),
-        None => Ok(Vec::new()),
-    }
-}
-
-/// Closes those bounds of a range of indexes that are open, and returns the range, unless it is empty.
-fn closed(
-    tables: &mut EngineHandle,
-    region: u64,
-    range: &impl RangeBounds<u64>,
-) -> Option<Range<u64>> {
-    let start = match range.start_bound() {
-        Bound::Included(start) => *start,
-        Bound::Excluded(before) => before.saturating_add(1),
-        Bound::Unbounded => tables.first_index(region)?,
-    };
-    let end = match range.end_bound() {
-        Bound::Included(last) => last.saturating_add(1),
-        Bound::Excluded(end) => *end,
-        Bound::Unbounded => tables.last_index(region)? + 1,
-    };
-    (start < end).then_some(start..end)
 }

@@ -90,7 +90,7 @@ impl Slot {
     pub fn new(number: usize) -> Result<Slot> {
         if number >= SLOTS {
             return Err(Error::invalid_argument(
-                "a slot has a number of 128 or more",
+                "the number of a slot isn't below 128",
             ));
         }
         let tables = Tables::new()?;

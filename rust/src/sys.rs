@@ -1,4 +1,5 @@
-//! The calls of the library `raft_ffi`, and, with the handles in the folder `sys`, the only `unsafe` code of this crate.
+//! What crosses to the library `raft_ffi`. With the folder `sys`, which has the handles and the calls on them, this is the only
+//! `unsafe` code of the crate.
 //!
 //! What the library's contracts ask of their callers is kept here, by types:
 //!
@@ -18,10 +19,7 @@
 //! A `Global` of the library takes no bytes, and is not passed. A `&[T]` is passed as a pointer and a length. `tools/ffi.py`
 //! compares the declarations with the exports.
 
-use crate::{
-    Block, Entry, Error, FileId, FilePart, LogFile, Pair, Queue, Result, Summary, Version,
-};
-use std::alloc::{Layout, handle_alloc_error};
+use crate::{Error, FilePart, Result};
 use std::cell::Cell;
 use std::ptr;
 
@@ -32,7 +30,10 @@ mod found;
 #[cfg(feature = "global-allocator")]
 mod heap;
 mod items;
+mod lists;
 mod log_batch;
+mod numbers;
+mod table_calls;
 mod tables;
 
 pub(crate) use context::ContextHandle;
@@ -41,6 +42,9 @@ pub(crate) use found::FoundHandle;
 pub(crate) use items::ItemsHandle;
 pub(crate) use log_batch::LogBatchHandle;
 pub(crate) use tables::TablesHandle;
+
+use lists::{found, listed, make_room, pairs};
+use numbers::{EntryNumbers, File, Maybe, SummaryNumbers, entries, numbers};
 
 /// The pointer of a box in the library, null where there is none.
 #[repr(C)]
@@ -51,429 +55,12 @@ struct Handle {
 
 #[repr(C)]
 #[derive(Clone, Copy)]
-struct File {
-    seq: u64,
-    is_rewrite: bool,
-    is_signed: bool,
-}
-
-#[repr(C)]
-#[derive(Clone, Copy)]
 struct Status {
     code: u32,
     text_len: usize,
 }
 
-#[repr(C)]
-#[derive(Clone, Copy, Default)]
-struct Maybe {
-    is_some: bool,
-    number: u64,
-}
-
-#[repr(C)]
-#[derive(Clone, Copy, Default)]
-struct SummaryNumbers {
-    entries: usize,
-    keys: usize,
-    first: Maybe,
-    append_seq: Maybe,
-    rewrite_seq: Maybe,
-}
-
-#[repr(C)]
-#[derive(Clone, Copy, Default)]
-struct KeptNumbers {
-    entries: u64,
-    keys: u64,
-    marks: u64,
-    deleted_keys: u64,
-    cleaned: u64,
-    waiting_items: u64,
-}
-
-#[repr(C)]
-#[derive(Clone, Copy, Default)]
-struct ItemHead {
-    region: u64,
-    number: u64,
-    kind: u32,
-}
-
-#[repr(C)]
-#[derive(Clone, Copy, Default)]
-struct EntryNumbers {
-    index: u64,
-    seq: u64,
-    offset: u64,
-    len: usize,
-    entry_offset: u32,
-    entry_len: u32,
-    is_rewrite: bool,
-    is_placed: bool,
-}
-
 unsafe extern "C" {
-    fn raft_ffi_context_new(context: *mut Handle) -> u32;
-    fn raft_ffi_context_replay(
-        context: *mut Handle,
-        file: File,
-        offset: u64,
-        bytes: *const u8,
-        bytes_len: usize,
-        text: *mut u8,
-        text_len: usize,
-    ) -> Status;
-    fn raft_ffi_context_merge(
-        context: *mut Handle,
-        newer: Handle,
-        is_rewrite: bool,
-        text: *mut u8,
-        text_len: usize,
-    ) -> Status;
-    fn raft_ffi_context_overlay(
-        context: *mut Handle,
-        append: Handle,
-        text: *mut u8,
-        text_len: usize,
-    ) -> Status;
-    fn raft_ffi_context_kept(
-        context: *mut Handle,
-        kept: *mut KeptNumbers,
-        text: *mut u8,
-        text_len: usize,
-    ) -> Status;
-    fn raft_ffi_context_finish(
-        context: Handle,
-        tables: *mut Handle,
-        text: *mut u8,
-        text_len: usize,
-    ) -> Status;
-    fn raft_ffi_context_drop(context: Handle);
-
-    fn raft_ffi_tables_new(tables: *mut Handle) -> u32;
-    fn raft_ffi_tables_live(tables: *mut Handle, is_rewrite: bool) -> usize;
-    fn raft_ffi_tables_summary(
-        tables: *mut Handle,
-        region: u64,
-        summary: *mut SummaryNumbers,
-    ) -> bool;
-    fn raft_ffi_tables_regions(
-        tables: *mut Handle,
-        regions: *mut u64,
-        regions_len: usize,
-        count: *mut usize,
-    ) -> u32;
-    fn raft_ffi_tables_cleaned(tables: *mut Handle, regions: *mut u64, regions_len: usize)
-    -> usize;
-    fn raft_ffi_tables_entry(
-        tables: *mut Handle,
-        region: u64,
-        index: u64,
-        entry: *mut EntryNumbers,
-    ) -> bool;
-    fn raft_ffi_tables_entries(
-        tables: *mut Handle,
-        region: u64,
-        begin: u64,
-        end: u64,
-        max_size: Maybe,
-        entries: *mut EntryNumbers,
-        entries_len: usize,
-        count: *mut usize,
-        text: *mut u8,
-        text_len: usize,
-    ) -> Status;
-    fn raft_ffi_tables_entries_before(
-        tables: *mut Handle,
-        region: u64,
-        gate: u64,
-        entries: *mut EntryNumbers,
-        entries_len: usize,
-        count: *mut usize,
-    ) -> u32;
-    fn raft_ffi_tables_rewritten_entries(
-        tables: *mut Handle,
-        region: u64,
-        entries: *mut EntryNumbers,
-        entries_len: usize,
-        count: *mut usize,
-    ) -> u32;
-    fn raft_ffi_tables_value(
-        tables: *mut Handle,
-        region: u64,
-        key: *const u8,
-        key_len: usize,
-        value: *mut u8,
-        value_len: usize,
-        len: *mut usize,
-    ) -> bool;
-    fn raft_ffi_tables_append(
-        tables: *mut Handle,
-        region: u64,
-        entries: *const EntryNumbers,
-        entries_len: usize,
-        text: *mut u8,
-        text_len: usize,
-    ) -> Status;
-    fn raft_ffi_tables_compact(
-        tables: *mut Handle,
-        region: u64,
-        index: u64,
-        dropped: *mut u64,
-        text: *mut u8,
-        text_len: usize,
-    ) -> Status;
-    fn raft_ffi_tables_truncate(
-        tables: *mut Handle,
-        region: u64,
-        index: u64,
-        dropped: *mut u64,
-        text: *mut u8,
-        text_len: usize,
-    ) -> Status;
-    fn raft_ffi_tables_put(
-        tables: *mut Handle,
-        region: u64,
-        key: *const u8,
-        key_len: usize,
-        value: *const u8,
-        value_len: usize,
-        is_rewrite: bool,
-        seq: u64,
-        text: *mut u8,
-        text_len: usize,
-    ) -> Status;
-    fn raft_ffi_tables_delete(
-        tables: *mut Handle,
-        region: u64,
-        key: *const u8,
-        key_len: usize,
-        text: *mut u8,
-        text_len: usize,
-    ) -> Status;
-    fn raft_ffi_tables_rewrite(
-        tables: *mut Handle,
-        region: u64,
-        entries: *const EntryNumbers,
-        entries_len: usize,
-        gate: Maybe,
-        text: *mut u8,
-        text_len: usize,
-    ) -> Status;
-    fn raft_ffi_tables_rewrite_key(
-        tables: *mut Handle,
-        region: u64,
-        key: *const u8,
-        key_len: usize,
-        gate: Maybe,
-        seq: u64,
-        text: *mut u8,
-        text_len: usize,
-    ) -> Status;
-    fn raft_ffi_tables_atomic_group(tables: *mut Handle, region: u64, start: u64, end: u64) -> u32;
-    fn raft_ffi_tables_remove(
-        tables: *mut Handle,
-        region: u64,
-        is_listed: bool,
-        found: *mut bool,
-    ) -> u32;
-    fn raft_ffi_tables_merge_newer(
-        tables: *mut Handle,
-        newer: Handle,
-        text: *mut u8,
-        text_len: usize,
-    ) -> Status;
-    fn raft_ffi_tables_merge_append(
-        tables: *mut Handle,
-        append: Handle,
-        text: *mut u8,
-        text_len: usize,
-    ) -> Status;
-    fn raft_ffi_tables_apply_append(
-        tables: *mut Handle,
-        items: Handle,
-        text: *mut u8,
-        text_len: usize,
-    ) -> Status;
-    fn raft_ffi_tables_apply_rewrite(
-        tables: *mut Handle,
-        items: Handle,
-        gate: Maybe,
-        seq: u64,
-        text: *mut u8,
-        text_len: usize,
-    ) -> Status;
-    fn raft_ffi_tables_pairs_before(
-        tables: *mut Handle,
-        region: u64,
-        gate: u64,
-        lens: *mut usize,
-        lens_len: usize,
-        count: *mut usize,
-        bytes: *mut u8,
-        bytes_len: usize,
-        len: *mut usize,
-    ) -> u32;
-    fn raft_ffi_tables_rewritten_pairs(
-        tables: *mut Handle,
-        region: u64,
-        lens: *mut usize,
-        lens_len: usize,
-        count: *mut usize,
-        bytes: *mut u8,
-        bytes_len: usize,
-        len: *mut usize,
-    ) -> u32;
-    fn raft_ffi_tables_scan(
-        tables: *mut Handle,
-        region: u64,
-        start: *const u8,
-        start_len: usize,
-        end: *const u8,
-        end_len: usize,
-        is_bounded: bool,
-        lens: *mut usize,
-        lens_len: usize,
-        count: *mut usize,
-        bytes: *mut u8,
-        bytes_len: usize,
-        len: *mut usize,
-    ) -> u32;
-    fn raft_ffi_tables_check_append(
-        tables: *mut Handle,
-        batch: *mut Handle,
-        text: *mut u8,
-        text_len: usize,
-    ) -> Status;
-    fn raft_ffi_tables_cleaned_logs(tables: *mut Handle, batch: *mut Handle) -> u32;
-    fn raft_ffi_tables_drop(tables: Handle);
-
-    fn raft_ffi_items_next(
-        items: *mut Handle,
-        file: File,
-        offset: u64,
-        bytes: *const u8,
-        bytes_len: usize,
-        at: usize,
-        next: *mut usize,
-        text: *mut u8,
-        text_len: usize,
-    ) -> Status;
-    fn raft_ffi_items_len(items: *mut Handle) -> usize;
-    fn raft_ffi_items_head(items: *mut Handle, i: usize, head: *mut ItemHead) -> bool;
-    fn raft_ffi_items_entries(
-        items: *mut Handle,
-        i: usize,
-        entries: *mut EntryNumbers,
-        entries_len: usize,
-        count: *mut usize,
-    ) -> bool;
-    fn raft_ffi_items_key(
-        items: *mut Handle,
-        i: usize,
-        key: *mut u8,
-        key_len: usize,
-        len: *mut usize,
-    ) -> bool;
-    fn raft_ffi_items_value(
-        items: *mut Handle,
-        i: usize,
-        value: *mut u8,
-        value_len: usize,
-        len: *mut usize,
-    ) -> bool;
-    fn raft_ffi_items_drop(items: Handle);
-
-    fn raft_ffi_batch_new(batch: *mut Handle) -> u32;
-    fn raft_ffi_batch_stage(batch: *mut Handle) -> u32;
-    fn raft_ffi_batch_size(batch: *mut Handle) -> usize;
-    fn raft_ffi_batch_add_entries(
-        batch: *mut Handle,
-        region: u64,
-        first: u64,
-        lens: *const usize,
-        lens_len: usize,
-        bytes: *const u8,
-        bytes_len: usize,
-        text: *mut u8,
-        text_len: usize,
-    ) -> Status;
-    fn raft_ffi_batch_clean(batch: *mut Handle, region: u64) -> u32;
-    fn raft_ffi_batch_compact(batch: *mut Handle, region: u64, index: u64) -> u32;
-    fn raft_ffi_batch_truncate(batch: *mut Handle, region: u64, index: u64) -> u32;
-    fn raft_ffi_batch_put(
-        batch: *mut Handle,
-        region: u64,
-        key: *const u8,
-        key_len: usize,
-        value: *const u8,
-        value_len: usize,
-        text: *mut u8,
-        text_len: usize,
-    ) -> Status;
-    fn raft_ffi_batch_delete(
-        batch: *mut Handle,
-        region: u64,
-        key: *const u8,
-        key_len: usize,
-    ) -> u32;
-    fn raft_ffi_batch_merge(
-        batch: *mut Handle,
-        more: *mut Handle,
-        text: *mut u8,
-        text_len: usize,
-    ) -> Status;
-    fn raft_ffi_batch_finish(
-        batch: *mut Handle,
-        len: *mut usize,
-        text: *mut u8,
-        text_len: usize,
-    ) -> Status;
-    fn raft_ffi_batch_sign(batch: *mut Handle, file: File);
-    fn raft_ffi_batch_bytes(batch: *mut Handle, bytes: *mut u8, bytes_len: usize) -> usize;
-    fn raft_ffi_batch_written(
-        batch: *mut Handle,
-        is_rewrite: bool,
-        seq: u64,
-        offset: u64,
-        len: usize,
-    );
-    fn raft_ffi_batch_into_items(batch: Handle, items: *mut Handle) -> u32;
-    fn raft_ffi_batch_drop(batch: Handle);
-
-    fn raft_ffi_slot_of(region: u64) -> usize;
-    fn raft_ffi_tables_move_table(
-        tables: *mut Handle,
-        to: *mut Handle,
-        region: u64,
-        text: *mut u8,
-        text_len: usize,
-    ) -> Status;
-    fn raft_ffi_slot_check_append(
-        tables: *mut Handle,
-        number: usize,
-        batch: *mut Handle,
-        text: *mut u8,
-        text_len: usize,
-    ) -> Status;
-    fn raft_ffi_slot_apply_append(
-        tables: *mut Handle,
-        number: usize,
-        items: *mut Handle,
-        text: *mut u8,
-        text_len: usize,
-    ) -> Status;
-    fn raft_ffi_slot_apply_rewrite(
-        tables: *mut Handle,
-        number: usize,
-        items: *mut Handle,
-        gate: Maybe,
-        seq: u64,
-        text: *mut u8,
-        text_len: usize,
-    ) -> Status;
-
     fn raft_ffi_batch_len(bytes: *const u8, bytes_len: usize) -> usize;
     fn raft_ffi_readable_front(
         file: File,
@@ -485,6 +72,7 @@ unsafe extern "C" {
         text_len: usize,
     ) -> Status;
     fn raft_ffi_crc32(bytes: *const u8, bytes_len: usize) -> u32;
+    fn raft_ffi_slot_of(region: u64) -> usize;
 }
 
 /// How many bytes of a refusal's text are kept.
@@ -517,175 +105,10 @@ fn remembered(code: u32) -> Result<()> {
     }
 }
 
-/// Lists what a call finds: it gets room, puts as much there as fits, and says how much there is.
-fn listed<T: Copy + Default>(
-    mut call: impl FnMut(*mut T, usize, &mut usize) -> Result<()>,
-) -> Result<Vec<T>> {
-    let mut room = Vec::new();
-    loop {
-        let mut count = 0;
-        call(room.as_mut_ptr(), room.len(), &mut count)?;
-        if count <= room.len() {
-            room.truncate(count);
-            return Ok(room);
-        }
-        make_room(&mut room, count)?;
-    }
-}
-
-/// Makes a list at least this long, or is refused for want of memory.
-fn make_room<T: Copy + Default>(room: &mut Vec<T>, count: usize) -> Result<()> {
-    let more = count.saturating_sub(room.len());
-    room.try_reserve_exact(more).map_err(|_| Error::memory())?;
-    room.resize(room.len() + more, T::default());
-    Ok(())
-}
-
-/// Lists what a call finds, if it finds something. Without memory for the list the program ends, as where a `Vec` grows.
-fn found<T: Copy + Default>(
-    mut call: impl FnMut(*mut T, usize, &mut usize) -> bool,
-) -> Option<Vec<T>> {
-    let mut is_found = false;
-    let list = listed(|room, len, count| {
-        is_found = call(room, len, count);
-        Ok(())
-    });
-    match list {
-        Ok(list) => is_found.then_some(list),
-        Err(_) => handle_alloc_error(Layout::new::<T>()),
-    }
-}
-
-/// Lists keys with their values, which a call finds as the length of each and the bytes of all.
-fn pairs(
-    mut call: impl FnMut(*mut usize, usize, &mut usize, *mut u8, usize, &mut usize) -> Result<()>,
-) -> Result<Vec<Pair>> {
-    let (mut lens, mut bytes) = (Vec::new(), Vec::new());
-    loop {
-        let (mut count, mut len) = (0, 0);
-        call(
-            lens.as_mut_ptr(),
-            lens.len(),
-            &mut count,
-            bytes.as_mut_ptr(),
-            bytes.len(),
-            &mut len,
-        )?;
-        if count <= lens.len() && len <= bytes.len() {
-            lens.truncate(count);
-            return Ok(split(&lens, &bytes));
-        }
-        make_room(&mut lens, count)?;
-        make_room(&mut bytes, len)?;
-    }
-}
-
-/// Splits bytes into keys and values of these lengths, in turn.
-fn split(lens: &[usize], mut bytes: &[u8]) -> Vec<Pair> {
-    let mut next = |len| {
-        let (front, rest) = bytes.split_at(len);
-        bytes = rest;
-        front.to_vec()
-    };
-    lens.chunks_exact(2)
-        .map(|lens| Pair {
-            key: next(lens[0]),
-            value: next(lens[1]),
-        })
-        .collect()
-}
-
 impl Handle {
     const EMPTY: Handle = Handle {
         at: ptr::null_mut(),
     };
-}
-
-impl From<LogFile> for File {
-    fn from(file: LogFile) -> File {
-        File {
-            seq: file.seq,
-            is_rewrite: file.queue == Queue::Rewrite,
-            is_signed: file.version == Version::V2,
-        }
-    }
-}
-
-impl From<Option<u64>> for Maybe {
-    fn from(number: Option<u64>) -> Maybe {
-        Maybe {
-            is_some: number.is_some(),
-            number: number.unwrap_or_default(),
-        }
-    }
-}
-
-impl Maybe {
-    fn number(self) -> Option<u64> {
-        self.is_some.then_some(self.number)
-    }
-}
-
-impl From<SummaryNumbers> for Summary {
-    fn from(summary: SummaryNumbers) -> Summary {
-        Summary {
-            entries: summary.entries,
-            keys: summary.keys,
-            first_index: summary.first.number(),
-            append_seq: summary.append_seq.number(),
-            rewrite_seq: summary.rewrite_seq.number(),
-        }
-    }
-}
-
-impl From<&Entry> for EntryNumbers {
-    fn from(entry: &Entry) -> EntryNumbers {
-        EntryNumbers {
-            index: entry.index,
-            seq: entry.block.file.seq,
-            offset: entry.block.offset,
-            len: entry.block.len,
-            entry_offset: entry.offset,
-            entry_len: entry.len,
-            is_rewrite: entry.block.file.queue == Queue::Rewrite,
-            is_placed: true,
-        }
-    }
-}
-
-impl From<EntryNumbers> for Entry {
-    /// Makes an entry that has a place, as those of tables, of read batches and of written ones do.
-    fn from(entry: EntryNumbers) -> Entry {
-        assert!(entry.is_placed, "entry {} has no place", entry.index);
-        let queue = if entry.is_rewrite {
-            Queue::Rewrite
-        } else {
-            Queue::Append
-        };
-        Entry {
-            index: entry.index,
-            block: Block {
-                file: FileId {
-                    queue,
-                    seq: entry.seq,
-                },
-                offset: entry.offset,
-                len: entry.len,
-            },
-            offset: entry.entry_offset,
-            len: entry.entry_len,
-        }
-    }
-}
-
-/// Makes numbers of entries.
-fn numbers(entries: &[Entry]) -> Vec<EntryNumbers> {
-    entries.iter().map(EntryNumbers::from).collect()
-}
-
-/// Makes entries of numbers.
-fn entries(numbers: Vec<EntryNumbers>) -> Vec<Entry> {
-    numbers.into_iter().map(Entry::from).collect()
 }
 
 /// Gives a handle to a call, and keeps what the call leaves there.

@@ -1,47 +1,22 @@
-//! An engine over files in memory and in a folder: what is written, read, moved and refused.
+//! An engine over files in memory and in a folder: what is written, read and refused.
 
 mod common;
 
 use common::TempFolder;
+use common::engines::{asked_since, engine, write};
 use common::model::region_of;
 use raft_recover::{
-    Ask, Engine, Entries, Error, ErrorKind, FileId, Files, LogBatch, MemoryFiles, Options, Queue,
-    Result, Version, batch_len,
+    Engine, Entries, Error, ErrorKind, FileId, LogBatch, MemoryFiles, Options, Queue, Result,
+    Version, batch_len,
 };
 use std::ops::Bound;
 
 const FIRST: FileId = FileId::new(Queue::Append, 1);
 
-/// A new engine over files in memory.
-fn engine() -> Engine<MemoryFiles> {
-    Engine::with_files(MemoryFiles::new(), Options::new()).unwrap()
-}
-
-/// Writes a batch that a call fills.
-fn write<F: Files>(engine: &Engine<F>, fill: impl FnOnce(&mut LogBatch) -> Result<()>) {
-    let mut batch = LogBatch::new().unwrap();
-    fill(&mut batch).unwrap();
-    engine.write(&mut batch, false).unwrap();
-}
-
 /// Entries as text.
 fn texts(entries: Result<Entries>) -> Vec<String> {
     let texts = entries.unwrap().map(String::from_utf8);
     texts.collect::<std::result::Result<_, _>>().unwrap()
-}
-
-/// What was asked of files since then, but for the bytes.
-fn asked_since(files: &MemoryFiles, before: usize) -> Vec<String> {
-    let asks = files.asks();
-    let shown = asks[before..].iter().map(|ask| match ask {
-        Ask::Write(file, _) => format!("write {file}"),
-        Ask::Sync(queue) => format!("sync {queue}"),
-        Ask::Begin(file) => format!("begin {file}"),
-        Ask::Delete(file) => format!("delete {file}"),
-        Ask::Cut(file, len) => format!("cut {file} to {len}"),
-        _ => unreachable!(),
-    });
-    shown.collect()
 }
 
 #[test]
@@ -137,6 +112,19 @@ fn entries_are_read_by_ranges() {
         let entries = engine.entries_up_to(7, .., max_size).unwrap();
         assert_eq!(entries.len(), expected, "{max_size}");
     }
+}
+
+#[test]
+fn blocks_at_the_same_offset_of_several_files_are_told_apart() {
+    let engine = engine();
+    for (index, text) in (1..).zip(["a", "b", "c"]) {
+        write(&engine, |batch| batch.add_entries(7, index, &[text]));
+        engine.rotate().unwrap();
+        assert_eq!(engine.entries(7, ..).unwrap().len() as u64, index);
+    }
+    assert_eq!(texts(engine.entries(7, ..)), ["a", "b", "c"]);
+    engine.rewrite(1).unwrap();
+    assert_eq!(texts(engine.entries(7, ..)), ["a", "b", "c"]);
 }
 
 #[test]
@@ -256,172 +244,17 @@ fn files_are_begun_where_the_last_one_is_long_enough() {
 }
 
 #[test]
-fn records_move_and_files_go() {
-    let options = Options::new().target_file_size(300);
-    let files = MemoryFiles::new();
-    let engine = Engine::with_files(files.clone(), options.clone()).unwrap();
-    for index in 1..=20 {
-        write(&engine, |batch| {
-            batch.add_entries(7, index, &["x".repeat(50)])?;
-            batch.add_entries(8, index, &[index.to_string()])?;
-            batch.put(8, b"a", &index.to_le_bytes())
-        });
-    }
-    write(&engine, |batch| batch.compact(7, 11));
-    let expected = [7, 8].map(|region| region_of(&engine, region).unwrap());
-    let same = |engine: &Engine<MemoryFiles>| {
-        assert_eq!(
-            [7, 8].map(|region| region_of(engine, region).unwrap()),
-            expected
-        );
+fn a_file_is_closed_by_the_write_with_which_it_has_enough_bytes() {
+    let written = |target_file_size| {
+        let options = Options::new().target_file_size(target_file_size);
+        let engine = Engine::with_files(MemoryFiles::new(), options).unwrap();
+        write(&engine, |batch| batch.add_entries(7, 1, &["an entry"]));
+        engine.stats().append
     };
-    assert_eq!(engine.purge().unwrap().append_files, 0);
-    let stats = engine.stats();
-    engine.rewrite(stats.append.last_file - 1).unwrap();
-    same(&engine);
-    assert!(engine.stats().rewrite.records > 20);
-    let purged = engine.purge().unwrap();
-    assert_eq!(purged.append_files as u64, stats.append.last_file - 1);
-    assert_eq!(engine.stats().append.files, 1);
-    same(&engine);
-    engine.rewrite_again().unwrap();
-    same(&engine);
-    assert_eq!(engine.stats().rewrite.files, 2);
-    assert_eq!(engine.purge().unwrap().rewrite_files, 1);
-    same(&engine);
-    assert_eq!(engine.purge().unwrap(), Default::default());
-    let (append, rewrite) = (files.files(Queue::Append), files.files(Queue::Rewrite));
-    same(&Engine::with_files(MemoryFiles::found(append, rewrite), options).unwrap());
-}
-
-#[test]
-fn a_large_region_moves_again_in_a_group_of_batches() {
-    let files = MemoryFiles::new();
-    let engine = Engine::with_files(files.clone(), Options::new()).unwrap();
-    for index in 1..=5 {
-        let entry = vec![index as u8; 60 << 10];
-        write(&engine, |batch| batch.add_entries(7, index, &[entry]));
-    }
-    write(&engine, |batch| batch.put(7, b"a", b"value"));
-    let expected = region_of(&engine, 7).unwrap();
-    let same = |engine: &Engine<MemoryFiles>| {
-        assert_eq!(region_of(engine, 7).unwrap(), expected);
-        assert_eq!(engine.stats().rewrite.records, 6);
-    };
-    engine.rotate().unwrap();
-    engine.rewrite(1).unwrap();
-    same(&engine);
-    for _ in 0..2 {
-        engine.rewrite_again().unwrap();
-        same(&engine);
-        assert_eq!(engine.purge().unwrap().rewrite_files, 1);
-        same(&engine);
-    }
-    let (append, rewrite) = (files.files(Queue::Append), files.files(Queue::Rewrite));
-    same(&Engine::with_files(MemoryFiles::found(append, rewrite), Options::new()).unwrap());
-}
-
-#[test]
-fn a_rewriting_of_more_than_is_read_at_once_moves_all() {
-    let engine = engine();
-    for region in 1..=5 {
-        write(&engine, |batch| {
-            batch.add_entries(region, 1, &[vec![7; 5 << 20]])
-        });
-    }
-    engine.rotate().unwrap();
-    engine.rewrite(1).unwrap();
-    let stats = engine.stats();
-    assert_eq!((stats.append.records, stats.rewrite.records), (0, 5));
-    assert_eq!(engine.purge().unwrap().append_files, 1);
-    for region in 1..=5 {
-        assert_eq!(engine.entry(region, 1).unwrap().unwrap(), vec![7; 5 << 20]);
-    }
-}
-
-#[test]
-fn small_regions_move_all_at_once() {
-    let engine = engine();
-    for region in 1..=100 {
-        write(&engine, |batch| batch.add_entries(region, 1, &["x"]));
-    }
-    engine.rotate().unwrap();
-    let before = engine.files().asked();
-    engine.rewrite(1).unwrap();
-    let asked = asked_since(engine.files(), before);
-    assert_eq!(asked, ["sync append", "write rewrite file 1"]);
-}
-
-#[test]
-fn a_purge_moves_records_where_there_are_too_many_bytes() {
-    let options = Options::new().target_file_size(500).purge_above(4000);
-    let engine = Engine::with_files(MemoryFiles::new(), options).unwrap();
-    for index in 1..=400 {
-        write(&engine, |batch| {
-            batch.add_entries(index % 10, index / 10 + 1, &["x".repeat(20)])?;
-            if index > 100 {
-                batch.compact(index % 10, index / 10 - 8)?;
-            }
-            batch.put(index % 10, b"a", b"value")
-        });
-        if index % 20 == 0 {
-            engine.purge().unwrap();
-            let stats = engine.stats();
-            assert!(stats.append.bytes <= 4000, "{stats:?}");
-            assert!(stats.rewrite.bytes <= 8000, "{stats:?}");
-        }
-    }
-    let stats = engine.stats();
-    assert!(
-        stats.append.first_file > 10 && stats.rewrite.first_file > 1,
-        "{stats:?}"
-    );
-    for region in 0..10 {
-        let mut entries = engine.entries(region, ..).unwrap();
-        assert!(entries.len() >= 9 && entries.next_back().unwrap() == [b'x'; 20]);
-    }
-}
-
-/// Writes ten entries of a hundred bytes, each in an append file of its own, of which an eleventh is the last.
-fn ten_files(options: &Options) -> Engine<MemoryFiles> {
-    let options = options.clone().target_file_size(100);
-    let engine = Engine::with_files(MemoryFiles::new(), options).unwrap();
-    for index in 1..=10 {
-        write(&engine, |batch| batch.add_entries(7, index, &[[7; 100]]));
-    }
-    assert_eq!(engine.stats().append.files, 11);
-    engine
-}
-
-#[test]
-fn a_purge_leaves_half_of_the_bytes_that_may_stay() {
-    let len = ten_files(&Options::new()).stats().append.bytes / 10;
-    // of so many files those that stay
-    for (may_stay, stay) in [(10, 10), (9, 4), (8, 4), (7, 3), (1, 0)] {
-        let engine = ten_files(&Options::new().purge_above(may_stay * len));
-        let purged = engine.purge().unwrap();
-        assert_eq!(purged.append_files as u64, 10 - stay, "{may_stay}");
-        assert_eq!(engine.stats().append.bytes, stay * len);
-        assert_eq!(engine.entries(7, ..).unwrap().len(), 10);
-    }
-}
-
-#[test]
-fn records_move_again_once_there_are_twice_as_many_bytes() {
-    let engine = ten_files(&Options::new().purge_above(200));
-    engine.purge().unwrap();
-    let moved = engine.stats().rewrite;
-    assert!(moved.bytes > 1000 && moved.files == 1, "{moved:?}");
-    let again = |engine: &Engine<MemoryFiles>| {
-        let asked = engine.files().asked();
-        assert_eq!(engine.purge().unwrap(), Default::default());
-        assert_eq!(engine.files().asked(), asked);
-    };
-    again(&engine);
-    let files = |queue| engine.files().files(queue);
-    let found = MemoryFiles::found(files(Queue::Append), files(Queue::Rewrite));
-    let opened = Engine::with_files(found, Options::new().purge_above(200)).unwrap();
-    again(&opened);
+    let len = written(u64::MAX).bytes;
+    assert!(len > 8);
+    let files = [len - 1, len, len + 1].map(|target| written(target).files);
+    assert_eq!(files, [2, 2, 1]);
 }
 
 #[test]

@@ -8,8 +8,8 @@ use raft_recover::{
     Engine, Error, ErrorKind, FileId, Files, LogBatch, MemoryFiles, Options, Queue, Result,
 };
 use std::panic::{AssertUnwindSafe, catch_unwind};
-use std::sync::Arc;
 use std::sync::atomic::{AtomicBool, AtomicUsize, Ordering::SeqCst};
+use std::sync::{Arc, OnceLock};
 use std::time::Duration;
 use std::{io, thread};
 
@@ -69,6 +69,21 @@ fn all_calls<F: Files>(engine: &Engine<F>) -> Vec<Error> {
         .collect()
 }
 
+/// What a change is about that fails: a file, and where in it.
+fn place_of(call: Call<'_>, files: &MemoryFiles) -> (Option<FileId>, Option<u64>) {
+    let end_of = |queue| {
+        let (seq, len) = *files.list(queue).unwrap().last().unwrap();
+        (FileId::new(queue, seq), len)
+    };
+    let (file, offset) = match call {
+        Call::Write(file, _) => end_of(file.queue),
+        Call::Sync(queue) => end_of(queue),
+        Call::Rotate(file) | Call::Delete(file) => (file, 0),
+        Call::Truncate(file, offset) | Call::Read(file, offset) => (file, offset),
+    };
+    (Some(file), Some(offset))
+}
+
 #[test]
 fn where_any_change_fails_every_later_call_says_so_and_nothing_is_lost() {
     let count = AtomicUsize::new(0);
@@ -82,10 +97,11 @@ fn where_any_change_fails_every_later_call_says_so_and_nothing_is_lost() {
     let changes = count.load(SeqCst);
     assert!(changes > opening + 20, "{changes}");
     for failing in opening..changes {
-        let made = AtomicUsize::new(0);
+        let (made, place) = (AtomicUsize::new(0), OnceLock::new());
         let files = MemoryFiles::new();
         let hooked = Hooked::new(&files, |call: Call<'_>| {
             if call.is_change() && made.fetch_add(1, SeqCst) == failing {
+                place.set(place_of(call, &files)).unwrap();
                 if let Call::Write(file, bytes) = call {
                     files.write(file, &bytes[..bytes.len() / 2])?;
                 }
@@ -97,7 +113,7 @@ fn where_any_change_fails_every_later_call_says_so_and_nothing_is_lost() {
         let (certain, result) = run(&engine);
         let first = result.unwrap_err();
         assert_eq!(first.kind, ErrorKind::Io);
-        assert!(first.file.is_some() && first.offset.is_some(), "{first}");
+        assert_eq!(Some(&(first.file, first.offset)), place.get(), "{first}");
         let source = std::error::Error::source(&first).unwrap();
         let source: &io::Error = source.downcast_ref().unwrap();
         assert_eq!(source.kind(), io::ErrorKind::StorageFull);
@@ -181,6 +197,35 @@ fn a_file_that_cant_be_read_is_named_and_the_engine_goes_on() {
 }
 
 #[test]
+fn who_waits_for_a_turn_is_told_why_the_engine_failed() {
+    let (entered, is_over) = (AtomicBool::new(false), AtomicBool::new(false));
+    let hooked = Hooked::new(&MemoryFiles::new(), |call: Call<'_>| {
+        if !matches!(call, Call::Rotate(file) if file.seq == 2) {
+            return Ok(());
+        }
+        entered.store(true, SeqCst);
+        while !is_over.load(SeqCst) {
+            thread::yield_now();
+        }
+        Err(io::ErrorKind::StorageFull.into())
+    });
+    let engine = Engine::with_files(hooked, Options::new()).unwrap();
+    thread::scope(|scope| {
+        let rotating = scope.spawn(|| engine.rotate());
+        while !entered.load(SeqCst) {
+            thread::yield_now();
+        }
+        let writing = scope.spawn(|| engine.write(&mut batch(1), true));
+        thread::sleep(Duration::from_millis(200));
+        is_over.store(true, SeqCst);
+        let first = rotating.join().unwrap().unwrap_err();
+        let e = writing.join().unwrap().unwrap_err();
+        assert_eq!((e.kind, e.file), (ErrorKind::Failed, first.file));
+        assert_eq!(e.text, format!("Failed: {first}"));
+    });
+}
+
+#[test]
 fn files_that_panic_leave_a_failed_engine_and_nobody_waits_for_ever() {
     let (entered, is_over) = (AtomicBool::new(false), AtomicBool::new(false));
     let hooked = Hooked::new(&MemoryFiles::new(), |call: Call<'_>| {
@@ -188,6 +233,8 @@ fn files_that_panic_leave_a_failed_engine_and_nobody_waits_for_ever() {
             return Ok(());
         }
         if entered.swap(true, SeqCst) {
+            // the others wait by then
+            thread::sleep(Duration::from_millis(200));
             panic!("the disk is on fire");
         }
         while !is_over.load(SeqCst) {

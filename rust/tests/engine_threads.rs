@@ -3,10 +3,10 @@
 mod common;
 
 use common::hooked::{Call, Hooked};
-use raft_recover::{Engine, LogBatch, MemoryFiles, Options, Queue};
+use raft_recover::{Engine, FileId, LogBatch, MemoryFiles, Options, Queue};
 use std::sync::atomic::{AtomicBool, AtomicUsize, Ordering::SeqCst};
 use std::sync::{Arc, Condvar, Mutex};
-use std::time::Duration;
+use std::time::{Duration, Instant};
 use std::{io, thread};
 
 /// A gate at which calls wait while it is closed, and which knows how many came to it.
@@ -45,7 +45,15 @@ impl Gate {
         }
     }
 
-    /// Waits until this many calls came to the closed gate.
+    /// Comes to the open gate, and tells whether it is the first to come.
+    fn is_new(&self) -> bool {
+        let mut state = self.state.lock().unwrap();
+        state.1 += 1;
+        self.changed.notify_all();
+        state.1 == 1
+    }
+
+    /// Waits until this many calls came to the gate.
     fn wait_for(&self, count: usize) {
         let mut state = self.state.lock().unwrap();
         while state.1 < count {
@@ -90,7 +98,7 @@ fn threads_that_write_at_the_same_time_share_syncs() {
     assert_eq!(stats.batches, threads * writes);
     let syncs = stats.syncs - before;
     assert!(
-        syncs >= writes && syncs * 3 <= stats.batches,
+        syncs >= writes && syncs * 4 <= stats.batches * 3,
         "{syncs} syncs"
     );
     let left = files.left(files.asked(), Default::default(), Default::default());
@@ -128,6 +136,45 @@ fn nobody_goes_on_before_the_sync_and_all_who_wait_go_on_after_one() {
     });
     let syncs = engine.stats().syncs - before;
     assert!((1..4).contains(&syncs), "{syncs}");
+}
+
+#[test]
+fn who_wants_no_sync_goes_on_before_it() {
+    let (gates, is_first_over) = ([Gate::default(), Gate::default()], AtomicBool::new(false));
+    let hooked = Hooked::new(&MemoryFiles::new(), |call: Call<'_>| {
+        match call {
+            Call::Sync(_) => gates[usize::from(is_first_over.load(SeqCst))].pass(),
+            // those that were woken in vain wait again by then
+            Call::Write(..) => thread::sleep(Duration::from_millis(100)),
+            _ => {}
+        }
+        Ok(())
+    });
+    let engine = Engine::with_files(hooked, Options::new()).unwrap();
+    let gone_on = AtomicUsize::new(0);
+    thread::scope(|scope| {
+        let [first, second] = gates.each_ref().map(Gate::close);
+        scope.spawn(|| engine.sync().unwrap());
+        gates[0].wait_for(1);
+        // all of these are handed in while the first thread syncs, and one of them leads
+        for region in 0..8 {
+            let (engine, gone_on) = (&engine, &gone_on);
+            scope.spawn(move || {
+                engine.write(&mut batch(region, 1), region == 0).unwrap();
+                gone_on.fetch_add(1, SeqCst);
+            });
+        }
+        thread::sleep(Duration::from_millis(200));
+        is_first_over.store(true, SeqCst);
+        drop(first);
+        gates[1].wait_for(1);
+        let begun = Instant::now();
+        while gone_on.load(SeqCst) < 4 && begun.elapsed() < Duration::from_secs(20) {
+            thread::yield_now();
+        }
+        assert!(gone_on.load(SeqCst) >= 4);
+        drop(second);
+    });
 }
 
 #[test]
@@ -199,6 +246,45 @@ fn an_entry_that_moves_while_it_is_read_is_found() {
         engine.rewrite(1).unwrap();
         assert_eq!(engine.purge().unwrap().append_files, 1);
         drop(closed);
+        let mut entries = reading.join().unwrap().unwrap();
+        assert_eq!(entries.next().unwrap(), b"1");
+    });
+}
+
+#[test]
+fn an_entry_that_is_looked_up_again_moves_no_more() {
+    let (gate, looked_again) = (Gate::default(), Gate::default());
+    let [is_held, is_moved] = [false, false].map(AtomicBool::new);
+    let hooked = Hooked::new(&MemoryFiles::new(), |call: Call<'_>| {
+        let Call::Read(file, _) = call else {
+            return Ok(());
+        };
+        if file.queue == Queue::Append && is_held.swap(false, SeqCst) {
+            gate.pass();
+        } else if file == FileId::new(Queue::Rewrite, 1) && looked_again.is_new() {
+            // it is read once more, and the other thread tries to move it
+            let begun = Instant::now();
+            while !is_moved.load(SeqCst) && begun.elapsed() < Duration::from_millis(300) {
+                thread::yield_now();
+            }
+        }
+        Ok(())
+    });
+    let engine = Engine::with_files(hooked, Options::new()).unwrap();
+    engine.write(&mut batch(7, 1), false).unwrap();
+    engine.rotate().unwrap();
+    is_held.store(true, SeqCst);
+    thread::scope(|scope| {
+        let closed = gate.close();
+        let reading = scope.spawn(|| engine.entries(7, 1..2));
+        gate.wait_for(1);
+        engine.rewrite(1).unwrap();
+        assert_eq!(engine.purge().unwrap().append_files, 1);
+        drop(closed);
+        looked_again.wait_for(1);
+        engine.rewrite_again().unwrap();
+        assert_eq!(engine.purge().unwrap().rewrite_files, 1);
+        is_moved.store(true, SeqCst);
         let mut entries = reading.join().unwrap().unwrap();
         assert_eq!(entries.next().unwrap(), b"1");
     });

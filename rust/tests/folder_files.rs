@@ -78,6 +78,17 @@ fn one_engine_at_a_time_has_a_folder() {
 }
 
 #[test]
+fn a_folder_is_locked_before_it_is_read() {
+    let room = TempFolder::new();
+    let path = room.path().join("folder");
+    let _files = FolderFiles::open(&path).unwrap();
+    fs::write(path.join("1.raftlog"), "").unwrap(); // a name that is refused
+    fs::create_dir(path.join("0000000000000001.raftlog")).unwrap(); // no file
+    let e = FolderFiles::open(&path).unwrap_err();
+    assert_eq!(e.kind, ErrorKind::TryAgain, "{e}");
+}
+
+#[test]
 fn bytes_are_written_at_the_end_and_read_anywhere() {
     let room = TempFolder::new();
     let files = FolderFiles::open(room.path()).unwrap();

@@ -17,7 +17,7 @@ use std::{env, fs};
 const FOLDER: &str = "RAFT_RECOVER_FOLDER";
 
 /// The calls of the system on files and names.
-const CALLS: &str = "openat,mkdir,write,fsync,fdatasync,ftruncate,unlink";
+const CALLS: &str = "openat,flock,mkdir,write,fsync,fdatasync,ftruncate,unlink";
 
 /// The batches of a run: what each of them puts into region 7. The last one of each third takes away what moved before.
 fn fill(number: u64, batch: &mut LogBatch) {
@@ -133,6 +133,8 @@ struct Disk {
     since: Vec<(String, Option<usize>)>,
     /// Whether it was opened, and the names that were found aren't synced.
     is_found: bool,
+    /// Whether it was locked since it was opened.
+    is_locked: bool,
 }
 
 /// The names and bytes of files that a stop leaves.
@@ -181,7 +183,8 @@ impl Disk {
     }
 
     /// Takes in a call of the system on a name in the folder, and tells whether it changes what a stop may leave. Names of log
-    /// files that were found, made or deleted are synced before anything else, and so is a file that was cut.
+    /// files that were found, made or deleted are synced before anything else, and so is a file that was cut. The lock is taken
+    /// before anything else is read or made, and no file is synced that has no new bytes.
     fn take(&mut self, call: &Call) -> bool {
         let name = call.name.clone();
         let file = self.now.get(&name).copied();
@@ -192,7 +195,12 @@ impl Disk {
             assert!(!self.files.iter().any(cut));
             assert!(!self.is_found);
         }
-        self.is_found |= name == "LOCK";
+        match (call.what.as_str(), name.as_str()) {
+            ("flock", "LOCK") => self.is_locked = true,
+            ("openat", "LOCK") => (self.is_found, self.is_locked) = (true, false),
+            ("mkdir", "") => {}
+            _ => assert!(self.is_locked, "{} {name}", call.what),
+        }
         match (call.what.as_str(), file) {
             ("openat", None) if call.rest.contains("O_CREAT") => {
                 self.files.push(File::default());
@@ -207,7 +215,10 @@ impl Disk {
                 let len = call.rest.rsplit(' ').next().unwrap().parse().unwrap();
                 self.files[file].since.push(Change::Cut(len));
             }
-            ("fsync" | "fdatasync", Some(file)) => self.files[file].sync(),
+            ("fsync" | "fdatasync", Some(file)) => {
+                assert!(self.is_found || !self.files[file].since.is_empty());
+                self.files[file].sync();
+            }
             ("fsync", None) if name.is_empty() => {
                 self.names = self.now.clone();
                 self.since.clear();

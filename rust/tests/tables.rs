@@ -2,7 +2,7 @@
 
 mod common;
 
-use common::{entry, file, files, lines, parts, run};
+use common::{batch_bytes, entry, file, files, lines, parts, run};
 use raft_recover::{
     Batches, Block, Content, Entry, ErrorKind, FileId, FilePart, LogBatch, LogFile, Pair, Queue,
     Summary, Tables, crc32, readable_front, recover,
@@ -438,6 +438,18 @@ fn a_torn_tail_is_found() {
         Batches::new(past).unwrap_err().kind,
         ErrorKind::InvalidArgument
     );
+}
+
+#[test]
+fn batches_end_behind_a_refusal() {
+    let sound = batch_bytes(file(1), |batch| batch.clean(7).unwrap());
+    let torn = [&sound[..], &sound[..20], &sound[..]].concat();
+    let mut batches = Batches::new(FilePart::new(file(1), &torn)).unwrap();
+    assert!(batches.next().unwrap().is_ok());
+    assert_eq!(batches.next_at(), Some(sound.len()));
+    assert!(batches.next().unwrap().is_err());
+    assert_eq!(batches.next_at(), None);
+    assert!(batches.next().is_none());
 }
 
 #[test]

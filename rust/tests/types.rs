@@ -133,6 +133,15 @@ fn kinds_have_words_of_their_own() {
 }
 
 #[test]
+fn errors_of_one_kind_with_other_words_are_not_equal() {
+    let no_slot = || Slot::new(128).unwrap_err();
+    let no_queue = Queue::try_from(2).unwrap_err();
+    assert_eq!(no_slot(), no_slot());
+    assert_eq!(no_slot().kind, no_queue.kind);
+    assert_ne!(no_slot(), no_queue);
+}
+
+#[test]
 fn a_part_begins_at_offset_0_and_is_shown_without_its_bytes() {
     let bytes = vec![7; 1 << 20];
     let part = FilePart::new(LogFile::new(Queue::Append, 3, Version::V2), &bytes);
@@ -204,4 +213,16 @@ fn the_items_of_a_batch_are_a_list() {
     assert_eq!(given.next_back().unwrap().region, 4);
     assert_eq!((given.len(), given.next().unwrap().region), (1, 3));
     assert_eq!((given.next(), given.next_back()), (None, None));
+}
+
+#[test]
+fn the_files_of_several_purges_add_up() {
+    let purged = |append_files, rewrite_files| {
+        let mut purged = Purged::default();
+        (purged.append_files, purged.rewrite_files) = (append_files, rewrite_files);
+        purged
+    };
+    let mut all = purged(1, 20);
+    all += purged(300, 4000);
+    assert_eq!(all, purged(301, 4020));
 }

@@ -6,6 +6,10 @@ use crate::{Error, LogBatch, Result};
 use std::mem;
 use std::sync::{Condvar, Mutex};
 
+mod group;
+
+pub(super) use group::Group;
+
 /// Batches that wait to be written. Of the threads that hand them in one leads: it writes all that wait, and the others wait
 /// for it.
 #[derive(Debug, Default)]
@@ -68,10 +72,7 @@ impl Commits {
             }
             line.is_led = true;
             drop(line);
-            lead(&mut Group {
-                commits: self,
-                taken: Vec::new(),
-            });
+            lead(&mut Group::of(self));
             line = locks::lock(&self.line);
         }
     }
@@ -95,67 +96,5 @@ impl Line {
     fn over_of(&mut self, ticket: u64) -> Option<Commit> {
         let at = self.over.iter().position(|over| over.ticket == ticket)?;
         Some(self.over.swap_remove(at))
-    }
-}
-
-/// The batches that a leader writes. Where the lead ends all their threads go on: those without a result have failed.
-#[derive(Debug)]
-pub(super) struct Group<'a> {
-    commits: &'a Commits,
-    taken: Vec<Commit>,
-}
-
-impl Group<'_> {
-    /// Takes all batches that wait by now, among them the leader's own.
-    pub(super) fn take(&mut self) {
-        self.taken
-            .append(&mut locks::lock(&self.commits.line).waiting);
-    }
-
-    /// Returns the batches that were taken and not let go of, in the order in which they were handed in.
-    pub(super) fn commits(&mut self) -> &mut [Commit] {
-        &mut self.taken
-    }
-
-    /// Returns how many batches have no result yet.
-    pub(super) fn unrefused(&self) -> u64 {
-        self.taken
-            .iter()
-            .filter(|commit| commit.result.is_none())
-            .count() as u64
-    }
-
-    /// Lets the threads go on whose batches were refused, or were written and needn't last.
-    pub(super) fn release_unsynced(&mut self) {
-        self.release(|commit| {
-            if !commit.sync {
-                commit.result.get_or_insert(Ok(()));
-            }
-            commit.result.is_some()
-        });
-    }
-
-    /// Ends it for all batches that have no result yet.
-    pub(super) fn end(&mut self, result: &Result<()>) {
-        for commit in &mut self.taken {
-            commit.result.get_or_insert_with(|| result.clone());
-        }
-        self.release(|_| true);
-    }
-
-    /// Lets the threads of these batches go on.
-    fn release(&mut self, is_over: impl FnMut(&mut Commit) -> bool) {
-        let mut line = locks::lock(&self.commits.line);
-        line.over.extend(self.taken.extract_if(.., is_over));
-        self.commits.is_over.notify_all();
-    }
-}
-
-impl Drop for Group<'_> {
-    fn drop(&mut self) {
-        let mut line = locks::lock(&self.commits.line);
-        line.over.append(&mut self.taken);
-        line.is_led = false;
-        self.commits.is_over.notify_all();
     }
 }

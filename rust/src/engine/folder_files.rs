@@ -2,7 +2,7 @@
 
 use super::{Files, locks};
 use crate::{Error, ErrorKind, FileId, Queue, Result};
-use std::collections::BTreeMap;
+use std::collections::{BTreeMap, BTreeSet};
 use std::fmt;
 use std::fs::{self, File, OpenOptions, TryLockError};
 use std::io::{self, Write};
@@ -16,7 +16,7 @@ const LOCK: &str = "LOCK";
 /// The files of both queues in a folder, as `0000000000000001.raftlog` and `0000000000000001.rewrite`, and a file `LOCK`, which is
 /// locked for as long as this value lives. Other names are left alone.
 ///
-/// Where a name is made or deleted the folder is synced at once. After an `Err` of a call that changes something every later
+/// Where a name is made or deleted the folder is synced at once, and a file without new bytes isn't synced again. After an `Err` of a call that changes something every later
 /// one fails: what the disk has is found when the folder is opened again.
 ///
 /// ```
@@ -37,15 +37,24 @@ pub struct FolderFiles {
     folder: File,
     /// All log files, open.
     files: RwLock<BTreeMap<FileId, Arc<File>>>,
-    /// Whether a change began and didn't end well. One change at a time has it.
-    has_failed: Mutex<bool>,
+    /// One change at a time has it.
+    changes: Mutex<Changes>,
     /// The file that is locked.
     _lock: File,
 }
 
+/// What was changed.
+#[derive(Default)]
+struct Changes {
+    /// Whether a change began and didn't end well.
+    has_failed: bool,
+    /// The files with bytes that aren't synced.
+    unsynced: BTreeSet<FileId>,
+}
+
 impl FolderFiles {
-    /// Opens a folder with all log files in it. One that isn't there yet is made, in a folder that is. The files, their names and
-    /// that of the folder are on the disk then.
+    /// Opens a folder with all log files in it. One that isn't there yet is made, in a folder that is. It is locked before anything
+    /// else in it is read or made. The files, their names and that of the folder are on the disk then.
     ///
     /// ```
     /// # use raft_recover::FolderFiles;
@@ -67,8 +76,8 @@ impl FolderFiles {
             Err(e) if e.kind() != io::ErrorKind::AlreadyExists => return Err(about(e)),
             _ => {}
         }
-        let folder = File::open(path).map_err(about)?;
         let lock = locked(&path.join(LOCK))?;
+        let folder = File::open(path).map_err(about)?;
         let mut files = BTreeMap::new();
         for entry in fs::read_dir(path).map_err(about)? {
             let name = entry.map_err(about)?.file_name();
@@ -83,7 +92,7 @@ impl FolderFiles {
             path: path.to_owned(),
             folder,
             files: RwLock::new(files),
-            has_failed: Mutex::new(false),
+            changes: Mutex::default(),
             _lock: lock,
         })
     }
@@ -125,30 +134,27 @@ impl FolderFiles {
         file.ok_or_else(|| io::Error::new(io::ErrorKind::NotFound, "the file isn't there"))
     }
 
-    /// Returns the number of a queue's last file, if it has one.
-    fn last(&self, queue: Queue) -> Option<FileId> {
-        let files = locks::read(&self.files);
-        let (id, _) = files.range(all_of(queue)).next_back()?;
-        Some(*id)
-    }
-
-    /// Syncs a queue's last file. The older ones were synced when they were closed, and all names when they were made.
-    fn sync_last(&self, queue: Queue) -> io::Result<()> {
-        match self.last(queue) {
-            Some(last) => self.file(last)?.sync_data(),
-            None => Ok(()),
+    /// Syncs the files of a queue that have new bytes. Names were synced when they were made.
+    fn sync_new(&self, queue: Queue, unsynced: &mut BTreeSet<FileId>) -> io::Result<()> {
+        while let Some(file) = unsynced.range(all_of(queue)).next().copied() {
+            self.file(file)?.sync_data()?;
+            unsynced.remove(&file);
         }
+        Ok(())
     }
 
-    /// Makes a change, which has failed until it has ended well.
-    fn change(&self, change: impl FnOnce() -> io::Result<()>) -> io::Result<()> {
-        let mut has_failed = locks::lock(&self.has_failed);
-        if *has_failed {
+    /// Makes a change, which has failed until it has ended well. It gets the files with bytes that aren't synced.
+    fn change(
+        &self,
+        change: impl FnOnce(&mut BTreeSet<FileId>) -> io::Result<()>,
+    ) -> io::Result<()> {
+        let mut changes = locks::lock(&self.changes);
+        if changes.has_failed {
             return Err(io::Error::other("an earlier change failed"));
         }
-        *has_failed = true;
-        change()?;
-        *has_failed = false;
+        changes.has_failed = true;
+        change(&mut changes.unsynced)?;
+        changes.has_failed = false;
         Ok(())
     }
 }
@@ -163,16 +169,19 @@ impl Files for FolderFiles {
     }
 
     fn write(&self, file: FileId, bytes: &[u8]) -> io::Result<()> {
-        self.change(|| self.file(file)?.as_ref().write_all(bytes))
+        self.change(|unsynced| {
+            unsynced.insert(file);
+            self.file(file)?.as_ref().write_all(bytes)
+        })
     }
 
     fn sync(&self, queue: Queue) -> io::Result<()> {
-        self.change(|| self.sync_last(queue))
+        self.change(|unsynced| self.sync_new(queue, unsynced))
     }
 
     fn rotate(&self, file: FileId) -> io::Result<()> {
-        self.change(|| {
-            self.sync_last(file.queue)?;
+        self.change(|unsynced| {
+            self.sync_new(file.queue, unsynced)?;
             let mut how = OpenOptions::new();
             how.create_new(true).read(true).append(true);
             let opened = how.open(self.path_of(file))?;
@@ -183,7 +192,8 @@ impl Files for FolderFiles {
     }
 
     fn delete(&self, file: FileId) -> io::Result<()> {
-        self.change(|| {
+        self.change(|unsynced| {
+            unsynced.remove(&file);
             locks::write(&self.files).remove(&file);
             fs::remove_file(self.path_of(file))?;
             self.folder.sync_all()
@@ -191,11 +201,12 @@ impl Files for FolderFiles {
     }
 
     fn truncate(&self, file: FileId, len: u64) -> io::Result<()> {
-        self.change(|| {
-            let file = self.file(file)?;
-            if len < file.metadata()?.len() {
-                file.set_len(len)?;
-                file.sync_all()?;
+        self.change(|unsynced| {
+            let opened = self.file(file)?;
+            if len < opened.metadata()?.len() {
+                opened.set_len(len)?;
+                opened.sync_all()?;
+                unsynced.remove(&file);
             }
             Ok(())
         })

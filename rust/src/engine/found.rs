@@ -1,6 +1,6 @@
 //! The files that are found when an engine is opened.
 
-use super::stats::Numbers;
+use super::numbers::Numbers;
 use crate::recovery;
 use crate::sys::{EngineHandle, FoundHandle};
 use crate::{

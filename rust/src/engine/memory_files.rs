@@ -6,74 +6,14 @@ use std::collections::VecDeque;
 use std::sync::{Arc, Mutex};
 use std::{fmt, io};
 
-/// Something that was asked of files.
-///
-/// ```
-/// # use raft_recover::{Ask, FileId, Files, MemoryFiles, Queue};
-/// # let files = MemoryFiles::new();
-/// # let file = FileId::new(Queue::Append, 1);
-/// files.rotate(file)?;
-/// files.write(file, b"bytes")?;
-/// assert_eq!(files.asks(), [Ask::Begin(file), Ask::Write(file, b"bytes".to_vec())]);
-/// # Ok::<(), std::io::Error>(())
-/// ```
-#[derive(Clone, PartialEq, Eq, Hash, Debug)]
-#[non_exhaustive]
-pub enum Ask {
-    /// These bytes behind those of this file.
-    Write(FileId, Vec<u8>),
-    /// What was asked of the queue is to outlast a stop of the machine.
-    Sync(Queue),
-    /// A new file.
-    Begin(FileId),
-    /// The oldest file of its queue is to go.
-    Delete(FileId),
-    /// The file is to have this many bytes, if it has more.
-    Cut(FileId, u64),
-}
+mod ask;
+mod left;
+mod unsynced;
 
-impl Ask {
-    /// Returns the queue that it is asked of.
-    ///
-    /// ```
-    /// # use raft_recover::{FileId, Files, MemoryFiles, Queue};
-    /// # let files = MemoryFiles::new();
-    /// # let file = FileId::new(Queue::Append, 1);
-    /// files.rotate(file)?;
-    /// files.write(file, b"bytes")?;
-    /// assert!(files.asks().iter().all(|ask| ask.queue() == Queue::Append));
-    /// # Ok::<(), std::io::Error>(())
-    /// ```
-    #[must_use]
-    pub const fn queue(&self) -> Queue {
-        match self {
-            Ask::Sync(queue) => *queue,
-            Ask::Write(file, _) | Ask::Begin(file) | Ask::Delete(file) | Ask::Cut(file, _) => {
-                file.queue
-            }
-        }
-    }
-}
+pub use ask::Ask;
+pub use unsynced::Unsynced;
 
-/// How much of what was asked of a queue and wasn't synced is done. By default it is nothing.
-///
-/// ```
-/// # use raft_recover::{FileId, Files, MemoryFiles, Queue, Unsynced};
-/// # let files = MemoryFiles::new();
-/// # let file = FileId::new(Queue::Append, 1);
-/// files.rotate(file)?;
-/// files.write(file, b"bytes")?;
-/// // the new file, and its five bytes
-/// assert_eq!(files.unsynced(2, Queue::Append), Unsynced { steps: 6, deletions: 0 });
-/// # Ok::<(), std::io::Error>(())
-/// ```
-#[derive(Clone, Copy, PartialEq, Eq, Hash, Debug, Default)]
-pub struct Unsynced {
-    /// Steps in the order in which they were asked: each byte that was written, each cut, and each new file is one.
-    pub steps: usize,
-    /// Files that were deleted, oldest first.
-    pub deletions: usize,
-}
+use left::Left;
 
 /// The files of both queues in memory, for tests. What was asked of them is kept, and each stop of the machine can be made of it.
 ///
@@ -326,106 +266,6 @@ impl Held {
             Some((seq, bytes)) if *seq == file.seq => Ok(bytes),
             _ => refused("the file isn't the last one of its queue"),
         }
-    }
-}
-
-impl Unsynced {
-    /// Returns how much isn't synced once this is done too.
-    fn and(self, ask: &Ask) -> Unsynced {
-        let Unsynced { steps, deletions } = self;
-        match ask {
-            Ask::Sync(_) => Unsynced::default(),
-            Ask::Write(_, bytes) => Unsynced {
-                steps: steps + bytes.len(),
-                deletions,
-            },
-            Ask::Cut(..) => Unsynced {
-                steps: steps + 1,
-                deletions,
-            },
-            // what stands in front of a new file was synced when it was begun
-            Ask::Begin(_) => Unsynced {
-                steps: 1,
-                deletions,
-            },
-            Ask::Delete(_) => Unsynced {
-                steps,
-                deletions: deletions + 1,
-            },
-        }
-    }
-}
-
-/// What a stop of the machine leaves of a queue.
-struct Left<'a> {
-    /// The files that stand for certain, those that were deleted too.
-    certain: Vec<(u64, Vec<u8>)>,
-    /// What was asked since then, in order.
-    since: Vec<&'a Ask>,
-    /// How many of the files were deleted for certain.
-    gone: usize,
-    /// How many were deleted since then.
-    going: usize,
-}
-
-impl<'a> Left<'a> {
-    /// Makes what is left of found files.
-    fn of(found: &[(u64, Vec<u8>)]) -> Left<'a> {
-        Left {
-            certain: found.to_vec(),
-            since: Vec::new(),
-            gone: 0,
-            going: 0,
-        }
-    }
-
-    /// Takes in what was asked next.
-    fn take(&mut self, ask: &'a Ask) {
-        match ask {
-            Ask::Sync(_) => {
-                self.settle(usize::MAX);
-                self.gone += std::mem::take(&mut self.going);
-            }
-            Ask::Begin(_) => {
-                self.settle(usize::MAX);
-                self.since.push(ask);
-            }
-            Ask::Delete(_) => self.going += 1,
-            Ask::Write(..) | Ask::Cut(..) => self.since.push(ask),
-        }
-    }
-
-    /// Does the first steps of what was asked since, and drops the rest.
-    fn settle(&mut self, mut steps: usize) {
-        for ask in self.since.drain(..) {
-            let last = self.certain.last_mut().map(|(_, bytes)| bytes);
-            match (ask, last) {
-                (Ask::Write(_, bytes), Some(last)) => {
-                    let front = bytes.len().min(steps);
-                    last.extend_from_slice(&bytes[..front]);
-                    steps -= front;
-                }
-                (Ask::Cut(_, len), Some(last)) if steps > 0 => {
-                    cut(last, *len);
-                    steps -= 1;
-                }
-                (Ask::Begin(file), _) if steps > 0 => {
-                    self.certain.push((file.seq, Vec::new()));
-                    steps -= 1;
-                }
-                _ => return,
-            }
-            if steps == 0 {
-                return;
-            }
-        }
-    }
-
-    /// Returns the files once so much more of it is done.
-    fn after_stop(mut self, stays: Unsynced) -> Vec<(u64, Vec<u8>)> {
-        self.settle(stays.steps);
-        let gone = self.gone + self.going.min(stays.deletions);
-        self.certain.split_off(gone.min(self.certain.len()))
     }
 }
 

@@ -2,42 +2,12 @@
 
 use super::entries::{read_block, read_entry_bytes};
 use super::orders::Turn;
-use super::{Engine, locks};
+use super::{Engine, Purged, locks};
 use crate::sys::EngineHandle;
 use crate::{Block, Error, ErrorKind, Files, Queue, Result};
-use std::ops::AddAssign;
 
 /// How many bytes of blocks a rewriting reads at once, and of one region at least.
 const BLOCKS_AT_ONCE: usize = 8 << 20;
-
-/// How many files a purge deleted.
-///
-/// ```
-/// use raft_recover::{Engine, MemoryFiles, Options};
-///
-/// let engine = Engine::with_files(MemoryFiles::new(), Options::new())?;
-/// engine.rotate()?;
-/// let mut purged = engine.purge()?;
-/// assert_eq!((purged.append_files, purged.rewrite_files), (1, 0));
-/// purged += engine.purge()?;
-/// assert_eq!(purged.append_files, 1); // there was no other one to delete
-/// # Ok::<(), raft_recover::Error>(())
-/// ```
-#[derive(Clone, Copy, PartialEq, Eq, Hash, Debug, Default)]
-#[non_exhaustive]
-pub struct Purged {
-    /// Files of the append queue.
-    pub append_files: usize,
-    /// Files of the rewrite queue.
-    pub rewrite_files: usize,
-}
-
-impl AddAssign for Purged {
-    fn add_assign(&mut self, more: Purged) {
-        self.append_files += more.append_files;
-        self.rewrite_files += more.rewrite_files;
-    }
-}
 
 impl<F: Files> Engine<F> {
     /// Begins a new file of the append queue. All that was written lasts then.

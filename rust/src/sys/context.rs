@@ -1,13 +1,59 @@
 //! The handle of a context.
 
-use super::{
-    Handle, KeptNumbers, TablesHandle, checked, raft_ffi_context_drop, raft_ffi_context_finish,
-    raft_ffi_context_kept, raft_ffi_context_merge, raft_ffi_context_new, raft_ffi_context_overlay,
-    raft_ffi_context_replay, remembered,
-};
+use super::{File, Handle, Status, TablesHandle, checked, remembered};
 use crate::{FilePart, Kept, Queue, Result};
 use std::cell::Cell;
 use std::mem;
+
+#[repr(C)]
+#[derive(Clone, Copy, Default)]
+struct KeptNumbers {
+    entries: u64,
+    keys: u64,
+    marks: u64,
+    deleted_keys: u64,
+    cleaned: u64,
+    waiting_items: u64,
+}
+
+unsafe extern "C" {
+    fn raft_ffi_context_new(context: *mut Handle) -> u32;
+    fn raft_ffi_context_replay(
+        context: *mut Handle,
+        file: File,
+        offset: u64,
+        bytes: *const u8,
+        bytes_len: usize,
+        text: *mut u8,
+        text_len: usize,
+    ) -> Status;
+    fn raft_ffi_context_merge(
+        context: *mut Handle,
+        newer: Handle,
+        is_rewrite: bool,
+        text: *mut u8,
+        text_len: usize,
+    ) -> Status;
+    fn raft_ffi_context_overlay(
+        context: *mut Handle,
+        append: Handle,
+        text: *mut u8,
+        text_len: usize,
+    ) -> Status;
+    fn raft_ffi_context_kept(
+        context: *mut Handle,
+        kept: *mut KeptNumbers,
+        text: *mut u8,
+        text_len: usize,
+    ) -> Status;
+    fn raft_ffi_context_finish(
+        context: Handle,
+        tables: *mut Handle,
+        text: *mut u8,
+        text_len: usize,
+    ) -> Status;
+    fn raft_ffi_context_drop(context: Handle);
+}
 
 /// Holds a context.
 #[derive(Debug)]

@@ -1,13 +1,55 @@
 //! The handle of the items of a batch.
 
-use super::{
-    Handle, ItemHead, checked, entries, found, raft_ffi_items_drop, raft_ffi_items_entries,
-    raft_ffi_items_head, raft_ffi_items_key, raft_ffi_items_len, raft_ffi_items_next,
-    raft_ffi_items_value, with,
-};
+use super::{EntryNumbers, File, Handle, Status, checked, entries, found, with};
 use crate::{Content, Entry, FilePart, Item, Result};
 use std::cell::Cell;
 use std::mem;
+
+#[repr(C)]
+#[derive(Clone, Copy, Default)]
+struct ItemHead {
+    region: u64,
+    number: u64,
+    kind: u32,
+}
+
+unsafe extern "C" {
+    fn raft_ffi_items_next(
+        items: *mut Handle,
+        file: File,
+        offset: u64,
+        bytes: *const u8,
+        bytes_len: usize,
+        at: usize,
+        next: *mut usize,
+        text: *mut u8,
+        text_len: usize,
+    ) -> Status;
+    fn raft_ffi_items_len(items: *mut Handle) -> usize;
+    fn raft_ffi_items_head(items: *mut Handle, i: usize, head: *mut ItemHead) -> bool;
+    fn raft_ffi_items_entries(
+        items: *mut Handle,
+        i: usize,
+        entries: *mut EntryNumbers,
+        entries_len: usize,
+        count: *mut usize,
+    ) -> bool;
+    fn raft_ffi_items_key(
+        items: *mut Handle,
+        i: usize,
+        key: *mut u8,
+        key_len: usize,
+        len: *mut usize,
+    ) -> bool;
+    fn raft_ffi_items_value(
+        items: *mut Handle,
+        i: usize,
+        value: *mut u8,
+        value_len: usize,
+        len: *mut usize,
+    ) -> bool;
+    fn raft_ffi_items_drop(items: Handle);
+}
 
 /// Holds the items of a batch.
 #[derive(Debug)]

@@ -1,15 +1,68 @@
 //! The handle of a batch that is written.
 
-use super::{
-    Handle, ItemsHandle, checked, listed, raft_ffi_batch_add_entries, raft_ffi_batch_bytes,
-    raft_ffi_batch_clean, raft_ffi_batch_compact, raft_ffi_batch_delete, raft_ffi_batch_drop,
-    raft_ffi_batch_finish, raft_ffi_batch_into_items, raft_ffi_batch_merge, raft_ffi_batch_new,
-    raft_ffi_batch_put, raft_ffi_batch_sign, raft_ffi_batch_size, raft_ffi_batch_stage,
-    raft_ffi_batch_truncate, raft_ffi_batch_written, remembered, with,
-};
+use super::{File, Handle, ItemsHandle, Status, checked, listed, remembered, with};
 use crate::{Error, FileId, LogFile, Queue, Result, Stage};
 use std::cell::Cell;
 use std::mem;
+
+unsafe extern "C" {
+    fn raft_ffi_batch_new(batch: *mut Handle) -> u32;
+    fn raft_ffi_batch_stage(batch: *mut Handle) -> u32;
+    fn raft_ffi_batch_size(batch: *mut Handle) -> usize;
+    fn raft_ffi_batch_add_entries(
+        batch: *mut Handle,
+        region: u64,
+        first: u64,
+        lens: *const usize,
+        lens_len: usize,
+        bytes: *const u8,
+        bytes_len: usize,
+        text: *mut u8,
+        text_len: usize,
+    ) -> Status;
+    fn raft_ffi_batch_clean(batch: *mut Handle, region: u64) -> u32;
+    fn raft_ffi_batch_compact(batch: *mut Handle, region: u64, index: u64) -> u32;
+    fn raft_ffi_batch_truncate(batch: *mut Handle, region: u64, index: u64) -> u32;
+    fn raft_ffi_batch_put(
+        batch: *mut Handle,
+        region: u64,
+        key: *const u8,
+        key_len: usize,
+        value: *const u8,
+        value_len: usize,
+        text: *mut u8,
+        text_len: usize,
+    ) -> Status;
+    fn raft_ffi_batch_delete(
+        batch: *mut Handle,
+        region: u64,
+        key: *const u8,
+        key_len: usize,
+    ) -> u32;
+    fn raft_ffi_batch_merge(
+        batch: *mut Handle,
+        more: *mut Handle,
+        text: *mut u8,
+        text_len: usize,
+    ) -> Status;
+    fn raft_ffi_batch_finish(
+        batch: *mut Handle,
+        len: *mut usize,
+        text: *mut u8,
+        text_len: usize,
+    ) -> Status;
+    fn raft_ffi_batch_sign(batch: *mut Handle, file: File);
+    fn raft_ffi_batch_bytes(batch: *mut Handle, bytes: *mut u8, bytes_len: usize) -> usize;
+    fn raft_ffi_batch_written(
+        batch: *mut Handle,
+        is_rewrite: bool,
+        seq: u64,
+        offset: u64,
+        len: usize,
+    );
+    fn raft_ffi_batch_into_items(batch: Handle, items: *mut Handle) -> u32;
+    fn raft_ffi_batch_drop(batch: Handle);
+}
 
 /// The greatest offset at which a batch may have been written.
 const LAST_OFFSET: u64 = u64::MAX - 16;

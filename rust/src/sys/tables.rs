@@ -1,19 +1,21 @@
 //! The handle of tables.
 
+use super::table_calls::{
+    raft_ffi_slot_apply_append, raft_ffi_slot_apply_rewrite, raft_ffi_slot_check_append,
+    raft_ffi_tables_append, raft_ffi_tables_apply_append, raft_ffi_tables_apply_rewrite,
+    raft_ffi_tables_atomic_group, raft_ffi_tables_check_append, raft_ffi_tables_cleaned,
+    raft_ffi_tables_cleaned_logs, raft_ffi_tables_compact, raft_ffi_tables_delete,
+    raft_ffi_tables_drop, raft_ffi_tables_entries, raft_ffi_tables_entries_before,
+    raft_ffi_tables_entry, raft_ffi_tables_live, raft_ffi_tables_merge_append,
+    raft_ffi_tables_merge_newer, raft_ffi_tables_move_table, raft_ffi_tables_new,
+    raft_ffi_tables_pairs_before, raft_ffi_tables_put, raft_ffi_tables_regions,
+    raft_ffi_tables_remove, raft_ffi_tables_rewrite, raft_ffi_tables_rewrite_key,
+    raft_ffi_tables_rewritten_entries, raft_ffi_tables_rewritten_pairs, raft_ffi_tables_scan,
+    raft_ffi_tables_summary, raft_ffi_tables_truncate, raft_ffi_tables_value,
+};
 use super::{
     EntryNumbers, Handle, ItemsHandle, LogBatchHandle, SummaryNumbers, checked, entries, found,
-    listed, numbers, pairs, raft_ffi_slot_apply_append, raft_ffi_slot_apply_rewrite,
-    raft_ffi_slot_check_append, raft_ffi_tables_append, raft_ffi_tables_apply_append,
-    raft_ffi_tables_apply_rewrite, raft_ffi_tables_atomic_group, raft_ffi_tables_check_append,
-    raft_ffi_tables_cleaned, raft_ffi_tables_cleaned_logs, raft_ffi_tables_compact,
-    raft_ffi_tables_delete, raft_ffi_tables_drop, raft_ffi_tables_entries,
-    raft_ffi_tables_entries_before, raft_ffi_tables_entry, raft_ffi_tables_live,
-    raft_ffi_tables_merge_append, raft_ffi_tables_merge_newer, raft_ffi_tables_move_table,
-    raft_ffi_tables_new, raft_ffi_tables_pairs_before, raft_ffi_tables_put,
-    raft_ffi_tables_regions, raft_ffi_tables_remove, raft_ffi_tables_rewrite,
-    raft_ffi_tables_rewrite_key, raft_ffi_tables_rewritten_entries,
-    raft_ffi_tables_rewritten_pairs, raft_ffi_tables_scan, raft_ffi_tables_summary,
-    raft_ffi_tables_truncate, raft_ffi_tables_value, remembered, with,
+    listed, numbers, pairs, remembered, with,
 };
 use crate::{Entry, FileId, Pair, Queue, Result, Summary};
 use std::cell::Cell;

@@ -8,8 +8,10 @@ use std::sync::atomic::{AtomicU64, Ordering::Relaxed};
 use std::{env, fs, process};
 
 pub mod both;
+pub mod engines;
 pub mod hooked;
 pub mod model;
+pub mod slots;
 
 /// A file of the append queue, signed.
 pub fn file(seq: u64) -> LogFile {

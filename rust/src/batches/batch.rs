@@ -1,0 +1,184 @@
+//! The items of a batch.
+
+use super::{BatchIntoIter, BatchIter};
+use crate::sys::ItemsHandle;
+use crate::{Item, slot_of};
+use std::collections::BTreeSet;
+use std::fmt;
+
+/// The items of a log batch. Where it was read, or given its places by [`LogBatch::written`](crate::LogBatch::written), its
+/// entries have their place in the file, and its key values their file.
+///
+/// ```
+/// use raft_recover::{Content, Item, LogBatch};
+///
+/// let mut batch = LogBatch::new()?;
+/// batch.compact(7, 10)?;
+/// batch.clean(8)?;
+/// let items = batch.into_items()?;
+/// assert_eq!(items.len(), 2);
+/// for Item { region, content } in &items {
+///     match content {
+///         Content::Compact { index } => assert_eq!((region, index), (7, 10)),
+///         content => assert_eq!((region, content), (8, Content::Clean)),
+///     }
+/// }
+/// # Ok::<(), raft_recover::Error>(())
+/// ```
+///
+/// Tables take it, so they apply it once; slots share it, each for its own items:
+///
+/// ```compile_fail,E0382
+/// use raft_recover::{LogBatch, Tables};
+///
+/// let items = LogBatch::new().unwrap().into_items().unwrap();
+/// let mut tables = Tables::new().unwrap();
+/// tables.apply_append(items).unwrap();
+/// tables.apply_append(items).unwrap();
+/// ```
+pub struct Batch {
+    handle: ItemsHandle,
+}
+
+impl Batch {
+    /// Returns how many items there are.
+    ///
+    /// ```
+    /// # use raft_recover::LogBatch;
+    /// # let mut batch = LogBatch::new()?;
+    /// batch.compact(7, 10)?;
+    /// batch.clean(8)?;
+    /// let items = batch.into_items()?;
+    /// assert_eq!(items.len(), 2);
+    /// # Ok::<(), raft_recover::Error>(())
+    /// ```
+    #[must_use]
+    pub fn len(&self) -> usize {
+        self.handle.len()
+    }
+
+    /// Tests whether there are no items.
+    ///
+    /// ```
+    /// # use raft_recover::LogBatch;
+    /// # let mut batch = LogBatch::new()?;
+    /// batch.compact(7, 10)?;
+    /// batch.clean(8)?;
+    /// let items = batch.into_items()?;
+    /// assert!(!items.is_empty());
+    /// # Ok::<(), raft_recover::Error>(())
+    /// ```
+    #[must_use]
+    pub fn is_empty(&self) -> bool {
+        self.len() == 0
+    }
+
+    /// Returns an item, if there is one.
+    ///
+    /// ```
+    /// # use raft_recover::LogBatch;
+    /// # let mut batch = LogBatch::new()?;
+    /// batch.compact(7, 10)?;
+    /// batch.clean(8)?;
+    /// let items = batch.into_items()?;
+    /// assert_eq!(items.get(1).unwrap().region, 8);
+    /// assert_eq!(items.get(2), None);
+    /// # Ok::<(), raft_recover::Error>(())
+    /// ```
+    ///
+    /// # Panics
+    ///
+    /// Where an entry has no place: the batch was made here, and its items were taken out before
+    /// [`LogBatch::written`](crate::LogBatch::written).
+    #[must_use]
+    pub fn get(&self, i: usize) -> Option<Item> {
+        self.handle.item(i)
+    }
+
+    /// Returns the items, in order.
+    ///
+    /// ```
+    /// # use raft_recover::LogBatch;
+    /// # let mut batch = LogBatch::new()?;
+    /// batch.compact(7, 10)?;
+    /// batch.clean(8)?;
+    /// let items = batch.into_items()?;
+    /// let regions: Vec<_> = items.iter().map(|item| item.region).collect();
+    /// assert_eq!(regions, [7, 8]);
+    /// # Ok::<(), raft_recover::Error>(())
+    /// ```
+    ///
+    /// # Panics
+    ///
+    /// The iterator does where [`Batch::get`] does.
+    pub fn iter(&self) -> BatchIter<'_> {
+        BatchIter {
+            batch: self,
+            rest: 0..self.len(),
+        }
+    }
+
+    /// Returns the numbers of the slots that the regions of its items are of, in rising order: of those to which it is to be
+    /// written by [`Slot::apply_append`](crate::Slot::apply_append).
+    ///
+    /// ```
+    /// # use raft_recover::{LogBatch, slot_of};
+    /// # let mut batch = LogBatch::new()?;
+    /// batch.compact(7, 10)?;
+    /// batch.clean(8)?;
+    /// let items = batch.into_items()?;
+    /// let slots: Vec<_> = items.slots();
+    /// assert_eq!(slots.len(), 2);
+    /// assert!(slots.contains(&slot_of(7)));
+    /// # Ok::<(), raft_recover::Error>(())
+    /// ```
+    #[must_use]
+    pub fn slots(&self) -> Vec<usize> {
+        let regions = (0..self.len()).filter_map(|i| self.handle.region(i));
+        let numbers: BTreeSet<_> = regions.map(slot_of).collect();
+        Vec::from_iter(numbers)
+    }
+
+    /// Makes one of a handle.
+    pub(crate) fn of(handle: ItemsHandle) -> Batch {
+        Batch { handle }
+    }
+
+    /// Returns the handle.
+    pub(crate) fn handle(&self) -> &ItemsHandle {
+        &self.handle
+    }
+
+    /// Takes the handle out.
+    pub(crate) fn into_handle(self) -> ItemsHandle {
+        self.handle
+    }
+}
+
+impl fmt::Debug for Batch {
+    /// Shows how many items there are.
+    fn fmt(&self, f: &mut fmt::Formatter<'_>) -> fmt::Result {
+        f.debug_struct("Batch")
+            .field("len", &self.len())
+            .finish_non_exhaustive()
+    }
+}
+
+impl<'a> IntoIterator for &'a Batch {
+    type Item = Item;
+    type IntoIter = BatchIter<'a>;
+
+    fn into_iter(self) -> BatchIter<'a> {
+        self.iter()
+    }
+}
+
+impl IntoIterator for Batch {
+    type Item = Item;
+    type IntoIter = BatchIntoIter;
+
+    fn into_iter(self) -> BatchIntoIter {
+        let rest = 0..self.len();
+        BatchIntoIter { batch: self, rest }
+    }
+}

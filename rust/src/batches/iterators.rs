@@ -1,0 +1,88 @@
+//! The items of a batch, one after another.
+
+use crate::{Batch, Item};
+use std::iter::FusedIterator;
+use std::ops::Range;
+
+/// The items of a batch that is lent, by [`Batch::iter`].
+///
+/// ```
+/// # use raft_recover::LogBatch;
+/// # let mut batch = LogBatch::new()?;
+/// batch.compact(7, 10)?;
+/// batch.clean(8)?;
+/// let items = batch.into_items()?;
+/// let mut last_first = items.iter().rev();
+/// assert_eq!(last_first.next().unwrap().region, 8);
+/// assert_eq!(last_first.len(), 1);
+/// # Ok::<(), raft_recover::Error>(())
+/// ```
+#[derive(Clone, Debug)]
+#[must_use = "an iterator does nothing until it is asked"]
+pub struct BatchIter<'a> {
+    pub(super) batch: &'a Batch,
+    pub(super) rest: Range<usize>,
+}
+
+/// The items of a batch that is given away.
+///
+/// ```
+/// # use raft_recover::LogBatch;
+/// # let mut batch = LogBatch::new()?;
+/// batch.compact(7, 10)?;
+/// batch.clean(8)?;
+/// let items = batch.into_items()?;
+/// let regions: Vec<_> = items.into_iter().map(|item| item.region).collect();
+/// assert_eq!(regions, [7, 8]);
+/// # Ok::<(), raft_recover::Error>(())
+/// ```
+#[derive(Debug)]
+#[must_use = "an iterator does nothing until it is asked"]
+pub struct BatchIntoIter {
+    pub(super) batch: Batch,
+    pub(super) rest: Range<usize>,
+}
+
+impl Iterator for BatchIter<'_> {
+    type Item = Item;
+
+    fn next(&mut self) -> Option<Item> {
+        self.batch.get(self.rest.next()?)
+    }
+
+    fn size_hint(&self) -> (usize, Option<usize>) {
+        self.rest.size_hint()
+    }
+}
+
+impl DoubleEndedIterator for BatchIter<'_> {
+    fn next_back(&mut self) -> Option<Item> {
+        self.batch.get(self.rest.next_back()?)
+    }
+}
+
+impl ExactSizeIterator for BatchIter<'_> {}
+
+impl FusedIterator for BatchIter<'_> {}
+
+impl Iterator for BatchIntoIter {
+    type Item = Item;
+
+    fn next(&mut self) -> Option<Item> {
+        self.batch.get(self.rest.next()?)
+    }
+
+    fn size_hint(&self) -> (usize, Option<usize>) {
+        self.rest.size_hint()
+    }
+}
+
+impl DoubleEndedIterator for BatchIntoIter {
+    fn next_back(&mut self) -> Option<Item> {
+        self.batch.get(self.rest.next_back()?)
+    }
+}
+
+impl ExactSizeIterator for BatchIntoIter {}
+
+impl FusedIterator for BatchIntoIter {}

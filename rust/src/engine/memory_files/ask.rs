@@ -1,0 +1,52 @@
+//! What is asked of files.
+
+use crate::{FileId, Queue};
+
+/// Something that was asked of files.
+///
+/// ```
+/// # use raft_recover::{Ask, FileId, Files, MemoryFiles, Queue};
+/// # let files = MemoryFiles::new();
+/// # let file = FileId::new(Queue::Append, 1);
+/// files.rotate(file)?;
+/// files.write(file, b"bytes")?;
+/// assert_eq!(files.asks(), [Ask::Begin(file), Ask::Write(file, b"bytes".to_vec())]);
+/// # Ok::<(), std::io::Error>(())
+/// ```
+#[derive(Clone, PartialEq, Eq, Hash, Debug)]
+#[non_exhaustive]
+pub enum Ask {
+    /// These bytes behind those of this file.
+    Write(FileId, Vec<u8>),
+    /// What was asked of the queue is to outlast a stop of the machine.
+    Sync(Queue),
+    /// A new file.
+    Begin(FileId),
+    /// The oldest file of its queue is to go.
+    Delete(FileId),
+    /// The file is to have this many bytes, if it has more.
+    Cut(FileId, u64),
+}
+
+impl Ask {
+    /// Returns the queue that it is asked of.
+    ///
+    /// ```
+    /// # use raft_recover::{FileId, Files, MemoryFiles, Queue};
+    /// # let files = MemoryFiles::new();
+    /// # let file = FileId::new(Queue::Append, 1);
+    /// files.rotate(file)?;
+    /// files.write(file, b"bytes")?;
+    /// assert!(files.asks().iter().all(|ask| ask.queue() == Queue::Append));
+    /// # Ok::<(), std::io::Error>(())
+    /// ```
+    #[must_use]
+    pub const fn queue(&self) -> Queue {
+        match self {
+            Ask::Sync(queue) => *queue,
+            Ask::Write(file, _) | Ask::Begin(file) | Ask::Delete(file) | Ask::Cut(file, _) => {
+                file.queue
+            }
+        }
+    }
+}

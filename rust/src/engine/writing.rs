@@ -1,0 +1,84 @@
+//! Batches are written.
+
+use super::commit::Group;
+use super::orders::Turn;
+use super::{Engine, locks};
+use crate::sys::EngineHandle;
+use crate::{Files, LogBatch, Result};
+
+impl<F: Files> Engine<F> {
+    /// Writes a batch, which is empty afterwards. With `sync` all that was written lasts once the call returns `Ok`. The batch is
+    /// whole or not there at all, whenever the machine stops.
+    ///
+    /// ```
+    /// # use raft_recover::{Engine, LogBatch, MemoryFiles, Options};
+    /// # let engine = Engine::with_files(MemoryFiles::new(), Options::new())?;
+    /// # let mut batch = LogBatch::new()?;
+    /// batch.add_entries(7, 1, &["an entry"])?;
+    /// engine.write(&mut batch, true)?;
+    /// batch.add_entries(7, 2, &["another one"])?; // the batch is empty again
+    /// engine.write(&mut batch, false)?;
+    /// batch.add_entries(7, 9, &["behind a hole"])?;
+    /// engine.write(&mut batch, true).unwrap_err();
+    /// assert_eq!(engine.last_index(7)?, Some(2));
+    /// # Ok::<(), raft_recover::Error>(())
+    /// ```
+    ///
+    /// # Errors
+    ///
+    /// `InvalidArgument` where the batch is no longer open; `Corruption` where its entries leave a hole behind those of their
+    /// region, or don't fit otherwise; `Full` where it has 2^56 bytes or more, or its file more than 2^63; `Memory`. Engine and batch
+    /// are then as they were. `Io`, `Failed`: the engine has failed, and the batch may be in the files or not.
+    pub fn write(&self, batch: &mut LogBatch, sync: bool) -> Result<()> {
+        self.intact()?;
+        self.commits.write(batch, sync, |group| self.lead(group))
+    }
+
+    /// Makes all that was written last.
+    ///
+    /// ```
+    /// # use raft_recover::{Engine, LogBatch, MemoryFiles, Options};
+    /// # let engine = Engine::with_files(MemoryFiles::new(), Options::new())?;
+    /// # let mut batch = LogBatch::new()?;
+    /// batch.put(7, b"key", b"value")?;
+    /// engine.write(&mut batch, false)?;
+    /// engine.sync()?; // it lasts from here on
+    /// # Ok::<(), raft_recover::Error>(())
+    /// ```
+    ///
+    /// # Errors
+    ///
+    /// `Memory`, `Io`, `Failed`: the engine has failed, but for `Memory`.
+    pub fn sync(&self) -> Result<()> {
+        self.write(&mut LogBatch::new()?, true)
+    }
+
+    /// Writes the batches of all threads that wait, syncs once for those who want that, and begins a file where it is due.
+    fn lead(&self, group: &mut Group<'_>) {
+        let turn = self.turn();
+        group.take();
+        match turn {
+            Ok(turn) => self.write_group(&turn, group),
+            Err(e) => group.end(&Err(e)),
+        }
+    }
+
+    fn write_group(&self, turn: &Turn<'_, F>, group: &mut Group<'_>) {
+        let written = turn.call(|tables| {
+            for commit in group.commits() {
+                commit.write(tables);
+            }
+            Ok(())
+        });
+        if written.is_err() {
+            return group.end(&written);
+        }
+        locks::lock(&self.numbers).batches += group.unrefused();
+        group.release_unsynced();
+        if !group.commits().is_empty() {
+            let synced = turn.call(EngineHandle::sync);
+            group.end(&synced);
+        }
+        self.rotate_if_due(turn);
+    }
+}

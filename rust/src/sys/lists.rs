@@ -1,0 +1,82 @@
+//! Lists that a call of the library finds.
+
+use crate::{Error, Pair, Result};
+use std::alloc::{Layout, handle_alloc_error};
+
+/// Lists what a call finds: it gets room, puts as much there as fits, and says how much there is.
+pub(super) fn listed<T: Copy + Default>(
+    mut call: impl FnMut(*mut T, usize, &mut usize) -> Result<()>,
+) -> Result<Vec<T>> {
+    let mut room = Vec::new();
+    loop {
+        let mut count = 0;
+        call(room.as_mut_ptr(), room.len(), &mut count)?;
+        if count <= room.len() {
+            room.truncate(count);
+            return Ok(room);
+        }
+        make_room(&mut room, count)?;
+    }
+}
+
+/// Makes a list at least this long, or is refused for want of memory.
+pub(super) fn make_room<T: Copy + Default>(room: &mut Vec<T>, count: usize) -> Result<()> {
+    let more = count.saturating_sub(room.len());
+    room.try_reserve_exact(more).map_err(|_| Error::memory())?;
+    room.resize(room.len() + more, T::default());
+    Ok(())
+}
+
+/// Lists what a call finds, if it finds something. Without memory for the list the program ends, as where a `Vec` grows.
+pub(super) fn found<T: Copy + Default>(
+    mut call: impl FnMut(*mut T, usize, &mut usize) -> bool,
+) -> Option<Vec<T>> {
+    let mut is_found = false;
+    let list = listed(|room, len, count| {
+        is_found = call(room, len, count);
+        Ok(())
+    });
+    match list {
+        Ok(list) => is_found.then_some(list),
+        Err(_) => handle_alloc_error(Layout::new::<T>()),
+    }
+}
+
+/// Lists keys with their values, which a call finds as the length of each and the bytes of all.
+pub(super) fn pairs(
+    mut call: impl FnMut(*mut usize, usize, &mut usize, *mut u8, usize, &mut usize) -> Result<()>,
+) -> Result<Vec<Pair>> {
+    let (mut lens, mut bytes) = (Vec::new(), Vec::new());
+    loop {
+        let (mut count, mut len) = (0, 0);
+        call(
+            lens.as_mut_ptr(),
+            lens.len(),
+            &mut count,
+            bytes.as_mut_ptr(),
+            bytes.len(),
+            &mut len,
+        )?;
+        if count <= lens.len() && len <= bytes.len() {
+            lens.truncate(count);
+            return Ok(split(&lens, &bytes));
+        }
+        make_room(&mut lens, count)?;
+        make_room(&mut bytes, len)?;
+    }
+}
+
+/// Splits bytes into keys and values of these lengths, in turn.
+fn split(lens: &[usize], mut bytes: &[u8]) -> Vec<Pair> {
+    let mut next = |len| {
+        let (front, rest) = bytes.split_at(len);
+        bytes = rest;
+        front.to_vec()
+    };
+    lens.chunks_exact(2)
+        .map(|lens| Pair {
+            key: next(lens[0]),
+            value: next(lens[1]),
+        })
+        .collect()
+}

@@ -1,0 +1,128 @@
+//! Numbers that cross to the library and back.
+
+use crate::{Block, Entry, FileId, LogFile, Queue, Summary, Version};
+
+#[repr(C)]
+#[derive(Clone, Copy)]
+pub(super) struct File {
+    pub(super) seq: u64,
+    pub(super) is_rewrite: bool,
+    pub(super) is_signed: bool,
+}
+
+#[repr(C)]
+#[derive(Clone, Copy, Default)]
+pub(super) struct Maybe {
+    pub(super) is_some: bool,
+    pub(super) number: u64,
+}
+
+#[repr(C)]
+#[derive(Clone, Copy, Default)]
+pub(super) struct SummaryNumbers {
+    pub(super) entries: usize,
+    pub(super) keys: usize,
+    pub(super) first: Maybe,
+    pub(super) append_seq: Maybe,
+    pub(super) rewrite_seq: Maybe,
+}
+
+#[repr(C)]
+#[derive(Clone, Copy, Default)]
+pub(super) struct EntryNumbers {
+    pub(super) index: u64,
+    pub(super) seq: u64,
+    pub(super) offset: u64,
+    pub(super) len: usize,
+    pub(super) entry_offset: u32,
+    pub(super) entry_len: u32,
+    pub(super) is_rewrite: bool,
+    pub(super) is_placed: bool,
+}
+
+impl From<LogFile> for File {
+    fn from(file: LogFile) -> File {
+        File {
+            seq: file.seq,
+            is_rewrite: file.queue == Queue::Rewrite,
+            is_signed: file.version == Version::V2,
+        }
+    }
+}
+
+impl From<Option<u64>> for Maybe {
+    fn from(number: Option<u64>) -> Maybe {
+        Maybe {
+            is_some: number.is_some(),
+            number: number.unwrap_or_default(),
+        }
+    }
+}
+
+impl Maybe {
+    pub(super) fn number(self) -> Option<u64> {
+        self.is_some.then_some(self.number)
+    }
+}
+
+impl From<SummaryNumbers> for Summary {
+    fn from(summary: SummaryNumbers) -> Summary {
+        Summary {
+            entries: summary.entries,
+            keys: summary.keys,
+            first_index: summary.first.number(),
+            append_seq: summary.append_seq.number(),
+            rewrite_seq: summary.rewrite_seq.number(),
+        }
+    }
+}
+
+impl From<&Entry> for EntryNumbers {
+    fn from(entry: &Entry) -> EntryNumbers {
+        EntryNumbers {
+            index: entry.index,
+            seq: entry.block.file.seq,
+            offset: entry.block.offset,
+            len: entry.block.len,
+            entry_offset: entry.offset,
+            entry_len: entry.len,
+            is_rewrite: entry.block.file.queue == Queue::Rewrite,
+            is_placed: true,
+        }
+    }
+}
+
+impl From<EntryNumbers> for Entry {
+    /// Makes an entry that has a place, as those of tables, of read batches and of written ones do.
+    fn from(entry: EntryNumbers) -> Entry {
+        assert!(entry.is_placed, "entry {} has no place", entry.index);
+        let queue = if entry.is_rewrite {
+            Queue::Rewrite
+        } else {
+            Queue::Append
+        };
+        Entry {
+            index: entry.index,
+            block: Block {
+                file: FileId {
+                    queue,
+                    seq: entry.seq,
+                },
+                offset: entry.offset,
+                len: entry.len,
+            },
+            offset: entry.entry_offset,
+            len: entry.entry_len,
+        }
+    }
+}
+
+/// Makes numbers of entries.
+pub(super) fn numbers(entries: &[Entry]) -> Vec<EntryNumbers> {
+    entries.iter().map(EntryNumbers::from).collect()
+}
+
+/// Makes entries of numbers.
+pub(super) fn entries(numbers: Vec<EntryNumbers>) -> Vec<Entry> {
+    numbers.into_iter().map(Entry::from).collect()
+}

@@ -1,0 +1,160 @@
+//! Which files of a folder are synced when, and what a sync that fails leaves. The functions of C behind `File::sync_all` and
+//! `File::sync_data` are here this program's own.
+
+mod common;
+
+use common::TempFolder;
+use raft_recover::{Engine, ErrorKind, FileId, Files, FolderFiles, LogBatch, Options, Queue};
+use std::cell::{Cell, RefCell};
+use std::ffi::c_int;
+use std::path::Path;
+use std::{fs, io, mem};
+
+const FIRST: FileId = FileId::new(Queue::Append, 1);
+const SECOND: FileId = FileId::new(Queue::Append, 2);
+const REWRITTEN: FileId = FileId::new(Queue::Rewrite, 1);
+
+thread_local! {
+    /// The names of what this thread has synced.
+    static SYNCED: RefCell<Vec<String>> = const { RefCell::new(Vec::new()) };
+    /// How many syncs of this thread end well before one fails.
+    static GOOD: Cell<usize> = const { Cell::new(usize::MAX) };
+}
+
+#[unsafe(no_mangle)]
+extern "C" fn fsync(file: c_int) -> c_int {
+    sync(file)
+}
+
+#[unsafe(no_mangle)]
+extern "C" fn fdatasync(file: c_int) -> c_int {
+    sync(file)
+}
+
+/// Notes a sync, and fails where that is its turn: the system may then have dropped bytes.
+fn sync(file: c_int) -> c_int {
+    let path = fs::read_link(format!("/proc/self/fd/{file}")).unwrap();
+    let name = path.file_name().unwrap().to_string_lossy();
+    SYNCED.with_borrow_mut(|synced| synced.push(name.into_owned()));
+    match GOOD.get() {
+        0 => -1,
+        good => {
+            GOOD.set(good - 1);
+            0
+        }
+    }
+}
+
+/// The names of what was synced since this was asked before.
+fn synced() -> Vec<String> {
+    SYNCED.with_borrow_mut(mem::take)
+}
+
+/// The name of a folder or file.
+fn name(path: &Path) -> String {
+    path.file_name().unwrap().to_str().unwrap().to_owned()
+}
+
+#[test]
+fn a_file_without_new_bytes_isnt_synced_again() {
+    let room = TempFolder::new();
+    let path = room.path().join("folder");
+    let files = FolderFiles::open(&path).unwrap();
+    assert_eq!(synced(), ["folder".to_owned(), name(room.path())]);
+    let [first, second] = [FIRST, SECOND].map(|file| name(&files.path_of(file)));
+    type Step<'a> = (&'a str, &'a dyn Fn() -> io::Result<()>, &'a [&'a str]);
+    let steps: [Step<'_>; 18] = [
+        ("begin", &|| files.rotate(FIRST), &["folder"]),
+        ("new", &|| files.sync(Queue::Append), &[]),
+        ("write", &|| files.write(FIRST, b"bytes"), &[]),
+        ("other queue", &|| files.sync(Queue::Rewrite), &[]),
+        ("bytes", &|| files.sync(Queue::Append), &[&first]),
+        ("again", &|| files.sync(Queue::Append), &[]),
+        ("synced", &|| files.rotate(REWRITTEN), &["folder"]),
+        ("write", &|| files.write(FIRST, b"more"), &[]),
+        ("close", &|| files.rotate(SECOND), &[&first, "folder"]),
+        ("closed", &|| files.sync(Queue::Append), &[]),
+        ("write", &|| files.write(SECOND, b"bytes"), &[]),
+        ("no cut", &|| files.truncate(SECOND, 5), &[]),
+        ("bytes", &|| files.sync(Queue::Append), &[&second]),
+        ("write", &|| files.write(SECOND, b"more"), &[]),
+        ("cut", &|| files.truncate(SECOND, 7), &[&second]),
+        ("was cut", &|| files.sync(Queue::Append), &[]),
+        ("delete", &|| files.delete(FIRST), &["folder"]),
+        ("deleted", &|| files.sync(Queue::Append), &[]),
+    ];
+    for (at, (what, step, expected)) in steps.iter().enumerate() {
+        step().unwrap();
+        assert_eq!(synced(), *expected, "{at}: {what}");
+    }
+    files.write(SECOND, b"not synced").unwrap();
+    drop(files);
+    FolderFiles::open(&path).unwrap();
+    let mut again = synced();
+    assert_eq!(again.split_off(2), ["folder".to_owned(), name(room.path())]);
+    again.sort();
+    assert_eq!(again, ["0000000000000001.rewrite".to_owned(), second]);
+}
+
+#[test]
+fn an_engine_syncs_its_files_where_bytes_are_to_last() {
+    let room = TempFolder::new();
+    let engine = Engine::open(room.path(), Options::new()).unwrap();
+    synced();
+    let mut batch = LogBatch::new().unwrap();
+    for (sync, expected) in [(false, 0), (true, 1), (true, 1), (false, 0)] {
+        batch.put(7, b"key", b"value").unwrap();
+        engine.write(&mut batch, sync).unwrap();
+        assert_eq!(synced().len(), expected);
+    }
+    engine.sync().unwrap();
+    assert_eq!(synced(), [name(&engine.files().path_of(FIRST))]);
+    engine.sync().unwrap();
+    assert_eq!(synced(), [""; 0]);
+}
+
+#[test]
+fn after_a_sync_that_failed_nothing_more_is_changed() {
+    type Change = fn(&FolderFiles) -> io::Result<()>;
+    let changes: [(Change, usize); 5] = [
+        (|files| files.sync(Queue::Append), 1),
+        (|files| files.rotate(SECOND), 2),
+        (|files| files.truncate(FIRST, 1), 1),
+        (|files| files.rotate(REWRITTEN), 1),
+        (|files| files.delete(FIRST), 1),
+    ];
+    for (at, (change, syncs)) in changes.into_iter().enumerate() {
+        for good in 0..syncs {
+            let room = TempFolder::new();
+            let files = FolderFiles::open(room.path()).unwrap();
+            files.rotate(FIRST).unwrap();
+            files.write(FIRST, b"bytes").unwrap();
+            GOOD.set(good);
+            change(&files).unwrap_err();
+            GOOD.set(usize::MAX);
+            synced();
+            for (change, _) in changes {
+                let e = change(&files).unwrap_err();
+                assert_eq!(e.to_string(), "an earlier change failed", "{at} {good}");
+            }
+            assert!(files.write(FIRST, b"more").is_err());
+            assert_eq!(synced(), [""; 0], "{at} {good}");
+        }
+    }
+}
+
+#[test]
+fn a_folder_whose_syncs_fail_isnt_opened() {
+    let room = TempFolder::new();
+    let path = room.path().join("folder");
+    let files = FolderFiles::open(&path).unwrap();
+    files.rotate(FIRST).unwrap();
+    drop(files);
+    for good in 0..3 {
+        GOOD.set(good);
+        let e = FolderFiles::open(&path).unwrap_err();
+        GOOD.set(usize::MAX);
+        assert_eq!(e.kind, ErrorKind::Io, "{good}");
+    }
+    FolderFiles::open(&path).unwrap();
+}

@@ -1,0 +1,134 @@
+//! With the feature `global-allocator` the library's memory comes from the program's allocator, and goes back there as it came. It is
+//! refused in turn.
+#![cfg(feature = "global-allocator")]
+
+mod common;
+
+use common::{batch_bytes, file, files, parts};
+use raft_recover::{
+    Batches, Engine, ErrorKind, FilePart, LogBatch, MemoryFiles, Options, Queue, Result, recover,
+};
+use std::alloc::{GlobalAlloc, Layout, System};
+use std::cell::Cell;
+use std::sync::atomic::{AtomicUsize, Ordering::SeqCst};
+
+/// The alignment of the library's blocks, which no block of these tests has.
+const OF_LIBRARY: usize = 16;
+
+/// Blocks that went back with another size or alignment than they came with.
+static WRONG: AtomicUsize = AtomicUsize::new(0);
+
+thread_local! {
+    /// How many blocks of the library this thread holds.
+    static LIVE: Cell<i64> = const { Cell::new(0) };
+    /// How many requests of the library are granted before one is refused.
+    static GRANTED: Cell<u64> = const { Cell::new(u64::MAX) };
+}
+
+struct Noting;
+
+/// A block with room in front, where its layout is noted.
+fn noted(layout: Layout) -> (Layout, usize) {
+    let front = layout.align().max(OF_LIBRARY);
+    let size = layout.size() + front;
+    (Layout::from_size_align(size, front).unwrap(), front)
+}
+
+// SAFETY: the system's allocator does the work. A block that grows is a new one, as it is by default.
+unsafe impl GlobalAlloc for Noting {
+    unsafe fn alloc(&self, layout: Layout) -> *mut u8 {
+        if layout.align() == OF_LIBRARY {
+            if GRANTED.get() == 0 {
+                return std::ptr::null_mut();
+            }
+            GRANTED.set(GRANTED.get() - 1);
+            LIVE.set(LIVE.get() + 1);
+        }
+        let (whole, front) = noted(layout);
+        // SAFETY: the block has room for two numbers in front of what is handed out.
+        unsafe {
+            let at = System.alloc(whole).add(front);
+            at.cast::<[usize; 2]>()
+                .sub(1)
+                .write([layout.size(), layout.align()]);
+            at
+        }
+    }
+
+    unsafe fn dealloc(&self, at: *mut u8, layout: Layout) {
+        // SAFETY: the block came from `alloc`.
+        unsafe {
+            let [size, align] = at.cast::<[usize; 2]>().sub(1).read();
+            if (size, align) != (layout.size(), layout.align()) {
+                WRONG.fetch_add(1, SeqCst);
+            }
+            if align == OF_LIBRARY {
+                LIVE.set(LIVE.get() - 1);
+            }
+            let (whole, front) = noted(Layout::from_size_align_unchecked(size, align));
+            System.dealloc(at.sub(front), whole);
+        }
+    }
+}
+
+#[global_allocator]
+static NOTING: Noting = Noting;
+
+/// Writes, moves and deletes in an engine, reads it, and opens its files again.
+fn engine_steps() -> Result<usize> {
+    let files = MemoryFiles::new();
+    let options = Options::new().recovery_threads(1);
+    let engine = Engine::with_files(files.clone(), options.clone())?;
+    let mut batch = LogBatch::new()?;
+    for index in 1..=4 {
+        batch.add_entries(7, index, &[vec![7; 100]])?;
+        batch.put(7, b"key", &[7; 100])?;
+        engine.write(&mut batch, true)?;
+    }
+    engine.rotate()?;
+    engine.rewrite(1)?;
+    engine.purge()?;
+    drop(engine);
+    Ok(Engine::with_files(files, options)?.entries(7, ..)?.len())
+}
+
+/// Recovers files, and reads a batch item by item.
+fn recovery_steps() -> Result<usize> {
+    let files = files();
+    let mut regions = recover(&parts(&files), Queue::Append, 1)?.regions()?.len();
+    let bytes = batch_bytes(file(1), |batch| batch.put(7, b"key", b"value").unwrap());
+    for batch in Batches::new(FilePart::new(file(1), &bytes))? {
+        regions += batch?.len();
+    }
+    Ok(regions)
+}
+
+#[test]
+fn what_the_library_takes_goes_back_as_it_came() {
+    for steps in [engine_steps, recovery_steps] {
+        assert!(steps().unwrap() > 1);
+        assert_eq!(LIVE.get(), 0);
+        assert_eq!(WRONG.load(SeqCst), 0);
+    }
+}
+
+#[test]
+fn each_request_is_refused_in_turn_and_nothing_is_left() {
+    for granted in 0.. {
+        GRANTED.set(granted);
+        let result = engine_steps();
+        let is_over = GRANTED.replace(u64::MAX) > 0;
+        assert_eq!((LIVE.get(), WRONG.load(SeqCst)), (0, 0), "{granted}");
+        match result {
+            Ok(count) => assert_eq!(count, 4),
+            Err(e) => assert!(
+                matches!(e.kind, ErrorKind::Memory | ErrorKind::Failed),
+                "{granted}: {e}"
+            ),
+        }
+        if is_over {
+            assert!(granted > 100, "{granted}");
+            return;
+        }
+    }
+}

@@ -4,6 +4,8 @@
 #[cfg(test)]
 mod checksums;
 #[cfg(test)]
+mod entries;
+#[cfg(test)]
 mod errors;
 #[cfg(test)]
 mod files;

@@ -68,9 +68,14 @@ fn files_and_versions_have_numbers(rt: HostRuntime) {
     assert_eq!(rt; new.max(old), new);
     assert_eq!(rt; LogQueue::Append as u8, 0);
     assert_eq!(rt; LogQueue::Rewrite as u8, 1);
-    for &(version, text) in &[(Version::V1, "1"), (Version::V2, "2")] {
+    for &(version, text, number, signs) in &[
+        (Version::V1, "1", 1, false),
+        (Version::V2, "2", 2, true),
+    ] {
         let printed = InlineText::<32>::of(version);
         assert_eq!(rt; printed.as_str(), text);
+        assert_eq!(rt; version.to_u64(), number);
+        assert_eq!(rt; version.has_log_signing(), signs);
     }
     assert_eq!(rt; Version::default(), Version::V1);
     for &(number, version) in &[
@@ -81,5 +86,25 @@ fn files_and_versions_have_numbers(rt: HostRuntime) {
         (u64::MAX, None),
     ] {
         assert_eq!(rt; Version::from_u64(number), version);
+    }
+}
+
+#[test]
+fn files_have_signatures(rt: HostRuntime) {
+    for &(version, seq, signature) in &[
+        (Version::V1, 0, None),
+        (Version::V1, 12, None),
+        (Version::V1, u64::MAX, None),
+        (Version::V2, 0, Some(0)),
+        (Version::V2, 12, Some(12)),
+        (Version::V2, 0xffff_ffff, Some(u32::MAX)),
+        (Version::V2, 0x1_0000_0000, Some(0)),
+        (Version::V2, 0x1_0000_000c, Some(12)),
+        (Version::V2, u64::MAX, Some(u32::MAX)),
+    ] {
+        for &queue in &[LogQueue::Append, LogQueue::Rewrite] {
+            let context = LogFileContext::new(FileId::new(queue, seq), version);
+            assert_eq!(rt; context.get_signature(), signature);
+        }
     }
 }

@@ -31,6 +31,8 @@ pub enum Step {
     Purge(LogQueue, FileSeq),
     /// Makes what a queue holds last.
     Sync(LogQueue),
+    /// Makes what one file holds last.
+    SyncFile(LogQueue, FileSeq),
     /// Power fails: what wasn't synced is lost.
     Fail,
     /// Takes the tables that the files of both queues give.
@@ -93,7 +95,11 @@ impl Engine {
                 Ok(())
             }
             Step::Sync(queue) => {
-                self.sync(queue);
+                self.sync(queue, None);
+                Ok(())
+            }
+            Step::SyncFile(queue, seq) => {
+                self.sync(queue, Some(seq));
                 Ok(())
             }
             Step::Fail => {
@@ -111,9 +117,10 @@ impl Engine {
         }
     }
 
-    fn sync(&mut self, queue: LogQueue) {
+    /// Makes what all files of a queue hold last, or what the one of a number holds.
+    fn sync(&mut self, queue: LogQueue, seq: Option<FileSeq>) {
         for file in &mut self.files {
-            if file.id.queue == queue {
+            if file.id.queue == queue && seq.is_none_or(|seq| file.id.seq == seq) {
                 file.synced = file.bytes.len();
             }
         }

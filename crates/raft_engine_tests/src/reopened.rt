@@ -128,8 +128,13 @@ fn found<R: Threads + Sync>(rt: &R, alloc: Global) -> Result<Engine<MemoryFiles>
 
 /// Makes an engine that wrote [1,10) and `k=v`, moved them to the rewrite queue, and deleted their append file.
 pub fn moved(alloc: Global) -> Result<Engine<MemoryFiles>> {
+    moved_parts(alloc, &[Entries(1, 10), Put("v")])
+}
+
+/// Makes an engine that wrote a batch, moved its records to the rewrite queue, and deleted their append file.
+pub fn moved_parts(alloc: Global, parts: &[Part]) -> Result<Engine<MemoryFiles>> {
     let mut engine = Engine::new(alloc, Version::V2, MemoryFiles::new(alloc))?;
-    write(alloc, &mut engine, &[Entries(1, 10), Put("v")], false)?;
+    write(alloc, &mut engine, parts, false)?;
     engine.rotate()?;
     engine.rewrite(1)?;
     engine.purge_expired_files()?;

@@ -1,7 +1,10 @@
-//! Restarts of an engine: what was written is found again, each time; the laws are called where they speak of it.
+//! Restarts of an engine: what was written is found again, each time, and what was taken away is not; the laws are called
+//! where they speak of it.
 
-use crate::batches::Part::{Compact, Entries, Put};
-use crate::reopened::{holds, reopened, write};
+use crate::again::empty_append_files;
+use crate::batches::Part;
+use crate::batches::Part::{Clean, Compact, Delete, Entries, Put, Truncate};
+use crate::reopened::{holds, is_found, moved_parts, reopened, write};
 use raft_base::Version;
 use raft_engine::Engine;
 use raft_files::MemoryFiles;
@@ -37,4 +40,105 @@ fn each_restart_finds_all(rt: HostRuntime) {
         held = restarts_find_all(&rt, rt.alloc());
     }
     assert!(rt; matches!(held, Ok(true)));
+}
+
+/// Records in a rewrite file, batches of the last append file that take something of them away, and what is left.
+struct Removal {
+    moved: &'static [Part],
+    batches: &'static [&'static [Part]],
+    left: &'static str,
+    /// How many append files a purge deletes: the one that has the batches, where it has nothing that is left.
+    deleted: usize,
+}
+
+static REMOVALS: [Removal; 8] = [
+    Removal {
+        moved: &[Put("v")],
+        batches: &[&[Delete]],
+        left: "",
+        deleted: 1,
+    },
+    // A key that is put again: what is told of it has to stand before its rewriting.
+    Removal {
+        moved: &[Put("v")],
+        batches: &[&[Delete], &[Put("w")]],
+        left: "k=w",
+        deleted: 0,
+    },
+    Removal {
+        moved: &[Entries(1, 10)],
+        batches: &[&[Entries(5, 7)], &[Compact(7)]],
+        left: "",
+        deleted: 1,
+    },
+    // The entry that is written last is left, and so is its file.
+    Removal {
+        moved: &[Entries(1, 10)],
+        batches: &[&[Entries(5, 7)], &[Compact(7)], &[Entries(8, 9)]],
+        left: "[8,9)",
+        deleted: 0,
+    },
+    Removal {
+        moved: &[Entries(1, 10)],
+        batches: &[&[Compact(3)]],
+        left: "[3,10)",
+        deleted: 1,
+    },
+    Removal {
+        moved: &[Entries(1, 10)],
+        batches: &[&[Truncate(3)]],
+        left: "[1,3)",
+        deleted: 1,
+    },
+    Removal {
+        moved: &[Entries(1, 10), Put("v")],
+        batches: &[&[Clean]],
+        left: "",
+        deleted: 1,
+    },
+    Removal {
+        moved: &[Entries(1, 10), Put("v")],
+        batches: &[&[Delete], &[Put("w")], &[Clean], &[Entries(4, 6)]],
+        left: "[4,6)",
+        deleted: 0,
+    },
+];
+
+/// Makes an engine with a removal's records in its rewrite file, and its batches in the last append file.
+fn removed(alloc: Global, removal: &Removal) -> Result<Engine<MemoryFiles>> {
+    let mut engine = moved_parts(alloc, removal.moved)?;
+    for parts in removal.batches {
+        write(alloc, &mut engine, parts, true)?;
+    }
+    Ok(engine)
+}
+
+/// Tests whether what was taken away stays away by a restart, a purge of the file that says so, and one more restart.
+fn stays_away<R: Threads + Sync>(rt: &R, alloc: Global, removal: &Removal) -> Result<bool> {
+    let mut engine = restarted(rt, alloc, &removed(alloc, removal)?)?;
+    let found = holds(alloc, &engine, removal.left)?;
+    engine.rotate()?;
+    let deleted = engine.purge_expired_files()?;
+    Ok(found && deleted == removal.deleted && is_found(rt, alloc, &engine, removal.left)?)
+}
+
+/// Tests it where what is left moves before the purge, which deletes the file in any case then.
+fn stays_away_moved<R: Threads + Sync>(rt: &R, alloc: Global, removal: &Removal) -> Result<bool> {
+    let mut engine = restarted(rt, alloc, &removed(alloc, removal)?)?;
+    Ok(empty_append_files(&mut engine)? && is_found(rt, alloc, &engine, removal.left)?)
+}
+
+fn both_stay_away<R: Threads + Sync>(rt: &R, alloc: Global, removal: &Removal) -> Result<bool> {
+    Ok(stays_away(rt, alloc, removal)? && stays_away_moved(rt, alloc, removal)?)
+}
+
+#[test]
+fn what_was_taken_away_stays_away(rt: HostRuntime) {
+    for (row, removal) in REMOVALS.iter().enumerate() {
+        let mut held = both_stay_away(&rt, rt.alloc(), removal);
+        if matches!(held, Err(Error::Memory)) {
+            held = both_stay_away(&rt, rt.alloc(), removal);
+        }
+        assert!(rt; matches!(held, Ok(true)), "row {row}");
+    }
 }

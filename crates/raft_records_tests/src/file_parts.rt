@@ -1,10 +1,10 @@
-//! Batches read one after another, whole and damaged, and one in place of another.
+//! Batches read one after another, whole and damaged.
 
 use crate::refusals::is_refused_for;
 use raft_records::{
     Command, CompressionType, EntryIndex, Error, FileBlockHandle, FileId, FilePart, LogBatch,
-    LogFileContext, LogItemContent, LogQueue, ReadBatch, ReadContent, Result, Version,
-    entries_block_in, entry_bytes, next_batch, readable_front,
+    LogItemContent, LogQueue, Result, Version, entries_block_in, entry_bytes, next_batch,
+    readable_front,
 };
 use std::alloc::Global;
 use std::process::Abort;
@@ -16,13 +16,6 @@ const BATCHES: &[u8; 58] =
 
 /// How long the first of them is.
 const FIRST: usize = 34;
-
-/// A batch of runs, commands, puts and removals, short and long, and after it a shorter one of a run and a put.
-const LONG_AND_SHORT: &[u8; 138] =
-    b"\x00\x00\x00\x00\x00\x00`\x00\x00\x00\x00\x00\x00\x00\x00\x1cabcdefghP*\xef\xae\x09\x07\x01\x02\x0a\x02\x03\x01\x02\x01\x07\x03\x01\x01k\x02vv\x02\x02\x02\xac\x02\x07\x03\x02\x01d\x80\x80\x80\x80\x80\x20\x01\x02\x80\x80\x80\x80\x20\x03\x08\x03\x02\x03\x05\x09\x01\x00\xff\xff\xff\xff\xff\xff\xff\xff\xff\x01\x03\x01\x00\x00\xfd\x8a\x1f\x19\x00\x00\x00\x00\x00\x00*\x00\x00\x00\x00\x00\x00\x00\x00\x16xy\x99(\xe6\x8f\x02\x07\x01\x02\x0c\x01\x02\x08\x03\x01\x04long\x00g\xfd\xfb\x92";
-
-/// How long the first of these is.
-const LONG: usize = 96;
 
 /// A file of the append queue.
 const FILE: FileId = FileId {
@@ -367,70 +360,4 @@ fn is_front(alloc: Global, len: usize, front: usize, reason: &str) -> Result<boo
         Some(Error::Corruption(text)) => Ok(readable == front && text.as_str() == reason),
         Some(e) => Err(e),
     }
-}
-
-/// Reads the batch at `at` in place of the one that is held, and returns where the next one begins; nothing at the
-/// end, and past it.
-fn read_at<'a>(batch: &mut ReadBatch<'a>, part: &'a FilePart, at: usize) -> Result<Option<usize>> {
-    if at > part.bytes().len() {
-        return Ok(None);
-    }
-    let context = LogFileContext::new(part.id(), part.version());
-    batch.read_next(&context, part.offset(), part.bytes(), at)
-}
-
-/// Tests whether a batch is the short one.
-fn is_short(batch: &ReadBatch<'_>) -> bool {
-    let (place, items, spans) = batch.parts();
-    let own_place = FileBlockHandle {
-        id: FILE,
-        offset: 212,
-        len: 6,
-    };
-    let [run, put] = items else {
-        return false;
-    };
-    let is_run = matches!(
-        run.content,
-        ReadContent::Run {
-            first: 12,
-            count: 2,
-        }
-    );
-    let is_put = match put.content {
-        ReadContent::Put { key, value } => key == b"long".as_slice() && value.is_empty(),
-        _ => false,
-    };
-    let regions = (run.region, put.region);
-    place == own_place
-        && spans == [(0, 1), (1, 1)].as_slice()
-        && regions == (7, 8)
-        && is_run
-        && is_put
-}
-
-#[test]
-fn read_batches(rt: HostRuntime) {
-    let answer = match batches_are_read_in_place_of_one_another(&rt, rt.alloc()) {
-        Err(Error::Memory) => batches_are_read_in_place_of_one_another(&rt, rt.alloc()),
-        answer => answer,
-    };
-    assert!(rt; answer.is_ok());
-}
-
-fn batches_are_read_in_place_of_one_another(rt: &impl Abort, alloc: Global) -> Result<()> {
-    let part = part(alloc, LONG_AND_SHORT)?;
-    let mut batch = ReadBatch::new(alloc, FILE);
-    for &(at, end, items) in &[
-        (LONG, Some(138), 2),
-        (0, Some(LONG), 9),
-        (LONG, Some(138), 2),
-        (138, None, 0),
-    ] {
-        assert!(rt; read_at(&mut batch, &part, at)? == end, "at {at}");
-        let own = batch.to_batch(alloc)?;
-        assert!(rt; own.iter().count() == items, "at {at}");
-        assert!(rt; is_short(&batch) == (at == LONG), "at {at}");
-    }
-    Ok(())
 }

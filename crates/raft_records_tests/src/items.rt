@@ -47,19 +47,43 @@ fn item_of(alloc: Global, content: Content) -> Result<LogItem> {
     })
 }
 
-/// Tests whether an item with this content is written as the bytes of the row, after those of region and type, and
-/// read of them, but for the value of a removal; or where the row has no bytes, whether nothing is written.
+/// Tests whether an item with this content is written behind two bytes as the bytes of the row, after those of region
+/// and type, and read of them, but for the value of a removal; or where the row has no bytes, whether nothing is
+/// written, of the content alone neither.
 fn is_content_row(alloc: Global, row: &ContentRow) -> Result<bool> {
     let (content, bytes) = *row;
     let item = item_of(alloc, content)?;
-    let mut buf = Vec::new(alloc);
+    let mut buf = Vec::from_slice(alloc, b"ab")?;
     match item.encode(&mut buf) {
         Ok(()) => {
-            let is_same = is_read(alloc, &item, buf.as_slice())?;
+            let (front, written) = buf.as_slice().split_at(buf.len().min(2));
+            let is_same = is_read(alloc, &item, written)?;
             let is_cut = matches!(content, Content::Delete(_, Some(_)));
-            Ok(buf.as_slice().get(2..) == Some(bytes) && is_same != is_cut)
+            Ok(front == b"ab".as_slice() && written.get(2..) == Some(bytes) && is_same != is_cut)
         }
-        Err(Error::InvalidArgument(_)) => Ok(bytes.is_empty() && buf.is_empty()),
+        Err(Error::InvalidArgument(_)) => {
+            let stays = buf.as_slice() == b"ab".as_slice();
+            Ok(bytes.is_empty() && stays && is_unwritable(alloc, &item.content)?)
+        }
+        Err(e) => Err(e),
+    }
+}
+
+/// Writes a content by itself.
+fn encode_content(content: &LogItemContent, buf: &mut Vec<u8>) -> Result<()> {
+    match content {
+        LogItemContent::EntryIndexes(entries) => entries.encode(buf),
+        LogItemContent::Command(command) => command.encode(buf),
+        LogItemContent::Kv(kv) => kv.encode(buf),
+    }
+}
+
+/// Tests whether a content by itself is refused as an invalid argument, and the two bytes in the vector stay alone.
+fn is_unwritable(alloc: Global, content: &LogItemContent) -> Result<bool> {
+    let mut buf = Vec::from_slice(alloc, b"ab")?;
+    match encode_content(content, &mut buf) {
+        Ok(()) => Ok(false),
+        Err(Error::InvalidArgument(_)) => Ok(buf.as_slice() == b"ab".as_slice()),
         Err(e) => Err(e),
     }
 }
@@ -89,11 +113,9 @@ fn decode(alloc: Global, form: Form, buf: &mut &[u8], size: &mut u32) -> Result<
 /// Tests whether an item, or its content alone, is written as these bytes.
 fn is_written(alloc: Global, form: Form, item: &LogItem, bytes: &[u8]) -> Result<bool> {
     let mut buf = Vec::new(alloc);
-    match (form, &item.content) {
-        (Form::Item, _) => item.encode(&mut buf)?,
-        (_, LogItemContent::EntryIndexes(entries)) => entries.encode(&mut buf)?,
-        (_, LogItemContent::Command(command)) => command.encode(&mut buf)?,
-        (_, LogItemContent::Kv(kv)) => kv.encode(&mut buf)?,
+    match form {
+        Form::Item => item.encode(&mut buf)?,
+        _ => encode_content(&item.content, &mut buf)?,
     }
     Ok(buf.as_slice() == bytes)
 }
@@ -134,7 +156,7 @@ fn is_read_row(alloc: Global, row: &ReadRow) -> Result<bool> {
                 matches!(read, Read::Item(end, left) if size == end && rest.len() == left);
             Ok(read_so && is_written(alloc, form, &item, front)? && is_cloned(&item)?)
         }
-        Err(Error::Memory) => Err(Error::Memory),
+        Err(Error::Memory) if rest == bytes && size == start => Err(Error::Memory),
         Err(e) => Ok(is_fault(read, &e) && rest == bytes && size == start),
     }
 }
@@ -192,15 +214,14 @@ fn are_fronts_refused(alloc: Global, form: Form, whole: &[u8]) -> Result<bool> {
 }
 
 /// Tests whether bytes are refused as corrupt, or for what a codec or a slice refuses, and they and the number of entry
-/// bytes stay.
+/// bytes stay, where memory is refused too.
 fn is_refused_and_left(alloc: Global, form: Form, bytes: &[u8]) -> Result<bool> {
     let mut rest = bytes;
     let mut size = 1;
     match decode(alloc, form, &mut rest, &mut size) {
         Ok(_read) => Ok(false),
-        Err(Error::Corruption(_) | Error::Codec(_) | Error::Io(_)) => {
-            Ok(rest == bytes && size == 1)
-        }
+        Err(_) if rest != bytes || size != 1 => Ok(false),
+        Err(Error::Corruption(_) | Error::Codec(_) | Error::Io(_)) => Ok(true),
         Err(e) => Err(e),
     }
 }
@@ -254,5 +275,34 @@ fn fronts_are_refused(rt: &impl Abort, alloc: Global) -> Result<()> {
         assert!(rt; are_marker_fronts_refused(alloc, row)?, "{:?}", row.1);
     }
     assert!(rt; are_fronts_refused(alloc, Form::KeyValue, b"\x01\x01k\x82\x00vv")?);
+    Ok(())
+}
+
+/// Tests whether a byte is the op type that stands for it, or is refused by name.
+fn is_op_type_row(alloc: Global, byte: u8) -> Result<bool> {
+    match OpType::from_u8(alloc, byte) {
+        Ok(OpType::Put) => Ok(byte == 1 && OpType::Put.to_u8() == 1),
+        Ok(OpType::Del) => Ok(byte == 2 && OpType::Del.to_u8() == 2),
+        Err(Error::Corruption(text)) => {
+            let reason = format!(in alloc; "Unrecognized op type: {byte}")?;
+            Ok(byte != 1 && byte != 2 && text == reason)
+        }
+        Err(e) => Err(e),
+    }
+}
+
+#[test]
+fn op_types(rt: HostRuntime) {
+    let answer = match one_and_two_are_op_types(&rt, rt.alloc()) {
+        Err(Error::Memory) => one_and_two_are_op_types(&rt, rt.alloc()),
+        answer => answer,
+    };
+    assert!(rt; answer.is_ok());
+}
+
+fn one_and_two_are_op_types(rt: &impl Abort, alloc: Global) -> Result<()> {
+    for byte in 0..=u8::MAX {
+        assert!(rt; is_op_type_row(alloc, byte)?, "{byte}");
+    }
     Ok(())
 }

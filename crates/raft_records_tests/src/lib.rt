@@ -14,4 +14,6 @@ mod log_batches;
 #[cfg(test)]
 mod printing;
 #[cfg(test)]
+mod read_batches;
+#[cfg(test)]
 mod refusals;

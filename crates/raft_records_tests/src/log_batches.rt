@@ -295,6 +295,16 @@ fn refused_additions(rt: HostRuntime) {
     assert!(rt; answer.is_ok());
 }
 
+/// Tests whether a call on a batch with a command is refused for this reason, nothing where it isn't, and leaves the
+/// batch then.
+fn is_refused_and_left(alloc: Global, number: usize, refusal: &str) -> Result<bool> {
+    let mut batch = with_command(alloc, 8, Command::Clean)?;
+    let before = batch.clone()?;
+    let called = attempt(alloc, &mut batch, number);
+    let is_left = batch == before && batch.items() == before.items();
+    Ok(refusal_of(called)? == refusal && (refusal.is_empty() || is_left))
+}
+
 /// Tests what each call is refused for, if it is, and the batch's approximate size after it.
 fn refused_additions_leave_the_batch(rt: &impl Abort, alloc: Global) -> Result<()> {
     for &(number, refusal, size) in &[
@@ -316,6 +326,7 @@ fn refused_additions_leave_the_batch(rt: &impl Abort, alloc: Global) -> Result<(
             batch.is_open() && batch.approximate_size() == size,
             "after {number}"
         );
+        assert!(rt; is_refused_and_left(alloc, number, refusal)?, "by {number}");
     }
     Ok(())
 }
@@ -421,6 +432,39 @@ fn has_states(alloc: Global) -> Result<bool> {
 fn states_of_a_group(rt: HostRuntime) {
     let answer = match has_states(rt.alloc()) {
         Err(Error::Memory) => has_states(rt.alloc()),
+        answer => answer,
+    };
+    assert!(rt; matches!(answer, Ok(true)));
+}
+
+/// Tests whether clones are equal to what they are made of, until an item is added to them.
+fn clones_are_equal(alloc: Global) -> Result<bool> {
+    let mut items = LogItemBatch::default(alloc);
+    items.delete(1, Vec::new(alloc))?;
+    let mut more = items.clone()?;
+    let same = more == items;
+    more.delete(1, Vec::new(alloc))?;
+    Ok(same && more != items)
+}
+
+/// Tests the same of log batches, until one is finished.
+fn log_batches_are_equal(alloc: Global) -> Result<bool> {
+    let mut batch = LogBatch::default(alloc);
+    AtomicGroupBuilder::with_id(9).begin(&mut batch)?;
+    let mut copy = batch.clone()?;
+    let same = copy == batch;
+    copy.finish_populate()?;
+    Ok(same && copy != batch)
+}
+
+fn all_clones_are_equal(alloc: Global) -> Result<bool> {
+    Ok(clones_are_equal(alloc)? && log_batches_are_equal(alloc)?)
+}
+
+#[test]
+fn clones(rt: HostRuntime) {
+    let answer = match all_clones_are_equal(rt.alloc()) {
+        Err(Error::Memory) => all_clones_are_equal(rt.alloc()),
         answer => answer,
     };
     assert!(rt; matches!(answer, Ok(true)));

@@ -232,6 +232,7 @@ fn failing_streams(rt: HostRuntime) {
     if let Ok(words) = words_of(rt.alloc(), OPEN, &[]) {
         assert!(rt; is_torn(&rt, words.as_slice()));
         assert_eq!(rt; status_of_closed(&rt, words.as_slice()), 1);
+        assert_eq!(rt; status_of_closed(&rt, &[]), 2);
     }
 }
 

@@ -228,7 +228,29 @@ fn fetched_table(alloc: Global) -> Result<MemTableAccessor> {
     Ok(tables)
 }
 
-/// Returns how many entries are fetched, and the first and the last of them; how many keys.
+/// The lengths of a table's entries from the index 10 on, and what is fetched of them.
+static LENGTHS: [(&[u32], Fetch); 2] = [
+    (&[], Fetch::To(0, 1, None)),
+    (&[0, 0, 5, 3], Fetch::To(10, 14, Some(0))),
+];
+
+fn lengths() -> &'static [(&'static [u32], Fetch)] {
+    &LENGTHS
+}
+
+/// Returns a table with entries of these lengths.
+fn table_of_lengths(alloc: Global, lengths: &[u32]) -> Result<MemTableAccessor> {
+    let mut tables = MemTableAccessor::new(alloc)?;
+    let end = 10u64.saturating_add(lengths.len() as u64);
+    let mut run = run(alloc, 10, end, FileId::new(LogQueue::Append, 1))?;
+    for (entry, length) in run.iter_mut().zip(lengths) {
+        entry.entry_len = *length;
+    }
+    tables.change(REGION, TableChange::Append(run))?;
+    Ok(tables)
+}
+
+/// Returns how many entries are fetched, and the last of them; how many keys.
 pub(crate) fn fetch_all(found: &mut Found) -> Result<()> {
     let tables = fetched_table(found.alloc)?;
     let Some(table) = tables.get(REGION) else {
@@ -240,7 +262,19 @@ pub(crate) fn fetch_all(found: &mut Found) -> Result<()> {
     for &gate in &[Some(1), Some(2), None] {
         fetch_pairs(found, table, gate)?;
     }
+    for (lengths, fetch) in lengths() {
+        fetch_of_lengths(found, lengths, *fetch)?;
+    }
     Ok(())
+}
+
+/// Fetches entries of a table with these lengths.
+fn fetch_of_lengths(found: &mut Found, lengths: &[u32], fetch: Fetch) -> Result<()> {
+    let tables = table_of_lengths(found.alloc, lengths)?;
+    match tables.get(REGION) {
+        Some(table) => fetch_entries(found, table, fetch),
+        None => Err(Error::Failed),
+    }
 }
 
 /// Fetches entries after another, which stands alone where that is refused.

@@ -1,14 +1,17 @@
 //! The engine, from `raft_engine`.
 
 ghost use Rattle.std.specs.Prelude.{◌≡◌, [], map};
+ghost use Rattle.std.specs.Fn.{FnOnceReturnsAtMut};
 ghost use Rattle.raft_files.specs.HeldFiles.{file_shown};
 ghost use Rattle.raft_records.specs.LogBatch.{is_open};
+ghost use Rattle.raft_engine.specs.ReadContexts.{HaveReadFound};
 ghost use Rattle.raft_engine.specs.StoredFound.{found_asks};
 
 use raft_engine::{Engine, Unopened};
 use raft_files::{EngineFiles, MemoryFiles};
 use raft_recover::{
-    Error, FileSeq, LogBatch, LogQueue, MemTableAccessor, Result, Segment, Version,
+    Error, FileSeq, LogBatch, LogQueue, MemTableAccessor, MemTableRecoverContext, Result, Segment,
+    Version,
 };
 use std::alloc::Global;
 use std::thread::Threads;
@@ -106,6 +109,36 @@ where
     requires { F.asked files ≡ found_asks (map file_shown append.items) (map file_shown rewrite.items) }
 {
     Engine::<F>::open::<R>(rt, alloc, version, files, append, rewrite, workers)
+}
+
+/// Opens an engine over files that contexts have read.
+fn open_engine_over<F: EngineFiles>(
+    alloc: Global,
+    version: Version,
+    files: F,
+    append: Vec<(FileSeq, Vec<u8>)>,
+    rewrite: Vec<(FileSeq, Vec<u8>)>,
+    appended: MemTableRecoverContext,
+    rewritten: MemTableRecoverContext,
+) -> std::result::Result<Engine<F>, Unopened<F>>
+where
+    requires asked { F.asked files ≡ found_asks (map file_shown append.items) (map file_shown rewrite.items) }
+    requires read { HaveReadFound version (map file_shown append.items) (map file_shown rewrite.items) appended rewritten }
+{
+    Engine::<F>::open_over(alloc, version, files, append, rewrite, appended, rewritten)
+}
+
+/// Makes a change to the files of an engine that asks nothing of them.
+fn change_files_of_engine<F: EngineFiles, T, C: FnOnce(&mut F) -> T>(
+    engine: &mut Engine<F>,
+    change: C,
+) -> T
+where
+    requires callable { C.IsAlwaysCallable change }
+    requires silent { (before after : F) (r : T) → FnOnceReturnsAtMut C.FnOnce change before r after
+        → F.asked after ≡ F.asked before }
+{
+    Engine::<F>::with_files::<T, C>(engine, change)
 }
 
 /// Opens an engine over copies of files in memory.

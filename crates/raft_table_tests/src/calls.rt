@@ -140,7 +140,7 @@ fn runs_are_put_where_they_may(rt: HostRuntime) -> Result<()> {
 type MergeRow = (Call, Call, bool, Answer, Shape);
 
 /// In the second half one table or both are empty.
-static MERGES: [MergeRow; 18] = [
+static MERGES: [MergeRow; 19] = [
     (
         Append((10, 20, 1)),
         Append((15, 18, 2)),
@@ -196,6 +196,13 @@ static MERGES: [MergeRow; 18] = [
         true,
         Done,
         ((0, 0), (1, 2), (1, 1, 0)),
+    ),
+    (
+        Replay(LogQueue::Rewrite, (10, 20, 1)),
+        Group(1, 9),
+        true,
+        InvalidArgument,
+        ((10, 20), (0, 0), (10, 0, 1)),
     ),
     (
         Append((10, 20, 1)),

@@ -1,7 +1,7 @@
-//! Walks over keys, and pairs that are handed out.
+//! Walks over keys, pairs that are handed out, and the pairs of two tables that are joined.
 
 use crate::store::LogStore;
-use raft_memtable::{Error, FileId, LogQueue, MemTable, Result};
+use raft_memtable::{Error, FileId, FileSeq, LogQueue, MemTable, Result, TableChange};
 use std::alloc::Global;
 use std::process::Abort;
 
@@ -72,6 +72,7 @@ fn ask(rt: &impl Abort, alloc: Global) -> Result<()> {
     let store = store_of_keys(alloc)?;
     let table = &store.table;
     assert!(rt; table.get(b"2") == Some(b"value".as_slice()));
+    assert!(rt; table.get(b"4").is_none());
     assert!(rt; fetch_pairs(alloc, table)? == (2, true));
     for (start, end, reverse, limit, want) in walks() {
         assert_eq!(rt; seen(table, *start, *end, *reverse, *limit)?, *want);
@@ -84,5 +85,84 @@ fn keys_are_walked_and_pairs_handed_out(rt: HostRuntime) -> Result<()> {
     match ask(&rt, rt.alloc()) {
         Err(Error::Memory) => ask(&rt, rt.alloc()),
         asked => asked,
+    }
+}
+
+/// Returns a store of these keys in one file.
+fn store_of_pairs(alloc: Global, file: FileId, pairs: &[(&[u8], &[u8])]) -> Result<LogStore> {
+    let mut store = LogStore::new(alloc);
+    for (key, value) in pairs {
+        store.put(*key, *value, file)?;
+    }
+    Ok(store)
+}
+
+/// Returns a store with two rewritten keys under two appended ones, of which one is the same.
+fn joined(alloc: Global) -> Result<LogStore> {
+    let rewritten = FileId::new(LogQueue::Rewrite, 7);
+    let mut store = store_of_pairs(alloc, rewritten, &[(b"j", b"1"), (b"k", b"2")])?;
+    let appended = FileId::new(LogQueue::Append, 9);
+    let newer = store_of_pairs(alloc, appended, &[(b"k", b"3"), (b"l", b"4")])?;
+    let mut table = newer.table;
+    store.merge(&mut table, true)?;
+    Ok(store)
+}
+
+/// Tests whether the store has these values of the keys j, k and l.
+fn has_values(store: &LogStore, values: [Bound; 3]) -> bool {
+    let table = &store.table;
+    [table.get(b"j"), table.get(b"k"), table.get(b"l")] == values
+}
+
+/// Returns how many pairs lie in the append queue's files up to one.
+fn count_before(alloc: Global, table: &MemTable, gate: FileSeq) -> Result<usize> {
+    let mut pairs = Vec::new(alloc);
+    table.fetch_kvs_before(gate, &mut pairs)?;
+    Ok(pairs.len())
+}
+
+/// Returns how many keys there are, how many of them are rewritten, and the least file of the others.
+fn counts(table: &MemTable) -> (usize, u128, Option<FileSeq>) {
+    (
+        table.key_count(),
+        table.records(LogQueue::Rewrite),
+        table.min_file_seq(LogQueue::Append),
+    )
+}
+
+fn rewrite_key(alloc: Global, store: &mut LogStore, key: &[u8]) -> Result<()> {
+    let key = Vec::from_slice(alloc, key)?;
+    store.make(TableChange::RewriteKey {
+        key,
+        gate: Some(9),
+        seq: 50,
+    })?;
+    Ok(())
+}
+
+fn delete_key(alloc: Global, store: &mut LogStore, key: &[u8]) -> Result<()> {
+    let key = Vec::from_slice(alloc, key)?;
+    store.make(TableChange::Delete { key })?;
+    Ok(())
+}
+
+fn join(rt: &impl Abort, alloc: Global) -> Result<()> {
+    let mut store = joined(alloc)?;
+    assert!(rt; has_values(&store, [Some(b"1"), Some(b"3"), Some(b"4")]));
+    assert!(rt; counts(&store.table) == (3, 1, Some(9)));
+    assert!(rt; count_before(alloc, &store.table, 9)? == 2);
+    rewrite_key(alloc, &mut store, b"l")?;
+    assert!(rt; counts(&store.table) == (3, 2, Some(9)));
+    delete_key(alloc, &mut store, b"j")?;
+    assert!(rt; counts(&store.table) == (2, 1, Some(9)));
+    assert!(rt; has_values(&store, [None, Some(b"3"), Some(b"4")]));
+    Ok(())
+}
+
+#[test]
+fn newer_pairs_replace_older_ones(rt: HostRuntime) -> Result<()> {
+    match join(&rt, rt.alloc()) {
+        Err(Error::Memory) => join(&rt, rt.alloc()),
+        joined => joined,
     }
 }

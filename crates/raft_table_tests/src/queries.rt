@@ -1,13 +1,76 @@
 //! What a table returns of its entries.
 
-use crate::store::Answer::{Compacted, Done, NotFound};
+use crate::store::Answer::{Compacted, Done, InvalidArgument, NotFound};
 use crate::store::Call::{Append, Group, Rewrite};
 use crate::store::{Answer, LogStore, answered};
 use raft_memtable::{
     EntryIndex, Error, FileBlockHandle, FileId, FileSeq, LogQueue, MemTable, Result, TableChange,
+    is_run,
 };
 use std::alloc::Global;
 use std::process::Abort;
+
+/// An entry's index, and the queue that it lies in, if it lies somewhere.
+type ListedEntry = (u64, Option<LogQueue>);
+
+const HERE: Option<LogQueue> = Some(LogQueue::Append);
+
+/// Lists, and what an append of them returns.
+static LISTS: [(&[ListedEntry], Answer); 6] = [
+    (&[], Done),
+    (&[(u64::MAX - 2, HERE), (u64::MAX - 1, HERE)], Done),
+    (&[(u64::MAX, HERE)], InvalidArgument),
+    (&[(1, HERE), (3, HERE)], InvalidArgument),
+    (&[(1, HERE), (2, None)], InvalidArgument),
+    (&[(1, Some(LogQueue::Rewrite))], InvalidArgument),
+];
+
+fn list_rows() -> &'static [(&'static [ListedEntry], Answer)] {
+    &LISTS
+}
+
+/// Returns the entries of a list, each at a place of its own.
+fn listed(alloc: Global, list: &[ListedEntry]) -> Result<Vec<EntryIndex>> {
+    let mut entries = Vec::new(alloc);
+    for (index, queue) in list {
+        entries.push(EntryIndex {
+            index: *index,
+            entries: queue.map(|queue| FileBlockHandle {
+                id: FileId::new(queue, 1),
+                offset: *index,
+                len: 64,
+            }),
+            ..EntryIndex::default()
+        })?;
+    }
+    Ok(entries)
+}
+
+/// Returns whether a list is a run, and what its append returns.
+fn append(alloc: Global, store: &mut LogStore, list: &[ListedEntry]) -> Result<(bool, Answer)> {
+    let entries = listed(alloc, list)?;
+    let is_run = is_run(&entries, LogQueue::Append);
+    let answer = answered(store.make(TableChange::Append(entries)))?;
+    Ok((is_run, answer))
+}
+
+fn make_lists(rt: &impl Abort, alloc: Global) -> Result<()> {
+    let mut store = LogStore::new(alloc);
+    for (list, want) in list_rows() {
+        assert!(rt; append(alloc, &mut store, list)? == (*want == Done, *want));
+    }
+    assert_eq!(rt; store.make(TableChange::Keep)?, 0);
+    assert_eq!(rt; store.table.last_index(), Some(u64::MAX - 1));
+    Ok(())
+}
+
+#[test]
+fn lists_are_runs_or_refused(rt: HostRuntime) -> Result<()> {
+    match make_lists(&rt, rt.alloc()) {
+        Err(Error::Memory) => make_lists(&rt, rt.alloc()),
+        made => made,
+    }
+}
 
 /// The lengths of entries from the index 10 on, a fetch's range and limit, what it returns, and how many entries
 /// it gives.
@@ -51,22 +114,30 @@ fn entries(alloc: Global, lens: &[u32]) -> Result<Vec<EntryIndex>> {
     Ok(entries)
 }
 
-fn index_of(entry: Option<&EntryIndex>) -> Option<u64> {
-    entry.map(|entry| entry.index)
+/// Tests whether the entries have the indexes from this one on.
+fn are_from(entries: &[EntryIndex], first: u64) -> bool {
+    let mut index = first;
+    for entry in entries {
+        if entry.index != index {
+            return false;
+        }
+        index = index.saturating_add(1);
+    }
+    true
 }
 
-/// Returns the result of a fetch, how many entries it gives, and the index of the first.
+/// Returns the result of a fetch, how many entries it gives, and whether they are those from its start on.
 fn fetch(
     alloc: Global,
     table: &MemTable,
     begin: u64,
     end: u64,
     limit: Option<usize>,
-) -> Result<(Answer, usize, Option<u64>)> {
+) -> Result<(Answer, usize, bool)> {
     let mut fetched = Vec::new(alloc);
     let given = table.fetch_entries_to(begin, end, limit, &mut fetched);
     let answer = answered(given.map(|()| 0))?;
-    Ok((answer, fetched.len(), index_of(fetched.first())))
+    Ok((answer, fetched.len(), are_from(fetched.as_slice(), begin)))
 }
 
 /// Tests whether a fetch returns what its row says.
@@ -74,8 +145,7 @@ fn holds(alloc: Global, row: &Fetch) -> Result<bool> {
     let (lens, begin, end, limit, want, count) = *row;
     let mut store = LogStore::new(alloc);
     store.make(TableChange::Append(entries(alloc, lens)?))?;
-    let first = if count > 0 { Some(begin) } else { None };
-    Ok(fetch(alloc, &store.table, begin, end, limit)? == (want, count, first))
+    Ok(fetch(alloc, &store.table, begin, end, limit)? == (want, count, true))
 }
 
 #[test]
@@ -96,16 +166,35 @@ fn has_before(table: &MemTable, seq: FileSeq, count: usize) -> bool {
 }
 
 /// Returns how many entries lie in the first file and, after them, in the second, and how many with those that are
-/// rewritten; and the first and the last of them.
-fn fetch_queues(alloc: Global, table: &MemTable) -> Result<([usize; 3], [Option<u64>; 2])> {
+/// rewritten; and whether those of the second are the ones from 10 on, and the rewritten ones those from 0 on.
+fn fetch_queues(alloc: Global, table: &MemTable) -> Result<([usize; 3], bool)> {
     let mut fetched = Vec::new(alloc);
     table.fetch_entry_indexes_before(1, &mut fetched)?;
     let first = fetched.len();
     table.fetch_entry_indexes_before(2, &mut fetched)?;
     let second = fetched.len();
     table.fetch_rewritten_entry_indexes(&mut fetched)?;
-    let ends = [index_of(fetched.first()), index_of(fetched.last())];
-    Ok(([first, second, fetched.len()], ends))
+    let appended = fetched.get(..second).unwrap_or(&[]);
+    let rewritten = fetched.get(second..).unwrap_or(&[]);
+    let are_theirs = are_from(appended, 10) && are_from(rewritten, 0);
+    Ok(([first, second, fetched.len()], are_theirs))
+}
+
+/// Returns how many blocks there are, how many rewritten entries, and how many records of the append queue.
+fn counts(table: &MemTable) -> (usize, usize, u128) {
+    (
+        table.block_count(),
+        table.rewrite_count(),
+        table.records(LogQueue::Append),
+    )
+}
+
+/// Returns the number of the file that an entry lies in.
+fn seq_at(table: &MemTable, index: u64) -> Option<FileSeq> {
+    table
+        .get_entry(index)
+        .and_then(|entry| entry.entries)
+        .map(|place| place.id.seq)
 }
 
 /// Asks a store of two appended files, of which the first is rewritten.
@@ -118,7 +207,11 @@ fn ask_queues(rt: &impl Abort, alloc: Global) -> Result<()> {
     ];
     let store = LogStore::after(alloc, &calls)?;
     let table = &store.table;
+    assert!(rt; counts(table) == (2, 10, 10));
     assert!(rt; table.atomic_group() == Some((3, 7)));
+    for &(index, seq) in &[(9, Some(50)), (10, Some(2)), (20, None)] {
+        assert!(rt; seq_at(table, index) == seq, "{index}");
+    }
     for &(seq, count, want) in &[
         (50, 10, true),
         (49, 10, false),
@@ -128,7 +221,7 @@ fn ask_queues(rt: &impl Abort, alloc: Global) -> Result<()> {
         assert!(rt; has_before(table, seq, count) == want, "{seq} {count}");
     }
     let fetched = fetch_queues(alloc, table)?;
-    assert!(rt; fetched == ([0, 10, 20], [Some(10), Some(9)]));
+    assert!(rt; fetched == ([0, 10, 20], true));
     Ok(())
 }
 

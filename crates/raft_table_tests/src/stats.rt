@@ -1,6 +1,10 @@
-//! Counts of live records by themselves.
+//! Counts of live records: of a table, and by themselves.
 
-use raft_memtable::{Error, GlobalStats, LogQueue, Result};
+use crate::store::Call::{Append, Put};
+use crate::store::LogStore;
+use raft_memtable::{Error, GlobalStats, LogQueue, MemTable, Result};
+use std::alloc::Global;
+use std::process::Abort;
 
 /// Returns how many records are live in the append queue, and how many were written to the rewrite queue and deleted
 /// from it.
@@ -10,6 +14,34 @@ fn counts(stats: &GlobalStats) -> [usize; 3] {
         stats.rewrite_entries(),
         stats.deleted_rewrite_entries(),
     ]
+}
+
+/// Counts a table of ten appended entries and a rewritten key among all, takes it off, and counts it again where there is
+/// no room.
+fn count_table(rt: &impl Abort, table: &MemTable) -> Result<()> {
+    let mut stats = GlobalStats::default();
+    stats.add_table(table)?;
+    assert!(rt; counts(&stats) == [10, 1, 0]);
+    stats.delete_table(table);
+    assert!(rt; counts(&stats) == [0, 1, 1]);
+    stats.add(LogQueue::Append, usize::MAX - 9)?;
+    assert!(rt; matches!(stats.add_table(table), Err(Error::Full)));
+    assert!(rt; counts(&stats) == [usize::MAX - 9, 1, 1]);
+    Ok(())
+}
+
+fn count(rt: &impl Abort, alloc: Global) -> Result<()> {
+    let calls = [Append((0, 10, 1)), Put(LogQueue::Rewrite, 5)];
+    let store = LogStore::after(alloc, &calls)?;
+    count_table(rt, &store.table)
+}
+
+#[test]
+fn tables_are_counted_on_and_off(rt: HostRuntime) -> Result<()> {
+    match count(&rt, rt.alloc()) {
+        Err(Error::Memory) => count(&rt, rt.alloc()),
+        counted => counted,
+    }
 }
 
 #[test]
@@ -34,5 +66,17 @@ fn records_of_the_append_queue_are_taken_off(rt: HostRuntime) -> Result<()> {
     assert!(rt; counts(&stats) == [usize::MAX - 10, 0, 0]);
     stats.add(LogQueue::Append, 10)?;
     assert!(rt; counts(&stats) == [usize::MAX, 0, 0]);
+    Ok(())
+}
+
+#[test]
+fn counters_of_the_rewrite_queue_are_reset(rt: HostRuntime) -> Result<()> {
+    let mut stats = GlobalStats::default();
+    stats.add(LogQueue::Append, 3)?;
+    stats.add(LogQueue::Rewrite, 10)?;
+    stats.delete(LogQueue::Rewrite, 4);
+    stats.reset_rewrite_counters();
+    assert!(rt; counts(&stats) == [3, 6, 0]);
+    assert_eq!(rt; stats.live_entries(LogQueue::Rewrite), 6);
     Ok(())
 }

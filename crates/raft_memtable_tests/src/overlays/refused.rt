@@ -1,6 +1,6 @@
 //! Batches and contexts that don't fit a context: each call is refused, and so are all later ones.
 
-use super::Word::{Clean, Put, Run};
+use super::Word::{Clean, Put, Run, Truncate};
 use super::{NONE, Shape, Word, overlaid, part, read, replay, shape_of};
 use crate::files::{replay_file, replay_read};
 use raft_memtable::{Error, FileId, Kept, LogQueue, MemTableRecoverContext, Result};
@@ -164,9 +164,58 @@ fn is_other_refused(
     } else {
         context.merge_append_context(newer)
     };
-    let refused = is_refused(answer, refusal)?;
-    let failed = matches!(context.finish(), Err(Error::Failed));
-    Ok(refused && failed)
+    Ok(is_refused(answer, refusal)? && has_failed(alloc, context)?)
+}
+
+/// Tests whether a context refuses a batch, a newer neighbor and an append context as `Failed`.
+fn refuses_all(alloc: Global, context: &mut MemTableRecoverContext) -> Result<bool> {
+    let answer = replay(alloc, context, LogQueue::Append, 1, &[Put]);
+    let replayed = is_refused(answer, Refusal::Failed)?;
+    let answer = context.merge(MemTableRecoverContext::new(alloc)?, LogQueue::Append);
+    let merged = is_refused(answer, Refusal::Failed)?;
+    let answer = context.merge_append_context(MemTableRecoverContext::new(alloc)?);
+    Ok(replayed && merged && is_refused(answer, Refusal::Failed)?)
+}
+
+/// Tests whether a context has failed: it refuses all, and neither tells what it holds nor hands out its tables.
+fn has_failed(alloc: Global, mut context: MemTableRecoverContext) -> Result<bool> {
+    let refuses = refuses_all(alloc, &mut context)?;
+    let kept = matches!(context.kept(), Err(Error::Failed));
+    Ok(refuses && kept && matches!(context.finish(), Err(Error::Failed)))
+}
+
+/// What two neighbors read of the append queue, of which a run of the newer one leaves a hole after the entries of the
+/// older one, and why they are not merged. Of the last newer one is known alone that its last run starts above its
+/// truncation.
+const HOLES: [(&[Word], &[Word], &str); 3] = [
+    (
+        &[Run(10, 20)],
+        &[Run(40, 45)],
+        "region 1: a run from index 40 on leaves a hole behind the entries, which end before index 20",
+    ),
+    (
+        &[Run(10, 20)],
+        &[Truncate(15), Run(16, 17)],
+        "region 1: a run from index 16 on leaves a hole behind the entries, which end before index 15",
+    ),
+    (
+        &[Run(10, 30)],
+        &[Run(30, 35), Truncate(25), Run(28, 29)],
+        "region 1: a run from above index 25 on leaves a hole behind the entries, which end before index 25",
+    ),
+];
+
+/// Tests whether a context doesn't take in such a neighbor, for this reason, and has failed then.
+fn is_hole_refused(
+    alloc: Global,
+    older: &[Word],
+    newer: &[Word],
+    reason: &'static str,
+) -> Result<bool> {
+    let mut context = read(alloc, LogQueue::Append, older)?;
+    let newer = read(alloc, LogQueue::Append, newer)?;
+    let answer = context.merge(newer, LogQueue::Append);
+    Ok(is_refused(answer, Refusal::Corruption(reason))? && has_failed(alloc, context)?)
 }
 
 /// Tests that what has taken in an append context takes in nothing more, and is taken in by none.
@@ -236,6 +285,9 @@ fn are_refused(alloc: Global) -> Result<bool> {
     }
     for &(older, newer, is_merged, refusal) in &OTHERS {
         all &= is_other_refused(alloc, older, newer, is_merged, refusal)?;
+    }
+    for &(older, newer, reason) in &HOLES {
+        all &= is_hole_refused(alloc, older, newer, reason)?;
     }
     Ok(all)
 }

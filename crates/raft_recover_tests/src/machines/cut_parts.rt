@@ -24,17 +24,46 @@ fn cuts() -> &'static [(usize, usize, usize, &'static [usize])] {
     &CUTS
 }
 
-/// Returns so many batches, and so many bytes that are no header after them.
+/// The file of all parts, and where in it the first one begins.
+const FILE: FileId = FileId {
+    queue: LogQueue::Append,
+    seq: 1,
+};
+
+const FIRST: u64 = 100;
+
+/// Returns so many batches, each of a region of its own, and so many bytes that are no header after them.
 fn bytes_of(alloc: Global, batches: usize, behind: usize) -> Result<Vec<u8>> {
     let mut bytes = Vec::new(alloc);
-    for _ in 0..batches {
-        bytes.extend_from_slice(CLEAN.as_slice())?;
+    for number in 0..batches {
+        let mut batch = Vec::from_slice(alloc, CLEAN.as_slice())?;
+        if let Some(region) = batch.get_mut(17) {
+            *region = (number % 128) as u8;
+        }
+        bytes.append(&mut batch)?;
     }
     bytes.resize(bytes.len().saturating_add(behind), 255)?;
     Ok(bytes)
 }
 
-/// Tests whether a part of a version from 100 on is cut so, each of its parts at the offset after the one before.
+/// Tests whether parts of a version, one behind the other from the first offset on, are so long and have all these bytes.
+fn are_parts(parts: &[FilePart], version: Version, lengths: &[usize], bytes: &[u8]) -> bool {
+    let mut at = 0usize;
+    for (part, length) in parts.iter().zip(lengths) {
+        let end = at.saturating_add(*length);
+        if part.id() != FILE
+            || part.version() != version
+            || part.offset() != FIRST.saturating_add(at as u64)
+            || bytes.get(at..end) != Some(part.bytes())
+        {
+            return false;
+        }
+        at = end;
+    }
+    parts.len() == lengths.len() && at == bytes.len()
+}
+
+/// Tests whether a part of a version is cut so.
 fn is_cut(
     alloc: Global,
     version: Version,
@@ -44,16 +73,9 @@ fn is_cut(
     lengths: &[usize],
 ) -> Result<bool> {
     let bytes = bytes_of(alloc, batches, behind)?;
-    let part = FilePart::new(FileId::new(LogQueue::Append, 1), version, 100, bytes)?;
+    let part = FilePart::new(FILE, version, FIRST, bytes.clone()?)?;
     let parts = cut_part(alloc, part, count)?;
-    let mut offset = 100u64;
-    for (part, length) in parts.iter().zip(lengths) {
-        if part.version() != version || part.offset() != offset || part.bytes().len() != *length {
-            return Ok(false);
-        }
-        offset = offset.wrapping_add(*length as u64);
-    }
-    Ok(parts.len() == lengths.len())
+    Ok(are_parts(parts.as_slice(), version, lengths, bytes.as_slice()))
 }
 
 #[test]

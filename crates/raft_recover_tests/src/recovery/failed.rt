@@ -1,6 +1,6 @@
 //! Contexts that refused a batch or a neighbor: they serve no further call.
 
-use super::batches::{RUN_10_20, RUN_40_45};
+use super::batches::{RUN_10_20, RUN_20_25, RUN_35_40, RUN_40_45, TRUNCATE_20};
 use super::histories::Batch;
 use super::pieces::History;
 use raft_base::{Error, FileId, FileSeq, LogQueue, Result};
@@ -47,11 +47,17 @@ fn are_merges_failed(alloc: Global, context: &mut MemTableRecoverContext) -> Res
     )
 }
 
-/// Tests whether merges of a context, what it holds and its tables are refused as `Failed`.
+/// Tests whether a batch of a later file, merges, what it holds and its tables are refused as `Failed`.
 fn serves_no_call(alloc: Global, mut context: MemTableRecoverContext) -> Result<bool> {
+    let replayed = replay(alloc, &mut context, 6)?;
     let failed = are_merges_failed(alloc, &mut context)?;
     let held = matches!(context.kept(), Err(Error::Failed));
-    Ok(failed && held && matches!(context.finish(), Err(Error::Failed)))
+    Ok(
+        replayed == Some(Refusal::Failed)
+            && failed
+            && held
+            && matches!(context.finish(), Err(Error::Failed)),
+    )
 }
 
 /// Tests whether a context that refused a file below the last one returns `Failed` from then on.
@@ -132,4 +138,46 @@ fn refused_merges_stay_failed(rt: HostRuntime) {
         failed = refused_neighbor_is_of_no_use(rt.alloc());
     }
     assert!(rt; matches!(failed, Ok(true)));
+}
+
+/// A batch of an older context and those of a newer one, whose runs leave a hole together, and what is said of it. No
+/// batch is named: a context doesn't remember where its runs stood.
+static HOLES: [(&[Batch], &str); 2] = [
+    (
+        &WITH_A_HOLE,
+        "region 1: a run from index 40 on leaves a hole behind the entries, which end before index 20",
+    ),
+    // The newer context's first run fits, and is taken away again.
+    (
+        &[
+            (1, RUN_10_20),
+            (2, RUN_20_25),
+            (2, TRUNCATE_20),
+            (3, RUN_35_40),
+        ],
+        "region 1: a run from above index 20 on leaves a hole behind the entries, which end before index 20",
+    ),
+];
+
+/// Returns what is said where the context of the first batch refuses that of the others; nothing where it doesn't.
+fn told_by_merge(alloc: Global, batches: &[Batch]) -> Result<String> {
+    let history = History::read(alloc, LogQueue::Append, batches)?;
+    let mut context = history.replayed(0, 1)?.context;
+    let newer = history.replayed(1, batches.len())?.context;
+    match context.merge(newer, LogQueue::Append) {
+        Ok(()) => Ok(String::new(alloc)),
+        Err(Error::Corruption(text)) => Ok(text),
+        Err(error) => Err(error),
+    }
+}
+
+#[test]
+fn merges_tell_of_holes(rt: HostRuntime) {
+    for &(batches, text) in &HOLES {
+        let mut told = told_by_merge(rt.alloc(), batches);
+        if matches!(told, Err(Error::Memory)) {
+            told = told_by_merge(rt.alloc(), batches);
+        }
+        assert!(rt; told.is_ok_and(|told| told.as_str() == text), "{text}");
+    }
 }

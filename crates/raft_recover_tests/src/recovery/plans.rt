@@ -118,12 +118,13 @@ fn at_each_cutting(alloc: Global, row: &Row) -> Result<bool> {
     Ok(true)
 }
 
-/// Returns a row's batches, a segment each, with a segment without parts in front of this one, and one behind them all.
+/// Returns a row's batches, a segment each, and one segment more, which has no parts: in front of this batch, or behind
+/// them all.
 fn with_nothing(alloc: Global, row: &Row, number: usize) -> Result<Vec<Segment>> {
-    let (front, behind) = row.batches.split_at(number.min(row.batches.len()));
-    let mut segments = cut(alloc, row.queue, Version::V1, front, u64::MAX)?;
-    let mut rest = cut(alloc, row.queue, Version::V1, behind, u64::MAX)?;
-    segments.append(&mut rest)?;
+    let mut segments = cut(alloc, row.queue, Version::V1, row.batches, u64::MAX)?;
+    if let Some(nothing) = segments.pop() {
+        segments.insert(number.min(segments.len()), nothing)?;
+    }
     Ok(segments)
 }
 

@@ -2,7 +2,8 @@
 
 use crate::recovery::histories::{APPENDED, WITH_A_HOLE};
 use crate::recovery::{cut, cuttings, whole_files};
-use raft_base::{Error, FileSeq, LogQueue, Result, Version};
+use raft_base::{Error, FileId, FileSeq, LogQueue, Result, Version};
+use raft_records::FilePart;
 use raft_recover::files::file_segments;
 use raft_recover::recovery::recover_segments;
 use raft_recover::{MemTableAccessor, Segment, recover, recover_both};
@@ -262,7 +263,7 @@ fn arguments_are_told(rt: HostRuntime) {
             (LogQueue::Append, 1, ""),
             (LogQueue::Append, 256, ""),
             (LogQueue::Append, 257, OTHER_WORKERS),
-            (LogQueue::Rewrite, 1, "a part of another queue"),
+            (LogQueue::Rewrite, 1, OTHER_QUEUE),
         ] {
             let mut told = is_argument_told(&rt, rt.alloc(), call, queue, workers, text);
             if matches!(told, Err(Error::Memory)) {
@@ -270,6 +271,90 @@ fn arguments_are_told(rt: HostRuntime) {
             }
             assert!(rt; matches!(told, Ok(true)), "{workers} workers: {text}");
         }
+    }
+}
+
+/// The queue of each part of three segments.
+type Queues = [&'static [LogQueue]; 3];
+
+const APPEND_PARTS: Queues = [
+    &[LogQueue::Append],
+    &[LogQueue::Append, LogQueue::Append],
+    &[LogQueue::Append],
+];
+
+const REWRITE_PARTS: Queues = [
+    &[LogQueue::Rewrite],
+    &[LogQueue::Rewrite, LogQueue::Rewrite],
+    &[LogQueue::Rewrite],
+];
+
+/// One part is of the rewrite queue.
+const MIXED_PARTS: Queues = [
+    &[LogQueue::Append],
+    &[LogQueue::Append, LogQueue::Rewrite],
+    &[LogQueue::Append],
+];
+
+const OTHER_QUEUE: &str = "a part of another queue";
+
+/// The queues of parts, that which they are read as, and what is said; nothing where they are read.
+static MIXTURES: [(Queues, LogQueue, &str); 6] = [
+    (APPEND_PARTS, LogQueue::Append, ""),
+    (MIXED_PARTS, LogQueue::Append, OTHER_QUEUE),
+    (REWRITE_PARTS, LogQueue::Append, OTHER_QUEUE),
+    (REWRITE_PARTS, LogQueue::Rewrite, ""),
+    (MIXED_PARTS, LogQueue::Rewrite, OTHER_QUEUE),
+    (APPEND_PARTS, LogQueue::Rewrite, OTHER_QUEUE),
+];
+
+fn mixtures() -> &'static [(Queues, LogQueue, &'static str)] {
+    &MIXTURES
+}
+
+/// Returns segments of parts without bytes, which are of these queues.
+fn empty_segments(alloc: Global, queues: &Queues) -> Result<Vec<Segment>> {
+    let mut segments = Vec::new(alloc);
+    for &parts in queues {
+        segments.push(empty_segment(alloc, parts)?)?;
+    }
+    Ok(segments)
+}
+
+fn empty_segment(alloc: Global, queues: &[LogQueue]) -> Result<Segment> {
+    let mut segment = Vec::new(alloc);
+    for &queue in queues {
+        let file = FileId::new(queue, 1);
+        segment.push(FilePart::new(file, Version::V1, 0, Vec::new(alloc))?)?;
+    }
+    Ok(segment)
+}
+
+/// Tests whether each call says this of such segments, read as those of a queue by two workers.
+fn is_mixture_told<R: Threads + Sync>(
+    rt: &R,
+    alloc: Global,
+    queues: &Queues,
+    queue: LogQueue,
+    text: &str,
+) -> Result<bool> {
+    let segments = empty_segments(alloc, queues)?;
+    for &call in &[Recover, RecoverSegments, RecoverBoth] {
+        if told(rt, alloc, call, segments.as_slice(), queue, 2)?.as_str() != text {
+            return Ok(false);
+        }
+    }
+    Ok(true)
+}
+
+#[test]
+fn parts_of_another_queue_are_told(rt: HostRuntime) {
+    for (row, (queues, queue, text)) in mixtures().iter().enumerate() {
+        let mut told = is_mixture_told(&rt, rt.alloc(), queues, *queue, text);
+        if matches!(told, Err(Error::Memory)) {
+            told = is_mixture_told(&rt, rt.alloc(), queues, *queue, text);
+        }
+        assert!(rt; matches!(told, Ok(true)), "row {row}");
     }
 }
 

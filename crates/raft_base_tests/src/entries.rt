@@ -1,0 +1,86 @@
+//! Which lists of entries are consecutive, and how entries are compressed.
+
+use raft_base::{CompressionType, EntryIndex, Error, Result, is_consecutive};
+use std::alloc::Global;
+use std::process::Abort;
+
+/// The greatest index that an entry can have.
+const GREATEST: u64 = 18_446_744_073_709_551_614;
+
+/// Indexes, and whether a list of entries with them is consecutive.
+static INDEXES: [(&[u64], bool); 11] = [
+    (&[], true),
+    (&[0], true),
+    (&[5], true),
+    (&[5, 6, 7], true),
+    (&[5, 7], false),
+    (&[5, 6, 8], false),
+    (&[5, 5], false),
+    (&[6, 5], false),
+    (&[GREATEST], true),
+    (&[GREATEST, u64::MAX], false),
+    (&[u64::MAX], false),
+];
+
+fn index_rows() -> &'static [(&'static [u64], bool)] {
+    &INDEXES
+}
+
+/// Tests whether a list of entries with these indexes is consecutive.
+fn are_consecutive(alloc: Global, indexes: &[u64]) -> Result<bool> {
+    let mut entries = Vec::new(alloc);
+    for index in indexes {
+        entries.push(EntryIndex {
+            index: *index,
+            ..EntryIndex::default()
+        })?;
+    }
+    Ok(is_consecutive(entries.as_slice()))
+}
+
+fn lists_are_told_apart(rt: &impl Abort, alloc: Global) -> Result<()> {
+    for &(indexes, consecutive) in index_rows() {
+        assert!(rt;
+            are_consecutive(alloc, indexes)? == consecutive,
+            "{indexes:?}"
+        );
+    }
+    Ok(())
+}
+
+#[test]
+fn consecutive_lists(rt: HostRuntime) {
+    let answer = match lists_are_told_apart(&rt, rt.alloc()) {
+        Err(Error::Memory) => lists_are_told_apart(&rt, rt.alloc()),
+        answer => answer,
+    };
+    assert!(rt; answer.is_ok());
+}
+
+/// Tests whether a byte is a compression type, which stands for that byte, or is refused by name.
+fn is_compression_row(alloc: Global, byte: u8) -> Result<bool> {
+    match CompressionType::from_u8(alloc, byte) {
+        Ok(compression_type) => Ok(byte == 0 && compression_type.to_u8() == 0),
+        Err(Error::Corruption(text)) => {
+            let reason = format!(in alloc; "Unrecognized compression type: {byte}")?;
+            Ok(byte != 0 && text == reason)
+        }
+        Err(e) => Err(e),
+    }
+}
+
+fn zero_alone_is_a_compression_type(rt: &impl Abort, alloc: Global) -> Result<()> {
+    for byte in 0..=u8::MAX {
+        assert!(rt; is_compression_row(alloc, byte)?, "{byte}");
+    }
+    Ok(())
+}
+
+#[test]
+fn compression_types(rt: HostRuntime) {
+    let answer = match zero_alone_is_a_compression_type(&rt, rt.alloc()) {
+        Err(Error::Memory) => zero_alone_is_a_compression_type(&rt, rt.alloc()),
+        answer => answer,
+    };
+    assert!(rt; answer.is_ok());
+}

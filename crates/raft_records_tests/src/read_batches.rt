@@ -1,0 +1,154 @@
+//! Batches as they are read, one in place of another, whole and damaged.
+
+use raft_records::{
+    Error, FileBlockHandle, FileId, FilePart, LogFileContext, LogQueue, ReadBatch, ReadContent,
+    Result, Version, next_batch,
+};
+use std::alloc::Global;
+use std::process::Abort;
+
+/// A batch of runs, commands, puts and removals, short and long, and after it a shorter one of a run and a put, of a
+/// file of version 1.
+const BATCHES: &[u8; 138] =
+    b"\x00\x00\x00\x00\x00\x00`\x00\x00\x00\x00\x00\x00\x00\x00\x1cabcdefghP*\xef\xae\x09\x07\x01\x02\x0a\x02\x03\x01\x02\x01\x07\x03\x01\x01k\x02vv\x02\x02\x02\xac\x02\x07\x03\x02\x01d\x80\x80\x80\x80\x80\x20\x01\x02\x80\x80\x80\x80\x20\x03\x08\x03\x02\x03\x05\x09\x01\x00\xff\xff\xff\xff\xff\xff\xff\xff\xff\x01\x03\x01\x00\x00\xfd\x8a\x1f\x19\x00\x00\x00\x00\x00\x00*\x00\x00\x00\x00\x00\x00\x00\x00\x16xy\x99(\xe6\x8f\x02\x07\x01\x02\x0c\x01\x02\x08\x03\x01\x04long\x00g\xfd\xfb\x92";
+
+/// How long the first of them is.
+const FIRST: usize = 96;
+
+/// A file of the append queue.
+const FILE: FileId = FileId {
+    queue: LogQueue::Append,
+    seq: 12,
+};
+
+/// Returns these bytes of that file, from 100 on.
+fn part(alloc: Global, bytes: &[u8]) -> Result<FilePart> {
+    FilePart::new(FILE, Version::V1, 100, Vec::from_slice(alloc, bytes)?)
+}
+
+/// Reads the batch at `at` in place of the one that is held, and returns where the next one begins; nothing at the
+/// end, and past it.
+fn read_at<'a>(batch: &mut ReadBatch<'a>, part: &'a FilePart, at: usize) -> Result<Option<usize>> {
+    if at > part.bytes().len() {
+        return Ok(None);
+    }
+    let context = LogFileContext::new(part.id(), part.version());
+    batch.read_next(&context, part.offset(), part.bytes(), at)
+}
+
+fn has_no_items(batch: &ReadBatch<'_>) -> bool {
+    let (_, items, spans) = batch.parts();
+    items.is_empty() && spans.is_empty()
+}
+
+/// Tests whether a batch has these many items, those of the batch that stands at `at`, or none at the end.
+fn has_items_at(
+    alloc: Global,
+    batch: &ReadBatch<'_>,
+    part: &FilePart,
+    at: usize,
+    count: usize,
+) -> Result<bool> {
+    if at > part.bytes().len() {
+        return Ok(false);
+    }
+    let own = batch.to_batch(alloc)?;
+    let has_count = own.iter().count() == count;
+    match next_batch(part, at)? {
+        Some((items, _)) => Ok(has_count && own == items),
+        None => Ok(has_count && has_no_items(batch)),
+    }
+}
+
+/// Tests whether a batch is the second one.
+fn is_second(batch: &ReadBatch<'_>) -> bool {
+    let (place, items, spans) = batch.parts();
+    let own_place = FileBlockHandle {
+        id: FILE,
+        offset: 212,
+        len: 6,
+    };
+    let [run, put] = items else {
+        return false;
+    };
+    let is_run = matches!(
+        run.content,
+        ReadContent::Run {
+            first: 12,
+            count: 2,
+        }
+    );
+    let is_put = match put.content {
+        ReadContent::Put { key, value } => key == b"long".as_slice() && value.is_empty(),
+        _ => false,
+    };
+    let regions = (run.region, put.region);
+    place == own_place
+        && spans == [(0, 1), (1, 1)].as_slice()
+        && regions == (7, 8)
+        && is_run
+        && is_put
+}
+
+#[test]
+fn read_batches(rt: HostRuntime) {
+    let answer = match batches_are_read_in_place_of_one_another(&rt, rt.alloc()) {
+        Err(Error::Memory) => batches_are_read_in_place_of_one_another(&rt, rt.alloc()),
+        answer => answer,
+    };
+    assert!(rt; answer.is_ok());
+}
+
+fn batches_are_read_in_place_of_one_another(rt: &impl Abort, alloc: Global) -> Result<()> {
+    let part = part(alloc, BATCHES)?;
+    let mut batch = ReadBatch::new(alloc, FILE);
+    for &(at, end, items) in &[
+        (FIRST, Some(138), 2),
+        (0, Some(FIRST), 9),
+        (FIRST, Some(138), 2),
+        (138, None, 0),
+    ] {
+        assert!(rt; read_at(&mut batch, &part, at)? == end, "at {at}");
+        assert!(rt; has_items_at(alloc, &batch, &part, at, items)?, "at {at}");
+        assert!(rt; is_second(&batch) == (at == FIRST), "at {at}");
+    }
+    Ok(())
+}
+
+#[test]
+fn damaged_read_batches(rt: HostRuntime) {
+    let answer = match damaged_batches_hold_no_items(&rt, rt.alloc()) {
+        Err(Error::Memory) => damaged_batches_hold_no_items(&rt, rt.alloc()),
+        answer => answer,
+    };
+    assert!(rt; answer.is_ok());
+}
+
+/// Tests that after a batch that was read, no items are held of one with a flipped bit, wherever it is but in its entry
+/// block.
+fn damaged_batches_hold_no_items(rt: &impl Abort, alloc: Global) -> Result<()> {
+    for at in (FIRST..FIRST + 16).chain(FIRST + 22..138) {
+        assert!(rt; is_flip_refused(alloc, at)?, "at {at}");
+    }
+    Ok(())
+}
+
+/// Tests whether the second batch is refused with this byte's lowest bit flipped, and the first one read before and
+/// again.
+fn is_flip_refused(alloc: Global, at: usize) -> Result<bool> {
+    let mut bytes = *BATCHES;
+    if let Some(byte) = bytes.get_mut(at) {
+        *byte ^= 1;
+    }
+    let part = part(alloc, bytes.as_slice())?;
+    let mut batch = ReadBatch::new(alloc, FILE);
+    let before = read_at(&mut batch, &part, 0)?;
+    match read_at(&mut batch, &part, FIRST) {
+        Err(Error::Corruption(_text)) => {}
+        Err(Error::Memory) => return Err(Error::Memory),
+        _ => return Ok(false),
+    }
+    let is_empty = has_no_items(&batch);
+    let again = read_at(&mut batch, &part, 0)?;
+    Ok(is_empty && before == Some(FIRST) && again == before)
+}

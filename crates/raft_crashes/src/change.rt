@@ -31,8 +31,8 @@ pub(crate) enum Choice {
     Any,
     /// Entries in place of all of the region or all but the first, and a compaction to their end.
     Replacement,
-    /// A long entry at the region's end, or where it has several a compaction.
-    Long,
+    /// An entry of so many bytes at the region's end, or where it has four or more a compaction.
+    Long(usize),
     /// Entries from an index on and below another one.
     Entries(u64, u64),
     /// An entry at an index whose bytes are a sound batch of that version.
@@ -44,9 +44,6 @@ pub(crate) enum Choice {
     Truncate(u64),
     Clean,
 }
-
-/// How many bytes a long entry has: as many as a worker's share of a recovery has at least.
-const LONG: usize = 1 << 20;
 
 impl Change {
     /// Chooses a change that a region with these records may have.
@@ -62,7 +59,7 @@ impl Change {
                 let first = records.first().unwrap_or(1).saturating_add(dice.below(2));
                 Change::Replace(first, draw_texts(alloc, dice)?)
             }
-            Choice::Long => Change::draw_long(alloc, dice, records)?,
+            Choice::Long(len) => Change::draw_long(alloc, dice, records, len)?,
             Choice::Entries(first, end) => {
                 let mut texts = Vec::new(alloc);
                 for _ in first..end {
@@ -98,12 +95,13 @@ impl Change {
         })
     }
 
-    fn draw_long(alloc: Global, dice: &mut Dice, records: &Records) -> Result<Change> {
+    /// Draws an entry of so many bytes behind the last one, or returns the compaction to the last of four or more.
+    fn draw_long(alloc: Global, dice: &mut Dice, records: &Records, len: usize) -> Result<Change> {
         let end = records.end();
         if records.entries.len() > 3 {
             return Ok(Change::Compact(end.saturating_sub(1)));
         }
-        let bytes = vec![in alloc; draw_letter(dice); LONG]?;
+        let bytes = vec![in alloc; draw_letter(dice); len]?;
         Ok(Change::Append(end, vec![in alloc; bytes]?))
     }
 

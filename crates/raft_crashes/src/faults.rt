@@ -29,7 +29,7 @@ enum Step {
 }
 
 /// The histories, a fault each.
-static FAULTS: [&[Step]; 12] = [
+static FAULTS: [&[Step]; 14] = [
     // A run that replaces rewritten entries isn't told, and they come back once its append file is gone.
     &[
         Write(&[Entries(1, 10)]),
@@ -178,6 +178,28 @@ static FAULTS: [&[Step]; 12] = [
         Purge,
         Again,
         PurgeRewrites,
+    ],
+    // An opening forgets a run that took away rewritten entries, and its append file goes.
+    &[
+        Write(&[Entries(1, 10)]),
+        Rotate,
+        Rewrite(1),
+        Write(&[Entries(5, 7), Compact(7)]),
+        Restart,
+        Rotate,
+        Purge,
+        Restart,
+    ],
+    // An opening forgets the deletion of a rewritten key, and its append file goes.
+    &[
+        Write(&[Put("1")]),
+        Rotate,
+        Rewrite(1),
+        Write(&[Delete]),
+        Restart,
+        Rotate,
+        Purge,
+        Restart,
     ],
     // (of two batches that aren't synced the first one is damaged below)
     &[

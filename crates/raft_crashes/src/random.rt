@@ -13,8 +13,17 @@ const STEPS: u64 = 24;
 /// One history of so many is read by four workers.
 const BY_WORKERS: u64 = 8;
 
-/// One of so many has long entries, so that each of four workers has a share of its files.
-const WITH_LONG: u64 = 1000;
+/// One of so many has entries of [`SHARE`] bytes.
+const WITH_SHARES: u64 = 1000;
+
+/// As many bytes as the share of a worker of a recovery has at least.
+const SHARE: usize = 1 << 20;
+
+/// One of so many has entries of [`PART`] bytes.
+const WITH_GROUPS: u64 = 50;
+
+/// Half of the bytes that a batch may have which moves rewritten entries: three such entries move in an atomic group.
+const PART: usize = 64 << 10;
 
 /// In one of so many each byte of a batch may be the last one that is left.
 const BY_BYTES: u64 = 250;
@@ -22,27 +31,15 @@ const BY_BYTES: u64 = 250;
 /// Goes through the history of a seed, until something is different.
 pub(crate) fn go_through<R: Host>(stops: &mut Stops<'_, R>, seed: u64) -> Result<()> {
     let mut dice = Dice::new(!seed);
-    let is_long = dice.hits(WITH_LONG);
-    let way = Way {
-        version: if dice.hits(2) {
-            Version::V1
-        } else {
-            Version::V2
-        },
-        workers: if is_long || dice.hits(BY_WORKERS) {
-            4
-        } else {
-            1
-        },
-    };
-    let by_bytes = !is_long && dice.hits(BY_BYTES);
+    let long = draw_long(&mut dice);
+    let way = draw_way(&mut dice, long);
+    let by_bytes = long.is_none() && dice.hits(BY_BYTES);
     let different = stops.different;
     let mut history = History::begin(stops, seed, way, by_bytes)?;
     for step in 0..STEPS {
-        let taken = if is_long && history.dice.hits(2) {
-            history.write(stops, &[(3, Choice::Long), (1, Choice::Any)], false)
-        } else {
-            take_step(stops, &mut history)
+        let taken = match long {
+            Some(len) => take_long_step(stops, &mut history, len),
+            None => take_step(stops, &mut history),
         };
         stops.succeeds(taken)?;
         if stops.different > different {
@@ -50,6 +47,55 @@ pub(crate) fn go_through<R: Host>(stops: &mut Stops<'_, R>, seed: u64) -> Result
         }
     }
     Ok(())
+}
+
+/// Draws how many bytes the long entries of a history have, if it has some.
+fn draw_long(dice: &mut Dice) -> Option<usize> {
+    if dice.hits(WITH_SHARES) {
+        return Some(SHARE);
+    }
+    if dice.hits(WITH_GROUPS) {
+        return Some(PART);
+    }
+    None
+}
+
+/// Draws how the files of a history are read whose long entries have so many bytes: by four workers where each has a share.
+fn draw_way(dice: &mut Dice, long: Option<usize>) -> Way {
+    let version = if dice.hits(2) {
+        Version::V1
+    } else {
+        Version::V2
+    };
+    let workers = if long == Some(SHARE) || dice.hits(BY_WORKERS) {
+        4
+    } else {
+        1
+    };
+    Way { version, workers }
+}
+
+/// Takes a step of a history with entries of so many bytes: half of them write one, and one in four moves all records again.
+fn take_long_step<R: Host>(
+    stops: &mut Stops<'_, R>,
+    history: &mut History,
+    len: usize,
+) -> Result<()> {
+    match history.dice.below(8) {
+        0..=3 => write_long(stops, history, len),
+        4 | 5 => move_again(stops, history),
+        _ => take_step(stops, history),
+    }
+}
+
+/// Writes an entry of so many bytes to region 3, and beside it a value or any change of that region, or any of another one.
+fn write_long<R: Host>(stops: &mut Stops<'_, R>, history: &mut History, len: usize) -> Result<()> {
+    let other = match history.dice.below(8) {
+        0 => (3, Choice::Any),
+        1..=3 => (1, Choice::Any),
+        _ => (3, Choice::Put("long")),
+    };
+    history.write(stops, &[(3, Choice::Long(len)), other], false)
 }
 
 /// Takes a step.

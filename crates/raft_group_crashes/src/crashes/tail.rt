@@ -1,7 +1,5 @@
 //! The last file of a queue, and what a failure of power leaves of it.
 
-ghost use Rattle.std.specs.Prelude.{◌<◌};
-
 use crate::crashes::dice::Dice;
 use raft_base::{FileId, Result};
 use std::alloc::Global;

@@ -95,7 +95,8 @@ module _ (a b : Inside) (id i : ℕ) (d slot : Tables) (after : Counts) (kept : 
         }
 
     -- a step on a region's table
-    pub step-in : (q : LogQueue) (s : Step) (res : Result Unit Error) → IsStepTaken q id s d a.stats a.cleaned.items res slot after b.cleaned.items → IsStepTaken q id s r.tables r.counts r.cleaned res (together b.slots.items) b.stats b.cleaned.items
+    pub step-in : (q : LogQueue) (s : Step) (res : Result Unit Error) → IsStepTaken q id s d a.stats a.cleaned.items res slot after b.cleaned.items →
+        IsStepTaken q id s r.tables r.counts r.cleaned res (together b.slots.items) b.stats b.cleaned.items
     step-in q s res t =
         let old : table_in d id ≡ table_in r.tables id = sym (ap (table_of id) was) in
         let list : a.cleaned.items ≡ r.cleaned = ap (λ (x : Accessor). x.cleaned) is in
@@ -149,7 +150,9 @@ module _ (a b : Inside) (item : Item) (i : ℕ) (d slot : Tables) (after : Count
       | Ok x ↦ λ t. record {
         asked = (t.asked, tt);
         accepted = (subst (λ o. MixesQueues w (table_of item.raft_group_id o) item.content → ⊥) (sym here) t.accepted, λ u e. tt);
-        tables = ap (option_and_then (λ o. Some (with_table r.tables item.raft_group_id o))) (ap (λ o. after_content w item.raft_group_id o item.content) here ∙ t.ok) ∙ ap Some (sym (tables-are a b item.raft_group_id i d slot after kept h r is));
+        tables = ap (option_and_then (λ o. Some (with_table r.tables item.raft_group_id o)))
+            (ap (λ o. after_content w item.raft_group_id o item.content) here ∙ t.ok)
+            ∙ ap Some (sym (tables-are a b item.raft_group_id i d slot after kept h r is));
         cleaned = t.cleaned ∙ ap (λ l. l ++ listed_by w item) (ap (λ (x : Accessor). x.cleaned) is) ∙ ap (λ l. r.cleaned ++ l) (sym (append-nil (listed_by w item)));
         counts = λ u e. counted-in a b item.raft_group_id i d slot after kept h r is (λ t k. counts_after_content w t item.content k) t.counts_ok;
       }
@@ -170,7 +173,9 @@ module _ (a b : Inside) (item : Item) (i : ℕ) (d slot : Tables) (after : Count
 after_items-append : (w : Writing) (m : Tables) (xs ys : List Item) → after_items w m (xs ++ ys) ≡ option_and_then (λ n. after_items w n ys) (after_items w m xs)
 after_items-append w m [] ys = refl
 after_items-append w m (x ∷ xs) ys =
-    elim (after_content w x.raft_group_id (finite.get m x.raft_group_id) x.content) as (λ o. option_and_then (λ t. after_items w (with_table m x.raft_group_id t) (xs ++ ys)) o ≡ option_and_then (λ n. after_items w n ys) (option_and_then (λ t. after_items w (with_table m x.raft_group_id t) xs) o)) [
+    elim (after_content w x.raft_group_id (finite.get m x.raft_group_id) x.content)
+    as (λ o. option_and_then (λ t. after_items w (with_table m x.raft_group_id t) (xs ++ ys)) o ≡ option_and_then (λ n. after_items w n ys)
+    (option_and_then (λ t. after_items w (with_table m x.raft_group_id t) xs) o)) [
       | None ↦ refl
       | Some t ↦ after_items-append w (with_table m x.raft_group_id t) xs ys
     ]
@@ -193,7 +198,8 @@ none-append w (x ∷ xs) ys m n g e h = (
 counted-append : (w : Writing) (xs ys : List Item) (m n : Tables) (i j k : Counts) → AreCountsAfterItems w m xs i j → after_items w m xs ≡ Some n → AreCountsAfterItems w n ys j k → AreCountsAfterItems w m (xs ++ ys) i k
 counted-append w [] ys m n i j k g e h = subst (λ c. AreCountsAfterItems w m ys c k) g (subst (λ t. AreCountsAfterItems w t ys j k) (sym (some_is e)) h)
 counted-append w (x ∷ xs) ys m n i j k g e h =
-    λ t is. counted-append w xs ys (with_table m x.raft_group_id t) n (counts_after_content w (table_in m x.raft_group_id) x.content i) j k (g t is) (subst (λ o. option_and_then (λ t. after_items w (with_table m x.raft_group_id t) xs) o ≡ Some n) is e) h
+    λ t is. counted-append w xs ys (with_table m x.raft_group_id t) n (counts_after_content w (table_in m x.raft_group_id) x.content i) j k (g t is)
+    (subst (λ o. option_and_then (λ t. after_items w (with_table m x.raft_group_id t) xs) o ≡ Some n) is e) h
 
 pub written_append : (w : Writing) (xs ys : List Item) (a b c : Accessor) → AreWritten w xs a b → AreWritten w ys b c → AreWritten w (xs ++ ys) a c
 written_append w xs ys a b c g h = record {

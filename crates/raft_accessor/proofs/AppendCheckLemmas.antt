@@ -1,5 +1,43 @@
 -- New items that are tested one after another.
-use Rattle.std.proofs.Common.{◌≡◌, ◌≢◌, ◌⊎◌, ℕ, zero, suc, ◌+◌, ◌<◌, ◌≤◌, length, drop, get_or, Result, Ok, Err, OnOk, true, false, cond, nat_eq, List, [], ◌∷◌, ◌++◌, append_assoc, map, Option, Some, None, refl, sym, ap, subst, ◌∙◌, inl, inr, arith}
+use Rattle.std.proofs.Common.{
+  ◌≡◌,
+  ◌≢◌,
+  ◌⊎◌,
+  ℕ,
+  zero,
+  suc,
+  ◌+◌,
+  ◌<◌,
+  ◌≤◌,
+  length,
+  drop,
+  get_or,
+  Result,
+  Ok,
+  Err,
+  OnOk,
+  true,
+  false,
+  cond,
+  nat_eq,
+  List,
+  [],
+  ◌∷◌,
+  ◌++◌,
+  append_assoc,
+  map,
+  Option,
+  Some,
+  None,
+  refl,
+  sym,
+  ap,
+  subst,
+  ◌∙◌,
+  inl,
+  inr,
+  arith,
+}
 use Rattle.std.specs.List.{AllByRecursion}
 use Rattle.std.specs.Map.{lookup}
 use Rattle.std.specs.FinMap as finite
@@ -40,14 +78,22 @@ known_at extents id table before now o h e = subst (λ t. IsKnown o (table_of id
 pub known_extent : (extents : Es) (id : ℕ) (table : Option Table) (before now : Tables) (x : Extent) → AreBefore extents id table before now → lookup (nat_eq id) extents ≡ Some x → IsExtentOf x (table_in now id).entries
 known_extent extents id table before now x h e = known_at extents id table before now (Some x) h e
 
-pub first_extent : (extents : Es) (id : ℕ) (table : Option Table) (before now : Tables) (x : Extent) → AreBefore extents id table before now → lookup (nat_eq id) extents ≡ None → IsExtentOf x (table_of id table).entries → IsExtentOf x (table_in now id).entries
+pub first_extent : (extents : Es) (id : ℕ) (table : Option Table) (before now : Tables) (x : Extent) → AreBefore extents id table before now →
+    lookup (nat_eq id) extents ≡ None → IsExtentOf x (table_of id table).entries → IsExtentOf x (table_in now id).entries
 first_extent extents id table before now x h e k = subst (IsExtentOf x) (sym (known_at extents id table before now None h e)) k
 
 -- one region's table is written: what is known of it is kept, and what is known of the others stays
-known_with : (old new : Es) (before now : Tables) (id : ℕ) (o : Option Extent) (t : Option Table) → AreKnown old before now → ((q : ℕ) → lookup (nat_eq q) new ≡ cond (nat_eq id q) o (lookup (nat_eq q) old)) → IsKnown o (table_in before id).entries (table_of id t).entries → AreKnown new before (with_table now id t)
+known_with : (old new : Es) (before now : Tables) (id : ℕ) (o : Option Extent) (t : Option Table) → AreKnown old before now →
+    ((q : ℕ) → lookup (nat_eq q) new ≡ cond (nat_eq id q) o (lookup (nat_eq q) old)) →
+    IsKnown o (table_in before id).entries (table_of id t).entries → AreKnown new before (with_table now id t)
 known_with old new before now id o t known h own = λ r. elim (by_id r id) [
-  | inl p ↦ subst (λ r. IsKnown (lookup (nat_eq r) new) (table_in before r).entries (table_in (with_table now id t) r).entries) (sym p) (subst (λ o. IsKnown o (table_in before id).entries (table_in (with_table now id t) id).entries) (sym (h id ∙ ap (λ b. cond b o (lookup (nat_eq id) old)) (self_same id))) (subst (λ t. IsKnown o (table_in before id).entries (table_of id t).entries) (sym (with_own now id t)) own))
-  | inr f ↦ subst (λ o. IsKnown o (table_in before r).entries (table_in (with_table now id t) r).entries) (sym (h r ∙ ap (λ b. cond b o (lookup (nat_eq r) old)) (not_same id r f))) (subst (λ t. IsKnown (lookup (nat_eq r) old) (table_in before r).entries (table_of r t).entries) (sym (with_other now id r t f)) (known r))
+  | inl p ↦ subst (λ r. IsKnown (lookup (nat_eq r) new) (table_in before r).entries (table_in (with_table now id t) r).entries) (sym p)
+      (subst (λ o. IsKnown o (table_in before id).entries (table_in (with_table now id t) id).entries)
+      (sym (h id ∙ ap (λ b. cond b o (lookup (nat_eq id) old)) (self_same id)))
+      (subst (λ t. IsKnown o (table_in before id).entries (table_of id t).entries) (sym (with_own now id t)) own))
+  | inr f ↦ subst (λ o. IsKnown o (table_in before r).entries (table_in (with_table now id t) r).entries)
+      (sym (h r ∙ ap (λ b. cond b o (lookup (nat_eq r) old)) (not_same id r f)))
+      (subst (λ t. IsKnown (lookup (nat_eq r) old) (table_in before r).entries (table_of r t).entries) (sym (with_other now id r t f)) (known r))
 ]
 
 -- ---- the next item
@@ -63,8 +109,12 @@ run_next old new id table run x y was takes h = λ before now place compression 
       known = known_with old new before now id (Some y) (Some (record (table_in now id) { entries = k.1 })) at.known h k.3;
     }
 
-pub run_fault : (old : Es) (id : ℕ) (table : Option Table) (run : List EntryIndex) (x : Extent) (e : Error) → ((before now : Tables) → AreBefore old id table before now → IsExtentOf x (table_in now id).entries) → IsRunCheckFault x run e → IsNextFault old table (record { raft_group_id = id; content = entries run }) e
-run_fault old id table run x (errors.Corruption text) was fault = λ before now place compression at asked. ap (λ o. option_map Some (option_map {U = Table} (λ es. record (table_in now id) { entries = es }) o)) (fault (table_in now id).entries place compression (was before now at) asked)
+pub run_fault : (old : Es) (id : ℕ) (table : Option Table) (run : List EntryIndex) (x : Extent) (e : Error) →
+    ((before now : Tables) → AreBefore old id table before now → IsExtentOf x (table_in now id).entries) → IsRunCheckFault x run e →
+    IsNextFault old table (record { raft_group_id = id; content = entries run }) e
+run_fault old id table run x (errors.Corruption text) was fault = λ before now place compression
+    at asked. ap (λ o. option_map Some (option_map {U = Table} (λ es. record (table_in now id) { entries = es }) o))
+    (fault (table_in now id).entries place compression (was before now at) asked)
 run_fault old id table run x errors.Memory was fault = tt
 run_fault old id table run x e was fault = absurd fault
 
@@ -83,7 +133,9 @@ command_entries id o commands.Clean = refl
 command_entries id o (commands.Compact index) = refl
 command_entries id o (commands.Truncate index) = refl
 
-pub command_next : (old new : Es) (id : ℕ) (table : Option Table) (c : Command) (x y : Extent) → ((before now : Tables) → AreBefore old id table before now → IsExtentOf x (table_in now id).entries) → ((es : List EntryIndex) → IsExtentOf x es → IsExtentOf y (commanded c es))
+pub command_next : (old new : Es) (id : ℕ) (table : Option Table) (c : Command) (x y : Extent) →
+    ((before now : Tables) → AreBefore old id table before now → IsExtentOf x (table_in now id).entries) →
+    ((es : List EntryIndex) → IsExtentOf x es → IsExtentOf y (commanded c es))
     → ((q : ℕ) → lookup (nat_eq q) new ≡ cond (nat_eq id q) (Some y) (lookup (nat_eq q) old)) → TakesNext old table (record { raft_group_id = id; content = command c }) new
 command_next old new id table c x y was obeys h = λ before now place compression at queue. record {
   asked = tt;
@@ -93,7 +145,8 @@ command_next old new id table c x y was obeys h = λ before now place compressio
 }
 
 -- a change of a key changes no entries
-pair_table : (id : ℕ) (o : Option Table) (op : OpType) (key : List ℕ) (value : Option (List ℕ)) (file : FileId) → HasValue op value → (t : Table) × (after_pair (table_of id o) op key value (Some file) ≡ Some t) × (t.entries ≡ (table_of id o).entries)
+pair_table : (id : ℕ) (o : Option Table) (op : OpType) (key : List ℕ) (value : Option (List ℕ)) (file : FileId) → HasValue op value →
+    (t : Table) × (after_pair (table_of id o) op key value (Some file) ≡ Some t) × (t.entries ≡ (table_of id o).entries)
 pair_table id o operations.Put key None file h = absurd h
 pair_table id o operations.Put key (Some value) file h = (_, refl, refl)
 pair_table id o operations.Del key value file h = (_, refl, refl)
@@ -109,7 +162,9 @@ no_change id o operations.Del key value file h = absurd (h tt)
 
 known_same : (extents : Es) (before now : Tables) (id : ℕ) (t : Option Table) → AreKnown extents before now → (table_of id t).entries ≡ (table_in now id).entries → AreKnown extents before (with_table now id t)
 known_same extents before now id t known e = λ r. elim (by_id r id) [
-  | inl p ↦ subst (λ r. IsKnown (lookup (nat_eq r) extents) (table_in before r).entries (table_in (with_table now id t) r).entries) (sym p) (subst (IsKnown (lookup (nat_eq id) extents) (table_in before id).entries) (sym (ap (λ t. (table_of id t).entries) (with_own now id t) ∙ e)) (known id))
+  | inl p ↦ subst (λ r. IsKnown (lookup (nat_eq r) extents) (table_in before r).entries (table_in (with_table now id t) r).entries) (sym p)
+      (subst (IsKnown (lookup (nat_eq id) extents) (table_in before id).entries) (sym (ap (λ t. (table_of id t).entries) (with_own now id t) ∙ e))
+      (known id))
   | inr f ↦ subst (λ t. IsKnown (lookup (nat_eq r) extents) (table_in before r).entries (table_of r t).entries) (sym (with_other now id r t f)) (known r)
 ]
 
@@ -193,7 +248,10 @@ check_fault extents m items left x (errors.Corruption text) check fault = λ pla
     let c = check place compression queue in
     let a = c.same.1 accepted in
     let rest = map (placed_item place compression) left in
-    let none : after_items Appending c.now (placed_item place compression x ∷ rest) ≡ None = ap (option_and_then (λ t. after_items Appending (with_table c.now x.raft_group_id t) rest)) (fault m c.now place compression (record { own = refl; known = c.known }) a.asked.0) in
+    let none : after_items Appending c.now
+    (placed_item place compression x ∷ rest) ≡ None = ap (option_and_then
+    (λ t. after_items Appending (with_table c.now x.raft_group_id t) rest))
+    (fault m c.now place compression (record { own = refl; known = c.known }) a.asked.0) in
     none_some (sym none ∙ a.taken)
 check_fault extents m items left x errors.Memory check fault = tt
 check_fault extents m items left x e check fault = absurd fault
@@ -206,7 +264,9 @@ fault_refused m items e fault other = absurd fault
 -- ---- items that are accepted
 
 -- the item behind some that are written is as asked, and its content is not refused
-behind : (m n : Tables) (front : List Item) (item : Item) (rest : List Item) (t : Tables) → after_items Appending m front ≡ Some n → after_items Appending m (front ++ item ∷ rest) ≡ Some t → after_content Appending item.raft_group_id (finite.get n item.raft_group_id) item.content ≡ None → ⊥
+behind : (m n : Tables) (front : List Item) (item : Item) (rest : List Item) (t : Tables) → after_items Appending m front ≡ Some n →
+    after_items Appending m (front ++ item ∷ rest) ≡ Some t →
+    after_content Appending item.raft_group_id (finite.get n item.raft_group_id) item.content ≡ None → ⊥
 behind m n [] item rest t e k none =
     let same : m ≡ n = some_is e in
     let f = subst (λ m. after_items Appending m (item ∷ rest) ≡ Some t) same k in
@@ -214,7 +274,8 @@ behind m n [] item rest t e k none =
 behind m n (x ∷ front) item rest t e k none = go (λ u a b. behind (with_table m x.raft_group_id u) n front item rest t a b none) (after_content Appending x.raft_group_id (finite.get m x.raft_group_id) x.content) e k
   where
     go : ((u : Option Table) → after_items Appending (with_table m x.raft_group_id u) front ≡ Some n → after_items Appending (with_table m x.raft_group_id u) (front ++ item ∷ rest) ≡ Some t → ⊥)
-        → (o : Option (Option Table)) → option_and_then (λ t. after_items Appending (with_table m x.raft_group_id t) front) o ≡ Some n → option_and_then (λ t. after_items Appending (with_table m x.raft_group_id t) (front ++ item ∷ rest)) o ≡ Some t → ⊥
+        → (o : Option (Option Table)) → option_and_then (λ t. after_items Appending (with_table m x.raft_group_id t) front) o ≡ Some n →
+        option_and_then (λ t. after_items Appending (with_table m x.raft_group_id t) (front ++ item ∷ rest)) o ≡ Some t → ⊥
     go later None e k = none_some e
     go later (Some u) e k = later u e k
 
@@ -222,7 +283,8 @@ asked_behind : (front : List Item) (item : Item) (rest : List Item) → AllByRec
 asked_behind [] item rest h = h.0
 asked_behind (x ∷ front) item rest h = asked_behind front item rest h.1
 
-room_alone : (id : ℕ) (o : Option Table) (live : ℕ) (content : Content) (e : Error) → IsFor Appending content → (after_content Appending id o content ≡ None → ⊥) → IsWriteFault Appending id o live content e → (e ≡ errors.Memory) ⊎ (e ≡ errors.Full)
+room_alone : (id : ℕ) (o : Option Table) (live : ℕ) (content : Content) (e : Error) → IsFor Appending content →
+    (after_content Appending id o content ≡ None → ⊥) → IsWriteFault Appending id o live content e → (e ≡ errors.Memory) ⊎ (e ≡ errors.Full)
 room_alone id o live content (errors.Corruption text) asked taken (inl not_asked) = absurd (not_asked asked)
 room_alone id o live content (errors.Corruption text) asked taken (inr none) = absurd (taken none)
 room_alone id o live content errors.Memory asked taken fault = inl refl
@@ -233,4 +295,6 @@ pub refused_for_room : (items rest : List Item) (old new : Accessor) (e : Error)
 refused_for_room items rest old new e accepted refused =
     let all : items ++ rest ≡ refused.front ++ refused.item ∷ rest = ap (λ l. l ++ rest) refused.split ∙ append_assoc refused.front (refused.item ∷ []) rest in
     let whole = subst (AreAccepted old.tables) all accepted in
-    room_alone refused.item.raft_group_id (finite.get new.tables refused.item.raft_group_id) (live_in_all (queue_of Appending) new.tables) refused.item.content e (asked_behind refused.front refused.item rest whole.asked) (behind old.tables new.tables refused.front refused.item rest whole.after refused.written.tables whole.taken) refused.fault
+    room_alone refused.item.raft_group_id (finite.get new.tables refused.item.raft_group_id) (live_in_all (queue_of Appending) new.tables)
+    refused.item.content e (asked_behind refused.front refused.item rest whole.asked)
+    (behind old.tables new.tables refused.front refused.item rest whole.after refused.written.tables whole.taken) refused.fault

@@ -33,11 +33,15 @@ pub rises_bare : (place : FileBlockHandle) (compression : CompressionType) (s : 
 rises_bare place compression s [] h = tt
 rises_bare place compression s (e ∷ es) h = (h.0, rises_bare place compression (suc s) es h.1)
 
-bounded_placed : (place : FileBlockHandle) (compression : CompressionType) (es : List EntryIndex) → AllByRecursion (λ (e : EntryIndex). e.index < 2 ^ 64 - 1) es → AllByRecursion (λ (e : EntryIndex). e.index < 2 ^ 64 - 1) (placed_entries place compression es)
+bounded_placed : (place : FileBlockHandle) (compression : CompressionType) (es : List EntryIndex) →
+    AllByRecursion (λ (e : EntryIndex). e.index < 2 ^ 64 - 1) es →
+    AllByRecursion (λ (e : EntryIndex). e.index < 2 ^ 64 - 1) (placed_entries place compression es)
 bounded_placed place compression [] h = tt
 bounded_placed place compression (e ∷ es) h = (h.0, bounded_placed place compression es h.1)
 
-bounded_bare : (place : FileBlockHandle) (compression : CompressionType) (es : List EntryIndex) → AllByRecursion (λ (e : EntryIndex). e.index < 2 ^ 64 - 1) (placed_entries place compression es) → AllByRecursion (λ (e : EntryIndex). e.index < 2 ^ 64 - 1) es
+bounded_bare : (place : FileBlockHandle) (compression : CompressionType) (es : List EntryIndex) →
+    AllByRecursion (λ (e : EntryIndex). e.index < 2 ^ 64 - 1) (placed_entries place compression es) →
+    AllByRecursion (λ (e : EntryIndex). e.index < 2 ^ 64 - 1) es
 bounded_bare place compression [] h = tt
 bounded_bare place compression (e ∷ es) h = (h.0, bounded_bare place compression es h.1)
 
@@ -105,7 +109,12 @@ compacted_some x y i es h l f g =
     let first : y.first ≡ x.first + n = omega (arith, f) in
     elim (nat_cases i x.first) [
       | inl le ↦ subst (IsExtentOf y) (sym (from_start i x.first es h.rising le)) (record { rising = subst (λ s. RisesFrom s es) (omega (arith, f)) h.rising; ends = omega (arith, f); nothing = λ z. absurd (omega (arith, z)) })
-      | inr gt ↦ subst (IsExtentOf y) (sym (from_drop i n x.first es (omega arith) h.rising)) (record { rising = subst (λ s. RisesFrom s (drop n es)) (sym first) (RisesFrom-drop n x.first es h.rising (omega arith)); ends = omega (arith, d); nothing = λ z. absurd (omega (arith, z, d)) })
+      | inr gt ↦ subst (IsExtentOf y) (sym (from_drop i n x.first es (omega arith) h.rising))
+          (record {
+            rising = subst (λ s. RisesFrom s (drop n es)) (sym first) (RisesFrom-drop n x.first es h.rising (omega arith));
+            ends = omega (arith, d);
+            nothing = λ z. absurd (omega (arith, z, d));
+          })
     ]
 
 pub truncated_none : (x : Extent) (i : ℕ) (es : List EntryIndex) → IsExtentOf x es → i ≤ x.first → below i es ≡ []
@@ -148,7 +157,8 @@ run_alone : (y : Extent) (e : EntryIndex) (run : List EntryIndex) → RisesFrom 
 run_alone y e run rising f g = record { rising = subst (λ s. RisesFrom s (e ∷ run)) (sym f) rising; ends = g ∙ ap (λ s. s + length (e ∷ run)) (sym f); nothing = λ k. absurd (omega (arith, k)) }
 
 -- a run behind some entries
-run_behind : (x y : Extent) (n : ℕ) (e : EntryIndex) (run es : List EntryIndex) → IsExtentOf x es → RisesFrom e.index (e ∷ run) → e.index ≡ x.first + n → n ≤ length es → y.first ≡ x.first → y.end ≡ e.index + length (e ∷ run) → IsExtentOf y (take n es ++ e ∷ run)
+run_behind : (x y : Extent) (n : ℕ) (e : EntryIndex) (run es : List EntryIndex) → IsExtentOf x es → RisesFrom e.index (e ∷ run) →
+    e.index ≡ x.first + n → n ≤ length es → y.first ≡ x.first → y.end ≡ e.index + length (e ∷ run) → IsExtentOf y (take n es ++ e ∷ run)
 run_behind x y n e run es h rising k l f g =
     let t : length (take n es) ≡ n = length-take-le n es l in
     let both : length (take n es ++ e ∷ run) ≡ length (take n es) + length (e ∷ run) = length-append (take n es) (e ∷ run) in
@@ -191,13 +201,16 @@ hole_refused x e run (a ∷ es) h f z l =
 
 -- ---- a run, told by its first entry
 
-pub run_accepted : (x y : Extent) (run : List EntryIndex) (first : EntryIndex) → 0 < length run → first ≡ get_or run 0 first → IsConsecutive run → x.first ≤ first.index → (0 < x.end → x.end < first.index → ⊥) → (x.end ≡ 0 → y.first ≡ first.index) → (0 < x.end → y.first ≡ x.first) → y.end ≡ first.index + length run → TakesRun x run y
+pub run_accepted : (x y : Extent) (run : List EntryIndex) (first : EntryIndex) → 0 < length run → first ≡ get_or run 0 first → IsConsecutive run →
+    x.first ≤ first.index → (0 < x.end → x.end < first.index → ⊥) → (x.end ≡ 0 → y.first ≡ first.index) → (0 < x.end → y.first ≡ x.first) →
+    y.end ≡ first.index + length run → TakesRun x run y
 run_accepted x y [] first l is cons front hole f0 f1 g = absurd (omega arith)
 run_accepted x y (e ∷ run) first l is cons front hole f0 f1 g = λ es place compression at queue.
     let i : first.index ≡ e.index = ap (λ (d : EntryIndex). d.index) is in
     let rising = rises_placed place compression e.index (e ∷ run) (refl, cons.run) in
     let len = length_placed place compression run in
-    let taken = run_taken x y (record e { entries = Some place; compression_type = compression }) (placed_entries place compression run) es at rising (omega (arith, front, i)) (λ z k. hole z (omega (arith, k, i))) (λ z. f0 z ∙ i) f1 (omega (arith, g, i, len)) in
+    let taken = run_taken x y (record e { entries = Some place; compression_type = compression }) (placed_entries place compression run) es at rising
+    (omega (arith, front, i)) (λ z k. hole z (omega (arith, k, i))) (λ z. f0 z ∙ i) f1 (omega (arith, g, i, len)) in
     (run_placed place compression (e ∷ run) queue cons, taken.0, taken.1, taken.2)
 
 pub hole_found : (x : Extent) (run : List EntryIndex) (first : EntryIndex) → 0 < length run → first ≡ get_or run 0 first → x.first ≤ first.index → 0 < x.end → x.end < first.index

@@ -35,7 +35,8 @@ live-all q m = go (finite.entries m)
 live-put : (q : LogQueue) (k : ℕ) (t : Table) (es : List (ℕ × Table)) → T (is_sorted nat_cmp es) → live_of_all q (put nat_cmp k t es) + live_in q (find nat_cmp k es) ≡ live_of_all q es + live_of q t
 live-put q k t [] h = omega arith
 live-put q k t (e ∷ es) h =
-    elim (nat_cmp k e.0) as (λ r. nat_cmp k e.0 ≡ r → live_of_all q (by_order r ((k, t) ∷ e ∷ es) ((e.0, t) ∷ es) (e ∷ put nat_cmp k t es)) + live_in q (cond (is_eq r) (Some e.1) (find nat_cmp k es)) ≡ live_of_all q (e ∷ es) + live_of q t) [
+    elim (nat_cmp k e.0) as (λ r. nat_cmp k e.0 ≡ r → live_of_all q (by_order r ((k, t) ∷ e ∷ es) ((e.0, t) ∷ es) (e ∷ put nat_cmp k t es)) + live_in
+    q (cond (is_eq r) (Some e.1) (find nat_cmp k es)) ≡ live_of_all q (e ∷ es) + live_of q t) [
       | Less ↦ λ p. rw (find-below nat_cmp_total k es (below_all-less nat_cmp_total k e.0 es p (first_of_both _ _ h))) (omega arith)
       | Equal ↦ λ p. omega arith
       | Greater ↦ λ p. omega (arith, live-put q k t es (second_of_both _ _ h))

@@ -114,7 +114,8 @@ module _ (merge : Table → Table → Option Table) where
   ]
 
   -- an entry in front of others
-  pub joins-step : (m n z : Tables) (rest es : List (ℕ × Table)) (id : ℕ) (t : Table) → rest ≡ (id, t) ∷ es → Once rest → IsMergedAt merge id (finite.get m id) (Some t) (finite.get n id) → n ≡ with_table m id (finite.get n id) → Joins n es z → Joins m rest z
+  pub joins-step : (m n z : Tables) (rest es : List (ℕ × Table)) (id : ℕ) (t : Table) → rest ≡ (id, t) ∷ es → Once rest →
+      IsMergedAt merge id (finite.get m id) (Some t) (finite.get n id) → n ≡ with_table m id (finite.get n id) → Joins n es z → Joins m rest z
   joins-step m n z rest es id t is once here e h = subst (λ l. Joins m l z) (sym is) (joins-append m n z ((id, t) ∷ []) es (apart_one id t es (subst Once is once)) (joins-one m n id t here e) h)
 
   apart_slot : (k : ℕ) (s : Tables) (ms : List Tables) → AreSlots k (s ∷ ms) → (q : ℕ) → find nat_cmp q (finite.entries s) ≢ None → find nat_cmp q (slot_entries ms) ≡ None
@@ -182,11 +183,14 @@ module _ (merge : Table → Table → Option Table) where
   )
 
   -- or one behind it is refused
-  pub leaves-step : (gone : Option ℕ) (m n z : Tables) (rest es : List (ℕ × Table)) (id : ℕ) (t : Table) → rest ≡ (id, t) ∷ es → Once rest → IsMergedAt merge id (finite.get m id) (Some t) (finite.get n id) → n ≡ with_table m id (finite.get n id) → Leaves gone n es z → Leaves gone m rest z
+  pub leaves-step : (gone : Option ℕ) (m n z : Tables) (rest es : List (ℕ × Table)) (id : ℕ) (t : Table) → rest ≡ (id, t) ∷ es → Once rest →
+      IsMergedAt merge id (finite.get m id) (Some t) (finite.get n id) → n ≡ with_table m id (finite.get n id) → Leaves gone n es z →
+      Leaves gone m rest z
   leaves-step gone m n z rest es id t is once here e h = subst (λ l. Leaves gone m l z) (sym is) (leaves-append gone m n z ((id, t) ∷ []) es (apart_one id t es (subst Once is once)) (joins-one m n id t here e) h)
 
   -- the same of the slots of a map: one in front
-  leaves-slot : (gone : Option ℕ) (m n : Tables) (rest ms : List Tables) (s : Tables) → rest ≡ s ∷ ms → HasEntry gone (finite.entries s) → ((q : ℕ) → IsOther gone q → IsLeftAt merge q (finite.get m q) (finite.get s q) (finite.get n q)) → Leaves gone m (slot_entries rest) n
+  leaves-slot : (gone : Option ℕ) (m n : Tables) (rest ms : List Tables) (s : Tables) → rest ≡ s ∷ ms → HasEntry gone (finite.entries s) →
+      ((q : ℕ) → IsOther gone q → IsLeftAt merge q (finite.get m q) (finite.get s q) (finite.get n q)) → Leaves gone m (slot_entries rest) n
   leaves-slot gone m n rest ms s is has h = subst (λ l. Leaves gone m (slot_entries l) n) (sym is) (
     entry-in-front gone (finite.entries s) (slot_entries ms) has,
     λ q other.
@@ -221,7 +225,8 @@ module _ (merge : Table → Table → Option Table) where
   }
 
   -- an entry that is refused behind others of another slot
-  pub refuses-slots : (IsFault : Table → Table → Error → Type 0) (m n : Tables) (rest ms : List Tables) (k : ℕ) (s : Tables) (e : Error) → rest ≡ s ∷ ms → AreSlots k rest → AreTablesMerged merge m s n → Refuses IsFault n (slot_entries ms) e → Refuses IsFault m (slot_entries rest) e
+  pub refuses-slots : (IsFault : Table → Table → Error → Type 0) (m n : Tables) (rest ms : List Tables) (k : ℕ) (s : Tables) (e : Error) →
+      rest ≡ s ∷ ms → AreSlots k rest → AreTablesMerged merge m s n → Refuses IsFault n (slot_entries ms) e → Refuses IsFault m (slot_entries rest) e
   refuses-slots IsFault m n rest ms k s e is slots here h = subst (λ l. Refuses IsFault m (slot_entries l) e) (sym is) (by (find nat_cmp h.0 (finite.entries s)) refl)
     where
       by : (o : Option Table) → find nat_cmp h.0 (finite.entries s) ≡ o → Refuses IsFault m (slot_entries (s ∷ ms)) e
@@ -244,7 +249,8 @@ with_memory : (rule : Option LogQueue) (counts : Counts) (older newer : Table) (
 with_memory rule counts older newer e (inr f) = f
 with_memory rule counts older newer e (inl is) = subst (IsTableMergeFault counts older newer rule) (sym is) (elim rule as (λ rule. IsTableMergeFault counts older newer rule Memory) [ None ↦ tt | Some q ↦ tt ])
 
-pub refused-with : {R : Type 0} (rule : Option LogQueue) (counts : Counts) (older newer : Table) (r : Result R Error) → IfErr r (λ e. (e ≡ Memory) ⊎ IsTableMergeFault counts older newer rule e) → IfErr r (IsTableMergeFault counts older newer rule)
+pub refused-with : {R : Type 0} (rule : Option LogQueue) (counts : Counts) (older newer : Table) (r : Result R Error) →
+    IfErr r (λ e. (e ≡ Memory) ⊎ IsTableMergeFault counts older newer rule e) → IfErr r (IsTableMergeFault counts older newer rule)
 refused-with rule counts older newer (Ok x) f = tt
 refused-with rule counts older newer (Err e) f = with_memory rule counts older newer e f
 

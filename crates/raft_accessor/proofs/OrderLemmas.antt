@@ -32,7 +32,9 @@ module _ {V : Type 0} where
       elim (nat_cmp k e.0) as (λ r. nat_cmp k e.0 ≡ r → cond (is_eq r) (Some e.1) (find nat_cmp k es) ≡ None → IsPermutation ((k, t) ∷ e ∷ es) (by_order r ((k, t) ∷ e ∷ es) ((e.0, t) ∷ es) (e ∷ put nat_cmp k t es))) [
         | Less ↦ λ p h. IsPermutation-refl ((k, t) ∷ e ∷ es)
         | Equal ↦ λ p h. absurd (none_some (sym h))
-        | Greater ↦ λ p h. IsPermutation-trans ((k, t) ∷ e ∷ es) (e ∷ (k, t) ∷ es) (e ∷ put nat_cmp k t es) (IsPermutation-append_left es ((k, t) ∷ e ∷ []) (e ∷ (k, t) ∷ []) (IsPermutation-append_comm ((k, t) ∷ []) (e ∷ []))) (IsPermutation-cons e ((k, t) ∷ es) (put nat_cmp k t es) (put-permuted k t es h))
+        | Greater ↦ λ p h. IsPermutation-trans ((k, t) ∷ e ∷ es) (e ∷ (k, t) ∷ es) (e ∷ put nat_cmp k t es)
+            (IsPermutation-append_left es ((k, t) ∷ e ∷ []) (e ∷ (k, t) ∷ []) (IsPermutation-append_comm ((k, t) ∷ []) (e ∷ [])))
+            (IsPermutation-cons e ((k, t) ∷ es) (put nat_cmp k t es) (put-permuted k t es h))
       ] refl h
 
   -- the map of some entries has these entries
@@ -112,4 +114,6 @@ module _ {V : Type 0} where
   pub pushed : (old new ts vs rest rest' all : List V) → new ≡ old ++ ts → IsPermutation ts vs → rest ≡ vs ++ rest' → IsPermutation (old ++ rest) all → IsPermutation (new ++ rest') all
   pushed old new ts vs rest rest' all e p r h =
       subst (λ l. IsPermutation (l ++ rest') all) (sym e)
-      (IsPermutation-trans ((old ++ ts) ++ rest') ((old ++ vs) ++ rest') all (IsPermutation-append_left rest' (old ++ ts) (old ++ vs) (IsPermutation-append_right old ts vs p)) (subst (λ l. IsPermutation l all) (sym (append_assoc old vs rest' ∙ ap (λ l. old ++ l) (sym r))) h))
+      (IsPermutation-trans ((old ++ ts) ++ rest') ((old ++ vs) ++ rest') all
+      (IsPermutation-append_left rest' (old ++ ts) (old ++ vs) (IsPermutation-append_right old ts vs p))
+      (subst (λ l. IsPermutation l all) (sym (append_assoc old vs rest' ∙ ap (λ l. old ++ l) (sym r))) h))

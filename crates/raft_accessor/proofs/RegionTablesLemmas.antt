@@ -43,7 +43,8 @@ shown-with a b m k t is h =
       | inr f ↦ ap (λ b. cond b t (lookup (nat_eq q) a.tables.entries)) (not_same k q f) ∙ sym (get-shown a m q is) ∙ sym (with_other m k q t f)
     ])
 
-pub kept-with : (a b : Inside) (k : ℕ) (t : Option Table) → AreTablesKept a → ((u : Table) → t ≡ Some u → u.region_id ≡ k) → ((q : ℕ) → lookup (nat_eq q) b.tables.entries ≡ cond (nat_eq k q) t (lookup (nat_eq q) a.tables.entries)) → AreTablesKept b
+pub kept-with : (a b : Inside) (k : ℕ) (t : Option Table) → AreTablesKept a → ((u : Table) → t ≡ Some u → u.region_id ≡ k) →
+    ((q : ℕ) → lookup (nat_eq q) b.tables.entries ≡ cond (nat_eq k q) t (lookup (nat_eq q) a.tables.entries)) → AreTablesKept b
 kept-with a b k t kept own h = λ q u e. elim (nat_eq k q) as (λ c. nat_eq k q ≡ c → cond c t (lookup (nat_eq q) a.tables.entries) ≡ Some u → u.region_id ≡ q) [
   | true ↦ λ c e. own u e ∙ eqb-true k q c
   | false ↦ λ c e. kept q u e

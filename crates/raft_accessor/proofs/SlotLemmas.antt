@@ -53,7 +53,8 @@ module _ {V : Type 0} where
   find-slots k (m ∷ ms) q zero d s lt e =
       find-both q (finite.entries m) (slot_entries ms) ∙ ap (option_or (find nat_cmp q (finite.entries m))) (find-later (suc k) ms q s.1 (omega (arith, e))) ∙ or_none _ ∙ sym (finite.get-entries m q)
   find-slots k (m ∷ ms) q (suc i) d s lt e =
-      find-both q (finite.entries m) (slot_entries ms) ∙ ap (λ o. option_or o (find nat_cmp q (slot_entries ms))) (sym (finite.get-entries m q) ∙ s.0 q (λ p. omega (arith, e, p))) ∙ find-slots (suc k) ms q i d s.1 (omega (arith, lt)) (omega (arith, e))
+      find-both q (finite.entries m) (slot_entries ms) ∙ ap (λ o. option_or o (find nat_cmp q (slot_entries ms)))
+      (sym (finite.get-entries m q) ∙ s.0 q (λ p. omega (arith, e, p))) ∙ find-slots (suc k) ms q i d s.1 (omega (arith, lt)) (omega (arith, e))
 
   -- another slot's tables are not found where one slot is written
   find-set : (k : ℕ) (ms : List (Map V)) (q i : ℕ) (m : Map V) → AreSlots k ms → IsSlot (k + i) m → slot_of q ≢ k + i → find nat_cmp q (slot_entries (slice_set ms i m)) ≡ find nat_cmp q (slot_entries ms)
@@ -109,16 +110,22 @@ module _ {V : Type 0} where
 
   pub other-slot : (ms : List (Map V)) (q i : ℕ) (m : Map V) → AreSlots 0 ms → IsSlot i m → slot_of q ≢ i → finite.get (together (slice_set ms i m)) q ≡ finite.get (together ms) q
   unfolding together
-  other-slot ms q i m s own ne = finite.get-from_entries nat_cmp_total (slot_entries (slice_set ms i m)) q ∙ find-set 0 ms q i m s (λ id h. own id (λ e. h (omega (arith, e)))) (λ e. ne (omega (arith, e))) ∙ sym (finite.get-from_entries nat_cmp_total (slot_entries ms) q)
+  other-slot ms q i m s own ne = finite.get-from_entries nat_cmp_total (slot_entries (slice_set ms i m)) q
+      ∙ find-set 0 ms q i m s (λ id h. own id (λ e. h (omega (arith, e)))) (λ e. ne (omega (arith, e)))
+      ∙ sym (finite.get-from_entries nat_cmp_total (slot_entries ms) q)
 
   -- one slot is changed at one region, and so is the map
-  pub together-at : (ms : List (Map V)) (id : ℕ) (d n w : Map V) → AreSlots 0 ms → slot_of id < length ms → IsChangedAt id (slice_index_or ms (slot_of id) d) n → IsChangedAt id (together ms) w → finite.get n id ≡ finite.get w id → together (slice_set ms (slot_of id) n) ≡ w
+  pub together-at : (ms : List (Map V)) (id : ℕ) (d n w : Map V) → AreSlots 0 ms → slot_of id < length ms →
+      IsChangedAt id (slice_index_or ms (slot_of id) d) n → IsChangedAt id (together ms) w → finite.get n id ≡ finite.get w id →
+      together (slice_set ms (slot_of id) n) ≡ w
   together-at ms id d n w s lt slot map at =
       let own : IsSlot (slot_of id) n = own-at-change (slot_of id) id _ n (own-at ms (slot_of id) d s lt) refl slot in
       let after : AreSlots 0 (slice_set ms (slot_of id) n) = set-at ms (slot_of id) n s own in
       let fits : length (slice_set ms (slot_of id) n) ≡ length ms = length-set ms (slot_of id) n in
       same _ _ (λ q. elim (by_id q id) [
-        | inl p ↦ subst (λ q. finite.get (together (slice_set ms (slot_of id) n)) q ≡ finite.get w q) (sym p) (get-together (slice_set ms (slot_of id) n) id d after (omega (arith, lt, fits)) ∙ ap (λ r. finite.get r id) (at-set ms (slot_of id) n d lt) ∙ at)
+        | inl p ↦ subst (λ q. finite.get (together (slice_set ms (slot_of id) n)) q ≡ finite.get w q) (sym p)
+            (get-together (slice_set ms (slot_of id) n) id d after (omega (arith, lt, fits))
+            ∙ ap (λ r. finite.get r id) (at-set ms (slot_of id) n d lt) ∙ at)
         | inr f ↦ elim (same_slot (slot_of q) (slot_of id)) [
           | inl e ↦ get-together (slice_set ms (slot_of id) n) q d after (omega (arith, lt, fits, e)) ∙ ap (λ i. finite.get (slice_index_or (slice_set ms (slot_of id) n) i d) q) e ∙ ap (λ r. finite.get r q) (at-set ms (slot_of id) n d lt)
               ∙ slot q f ∙ ap (λ i. finite.get (slice_index_or ms i d) q) (sym e) ∙ sym (get-together ms q d s (omega (arith, lt, e))) ∙ sym (map q f)
@@ -213,7 +220,8 @@ slots-with ms id t d s lt = slots-at ms id d _ s lt (λ q f. with_other _ id q t
 -- the table of a region stands in its slot, which was lent
 pub get-shown : (a : Inside) (r : Accessor) (id i : ℕ) (d : Tables) → IsAccessorKept a → accessor_shown a ≡ r → i ≡ slot_of id → i < 128 → d ≡ slice_index_or a.slots.items i d → finite.get r.tables id ≡ finite.get d id
 get-shown a r id i d kept is e lt lent =
-    ap (λ (x : Accessor). finite.get x.tables id) (sym is) ∙ get-together a.slots.items id d kept.slots (omega (arith, kept.all, e, lt)) ∙ ap (λ j. finite.get (slice_index_or a.slots.items j d) id) (sym e) ∙ ap (λ m. finite.get m id) (sym lent)
+    ap (λ (x : Accessor). finite.get x.tables id) (sym is) ∙ get-together a.slots.items id d kept.slots (omega (arith, kept.all, e, lt))
+    ∙ ap (λ j. finite.get (slice_index_or a.slots.items j d) id) (sym e) ∙ ap (λ m. finite.get m id) (sym lent)
 
 pub slot-counted : (a : Inside) (id i : ℕ) (d : Tables) → IsAccessorKept a → i ≡ slot_of id → i < 128 → d ≡ slice_index_or a.slots.items i d → IsCounted (table_in d id) a.stats
 slot-counted a id i d kept e lt lent =
@@ -242,12 +250,18 @@ kept-changed a b id i d t kept ch =
     record {
       slots = subst (AreSlots 0) (sym is) (slots-with a.slots.items id t d kept.slots lt);
       all = ap length is ∙ length-set a.slots.items (slot_of id) _ ∙ kept.all;
-      counted = subst (λ m. AreCountsOf m b.stats) (sym (shown-changed a b (accessor_shown a) id i d t kept refl ch)) (counted-with (together a.slots.items) a.stats b.stats id t kept.counted (subst (λ x. IsRecounted x (table_of id t) a.stats b.stats) same_table ch.counts));
+      counted = subst (λ m. AreCountsOf m b.stats) (sym (shown-changed a b (accessor_shown a) id i d t kept refl ch))
+          (counted-with (together a.slots.items) a.stats b.stats id t kept.counted
+          (subst (λ x. IsRecounted x (table_of id t) a.stats b.stats) same_table ch.counts));
     }
 
 pub kept-none : (a : Inside) → a.slots.items ≡ replicate 128 finite.empty → a.stats ≡ record { append = 0; written = 0; deleted = 0 } → IsAccessorKept a
 kept-none a e z = record {
   slots = slots-none a.slots.items 128 e;
   all = ap length e;
-  counted = λ q. elim q as (λ q. live q a.stats ≡ live_in_all q (together a.slots.items)) [ Append ↦ rw (z, together-none a.slots.items 128 e) (sym (live-none Append)) | Rewrite ↦ rw (z, together-none a.slots.items 128 e) (sym (live-none Rewrite)) ];
+  counted = λ q. elim q as (λ q. live q a.stats ≡ live_in_all q (together a.slots.items)) [
+    | Append ↦ rw (z, together-none a.slots.items 128 e) (sym (live-none Append))
+    | Rewrite ↦ rw (z, together-none a.slots.items 128 e)
+        (sym (live-none Rewrite))
+  ];
 }

@@ -31,7 +31,9 @@ taken ms i m s lt lent =
     record {
       taken = λ id e. ap (λ x. finite.get x id) lent ∙ ap (λ j. finite.get (slice_index_or ms j m) id) (sym e) ∙ sym (get-together ms id m s (omega (arith, lt, e)));
       own = λ id t g. elim (same_slot (slot_of id) i) [ inl e ↦ e | inr ne ↦ absurd (none_some (sym (own-at ms i m s lt id ne) ∙ ap (λ x. finite.get x id) (sym lent) ∙ g)) ];
-      gone = λ id e. get-together after id m (set-at ms i finite.empty s (empty-slot i)) (omega (arith, lt, e, fits)) ∙ ap (λ j. finite.get (slice_index_or after j m) id) e ∙ ap (λ x. finite.get x id) (at-set ms i finite.empty m lt) ∙ finite.get-empty nat_cmp id;
+      gone = λ id e. get-together after id m (set-at ms i finite.empty s (empty-slot i)) (omega (arith, lt, e, fits))
+          ∙ ap (λ j. finite.get (slice_index_or after j m) id) e ∙ ap (λ x. finite.get x id) (at-set ms i finite.empty m lt)
+          ∙ finite.get-empty nat_cmp id;
       others = λ id ne. other-slot ms id i finite.empty s (empty-slot i) ne;
     }
 

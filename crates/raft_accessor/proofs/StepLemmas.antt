@@ -37,7 +37,10 @@ record DoesStep (q : LogQueue) (id : ℕ) (content : Content) (s : Step) : Type 
   listed : listed_by (Replaying q) (record { raft_group_id = id; content = content }) ≡ cleaned_by_steps q (record { region = id; step = s } ∷ [])
   fault : (o : Option Table) (k : Counts) (e : Error) → IsStepFault q (table_of id o) k s e → IsWriteFault (Replaying q) id o (live q k) content e
 
-none_listed_by : (q : LogQueue) (id : ℕ) (content : Content) (s : Step) → listed_by (Replaying Append) (record { raft_group_id = id; content = content }) ≡ cleaned_by_steps Append (record { region = id; step = s } ∷ []) → listed_by (Replaying q) (record { raft_group_id = id; content = content }) ≡ cleaned_by_steps q (record { region = id; step = s } ∷ [])
+none_listed_by : (q : LogQueue) (id : ℕ) (content : Content) (s : Step) →
+    listed_by (Replaying Append) (record { raft_group_id = id; content = content }) ≡ cleaned_by_steps Append
+    (record { region = id; step = s } ∷ []) → listed_by (Replaying q) (record { raft_group_id = id; content = content }) ≡ cleaned_by_steps q
+    (record { region = id; step = s } ∷ [])
 none_listed_by Append id content s e = e
 none_listed_by Rewrite id content s e = refl
 
@@ -47,7 +50,9 @@ module _ (q : LogQueue) (id : ℕ) where
   put_fault p file replaced o k errors.Memory is f = tt
   put_fault p file replaced o k e is f = absurd f
 
-  pair_does : (key : List ℕ) (op : OpType) (value : Option (List ℕ)) (file : Option FileId) (s : Step) → is_reserved key ≡ false → IsPairReplayed q op value file → pair_step op key value file ≡ Some s → DoesStep q id (pair (record { op_type = op; key = key; value = value; file_id = file })) s
+  pair_does : (key : List ℕ) (op : OpType) (value : Option (List ℕ)) (file : Option FileId) (s : Step) → is_reserved key ≡ false →
+      IsPairReplayed q op value file → pair_step op key value file ≡ Some s →
+      DoesStep q id (pair (record { op_type = op; key = key; value = value; file_id = file })) s
   pair_does key operations.Put (Some value) (Some file) s h k e =
       let p : Pair = record { op_type = operations.Put; key = key; value = Some value; file_id = Some file } in
       subst (DoesStep q id (pair p)) (some_is e) (record {
@@ -94,7 +99,9 @@ module _ (q : LogQueue) (id : ℕ) where
       go false is e = pair_does p.key p.op_type p.value p.file_id s is (h is) e
 
 -- an item is written as its step is taken
-pub by_step : (q : LogQueue) (item : Item) (s : Step) (old : Tables) (counts : Counts) (list : List ℕ) (r : Result Unit Error) (new : Tables) (after : Counts) (listed : List ℕ) → IsReplayed q item.content → content_step item.content ≡ Some s → IsStepTaken q item.raft_group_id s old counts list r new after listed
+pub by_step : (q : LogQueue) (item : Item) (s : Step) (old : Tables) (counts : Counts) (list : List ℕ) (r : Result Unit Error) (new : Tables)
+    (after : Counts) (listed : List ℕ) → IsReplayed q item.content → content_step item.content ≡ Some s →
+    IsStepTaken q item.raft_group_id s old counts list r new after listed
     → IsItemWritten (Replaying q) item old counts list r new after listed
 by_step q item s old counts list r new after listed h e k =
     let id = item.raft_group_id in
@@ -104,8 +111,11 @@ by_step q item s old counts list r new after listed h e k =
       asked = elim r as (λ r. OnOk r (IsFor (Replaying q) item.content)) [ Ok a ↦ d.asked | Err x ↦ tt ];
       accepted = elim r as (λ r. OnOk r (IsUnmixed q (table_of id o) s) → OnOk r (MixesQueues (Replaying q) (table_of id o) item.content → ⊥)) [ Ok a ↦ λ u. d.alone (table_of id o) u | Err x ↦ λ u. tt ] k.accepted;
       ok = elim r as (λ r. OnOk r (after_step q (table_of id o) s ≡ Some (finite.get new id)) → OnOk r (after_content (Replaying q) id o item.content ≡ Some (finite.get new id))) [ Ok a ↦ λ u. d.after o ∙ u | Err x ↦ λ u. tt ] k.ok;
-      counts_ok = elim r as (λ r. OnOk r (after ≡ counts_after_step q (table_of id o) s counts) → OnOk r (after ≡ counts_after_content (Replaying q) (table_of id o) item.content counts)) [ Ok a ↦ λ u. u ∙ sym (d.counted (table_of id o) counts) | Err x ↦ λ u. tt ] k.counts_ok;
-      cleaned = elim r as (λ r. OnOk r (listed ≡ list ++ cleaned_by_steps q (record { region = id; step = s } ∷ [])) → OnOk r (listed ≡ list ++ listed_by (Replaying q) item)) [ Ok a ↦ λ u. u ∙ ap (λ l. list ++ l) (sym d.listed) | Err x ↦ λ u. tt ] k.cleaned;
+      counts_ok = elim r as (λ r. OnOk r (after ≡ counts_after_step q (table_of id o) s counts) →
+          OnOk r (after ≡ counts_after_content (Replaying q) (table_of id o) item.content counts))
+          [ Ok a ↦ λ u. u ∙ sym (d.counted (table_of id o) counts) | Err x ↦ λ u. tt ] k.counts_ok;
+      cleaned = elim r as (λ r. OnOk r (listed ≡ list ++ cleaned_by_steps q (record { region = id; step = s } ∷ [])) →
+          OnOk r (listed ≡ list ++ listed_by (Replaying q) item)) [ Ok a ↦ λ u. u ∙ ap (λ l. list ++ l) (sym d.listed) | Err x ↦ λ u. tt ] k.cleaned;
       err = k.err;
       counts_err = k.counts_err;
       cleaned_err = k.cleaned_err;
@@ -118,7 +128,9 @@ by_step q item s old counts list r new after listed h e k =
     }
 
 -- an item without a step is skipped
-pub without_step : (q : LogQueue) (id : ℕ) (content : Content) (old : Tables) (counts : Counts) (list : List ℕ) → IsReplayed q content → content_step content ≡ None → IsItemWritten (Replaying q) (record { raft_group_id = id; content = content }) old counts list (Ok tt) old counts list
+pub without_step : (q : LogQueue) (id : ℕ) (content : Content) (old : Tables) (counts : Counts) (list : List ℕ) → IsReplayed q content →
+    content_step content ≡ None → IsItemWritten (Replaying q) (record { raft_group_id = id; content = content }) old counts list
+    (Ok tt) old counts list
 without_step q id (entries es) old counts list h e = absurd (none_some (sym e))
 without_step q id (command c) old counts list h e = absurd (none_some (sym e))
 without_step q id (pair p) old counts list h e = go (is_reserved p.key) refl e
@@ -131,7 +143,9 @@ without_step q id (pair p) old counts list h e = go (is_reserved p.key) refl e
 
     go : (b : Bool) → is_reserved p.key ≡ b → cond b None (pair_step p.op_type p.key p.value p.file_id) ≡ None → IsItemWritten (Replaying q) (record { raft_group_id = id; content = pair p }) old counts list (Ok tt) old counts list
     go true is e =
-        skipped_by (Replaying q) (record { raft_group_id = id; content = pair p }) old counts list (λ f. absurd (false≢true (sym f ∙ is))) (λ m. m) (reserved_counts (Replaying q) (table_in old id) p counts is) (none_listed (Replaying q) (record { raft_group_id = id; content = pair p }) refl)
+        skipped_by (Replaying q) (record { raft_group_id = id; content = pair p }) old counts list (λ f. absurd (false≢true (sym f ∙ is))) (λ m. m)
+        (reserved_counts (Replaying q) (table_in old id) p counts is)
+        (none_listed (Replaying q) (record { raft_group_id = id; content = pair p }) refl)
         (reserved_step (Replaying q) id (finite.get old id) p is)
     go false is e = absurd (of_pair p.op_type p.value p.file_id (h is) e)
 
@@ -152,7 +166,8 @@ no_step_is item e = go (content_step item.content) e
 
 -- ---- a region that is cleaned
 
-pub clean_taken : (q : LogQueue) (id : ℕ) (old : Tables) (counts : Counts) (list : List ℕ) (new : Tables) (after : Counts) (listed : List ℕ) → new ≡ finite.remove old id → after ≡ with_table_deleted (table_in old id) counts → IsRecounted (table_in old id) (empty_table id) counts after
+pub clean_taken : (q : LogQueue) (id : ℕ) (old : Tables) (counts : Counts) (list : List ℕ) (new : Tables) (after : Counts) (listed : List ℕ) →
+    new ≡ finite.remove old id → after ≡ with_table_deleted (table_in old id) counts → IsRecounted (table_in old id) (empty_table id) counts after
     → listed ≡ list ++ cleaned_by_steps q (record { region = id; step = Clean } ∷ []) → IsStepTaken q id Clean old counts list (Ok tt) new after listed
 clean_taken q id old counts list new after listed e k r l =
     let gone : finite.get new id ≡ None = ap (λ m. finite.get m id) e ∙ get_gone old id in
@@ -179,7 +194,8 @@ put_cleans : (q : LogQueue) (id : ℕ) (key value : List ℕ) (file : FileId) �
 put_cleans Append id key value file = refl
 put_cleans Rewrite id key value file = refl
 
-pub put_tried : (q : LogQueue) (id : ℕ) (key value : List ℕ) (file : FileId) (old new : Tables) (u t : Table) (counts after : Counts) (list : List ℕ) (b : Bool) → finite.get old id ≡ Some u → new ≡ finite.insert old id t → IsRecounted u t counts after
+pub put_tried : (q : LogQueue) (id : ℕ) (key value : List ℕ) (file : FileId) (old new : Tables) (u t : Table) (counts after : Counts) (list : List ℕ)
+    (b : Bool) → finite.get old id ≡ Some u → new ≡ finite.insert old id t → IsRecounted u t counts after
     → MatchBool b ((t ≡ with_pair u key value file) × (after ≡ with_added file.queue 1 (with_pair_deleted (file_at u.keys key) counts)) × (u.entries ≢ [])) ((t ≡ u) × (after ≡ counts))
     → IsStepTaken q id (Put key value file) old counts list (cond b (Ok tt) (Err errors.Memory)) new after list
 put_tried q id key value file old new u t counts after list b is e r h = go b h

@@ -36,25 +36,32 @@ put_joined queue m newer old id counts (Ok end) new after p there one recounted 
 put_joined queue m newer old id counts (Err e) new after p there one recounted = record { ok = λ run. tt; answer = tt; fault = p.fault; few = tt; one = one; deleted = λ c n. tt; recounted = recounted }
 
 -- the same told of a call
-pub put_by : (queue : LogQueue) (m : Mark) (newer : Table) (old : Tables) (id : ℕ) (counts : Counts) (r : Result ℕ Error) (new : Tables) (after : Counts) (t n : Table) (k : Counts) → t ≡ table_in old id → n ≡ table_in new id → k ≡ counts → IsPut queue m newer k r t n
+pub put_by : (queue : LogQueue) (m : Mark) (newer : Table) (old : Tables) (id : ℕ) (counts : Counts) (r : Result ℕ Error) (new : Tables)
+    (after : Counts) (t n : Table) (k : Counts) → t ≡ table_in old id → n ≡ table_in new id → k ≡ counts → IsPut queue m newer k r t n
     → OnOk r (finite.get new id ≡ Some (table_in new id)) → new ≡ with_table old id (finite.get new id) → IsRecounted (table_in old id) (table_in new id) counts after → IsTableJoined queue m (Some newer) old id counts r new after
 put_by queue m newer old id counts r new after t n k e f g p =
     put_joined queue m newer old id counts r new after (subst (λ t. IsPut queue m newer counts r t (table_in new id)) e (subst (λ n. IsPut queue m newer counts r t n) f (subst (λ k. IsPut queue m newer k r t n) g p)))
 
 -- .. at a table that was there
-pub put_there : (queue : LogQueue) (m : Mark) (newer : Table) (old : Tables) (id : ℕ) (counts : Counts) (r : Result ℕ Error) (new : Tables) (after : Counts) (t own n : Table) → finite.get old id ≡ Some t → own ≡ newer → new ≡ finite.insert old id n → IsPut queue m own counts r t n → IsRecounted t n counts after
+pub put_there : (queue : LogQueue) (m : Mark) (newer : Table) (old : Tables) (id : ℕ) (counts : Counts) (r : Result ℕ Error) (new : Tables)
+    (after : Counts) (t own n : Table) → finite.get old id ≡ Some t → own ≡ newer → new ≡ finite.insert old id n → IsPut queue m own counts r t n →
+    IsRecounted t n counts after
     → IsTableJoined queue m (Some newer) old id counts r new after
 put_there queue m newer old id counts r new after t own n was own_is put p recounted =
     let there : finite.get new id ≡ Some n = ap (λ n. finite.get n id) put ∙ get_own old id n in
     let now : n ≡ table_in new id = sym (ap (table_of id) there) in
     let before : t ≡ table_in old id = sym (ap (table_of id) was) in
     put_by queue m newer old id counts r new after t n counts before now refl (subst (λ o. IsPut queue m o counts r t n) own_is p)
-    (elim r as (λ r. OnOk r (finite.get new id ≡ Some (table_in new id))) [ Ok x ↦ there ∙ ap Some now | Err x ↦ tt ]) (one_written old new id n put) (subst (λ t. IsRecounted t (table_in new id) counts after) before (subst (λ n. IsRecounted t n counts after) now recounted))
+    (elim r as (λ r. OnOk r (finite.get new id ≡ Some (table_in new id))) [ Ok x ↦ there ∙ ap Some now | Err x ↦ tt ]) (one_written old new id n put)
+    (subst (λ t. IsRecounted t (table_in new id) counts after) before (subst (λ n. IsRecounted t n counts after) now recounted))
 
 -- there was no memory for a table
-pub not_joined : (queue : LogQueue) (m : Mark) (newer : Option Table) (old : Tables) (id : ℕ) (counts : Counts) (r : Result ℕ Error) (new : Tables) (after : Counts) → r ≡ Err errors.Memory → new ≡ with_table old id (finite.get new id) → IsRecounted (table_in old id) (table_in new id) counts after
+pub not_joined : (queue : LogQueue) (m : Mark) (newer : Option Table) (old : Tables) (id : ℕ) (counts : Counts) (r : Result ℕ Error) (new : Tables)
+    (after : Counts) → r ≡ Err errors.Memory → new ≡ with_table old id (finite.get new id) →
+    IsRecounted (table_in old id) (table_in new id) counts after
     → IsTableJoined queue m newer old id counts r new after
-not_joined queue m newer old id counts r new after e one recounted = subst (λ r. IsTableJoined queue m newer old id counts r new after) (sym e) record { ok = λ run. tt; answer = tt; fault = λ run. tt; few = tt; one = one; deleted = λ c n. tt; recounted = recounted }
+not_joined queue m newer old id counts r new after e one recounted = subst (λ r. IsTableJoined queue m newer old id counts r new after)
+    (sym e) record { ok = λ run. tt; answer = tt; fault = λ run. tt; few = tt; one = one; deleted = λ c n. tt; recounted = recounted }
 
 -- ---- a newer table whose region has no older one
 
@@ -62,7 +69,8 @@ nothing_at_reach : (m : Mark) (id : ℕ) → 0 ≡ end_at_reach m (empty_table i
 unfolding entries_within end_of
 nothing_at_reach m id = refl
 
-pub first_joined : (queue : LogQueue) (m : Mark) (newer : Table) (old : Tables) (id : ℕ) (counts : Counts) (new : Tables) (after : Counts) → finite.get old id ≡ None → newer.region_id ≡ id → new ≡ finite.insert old id newer → IsRecounted (table_in old id) (table_in new id) counts after
+pub first_joined : (queue : LogQueue) (m : Mark) (newer : Table) (old : Tables) (id : ℕ) (counts : Counts) (new : Tables) (after : Counts) →
+    finite.get old id ≡ None → newer.region_id ≡ id → new ≡ finite.insert old id newer → IsRecounted (table_in old id) (table_in new id) counts after
     → IsTableJoined queue m (Some newer) old id counts (Ok 0) new after
 first_joined queue m newer old id counts new after none own put recounted =
     let there : finite.get new id ≡ Some newer = ap (λ n. finite.get n id) put ∙ get_own old id newer in
@@ -75,7 +83,9 @@ first_joined queue m newer old id counts new after none own put recounted =
       few = λ q. omega (arith, ap (live_of q) now);
     }) (there ∙ ap Some (sym now)) (one_written old new id newer put) recounted
 
-pub first_refused : (queue : LogQueue) (m : Mark) (newer : Table) (old : Tables) (id : ℕ) (counts : Counts) (e : Error) (new : Tables) (after : Counts) → (e ≡ errors.Memory) ⊎ ((e ≡ errors.Full) × ((q : LogQueue) × (2 ^ 64 ≤ live q counts + live_of q newer))) → new ≡ with_table old id (finite.get new id) → IsRecounted (table_in old id) (table_in new id) counts after
+pub first_refused : (queue : LogQueue) (m : Mark) (newer : Table) (old : Tables) (id : ℕ) (counts : Counts) (e : Error) (new : Tables)
+    (after : Counts) → (e ≡ errors.Memory) ⊎ ((e ≡ errors.Full) × ((q : LogQueue) × (2 ^ 64 ≤ live q counts + live_of q newer))) →
+    new ≡ with_table old id (finite.get new id) → IsRecounted (table_in old id) (table_in new id) counts after
     → IsTableJoined queue m (Some newer) old id counts (Err e) new after
 first_refused queue m newer old id counts e new after fault one recounted = record {
   ok = λ run. tt;
@@ -108,15 +118,18 @@ nothing_joined queue m old id counts e = record {
 }
 
 -- an empty newer table says the same, where the region was not cleaned
-pub empty_joined : (queue : LogQueue) (m : Mark) (old : Tables) (id : ℕ) (counts : Counts) (t : Table) (r : Result ℕ Error) (new : Tables) (after : Counts) → finite.get old id ≡ Some t → m.cleaned ≡ false → IsTableJoined queue m (Some (empty_table id)) old id counts r new after → IsTableJoined queue m None old id counts r new after
+pub empty_joined : (queue : LogQueue) (m : Mark) (old : Tables) (id : ℕ) (counts : Counts) (t : Table) (r : Result ℕ Error) (new : Tables)
+    (after : Counts) → finite.get old id ≡ Some t → m.cleaned ≡ false → IsTableJoined queue m (Some (empty_table id)) old id counts r new after →
+    IsTableJoined queue m None old id counts r new after
 empty_joined queue m old id counts t r new after e live p = record {
   ok = λ run. subst (λ x. OnOk r (x ≡ Some (finite.get new id))) (sym same) (p.ok run);
   answer = p.answer;
   fault = p.fault;
-  few = elim r as (λ r. OnOk r ((q : LogQueue) → live_of q (table_in new id) ≤ live_of q (table_in old id) + live_in q (Some (empty_table id))) → OnOk r ((q : LogQueue) → live_of q (table_in new id) ≤ live_of q (table_in old id) + live_in q None)) [
-    | Ok x ↦ λ f q. omega (arith, f q, live_of_empty q id)
-    | Err x ↦ λ f. tt
-  ] p.few;
+  few = elim r as (λ r. OnOk r ((q : LogQueue) → live_of q (table_in new id) ≤ live_of q (table_in old id) + live_in q (Some (empty_table id))) →
+      OnOk r ((q : LogQueue) → live_of q (table_in new id) ≤ live_of q (table_in old id) + live_in q None)) [
+        | Ok x ↦ λ f q. omega (arith, f q, live_of_empty q id)
+        | Err x ↦ λ f. tt
+      ] p.few;
   one = p.one;
   deleted = λ c n. absurd (false≢true (sym live ∙ c));
   recounted = p.recounted;
@@ -130,7 +143,8 @@ empty_joined queue m old id counts t r new after e live p = record {
     same = subst (λ o. table_over_older queue id m None o ≡ table_over_older queue id m (Some (empty_table id)) o) (sym e) (ap (λ b. there_if b (table_over queue m (empty_table id) t)) (there m.cleaned live))
 
 -- the older one goes
-pub cleaned_joined : (queue : LogQueue) (m : Mark) (old : Tables) (id : ℕ) (counts : Counts) (t : Table) (end : ℕ) (new : Tables) (after : Counts) → finite.get old id ≡ Some t → m.cleaned ≡ true → is_refused_over queue m t.entries ≡ false → end ≡ end_at_reach m t → new ≡ finite.remove old id
+pub cleaned_joined : (queue : LogQueue) (m : Mark) (old : Tables) (id : ℕ) (counts : Counts) (t : Table) (end : ℕ) (new : Tables) (after : Counts) →
+    finite.get old id ≡ Some t → m.cleaned ≡ true → is_refused_over queue m t.entries ≡ false → end ≡ end_at_reach m t → new ≡ finite.remove old id
     → after ≡ with_table_deleted (table_in old id) counts → IsRecounted (table_in old id) (empty_table id) counts after → IsTableJoined queue m None old id counts (Ok end) new after
 cleaned_joined queue m old id counts t end new after e cleaned accepted answer gone deleted recounted =
     let none : finite.get new id ≡ None = ap (λ n. finite.get n id) gone ∙ get_gone old id in
@@ -145,7 +159,8 @@ cleaned_joined queue m old id counts t end new after e cleaned accepted answer g
     }
 
 -- or the meeting is refused
-pub mark_refused : (queue : LogQueue) (m : Mark) (old : Tables) (id : ℕ) (counts : Counts) (t : Table) (x : Error) → finite.get old id ≡ Some t → IsMarkFault (is_refused_over queue m t.entries) x → IsTableJoined queue m None old id counts (Err x) old counts
+pub mark_refused : (queue : LogQueue) (m : Mark) (old : Tables) (id : ℕ) (counts : Counts) (t : Table) (x : Error) → finite.get old id ≡ Some t →
+    IsMarkFault (is_refused_over queue m t.entries) x → IsTableJoined queue m None old id counts (Err x) old counts
 mark_refused queue m old id counts t x e f = record { ok = λ run. tt; answer = tt; fault = λ run. go x f; few = tt; one = sym (with_same old id); deleted = λ c n. tt; recounted = λ q. refl }
   where
     go : (x : Error) → IsMarkFault (is_refused_over queue m t.entries) x → IsFaultUnder queue counts m (empty_table id) (table_in old id) x
@@ -154,14 +169,23 @@ mark_refused queue m old id counts t x e f = record { ok = λ run. tt; answer = 
     go _ f = absurd f
 
 -- the same, where the region has these tables elsewhere
-pub joined_elsewhere : (queue : LogQueue) (m : Mark) (newer : Option Table) (old older : Tables) (id : ℕ) (counts before : Counts) (r : Result ℕ Error) (new next : Tables) (after : Counts) → finite.get older id ≡ finite.get old id → before ≡ counts → finite.get next id ≡ finite.get new id → next ≡ with_table older id (finite.get next id)
+pub joined_elsewhere : (queue : LogQueue) (m : Mark) (newer : Option Table) (old older : Tables) (id : ℕ) (counts before : Counts)
+    (r : Result ℕ Error) (new next : Tables) (after : Counts) → finite.get older id ≡ finite.get old id → before ≡ counts →
+    finite.get next id ≡ finite.get new id → next ≡ with_table older id (finite.get next id)
     → IsTableJoined queue m newer old id counts r new after → IsTableJoined queue m newer older id before r next after
 joined_elsewhere queue m newer old older id counts before r new next after e k f one p = record {
-  ok = λ run. subst (λ o. OnOk r (table_over_older queue id m newer o ≡ Some (finite.get next id))) (sym e) (subst (λ n. OnOk r (table_over_older queue id m newer (finite.get old id) ≡ Some n)) (sym f) (p.ok (subst (λ o. IsRunOver queue m (table_of id newer) (table_of id o)) e run)));
+  ok = λ run. subst (λ o. OnOk r (table_over_older queue id m newer o ≡ Some (finite.get next id))) (sym e)
+      (subst (λ n. OnOk r (table_over_older queue id m newer (finite.get old id) ≡ Some n)) (sym f)
+      (p.ok (subst (λ o. IsRunOver queue m (table_of id newer) (table_of id o)) e run)));
   answer = subst (λ o. IfOk r (λ end. end ≡ end_at_reach m (table_of id o))) (sym e) p.answer;
-  fault = λ run. subst (λ c. IfErr r (IsFaultUnder queue c m (table_of id newer) (table_in older id))) (sym k) (subst (λ o. IfErr r (IsFaultUnder queue counts m (table_of id newer) (table_of id o))) (sym e) (p.fault (subst (λ o. IsRunOver queue m (table_of id newer) (table_of id o)) e run)));
-  few = subst (λ o. OnOk r ((q : LogQueue) → live_of q (table_in next id) ≤ live_of q (table_of id o) + live_in q newer)) (sym e) (subst (λ n. OnOk r ((q : LogQueue) → live_of q (table_of id n) ≤ live_of q (table_in old id) + live_in q newer)) (sym f) p.few);
+  fault = λ run. subst (λ c. IfErr r (IsFaultUnder queue c m (table_of id newer) (table_in older id))) (sym k)
+      (subst (λ o. IfErr r (IsFaultUnder queue counts m (table_of id newer) (table_of id o))) (sym e)
+      (p.fault (subst (λ o. IsRunOver queue m (table_of id newer) (table_of id o)) e run)));
+  few = subst (λ o. OnOk r ((q : LogQueue) → live_of q (table_in next id) ≤ live_of q (table_of id o) + live_in q newer)) (sym e)
+      (subst (λ n. OnOk r ((q : LogQueue) → live_of q (table_of id n) ≤ live_of q (table_in old id) + live_in q newer)) (sym f) p.few);
   one = one;
   deleted = λ c n. subst (λ x. OnOk r (after ≡ with_table_deleted (table_in older id) x)) (sym k) (subst (λ o. OnOk r (after ≡ with_table_deleted (table_of id o) counts)) (sym e) (p.deleted c n));
-  recounted = subst (λ c. IsRecounted (table_in older id) (table_in next id) c after) (sym k) (subst (λ o. IsRecounted (table_of id o) (table_in next id) counts after) (sym e) (subst (λ n. IsRecounted (table_in old id) (table_of id n) counts after) (sym f) p.recounted));
+  recounted = subst (λ c. IsRecounted (table_in older id) (table_in next id) c after) (sym k)
+      (subst (λ o. IsRecounted (table_of id o) (table_in next id) counts after) (sym e)
+      (subst (λ n. IsRecounted (table_in old id) (table_of id n) counts after) (sym f) p.recounted));
 }

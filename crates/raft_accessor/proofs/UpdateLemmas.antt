@@ -14,7 +14,9 @@ use Rattle.raft_accessor.proofs.MapLemmas.{get_own, insert_same, one_written, on
 
 module _ {F R : Type 0} (g : TableCall F R) (f : F) (m : Tables) (id : ℕ) (counts : Counts) where
   -- the table was there
-  pub updated : (u : Table) (r : Result R Error) (new : Table) (after : Counts) (n : Tables) → finite.get m id ≡ Some u → MayChange g f (table_in m id) counts → TableCalls g f (table_in m id) counts r new after → n ≡ finite.insert m id new → IsUpdated g f m id counts r n after
+  pub updated : (u : Table) (r : Result R Error) (new : Table) (after : Counts) (n : Tables) → finite.get m id ≡ Some u →
+      MayChange g f (table_in m id) counts → TableCalls g f (table_in m id) counts r new after → n ≡ finite.insert m id new →
+      IsUpdated g f m id counts r n after
   updated u r new after n is may ch e =
       let now : table_in n id ≡ new = ap (λ x. table_in x id) e ∙ ap (table_of id) (get_own m id new) in
       let here : TableCalls g f (table_in m id) counts r (table_in n id) after = subst (λ x. TableCalls g f (table_in m id) counts r x after) (sym now) ch in
@@ -74,7 +76,9 @@ module _ {F R : Type 0} (g : TableCall F R) (f : F) (m : Tables) (id : ℕ) (cou
       }
 
 -- a table becomes the outcome of a change
-pub taken : {R : Type 0} (m n : Tables) (id : ℕ) (u new : Table) (outcome : Table → Option Table) (IsFault : Error → Type 0) (counts after : Counts) (a : R) → table_in m id ≡ u → outcome u ≡ Some new → IsRecounted u new counts after → n ≡ finite.insert m id new → BecomesOutcome (outcome (table_in m id)) IsFault m id counts (Ok a) n after
+pub taken : {R : Type 0} (m n : Tables) (id : ℕ) (u new : Table) (outcome : Table → Option Table) (IsFault : Error → Type 0) (counts after : Counts)
+    (a : R) → table_in m id ≡ u → outcome u ≡ Some new → IsRecounted u new counts after → n ≡ finite.insert m id new →
+    BecomesOutcome (outcome (table_in m id)) IsFault m id counts (Ok a) n after
 taken m n id u new outcome IsFault counts after a was o r e =
     let now : table_in n id ≡ new = ap (λ x. table_in x id) e ∙ ap (table_of id) (get_own m id new) in
     record {
@@ -88,7 +92,9 @@ taken m n id u new outcome IsFault counts after a was o r e =
     }
 
 -- .. one that was there
-pub taken_there : {R : Type 0} (m n : Tables) (id : ℕ) (u new : Table) (outcome : Table → Option Table) (IsFault : Error → Type 0) (counts after : Counts) (a : R) → finite.get m id ≡ Some u → outcome u ≡ Some new → IsRecounted u new counts after → n ≡ finite.insert m id new → BecomesOutcome (outcome (table_in m id)) IsFault m id counts (Ok a) n after
+pub taken_there : {R : Type 0} (m n : Tables) (id : ℕ) (u new : Table) (outcome : Table → Option Table) (IsFault : Error → Type 0)
+    (counts after : Counts) (a : R) → finite.get m id ≡ Some u → outcome u ≡ Some new → IsRecounted u new counts after → n ≡ finite.insert m id new →
+    BecomesOutcome (outcome (table_in m id)) IsFault m id counts (Ok a) n after
 taken_there m n id u new outcome IsFault counts after a is o r e = taken m n id u new outcome IsFault counts after a (ap (table_of id) is) o r e
 
 -- a change that is not made, as for want of memory

@@ -25,7 +25,23 @@ use Rattle.raft_accessor.specs.ItemWrites.{IsItemWritten}
 use Rattle.raft_base.specs.Corruption.{IsCorruption}
 use Rattle.raft_table.specs.TakenSteps.{IsReplayFault}
 use Rattle.raft_accessor.specs.Updates.{BecomesOutcome}
-use Rattle.raft_accessor.specs.Writes.{Writing, Appending, Replaying, queue_of, after_content, counts_after_content, counts_after_change, after_rewrite_put, with_change, lists, listed_by, cleaned_by_content, IsFor, MixesQueues, IsWriteFault}
+use Rattle.raft_accessor.specs.Writes.{
+  Writing,
+  Appending,
+  Replaying,
+  queue_of,
+  after_content,
+  counts_after_content,
+  counts_after_change,
+  after_rewrite_put,
+  with_change,
+  lists,
+  listed_by,
+  cleaned_by_content,
+  IsFor,
+  MixesQueues,
+  IsWriteFault,
+}
 use Rattle.raft_accessor.proofs.MapLemmas.{one_same}
 
 -- new items meet no records of the other queue
@@ -34,17 +50,22 @@ none_met (Ok x) = λ m. m
 none_met (Err e) = tt
 
 -- what is done to the table is what the content asks for, and no region is listed
-pub written_by : (w : Writing) (item : Item) (outcome : Option Table) (IsFault : Error → Type 0) (old : Tables) (counts : Counts) (list : List ℕ) (r : Result Unit Error) (new : Tables) (after : Counts) → BecomesOutcome outcome IsFault old item.raft_group_id counts r new after
-    → IsFor w item.content → OnOk r (MixesQueues w (table_in old item.raft_group_id) item.content → ⊥) → OnOk r (after ≡ counts_after_content w (table_in old item.raft_group_id) item.content counts) → listed_by w item ≡ [] → after_content w item.raft_group_id (finite.get old item.raft_group_id) item.content ≡ option_map Some outcome
+pub written_by : (w : Writing) (item : Item) (outcome : Option Table) (IsFault : Error → Type 0) (old : Tables) (counts : Counts) (list : List ℕ)
+    (r : Result Unit Error) (new : Tables) (after : Counts) → BecomesOutcome outcome IsFault old item.raft_group_id counts r new after
+    → IsFor w item.content → OnOk r (MixesQueues w (table_in old item.raft_group_id) item.content → ⊥) →
+    OnOk r (after ≡ counts_after_content w (table_in old item.raft_group_id) item.content counts) → listed_by w item ≡ [] →
+    after_content w item.raft_group_id (finite.get old item.raft_group_id) item.content ≡ option_map Some outcome
     → ((e : Error) → IsFault e → IsWriteFault w item.raft_group_id (finite.get old item.raft_group_id) (live (queue_of w) counts) item.content e) → IsItemWritten w item old counts list r new after list
 written_by w item outcome IsFault old counts list r new after h asked alone counted none is fault = record {
   accepted = alone;
   counts_ok = counted;
   asked = elim r as (λ r. OnOk r (IsFor w item.content)) [ Ok a ↦ asked | Err x ↦ tt ];
-  ok = elim r as (λ r. OnOk r (outcome ≡ Some (table_in new item.raft_group_id)) → OnOk r (finite.get new item.raft_group_id ≡ Some (table_in new item.raft_group_id)) → OnOk r (after_content w item.raft_group_id (finite.get old item.raft_group_id) item.content ≡ Some (finite.get new item.raft_group_id))) [
-    | Ok a ↦ λ e t. is ∙ ap (option_map Some) e ∙ ap Some (sym t)
-    | Err x ↦ λ e t. tt
-  ] h.ok h.there;
+  ok = elim r as (λ r. OnOk r (outcome ≡ Some (table_in new item.raft_group_id)) →
+      OnOk r (finite.get new item.raft_group_id ≡ Some (table_in new item.raft_group_id)) →
+      OnOk r (after_content w item.raft_group_id (finite.get old item.raft_group_id) item.content ≡ Some (finite.get new item.raft_group_id))) [
+        | Ok a ↦ λ e t. is ∙ ap (option_map Some) e ∙ ap Some (sym t)
+        | Err x ↦ λ e t. tt
+      ] h.ok h.there;
   cleaned = elim r as (λ r. OnOk r (list ≡ list ++ listed_by w item)) [ Ok a ↦ sym (append-nil list) ∙ sym (ap (λ l. list ++ l) none) | Err x ↦ tt ];
   err = h.err;
   counts_err = h.counts_err;
@@ -58,7 +79,9 @@ written_by w item outcome IsFault old counts list r new after h asked alone coun
 }
 
 -- an item that is refused changes nothing
-pub refused_by : (w : Writing) (item : Item) (old : Tables) (counts : Counts) (list : List ℕ) (e : Error) → IsWriteFault w item.raft_group_id (finite.get old item.raft_group_id) (live (queue_of w) counts) item.content e → IsItemWritten w item old counts list (Err e) old counts list
+pub refused_by : (w : Writing) (item : Item) (old : Tables) (counts : Counts) (list : List ℕ) (e : Error) →
+    IsWriteFault w item.raft_group_id (finite.get old item.raft_group_id) (live (queue_of w) counts) item.content e →
+    IsItemWritten w item old counts list (Err e) old counts list
 refused_by w item old counts list e fault = record {
   accepted = tt;
   counts_ok = tt;
@@ -74,7 +97,11 @@ refused_by w item old counts list e fault = record {
 }
 
 -- nor does one that is skipped
-pub skipped_by : (w : Writing) (item : Item) (old : Tables) (counts : Counts) (list : List ℕ) → IsFor w item.content → (MixesQueues w (table_in old item.raft_group_id) item.content → ⊥) → counts_after_content w (table_in old item.raft_group_id) item.content counts ≡ counts → listed_by w item ≡ [] → after_content w item.raft_group_id (finite.get old item.raft_group_id) item.content ≡ Some (finite.get old item.raft_group_id) → IsItemWritten w item old counts list (Ok tt) old counts list
+pub skipped_by : (w : Writing) (item : Item) (old : Tables) (counts : Counts) (list : List ℕ) → IsFor w item.content →
+    (MixesQueues w (table_in old item.raft_group_id) item.content → ⊥) →
+    counts_after_content w (table_in old item.raft_group_id) item.content counts ≡ counts → listed_by w item ≡ [] →
+    after_content w item.raft_group_id (finite.get old item.raft_group_id) item.content ≡ Some (finite.get old item.raft_group_id) →
+    IsItemWritten w item old counts list (Ok tt) old counts list
 skipped_by w item old counts list asked alone counted none is = record {
   accepted = alone;
   counts_ok = sym counted;
@@ -91,17 +118,23 @@ skipped_by w item old counts list asked alone counted none is = record {
 
 -- ---- why runs are refused
 
-by_append : (id : ℕ) (o : Option Table) (rs : List EntryIndex) (p : Option (List EntryIndex)) (counts : Counts) (e : Error) → entries_after_append (table_of id o).entries rs ≡ p → IsTableRunFault Append counts (table_of id o).entries p e → IsWriteFault Appending id o (live Append counts) (entries rs) e
+by_append : (id : ℕ) (o : Option Table) (rs : List EntryIndex) (p : Option (List EntryIndex)) (counts : Counts) (e : Error) →
+    entries_after_append (table_of id o).entries rs ≡ p → IsTableRunFault Append counts (table_of id o).entries p e →
+    IsWriteFault Appending id o (live Append counts) (entries rs) e
 by_append id o rs None counts (errors.Corruption text) is h = inr (ap (λ p. option_map Some (option_map {U = Table} (λ es. record (table_of id o) { entries = es }) p)) is)
 by_append id o rs None counts errors.Memory is h = tt
 by_append id o rs (Some after) counts errors.Full is h = append_full Append counts (table_of id o).entries rs (subst (λ p. IsTableRunFault Append counts (table_of id o).entries p errors.Full) (sym is) h)
 by_append id o rs (Some after) counts errors.Memory is h = tt
 by_append id o rs p counts e is h = absurd h
 
-pub append_fault : (id : ℕ) (o : Option Table) (rs : List EntryIndex) (counts : Counts) (e : Error) → IsTableRunFault Append counts (table_of id o).entries (entries_after_append (table_of id o).entries rs) e → IsWriteFault Appending id o (live Append counts) (entries rs) e
+pub append_fault : (id : ℕ) (o : Option Table) (rs : List EntryIndex) (counts : Counts) (e : Error) →
+    IsTableRunFault Append counts (table_of id o).entries (entries_after_append (table_of id o).entries rs) e →
+    IsWriteFault Appending id o (live Append counts) (entries rs) e
 append_fault id o rs counts e h = by_append id o rs _ counts e refl h
 
-by_replay : (q : LogQueue) (id : ℕ) (o : Option Table) (rs : List EntryIndex) (p : Option (List EntryIndex)) (counts : Counts) (e : Error) → entries_after_replay q (table_of id o).entries rs ≡ p → IsTableRunFault q counts (table_of id o).entries p e → IsWriteFault (Replaying q) id o (live q counts) (entries rs) e
+by_replay : (q : LogQueue) (id : ℕ) (o : Option Table) (rs : List EntryIndex) (p : Option (List EntryIndex)) (counts : Counts) (e : Error) →
+    entries_after_replay q (table_of id o).entries rs ≡ p → IsTableRunFault q counts (table_of id o).entries p e →
+    IsWriteFault (Replaying q) id o (live q counts) (entries rs) e
 by_replay q id o rs None counts (errors.Corruption text) is h = inr (ap (λ p. option_map Some (option_map {U = Table} (λ es. record (table_of id o) { entries = es }) p)) is)
 by_replay q id o rs None counts errors.Memory is h = tt
 by_replay q id o rs (Some after) counts errors.Full is h = replay_full q q counts (table_of id o).entries rs (subst (λ p. IsTableRunFault q counts (table_of id o).entries p errors.Full) (sym is) h)

@@ -1,6 +1,6 @@
 //! The tables of some regions.
 
-ghost use Rattle.std.specs.Prelude.{◌≡◌, ◌≢◌, ◌≤◌, ◌<◌, ◌+◌, ◌↔◌, ℕ, nat_eq, List, ◌++◌, map, length, IsPermutation, IsTrue, OnOk, OnSome, IfOk, IfErr, IfSome, Some, None, ok_or, option_map};
+ghost use Rattle.std.specs.Prelude.{◌≡◌, ◌≢◌, ◌≤◌, ◌+◌, ◌↔◌, ℕ, nat_eq, List, ◌++◌, map, length, IsPermutation, IsTrue, OnOk, OnSome, IfOk, IfErr, IfSome, Some, None, ok_or, option_map};
 ghost use Rattle.std.specs.FinMap as finite;
 ghost use Rattle.std.specs.List.{IsDistinct, FoldsTo};
 ghost use Rattle.std.specs.Map.{keys_of, lookup};

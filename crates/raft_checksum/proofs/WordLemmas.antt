@@ -94,7 +94,13 @@ unfolding bytes_then_zeros
 word_look_ups more w bs a b c d e f g h fits bytes pa pb pc pd pe pf pg ph =
     let last : 8 * (more + 0) + 8 ≡ 8 * more + 8 = omega arith in
     rw (xor_turned a b c d e f g h, pa, pb, pc, pd, pe, pf, pg, ph, bytes)
-    (sym (ap (λ n. bit_xor (crc_steps (8 * (more + 7) + 8) (byte_at 0 w)) (bit_xor (crc_steps (8 * (more + 6) + 8) (byte_at 1 w)) (bit_xor (crc_steps (8 * (more + 5) + 8) (byte_at 2 w)) (bit_xor (crc_steps (8 * (more + 4) + 8) (byte_at 3 w)) (bit_xor (crc_steps (8 * (more + 3) + 8) (byte_at 4 w)) (bit_xor (crc_steps (8 * (more + 2) + 8) (byte_at 5 w)) (bit_xor (crc_steps (8 * (more + 1) + 8) (byte_at 6 w)) (bit_xor (crc_steps n (byte_at 7 w)) 0)))))))) last)
+    (sym (ap (λ n. bit_xor (crc_steps (8 * (more + 7) + 8) (byte_at 0 w))
+    (bit_xor (crc_steps (8 * (more + 6) + 8) (byte_at 1 w))
+    (bit_xor (crc_steps (8 * (more + 5) + 8) (byte_at 2 w))
+    (bit_xor (crc_steps (8 * (more + 4) + 8) (byte_at 3 w))
+    (bit_xor (crc_steps (8 * (more + 3) + 8) (byte_at 4 w))
+    (bit_xor (crc_steps (8 * (more + 2) + 8) (byte_at 5 w))
+    (bit_xor (crc_steps (8 * (more + 1) + 8) (byte_at 6 w)) (bit_xor (crc_steps n (byte_at 7 w)) 0)))))))) last)
     ∙ word_bytes more w fits)
 
 -- one byte, by its look-up

@@ -26,18 +26,23 @@ no_first P Q {bytes} none front rest x y p e =
     none p.first (p.second ++ rest) x p.first_spells (e ∙ ap (λ (t : List ℕ). t ++ rest) p.split ∙ append_assoc p.first p.second rest)
 
 -- where the first was read, what is behind it is what is behind the first of any pair
-pub second_at : {X Y : Type 0} (P : List ℕ → X → Type 0) (Q : X → List ℕ → Y → Type 0) → HasOneFront P → {bytes mid : List ℕ} {x : X} → Reads P bytes mid x → (front rest : List ℕ) (x' : X) (y : Y) → (p : IsFollowedBy P Q front x' y) → bytes ≡ front ++ rest → (x ≡ x') × (mid ≡ p.second ++ rest)
+pub second_at : {X Y : Type 0} (P : List ℕ → X → Type 0) (Q : X → List ℕ → Y → Type 0) → HasOneFront P → {bytes mid : List ℕ} {x : X} →
+    Reads P bytes mid x → (front rest : List ℕ) (x' : X) (y : Y) → (p : IsFollowedBy P Q front x' y) → bytes ≡ front ++ rest →
+    (x ≡ x') × (mid ≡ p.second ++ rest)
 second_at P Q one {bytes} {mid} {x} r front rest x' y p e =
     let whole : r.front ++ mid ≡ p.first ++ (p.second ++ rest) = sym r.split ∙ e ∙ ap (λ (t : List ℕ). t ++ rest) p.split ∙ append_assoc p.first p.second rest in
     let same = one r.front p.first mid (p.second ++ rest) x x' r.spells p.first_spells whole in
     (same.1, append_cancel_left p.first mid (p.second ++ rest) (ap (λ (t : List ℕ). t ++ mid) (sym same.0) ∙ whole))
 
-pub no_second : {X Y : Type 0} (P : List ℕ → X → Type 0) (Q : X → List ℕ → Y → Type 0) → HasOneFront P → {bytes mid : List ℕ} {x : X} → Reads P bytes mid x → HasNoFront (Q x) mid → (front rest : List ℕ) (x' : X) (y : Y) → IsFollowedBy P Q front x' y → bytes ≡ front ++ rest → ⊥
+pub no_second : {X Y : Type 0} (P : List ℕ → X → Type 0) (Q : X → List ℕ → Y → Type 0) → HasOneFront P → {bytes mid : List ℕ} {x : X} →
+    Reads P bytes mid x → HasNoFront (Q x) mid → (front rest : List ℕ) (x' : X) (y : Y) → IsFollowedBy P Q front x' y → bytes ≡ front ++ rest → ⊥
 no_second P Q one {bytes} {mid} {x} r none front rest x' y p e =
     let at = second_at P Q one r front rest x' y p e in
     none p.second rest y (subst (λ (v : _). Q v p.second y) (sym at.0) p.second_spells) at.1
 
-pub pair_one_front : {X Y : Type 0} (P : List ℕ → X → Type 0) (Q : X → List ℕ → Y → Type 0) → HasOneFront P → ((x : X) → HasOneFront (Q x)) → (a b more rest : List ℕ) (x x' : X) (y y' : Y) → IsFollowedBy P Q a x y → IsFollowedBy P Q b x' y' → a ++ more ≡ b ++ rest → (a ≡ b) × (x ≡ x') × (y ≡ y')
+pub pair_one_front : {X Y : Type 0} (P : List ℕ → X → Type 0) (Q : X → List ℕ → Y → Type 0) → HasOneFront P → ((x : X) → HasOneFront (Q x)) →
+    (a b more rest : List ℕ) (x x' : X) (y y' : Y) → IsFollowedBy P Q a x y → IsFollowedBy P Q b x' y' → a ++ more ≡ b ++ rest →
+    (a ≡ b) × (x ≡ x') × (y ≡ y')
 pair_one_front P Q one two a b more rest x x' y y' p q e =
     let read : Reads P (a ++ more) (p.second ++ more) x = record { front = p.first; spells = p.first_spells; split = ap (λ (t : List ℕ). t ++ more) p.split ∙ append_assoc p.first p.second more } in
     let at = second_at P Q one read b rest x' y' q e in

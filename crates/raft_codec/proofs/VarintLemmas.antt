@@ -127,7 +127,9 @@ three_septets n many few =
 pub four_septets : (n : ℕ) → 128 ≤ n / 128 / 128 → n / 128 / 128 / 128 < 128 → varint n ≡ (n % 128 + 128) ∷ (n / 128 % 128 + 128) ∷ (n / 128 / 128 % 128 + 128) ∷ n / 128 / 128 / 128 ∷ []
 unfolding varint
 four_septets n many few =
-    septets_more 9 8 n refl (omega arith) ∙ ap (λ (t : List ℕ). (n % 128 + 128) ∷ t) (septets_more 8 7 (n / 128) refl (omega arith)) ∙ ap (λ (t : List ℕ). (n % 128 + 128) ∷ (n / 128 % 128 + 128) ∷ t) (septets_more 7 6 (n / 128 / 128) refl many) ∙ ap (λ (t : List ℕ). (n % 128 + 128) ∷ (n / 128 % 128 + 128) ∷ (n / 128 / 128 % 128 + 128) ∷ t) (septets_last 6 (n / 128 / 128 / 128) few)
+    septets_more 9 8 n refl (omega arith) ∙ ap (λ (t : List ℕ). (n % 128 + 128) ∷ t) (septets_more 8 7 (n / 128) refl (omega arith))
+    ∙ ap (λ (t : List ℕ). (n % 128 + 128) ∷ (n / 128 % 128 + 128) ∷ t) (septets_more 7 6 (n / 128 / 128) refl many)
+    ∙ ap (λ (t : List ℕ). (n % 128 + 128) ∷ (n / 128 % 128 + 128) ∷ (n / 128 / 128 % 128 + 128) ∷ t) (septets_last 6 (n / 128 / 128 / 128) few)
 
 -- what k + 1 septets spell
 record Spells (k n : ℕ) (bytes : List ℕ) : Type 0 where
@@ -267,7 +269,9 @@ short_below bytes n s =
     let most : 128 ^ length bytes ≤ 128 ^ 4 = pow-le-pow_right {n = 128} (omega arith) {i = length bytes} {j = 4} s.at_most_four in
     omega (arith, s.number.value, base_128-lt bytes, most)
 
-pub three_septets_read : (bytes : List ℕ) → 3 ≤ length bytes → 128 ≤ get_or bytes 0 0 → get_or bytes 0 0 < 256 → 128 ≤ get_or bytes 1 0 → get_or bytes 1 0 < 256 → get_or bytes 2 0 < 128 → Reads IsVarint bytes (drop 3 bytes) (get_or bytes 0 0 % 128 + 128 * (get_or bytes 1 0 % 128) + get_or bytes 2 0 * 16384)
+pub three_septets_read : (bytes : List ℕ) → 3 ≤ length bytes → 128 ≤ get_or bytes 0 0 → get_or bytes 0 0 < 256 → 128 ≤ get_or bytes 1 0 →
+    get_or bytes 1 0 < 256 → get_or bytes 2 0 < 128 →
+    Reads IsVarint bytes (drop 3 bytes) (get_or bytes 0 0 % 128 + 128 * (get_or bytes 1 0 % 128) + get_or bytes 2 0 * 16384)
 three_septets_read [] len h i j k l = absurd (omega arith)
 three_septets_read (a ∷ []) len h i j k l = absurd (omega arith)
 three_septets_read (a ∷ b ∷ []) len h i j k l = absurd (omega arith)
@@ -277,7 +281,10 @@ three_septets_read (a ∷ b ∷ c ∷ rest) len h i j k l = record {
   split = refl;
 }
 
-pub four_septets_read : (bytes : List ℕ) → 4 ≤ length bytes → 128 ≤ get_or bytes 0 0 → get_or bytes 0 0 < 256 → 128 ≤ get_or bytes 1 0 → get_or bytes 1 0 < 256 → 128 ≤ get_or bytes 2 0 → get_or bytes 2 0 < 256 → get_or bytes 3 0 < 128 → Reads IsVarint bytes (drop 4 bytes) (get_or bytes 0 0 % 128 + 128 * (get_or bytes 1 0 % 128) + (get_or bytes 2 0 % 128 + 128 * (get_or bytes 3 0 % 128)) * 16384)
+pub four_septets_read : (bytes : List ℕ) → 4 ≤ length bytes → 128 ≤ get_or bytes 0 0 → get_or bytes 0 0 < 256 → 128 ≤ get_or bytes 1 0 →
+    get_or bytes 1 0 < 256 → 128 ≤ get_or bytes 2 0 → get_or bytes 2 0 < 256 → get_or bytes 3 0 < 128 →
+    Reads IsVarint bytes (drop 4 bytes)
+    (get_or bytes 0 0 % 128 + 128 * (get_or bytes 1 0 % 128) + (get_or bytes 2 0 % 128 + 128 * (get_or bytes 3 0 % 128)) * 16384)
 four_septets_read [] len h i j k m n l = absurd (omega arith)
 four_septets_read (a ∷ []) len h i j k m n l = absurd (omega arith)
 four_septets_read (a ∷ b ∷ []) len h i j k m n l = absurd (omega arith)
@@ -289,7 +296,8 @@ four_septets_read (a ∷ b ∷ c ∷ d ∷ rest) len h i j k m n l = record {
 }
 
 -- a septet that ends the number: i septets were read before it
-pub last_septet : (bytes : List ℕ) (i number : ℕ) → i < length bytes → i ≤ 9 → (i ≡ 9 → get_or bytes i 0 ≤ 1) → AllContinue (take i bytes) → number ≡ base_128 (take i bytes) → get_or bytes i 0 < 128 → Reads IsVarint bytes (drop (i + 1) bytes) (number + get_or bytes i 0 % 128 * 128 ^ i)
+pub last_septet : (bytes : List ℕ) (i number : ℕ) → i < length bytes → i ≤ 9 → (i ≡ 9 → get_or bytes i 0 ≤ 1) → AllContinue (take i bytes) →
+    number ≡ base_128 (take i bytes) → get_or bytes i 0 < 128 → Reads IsVarint bytes (drop (i + 1) bytes) (number + get_or bytes i 0 % 128 * 128 ^ i)
 last_septet bytes i number lt bound tenth continue value last =
     let byte = get_or bytes i 0 in
     let len : length (take i bytes) ≡ i = length-take-le i bytes (omega arith) in
@@ -320,7 +328,9 @@ sum_fits bytes i number lt bound tenth value =
     fits number (get_or bytes i 0 % 128) i below (omega arith) (omega arith) (λ nine. let one : get_or bytes i 0 ≤ 1 = tenth nine in omega arith)
 
 -- a septet behind which the number goes on
-pub next_septet : (bytes : List ℕ) (i number : ℕ) → i < length bytes → AllContinue (take i bytes) → number ≡ base_128 (take i bytes) → 128 ≤ get_or bytes i 0 → get_or bytes i 0 < 256 → AllContinue (take (i + 1) bytes) × (number + get_or bytes i 0 % 128 * 128 ^ i ≡ base_128 (take (i + 1) bytes))
+pub next_septet : (bytes : List ℕ) (i number : ℕ) → i < length bytes → AllContinue (take i bytes) → number ≡ base_128 (take i bytes) →
+    128 ≤ get_or bytes i 0 → get_or bytes i 0 < 256 →
+    AllContinue (take (i + 1) bytes) × (number + get_or bytes i 0 % 128 * 128 ^ i ≡ base_128 (take (i + 1) bytes))
 next_septet bytes i number lt continue value low high =
     let byte = get_or bytes i 0 in
     let len : length (take i bytes) ≡ i = length-take-le i bytes (omega arith) in

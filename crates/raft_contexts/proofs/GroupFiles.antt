@@ -50,25 +50,35 @@ module _ (q : LogQueue) (first_seq last_seq : ℕ) where
   filed_mark rs id = joined_fresh q (end_at_reach fresh (table_of id (finite.get rs.tables id))) (unwrap_or (finite.get rs.marks id) fresh)
 
   own_table : (rs : MarkedRegions) (id : ℕ) (ids : List ℕ)
-      → cond (has id ids) (filed_table first_seq last_seq id (finite.get (with_region rs id (filed_region rs id)).tables id)) (finite.get (with_region rs id (filed_region rs id)).tables id) ≡ cond (has id (id ∷ ids)) (filed_table first_seq last_seq id (finite.get rs.tables id)) (finite.get rs.tables id)
+      → cond (has id ids) (filed_table first_seq last_seq id (finite.get (with_region rs id (filed_region rs id)).tables id))
+      (finite.get (with_region rs id (filed_region rs id)).tables id) ≡ cond (has id (id ∷ ids))
+      (filed_table first_seq last_seq id (finite.get rs.tables id)) (finite.get rs.tables id)
   own_table rs id ids =
-      ap (λ o. cond (has id ids) (filed_table first_seq last_seq id o) o) (get_own rs.tables id (record (table_of id (finite.get rs.tables id)) { atomic_group = Some (first_seq, last_seq) })) ∙ either (has id ids) (filed_table first_seq last_seq id (finite.get rs.tables id))
+      ap (λ o. cond (has id ids) (filed_table first_seq last_seq id o) o)
+      (get_own rs.tables id (record (table_of id (finite.get rs.tables id)) { atomic_group = Some (first_seq, last_seq) }))
+      ∙ either (has id ids) (filed_table first_seq last_seq id (finite.get rs.tables id))
       ∙ sym (ap (λ b. cond (b || has id ids) (filed_table first_seq last_seq id (finite.get rs.tables id)) (finite.get rs.tables id)) (eqb_self id))
 
   other_table : (rs : MarkedRegions) (id : ℕ) (ids : List ℕ) (r : ℕ) → IsOther r id
-      → cond (has r ids) (filed_table first_seq last_seq r (finite.get (with_region rs id (filed_region rs id)).tables r)) (finite.get (with_region rs id (filed_region rs id)).tables r) ≡ cond (has r (id ∷ ids)) (filed_table first_seq last_seq r (finite.get rs.tables r)) (finite.get rs.tables r)
+      → cond (has r ids) (filed_table first_seq last_seq r (finite.get (with_region rs id (filed_region rs id)).tables r))
+      (finite.get (with_region rs id (filed_region rs id)).tables r) ≡ cond (has r (id ∷ ids))
+      (filed_table first_seq last_seq r (finite.get rs.tables r)) (finite.get rs.tables r)
   other_table rs id ids r f =
       ap (λ o. cond (has r ids) (filed_table first_seq last_seq r o) o) (get_other rs.tables id r (record (table_of id (finite.get rs.tables id)) { atomic_group = Some (first_seq, last_seq) }) f.1)
       ∙ sym (ap (λ b. cond (b || has r ids) (filed_table first_seq last_seq r (finite.get rs.tables r)) (finite.get rs.tables r)) f.0)
 
   own_mark : (rs : MarkedRegions) (id : ℕ) (ids : List ℕ)
-      → cond (has id ids) (Some (unwrap_or (finite.get (with_region rs id (filed_region rs id)).marks id) fresh)) (finite.get (with_region rs id (filed_region rs id)).marks id) ≡ cond (has id (id ∷ ids)) (Some (unwrap_or (finite.get rs.marks id) fresh)) (finite.get rs.marks id)
+      → cond (has id ids) (Some (unwrap_or (finite.get (with_region rs id (filed_region rs id)).marks id) fresh))
+      (finite.get (with_region rs id (filed_region rs id)).marks id) ≡ cond (has id (id ∷ ids)) (Some (unwrap_or (finite.get rs.marks id) fresh))
+      (finite.get rs.marks id)
   own_mark rs id ids =
       ap (λ o. cond (has id ids) (Some (unwrap_or o fresh)) o) (get_own rs.marks id (filed_region rs id).mark) ∙ either (has id ids) (Some (filed_region rs id).mark) ∙ ap Some (filed_mark rs id)
       ∙ sym (ap (λ b. cond (b || has id ids) (Some (unwrap_or (finite.get rs.marks id) fresh)) (finite.get rs.marks id)) (eqb_self id))
 
   other_mark : (rs : MarkedRegions) (id : ℕ) (ids : List ℕ) (r : ℕ) → IsOther r id
-      → cond (has r ids) (Some (unwrap_or (finite.get (with_region rs id (filed_region rs id)).marks r) fresh)) (finite.get (with_region rs id (filed_region rs id)).marks r) ≡ cond (has r (id ∷ ids)) (Some (unwrap_or (finite.get rs.marks r) fresh)) (finite.get rs.marks r)
+      → cond (has r ids) (Some (unwrap_or (finite.get (with_region rs id (filed_region rs id)).marks r) fresh))
+      (finite.get (with_region rs id (filed_region rs id)).marks r) ≡ cond (has r (id ∷ ids)) (Some (unwrap_or (finite.get rs.marks r) fresh))
+      (finite.get rs.marks r)
   other_mark rs id ids r f =
       ap (λ o. cond (has r ids) (Some (unwrap_or o fresh)) o) (get_other rs.marks id r (filed_region rs id).mark f.1)
       ∙ sym (ap (λ b. cond (b || has r ids) (Some (unwrap_or (finite.get rs.marks r) fresh)) (finite.get rs.marks r)) f.0)
@@ -81,11 +91,15 @@ module _ (q : LogQueue) (first_seq last_seq : ℕ) where
         ih.1,
         record {
           tables = λ r. ih.2.tables r ∙ elim (by_region r id) [
-            | inl p ↦ subst (λ r. cond (has r ids) (filed_table first_seq last_seq r (finite.get (with_region rs id (filed_region rs id)).tables r)) (finite.get (with_region rs id (filed_region rs id)).tables r) ≡ cond (has r (id ∷ ids)) (filed_table first_seq last_seq r (finite.get rs.tables r)) (finite.get rs.tables r)) (sym p) (own_table rs id ids)
+            | inl p ↦ subst (λ r. cond (has r ids) (filed_table first_seq last_seq r (finite.get (with_region rs id (filed_region rs id)).tables r))
+                (finite.get (with_region rs id (filed_region rs id)).tables r) ≡ cond (has r (id ∷ ids))
+                (filed_table first_seq last_seq r (finite.get rs.tables r)) (finite.get rs.tables r)) (sym p) (own_table rs id ids)
             | inr f ↦ other_table rs id ids r f
           ];
           marks = λ r. ih.2.marks r ∙ elim (by_region r id) [
-            | inl p ↦ subst (λ r. cond (has r ids) (Some (unwrap_or (finite.get (with_region rs id (filed_region rs id)).marks r) fresh)) (finite.get (with_region rs id (filed_region rs id)).marks r) ≡ cond (has r (id ∷ ids)) (Some (unwrap_or (finite.get rs.marks r) fresh)) (finite.get rs.marks r)) (sym p) (own_mark rs id ids)
+            | inl p ↦ subst (λ r. cond (has r ids) (Some (unwrap_or (finite.get (with_region rs id (filed_region rs id)).marks r) fresh))
+                (finite.get (with_region rs id (filed_region rs id)).marks r) ≡ cond (has r (id ∷ ids))
+                (Some (unwrap_or (finite.get rs.marks r) fresh)) (finite.get rs.marks r)) (sym p) (own_mark rs id ids)
             | inr f ↦ other_mark rs id ids r f
           ];
         },
@@ -106,7 +120,9 @@ module _ (q : LogQueue) (first_seq last_seq : ℕ) where
   pub files_accepted : (ids : List ℕ) (rs : MarkedRegions) → regions_after q rs (on_each ids (AtomicGroup first_seq last_seq)) ≡ None → ⊥
   files_accepted ids rs e = none_some (sym e ∙ (filed ids rs).1)
 
-  pub behind_files : (steps : List RegionStep) (xs ys : List ℕ) (rs : MarkedRegions) → ((r : ℕ) → has r xs ≡ has r ys) → regions_after q rs (steps ++ on_each xs (AtomicGroup first_seq last_seq)) ≡ regions_after q rs (steps ++ on_each ys (AtomicGroup first_seq last_seq))
+  pub behind_files : (steps : List RegionStep) (xs ys : List ℕ) (rs : MarkedRegions) → ((r : ℕ) → has r xs ≡ has r ys) →
+      regions_after q rs (steps ++ on_each xs (AtomicGroup first_seq last_seq)) ≡ regions_after q rs
+      (steps ++ on_each ys (AtomicGroup first_seq last_seq))
   behind_files steps xs ys rs h = after-append q rs steps (on_each xs (AtomicGroup first_seq last_seq)) ∙ go (regions_after q rs steps) ∙ sym (after-append q rs steps (on_each ys (AtomicGroup first_seq last_seq)))
     where
       go : (o : Option MarkedRegions) → option_and_then (λ x. regions_after q x (on_each xs (AtomicGroup first_seq last_seq))) o ≡ option_and_then (λ x. regions_after q x (on_each ys (AtomicGroup first_seq last_seq))) o
@@ -135,13 +151,16 @@ has_named r (s ∷ steps) = go (names s.region steps) refl (has_named r steps) �
     go false e ih = ap (λ b. eqb r s.region || b) ih
 
 -- one region more
-pub file_more : (q : LogQueue) (first_seq last_seq id : ℕ) (ids : List ℕ) (a b c : MarkedTables) (r : Result Unit Error) → AreStepsTaken q (one_step id (AtomicGroup first_seq last_seq)) (Ok tt) a b → AreStepsTaken q (on_each ids (AtomicGroup first_seq last_seq)) r b c → AreStepsTaken q (on_each (id ∷ ids) (AtomicGroup first_seq last_seq)) r a c
+pub file_more : (q : LogQueue) (first_seq last_seq id : ℕ) (ids : List ℕ) (a b c : MarkedTables) (r : Result Unit Error) →
+    AreStepsTaken q (one_step id (AtomicGroup first_seq last_seq)) (Ok tt) a b →
+    AreStepsTaken q (on_each ids (AtomicGroup first_seq last_seq)) r b c → AreStepsTaken q (on_each (id ∷ ids) (AtomicGroup first_seq last_seq)) r a c
 file_more q first_seq last_seq id ids a b c r s t = taken_more q (one_step id (AtomicGroup first_seq last_seq)) (on_each ids (AtomicGroup first_seq last_seq)) a b c r (tt, tt) s t
 
 -- ---- a whole group
 
 -- the files of its regions behind its items
-pub whole_same : (q : LogQueue) (w : WholeGroup) (ids : List ℕ) (rs : MarkedRegions) → ((r : ℕ) → has r ids ≡ names r w.steps) → regions_after q rs (w.steps ++ on_each ids (AtomicGroup w.first_seq w.last_seq)) ≡ regions_after q rs (region_steps_of_whole w)
+pub whole_same : (q : LogQueue) (w : WholeGroup) (ids : List ℕ) (rs : MarkedRegions) → ((r : ℕ) → has r ids ≡ names r w.steps) →
+    regions_after q rs (w.steps ++ on_each ids (AtomicGroup w.first_seq w.last_seq)) ≡ regions_after q rs (region_steps_of_whole w)
 whole_same q w ids rs h = behind_files q w.first_seq w.last_seq w.steps ids (named_regions w.steps) rs (λ r. h r ∙ sym (has_named r w.steps))
 
 pub whole_records : (w : WholeGroup) (ids : List ℕ) → records_in w.steps ≡ records_in (w.steps ++ on_each ids (AtomicGroup w.first_seq w.last_seq))
@@ -165,7 +184,9 @@ counts_filed : (q : LogQueue) (first_seq last_seq : ℕ) (ids : List ℕ) (table
 counts_filed q first_seq last_seq [] tables k n e = e
 counts_filed q first_seq last_seq (id ∷ ids) tables k n e = λ t u. counts_filed q first_seq last_seq ids (with_table tables id t) k n e
 
-counts_behind : (q : LogQueue) (first_seq last_seq : ℕ) (steps : List RegionStep) (xs ys : List ℕ) (tables : Tables) (k n : Counts) → AreCountsAfterSteps q tables (steps ++ on_each xs (AtomicGroup first_seq last_seq)) k n → AreCountsAfterSteps q tables (steps ++ on_each ys (AtomicGroup first_seq last_seq)) k n
+counts_behind : (q : LogQueue) (first_seq last_seq : ℕ) (steps : List RegionStep) (xs ys : List ℕ) (tables : Tables) (k n : Counts) →
+    AreCountsAfterSteps q tables (steps ++ on_each xs (AtomicGroup first_seq last_seq)) k n →
+    AreCountsAfterSteps q tables (steps ++ on_each ys (AtomicGroup first_seq last_seq)) k n
 counts_behind q first_seq last_seq [] xs ys tables k n h = counts_filed q first_seq last_seq ys tables k n (filed_counts q first_seq last_seq xs tables k n h)
 counts_behind q first_seq last_seq (s ∷ steps) xs ys tables k n h = λ t u.
     counts_behind q first_seq last_seq steps xs ys (with_table tables s.region t) (counts_after_step q (table_of s.region (finite.get tables s.region)) s.step k) n (h t u)
@@ -173,13 +194,18 @@ counts_behind q first_seq last_seq (s ∷ steps) xs ys tables k n h = λ t u.
 -- what is told of the group, by what was taken in
 module _ (w : WholeGroup) (ids : List ℕ) (a b : MarkedTables) (r : Result Unit Error) (h : (n : ℕ) → has n ids ≡ names n w.steps) (t : AreStepsTaken Rewrite (w.steps ++ on_each ids (AtomicGroup w.first_seq w.last_seq)) r a b) where
   pub whole_ok : OnOk r (regions_after Rewrite (regions_in a) (region_steps_of_whole w) ≡ Some (regions_in b))
-  whole_ok = elim r as (λ r. OnOk r (regions_after Rewrite (regions_in a) (w.steps ++ on_each ids (AtomicGroup w.first_seq w.last_seq)) ≡ Some (regions_in b)) → OnOk r (regions_after Rewrite (regions_in a) (region_steps_of_whole w) ≡ Some (regions_in b))) [ Ok u ↦ λ e. sym (whole_same Rewrite w ids (regions_in a) h) ∙ e | Err x ↦ λ e. tt ] t.ok
+  whole_ok = elim r as (λ r. OnOk r
+      (regions_after Rewrite (regions_in a) (w.steps ++ on_each ids (AtomicGroup w.first_seq w.last_seq)) ≡ Some (regions_in b)) →
+      OnOk r (regions_after Rewrite (regions_in a) (region_steps_of_whole w) ≡ Some (regions_in b)))
+      [ Ok u ↦ λ e. sym (whole_same Rewrite w ids (regions_in a) h) ∙ e | Err x ↦ λ e. tt ] t.ok
 
   pub whole_counts : OnOk r (AreCountsAfterSteps Rewrite a.accessor.tables (region_steps_of_whole w) a.accessor.counts b.accessor.counts)
-  whole_counts = elim r as (λ r. OnOk r (AreCountsAfterSteps Rewrite a.accessor.tables (w.steps ++ on_each ids (AtomicGroup w.first_seq w.last_seq)) a.accessor.counts b.accessor.counts) → OnOk r (AreCountsAfterSteps Rewrite a.accessor.tables (region_steps_of_whole w) a.accessor.counts b.accessor.counts)) [
-    | Ok u ↦ λ k. counts_behind Rewrite w.first_seq w.last_seq w.steps ids (named_regions w.steps) a.accessor.tables a.accessor.counts b.accessor.counts k
-    | Err x ↦ λ k. tt
-  ] t.counts
+  whole_counts = elim r as (λ r. OnOk r
+      (AreCountsAfterSteps Rewrite a.accessor.tables (w.steps ++ on_each ids (AtomicGroup w.first_seq w.last_seq)) a.accessor.counts
+      b.accessor.counts) → OnOk r (AreCountsAfterSteps Rewrite a.accessor.tables (region_steps_of_whole w) a.accessor.counts b.accessor.counts)) [
+        | Ok u ↦ λ k. counts_behind Rewrite w.first_seq w.last_seq w.steps ids (named_regions w.steps) a.accessor.tables a.accessor.counts b.accessor.counts k
+        | Err x ↦ λ k. tt
+      ] t.counts
 
   same_fault : (e : Error) → IsStepsFault Rewrite (regions_in a) (w.steps ++ on_each ids (AtomicGroup w.first_seq w.last_seq)) e → IsStepsFault Rewrite (regions_in a) (region_steps_of_whole w) e
   same_fault (errors.Corruption text) f = sym (whole_same Rewrite w ids (regions_in a) h) ∙ f
@@ -189,7 +215,8 @@ module _ (w : WholeGroup) (ids : List ℕ) (a b : MarkedTables) (r : Result Unit
   same_fault _ f = absurd f
 
   pub whole_fault : IfErr r (IsStepsFault Rewrite (regions_in a) (region_steps_of_whole w))
-  whole_fault = elim r as (λ r. IfErr r (IsStepsFault Rewrite (regions_in a) (w.steps ++ on_each ids (AtomicGroup w.first_seq w.last_seq))) → IfErr r (IsStepsFault Rewrite (regions_in a) (region_steps_of_whole w))) [ Ok u ↦ λ f. tt | Err x ↦ λ f. same_fault x f ] t.fault
+  whole_fault = elim r as (λ r. IfErr r (IsStepsFault Rewrite (regions_in a) (w.steps ++ on_each ids (AtomicGroup w.first_seq w.last_seq))) →
+      IfErr r (IsStepsFault Rewrite (regions_in a) (region_steps_of_whole w))) [ Ok u ↦ λ f. tt | Err x ↦ λ f. same_fault x f ] t.fault
 
   pub whole_other : AreStepsOfQueue Rewrite w.steps → OnOk r (live_in_all Append b.accessor.tables ≤ live_in_all Append a.accessor.tables)
   whole_other good = other_in Rewrite (w.steps ++ on_each ids (AtomicGroup w.first_seq w.last_seq)) a b r (whole_of_queue Rewrite w ids good) t.ok

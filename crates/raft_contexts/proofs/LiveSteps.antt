@@ -52,7 +52,9 @@ weight-put q queue file e = ap (λ x. count_in q x 1) e
 pub step_live : (queue q : LogQueue) (id : ℕ) (o u : Option Table) (s : Step) → after_step queue (table_of id o) s ≡ Some u → IsStepOfQueue queue s → live_in q u ≤ live_in q o + count_in q queue (records_of s)
 step_live queue q id o u (Run run) e h = go (entries_after_replay queue (table_of id o).entries run) refl e
   where
-    go : (y : Option (List EntryIndex)) → entries_after_replay queue (table_of id o).entries run ≡ y → option_map Some (option_map {U = Table} (λ es. record (table_of id o) { entries = es }) y) ≡ Some u → live_in q u ≤ live_in q o + count_in q queue (length run)
+    go : (y : Option (List EntryIndex)) → entries_after_replay queue (table_of id o).entries run ≡ y →
+        option_map Some (option_map {U = Table} (λ es. record (table_of id o) { entries = es }) y) ≡ Some u →
+        live_in q u ≤ live_in q o + count_in q queue (length run)
     go None p e = absurd cc
     go (Some a) p e = omega (arith, ap (live_in q) (some_is e), replayed-in queue q (table_of id o).entries run a p, entries_in_one q queue run (each_placed queue run h.placed), live-table_of q id o)
 step_live queue q id o u (Compact i) e h = omega (arith, ap (live_in q) (some_is e), entries-from q i (table_of id o).entries, live-table_of q id o)
@@ -67,7 +69,8 @@ step_live queue q id o u Clean e h = omega (arith, ap (live_in q) (some_is e))
 count_sum : (q queue : LogQueue) (a b : ℕ) → count_in q queue a + count_in q queue b ≡ count_in q queue (a + b)
 count_sum q queue a b = elim (is_same q queue) as (λ x. cond x a 0 + cond x b 0 ≡ cond x (a + b) 0) [ true ↦ refl | false ↦ refl ]
 
-pub steps_live : (queue q : LogQueue) (rs new : MarkedRegions) (steps : List RegionStep) → regions_after queue rs steps ≡ Some new → AreStepsOfQueue queue steps → live_in_all q new.tables ≤ live_in_all q rs.tables + count_in q queue (records_in steps)
+pub steps_live : (queue q : LogQueue) (rs new : MarkedRegions) (steps : List RegionStep) → regions_after queue rs steps ≡ Some new →
+    AreStepsOfQueue queue steps → live_in_all q new.tables ≤ live_in_all q rs.tables + count_in q queue (records_in steps)
 steps_live queue q rs new [] e h = omega (arith, ap (λ (n : MarkedRegions). live_in_all q n.tables) (some_is e))
 steps_live queue q rs new (s ∷ steps) e h = go (after_step queue (table_of s.region (finite.get rs.tables s.region)) s.step) refl e (λ x e. steps_live queue q (with_region rs s.region x) new steps e h.1)
   where

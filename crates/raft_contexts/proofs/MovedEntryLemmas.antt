@@ -1,5 +1,41 @@
 -- Tables whose places were rewritten.
-use Rattle.std.proofs.Common.{◌≡◌, ℕ, zero, suc, ◌+◌, ◌-◌, ◌<◌, ◌≤◌, max, Bool, true, false, ◌||◌, if◌then◌else◌, cond, List, [], ◌∷◌, ◌++◌, length, take, drop, filter, Some, None, inl, inr, refl, sym, ap, subst, ◌∙◌, arith, append_assoc, length-drop}
+use Rattle.std.proofs.Common.{
+  ◌≡◌,
+  ℕ,
+  zero,
+  suc,
+  ◌+◌,
+  ◌-◌,
+  ◌<◌,
+  ◌≤◌,
+  max,
+  Bool,
+  true,
+  false,
+  ◌||◌,
+  if◌then◌else◌,
+  cond,
+  List,
+  [],
+  ◌∷◌,
+  ◌++◌,
+  length,
+  take,
+  drop,
+  filter,
+  Some,
+  None,
+  inl,
+  inr,
+  refl,
+  sym,
+  ap,
+  subst,
+  ◌∙◌,
+  arith,
+  append_assoc,
+  length-drop,
+}
 use Rattle.std.proofs.lemmas.List.{length-take-le, take-append-drop, drop-drop}
 use Rattle.std.specs.List.{AllByRecursion}
 use Rattle.std.specs.Prelude.{nat_lt, nat_le}
@@ -65,9 +101,12 @@ moved_filter : (p : ℕ → Bool) (ks es : List EntryIndex) → AreMovedEntries 
 moved_filter p [] [] h = tt
 moved_filter p [] (e ∷ es) h = absurd h
 moved_filter p (k ∷ ks) [] h = absurd h
-moved_filter p (k ∷ ks) (e ∷ es) h = subst (λ (b : Bool). AreMovedEntries (cond b (k ∷ filter (λ e. p e.index) ks) (filter (λ e. p e.index) ks)) (filter (λ e. p e.index) (e ∷ es))) (sym (ap p h.0.0)) (go (p e.index) (moved_filter p ks es h.1))
+moved_filter p (k ∷ ks) (e ∷ es) h = subst (λ (b : Bool). AreMovedEntries (cond b (k ∷ filter (λ e. p e.index) ks) (filter (λ e. p e.index) ks))
+    (filter (λ e. p e.index) (e ∷ es))) (sym (ap p h.0.0)) (go (p e.index) (moved_filter p ks es h.1))
   where
-    go : (b : Bool) → AreMovedEntries (filter (λ e. p e.index) ks) (filter (λ e. p e.index) es) → AreMovedEntries (cond b (k ∷ filter (λ e. p e.index) ks) (filter (λ e. p e.index) ks)) (cond b (e ∷ filter (λ e. p e.index) es) (filter (λ e. p e.index) es))
+    go : (b : Bool) → AreMovedEntries (filter (λ e. p e.index) ks) (filter (λ e. p e.index) es) →
+        AreMovedEntries (cond b (k ∷ filter (λ e. p e.index) ks) (filter (λ e. p e.index) ks))
+        (cond b (e ∷ filter (λ e. p e.index) es) (filter (λ e. p e.index) es))
     go true rest = (h.0, rest)
     go false rest = rest
 
@@ -198,5 +237,8 @@ module _ (s a : ℕ) (ks es run : List EntryIndex) (moved : AreMovedEntries ks e
       let whole = moved-append (take d ks ++ take n (drop (i - a) run)) (take d es ++ take n (drop d es)) (drop (d + n) ks) (drop (d + n) es)
       (moved-append (take d ks) (take d es) (take n (drop (i - a) run)) (take n (drop d es)) (moved_take d ks es moved) middle)
       (moved_drop (d + n) ks es moved) in
-      subst (λ (l : List EntryIndex). AreMovedEntries l es) (sym (ap (λ (l : List EntryIndex). l ++ take n (from i run) ++ from (i + n) ks) front ∙ ap (λ (l : List EntryIndex). take d ks ++ take n l ++ from (i + n) ks) new ∙ ap (λ (l : List EntryIndex). take d ks ++ take n (drop (i - a) run) ++ l) back))
+      subst (λ (l : List EntryIndex). AreMovedEntries l es)
+      (sym (ap (λ (l : List EntryIndex). l ++ take n (from i run) ++ from (i + n) ks) front
+      ∙ ap (λ (l : List EntryIndex). take d ks ++ take n l ++ from (i + n) ks) new
+      ∙ ap (λ (l : List EntryIndex). take d ks ++ take n (drop (i - a) run) ++ l) back))
       (subst (λ (l : List EntryIndex). AreMovedEntries (take d ks ++ take n (drop (i - a) run) ++ drop (d + n) ks) l) parts whole)

@@ -240,7 +240,9 @@ content_stays gate seq id o u w (pair c) h p rises asked e = at (is_reserved c.k
     passes true key k = with_kept _ (key_moves (table_of id o).keys (table_of id u).keys key seq h.pairs) k
     passes false key k = with_kept _ h.pairs k
 
-    later : (b : Bool) (key : List ℕ) → option_map Some (option_map (λ (keys : Keys). record (table_of id o) { keys = keys }) (if b then None else Some (with_moved (table_of id o).keys key (record { queue = Rewrite; seq = seq })))) ≡ Some w → Stays id u w
+    later : (b : Bool) (key : List ℕ) →
+        option_map Some (option_map (λ (keys : Keys). record (table_of id o) { keys = keys })
+        (if b then None else Some (with_moved (table_of id o).keys key (record { queue = Rewrite; seq = seq })))) ≡ Some w → Stays id u w
     later true key k = absurd (none_some k)
     later false key k = with_kept _ (key_moves (table_of id o).keys (table_of id u).keys key seq h.pairs) k
 
@@ -288,7 +290,8 @@ with_moved_table m n id t v h new p = record { each = each; present = present }
 pub items_follow : (m n new : Tables) (items : List Item) → AreMovedTables m n → after_items Appending m items ≡ Some new
     → (after : Tables) × (after_items (Replaying Append) n items ≡ Some after) × AreMovedTables new after
 items_follow m n new [] h e = (n, refl, subst (λ (x : Tables). AreMovedTables x n) (some_is e) h)
-items_follow m n new (item ∷ items) h e = go (after_content Appending item.raft_group_id (finite.get m item.raft_group_id) item.content) refl e (λ t v k l. items_follow (with_table m item.raft_group_id t) (with_table n item.raft_group_id v) new items k l)
+items_follow m n new (item ∷ items) h e = go (after_content Appending item.raft_group_id (finite.get m item.raft_group_id) item.content) refl e
+    (λ t v k l. items_follow (with_table m item.raft_group_id t) (with_table n item.raft_group_id v) new items k l)
   where
     go : (o : Option (Option Table)) → after_content Appending item.raft_group_id (finite.get m item.raft_group_id) item.content ≡ o
         → option_and_then (λ t. after_items Appending (with_table m item.raft_group_id t) items) o ≡ Some new
@@ -324,7 +327,9 @@ kept_one m n id t h new p = record { each = each; present = present }
 pub items_stay : (gate : Option ℕ) (seq : ℕ) (m n new : Tables) (items : List Item) → AreMovedTables m n → AreRuns n → AllByRecursion (λ (item : Item). IsFor (Rewriting gate seq) item.content) items
     → after_items (Rewriting gate seq) m items ≡ Some new → AreMovedTables new n
 items_stay gate seq m n new [] h runs asked e = subst (λ (x : Tables). AreMovedTables x n) (some_is e) h
-items_stay gate seq m n new (item ∷ items) h runs asked e = go (after_content (Rewriting gate seq) item.raft_group_id (finite.get m item.raft_group_id) item.content) refl e (λ t k l. items_stay gate seq (with_table m item.raft_group_id t) n new items k runs asked.1 l)
+items_stay gate seq m n new (item ∷ items) h runs asked e = go
+    (after_content (Rewriting gate seq) item.raft_group_id (finite.get m item.raft_group_id) item.content) refl e
+    (λ t k l. items_stay gate seq (with_table m item.raft_group_id t) n new items k runs asked.1 l)
   where
     go : (o : Option (Option Table)) → after_content (Rewriting gate seq) item.raft_group_id (finite.get m item.raft_group_id) item.content ≡ o
         → option_and_then (λ t. after_items (Rewriting gate seq) (with_table m item.raft_group_id t) items) o ≡ Some new
@@ -332,7 +337,8 @@ items_stay gate seq m n new (item ∷ items) h runs asked e = go (after_content 
         → AreMovedTables new n
     go None is k ih = absurd (none_some k)
     go (Some t) is k ih =
-        let f = content_stays gate seq item.raft_group_id (finite.get m item.raft_group_id) (finite.get n item.raft_group_id) t item.content (h.each item.raft_group_id) (h.present item.raft_group_id) (runs.each item.raft_group_id) asked.0 is in
+        let f = content_stays gate seq item.raft_group_id (finite.get m item.raft_group_id) (finite.get n item.raft_group_id) t item.content
+        (h.each item.raft_group_id) (h.present item.raft_group_id) (runs.each item.raft_group_id) asked.0 is in
         ih t (kept_one m n item.raft_group_id t h f.0 f.1) k
 
 -- ---- the tables that are read have runs
@@ -369,7 +375,8 @@ run_replayed (r ∷ run) (f ∷ es) new h k e = go (leaves_hole (f ∷ es) r.ind
         cut (suc n) is =
             rises_run f.index (take (suc n) (f ∷ es) ++ r ∷ run)
             (rises-append f.index (take (suc n) (f ∷ es)) (r ∷ run) (rises_take (suc n) f.index (f ∷ es) rises)
-            (subst (λ (m : ℕ). RisesFrom m (r ∷ run)) (let l = length-take-le (suc n) (f ∷ es) (omega (arith, is, reached, ends)) in let e : r.index ≡ f.index + length (take (suc n) (f ∷ es)) = omega (arith, is, l) in e) (run_rises r run k)))
+            (subst (λ (m : ℕ). RisesFrom m (r ∷ run)) (let l = length-take-le (suc n) (f ∷ es) (omega (arith, is, reached, ends)) in
+            let e : r.index ≡ f.index + length (take (suc n) (f ∷ es)) = omega (arith, is, l) in e) (run_rises r run k)))
 
     reached : nat_lt (end_of (f ∷ es)) r.index ≡ false → r.index ≤ end_of (f ∷ es)
     reached is = not_below (end_of (f ∷ es)) r.index is
@@ -403,7 +410,8 @@ from_run i (e ∷ es) h = subst IsRun (sym (from_drop i e.index (e ∷ es) (run_
 content_runs : (id : ℕ) (o w : Option Table) (content : Content) → IsRun (table_of id o).entries → IsFor Appending content → after_content (Replaying Append) id o content ≡ Some w → IsRun (table_of id w).entries
 content_runs id o w (entries run) h asked e = go (entries_after_replay Append (table_of id o).entries run) refl e
   where
-    go : (l : Option (List EntryIndex)) → entries_after_replay Append (table_of id o).entries run ≡ l → option_map Some (option_map (λ (l : List EntryIndex). record (table_of id o) { entries = l }) l) ≡ Some w → IsRun (table_of id w).entries
+    go : (l : Option (List EntryIndex)) → entries_after_replay Append (table_of id o).entries run ≡ l →
+        option_map Some (option_map (λ (l : List EntryIndex). record (table_of id o) { entries = l }) l) ≡ Some w → IsRun (table_of id w).entries
     go None is k = absurd (none_some k)
     go (Some new) is k = subst (λ (x : Option Table). IsRun (table_of id x).entries) (some_is k) (run_replayed run (table_of id o).entries new h asked.consecutive.run is)
 content_runs id o w (command commands.Clean) h asked e = subst (λ (x : Option Table). IsRun (table_of id x).entries) (some_is e) tt

@@ -38,7 +38,8 @@ too_many c d errors.Memory queues h = tt
 too_many c d _ queues h = absurd h
 
 -- what was refused of states that read on is why the contexts are refused
-pub append_fault : (s t : ContextStage) (c d : Context) (k l : Counts) (e : Error) → IsMergeAppendFault (reading_on c) (reading_on d) e → IsMergeAppendFault (record { stage = s; context = c; counts = k }) (record { stage = t; context = d; counts = l }) e
+pub append_fault : (s t : ContextStage) (c d : Context) (k l : Counts) (e : Error) → IsMergeAppendFault (reading_on c) (reading_on d) e →
+    IsMergeAppendFault (record { stage = s; context = c; counts = k }) (record { stage = t; context = d; counts = l }) e
 append_fault s t c d k l (errors.InvalidArgument text) h = h
 append_fault s t c d k l errors.Full h = h
 append_fault s t c d k l errors.Failed (inl h) = absurd (h refl)

@@ -60,7 +60,8 @@ on_any (Ok x) a = a
 on_any (Err x) a = tt
 
 -- a batch that was tested may come next
-pub may_follow : {X : Type 0} (c : Context) (e : Event) (r : Result X Error) → Suits e.file.queue c.files → follows c.files (files_of (e ∷ [])) ≡ true → OnOk r (AreInFile e.file e.items) → OnOk r (HaveStatus e.file.queue e.items) → OnOk r (MayFollow c e)
+pub may_follow : {X : Type 0} (c : Context) (e : Event) (r : Result X Error) → Suits e.file.queue c.files →
+    follows c.files (files_of (e ∷ [])) ≡ true → OnOk r (AreInFile e.file e.items) → OnOk r (HaveStatus e.file.queue e.items) → OnOk r (MayFollow c e)
 may_follow c e (Ok x) suits files items markers = record { queue = suits; files = files; items = items; markers = markers }
 may_follow c e (Err x) suits files items markers = tt
 
@@ -126,7 +127,14 @@ found_some Rewrite items id s e = (refl, ap (option_map {U = GroupMarker} (λ m.
 
 -- a context with one more batch, by its marker
 abbrev taken_by : Context → Event → Option GroupMarker → Option Context
-taken_by c e m = option_map {U = Context} (λ rs. record { regions = rs; groups = groups_after c.groups (batch_of e) m; cleaned = c.cleaned ++ cleaned_by_steps e.file.queue (batch_of e).steps; files = joined_files c.files (files_of (e ∷ [])) })
+taken_by c e m = option_map {U = Context}
+    (λ rs. record {
+      regions = rs;
+      groups = groups_after c.groups (batch_of e) m;
+      cleaned = c.cleaned ++ cleaned_by_steps e.file.queue
+          (batch_of e).steps;
+      files = joined_files c.files (files_of (e ∷ []));
+    })
     (regions_after e.file.queue c.regions (completed_steps c.groups (batch_of e) m))
 
 -- files that are there
@@ -143,11 +151,32 @@ by_fields d groups cleaned files g l f =
     ∙ ap (λ cleaned. some_context (record { regions = d.regions; groups = d.groups; cleaned = cleaned; files = files })) (sym l)
     ∙ ap (λ files. some_context (record { regions = d.regions; groups = d.groups; cleaned = d.cleaned; files = files })) (sym f)
 
-some_by : (c d : Context) (e : Event) (m : Option GroupMarker) → regions_after e.file.queue c.regions (completed_steps c.groups (batch_of e) m) ≡ Some d.regions → taken_by c e m ≡ Some (record { regions = d.regions; groups = groups_after c.groups (batch_of e) m; cleaned = c.cleaned ++ cleaned_by_steps e.file.queue (batch_of e).steps; files = joined_files c.files (files_of (e ∷ [])) })
-some_by c d e m regions = ap (option_map {U = Context} (λ rs. record { regions = rs; groups = groups_after c.groups (batch_of e) m; cleaned = c.cleaned ++ cleaned_by_steps e.file.queue (batch_of e).steps; files = joined_files c.files (files_of (e ∷ [])) })) regions
+some_by : (c d : Context) (e : Event) (m : Option GroupMarker) →
+    regions_after e.file.queue c.regions (completed_steps c.groups (batch_of e) m) ≡ Some d.regions →
+    taken_by c e m ≡ Some (record {
+      regions = d.regions;
+      groups = groups_after c.groups (batch_of e) m;
+      cleaned = c.cleaned ++ cleaned_by_steps e.file.queue (batch_of e).steps;
+      files = joined_files c.files (files_of (e ∷ []));
+    })
+some_by c d e m regions = ap (option_map {U = Context}
+    (λ rs. record {
+      regions = rs;
+      groups = groups_after c.groups (batch_of e) m;
+      cleaned = c.cleaned ++ cleaned_by_steps e.file.queue
+          (batch_of e).steps;
+      files = joined_files c.files (files_of (e ∷ []));
+    })) regions
 
 none_by : (c : Context) (e : Event) (m : Option GroupMarker) → regions_after e.file.queue c.regions (completed_steps c.groups (batch_of e) m) ≡ None → taken_by c e m ≡ None
-none_by c e m none = ap (option_map {U = Context} (λ rs. record { regions = rs; groups = groups_after c.groups (batch_of e) m; cleaned = c.cleaned ++ cleaned_by_steps e.file.queue (batch_of e).steps; files = joined_files c.files (files_of (e ∷ [])) })) none
+none_by c e m none = ap (option_map {U = Context}
+    (λ rs. record {
+      regions = rs;
+      groups = groups_after c.groups (batch_of e) m;
+      cleaned = c.cleaned ++ cleaned_by_steps e.file.queue
+          (batch_of e).steps;
+      files = joined_files c.files (files_of (e ∷ []));
+    })) none
 
 -- a batch without a marker
 pub lone_taken : (c d : Context) (e : Event) → marker_found e.file.queue e.items ≡ None
@@ -200,8 +229,12 @@ pub group_fault : (c : Context) (e : Event) (id : ℕ) (s : AtomicGroupStatus) �
 group_fault c e id s r n m (errors.Corruption text) f = inr (group_refused c e id s m f)
 group_fault c e id s r n m (errors.InvalidArgument text) f = absurd (omega (arith, f, alone_of Rewrite c r (subst (λ q. Suits q c.files) (found_some e.file.queue e.items id s m).0 n.queue)))
 group_fault c e id s r n m errors.Full f =
-    let found = found_some e.file.queue e.items id s m in
-    (n, subst (λ m. 2 ^ 64 ≤ live_in_all e.file.queue c.regions.tables + records_in (completed_steps c.groups (batch_of e) m)) (sym found.1) (subst (λ q. 2 ^ 64 ≤ live_in_all q c.regions.tables + records_in (completed_steps c.groups (batch_of e) (Some (record { group = id; status = s })))) (sym found.0) f))
+    let found = found_some e.file.queue e.items id s m in (
+      n,
+      subst (λ m. 2 ^ 64 ≤ live_in_all e.file.queue c.regions.tables + records_in (completed_steps c.groups (batch_of e) m)) (sym found.1)
+          (subst (λ q. 2 ^ 64 ≤ live_in_all q c.regions.tables + records_in
+          (completed_steps c.groups (batch_of e) (Some (record { group = id; status = s })))) (sym found.0) f),
+    )
 group_fault c e id s r n m errors.Memory f = tt
 group_fault c e id s r n m _ f = absurd f
 
@@ -213,7 +246,9 @@ pub group_counted : (c : Context) (e : Event) (id : ℕ) (s : AtomicGroupStatus)
     → AreCountsAfterSteps Rewrite c.regions.tables (region_steps_or (whole_group (known_of c.groups id) (one_marker s (steps_of_items e.items) e.file.seq))) k l → IsBatchCounted e c k l
 group_counted c e id s k l m h =
     let found = found_some e.file.queue e.items id s m in
-    subst (λ m. AreCountsAfterSteps e.file.queue c.regions.tables (completed_steps c.groups (batch_of e) m) k l) (sym found.1) (subst (λ q. AreCountsAfterSteps q c.regions.tables (completed_steps c.groups (batch_of e) (Some (record { group = id; status = s }))) k l) (sym found.0) h)
+    subst (λ m. AreCountsAfterSteps e.file.queue c.regions.tables (completed_steps c.groups (batch_of e) m) k l) (sym found.1)
+    (subst (λ q. AreCountsAfterSteps q c.regions.tables (completed_steps c.groups (batch_of e) (Some (record { group = id; status = s }))) k l)
+    (sym found.0) h)
 
 -- what a batch with a marker makes whole may be taken in
 pub group_takes : (c : Context) (e : Event) (id : ℕ) (s : AtomicGroupStatus) → IsOfHistory c → MayFollow c e → marker_found e.file.queue e.items ≡ Some (id, s)
@@ -305,16 +340,21 @@ pub record IsMiddle (q : LogQueue) (c d : Context) (middle : MarkedRegions) : Ty
 
 pub middle_alone : (q : LogQueue) (c d : Context) (middle : MarkedRegions) → IsMiddle q c d middle → live_in_all (other q) middle.tables ≡ 0
 middle_alone Rewrite c d middle m = omega (arith, m.few, alone_of Rewrite c m.older m.neighbors.older)
-middle_alone Append c d middle m = subst (λ (x : MarkedRegions). live_in_all Rewrite x.tables ≡ 0) (some_is (sym (ap (λ ws. regions_after Rewrite c.regions (region_steps_of_wholes ws)) (wholes_none c d m.newer m.neighbors.newer)) ∙ m.taken)) (alone_of Append c m.older m.neighbors.older)
+middle_alone Append c d middle m = subst (λ (x : MarkedRegions). live_in_all Rewrite x.tables ≡ 0)
+    (some_is (sym (ap (λ ws. regions_after Rewrite c.regions (region_steps_of_wholes ws)) (wholes_none c d m.newer m.neighbors.newer)) ∙ m.taken))
+    (alone_of Append c m.older m.neighbors.older)
 
 pub middle_steps : (q : LogQueue) (c d : Context) (middle : MarkedRegions) → IsMiddle q c d middle → StandForSteps q middle
-middle_steps q c d middle m = stand_after q c.regions middle (region_steps_of_wholes (both_wholes c d)) (wholes_in_queue q c d m.older m.newer m.neighbors) (steps_of_read q c m.older m.neighbors.older) (sym (either_queue q c d m.newer m.neighbors) ∙ m.taken)
+middle_steps q c d middle m = stand_after q c.regions middle (region_steps_of_wholes (both_wholes c d))
+    (wholes_in_queue q c d m.older m.newer m.neighbors) (steps_of_read q c m.older m.neighbors.older)
+    (sym (either_queue q c d m.newer m.neighbors) ∙ m.taken)
 
 pub middle_records : (q : LogQueue) (c d : Context) (middle : MarkedRegions) → IsMiddle q c d middle → all_records middle.tables ≤ records_held c + waiting_records d.groups
 middle_records q c d middle m = omega (arith, read_records Rewrite c.regions middle (region_steps_of_wholes (both_wholes c d)) m.taken, wholes-records (both_wholes c d), merged_waiting c.groups d.groups)
 
 -- the groups are refused
-pub wholes_fault : (q : LogQueue) (c d : Context) → IsOfHistory c → IsOfHistory d → AreNeighbors q c d → both_wholes c d ≢ [] → (x : Error) → IsStepsFault Rewrite c.regions (region_steps_of_wholes (both_wholes c d)) x → IsNeighborFault q (reading_on c) (reading_on d) x
+pub wholes_fault : (q : LogQueue) (c d : Context) → IsOfHistory c → IsOfHistory d → AreNeighbors q c d → both_wholes c d ≢ [] → (x : Error) →
+    IsStepsFault Rewrite c.regions (region_steps_of_wholes (both_wholes c d)) x → IsNeighborFault q (reading_on c) (reading_on d) x
 wholes_fault Append c d r s n some x f = absurd (some (wholes_none c d s n.newer))
 wholes_fault Rewrite c d r s n some (errors.Corruption text) f = ((n.older, n.newer), inr (inl f))
 wholes_fault Rewrite c d r s n some (errors.InvalidArgument text) f = absurd (omega (arith, f, alone_of Rewrite c r n.older))
@@ -323,7 +363,8 @@ wholes_fault Rewrite c d r s n some errors.Memory f = tt
 wholes_fault Rewrite c d r s n some _ f = absurd f
 
 -- a region's join is refused
-pub join_fault : (q : LogQueue) (c d : Context) (middle : MarkedRegions) → IsMiddle q c d middle → (x : Error) → (StandForSteps q middle → StandForSteps q d.regions → IsJoinFault q middle d.regions x) → IsNeighborFault q (reading_on c) (reading_on d) x
+pub join_fault : (q : LogQueue) (c d : Context) (middle : MarkedRegions) → IsMiddle q c d middle → (x : Error) →
+    (StandForSteps q middle → StandForSteps q d.regions → IsJoinFault q middle d.regions x) → IsNeighborFault q (reading_on c) (reading_on d) x
 join_fault q c d middle m x h = go x (h (middle_steps q c d middle m) (steps_of_read q d m.newer m.neighbors.newer))
   where
     go : (x : Error) → IsJoinFault q middle d.regions x → IsNeighborFault q (reading_on c) (reading_on d) x

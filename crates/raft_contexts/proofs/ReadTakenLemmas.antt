@@ -57,9 +57,13 @@ marked q id rs h some = go (finite.get rs.marks id) refl
     go (Some m) e = e ∙ ap (λ (o : Option Mark). Some (unwrap_or o fresh)) (sym e)
 
 -- a run that begins among the entries of its region, or right behind them, leaves the region marks as they are
-pub run_unmarked : (q : LogQueue) (id : ℕ) (rs : MarkedRegions) (run : List EntryIndex) (start : ℕ) (own : ℕ × ℕ) → StandForSteps q rs → first_index run ≡ Some start → own ≡ (start_of (table_of id (finite.get rs.tables id)).entries, end_of (table_of id (finite.get rs.tables id)).entries) → 0 < own.1 → own.0 ≤ start → start ≤ own.1
+pub run_unmarked : (q : LogQueue) (id : ℕ) (rs : MarkedRegions) (run : List EntryIndex) (start : ℕ) (own : ℕ × ℕ) → StandForSteps q rs →
+    first_index run ≡ Some start →
+    own ≡ (start_of (table_of id (finite.get rs.tables id)).entries, end_of (table_of id (finite.get rs.tables id)).entries) → 0 < own.1 →
+    own.0 ≤ start → start ≤ own.1
     → rs.marks ≡ finite.insert rs.marks id (joined_mark q id (mark_in rs.marks id) (finite.get rs.tables id) (mark_of (Run run)))
-run_unmarked q id rs run start own h first is some low high = sym (ap (finite.insert rs.marks id) (sym met ∙ stays) ∙ insert_same rs.marks id (mark_in rs.marks id) (marked q id rs h (λ none. omega (arith, filled, ap end_of none, end_of-nil))))
+run_unmarked q id rs run start own h first is some low high = sym (ap (finite.insert rs.marks id) (sym met ∙ stays)
+    ∙ insert_same rs.marks id (mark_in rs.marks id) (marked q id rs h (λ none. omega (arith, filled, ap end_of none, end_of-nil))))
   where
     es : List EntryIndex
     es = (table_of id (finite.get rs.tables id)).entries
@@ -76,7 +80,9 @@ run_unmarked q id rs run start own h first is some low high = sym (ap (finite.in
 -- a pair that is put where there are entries leaves the region marks as they are
 pub put_unmarked : (q : LogQueue) (id : ℕ) (rs : MarkedRegions) (key value : List ℕ) (file : FileId) → StandForSteps q rs → ((table_of id (finite.get rs.tables id)).entries ≡ [] → ⊥)
     → rs.marks ≡ finite.insert rs.marks id (joined_mark q id (mark_in rs.marks id) (finite.get rs.tables id) (mark_of (Put key value file)))
-put_unmarked q id rs key value file h some = sym (ap (finite.insert rs.marks id) (joined_fresh q (end_at_reach fresh (table_of id (finite.get rs.tables id))) (mark_in rs.marks id)) ∙ insert_same rs.marks id (mark_in rs.marks id) (marked q id rs h some))
+put_unmarked q id rs key value file h
+    some = sym (ap (finite.insert rs.marks id) (joined_fresh q (end_at_reach fresh (table_of id (finite.get rs.tables id))) (mark_in rs.marks id))
+    ∙ insert_same rs.marks id (mark_in rs.marks id) (marked q id rs h some))
 
 abbrev with_all : Tables → List ℕ → Counts → Accessor
 with_all tables cleaned counts = record { tables = tables; cleaned = cleaned; counts = counts }
@@ -96,7 +102,9 @@ put_taken q id key value file a mid true h some k =
 put_taken q id key value file a mid false h some k = ap (beside a) (same_accessor mid a.accessor k.err k.counts_err k.cleaned_err)
 
 -- an item that is no run which its table takes, and is tried as a pair then
-module _ (q : LogQueue) (steps : List RegionStep) (a b c : MarkedTables) (run put : Bool) (no : run ≡ false) (tried : MatchBool run (AreStepsTaken q steps (Ok tt) a b) (b ≡ a)) (stands : StandForSteps q (regions_in a)) (puts : StandForSteps q (regions_in b) → MatchBool put (AreStepsTaken q steps (Ok tt) b c) (c ≡ b)) where
+module _ (q : LogQueue) (steps : List RegionStep) (a b c : MarkedTables) (run put : Bool) (no : run ≡ false)
+    (tried : MatchBool run (AreStepsTaken q steps (Ok tt) a b) (b ≡ a)) (stands : StandForSteps q (regions_in a))
+    (puts : StandForSteps q (regions_in b) → MatchBool put (AreStepsTaken q steps (Ok tt) b c) (c ≡ b)) where
   still : b ≡ a
   still = rw no at tried
 
@@ -126,7 +134,8 @@ IsMidway q place items spans a left rest b =
 pub has_spans : (q : LogQueue) (place : FileBlockHandle) (x : ReadItem) (xs left : List ReadItem) (rest : List (ℕ × ℕ)) (n : ℕ) → left ≡ x ∷ xs → n ≡ spans_taken x.content → AreTakeable q place left rest → n ≤ length rest
 has_spans q place x xs left rest n e is h = omega (arith, is, h.whole, ap spans_of e)
 
-module _ (q : LogQueue) (place : FileBlockHandle) (x : ReadItem) (xs left : List ReadItem) (rest own behind : List (ℕ × ℕ)) (n : ℕ) (e : left ≡ x ∷ xs) (is : n ≡ spans_taken x.content) (front : own ≡ take n rest) (back : behind ≡ drop n rest) where
+module _ (q : LogQueue) (place : FileBlockHandle) (x : ReadItem) (xs left : List ReadItem) (rest own behind : List (ℕ × ℕ)) (n : ℕ)
+    (e : left ≡ x ∷ xs) (is : n ≡ spans_taken x.content) (front : own ≡ take n rest) (back : behind ≡ drop n rest) where
   -- the steps of an item in front, and those of the others
   split : steps_of_items (items_shown place left rest) ≡ steps_of_items (item_shown place x own ∷ []) ++ steps_of_items (items_shown place xs behind)
   split = rw (e, front, back, is) (items-append (item_shown place x (take (spans_taken x.content) rest) ∷ []) (items_shown place xs (drop (spans_taken x.content) rest)))
@@ -148,7 +157,8 @@ module _ (q : LogQueue) (place : FileBlockHandle) (x : ReadItem) (xs left : List
   }
 
   -- one more item is taken in
-  pub midway_more : (items : List ReadItem) (spans : List (ℕ × ℕ)) (a b c : MarkedTables) → IsMidway q place items spans a left rest b → AreStepsTaken q (steps_of_items (item_shown place x own ∷ [])) (Ok tt) b c → IsMidway q place items spans a xs behind c
+  pub midway_more : (items : List ReadItem) (spans : List (ℕ × ℕ)) (a b c : MarkedTables) → IsMidway q place items spans a left rest b →
+      AreStepsTaken q (steps_of_items (item_shown place x own ∷ [])) (Ok tt) b c → IsMidway q place items spans a xs behind c
   midway_more items spans a b c h t = (
     takeable_behind h.0,
     stand_after q (regions_in b) (regions_in c) (steps_of_items (item_shown place x own ∷ [])) (steps_in_front h.0) h.1 t.ok,
@@ -156,9 +166,12 @@ module _ (q : LogQueue) (place : FileBlockHandle) (x : ReadItem) (xs left : List
   )
 
   -- one item is refused
-  pub midway_refused : (items : List ReadItem) (spans : List (ℕ × ℕ)) (a b c : MarkedTables) (f : Error) → IsMidway q place items spans a left rest b → AreStepsTaken q (steps_of_items (item_shown place x own ∷ [])) (Err f) b c → AreStepsTaken q (steps_of_items (items_shown place items spans)) (Err f) a c
+  pub midway_refused : (items : List ReadItem) (spans : List (ℕ × ℕ)) (a b c : MarkedTables) (f : Error) →
+      IsMidway q place items spans a left rest b → AreStepsTaken q (steps_of_items (item_shown place x own ∷ [])) (Err f) b c →
+      AreStepsTaken q (steps_of_items (items_shown place items spans)) (Err f) a c
   midway_refused items spans a b c f h t = h.2 (Err f) c (each_refused q (steps_of_items (item_shown place x own ∷ [])) (steps_of_items (items_shown place xs behind)) _ b c f split t)
 
 -- all are taken in
-pub midway_all : (q : LogQueue) (place : FileBlockHandle) (items left : List ReadItem) (spans rest : List (ℕ × ℕ)) (a b : MarkedTables) → left ≡ [] → IsMidway q place items spans a left rest b → AreStepsTaken q (steps_of_items (items_shown place items spans)) (Ok tt) a b
+pub midway_all : (q : LogQueue) (place : FileBlockHandle) (items left : List ReadItem) (spans rest : List (ℕ × ℕ)) (a b : MarkedTables) → left ≡ [] →
+    IsMidway q place items spans a left rest b → AreStepsTaken q (steps_of_items (items_shown place items spans)) (Ok tt) a b
 midway_all q place items left spans rest a b e h = h.2 (Ok tt) b (subst (λ (l : List ReadItem). AreStepsTaken q (steps_of_items (items_shown place l rest)) (Ok tt) b b) (sym e) (taken_none q b))

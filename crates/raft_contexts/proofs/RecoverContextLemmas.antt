@@ -86,7 +86,9 @@ merge_stands q c d new h g m a b = record {
 pub merge_exact : (q : LogQueue) (c d new : RecoverContext) (h g : List Event) → Apart (h ++ g) → IsMergedWith q d c new → HasReadExactly c h → HasReadExactly d g → HasReadExactly new (h ++ g)
 merge_exact q c d new h g apart m a b = record {
   stage = m.after;
-  exact = subst (λ x. IsExactFor x (h ++ g)) (sym m.merged) (regions_exact q c.context d.context h g new.context.regions (merges q c.context d.context h g m.neighbors a.exact.stands b.exact.stands) a.exact b.exact apart.each m.neighbors.files m.regions);
+  exact = subst (λ x. IsExactFor x (h ++ g)) (sym m.merged)
+      (regions_exact q c.context d.context h g new.context.regions (merges q c.context d.context h g m.neighbors a.exact.stands b.exact.stands)
+      a.exact b.exact apart.each m.neighbors.files m.regions);
 }
 
 pub suits_of : (q : LogQueue) (h : List Event) → IsOfQueue q h → Suits q (files_of h)
@@ -103,7 +105,8 @@ neighbors q c d h g o a b sound = record {
 pub merge_unsound : (q : LogQueue) (c d : RecoverContext) (h g : List Event) → IsSmall (h ++ g) → IsOfQueue q (h ++ g) → HasRead c h → HasRead d g → (x : Error) → x ≢ errors.Memory → IsNeighborFault q c d x → Sound (h ++ g) → ⊥
 merge_unsound q c d h g small o a b (errors.InvalidArgument text) k other sound = let n = neighbors q c.context d.context h g o a.stands b.stands sound in other (n.older, n.newer)
 merge_unsound q c d h g small o a b (errors.Corruption text) k (both, inl files) sound = false≢true (sym files ∙ (neighbors q c.context d.context h g o a.stands b.stands sound).files)
-merge_unsound q c d h g small o a b (errors.Corruption text) k (both, inr refused) sound = regions_unsound q c.context d.context h g (merges q c.context d.context h g (neighbors q c.context d.context h g o a.stands b.stands sound) a.stands b.stands) refused sound
+merge_unsound q c d h g small o a b (errors.Corruption text) k (both, inr refused) sound = regions_unsound q c.context d.context h g
+    (merges q c.context d.context h g (neighbors q c.context d.context h g o a.stands b.stands sound) a.stands b.stands) refused sound
 merge_unsound q c d h g small o a b errors.Full k full sound = omega (arith, full.1, small.few, a.stands.few, b.stands.few, size-append h g)
 merge_unsound q c d h g small o a b errors.Failed k (inl stage) sound = stage a.stage
 merge_unsound q c d h g small o a b errors.Failed k (inr stage) sound = stage b.stage
@@ -111,7 +114,9 @@ merge_unsound q c d h g small o a b errors.Memory k f sound = k refl
 merge_unsound q c d h g small o a b _ k f sound = f
 
 -- what a context says of the neighbor that it reads on with
-pub neighbor_fault : (q : LogQueue) (s t : ContextStage) (c d : Context) (k l : Counts) (x : Error) → IsNeighborFault q (reading_on c) (reading_on d) x → IsNeighborFault q (record { stage = s; context = c; counts = k }) (record { stage = t; context = d; counts = l }) x
+pub neighbor_fault : (q : LogQueue) (s t : ContextStage) (c d : Context) (k l : Counts) (x : Error) →
+    IsNeighborFault q (reading_on c) (reading_on d) x → IsNeighborFault q (record { stage = s; context = c; counts = k })
+    (record { stage = t; context = d; counts = l }) x
 neighbor_fault q s t c d k l (errors.InvalidArgument text) f = f
 neighbor_fault q s t c d k l (errors.Corruption text) f = f
 neighbor_fault q s t c d k l errors.Full f = f
@@ -127,5 +132,6 @@ one_reading q c h r u = record { tables_read = exact_reading q c.context.regions
 
 -- ---- numbers
 
-pub keeps_little : (q : LogQueue) (c : RecoverContext) (h : List Event) (tables : Tables) (cleaned : List ℕ) → HasReadExactly c h → Suits q c.context.files → IsOneReading q h tables cleaned → IsAtMost (kept_of c.context) (kept_by q h tables)
+pub keeps_little : (q : LogQueue) (c : RecoverContext) (h : List Event) (tables : Tables) (cleaned : List ℕ) → HasReadExactly c h →
+    Suits q c.context.files → IsOneReading q h tables cleaned → IsAtMost (kept_of c.context) (kept_by q h tables)
 keeps_little q c h tables cleaned r u one = kept_at_most q c.context h tables cleaned r.exact u one

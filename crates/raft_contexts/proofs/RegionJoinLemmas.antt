@@ -74,7 +74,8 @@ each_found P (e ∷ es) once h = (
 abbrev pub AreRunsOf : LogQueue → Tables → Tables → List (ℕ × Mark) → Type 0
 AreRunsOf queue newer older es = AllByRecursion (λ (e : ℕ × Mark). IsRunOver queue e.1 (table_in newer e.0) (table_in older e.0)) es
 
-pub runs_of : (queue : LogQueue) (newer older : Tables) (marks : Marks) (es : List (ℕ × Mark)) → finite.from_entries {R = nat_cmp} es ≡ marks → IsDistinct nat_eq (keys_of es) → AreRunsOver queue marks newer older → AreRunsOf queue newer older es
+pub runs_of : (queue : LogQueue) (newer older : Tables) (marks : Marks) (es : List (ℕ × Mark)) → finite.from_entries {R = nat_cmp} es ≡ marks →
+    IsDistinct nat_eq (keys_of es) → AreRunsOver queue marks newer older → AreRunsOf queue newer older es
 runs_of queue newer older marks es is once h = each_found (λ r m. IsRunOver queue m (table_in newer r) (table_in older r)) es once (λ r m e. h r m (ap (λ x. finite.get x r) (sym is) ∙ finite.get-from_entries nat_cmp_total es r ∙ e))
 
 -- where both sides stand for steps, what the newer marks make of the older entries is a run
@@ -90,10 +91,11 @@ abbrev pub AreOthersLeft : Tables → Tables → List (ℕ × Mark) → List (�
 AreOthersLeft newer left all es = (r : ℕ) → find nat_cmp r all ≡ None → (find nat_cmp r es ≡ None) × (finite.get left r ≡ finite.get newer r)
 
 pub others_on : (newer left : Tables) (all : List (ℕ × Mark)) (id : ℕ) (m : Mark) (es : List (ℕ × Mark)) → AreOthersLeft newer left all ((id, m) ∷ es) → AreOthersLeft newer (finite.remove left id) all es
-others_on newer left all id m es h r none = elim (eq_by_cmp nat_cmp r id) as (λ b. eq_by_cmp nat_cmp r id ≡ b → cond b (Some m) (find nat_cmp r es) ≡ None → (find nat_cmp r es ≡ None) × (finite.get (finite.remove left id) r ≡ finite.get newer r)) [
-  | true ↦ λ p e. absurd (none_some (sym e))
-  | false ↦ λ p e. (e, get_left left id r p ∙ (h r none).1)
-] refl (h r none).0
+others_on newer left all id m es h r none = elim (eq_by_cmp nat_cmp r id) as (λ b. eq_by_cmp nat_cmp r id ≡ b →
+    cond b (Some m) (find nat_cmp r es) ≡ None → (find nat_cmp r es ≡ None) × (finite.get (finite.remove left id) r ≡ finite.get newer r)) [
+      | true ↦ λ p e. absurd (none_some (sym e))
+      | false ↦ λ p e. (e, get_left left id r p ∙ (h r none).1)
+    ] refl (h r none).0
 
 -- as said of the map of all
 pub others_kept : (newer left : Tables) (marks : Marks) (all es : List (ℕ × Mark)) → finite.from_entries {R = nat_cmp} all ≡ marks → AreOthersLeft newer left all es → AreOthersKept marks newer left
@@ -110,7 +112,8 @@ pub record AreJoining (queue : LogQueue) (newer : Tables) (first : MarkedRegions
   pub runs : AreRunsOf queue newer first.tables all → AreRunsOf queue newer now.tables es
   pub each : AreRunsOf queue newer first.tables all → joined_each queue newer first all ≡ joined_each queue newer now es
 
-pub joining_none : (queue : LogQueue) (newer : Tables) (first : MarkedRegions) (all : List (ℕ × Mark)) → IsDistinct nat_eq (keys_of all) → live_in_all (other queue) first.tables ≡ 0 → live_in_all (other queue) newer ≡ 0 → AreJoining queue newer first all first newer all
+pub joining_none : (queue : LogQueue) (newer : Tables) (first : MarkedRegions) (all : List (ℕ × Mark)) → IsDistinct nat_eq (keys_of all) →
+    live_in_all (other queue) first.tables ≡ 0 → live_in_all (other queue) newer ≡ 0 → AreJoining queue newer first all first newer all
 joining_none queue newer first all once a b = record { once = once; alone = a; alone_left = b; held = same all; others = λ r none. (none, refl); few = λ q. omega arith; runs = λ r. r; each = λ r. refl }
   where
     same : (es : List (ℕ × Mark)) → AllByRecursion (λ (e : ℕ × Mark). finite.get newer e.0 ≡ finite.get newer e.0) es
@@ -118,12 +121,15 @@ joining_none queue newer first all once a b = record { once = once; alone = a; a
     same (e ∷ es) = (refl, same es)
 
 -- the tables that are left behind one that is taken
-pub held_on : (newer left : Tables) (id : ℕ) (es : List (ℕ × Mark)) → AllByRecursion (λ y. nat_eq id y ≡ false) (keys_of es) → AllByRecursion (λ (e : ℕ × Mark). finite.get left e.0 ≡ finite.get newer e.0) es → AllByRecursion (λ (e : ℕ × Mark). finite.get (finite.remove left id) e.0 ≡ finite.get newer e.0) es
+pub held_on : (newer left : Tables) (id : ℕ) (es : List (ℕ × Mark)) → AllByRecursion (λ y. nat_eq id y ≡ false) (keys_of es) →
+    AllByRecursion (λ (e : ℕ × Mark). finite.get left e.0 ≡ finite.get newer e.0) es →
+    AllByRecursion (λ (e : ℕ × Mark). finite.get (finite.remove left id) e.0 ≡ finite.get newer e.0) es
 held_on newer left id [] f h = tt
 held_on newer left id (e ∷ es) f h = (get_left left id e.0 (other_key id e.0 f.0) ∙ h.0, held_on newer left id es f.1 h.1)
 
 -- and those of the other regions behind one that is joined
-runs_on : (queue : LogQueue) (newer older : Tables) (id : ℕ) (t : Option Table) (es : List (ℕ × Mark)) → AllByRecursion (λ y. nat_eq id y ≡ false) (keys_of es) → AreRunsOf queue newer older es → AreRunsOf queue newer (with_table older id t) es
+runs_on : (queue : LogQueue) (newer older : Tables) (id : ℕ) (t : Option Table) (es : List (ℕ × Mark)) →
+    AllByRecursion (λ y. nat_eq id y ≡ false) (keys_of es) → AreRunsOf queue newer older es → AreRunsOf queue newer (with_table older id t) es
 runs_on queue newer older id t [] f h = tt
 runs_on queue newer older id t (e ∷ es) f h = (
   subst (λ (o : Option Table). IsRunOver queue e.1 (table_in newer e.0) (table_of e.0 o)) (sym (with_other older id e.0 t (other_key id e.0 f.0))) h.0,
@@ -137,7 +143,8 @@ IsLoopFault queue newer first all errors.Full = (q : LogQueue) × (2 ^ 64 ≤ li
 IsLoopFault queue newer first all errors.Memory = Unit {0}
 IsLoopFault queue newer first all _ = ⊥
 
-module _ (queue : LogQueue) (newer : Tables) (first : MarkedRegions) (all : List (ℕ × Mark)) (now : MarkedRegions) (left : Tables) (rest es : List (ℕ × Mark)) (id : ℕ) (m : Mark) (is : rest ≡ (id, m) ∷ es) (at : AreJoining queue newer first all now left rest) where
+module _ (queue : LogQueue) (newer : Tables) (first : MarkedRegions) (all : List (ℕ × Mark)) (now : MarkedRegions) (left : Tables)
+    (rest es : List (ℕ × Mark)) (id : ℕ) (m : Mark) (is : rest ≡ (id, m) ∷ es) (at : AreJoining queue newer first all now left rest) where
   there : AreJoining queue newer first all now left ((id, m) ∷ es)
   there = subst (AreJoining queue newer first all now left) is at
 
@@ -151,12 +158,18 @@ module _ (queue : LogQueue) (newer : Tables) (first : MarkedRegions) (all : List
   pub run_here : AreRunsOf queue newer first.tables all → IsRunOver queue m (table_of id (finite.get left id)) (table_in now.tables id)
   run_here r = subst (λ (o : Option Table). IsRunOver queue m (table_of id o) (table_in now.tables id)) (sym there.held.0) (there.runs r).0
 
-  each_here : AreRunsOf queue newer first.tables all → joined_each queue newer first all ≡ option_and_then (λ x. joined_each queue newer (with_region now id x) es) (joined_region queue id (region_in now id) record { mark = m; table = finite.get left id })
+  each_here : AreRunsOf queue newer first.tables all →
+      joined_each queue newer first all ≡ option_and_then (λ x. joined_each queue newer (with_region now id x) es)
+      (joined_region queue id (region_in now id) record { mark = m; table = finite.get left id })
   each_here r = there.each r ∙ ap (λ (o : Option Table). option_and_then (λ x. joined_each queue newer (with_region now id x) es) (joined_region queue id (region_in now id) record { mark = m; table = o })) (sym there.held.0)
 
   -- one more is joined
-  pub joining_step : (next : MarkedRegions) (after : Tables) → (IsRunOver queue m (table_of id (finite.get left id)) (table_in now.tables id) → joined_region queue id (region_in now id) record { mark = m; table = finite.get left id } ≡ Some (region_in next id))
-      → next ≡ with_region now id (region_in next id) → ((q : LogQueue) → live_in_all q next.tables ≤ live_in_all q now.tables + live_in q (finite.get left id)) → after ≡ finite.remove left id → AreJoining queue newer first all next after es
+  pub joining_step : (next : MarkedRegions) (after : Tables) →
+      (IsRunOver queue m (table_of id (finite.get left id)) (table_in now.tables id) →
+      joined_region queue id (region_in now id) record { mark = m; table = finite.get left id } ≡ Some (region_in next id))
+      → next ≡ with_region now id (region_in next id) →
+      ((q : LogQueue) → live_in_all q next.tables ≤ live_in_all q now.tables + live_in q (finite.get left id)) → after ≡ finite.remove left id →
+      AreJoining queue newer first all next after es
   unfolding IsDistinct
   joining_step next after ok one more gone = subst (λ a. AreJoining queue newer first all next a es) (sym gone) record {
     once = there.once.1;
@@ -170,7 +183,8 @@ module _ (queue : LogQueue) (newer : Tables) (first : MarkedRegions) (all : List
   }
 
   -- one is refused
-  pub joining_fault : (counts : Counts) (e : Error) → AreCountsOf now.tables counts → AreRunsOf queue newer first.tables all → IsFaultUnder queue counts m (table_of id (finite.get left id)) (table_in now.tables id) e → IsLoopFault queue newer first all e
+  pub joining_fault : (counts : Counts) (e : Error) → AreCountsOf now.tables counts → AreRunsOf queue newer first.tables all →
+      IsFaultUnder queue counts m (table_of id (finite.get left id)) (table_in now.tables id) e → IsLoopFault queue newer first all e
   joining_fault counts (errors.Corruption text) counted runs r = each_here runs ∙ ap (option_and_then (λ x. joined_each queue newer (with_region now id x) es)) none
     where
       gone : table_over_older queue id m (finite.get left id) (finite.get now.tables id) ≡ None
@@ -198,12 +212,16 @@ module _ (queue : LogQueue) (newer : Tables) (first : MarkedRegions) (all : List
         joining_step next after (subst (λ (t : Option Table). IsRunOver queue m (table_of id t) (table_in now.tables id) → joined_region queue id (region_in now id) record { mark = m; table = t } ≡ Some (region_in next id)) taken ok) one
         (λ q. subst (λ (t : Option Table). live_in_all q next.tables ≤ live_in_all q now.tables + live_in q t) taken (more q)) gone
 
-    pub taken_fault : (counts : Counts) (e : Error) → AreCountsOf now.tables counts → AreRunsOf queue newer first.tables all → (IsRunOver queue m (table_of id t) (table_in now.tables id) → IsFaultUnder queue counts m (table_of id t) (table_in now.tables id) e) → IsLoopFault queue newer first all e
+    pub taken_fault : (counts : Counts) (e : Error) → AreCountsOf now.tables counts → AreRunsOf queue newer first.tables all →
+        (IsRunOver queue m (table_of id t) (table_in now.tables id) → IsFaultUnder queue counts m (table_of id t) (table_in now.tables id) e) →
+        IsLoopFault queue newer first all e
     taken_fault counts e counted runs fault =
         joining_fault counts e counted runs (subst (λ (t : Option Table). IsRunOver queue m (table_of id t) (table_in now.tables id) → IsFaultUnder queue counts m (table_of id t) (table_in now.tables id) e) taken fault (run_here runs))
 
 -- all are joined
-pub joined_all : (queue : LogQueue) (newer : Tables) (first now : MarkedRegions) (left : Tables) (marks : Marks) (all es : List (ℕ × Mark)) → finite.from_entries {R = nat_cmp} all ≡ marks → IsDistinct nat_eq (keys_of all) → AreJoining queue newer first all now left es → es ≡ [] → AreRunsOver queue marks newer first.tables → AreJoined queue first record { tables = newer; marks = marks } now
+pub joined_all : (queue : LogQueue) (newer : Tables) (first now : MarkedRegions) (left : Tables) (marks : Marks) (all es : List (ℕ × Mark)) →
+    finite.from_entries {R = nat_cmp} all ≡ marks → IsDistinct nat_eq (keys_of all) → AreJoining queue newer first all now left es → es ≡ [] →
+    AreRunsOver queue marks newer first.tables → AreJoined queue first record { tables = newer; marks = marks } now
 joined_all queue newer first now left marks all es is once at none runs =
     let get : (r : ℕ) → finite.get marks r ≡ find nat_cmp r all = λ r. ap (λ x. finite.get x r) (sym is) ∙ finite.get-from_entries nat_cmp_total all r in
     let e : joined_each queue newer first all ≡ Some now = at.each (runs_of queue newer first.tables marks all is once runs) ∙ ap (joined_each queue newer now) none in
@@ -213,12 +231,16 @@ joined_all queue newer first now left marks all es is once at none runs =
     }
 
 -- or some region's join is refused
-refused_some : (queue : LogQueue) (newer : Tables) (first : MarkedRegions) (marks : Marks) (all : List (ℕ × Mark)) → finite.from_entries {R = nat_cmp} all ≡ marks → IsDistinct nat_eq (keys_of all) → joined_each queue newer first all ≡ None → IsJoinRefused queue first record { tables = newer; marks = marks }
+refused_some : (queue : LogQueue) (newer : Tables) (first : MarkedRegions) (marks : Marks) (all : List (ℕ × Mark)) →
+    finite.from_entries {R = nat_cmp} all ≡ marks → IsDistinct nat_eq (keys_of all) → joined_each queue newer first all ≡ None →
+    IsJoinRefused queue first record { tables = newer; marks = marks }
 refused_some queue newer first marks all is once e =
     let p = each_refused queue newer first all once e in
     (p.0, subst (λ (o : Option Mark). joined_marked queue p.0 o (finite.get newer p.0) (region_in first p.0) ≡ None) (sym (ap (λ x. finite.get x p.0) (sym is) ∙ finite.get-from_entries nat_cmp_total all p.0)) p.1)
 
-pub fault_some : (queue : LogQueue) (newer : Tables) (first : MarkedRegions) (marks : Marks) (all : List (ℕ × Mark)) (e : Error) → finite.from_entries {R = nat_cmp} all ≡ marks → IsDistinct nat_eq (keys_of all) → IsLoopFault queue newer first all e → IsSlotFault queue first record { tables = newer; marks = marks } e
+pub fault_some : (queue : LogQueue) (newer : Tables) (first : MarkedRegions) (marks : Marks) (all : List (ℕ × Mark)) (e : Error) →
+    finite.from_entries {R = nat_cmp} all ≡ marks → IsDistinct nat_eq (keys_of all) → IsLoopFault queue newer first all e →
+    IsSlotFault queue first record { tables = newer; marks = marks } e
 fault_some queue newer first marks all (errors.Corruption text) is once f = refused_some queue newer first marks all is once f
 fault_some queue newer first marks all errors.Full is once f = f
 fault_some queue newer first marks all errors.Memory is once f = tt
@@ -235,14 +257,16 @@ region_with old new id m t e =
     mark_now : (old new : MarkedRegions) (id : ℕ) (m : Mark) → new.marks ≡ finite.insert old.marks id m → (region_in new id).mark ≡ m
     mark_now old new id m e = ap (λ (o : Option Mark). unwrap_or o fresh) (ap (λ x. finite.get x id) e ∙ get_own old.marks id m)
 
-pub region_joined : (queue : LogQueue) (old new : MarkedRegions) (id : ℕ) (m : Mark) (newer : Option Table) (end : ℕ) → end ≡ end_at_reach m (table_in old.tables id) → new.marks ≡ finite.insert old.marks id (joined_at queue end (mark_in old.marks id) m)
+pub region_joined : (queue : LogQueue) (old new : MarkedRegions) (id : ℕ) (m : Mark) (newer : Option Table) (end : ℕ) →
+    end ≡ end_at_reach m (table_in old.tables id) → new.marks ≡ finite.insert old.marks id (joined_at queue end (mark_in old.marks id) m)
     → table_over_older queue id m newer (finite.get old.tables id) ≡ Some (finite.get new.tables id) → joined_region queue id (region_in old id) record { mark = m; table = newer } ≡ Some (region_in new id)
 region_joined queue old new id m newer end at e is =
     let now : (region_in new id).mark ≡ joined_at queue end (mark_in old.marks id) m = ap (λ (o : Option Mark). unwrap_or o fresh) (ap (λ x. finite.get x id) e ∙ get_own old.marks id _) in
     ap (option_map (λ t. record { mark = joined_mark queue id (region_in old id).mark (region_in old id).table m; table = t })) is
     ∙ ap (λ (n : Mark). Some (record { mark = n; table = finite.get new.tables id })) (ap (λ x. joined_at queue x (mark_in old.marks id) m) (sym at) ∙ sym now)
 
-pub live_joined : (q : LogQueue) (old new : Tables) (id : ℕ) (newer : Option Table) → new ≡ with_table old id (finite.get new id) → live_of q (table_in new id) ≤ live_of q (table_in old id) + live_in q newer → live_in_all q new ≤ live_in_all q old + live_in q newer
+pub live_joined : (q : LogQueue) (old new : Tables) (id : ℕ) (newer : Option Table) → new ≡ with_table old id (finite.get new id) →
+    live_of q (table_in new id) ≤ live_of q (table_in old id) + live_in q newer → live_in_all q new ≤ live_in_all q old + live_in q newer
 live_joined q old new id newer one few =
     omega (arith, ap (live_in_all q) one, live-with q old id (finite.get new id), live-table_of q id (finite.get new id), live-table_of q id (finite.get old id), few)
 

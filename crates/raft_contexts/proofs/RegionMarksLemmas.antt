@@ -96,7 +96,9 @@ module _ (a b : Inside) (mid : List Marks) (i : ℕ) (d n : Marks) (kept : AreMa
       inserted : (x : Mark) → n ≡ finite.insert d id x → marks_shown b ≡ finite.insert m id x
       inserted x e =
           ap together set-at
-          ∙ together-at mid id d n (finite.insert (together mid) id x) slots fits (subst (λ y. IsChangedAt id y n) lent-at (λ q f. ap (λ y. finite.get y q) e ∙ get_other d id q x f)) (λ q f. get_other (together mid) id q x f) (ap (λ y. finite.get y id) e ∙ get_own d id x ∙ sym (get_own (together mid) id x))
+          ∙ together-at mid id d n (finite.insert (together mid) id x) slots fits
+          (subst (λ y. IsChangedAt id y n) lent-at (λ q f. ap (λ y. finite.get y q) e ∙ get_other d id q x f))
+          (λ q f. get_other (together mid) id q x f) (ap (λ y. finite.get y id) e ∙ get_own d id x ∙ sym (get_own (together mid) id x))
           ∙ ap (λ y. finite.insert y id x) (mid-is m is)
 
       pub ok-in : (r : Result (Unit {0}) AllocError) (f : Mark → Mark) → OnOk r (n ≡ finite.insert d id (f (mark_in d id))) → OnOk r (marks_shown b ≡ finite.insert m id (f (mark_in m id)))
@@ -118,12 +120,15 @@ few_slots a ms kept e = elim kept.all [ inl n ↦ omega (arith, ap length e, n) 
 
 module _ (f : Mark → ℕ) where
   -- one slot more
-  pub counted_more : (ms : List Marks) (i k : ℕ) (slot : Marks) (count here all : ℕ) → k ≡ i + 1 → i < length ms → slot ≡ slice_index_or ms i slot → here ≡ total f slot → count + added f (map (λ e. e.1) (slot_entries (drop i ms))) ≡ all → count + here + added f (map (λ e. e.1) (slot_entries (drop k ms))) ≡ all
+  pub counted_more : (ms : List Marks) (i k : ℕ) (slot : Marks) (count here all : ℕ) → k ≡ i + 1 → i < length ms → slot ≡ slice_index_or ms i slot →
+      here ≡ total f slot → count + added f (map (λ e. e.1) (slot_entries (drop i ms))) ≡ all →
+      count + here + added f (map (λ e. e.1) (slot_entries (drop k ms))) ≡ all
   counted_more ms i k slot count here all next lt is h e =
       let rest = map (λ e. e.1) (slot_entries (drop k ms)) in
       omega (arith, e, h, total-values f slot, ap (added f) (drop-step ms i k slot next lt is), added-append f (finite.values slot) rest)
 
   -- all slots
-  pub counted_all : (a : Inside) (m : Marks) (ms : List Marks) (i count : ℕ) → AreMarksKept a → marks_shown a ≡ m → ms ≡ a.slots.items → length ms ≤ i → count + added f (map (λ e. e.1) (slot_entries (drop i ms))) ≡ added f (map (λ e. e.1) (slot_entries ms)) → count ≡ total f m
+  pub counted_all : (a : Inside) (m : Marks) (ms : List Marks) (i count : ℕ) → AreMarksKept a → marks_shown a ≡ m → ms ≡ a.slots.items →
+      length ms ≤ i → count + added f (map (λ e. e.1) (slot_entries (drop i ms))) ≡ added f (map (λ e. e.1) (slot_entries ms)) → count ≡ total f m
   counted_all a m ms i count kept is same le e =
       omega (arith, e, ap (λ es. added f (map (λ e. e.1) es)) (drop-none ms i le), added-permuted f _ _ (together-permuted ms (subst (AreSlots 0) (sym same) kept.slots)), total-values f (together ms), ap (total f) (ap together same ∙ is))

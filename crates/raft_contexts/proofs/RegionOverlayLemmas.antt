@@ -34,8 +34,10 @@ use Rattle.raft_contexts.proofs.RegionJoinLemmas.{AreOthersLeft, others_on, each
 abbrev pub AreRunsUnder : Tables → Tables → List (ℕ × Mark) → Type 0
 AreRunsUnder appended rewritten es = AllByRecursion (λ (e : ℕ × Mark). IsRunOverlaid e.1 (table_in appended e.0) (table_in rewritten e.0)) es
 
-pub runs_under : (appended rewritten : Tables) (marks : Marks) (es : List (ℕ × Mark)) → finite.from_entries {R = nat_cmp} es ≡ marks → IsDistinct nat_eq (keys_of es) → AreRunsOverlaid marks appended rewritten → AreRunsUnder appended rewritten es
-runs_under appended rewritten marks es is once h = each_found (λ r m. IsRunOverlaid m (table_in appended r) (table_in rewritten r)) es once (λ r m e. h r m (ap (λ x. finite.get x r) (sym is) ∙ finite.get-from_entries nat_cmp_total es r ∙ e))
+pub runs_under : (appended rewritten : Tables) (marks : Marks) (es : List (ℕ × Mark)) → finite.from_entries {R = nat_cmp} es ≡ marks →
+    IsDistinct nat_eq (keys_of es) → AreRunsOverlaid marks appended rewritten → AreRunsUnder appended rewritten es
+runs_under appended rewritten marks es is once h = each_found (λ r m. IsRunOverlaid m (table_in appended r) (table_in rewritten r)) es once
+    (λ r m e. h r m (ap (λ x. finite.get x r) (sym is) ∙ finite.get-from_entries nat_cmp_total es r ∙ e))
 
 -- where both sides stand for steps, what the marks of the append queue make of both entries is a run
 pub stand_overlaid : (rewritten appended : MarkedRegions) → StandForSteps Rewrite rewritten → StandForSteps Append appended → AreRunsOverlaid appended.marks appended.tables rewritten.tables
@@ -44,7 +46,8 @@ stand_overlaid rewritten appended h k r m is =
     (subst (λ (m : Mark). Stands Append r m (finite.get appended.tables r) (k r).0) (ap (λ (o : Option Mark). unwrap_or o fresh) is) (k r).2.stands) (h r).2.stands.own_table
 
 -- those of the other regions behind one that was overlaid
-runs_left : (appended rewritten : Tables) (id : ℕ) (t : Option Table) (es : List (ℕ × Mark)) → AllByRecursion (λ y. nat_eq id y ≡ false) (keys_of es) → AreRunsUnder appended rewritten es → AreRunsUnder appended (with_table rewritten id t) es
+runs_left : (appended rewritten : Tables) (id : ℕ) (t : Option Table) (es : List (ℕ × Mark)) →
+    AllByRecursion (λ y. nat_eq id y ≡ false) (keys_of es) → AreRunsUnder appended rewritten es → AreRunsUnder appended (with_table rewritten id t) es
 runs_left appended rewritten id t [] f h = tt
 runs_left appended rewritten id t (e ∷ es) f h = (
   subst (λ (o : Option Table). IsRunOverlaid e.1 (table_in appended e.0) (table_of e.0 o)) (sym (with_other rewritten id e.0 t (other_key id e.0 f.0))) h.0,
@@ -58,7 +61,8 @@ abbrev pub Overlays : Tables → Tables → List (ℕ × Mark) → Tables → Ty
 Overlays appended rewritten es new = (r : ℕ) → finite.get new r ≡ overlaid_region r (find nat_cmp r es) (finite.get appended r) (finite.get rewritten r)
 
 -- one region in front of others
-overlays_step : (appended now next : Tables) (id : ℕ) (m : Mark) (es : List (ℕ × Mark)) → AllByRecursion (λ y. nat_eq id y ≡ false) (keys_of es) → finite.get next id ≡ overlaid_region id (Some m) (finite.get appended id) (finite.get now id) → next ≡ with_table now id (finite.get next id)
+overlays_step : (appended now next : Tables) (id : ℕ) (m : Mark) (es : List (ℕ × Mark)) → AllByRecursion (λ y. nat_eq id y ≡ false) (keys_of es) →
+    finite.get next id ≡ overlaid_region id (Some m) (finite.get appended id) (finite.get now id) → next ≡ with_table now id (finite.get next id)
     → (z : Tables) → Overlays appended next es z → Overlays appended now ((id, m) ∷ es) z
 overlays_step appended now next id m es apart here one z h = λ r. elim (by_id r id) [
   | inl p ↦ subst (λ r. finite.get z r ≡ overlaid_region r (find nat_cmp r ((id, m) ∷ es)) (finite.get appended r) (finite.get now r)) (sym p) (
@@ -88,7 +92,8 @@ overlaying_none appended first all once own = record { once = once; own_left = o
     same [] = tt
     same (e ∷ es) = (refl, same es)
 
-module _ (appended first : Tables) (all : List (ℕ × Mark)) (now left : Tables) (rest es : List (ℕ × Mark)) (id : ℕ) (m : Mark) (is : rest ≡ (id, m) ∷ es) (at : AreOverlaying appended first all now left rest) (t : Option Table) (taken : t ≡ finite.get left id) where
+module _ (appended first : Tables) (all : List (ℕ × Mark)) (now left : Tables) (rest es : List (ℕ × Mark)) (id : ℕ) (m : Mark)
+    (is : rest ≡ (id, m) ∷ es) (at : AreOverlaying appended first all now left rest) (t : Option Table) (taken : t ≡ finite.get left id) where
   there : AreOverlaying appended first all now left ((id, m) ∷ es)
   there = subst (AreOverlaying appended first all now left) is at
 
@@ -127,7 +132,9 @@ module _ (appended first : Tables) (all : List (ℕ × Mark)) (now left : Tables
   overlaying_refused counts _ counted r = absurd r
 
 -- all are overlaid
-pub overlaid_all : (appended first now left : Tables) (marks : Marks) (all es : List (ℕ × Mark)) → finite.from_entries {R = nat_cmp} all ≡ marks → IsDistinct nat_eq (keys_of all) → AreOverlaying appended first all now left es → es ≡ [] → AreRunsOverlaid marks appended first → AreOverlaid record { tables = appended; marks = marks } first now
+pub overlaid_all : (appended first now left : Tables) (marks : Marks) (all es : List (ℕ × Mark)) → finite.from_entries {R = nat_cmp} all ≡ marks →
+    IsDistinct nat_eq (keys_of all) → AreOverlaying appended first all now left es → es ≡ [] → AreRunsOverlaid marks appended first →
+    AreOverlaid record { tables = appended; marks = marks } first now
 overlaid_all appended first now left marks all es is once at none runs = λ r.
     at.each (runs_under appended first marks all is once runs) now (λ q. sym (ap (λ l. overlaid_region q (find nat_cmp q l) (finite.get appended q) (finite.get now q)) none)) r
     ∙ ap (λ o. overlaid_region r o (finite.get appended r) (finite.get first r)) (sym (ap (λ x. finite.get x r) (sym is) ∙ finite.get-from_entries nat_cmp_total all r))

@@ -49,12 +49,16 @@ module _ (queue : LogQueue) (k : ℕ) (m : Marks) (ms : List Marks) (s : AreSlot
 
     runs_next : AreRunsOver queue (together (m ∷ ms)) left now.tables → AreRunsOver queue (together ms) after next.tables
     runs_next h r x is = elim (front-or k m ms s r) [
-      | inl p ↦ subst (λ (o : Option Table). IsRunOver queue x (table_of r o) (table_in next.tables r)) (sym (kept r p.0)) (subst (λ (o : Option Table). IsRunOver queue x (table_in left r) (table_of r o)) (ap (λ (y : MarkedRegion). y.table) (sym (elsewhere r p.0))) (h r x (p.1 ∙ is)))
+      | inl p ↦ subst (λ (o : Option Table). IsRunOver queue x (table_of r o) (table_in next.tables r)) (sym (kept r p.0))
+          (subst (λ (o : Option Table). IsRunOver queue x (table_in left r) (table_of r o))
+          (ap (λ (y : MarkedRegion). y.table) (sym (elsewhere r p.0))) (h r x (p.1 ∙ is)))
       | inr p ↦ absurd (none_some (sym p.0 ∙ is))
     ]
 
-    found_next : (r : ℕ) → finite.get m r ≡ None → finite.get (together (m ∷ ms)) r ≡ finite.get (together ms) r → found r (finite.get (together (m ∷ ms)) r) ≡ joined_marked queue r (finite.get (together ms) r) (finite.get after r) (region_in next r)
-    found_next r none is = ap (found r) is ∙ ap (λ t. joined_marked queue r (finite.get (together ms) r) t (region_in now r)) (sym (kept r none)) ∙ ap (joined_marked queue r (finite.get (together ms) r) (finite.get after r)) (sym (elsewhere r none))
+    found_next : (r : ℕ) → finite.get m r ≡ None → finite.get (together (m ∷ ms)) r ≡ finite.get (together ms) r →
+        found r (finite.get (together (m ∷ ms)) r) ≡ joined_marked queue r (finite.get (together ms) r) (finite.get after r) (region_in next r)
+    found_next r none is = ap (found r) is ∙ ap (λ t. joined_marked queue r (finite.get (together ms) r) t (region_in now r)) (sym (kept r none))
+        ∙ ap (joined_marked queue r (finite.get (together ms) r) (finite.get after r)) (sym (elsewhere r none))
 
     joined_next : (z : MarkedRegions) → AreJoined queue next record { tables = after; marks = together ms } z → AreJoined queue now record { tables = left; marks = together (m ∷ ms) } z
     joined_next z h = record {
@@ -63,7 +67,9 @@ module _ (queue : LogQueue) (k : ℕ) (m : Marks) (ms : List Marks) (s : AreSlot
         | inr p ↦ ap (found r) p.1 ∙ j.regions r ∙ sym (ap (λ (o : Option Mark). joined_marked queue r o (finite.get after r) (region_in next r)) p.0) ∙ h.regions r
       ];
       marked = λ r. h.marked r ∙ ap (λ b. b || is_some (finite.get (together ms) r)) (j.marked r) ∙ elim (front-or k m ms s r) [
-        | inl p ↦ ap (λ (o : Option Mark). (is_some (finite.get now.marks r) || is_some o) || is_some (finite.get (together ms) r)) p.0 ∙ ap (λ b. b || is_some (finite.get (together ms) r)) (or_false _) ∙ ap (λ (o : Option Mark). is_some (finite.get now.marks r) || is_some o) (sym p.1)
+        | inl p ↦ ap (λ (o : Option Mark). (is_some (finite.get now.marks r) || is_some o) || is_some (finite.get (together ms) r)) p.0
+            ∙ ap (λ b. b || is_some (finite.get (together ms) r)) (or_false _)
+            ∙ ap (λ (o : Option Mark). is_some (finite.get now.marks r) || is_some o) (sym p.1)
         | inr p ↦ ap (λ (o : Option Mark). (is_some (finite.get now.marks r) || is_some (finite.get m r)) || is_some o) p.0 ∙ or_false _ ∙ ap (λ (o : Option Mark). is_some (finite.get now.marks r) || is_some o) (sym p.1)
       ];
     }
@@ -85,10 +91,12 @@ pub record AreSlotsJoining (queue : LogQueue) (newer : Tables) (first : MarkedRe
   pub joined : AreRunsOver queue marks newer first.tables → (z : MarkedRegions) → AreJoined queue now record { tables = left; marks = together ms } z → AreJoined queue first record { tables = newer; marks = marks } z
   pub refused : AreRunsOver queue marks newer first.tables → IsJoinRefused queue now record { tables = left; marks = together ms } → IsJoinRefused queue first record { tables = newer; marks = marks }
 
-pub no_slots_joined : (queue : LogQueue) (newer : Tables) (first : MarkedRegions) (marks : Marks) (ms : List Marks) → together ms ≡ marks → live_in_all (other queue) first.tables ≡ 0 → live_in_all (other queue) newer ≡ 0 → AreSlotsJoining queue newer first marks first newer ms
+pub no_slots_joined : (queue : LogQueue) (newer : Tables) (first : MarkedRegions) (marks : Marks) (ms : List Marks) → together ms ≡ marks →
+    live_in_all (other queue) first.tables ≡ 0 → live_in_all (other queue) newer ≡ 0 → AreSlotsJoining queue newer first marks first newer ms
 no_slots_joined queue newer first marks ms is a b = subst (λ x. AreSlotsJoining queue newer first x first newer ms) is record { alone = a; alone_left = b; few = λ q. omega arith; runs = λ r. r; joined = λ r z h. h; refused = λ r h. h }
 
-module _ (queue : LogQueue) (newer : Tables) (first : MarkedRegions) (marks : Marks) (now : MarkedRegions) (left : Tables) (rest : List Marks) (k : ℕ) (m : Marks) (ms : List Marks) (is : rest ≡ m ∷ ms) (s : AreSlots k rest) (at : AreSlotsJoining queue newer first marks now left rest) where
+module _ (queue : LogQueue) (newer : Tables) (first : MarkedRegions) (marks : Marks) (now : MarkedRegions) (left : Tables) (rest : List Marks) (k : ℕ)
+    (m : Marks) (ms : List Marks) (is : rest ≡ m ∷ ms) (s : AreSlots k rest) (at : AreSlotsJoining queue newer first marks now left rest) where
   there : AreSlotsJoining queue newer first marks now left (m ∷ ms)
   there = subst (AreSlotsJoining queue newer first marks now left) is at
 
@@ -110,7 +118,8 @@ module _ (queue : LogQueue) (newer : Tables) (first : MarkedRegions) (marks : Ma
       }
 
   -- one slot is refused
-  pub slots_joining_fault : (e : Error) → (AreRunsOver queue m left now.tables → IsSlotFault queue now record { tables = left; marks = m } e) → AreRunsOver queue marks newer first.tables → IsJoinFault queue first record { tables = newer; marks = marks } e
+  pub slots_joining_fault : (e : Error) → (AreRunsOver queue m left now.tables → IsSlotFault queue now record { tables = left; marks = m } e) →
+      AreRunsOver queue marks newer first.tables → IsJoinFault queue first record { tables = newer; marks = marks } e
   slots_joining_fault e fault runs = go e (fault (runs_here queue k m ms split now left (there.runs runs)))
     where
       go : (e : Error) → IsSlotFault queue now record { tables = left; marks = m } e → IsJoinFault queue first record { tables = newer; marks = marks } e
@@ -120,7 +129,9 @@ module _ (queue : LogQueue) (newer : Tables) (first : MarkedRegions) (marks : Ma
       go _ f = absurd f
 
 -- all slots are joined
-pub all_slots_joined : (queue : LogQueue) (newer : Tables) (first : MarkedRegions) (marks : Marks) (now : MarkedRegions) (left : Tables) (ms : List Marks) → AreSlotsJoining queue newer first marks now left ms → length ms ≡ 0 → AreRunsOver queue marks newer first.tables → AreJoined queue first record { tables = newer; marks = marks } now
+pub all_slots_joined : (queue : LogQueue) (newer : Tables) (first : MarkedRegions) (marks : Marks) (now : MarkedRegions) (left : Tables)
+    (ms : List Marks) → AreSlotsJoining queue newer first marks now left ms → length ms ≡ 0 → AreRunsOver queue marks newer first.tables →
+    AreJoined queue first record { tables = newer; marks = marks } now
 all_slots_joined queue newer first marks now left ms at e runs = at.joined runs now record {
   regions = λ r. ap (λ (o : Option Mark). joined_marked queue r o (finite.get left r) (region_in now r)) (none_in ms r e);
   marked = λ r. sym (ap (λ (o : Option Mark). is_some (finite.get now.marks r) || is_some o) (none_in ms r e) ∙ or_false _);

@@ -86,5 +86,7 @@ module _ (appended first : Tables) (marks : Marks) (now left : Tables) (rest : L
   slots_overlaying_fault q _ f = absurd f
 
 -- all slots are overlaid
-pub all_slots_overlaid : (appended first : Tables) (marks : Marks) (now left : Tables) (ms : List Marks) → AreSlotsOverlaying appended first marks now left ms → length ms ≡ 0 → AreRunsOverlaid marks appended first → AreOverlaid record { tables = appended; marks = marks } first now
+pub all_slots_overlaid : (appended first : Tables) (marks : Marks) (now left : Tables) (ms : List Marks) →
+    AreSlotsOverlaying appended first marks now left ms → length ms ≡ 0 → AreRunsOverlaid marks appended first →
+    AreOverlaid record { tables = appended; marks = marks } first now
 all_slots_overlaid appended first marks now left ms at e runs = at.overlaid runs now (λ r. sym (ap (λ (x : Option Mark). overlaid_region r x (finite.get left r) (finite.get now r)) (none_in ms r e)))

@@ -82,12 +82,18 @@ fault-front q rs xs ys errors.Memory f = tt
 fault-front q rs xs ys _ f = absurd f
 
 -- counts behind counts
-pub counts-append : (q : LogQueue) (rs new : MarkedRegions) (xs ys : List RegionStep) (k l n : Counts) → regions_after q rs xs ≡ Some new → AreCountsAfterSteps q rs.tables xs k l → AreCountsAfterSteps q new.tables ys l n → AreCountsAfterSteps q rs.tables (xs ++ ys) k n
+pub counts-append : (q : LogQueue) (rs new : MarkedRegions) (xs ys : List RegionStep) (k l n : Counts) → regions_after q rs xs ≡ Some new →
+    AreCountsAfterSteps q rs.tables xs k l → AreCountsAfterSteps q new.tables ys l n → AreCountsAfterSteps q rs.tables (xs ++ ys) k n
 counts-append q rs new [] ys k l n e f g =
     subst (λ (x : MarkedRegions). AreCountsAfterSteps q x.tables ys k n) (sym (some_is e)) (subst (λ c. AreCountsAfterSteps q new.tables ys c n) f g)
 counts-append q rs new (s ∷ xs) ys k l n e f g = λ t u.
     let x : MarkedRegion = record { mark = joined_mark q s.region (region_in rs s.region).mark (finite.get rs.tables s.region) (mark_of s.step); table = t } in
-    let more : regions_after q (with_region rs s.region x) xs ≡ Some new = sym (ap (λ (o : Option (Option Table)). option_and_then (λ x. regions_after q (with_region rs s.region x) xs) (option_map (λ t. record { mark = joined_mark q s.region (region_in rs s.region).mark (finite.get rs.tables s.region) (mark_of s.step); table = t }) o)) u) ∙ e in
+    let more : regions_after q (with_region rs s.region x) xs ≡ Some
+    new = sym (ap (λ (o : Option (Option Table)). option_and_then (λ x. regions_after q (with_region rs s.region x) xs)
+    (option_map (λ t. record {
+      mark = joined_mark q s.region (region_in rs s.region).mark (finite.get rs.tables s.region) (mark_of s.step);
+      table = t;
+    }) o)) u) ∙ e in
     counts-append q (with_region rs s.region x) new xs ys (counts_after_step q (table_of s.region (finite.get rs.tables s.region)) s.step k) l n more (f t u) g
 
 pub taken_none : (q : LogQueue) (a : MarkedTables) → AreStepsTaken q [] (Ok tt) a a
@@ -128,7 +134,10 @@ module _ (q : LogQueue) (id : ℕ) (s : Step) (a b : MarkedTables) where
 
   -- by what the marks answer
   pub step_taken : (r : Result Unit Error) (t : Option Table) → after_step q (table_of id (finite.get a.accessor.tables id)) s ≡ Some t → b.accessor.tables ≡ with_table a.accessor.tables id t
-      → b.accessor.cleaned ≡ a.accessor.cleaned ++ cleaned_by_steps q (one_step id s) → b.accessor.counts ≡ counts_after_step q (table_of id (finite.get a.accessor.tables id)) s a.accessor.counts → OnOk r (b.marks ≡ finite.insert a.marks id (joined_mark q id (mark_in a.marks id) (finite.get a.accessor.tables id) (mark_of s))) → IfErr r (λ e. e ≡ errors.Memory) → AreStepsTaken q (one_step id s) r a b
+      → b.accessor.cleaned ≡ a.accessor.cleaned ++ cleaned_by_steps q (one_step id s) →
+      b.accessor.counts ≡ counts_after_step q (table_of id (finite.get a.accessor.tables id)) s a.accessor.counts →
+      OnOk r (b.marks ≡ finite.insert a.marks id (joined_mark q id (mark_in a.marks id) (finite.get a.accessor.tables id) (mark_of s))) →
+      IfErr r (λ e. e ≡ errors.Memory) → AreStepsTaken q (one_step id s) r a b
   step_taken (Ok u) t e k l c m n = record {
     ok = ap (λ o. option_and_then (λ x. regions_after q (with_region (regions_in a) id x) []) (option_map put o)) e ∙ ap Some (ap (λ ts. made ts (finite.insert a.marks id (put t).mark)) (sym k) ∙ ap (made b.accessor.tables) (sym m));
     cleaned = l;
@@ -149,8 +158,12 @@ module _ (q : LogQueue) (id : ℕ) (s : Step) (a : MarkedTables) (mid : Accessor
   none_cleaned Append e = ap (λ l. l ++ []) e
   none_cleaned Rewrite e = refl
 
-  pub changed_taken : (r : Result Unit Error) (outcome : Option Table) → after_step q (table_of id (finite.get a.accessor.tables id)) s ≡ option_map (λ t. Some t) outcome → outcome ≡ Some (table_in mid.tables id) → mid.tables ≡ finite.insert a.accessor.tables id (table_in mid.tables id)
-      → mid.cleaned ≡ a.accessor.cleaned → mid.counts ≡ counts_after_step q (table_of id (finite.get a.accessor.tables id)) s a.accessor.counts → cleaned_by id s ≡ [] → OnOk r (marks ≡ finite.insert a.marks id (joined_mark q id (mark_in a.marks id) (finite.get a.accessor.tables id) (mark_of s))) → IfErr r (λ e. e ≡ errors.Memory) → AreStepsTaken q (one_step id s) r a (record { accessor = mid; marks = marks })
+  pub changed_taken : (r : Result Unit Error) (outcome : Option Table) → after_step q (table_of id (finite.get a.accessor.tables id)) s ≡ option_map
+      (λ t. Some t) outcome → outcome ≡ Some (table_in mid.tables id) → mid.tables ≡ finite.insert a.accessor.tables id (table_in mid.tables id)
+      → mid.cleaned ≡ a.accessor.cleaned → mid.counts ≡ counts_after_step q (table_of id (finite.get a.accessor.tables id)) s a.accessor.counts →
+      cleaned_by id s ≡ [] → OnOk r (marks ≡ finite.insert a.marks id
+      (joined_mark q id (mark_in a.marks id) (finite.get a.accessor.tables id) (mark_of s))) → IfErr r (λ e. e ≡ errors.Memory) →
+      AreStepsTaken q (one_step id s) r a (record { accessor = mid; marks = marks })
   changed_taken r outcome e k t l c n m f =
       step_taken q id s a (record { accessor = mid; marks = marks }) r (Some (table_in mid.tables id)) (e ∙ ap (option_map (λ t. Some t)) k) t
       (l ∙ sym (ap (λ l. a.accessor.cleaned ++ l) (none_cleaned q n) ∙ append-nil a.accessor.cleaned)) c m f
@@ -161,7 +174,9 @@ none_of : (o : Option Table) → option_map (λ t. Some t) o ≡ None → o ≡ 
 none_of None e = refl
 none_of (Some t) e = absurd cc
 
-run_by : (q : LogQueue) (id : ℕ) (run : List EntryIndex) (a b : MarkedTables) (n : ℕ) (e : Error) → IsRunIn q run → n ≡ live_in_all q a.accessor.tables → IsWriteFault (Replaying q) id (finite.get a.accessor.tables id) n (entries run) e → IsStepsFault q (regions_in a) (one_step id (Run run)) e
+run_by : (q : LogQueue) (id : ℕ) (run : List EntryIndex) (a b : MarkedTables) (n : ℕ) (e : Error) → IsRunIn q run →
+    n ≡ live_in_all q a.accessor.tables → IsWriteFault (Replaying q) id (finite.get a.accessor.tables id) n (entries run) e →
+    IsStepsFault q (regions_in a) (one_step id (Run run)) e
 run_by q id run a b n (errors.Corruption text) h is (inl f) = absurd (f h)
 run_by q id run a b n (errors.Corruption text) h is (inr f) = no_step q id (Run run) a b (ap (λ (t : Option Table). option_map Some t) (none_of _ f))
 run_by q id run a b n (errors.InvalidArgument text) h is f = omega (arith, f, table_live-le (other q) a.accessor.tables id)
@@ -169,18 +184,24 @@ run_by q id run a b n errors.Full h is f = omega (arith, f, is)
 run_by q id run a b n errors.Memory h is f = tt
 run_by q id run a b n _ h is f = absurd f
 
-put_by : (q : LogQueue) (id : ℕ) (key value : List ℕ) (file : FileId) (replaced : Option FileId) (a : MarkedTables) (e : Error) → live q a.accessor.counts ≡ live_in_all q a.accessor.tables → IsTablePutFault q a.accessor.counts replaced e → IsStepsFault q (regions_in a) (one_step id (Put key value file)) e
+put_by : (q : LogQueue) (id : ℕ) (key value : List ℕ) (file : FileId) (replaced : Option FileId) (a : MarkedTables) (e : Error) →
+    live q a.accessor.counts ≡ live_in_all q a.accessor.tables → IsTablePutFault q a.accessor.counts replaced e →
+    IsStepsFault q (regions_in a) (one_step id (Put key value file)) e
 put_by q id key value file replaced a errors.Full is f = omega (arith, f.0, is)
 put_by q id key value file replaced a errors.Memory is f = tt
 put_by q id key value file replaced a _ is f = absurd f
 
-fault_by : (q : LogQueue) (id : ℕ) (s : Step) (a b : MarkedTables) (e : Error) → IsStepOfQueue q s → AreCountsOf a.accessor.tables a.accessor.counts → IsStepFault q (table_in a.accessor.tables id) a.accessor.counts s e → IsStepsFault q (regions_in a) (one_step id s) e
+fault_by : (q : LogQueue) (id : ℕ) (s : Step) (a b : MarkedTables) (e : Error) → IsStepOfQueue q s → AreCountsOf a.accessor.tables a.accessor.counts →
+    IsStepFault q (table_in a.accessor.tables id) a.accessor.counts s e → IsStepsFault q (regions_in a) (one_step id s) e
 fault_by q id (Run run) a b e h counted f = run_by q id run a b (live q a.accessor.counts) e h (counted q) (replay_fault q id (finite.get a.accessor.tables id) run a.accessor.counts e f)
-fault_by q id (Put key value file) a b e h counted f = put_by q id key value file (file_at (table_in a.accessor.tables id).keys key) a e (counted q) (subst (λ q. IsTablePutFault q a.accessor.counts (file_at (table_in a.accessor.tables id).keys key) e) h f)
+fault_by q id (Put key value file) a b e h counted f = put_by q id key value file (file_at (table_in a.accessor.tables id).keys key) a e (counted q)
+    (subst (λ q. IsTablePutFault q a.accessor.counts (file_at (table_in a.accessor.tables id).keys key) e) h f)
 fault_by q id _ a b e h counted f = absurd f
 
 -- a step that the accessor takes or refuses, behind its region mark
-pub by_accessor : (q : LogQueue) (id : ℕ) (s : Step) (a b : MarkedTables) (r : Result Unit Error) → IsStepOfQueue q s → AreCountsOf a.accessor.tables a.accessor.counts → b.marks ≡ finite.insert a.marks id (joined_mark q id (mark_in a.marks id) (finite.get a.accessor.tables id) (mark_of s))
+pub by_accessor : (q : LogQueue) (id : ℕ) (s : Step) (a b : MarkedTables) (r : Result Unit Error) → IsStepOfQueue q s →
+    AreCountsOf a.accessor.tables a.accessor.counts →
+    b.marks ≡ finite.insert a.marks id (joined_mark q id (mark_in a.marks id) (finite.get a.accessor.tables id) (mark_of s))
     → IsStepTaken q id s a.accessor.tables a.accessor.counts a.accessor.cleaned r b.accessor.tables b.accessor.counts b.accessor.cleaned → AreStepsTaken q (one_step id s) r a b
 by_accessor q id s a b (Ok u) h counted m k = step_taken q id s a b (Ok u) (finite.get b.accessor.tables id) k.ok k.one k.cleaned k.counts_ok m tt
 by_accessor q id s a b (Err x) h counted m k = elim k.fault [ inl is ↦ taken_memory q (one_step id s) a b x is | inr f ↦ step_refused q id s a b x (fault_by q id s a b x h counted f) ]
@@ -196,13 +217,17 @@ pub no_end : (id : ℕ) (o : Option Table) → None ≡ o → 0 ≡ end_of (tabl
 unfolding end_of
 no_end id o e = ap (λ o. end_of (table_of id o).entries) e
 
-pub run_mark : (q : LogQueue) (id : ℕ) (run : List EntryIndex) (start end : ℕ) (o : Option Table) (m : Mark) → first_index run ≡ Some start → end ≡ end_of (table_of id o).entries → joined_at q end m (record fresh { reach = Some start; cut = Some start }) ≡ joined_mark q id m o (mark_of (Run run))
+pub run_mark : (q : LogQueue) (id : ℕ) (run : List EntryIndex) (start end : ℕ) (o : Option Table) (m : Mark) → first_index run ≡ Some start →
+    end ≡ end_of (table_of id o).entries → joined_at q end m (record fresh { reach = Some start; cut = Some start }) ≡ joined_mark q id m o
+    (mark_of (Run run))
 run_mark q id [] start end o m e k = absurd (none_some e)
 run_mark q id (x ∷ run) start end o m e k =
     ap (λ i. joined_at q end m (record fresh { reach = Some i; cut = Some i })) (sym (some_is e))
     ∙ ap (λ y. joined_at q y m (record fresh { reach = Some x.index; cut = Some x.index })) (k ∙ ap end_of (sym (within-whole (table_of id o).entries)))
 
-pub run_marked : (q : LogQueue) (id : ℕ) (run : List EntryIndex) (start end : ℕ) (o : Option Table) (old new : Marks) (r : Result Unit Error) → first_index run ≡ Some start → end ≡ end_of (table_of id o).entries → OnOk r (new ≡ finite.insert old id (joined_at q end (mark_in old id) (record fresh { reach = Some start; cut = Some start })))
+pub run_marked : (q : LogQueue) (id : ℕ) (run : List EntryIndex) (start end : ℕ) (o : Option Table) (old new : Marks) (r : Result Unit Error) →
+    first_index run ≡ Some start → end ≡ end_of (table_of id o).entries →
+    OnOk r (new ≡ finite.insert old id (joined_at q end (mark_in old id) (record fresh { reach = Some start; cut = Some start })))
     → OnOk r (new ≡ finite.insert old id (joined_mark q id (mark_in old id) o (mark_of (Run run))))
 run_marked q id run start end o old new (Ok u) e k h = h ∙ ap (finite.insert old id) (run_mark q id run start end o (mark_in old id) e k)
 run_marked q id run start end o old new (Err x) e k h = tt
@@ -220,7 +245,8 @@ run_step q id o run = refl
 pub tried : (q : LogQueue) (steps : List RegionStep) (a b : MarkedTables) (taken : Bool) → taken ≡ true → MatchBool taken (AreStepsTaken q steps (Ok tt) a b) (b ≡ a) → AreStepsTaken q steps (Ok tt) a b
 tried q steps a b taken e h = rw e at h
 
-pub not_tried : (q : LogQueue) (steps : List RegionStep) (a b c : MarkedTables) (r : Result Unit Error) (taken : Bool) → taken ≡ false → MatchBool taken (AreStepsTaken q steps (Ok tt) a b) (b ≡ a) → AreStepsTaken q steps r b c → AreStepsTaken q steps r a c
+pub not_tried : (q : LogQueue) (steps : List RegionStep) (a b c : MarkedTables) (r : Result Unit Error) (taken : Bool) → taken ≡ false →
+    MatchBool taken (AreStepsTaken q steps (Ok tt) a b) (b ≡ a) → AreStepsTaken q steps r b c → AreStepsTaken q steps r a c
 not_tried q steps a b c r taken e h t =
     let k : b ≡ a = rw e at h in
     subst (λ x. AreStepsTaken q steps r x c) k t
@@ -236,7 +262,8 @@ of_queue_back q (x ∷ xs) ys h = of_queue_back q xs ys h.1
 pub rest_of_queue : (q : LogQueue) (one rest all : List RegionStep) → all ≡ one ++ rest → AreStepsOfQueue q all → AreStepsOfQueue q rest
 rest_of_queue q one rest all e h = of_queue_back q one rest (subst (AreStepsOfQueue q) e h)
 
-pub each_more : (q : LogQueue) (one rest all : List RegionStep) (a b c : MarkedTables) (r : Result Unit Error) → all ≡ one ++ rest → AreStepsOfQueue q all → AreStepsTaken q one (Ok tt) a b → AreStepsTaken q rest r b c → AreStepsTaken q all r a c
+pub each_more : (q : LogQueue) (one rest all : List RegionStep) (a b c : MarkedTables) (r : Result Unit Error) → all ≡ one ++ rest →
+    AreStepsOfQueue q all → AreStepsTaken q one (Ok tt) a b → AreStepsTaken q rest r b c → AreStepsTaken q all r a c
 each_more q one rest all a b c r e h s t = subst (λ l. AreStepsTaken q l r a c) (sym e) (taken_more q one rest a b c r (of_queue_front q one rest (subst (AreStepsOfQueue q) e h)) s t)
 
 pub each_refused : (q : LogQueue) (one rest all : List RegionStep) (a b : MarkedTables) (e : Error) → all ≡ one ++ rest → AreStepsTaken q one (Err e) a b → AreStepsTaken q all (Err e) a b
@@ -248,6 +275,8 @@ no_items q steps_in (x ∷ xs) a none e = absurd (omega (arith, e))
 
 -- ---- what is told of all steps
 
-pub other_in : (q : LogQueue) (steps : List RegionStep) (a b : MarkedTables) (r : Result Unit Error) → AreStepsOfQueue q steps → OnOk r (regions_after q (regions_in a) steps ≡ Some (regions_in b)) → OnOk r (live_in_all (other q) b.accessor.tables ≤ live_in_all (other q) a.accessor.tables)
+pub other_in : (q : LogQueue) (steps : List RegionStep) (a b : MarkedTables) (r : Result Unit Error) → AreStepsOfQueue q steps →
+    OnOk r (regions_after q (regions_in a) steps ≡ Some (regions_in b)) →
+    OnOk r (live_in_all (other q) b.accessor.tables ≤ live_in_all (other q) a.accessor.tables)
 other_in q steps a b (Ok u) h e = omega (arith, steps_live q (other q) (regions_in a) (regions_in b) steps e h, of_other q (records_in steps))
 other_in q steps a b (Err x) h e = tt

@@ -17,7 +17,9 @@ pub more_taken : (rs new : MarkedRegions) (w : WholeGroup) (ws : List WholeGroup
 more_taken rs new w ws e = after-append Rewrite rs (region_steps_of_whole w) (region_steps_of_wholes ws) ∙ ap (option_and_then (λ n. regions_after Rewrite n (region_steps_of_wholes ws))) e
 
 -- why those are refused that come behind a group
-pub more_fault : (rs new : MarkedRegions) (w : WholeGroup) (ws : List WholeGroup) (e : Error) → AreStepsOfQueue Rewrite w.steps → regions_after Rewrite rs (region_steps_of_whole w) ≡ Some new → IsStepsFault Rewrite new (region_steps_of_wholes ws) e → IsStepsFault Rewrite rs (region_steps_of_wholes (w ∷ ws)) e
+pub more_fault : (rs new : MarkedRegions) (w : WholeGroup) (ws : List WholeGroup) (e : Error) → AreStepsOfQueue Rewrite w.steps →
+    regions_after Rewrite rs (region_steps_of_whole w) ≡ Some new → IsStepsFault Rewrite new (region_steps_of_wholes ws) e →
+    IsStepsFault Rewrite rs (region_steps_of_wholes (w ∷ ws)) e
 more_fault rs new w ws e h is f = fault-behind Rewrite rs new (region_steps_of_whole w) (region_steps_of_wholes ws) e (whole_in_queue Rewrite w h) is f
 
 -- or in front of others

@@ -25,9 +25,14 @@ whole-others m id v (e ∷ es) h = rw (finite.get-insert nat_cmp_total m id v e.
     flip : (a b : ℕ) → eqb b a ≡ false → eqb a b ≡ false
     flip a b e = grind (arith, nat_tests)
 
-pub wholes-step : (m n a b : WaitingGroups) (id : ℕ) (g : WaitingGroup) (ws : List WholeGroup) (w : Option WholeGroup) → finite.entries a ≡ (id, g) ∷ finite.entries b → n ≡ finite.insert m id (joined_group (known_of m id) g) → w ≡ whole_group (known_of m id) g → (ws ++ option_to_list w) ++ whole_groups n b ≡ ws ++ whole_groups m a
+pub wholes-step : (m n a b : WaitingGroups) (id : ℕ) (g : WaitingGroup) (ws : List WholeGroup) (w : Option WholeGroup) →
+    finite.entries a ≡ (id, g) ∷ finite.entries b → n ≡ finite.insert m id (joined_group (known_of m id) g) → w ≡ whole_group (known_of m id) g →
+    (ws ++ option_to_list w) ++ whole_groups n b ≡ ws ++ whole_groups m a
 unfolding IsDistinct
-wholes-step m n a b id g ws w e k is = append_assoc ws (option_to_list w) (whole_groups n b) ∙ ap (λ l. ws ++ l) (ap (λ x. option_to_list w ++ whole_groups x b) k ∙ ap (λ l. option_to_list w ++ l) (whole-others m id (joined_group (known_of m id) g) (finite.entries b) distinct.0) ∙ go w is ∙ ap (whole_with m) (sym e))
+wholes-step m n a b id g ws w e k is = append_assoc ws (option_to_list w) (whole_groups n b)
+    ∙ ap (λ l. ws ++ l) (ap (λ x. option_to_list w ++ whole_groups x b) k
+    ∙ ap (λ l. option_to_list w ++ l) (whole-others m id (joined_group (known_of m id) g) (finite.entries b) distinct.0) ∙ go w is
+    ∙ ap (whole_with m) (sym e))
   where
     distinct : IsDistinct eqb (id ∷ map (λ e. e.0) (finite.entries b))
     distinct = subst (λ es. IsDistinct eqb (map (λ e. e.0) es)) e (keys_distinct (finite.entries a) (finite.entries_sorted a))
@@ -47,14 +52,21 @@ none_left n h = go (ltb 0 n) refl
     go false e = omega (arith, ltb-false 0 n e)
 
 -- one more batch with a marker, and a newer history, behind a history
-pub stands-one : (m n : WaitingGroups) (h : List BatchSteps) (is : List RegionStep) (g : ℕ) (s : AtomicGroupStatus) (f : ℕ) (x : WaitingGroup) → m ≡ groups_in h → x ≡ one_marker s is f → n ≡ finite.insert m g (joined_group (known_of m g) x) → n ≡ groups_in (h ++ batch_with_marker is g s f ∷ [])
+pub stands-one : (m n : WaitingGroups) (h : List BatchSteps) (is : List RegionStep) (g : ℕ) (s : AtomicGroupStatus) (f : ℕ) (x : WaitingGroup) →
+    m ≡ groups_in h → x ≡ one_marker s is f → n ≡ finite.insert m g (joined_group (known_of m g) x) →
+    n ≡ groups_in (h ++ batch_with_marker is g s f ∷ [])
 stands-one m n h is g s f x e k put = put ∙ ap (λ y. finite.insert m g (joined_group (known_of m g) y)) k ∙ ap (λ y. finite.insert y g (joined_group (known_of y g) (one_marker s is f))) e ∙ sym (groups_in-one h (batch_with_marker is g s f))
 
-pub steps-with_marker : (m : WaitingGroups) (h : List BatchSteps) (r : ℕ) (is : List RegionStep) (g : ℕ) (s : AtomicGroupStatus) (f : ℕ) (x : WaitingGroup) (w : Option WholeGroup) → m ≡ groups_in h → x ≡ one_marker s is f → w ≡ whole_group (known_of m g) x → steps_of r (h ++ batch_with_marker is g s f ∷ []) ≡ steps_of r h ++ steps_or r w
-steps-with_marker m h r is g s f x w e k is_whole = steps-one r h (batch_with_marker is g s f) ∙ ap (λ y. steps_of r h ++ steps_or r y) (sym (is_whole ∙ ap (whole_group (known_of m g)) k ∙ ap (λ y. whole_group (known_of y g) (one_marker s is f)) e))
+pub steps-with_marker : (m : WaitingGroups) (h : List BatchSteps) (r : ℕ) (is : List RegionStep) (g : ℕ) (s : AtomicGroupStatus) (f : ℕ)
+    (x : WaitingGroup) (w : Option WholeGroup) → m ≡ groups_in h → x ≡ one_marker s is f → w ≡ whole_group (known_of m g) x →
+    steps_of r (h ++ batch_with_marker is g s f ∷ []) ≡ steps_of r h ++ steps_or r w
+steps-with_marker m h r is g s f x w e k is_whole = steps-one r h (batch_with_marker is g s f)
+    ∙ ap (λ y. steps_of r h ++ steps_or r y)
+    (sym (is_whole ∙ ap (whole_group (known_of m g)) k ∙ ap (λ y. whole_group (known_of y g) (one_marker s is f)) e))
 
 pub stands-joined : (m n o : WaitingGroups) (h k : List BatchSteps) → o ≡ joined_groups m n → m ≡ groups_in h → n ≡ groups_in k → o ≡ groups_in (h ++ k)
 stands-joined m n o h k j e f = j ∙ ap (λ x. joined_groups x n) e ∙ ap (joined_groups (groups_in h)) f ∙ sym (groups_in-append h k)
 
-pub steps-joined : (m n : WaitingGroups) (h k : List BatchSteps) (r : ℕ) (ws : List WholeGroup) → ws ≡ whole_groups m n → m ≡ groups_in h → n ≡ groups_in k → EachApart (effects (h ++ k)) → steps_of r (h ++ k) ≡ steps_of r h ++ (steps_of_wholes r ws ++ steps_of r k)
+pub steps-joined : (m n : WaitingGroups) (h k : List BatchSteps) (r : ℕ) (ws : List WholeGroup) → ws ≡ whole_groups m n → m ≡ groups_in h →
+    n ≡ groups_in k → EachApart (effects (h ++ k)) → steps_of r (h ++ k) ≡ steps_of r h ++ (steps_of_wholes r ws ++ steps_of r k)
 steps-joined m n h k r ws j e f apart = steps_across r h k apart ∙ ap (λ x. steps_of r h ++ (steps_of_wholes r x ++ steps_of r k)) (sym (j ∙ ap (λ x. whole_groups x n) e ∙ ap (whole_groups (groups_in h)) f))

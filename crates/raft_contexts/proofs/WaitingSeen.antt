@@ -40,10 +40,12 @@ pub get-seen : (es : List (ℕ × WaitingGroup)) (q : ℕ) → Ordered es → fi
 get-seen es q h = finite.get-from_sorted nat_cmp _ q (in_order es h) ∙ find-shown nat_cmp own group_shown q es
 
 pub seen-insert : (k : ℕ) (x : WaitingGroup) (es : List (ℕ × WaitingGroup)) → Ordered es → Ordered (insert_entry nat_cmp es k x) → seen (insert_entry nat_cmp es k x) ≡ finite.insert (seen es) k (group_shown x)
-seen-insert k x es h g = finite.same_entries_map _ _ (entries-seen _ g ∙ shown-insert_entry nat_cmp own group_shown k x es ∙ ap (finite.put nat_cmp k (group_shown x)) (sym (entries-seen es h)) ∙ sym (finite.entries-insert nat_cmp_total (seen es) k (group_shown x)))
+seen-insert k x es h g = finite.same_entries_map _ _ (entries-seen _ g ∙ shown-insert_entry nat_cmp own group_shown k x es
+    ∙ ap (finite.put nat_cmp k (group_shown x)) (sym (entries-seen es h)) ∙ sym (finite.entries-insert nat_cmp_total (seen es) k (group_shown x)))
 
 -- without a group
-get-without : (es : List (ℕ × WaitingGroup)) (k q : ℕ) → Ordered es → Ordered (remove_entry (is_at (nat_cmp k)) es) → finite.get (seen (remove_entry (is_at (nat_cmp k)) es)) q ≡ cond (not (eq_by_cmp nat_cmp k q)) (finite.get (seen es) q) None
+get-without : (es : List (ℕ × WaitingGroup)) (k q : ℕ) → Ordered es → Ordered (remove_entry (is_at (nat_cmp k)) es) →
+    finite.get (seen (remove_entry (is_at (nat_cmp k)) es)) q ≡ cond (not (eq_by_cmp nat_cmp k q)) (finite.get (seen es) q) None
 get-without es k q h g =
     finite.get-from_sorted nat_cmp _ q (in_order _ g) ∙ ap (find nat_cmp q) (shown-remove_entry nat_cmp own group_shown nat_cmp_total k es (in_order es h))
     ∙ find-where_key nat_cmp (λ x. not (eq_by_cmp nat_cmp k x)) q (λ x t. ap (λ r. not (is_eq r)) (sym (alike_right nat_cmp_total q x k t))) (shown nat_cmp own group_shown es)
@@ -52,7 +54,9 @@ get-without es k q h g =
 -- what is put back replaces what was taken out
 pub seen-replace : (es : List (ℕ × WaitingGroup)) (k : ℕ) (v : groups.WaitingGroup) → Ordered es → Ordered (remove_entry (is_at (nat_cmp k)) es) → finite.insert (seen (remove_entry (is_at (nat_cmp k)) es)) k v ≡ finite.insert (seen es) k v
 seen-replace es k v h g = same_map nat_cmp_total nat_cmp-IsAntisymmetric _ _ (λ q.
-    finite.get-insert nat_cmp_total (seen (remove_entry (is_at (nat_cmp k)) es)) k v q ∙ ap (cond (eq_by_cmp nat_cmp q k) (Some v)) (get-without es k q h g) ∙ go q (eq_by_cmp nat_cmp q k) refl ∙ sym (finite.get-insert nat_cmp_total (seen es) k v q))
+    finite.get-insert nat_cmp_total (seen (remove_entry (is_at (nat_cmp k)) es)) k v q
+    ∙ ap (cond (eq_by_cmp nat_cmp q k) (Some v)) (get-without es k q h g) ∙ go q (eq_by_cmp nat_cmp q k) refl
+    ∙ sym (finite.get-insert nat_cmp_total (seen es) k v q))
   where
     flip : (a b : ℕ) → eqb b a ≡ false → eqb a b ≡ false
     flip a b e = grind (arith, nat_tests)

@@ -78,7 +78,9 @@ numbered_from_on q n m (e ∷ h) f = (f.1, each_weaker (FromOn e.file.seq) (From
 
 known_up_to : (q : LogQueue) (g : ℕ) (h : List Event) → FilesFrom q 0 h → StretchUpTo (last_from 0 h) (known_of (groups_in (batches h)) g).stretch
 known_up_to q g h f = subst (λ (w : WaitingGroup). StretchUpTo (last_from 0 h) w.stretch) (sym (known-groups_in g (batches h)))
-    (stretch_up_to (last_from 0 h) (open_stretch (markers_of g (numbered_from 0 (batches h)))) (each_open (UpTo (last_from 0 h)) (markers_of g (numbered_from 0 (batches h))) (each_markers (UpTo (last_from 0 h)) g (numbered_from 0 (batches h)) (placed_up_to q 0 0 h f))))
+    (stretch_up_to (last_from 0 h) (open_stretch (markers_of g (numbered_from 0 (batches h))))
+    (each_open (UpTo (last_from 0 h)) (markers_of g (numbered_from 0 (batches h)))
+    (each_markers (UpTo (last_from 0 h)) g (numbered_from 0 (batches h)) (placed_up_to q 0 0 h f))))
 
 group_from : (q : LogQueue) (g n : ℕ) (h : List Event) → FilesFrom q n h → FrontFrom n (group_in g (batches h)).front
 group_from q g n h f = front_from n (markers_of g (numbered_from 0 (batches h))) (each_markers (FromOn n) g (numbered_from 0 (batches h)) (numbered_from_on q n 0 h f))
@@ -100,7 +102,8 @@ whole_takes n a b h k x y = go a.front a.stretch b.front h.1 k.0 x y
     go Begun s g a b x y = of s g a b x y
 
 -- the group that a batch makes whole
-pub batch_takes : (c : Context) (h : List Event) (e : Event) (m : GroupMarker) → StandsFor c h → IsNextEvent c e → e.file.queue ≡ Rewrite → CanTakeEffectIfAny (whole_group (known_of c.groups m.group) (one_marker m.status (steps_of_items e.items) e.file.seq))
+pub batch_takes : (c : Context) (h : List Event) (e : Event) (m : GroupMarker) → StandsFor c h → IsNextEvent c e → e.file.queue ≡ Rewrite →
+    CanTakeEffectIfAny (whole_group (known_of c.groups m.group) (one_marker m.status (steps_of_items e.items) e.file.seq))
 batch_takes c h e m st n queue = whole_takes (last_from 0 h) (known_of c.groups m.group) (one_marker m.status (steps_of_items e.items) e.file.seq)
     (subst (λ groups. Holds Rewrite (known_of groups m.group)) (sym st.groups) (known_holds Rewrite m.group h own.sound.files own.sound.items))
     (one m.status)
@@ -131,7 +134,8 @@ one_more None ws x y = y
 one_more (Some w) ws x y = (x, y)
 
 -- the groups that two neighbors make whole
-pub wholes_take : (h k : List Event) → FilesFrom Rewrite 0 h → AreInFiles h → FilesFrom Rewrite 0 k → AreInFiles k → FilesFrom Rewrite (last_from 0 h) k → AllByRecursion CanTakeEffect (whole_groups (groups_in (batches h)) (groups_in (batches k)))
+pub wholes_take : (h k : List Event) → FilesFrom Rewrite 0 h → AreInFiles h → FilesFrom Rewrite 0 k → AreInFiles k →
+    FilesFrom Rewrite (last_from 0 h) k → AllByRecursion CanTakeEffect (whole_groups (groups_in (batches h)) (groups_in (batches k)))
 wholes_take h k f a g b behind = all (finite.entries (groups_in (batches k))) (each_weaker _ IsGroup (λ e x. x.1) (finite.entries (groups_in (batches k))) (each_known (batches k)))
   where
     IsGroup : ℕ × WaitingGroup → Type 0

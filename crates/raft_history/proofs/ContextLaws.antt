@@ -11,7 +11,25 @@ use Rattle.raft_table.specs.Steps.{after}
 use Rattle.raft_table.specs.Table.{Table}
 use Rattle.raft_table.proofs.MarkLaws.{stands_alone}
 use Rattle.raft_history.specs.Batches.{BatchSteps, Event, batches}
-use Rattle.raft_history.specs.Contexts.{IsBounded, FileRange, files_of, Suits, joined_files, follows, Context, RegionStandsFor, AreExact, StandsIn, StandsFor, IsExactFor, AreMerged, AreRegionsRefused, merged_regions, merged_with, merged_context}
+use Rattle.raft_history.specs.Contexts.{
+  IsBounded,
+  FileRange,
+  files_of,
+  Suits,
+  joined_files,
+  follows,
+  Context,
+  RegionStandsFor,
+  AreExact,
+  StandsIn,
+  StandsFor,
+  IsExactFor,
+  AreMerged,
+  AreRegionsRefused,
+  merged_regions,
+  merged_with,
+  merged_context,
+}
 use Rattle.raft_history.specs.Effects.{EachApart, effects, steps_of}
 use Rattle.raft_history.specs.Histories.{FilesFrom, Sound, cleaned_in}
 use Rattle.raft_history.proofs.Words.{records_in_history, all_steps}
@@ -109,7 +127,14 @@ append_merged c d h k rs m f e = regions_merged Append c d h k rs
 
 stands_in : (q : LogQueue) (c d : Context) (h k : List Event) (rs : MarkedRegions) → Merges q c d h k → follows c.files d.files ≡ true → AreMerged q c d rs → StandsIn q (merged_with c d rs) (h ++ k)
 stands_in q c d h k rs m f e = record {
-  sound = record { files = both_files q c d h k m f; items = in_files-append h k (m.older.stands q m.older_suits).sound.items (m.newer.stands q m.newer_suits).sound.items; markers = status-append h k (m.older.stands q m.older_suits).sound.markers (m.newer.stands q m.newer_suits).sound.markers; accepted = accepted q m e };
+  sound = record {
+    files = both_files q c d h k m f;
+    items = in_files-append h k (m.older.stands q m.older_suits).sound.items
+        (m.newer.stands q m.newer_suits).sound.items;
+    markers = status-append h k (m.older.stands q m.older_suits).sound.markers
+        (m.newer.stands q m.newer_suits).sound.markers;
+    accepted = accepted q m e;
+  };
   cleaned = ap (λ l. l ++ d.cleaned) (m.older.stands q m.older_suits).cleaned ∙ ap (λ l. cleaned_in q h ++ l) (m.newer.stands q m.newer_suits).cleaned ∙ sym (cleaned-append q h k);
   append = λ a. append_merged c d h k rs (subst (λ q. Merges q c d h k) a m) f (subst (λ q. AreMerged q c d rs) a e);
 }
@@ -120,7 +145,12 @@ stands_in q c d h k rs m f e = record {
 
 -- where neither has a batch, in the other queue
 blank_parts : (q p : LogQueue) (c : Context) (h : List Event) → StandsFor c h → c.files ≡ None → (h ≡ []) × AreExact p c.regions (batches h)
-blank_parts q p c h st none = (empty, subst (λ h. AreExact p c.regions (batches h)) (sym empty) (blank_exact Append p c.regions (subst (λ h. AreExact Append c.regions (batches h)) empty ((st.stands Append (subst (Suits Append) (sym none) tt)).append refl))))
+blank_parts q p c h st none = (
+  empty,
+  subst (λ h. AreExact p c.regions (batches h)) (sym empty)
+      (blank_exact Append p c.regions
+      (subst (λ h. AreExact Append c.regions (batches h)) empty ((st.stands Append (subst (Suits Append) (sym none) tt)).append refl))),
+)
   where
     empty : h ≡ []
     empty = no_batch h (sym st.files ∙ none)
@@ -160,7 +190,8 @@ regions_stand q c d h k rs m f is = record {
     by p (inl n) = (blank_stands q p c d h k rs m is n.0 n.1).0
     by p (inr same) = subst (λ p. StandsIn p (merged_with c d rs) (h ++ k)) same (stands_in q c d h k rs m f is)
 
-pub regions_exact : (q : LogQueue) (c d : Context) (h k : List Event) (rs : MarkedRegions) → Merges q c d h k → IsExactFor c h → IsExactFor d k → EachApart (effects (batches (h ++ k))) → follows c.files d.files ≡ true → AreMerged q c d rs → IsExactFor (merged_with c d rs) (h ++ k)
+pub regions_exact : (q : LogQueue) (c d : Context) (h k : List Event) (rs : MarkedRegions) → Merges q c d h k → IsExactFor c h → IsExactFor d k →
+    EachApart (effects (batches (h ++ k))) → follows c.files d.files ≡ true → AreMerged q c d rs → IsExactFor (merged_with c d rs) (h ++ k)
 regions_exact q c d h k rs m a b apart f is = record {
   stands = regions_stand q c d h k rs m f is;
   regions = λ p u. by p (both_none q p c.files d.files m.older_suits m.newer_suits u);
@@ -173,7 +204,9 @@ regions_exact q c d h k rs m a b apart f is = record {
 merged_some : (q : LogQueue) (c d e : Context) → merged_context q c d ≡ Some e → (follows c.files d.files ≡ true) × ((rs : MarkedRegions) × AreMerged q c d rs × (merged_with c d rs ≡ e))
 merged_some q c d e is = go (follows c.files d.files) (merged_regions q c d) refl refl is
   where
-    go : (b : Bool) (o : Option MarkedRegions) → follows c.files d.files ≡ b → merged_regions q c d ≡ o → cond b (option_map (merged_with c d) o) None ≡ Some e → (follows c.files d.files ≡ true) × ((rs : MarkedRegions) × AreMerged q c d rs × (merged_with c d rs ≡ e))
+    go : (b : Bool) (o : Option MarkedRegions) → follows c.files d.files ≡ b → merged_regions q c d ≡ o →
+        cond b (option_map (merged_with c d) o) None ≡ Some e →
+        (follows c.files d.files ≡ true) × ((rs : MarkedRegions) × AreMerged q c d rs × (merged_with c d rs ≡ e))
     go false o f r is = absurd cc
     go true None f r is = absurd cc
     go true (Some rs) f r is = (f, (rs, merged_are q c d rs r, some_is is))
@@ -204,7 +237,9 @@ regions_unsound q c d h k m refused sound = by_queue q m refused suits
 
     by_append : Merges Append c d h k → AreRegionsRefused Append c d → Suits Append (files_of (h ++ k)) → ⊥
     by_append m ref u =
-        let f = regions_refused Append c d h k (parts Append c d h k m ((m.older.stands Append m.older_suits).append refl) ((m.newer.stands Append m.newer_suits).append refl) (append_apart 0 (h ++ k) (both_files Append c d h k m (in_order Append c d h k m sound)))) ref in
+        let f = regions_refused Append c d h k
+        (parts Append c d h k m ((m.older.stands Append m.older_suits).append refl) ((m.newer.stands Append m.newer_suits).append refl)
+        (append_apart 0 (h ++ k) (both_files Append c d h k m (in_order Append c d h k m sound)))) ref in
         at f.0 f.1 (sound_queue Append sound.queue (h ++ k) sound.sound.files u)
       where
         at : (r : ℕ) → after Append r None (steps_of r (batches (h ++ k))) ≡ None → ((h ++ k) ≡ []) ⊎ (sound.queue ≡ Append) → ⊥

@@ -13,7 +13,30 @@ use Rattle.raft_history.proofs.Words.{region_steps_of, all_steps, are_middles}
 use Rattle.raft_history.specs.WaitingGroups.{steps_of_wholes, IsListed, ListsGroups}
 use Rattle.raft_history.specs.RegionSteps.{RegionStep, names}
 use Rattle.raft_history.specs.WaitingGroup.{GroupFront, Open, Ended, Begun, led_by, front_by, front_of, OpenStretch, stretch_of, group_of, WholeGroup, whole_of, whole_group}
-use Rattle.raft_history.proofs.EffectLemmas.{each_weaker, each-append, each_left, each_right, numbered_from-append, from_on, up_to, effects_behind-append, effects_behind-one, effects_behind-none, all_steps-append, all_steps-one, all_steps-none, steps_in-none, all_steps-unnamed, within, apart_left, apart_last, unnamed_between, by_push, each_markers, each_open}
+use Rattle.raft_history.proofs.EffectLemmas.{
+  each_weaker,
+  each-append,
+  each_left,
+  each_right,
+  numbered_from-append,
+  from_on,
+  up_to,
+  effects_behind-append,
+  effects_behind-one,
+  effects_behind-none,
+  all_steps-append,
+  all_steps-one,
+  all_steps-none,
+  steps_in-none,
+  all_steps-unnamed,
+  within,
+  apart_left,
+  apart_last,
+  unnamed_between,
+  by_push,
+  each_markers,
+  each_open,
+}
 use Rattle.raft_history.proofs.MarkerLemmas.{markers_of-append, open_stretch-append, middles_open_none, front_with, front_of-append, FitsFront, fits_front, with_more, whole_is}
 use Rattle.raft_table.specs.Steps.{Step}
 
@@ -122,11 +145,16 @@ given_other : (r : ℕ) (olds news : List Numbered) (p : Numbered) (g : ℕ) →
 given_other r olds news p g h = ap (λ l. steps_or r (whole_of (stretch_of (open_stretch (markers_of g olds))) (front_of l))) (markers_other g news p h)
 
 -- the part of the batch's own group, by what its marker makes of the front
-given_own : (r : ℕ) (olds news : List Numbered) (n : ℕ) (is : List RegionStep) (m : GroupMarker) (f g : ℕ) → eqb g m.group ≡ true → given r olds (news ++ placed n is (Some m) f ∷ []) g ≡ steps_or r (whole_of (stretch_of (open_stretch (markers_of g olds))) (front_with (front_of (markers_of g news)) (front_by m.status is f (Open []))))
-given_own r olds news n is m f g h = ap (λ l. steps_or r (whole_of (stretch_of (open_stretch (markers_of g olds))) l)) (ap front_of (markers_more g news (placed n is (Some m) f) h) ∙ front_of-append (markers_of g news) (placed n is (Some m) f ∷ []) ∙ ap (front_with (front_of (markers_of g news))) (front_of_one n is m f))
+given_own : (r : ℕ) (olds news : List Numbered) (n : ℕ) (is : List RegionStep) (m : GroupMarker) (f g : ℕ) → eqb g m.group ≡ true →
+    given r olds (news ++ placed n is (Some m) f ∷ []) g ≡ steps_or r
+    (whole_of (stretch_of (open_stretch (markers_of g olds))) (front_with (front_of (markers_of g news)) (front_by m.status is f (Open []))))
+given_own r olds news n is m f g h = ap (λ l. steps_or r (whole_of (stretch_of (open_stretch (markers_of g olds))) l))
+    (ap front_of (markers_more g news (placed n is (Some m) f) h) ∙ front_of-append (markers_of g news) (placed n is (Some m) f ∷ [])
+    ∙ ap (front_with (front_of (markers_of g news))) (front_of_one n is m f))
 
 -- what isn't an End makes nothing whole
-whole_not_end : (s : Option OpenStretch) (f h : GroupFront) → ((x : OpenStretch) → whole_of (Some x) h ≡ None) → ((x : OpenStretch) (is : List RegionStep) → whole_of (Some x) (led_by is h) ≡ None) → whole_of s (front_with f h) ≡ whole_of s f
+whole_not_end : (s : Option OpenStretch) (f h : GroupFront) → ((x : OpenStretch) → whole_of (Some x) h ≡ None) →
+    ((x : OpenStretch) (is : List RegionStep) → whole_of (Some x) (led_by is h) ≡ None) → whole_of s (front_with f h) ≡ whole_of s f
 whole_not_end None f h none led = refl
 whole_not_end (Some x) (Open js) h none led = led x js
 whole_not_end (Some x) (Ended js k) h none led = refl
@@ -134,15 +162,21 @@ whole_not_end (Some x) Begun h none led = refl
 
 -- one group alone could change, and doesn't
 kept : (r : ℕ) (olds news : List Numbered) (n : ℕ) (is : List RegionStep) (m : GroupMarker) (f : ℕ) →
-    steps_or r (whole_of (stretch_of (open_stretch (markers_of m.group olds))) (front_with (front_of (markers_of m.group news)) (front_by m.status is f (Open [])))) ≡ steps_or r (whole_of (stretch_of (open_stretch (markers_of m.group olds))) (front_of (markers_of m.group news))) →
+    steps_or r (whole_of (stretch_of (open_stretch (markers_of m.group olds)))
+    (front_with (front_of (markers_of m.group news)) (front_by m.status is f (Open [])))) ≡ steps_or r
+    (whole_of (stretch_of (open_stretch (markers_of m.group olds))) (front_of (markers_of m.group news))) →
     (g : ℕ) → given r olds (news ++ placed n is (Some m) f ∷ []) g ≡ given r olds news g
 kept r olds news n is m f same g = go (eqb g m.group) refl
   where
     go : (b : Bool) → eqb g m.group ≡ b → given r olds (news ++ placed n is (Some m) f ∷ []) g ≡ given r olds news g
-    go true h = given_own r olds news n is m f g h ∙ subst (λ x. steps_or r (whole_of (stretch_of (open_stretch (markers_of x olds))) (front_with (front_of (markers_of x news)) (front_by m.status is f (Open [])))) ≡ given r olds news x) (sym (eqb-true g m.group h)) same
+    go true h = given_own r olds news n is m f g h
+        ∙ subst (λ x. steps_or r (whole_of (stretch_of (open_stretch (markers_of x olds)))
+        (front_with (front_of (markers_of x news)) (front_by m.status is f (Open [])))) ≡ given r olds news x) (sym (eqb-true g m.group h)) same
     go false h = given_other r olds news (placed n is (Some m) f) g h
 
-open_across : (g : ℕ) (olds news : List Numbered) (b : Bool) (o : List Numbered) → are_middles (markers_of g news) ≡ b → open_stretch (markers_of g olds) ≡ o → open_stretch (markers_of g (olds ++ news)) ≡ cond b (with_more o (markers_of g news)) (open_stretch (markers_of g news))
+open_across : (g : ℕ) (olds news : List Numbered) (b : Bool) (o : List Numbered) → are_middles (markers_of g news) ≡ b →
+    open_stretch (markers_of g olds) ≡ o → open_stretch (markers_of g (olds ++ news)) ≡ cond b (with_more o (markers_of g news))
+    (open_stretch (markers_of g news))
 open_across g olds news b o h k = rw (markers_of-append g olds news, open_stretch-append (markers_of g olds) (markers_of g news), h, k) refl
 
 -- an End, where the newer batches have Middles of the group alone and the older ones leave its stretch open
@@ -156,7 +190,9 @@ grows_whole r ids olds news n is k f js q qs e h o = go (names r (region_steps_i
     effect : Effect
     effect = record { earlier = q ∷ (qs ++ markers_of k news); last = placed n is (Some record { group = k; status = End }) f }
 
-    completes : completed_by (Some record { group = k; status = End }) (olds ++ news) (placed n is (Some record { group = k; status = End }) f) ≡ record { earlier = q ∷ (qs ++ markers_of k news); last = placed n is (Some record { group = k; status = End }) f } ∷ []
+    completes : completed_by (Some record { group = k; status = End }) (olds ++ news)
+        (placed n is (Some record { group = k; status = End }) f) ≡ record
+        { earlier = q ∷ (qs ++ markers_of k news); last = placed n is (Some record { group = k; status = End }) f } ∷ []
     completes = rw (open_across k olds news true (q ∷ qs) h.0 o) refl
 
     alone : completed_by (Some record { group = k; status = End }) news (placed n is (Some record { group = k; status = End }) f) ≡ []
@@ -165,7 +201,8 @@ grows_whole r ids olds news n is k f js q qs e h o = go (names r (region_steps_i
     same_steps : region_steps_of (q ∷ qs) ++ (js ++ is) ≡ region_steps_of (q ∷ (qs ++ markers_of k news)) ++ is
     same_steps = rw (h.1, ← append_assoc (region_steps_of (q ∷ qs)) (region_steps_of (markers_of k news)) is) (ap (λ l. l ++ is) (sym (flat_map-append (λ x. x.batch.steps) (q ∷ qs) (markers_of k news))))
 
-    steps : steps_or r (whole_of (stretch_of (open_stretch (markers_of k olds))) (front_with (front_of (markers_of k news)) (Ended is f))) ≡ steps_by r (q ∷ (qs ++ markers_of k news)) (placed n is (Some record { group = k; status = End }) f)
+    steps : steps_or r (whole_of (stretch_of (open_stretch (markers_of k olds))) (front_with (front_of (markers_of k news)) (Ended is f))) ≡ steps_by
+        r (q ∷ (qs ++ markers_of k news)) (placed n is (Some record { group = k; status = End }) f)
     steps = rw (o, e) (ap (λ l. whole_steps r l q.batch.seq f) same_steps)
 
     none : steps_or r (whole_of (stretch_of (open_stretch (markers_of k olds))) (front_of (markers_of k news))) ≡ []
@@ -186,7 +223,8 @@ grows_whole r ids olds news n is k f js q qs e h o = go (names r (region_steps_i
       steps = given_own r olds news n is record { group = k; status = End } f k (eq-eqb k k refl) ∙ steps;
     }
     go false named =
-        let unnamed : steps_by r (q ∷ (qs ++ markers_of k news)) (placed n is (Some record { group = k; status = End }) f) ≡ [] = steps_in-none r record { earlier = q ∷ (qs ++ markers_of k news); last = placed n is (Some record { group = k; status = End }) f } named in
+        let unnamed : steps_by r (q ∷ (qs ++ markers_of k news)) (placed n is (Some record { group = k; status = End }) f) ≡ [] = steps_in-none r
+        record { earlier = q ∷ (qs ++ markers_of k news); last = placed n is (Some record { group = k; status = End }) f } named in
         inl record {
           steps = rw (completes, alone) (all_steps-one r record { earlier = q ∷ (qs ++ markers_of k news); last = placed n is (Some record { group = k; status = End }) f } ∙ unnamed ∙ sym (all_steps-none r));
           given = all_same r ids olds news (news ++ placed n is (Some record { group = k; status = End }) f ∷ []) (kept r olds news n is record { group = k; status = End } f (steps ∙ unnamed ∙ sym none));
@@ -241,9 +279,12 @@ grow : (r n : ℕ) (ids : List ℕ) (olds news : List Numbered) (p : Numbered) �
     all_steps r (effects_behind olds news) ++ all_steps r (completed_by p.batch.marker (olds ++ news) p) ≡ all_given r ids olds (news ++ p ∷ []) ++ (all_steps r (effects_behind [] news) ++ all_steps r (completed_by p.batch.marker news p))
 grow r n ids olds news p below from to one listed apart ih = go (grows r ids olds news p.number p.batch.steps p.batch.marker p.batch.seq)
   where
-    go : Grows r ids olds news p → all_steps r (effects_behind olds news) ++ all_steps r (completed_by p.batch.marker (olds ++ news) p) ≡ all_given r ids olds (news ++ p ∷ []) ++ (all_steps r (effects_behind [] news) ++ all_steps r (completed_by p.batch.marker news p))
+    go : Grows r ids olds news p → all_steps r (effects_behind olds news) ++ all_steps r (completed_by p.batch.marker (olds ++ news) p) ≡ all_given r
+        ids olds (news ++ p ∷ []) ++ (all_steps r (effects_behind [] news) ++ all_steps r (completed_by p.batch.marker news p))
     go (inl same) = rw (same.steps, same.given, ih) (append_assoc (all_given r ids olds news) (all_steps r (effects_behind [] news)) (all_steps r (completed_by p.batch.marker news p)))
-    go (inr d) = rw (none, d.completes, d.alone, rest_none, given_one) (all_steps-one r d.effect ∙ sym (append-nil (steps_by r d.effect.earlier d.effect.last)) ∙ ap (λ l. steps_by r d.effect.earlier d.effect.last ++ l) (sym (all_steps-none r)))
+    go (inr d) = rw (none, d.completes, d.alone, rest_none, given_one)
+        (all_steps-one r d.effect ∙ sym (append-nil (steps_by r d.effect.earlier d.effect.last))
+        ∙ ap (λ l. steps_by r d.effect.earlier d.effect.last ++ l) (sym (all_steps-none r)))
       where
         unnamed : AllByRecursion (λ e. names r (region_steps_in e) ≡ false) (effects_behind olds news)
         unnamed = unnamed_between r n p.number (effects_behind olds news) d.effect
@@ -258,7 +299,8 @@ grow r n ids olds news p below from to one listed apart ih = go (grows r ids old
         rest_none = tail_none (all_given r ids olds news) (all_steps r (effects_behind [] news)) (sym ih ∙ none)
 
         given_one : all_given r ids olds (news ++ p ∷ []) ≡ steps_by r d.effect.earlier d.effect.last
-        given_one = changed_one (given r olds news) (given r olds (news ++ p ∷ [])) d.group.group ids one (subst (IsListed ids) d.marker listed) d.others (head_none (all_given r ids olds news) (all_steps r (effects_behind [] news)) (sym ih ∙ none)) ∙ d.steps
+        given_one = changed_one (given r olds news) (given r olds (news ++ p ∷ [])) d.group.group ids one (subst (IsListed ids) d.marker listed)
+            d.others (head_none (all_given r ids olds news) (all_steps r (effects_behind [] news)) (sym ih ∙ none)) ∙ d.steps
 
 -- no batches behind the cut
 given_none : (r : ℕ) (olds : List Numbered) (g : ℕ) → given r olds [] g ≡ []
@@ -294,5 +336,13 @@ behind_cut r n ids olds below one h = (by_push (Holds r n ids olds) none more h)
         go : (news : List Numbered) (p : Numbered) → AllByRecursion (λ q. n ≤ q.number) news → AllByRecursion (λ q. q.number < p.number) news → AllByRecursion (λ q. q.number < p.number) olds → IsListed ids p.batch.marker →
             (EachApart (effects_behind olds news) → all_steps r (effects_behind olds news) ≡ all_given r ids olds news ++ all_steps r (effects_behind [] news)) →
             EachApart (effects_behind olds (news ++ p ∷ [])) → all_steps r (effects_behind olds (news ++ p ∷ [])) ≡ all_given r ids olds (news ++ p ∷ []) ++ all_steps r (effects_behind [] (news ++ p ∷ []))
-        go news p from to old listed ih = rw (effects_behind-append olds news (p ∷ []), effects_behind-append [] news (p ∷ []), effects_behind-one (olds ++ news) p, effects_behind-one news p, all_steps-append r (effects_behind olds news) (completed_by p.batch.marker (olds ++ news) p), all_steps-append r (effects_behind [] news) (completed_by p.batch.marker news p))
+        go news p from to old listed ih = rw (
+          effects_behind-append olds news (p ∷ []),
+          effects_behind-append [] news (p ∷ []),
+          effects_behind-one (olds ++ news) p,
+          effects_behind-one news p,
+          all_steps-append r (effects_behind olds news)
+              (completed_by p.batch.marker (olds ++ news) p),
+          all_steps-append r (effects_behind [] news) (completed_by p.batch.marker news p),
+        )
             (λ apart. grow r n ids olds news p below from (each-append (λ q. q.number < p.number) olds news old to) one listed apart (ih (apart_left (effects_behind olds news) (completed_by p.batch.marker (olds ++ news) p) apart)))

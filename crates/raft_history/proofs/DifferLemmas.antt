@@ -38,7 +38,8 @@ unfolding front_of
 ended_is g [] is f h e = cc
 ended_is g (p ∷ ps) is f h e = go p.batch.marker refl h.0 e (ended_is g ps)
   where
-    led : (js : List RegionStep) (t : GroupFront) → led_by js t ≡ Ended is f → front_of ps ≡ t → IsMarkerOf g Middle p → js ≡ p.batch.steps → ((ks : List RegionStep) (l : ℕ) → AllByRecursion (HasMarker g) ps → front_of ps ≡ Ended ks l → IsEnded g ps ks l) → IsEnded g (p ∷ ps) is f
+    led : (js : List RegionStep) (t : GroupFront) → led_by js t ≡ Ended is f → front_of ps ≡ t → IsMarkerOf g Middle p → js ≡ p.batch.steps →
+        ((ks : List RegionStep) (l : ℕ) → AllByRecursion (HasMarker g) ps → front_of ps ≡ Ended ks l → IsEnded g ps ks l) → IsEnded g (p ∷ ps) is f
     led js (Open ks) e t m k ih = cc
     led js Begun e t m k ih = cc
     led js (Ended ks l) e t m k ih = record {
@@ -55,7 +56,8 @@ ended_is g (p ∷ ps) is f h e = go p.batch.marker refl h.0 e (ended_is g ps)
         x : IsEnded g ps ks l
         x = ih ks l h.1 t
 
-    go : (m : Option GroupMarker) → p.batch.marker ≡ m → is_of g m ≡ true → front_behind m p.batch.steps p.batch.seq (front_of ps) ≡ Ended is f → ((ks : List RegionStep) (l : ℕ) → AllByRecursion (HasMarker g) ps → front_of ps ≡ Ended ks l → IsEnded g ps ks l) → IsEnded g (p ∷ ps) is f
+    go : (m : Option GroupMarker) → p.batch.marker ≡ m → is_of g m ≡ true → front_behind m p.batch.steps p.batch.seq (front_of ps) ≡ Ended is f →
+        ((ks : List RegionStep) (l : ℕ) → AllByRecursion (HasMarker g) ps → front_of ps ≡ Ended ks l → IsEnded g ps ks l) → IsEnded g (p ∷ ps) is f
     go None m k e ih = cc
     go (Some x) m k e ih = at x.status (m ∙ ap (λ y. Some record { group = y; status = x.status }) (sym (eqb-true g x.group k))) e
       where
@@ -95,7 +97,9 @@ across h k g w e = go (open_stretch (markers_of g (numbered_from 0 h))) refl (fr
         ends = x.ends;
         earlier = refl;
       };
-      steps = ap (λ l. l ++ x.end.batch.steps) (flat_map-append (λ (p : Numbered). p.batch.steps) (q ∷ qs) x.middles) ∙ append_assoc (region_steps_of (q ∷ qs)) (region_steps_of x.middles) x.end.batch.steps ∙ ap (λ l. region_steps_of (q ∷ qs) ++ l) (sym x.steps) ∙ whole_items (region_steps_of (q ∷ qs) ++ is) q.batch.seq f e;
+      steps = ap (λ l. l ++ x.end.batch.steps) (flat_map-append (λ (p : Numbered). p.batch.steps) (q ∷ qs) x.middles)
+          ∙ append_assoc (region_steps_of (q ∷ qs)) (region_steps_of x.middles) x.end.batch.steps
+          ∙ ap (λ l. region_steps_of (q ∷ qs) ++ l) (sym x.steps) ∙ whole_items (region_steps_of (q ∷ qs) ++ is) q.batch.seq f e;
       group = λ z. cc;
       first = (each_right (λ p. p.number < length h) y.before (q ∷ qs) (subst (AllByRecursion (λ p. p.number < length h)) y.split (each_markers (λ p. p.number < length h) g (numbered_from 0 h) (up_to 0 (length h) h (omega arith))))).0;
       last = (each_right (λ p. length h ≤ p.number) x.middles (x.end ∷ x.behind) (subst (AllByRecursion (λ p. length h ≤ p.number)) x.split (each_markers (λ p. length h ≤ p.number) g (numbered_from (0 + length h) k) later))).0;
@@ -116,7 +120,8 @@ across h k g w e = go (open_stretch (markers_of g (numbered_from 0 h))) refl (fr
     go [] o t f e = cc
     go (q ∷ qs) o (Open is) f e = cc
     go (q ∷ qs) o Begun f e = cc
-    go (q ∷ qs) o (Ended is l) f e = made q qs is l e (open_is g (markers_of g (numbered_from 0 h)) q qs (each_marked g (numbered_from 0 h)) o) (ended_is g (markers_of g (numbered_from (0 + length h) k)) is l (each_marked g (numbered_from (0 + length h) k)) f)
+    go (q ∷ qs) o (Ended is l) f e = made q qs is l e (open_is g (markers_of g (numbered_from 0 h)) q qs (each_marked g (numbered_from 0 h)) o)
+        (ended_is g (markers_of g (numbered_from (0 + length h) k)) is l (each_marked g (numbered_from (0 + length h) k)) f)
 
 -- any two of a list
 pub head_or_tail : (e x : Effect) (xs : List Effect) → IsIn e (x ∷ xs) → (x ≡ e) ⊎ IsIn e xs
@@ -151,7 +156,9 @@ apart_any e f (x ∷ xs) other h i j = go (head_or_tail e x xs i) (head_or_tail 
     go (inr a) (inl b) ih = inr (subst (λ z. AreApart z e) b (each_in (AreApart x) e xs h.0 a))
     go (inr a) (inr b) ih = ih a b
 
-pub wholes_differ : (h k : List BatchSteps) → EachApart (effects (h ++ k)) → (g l : ℕ) → (g ≡ l → ⊥) → (w v : WholeGroup) → whole_group (group_in g h) (group_in g k) ≡ Some w → whole_group (group_in l h) (group_in l k) ≡ Some v → (r : ℕ) → names r w.steps ≡ true → names r v.steps ≡ true → ⊥
+pub wholes_differ : (h k : List BatchSteps) → EachApart (effects (h ++ k)) → (g l : ℕ) → (g ≡ l → ⊥) → (w v : WholeGroup) →
+    whole_group (group_in g h) (group_in g k) ≡ Some w → whole_group (group_in l h) (group_in l k) ≡ Some v → (r : ℕ) → names r w.steps ≡ true →
+    names r v.steps ≡ true → ⊥
 wholes_differ h k apart g l other w v a b r m n = go (apart_any x.effect y.effect (effects (h ++ k)) (λ s. other (same_group g l x.effect.last y.effect.last x.ends y.ends (ap (λ z. z.last) s))) apart x.stands y.stands)
   where
     x : IsAcross h k g w

@@ -15,7 +15,25 @@ use Rattle.raft_records.specs.Item.{Item, Content, entries, command, pair}
 use Rattle.raft_table.specs.Steps.{Step, Run, Compact, Truncate, Put, Del, AtomicGroup, Clean}
 use Rattle.raft_table.proofs.MarkEntries.{same_some}
 use Rattle.raft_history.specs.Batches.{Event, GroupMarker, BatchSteps, batches}
-use Rattle.raft_history.specs.Effects.{Effect, completed_as, completed_by, effects_behind, effects, whole_steps, region_steps_in, steps_by, steps_of, first_in, AreApart, EachApart, has_status, Numbered, numbered_from, markers_of, open_stretch}
+use Rattle.raft_history.specs.Effects.{
+  Effect,
+  completed_as,
+  completed_by,
+  effects_behind,
+  effects,
+  whole_steps,
+  region_steps_in,
+  steps_by,
+  steps_of,
+  first_in,
+  AreApart,
+  EachApart,
+  has_status,
+  Numbered,
+  numbered_from,
+  markers_of,
+  open_stretch,
+}
 use Rattle.raft_history.specs.Histories.{IsInFile, AreInFile, FilesFrom, IsSoundIn, Apart}
 use Rattle.raft_history.specs.RegionSteps.{RegionStep, pair_step, content_step, names, steps_on, steps_of_items}
 use Rattle.raft_history.specs.Stretches.{RiseFrom}
@@ -194,7 +212,8 @@ completed_rows q seq_at n olds p h l f = go p.batch.marker
         at Middle = tt
         at End = end (open_stretch (markers_of m.group olds)) (row_open q seq_at 0 n (markers_of m.group olds) (row_filter q seq_at _ 0 n olds h))
 
-all_rows : (q : LogQueue) (seq_at : ℕ → ℕ) (n : ℕ) (olds : List Numbered) (bs : List BatchSteps) → IsRow q seq_at 0 n olds → AllByRecursion (IsFiled q seq_at) (numbered_from n bs) → AllByRecursion (HasRow q seq_at) (effects_behind olds (numbered_from n bs))
+all_rows : (q : LogQueue) (seq_at : ℕ → ℕ) (n : ℕ) (olds : List Numbered) (bs : List BatchSteps) → IsRow q seq_at 0 n olds →
+    AllByRecursion (IsFiled q seq_at) (numbered_from n bs) → AllByRecursion (HasRow q seq_at) (effects_behind olds (numbered_from n bs))
 unfolding effects_behind
 all_rows q seq_at n olds [] h k = tt
 all_rows q seq_at n olds (b ∷ bs) h k = each-append (HasRow q seq_at) (completed_by b.marker olds (record { number = n; batch = b })) (effects_behind (olds ++ record { number = n; batch = b } ∷ []) (numbered_from (suc n) bs))
@@ -225,7 +244,8 @@ rise_all : (n : ℕ) (es : List Effect) → RiseFrom n es → AllByRecursion (λ
 rise_all n [] h = tt
 rise_all n (e ∷ es) h = (h.0, each_weaker (λ f. suc e.last.number ≤ f.last.number) (λ f. n ≤ f.last.number) (λ f k. omega (arith, h.0, k)) es (rise_all (suc e.last.number) es h.1))
 
-all_follow : (seq_at : ℕ → ℕ) (r : ℕ) (e : Effect) (es : List Effect) → NeverFalls seq_at → first_in e ≤ e.last.number → AllByRecursion (AreApart e) es → AllByRecursion (λ f. suc e.last.number ≤ f.last.number) es → AllByRecursion (Follows seq_at r e) es
+all_follow : (seq_at : ℕ → ℕ) (r : ℕ) (e : Effect) (es : List Effect) → NeverFalls seq_at → first_in e ≤ e.last.number →
+    AllByRecursion (AreApart e) es → AllByRecursion (λ f. suc e.last.number ≤ f.last.number) es → AllByRecursion (Follows seq_at r e) es
 all_follow seq_at r e [] up low a l = tt
 all_follow seq_at r e (f ∷ es) up low a l = (λ x y. up e.last.number (first_in f) (below (begins_behind r e f a.0 low (above l.0) x y)), all_follow seq_at r e es up low a.1 l.1)
   where
@@ -242,14 +262,22 @@ each_follows q seq_at r n (e ∷ es) up rise apart rows = (
   each_follows q seq_at r (suc e.last.number) es up rise.1 apart.1 rows.1,
 )
 
-effects_rise : (q : LogQueue) (seq_at : ℕ → ℕ) (r low : ℕ) (es : List Effect) → NeverFalls seq_at → AllByRecursion (HasRow q seq_at) es → AllByRecursion (λ e. names r (region_steps_in e) ≡ true → low ≤ seq_at (first_in e)) es → EachFollows seq_at r es → (high : ℕ) × StepsRise q low high (all_steps r es)
+effects_rise : (q : LogQueue) (seq_at : ℕ → ℕ) (r low : ℕ) (es : List Effect) → NeverFalls seq_at → AllByRecursion (HasRow q seq_at) es →
+    AllByRecursion (λ e. names r (region_steps_in e) ≡ true → low ≤ seq_at (first_in e)) es → EachFollows seq_at r es →
+    (high : ℕ) × StepsRise q low high (all_steps r es)
 effects_rise q seq_at r low [] up rows from follows = (low, omega arith)
 effects_rise q seq_at r low (e ∷ es) up rows from follows = go (names r (region_steps_in e)) refl (λ l k. effects_rise q seq_at r l es up rows.1 k follows.1)
   where
-    go : (b : Bool) → names r (region_steps_in e) ≡ b → ((l : ℕ) → AllByRecursion (λ e. names r (region_steps_in e) ≡ true → l ≤ seq_at (first_in e)) es → (high : ℕ) × StepsRise q l high (all_steps r es)) → (high : ℕ) × StepsRise q low high (steps_by r e.earlier e.last ++ all_steps r es)
+    go : (b : Bool) → names r (region_steps_in e) ≡ b →
+        ((l : ℕ) → AllByRecursion (λ e. names r (region_steps_in e) ≡ true → l ≤ seq_at (first_in e)) es →
+        (high : ℕ) × StepsRise q l high (all_steps r es)) → (high : ℕ) × StepsRise q low high (steps_by r e.earlier e.last ++ all_steps r es)
     go true is rest =
-        let behind = rest (seq_at e.last.number) (each_weaker (Follows seq_at r e) (λ f. names r (region_steps_in f) ≡ true → seq_at e.last.number ≤ seq_at (first_in f)) (λ f k. k is) es follows.0) in
-        (behind.0, rise-append q low (seq_at e.last.number) behind.0 (steps_by r e.earlier e.last) (all_steps r es) (steps_lower q low (seq_at (first_in e)) (seq_at e.last.number) (steps_by r e.earlier e.last) (from.0 is) (effect_rises q seq_at r e up rows.0)) behind.1)
+        let behind = rest (seq_at e.last.number) (each_weaker (Follows seq_at r e) (λ f. names r (region_steps_in f) ≡ true → seq_at e.last.number ≤ seq_at (first_in f)) (λ f k. k is) es follows.0) in (
+          behind.0,
+          rise-append q low (seq_at e.last.number) behind.0 (steps_by r e.earlier e.last) (all_steps r es)
+              (steps_lower q low (seq_at (first_in e)) (seq_at e.last.number) (steps_by r e.earlier e.last) (from.0 is)
+              (effect_rises q seq_at r e up rows.0)) behind.1,
+        )
     go false is rest =
         let behind = rest low from.1 in
         (behind.0, subst (λ l. StepsRise q low behind.0 (l ++ all_steps r es)) (sym (steps_in-none r e is)) behind.1)

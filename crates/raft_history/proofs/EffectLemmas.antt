@@ -74,7 +74,10 @@ up_to n m (b ∷ bs) e = (omega arith, up_to (suc n) m bs (omega arith))
 pub effects_behind-append : (olds ps qs : List Numbered) → effects_behind olds (ps ++ qs) ≡ effects_behind olds ps ++ effects_behind (olds ++ ps) qs
 unfolding effects_behind
 effects_behind-append olds [] qs = ap (λ l. effects_behind l qs) (sym (append-nil olds))
-effects_behind-append olds (p ∷ ps) qs = ap (λ l. completed_by p.batch.marker olds p ++ l) (effects_behind-append (olds ++ p ∷ []) ps qs ∙ ap (λ l. effects_behind (olds ++ p ∷ []) ps ++ effects_behind l qs) (append_assoc olds (p ∷ []) ps)) ∙ sym (append_assoc (completed_by p.batch.marker olds p) (effects_behind (olds ++ p ∷ []) ps) (effects_behind (olds ++ p ∷ ps) qs))
+effects_behind-append olds (p ∷ ps) qs = ap (λ l. completed_by p.batch.marker olds p ++ l)
+    (effects_behind-append (olds ++ p ∷ []) ps qs ∙ ap (λ l. effects_behind (olds ++ p ∷ []) ps ++ effects_behind l qs)
+    (append_assoc olds (p ∷ []) ps))
+    ∙ sym (append_assoc (completed_by p.batch.marker olds p) (effects_behind (olds ++ p ∷ []) ps) (effects_behind (olds ++ p ∷ ps) qs))
 
 pub effects_behind-one : (olds : List Numbered) (p : Numbered) → effects_behind olds (p ∷ []) ≡ completed_by p.batch.marker olds p
 unfolding effects_behind
@@ -160,7 +163,9 @@ apart_last [] f h = tt
 apart_last (e ∷ es) f h = ((each_right (AreApart e) es (f ∷ []) h.0).0, apart_last es f h.1)
 
 -- a group that begins before n and ends at m keeps its regions from what lies between
-pub unnamed_between : (r n m : ℕ) (es : List Effect) (f : Effect) → AllByRecursion (Within n m) es → AllByRecursion (λ e. AreApart e f) es → f.earlier ≢ [] → first_in f < n → f.last.number ≡ m → names r (region_steps_in f) ≡ true → AllByRecursion (λ e. names r (region_steps_in e) ≡ false) es
+pub unnamed_between : (r n m : ℕ) (es : List Effect) (f : Effect) → AllByRecursion (Within n m) es → AllByRecursion (λ e. AreApart e f) es →
+    f.earlier ≢ [] → first_in f < n → f.last.number ≡ m → names r (region_steps_in f) ≡ true →
+    AllByRecursion (λ e. names r (region_steps_in e) ≡ false) es
 unnamed_between r n m [] f w a group first last named = tt
 unnamed_between r n m (e ∷ es) f w a group first last named = (not_true _ (λ k. a.0 (omega (arith, w.0.first), omega (arith, w.0.from)) (inr group) r k named), unnamed_between r n m es f w.1 a.1 group first last named)
   where

@@ -77,7 +77,9 @@ effects_same g olds (p ∷ ps) h = go (is_of g p.batch.marker) refl (effects_sam
     go true e ih = ap (λ l. effects_behind l (filter (is_other g) ps)) (sym (filter-append (is_other g) olds (p ∷ []) ∙ ap (λ b. filter (is_other g) olds ++ cond (not b) (p ∷ []) []) e ∙ append-nil (filter (is_other g) olds))) ∙ ih
         ∙ ap (λ l. l ++ effects_behind (olds ++ p ∷ []) ps) (sym (completes_none g olds p e (each_left _ (completed_by p.batch.marker olds p) (effects_behind (olds ++ p ∷ []) ps) h)))
     go false e ih = ap (λ l. l ++ effects_behind (filter (is_other g) olds ++ p ∷ []) (filter (is_other g) ps)) (completes_same g olds p e)
-        ∙ ap (λ l. completed_by p.batch.marker olds p ++ effects_behind l (filter (is_other g) ps)) (sym (filter-append (is_other g) olds (p ∷ []) ∙ ap (λ b. filter (is_other g) olds ++ cond (not b) (p ∷ []) []) e)) ∙ ap (λ l. completed_by p.batch.marker olds p ++ l) ih
+        ∙ ap (λ l. completed_by p.batch.marker olds p ++ effects_behind l (filter (is_other g) ps))
+        (sym (filter-append (is_other g) olds (p ∷ []) ∙ ap (λ b. filter (is_other g) olds ++ cond (not b) (p ∷ []) []) e))
+        ∙ ap (λ l. completed_by p.batch.marker olds p ++ l) ih
 
 -- ---- numbers don't matter
 
@@ -118,7 +120,9 @@ unfolding open_stretch
 same_stretch [] [] h = tt
 same_stretch [] (q ∷ qs) h = absurd h
 same_stretch (p ∷ ps) [] h = absurd h
-same_stretch (p ∷ ps) (q ∷ qs) h = go (has_status Begin p.batch.marker && are_middles ps) (has_status Begin q.batch.marker && are_middles qs) (ap (λ (b : BatchSteps). has_status Begin b.marker && are_middles ps) h.0 ∙ ap (λ b. has_status Begin q.batch.marker && b) (same_middles ps qs h.1)) (same_stretch ps qs h.1)
+same_stretch (p ∷ ps) (q ∷ qs) h = go (has_status Begin p.batch.marker && are_middles ps) (has_status Begin q.batch.marker && are_middles qs)
+    (ap (λ (b : BatchSteps). has_status Begin b.marker && are_middles ps) h.0
+    ∙ ap (λ b. has_status Begin q.batch.marker && b) (same_middles ps qs h.1)) (same_stretch ps qs h.1)
   where
     go : (a b : Bool) → a ≡ b → SameBatches (open_stretch ps) (open_stretch qs) → SameBatches (cond a (p ∷ ps) (open_stretch ps)) (cond b (q ∷ qs) (open_stretch qs))
     go true true e k = h
@@ -169,7 +173,9 @@ same_effects r olds news [] (q ∷ qs) h k = absurd k
 same_effects r olds news (p ∷ ps) [] h k = absurd k
 same_effects r olds news (p ∷ ps) (q ∷ qs) h k =
     all_steps-append r (completed_by p.batch.marker olds p) (effects_behind (olds ++ p ∷ []) ps) ∙ ap (λ l. l ++ all_steps r (effects_behind (olds ++ p ∷ []) ps)) (same_completed r olds news p q h k.0)
-    ∙ ap (λ l. all_steps r (completed_by q.batch.marker news q) ++ l) (same_effects r (olds ++ p ∷ []) (news ++ q ∷ []) ps qs (same-append olds news (p ∷ []) (q ∷ []) h (k.0, tt)) k.1) ∙ sym (all_steps-append r (completed_by q.batch.marker news q) (effects_behind (news ++ q ∷ []) qs))
+    ∙ ap (λ l. all_steps r (completed_by q.batch.marker news q) ++ l)
+    (same_effects r (olds ++ p ∷ []) (news ++ q ∷ []) ps qs (same-append olds news (p ∷ []) (q ∷ []) h (k.0, tt)) k.1)
+    ∙ sym (all_steps-append r (completed_by q.batch.marker news q) (effects_behind (news ++ q ∷ []) qs))
 
 placed_others : (g n m : ℕ) (h : List BatchSteps) → SameBatches (numbered_from n (without_group g h)) (others g (numbered_from m h))
 unfolding without_group others
@@ -177,7 +183,9 @@ placed_others g n m [] = tt
 placed_others g n m (b ∷ h) = go (is_of g b.marker) (λ n. placed_others g n (suc m) h)
   where
     go : (x : Bool) → ((n : ℕ) → SameBatches (numbered_from n (filter (λ b. not (is_of g b.marker)) h)) (filter (is_other g) (numbered_from (suc m) h)))
-        → SameBatches (numbered_from n (cond (not x) (b ∷ filter (λ b. not (is_of g b.marker)) h) (filter (λ b. not (is_of g b.marker)) h))) (cond (not x) (record { number = m; batch = b } ∷ filter (is_other g) (numbered_from (suc m) h)) (filter (is_other g) (numbered_from (suc m) h)))
+        → SameBatches (numbered_from n (cond (not x) (b ∷ filter (λ b. not (is_of g b.marker)) h) (filter (λ b. not (is_of g b.marker)) h)))
+        (cond (not x) (record { number = m; batch = b } ∷ filter (is_other g) (numbered_from (suc m) h))
+        (filter (is_other g) (numbered_from (suc m) h)))
     go true ih = ih n
     go false ih = (refl, ih (suc n))
 

@@ -32,16 +32,21 @@ find_other r e es f = ap (λ b. cond b (Some e.1) (find nat_cmp r es)) f.1
 abbrev keys : List (ℕ × Mark) → List ℕ
 keys es = map (λ (e : ℕ × Mark). e.0) es
 
-pub each_joined : (q : LogQueue) (newer : Tables) (rs new : MarkedRegions) (es : List (ℕ × Mark)) → IsDistinct eqb (keys es) → joined_each q newer rs es ≡ Some new → (r : ℕ) → joined_marked q r (find nat_cmp r es) (finite.get newer r) (region_in rs r) ≡ Some (region_in new r)
+pub each_joined : (q : LogQueue) (newer : Tables) (rs new : MarkedRegions) (es : List (ℕ × Mark)) → IsDistinct eqb (keys es) →
+    joined_each q newer rs es ≡ Some new → (r : ℕ) → joined_marked q r (find nat_cmp r es) (finite.get newer r) (region_in rs r) ≡ Some
+    (region_in new r)
 unfolding IsDistinct
 each_joined q newer rs new [] one e r = ap (λ (n : MarkedRegions). Some (region_in n r)) (some_is e)
 each_joined q newer rs new (x ∷ es) one e r = go (joined_region q x.0 (region_in rs x.0) record { mark = x.1; table = finite.get newer x.0 }) refl e (λ y e. each_joined q newer (with_region rs x.0 y) new es one.1 e)
   where
-    at : (y : MarkedRegion) → joined_region q x.0 (region_in rs x.0) record { mark = x.1; table = finite.get newer x.0 } ≡ Some y → ((r : ℕ) → joined_marked q r (find nat_cmp r es) (finite.get newer r) (region_in (with_region rs x.0 y) r) ≡ Some (region_in new r)) → (r ≡ x.0) ⊎ IsOther r x.0
+    at : (y : MarkedRegion) → joined_region q x.0 (region_in rs x.0) record { mark = x.1; table = finite.get newer x.0 } ≡ Some y →
+        ((r : ℕ) → joined_marked q r (find nat_cmp r es) (finite.get newer r) (region_in (with_region rs x.0 y) r) ≡ Some (region_in new r)) →
+        (r ≡ x.0) ⊎ IsOther r x.0
         → joined_marked q r (find nat_cmp r (x ∷ es)) (finite.get newer r) (region_in rs r) ≡ Some (region_in new r)
     at y is ih (inr f) = ap (λ o. joined_marked q r o (finite.get newer r) (region_in rs r)) (find_other r x es f) ∙ ap (joined_marked q r (find nat_cmp r es) (finite.get newer r)) (sym (held_other rs x.0 r y f.1)) ∙ ih r
     at y is ih (inl p) = subst (λ r. joined_marked q r (find nat_cmp r (x ∷ es)) (finite.get newer r) (region_in rs r) ≡ Some (region_in new r)) (sym p)
-        (ap (λ o. joined_marked q x.0 o (finite.get newer x.0) (region_in rs x.0)) (find_own x es) ∙ is ∙ sym (ap (λ h. Some h) (held_own rs x.0 y)) ∙ sym (ap (λ o. joined_marked q x.0 o (finite.get newer x.0) (region_in (with_region rs x.0 y) x.0)) (find_none x.0 es one.0)) ∙ ih x.0)
+        (ap (λ o. joined_marked q x.0 o (finite.get newer x.0) (region_in rs x.0)) (find_own x es) ∙ is ∙ sym (ap (λ h. Some h) (held_own rs x.0 y))
+        ∙ sym (ap (λ o. joined_marked q x.0 o (finite.get newer x.0) (region_in (with_region rs x.0 y) x.0)) (find_none x.0 es one.0)) ∙ ih x.0)
 
     go : (o : Option MarkedRegion) → joined_region q x.0 (region_in rs x.0) record { mark = x.1; table = finite.get newer x.0 } ≡ o → option_and_then (λ y. joined_each q newer (with_region rs x.0 y) es) o ≡ Some new
         → ((y : MarkedRegion) → joined_each q newer (with_region rs x.0 y) es ≡ Some new → (r : ℕ) → joined_marked q r (find nat_cmp r es) (finite.get newer r) (region_in (with_region rs x.0 y) r) ≡ Some (region_in new r))
@@ -49,12 +54,14 @@ each_joined q newer rs new (x ∷ es) one e r = go (joined_region q x.0 (region_
     go None is e ih = absurd cc
     go (Some y) is e ih = at y is (ih y e) (by_region r x.0)
 
-pub each_refused : (q : LogQueue) (newer : Tables) (rs : MarkedRegions) (es : List (ℕ × Mark)) → IsDistinct eqb (keys es) → joined_each q newer rs es ≡ None → (r : ℕ) × (joined_marked q r (find nat_cmp r es) (finite.get newer r) (region_in rs r) ≡ None)
+pub each_refused : (q : LogQueue) (newer : Tables) (rs : MarkedRegions) (es : List (ℕ × Mark)) → IsDistinct eqb (keys es) →
+    joined_each q newer rs es ≡ None → (r : ℕ) × (joined_marked q r (find nat_cmp r es) (finite.get newer r) (region_in rs r) ≡ None)
 unfolding IsDistinct
 each_refused q newer rs [] one e = absurd cc
 each_refused q newer rs (x ∷ es) one e = go (joined_region q x.0 (region_in rs x.0) record { mark = x.1; table = finite.get newer x.0 }) refl e (λ y e. each_refused q newer (with_region rs x.0 y) es one.1 e)
   where
-    at : (r : ℕ) (y : MarkedRegion) → joined_marked q r (find nat_cmp r es) (finite.get newer r) (region_in (with_region rs x.0 y) r) ≡ None → (r ≡ x.0) ⊎ IsOther r x.0 → joined_marked q r (find nat_cmp r (x ∷ es)) (finite.get newer r) (region_in rs r) ≡ None
+    at : (r : ℕ) (y : MarkedRegion) → joined_marked q r (find nat_cmp r es) (finite.get newer r) (region_in (with_region rs x.0 y) r) ≡ None →
+        (r ≡ x.0) ⊎ IsOther r x.0 → joined_marked q r (find nat_cmp r (x ∷ es)) (finite.get newer r) (region_in rs r) ≡ None
     at r y h (inr f) = ap (λ o. joined_marked q r o (finite.get newer r) (region_in rs r)) (find_other r x es f) ∙ ap (joined_marked q r (find nat_cmp r es) (finite.get newer r)) (sym (held_other rs x.0 r y f.1)) ∙ h
     at r y h (inl p) = absurd (no_some (sym (ap (λ o. joined_marked q r o (finite.get newer r) (region_in (with_region rs x.0 y) r)) (ap (λ k. find nat_cmp k es) p ∙ find_none x.0 es one.0)) ∙ h))
       where
@@ -67,7 +74,8 @@ each_refused q newer rs (x ∷ es) one e = go (joined_region q x.0 (region_in rs
     go None is e ih = (x.0, ap (λ o. joined_marked q x.0 o (finite.get newer x.0) (region_in rs x.0)) (find_own x es) ∙ is)
     go (Some y) is e ih = let p = ih y e in (p.0, at p.0 y p.1 (by_region p.0 x.0))
 
-pub each_marked : (q : LogQueue) (newer : Tables) (rs new : MarkedRegions) (es : List (ℕ × Mark)) → joined_each q newer rs es ≡ Some new → (r : ℕ) → is_some (finite.get new.marks r) ≡ (is_some (finite.get rs.marks r) || is_some (find nat_cmp r es))
+pub each_marked : (q : LogQueue) (newer : Tables) (rs new : MarkedRegions) (es : List (ℕ × Mark)) → joined_each q newer rs es ≡ Some new → (r : ℕ) →
+    is_some (finite.get new.marks r) ≡ (is_some (finite.get rs.marks r) || is_some (find nat_cmp r es))
 each_marked q newer rs new [] e r = sym (ap (λ (n : MarkedRegions). is_some (finite.get n.marks r)) (some_is e)) ∙ none (is_some (finite.get rs.marks r))
   where
     none : (b : Bool) → b ≡ (b || false)
@@ -84,7 +92,9 @@ each_marked q newer rs new (x ∷ es) e r = go (joined_region q x.0 (region_in r
         → ((y : MarkedRegion) → joined_each q newer (with_region rs x.0 y) es ≡ Some new → is_some (finite.get new.marks r) ≡ (is_some (finite.get (with_region rs x.0 y).marks r) || is_some (find nat_cmp r es)))
         → is_some (finite.get new.marks r) ≡ (is_some (finite.get rs.marks r) || is_some (find nat_cmp r (x ∷ es)))
     go None e ih = absurd cc
-    go (Some y) e ih = ih y e ∙ ap (λ b. b || is_some (find nat_cmp r es)) (marked_with rs x.0 r y) ∙ swap (eqb r x.0) (is_some (finite.get rs.marks r)) (find nat_cmp r es) ∙ sym (ap (λ b. is_some (finite.get rs.marks r) || is_some (cond b (Some x.1) (find nat_cmp r es))) (tied r x.0))
+    go (Some y) e ih = ih y e ∙ ap (λ b. b || is_some (find nat_cmp r es)) (marked_with rs x.0 r y)
+        ∙ swap (eqb r x.0) (is_some (finite.get rs.marks r)) (find nat_cmp r es)
+        ∙ sym (ap (λ b. is_some (finite.get rs.marks r) || is_some (cond b (Some x.1) (find nat_cmp r es))) (tied r x.0))
 
 pub merged_are : (q : LogQueue) (c d : Context) (new : MarkedRegions) → merged_regions q c d ≡ Some new → AreMerged q c d new
 merged_are q c d new e = go (regions_after q c.regions (region_steps_of_wholes (whole_groups c.groups d.groups))) refl e
@@ -94,7 +104,9 @@ merged_are q c d new e = go (regions_after q c.regions (region_steps_of_wholes (
     go (Some middle) is e = record {
       middle = middle;
       wholes = is;
-      regions = λ r. ap (λ o. joined_marked q r o (finite.get d.regions.tables r) (region_in middle r)) (finite.get-entries d.regions.marks r) ∙ each_joined q d.regions.tables middle new (finite.entries d.regions.marks) (keys_distinct (finite.entries d.regions.marks) (finite.entries_sorted d.regions.marks)) e r;
+      regions = λ r. ap (λ o. joined_marked q r o (finite.get d.regions.tables r) (region_in middle r)) (finite.get-entries d.regions.marks r)
+          ∙ each_joined q d.regions.tables middle new (finite.entries d.regions.marks)
+          (keys_distinct (finite.entries d.regions.marks) (finite.entries_sorted d.regions.marks)) e r;
       marked = λ r. each_marked q d.regions.tables middle new (finite.entries d.regions.marks) e r ∙ ap (λ o. is_some (finite.get middle.marks r) || is_some o) (sym (finite.get-entries d.regions.marks r));
     }
 

@@ -19,7 +19,9 @@ pub group_in-append : (g : ℕ) (h k : List BatchSteps) → group_in g (h ++ k) 
 group_in-append g h k = ap (group_of g) (numbered_from-append 0 h k) ∙ group_of-append g (numbered_from 0 h) (numbered_from (0 + length h) k) ∙ ap (joined_group (group_in g h)) (group_of-placed (0 + length h) g k)
 
 pub effects-append : (h k : List BatchSteps) → effects (h ++ k) ≡ effects h ++ effects_behind (numbered_from 0 h) (numbered_from (length h) k)
-effects-append h k = ap (effects_behind []) (numbered_from-append 0 h k) ∙ effects_behind-append [] (numbered_from 0 h) (numbered_from (0 + length h) k) ∙ ap (λ x. effects h ++ effects_behind (numbered_from 0 h) (numbered_from x k)) (omega arith)
+effects-append h k = ap (effects_behind []) (numbered_from-append 0 h k)
+    ∙ effects_behind-append [] (numbered_from 0 h) (numbered_from (0 + length h) k)
+    ∙ ap (λ x. effects h ++ effects_behind (numbered_from 0 h) (numbered_from x k)) (omega arith)
 
 -- the same groups become whole, wherever the newer batches are numbered from
 wholes-placed : (ids : List ℕ) (h k : List BatchSteps) (n : ℕ) → wholes_at ids (numbered_from 0 h) (numbered_from n k) ≡ wholes ids h k
@@ -49,7 +51,9 @@ kept_or_none olds news p = go p.batch.marker
         at Middle = inl refl
         at End = by (are_middles (markers_of m.group news)) refl
           where
-            by : (b : Bool) → are_middles (markers_of m.group news) ≡ b → (completed_as End (open_stretch (markers_of m.group (olds ++ news))) p ≡ completed_as End (open_stretch (markers_of m.group news)) p) ⊎ (completed_as End (open_stretch (markers_of m.group news)) p ≡ [])
+            by : (b : Bool) → are_middles (markers_of m.group news) ≡ b →
+                (completed_as End (open_stretch (markers_of m.group (olds ++ news))) p ≡ completed_as End (open_stretch (markers_of m.group news)) p)
+                ⊎ (completed_as End (open_stretch (markers_of m.group news)) p ≡ [])
             by true e = inr (rw (middles_open_none (markers_of m.group news) e) refl)
             by false e = inl (rw (markers_of-append m.group olds news, open_stretch-append (markers_of m.group olds) (markers_of m.group news), e) refl)
 
@@ -57,7 +61,9 @@ each_behind : (P : Effect → Type 0) (olds news ps : List Numbered) → AllByRe
 unfolding effects_behind
 each_behind P olds news [] h = tt
 each_behind P olds news (p ∷ ps) h = each-append P (completed_by p.batch.marker news p) (effects_behind (news ++ p ∷ []) ps) (first (kept_or_none olds news p))
-    (each_behind P olds (news ++ p ∷ []) ps (subst (λ l. AllByRecursion P (effects_behind l ps)) (append_assoc olds news (p ∷ [])) (each_right P (completed_by p.batch.marker (olds ++ news) p) (effects_behind ((olds ++ news) ++ p ∷ []) ps) h)))
+    (each_behind P olds (news ++ p ∷ []) ps
+    (subst (λ l. AllByRecursion P (effects_behind l ps)) (append_assoc olds news (p ∷ []))
+    (each_right P (completed_by p.batch.marker (olds ++ news) p) (effects_behind ((olds ++ news) ++ p ∷ []) ps) h)))
   where
     first : (completed_by p.batch.marker (olds ++ news) p ≡ completed_by p.batch.marker news p) ⊎ (completed_by p.batch.marker news p ≡ []) → AllByRecursion P (completed_by p.batch.marker news p)
     first (inl e) = subst (AllByRecursion P) e (each_left P (completed_by p.batch.marker (olds ++ news) p) (effects_behind ((olds ++ news) ++ p ∷ []) ps) h)
@@ -70,12 +76,15 @@ apart_fewer (e ∷ es) fs gs fewer k h = (each-append (AreApart e) es gs (each_l
 apart_behind : (olds news ps : List Numbered) → EachApart (effects_behind (olds ++ news) ps) → EachApart (effects_behind news ps)
 unfolding effects_behind
 apart_behind olds news [] h = tt
-apart_behind olds news (p ∷ ps) h = first (kept_or_none olds news p) (apart_behind olds (news ++ p ∷ []) ps (subst EachApart same (apart_right (completed_by p.batch.marker (olds ++ news) p) (effects_behind ((olds ++ news) ++ p ∷ []) ps) h)))
+apart_behind olds news (p ∷ ps) h = first (kept_or_none olds news p)
+    (apart_behind olds (news ++ p ∷ []) ps
+    (subst EachApart same (apart_right (completed_by p.batch.marker (olds ++ news) p) (effects_behind ((olds ++ news) ++ p ∷ []) ps) h)))
   where
     same : effects_behind ((olds ++ news) ++ p ∷ []) ps ≡ effects_behind (olds ++ (news ++ p ∷ [])) ps
     same = ap (λ l. effects_behind l ps) (append_assoc olds news (p ∷ []))
 
-    first : (completed_by p.batch.marker (olds ++ news) p ≡ completed_by p.batch.marker news p) ⊎ (completed_by p.batch.marker news p ≡ []) → EachApart (effects_behind (news ++ p ∷ []) ps) → EachApart (completed_by p.batch.marker news p ++ effects_behind (news ++ p ∷ []) ps)
+    first : (completed_by p.batch.marker (olds ++ news) p ≡ completed_by p.batch.marker news p) ⊎ (completed_by p.batch.marker news p ≡ []) →
+        EachApart (effects_behind (news ++ p ∷ []) ps) → EachApart (completed_by p.batch.marker news p ++ effects_behind (news ++ p ∷ []) ps)
     first (inr e) rest = rw e rest
     first (inl e) rest = apart_fewer (completed_by p.batch.marker news p) (effects_behind (olds ++ (news ++ p ∷ [])) ps) (effects_behind (news ++ p ∷ []) ps) (λ x. each_behind (AreApart x) olds (news ++ p ∷ []) ps) rest
         (subst (λ l. EachApart (l ++ effects_behind (olds ++ (news ++ p ∷ [])) ps)) e (subst (λ l. EachApart (completed_by p.batch.marker (olds ++ news) p ++ l)) same h))
@@ -83,4 +92,5 @@ apart_behind olds news (p ∷ ps) h = first (kept_or_none olds news p) (apart_be
 pub apart_back : (h k : List BatchSteps) → EachApart (effects (h ++ k)) → EachApart (effects k)
 apart_back h k apart =
     each_apart-moved (length h) (effects k) (subst EachApart (effects-placed (length h) k) (apart_behind (numbered_from 0 h) [] (numbered_from (length h) k)
-    (subst (λ l. EachApart (effects_behind l (numbered_from (length h) k))) (sym (append-nil (numbered_from 0 h))) (apart_right (effects h) (effects_behind (numbered_from 0 h) (numbered_from (length h) k)) (subst EachApart (effects-append h k) apart)))))
+    (subst (λ l. EachApart (effects_behind l (numbered_from (length h) k))) (sym (append-nil (numbered_from 0 h)))
+    (apart_right (effects h) (effects_behind (numbered_from 0 h) (numbered_from (length h) k)) (subst EachApart (effects-append h k) apart)))))

@@ -57,11 +57,14 @@ any-items r (i ∷ is) = ap (λ b. eqb r i.region || b) (any-items r is)
 
 any-named : (r : ℕ) (es : List Effect) → list_any (λ x. eqb r x) (named_by es) ≡ list_any (λ e. names r (region_steps_in e)) es
 any-named r [] = refl
-any-named r (e ∷ es) = any-append r (map (λ (i : RegionStep). i.region) (region_steps_in e)) (named_by es) ∙ ap (λ b. b || list_any (λ x. eqb r x) (named_by es)) (any-items r (region_steps_in e)) ∙ ap (λ b. names r (region_steps_in e) || b) (any-named r es)
+any-named r (e ∷ es) = any-append r (map (λ (i : RegionStep). i.region) (region_steps_in e)) (named_by es)
+    ∙ ap (λ b. b || list_any (λ x. eqb r x) (named_by es)) (any-items r (region_steps_in e))
+    ∙ ap (λ b. names r (region_steps_in e) || b) (any-named r es)
 
 get-deleted_in : (r : ℕ) (bs : List BatchSteps) → is_named r bs ≡ true → finite.get (deleted_in bs) r ≡ Some (deleted_of finset.empty (steps_of r bs))
 unfolding deleted_in
-get-deleted_in r bs e = finite.get-from_entries nat_cmp_total (map (λ r. (r, deleted_of finset.empty (steps_of r bs))) (named_by (effects bs))) r ∙ find-named (λ r. deleted_of finset.empty (steps_of r bs)) r (named_by (effects bs)) (any-named r (effects bs) ∙ e)
+get-deleted_in r bs e = finite.get-from_entries nat_cmp_total (map (λ r. (r, deleted_of finset.empty (steps_of r bs))) (named_by (effects bs))) r
+    ∙ find-named (λ r. deleted_of finset.empty (steps_of r bs)) r (named_by (effects bs)) (any-named r (effects bs) ∙ e)
 
 same_tables : (q : LogQueue) (rs : MarkedRegions) (h : List Event) (m : Tables) (l : List ℕ) → AreExact q rs (batches h) → IsOneReading q h m l → rs.tables ≡ m
 same_tables q rs h m l ex is = finite.same_map nat_cmp_total nat_cmp-IsAntisymmetric rs.tables m (λ r. some_is (sym (exact_reading q rs (batches h) ex r) ∙ is.tables_read r))

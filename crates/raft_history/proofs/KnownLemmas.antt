@@ -29,7 +29,8 @@ find-entries : (g : ℕ) (all h : List BatchSteps) → find nat_cmp g (flat_map 
 find-entries g all [] = refl
 find-entries g all (b ∷ bs) = go b.marker (find-entries g all bs)
   where
-    go : (m : Option GroupMarker) → find nat_cmp g (flat_map (λ b. group_by all b.marker) bs) ≡ cond (has_marker g bs) (Some (group_in g all)) None → find nat_cmp g (group_by all m ++ flat_map (λ b. group_by all b.marker) bs) ≡ cond (is_of g m || has_marker g bs) (Some (group_in g all)) None
+    go : (m : Option GroupMarker) → find nat_cmp g (flat_map (λ b. group_by all b.marker) bs) ≡ cond (has_marker g bs) (Some (group_in g all)) None →
+        find nat_cmp g (group_by all m ++ flat_map (λ b. group_by all b.marker) bs) ≡ cond (is_of g m || has_marker g bs) (Some (group_in g all)) None
     go None ih = ih
     go (Some m) ih = rw (tied g m.group) (at (eqb g m.group) refl)
       where
@@ -47,7 +48,10 @@ unfolding markers_of
 no_markers g n [] e = refl
 no_markers g n (b ∷ bs) e = go (is_of g b.marker) e (no_markers g (suc n) bs)
   where
-    go : (t : Bool) → (t || has_marker g bs) ≡ false → (has_marker g bs ≡ false → filter (λ p. is_of g p.batch.marker) (numbered_from (suc n) bs) ≡ []) → cond t (record { number = n; batch = b } ∷ filter (λ p. is_of g p.batch.marker) (numbered_from (suc n) bs)) (filter (λ p. is_of g p.batch.marker) (numbered_from (suc n) bs)) ≡ []
+    go : (t : Bool) → (t || has_marker g bs) ≡ false →
+        (has_marker g bs ≡ false → filter (λ p. is_of g p.batch.marker) (numbered_from (suc n) bs) ≡ []) →
+        cond t (record { number = n; batch = b } ∷ filter (λ p. is_of g p.batch.marker) (numbered_from (suc n) bs))
+        (filter (λ p. is_of g p.batch.marker) (numbered_from (suc n) bs)) ≡ []
     go true e ih = cc
     go false e ih = ih e
 
@@ -81,7 +85,10 @@ each_found {X} (e ∷ es) h = (rw (tied e.0 e.0, eq-eqb e.0 e.0 refl) refl, late
 
 -- each entry has what is known of its group
 pub each_known : (h : List BatchSteps) → AllByRecursion (λ e. (has_marker e.0 h ≡ true) × (e.1 ≡ group_in e.0 h)) (finite.entries (groups_in h))
-each_known h = go (finite.entries (groups_in h)) (each_weaker (λ e. find nat_cmp e.0 (finite.entries (groups_in h)) ≡ Some e.1) (λ e. finite.get (groups_in h) e.0 ≡ Some e.1) (λ e k. finite.get-entries (groups_in h) e.0 ∙ k) (finite.entries (groups_in h)) (each_found (finite.entries (groups_in h)) (finite.entries_sorted (groups_in h))))
+each_known h = go (finite.entries (groups_in h))
+    (each_weaker (λ e. find nat_cmp e.0 (finite.entries (groups_in h)) ≡ Some e.1) (λ e. finite.get (groups_in h) e.0 ≡ Some e.1)
+    (λ e k. finite.get-entries (groups_in h) e.0 ∙ k) (finite.entries (groups_in h))
+    (each_found (finite.entries (groups_in h)) (finite.entries_sorted (groups_in h))))
   where
     is : (g : ℕ) (x : WaitingGroup) (t : Bool) → has_marker g h ≡ t → cond t (Some (group_in g h)) None ≡ Some x → (has_marker g h ≡ true) × (x ≡ group_in g h)
     is g x true e k = (e, cc)

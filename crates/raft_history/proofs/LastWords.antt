@@ -21,8 +21,11 @@ in_order r (e ∷ h) = ap (λ l. steps_on r (steps_of_items e.items) ++ l) (in_o
 own_steps : (r : ℕ) (h : List Event) → IsSoundIn Append h → steps_of r (batches h) ≡ flat_map (λ (e : Event). steps_on r (steps_of_items e.items)) h
 own_steps r h s = plain_steps r (batches h) (without_marker 0 h s.files) ∙ in_order r h
 
-pub entry_stands : (h : List Event) (tables : Tables) (cleaned : List ℕ) → IsSoundIn Append h → IsOneReading Append h tables cleaned → (r i : ℕ) → entry_at i (table_of r (finite.get tables r)).entries ≡ last_entry i (flat_map (λ (e : Event). steps_on r (steps_of_items e.items)) h)
+pub entry_stands : (h : List Event) (tables : Tables) (cleaned : List ℕ) → IsSoundIn Append h → IsOneReading Append h tables cleaned → (r i : ℕ) →
+    entry_at i (table_of r (finite.get tables r)).entries ≡ last_entry i (flat_map (λ (e : Event). steps_on r (steps_of_items e.items)) h)
 entry_stands h tables cleaned s one r i = last_entry_stands i r (finite.get tables r) (steps_of r (batches h)) (steps_good r h s.items) (one.tables_read r) ∙ ap (last_entry i) (own_steps r h s)
 
-pub pair_stands : (h : List Event) (tables : Tables) (cleaned : List ℕ) → IsSoundIn Append h → IsOneReading Append h tables cleaned → (r : ℕ) (key : List ℕ) → finite.get (table_of r (finite.get tables r)).keys key ≡ last_pair key (flat_map (λ (e : Event). steps_on r (steps_of_items e.items)) h)
+pub pair_stands : (h : List Event) (tables : Tables) (cleaned : List ℕ) → IsSoundIn Append h → IsOneReading Append h tables cleaned →
+    (r : ℕ) (key : List ℕ) → finite.get (table_of r (finite.get tables r)).keys key ≡ last_pair key
+    (flat_map (λ (e : Event). steps_on r (steps_of_items e.items)) h)
 pair_stands h tables cleaned s one r key = last_pair_stands Append key r (finite.get tables r) (steps_of r (batches h)) (one.tables_read r) ∙ ap (last_pair key) (own_steps r h s)

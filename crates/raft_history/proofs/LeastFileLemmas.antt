@@ -88,7 +88,8 @@ unfolding is_placed_in entry_seqs
 first_is_least q low high ms [] h = refl
 first_is_least q low high ms (e ∷ es) h = go e.entries h.0 (λ l. seqs_from q l high es) h.2
   where
-    go : (o : Option FileBlockHandle) → option_map_or (λ (place : FileBlockHandle). is_same place.id.queue q) o false ≡ true → ((l : ℕ) → InOrder q l high es → From l (filter_map (λ (e : EntryIndex). place_seq e.entries) es)) → InOrder q (seq_of o) high es
+    go : (o : Option FileBlockHandle) → option_map_or (λ (place : FileBlockHandle). is_same place.id.queue q) o false ≡ true →
+        ((l : ℕ) → InOrder q l high es → From l (filter_map (λ (e : EntryIndex). place_seq e.entries) es)) → InOrder q (seq_of o) high es
         → lesser (place_seq o) (least ms) ≡ least (cons_option (place_seq o) (filter_map (λ (e : EntryIndex). place_seq e.entries) es) ++ ms)
     go None is from h = absurd cc
     go (Some handle) is from h = sym (least_behind handle.id.seq (filter_map (λ (e : EntryIndex). place_seq e.entries) es) ms (from handle.id.seq h))
@@ -107,7 +108,8 @@ least_files t h = record { append = least_is Append t h; rewrite = ap (at_most_g
 pub none_below : (q : LogQueue) (t : Table) → AreLeastFiles t → HasNoneBelow q t
 none_below Append t h = subst (λ k. AllByRecursion (IsAtOrBelow k) (record_seqs Append t)) (sym h.append) (least_each (record_seqs Append t))
 none_below Rewrite t h = subst (λ k. AllByRecursion (IsAtOrBelow k) (record_seqs Rewrite t)) (sym h.rewrite)
-    (each_weaker (IsAtOrBelow (least (record_seqs Rewrite t))) (IsAtOrBelow (at_most_group_seq t.atomic_group (least (record_seqs Rewrite t)))) (lowered_least t.atomic_group (least (record_seqs Rewrite t))) (record_seqs Rewrite t) (least_each (record_seqs Rewrite t)))
+    (each_weaker (IsAtOrBelow (least (record_seqs Rewrite t))) (IsAtOrBelow (at_most_group_seq t.atomic_group (least (record_seqs Rewrite t))))
+    (lowered_least t.atomic_group (least (record_seqs Rewrite t))) (record_seqs Rewrite t) (least_each (record_seqs Rewrite t)))
 
 -- ---- entries of one queue, and of both
 
@@ -127,7 +129,8 @@ none_placed q low high (e ∷ es) h = rw (elsewhere q e.entries h.0) (none_place
     apart Rewrite Append is = cc
     apart Rewrite Rewrite is = refl
 
-    elsewhere : (q : LogQueue) (o : Option FileBlockHandle) → option_map_or (λ (place : FileBlockHandle). is_same place.id.queue q) o false ≡ true → option_map_or (λ (place : FileBlockHandle). is_same place.id.queue (other q)) o false ≡ false
+    elsewhere : (q : LogQueue) (o : Option FileBlockHandle) → option_map_or (λ (place : FileBlockHandle). is_same place.id.queue q) o false ≡ true →
+        option_map_or (λ (place : FileBlockHandle). is_same place.id.queue (other q)) o false ≡ false
     elsewhere q None is = refl
     elsewhere q (Some handle) is = apart q handle.id.queue is
 
@@ -143,7 +146,11 @@ placed-append q xs ys = filter-append (is_placed_in q) xs ys
 
 of_two : (low high : ℕ) (xs ys : List EntryIndex) → InOrder Rewrite 0 low xs → InOrder Append 0 high ys → AreInOrder (xs ++ ys)
 of_two low high xs ys h k Append = (high, subst (InOrder Append 0 high) (sym (placed-append Append xs ys ∙ ap (λ l. l ++ placed_in Append ys) (none_placed Rewrite 0 low xs h) ∙ own_placed Append 0 high ys k)) k)
-of_two low high xs ys h k Rewrite = (low, subst (InOrder Rewrite 0 low) (sym (placed-append Rewrite xs ys ∙ ap (λ l. placed_in Rewrite xs ++ l) (none_placed Append 0 high ys k) ∙ append-nil (placed_in Rewrite xs) ∙ own_placed Rewrite 0 low xs h)) h)
+of_two low high xs ys h k Rewrite = (
+  low,
+  subst (InOrder Rewrite 0 low) (sym (placed-append Rewrite xs ys ∙ ap (λ l. placed_in Rewrite xs ++ l) (none_placed Append 0 high ys k)
+      ∙ append-nil (placed_in Rewrite xs) ∙ own_placed Rewrite 0 low xs h)) h,
+)
 
 -- ---- a history
 

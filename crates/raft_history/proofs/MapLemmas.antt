@@ -49,10 +49,13 @@ with_other m r q None f = get_left m r q f
 with_other m r q (Some t) f = get_other m r q t f
 
 pub held_own : (rs : MarkedRegions) (r : ℕ) (x : MarkedRegion) → region_in (with_region rs r x) r ≡ x
-held_own rs r x = ap (λ (m : Option Mark). record { mark = unwrap_or m fresh; table = finite.get (with_table rs.tables r x.table) r }) (get_own rs.marks r x.mark) ∙ ap (λ (t : Option Table). record { mark = x.mark; table = t }) (with_own rs.tables r x.table)
+held_own rs r x = ap (λ (m : Option Mark). record { mark = unwrap_or m fresh; table = finite.get (with_table rs.tables r x.table) r })
+    (get_own rs.marks r x.mark) ∙ ap (λ (t : Option Table). record { mark = x.mark; table = t }) (with_own rs.tables r x.table)
 
 pub held_other : (rs : MarkedRegions) (r q : ℕ) (x : MarkedRegion) → eq_by_cmp nat_cmp q r ≡ false → region_in (with_region rs r x) q ≡ region_in rs q
-held_other rs r q x f = ap (λ (m : Option Mark). record { mark = unwrap_or m fresh; table = finite.get (with_table rs.tables r x.table) q }) (get_other rs.marks r q x.mark f) ∙ ap (λ (t : Option Table). record { mark = unwrap_or (finite.get rs.marks q) fresh; table = t }) (with_other rs.tables r q x.table f)
+held_other rs r q x f = ap (λ (m : Option Mark). record { mark = unwrap_or m fresh; table = finite.get (with_table rs.tables r x.table) q })
+    (get_other rs.marks r q x.mark f) ∙ ap (λ (t : Option Table). record { mark = unwrap_or (finite.get rs.marks q) fresh; table = t })
+    (with_other rs.tables r q x.table f)
 
 pub marked_with : (rs : MarkedRegions) (r q : ℕ) (x : MarkedRegion) → is_some (finite.get (with_region rs r x).marks q) ≡ (eqb q r || is_some (finite.get rs.marks q))
 marked_with rs r q x = ap is_some (finite.get-insert nat_cmp_total rs.marks r x.mark q) ∙ ap (λ b. is_some (cond b (Some x.mark) (finite.get rs.marks q))) (tied q r) ∙ go (eqb q r)

@@ -51,7 +51,9 @@ open_stretch-append [] qs = go (are_middles qs) refl
     go false h = refl
 open_stretch-append (p ∷ ps) qs = rw (are_middles-append ps qs) (go (has_status Begin p.batch.marker) (are_middles ps) (are_middles qs) (open_stretch-append ps qs))
   where
-    go : (b m n : Bool) → open_stretch (ps ++ qs) ≡ cond n (with_more (open_stretch ps) qs) (open_stretch qs) → cond (b && (m && n)) (p ∷ (ps ++ qs)) (open_stretch (ps ++ qs)) ≡ cond n (with_more (cond (b && m) (p ∷ ps) (open_stretch ps)) qs) (open_stretch qs)
+    go : (b m n : Bool) → open_stretch (ps ++ qs) ≡ cond n (with_more (open_stretch ps) qs) (open_stretch qs) →
+        cond (b && (m && n)) (p ∷ (ps ++ qs)) (open_stretch (ps ++ qs)) ≡ cond n (with_more (cond (b && m) (p ∷ ps) (open_stretch ps)) qs)
+        (open_stretch qs)
     go true true true ih = refl
     go true true false ih = ih
     go true false n ih = ih
@@ -83,7 +85,9 @@ front_of-append (p ∷ ps) qs = go p.batch.marker (front_of-append ps qs)
     led_with is (Ended js f) g = refl
     led_with is Begun g = refl
 
-    go : (m : Option GroupMarker) → front_of (ps ++ qs) ≡ front_with (front_of ps) (front_of qs) → front_behind m p.batch.steps p.batch.seq (front_of (ps ++ qs)) ≡ front_with (front_behind m p.batch.steps p.batch.seq (front_of ps)) (front_of qs)
+    go : (m : Option GroupMarker) → front_of (ps ++ qs) ≡ front_with (front_of ps) (front_of qs) →
+        front_behind m p.batch.steps p.batch.seq (front_of (ps ++ qs)) ≡ front_with (front_behind m p.batch.steps p.batch.seq (front_of ps))
+        (front_of qs)
     go None ih = refl
     go (Some m) ih = at m.status
       where
@@ -126,7 +130,8 @@ group_at-append ps qs = rw (front_of-append, open_stretch-append) (go (front_of 
     older = group_at ps
 
     go : (f g : GroupFront) (b : Bool) → are_middles qs ≡ b → FitsFront f ps → FitsFront g qs →
-        record { front = front_with f g; stretch = stretch_of (cond b (with_more (open_stretch ps) qs) (open_stretch qs)) } ≡ joined_group_by f g record { front = f; stretch = stretch_of (open_stretch ps) } record { front = g; stretch = stretch_of (open_stretch qs) }
+        record { front = front_with f g; stretch = stretch_of (cond b (with_more (open_stretch ps) qs) (open_stretch qs)) } ≡ joined_group_by f g
+        record { front = f; stretch = stretch_of (open_stretch ps) } record { front = g; stretch = stretch_of (open_stretch qs) }
     go (Open is) g true e h k = rw (middles_open_none ps h.0, middles_open_none qs e) refl
     go (Open is) g false e h k = refl
     go (Ended is f) (Open js) true e h k = ap (λ s. record { front = Ended is f; stretch = s }) (stretch_with (open_stretch ps) qs ∙ ap (carried_stretch (stretch_of (open_stretch ps))) (sym k.1))

@@ -30,11 +30,14 @@ use Rattle.raft_history.proofs.WithoutMarkers.{named-steps}
 some_is : {X : Type 0} {x y : X} → Some x ≡ Some y → x ≡ y
 some_is e = cc
 
-holds_marked : (q : LogQueue) (r : ℕ) (x y : MarkedRegion) (o : Option Mark) (t : Option Table) (ss rs : List Step) → AreSteps ss → AreSteps rs → RegionStandsFor q r x ss → RegionStandsFor q r record { mark = unwrap_or o fresh; table = t } rs → (o ≡ None → rs ≡ []) → joined_marked q r o t x ≡ Some y → RegionStandsFor q r y (ss ++ rs)
+holds_marked : (q : LogQueue) (r : ℕ) (x y : MarkedRegion) (o : Option Mark) (t : Option Table) (ss rs : List Step) → AreSteps ss → AreSteps rs →
+    RegionStandsFor q r x ss → RegionStandsFor q r record { mark = unwrap_or o fresh; table = t } rs → (o ≡ None → rs ≡ []) →
+    joined_marked q r o t x ≡ Some y → RegionStandsFor q r y (ss ++ rs)
 holds_marked q r x y None t ss rs good good' h k none e = subst (λ l. RegionStandsFor q r y (ss ++ l)) (sym (none refl)) (subst (λ l. RegionStandsFor q r y l) (sym (append-nil ss)) (subst (λ x. RegionStandsFor q r x ss) (some_is e) h))
 holds_marked q r x y (Some m) t ss rs good good' h k none e = holds_joined q r x record { mark = m; table = t } y ss rs good good' h k e
 
-refused_marked : (q : LogQueue) (r : ℕ) (x : MarkedRegion) (o : Option Mark) (t : Option Table) (ss rs : List Step) → RegionStandsFor q r x ss → RegionStandsFor q r record { mark = unwrap_or o fresh; table = t } rs → joined_marked q r o t x ≡ None → after q r None (ss ++ rs) ≡ None
+refused_marked : (q : LogQueue) (r : ℕ) (x : MarkedRegion) (o : Option Mark) (t : Option Table) (ss rs : List Step) → RegionStandsFor q r x ss →
+    RegionStandsFor q r record { mark = unwrap_or o fresh; table = t } rs → joined_marked q r o t x ≡ None → after q r None (ss ++ rs) ≡ None
 refused_marked q r x None t ss rs h k e = absurd cc
 refused_marked q r x (Some m) t ss rs h k e = go (table_over_older q r m t x.table) refl e
   where
@@ -63,7 +66,9 @@ pub record Parts (q : LogQueue) (c d : Context) (h k : List Event) : Type 0 wher
   pub newer : AreExact q d.regions (batches k)
   pub apart : EachApart (effects (batches (h ++ k)))
 
-across : (q : LogQueue) (c d : Context) (h k : List Event) → Parts q c d h k → (r : ℕ) → steps_of r (batches (h ++ k)) ≡ steps_of r (batches h) ++ (steps_on r (region_steps_of_wholes (whole_groups c.groups d.groups)) ++ steps_of r (batches k))
+across : (q : LogQueue) (c d : Context) (h k : List Event) → Parts q c d h k → (r : ℕ) →
+    steps_of r (batches (h ++ k)) ≡ steps_of r
+    (batches h) ++ (steps_on r (region_steps_of_wholes (whole_groups c.groups d.groups)) ++ steps_of r (batches k))
 across q c d h k p r = ap (steps_of r) (batches-append h k) ∙ steps_across r (batches h) (batches k) (subst (λ l. EachApart (effects l)) (batches-append h k) p.apart)
     ∙ sym (ap (λ l. steps_of r (batches h) ++ (l ++ steps_of r (batches k))) (own-wholes r (whole_groups c.groups d.groups)
     ∙ ap (λ g. steps_of_wholes r (whole_groups g d.groups)) p.older_groups ∙ ap (λ g. steps_of_wholes r (whole_groups (groups_in (batches h)) g)) p.newer_groups))
@@ -71,7 +76,9 @@ across q c d h k p r = ap (steps_of r) (batches-append h k) ∙ steps_across r (
 wholes_good : (q : LogQueue) (c d : Context) (h k : List Event) → Parts q c d h k → (r : ℕ) → AreSteps (steps_on r (region_steps_of_wholes (whole_groups c.groups d.groups)))
 wholes_good q c d h k p r = steps_left _ _ (steps_right (steps_of r (batches h)) _ (subst AreSteps (across q c d h k p r) (steps_good r (h ++ k) p.both_files)))
 
-middle_holds : (q : LogQueue) (c d : Context) (h k : List Event) (mid : MarkedRegions) → Parts q c d h k → regions_after q c.regions (region_steps_of_wholes (whole_groups c.groups d.groups)) ≡ Some mid → (r : ℕ) → RegionStandsFor q r (region_in mid r) (steps_of r (batches h) ++ steps_on r (region_steps_of_wholes (whole_groups c.groups d.groups)))
+middle_holds : (q : LogQueue) (c d : Context) (h k : List Event) (mid : MarkedRegions) → Parts q c d h k →
+    regions_after q c.regions (region_steps_of_wholes (whole_groups c.groups d.groups)) ≡ Some mid → (r : ℕ) →
+    RegionStandsFor q r (region_in mid r) (steps_of r (batches h) ++ steps_on r (region_steps_of_wholes (whole_groups c.groups d.groups)))
 middle_holds q c d h k mid p e r = read_holds q c.regions mid (region_steps_of_wholes (whole_groups c.groups d.groups)) (λ r. steps_of r (batches h)) (λ r. steps_good r h p.older_files) (wholes_good q c d h k p) p.older.each e r
 
 pub regions_merged : (q : LogQueue) (c d : Context) (h k : List Event) (new : MarkedRegions) → Parts q c d h k → AreMerged q c d new → AreExact q new (batches (h ++ k))
@@ -91,17 +98,26 @@ regions_merged q c d h k new p m = record { each = each; marked = marked }
         ∙ or_assoc (is_some (finite.get c.regions.marks r)) (names r (region_steps_of_wholes (whole_groups c.groups d.groups))) (is_some (finite.get d.regions.marks r))
         ∙ ap (λ b. b || (names r (region_steps_of_wholes (whole_groups c.groups d.groups)) || is_some (finite.get d.regions.marks r))) (p.older.marked r)
         ∙ ap (λ b. is_named r (batches h) || (names r (region_steps_of_wholes (whole_groups c.groups d.groups)) || b)) (p.newer.marked r)
-        ∙ ap (λ b. is_named r (batches h) || (b || is_named r (batches k))) (names_wholes r (whole_groups c.groups d.groups) ∙ ap (λ g. list_any (λ w. names r w.steps) (whole_groups g d.groups)) p.older_groups ∙ ap (λ g. list_any (λ w. names r w.steps) (whole_groups (groups_in (batches h)) g)) p.newer_groups)
+        ∙ ap (λ b. is_named r (batches h) || (b || is_named r (batches k)))
+        (names_wholes r (whole_groups c.groups d.groups) ∙ ap (λ g. list_any (λ w. names r w.steps) (whole_groups g d.groups)) p.older_groups
+        ∙ ap (λ g. list_any (λ w. names r w.steps) (whole_groups (groups_in (batches h)) g)) p.newer_groups)
         ∙ sym (named_across r (batches h) (batches k) (subst (λ l. EachApart (effects l)) (batches-append h k) p.apart)) ∙ ap (is_named r) (sym (batches-append h k))
 
 -- where the merge is refused, one reading refuses some region's steps
 pub regions_refused : (q : LogQueue) (c d : Context) (h k : List Event) → Parts q c d h k → AreRegionsRefused q c d → (r : ℕ) × (after q r None (steps_of r (batches (h ++ k))) ≡ None)
-regions_refused q c d h k p (inl e) = let f = read_refused q c.regions (region_steps_of_wholes (whole_groups c.groups d.groups)) (λ r. steps_of r (batches h)) (λ r. steps_good r h p.older_files) (wholes_good q c d h k p) p.older.each e in
-    (f.0, ap (after q f.0 None) (across q c d h k p f.0 ∙ sym (append_assoc (steps_of f.0 (batches h)) (steps_on f.0 (region_steps_of_wholes (whole_groups c.groups d.groups))) (steps_of f.0 (batches k)))) ∙ refused_more q f.0 (steps_of f.0 (batches h) ++ steps_on f.0 (region_steps_of_wholes (whole_groups c.groups d.groups))) (steps_of f.0 (batches k)) f.1)
+regions_refused q c d h k p (inl e) = let f = read_refused q c.regions (region_steps_of_wholes (whole_groups c.groups d.groups)) (λ r. steps_of r (batches h)) (λ r. steps_good r h p.older_files) (wholes_good q c d h k p) p.older.each e in (
+  f.0,
+  ap (after q f.0 None) (across q c d h k p f.0
+      ∙ sym (append_assoc (steps_of f.0 (batches h)) (steps_on f.0 (region_steps_of_wholes (whole_groups c.groups d.groups)))
+      (steps_of f.0 (batches k)))) ∙ refused_more q f.0
+      (steps_of f.0 (batches h) ++ steps_on f.0 (region_steps_of_wholes (whole_groups c.groups d.groups))) (steps_of f.0 (batches k)) f.1,
+)
 regions_refused q c d h k p (inr f) = let r = f.2.0 in (
   r,
   ap (after q r None) (across q c d h k p r ∙ sym (append_assoc (steps_of r (batches h)) (steps_on r (region_steps_of_wholes (whole_groups c.groups d.groups))) (steps_of r (batches k))))
-      ∙ refused_marked q r (region_in f.0 r) (finite.get d.regions.marks r) (finite.get d.regions.tables r) (steps_of r (batches h) ++ steps_on r (region_steps_of_wholes (whole_groups c.groups d.groups))) (steps_of r (batches k)) (middle_holds q c d h k f.0 p f.1 r) (p.newer.each r) f.2.1,
+      ∙ refused_marked q r (region_in f.0 r) (finite.get d.regions.marks r) (finite.get d.regions.tables r)
+      (steps_of r (batches h) ++ steps_on r (region_steps_of_wholes (whole_groups c.groups d.groups))) (steps_of r (batches k))
+      (middle_holds q c d h k f.0 p f.1 r) (p.newer.each r) f.2.1,
 )
 
 -- ---- one more batch
@@ -121,20 +137,30 @@ abbrev steps_taken : WaitingGroups → Event → List RegionStep
 steps_taken g e = completed_steps g (batch_of e) (batch_of e).marker
 
 one_more : (g : WaitingGroups) (h : List Event) (e : Event) (r : ℕ) → g ≡ groups_in (batches h) → steps_of r (batches (h ++ e ∷ [])) ≡ steps_of r (batches h) ++ steps_on r (steps_taken g e)
-one_more g h e r is = ap (steps_of r) (batches-one h e) ∙ steps-one r (batches h) (batch_of e) ∙ ap (λ l. steps_of r (batches h) ++ l) (sym (ap (λ g. steps_on r (steps_taken g e)) is ∙ own-completed r (groups_in (batches h)) (batch_of e) (batch_of e).marker))
+one_more g h e r is = ap (steps_of r) (batches-one h e) ∙ steps-one r (batches h) (batch_of e)
+    ∙ ap (λ l. steps_of r (batches h) ++ l)
+    (sym (ap (λ g. steps_on r (steps_taken g e)) is ∙ own-completed r (groups_in (batches h)) (batch_of e) (batch_of e).marker))
 
 taken_good : (g : WaitingGroups) (h : List Event) (e : Event) (r : ℕ) → g ≡ groups_in (batches h) → AreInFiles (h ++ e ∷ []) → AreSteps (steps_on r (steps_taken g e))
 taken_good g h e r is files = steps_right (steps_of r (batches h)) _ (subst AreSteps (one_more g h e r is) (steps_good r (h ++ e ∷ []) files))
 
-pub regions_taken : (q : LogQueue) (c : Context) (h : List Event) (e : Event) (new : MarkedRegions) → c.groups ≡ groups_in (batches h) → AreInFiles h → AreInFiles (h ++ e ∷ []) → AreExact q c.regions (batches h) → regions_after q c.regions (steps_taken c.groups e) ≡ Some new → AreExact q new (batches (h ++ e ∷ []))
+pub regions_taken : (q : LogQueue) (c : Context) (h : List Event) (e : Event) (new : MarkedRegions) → c.groups ≡ groups_in (batches h) →
+    AreInFiles h → AreInFiles (h ++ e ∷ []) → AreExact q c.regions (batches h) → regions_after q c.regions (steps_taken c.groups e) ≡ Some new →
+    AreExact q new (batches (h ++ e ∷ []))
 regions_taken q c h e new is files files' ex m = record {
-  each = λ r. subst (RegionStandsFor q r (region_in new r)) (sym (one_more c.groups h e r is)) (read_holds q c.regions new (steps_taken c.groups e) (λ r. steps_of r (batches h)) (λ r. steps_good r h files) (λ r. taken_good c.groups h e r is files') ex.each m r);
+  each = λ r. subst (RegionStandsFor q r (region_in new r)) (sym (one_more c.groups h e r is))
+      (read_holds q c.regions new (steps_taken c.groups e) (λ r. steps_of r (batches h)) (λ r. steps_good r h files)
+      (λ r. taken_good c.groups h e r is files') ex.each m r);
   marked = λ r. read_marked q c.regions new (steps_taken c.groups e) m r ∙ ap (λ b. b || names r (steps_taken c.groups e)) (ex.marked r)
-      ∙ ap (λ b. is_named r (batches h) || b) (sym (has_steps-own r (steps_taken c.groups e)) ∙ ap has_steps (own-completed r c.groups (batch_of e) (batch_of e).marker) ∙ by_batch r c.groups (batch_of e) (batch_of e).marker ∙ ap (λ g. names_by_batch r g (batch_of e) (batch_of e).marker) is)
+      ∙ ap (λ b. is_named r (batches h) || b)
+      (sym (has_steps-own r (steps_taken c.groups e)) ∙ ap has_steps (own-completed r c.groups (batch_of e) (batch_of e).marker)
+      ∙ by_batch r c.groups (batch_of e) (batch_of e).marker ∙ ap (λ g. names_by_batch r g (batch_of e) (batch_of e).marker) is)
       ∙ sym (named-one r (batches h) (batch_of e)) ∙ ap (is_named r) (sym (batches-one h e));
 }
 
-pub taken_refused : (q : LogQueue) (c : Context) (h : List Event) (e : Event) → c.groups ≡ groups_in (batches h) → AreInFiles h → AreInFiles (h ++ e ∷ []) → AreExact q c.regions (batches h) → regions_after q c.regions (steps_taken c.groups e) ≡ None → (r : ℕ) × (after q r None (steps_of r (batches (h ++ e ∷ []))) ≡ None)
+pub taken_refused : (q : LogQueue) (c : Context) (h : List Event) (e : Event) → c.groups ≡ groups_in (batches h) → AreInFiles h →
+    AreInFiles (h ++ e ∷ []) → AreExact q c.regions (batches h) → regions_after q c.regions (steps_taken c.groups e) ≡ None →
+    (r : ℕ) × (after q r None (steps_of r (batches (h ++ e ∷ []))) ≡ None)
 taken_refused q c h e is files files' ex m = let f = read_refused q c.regions (steps_taken c.groups e) (λ r. steps_of r (batches h)) (λ r. steps_good r h files) (λ r. taken_good c.groups h e r is files') ex.each m in
     (f.0, ap (after q f.0 None) (one_more c.groups h e f.0 is) ∙ f.1)
 
@@ -158,8 +184,14 @@ pub rewrite_read : (rs : MarkedRegions) (is : List RegionStep) → (new : Marked
 rewrite_read rs [] = (rs, refl)
 rewrite_read rs (i ∷ is) = let f = rewrite_step i.region (region_in rs i.region).table i.step in
     let x : MarkedRegion = record { mark = joined_mark Rewrite i.region (region_in rs i.region).mark (region_in rs i.region).table (mark_of i.step); table = f.0 } in
-    let g = rewrite_read (with_region rs i.region x) is in
-    (g.0, ap (λ o. option_and_then (λ x. regions_after Rewrite (with_region rs i.region x) is) (option_map (λ t. record { mark = joined_mark Rewrite i.region (region_in rs i.region).mark (region_in rs i.region).table (mark_of i.step); table = t }) o)) f.1 ∙ g.1)
+    let g = rewrite_read (with_region rs i.region x) is in (
+      g.0,
+      ap (λ o. option_and_then (λ x. regions_after Rewrite (with_region rs i.region x) is)
+          (option_map (λ t. record {
+            mark = joined_mark Rewrite i.region (region_in rs i.region).mark (region_in rs i.region).table (mark_of i.step);
+            table = t;
+          }) o)) f.1 ∙ g.1,
+    )
 
 there_some : (b : Bool) (t : Table) → there_if b (Some t) ≡ None → ⊥
 there_some true t e = cc

@@ -35,7 +35,8 @@ find_none q k (x ∷ es) e a = rw (tied q x.0, subst (λ z. eqb z x.0 ≡ false)
 pub get-joined_with : (older : WaitingGroups) (es : List (ℕ × WaitingGroup)) (q : ℕ) → IsDistinct eqb (map (λ e. e.0) es) → finite.get (joined_with older es) q ≡ joined_at (finite.get older q) (find nat_cmp q es)
 unfolding IsDistinct
 get-joined_with older [] q one = refl
-get-joined_with older (e ∷ es) q one = get-joined_with (finite.insert older e.0 (joined_group (known_of older e.0) e.1)) es q one.1 ∙ rw (finite.get-insert nat_cmp_total older e.0 (joined_group (known_of older e.0) e.1) q, tied q e.0) (go (eqb q e.0) refl)
+get-joined_with older (e ∷ es) q one = get-joined_with (finite.insert older e.0 (joined_group (known_of older e.0) e.1)) es q one.1
+    ∙ rw (finite.get-insert nat_cmp_total older e.0 (joined_group (known_of older e.0) e.1) q, tied q e.0) (go (eqb q e.0) refl)
   where
     go : (t : Bool) → eqb q e.0 ≡ t → joined_at (cond t (Some (joined_group (known_of older e.0) e.1)) (finite.get older q)) (find nat_cmp q es) ≡ joined_at (finite.get older q) (cond t (Some e.1) (find nat_cmp q es))
     go true t = rw (find_none q e.0 es t one.0) (ap (λ x. Some (joined_group (known_of older x) e.1)) (sym (eqb-true q e.0 t)))
@@ -83,7 +84,9 @@ one_entry : (is : List RegionStep) (m : GroupMarker) (f : ℕ) → finite.entrie
 unfolding groups_in
 one_entry is m f = rw (finite.entries-insert nat_cmp_total finite.empty m.group (group_in m.group (record { steps = is; marker = Some m; seq = f } ∷ [])), entries_none) (ap (λ x. (m.group, x) ∷ []) (group_in-one m.group is m.status f))
 
-joined_group-one : (groups : WaitingGroups) (is : List RegionStep) (m : Option GroupMarker) (f : ℕ) → joined_groups groups (groups_in (record { steps = is; marker = m; seq = f } ∷ [])) ≡ groups_after groups record { steps = is; marker = m; seq = f } m
+joined_group-one : (groups : WaitingGroups) (is : List RegionStep) (m : Option GroupMarker) (f : ℕ) →
+    joined_groups groups (groups_in (record { steps = is; marker = m; seq = f } ∷ [])) ≡ groups_after groups record
+    { steps = is; marker = m; seq = f } m
 unfolding groups_in
 joined_group-one groups is None f = rw entries_none refl
 joined_group-one groups is (Some m) f = ap (joined_with groups) (one_entry is m f)
@@ -92,7 +95,9 @@ pub groups_in-one : (h : List BatchSteps) (b : BatchSteps) → groups_in (h ++ b
 groups_in-one h b = groups_in-append h (b ∷ []) ∙ joined_group-one (groups_in h) b.steps b.marker b.seq
 
 -- one more batch's steps, in one context
-completed-steps : (r : ℕ) (olds : List Numbered) (p : Numbered) (m : GroupMarker) → all_steps r (completed_as m.status (open_stretch (markers_of m.group olds)) p) ≡ steps_or r (whole_group (group_of m.group olds) (one_marker m.status p.batch.steps p.batch.seq))
+completed-steps : (r : ℕ) (olds : List Numbered) (p : Numbered) (m : GroupMarker) →
+    all_steps r (completed_as m.status (open_stretch (markers_of m.group olds)) p) ≡ steps_or r
+    (whole_group (group_of m.group olds) (one_marker m.status p.batch.steps p.batch.seq))
 completed-steps r olds p m = go m.status
   where
     stretch : (l : List Numbered) → all_steps r (completed_as End l p) ≡ steps_or r (whole_of (stretch_of l) (one_marker End p.batch.steps p.batch.seq).front)

@@ -40,7 +40,8 @@ has_steps-own r is = same_test (has_steps (steps_on r is)) (names r is) (λ e. s
 
 pub has_steps-whole_group : (r : ℕ) (w : WholeGroup) → has_steps (whole_steps r w.steps w.first_seq w.last_seq) ≡ names r w.steps
 unfolding whole_steps
-has_steps-whole_group r w = has_steps-append (steps_on r w.steps) (cond (names r w.steps) (AtomicGroup w.first_seq w.last_seq ∷ []) []) ∙ ap (λ b. b || has_steps (cond (names r w.steps) (AtomicGroup w.first_seq w.last_seq ∷ []) [])) (has_steps-own r w.steps) ∙ go (names r w.steps)
+has_steps-whole_group r w = has_steps-append (steps_on r w.steps) (cond (names r w.steps) (AtomicGroup w.first_seq w.last_seq ∷ []) [])
+    ∙ ap (λ b. b || has_steps (cond (names r w.steps) (AtomicGroup w.first_seq w.last_seq ∷ []) [])) (has_steps-own r w.steps) ∙ go (names r w.steps)
   where
     go : (b : Bool) → (b || has_steps (cond b (AtomicGroup w.first_seq w.last_seq ∷ []) [])) ≡ b
     go true = refl

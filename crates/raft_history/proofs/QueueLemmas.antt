@@ -65,7 +65,11 @@ stretch_are q [] h = tt
 stretch_are q (p ∷ ps) h = items_are q (p ∷ ps) h
 
 group_holds : (q : LogQueue) (g : ℕ) (bs : List BatchSteps) → AllByRecursion (IsOf q) (numbered_from 0 bs) → Holds q (group_in g bs)
-group_holds q g bs h = (front_are q (markers_of g (numbered_from 0 bs)) (each_markers (IsOf q) g (numbered_from 0 bs) h), stretch_are q (open_stretch (markers_of g (numbered_from 0 bs))) (each_open (IsOf q) (markers_of g (numbered_from 0 bs)) (each_markers (IsOf q) g (numbered_from 0 bs) h)))
+group_holds q g bs h = (
+  front_are q (markers_of g (numbered_from 0 bs)) (each_markers (IsOf q) g (numbered_from 0 bs) h),
+  stretch_are q (open_stretch (markers_of g (numbered_from 0 bs)))
+      (each_open (IsOf q) (markers_of g (numbered_from 0 bs)) (each_markers (IsOf q) g (numbered_from 0 bs) h)),
+)
 
 abbrev pub OrAre : LogQueue → Option WholeGroup → Type 0
 OrAre q None = Unit {0}
@@ -131,7 +135,9 @@ pub whole_in_queue : (q : LogQueue) (w : WholeGroup) → Are q w.steps → Are q
 whole_in_queue q w h = are-append q w.steps (on_each (named_regions w.steps) (AtomicGroup w.first_seq w.last_seq)) h (spans_are q (named_regions w.steps) w.first_seq w.last_seq)
 
 pub wholes_in_queue : (q : LogQueue) (h k : List Event) → FilesFrom q 0 h → AreInFiles h → FilesFrom q 0 k → AreInFiles k → Are q (region_steps_of_wholes (whole_groups (groups_in (batches h)) (groups_in (batches k))))
-wholes_in_queue q h k f a g b = all (finite.entries (groups_in (batches k))) (each_weaker _ (λ (e : ℕ × WaitingGroup). Holds q e.1) (λ e x. subst (Holds q) (sym x.1) (group_holds q e.0 (batches k) (placed_are q 0 0 k g b))) (finite.entries (groups_in (batches k))) (each_known (batches k)))
+wholes_in_queue q h k f a g b = all (finite.entries (groups_in (batches k)))
+    (each_weaker _ (λ (e : ℕ × WaitingGroup). Holds q e.1) (λ e x. subst (Holds q) (sym x.1) (group_holds q e.0 (batches k) (placed_are q 0 0 k g b)))
+    (finite.entries (groups_in (batches k))) (each_known (batches k)))
   where
     one : (o : Option WholeGroup) (ws : List WholeGroup) → OrAre q o → Are q (region_steps_of_wholes ws) → Are q (region_steps_of_wholes (cons_option o ws))
     one None ws x y = y

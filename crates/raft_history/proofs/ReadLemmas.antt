@@ -34,7 +34,9 @@ own-spans r s (i ∷ is) = go (names i.region is) refl (by_region r i.region) (o
         → steps_on r (on_each (cond b (named_regions is) (i.region ∷ named_regions is)) s) ≡ cond (names r (i ∷ is)) (s ∷ []) []
     go true e (inl p) ih = ih ∙ ap (λ b. cond b (s ∷ []) []) (ap (λ x. names x is) p ∙ e) ∙ sym (ap (λ b. cond b (s ∷ []) []) (names_cons r i is ∙ ap (λ b. b || names r is) (ap (λ x. eqb x i.region) p ∙ eqb_self i.region)))
     go true e (inr f) ih = ih ∙ sym (ap (λ b. cond b (s ∷ []) []) (names_cons r i is ∙ ap (λ b. b || names r is) f.0))
-    go false e (inl p) ih = own_cons r record { region = i.region; step = s } (on_each (named_regions is) s) ∙ ap (λ b. cond b (s ∷ steps_on r (on_each (named_regions is) s)) (steps_on r (on_each (named_regions is) s))) (ap (λ x. eqb x i.region) p ∙ eqb_self i.region)
+    go false e (inl p) ih = own_cons r record { region = i.region; step = s } (on_each (named_regions is) s)
+        ∙ ap (λ b. cond b (s ∷ steps_on r (on_each (named_regions is) s)) (steps_on r (on_each (named_regions is) s)))
+        (ap (λ x. eqb x i.region) p ∙ eqb_self i.region)
         ∙ ap (λ l. s ∷ l) (ih ∙ ap (λ b. cond b (s ∷ []) []) (ap (λ x. names x is) p ∙ e)) ∙ sym (ap (λ b. cond b (s ∷ []) []) (names_cons r i is ∙ ap (λ b. b || names r is) (ap (λ x. eqb x i.region) p ∙ eqb_self i.region)))
     go false e (inr f) ih = own_other r record { region = i.region; step = s } (on_each (named_regions is) s) f.0 ∙ ih ∙ sym (ap (λ b. cond b (s ∷ []) []) (names_cons r i is ∙ ap (λ b. b || names r is) f.0))
 
@@ -45,7 +47,9 @@ own-whole_group r w = own-append r w.steps (on_each (named_regions w.steps) (Ato
 pub own-wholes : (r : ℕ) (ws : List WholeGroup) → steps_on r (region_steps_of_wholes ws) ≡ steps_of_wholes r ws
 unfolding steps_of_wholes
 own-wholes r [] = own_none r
-own-wholes r (w ∷ ws) = own-append r (region_steps_of_whole w) (region_steps_of_wholes ws) ∙ ap (λ l. l ++ steps_on r (region_steps_of_wholes ws)) (own-whole_group r w) ∙ ap (λ l. whole_steps r w.steps w.first_seq w.last_seq ++ l) (own-wholes r ws)
+own-wholes r (w ∷ ws) = own-append r (region_steps_of_whole w) (region_steps_of_wholes ws)
+    ∙ ap (λ l. l ++ steps_on r (region_steps_of_wholes ws)) (own-whole_group r w) ∙ ap (λ l. whole_steps r w.steps w.first_seq w.last_seq ++ l)
+    (own-wholes r ws)
 
 -- ---- one region
 
@@ -69,8 +73,11 @@ holds_joined q r x n y ss rs good good' h k e = go (table_over_older q r n.mark 
     go None is e = absurd cc
     go (Some w) is e = subst (λ y. RegionStandsFor q r y (ss ++ rs)) (some_is e) record {
       stands = stands_join q r x.mark n.mark x.table n.table w ss rs good good' h.stands k.stands is;
-      deleted = (let p = joined_parts q (end_at_reach n.mark (table_of r x.table)) x.mark n.mark (table_of r x.table).entries h.stands.fits in holds_join x.mark n.mark (joined_mark q r x.mark x.table n.mark) ss rs h.deleted k.deleted p.0 p.1);
-      exact = λ a. subst (λ q. IsExactMark (joined_mark q r x.mark x.table n.mark) (ss ++ rs)) (sym a) (exact_join (end_at_reach n.mark (table_of r x.table)) x.mark n.mark (table_of r x.table).entries ss rs h.stands.fits (h.exact a) (k.exact a));
+      deleted = (let p = joined_parts q (end_at_reach n.mark (table_of r x.table)) x.mark n.mark (table_of r x.table).entries h.stands.fits in
+          holds_join x.mark n.mark (joined_mark q r x.mark x.table n.mark) ss rs h.deleted k.deleted p.0 p.1);
+      exact = λ a. subst (λ q. IsExactMark (joined_mark q r x.mark x.table n.mark) (ss ++ rs)) (sym a)
+          (exact_join (end_at_reach n.mark (table_of r x.table)) x.mark n.mark (table_of r x.table).entries ss rs h.stands.fits (h.exact a)
+          (k.exact a));
     }
 
 pub holds_stepped : (q : LogQueue) (r : ℕ) (x y : MarkedRegion) (ss : List Step) (s : Step) → AreSteps ss → IsStep s → RegionStandsFor q r x ss → stepped_region q r x s ≡ Some y → RegionStandsFor q r y (ss ++ s ∷ [])
@@ -80,7 +87,8 @@ holds_stepped q r x y ss s good good' h e =
 
 -- ---- all regions
 
-held_step : (q : LogQueue) (rs : MarkedRegions) (i : RegionStep) (x : MarkedRegion) (ss : ℕ → List Step) → ((r : ℕ) → AreSteps (ss r)) → IsStep i.step → ((r : ℕ) → RegionStandsFor q r (region_in rs r) (ss r)) → stepped_region q i.region (region_in rs i.region) i.step ≡ Some x
+held_step : (q : LogQueue) (rs : MarkedRegions) (i : RegionStep) (x : MarkedRegion) (ss : ℕ → List Step) → ((r : ℕ) → AreSteps (ss r)) →
+    IsStep i.step → ((r : ℕ) → RegionStandsFor q r (region_in rs r) (ss r)) → stepped_region q i.region (region_in rs i.region) i.step ≡ Some x
     → (r : ℕ) → RegionStandsFor q r (region_in (with_region rs i.region x) r) (ss r ++ steps_on r (i ∷ []))
 held_step q rs i x ss good good' h e r = go (by_region r i.region)
   where
@@ -90,7 +98,9 @@ held_step q rs i x ss good good' h e r = go (by_region r i.region)
 
     go : (r ≡ i.region) ⊎ IsOther r i.region → RegionStandsFor q r (region_in (with_region rs i.region x) r) (ss r ++ steps_on r (i ∷ []))
     go (inl p) = subst (λ r. RegionStandsFor q r (region_in (with_region rs i.region x) r) (ss r ++ steps_on r (i ∷ []))) (sym p) own
-    go (inr f) = subst (λ l. RegionStandsFor q r (region_in (with_region rs i.region x) r) l) (sym (ap (λ l. ss r ++ l) (own_nothing r i f.0) ∙ append-nil (ss r))) (subst (λ y. RegionStandsFor q r y (ss r)) (sym (held_other rs i.region r x f.1)) (h r))
+    go (inr f) = subst (λ l. RegionStandsFor q r (region_in (with_region rs i.region x) r) l)
+        (sym (ap (λ l. ss r ++ l) (own_nothing r i f.0) ∙ append-nil (ss r)))
+        (subst (λ y. RegionStandsFor q r y (ss r)) (sym (held_other rs i.region r x f.1)) (h r))
 
 own_split : (r : ℕ) (ss : List Step) (i : RegionStep) (is : List RegionStep) → (ss ++ steps_on r (i ∷ [])) ++ steps_on r is ≡ ss ++ steps_on r (i ∷ is)
 own_split r ss i is = append_assoc ss (steps_on r (i ∷ [])) (steps_on r is) ∙ ap (λ l. ss ++ l) (sym (own-append r (i ∷ []) is))
@@ -101,12 +111,20 @@ first_good i is good = (subst AreSteps (own_head i is) (good i.region)).0
 rest_good : (r : ℕ) (i : RegionStep) (is : List RegionStep) → AreSteps (steps_on r (i ∷ is)) → AreSteps (steps_on r (i ∷ [])) × AreSteps (steps_on r is)
 rest_good r i is good = let g = subst AreSteps (own-append r (i ∷ []) is) good in (steps_left _ _ g, steps_right _ _ g)
 
-pub read_holds : (q : LogQueue) (rs new : MarkedRegions) (is : List RegionStep) (ss : ℕ → List Step) → ((r : ℕ) → AreSteps (ss r)) → ((r : ℕ) → AreSteps (steps_on r is)) → ((r : ℕ) → RegionStandsFor q r (region_in rs r) (ss r)) → regions_after q rs is ≡ Some new → (r : ℕ) → RegionStandsFor q r (region_in new r) (ss r ++ steps_on r is)
-read_holds q rs new [] ss good good' h e r = subst (λ l. RegionStandsFor q r (region_in new r) l) (sym (ap (λ l. ss r ++ l) (own_none r) ∙ append-nil (ss r))) (subst (λ (n : MarkedRegions). RegionStandsFor q r (region_in n r) (ss r)) (some_is e) (h r))
-read_holds q rs new (i ∷ is) ss good good' h e r = go (stepped_region q i.region (region_in rs i.region) i.step) refl e (λ x k e. read_holds q (with_region rs i.region x) new is (λ r. ss r ++ steps_on r (i ∷ [])) (λ r. steps-append (ss r) _ (good r) (rest_good r i is (good' r)).0) (λ r. (rest_good r i is (good' r)).1) k e r)
+pub read_holds : (q : LogQueue) (rs new : MarkedRegions) (is : List RegionStep) (ss : ℕ → List Step) → ((r : ℕ) → AreSteps (ss r)) →
+    ((r : ℕ) → AreSteps (steps_on r is)) → ((r : ℕ) → RegionStandsFor q r (region_in rs r) (ss r)) → regions_after q rs is ≡ Some new → (r : ℕ) →
+    RegionStandsFor q r (region_in new r) (ss r ++ steps_on r is)
+read_holds q rs new [] ss good good' h e r = subst (λ l. RegionStandsFor q r (region_in new r) l)
+    (sym (ap (λ l. ss r ++ l) (own_none r) ∙ append-nil (ss r)))
+    (subst (λ (n : MarkedRegions). RegionStandsFor q r (region_in n r) (ss r)) (some_is e) (h r))
+read_holds q rs new (i ∷ is) ss good good' h e r = go (stepped_region q i.region (region_in rs i.region) i.step) refl e
+    (λ x k e. read_holds q (with_region rs i.region x) new is (λ r. ss r ++ steps_on r (i ∷ []))
+    (λ r. steps-append (ss r) _ (good r) (rest_good r i is (good' r)).0) (λ r. (rest_good r i is (good' r)).1) k e r)
   where
     go : (o : Option MarkedRegion) → stepped_region q i.region (region_in rs i.region) i.step ≡ o → option_and_then (λ x. regions_after q (with_region rs i.region x) is) o ≡ Some new
-        → ((x : MarkedRegion) → ((r : ℕ) → RegionStandsFor q r (region_in (with_region rs i.region x) r) (ss r ++ steps_on r (i ∷ []))) → regions_after q (with_region rs i.region x) is ≡ Some new → RegionStandsFor q r (region_in new r) ((ss r ++ steps_on r (i ∷ [])) ++ steps_on r is))
+        → ((x : MarkedRegion) → ((r : ℕ) → RegionStandsFor q r (region_in (with_region rs i.region x) r) (ss r ++ steps_on r (i ∷ []))) →
+        regions_after q (with_region rs i.region x) is ≡ Some new →
+        RegionStandsFor q r (region_in new r) ((ss r ++ steps_on r (i ∷ [])) ++ steps_on r is))
         → RegionStandsFor q r (region_in new r) (ss r ++ steps_on r (i ∷ is))
     go None k e ih = absurd cc
     go (Some x) k e ih = subst (RegionStandsFor q r (region_in new r)) (own_split r (ss r) i is) (ih x (held_step q rs i x ss good (first_good i is good') h k) e)
@@ -114,15 +132,21 @@ read_holds q rs new (i ∷ is) ss good good' h e r = go (stepped_region q i.regi
 pub refused_more : (q : LogQueue) (r : ℕ) (ss rs : List Step) → after q r None ss ≡ None → after q r None (ss ++ rs) ≡ None
 refused_more q r ss rs e = after-append q r None ss rs ∙ ap (option_and_then (λ u. after q r u rs)) e
 
-pub read_refused : (q : LogQueue) (rs : MarkedRegions) (is : List RegionStep) (ss : ℕ → List Step) → ((r : ℕ) → AreSteps (ss r)) → ((r : ℕ) → AreSteps (steps_on r is)) → ((r : ℕ) → RegionStandsFor q r (region_in rs r) (ss r)) → regions_after q rs is ≡ None → (r : ℕ) × (after q r None (ss r ++ steps_on r is) ≡ None)
+pub read_refused : (q : LogQueue) (rs : MarkedRegions) (is : List RegionStep) (ss : ℕ → List Step) → ((r : ℕ) → AreSteps (ss r)) →
+    ((r : ℕ) → AreSteps (steps_on r is)) → ((r : ℕ) → RegionStandsFor q r (region_in rs r) (ss r)) → regions_after q rs is ≡ None →
+    (r : ℕ) × (after q r None (ss r ++ steps_on r is) ≡ None)
 read_refused q rs [] ss good good' h e = absurd cc
-read_refused q rs (i ∷ is) ss good good' h e = go (after_step q (table_of i.region (region_in rs i.region).table) i.step) refl e (λ x k e. read_refused q (with_region rs i.region x) is (λ r. ss r ++ steps_on r (i ∷ [])) (λ r. steps-append (ss r) _ (good r) (rest_good r i is (good' r)).0) (λ r. (rest_good r i is (good' r)).1) k e)
+read_refused q rs (i ∷ is) ss good good' h e = go (after_step q (table_of i.region (region_in rs i.region).table) i.step) refl e
+    (λ x k e. read_refused q (with_region rs i.region x) is (λ r. ss r ++ steps_on r (i ∷ []))
+    (λ r. steps-append (ss r) _ (good r) (rest_good r i is (good' r)).0) (λ r. (rest_good r i is (good' r)).1) k e)
   where
     put : Option Table → MarkedRegion
     put t = record { mark = joined_mark q i.region (region_in rs i.region).mark (region_in rs i.region).table (mark_of i.step); table = t }
 
     go : (o : Option (Option Table)) → after_step q (table_of i.region (region_in rs i.region).table) i.step ≡ o → option_and_then (λ x. regions_after q (with_region rs i.region x) is) (option_map put o) ≡ None
-        → ((x : MarkedRegion) → ((r : ℕ) → RegionStandsFor q r (region_in (with_region rs i.region x) r) (ss r ++ steps_on r (i ∷ []))) → regions_after q (with_region rs i.region x) is ≡ None → (r : ℕ) × (after q r None ((ss r ++ steps_on r (i ∷ [])) ++ steps_on r is) ≡ None))
+        → ((x : MarkedRegion) → ((r : ℕ) → RegionStandsFor q r (region_in (with_region rs i.region x) r) (ss r ++ steps_on r (i ∷ []))) →
+        regions_after q (with_region rs i.region x) is ≡ None →
+        (r : ℕ) × (after q r None ((ss r ++ steps_on r (i ∷ [])) ++ steps_on r is) ≡ None))
         → (r : ℕ) × (after q r None (ss r ++ steps_on r (i ∷ is)) ≡ None)
     go None k e ih = (
       i.region,
@@ -144,7 +168,9 @@ read_marked q rs new (i ∷ is) e r = go (stepped_region q i.region (region_in r
     swap true false c = refl
     swap false b c = refl
 
-    go : (o : Option MarkedRegion) → option_and_then (λ x. regions_after q (with_region rs i.region x) is) o ≡ Some new → ((x : MarkedRegion) → regions_after q (with_region rs i.region x) is ≡ Some new → is_some (finite.get new.marks r) ≡ (is_some (finite.get (with_region rs i.region x).marks r) || names r is))
+    go : (o : Option MarkedRegion) → option_and_then (λ x. regions_after q (with_region rs i.region x) is) o ≡ Some new →
+        ((x : MarkedRegion) → regions_after q (with_region rs i.region x) is ≡ Some new →
+        is_some (finite.get new.marks r) ≡ (is_some (finite.get (with_region rs i.region x).marks r) || names r is))
         → is_some (finite.get new.marks r) ≡ (is_some (finite.get rs.marks r) || names r (i ∷ is))
     go None e ih = absurd cc
     go (Some x) e ih = ih x e ∙ ap (λ b. b || names r is) (marked_with rs i.region r x) ∙ swap (eqb r i.region) (is_some (finite.get rs.marks r)) (names r is) ∙ sym (ap (λ b. is_some (finite.get rs.marks r) || b) (names_cons r i is))

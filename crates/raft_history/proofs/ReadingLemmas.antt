@@ -11,10 +11,13 @@ use Rattle.raft_history.proofs.MapLemmas.{IsOther, by_region, with_own, with_oth
 use Rattle.raft_history.proofs.StepListLemmas.{own_none, own_head, own_other}
 
 -- the steps of a region behind one step: where that is its own, from the table that it leaves
-after_own : (q : LogQueue) (m : Tables) (s : RegionStep) (steps : List RegionStep) → after q s.region (finite.get m s.region) (steps_on s.region (s ∷ steps)) ≡ option_and_then (λ u. after q s.region u (steps_on s.region steps)) (after_step q (table_of s.region (finite.get m s.region)) s.step)
+after_own : (q : LogQueue) (m : Tables) (s : RegionStep) (steps : List RegionStep) →
+    after q s.region (finite.get m s.region) (steps_on s.region (s ∷ steps)) ≡ option_and_then (λ u. after q s.region u (steps_on s.region steps))
+    (after_step q (table_of s.region (finite.get m s.region)) s.step)
 after_own q m s steps = ap (after q s.region (finite.get m s.region)) (own_head s steps)
 
-after_other : (q : LogQueue) (m : Tables) (s : RegionStep) (steps : List RegionStep) (t : Option Table) (r : ℕ) → IsOther r s.region → after q r (finite.get m r) (steps_on r (s ∷ steps)) ≡ after q r (finite.get (with_table m s.region t) r) (steps_on r steps)
+after_other : (q : LogQueue) (m : Tables) (s : RegionStep) (steps : List RegionStep) (t : Option Table) (r : ℕ) → IsOther r s.region →
+    after q r (finite.get m r) (steps_on r (s ∷ steps)) ≡ after q r (finite.get (with_table m s.region t) r) (steps_on r steps)
 after_other q m s steps t r f = ap (after q r (finite.get m r)) (own_other r s steps f.0) ∙ ap (λ u. after q r u (steps_on r steps)) (sym (with_other m s.region r t f.1))
 
 after_first : (q : LogQueue) (m : Tables) (s : RegionStep) (steps : List RegionStep) (t : Option Table) → after_step q (table_of s.region (finite.get m s.region)) s.step ≡ Some t

@@ -72,7 +72,9 @@ len_without d o = omega (arith, finite.len-entries (without d o), finite.len-ent
 
     same : finite.entries (without d o) ≡ where_key (slice_cmp nat_cmp) p (finite.entries o)
     same = ap finite.entries (finite.same_map nat_list_cmp_total (slice_cmp-IsAntisymmetric nat_cmp-IsAntisymmetric) (without d o) (finite.from_sorted (where_key (slice_cmp nat_cmp) p (finite.entries o)))
-        (λ q. finite.get-retain_keys o p q (alike q) ∙ ap (λ v. cond (p q) v None) (finite.get-entries o q) ∙ sym (find-where_key (slice_cmp nat_cmp) p q (alike q) (finite.entries o)) ∙ sym (finite.get-from_sorted (slice_cmp nat_cmp) (where_key (slice_cmp nat_cmp) p (finite.entries o)) q in_order)))
+        (λ q. finite.get-retain_keys o p q (alike q) ∙ ap (λ v. cond (p q) v None) (finite.get-entries o q)
+        ∙ sym (find-where_key (slice_cmp nat_cmp) p q (alike q) (finite.entries o))
+        ∙ sym (finite.get-from_sorted (slice_cmp nat_cmp) (where_key (slice_cmp nat_cmp) p (finite.entries o)) q in_order)))
         ∙ finite.entries-from_sorted (slice_cmp nat_cmp) (where_key (slice_cmp nat_cmp) p (finite.entries o)) in_order
 
 more_or_same : (b : Bool) (n : ℕ) → cond b n (n + 1) ≤ n + 1
@@ -162,10 +164,25 @@ older_shorter Rewrite m es = go (is_missed m es)
 over_records : (q : LogQueue) (m : Mark) (t o x : Table) → table_over q m t o ≡ Some x → table_records x ≤ table_records o + table_records t
 over_records q m t o x e = go (is_refused_over q m o.entries) m.cleaned refl e
   where
-    go : (b c : Bool) → m.cleaned ≡ c → option_map {U = Table} (λ es. record o { entries = es; keys = cond m.cleaned t.keys (pairs_over t.keys (without m.deleted o.keys)); atomic_group = atomic_group_over m t.atomic_group o.atomic_group }) (cond b None (Some (cond c t.entries (older_entries q m o.entries ++ t.entries)))) ≡ Some x → table_records x ≤ table_records o + table_records t
+    go : (b c : Bool) → m.cleaned ≡ c →
+        option_map {U = Table} (λ es. record o {
+          entries = es;
+          keys = cond m.cleaned t.keys (pairs_over t.keys (without m.deleted o.keys));
+          atomic_group = atomic_group_over m t.atomic_group o.atomic_group;
+        })
+        (cond b None (Some (cond c t.entries (older_entries q m o.entries ++ t.entries)))) ≡ Some x →
+        table_records x ≤ table_records o + table_records t
     go true c k e = absurd cc
     go false true k e = omega (arith, ap table_records (some_is e), ap (λ c. finite.len (cond c t.keys (pairs_over t.keys (without m.deleted o.keys)))) k)
-    go false false k e = omega (arith, ap table_records (some_is e), ap (λ c. finite.len (cond c t.keys (pairs_over t.keys (without m.deleted o.keys)))) k, len_pairs_over t.keys (without m.deleted o.keys), len_without m.deleted o.keys, length-append (older_entries q m o.entries) t.entries, older_shorter q m o.entries)
+    go false false k e = omega (
+      arith,
+      ap table_records (some_is e),
+      ap (λ c. finite.len (cond c t.keys (pairs_over t.keys (without m.deleted o.keys)))) k,
+      len_pairs_over t.keys (without m.deleted o.keys),
+      len_without m.deleted o.keys,
+      length-append (older_entries q m o.entries) t.entries,
+      older_shorter q m o.entries,
+    )
 
 join_records : (q : LogQueue) (r : ℕ) (m : Mark) (t o w : Option Table) → table_over_older q r m t o ≡ Some w → recs w ≤ recs o + recs t
 join_records q r m t o w e = there_records (is_there_over m t o) (table_over q m (table_of r t) (table_of r o)) w (recs o + recs t) e (λ x k. omega (arith, over_records q m (table_of r t) (table_of r o) x k, of_table r t, of_table r o))
@@ -184,19 +201,25 @@ read_records q rs new (i ∷ is) e = go (after_step q (table_of i.region (finite
     put t = record { mark = joined_mark q i.region (region_in rs i.region).mark (region_in rs i.region).table (mark_of i.step); table = t }
 
     go : (o : Option (Option Table)) → after_step q (table_of i.region (finite.get rs.tables i.region)) i.step ≡ o → option_and_then (λ x. regions_after q (with_region rs i.region x) is) (option_map put o) ≡ Some new
-        → ((x : MarkedRegion) → regions_after q (with_region rs i.region x) is ≡ Some new → all_records new.tables ≤ all_records (with_table rs.tables i.region x.table) + records_in is) → all_records new.tables ≤ all_records rs.tables + records_in (i ∷ is)
+        → ((x : MarkedRegion) → regions_after q (with_region rs i.region x) is ≡ Some new →
+        all_records new.tables ≤ all_records (with_table rs.tables i.region x.table) + records_in is) →
+        all_records new.tables ≤ all_records rs.tables + records_in (i ∷ is)
     go None k e ih = absurd cc
     go (Some t) k e ih = omega (arith, ih (put t) e, with_records rs.tables i.region t, step_records q i.region (finite.get rs.tables i.region) t i.step k)
 
 -- two neighbors, joined region by region
-joined_records : (q : LogQueue) (mid : MarkedRegions) (marks : Marks) (tables : Tables) (new : MarkedRegions) → ((r : ℕ) → joined_marked q r (finite.get marks r) (finite.get tables r) (region_in mid r) ≡ Some (region_in new r)) → all_records new.tables ≤ all_records mid.tables + all_records tables
+joined_records : (q : LogQueue) (mid : MarkedRegions) (marks : Marks) (tables : Tables) (new : MarkedRegions) →
+    ((r : ℕ) → joined_marked q r (finite.get marks r) (finite.get tables r) (region_in mid r) ≡ Some (region_in new r)) →
+    all_records new.tables ≤ all_records mid.tables + all_records tables
 joined_records q mid marks tables new h = total-both table_records new.tables mid.tables tables (λ r. at r (finite.get marks r) (h r))
   where
     at : (r : ℕ) (o : Option Mark) → joined_marked q r o (finite.get tables r) (region_in mid r) ≡ Some (region_in new r) → recs (finite.get new.tables r) ≤ recs (finite.get mid.tables r) + recs (finite.get tables r)
     at r None e = omega (arith, ap (λ (x : MarkedRegion). recs x.table) (some_is e))
     at r (Some m) e = go (table_over_older q r m (finite.get tables r) (finite.get mid.tables r)) refl e
       where
-        go : (o : Option (Option Table)) → table_over_older q r m (finite.get tables r) (finite.get mid.tables r) ≡ o → option_map {U = MarkedRegion} (λ t. record { mark = joined_mark q r (region_in mid r).mark (finite.get mid.tables r) m; table = t }) o ≡ Some (region_in new r) → recs (finite.get new.tables r) ≤ recs (finite.get mid.tables r) + recs (finite.get tables r)
+        go : (o : Option (Option Table)) → table_over_older q r m (finite.get tables r) (finite.get mid.tables r) ≡ o →
+            option_map {U = MarkedRegion} (λ t. record { mark = joined_mark q r (region_in mid r).mark (finite.get mid.tables r) m; table = t })
+            o ≡ Some (region_in new r) → recs (finite.get new.tables r) ≤ recs (finite.get mid.tables r) + recs (finite.get tables r)
         go None k e = absurd cc
         go (Some w) k e = omega (arith, join_records q r m (finite.get tables r) (finite.get mid.tables r) w k, ap (λ (x : MarkedRegion). recs x.table) (some_is e))
 
@@ -229,14 +252,27 @@ one_weight Begin is f = refl
 one_weight Middle is f = ap records_in (append-nil is)
 one_weight End is f = ap records_in (append-nil is)
 
-pub taken_bounded : (q : LogQueue) (c : Context) (e : Event) (rs : MarkedRegions) (n : ℕ) → IsBounded c n → regions_after q c.regions (completed_steps c.groups (batch_of e) (batch_of e).marker) ≡ Some rs → IsBounded (taken_with c e rs) (n + records_in (steps_of_items e.items))
+pub taken_bounded : (q : LogQueue) (c : Context) (e : Event) (rs : MarkedRegions) (n : ℕ) → IsBounded c n →
+    regions_after q c.regions (completed_steps c.groups (batch_of e) (batch_of e).marker) ≡ Some rs →
+    IsBounded (taken_with c e rs) (n + records_in (steps_of_items e.items))
 taken_bounded q c e rs n a k = go (batch_of e).marker (read_records q c.regions rs (completed_steps c.groups (batch_of e) (batch_of e).marker) k)
   where
     or_whole : (o : Option WholeGroup) → records_in (region_steps_or o) ≡ records_or o
     or_whole None = refl
     or_whole (Some w) = whole_group-records w
 
-    go : (m : Option GroupMarker) → all_records rs.tables ≤ all_records c.regions.tables + records_in (completed_steps c.groups (batch_of e) m) → all_records rs.tables + waiting_records (groups_after c.groups (batch_of e) m) ≤ n + records_in (steps_of_items e.items)
+    go : (m : Option GroupMarker) → all_records rs.tables ≤ all_records c.regions.tables + records_in (completed_steps c.groups (batch_of e) m) →
+        all_records rs.tables + waiting_records (groups_after c.groups (batch_of e) m) ≤ n + records_in (steps_of_items e.items)
     go None h = omega (arith, h, a)
     go (Some m) h = let g : WaitingGroup = one_marker m.status (steps_of_items e.items) e.file.seq in
-        omega (arith, h, a, or_whole (whole_group (known_of c.groups m.group) g), total-insert (λ (g : WaitingGroup). records_in (held_steps g)) c.groups m.group (joined_group (known_of c.groups m.group) g), waiting_known c.groups m.group, joined_weight (known_of c.groups m.group) g, one_weight m.status (steps_of_items e.items) e.file.seq)
+        omega (
+          arith,
+          h,
+          a,
+          or_whole (whole_group (known_of c.groups m.group) g),
+          total-insert (λ (g : WaitingGroup). records_in (held_steps g))
+              c.groups m.group (joined_group (known_of c.groups m.group) g),
+          waiting_known c.groups m.group,
+          joined_weight (known_of c.groups m.group) g,
+          one_weight m.status (steps_of_items e.items) e.file.seq,
+        )

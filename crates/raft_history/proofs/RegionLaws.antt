@@ -90,5 +90,6 @@ overlay_by_steps r rs bs rewritten ex = go (finite.get rs.marks r) refl
     go (Some m) is =
         let exact : IsExactMark m (steps_of r bs) = subst (λ (o : Option Mark). IsExactMark (unwrap_or o fresh) (steps_of r bs)) is ((ex.each r).exact refl) in
         ap (λ b. kept_if (cond b (is_some (finite.get rs.tables r)) (is_some (finite.get rs.tables r) || is_some rewritten)) (overlay_under m (table_of r (finite.get rs.tables r)) (table_of r rewritten))) exact.holds.cleaned
-        ∙ ap (kept_if (cond (has_clean (steps_of r bs)) (is_some (finite.get rs.tables r)) (is_some (finite.get rs.tables r) || is_some rewritten))) (overlay_exact m (steps_of r bs) (table_of r (finite.get rs.tables r)) (table_of r rewritten) exact)
+        ∙ ap (kept_if (cond (has_clean (steps_of r bs)) (is_some (finite.get rs.tables r)) (is_some (finite.get rs.tables r) || is_some rewritten)))
+        (overlay_exact m (steps_of r bs) (table_of r (finite.get rs.tables r)) (table_of r rewritten) exact)
         ∙ sym (ap (λ b. cond b (overlaid_table r (steps_of r bs) (finite.get rs.tables r) rewritten) rewritten) (sym (ex.marked r) ∙ ap is_some is))

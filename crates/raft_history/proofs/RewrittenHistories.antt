@@ -62,7 +62,8 @@ module _ (append : List Event) (sound : IsSoundIn Append append) where
   own_within r s h e = step_within r s.step (subst (λ q. IsStepHad append q s.step) e h)
 
   module _ (rewrite : List Event) (from : AreRewrittenFrom append rewrite) where
-    items_within : (r : ℕ) (is : List RegionStep) → AllByRecursion (λ (s : RegionStep). IsStepHad append s.region s.step) is → AllByRecursion (λ (s : RegionStep). s.region ≡ r → IsStepWithin (IsReached (steps r)) (IsSpoken (steps r)) s.step) is
+    items_within : (r : ℕ) (is : List RegionStep) → AllByRecursion (λ (s : RegionStep). IsStepHad append s.region s.step) is →
+        AllByRecursion (λ (s : RegionStep). s.region ≡ r → IsStepWithin (IsReached (steps r)) (IsSpoken (steps r)) s.step) is
     items_within r [] h = tt
     items_within r (s ∷ is) h = (own_within r s h.0, items_within r is h.1)
 
@@ -78,7 +79,8 @@ module _ (append : List Event) (sound : IsSoundIn Append append) where
       spoken : (r : ℕ) → IsSpokenTable (steps r) (table_of r (finite.get rewritten r))
       spoken r = record {
         entries = entries_stay_within (IsReached (steps r)) (IsSpoken (steps r)) r None (finite.get rewritten r) (steps_of r (batches rewrite)) tt (rewritten_within r) (read.tables_read r);
-        keys = λ key x e. pairs_stay_within (IsReached (steps r)) (IsSpoken (steps r)) r key (steps_of r (batches rewrite)) x (rewritten_within r) (sym (last_pair_stands Rewrite key r (finite.get rewritten r) (steps_of r (batches rewrite)) (read.tables_read r)) ∙ e);
+        keys = λ key x e. pairs_stay_within (IsReached (steps r)) (IsSpoken (steps r)) r key (steps_of r (batches rewrite)) x (rewritten_within r)
+            (sym (last_pair_stands Rewrite key r (finite.get rewritten r) (steps_of r (batches rewrite)) (read.tables_read r)) ∙ e);
       }
 
       module _ (appended : Tables) (cleaned : List ℕ) (own : IsOneReading Append append appended cleaned) where
@@ -89,11 +91,16 @@ module _ (append : List Event) (sound : IsSoundIn Append append) where
             go true e = overlay_same r (steps r) (finite.get appended r) (finite.get rewritten r) (spoken r) (λ key. last_pair_stands Append key r (finite.get appended r) (steps r) (own.tables_read r))
             go false e =
                 let none : steps r ≡ [] = (named-steps r (batches append)).0 e in
-                unnamed_same r (finite.get appended r) (finite.get rewritten r) (subst (λ ss. IsSpokenTable ss (table_of r (finite.get rewritten r))) none (spoken r)) (subst (λ ss. after Append r None ss ≡ Some (finite.get appended r)) none (own.tables_read r))
+                unnamed_same r (finite.get appended r) (finite.get rewritten r)
+                (subst (λ ss. IsSpokenTable ss (table_of r (finite.get rewritten r))) none (spoken r))
+                (subst (λ ss. after Append r None ss ≡ Some (finite.get appended r)) none (own.tables_read r))
 
-  pub both_same : (rewrite : List Event) (tables appended : Tables) (cleaned own_cleaned : List ℕ) → AreRewrittenFrom append rewrite → IsReadingOfBoth rewrite append tables cleaned → IsOneReading Append append appended own_cleaned → HaveSameRecords tables appended
+  pub both_same : (rewrite : List Event) (tables appended : Tables) (cleaned own_cleaned : List ℕ) → AreRewrittenFrom append rewrite →
+      IsReadingOfBoth rewrite append tables cleaned → IsOneReading Append append appended own_cleaned → HaveSameRecords tables appended
   both_same rewrite tables appended cleaned own_cleaned from both own =
-      let one : (r : ℕ) → HasSameRecords r (finite.get tables r) (finite.get both.appended r) = λ r. subst (λ t. HasSameRecords r t (finite.get both.appended r)) (sym (both.overlaid r)) (region_same rewrite from both.rewritten both.rewrite_read both.appended cleaned both.append_read r) in
+      let one : (r : ℕ) → HasSameRecords r (finite.get tables r)
+      (finite.get both.appended r) = λ r. subst (λ t. HasSameRecords r t (finite.get both.appended r)) (sym (both.overlaid r))
+      (region_same rewrite from both.rewritten both.rewrite_read both.appended cleaned both.append_read r) in
       let alike : (r : ℕ) → finite.get both.appended r ≡ finite.get appended r = λ r. some_is (sym (both.append_read.tables_read r) ∙ own.tables_read r) in
       record {
         entries = λ r. (one r).entries ∙ ap (λ o. (table_of r o).entries) (alike r);

@@ -70,7 +70,8 @@ last_any p t said law (s ∷ ss) x e = go (last_any p t said law ss x) (last_tha
     later true h = refl
     later false h = h
 
-    go : (option_and_then said (last_that p ss) ≡ Some x → list_any t ss ≡ true) → (o : Option Step) → last_that p ss ≡ o → (b : Bool) → p s ≡ b → option_and_then said (option_or o (cond b (Some s) None)) ≡ Some x → (t s || list_any t ss) ≡ true
+    go : (option_and_then said (last_that p ss) ≡ Some x → list_any t ss ≡ true) → (o : Option Step) → last_that p ss ≡ o → (b : Bool) → p s ≡ b →
+        option_and_then said (option_or o (cond b (Some s) None)) ≡ Some x → (t s || list_any t ss) ≡ true
     go rest (Some u) k b g e = later (t s) (rest (ap (option_and_then said) k ∙ e))
     go rest None k true g e = ap (λ b. b || list_any t ss) (law s x g e)
     go rest None k false g e = absurd cc
@@ -193,7 +194,11 @@ settled key (Truncate j ∷ ss) d h c = weaken key (Truncate j) ss (deleted_of d
 settled key (AtomicGroup a b ∷ ss) d h c = weaken key (AtomicGroup a b) ss (deleted_of d ss) (settled key ss d h c)
 settled key (Put k value file ∷ ss) d h c = elim (either (is_same_key key k) (list_any (speaks_of_key key) ss) h) [
   | inl later ↦ weaken key (Put k value file) ss (deleted_of d ss) (settled key ss d later c)
-  | inr now ↦ inr (record { value = value; file = file }, ap (λ o. option_and_then said_of_key (option_or o (cond (is_same_key key k) (Some (Put k value file)) None))) (none_last (speaks_of_key key) ss now.1) ∙ ap (λ b. option_and_then said_of_key (cond b (Some (Put k value file)) None)) now.0)
+  | inr now ↦ inr (
+    record { value = value; file = file },
+    ap (λ o. option_and_then said_of_key (option_or o (cond (is_same_key key k) (Some (Put k value file)) None)))
+        (none_last (speaks_of_key key) ss now.1) ∙ ap (λ b. option_and_then said_of_key (cond b (Some (Put k value file)) None)) now.0,
+  )
 ]
 settled key (Del k ∷ ss) d h c = elim (either (is_same_key key k) (list_any (speaks_of_key key) ss) h) [
   | inl later ↦ weaken key (Del k) ss (deleted_of (finset.insert d k) ss) (settled key ss (finset.insert d k) later c)
@@ -266,7 +271,8 @@ module _ (X : ℕ → Type 0) (Y : List ℕ → Type 0) (id : ℕ) where
   step_within : (o v : Option Table) (s : Step) → Indexes X (table_of id o).entries → IsStepWithin X Y s → after_step Rewrite (table_of id o) s ≡ Some v → Indexes X (table_of id v).entries
   step_within o v (Run run) h k e = go (entries_after_replay Rewrite (table_of id o).entries run) refl e
     where
-      go : (x : Option (List EntryIndex)) → entries_after_replay Rewrite (table_of id o).entries run ≡ x → option_map Some (option_map {U = Table} (λ es. record (table_of id o) { entries = es }) x) ≡ Some v → Indexes X (table_of id v).entries
+      go : (x : Option (List EntryIndex)) → entries_after_replay Rewrite (table_of id o).entries run ≡ x →
+          option_map Some (option_map {U = Table} (λ es. record (table_of id o) { entries = es }) x) ≡ Some v → Indexes X (table_of id v).entries
       go None f e = absurd cc
       go (Some es) f e = subst (λ (u : Option Table). Indexes X (table_of id u).entries) (same_some _ v e) (run_within X (table_of id o).entries run es h k f)
   step_within o v (Compact j) h k e = subst (λ (u : Option Table). Indexes X (table_of id u).entries) (same_some _ v e) (from_within X j (table_of id o).entries h)

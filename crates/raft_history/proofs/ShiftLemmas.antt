@@ -26,7 +26,9 @@ unfolding markers_of
 markers_of-moved k g [] = refl
 markers_of-moved k g (p ∷ ps) = go (is_of g p.batch.marker) (markers_of-moved k g ps)
   where
-    go : (b : Bool) → filter (λ p. is_of g p.batch.marker) (map (moved k) ps) ≡ map (moved k) (filter (λ p. is_of g p.batch.marker) ps) → cond b (moved k p ∷ filter (λ p. is_of g p.batch.marker) (map (moved k) ps)) (filter (λ p. is_of g p.batch.marker) (map (moved k) ps)) ≡ map (moved k) (cond b (p ∷ filter (λ p. is_of g p.batch.marker) ps) (filter (λ p. is_of g p.batch.marker) ps))
+    go : (b : Bool) → filter (λ p. is_of g p.batch.marker) (map (moved k) ps) ≡ map (moved k) (filter (λ p. is_of g p.batch.marker) ps) →
+        cond b (moved k p ∷ filter (λ p. is_of g p.batch.marker) (map (moved k) ps)) (filter (λ p. is_of g p.batch.marker) (map (moved k) ps)) ≡ map
+        (moved k) (cond b (p ∷ filter (λ p. is_of g p.batch.marker) ps) (filter (λ p. is_of g p.batch.marker) ps))
     go true ih = ap (λ l. moved k p ∷ l) ih
     go false ih = ih
 
@@ -82,7 +84,8 @@ completed-moved k olds p = go p.batch.marker
 pub effects_behind-moved : (k : ℕ) (olds ps : List Numbered) → effects_behind (map (moved k) olds) (map (moved k) ps) ≡ map (moved_effect k) (effects_behind olds ps)
 unfolding effects_behind
 effects_behind-moved k olds [] = refl
-effects_behind-moved k olds (p ∷ ps) = rw (completed-moved k olds p, ← map-append (moved k) olds (p ∷ []), effects_behind-moved k (olds ++ p ∷ []) ps) (sym (map-append (moved_effect k) (completed_by p.batch.marker olds p) (effects_behind (olds ++ p ∷ []) ps)))
+effects_behind-moved k olds (p ∷ ps) = rw (completed-moved k olds p, ← map-append (moved k) olds (p ∷ []), effects_behind-moved k (olds ++ p ∷ []) ps)
+    (sym (map-append (moved_effect k) (completed_by p.batch.marker olds p) (effects_behind (olds ++ p ∷ []) ps)))
 
 steps_in-moved : (r k : ℕ) (e : Effect) → steps_by r (map (moved k) e.earlier) (moved k e.last) ≡ steps_by r e.earlier e.last
 steps_in-moved r k e = go e.earlier

@@ -80,7 +80,8 @@ completed_good r olds p h k = go p.batch.marker
 effects_good : (r : ℕ) (olds ps : List Numbered) → AllByRecursion IsGood olds → AllByRecursion IsGood ps → AreSteps (all_steps r (effects_behind olds ps))
 unfolding effects_behind
 effects_good r olds [] h k = tt
-effects_good r olds (p ∷ ps) h k = all-append r (completed_by p.batch.marker olds p) (effects_behind (olds ++ p ∷ []) ps) (completed_good r olds p h k.0) (effects_good r (olds ++ p ∷ []) ps (each-append IsGood olds (p ∷ []) h (k.0, tt)) k.1)
+effects_good r olds (p ∷ ps) h k = all-append r (completed_by p.batch.marker olds p) (effects_behind (olds ++ p ∷ []) ps)
+    (completed_good r olds p h k.0) (effects_good r (olds ++ p ∷ []) ps (each-append IsGood olds (p ∷ []) h (k.0, tt)) k.1)
 
 run_step : (file : FileId) (content : Content) (s : Step) → IsInFile file content → content_step content ≡ Some s → IsStep s
 run_step file (entries es) s h e = subst IsStep (same_some (Run es) s e) h.0.run

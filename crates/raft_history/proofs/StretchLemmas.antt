@@ -21,7 +21,8 @@ unfolding markers_of
 each_marked g [] = tt
 each_marked g (p ∷ ps) = go (is_of g p.batch.marker) refl (each_marked g ps)
   where
-    go : (b : Bool) → is_of g p.batch.marker ≡ b → AllByRecursion (HasMarker g) (filter (λ p. is_of g p.batch.marker) ps) → AllByRecursion (HasMarker g) (cond b (p ∷ filter (λ p. is_of g p.batch.marker) ps) (filter (λ p. is_of g p.batch.marker) ps))
+    go : (b : Bool) → is_of g p.batch.marker ≡ b → AllByRecursion (HasMarker g) (filter (λ p. is_of g p.batch.marker) ps) →
+        AllByRecursion (HasMarker g) (cond b (p ∷ filter (λ p. is_of g p.batch.marker) ps) (filter (λ p. is_of g p.batch.marker) ps))
     go true e h = (e, h)
     go false e h = h
 
@@ -136,7 +137,8 @@ only_completed h before p behind is = go p.batch.marker refl
 only_effects : (h : List BatchSteps) (before ps : List Numbered) → numbered_from 0 h ≡ before ++ ps → AllByRecursion (IsEffect h) (effects_behind before ps)
 unfolding effects_behind
 only_effects h before [] is = tt
-only_effects h before (p ∷ ps) is = each-append (IsEffect h) (completed_by p.batch.marker before p) (effects_behind (before ++ p ∷ []) ps) (only_completed h before p ps is) (only_effects h (before ++ p ∷ []) ps (is ∙ sym (append_assoc before (p ∷ []) ps)))
+only_effects h before (p ∷ ps) is = each-append (IsEffect h) (completed_by p.batch.marker before p) (effects_behind (before ++ p ∷ []) ps)
+    (only_completed h before p ps is) (only_effects h (before ++ p ∷ []) ps (is ∙ sym (append_assoc before (p ∷ []) ps)))
 
 -- every effect
 record Parts (t : Numbered → Bool) (h xs : List Numbered) (y : Numbered) : Type 0 where
@@ -190,7 +192,10 @@ every_alone h e a = completed_in h a.stands.before e.last a.stands.behind e a.st
 
 pub every_stretch : (h : List BatchSteps) (g : ℕ) (e : Effect) → IsStretch h g e → IsIn e (effects h)
 unfolding markers_of
-every_stretch h g e s = completed_in h d.before e.last d.behind e d.split (ap (λ m. completed_by m d.before e.last) s.ends ∙ ap (λ l. completed_as End l e.last) (ap open_stretch d.kept ∙ is_open g s.before s.begin s.middles s.begins s.goes_on) ∙ ap (λ x. x ∷ []) (same_effect e (s.begin ∷ s.middles) s.earlier))
+every_stretch h g e s = completed_in h d.before e.last d.behind e d.split
+    (ap (λ m. completed_by m d.before e.last) s.ends
+    ∙ ap (λ l. completed_as End l e.last) (ap open_stretch d.kept ∙ is_open g s.before s.begin s.middles s.begins s.goes_on)
+    ∙ ap (λ x. x ∷ []) (same_effect e (s.begin ∷ s.middles) s.earlier))
   where
     d : Parts (λ p. is_of g p.batch.marker) (numbered_from 0 h) (s.before ++ s.begin ∷ s.middles) e.last
     d = parts_of (λ p. is_of g p.batch.marker) (numbered_from 0 h) (s.before ++ s.begin ∷ s.middles) e.last s.behind (s.neighbors ∙ sym (append_assoc s.before (s.begin ∷ s.middles) (e.last ∷ s.behind)))
@@ -209,7 +214,9 @@ rise_behind n olds (b ∷ bs) = go b.marker (rise_behind (suc n) (olds ++ record
     end [] es ih = rise_lower n (suc n) es (omega arith) ih
     end (q ∷ qs) es ih = (omega arith, ih)
 
-    go : (m : Option GroupMarker) → RiseFrom (suc n) (effects_behind (olds ++ record { number = n; batch = b } ∷ []) (numbered_from (suc n) bs)) → RiseFrom n (completed_by m olds record { number = n; batch = b } ++ effects_behind (olds ++ record { number = n; batch = b } ∷ []) (numbered_from (suc n) bs))
+    go : (m : Option GroupMarker) → RiseFrom (suc n) (effects_behind (olds ++ record { number = n; batch = b } ∷ []) (numbered_from (suc n) bs)) →
+        RiseFrom n (completed_by m olds record { number = n; batch = b } ++ effects_behind (olds ++ record { number = n; batch = b } ∷ [])
+        (numbered_from (suc n) bs))
     go None ih = (omega arith, ih)
     go (Some m) ih = at m.status
       where

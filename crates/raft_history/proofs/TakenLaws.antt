@@ -45,7 +45,10 @@ files c h e st n = files_follow e.file.queue h (e ∷ []) (st.stands e.file.queu
 pub taken_some : (c d : Context) (e : Event) → taken_in c e ≡ Some d → (rs : MarkedRegions) × (regions_after e.file.queue c.regions (completed_steps c.groups (batch_of e) (batch_of e).marker) ≡ Some rs) × (taken_with c e rs ≡ d)
 taken_some c d e is = go (regions_after e.file.queue c.regions (completed_steps c.groups (batch_of e) (batch_of e).marker)) refl is
   where
-    go : (o : Option MarkedRegions) → regions_after e.file.queue c.regions (completed_steps c.groups (batch_of e) (batch_of e).marker) ≡ o → option_map (taken_with c e) o ≡ Some d → (rs : MarkedRegions) × (regions_after e.file.queue c.regions (completed_steps c.groups (batch_of e) (batch_of e).marker) ≡ Some rs) × (taken_with c e rs ≡ d)
+    go : (o : Option MarkedRegions) → regions_after e.file.queue c.regions (completed_steps c.groups (batch_of e) (batch_of e).marker) ≡ o →
+        option_map (taken_with c e) o ≡ Some d →
+        (rs : MarkedRegions) × (regions_after e.file.queue c.regions (completed_steps c.groups (batch_of e) (batch_of e).marker) ≡ Some rs) ×
+        (taken_with c e rs ≡ d)
     go None r is = absurd cc
     go (Some rs) r is = (rs, r, some_is is)
 
@@ -77,7 +80,8 @@ taken_stands c d h e n st is = subst (λ d. StandsFor d (h ++ e ∷ [])) s.2 rec
     exact : (q : LogQueue) → AreExact q c.regions (batches h) → regions_after q c.regions (completed_steps c.groups (batch_of e) (batch_of e).marker) ≡ Some s.0 → AreExact q s.0 (batches (h ++ e ∷ []))
     exact q ex r = regions_taken q c h e s.0 st.groups a.sound.items (in_files c h e st n) ex r
 
-    accepted : (q : LogQueue) → StandsIn q c h → regions_after q c.regions (completed_steps c.groups (batch_of e) (batch_of e).marker) ≡ Some s.0 → (r : ℕ) → (t : Option Table) × (after q r None (steps_of r (batches (h ++ e ∷ []))) ≡ Some t)
+    accepted : (q : LogQueue) → StandsIn q c h → regions_after q c.regions (completed_steps c.groups (batch_of e) (batch_of e).marker) ≡ Some s.0 →
+        (r : ℕ) → (t : Option Table) × (after q r None (steps_of r (batches (h ++ e ∷ []))) ≡ Some t)
     accepted Append a r = exact_accepted Append s.0 (batches (h ++ e ∷ [])) (exact Append (a.append refl) r)
     accepted Rewrite a r = λ i. rewrite_after i None (steps_of i (batches (h ++ e ∷ [])))
 
@@ -91,7 +95,9 @@ taken_stands c d h e n st is = subst (λ d. StandsFor d (h ++ e ∷ [])) s.2 rec
 pub taken_exact : (c d : Context) (h : List Event) (e : Event) → IsNextEvent c e → IsExactFor c h → taken_in c e ≡ Some d → IsExactFor d (h ++ e ∷ [])
 taken_exact c d h e n ex is = record {
   stands = taken_stands c d h e n ex.stands is;
-  regions = λ p u. subst (λ d. Suits p d.files → AreExact p d.regions (batches (h ++ e ∷ []))) s.2 (λ u. subst (λ p. AreExact p s.0 (batches (h ++ e ∷ []))) (one_queue e.file.queue p c.files record { queue = e.file.queue; first_seq = e.file.seq; last_seq = e.file.seq } n.suits refl u)
+  regions = λ p u. subst (λ d. Suits p d.files → AreExact p d.regions (batches (h ++ e ∷ []))) s.2
+      (λ u. subst (λ p. AreExact p s.0 (batches (h ++ e ∷ [])))
+      (one_queue e.file.queue p c.files record { queue = e.file.queue; first_seq = e.file.seq; last_seq = e.file.seq } n.suits refl u)
       (regions_taken e.file.queue c h e s.0 ex.stands.groups (ex.stands.stands e.file.queue n.suits).sound.items (in_files c h e ex.stands n) (ex.regions e.file.queue n.suits) s.1)) u;
 }
   where
@@ -108,7 +114,8 @@ sound_is s (x ∷ h) e n f = sound_is s h e x.file.seq f.2
 pub taken_none : (c : Context) (h : List Event) (e : Event) → IsNextEvent c e → StandsFor c h → taken_in c e ≡ None → Sound (h ++ e ∷ []) → ⊥
 taken_none c h e n st is sound = by e.file.queue (read_none (regions_after e.file.queue c.regions (completed_steps c.groups (batch_of e) (batch_of e).marker)) refl is) n.suits (sound_is sound.queue h e 0 sound.sound.files)
   where
-    read_none : (o : Option MarkedRegions) → regions_after e.file.queue c.regions (completed_steps c.groups (batch_of e) (batch_of e).marker) ≡ o → option_map (taken_with c e) o ≡ None → regions_after e.file.queue c.regions (completed_steps c.groups (batch_of e) (batch_of e).marker) ≡ None
+    read_none : (o : Option MarkedRegions) → regions_after e.file.queue c.regions (completed_steps c.groups (batch_of e) (batch_of e).marker) ≡ o →
+        option_map (taken_with c e) o ≡ None → regions_after e.file.queue c.regions (completed_steps c.groups (batch_of e) (batch_of e).marker) ≡ None
     read_none None r is = r
     read_none (Some rs) r is = absurd cc
 

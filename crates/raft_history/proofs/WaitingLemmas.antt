@@ -25,43 +25,376 @@ weight g = records_in (held_steps g)
 pub joined_weight : (a b : WaitingGroup) → weight (joined_group a b) + records_or (whole_group a b) ≤ weight a + weight b
 joined_weight a b = go a.front b.front a.stretch b.stretch
   where
-    go : (f g : GroupFront) (s t : Option OpenStretch) → weight (joined_group record { front = f; stretch = s } record { front = g; stretch = t }) + records_or (whole_group record { front = f; stretch = s } record { front = g; stretch = t }) ≤ weight record { front = f; stretch = s } + weight record { front = g; stretch = t }
-    go (Open is) (Open js) None None = omega (arith, records-append is [], records-append js [], records-append is js, records-append [] js, records-append (is ++ js) [], records-append is ([] ++ js), records-append is [], records-append js [])
-    go (Open is) (Open js) None (Some t) = omega (arith, records-append is [], records-append js t.steps, records-append is js, records-append [] js, records-append (is ++ js) t.steps, records-append is ([] ++ js), records-append is t.steps, records-append js [])
-    go (Open is) (Open js) (Some s) None = omega (arith, records-append is s.steps, records-append js [], records-append is js, records-append s.steps js, records-append (is ++ js) [], records-append is (s.steps ++ js), records-append is [], records-append js s.steps)
-    go (Open is) (Open js) (Some s) (Some t) = omega (arith, records-append is s.steps, records-append js t.steps, records-append is js, records-append s.steps js, records-append (is ++ js) t.steps, records-append is (s.steps ++ js), records-append is t.steps, records-append js s.steps)
-    go (Open is) (Ended js y) None None = omega (arith, records-append is [], records-append js [], records-append is js, records-append [] js, records-append (is ++ js) [], records-append is ([] ++ js), records-append is [], records-append js [])
-    go (Open is) (Ended js y) None (Some t) = omega (arith, records-append is [], records-append js t.steps, records-append is js, records-append [] js, records-append (is ++ js) t.steps, records-append is ([] ++ js), records-append is t.steps, records-append js [])
-    go (Open is) (Ended js y) (Some s) None = omega (arith, records-append is s.steps, records-append js [], records-append is js, records-append s.steps js, records-append (is ++ js) [], records-append is (s.steps ++ js), records-append is [], records-append js s.steps)
-    go (Open is) (Ended js y) (Some s) (Some t) = omega (arith, records-append is s.steps, records-append js t.steps, records-append is js, records-append s.steps js, records-append (is ++ js) t.steps, records-append is (s.steps ++ js), records-append is t.steps, records-append js s.steps)
+    go : (f g : GroupFront) (s t : Option OpenStretch) →
+        weight (joined_group record { front = f; stretch = s } record { front = g; stretch = t }) + records_or
+        (whole_group record { front = f; stretch = s } record { front = g; stretch = t }) ≤ weight record { front = f; stretch = s } + weight record
+        { front = g; stretch = t }
+    go (Open is) (Open js) None None = omega (
+      arith,
+      records-append is [],
+      records-append js [],
+      records-append is js,
+      records-append [] js,
+      records-append (is ++ js) [],
+      records-append is ([] ++ js),
+      records-append is [],
+      records-append js [],
+    )
+    go (Open is) (Open js) None (Some t) = omega (
+      arith,
+      records-append is [],
+      records-append js t.steps,
+      records-append is js,
+      records-append [] js,
+      records-append (is ++ js) t.steps,
+      records-append is ([] ++ js),
+      records-append is t.steps,
+      records-append js [],
+    )
+    go (Open is) (Open js) (Some s) None = omega (
+      arith,
+      records-append is s.steps,
+      records-append js [],
+      records-append is js,
+      records-append s.steps js,
+      records-append (is ++ js) [],
+      records-append is (s.steps ++ js),
+      records-append is [],
+      records-append js s.steps,
+    )
+    go (Open is) (Open js) (Some s) (Some t) = omega (
+      arith,
+      records-append is s.steps,
+      records-append js t.steps,
+      records-append is js,
+      records-append s.steps js,
+      records-append (is ++ js) t.steps,
+      records-append is (s.steps ++ js),
+      records-append is t.steps,
+      records-append js s.steps,
+    )
+    go (Open is) (Ended js y) None None = omega (
+      arith,
+      records-append is [],
+      records-append js [],
+      records-append is js,
+      records-append [] js,
+      records-append (is ++ js) [],
+      records-append is ([] ++ js),
+      records-append is [],
+      records-append js [],
+    )
+    go (Open is) (Ended js y) None (Some t) = omega (
+      arith,
+      records-append is [],
+      records-append js t.steps,
+      records-append is js,
+      records-append [] js,
+      records-append (is ++ js) t.steps,
+      records-append is ([] ++ js),
+      records-append is t.steps,
+      records-append js [],
+    )
+    go (Open is) (Ended js y) (Some s) None = omega (
+      arith,
+      records-append is s.steps,
+      records-append js [],
+      records-append is js,
+      records-append s.steps js,
+      records-append (is ++ js) [],
+      records-append is (s.steps ++ js),
+      records-append is [],
+      records-append js s.steps,
+    )
+    go (Open is) (Ended js y) (Some s) (Some t) = omega (
+      arith,
+      records-append is s.steps,
+      records-append js t.steps,
+      records-append is js,
+      records-append s.steps js,
+      records-append (is ++ js) t.steps,
+      records-append is (s.steps ++ js),
+      records-append is t.steps,
+      records-append js s.steps,
+    )
     go (Open is) Begun None None = omega (arith, records-append is [], records-append [] [], records-append is [], records-append [] [], records-append (is ++ []) [], records-append is ([] ++ []), records-append is [], records-append [] [])
-    go (Open is) Begun None (Some t) = omega (arith, records-append is [], records-append [] t.steps, records-append is [], records-append [] [], records-append (is ++ []) t.steps, records-append is ([] ++ []), records-append is t.steps, records-append [] [])
-    go (Open is) Begun (Some s) None = omega (arith, records-append is s.steps, records-append [] [], records-append is [], records-append s.steps [], records-append (is ++ []) [], records-append is (s.steps ++ []), records-append is [], records-append [] s.steps)
-    go (Open is) Begun (Some s) (Some t) = omega (arith, records-append is s.steps, records-append [] t.steps, records-append is [], records-append s.steps [], records-append (is ++ []) t.steps, records-append is (s.steps ++ []), records-append is t.steps, records-append [] s.steps)
-    go (Ended is x) (Open js) None None = omega (arith, records-append is [], records-append js [], records-append is js, records-append [] js, records-append (is ++ js) [], records-append is ([] ++ js), records-append is [], records-append js [])
-    go (Ended is x) (Open js) None (Some t) = omega (arith, records-append is [], records-append js t.steps, records-append is js, records-append [] js, records-append (is ++ js) t.steps, records-append is ([] ++ js), records-append is t.steps, records-append js [])
-    go (Ended is x) (Open js) (Some s) None = omega (arith, records-append is s.steps, records-append js [], records-append is js, records-append s.steps js, records-append (is ++ js) [], records-append is (s.steps ++ js), records-append is [], records-append js s.steps)
-    go (Ended is x) (Open js) (Some s) (Some t) = omega (arith, records-append is s.steps, records-append js t.steps, records-append is js, records-append s.steps js, records-append (is ++ js) t.steps, records-append is (s.steps ++ js), records-append is t.steps, records-append js s.steps)
-    go (Ended is x) (Ended js y) None None = omega (arith, records-append is [], records-append js [], records-append is js, records-append [] js, records-append (is ++ js) [], records-append is ([] ++ js), records-append is [], records-append js [])
-    go (Ended is x) (Ended js y) None (Some t) = omega (arith, records-append is [], records-append js t.steps, records-append is js, records-append [] js, records-append (is ++ js) t.steps, records-append is ([] ++ js), records-append is t.steps, records-append js [])
-    go (Ended is x) (Ended js y) (Some s) None = omega (arith, records-append is s.steps, records-append js [], records-append is js, records-append s.steps js, records-append (is ++ js) [], records-append is (s.steps ++ js), records-append is [], records-append js s.steps)
-    go (Ended is x) (Ended js y) (Some s) (Some t) = omega (arith, records-append is s.steps, records-append js t.steps, records-append is js, records-append s.steps js, records-append (is ++ js) t.steps, records-append is (s.steps ++ js), records-append is t.steps, records-append js s.steps)
-    go (Ended is x) Begun None None = omega (arith, records-append is [], records-append [] [], records-append is [], records-append [] [], records-append (is ++ []) [], records-append is ([] ++ []), records-append is [], records-append [] [])
-    go (Ended is x) Begun None (Some t) = omega (arith, records-append is [], records-append [] t.steps, records-append is [], records-append [] [], records-append (is ++ []) t.steps, records-append is ([] ++ []), records-append is t.steps, records-append [] [])
-    go (Ended is x) Begun (Some s) None = omega (arith, records-append is s.steps, records-append [] [], records-append is [], records-append s.steps [], records-append (is ++ []) [], records-append is (s.steps ++ []), records-append is [], records-append [] s.steps)
-    go (Ended is x) Begun (Some s) (Some t) = omega (arith, records-append is s.steps, records-append [] t.steps, records-append is [], records-append s.steps [], records-append (is ++ []) t.steps, records-append is (s.steps ++ []), records-append is t.steps, records-append [] s.steps)
+    go (Open is) Begun None (Some t) = omega (
+      arith,
+      records-append is [],
+      records-append [] t.steps,
+      records-append is [],
+      records-append [] [],
+      records-append (is ++ []) t.steps,
+      records-append is ([] ++ []),
+      records-append is t.steps,
+      records-append [] [],
+    )
+    go (Open is) Begun (Some s) None = omega (
+      arith,
+      records-append is s.steps,
+      records-append [] [],
+      records-append is [],
+      records-append s.steps [],
+      records-append (is ++ []) [],
+      records-append is (s.steps ++ []),
+      records-append is [],
+      records-append [] s.steps,
+    )
+    go (Open is) Begun (Some s) (Some t) = omega (
+      arith,
+      records-append is s.steps,
+      records-append [] t.steps,
+      records-append is [],
+      records-append s.steps [],
+      records-append (is ++ []) t.steps,
+      records-append is (s.steps ++ []),
+      records-append is t.steps,
+      records-append [] s.steps,
+    )
+    go (Ended is x) (Open js) None None = omega (
+      arith,
+      records-append is [],
+      records-append js [],
+      records-append is js,
+      records-append [] js,
+      records-append (is ++ js) [],
+      records-append is ([] ++ js),
+      records-append is [],
+      records-append js [],
+    )
+    go (Ended is x) (Open js) None (Some t) = omega (
+      arith,
+      records-append is [],
+      records-append js t.steps,
+      records-append is js,
+      records-append [] js,
+      records-append (is ++ js) t.steps,
+      records-append is ([] ++ js),
+      records-append is t.steps,
+      records-append js [],
+    )
+    go (Ended is x) (Open js) (Some s) None = omega (
+      arith,
+      records-append is s.steps,
+      records-append js [],
+      records-append is js,
+      records-append s.steps js,
+      records-append (is ++ js) [],
+      records-append is (s.steps ++ js),
+      records-append is [],
+      records-append js s.steps,
+    )
+    go (Ended is x) (Open js) (Some s) (Some t) = omega (
+      arith,
+      records-append is s.steps,
+      records-append js t.steps,
+      records-append is js,
+      records-append s.steps js,
+      records-append (is ++ js) t.steps,
+      records-append is (s.steps ++ js),
+      records-append is t.steps,
+      records-append js s.steps,
+    )
+    go (Ended is x) (Ended js y) None None = omega (
+      arith,
+      records-append is [],
+      records-append js [],
+      records-append is js,
+      records-append [] js,
+      records-append (is ++ js) [],
+      records-append is ([] ++ js),
+      records-append is [],
+      records-append js [],
+    )
+    go (Ended is x) (Ended js y) None (Some t) = omega (
+      arith,
+      records-append is [],
+      records-append js t.steps,
+      records-append is js,
+      records-append [] js,
+      records-append (is ++ js) t.steps,
+      records-append is ([] ++ js),
+      records-append is t.steps,
+      records-append js [],
+    )
+    go (Ended is x) (Ended js y) (Some s) None = omega (
+      arith,
+      records-append is s.steps,
+      records-append js [],
+      records-append is js,
+      records-append s.steps js,
+      records-append (is ++ js) [],
+      records-append is (s.steps ++ js),
+      records-append is [],
+      records-append js s.steps,
+    )
+    go (Ended is x) (Ended js y) (Some s) (Some t) = omega (
+      arith,
+      records-append is s.steps,
+      records-append js t.steps,
+      records-append is js,
+      records-append s.steps js,
+      records-append (is ++ js) t.steps,
+      records-append is (s.steps ++ js),
+      records-append is t.steps,
+      records-append js s.steps,
+    )
+    go (Ended is x) Begun None None = omega (
+      arith,
+      records-append is [],
+      records-append [] [],
+      records-append is [],
+      records-append [] [],
+      records-append (is ++ []) [],
+      records-append is ([] ++ []),
+      records-append is [],
+      records-append [] [],
+    )
+    go (Ended is x) Begun None (Some t) = omega (
+      arith,
+      records-append is [],
+      records-append [] t.steps,
+      records-append is [],
+      records-append [] [],
+      records-append (is ++ []) t.steps,
+      records-append is ([] ++ []),
+      records-append is t.steps,
+      records-append [] [],
+    )
+    go (Ended is x) Begun (Some s) None = omega (
+      arith,
+      records-append is s.steps,
+      records-append [] [],
+      records-append is [],
+      records-append s.steps [],
+      records-append (is ++ []) [],
+      records-append is (s.steps ++ []),
+      records-append is [],
+      records-append [] s.steps,
+    )
+    go (Ended is x) Begun (Some s) (Some t) = omega (
+      arith,
+      records-append is s.steps,
+      records-append [] t.steps,
+      records-append is [],
+      records-append s.steps [],
+      records-append (is ++ []) t.steps,
+      records-append is (s.steps ++ []),
+      records-append is t.steps,
+      records-append [] s.steps,
+    )
     go Begun (Open js) None None = omega (arith, records-append [] [], records-append js [], records-append [] js, records-append [] js, records-append ([] ++ js) [], records-append [] ([] ++ js), records-append [] [], records-append js [])
-    go Begun (Open js) None (Some t) = omega (arith, records-append [] [], records-append js t.steps, records-append [] js, records-append [] js, records-append ([] ++ js) t.steps, records-append [] ([] ++ js), records-append [] t.steps, records-append js [])
-    go Begun (Open js) (Some s) None = omega (arith, records-append [] s.steps, records-append js [], records-append [] js, records-append s.steps js, records-append ([] ++ js) [], records-append [] (s.steps ++ js), records-append [] [], records-append js s.steps)
-    go Begun (Open js) (Some s) (Some t) = omega (arith, records-append [] s.steps, records-append js t.steps, records-append [] js, records-append s.steps js, records-append ([] ++ js) t.steps, records-append [] (s.steps ++ js), records-append [] t.steps, records-append js s.steps)
-    go Begun (Ended js y) None None = omega (arith, records-append [] [], records-append js [], records-append [] js, records-append [] js, records-append ([] ++ js) [], records-append [] ([] ++ js), records-append [] [], records-append js [])
-    go Begun (Ended js y) None (Some t) = omega (arith, records-append [] [], records-append js t.steps, records-append [] js, records-append [] js, records-append ([] ++ js) t.steps, records-append [] ([] ++ js), records-append [] t.steps, records-append js [])
-    go Begun (Ended js y) (Some s) None = omega (arith, records-append [] s.steps, records-append js [], records-append [] js, records-append s.steps js, records-append ([] ++ js) [], records-append [] (s.steps ++ js), records-append [] [], records-append js s.steps)
-    go Begun (Ended js y) (Some s) (Some t) = omega (arith, records-append [] s.steps, records-append js t.steps, records-append [] js, records-append s.steps js, records-append ([] ++ js) t.steps, records-append [] (s.steps ++ js), records-append [] t.steps, records-append js s.steps)
+    go Begun (Open js) None (Some t) = omega (
+      arith,
+      records-append [] [],
+      records-append js t.steps,
+      records-append [] js,
+      records-append [] js,
+      records-append ([] ++ js) t.steps,
+      records-append [] ([] ++ js),
+      records-append [] t.steps,
+      records-append js [],
+    )
+    go Begun (Open js) (Some s) None = omega (
+      arith,
+      records-append [] s.steps,
+      records-append js [],
+      records-append [] js,
+      records-append s.steps js,
+      records-append ([] ++ js) [],
+      records-append [] (s.steps ++ js),
+      records-append [] [],
+      records-append js s.steps,
+    )
+    go Begun (Open js) (Some s) (Some t) = omega (
+      arith,
+      records-append [] s.steps,
+      records-append js t.steps,
+      records-append [] js,
+      records-append s.steps js,
+      records-append ([] ++ js) t.steps,
+      records-append [] (s.steps ++ js),
+      records-append [] t.steps,
+      records-append js s.steps,
+    )
+    go Begun (Ended js y) None None = omega (
+      arith,
+      records-append [] [],
+      records-append js [],
+      records-append [] js,
+      records-append [] js,
+      records-append ([] ++ js) [],
+      records-append [] ([] ++ js),
+      records-append [] [],
+      records-append js [],
+    )
+    go Begun (Ended js y) None (Some t) = omega (
+      arith,
+      records-append [] [],
+      records-append js t.steps,
+      records-append [] js,
+      records-append [] js,
+      records-append ([] ++ js) t.steps,
+      records-append [] ([] ++ js),
+      records-append [] t.steps,
+      records-append js [],
+    )
+    go Begun (Ended js y) (Some s) None = omega (
+      arith,
+      records-append [] s.steps,
+      records-append js [],
+      records-append [] js,
+      records-append s.steps js,
+      records-append ([] ++ js) [],
+      records-append [] (s.steps ++ js),
+      records-append [] [],
+      records-append js s.steps,
+    )
+    go Begun (Ended js y) (Some s) (Some t) = omega (
+      arith,
+      records-append [] s.steps,
+      records-append js t.steps,
+      records-append [] js,
+      records-append s.steps js,
+      records-append ([] ++ js) t.steps,
+      records-append [] (s.steps ++ js),
+      records-append [] t.steps,
+      records-append js s.steps,
+    )
     go Begun Begun None None = omega (arith, records-append [] [], records-append [] [], records-append [] [], records-append [] [], records-append ([] ++ []) [], records-append [] ([] ++ []), records-append [] [], records-append [] [])
-    go Begun Begun None (Some t) = omega (arith, records-append [] [], records-append [] t.steps, records-append [] [], records-append [] [], records-append ([] ++ []) t.steps, records-append [] ([] ++ []), records-append [] t.steps, records-append [] [])
-    go Begun Begun (Some s) None = omega (arith, records-append [] s.steps, records-append [] [], records-append [] [], records-append s.steps [], records-append ([] ++ []) [], records-append [] (s.steps ++ []), records-append [] [], records-append [] s.steps)
-    go Begun Begun (Some s) (Some t) = omega (arith, records-append [] s.steps, records-append [] t.steps, records-append [] [], records-append s.steps [], records-append ([] ++ []) t.steps, records-append [] (s.steps ++ []), records-append [] t.steps, records-append [] s.steps)
+    go Begun Begun None (Some t) = omega (
+      arith,
+      records-append [] [],
+      records-append [] t.steps,
+      records-append [] [],
+      records-append [] [],
+      records-append ([] ++ []) t.steps,
+      records-append [] ([] ++ []),
+      records-append [] t.steps,
+      records-append [] [],
+    )
+    go Begun Begun (Some s) None = omega (
+      arith,
+      records-append [] s.steps,
+      records-append [] [],
+      records-append [] [],
+      records-append s.steps [],
+      records-append ([] ++ []) [],
+      records-append [] (s.steps ++ []),
+      records-append [] [],
+      records-append [] s.steps,
+    )
+    go Begun Begun (Some s) (Some t) = omega (
+      arith,
+      records-append [] s.steps,
+      records-append [] t.steps,
+      records-append [] [],
+      records-append s.steps [],
+      records-append ([] ++ []) t.steps,
+      records-append [] (s.steps ++ []),
+      records-append [] t.steps,
+      records-append [] s.steps,
+    )
 
 pub waiting_known : (m : WaitingGroups) (k : ℕ) → found weight (finite.get m k) ≡ weight (known_of m k)
 waiting_known m k = go (finite.get m k)
@@ -72,7 +405,9 @@ waiting_known m k = go (finite.get m k)
 
 known_other : (m : WaitingGroups) (k : ℕ) (x : WaitingGroup) (es : List (ℕ × WaitingGroup)) → AllByRecursion (λ y. eqb k y ≡ false) (map (λ (e : ℕ × WaitingGroup). e.0) es) → whole_with (finite.insert m k x) es ≡ whole_with m es
 known_other m k x [] h = refl
-known_other m k x (e ∷ es) h = ap (λ o. cons_option (whole_group o e.1) (whole_with (finite.insert m k x) es)) (ap (λ o. unwrap_or o without_marker) (get_other m k e.0 x (tied e.0 k ∙ flip e.0 k h.0))) ∙ ap (cons_option (whole_group (known_of m e.0) e.1)) (known_other m k x es h.1)
+known_other m k x (e ∷ es) h = ap (λ o. cons_option (whole_group o e.1) (whole_with (finite.insert m k x) es))
+    (ap (λ o. unwrap_or o without_marker) (get_other m k e.0 x (tied e.0 k ∙ flip e.0 k h.0)))
+    ∙ ap (cons_option (whole_group (known_of m e.0) e.1)) (known_other m k x es h.1)
   where
     flip : (a b : ℕ) → eqb b a ≡ false → eqb a b ≡ false
     flip a b e = grind (arith, nat_tests)
@@ -81,12 +416,21 @@ wholes-cons : (o : Option WholeGroup) (ws : List WholeGroup) → records_in_whol
 wholes-cons None ws = omega arith
 wholes-cons (Some w) ws = refl
 
-joined_waiting : (m : WaitingGroups) (es : List (ℕ × WaitingGroup)) → IsDistinct eqb (map (λ (e : ℕ × WaitingGroup). e.0) es) → waiting_records (joined_with m es) + records_in_wholes (whole_with m es) ≤ waiting_records m + total_of weight es
+joined_waiting : (m : WaitingGroups) (es : List (ℕ × WaitingGroup)) → IsDistinct eqb (map (λ (e : ℕ × WaitingGroup). e.0) es) →
+    waiting_records (joined_with m es) + records_in_wholes (whole_with m es) ≤ waiting_records m + total_of weight es
 unfolding IsDistinct
 joined_waiting m [] one = omega arith
 joined_waiting m (e ∷ es) one =
     let x : WaitingGroup = joined_group (known_of m e.0) e.1 in
-    omega (arith, joined_waiting (finite.insert m e.0 x) es one.1, ap records_in_wholes (known_other m e.0 x es one.0), wholes-cons (whole_group (known_of m e.0) e.1) (whole_with m es), total-insert weight m e.0 x, waiting_known m e.0, joined_weight (known_of m e.0) e.1)
+    omega (
+      arith,
+      joined_waiting (finite.insert m e.0 x) es one.1,
+      ap records_in_wholes (known_other m e.0 x es one.0),
+      wholes-cons (whole_group (known_of m e.0) e.1) (whole_with m es),
+      total-insert weight m e.0 x,
+      waiting_known m e.0,
+      joined_weight (known_of m e.0) e.1,
+    )
 
 -- a context's bound wants this: what waits after a merge, and what becomes whole there, waited before
 pub merged_waiting : (a b : WaitingGroups) → waiting_records (joined_groups a b) + records_in_wholes (whole_groups a b) ≤ waiting_records a + waiting_records b

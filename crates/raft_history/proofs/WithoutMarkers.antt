@@ -39,7 +39,9 @@ pub unnamed_steps : (r : ℕ) (es : List Effect) → list_any (λ e. names r (re
 unnamed_steps r [] h = refl
 unnamed_steps r (e ∷ es) h = go (names r (region_steps_in e)) refl h (unnamed_steps r es)
   where
-    go : (b : Bool) → names r (region_steps_in e) ≡ b → (b || list_any (λ e. names r (region_steps_in e)) es) ≡ false → (list_any (λ e. names r (region_steps_in e)) es ≡ false → flat_map (steps_in r) es ≡ []) → steps_by r e.earlier e.last ++ flat_map (steps_in r) es ≡ []
+    go : (b : Bool) → names r (region_steps_in e) ≡ b → (b || list_any (λ e. names r (region_steps_in e)) es) ≡ false →
+        (list_any (λ e. names r (region_steps_in e)) es ≡ false → flat_map (steps_in r) es ≡ []) →
+        steps_by r e.earlier e.last ++ flat_map (steps_in r) es ≡ []
     go true k h ih = cc
     go false k h ih = rw (steps_in-none r e k) (ih h)
 

@@ -1,7 +1,7 @@
 //! The files of an engine that others keep.
 
 ghost use Rattle.raft_base.specs.declared.pipe_log.LogQueue.TheVariants.{Append, Rewrite};
-ghost use Rattle.std.specs.Prelude.{◌≡◌, ◌+◌, List, [], ◌∷◌, length, map, option_map, IfErr, IfNone, IfOk, IfSome, None, OnErr, OnOk};
+ghost use Rattle.std.specs.Prelude.{◌≡◌, ◌+◌, [], ◌∷◌, length, map, option_map, IfErr, IfNone, IfOk, IfSome, None, OnErr, OnOk};
 ghost use Rattle.raft_files.specs.Asks.{Begin, Cut, Delete, Found, Put, Read, Sync, ask};
 ghost use Rattle.raft_files.specs.HeldFiles.{file_shown};
 ghost use Rattle.raft_orders.specs.Orders.{IsOrder, ask_of, next_to_do};

@@ -51,11 +51,21 @@ pub size_push : (xs : List Item) (x : Item) → items_size (xs ++ x ∷ []) ≡ 
 size_push [] x = omega arith
 size_push (y ∷ ys) x = omega (arith, size_push ys x)
 
-pub kept_push : (xs : List Item) (x : Item) (size entry_bytes size' : ℕ) (checksum : Option ℕ) → IsKeptBeside xs size entry_bytes checksum → FitsBehind (end_of_items 0 xs) x.content → IsInRange x → IsInBytes x.content → size' ≡ at_most_usize (size + at_most_usize (item_size x)) → IsKeptBeside (xs ++ x ∷ []) size' (behind_item (end_of_items 0 xs) x) None
+pub kept_push : (xs : List Item) (x : Item) (size entry_bytes size' : ℕ) (checksum : Option ℕ) → IsKeptBeside xs size entry_bytes checksum →
+    FitsBehind (end_of_items 0 xs) x.content → IsInRange x → IsInBytes x.content → size' ≡ at_most_usize (size + at_most_usize (item_size x)) →
+    IsKeptBeside (xs ++ x ∷ []) size' (behind_item (end_of_items 0 xs) x) None
 kept_push xs x size entry_bytes size' checksum k f r b e =
     let before : size ≡ at_most_usize (items_size xs) = k.size in
     let pushed : items_size (xs ++ x ∷ []) ≡ items_size xs + item_size x = size_push xs x in
-    record { fit = fit_push 0 xs x k.fit f; in_range = range_append xs (x ∷ []) k.in_range (r, tt); in_bytes = in_bytes_append xs (x ∷ []) k.in_bytes (b, tt); entry_bytes = sym (end_push 0 xs x); size = omega arith; checksum = λ crc some. absurd cc }
+    record {
+      fit = fit_push 0 xs x k.fit f;
+      in_range = range_append xs (x ∷ []) k.in_range (r, tt);
+      in_bytes = in_bytes_append xs (x ∷ []) k.in_bytes
+          (b, tt);
+      entry_bytes = sym (end_push 0 xs x);
+      size = omega arith;
+      checksum = λ crc some. absurd cc;
+    }
 
 -- ---- places
 
@@ -133,7 +143,8 @@ end_of_placed handle c s [] = refl
 end_of_placed handle c s (x ∷ xs) = ap (λ (t : ℕ). end_of_items t (map (placed_item handle c) xs)) (behind_placed handle c s x) ∙ end_of_placed handle c (behind_item s x) xs
 
 -- one more item behind those that were read
-pub one_more_item : (bytes mid rest : List ℕ) (xs : List Item) (x : Item) (s : ℕ) → Reads (IsSequence behind_item IsItem 0) bytes mid xs → s ≡ end_of_items 0 xs → Reads (IsItem s) mid rest x → Reads (IsSequence behind_item IsItem 0) bytes rest (xs ++ x ∷ [])
+pub one_more_item : (bytes mid rest : List ℕ) (xs : List Item) (x : Item) (s : ℕ) → Reads (IsSequence behind_item IsItem 0) bytes mid xs →
+    s ≡ end_of_items 0 xs → Reads (IsItem s) mid rest x → Reads (IsSequence behind_item IsItem 0) bytes rest (xs ++ x ∷ [])
 one_more_item bytes mid rest xs x s r e q =
     reads_more behind_item IsItem 0 xs x r (subst (λ (t : ℕ). Reads (IsItem t) mid rest x) (e ∙ end_is_state 0 xs) q)
 
@@ -143,7 +154,8 @@ no_more_items bytes mid xs s count r e lt none front rest ys a split =
     let len : length ys ≡ count = a.count in
     stuck behind_item IsItem item_one_front 0 xs ys r here front rest a.spelled split (omega arith)
 
-pub item_fault : (bytes mid : List ℕ) (xs : List Item) (s count more : ℕ) (fault : Error) → Reads (IsSequence behind_item IsItem 0) bytes mid xs → s ≡ end_of_items 0 xs → count ≡ length xs + suc more → IsItemFault s mid fault → AreItemsFault count bytes fault
+pub item_fault : (bytes mid : List ℕ) (xs : List Item) (s count more : ℕ) (fault : Error) → Reads (IsSequence behind_item IsItem 0) bytes mid xs →
+    s ≡ end_of_items 0 xs → count ≡ length xs + suc more → IsItemFault s mid fault → AreItemsFault count bytes fault
 item_fault bytes mid xs s count more fault r e c f =
     inr (fault_after behind_item IsItem IsItemFault 0 xs count (suc more) fault c r (inl (subst (λ (t : ℕ). IsItemFault t mid fault) (e ∙ end_is_state 0 xs) f)))
 
@@ -181,7 +193,8 @@ pub no_items_count : (signature : Option ℕ) (bytes content : List ℕ) → Has
 no_items_count signature bytes content s none xs rest b =
     no_first IsVarint AreItems none b.front rest (length xs) xs b.counted (batch_content signature bytes content rest xs s b)
 
-pub no_items : (signature : Option ℕ) (n : ℕ) (bytes content mid : List ℕ) → HasSeal signature bytes content → Reads IsVarint content mid n → HasNoFront (AreItems n) mid → (xs : List Item) (rest : List ℕ) → IsItemBatch bytes signature xs rest → ⊥
+pub no_items : (signature : Option ℕ) (n : ℕ) (bytes content mid : List ℕ) → HasSeal signature bytes content → Reads IsVarint content mid n →
+    HasNoFront (AreItems n) mid → (xs : List Item) (rest : List ℕ) → IsItemBatch bytes signature xs rest → ⊥
 no_items signature n bytes content mid s r none xs rest b =
     no_second IsVarint AreItems varint_one_front r none b.front rest (length xs) xs b.counted (batch_content signature bytes content rest xs s b)
 
@@ -219,7 +232,9 @@ seen_at g ys i x at = ap g at ∙ sym (get_or-map' g ys i x)
     get_or-map' g (y ∷ ys) (suc i) d = get_or-map' g ys i d
 
 -- the step of a loop that changes each value, as a view of it says
-pub map_view_more : {X Y : Type 0} (g : X → Y) (f : Y → Y) (xs : List Y) (ys : List X) (i : ℕ) (old new : X) → i < length ys → length xs ≡ length ys → map g ys ≡ map f (take i xs) ++ drop i xs → old ≡ get_or ys i old → g new ≡ f (g old) → map g (set ys i new) ≡ map f (take (i + 1) xs) ++ drop (i + 1) xs
+pub map_view_more : {X Y : Type 0} (g : X → Y) (f : Y → Y) (xs : List Y) (ys : List X) (i : ℕ) (old new : X) → i < length ys → length xs ≡ length ys →
+    map g ys ≡ map f (take i xs) ++ drop i xs → old ≡ get_or ys i old → g new ≡ f (g old) →
+    map g (set ys i new) ≡ map f (take (i + 1) xs) ++ drop (i + 1) xs
 map_view_more {X} {Y} g f xs ys i old new lt len e at step =
     let seen : g old ≡ get_or (map g ys) i (g old) = seen_at g ys i old at in
     map-set' g ys i new ∙ ap (λ (v : Y). set (map g ys) i v) step ∙ map_over_more f xs (map g ys) i (g old) (omega arith) e seen
@@ -309,5 +324,8 @@ one_file bytes rest rest' s t xs ys sf tf b d =
     let is = content_is (Some t) bytes content (d.front ++ rest') (checksum_bytes (Some s) content) b.split (four (signed_crc (Some s) (crc32_of content))) (batch_sealed (Some t) bytes rest' ys d) in
     let crcs : crc32_of (d.front ++ rest') ≡ crc32_of content = ap crc32_of is.0 in
     let seals : little_bytes 4 (bit_xor (crc32_of content) t) ≡ little_bytes 4 (bit_xor (crc32_of content) s) = ap (λ (n : ℕ). little_bytes 4 (bit_xor n t)) (sym crcs) ∙ is.1 in
-    let numbers = (IsReadAgain-little_bytes 4).one_front (little_bytes 4 (bit_xor (crc32_of content) t)) (little_bytes 4 (bit_xor (crc32_of content) s)) [] [] (bit_xor (crc32_of content) t) (bit_xor (crc32_of content) s) (record { in_range = xor_of_32 (crc32_of content) t (crc_fits content) tf; written = refl }) (record { in_range = xor_of_32 (crc32_of content) s (crc_fits content) sf; written = refl }) (ap (λ (x : List ℕ). x ++ []) seals) in
+    let numbers = (IsReadAgain-little_bytes 4).one_front (little_bytes 4 (bit_xor (crc32_of content) t))
+    (little_bytes 4 (bit_xor (crc32_of content) s)) [] [] (bit_xor (crc32_of content) t) (bit_xor (crc32_of content) s)
+    (record { in_range = xor_of_32 (crc32_of content) t (crc_fits content) tf; written = refl })
+    (record { in_range = xor_of_32 (crc32_of content) s (crc_fits content) sf; written = refl }) (ap (λ (x : List ℕ). x ++ []) seals) in
     signed_one (crc32_of content) s t (sym numbers.1)

@@ -37,8 +37,12 @@ entries_behind len n items es seal buf counted split =
     let header = header_bytes (item_offset es) compressions.None len in
     let begins = block_begins es in
     let whole : buf ≡ header ++ (es ++ (begins.0 ++ (item_batch_bytes items ++ seal))) =
-    split ∙ append_assoc header (entry_block es ++ item_batch_bytes items) seal ∙ ap (λ (t : List ℕ). header ++ t) (append_assoc (entry_block es) (item_batch_bytes items) seal ∙ ap (λ (t : List ℕ). t ++ (item_batch_bytes items ++ seal)) begins.1 ∙ append_assoc es begins.0 (item_batch_bytes items ++ seal)) in
-    ap (λ (t : List ℕ). take n (drop 16 t)) whole ∙ ap (take n) (drop_at header (es ++ (begins.0 ++ (item_batch_bytes items ++ seal))) 16 (header_len (item_offset es) compressions.None len)) ∙ take_at es (begins.0 ++ (item_batch_bytes items ++ seal)) n counted
+    split ∙ append_assoc header (entry_block es ++ item_batch_bytes items) seal
+    ∙ ap (λ (t : List ℕ). header ++ t) (append_assoc (entry_block es) (item_batch_bytes items) seal
+    ∙ ap (λ (t : List ℕ). t ++ (item_batch_bytes items ++ seal)) begins.1 ∙ append_assoc es begins.0 (item_batch_bytes items ++ seal)) in
+    ap (λ (t : List ℕ). take n (drop 16 t)) whole
+    ∙ ap (take n) (drop_at header (es ++ (begins.0 ++ (item_batch_bytes items ++ seal))) 16 (header_len (item_offset es) compressions.None len))
+    ∙ take_at es (begins.0 ++ (item_batch_bytes items ++ seal)) n counted
 
 -- while items may be added all bytes behind the header are entry bytes
 pub open_entries : (n : ℕ) (buf : List ℕ) → length buf - 16 ≡ n → take n (drop 16 buf) ≡ drop 16 buf
@@ -83,7 +87,9 @@ unsealed_at (sealed s) [] es buf ne some h = absurd (some refl)
 unsealed_at (sealed s) (x ∷ xs) es buf ne some h = record { seal = checksum_bytes s (item_batch_bytes (x ∷ xs)); four = checksum_len s (item_batch_bytes (x ∷ xs)); split = h }
 
 -- the item batch begins at its offset
-unsealed_parts : (items : List Item) (es buf : List ℕ) (offset : ℕ) → (u : IsUnsealed items es buf) → offset ≡ item_offset es → (front : List ℕ) × (length front ≡ offset) × (buf ≡ front ++ (item_batch_bytes items ++ u.seal)) × (unsealed_bytes (encoded_length items es) items es ≡ front ++ item_batch_bytes items)
+unsealed_parts : (items : List Item) (es buf : List ℕ) (offset : ℕ) → (u : IsUnsealed items es buf) → offset ≡ item_offset es →
+    (front : List ℕ) × (length front ≡ offset) × (buf ≡ front ++ (item_batch_bytes items ++ u.seal)) ×
+    (unsealed_bytes (encoded_length items es) items es ≡ front ++ item_batch_bytes items)
 unsealed_parts items es buf offset u at =
     let header = header_bytes (item_offset es) compressions.None (encoded_length items es) in
     let front : unsealed_bytes (encoded_length items es) items es ≡ (header ++ entry_block es) ++ item_batch_bytes items = sym (append_assoc header (entry_block es) (item_batch_bytes items)) in (
@@ -104,7 +110,9 @@ offset_within items es buf offset u at =
     omega (arith, p.1, ap length p.2, length-append p.0 (item_batch_bytes items ++ u.seal))
 
 -- the checksum stands in its place
-pub sealed_at : (signature : Option ℕ) (items : List Item) (es buf new : List ℕ) (offset : ℕ) → items ≢ [] → IsUnsealed items es buf → offset ≡ item_offset es → new ≡ take offset buf ++ (item_batch_bytes items ++ checksum_bytes signature (item_batch_bytes items)) → new ≡ log_batch_bytes signature items es
+pub sealed_at : (signature : Option ℕ) (items : List Item) (es buf new : List ℕ) (offset : ℕ) → items ≢ [] → IsUnsealed items es buf →
+    offset ≡ item_offset es → new ≡ take offset buf ++ (item_batch_bytes items ++ checksum_bytes signature (item_batch_bytes items)) →
+    new ≡ log_batch_bytes signature items es
 sealed_at signature [] es buf new offset some u at written = absurd (some refl)
 sealed_at signature (x ∷ xs) es buf new offset some u at written =
     let items = x ∷ xs in
@@ -118,7 +126,8 @@ sealed_entries signature [] es buf some counted h = absurd (some refl)
 sealed_entries signature (x ∷ xs) es buf some counted h =
     entries_behind (encoded_length (x ∷ xs) es) (entry_bytes_of (x ∷ xs)) (x ∷ xs) es (checksum_bytes signature (item_batch_bytes (x ∷ xs))) buf counted h
 
-pub held_sealed : (signature : Option ℕ) (items : List Item) (es buf : List ℕ) → items ≢ [] → length es ≡ entry_bytes_of items → length es < 2 ^ 31 → buf ≡ log_batch_bytes signature items es → length buf < 2 ^ 56 → IsHeld (sealed signature) items (entry_bytes_in items buf) buf
+pub held_sealed : (signature : Option ℕ) (items : List Item) (es buf : List ℕ) → items ≢ [] → length es ≡ entry_bytes_of items → length es < 2 ^ 31 →
+    buf ≡ log_batch_bytes signature items es → length buf < 2 ^ 56 → IsHeld (sealed signature) items (entry_bytes_in items buf) buf
 held_sealed signature items es buf some counted lt h short =
     let same = sealed_entries signature items es buf some counted h in
     record { whole = ap length same ∙ counted; fits = omega (arith, ap length same, lt); held = h ∙ ap (log_batch_bytes signature items) (sym same); short = short }
@@ -138,24 +147,34 @@ behind_keeps old closed new more e f =
     let k = closed_keeps old closed e in
     record { behind = k.behind ++ more; split = f ∙ ap (λ (t : List ℕ). t ++ more) k.split ∙ append_assoc old k.behind more }
 
-pub length_is : (items : List Item) (old closed whole : List ℕ) → items ≢ [] → 16 ≤ length old → closed ≡ take 16 old ++ entry_block (drop 16 old) → whole ≡ closed ++ (item_batch_bytes items ++ no_checksum) → (length closed ≡ item_offset (drop 16 old)) × (length whole ≡ encoded_length items (drop 16 old))
+pub length_is : (items : List Item) (old closed whole : List ℕ) → items ≢ [] → 16 ≤ length old → closed ≡ take 16 old ++ entry_block (drop 16 old) →
+    whole ≡ closed ++ (item_batch_bytes items ++ no_checksum) →
+    (length closed ≡ item_offset (drop 16 old)) × (length whole ≡ encoded_length items (drop 16 old))
 length_is [] old closed whole some room e f = absurd (some refl)
 length_is (x ∷ xs) old closed whole some room e f =
     let offset : length closed ≡ item_offset (drop 16 old) = omega (arith, ap length e, length-append (take 16 old) (entry_block (drop 16 old)), length-take-le 16 old room) in
     (offset, omega (arith, offset, ap length f, length-append closed (item_batch_bytes (x ∷ xs) ++ no_checksum), length-append (item_batch_bytes (x ∷ xs)) no_checksum))
 
-pub encoded_unsealed : (items : List Item) (old closed whole new : List ℕ) (offset len : ℕ) → items ≢ [] → 16 ≤ length old → closed ≡ take 16 old ++ entry_block (drop 16 old) → whole ≡ closed ++ (item_batch_bytes items ++ no_checksum) → offset ≡ length closed → len ≡ length whole → new ≡ header_bytes offset compressions.None len ++ drop 16 whole → IsUnsealed items (drop 16 old) new
+pub encoded_unsealed : (items : List Item) (old closed whole new : List ℕ) (offset len : ℕ) → items ≢ [] → 16 ≤ length old →
+    closed ≡ take 16 old ++ entry_block (drop 16 old) → whole ≡ closed ++ (item_batch_bytes items ++ no_checksum) → offset ≡ length closed →
+    len ≡ length whole → new ≡ header_bytes offset compressions.None len ++ drop 16 whole → IsUnsealed items (drop 16 old) new
 encoded_unsealed items old closed whole new offset len some room e f at size written =
     let es = drop 16 old in
     let says = length_is items old closed whole some room e f in
-    let header : header_bytes offset compressions.None len ≡ header_bytes (item_offset es) compressions.None (encoded_length items es) = ap (λ (o : ℕ). header_bytes o compressions.None len) (at ∙ says.0) ∙ ap (header_bytes (item_offset es) compressions.None) (size ∙ says.1) in
-    let parts : whole ≡ take 16 old ++ (entry_block es ++ (item_batch_bytes items ++ no_checksum)) = f ∙ ap (λ (t : List ℕ). t ++ (item_batch_bytes items ++ no_checksum)) e ∙ append_assoc (take 16 old) (entry_block es) (item_batch_bytes items ++ no_checksum) in
+    let header : header_bytes offset compressions.None len ≡ header_bytes (item_offset es) compressions.None
+    (encoded_length items es) = ap (λ (o : ℕ). header_bytes o compressions.None len) (at ∙ says.0)
+    ∙ ap (header_bytes (item_offset es) compressions.None) (size ∙ says.1) in
+    let parts : whole ≡ take 16 old ++ (entry_block es ++ (item_batch_bytes items ++ no_checksum)) = f
+    ∙ ap (λ (t : List ℕ). t ++ (item_batch_bytes items ++ no_checksum)) e
+    ∙ append_assoc (take 16 old) (entry_block es) (item_batch_bytes items ++ no_checksum) in
     let behind : drop 16 whole ≡ entry_block es ++ (item_batch_bytes items ++ no_checksum) = ap (drop 16) parts ∙ drop_at (take 16 old) (entry_block es ++ (item_batch_bytes items ++ no_checksum)) 16 (length-take-le 16 old room) in
     let front = header_bytes (item_offset es) compressions.None (encoded_length items es) in
     record {
       seal = no_checksum;
       four = refl;
-      split = written ∙ ap (λ (t : List ℕ). t ++ drop 16 whole) header ∙ ap (λ (t : List ℕ). front ++ t) (behind ∙ sym (append_assoc (entry_block es) (item_batch_bytes items) no_checksum)) ∙ sym (append_assoc front (entry_block es ++ item_batch_bytes items) no_checksum);
+      split = written ∙ ap (λ (t : List ℕ). t ++ drop 16 whole) header
+          ∙ ap (λ (t : List ℕ). front ++ t) (behind ∙ sym (append_assoc (entry_block es) (item_batch_bytes items) no_checksum))
+          ∙ sym (append_assoc front (entry_block es ++ item_batch_bytes items) no_checksum);
     }
 
 -- a prefix that a refused encoding left, cut back

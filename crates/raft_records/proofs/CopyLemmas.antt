@@ -35,7 +35,9 @@ tail_of_block s first place (x ∷ y ∷ ys) zero d e t = absurd (omega (arith, 
 tail_of_block s first place (x ∷ y ∷ ys) (suc n) d e t = tail_of_block (s + x.1) (suc first) place (y ∷ ys) n d (omega (arith, e)) t.2
 
 -- the entry bytes of a content end where its spans end
-end_of_shown : (s : ℕ) (place : FileBlockHandle) (content : ReadContent) (own : List (ℕ × ℕ)) (end : ℕ) → spans_taken content ≡ length own → ((first : ℕ) (at : FileBlockHandle) → end ≡ end_behind s (entries_of_block first at own)) → end ≡ end_of_content s (content_shown place content own)
+end_of_shown : (s : ℕ) (place : FileBlockHandle) (content : ReadContent) (own : List (ℕ × ℕ)) (end : ℕ) → spans_taken content ≡ length own →
+    ((first : ℕ) (at : FileBlockHandle) → end ≡ end_behind s (entries_of_block first at own)) →
+    end ≡ end_of_content s (content_shown place content own)
 end_of_shown s place (contents.Run first count) own end taken is = is first place
 end_of_shown s place (contents.Command c) [] end taken is = is 0 place
 end_of_shown s place (contents.Put key value) [] end taken is = is 0 place
@@ -45,7 +47,8 @@ end_of_shown s place (contents.Put key value) (x ∷ xs) end taken is = absurd (
 end_of_shown s place (contents.Delete key) (x ∷ xs) end taken is = absurd (omega (arith, taken))
 
 -- the spans of a content tile its entry bytes
-pub spans_tile : (s : ℕ) (place : FileBlockHandle) (content : ReadContent) (own : List (ℕ × ℕ)) → spans_taken content ≡ length own → FitsBehind s (content_shown place content own) → (first : ℕ) × (at : FileBlockHandle) × Tile s (entries_of_block first at own)
+pub spans_tile : (s : ℕ) (place : FileBlockHandle) (content : ReadContent) (own : List (ℕ × ℕ)) → spans_taken content ≡ length own →
+    FitsBehind s (content_shown place content own) → (first : ℕ) × (at : FileBlockHandle) × Tile s (entries_of_block first at own)
 spans_tile s place (contents.Run first count) own taken fits = (first, place, fits.1)
 spans_tile s place (contents.Command c) [] taken fits = (0, place, tt)
 spans_tile s place (contents.Put key value) [] taken fits = (0, place, tt)
@@ -72,7 +75,9 @@ pub record IsNextItem (place : FileBlockHandle) (item : ReadItem) (own : List (�
 abbrev pub no_item : ReadItem
 no_item = record { region = 0; content = contents.Run 0 0 }
 
-pub next_item : (place : FileBlockHandle) (items : List ReadItem) (n : ℕ) (spans own : List (ℕ × ℕ)) (batch whole : List Item) (s k : ℕ) → n < length items → AreCopied place items n spans batch whole → own ≡ take k spans → k ≡ spans_taken (get_or items n no_item).content → s ≡ entry_bytes_of batch → IsNextItem place (get_or items n no_item) own s
+pub next_item : (place : FileBlockHandle) (items : List ReadItem) (n : ℕ) (spans own : List (ℕ × ℕ)) (batch whole : List Item) (s k : ℕ) →
+    n < length items → AreCopied place items n spans batch whole → own ≡ take k spans → k ≡ spans_taken (get_or items n no_item).content →
+    s ≡ entry_bytes_of batch → IsNextItem place (get_or items n no_item) own s
 next_item place items n spans own batch whole s k low so is k_is s_is =
     let item = get_or items n no_item in
     let split = drop-cons items n no_item low in
@@ -87,11 +92,16 @@ next_item place items n spans own batch whole s k low so is k_is s_is =
       in_file = subst (λ (xs : List (ℕ × ℕ)). IsDecodedIn place.id (content_shown place item.content xs)) front (shown_in_file place (entry_bytes_of batch) left spans fit).0;
     }
 
-pub copied_end : (place : FileBlockHandle) (item : ReadItem) (own : List (ℕ × ℕ)) (s t end : ℕ) (copy : Content) → IsNextItem place item own s → ((first : ℕ) (at : FileBlockHandle) → end ≡ end_behind s (entries_of_block first at own)) → s ≡ t → copy ≡ content_shown place item.content own → end ≡ end_of_content t copy
+pub copied_end : (place : FileBlockHandle) (item : ReadItem) (own : List (ℕ × ℕ)) (s t end : ℕ) (copy : Content) → IsNextItem place item own s →
+    ((first : ℕ) (at : FileBlockHandle) → end ≡ end_behind s (entries_of_block first at own)) → s ≡ t → copy ≡ content_shown place item.content own →
+    end ≡ end_of_content t copy
 copied_end place item own s t end copy next ends s_is copy_is =
     end_of_shown s place item.content own end next.taken ends ∙ ap (λ (k : ℕ). end_of_content k (content_shown place item.content own)) s_is ∙ ap (end_of_content t) (sym copy_is)
 
-pub one_more_copied : (place : FileBlockHandle) (items : List ReadItem) (n : ℕ) (spans own rest : List (ℕ × ℕ)) (batch new whole : List Item) (k : ℕ) → n < length items → AreCopied place items n spans batch whole → own ≡ take k spans → rest ≡ drop k spans → k ≡ spans_taken (get_or items n no_item).content → new ≡ batch ++ item_shown place (get_or items n no_item) own ∷ [] → AreCopied place items (n + 1) rest new whole
+pub one_more_copied : (place : FileBlockHandle) (items : List ReadItem) (n : ℕ) (spans own rest : List (ℕ × ℕ)) (batch new whole : List Item)
+    (k : ℕ) → n < length items → AreCopied place items n spans batch whole → own ≡ take k spans → rest ≡ drop k spans →
+    k ≡ spans_taken (get_or items n no_item).content → new ≡ batch ++ item_shown place (get_or items n no_item) own ∷ [] →
+    AreCopied place items (n + 1) rest new whole
 one_more_copied place items n spans own rest batch new whole m low so own_is rest_is m_is new_is =
     let item = get_or items n no_item in
     let k = spans_taken item.content in

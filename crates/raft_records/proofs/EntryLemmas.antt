@@ -15,7 +15,10 @@ use Rattle.raft_records.specs.Faults.{IsTailFault, IsTailsFault, IsEntriesFault}
 
 -- ---- one tail offset
 
-pub tail_read : (bytes rest : List ℕ) (index offset tail : ℕ) (e : EntryIndex) → index < 2 ^ 64 - 1 → offset ≤ tail → tail < 2 ^ 32 → Reads IsVarint bytes rest tail → e ≡ record { index = index; entries = None; compression_type = compressions.None; entry_offset = offset; entry_len = tail - offset } → Reads (IsTail (index, offset)) bytes rest e
+pub tail_read : (bytes rest : List ℕ) (index offset tail : ℕ) (e : EntryIndex) → index < 2 ^ 64 - 1 → offset ≤ tail → tail < 2 ^ 32 →
+    Reads IsVarint bytes rest tail →
+    e ≡ record { index = index; entries = None; compression_type = compressions.None; entry_offset = offset; entry_len = tail - offset } →
+    Reads (IsTail (index, offset)) bytes rest e
 tail_read bytes rest index offset tail e fits le lt r made =
     let entry : EntryIndex = record { index = index; entries = None; compression_type = compressions.None; entry_offset = offset; entry_len = tail - offset } in
     let sum : offset + (tail - offset) ≡ tail = omega arith in
@@ -55,10 +58,14 @@ pub record AreReadSoFar (first s : ℕ) (bytes rest : List ℕ) (es : List Entry
   pub reads : Reads (IsSequence behind_entry IsTail (first, s)) bytes rest es
   pub state : state_after behind_entry (first, s) es ≡ (index, offset)
 
-tail_at : (first s : ℕ) (es : List EntryIndex) (index offset : ℕ) (bytes rest : List ℕ) (e : EntryIndex) → state_after behind_entry (first, s) es ≡ (index, offset) → Reads (IsTail (index, offset)) bytes rest e → Reads (IsTail (state_after behind_entry (first, s) es)) bytes rest e
+tail_at : (first s : ℕ) (es : List EntryIndex) (index offset : ℕ) (bytes rest : List ℕ) (e : EntryIndex) →
+    state_after behind_entry (first, s) es ≡ (index, offset) → Reads (IsTail (index, offset)) bytes rest e →
+    Reads (IsTail (state_after behind_entry (first, s) es)) bytes rest e
 tail_at first s es index offset bytes rest e state r = subst (λ (p : ℕ × ℕ). Reads (IsTail p) bytes rest e) (sym state) r
 
-one_more_read : (first s : ℕ) (bytes mid rest : List ℕ) (es : List EntryIndex) (e : EntryIndex) (index offset : ℕ) → AreReadSoFar first s bytes mid es index offset → Reads (IsTail (index, offset)) mid rest e → AreReadSoFar first s bytes rest (es ++ e ∷ []) (index + 1) (offset + e.entry_len)
+one_more_read : (first s : ℕ) (bytes mid rest : List ℕ) (es : List EntryIndex) (e : EntryIndex) (index offset : ℕ) →
+    AreReadSoFar first s bytes mid es index offset → Reads (IsTail (index, offset)) mid rest e →
+    AreReadSoFar first s bytes rest (es ++ e ∷ []) (index + 1) (offset + e.entry_len)
 one_more_read first s bytes mid rest es e index offset so r =
     let begins : e.entry_offset ≡ offset = r.spells.offset in
     record {
@@ -67,18 +74,24 @@ one_more_read first s bytes mid rest es e index offset so r =
     }
 
 -- one more entry, which ends at this tail offset
-pub one_more_tail : (first s : ℕ) (bytes mid rest : List ℕ) (es : List EntryIndex) (index offset tail : ℕ) → AreReadSoFar first s bytes mid es index offset → offset ≤ tail → Reads (IsTail (index, offset)) mid rest (entry_between index offset tail) → AreReadSoFar first s bytes rest (es ++ entry_between index offset tail ∷ []) (index + 1) tail
+pub one_more_tail : (first s : ℕ) (bytes mid rest : List ℕ) (es : List EntryIndex) (index offset tail : ℕ) →
+    AreReadSoFar first s bytes mid es index offset → offset ≤ tail → Reads (IsTail (index, offset)) mid rest (entry_between index offset tail) →
+    AreReadSoFar first s bytes rest (es ++ entry_between index offset tail ∷ []) (index + 1) tail
 one_more_tail first s bytes mid rest es index offset tail so le r =
     let e = entry_between index offset tail in
     subst (λ (o : ℕ). AreReadSoFar first s bytes rest (es ++ e ∷ []) (index + 1) o) (omega arith) (one_more_read first s bytes mid rest es e index offset so r)
 
-pub no_more_tails : (first s : ℕ) (bytes mid : List ℕ) (es : List EntryIndex) (index offset count : ℕ) → AreReadSoFar first s bytes mid es index offset → length es < count → HasNoFront (IsTail (index, offset)) mid → HasNoFront (AreTails count (first, s)) bytes
+pub no_more_tails : (first s : ℕ) (bytes mid : List ℕ) (es : List EntryIndex) (index offset count : ℕ) →
+    AreReadSoFar first s bytes mid es index offset → length es < count → HasNoFront (IsTail (index, offset)) mid →
+    HasNoFront (AreTails count (first, s)) bytes
 no_more_tails first s bytes mid es index offset count so lt none front rest ys a e =
     let here : HasNoFront (IsTail (state_after behind_entry (first, s) es)) mid = subst (λ (p : ℕ × ℕ). HasNoFront (IsTail p) mid) (sym so.state) none in
     let len : length ys ≡ count = a.count in
     stuck behind_entry IsTail tail_one_front (first, s) es ys so.reads here front rest a.tails e (omega arith)
 
-pub tail_fault : (first s : ℕ) (bytes mid : List ℕ) (es : List EntryIndex) (index offset count more : ℕ) (fault : Error) → AreReadSoFar first s bytes mid es index offset → count ≡ length es + suc more → IsTailFault (index, offset) mid fault → IsSequenceFault behind_entry IsTail IsTailFault count (first, s) bytes fault
+pub tail_fault : (first s : ℕ) (bytes mid : List ℕ) (es : List EntryIndex) (index offset count more : ℕ) (fault : Error) →
+    AreReadSoFar first s bytes mid es index offset → count ≡ length es + suc more → IsTailFault (index, offset) mid fault →
+    IsSequenceFault behind_entry IsTail IsTailFault count (first, s) bytes fault
 tail_fault first s bytes mid es index offset count more fault so c f =
     fault_after behind_entry IsTail IsTailFault (first, s) es count (suc more) fault c so.reads (inl (subst (λ (p : ℕ × ℕ). IsTailFault p mid fault) (sym so.state) f))
 

@@ -57,7 +57,8 @@ header_one a b more rest x y h k e =
 -- ---- frames
 
 -- where the parts of a batch stand
-places : (bytes : List ℕ) (signature : Option ℕ) (items : List Item) (between : List ℕ) → (h : IsLaidOut bytes signature items between) → (drop 16 bytes ≡ between ++ h.behind) × (drop (16 + length between) bytes ≡ h.behind) × (16 + length between ≤ length bytes)
+places : (bytes : List ℕ) (signature : Option ℕ) (items : List Item) (between : List ℕ) → (h : IsLaidOut bytes signature items between) →
+    (drop 16 bytes ≡ between ++ h.behind) × (drop (16 + length between) bytes ≡ h.behind) × (16 + length between ≤ length bytes)
 places bytes signature items between h =
     let head = header_bytes (16 + length between) h.compression (length bytes) in
     let sixteen : length head ≡ 16 = header_len (16 + length between) h.compression (length bytes) in
@@ -82,7 +83,8 @@ framed bytes signature items between h =
       item_batch = subst (λ (t : List ℕ). IsItemBatch t signature items h.rest) (sym at.1) h.item_batch;
     }
 
-pub laid_out : (bytes : List ℕ) (signature : Option ℕ) (items : List Item) (offset : ℕ) → IsFramed bytes signature items offset → (16 + length (take (offset - 16) (drop 16 bytes)) ≡ offset) × IsLaidOut bytes signature items (take (offset - 16) (drop 16 bytes))
+pub laid_out : (bytes : List ℕ) (signature : Option ℕ) (items : List Item) (offset : ℕ) → IsFramed bytes signature items offset →
+    (16 + length (take (offset - 16) (drop 16 bytes)) ≡ offset) × IsLaidOut bytes signature items (take (offset - 16) (drop 16 bytes))
 laid_out bytes signature items offset f =
     let least : 16 ≤ offset = f.header.spells.behind_header in
     let inside : offset ≤ length bytes = f.header.spells.inside in
@@ -124,7 +126,15 @@ block_one [] [] h = refl
 block_one [] (y ∷ es') h = absurd (omega (arith, ap length h))
 block_one (x ∷ es) [] h = absurd (omega (arith, ap length h))
 block_one (x ∷ es) (y ∷ es') h =
-    same_length (x ∷ es) (y ∷ es') (checksum_bytes None (x ∷ es)) (checksum_bytes None (y ∷ es')) (omega (arith, ap length h, length-append (x ∷ es) (checksum_bytes None (x ∷ es)), length-append (y ∷ es') (checksum_bytes None (y ∷ es')), four (crc32_of (x ∷ es)), four (crc32_of (y ∷ es')))) h
+    same_length (x ∷ es) (y ∷ es') (checksum_bytes None (x ∷ es)) (checksum_bytes None (y ∷ es'))
+    (omega (
+      arith,
+      ap length h,
+      length-append (x ∷ es) (checksum_bytes None (x ∷ es)),
+      length-append (y ∷ es') (checksum_bytes None (y ∷ es')),
+      four (crc32_of (x ∷ es)),
+      four (crc32_of (y ∷ es')),
+    )) h
 
 pub one_entry_block : (len : ℕ) (bytes es es' : List ℕ) → IsEntryBlockOf len bytes es → IsEntryBlockOf len bytes es' → es ≡ es'
 one_entry_block len bytes es es' h k = block_one es es' (sym (entry_block_is len bytes es h) ∙ entry_block_is len bytes es' k)
@@ -139,18 +149,22 @@ parts bytes signature items es = (
       record {
         offset = 16 + length (entry_block es);
         frame = framed bytes signature items (entry_block es) h;
-        entry_block = is_entry_block (16 + length (entry_block es) - 16) (drop 16 bytes) es (omega (arith, at.2, length-drop 16 bytes)) (ap (λ (k : ℕ). take k (drop 16 bytes)) n ∙ ap (take (length (entry_block es))) at.0 ∙ take_at (entry_block es) h.behind (length (entry_block es)) refl);
+        entry_block = is_entry_block (16 + length (entry_block es) - 16) (drop 16 bytes) es (omega (arith, at.2, length-drop 16 bytes))
+            (ap (λ (k : ℕ). take k (drop 16 bytes)) n ∙ ap (take (length (entry_block es))) at.0
+            ∙ take_at (entry_block es) h.behind (length (entry_block es)) refl);
       },
   λ p.
       subst (λ (t : List ℕ). IsLaidOut bytes signature items t) (entry_block_is (p.offset - 16) (drop 16 bytes) es p.entry_block) (laid_out bytes signature items p.offset p.frame).1,
 )
 
 -- what lies between a header and an item batch, and the item batch, are those of the bytes
-laid_one : (bytes : List ℕ) (signature signature' : Option ℕ) (items items' : List Item) (between between' : List ℕ) → (h : IsLaidOut bytes signature items between) (k : IsLaidOut bytes signature' items' between') → (between ≡ between') × (h.behind ≡ k.behind)
+laid_one : (bytes : List ℕ) (signature signature' : Option ℕ) (items items' : List Item) (between between' : List ℕ) →
+    (h : IsLaidOut bytes signature items between) (k : IsLaidOut bytes signature' items' between') → (between ≡ between') × (h.behind ≡ k.behind)
 laid_one bytes signature signature' items items' between between' h k =
     let f = framed bytes signature items between h in
     let g = framed bytes signature' items' between' k in
-    let one = header_one f.header.front g.header.front (drop 16 bytes) (drop 16 bytes) (16 + length between, f.compression, length bytes) (16 + length between', g.compression, length bytes) f.header.spells g.header.spells (sym f.header.split ∙ g.header.split) in
+    let one = header_one f.header.front g.header.front (drop 16 bytes) (drop 16 bytes) (16 + length between, f.compression, length bytes)
+    (16 + length between', g.compression, length bytes) f.header.spells g.header.spells (sym f.header.split ∙ g.header.split) in
     let offset : 16 + length between ≡ 16 + length between' = ap (λ (x : ℕ × CompressionType × ℕ). x.0) one.1 in
     let behind : between ++ h.behind ≡ between' ++ k.behind = sym (places bytes signature items between h).0 ∙ (places bytes signature' items' between' k).0 in
     let same : between ≡ between' = same_length between between' h.behind k.behind (omega arith) behind in
@@ -196,9 +210,17 @@ log_batch_length signature (x ∷ xs) es =
     let block = entry_block es in
     let batch = item_batch_bytes items in
     let seal = checksum_bytes signature batch in
-    omega (arith, length-append (head ++ (block ++ batch)) seal, length-append head (block ++ batch), length-append block batch, header_len (item_offset es) compressions.None (encoded_length items es), four (signed_crc signature (crc32_of batch)))
+    omega (
+      arith,
+      length-append (head ++ (block ++ batch)) seal,
+      length-append head (block ++ batch),
+      length-append block batch,
+      header_len (item_offset es) compressions.None (encoded_length items es),
+      four (signed_crc signature (crc32_of batch)),
+    )
 
-pub log_batch_spelled : (signature : Option ℕ) (items : List Item) (es : List ℕ) → IsBatchOf items es → AreInRange items → items ≢ [] → encoded_length items es < 2 ^ 56 → IsLogBatch (log_batch_bytes signature items es) signature (map bare items) es
+pub log_batch_spelled : (signature : Option ℕ) (items : List Item) (es : List ℕ) → IsBatchOf items es → AreInRange items → items ≢ [] →
+    encoded_length items es < 2 ^ 56 → IsLogBatch (log_batch_bytes signature items es) signature (map bare items) es
 log_batch_spelled signature [] es b r some fits = absurd (some refl)
 log_batch_spelled signature (x ∷ xs) es b r some fits =
     let items = x ∷ xs in
@@ -209,7 +231,15 @@ log_batch_spelled signature (x ∷ xs) es b r some fits =
     let seal = checksum_bytes signature batch in
     let bytes = unsealed_bytes len items es ++ seal in
     let parted : bytes ≡ head ++ (block ++ (batch ++ seal)) = append_assoc head (block ++ batch) seal ∙ ap (λ (t : List ℕ). head ++ t) (append_assoc block batch seal) in
-    let counted : length bytes ≡ len = omega (arith, ap length parted, length-append head (block ++ (batch ++ seal)), length-append block (batch ++ seal), length-append batch seal, header_len (item_offset es) compressions.None len, four (signed_crc signature (crc32_of batch))) in
+    let counted : length bytes ≡ len = omega (
+      arith,
+      ap length parted,
+      length-append head (block ++ (batch ++ seal)),
+      length-append block (batch ++ seal),
+      length-append batch seal,
+      header_len (item_offset es) compressions.None len,
+      four (signed_crc signature (crc32_of batch)),
+    ) in
     let count : length items < 2 ^ 64 = omega (arith, batch_count_le items, fits) in
     record {
       behind = batch ++ seal;

@@ -21,7 +21,9 @@ pub words_are : (bytes behind rest : List ℕ) (first second : ℕ) → (a : Rea
 words_are bytes behind rest first second a b =
     a.split ∙ ap (λ (t : List ℕ). t ++ behind) a.spells.written ∙ ap (λ (t : List ℕ). big_bytes 8 first ++ t) (b.split ∙ ap (λ (t : List ℕ). t ++ rest) b.spells.written)
 
-pub header_read : (bytes behind rest : List ℕ) (first second : ℕ) (c : CompressionType) → Reads (IsBig 8) bytes behind first → Reads (IsBig 8) behind rest second → first % 256 ≡ compression_byte c → second ≤ first / 256 → 16 ≤ second → Reads IsHeader bytes rest (second, c, first / 256)
+pub header_read : (bytes behind rest : List ℕ) (first second : ℕ) (c : CompressionType) → Reads (IsBig 8) bytes behind first →
+    Reads (IsBig 8) behind rest second → first % 256 ≡ compression_byte c → second ≤ first / 256 → 16 ≤ second →
+    Reads IsHeader bytes rest (second, c, first / 256)
 unfolding header_bytes
 header_read bytes behind rest first second c a b type inside behind_header =
     let fits : first < 2 ^ 64 = a.spells.in_range in
@@ -33,7 +35,8 @@ header_read bytes behind rest first second c a b type inside behind_header =
     }
 
 -- what a header that stood there would say
-pub header_is : (bytes behind rest front more : List ℕ) (first second : ℕ) (h : ℕ × CompressionType × ℕ) → Reads (IsBig 8) bytes behind first → Reads (IsBig 8) behind rest second → IsHeader front h → bytes ≡ front ++ more → (first ≡ h.2 * 256) × (second ≡ h.0)
+pub header_is : (bytes behind rest front more : List ℕ) (first second : ℕ) (h : ℕ × CompressionType × ℕ) → Reads (IsBig 8) bytes behind first →
+    Reads (IsBig 8) behind rest second → IsHeader front h → bytes ≡ front ++ more → (first ≡ h.2 * 256) × (second ≡ h.0)
 unfolding header_bytes
 header_is bytes behind rest front more first second h a b is split =
     let zero_byte : compression_byte h.1 ≡ 0 = byte_of_type h.1 in
@@ -73,7 +76,9 @@ offset_in_header bytes behind rest first second a b low front more h is split =
 pub type_ok : (c : CompressionType) (n : ℕ) → n ≡ compression_byte c → n ≡ 0
 type_ok c n e = e ∙ byte_of_type c
 
-pub header_numbers_fault : (bytes behind rest : List ℕ) (first second : ℕ) (e : Error) → Reads (IsBig 8) bytes behind first → Reads (IsBig 8) behind rest second → (IsCompressionFault (first % 256) e ⊎ ((first % 256 ≡ 0) × IsOffsetFault (first / 256) second e)) → IsHeaderNumbersFault bytes e
+pub header_numbers_fault : (bytes behind rest : List ℕ) (first second : ℕ) (e : Error) → Reads (IsBig 8) bytes behind first →
+    Reads (IsBig 8) behind rest second → (IsCompressionFault (first % 256) e ⊎ ((first % 256 ≡ 0) × IsOffsetFault (first / 256) second e)) →
+    IsHeaderNumbersFault bytes e
 header_numbers_fault bytes behind rest first second e a b fault =
     record {
       first = first;
@@ -86,7 +91,9 @@ header_numbers_fault bytes behind rest first second e a b fault =
     }
 
 -- both numbers were written over the first sixteen bytes
-pub header_written : (offset len word byte k : ℕ) (old one two : List ℕ) → 16 ≤ length old → word ≡ len * 256 + byte → byte ≡ 0 → one ≡ big_bytes 8 word ++ drop 8 old → k ≡ length one - 8 → two ≡ big_bytes 8 offset ++ drop 8 (take k (drop 8 one)) → take 8 one ++ (two ++ drop k (drop 8 one)) ≡ header_bytes offset None len ++ drop 16 old
+pub header_written : (offset len word byte k : ℕ) (old one two : List ℕ) → 16 ≤ length old → word ≡ len * 256 + byte → byte ≡ 0 →
+    one ≡ big_bytes 8 word ++ drop 8 old → k ≡ length one - 8 → two ≡ big_bytes 8 offset ++ drop 8 (take k (drop 8 one)) →
+    take 8 one ++ (two ++ drop k (drop 8 one)) ≡ header_bytes offset None len ++ drop 16 old
 unfolding header_bytes
 header_written offset len word byte k old one two room is zero_byte first size second =
     let eight : length (big_bytes 8 word) ≡ 8 = (IsReadAgain-big_bytes 8).counted word in
@@ -96,7 +103,9 @@ header_written offset len word byte k old one two room is zero_byte first size s
     let part : take k (drop 8 one) ≡ drop 8 old = take_all k (drop 8 one) (omega (arith, size, length-drop 8 one)) ∙ behind in
     let tail : two ≡ big_bytes 8 offset ++ drop 16 old = second ∙ ap (λ (t : List ℕ). big_bytes 8 offset ++ drop 8 t) part ∙ ap (λ (t : List ℕ). big_bytes 8 offset ++ t) (drop_twice old) in
     let front : take 8 one ≡ big_bytes 8 (len * 256 + 0) = ap (take 8) first ∙ take_at (big_bytes 8 word) (drop 8 old) 8 eight ∙ ap (big_bytes 8) word_is in
-    ap (λ (t : List ℕ). t ++ (two ++ drop k (drop 8 one))) front ∙ ap (λ (t : List ℕ). big_bytes 8 (len * 256 + 0) ++ t) (ap (λ (t : List ℕ). two ++ t) none ∙ append-nil two ∙ tail) ∙ sym (append_assoc (big_bytes 8 (len * 256 + 0)) (big_bytes 8 offset) (drop 16 old))
+    ap (λ (t : List ℕ). t ++ (two ++ drop k (drop 8 one))) front
+    ∙ ap (λ (t : List ℕ). big_bytes 8 (len * 256 + 0) ++ t) (ap (λ (t : List ℕ). two ++ t) none ∙ append-nil two ∙ tail)
+    ∙ sym (append_assoc (big_bytes 8 (len * 256 + 0)) (big_bytes 8 offset) (drop 16 old))
   where
     drop_twice : (xs : List ℕ) → drop 8 (drop 8 xs) ≡ drop 16 xs
     drop_twice xs = drop-drop 8 8 xs

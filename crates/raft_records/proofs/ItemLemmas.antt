@@ -45,7 +45,8 @@ pub text_read : (bytes mid : List ℕ) (n : ℕ) → n ≤ length mid → Reads 
 text_read bytes mid n le r =
     let len : length (take n mid) ≡ n = length-take-le n mid le in
     let text : Reads (IsText n) mid (drop n mid) (take n mid) = record { front = take n mid; spells = (refl, len); split = sym (take-append-drop n mid) } in
-    reads_as (λ a (t : List ℕ). IsFollowedBy IsVarint IsText a n t) IsByteString (take n mid) (take n mid) (λ a p. subst (λ (k : ℕ). IsFollowedBy IsVarint IsText a k (take n mid)) (sym len) p) (reads_pair IsVarint IsText n (take n mid) r text)
+    reads_as (λ a (t : List ℕ). IsFollowedBy IsVarint IsText a n t) IsByteString (take n mid) (take n mid)
+    (λ a p. subst (λ (k : ℕ). IsFollowedBy IsVarint IsText a k (take n mid)) (sym len) p) (reads_pair IsVarint IsText n (take n mid) r text)
 
 pub no_length : {bytes : List ℕ} → HasNoFront IsVarint bytes → HasNoFront IsByteString bytes
 no_length none front rest text p e = no_first IsVarint IsText none front rest (length text) text p e
@@ -134,7 +135,8 @@ no_del_of behind front rest key Del None (Some f) none p e = p
 pub no_del : {bytes behind : List ℕ} → bytes ≡ 2 ∷ behind → HasNoFront IsByteString behind → HasNoFront IsKeyValue bytes
 no_del {bytes} {behind} split none front rest x p e = no_del_of behind front rest x.key x.op_type x.value x.file_id none p (sym split ∙ e)
 
-pair_one_of : (a b more rest key key' : List ℕ) (o o' : OpType) (v v' : Option (List ℕ)) (f f' : Option FileId) → IsPairOf o v f key a → IsPairOf o' v' f' key' b → a ++ more ≡ b ++ rest → (a ≡ b) × (pair_with o key v f ≡ pair_with o' key' v' f')
+pair_one_of : (a b more rest key key' : List ℕ) (o o' : OpType) (v v' : Option (List ℕ)) (f f' : Option FileId) → IsPairOf o v f key a →
+    IsPairOf o' v' f' key' b → a ++ more ≡ b ++ rest → (a ≡ b) × (pair_with o key v f ≡ pair_with o' key' v' f')
 pair_one_of a b more rest key key' Put Put (Some v) (Some v') None None p q e =
     let same = tagged_same 1 IsKeyAndValue both_one_front a b more rest (key, v) (key', v') p q e in
     (same.0, ap (λ (t : List ℕ × List ℕ). pair_with Put t.0 (Some t.1) None) same.1)

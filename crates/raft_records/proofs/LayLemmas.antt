@@ -42,14 +42,20 @@ pub rest_at : (front xs ys : List EntryIndex) (i : ℕ) (d : EntryIndex) → ys 
 rest_at front xs ys i d e len lt = ap (λ (t : List EntryIndex). get_or t i d) (e ∙ ap (λ (t : List EntryIndex). front ++ t) (drop_more xs i d lt)) ∙ get_or_at front (get_or xs i d) (drop (i + 1) xs) d i len
 
 -- the step of a loop that lays entries
-pub lay_more : (s i offset : ℕ) (xs ys : List EntryIndex) (x : EntryIndex) → i < length xs → ys ≡ with_offsets_from s (take i xs) ++ drop i xs → x ≡ get_or ys i x → offset ≡ s + entry_lengths (take i xs) → (set ys i (laid_entry offset x) ≡ with_offsets_from s (take (i + 1) xs) ++ drop (i + 1) xs) × (offset + x.entry_len ≡ s + entry_lengths (take (i + 1) xs)) × (offset + x.entry_len ≤ s + entry_lengths xs)
+pub lay_more : (s i offset : ℕ) (xs ys : List EntryIndex) (x : EntryIndex) → i < length xs → ys ≡ with_offsets_from s (take i xs) ++ drop i xs →
+    x ≡ get_or ys i x → offset ≡ s + entry_lengths (take i xs) →
+    (set ys i (laid_entry offset x) ≡ with_offsets_from s (take (i + 1) xs) ++ drop (i + 1) xs) ×
+    (offset + x.entry_len ≡ s + entry_lengths (take (i + 1) xs)) × (offset + x.entry_len ≤ s + entry_lengths xs)
 lay_more s i offset xs ys x lt e at ends =
     let len : length (with_offsets_from s (take i xs)) ≡ i = length-with_offsets_from s (take i xs) ∙ length-take-le i xs (omega arith) in
     let seen : x ≡ get_or xs i x = at ∙ rest_at (with_offsets_from s (take i xs)) xs ys i x e len lt in
     let split : ys ≡ with_offsets_from s (take i xs) ++ x ∷ drop (i + 1) xs = e ∙ ap (λ (t : List EntryIndex). with_offsets_from s (take i xs) ++ t) (drop_more xs i x lt ∙ ap (λ (v : EntryIndex). v ∷ drop (i + 1) xs) (sym seen)) in
     let more : take (i + 1) xs ≡ take i xs ++ x ∷ [] = take_more xs i x lt ∙ ap (λ (v : EntryIndex). take i xs ++ v ∷ []) (sym seen) in
-    let whole : with_offsets_from s (take (i + 1) xs) ≡ with_offsets_from s (take i xs) ++ laid_entry offset x ∷ [] = ap (with_offsets_from s) more ∙ with_offsets_from-push s (take i xs) x ∙ ap (λ (o : ℕ). with_offsets_from s (take i xs) ++ laid_entry o x ∷ []) (sym ends) in (
-      ap (λ (t : List EntryIndex). set t i (laid_entry offset x)) split ∙ set_at (with_offsets_from s (take i xs)) x (drop (i + 1) xs) (laid_entry offset x) i len ∙ sym (ap (λ (t : List EntryIndex). t ++ drop (i + 1) xs) whole ∙ append_assoc (with_offsets_from s (take i xs)) (laid_entry offset x ∷ []) (drop (i + 1) xs)),
+    let whole : with_offsets_from s (take (i + 1) xs) ≡ with_offsets_from s (take i xs) ++ laid_entry offset x ∷ [] = ap (with_offsets_from s) more
+    ∙ with_offsets_from-push s (take i xs) x ∙ ap (λ (o : ℕ). with_offsets_from s (take i xs) ++ laid_entry o x ∷ []) (sym ends) in (
+      ap (λ (t : List EntryIndex). set t i (laid_entry offset x)) split ∙ set_at (with_offsets_from s (take i xs)) x (drop (i + 1) xs)
+          (laid_entry offset x) i len ∙ sym (ap (λ (t : List EntryIndex). t ++ drop (i + 1) xs) whole
+          ∙ append_assoc (with_offsets_from s (take i xs)) (laid_entry offset x ∷ []) (drop (i + 1) xs)),
       omega (arith, ap entry_lengths more, entry_lengths-push (take i xs) x),
       omega (arith, entry_lengths-split xs i x lt seen),
     )
@@ -182,7 +188,9 @@ merged_end xs ys =
     let start : entry_bytes_of xs ≡ 0 + entry_bytes_of xs = omega arith in
     omega (arith, end_append 0 xs (map (raised_item (entry_bytes_of xs)) ys), ap (λ (o : ℕ). end_of_items o (map (raised_item (entry_bytes_of xs)) ys)) start, raised_items_end 0 (entry_bytes_of xs) ys)
 
-pub merged_kept : (xs ys : List Item) (size size' bytes bytes' total : ℕ) (crc crc' : Option ℕ) → IsKeptBeside xs size bytes crc → IsKeptBeside ys size' bytes' crc' → bytes + bytes' < 2 ^ 32 → total ≡ at_most_usize (size + size') → IsKeptBeside (xs ++ map (raised_item bytes) ys) total (bytes + bytes') None
+pub merged_kept : (xs ys : List Item) (size size' bytes bytes' total : ℕ) (crc crc' : Option ℕ) → IsKeptBeside xs size bytes crc →
+    IsKeptBeside ys size' bytes' crc' → bytes + bytes' < 2 ^ 32 → total ≡ at_most_usize (size + size') →
+    IsKeptBeside (xs ++ map (raised_item bytes) ys) total (bytes + bytes') None
 merged_kept xs ys size size' bytes bytes' total crc crc' k l lt sum =
     let here : bytes ≡ end_of_items 0 xs = k.entry_bytes in
     let there : bytes' ≡ end_of_items 0 ys = l.entry_bytes in
@@ -211,7 +219,8 @@ item_rest_at : (front xs ys : List Item) (i : ℕ) (d : Item) → ys ≡ front +
 item_rest_at front xs ys i d e len lt = ap (λ (t : List Item). get_or t i d) (e ∙ ap (λ (t : List Item). front ++ t) (drop_more xs i d lt)) ∙ get_or_at front (get_or xs i d) (drop (i + 1) xs) d i len
 
 -- the item that a loop raises next can be raised
-pub raise_next : (by end i : ℕ) (xs ys : List Item) (x : Item) → i < length xs → ys ≡ map (raised_item by) (take i xs) ++ drop i xs → x ≡ get_or ys i x → FitTogether 0 xs → end ≡ entry_bytes_of xs → by + end < 2 ^ 32 → CanRaiseContent by x.content
+pub raise_next : (by end i : ℕ) (xs ys : List Item) (x : Item) → i < length xs → ys ≡ map (raised_item by) (take i xs) ++ drop i xs →
+    x ≡ get_or ys i x → FitTogether 0 xs → end ≡ entry_bytes_of xs → by + end < 2 ^ 32 → CanRaiseContent by x.content
 raise_next by end i xs ys x lt e at fit ends room =
     let len : length (map (raised_item by) (take i xs)) ≡ i = length-map (take i xs) (raised_item by) ∙ length-take-le i xs (omega arith) in
     let seen : x ≡ get_or xs i x = at ∙ item_rest_at (map (raised_item by) (take i xs)) xs ys i x e len lt in

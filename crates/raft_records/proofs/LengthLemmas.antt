@@ -88,7 +88,9 @@ block_covered [] = omega arith
 block_covered (e ∷ es) = omega (arith, length-append (e ∷ es) (checksum_bytes None (e ∷ es)), checksum_len None (e ∷ es))
 
 -- the formula of an open batch covers its bytes, where that of its items covers theirs
-pub open_covers : (xs : List Item) (es : List ℕ) (size result : ℕ) → (length (item_batch_bytes xs) < 2 ^ 56 → length (item_batch_bytes xs) + 4 ≤ size) → result ≡ at_most_usize (size + (16 + length es + 4)) → encoded_length xs es < 2 ^ 56 → encoded_length xs es ≤ result
+pub open_covers : (xs : List Item) (es : List ℕ) (size result : ℕ) →
+    (length (item_batch_bytes xs) < 2 ^ 56 → length (item_batch_bytes xs) + 4 ≤ size) → result ≡ at_most_usize (size + (16 + length es + 4)) →
+    encoded_length xs es < 2 ^ 56 → encoded_length xs es ≤ result
 open_covers [] es size result covers e lt = omega arith
 open_covers (x ∷ xs) es size result covers e lt =
     let items = covers (omega (arith, lt)) in

@@ -14,7 +14,9 @@ last_end s zero (e ∷ f ∷ es) last n h = absurd (omega arith)
 last_end s (suc k) (e ∷ es) last n h = last_end (tail_of e) k es last (omega arith) h
 
 -- the text of entries that have a first and a last one
-pub text_by_ends : (es : List EntryIndex) (first last : EntryIndex) → Some first ≡ slice_get es 0 → Some last ≡ slice_get es (length es - 1) → entries_text es ≡ codes "entries " ++ (decimal (length es) ++ (codes " first " ++ (decimal first.index ++ (codes " tail " ++ decimal (tail_of last)))))
+pub text_by_ends : (es : List EntryIndex) (first last : EntryIndex) → Some first ≡ slice_get es 0 → Some last ≡ slice_get es (length es - 1) →
+    entries_text es ≡ codes "entries " ++ (decimal
+    (length es) ++ (codes " first " ++ (decimal first.index ++ (codes " tail " ++ decimal (tail_of last)))))
 text_by_ends [] first last f l = cc
 text_by_ends (e ∷ es) first last f l =
     let same : e ≡ first = cc in

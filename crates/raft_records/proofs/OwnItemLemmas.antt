@@ -26,9 +26,12 @@ IsSoFar first i n place spans run =
     (run ++ entries_of_block i place (drop n spans) ≡ entries_of_block first place spans)
     × AreBounded (entries_of_block i place (drop n spans))
 
-pub one_more : (first i n : ℕ) (place : FileBlockHandle) (spans : List (ℕ × ℕ)) (run new : List EntryIndex) → n < length spans → IsSoFar first i n place spans run → new ≡ run ++ spanned i place (slice_index_or spans n (0, 0)) ∷ [] → IsSoFar first (i + 1) (n + 1) place spans new
+pub one_more : (first i n : ℕ) (place : FileBlockHandle) (spans : List (ℕ × ℕ)) (run new : List EntryIndex) → n < length spans →
+    IsSoFar first i n place spans run → new ≡ run ++ spanned i place (slice_index_or spans n (0, 0)) ∷ [] →
+    IsSoFar first (i + 1) (n + 1) place spans new
 one_more first i n place spans run new low h is = (
-  ap (λ l. l ++ entries_of_block (i + 1) place (drop (n + 1) spans)) is ∙ append_assoc run (spanned i place (slice_index_or spans n (0, 0)) ∷ []) (entries_of_block (i + 1) place (drop (n + 1) spans)) ∙ ap (λ l. run ++ l) (sym (next_entry i n place spans low)) ∙ h.0,
+  ap (λ l. l ++ entries_of_block (i + 1) place (drop (n + 1) spans)) is ∙ append_assoc run (spanned i place (slice_index_or spans n (0, 0)) ∷ [])
+      (entries_of_block (i + 1) place (drop (n + 1) spans)) ∙ ap (λ l. run ++ l) (sym (next_entry i n place spans low)) ∙ h.0,
   (subst AreBounded (next_entry i n place spans low) h.1).1,
 )
 

@@ -31,11 +31,14 @@ no_header xs signature none front rest items r split =
     none f.header.front (drop 16 front ++ rest) (framed.0, f.compression, length front) f.header.spells (split ∙ ap (λ (t : List ℕ). t ++ rest) f.header.split ∙ append_assoc f.header.front (drop 16 front) rest)
 
 -- a batch that stands in front has the header that was read
-same_header : (xs ys : List ℕ) (signature : Option ℕ) (header : ℕ × CompressionType × ℕ) (front rest : List ℕ) (items : List Item) → Reads IsHeader xs ys header → (r : IsReadable front signature items) → xs ≡ front ++ rest → header ≡ (((readable front signature items).0 r).0, ((readable front signature items).0 r).1.compression, length front)
+same_header : (xs ys : List ℕ) (signature : Option ℕ) (header : ℕ × CompressionType × ℕ) (front rest : List ℕ) (items : List Item) →
+    Reads IsHeader xs ys header → (r : IsReadable front signature items) → xs ≡ front ++ rest →
+    header ≡ (((readable front signature items).0 r).0, ((readable front signature items).0 r).1.compression, length front)
 same_header xs ys signature header front rest items h r split =
     let framed = (readable front signature items).0 r in
     let f = framed.1 in
-    (header_one h.front f.header.front ys (drop 16 front ++ rest) header (framed.0, f.compression, length front) h.spells f.header.spells (sym h.split ∙ split ∙ ap (λ (t : List ℕ). t ++ rest) f.header.split ∙ append_assoc f.header.front (drop 16 front) rest)).1
+    (header_one h.front f.header.front ys (drop 16 front ++ rest) header (framed.0, f.compression, length front) h.spells f.header.spells
+    (sym h.split ∙ split ∙ ap (λ (t : List ℕ). t ++ rest) f.header.split ∙ append_assoc f.header.front (drop 16 front) rest)).1
 
 -- what is shorter than its header says is no batch
 pub cut_short : (xs ys : List ℕ) (signature : Option ℕ) (offset len : ℕ) (compression : CompressionType) → Reads IsHeader xs ys (offset, compression, len) → length xs < len → HasNoFront (λ bytes. IsReadable bytes signature) xs
@@ -44,7 +47,10 @@ cut_short xs ys signature offset len compression h short front rest items r spli
     absurd (omega (arith, same, ap length split, length-append front rest))
 
 -- where the item batch is none, no batch stands
-pub no_item_batch : (xs ys : List ℕ) (signature : Option ℕ) (offset len : ℕ) (compression : CompressionType) → Reads IsHeader xs ys (offset, compression, len) → ((items : List Item) (rest : List ℕ) → IsItemBatch (drop offset (take len xs)) signature items rest → ⊥) → HasNoFront (λ bytes. IsReadable bytes signature) xs
+pub no_item_batch : (xs ys : List ℕ) (signature : Option ℕ) (offset len : ℕ) (compression : CompressionType) →
+    Reads IsHeader xs ys (offset, compression, len) →
+    ((items : List Item) (rest : List ℕ) → IsItemBatch (drop offset (take len xs)) signature items rest → ⊥) →
+    HasNoFront (λ bytes. IsReadable bytes signature) xs
 no_item_batch xs ys signature offset len compression h none front rest items r split =
     let framed = (readable front signature items).0 r in
     let f = framed.1 in
@@ -56,7 +62,9 @@ no_item_batch xs ys signature offset len compression h none front rest items r s
     none items f.rest (subst (λ (t : List ℕ). IsItemBatch t signature items f.rest) item_batch f.item_batch)
 
 -- a header and the item batch behind it are a batch
-pub batch_stands : (xs ys : List ℕ) (signature : Option ℕ) (offset len : ℕ) (compression : CompressionType) (items : List Item) (rest : List ℕ) → Reads IsHeader xs ys (offset, compression, len) → len ≤ length xs → IsItemBatch (drop offset (take len xs)) signature items rest → (f : IsFramed (take len xs) signature items offset) × (f.compression ≡ compression)
+pub batch_stands : (xs ys : List ℕ) (signature : Option ℕ) (offset len : ℕ) (compression : CompressionType) (items : List Item) (rest : List ℕ) →
+    Reads IsHeader xs ys (offset, compression, len) → len ≤ length xs → IsItemBatch (drop offset (take len xs)) signature items rest →
+    (f : IsFramed (take len xs) signature items offset) × (f.compression ≡ compression)
 batch_stands xs ys signature offset len compression items rest h whole b =
     let least : 16 ≤ offset = h.spells.behind_header in
     let inside : offset ≤ len = h.spells.inside in
@@ -108,9 +116,14 @@ no_room_for_batch part at items next e b memory =
 -- ---- a written batch that stands in a part
 
 -- two batches in front of the same bytes are the same one
-one_front : (xs more rest front other : List ℕ) (signature : Option ℕ) (items items' : List Item) (offset offset' : ℕ) (f : IsFramed front signature items offset) → (g : IsFramed other signature items' offset') → xs ≡ front ++ more → xs ≡ other ++ rest → (front ≡ other) × (offset ≡ offset') × (f.compression ≡ g.compression) × (items ≡ items')
+one_front : (xs more rest front other : List ℕ) (signature : Option ℕ) (items items' : List Item) (offset offset' : ℕ)
+    (f : IsFramed front signature items offset) → (g : IsFramed other signature items' offset') → xs ≡ front ++ more → xs ≡ other ++ rest →
+    (front ≡ other) × (offset ≡ offset') × (f.compression ≡ g.compression) × (items ≡ items')
 one_front xs more rest front other signature items items' offset offset' f g e k =
-    let header = (header_one f.header.front g.header.front (drop 16 front ++ more) (drop 16 other ++ rest) (offset, f.compression, length front) (offset', g.compression, length other) f.header.spells g.header.spells (sym (append_assoc f.header.front (drop 16 front) more) ∙ ap (λ (t : List ℕ). t ++ more) (sym f.header.split) ∙ sym e ∙ k ∙ ap (λ (t : List ℕ). t ++ rest) g.header.split ∙ append_assoc g.header.front (drop 16 other) rest)).1 in
+    let header = (header_one f.header.front g.header.front (drop 16 front ++ more) (drop 16 other ++ rest) (offset, f.compression, length front)
+    (offset', g.compression, length other) f.header.spells g.header.spells (sym (append_assoc f.header.front (drop 16 front) more)
+    ∙ ap (λ (t : List ℕ). t ++ more) (sym f.header.split) ∙ sym e ∙ k ∙ ap (λ (t : List ℕ). t ++ rest) g.header.split
+    ∙ append_assoc g.header.front (drop 16 other) rest)).1 in
     let at : offset ≡ offset' = ap (λ (t : ℕ × CompressionType × ℕ). t.0) header in
     let long : length front ≡ length other = ap (λ (t : ℕ × CompressionType × ℕ). t.2) header in
     let same : front ≡ other = same_length front other more rest long (sym e ∙ k) in
@@ -118,7 +131,8 @@ one_front xs more rest front other signature items items' offset offset' f g e k
     (same, at, ap (λ (t : ℕ × CompressionType × ℕ). t.1) header, (one_batch (drop offset' other) f.rest g.rest signature items items' (subst (λ (t : List ℕ). IsItemBatch t signature items f.rest) item_batch f.item_batch) g.item_batch).0)
 
 -- a written batch, part by part
-written_framed : (signature : Option ℕ) (items : List Item) (es : List ℕ) → IsBatchOf items es → AreInRange items → items ≢ [] → encoded_length items es < 2 ^ 56 → IsFramed (log_batch_bytes signature items es) signature (map bare items) (item_offset es)
+written_framed : (signature : Option ℕ) (items : List Item) (es : List ℕ) → IsBatchOf items es → AreInRange items → items ≢ [] →
+    encoded_length items es < 2 ^ 56 → IsFramed (log_batch_bytes signature items es) signature (map bare items) (item_offset es)
 written_framed signature items es b r some fits = framed (log_batch_bytes signature items es) signature (map bare items) (entry_block es) (log_batch_spelled signature items es b r some fits)
 
 encoded_some : (items : List Item) (es : List ℕ) → items ≢ [] → 0 < encoded_length items es
@@ -128,12 +142,17 @@ encoded_some (x ∷ xs) es some = omega arith
 one_type : (c : CompressionType) → c ≡ compressions.None
 one_type compressions.None = refl
 
-pub written_next : (part : Part) (at : ℕ) (handle : FileBlockHandle) (items : List Item) (es rest : List ℕ) (answer : Option (List Item × ℕ)) → IsBatchOf items es → AreInRange items → AreInBytes items → items ≢ [] → encoded_length items es < 2 ^ 56 → handle.id ≡ part.id → handle.offset ≡ part.offset + at → drop at part.bytes ≡ log_batch_bytes (part_signature part) items es ++ rest → IsNext part at answer → answer ≡ Some (map (placed_item (entry_place handle es) compressions.None) items, at + encoded_length items es)
+pub written_next : (part : Part) (at : ℕ) (handle : FileBlockHandle) (items : List Item) (es rest : List ℕ) (answer : Option (List Item × ℕ)) →
+    IsBatchOf items es → AreInRange items → AreInBytes items → items ≢ [] → encoded_length items es < 2 ^ 56 → handle.id ≡ part.id →
+    handle.offset ≡ part.offset + at → drop at part.bytes ≡ log_batch_bytes (part_signature part) items es ++ rest → IsNext part at answer →
+    answer ≡ Some (map (placed_item (entry_place handle es) compressions.None) items, at + encoded_length items es)
 written_next part at handle items es rest None b r held some fits id offset stands n =
     absurd (omega (arith, n, ap length stands, length-drop at part.bytes, length-append (log_batch_bytes (part_signature part) items es) rest, log_batch_length (part_signature part) items es, encoded_some items es some))
 written_next part at handle items es rest (Some next) b r held some fits id offset stands there =
     let n : IsFramedAt part at next.0 next.1 = framed_at there in
-    let one = one_front (drop at part.bytes) (drop next.1 part.bytes) rest n.bytes (log_batch_bytes (part_signature part) items es) (part_signature part) n.read (map bare items) n.offset (item_offset es) n.frame (written_framed (part_signature part) items es b r some fits) n.stands stands in
+    let one = one_front (drop at part.bytes) (drop next.1 part.bytes) rest n.bytes (log_batch_bytes (part_signature part) items es)
+    (part_signature part) n.read (map bare items) n.offset (item_offset es) n.frame
+    (written_framed (part_signature part) items es b r some fits) n.stands stands in
     let long : length n.bytes ≡ encoded_length items es = ap length one.0 ∙ log_batch_length (part_signature part) items es in
     let ends : next.1 ≡ at + encoded_length items es = n.ends ∙ ap (λ (k : ℕ). at + k) long in
     let len : n.offset - 16 ≡ length (entry_block es) = omega (arith, one.1) in
@@ -145,7 +164,10 @@ written_next part at handle items es rest (Some next) b r held some fits id offs
     λ i. Some (items_are i, ends i)
 
 -- the batch stands there
-pub written_stands : (part : Part) (at : ℕ) (handle : FileBlockHandle) (items : List Item) (es rest : List ℕ) → IsBatchOf items es → AreInRange items → AreInBytes items → items ≢ [] → encoded_length items es < 2 ^ 56 → handle.id ≡ part.id → handle.offset ≡ part.offset + at → drop at part.bytes ≡ log_batch_bytes (part_signature part) items es ++ rest → IsBatchAt part at (map (placed_item (entry_place handle es) compressions.None) items) (at + encoded_length items es)
+pub written_stands : (part : Part) (at : ℕ) (handle : FileBlockHandle) (items : List Item) (es rest : List ℕ) → IsBatchOf items es →
+    AreInRange items → AreInBytes items → items ≢ [] → encoded_length items es < 2 ^ 56 → handle.id ≡ part.id → handle.offset ≡ part.offset + at →
+    drop at part.bytes ≡ log_batch_bytes (part_signature part) items es ++ rest →
+    IsBatchAt part at (map (placed_item (entry_place handle es) compressions.None) items) (at + encoded_length items es)
 written_stands part at handle items es rest b r held some fits id offset stands =
     let bytes = log_batch_bytes (part_signature part) items es in
     let long : length bytes ≡ encoded_length items es = log_batch_length (part_signature part) items es in
@@ -167,7 +189,9 @@ written_stands part at handle items es rest b r held some fits id offset stands 
           ∙ ap (λ c. map (placed_item (entries_place part at (item_offset es)) c) (map bare items)) (sym (one_type frame.compression));
     })
 
-pub written_accepted : (part : Part) (at : ℕ) (items : List Item) (es rest : List ℕ) → IsBatchOf items es → AreInRange items → items ≢ [] → encoded_length items es < 2 ^ 56 → drop at part.bytes ≡ log_batch_bytes (part_signature part) items es ++ rest → HasNoFront (λ bytes. IsReadable bytes (part_signature part)) (drop at part.bytes) → ⊥
+pub written_accepted : (part : Part) (at : ℕ) (items : List Item) (es rest : List ℕ) → IsBatchOf items es → AreInRange items → items ≢ [] →
+    encoded_length items es < 2 ^ 56 → drop at part.bytes ≡ log_batch_bytes (part_signature part) items es ++ rest →
+    HasNoFront (λ bytes. IsReadable bytes (part_signature part)) (drop at part.bytes) → ⊥
 written_accepted part at items es rest b r some fits stands none =
     none (log_batch_bytes (part_signature part) items es) rest (map bare items) (entry_block es, log_batch_spelled (part_signature part) items es b r some fits) stands
 

@@ -19,7 +19,9 @@ log_bytes_placed handle c signature (x ∷ xs) es =
 pub entries_placed : (handle : FileBlockHandle) (c : CompressionType) (items : List Item) (buf : List ℕ) → entry_bytes_in (map (placed_item handle c) items) buf ≡ entry_bytes_in items buf
 entries_placed handle c items buf = ap (λ (n : ℕ). take n (drop 16 buf)) (end_of_placed handle c 0 items)
 
-pub placed_held : (handle : FileBlockHandle) (c : CompressionType) (stage : Stage) (items : List Item) (buf : List ℕ) → IsSealedStage stage → IsHeld stage items (entry_bytes_in items buf) buf → IsHeld stage (map (placed_item handle c) items) (entry_bytes_in (map (placed_item handle c) items) buf) buf
+pub placed_held : (handle : FileBlockHandle) (c : CompressionType) (stage : Stage) (items : List Item) (buf : List ℕ) → IsSealedStage stage →
+    IsHeld stage items (entry_bytes_in items buf) buf →
+    IsHeld stage (map (placed_item handle c) items) (entry_bytes_in (map (placed_item handle c) items) buf) buf
 placed_held handle c is_open items buf s h = absurd s
 placed_held handle c encoded items buf s h = absurd s
 placed_held handle c (sealed signature) items buf s h =
@@ -31,14 +33,19 @@ placed_held handle c (sealed signature) items buf s h =
       held = h.held ∙ sym (log_bytes_placed handle c signature items (entry_bytes_in items buf)) ∙ ap (log_batch_bytes signature (map (placed_item handle c) items)) (sym same);
     }
 
-pub placed_view : (handle : FileBlockHandle) (c : CompressionType) (now : Batch) (stage : Stage) (items new : List Item) (buf : List ℕ) → batch_with items (entry_bytes_in items buf) stage ≡ now → new ≡ map (placed_item handle c) items → batch_with new (entry_bytes_in new buf) stage ≡ batch_with (map (placed_item handle c) now.items) now.entry_bytes now.stage
+pub placed_view : (handle : FileBlockHandle) (c : CompressionType) (now : Batch) (stage : Stage) (items new : List Item) (buf : List ℕ) →
+    batch_with items (entry_bytes_in items buf) stage ≡ now → new ≡ map (placed_item handle c) items →
+    batch_with new (entry_bytes_in new buf) stage ≡ batch_with (map (placed_item handle c) now.items) now.entry_bytes now.stage
 placed_view handle c now stage items new buf view places =
     ap (λ (xs : List Item). batch_with xs (entry_bytes_in xs buf) stage) places
     ∙ ap (λ (t : List ℕ). batch_with (map (placed_item handle c) items) t stage) (entries_placed handle c items buf)
     ∙ ap (λ (b : Batch). batch_with (map (placed_item handle c) b.items) b.entry_bytes b.stage) view
 
 -- where the entry block stands
-pub place_is : (handle : FileBlockHandle) (now : Batch) (stage : Stage) (items : List Item) (es : List ℕ) (size offset : ℕ) → batch_with items es stage ≡ now → length es ≡ entry_bytes_of items → size ≡ entry_bytes_of items → ((bytes : List ℕ) → length bytes ≡ size → offset ≡ item_offset bytes) → record { id = handle.id; offset = handle.offset + 16; len = offset - 16 } ≡ entry_place handle now.entry_bytes
+pub place_is : (handle : FileBlockHandle) (now : Batch) (stage : Stage) (items : List Item) (es : List ℕ) (size offset : ℕ) →
+    batch_with items es stage ≡ now → length es ≡ entry_bytes_of items → size ≡ entry_bytes_of items →
+    ((bytes : List ℕ) → length bytes ≡ size → offset ≡ item_offset bytes) →
+    record { id = handle.id; offset = handle.offset + 16; len = offset - 16 } ≡ entry_place handle now.entry_bytes
 place_is handle now stage items es size offset view whole counted behind =
     let at : offset ≡ item_offset es = behind es (whole ∙ sym counted) in
     let len : offset - 16 ≡ length (entry_block es) = omega (arith, at) in

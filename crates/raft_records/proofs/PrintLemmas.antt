@@ -27,7 +27,10 @@ lines_placed handle compression [] = refl
 lines_placed handle compression (item ∷ items) = rw (content_placed handle compression item.content, lines_placed handle compression items) refl
 
 -- lines of the decoded items and a line of counts are the batch's text
-pub decoded_text : (bytes rest lines text : List ℕ) (signature : Option ℕ) (handle : FileBlockHandle) (compression : CompressionType) (decoded : List LogItem) (items : List Item) (count : ℕ) → IsDecoded bytes signature handle compression items rest → map item_of decoded ≡ items → count ≡ length decoded → lines ≡ flat_map line_of (map item_of decoded) → text ≡ lines ++ last_line count (length rest) → IsTextOf bytes signature text
+pub decoded_text : (bytes rest lines text : List ℕ) (signature : Option ℕ) (handle : FileBlockHandle) (compression : CompressionType)
+    (decoded : List LogItem) (items : List Item) (count : ℕ) → IsDecoded bytes signature handle compression items rest → map item_of decoded ≡ items →
+    count ≡ length decoded → lines ≡ flat_map line_of (map item_of decoded) → text ≡ lines ++ last_line count (length rest) →
+    IsTextOf bytes signature text
 decoded_text bytes rest lines text signature handle compression decoded items count d same n l t =
     let places : map item_of decoded ≡ map (placed_item handle compression) d.read = same ∙ d.places in
     let read_lines : lines ≡ flat_map line_of d.read = l ∙ (ap (flat_map line_of) places ∙ lines_placed handle compression d.read) in

@@ -37,7 +37,9 @@ spans_shown : (place : FileBlockHandle) (next : ℕ × ℕ) (bytes : List ℕ) (
 spans_shown place next bytes [] q = refl
 spans_shown place next bytes (e ∷ es) q =
     let first : entry_at place next.0 e ≡ placed_entry place compressions.None e = ap (λ (i : ℕ). entry_at place i e) (sym q.first_spells.index) in
-    let rest : entries_of_block (suc next.0) place (map span_of es) ≡ map (placed_entry place compressions.None) es = subst (λ (i : ℕ). entries_of_block i place (map span_of es) ≡ map (placed_entry place compressions.None) es) (add-one next.0) (spans_shown place (behind_entry next e) q.second es q.second_spells) in
+    let rest : entries_of_block (suc next.0) place (map span_of es) ≡ map (placed_entry place compressions.None)
+    es = subst (λ (i : ℕ). entries_of_block i place (map span_of es) ≡ map (placed_entry place compressions.None) es) (add-one next.0)
+    (spans_shown place (behind_entry next e) q.second es q.second_spells) in
     λ i. first i ∷ rest i
 
 -- a run holds the entries whose tail offsets were read
@@ -49,7 +51,9 @@ run_held count first s bytes rest es r =
     }
 
 -- entries were read behind their count and the first index
-pub run_read_of : (s count first : ℕ) (bytes mid tails rest : List ℕ) (end : ℕ) (old new : List (ℕ × ℕ)) → 0 < count → Reads IsVarint bytes mid count → Reads IsVarint mid tails first → AreSpansRead count first (reached tails s old) (reached rest end new) → IsContentRead (Run first count) (reached (1 ∷ bytes) s old) (reached rest end new)
+pub run_read_of : (s count first : ℕ) (bytes mid tails rest : List ℕ) (end : ℕ) (old new : List (ℕ × ℕ)) → 0 < count →
+    Reads IsVarint bytes mid count → Reads IsVarint mid tails first → AreSpansRead count first (reached tails s old) (reached rest end new) →
+    IsContentRead (Run first count) (reached (1 ∷ bytes) s old) (reached rest end new)
 run_read_of s count first bytes mid tails rest end old new some counted begins r =
     record {
       read = entries r.read;
@@ -82,12 +86,16 @@ pub command_read : (s : ℕ) (bytes behind rest : List ℕ) (c : Command) (spans
 command_read s bytes behind rest c spans split r =
     record { read = command c; own = []; reads = command_content s bytes behind rest c split r; ends = refl; added = sym (append-nil spans); held = record { taken = refl; shown = λ place. refl } }
 
-pub pair_read : (s : ℕ) (bytes behind rest : List ℕ) (content : ReadContent) (p : Pair) (spans : List (ℕ × ℕ)) → bytes ≡ 3 ∷ behind → Reads IsKeyValue behind rest p → IsHeldAs content [] (pair p) → IsContentRead content (reached bytes s spans) (reached rest s spans)
+pub pair_read : (s : ℕ) (bytes behind rest : List ℕ) (content : ReadContent) (p : Pair) (spans : List (ℕ × ℕ)) → bytes ≡ 3 ∷ behind →
+    Reads IsKeyValue behind rest p → IsHeldAs content [] (pair p) → IsContentRead content (reached bytes s spans) (reached rest s spans)
 pair_read s bytes behind rest content p spans split r held =
     record { read = pair p; own = []; reads = pair_content s bytes behind rest p split r; ends = refl; added = sym (append-nil spans); held = held }
 
 -- a region and a content that was read, as an item that is added
-pub held_item : (s region : ℕ) (bytes mid rest : List ℕ) (content : ReadContent) (end : ℕ) (items new_items : List ReadItem) (spans new_spans : List (ℕ × ℕ)) → Reads IsVarint bytes mid region → IsContentRead content (reached mid s spans) (reached rest end new_spans) → new_items ≡ items ++ record { region = region; content = content } ∷ [] → IsItemRead items new_items (reached bytes s spans) (reached rest end new_spans)
+pub held_item : (s region : ℕ) (bytes mid rest : List ℕ) (content : ReadContent) (end : ℕ) (items new_items : List ReadItem)
+    (spans new_spans : List (ℕ × ℕ)) → Reads IsVarint bytes mid region → IsContentRead content (reached mid s spans) (reached rest end new_spans) →
+    new_items ≡ items ++ record { region = region; content = content } ∷ [] →
+    IsItemRead items new_items (reached bytes s spans) (reached rest end new_spans)
 held_item s region bytes mid rest content end items new_items spans new_spans r c added =
     record {
       read = record { raft_group_id = region; content = c.read };
@@ -116,7 +124,10 @@ pub record AreSpansSoFar (first s : ℕ) (bytes rest : List ℕ) (old new : List
   pub added : new ≡ old ++ map span_of read
   pub counted : length read ≡ count
 
-pub one_more_span : (first s : ℕ) (bytes mid rest : List ℕ) (old new : List (ℕ × ℕ)) (index offset tail count len : ℕ) → AreSpansSoFar first s bytes mid old new index offset count → offset + len ≡ tail → Reads (IsTail (index, offset)) mid rest (entry_between index offset tail) → AreSpansSoFar first s bytes rest old (new ++ (offset, len) ∷ []) (index + 1) tail (count + 1)
+pub one_more_span : (first s : ℕ) (bytes mid rest : List ℕ) (old new : List (ℕ × ℕ)) (index offset tail count len : ℕ) →
+    AreSpansSoFar first s bytes mid old new index offset count → offset + len ≡ tail →
+    Reads (IsTail (index, offset)) mid rest (entry_between index offset tail) → AreSpansSoFar first s bytes rest old (new ++ (offset, len) ∷ [])
+    (index + 1) tail (count + 1)
 one_more_span first s bytes mid rest old new index offset tail count len so sum r =
     let e = entry_between index offset tail in
     let es = so.read in
@@ -124,7 +135,8 @@ one_more_span first s bytes mid rest old new index offset tail count len so sum 
     record {
       read = es ++ e ∷ [];
       so_far = one_more_tail first s bytes mid rest es index offset tail so.so_far (omega arith) r;
-      added = ap (λ (l : ℕ). new ++ (offset, l) ∷ []) (sym is_len) ∙ ap (λ (xs : List (ℕ × ℕ)). xs ++ span_of e ∷ []) so.added ∙ more_spans old (map span_of es) (span_of e) ∙ ap (λ (xs : List (ℕ × ℕ)). old ++ xs) (sym (map-append span_of es (e ∷ [])));
+      added = ap (λ (l : ℕ). new ++ (offset, l) ∷ []) (sym is_len) ∙ ap (λ (xs : List (ℕ × ℕ)). xs ++ span_of e ∷ []) so.added
+          ∙ more_spans old (map span_of es) (span_of e) ∙ ap (λ (xs : List (ℕ × ℕ)). old ++ xs) (sym (map-append span_of es (e ∷ [])));
       counted = omega (arith, length_push es e, so.counted);
     }
   where
@@ -132,7 +144,8 @@ one_more_span first s bytes mid rest old new index offset tail count len so sum 
     more_spans [] ys z = refl
     more_spans (x ∷ xs) ys z = ap (λ (l : List (ℕ × ℕ)). x ∷ l) (more_spans xs ys z)
 
-pub spans_read : (first s n count : ℕ) (bytes rest : List ℕ) (old new : List (ℕ × ℕ)) (index offset : ℕ) → count ≡ n → AreSpansSoFar first s bytes rest old new index offset count → AreSpansRead n first (reached bytes s old) (reached rest offset new)
+pub spans_read : (first s n count : ℕ) (bytes rest : List ℕ) (old new : List (ℕ × ℕ)) (index offset : ℕ) → count ≡ n →
+    AreSpansSoFar first s bytes rest old new index offset count → AreSpansRead n first (reached bytes s old) (reached rest offset new)
 spans_read first s n count bytes rest old new index offset all so =
     let reads = so.so_far.reads in
     record {
@@ -151,7 +164,9 @@ spans_push : (items : List ReadItem) (item : ReadItem) → spans_of (items ++ it
 spans_push [] item = omega arith
 spans_push (y ∷ ys) item = omega (arith, spans_push ys item)
 
-shown_push : (place : FileBlockHandle) (items : List ReadItem) (item : ReadItem) (spans own : List (ℕ × ℕ)) → spans_of items ≡ length spans → spans_taken item.content ≡ length own → items_shown place (items ++ item ∷ []) (spans ++ own) ≡ items_shown place items spans ++ item_shown place item own ∷ []
+shown_push : (place : FileBlockHandle) (items : List ReadItem) (item : ReadItem) (spans own : List (ℕ × ℕ)) → spans_of items ≡ length spans →
+    spans_taken item.content ≡ length own → items_shown place (items ++ item ∷ []) (spans ++ own) ≡ items_shown place items spans ++ item_shown place
+    item own ∷ []
 shown_push place [] item [] own e t = ap (λ (xs : List (ℕ × ℕ)). item_shown place item xs ∷ []) (ap (λ (n : ℕ). take n own) t ∙ take-length own)
 shown_push place [] item (x ∷ spans) own e t = absurd (omega (arith, e))
 shown_push place (y ∷ ys) item spans own e t =
@@ -164,11 +179,14 @@ shown_push place (y ∷ ys) item spans own e t =
     ∙ ap (λ (xs : List (ℕ × ℕ)). item_shown place y (take n spans) ∷ items_shown place (ys ++ item ∷ []) xs) rest
     ∙ ap (λ (xs : List Item). item_shown place y (take n spans) ∷ xs) (shown_push place ys item (drop n spans) own left t)
 
-pub items_held_push : (items : List ReadItem) (item : ReadItem) (spans own : List (ℕ × ℕ)) (xs : List Item) (x : Item) → AreHeldAs items spans xs → item.region ≡ x.raft_group_id → IsHeldAs item.content own x.content → AreHeldAs (items ++ item ∷ []) (spans ++ own) (xs ++ x ∷ [])
+pub items_held_push : (items : List ReadItem) (item : ReadItem) (spans own : List (ℕ × ℕ)) (xs : List Item) (x : Item) → AreHeldAs items spans xs →
+    item.region ≡ x.raft_group_id → IsHeldAs item.content own x.content → AreHeldAs (items ++ item ∷ []) (spans ++ own) (xs ++ x ∷ [])
 items_held_push items item spans own xs x h region k =
     record {
       taken = omega (arith, h.taken, k.taken, spans_push items item, length-append spans own);
-      shown = λ place. shown_push place items item spans own h.taken k.taken ∙ ap (λ (ys : List Item). ys ++ item_shown place item own ∷ []) (h.shown place) ∙ ap (λ (y : Item). map (placed_item place compressions.None) xs ++ y ∷ []) (item_held place item own x region k) ∙ sym (map-append (placed_item place compressions.None) xs (x ∷ []));
+      shown = λ place. shown_push place items item spans own h.taken k.taken ∙ ap (λ (ys : List Item). ys ++ item_shown place item own ∷ [])
+          (h.shown place) ∙ ap (λ (y : Item). map (placed_item place compressions.None) xs ++ y ∷ []) (item_held place item own x region k)
+          ∙ sym (map-append (placed_item place compressions.None) xs (x ∷ []));
     }
 
 -- the items that were read so far, and behind their entries comes this offset
@@ -179,7 +197,9 @@ pub record AreItemsSoFar (bytes rest : List ℕ) (items : List ReadItem) (spans 
   pub ends : offset ≡ end_of_items 0 read
   pub counted : length read ≡ count
 
-pub one_more_held : (bytes mid rest : List ℕ) (items new_items : List ReadItem) (spans new_spans : List (ℕ × ℕ)) (offset end count : ℕ) → AreItemsSoFar bytes mid items spans offset count → IsItemRead items new_items (reached mid offset spans) (reached rest end new_spans) → AreItemsSoFar bytes rest new_items new_spans end (count + 1)
+pub one_more_held : (bytes mid rest : List ℕ) (items new_items : List ReadItem) (spans new_spans : List (ℕ × ℕ)) (offset end count : ℕ) →
+    AreItemsSoFar bytes mid items spans offset count → IsItemRead items new_items (reached mid offset spans) (reached rest end new_spans) →
+    AreItemsSoFar bytes rest new_items new_spans end (count + 1)
 one_more_held bytes mid rest items new_items spans new_spans offset end count so r =
     let xs = so.read in
     let held = items_held_push items r.item spans r.own xs r.read so.held r.region r.held in
@@ -195,8 +215,11 @@ one_more_held bytes mid rest items new_items spans new_spans offset end count so
 pub items_fit : (place : FileBlockHandle) (s : ℕ) (bytes : List ℕ) (xs : List Item) → IsSequence behind_item IsItem s bytes xs → FitTogether s (map (placed_item place compressions.None) xs)
 items_fit place s bytes [] q = tt
 items_fit place s bytes (x ∷ xs) q =
-    let put = placed_item place compressions.None in
-    (fits_placed place compressions.None s x.content (item_fits s q.first x q.first_spells), subst (λ (t : ℕ). FitTogether t (map put xs)) (sym (behind_placed place compressions.None s x)) (items_fit place (behind_item s x) q.second xs q.second_spells))
+    let put = placed_item place compressions.None in (
+      fits_placed place compressions.None s x.content (item_fits s q.first x q.first_spells),
+      subst (λ (t : ℕ). FitTogether t (map put xs))
+          (sym (behind_placed place compressions.None s x)) (items_fit place (behind_item s x) q.second xs q.second_spells),
+    )
 
 -- ---- what the parts show
 

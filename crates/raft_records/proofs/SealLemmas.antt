@@ -26,7 +26,8 @@ pub signed_twice : (signature : Option ℕ) (n : ℕ) → signed_crc signature (
 signed_twice None n = refl
 signed_twice (Some s) n = xor_assoc n s s ∙ ap (bit_xor n) (xor_self s) ∙ xor_zero_r n
 
-pub sealed_by : (signature : Option ℕ) (bytes content seal : List ℕ) (found actual : ℕ) → 0 < length content → bytes ≡ content ++ seal → seal ≡ little_bytes 4 found → actual ≡ crc32_of content → found ≡ signed_crc signature actual → HasSeal signature bytes content
+pub sealed_by : (signature : Option ℕ) (bytes content seal : List ℕ) (found actual : ℕ) → 0 < length content → bytes ≡ content ++ seal →
+    seal ≡ little_bytes 4 found → actual ≡ crc32_of content → found ≡ signed_crc signature actual → HasSeal signature bytes content
 sealed_by signature bytes content seal found actual some split read crc same =
     record { some = some; split = split ∙ ap (λ (t : List ℕ). content ++ t) (read ∙ ap (little_bytes 4) (same ∙ ap (signed_crc signature) crc)) }
 
@@ -38,12 +39,16 @@ content_is signature bytes content c seal split len s =
     let same = same_length c content (checksum_bytes signature c) seal lens e in
     (same, append_cancel_left content (checksum_bytes signature c) seal (ap (λ (t : List ℕ). t ++ checksum_bytes signature c) (sym same) ∙ e))
 
-pub not_sealed : (signature : Option ℕ) (bytes content seal : List ℕ) (found actual written : ℕ) → found < 2 ^ 32 → written < 2 ^ 32 → bytes ≡ content ++ seal → seal ≡ little_bytes 4 found → actual ≡ crc32_of content → written ≡ signed_crc signature actual → found ≢ written → (c : List ℕ) → HasSeal signature bytes c → ⊥
+pub not_sealed : (signature : Option ℕ) (bytes content seal : List ℕ) (found actual written : ℕ) → found < 2 ^ 32 → written < 2 ^ 32 →
+    bytes ≡ content ++ seal → seal ≡ little_bytes 4 found → actual ≡ crc32_of content → written ≡ signed_crc signature actual → found ≢ written →
+    (c : List ℕ) → HasSeal signature bytes c → ⊥
 not_sealed signature bytes content seal found actual written found_fits written_fits split read crc signs differs c s =
     let is = content_is signature bytes content c seal split (ap length read ∙ four found) s in
     let number : written ≡ signed_crc signature (crc32_of c) = signs ∙ ap (signed_crc signature) (crc ∙ ap crc32_of (sym is.0)) in
     let bytes_same : little_bytes 4 found ≡ little_bytes 4 written = sym read ∙ sym is.1 ∙ ap (little_bytes 4) (sym number) in
-    let same = (IsReadAgain-little_bytes 4).one_front (little_bytes 4 found) (little_bytes 4 written) [] [] found written (record { in_range = found_fits; written = refl }) (record { in_range = written_fits; written = refl }) (ap (λ (t : List ℕ). t ++ []) bytes_same) in
+    let same = (IsReadAgain-little_bytes 4).one_front (little_bytes 4 found) (little_bytes 4 written) [] [] found written
+    (record { in_range = found_fits; written = refl }) (record { in_range = written_fits; written = refl })
+    (ap (λ (t : List ℕ). t ++ []) bytes_same) in
     differs same.1
 
 -- why the checksum is refused

@@ -26,7 +26,9 @@ within stage items es buf h = omega (arith, h.whole, h.fits)
 
 pub reheld : (stage : Stage) (items : List Item) (old new : List ℕ) → stage ≡ is_open → IsHeld stage items (entry_bytes_in items old) old → drop 16 new ≡ drop 16 old → IsHeld stage items (entry_bytes_in items new) new
 reheld stage items old new e h same =
-    subst (λ (s : Stage). IsHeld s items (entry_bytes_in items new) new) (sym e) (held_open items new (open_again (entry_bytes_of items) old new (open_held stage items (entry_bytes_in items old) old e h) same) (within stage items (entry_bytes_in items old) old h))
+    subst (λ (s : Stage). IsHeld s items (entry_bytes_in items new) new) (sym e)
+    (held_open items new (open_again (entry_bytes_of items) old new (open_held stage items (entry_bytes_in items old) old e h) same)
+    (within stage items (entry_bytes_in items old) old h))
 
 pub reheld_more : (stage : Stage) (items more : List Item) (buf : List ℕ) → stage ≡ is_open → IsHeld stage items (entry_bytes_in items buf) buf → entry_bytes_of more ≡ entry_bytes_of items → IsHeld stage more (entry_bytes_in more buf) buf
 reheld_more stage items more buf e h same =
@@ -35,7 +37,9 @@ reheld_more stage items more buf e h same =
 pub entries_are : (stage : Stage) (items : List Item) (buf : List ℕ) → stage ≡ is_open → IsHeld stage items (entry_bytes_in items buf) buf → entry_bytes_in items buf ≡ drop 16 buf
 entries_are stage items buf e h = open_entries (entry_bytes_of items) buf (open_held stage items (entry_bytes_in items buf) buf e h)
 
-pub populated : (stage : Stage) (items : List Item) (old mid new : List ℕ) → stage ≡ is_open → IsHeld stage items (entry_bytes_in items old) old → drop 16 mid ≡ drop 16 old → items ≢ [] → IsUnsealed items (drop 16 mid) new → length new < 2 ^ 56 → IsHeld encoded items (entry_bytes_in items new) new × (entry_bytes_in items new ≡ entry_bytes_in items old)
+pub populated : (stage : Stage) (items : List Item) (old mid new : List ℕ) → stage ≡ is_open → IsHeld stage items (entry_bytes_in items old) old →
+    drop 16 mid ≡ drop 16 old → items ≢ [] → IsUnsealed items (drop 16 mid) new → length new < 2 ^ 56 →
+    IsHeld encoded items (entry_bytes_in items new) new × (entry_bytes_in items new ≡ entry_bytes_in items old)
 populated stage items old mid new e h same some u short =
     let are : drop 16 mid ≡ entry_bytes_in items old = same ∙ sym (entries_are stage items old e h) in
     let counted : length (drop 16 mid) ≡ entry_bytes_of items = ap length are ∙ h.whole in
@@ -46,14 +50,24 @@ unsealed_len [] es buf some u = absurd (some refl)
 unsealed_len (x ∷ xs) es buf some u =
     let items = x ∷ xs in
     let header = header_bytes (item_offset es) compressions.None (encoded_length items es) in
-    omega (arith, ap length u.split, length-append (unsealed_bytes (encoded_length items es) items es) u.seal, length-append header (entry_block es ++ item_batch_bytes items), length-append (entry_block es) (item_batch_bytes items), header_len (item_offset es) compressions.None (encoded_length items es), u.four)
+    omega (
+      arith,
+      ap length u.split,
+      length-append (unsealed_bytes (encoded_length items es) items es) u.seal,
+      length-append header (entry_block es ++ item_batch_bytes items),
+      length-append (entry_block es) (item_batch_bytes items),
+      header_len (item_offset es) compressions.None (encoded_length items es),
+      u.four,
+    )
 
 -- one more item, which has no entry bytes, or none where there was no memory
 pub item_kept : {E : Type 0} (r : Result (Unit {0}) E) (items new : List Item) (x : Item) → ((s : ℕ) → behind_item s x ≡ s) → OnOk r (new ≡ items ++ x ∷ []) → OnErr r (new ≡ items) → entry_bytes_of new ≡ entry_bytes_of items
 item_kept (Ok u) items new x same ok err = ap entry_bytes_of ok ∙ item_same items x same
 item_kept (Err e) items new x same ok err = ap entry_bytes_of err
 
-pub item_view : {E : Type 0} (r : Result (Unit {0}) E) (now : Batch) (stage : Stage) (items new : List Item) (buf : List ℕ) (x : Item) → ((s : ℕ) → behind_item s x ≡ s) → batch_with items (entry_bytes_in items buf) stage ≡ now → OnOk r (new ≡ items ++ x ∷ []) → OnOk r (batch_with new (entry_bytes_in new buf) stage ≡ batch_with (now.items ++ x ∷ []) now.entry_bytes now.stage)
+pub item_view : {E : Type 0} (r : Result (Unit {0}) E) (now : Batch) (stage : Stage) (items new : List Item) (buf : List ℕ) (x : Item) →
+    ((s : ℕ) → behind_item s x ≡ s) → batch_with items (entry_bytes_in items buf) stage ≡ now → OnOk r (new ≡ items ++ x ∷ []) →
+    OnOk r (batch_with new (entry_bytes_in new buf) stage ≡ batch_with (now.items ++ x ∷ []) now.entry_bytes now.stage)
 item_view (Ok u) now stage items new buf x same view ok =
     ap (λ (xs : List Item). batch_with xs (entry_bytes_in xs buf) stage) ok
     ∙ ap (λ (n : ℕ). batch_with (items ++ x ∷ []) (take n (drop 16 buf)) stage) (item_same items x same)
@@ -64,7 +78,10 @@ item_view (Err e) now stage items new buf x same view ok = tt
 pub written_back : (n : ℕ) (new old : List ℕ) → length old ≡ n → length new ≡ length old → take n (new ++ drop (length new) old) ≡ new
 written_back n new old counted same = take_at new (drop (length new) old) n (same ∙ counted)
 
-pub encoded_whole : (items : List Item) (old closed whole slice new : List ℕ) (offset len n : ℕ) → items ≢ [] → 16 ≤ length old → closed ≡ take 16 old ++ entry_block (drop 16 old) → whole ≡ closed ++ (item_batch_bytes items ++ no_checksum) → offset ≡ length closed → len ≡ length whole → slice ≡ whole → length whole ≡ n → new ≡ header_bytes offset compressions.None len ++ drop 16 slice → IsUnsealed items (drop 16 old) (take n (new ++ drop (length new) whole))
+pub encoded_whole : (items : List Item) (old closed whole slice new : List ℕ) (offset len n : ℕ) → items ≢ [] → 16 ≤ length old →
+    closed ≡ take 16 old ++ entry_block (drop 16 old) → whole ≡ closed ++ (item_batch_bytes items ++ no_checksum) → offset ≡ length closed →
+    len ≡ length whole → slice ≡ whole → length whole ≡ n → new ≡ header_bytes offset compressions.None len ++ drop 16 slice →
+    IsUnsealed items (drop 16 old) (take n (new ++ drop (length new) whole))
 encoded_whole items old closed whole slice new offset len n some room e f at size is counted written =
     let says = length_is items old closed whole some room e f in
     let wide : 16 ≤ length whole = omega (arith, says.0, ap length f, length-append closed (item_batch_bytes items ++ no_checksum)) in
@@ -81,7 +98,9 @@ held_unsigned (sealed s) [] es buf ne h = record { whole = h.whole; fits = h.fit
 held_unsigned (sealed s) (x ∷ xs) es buf ne h =
     record { whole = h.whole; fits = h.fits; held = record { seal = checksum_bytes s (item_batch_bytes (x ∷ xs)); four = four (signed_crc s (crc32_of (item_batch_bytes (x ∷ xs)))); split = h.held }; short = h.short }
 
-pub sealed_held : (signature : Option ℕ) (items : List Item) (es buf : List ℕ) → length es ≡ entry_bytes_of items → length es < 2 ^ 31 → buf ≡ log_batch_bytes signature items es → length buf < 2 ^ 56 → IsHeld (sealed signature) items (entry_bytes_in items buf) buf × (entry_bytes_in items buf ≡ es)
+pub sealed_held : (signature : Option ℕ) (items : List Item) (es buf : List ℕ) → length es ≡ entry_bytes_of items → length es < 2 ^ 31 →
+    buf ≡ log_batch_bytes signature items es → length buf < 2 ^ 56 → IsHeld (sealed signature) items (entry_bytes_in items buf) buf ×
+    (entry_bytes_in items buf ≡ es)
 sealed_held signature [] es buf counted lt h short =
     (record { whole = refl; fits = omega arith; held = h; short = short }, sym (nil_from_length es counted))
 sealed_held signature (x ∷ xs) es buf counted lt h short =
@@ -142,7 +161,8 @@ pub encoded_length_at : (now : Batch) (stage : Stage) (items : List Item) (es bu
 encoded_length_at now stage items es buf view ne some h =
     unsealed_len items es buf some (unsealed_at stage items es buf ne some h.held) ∙ ap (λ (b : Batch). encoded_length b.items b.entry_bytes) view
 
-pub length_at : (now : Batch) (stage : Stage) (items : List Item) (es buf : List ℕ) → batch_with items es stage ≡ now → stage ≢ is_open → items ≢ [] → IsHeld stage items es buf → length buf ≡ approximate_length now.stage now.items now.entry_bytes
+pub length_at : (now : Batch) (stage : Stage) (items : List Item) (es buf : List ℕ) → batch_with items es stage ≡ now → stage ≢ is_open → items ≢ [] →
+    IsHeld stage items es buf → length buf ≡ approximate_length now.stage now.items now.entry_bytes
 length_at now stage items es buf view ne some h =
     unsealed_len items es buf some (unsealed_at stage items es buf ne some h.held)
     ∙ sym (approximated stage items es ne)

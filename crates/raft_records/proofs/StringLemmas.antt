@@ -51,22 +51,39 @@ none_consecutive index_of (x ∷ xs) none = let len : length (x ∷ xs) ≡ 0 = 
 -- ---- the batch with these entries
 
 -- where the bytes of entries stand behind those of a batch
-pub added_end : (items : List Item) (region : ℕ) (es : List EntryIndex) (strings : List (List ℕ)) → length es ≡ length strings → entry_bytes_of (items ++ entries_item region (with_offsets_from (entry_bytes_of items) (with_lengths es strings)) ∷ []) ≡ entry_bytes_of items + length (concat strings)
+pub added_end : (items : List Item) (region : ℕ) (es : List EntryIndex) (strings : List (List ℕ)) → length es ≡ length strings →
+    entry_bytes_of (items ++ entries_item region (with_offsets_from (entry_bytes_of items) (with_lengths es strings)) ∷ []) ≡ entry_bytes_of
+    items + length (concat strings)
 added_end items region es strings e =
     end_push 0 items (entries_item region (with_offsets_from (entry_bytes_of items) (with_lengths es strings)))
     ∙ end_of_laid (entry_bytes_of items) (with_lengths es strings)
     ∙ ap (λ (n : ℕ). entry_bytes_of items + n) (lengths_total es strings e)
 
-pub added_held : (stage : Stage) (items new : List Item) (region : ℕ) (es : List EntryIndex) (strings : List (List ℕ)) (buf mid bytes : List ℕ) → stage ≡ is_open → IsHeld stage items (entry_bytes_in items buf) buf → 16 ≤ length mid → drop 16 mid ≡ drop 16 buf → length es ≡ length strings → new ≡ items ++ entries_item region (with_offsets_from (entry_bytes_of items) (with_lengths es strings)) ∷ [] → bytes ≡ mid ++ concat strings → length bytes < 16 + 2 ^ 31 → IsHeld stage new (entry_bytes_in new bytes) bytes × (entry_bytes_in new bytes ≡ entry_bytes_in items buf ++ concat strings)
+pub added_held : (stage : Stage) (items new : List Item) (region : ℕ) (es : List EntryIndex) (strings : List (List ℕ)) (buf mid bytes : List ℕ) →
+    stage ≡ is_open → IsHeld stage items (entry_bytes_in items buf) buf → 16 ≤ length mid → drop 16 mid ≡ drop 16 buf → length es ≡ length strings →
+    new ≡ items ++ entries_item region (with_offsets_from (entry_bytes_of items) (with_lengths es strings)) ∷ [] → bytes ≡ mid ++ concat strings →
+    length bytes < 16 + 2 ^ 31 → IsHeld stage new (entry_bytes_in new bytes) bytes ×
+    (entry_bytes_in new bytes ≡ entry_bytes_in items buf ++ concat strings)
 added_held stage items new region es strings buf mid bytes e h room same counts added written fits =
     let behind : drop 16 bytes ≡ drop 16 buf ++ concat strings = ap (drop 16) written ∙ drop-append-le 16 mid (concat strings) room ∙ ap (λ (t : List ℕ). t ++ concat strings) same in
     let total : entry_bytes_of new ≡ entry_bytes_of items + length (concat strings) = ap entry_bytes_of added ∙ added_end items region es strings counts in
-    let len : length bytes - 16 ≡ entry_bytes_of new = omega (arith, total, open_held stage items (entry_bytes_in items buf) buf e h, ap length behind, length-append (drop 16 buf) (concat strings), length-drop 16 buf, length-drop 16 bytes) in (
+    let len : length bytes - 16 ≡ entry_bytes_of new = omega (
+      arith,
+      total,
+      open_held stage items (entry_bytes_in items buf) buf e h,
+      ap length behind,
+      length-append (drop 16 buf) (concat strings),
+      length-drop 16 buf,
+      length-drop 16 bytes,
+    ) in (
       subst (λ (s : Stage). IsHeld s new (entry_bytes_in new bytes) bytes) (sym e) (held_open new bytes len (omega (arith, len, fits))),
       open_entries (entry_bytes_of new) bytes len ∙ behind ∙ ap (λ (t : List ℕ). t ++ concat strings) (sym (entries_are stage items buf e h)),
     )
 
-pub added_view : (now : Batch) (stage : Stage) (items new : List Item) (region : ℕ) (es : List EntryIndex) (strings : List (List ℕ)) (old bytes : List ℕ) → batch_with items old stage ≡ now → length old ≡ entry_bytes_of items → es ≢ [] → new ≡ items ++ entries_item region (with_offsets_from (entry_bytes_of items) (with_lengths es strings)) ∷ [] → bytes ≡ old ++ concat strings → batch_with new bytes stage ≡ with_entries_added now region es strings
+pub added_view : (now : Batch) (stage : Stage) (items new : List Item) (region : ℕ) (es : List EntryIndex) (strings : List (List ℕ))
+    (old bytes : List ℕ) → batch_with items old stage ≡ now → length old ≡ entry_bytes_of items → es ≢ [] →
+    new ≡ items ++ entries_item region (with_offsets_from (entry_bytes_of items) (with_lengths es strings)) ∷ [] → bytes ≡ old ++ concat strings →
+    batch_with new bytes stage ≡ with_entries_added now region es strings
 added_view now stage items new region [] strings old bytes view whole some added written = absurd (some refl)
 added_view now stage items new region (e ∷ es) strings old bytes view whole some added written =
     ap (λ (xs : List Item). batch_with xs bytes stage) added
@@ -97,7 +114,10 @@ pub record IsStringing {X : Type 0} (bytes_of : X → List ℕ) (es : List Entry
   pub count : length now ≡ length xs
   pub small : 0 < i → length buf < 16 + 2 ^ 31
 
-set_length : {X : Type 0} (bytes_of : X → List ℕ) (es : List EntryIndex) (xs : List X) (i : ℕ) (e : EntryIndex) (x : X) → i < length es → length es ≡ length xs → e ≡ get_or (with_lengths (take i es) (map bytes_of xs) ++ drop i es) i e → x ≡ get_or xs i x → set (with_lengths (take i es) (map bytes_of xs) ++ drop i es) i (record e { entry_len = length (bytes_of x) }) ≡ with_lengths (take (suc i) es) (map bytes_of xs) ++ drop (suc i) es
+set_length : {X : Type 0} (bytes_of : X → List ℕ) (es : List EntryIndex) (xs : List X) (i : ℕ) (e : EntryIndex) (x : X) → i < length es →
+    length es ≡ length xs → e ≡ get_or (with_lengths (take i es) (map bytes_of xs) ++ drop i es) i e → x ≡ get_or xs i x →
+    set (with_lengths (take i es) (map bytes_of xs) ++ drop i es) i (record e { entry_len = length (bytes_of x) }) ≡ with_lengths (take (suc i) es)
+    (map bytes_of xs) ++ drop (suc i) es
 set_length bytes_of [] xs i e x lt count at there = absurd (omega (arith, lt))
 set_length bytes_of (y ∷ ys) [] i e x lt count at there = absurd (omega (arith, count))
 set_length bytes_of (y ∷ ys) (z ∷ zs) zero e x lt count at there =
@@ -105,7 +125,10 @@ set_length bytes_of (y ∷ ys) (z ∷ zs) zero e x lt count at there =
 set_length bytes_of (y ∷ ys) (z ∷ zs) (suc i) e x lt count at there =
     ap (λ (t : List EntryIndex). record y { entry_len = length (bytes_of z) } ∷ t) (set_length bytes_of ys zs i e x (omega (arith, lt)) (omega (arith, count)) at there)
 
-strung_more : {X : Type 0} (bytes_of : X → List ℕ) (es : List EntryIndex) (xs : List X) (i : ℕ) (start buf new : List ℕ) (now : List EntryIndex) (e : EntryIndex) (x : X) → IsStringing bytes_of es xs i start buf now → i < length xs → length es ≡ length xs → e ≡ get_or now i e → x ≡ get_or xs i x → new ≡ buf ++ bytes_of x → length new < 16 + 2 ^ 31 → IsStringing bytes_of es xs (i + 1) start new (set now i (record e { entry_len = length (bytes_of x) }))
+strung_more : {X : Type 0} (bytes_of : X → List ℕ) (es : List EntryIndex) (xs : List X) (i : ℕ) (start buf new : List ℕ) (now : List EntryIndex)
+    (e : EntryIndex) (x : X) → IsStringing bytes_of es xs i start buf now → i < length xs → length es ≡ length xs → e ≡ get_or now i e →
+    x ≡ get_or xs i x → new ≡ buf ++ bytes_of x → length new < 16 + 2 ^ 31 →
+    IsStringing bytes_of es xs (i + 1) start new (set now i (record e { entry_len = length (bytes_of x) }))
 strung_more {X} bytes_of es xs i start buf new now e x w lt count at there appended fits =
     let next = next_is xs i x lt there in
     let rest = concat (map bytes_of (drop (i + 1) xs)) in
@@ -113,16 +136,23 @@ strung_more {X} bytes_of es xs i start buf new now e x w lt count at there appen
     record {
       keeps = keeps_more start buf (bytes_of x) new w.keeps appended;
       bytes = ap (λ (t : List ℕ). t ++ rest) appended ∙ append_assoc buf (bytes_of x) rest ∙ ap (λ (ys : List X). buf ++ concat (map bytes_of ys)) (sym next) ∙ w.bytes;
-      lengths = ap (λ (t : List EntryIndex). set t i (record e { entry_len = length (bytes_of x) })) w.lengths ∙ set_length bytes_of es xs i e x (omega (arith, lt, count)) count here there ∙ ap (λ (n : ℕ). with_lengths (take n es) (map bytes_of xs) ++ drop n es) (sym (add-one i));
+      lengths = ap (λ (t : List EntryIndex). set t i (record e { entry_len = length (bytes_of x) })) w.lengths
+          ∙ set_length bytes_of es xs i e x (omega (arith, lt, count)) count here there
+          ∙ ap (λ (n : ℕ). with_lengths (take n es) (map bytes_of xs) ++ drop n es) (sym (add-one i));
       count = length-set now i (record e { entry_len = length (bytes_of x) }) ∙ w.count;
       small = λ some. fits;
     }
 
-pub strung_next : {X : Type 0} (bytes_of : X → List ℕ) (es : List EntryIndex) (xs : List X) (i : ℕ) (start buf new : List ℕ) (now : List EntryIndex) (e : EntryIndex) (x : X) (len : ℕ) → IsStringing bytes_of es xs i start buf now → i < length xs → length es ≡ length xs → e ≡ get_or now i e → x ≡ get_or xs i x → new ≡ buf ++ bytes_of x → length new < 16 + 2 ^ 31 → len ≡ length (bytes_of x) → IsStringing bytes_of es xs (i + 1) start new (set now i (record e { entry_len = len }))
+pub strung_next : {X : Type 0} (bytes_of : X → List ℕ) (es : List EntryIndex) (xs : List X) (i : ℕ) (start buf new : List ℕ) (now : List EntryIndex)
+    (e : EntryIndex) (x : X) (len : ℕ) → IsStringing bytes_of es xs i start buf now → i < length xs → length es ≡ length xs → e ≡ get_or now i e →
+    x ≡ get_or xs i x → new ≡ buf ++ bytes_of x → length new < 16 + 2 ^ 31 → len ≡ length (bytes_of x) →
+    IsStringing bytes_of es xs (i + 1) start new (set now i (record e { entry_len = len }))
 strung_next bytes_of es xs i start buf new now e x len w lt count at there appended fits same =
     subst (λ (n : ℕ). IsStringing bytes_of es xs (i + 1) start new (set now i (record e { entry_len = n }))) (sym same) (strung_more bytes_of es xs i start buf new now e x w lt count at there appended fits)
 
-pub strung_past : {X : Type 0} (bytes_of : X → List ℕ) (es : List EntryIndex) (xs : List X) (i : ℕ) (start buf : List ℕ) (now : List EntryIndex) (x : X) → IsStringing bytes_of es xs i start buf now → i < length xs → x ≡ get_or xs i x → 16 ≤ length start → 16 + 2 ^ 31 ≤ length buf + length (bytes_of x) → 2 ^ 31 ≤ length start - 16 + length (concat (map bytes_of xs))
+pub strung_past : {X : Type 0} (bytes_of : X → List ℕ) (es : List EntryIndex) (xs : List X) (i : ℕ) (start buf : List ℕ) (now : List EntryIndex)
+    (x : X) → IsStringing bytes_of es xs i start buf now → i < length xs → x ≡ get_or xs i x → 16 ≤ length start →
+    16 + 2 ^ 31 ≤ length buf + length (bytes_of x) → 2 ^ 31 ≤ length start - 16 + length (concat (map bytes_of xs))
 strung_past bytes_of es xs i start buf now x w lt there room past =
     let next = next_is xs i x lt there in
     let rest = concat (map bytes_of (drop (i + 1) xs)) in
@@ -135,7 +165,9 @@ some_counted (x ∷ xs) [] e some none = absurd (omega (arith, e))
 some_counted (x ∷ xs) (y ∷ ys) e some none = absurd cc
 
 -- what was found is the entries with their lengths
-pub found_room : (es found : List EntryIndex) (strings : List (List ℕ)) (old new : List ℕ) (before : ℕ) → length es ≡ length strings → found ≡ with_lengths es strings → new ≡ old ++ concat strings → length new < 16 + 2 ^ 31 → length old ≡ 16 + before → before + entry_lengths found < 2 ^ 32
+pub found_room : (es found : List EntryIndex) (strings : List (List ℕ)) (old new : List ℕ) (before : ℕ) → length es ≡ length strings →
+    found ≡ with_lengths es strings → new ≡ old ++ concat strings → length new < 16 + 2 ^ 31 → length old ≡ 16 + before →
+    before + entry_lengths found < 2 ^ 32
 found_room es found strings old new before counts is written fits whole =
     omega (arith, fits, whole, ap entry_lengths is, lengths_total es strings counts, ap length written, length-append old (concat strings))
 
@@ -161,7 +193,10 @@ pub record AreLaid {X : Type 0} (index_of : X → ℕ) (bytes_of : X → List �
   pub laid : now ++ laid_messages index_of bytes_of (length buf - 16) (drop i xs) ≡ laid_messages index_of bytes_of (length start - 16) xs
   pub small : 0 < i → length buf < 16 + 2 ^ 31
 
-pub laid_more : {X : Type 0} (index_of : X → ℕ) (bytes_of : X → List ℕ) (xs : List X) (i : ℕ) (start buf new : List ℕ) (now : List EntryIndex) (x : X) (index offset len : ℕ) → AreLaid index_of bytes_of xs i start buf now → i < length xs → x ≡ get_or xs i x → new ≡ buf ++ bytes_of x → length new < 16 + 2 ^ 31 → index ≡ index_of x → offset ≡ length buf - 16 → len ≡ length (bytes_of x) → AreLaid index_of bytes_of xs (i + 1) start new (now ++ message_entry index offset len ∷ [])
+pub laid_more : {X : Type 0} (index_of : X → ℕ) (bytes_of : X → List ℕ) (xs : List X) (i : ℕ) (start buf new : List ℕ) (now : List EntryIndex) (x : X)
+    (index offset len : ℕ) → AreLaid index_of bytes_of xs i start buf now → i < length xs → x ≡ get_or xs i x → new ≡ buf ++ bytes_of x →
+    length new < 16 + 2 ^ 31 → index ≡ index_of x → offset ≡ length buf - 16 → len ≡ length (bytes_of x) →
+    AreLaid index_of bytes_of xs (i + 1) start new (now ++ message_entry index offset len ∷ [])
 laid_more {X} index_of bytes_of xs i start buf new now x index offset len w lt there appended fits named at counted =
     let next = next_is xs i x lt there in
     let behind = drop (i + 1) xs in
@@ -183,7 +218,9 @@ laid_more {X} index_of bytes_of xs i start buf new now x index offset len w lt t
       small = λ some. fits;
     }
 
-pub laid_past : {X : Type 0} (index_of : X → ℕ) (bytes_of : X → List ℕ) (xs : List X) (i : ℕ) (start buf : List ℕ) (now : List EntryIndex) (x : X) → AreLaid index_of bytes_of xs i start buf now → i < length xs → x ≡ get_or xs i x → 16 ≤ length start → 16 + 2 ^ 31 ≤ length buf + length (bytes_of x) → 2 ^ 31 ≤ length start - 16 + length (concat (map bytes_of xs))
+pub laid_past : {X : Type 0} (index_of : X → ℕ) (bytes_of : X → List ℕ) (xs : List X) (i : ℕ) (start buf : List ℕ) (now : List EntryIndex) (x : X) →
+    AreLaid index_of bytes_of xs i start buf now → i < length xs → x ≡ get_or xs i x → 16 ≤ length start →
+    16 + 2 ^ 31 ≤ length buf + length (bytes_of x) → 2 ^ 31 ≤ length start - 16 + length (concat (map bytes_of xs))
 laid_past index_of bytes_of xs i start buf now x w lt there room past =
     let next = next_is xs i x lt there in
     let rest = concat (map bytes_of (drop (i + 1) xs)) in
@@ -191,13 +228,17 @@ laid_past index_of bytes_of xs i start buf now x w lt there room past =
     omega (arith, room, past, whole, length-append buf (bytes_of x ++ rest), length-append (bytes_of x) rest, length-append start (concat (map bytes_of xs)))
 
 -- entries that were laid behind those of a batch
-laid_is : {X : Type 0} (index_of : X → ℕ) (bytes_of : X → List ℕ) (xs : List X) (old : List ℕ) (found : List EntryIndex) (before : ℕ) → found ≡ laid_messages index_of bytes_of (length old - 16) xs → length old ≡ 16 + before → found ≡ laid_messages index_of bytes_of before xs
+laid_is : {X : Type 0} (index_of : X → ℕ) (bytes_of : X → List ℕ) (xs : List X) (old : List ℕ) (found : List EntryIndex) (before : ℕ) →
+    found ≡ laid_messages index_of bytes_of (length old - 16) xs → length old ≡ 16 + before → found ≡ laid_messages index_of bytes_of before xs
 laid_is index_of bytes_of xs old found before laid whole =
     let start : length old - 16 ≡ before = omega (arith, whole) in
     laid ∙ ap (λ (s : ℕ). laid_messages index_of bytes_of s xs) start
 
 -- they fit behind it, and end where the bytes end
-pub laid_messages_fit : {X : Type 0} (index_of : X → ℕ) (bytes_of : X → List ℕ) (xs : List X) (old new : List ℕ) (found : List EntryIndex) (before : ℕ) → IsConsecutive (map (λ x. entry_with_index (index_of x)) xs) → found ≡ laid_messages index_of bytes_of (length old - 16) xs → new ≡ old ++ concat (map bytes_of xs) → length new < 16 + 2 ^ 31 → length old ≡ 16 + before → FitsBehind before (entries found) × (end_behind before found ≡ length new - 16)
+pub laid_messages_fit : {X : Type 0} (index_of : X → ℕ) (bytes_of : X → List ℕ) (xs : List X) (old new : List ℕ) (found : List EntryIndex)
+    (before : ℕ) → IsConsecutive (map (λ x. entry_with_index (index_of x)) xs) → found ≡ laid_messages index_of bytes_of (length old - 16) xs →
+    new ≡ old ++ concat (map bytes_of xs) → length new < 16 + 2 ^ 31 → length old ≡ 16 + before →
+    FitsBehind before (entries found) × (end_behind before found ≡ length new - 16)
 laid_messages_fit index_of bytes_of xs old new found before h laid written fits whole =
     let es = map (λ x. entry_with_index (index_of x)) xs in
     let strings = map bytes_of xs in
@@ -208,14 +249,17 @@ laid_messages_fit index_of bytes_of xs old new found before h laid written fits 
       ap (end_behind before) is ∙ end_of_laid before (with_lengths es strings) ∙ omega (arith, total, len, whole),
     )
 
-pub with_first_message : {X : Type 0} (index_of : X → ℕ) (xs : List X) (x : X) → 0 < length xs → x ≡ get_or xs 0 x → IsConsecutive (map (λ x. entry_with_index (index_of x)) xs) ↔ IsConsecutiveFrom (index_of x) (map (λ x. entry_with_index (index_of x)) xs)
+pub with_first_message : {X : Type 0} (index_of : X → ℕ) (xs : List X) (x : X) → 0 < length xs → x ≡ get_or xs 0 x →
+    IsConsecutive (map (λ x. entry_with_index (index_of x)) xs) ↔ IsConsecutiveFrom (index_of x) (map (λ x. entry_with_index (index_of x)) xs)
 with_first_message index_of [] x l h = absurd (omega arith)
 with_first_message {X} index_of (y ∷ ys) x l h =
     let es = map (λ x. entry_with_index (index_of x)) (y ∷ ys) in
     subst (λ (z : X). IsConsecutive es ↔ IsConsecutiveFrom (index_of z) es) (sym h) (from_first (entry_with_index (index_of y)) (map (λ x. entry_with_index (index_of x)) ys), consecutive_from (index_of y) es)
 
 -- a refused addition, cut off again
-pub cut_held : (stage : Stage) (items kept : List Item) (old mid new cut : List ℕ) (n : ℕ) → stage ≡ is_open → IsHeld stage items (entry_bytes_in items old) old → drop 16 mid ≡ drop 16 old → Keeps mid new → n ≡ length mid → cut ≡ take n new → kept ≡ items → IsHeld stage kept (entry_bytes_in kept cut) cut
+pub cut_held : (stage : Stage) (items kept : List Item) (old mid new cut : List ℕ) (n : ℕ) → stage ≡ is_open →
+    IsHeld stage items (entry_bytes_in items old) old → drop 16 mid ≡ drop 16 old → Keeps mid new → n ≡ length mid → cut ≡ take n new → kept ≡ items →
+    IsHeld stage kept (entry_bytes_in kept cut) cut
 cut_held stage items kept old mid new cut n e h same keeps len is_cut is_kept =
     let back : cut ≡ mid = is_cut ∙ cut_to mid new n len keeps in
     subst (λ (xs : List Item). IsHeld stage xs (entry_bytes_in xs cut) cut) (sym is_kept) (reheld stage items old cut e h (ap (drop 16) back ∙ same))

@@ -66,7 +66,14 @@ run_spelled s (e ∷ es) h t =
 
 pub entries_spelled : (s : ℕ) (es : List EntryIndex) → length es < 2 ^ 64 → IsConsecutive es → Tile s es → IsEntries s (entries_bytes es) (map bare_entry es)
 entries_spelled s es lt h t =
-    let counted : IsFollowedBy IsVarint (AreIndexAndTails s) (entries_bytes es) (length es) (map bare_entry es) = record { first = varint (length es); second = run_bytes es; first_spells = varint_spells (length es) lt; second_spells = run_spelled s es h t; split = refl } in
+    let counted : IsFollowedBy IsVarint (AreIndexAndTails s) (entries_bytes es) (length es)
+    (map bare_entry es) = record {
+      first = varint (length es);
+      second = run_bytes es;
+      first_spells = varint_spells (length es) lt;
+      second_spells = run_spelled s es h t;
+      split = refl;
+    } in
     subst (λ (n : ℕ). IsFollowedBy IsVarint (AreIndexAndTails s) (entries_bytes es) n (map bare_entry es)) (sym (length-map es bare_entry)) counted
 
 content_spelled : (s : ℕ) (c : Content) → FitsBehind s c → IsContentInRange c → IsContent s (content_bytes c) (bare_content c)
@@ -98,10 +105,19 @@ items_spelled s (x ∷ xs) f r =
       split = refl;
     }
 
-pub batch_spelled : (signature : Option ℕ) (items : List Item) → FitTogether 0 items → AreInRange items → length items < 2 ^ 64 → IsItemBatch (item_batch_bytes items ++ checksum_bytes signature (item_batch_bytes items)) signature (map bare items) []
+pub batch_spelled : (signature : Option ℕ) (items : List Item) → FitTogether 0 items → AreInRange items → length items < 2 ^ 64 →
+    IsItemBatch (item_batch_bytes items ++ checksum_bytes signature (item_batch_bytes items)) signature (map bare items) []
 unfolding item_batch_bytes
 batch_spelled signature items f r lt =
-    let counted : IsFollowedBy IsVarint AreItems (item_batch_bytes items) (length items) (map bare items) = record { first = varint (length items); second = flat_map item_bytes items; first_spells = varint_spells (length items) lt; second_spells = record { spelled = items_spelled 0 items f r; count = length-map items bare }; split = refl } in
+    let counted : IsFollowedBy IsVarint AreItems (item_batch_bytes items) (length items)
+    (map bare items) = record {
+      first = varint (length items);
+      second = flat_map item_bytes items;
+      first_spells = varint_spells
+          (length items) lt;
+      second_spells = record { spelled = items_spelled 0 items f r; count = length-map items bare };
+      split = refl;
+    } in
     record {
       front = item_batch_bytes items;
       counted = subst (λ (n : ℕ). IsFollowedBy IsVarint AreItems (item_batch_bytes items) n (map bare items)) (sym (length-map items bare)) counted;

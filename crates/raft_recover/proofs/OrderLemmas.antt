@@ -127,7 +127,9 @@ module _ {X : Type 0} where
   each_found (e ∷ es) sorted = (rw (tied e.0 e.0, eq-eqb e.0 e.0 refl) refl, each_later e es es (first_of_both _ _ sorted) (each_found es (second_of_both _ _ sorted)))
 
   module _ (n : X → ℕ) (m : finite.FinMap nat_cmp X) where
-    own_values : ((k : ℕ) (x : X) → finite.get m k ≡ Some x → n x ≡ k) → (es : List (ℕ × X)) → AllByRecursion (λ e. find nat_cmp e.0 (finite.entries m) ≡ Some e.1) es → AllByRecursion (λ x. finite.get m (n x) ≡ Some x) (map (λ e. e.1) es) × (map n (map (λ e. e.1) es) ≡ map (λ e. e.0) es)
+    own_values : ((k : ℕ) (x : X) → finite.get m k ≡ Some x → n x ≡ k) → (es : List (ℕ × X)) →
+        AllByRecursion (λ e. find nat_cmp e.0 (finite.entries m) ≡ Some e.1) es →
+        AllByRecursion (λ x. finite.get m (n x) ≡ Some x) (map (λ e. e.1) es) × (map n (map (λ e. e.1) es) ≡ map (λ e. e.0) es)
     own_values numbered [] h = (tt, refl)
     own_values numbered (e ∷ es) h =
         let got : finite.get m e.0 ≡ Some e.1 = finite.get-entries m e.0 ∙ h.0 in
@@ -149,10 +151,14 @@ module _ {X : Type 0} where
     pub in_order : {B : Type 0} (f : B → X) → ((k : ℕ) (x : X) → finite.get m k ≡ Some x → n x ≡ k) → (bs : List B) → IsPermutation (finite.values m) (map f bs) → IsNonDecreasingBy (λ b. n (f b)) bs → map f bs ≡ finite.values m
     in_order f numbered bs moved rises =
         let values = own_values numbered (finite.entries m) (each_found (finite.entries m) (finite.entries_sorted m)) in
-        let own = recursion_from_All (λ x. finite.get m (n x) ≡ Some x) (map f bs) (All-permutation (λ x. finite.get m (n x) ≡ Some x) (finite.values m) (map f bs) moved (All-from_recursion (λ x. finite.get m (n x) ≡ Some x) (finite.values m) values.0)) in
+        let own = recursion_from_All (λ x. finite.get m (n x) ≡ Some x) (map f bs)
+        (All-permutation (λ x. finite.get m (n x) ≡ Some x) (finite.values m) (map f bs) moved
+        (All-from_recursion (λ x. finite.get m (n x) ≡ Some x) (finite.values m) values.0)) in
         let numbers = IsPermutation-map n (finite.values m) (map f bs) moved in
         let rising : RisesFrom 0 (map n (map f bs)) = rw (map_twice f n bs) (rises_by (λ b. n (f b)) 0 bs rises (λ d some. omega arith)) in
-        let same : map n (map f bs) ≡ finite.keys m = same_times 0 0 (map n (map f bs)) (finite.keys m) rising (sorted_rises (finite.entries m) (finite.entries_sorted m)) (λ k. sum_by-IsPermutation (here k) (map n (finite.values m)) (map n (map f bs)) numbers ∙ ap (times k) values.1) in
+        let same : map n (map f bs) ≡ finite.keys m = same_times 0 0 (map n (map f bs)) (finite.keys m) rising
+        (sorted_rises (finite.entries m) (finite.entries_sorted m))
+        (λ k. sum_by-IsPermutation (here k) (map n (finite.values m)) (map n (map f bs)) numbers ∙ ap (times k) values.1) in
         same_by_number (map f bs) (finite.values m) own values.0 (same ∙ sym values.1)
 
 image_at : {A B : Type 0} (f : A → B) (xs : List A) (i : ℕ) (d : B) (e : A) → i < length xs → get_or (map f xs) i d ≡ f (get_or xs i e)

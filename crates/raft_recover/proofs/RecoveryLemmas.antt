@@ -32,7 +32,6 @@ use Rattle.raft_replay.proofs.SegmentLemmas.{segments_unique}
 use Rattle.raft_recover.specs.Files.{FilesHold, FilesCannotBeRead, IsPrintFailure, PrintsRecovered}
 use Rattle.raft_recover.specs.Recovery.{AreBothRecovered, IsRecovered}
 use Rattle.raft_recover.specs.Requests.{NumberedBytes}
-use Rattle.raft_recover.specs.Shares.{IsReplayedOrRefused}
 use Rattle.raft_recover.specs.TableLines.{PrintsTables, PrintsFrontOfTables}
 
 -- ---- the context of all segments
@@ -138,10 +137,11 @@ module _ (queue : LogQueue) (version : Version) (ss : List (Vec Part Global)) (f
 
 -- segments that hold no small history can't be read
 few_or_unread : (segments : List (Vec Part Global)) (h : List Event) → SegmentsHold segments h → IsSmall h ⊎ CannotBeRead segments
-few_or_unread segments h held = elim (ltb (records_in (flat_map (λ (e : Event). steps_of_items e.items) h)) (2 ^ 63)) as (λ b. ltb (records_in (flat_map (λ (e : Event). steps_of_items e.items) h)) (2 ^ 63) ≡ b → IsSmall h ⊎ CannotBeRead segments) [
-  | true ↦ λ t. inl (record { few = grind (arith, nat_tests) })
-  | false ↦ λ t. inr (record { unsound = λ g other small sound. not_few h (subst IsSmall (segments_unique segments g h other held) small) t })
-] refl
+few_or_unread segments h held = elim (ltb (records_in (flat_map (λ (e : Event). steps_of_items e.items) h)) (2 ^ 63))
+    as (λ b. ltb (records_in (flat_map (λ (e : Event). steps_of_items e.items) h)) (2 ^ 63) ≡ b → IsSmall h ⊎ CannotBeRead segments) [
+      | true ↦ λ t. inl (record { few = grind (arith, nat_tests) })
+      | false ↦ λ t. inr (record { unsound = λ g other small sound. not_few h (subst IsSmall (segments_unique segments g h other held) small) t })
+    ] refl
   where
     not_few : (h : List Event) → IsSmall h → ltb (records_in (flat_map (λ (e : Event). steps_of_items e.items) h)) (2 ^ 63) ≡ false → ⊥
     not_few h small t = let k = small.few in grind (arith, nat_tests)
@@ -156,7 +156,9 @@ module _ (rewrite append : List (Vec Part Global)) (rewrite_of : SegmentsAreOf R
     | inr cannot ↦ inl cannot
     | inl small ↦ elim (few_or_unread append newer.history newer.held) [
       | inr cannot ↦ inr cannot
-      | inl few ↦ absurd (not_memory (memory older.history newer.history small few (segments_read_of_queue Rewrite rewrite rewrite_of older.history older.held) (segments_read_of_queue Append append append_of newer.history newer.held) (older.stands small) (newer.stands few)))
+      | inl few ↦ absurd (not_memory
+          (memory older.history newer.history small few (segments_read_of_queue Rewrite rewrite rewrite_of older.history older.held)
+          (segments_read_of_queue Append append append_of newer.history newer.held) (older.stands small) (newer.stands few)))
     ]
   ]
 
@@ -168,7 +170,8 @@ module _ (rewrite append : List (Vec Part Global)) (rewrite_of : SegmentsAreOf R
   both_merged_few (Err e) P few_rewrite few_append memory = λ not_memory.
       let small = small_segments rewrite older.history older.held few_rewrite in
       let few = small_segments append newer.history newer.held few_append in
-      absurd (not_memory (memory older.history newer.history small few (segments_read_of_queue Rewrite rewrite rewrite_of older.history older.held) (segments_read_of_queue Append append append_of newer.history newer.held) (older.stands small) (newer.stands few)))
+      absurd (not_memory (memory older.history newer.history small few (segments_read_of_queue Rewrite rewrite rewrite_of older.history older.held)
+      (segments_read_of_queue Append append append_of newer.history newer.held) (older.stands small) (newer.stands few)))
 
   rewrite_sound : IsSmall older.history → IsSoundIn Rewrite older.history
   rewrite_sound small = ((older.stands small).stands.stands Rewrite (suited Rewrite rewrite rewrite_of old older small)).sound
@@ -192,12 +195,16 @@ module _ (rewrite append : List (Vec Part Global)) (rewrite_of : SegmentsAreOf R
   both_recovered new merged (Err e) reads counted = tt
 
 -- with a whole append queue both give its records alone
-pub both_whole : (rewrite append : List (Vec Part Global)) (r : Result Accessor Error) → IfOk r (AreBothRecovered (SegmentsHold rewrite) (SegmentsHold append)) → (h k : List Event) (tables : Tables) (cleaned : List ℕ) → SegmentsHold rewrite h → SegmentsHold append k → IsSmall h → IsSmall k → Apart h
+pub both_whole : (rewrite append : List (Vec Part Global)) (r : Result Accessor Error) →
+    IfOk r (AreBothRecovered (SegmentsHold rewrite) (SegmentsHold append)) → (h k : List Event) (tables : Tables) (cleaned : List ℕ) →
+    SegmentsHold rewrite h → SegmentsHold append k → IsSmall h → IsSmall k → Apart h
     → AreRewrittenFrom k h → IsOneReading Append k tables cleaned → IfOk r (λ a. HaveSameRecords a.tables tables × (a.cleaned ≡ cleaned))
 both_whole rewrite append (Ok a) both h k tables cleaned rewrite_held append_held small few apart from one =
     let h_same = segments_unique rewrite both.rewrite h both.rewrite_held rewrite_held in
     let k_same = segments_unique append both.append k both.append_held append_held in
-    let reading = subst (λ l. IsReadingOfBoth l k a.tables a.cleaned) h_same (subst (λ l. IsReadingOfBoth both.rewrite l a.tables a.cleaned) k_same (both.reading (subst IsSmall (sym h_same) small) (subst IsSmall (sym k_same) few) (subst Apart (sym h_same) apart))) in
+    let reading = subst (λ l. IsReadingOfBoth l k a.tables a.cleaned) h_same
+    (subst (λ l. IsReadingOfBoth both.rewrite l a.tables a.cleaned) k_same
+    (both.reading (subst IsSmall (sym h_same) small) (subst IsSmall (sym k_same) few) (subst Apart (sym h_same) apart))) in
     let sound = subst (IsSoundIn Append) k_same (both.append_sound (subst IsSmall (sym k_same) few)) in
     (both_same k sound h a.tables tables a.cleaned cleaned from reading one, reading.append_read.regions_cleaned ∙ sym one.regions_cleaned)
 both_whole rewrite append (Err e) both h k tables cleaned rewrite_held append_held small few apart from one = tt

@@ -1,5 +1,42 @@
 -- What words ask for.
-use Rattle.std.proofs.Common.{◌≡◌, ◌≢◌, ℕ, zero, suc, ◌+◌, ◌-◌, ◌<◌, ◌≤◌, List, [], ◌∷◌, ◌++◌, length, get_or, take, drop, map, codes, Bool, true, false, not, Bor, Option, None, Some, IfNone, MatchOption, arith, refl, subst, ap, sym, ◌∙◌, append_assoc}
+use Rattle.std.proofs.Common.{
+  ◌≡◌,
+  ◌≢◌,
+  ℕ,
+  zero,
+  suc,
+  ◌+◌,
+  ◌-◌,
+  ◌<◌,
+  ◌≤◌,
+  List,
+  [],
+  ◌∷◌,
+  ◌++◌,
+  length,
+  get_or,
+  take,
+  drop,
+  map,
+  codes,
+  Bool,
+  true,
+  false,
+  not,
+  Bor,
+  Option,
+  None,
+  Some,
+  IfNone,
+  MatchOption,
+  arith,
+  refl,
+  subst,
+  ap,
+  sym,
+  ◌∙◌,
+  append_assoc,
+}
 use Rattle.std.proofs.lemmas.List.{take_all, append-nil, map_push, map_more}
 use Rattle.std.specs.Char.{digit_value}
 use Rattle.std.specs.Str.Parse.{AllDigits}
@@ -20,12 +57,14 @@ four_items (w ∷ x ∷ y ∷ z ∷ []) a b c d low high p q r s = cc
 four_items (w ∷ x ∷ y ∷ z ∷ v ∷ xs) a b c d low high p q r s = absurd (omega arith)
 
 -- `batch` and words that name a file ask for its batch
-pub asks_batch : (words : List (List ℕ)) (command queue seq version : List ℕ) (context : LogFileContext) → words ≡ command ∷ queue ∷ seq ∷ version ∷ [] → command ≡ codes "batch" → NamesContext queue seq version context → AsksBatch words context
+pub asks_batch : (words : List (List ℕ)) (command queue seq version : List ℕ) (context : LogFileContext) →
+    words ≡ command ∷ queue ∷ seq ∷ version ∷ [] → command ≡ codes "batch" → NamesContext queue seq version context → AsksBatch words context
 asks_batch words command queue seq version context split batch file =
     record { queue = queue; seq = seq; version = version; form = rw (← batch) split; file = file }
 
 -- where the words name no file no batch is asked for
-pub asks_no_batch : (words : List (List ℕ)) (command queue seq version : List ℕ) → words ≡ command ∷ queue ∷ seq ∷ version ∷ [] → ((context : LogFileContext) → NamesContext queue seq version context → ⊥) → (context : LogFileContext) → AsksBatch words context → ⊥
+pub asks_no_batch : (words : List (List ℕ)) (command queue seq version : List ℕ) → words ≡ command ∷ queue ∷ seq ∷ version ∷ [] →
+    ((context : LogFileContext) → NamesContext queue seq version context → ⊥) → (context : LogFileContext) → AsksBatch words context → ⊥
 asks_no_batch words command queue seq version split none context asked =
     let same_queue : asked.queue ≡ queue = cc in
     let same_seq : asked.seq ≡ seq = cc in
@@ -122,7 +161,8 @@ pub front_more : {X Y : Type 0} (f : X → Y) (xs : List X) (i : ℕ) (x : X) �
 front_more f xs i x low is = map_more f xs i x low ∙ ap (λ y. map f (take i xs) ++ f y ∷ []) (sym is)
 
 -- the number of the next file goes behind those so far
-pub number_more : {X Y : Type 0} (f : X → ℕ) (g : Y → ℕ) (xs : List X) (x : X) (ys : List Y) (i : ℕ) (d : Y) → i < length ys → f x ≡ g (get_or ys i d) → map f xs ++ map g (drop i ys) ≡ map g ys → map f (xs ++ x ∷ []) ++ map g (drop (i + 1) ys) ≡ map g ys
+pub number_more : {X Y : Type 0} (f : X → ℕ) (g : Y → ℕ) (xs : List X) (x : X) (ys : List Y) (i : ℕ) (d : Y) → i < length ys →
+    f x ≡ g (get_or ys i d) → map f xs ++ map g (drop i ys) ≡ map g ys → map f (xs ++ x ∷ []) ++ map g (drop (i + 1) ys) ≡ map g ys
 number_more f g xs x ys i d low same before =
     let y = get_or ys i d in
     let left : map g (drop i ys) ≡ g y ∷ map g (drop (i + 1) ys) = ap (map g) (next_at ys i d low) in

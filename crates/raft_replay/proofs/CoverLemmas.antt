@@ -1,5 +1,5 @@
 -- What pieces cover: one more segment, all that a seat drew, and all pieces in order.
-use Rattle.std.proofs.Common.{◌≡◌, ℕ, ◌+◌, ◌<◌, ◌≤◌, inl, inr, max, cond, List, [], ◌∷◌, ◌++◌, None, Vec, length, get_or, take, drop, sym, refl, ap, ◌∙◌, subst, arith, append_assoc, take-append-drop, drop-drop, get_or-drop, length-drop, ◌==◌}
+use Rattle.std.proofs.Common.{◌≡◌, ℕ, ◌+◌, ◌<◌, ◌≤◌, inl, inr, max, cond, List, [], ◌∷◌, ◌++◌, None, Vec, length, get_or, take, drop, sym, ap, ◌∙◌, subst, arith, append_assoc, take-append-drop, drop-drop, get_or-drop, length-drop, ◌==◌}
 use Rattle.std.specs.Global.{Global}
 use Rattle.std.proofs.lemmas.Bool.Decides.{nat_tests}
 use Rattle.std.proofs.lemmas.List.{take_more, drop_more}

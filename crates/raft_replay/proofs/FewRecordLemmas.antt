@@ -83,7 +83,9 @@ unfolding named
 placed_named place compression [] = refl
 placed_named place compression (item ∷ items) = go item.content (placed_named place compression items)
   where
-    go : (content : Content) → named (map (placed_item place compression) items) ≡ named items → records_named (placed_content place compression content) + named (map (placed_item place compression) items) ≡ records_named content + named items
+    go : (content : Content) → named (map (placed_item place compression) items) ≡ named items →
+        records_named (placed_content place compression content) + named (map (placed_item place compression) items) ≡ records_named content + named
+        items
     go (entries es) h = let l = length-map es (λ (e : EntryIndex). record e { entries = Some place; compression_type = compression }) in omega (arith, l, h)
     go (command c) h = omega (arith, h)
     go (pair p) h = omega (arith, h)

@@ -71,7 +71,8 @@ longer_front part at next items h front b = (
   ap (λ (t : List Event). t ++ event items part.id ∷ []) front.2 ∙ sym (map-append (λ (i : List Item). event i part.id) front.0 (items ∷ [])),
 )
 
-module _ (part : Part) (at : ℕ) (Stood Stands IsTaken : List Event → Type 0) (read : AreRead (IsFront part at) Stood Stands) (is_taken : (h : List Event) → Stands h → IsTaken h) (e : Error) (placed : IsPlaced part.id (part.offset + at) e) where
+module _ (part : Part) (at : ℕ) (Stood Stands IsTaken : List Event → Type 0) (read : AreRead (IsFront part at) Stood Stands)
+    (is_taken : (h : List Event) → Stands h → IsTaken h) (e : Error) (placed : IsPlaced part.id (part.offset + at) e) where
   front_taken : (h : List Event) → IsSmall (h ++ history_in part read.held.0) → Stood h → IsTaken (h ++ history_in part read.held.0)
   front_taken h small stood =
       let same : h ++ read.history ≡ h ++ history_in part read.held.0 = ap (λ (t : List Event). h ++ t) read.held.2 in

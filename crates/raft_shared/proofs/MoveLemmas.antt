@@ -37,7 +37,9 @@ all-ids [] = tt
 all-ids (t ∷ ts) = (inl refl, own-id t.region_id (map (λ (t : Table). t.region_id) ts) ts (all-ids ts))
 
 -- a closure that keeps all ids
-pub kept-all : {F : Type 0} (g : Mut F (Bor Table × Unit {0}) Bool) (p q : F × List ℕ) (ts : List Table) → ((f f' : F) (t : Table) (b : Bool) → CalledAt g f t b f' → b ≡ true) → FoldsTo (KeepsId g) p ts q → q.1 ≡ p.1 ++ map (λ (t : Table). t.region_id) ts
+pub kept-all : {F : Type 0} (g : Mut F (Bor Table × Unit {0}) Bool) (p q : F × List ℕ) (ts : List Table) →
+    ((f f' : F) (t : Table) (b : Bool) → CalledAt g f t b f' → b ≡ true) → FoldsTo (KeepsId g) p ts q →
+    q.1 ≡ p.1 ++ map (λ (t : Table). t.region_id) ts
 kept-all g p q [] all h = sym (ap (λ (x : _ × List ℕ). x.1) h) ∙ sym (append-nil p.1)
 kept-all g p q (t ∷ ts) all h =
     kept-all g h.0 q ts all h.2 ∙ ap (λ l. l ++ map (λ (t : Table). t.region_id) ts) (h.1.2 ∙ ap (λ b. if b then p.1 ++ t.region_id ∷ [] else p.1) (all p.0 h.0.0 t h.1.0 h.1.1))
@@ -72,7 +74,9 @@ other-removed m n id q gone ne = ap (λ m. finite.get m q) gone ∙ elim (by_id 
 abbrev pub either : Tables → Tables → ℕ → Option Table
 either slot core q = option_or (finite.get slot q) (finite.get core q)
 
-pub either-moved : (slot core slot' core' : Tables) (x : ℕ) → slot' ≡ finite.remove slot x → ((t : Table) → finite.get slot x ≡ Some t → core' ≡ finite.insert core x t) → (finite.get slot x ≡ None → core' ≡ core) → (q : ℕ) → either slot' core' q ≡ either slot core q
+pub either-moved : (slot core slot' core' : Tables) (x : ℕ) → slot' ≡ finite.remove slot x →
+    ((t : Table) → finite.get slot x ≡ Some t → core' ≡ finite.insert core x t) → (finite.get slot x ≡ None → core' ≡ core) → (q : ℕ) →
+    either slot' core' q ≡ either slot core q
 either-moved slot core slot' core' x gone some none q =
     elim (by_id q x) [
       | inl p ↦ subst (λ q. either slot' core' q ≡ either slot core q) (sym p) (here (finite.get slot x) refl)

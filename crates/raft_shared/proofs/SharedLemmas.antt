@@ -33,19 +33,22 @@ more_cleans a b c ids h e = record {
 }
 
 -- a call that answers one change, whatever the table
-pub number_of : {F : Type 0} (g : Once F (Bor Table × Unit {0}) TableChange) (f : F) (change : TableChange) (id : ℕ) (r : Result ℕ Error) → ((a : Bor Table × Unit {0}) (b : TableChange) → g.post f a b → b ≡ change) → IfOk r (IsChangeAnswer g f id) → IfOk r (IsNumberOf change id)
+pub number_of : {F : Type 0} (g : Once F (Bor Table × Unit {0}) TableChange) (f : F) (change : TableChange) (id : ℕ) (r : Result ℕ Error) →
+    ((a : Bor Table × Unit {0}) (b : TableChange) → g.post f a b → b ≡ change) → IfOk r (IsChangeAnswer g f id) → IfOk r (IsNumberOf change id)
 number_of g f change id (Ok n) gives h =
     let is = gives (h.4.0, tt) h.2 h.4.1 in
     (h.0, h.1, h.3, subst (λ b. after_change h.0 b ≡ Some h.1) is h.5, subst (λ b. IsAnswer b h.0 h.1 n) is h.6, subst IsAllowed is h.7)
 number_of g f change id (Err e) gives h = tt
 
-pub refusal_of : {F : Type 0} (g : Once F (Bor Table × Unit {0}) TableChange) (f : F) (change : TableChange) (id : ℕ) (r : Result ℕ Error) → ((a : Bor Table × Unit {0}) (b : TableChange) → g.post f a b → b ≡ change) → IfErr r (IsChangeRefusal g f id) → IfErr r (IsRefusalOf change id)
+pub refusal_of : {F : Type 0} (g : Once F (Bor Table × Unit {0}) TableChange) (f : F) (change : TableChange) (id : ℕ) (r : Result ℕ Error) →
+    ((a : Bor Table × Unit {0}) (b : TableChange) → g.post f a b → b ≡ change) → IfErr r (IsChangeRefusal g f id) → IfErr r (IsRefusalOf change id)
 refusal_of g f change id (Ok n) gives h = tt
 refusal_of g f change id (Err e) gives (inl h) = inl h
 refusal_of g f change id (Err e) gives (inr h) = inr (h.0, h.1, h.3, subst (λ b. IsChangeFault h.0 h.1 b e) (gives (h.4.0, tt) h.2 h.4.1) h.5)
 
 -- an item that was written has an outcome
-with_outcome : {X : Type 0} (w : Writing) (item : Item) (before : Option Table) (o : Option (Option Table)) (f : Option Table → Option X) (x : X) → IsFor w item.content → after_content w item.raft_group_id before item.content ≡ o → option_and_then f o ≡ Some x → MayBeWritten w item
+with_outcome : {X : Type 0} (w : Writing) (item : Item) (before : Option Table) (o : Option (Option Table)) (f : Option Table → Option X) (x : X) →
+    IsFor w item.content → after_content w item.raft_group_id before item.content ≡ o → option_and_then f o ≡ Some x → MayBeWritten w item
 with_outcome w item before None f x asked is e = absurd (none_some e)
   where
     none_some : {X : Type 0} {x : X} → None ≡ Some x → ⊥

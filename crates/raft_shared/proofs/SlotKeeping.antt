@@ -87,7 +87,9 @@ slot-changed outcome IsFault a b id r t l = record {
 }
 
 -- an item written to its region's table
-pub slot-written : (w : Writing) (a b : Inside) (item : Item) (r : Result Unit Error) → IsSlotKept a → IsItemWritten w item a.tables a.stats a.cleaned.items r b.tables b.stats b.cleaned.items → IsWritten w item r (slot_shown a).content (slot_shown b).content
+pub slot-written : (w : Writing) (a b : Inside) (item : Item) (r : Result Unit Error) → IsSlotKept a →
+    IsItemWritten w item a.tables a.stats a.cleaned.items r b.tables b.stats b.cleaned.items →
+    IsWritten w item r (slot_shown a).content (slot_shown b).content
 slot-written w a b item r kept t = record {
   ok = elim r as (λ r. IsItemWritten w item a.tables a.stats a.cleaned.items r b.tables b.stats b.cleaned.items → OnOk r (AreWritten w (item ∷ []) (slot_shown a).content (slot_shown b).content)) [
     | Ok x ↦ λ t. record {
@@ -118,10 +120,13 @@ kept-none a lt e z l = record {
     none_some : {X : Type 0} {x : X} → None ≡ Some x → ⊥
     none_some e = cc
 
-pub kept-taken : (a b : Inside) (id : ℕ) → IsSlotKept a → slot_of id ≡ a.number → b.number ≡ a.number → b.tables ≡ finite.remove a.tables id → IsRecounted (table_in a.tables id) (empty_table id) a.stats b.stats → b.cleaned.items ≡ a.cleaned.items → IsSlotKept b
+pub kept-taken : (a b : Inside) (id : ℕ) → IsSlotKept a → slot_of id ≡ a.number → b.number ≡ a.number → b.tables ≡ finite.remove a.tables id →
+    IsRecounted (table_in a.tables id) (empty_table id) a.stats b.stats → b.cleaned.items ≡ a.cleaned.items → IsSlotKept b
 kept-taken a b id kept e n gone recounted l =
     let none : finite.get b.tables id ≡ None = ap (λ m. finite.get m id) gone ∙ get_gone a.tables id in
-    kept-with a b id kept e n (gone ∙ ap (with_table a.tables id) (sym none)) (subst (λ t. IsRecounted (table_in a.tables id) t a.stats b.stats) (sym (ap (table_of id) none)) recounted) (subst (AllByRecursion (λ id. slot_of id ≡ a.number)) (sym l) kept.cleaned)
+    kept-with a b id kept e n (gone ∙ ap (with_table a.tables id) (sym none))
+    (subst (λ t. IsRecounted (table_in a.tables id) t a.stats b.stats) (sym (ap (table_of id) none)) recounted)
+    (subst (AllByRecursion (λ id. slot_of id ≡ a.number)) (sym l) kept.cleaned)
 
 pub kept-listed : (a b : Inside) (xs : List ℕ) → IsSlotKept a → b.number ≡ a.number → b.tables ≡ a.tables → b.stats ≡ a.stats → b.cleaned.items ≡ xs → AllByRecursion (λ id. slot_of id ≡ a.number) xs → IsSlotKept b
 kept-listed a b xs kept n t s l h = record {

@@ -112,7 +112,8 @@ many_digits ds h large = elim (cases_lt 20 (length (significant ds))) [
 -- ---- held at a limit
 
 -- two runs of digits, one behind the other
-pub value_held : (limit whole_value value : ℕ) (whole fraction : List ℕ) → whole_value ≡ min limit (digits_value 10 whole) → value ≡ min limit (digits_value_after 10 whole_value fraction) → value ≡ min limit (digits_value 10 (whole ++ fraction))
+pub value_held : (limit whole_value value : ℕ) (whole fraction : List ℕ) → whole_value ≡ min limit (digits_value 10 whole) →
+    value ≡ min limit (digits_value_after 10 whole_value fraction) → value ≡ min limit (digits_value 10 (whole ++ fraction))
 value_held limit whole_value value whole fraction e f =
     let all = value_after-append 0 whole fraction in
     elim (cases_lt (digits_value 10 whole) limit) [

@@ -109,7 +109,9 @@ number_once text m n h k =
     same_number m n same.minus same.whole same.fraction exponent.0 exponent.1
 
 -- the steps of the reader up to the exponent
-pub taken_by : (text : List ℕ) (minus : Bool) (body whole behind fraction rest : List ℕ) → minus ≡ has_minus text → body ≡ behind_sign text → body ≡ whole ++ behind → AllDigits 10 whole → NoDigitFirst behind → TakesFraction behind fraction rest → AllDigits 10 fraction → NoDigitFirst rest → Taken text minus whole fraction rest
+pub taken_by : (text : List ℕ) (minus : Bool) (body whole behind fraction rest : List ℕ) → minus ≡ has_minus text → body ≡ behind_sign text →
+    body ≡ whole ++ behind → AllDigits 10 whole → NoDigitFirst behind → TakesFraction behind fraction rest → AllDigits 10 fraction →
+    NoDigitFirst rest → Taken text minus whole fraction rest
 taken_by text minus body whole behind fraction rest minus_is body_is split w bs t f rs = record {
   behind = behind;
   minus_is = sym minus_is;

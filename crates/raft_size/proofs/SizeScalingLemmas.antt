@@ -77,11 +77,15 @@ product_small significand factor few small =
     let wide : significand * factor ≤ significand * 2 ^ 50 = mul-le-mul_left significand small in
     omega (arith, wide)
 
-pub size_raised : (n : Number) (factor value exponent : ℕ) → n.minus ≡ false → n.exponent_minus ≡ false → value ≡ digits_value 10 (digits_of n) * factor → exponent ≡ min (2 ^ 65) (digits_value 10 n.exponent) → length n.fraction < 2 ^ 64 → scaled_size value exponent (length n.fraction) ≡ size_of n factor
+pub size_raised : (n : Number) (factor value exponent : ℕ) → n.minus ≡ false → n.exponent_minus ≡ false →
+    value ≡ digits_value 10 (digits_of n) * factor → exponent ≡ min (2 ^ 65) (digits_value 10 n.exponent) → length n.fraction < 2 ^ 64 →
+    scaled_size value exponent (length n.fraction) ≡ size_of n factor
 size_raised n factor value exponent plus up value_is exponent_is short = rw (plus, up, value_is, exponent_is)
     (held_up (digits_value 10 (digits_of n) * factor) (digits_value 10 n.exponent) (length n.fraction) (2 ^ 65) (omega arith)
     ∙ ap (λ (k : ℕ). scaled_size (digits_value 10 (digits_of n) * factor) (digits_value 10 n.exponent) k) (sym (zero-add (length n.fraction))))
 
-pub size_lowered : (n : Number) (factor value exponent : ℕ) → n.minus ≡ false → n.exponent_minus ≡ true → value ≡ digits_value 10 (digits_of n) * factor → value < 2 ^ 120 → exponent ≡ min (2 ^ 65) (digits_value 10 n.exponent) → scaled_size value 0 (exponent + length n.fraction) ≡ size_of n factor
+pub size_lowered : (n : Number) (factor value exponent : ℕ) → n.minus ≡ false → n.exponent_minus ≡ true →
+    value ≡ digits_value 10 (digits_of n) * factor → value < 2 ^ 120 → exponent ≡ min (2 ^ 65) (digits_value 10 n.exponent) →
+    scaled_size value 0 (exponent + length n.fraction) ≡ size_of n factor
 size_lowered n factor value exponent plus down value_is small exponent_is = rw (plus, down, exponent_is, ← value_is)
     (held_down value (digits_value 10 n.exponent) (length n.fraction) (2 ^ 65) small (omega arith))

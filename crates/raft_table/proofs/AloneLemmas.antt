@@ -40,7 +40,9 @@ none_moved run es = record {
 }
 
 -- m places of the run are put behind the first entries
-some_moved : (run es : List EntryIndex) (at skipped count m : ℕ) → RisesFrom (start_of es) es → RisesFrom (start_of es + at) (places_of run skipped count) → at + length (places_of run skipped count) ≤ length es → m ≤ length (places_of run skipped count) → MovesPlacesAlone run es (take at es ++ take m (places_of run skipped count) ++ drop (at + m) es)
+some_moved : (run es : List EntryIndex) (at skipped count m : ℕ) → RisesFrom (start_of es) es →
+    RisesFrom (start_of es + at) (places_of run skipped count) → at + length (places_of run skipped count) ≤ length es →
+    m ≤ length (places_of run skipped count) → MovesPlacesAlone run es (take at es ++ take m (places_of run skipped count) ++ drop (at + m) es)
 some_moved run es at skipped count m h r l k =
     let s = start_of es in
     let places = places_of run skipped count in
@@ -55,11 +57,17 @@ some_moved run es at skipped count m h r l k =
     let new : All (IsEither es run) run = All-weaker (Contains run) (IsEither es run) (λ e g. inr g) run (All-contains_itself run) in
     record {
       indexes = same_indexes s (ab ++ drop (at + m) es) es rise h n;
-      entries = All-append (IsEither es run) ab (drop (at + m) es) (All-append (IsEither es run) (take at es) (take m places) (All-take (IsEither es run) at es old) (All-take (IsEither es run) m places (All-take (IsEither es run) (skipped + count - skipped) (drop skipped run) (All-drop (IsEither es run) skipped run new)))) (All-drop (IsEither es run) (at + m) es old);
+      entries = All-append (IsEither es run) ab (drop (at + m) es)
+          (All-append (IsEither es run) (take at es) (take m places) (All-take (IsEither es run) at es old)
+          (All-take (IsEither es run) m places
+          (All-take (IsEither es run) (skipped + count - skipped) (drop skipped run) (All-drop (IsEither es run) skipped run new))))
+          (All-drop (IsEither es run) (at + m) es old);
     }
 
 -- a rewriting that meets the entries so, and isn't refused
-pub moved_alone : (gate : Option ℕ) (run es : List EntryIndex) (at skipped count : ℕ) → AreTableEntries es → RewritesAt gate run es at skipped count → MovesPlacesAlone run es (take at es ++ take (moves_of gate run es at skipped count) (places_of run skipped count) ++ drop (at + moves_of gate run es at skipped count) es)
+pub moved_alone : (gate : Option ℕ) (run es : List EntryIndex) (at skipped count : ℕ) → AreTableEntries es → RewritesAt gate run es at skipped count →
+    MovesPlacesAlone run es (take at es ++ take (moves_of gate run es at skipped count) (places_of run skipped count) ++ drop
+    (at + moves_of gate run es at skipped count) es)
 moved_alone gate run es at skipped count h f =
     let places = places_of run skipped count in
     let part = drop at (take (at + length places) es) in

@@ -35,7 +35,10 @@ joined_some (b ∷ d ∷ ys) t = omega arith
 pub later_block : (p q k w o v : ℕ) (bs : List BlockSpans) → IsAt p bs k o → IsAt q bs w v → p ≤ q → k ≤ w
 later_block p q k w o v bs a b l =
     elim (cases_lt w k) [
-      | inl x ↦ let c = count_take-le (suc w) k bs (omega arith) in let m = count_take_more w bs (record { handle = record { id = record { queue = Append; seq = 0 }; offset = 0; len = 0 }; spans = [] }) b.block in let i = b.inside (record { handle = record { id = record { queue = Append; seq = 0 }; offset = 0; len = 0 }; spans = [] }) in let g = a.spot in let h = b.spot in absurd (omega arith)
+      | inl x ↦ let c = count_take-le (suc w) k bs (omega arith) in
+          let m = count_take_more w bs (record { handle = record { id = record { queue = Append; seq = 0 }; offset = 0; len = 0 }; spans = [] })
+          b.block in let i = b.inside (record { handle = record { id = record { queue = Append; seq = 0 }; offset = 0; len = 0 }; spans = [] }) in
+          let g = a.spot in let h = b.spot in absurd (omega arith)
       | inr x ↦ x
     ]
 
@@ -53,7 +56,8 @@ pushed_starts j x ys t ss e f =
     ap (λ zs. zs ++ drop (seam ys (t ∷ [])) (x ∷ [])) e ∙ ap (λ z. starts_of j ys ++ drop (seam ys (t ∷ [])) (z ∷ [])) f ∙ sym (joined_starts j ys (t ∷ []))
 
 -- where a run between others starts
-pub between_start : {i n j m : ℕ} {bs ys : List BlockSpans} {ss us : List ℕ} {r q : ℕ} → AreKept i n bs ss r → AreKept j m ys us q → (p : ℕ) → 0 < m → p + m < n → AreTableEntries (take p (entries_in_blocks i bs) ++ entries_in_blocks j ys ++ drop (p + m) (entries_in_blocks i bs)) → j ≡ i + p
+pub between_start : {i n j m : ℕ} {bs ys : List BlockSpans} {ss us : List ℕ} {r q : ℕ} → AreKept i n bs ss r → AreKept j m ys us q → (p : ℕ) → 0 < m →
+    p + m < n → AreTableEntries (take p (entries_in_blocks i bs) ++ entries_in_blocks j ys ++ drop (p + m) (entries_in_blocks i bs)) → j ≡ i + p
 between_start {i} {n} {j} {m} {bs} {ys} h g p l f s =
     let es = entries_in_blocks i bs in
     let d = p + m in
@@ -65,7 +69,13 @@ between_start {i} {n} {j} {m} {bs} {ys} h g p l f s =
     omega arith
 
 -- what is kept where a run stands between the first entries and those from a spot on, the first block of which is cut
-pub kept_between : {i n j m : ℕ} {bs ys : List BlockSpans} {ss us : List ℕ} {r q : ℕ} → AreKept i n bs ss r → AreKept j m ys us q → (p k w o x : ℕ) (front : List BlockSpans) (b t : BlockSpans) → IsFront i p k bs front → IsAt (p + m) bs w o → 0 < m → x ≡ i + (p + m) → b ≡ get_or bs w b → t ≡ without_first_spans o b → AreTableEntries (take p (entries_in_blocks i bs) ++ entries_in_blocks j ys ++ drop (p + m) (entries_in_blocks i bs)) → IsKeptAs i n (joined_blocks front (joined_blocks ys (t ∷ [])) ++ drop (w + 1) bs) (take k ss ++ drop (seam front (joined_blocks ys (t ∷ []))) (us ++ drop (seam ys (t ∷ [])) (x ∷ [])) ++ drop (w + 1) ss) (min r p + q + (r - min r (p + m))) (take p (entries_in_blocks i bs) ++ entries_in_blocks j ys ++ drop (p + m) (entries_in_blocks i bs))
+pub kept_between : {i n j m : ℕ} {bs ys : List BlockSpans} {ss us : List ℕ} {r q : ℕ} → AreKept i n bs ss r → AreKept j m ys us q →
+    (p k w o x : ℕ) (front : List BlockSpans) (b t : BlockSpans) → IsFront i p k bs front → IsAt (p + m) bs w o → 0 < m → x ≡ i + (p + m) →
+    b ≡ get_or bs w b → t ≡ without_first_spans o b →
+    AreTableEntries (take p (entries_in_blocks i bs) ++ entries_in_blocks j ys ++ drop (p + m) (entries_in_blocks i bs)) →
+    IsKeptAs i n (joined_blocks front (joined_blocks ys (t ∷ [])) ++ drop (w + 1) bs)
+    (take k ss ++ drop (seam front (joined_blocks ys (t ∷ []))) (us ++ drop (seam ys (t ∷ [])) (x ∷ [])) ++ drop (w + 1) ss)
+    (min r p + q + (r - min r (p + m))) (take p (entries_in_blocks i bs) ++ entries_in_blocks j ys ++ drop (p + m) (entries_in_blocks i bs))
 kept_between {i} {n} {j} {m} {bs} {ys} {ss} {us} {r} {q} h g p k w o x front b t f a l ex eb et s =
     let es = entries_in_blocks i bs in
     let d = p + m in
@@ -137,7 +147,9 @@ one_left x zero l = refl
 one_left x (suc k) l = let n = length-drop (suc k) (x ∷ []) in absurd (omega arith)
 
 -- numbers of entries and of a run between them
-pub between_fits : {i n j m : ℕ} {bs ys : List BlockSpans} {ss us : List ℕ} {r q : ℕ} → AreKept i n bs ss r → AreKept j m ys us q → (p : ℕ) → 0 < length (entries_in_blocks j ys) → p + length (entries_in_blocks j ys) < length (entries_in_blocks i bs) → (0 < m) × (p + m < n) × (i + n < 2 ^ 64) × (q ≤ m) × (r ≤ n)
+pub between_fits : {i n j m : ℕ} {bs ys : List BlockSpans} {ss us : List ℕ} {r q : ℕ} → AreKept i n bs ss r → AreKept j m ys us q → (p : ℕ) →
+    0 < length (entries_in_blocks j ys) → p + length (entries_in_blocks j ys) < length (entries_in_blocks i bs) →
+    (0 < m) × (p + m < n) × (i + n < 2 ^ 64) × (q ≤ m) × (r ≤ n)
 between_fits {i} {n} {j} {m} h g p l f =
     let le = (kept_facts h).length in
     let ly = (kept_facts g).length in
@@ -157,7 +169,13 @@ front_at_spot i (suc p) k v bs str e f =
     subst (λ z. IsFront i (suc p) z bs (first_of_last v (take z bs))) x
     (subst (λ z. IsFront i (suc p) (k - 1 + 1) bs (first_of_last z (take (k - 1 + 1) bs))) y (front_of i (suc p) (k - 1) (v - 1) bs str (omega arith) u.0))
 
-pub put_between : {i n j m : ℕ} {bs ys : List BlockSpans} {ss us : List ℕ} {r q : ℕ} → AreKept i n bs ss r → AreKept j m ys us q → (p k v w o x : ℕ) (b t : BlockSpans) → (p ≡ 0 → (k ≡ 0) × (v ≡ 0)) → (0 < p → IsAt (p - 1) bs (k - 1) (v - 1) × (0 < k) × (0 < v)) → IsAt (p + m) bs w o → 0 < m → x ≡ i + (p + m) → b ≡ get_or bs w b → t ≡ without_first_spans o b → AreTableEntries (take p (entries_in_blocks i bs) ++ entries_in_blocks j ys ++ drop (p + m) (entries_in_blocks i bs)) → IsKeptAs i n (joined_blocks (first_of_last v (take k bs)) (joined_blocks ys (t ∷ [])) ++ drop (w + 1) bs) (take k ss ++ drop (seam (take k bs) (joined_blocks ys (t ∷ []))) (us ++ drop (seam ys (t ∷ [])) (x ∷ [])) ++ drop (w + 1) ss) (min r p + q + (r - min r (p + m))) (take p (entries_in_blocks i bs) ++ entries_in_blocks j ys ++ drop (p + m) (entries_in_blocks i bs))
+pub put_between : {i n j m : ℕ} {bs ys : List BlockSpans} {ss us : List ℕ} {r q : ℕ} → AreKept i n bs ss r → AreKept j m ys us q →
+    (p k v w o x : ℕ) (b t : BlockSpans) → (p ≡ 0 → (k ≡ 0) × (v ≡ 0)) → (0 < p → IsAt (p - 1) bs (k - 1) (v - 1) × (0 < k) × (0 < v)) →
+    IsAt (p + m) bs w o → 0 < m → x ≡ i + (p + m) → b ≡ get_or bs w b → t ≡ without_first_spans o b →
+    AreTableEntries (take p (entries_in_blocks i bs) ++ entries_in_blocks j ys ++ drop (p + m) (entries_in_blocks i bs)) →
+    IsKeptAs i n (joined_blocks (first_of_last v (take k bs)) (joined_blocks ys (t ∷ [])) ++ drop (w + 1) bs)
+    (take k ss ++ drop (seam (take k bs) (joined_blocks ys (t ∷ []))) (us ++ drop (seam ys (t ∷ [])) (x ∷ [])) ++ drop (w + 1) ss)
+    (min r p + q + (r - min r (p + m))) (take p (entries_in_blocks i bs) ++ entries_in_blocks j ys ++ drop (p + m) (entries_in_blocks i bs))
 put_between {i} {n} {j} {m} {bs} {ys} {ss} {us} {r} {q} h g p k v w o x b t e f a l ex eb et s =
     rw (← seam_cut v (take k bs) (joined_blocks ys (t ∷ []))) (kept_between h g p k w o x (first_of_last v (take k bs)) b t (front_at_spot i p k v bs h.distinct e f) a l ex eb et s)
 

@@ -41,7 +41,9 @@ kept_facts {i} {n} {bs} {ss} {r} k =
 pub index_of : {i n x : ℕ} {bs : List BlockSpans} {ss : List ℕ} {r : ℕ} → AreKept i n bs ss r → (w : ℕ) → x ≡ i + w → w < n → IsIndexOf ss x
 index_of {i} {n} {x} {bs} h w e l = let k = h.len in (i, bs, h.starts, omega arith, omega arith)
 
-pub found : {i n x k o : ℕ} {bs : List BlockSpans} {ss : List ℕ} {r : ℕ} → AreKept i n bs ss r → ((j : ℕ) (cs : List BlockSpans) → ss ≡ starts_of j cs → j ≤ x → x < j + count cs → IsAt (x - j) cs k o) → (w : ℕ) → x ≡ i + w → w < n → IsAt w bs k o
+pub found : {i n x k o : ℕ} {bs : List BlockSpans} {ss : List ℕ} {r : ℕ} → AreKept i n bs ss r →
+    ((j : ℕ) (cs : List BlockSpans) → ss ≡ starts_of j cs → j ≤ x → x < j + count cs → IsAt (x - j) cs k o) → (w : ℕ) → x ≡ i + w → w < n →
+    IsAt w bs k o
 found {i} {n} {x} {k} {o} {bs} h f w e l = let m = h.len in subst (λ z. IsAt z bs k o) (let q : x - i ≡ w = omega arith in q) (f i bs h.starts (omega arith) (omega arith))
 
 pub kept_length : {i n : ℕ} {bs : List BlockSpans} {ss : List ℕ} {r : ℕ} → AreKept i n bs ss r → length ss ≡ length bs
@@ -116,10 +118,13 @@ Differs-same b c [] e h = tt
 Differs-same b c (x ∷ bs) e h = λ f. h (sym e ∙ f)
 
 -- the blocks from a spot on
-pub kept_drop : (i n p k o : ℕ) (bs : List BlockSpans) (ss : List ℕ) (r : ℕ) → AreKept i n bs ss r → IsAt p bs k o → AreKept (i + p) (n - p) (without_first_of_first o (drop k bs)) (set (drop k ss) 0 (i + p)) (r - min r p) × (entries_in_blocks (i + p) (without_first_of_first o (drop k bs)) ≡ drop p (entries_in_blocks i bs))
+pub kept_drop : (i n p k o : ℕ) (bs : List BlockSpans) (ss : List ℕ) (r : ℕ) → AreKept i n bs ss r → IsAt p bs k o →
+    AreKept (i + p) (n - p) (without_first_of_first o (drop k bs)) (set (drop k ss) 0 (i + p)) (r - min r p) ×
+    (entries_in_blocks (i + p) (without_first_of_first o (drop k bs)) ≡ drop p (entries_in_blocks i bs))
 kept_drop i n p k o bs ss r h a = at (drop k bs) refl
   where
-    at : (back : List BlockSpans) → drop k bs ≡ back → AreKept (i + p) (n - p) (without_first_of_first o back) (set (drop k ss) 0 (i + p)) (r - min r p) × (entries_in_blocks (i + p) (without_first_of_first o back) ≡ drop p (entries_in_blocks i bs))
+    at : (back : List BlockSpans) → drop k bs ≡ back → AreKept (i + p) (n - p) (without_first_of_first o back) (set (drop k ss) 0 (i + p))
+        (r - min r p) × (entries_in_blocks (i + p) (without_first_of_first o back) ≡ drop p (entries_in_blocks i bs))
     at [] q = absurd (let l = a.block in omega (arith, ap length q, length-drop k bs))
     at (b ∷ rest) q =
         let s = split_drop k bs b rest b q in
@@ -212,7 +217,9 @@ front_at i p k o bs str a = at (drop k bs) refl
         })
 
 -- the blocks up to a spot
-pub kept_take : (i n p k o : ℕ) (bs : List BlockSpans) (ss : List ℕ) (r : ℕ) → AreKept i n bs ss r → IsAt p bs k o → AreKept i (suc p) (first_of_last (suc o) (take (suc k) bs)) (take (suc k) ss) (min r (suc p)) × (entries_in_blocks i (first_of_last (suc o) (take (suc k) bs)) ≡ take (suc p) (entries_in_blocks i bs))
+pub kept_take : (i n p k o : ℕ) (bs : List BlockSpans) (ss : List ℕ) (r : ℕ) → AreKept i n bs ss r → IsAt p bs k o →
+    AreKept i (suc p) (first_of_last (suc o) (take (suc k) bs)) (take (suc k) ss) (min r (suc p)) ×
+    (entries_in_blocks i (first_of_last (suc o) (take (suc k) bs)) ≡ take (suc p) (entries_in_blocks i bs))
 kept_take i n p k o bs ss r h a =
     let f = front_at i p k o bs h.distinct a in
     let es = entries_in_blocks i bs in
@@ -238,9 +245,12 @@ front_of i w k o bs str l a =
     let g : o + 1 ≡ suc o = omega arith in
     rw (f, g) (subst (λ n. IsFront i n (suc k) bs (first_of_last (suc o) (take (suc k) bs))) e (front_at i (w - 1) k o bs str a))
 
-pub kept_front : {n r : ℕ} {ss : List ℕ} (i w k o : ℕ) (bs : List BlockSpans) → AreKept i n bs ss r → 0 < w → IsAt (w - 1) bs k o → AreKept i w (first_of_last (o + 1) (take (k + 1) bs)) (take (k + 1) ss) (min r w) × (entries_in_blocks i (first_of_last (o + 1) (take (k + 1) bs)) ≡ take w (entries_in_blocks i bs))
+pub kept_front : {n r : ℕ} {ss : List ℕ} (i w k o : ℕ) (bs : List BlockSpans) → AreKept i n bs ss r → 0 < w → IsAt (w - 1) bs k o →
+    AreKept i w (first_of_last (o + 1) (take (k + 1) bs)) (take (k + 1) ss) (min r w) ×
+    (entries_in_blocks i (first_of_last (o + 1) (take (k + 1) bs)) ≡ take w (entries_in_blocks i bs))
 kept_front {n} {r} {ss} i w k o bs h l a =
     let e : suc (w - 1) ≡ w = omega arith in
     let f : k + 1 ≡ suc k = omega arith in
     let g : o + 1 ≡ suc o = omega arith in
-    rw (f, g) (subst (λ m. AreKept i m (first_of_last (suc o) (take (suc k) bs)) (take (suc k) ss) (min r m) × (entries_in_blocks i (first_of_last (suc o) (take (suc k) bs)) ≡ take m (entries_in_blocks i bs))) e (kept_take i n (w - 1) k o bs ss r h a))
+    rw (f, g) (subst (λ m. AreKept i m (first_of_last (suc o) (take (suc k) bs)) (take (suc k) ss) (min r m) ×
+    (entries_in_blocks i (first_of_last (suc o) (take (suc k) bs)) ≡ take m (entries_in_blocks i bs))) e (kept_take i n (w - 1) k o bs ss r h a))

@@ -148,7 +148,13 @@ seam_cut m (b ∷ d ∷ []) y = seam_cut m (d ∷ []) y
 seam_cut m (b ∷ d ∷ x ∷ f) y = seam_cut m (d ∷ x ∷ f) y
 
 -- what is kept after blocks were put behind a front, and before those that stay behind
-pub kept_put : (i p k n : ℕ) (bs front y rest : List BlockSpans) (ss tt rs : List ℕ) (r : ℕ) → IsFront i p k bs front → ss ≡ starts_of i bs → tt ≡ starts_of (i + p) y → rs ≡ starts_of (i + p + count y) rest → 0 < length y → AreDistinctBlocks (y ++ rest) → n ≡ p + count y + count rest → AreTableEntries (take p (entries_in_blocks i bs) ++ entries_in_blocks (i + p) y ++ entries_in_blocks (i + p + count y) rest) → r ≡ entry_count Rewrite (take p (entries_in_blocks i bs) ++ entries_in_blocks (i + p) y ++ entries_in_blocks (i + p + count y) rest) → AreKept i n (joined_blocks front y ++ rest) (take k ss ++ drop (seam front y) tt ++ rs) r × (entries_in_blocks i (joined_blocks front y ++ rest) ≡ take p (entries_in_blocks i bs) ++ entries_in_blocks (i + p) y ++ entries_in_blocks (i + p + count y) rest)
+pub kept_put : (i p k n : ℕ) (bs front y rest : List BlockSpans) (ss tt rs : List ℕ) (r : ℕ) → IsFront i p k bs front → ss ≡ starts_of i bs →
+    tt ≡ starts_of (i + p) y → rs ≡ starts_of (i + p + count y) rest → 0 < length y → AreDistinctBlocks (y ++ rest) → n ≡ p + count y + count rest →
+    AreTableEntries (take p (entries_in_blocks i bs) ++ entries_in_blocks (i + p) y ++ entries_in_blocks (i + p + count y) rest) →
+    r ≡ entry_count Rewrite (take p (entries_in_blocks i bs) ++ entries_in_blocks (i + p) y ++ entries_in_blocks (i + p + count y) rest) →
+    AreKept i n (joined_blocks front y ++ rest) (take k ss ++ drop (seam front y) tt ++ rs) r ×
+    (entries_in_blocks i (joined_blocks front y ++ rest) ≡ take p (entries_in_blocks i bs) ++ entries_in_blocks (i + p) y ++ entries_in_blocks
+    (i + p + count y) rest)
 kept_put i p k n bs front y rest ss tt rs r f e g h l str len sound q =
     let c = f.count in
     let m : i + count (joined_blocks front y) ≡ i + p + count y = omega (arith, joined_count front y) in

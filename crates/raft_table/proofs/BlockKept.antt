@@ -70,7 +70,9 @@ pub record IsPushed (i j n x : ℕ) (bs : List BlockSpans) (ss : List ℕ) (r : 
   pub kept : AreKept j (n + length t.spans) (joined_blocks bs (t ∷ [])) (ss ++ drop (seam bs (t ∷ [])) (x ∷ [])) (r + count_in Rewrite t.handle.id.queue (length t.spans))
   pub entries : entries_in_blocks j (joined_blocks bs (t ∷ [])) ≡ entries_in_blocks i bs ++ entries_of_block x t.handle t.spans
 
-pub pushed_fits : {i n : ℕ} {bs : List BlockSpans} {ss : List ℕ} {r : ℕ} → AreKept i n bs ss r → (x : ℕ) (t : BlockSpans) → 0 < length t.spans → AreTableEntries (entries_in_blocks i bs ++ entries_of_block x t.handle t.spans) → (n + length t.spans < 2 ^ 64) × (r + count_in Rewrite t.handle.id.queue (length t.spans) ≤ n + length t.spans)
+pub pushed_fits : {i n : ℕ} {bs : List BlockSpans} {ss : List ℕ} {r : ℕ} → AreKept i n bs ss r → (x : ℕ) (t : BlockSpans) → 0 < length t.spans →
+    AreTableEntries (entries_in_blocks i bs ++ entries_of_block x t.handle t.spans) →
+    (n + length t.spans < 2 ^ 64) × (r + count_in Rewrite t.handle.id.queue (length t.spans) ≤ n + length t.spans)
 pushed_fits {i} {n} {bs} {ss} {r} h x t l s =
     let es = entries_in_blocks i bs ++ entries_of_block x t.handle t.spans in
     let f = (kept_facts h).length in
@@ -81,7 +83,8 @@ pushed_fits {i} {n} {bs} {ss} {r} h x t l s =
     let c = count_in_le Rewrite t.handle.id.queue (length t.spans) in
     (omega arith, omega arith)
 
-pub kept_push : {i n : ℕ} {bs : List BlockSpans} {ss : List ℕ} {r : ℕ} → AreKept i n bs ss r → (j x : ℕ) (t : BlockSpans) → 0 < length t.spans → AreTableEntries (entries_in_blocks i bs ++ entries_of_block x t.handle t.spans) → (n ≡ 0 → j ≡ x) → (0 < n → j ≡ i) → IsPushed i j n x bs ss r t
+pub kept_push : {i n : ℕ} {bs : List BlockSpans} {ss : List ℕ} {r : ℕ} → AreKept i n bs ss r → (j x : ℕ) (t : BlockSpans) → 0 < length t.spans →
+    AreTableEntries (entries_in_blocks i bs ++ entries_of_block x t.handle t.spans) → (n ≡ 0 → j ≡ x) → (0 < n → j ≡ i) → IsPushed i j n x bs ss r t
 kept_push {i} {n} {bs = []} {ss} {r} h j x t l s e f =
     let z : n ≡ 0 = h.len in
     let q : r ≡ 0 = h.rewritten ∙ none_in in
@@ -105,7 +108,8 @@ kept_push {i} {n} {bs = b ∷ bs} {ss} {r} h j x t l s e f =
     let a = entries_in_blocks i xs in
     let la = (kept_facts h).length in
     let g = length-spread x t.handle t.spans in
-    let y : x ≡ i + n = sym (start-of_rising x (entries_of_block x t.handle t.spans) (rises_spread x t.handle t.spans) (omega arith)) ∙ behind_index i a (entries_of_block x t.handle t.spans) s (rises_expanded i xs) (omega arith) (omega arith) ∙ omega arith in
+    let y : x ≡ i + n = sym (start-of_rising x (entries_of_block x t.handle t.spans) (rises_spread x t.handle t.spans) (omega arith))
+    ∙ behind_index i a (entries_of_block x t.handle t.spans) s (rises_expanded i xs) (omega arith) (omega arith) ∙ omega arith in
     let fr = all_front i n xs h.distinct k in
     let v : entries_in_blocks (i + n) (t ∷ []) ≡ entries_of_block x t.handle t.spans = append-nil (entries_of_block (i + n) t.handle t.spans) ∙ ap (λ m. entries_of_block m t.handle t.spans) (sym y) in
     let whole : take n a ++ entries_in_blocks (i + n) (t ∷ []) ++ [] ≡ a ++ entries_of_block x t.handle t.spans = append-nil (take n a ++ entries_in_blocks (i + n) (t ∷ [])) ∙ rw (v, take_all n a (omega arith)) refl in
@@ -118,7 +122,10 @@ kept_push {i} {n} {bs = b ∷ bs} {ss} {r} h j x t l s e f =
     let n2 : take (length xs) ss ++ drop (seam xs (t ∷ [])) (x ∷ []) ++ [] ≡ ss ++ drop (seam xs (t ∷ [])) (x ∷ []) =
     append-nil (take (length xs) ss ++ drop (seam xs (t ∷ [])) (x ∷ [])) ∙ ap (λ ys. ys ++ drop (seam xs (t ∷ [])) (x ∷ [])) (take_all (length xs) ss (let q = kept_length h in omega arith)) in
     rw (f (omega arith)) (record {
-      kept = subst (λ ys. AreKept i (n + length t.spans) ys (ss ++ drop (seam xs (t ∷ [])) (x ∷ [])) (r + count_in Rewrite t.handle.id.queue (length t.spans))) n1 (subst (λ ys. AreKept i (n + length t.spans) (joined_blocks xs (t ∷ []) ++ []) ys (r + count_in Rewrite t.handle.id.queue (length t.spans))) n2 put.0);
+      kept = subst (λ ys. AreKept i (n + length t.spans) ys (ss ++ drop (seam xs (t ∷ [])) (x ∷ []))
+          (r + count_in Rewrite t.handle.id.queue (length t.spans))) n1
+          (subst (λ ys. AreKept i (n + length t.spans) (joined_blocks xs (t ∷ []) ++ []) ys (r + count_in Rewrite t.handle.id.queue (length t.spans)))
+          n2 put.0);
       entries = ap (entries_in_blocks i) (sym n1) ∙ put.1 ∙ whole;
     })
 
@@ -127,7 +134,11 @@ pub record IsKeptAs (i n : ℕ) (bs : List BlockSpans) (ss : List ℕ) (r : ℕ)
   pub kept : AreKept i n bs ss r
   pub entries : entries_in_blocks i bs ≡ es
 
-pub kept_join : {i n j m : ℕ} {bs ys : List BlockSpans} {ss tt : List ℕ} {r q : ℕ} → AreKept i n bs ss r → AreKept j m ys tt q → (w k o rest : ℕ) → 0 < w → w ≤ n → IsFront i w k bs (first_of_last o (take k bs)) → 0 < m → AreTableEntries (take w (entries_in_blocks i bs) ++ entries_in_blocks j ys) → rest ≡ length bs → IsKeptAs i (w + m) (joined_blocks (first_of_last o (take k bs)) ys ++ drop rest bs) (take k ss ++ drop (seam (take k bs) ys) tt ++ drop rest ss) (min r w + q) (take w (entries_in_blocks i bs) ++ entries_in_blocks j ys)
+pub kept_join : {i n j m : ℕ} {bs ys : List BlockSpans} {ss tt : List ℕ} {r q : ℕ} → AreKept i n bs ss r → AreKept j m ys tt q → (w k o rest : ℕ) →
+    0 < w → w ≤ n → IsFront i w k bs (first_of_last o (take k bs)) → 0 < m →
+    AreTableEntries (take w (entries_in_blocks i bs) ++ entries_in_blocks j ys) → rest ≡ length bs →
+    IsKeptAs i (w + m) (joined_blocks (first_of_last o (take k bs)) ys ++ drop rest bs) (take k ss ++ drop (seam (take k bs) ys) tt ++ drop rest ss)
+    (min r w + q) (take w (entries_in_blocks i bs) ++ entries_in_blocks j ys)
 kept_join {i} {n} {j} {m} {bs} {ys} {ss} {tt} {r} {q} h g w k o rest l d f p s e =
     let es = entries_in_blocks i bs in
     let le = (kept_facts h).length in

@@ -34,7 +34,8 @@ changes : (i : ℕ) (h : FileBlockHandle) (s : ℕ × ℕ) (ss : List (ℕ × �
 changes i h s [] = refl
 changes i h s (t ∷ ss) = same_step (entry_of i h s) (entry_of (suc i) h t) (entries_of_block (suc (suc i)) h ss) (same_place_self h) ∙ changes (suc i) h t ss
 
-changes_more : (i : ℕ) (h : FileBlockHandle) (s : ℕ × ℕ) (ss : List (ℕ × ℕ)) (e : EntryIndex) (es : List EntryIndex) → are_same_places (Some h) e.entries ≡ false → change_count (entries_of_block i h (s ∷ ss) ++ e ∷ es) ≡ suc (change_count (e ∷ es))
+changes_more : (i : ℕ) (h : FileBlockHandle) (s : ℕ × ℕ) (ss : List (ℕ × ℕ)) (e : EntryIndex) (es : List EntryIndex) →
+    are_same_places (Some h) e.entries ≡ false → change_count (entries_of_block i h (s ∷ ss) ++ e ∷ es) ≡ suc (change_count (e ∷ es))
 changes_more i h s [] e es d = other_step (entry_of i h s) e es d
 changes_more i h s (t ∷ ss) e es d = same_step (entry_of i h s) (entry_of (suc i) h t) (entries_of_block (suc (suc i)) h ss ++ e ∷ es) (same_place_self h) ∙ changes_more (suc i) h t ss e es d
 
@@ -43,7 +44,9 @@ changes_last : (i : ℕ) (h : FileBlockHandle) (ss : List (ℕ × ℕ)) → 0 < 
 changes_last i h [] l = absurd (omega arith)
 changes_last i h (s ∷ ss) l = changes i h s ss
 
-changes_front : (i : ℕ) (h : FileBlockHandle) (ss : List (ℕ × ℕ)) (j : ℕ) (g : FileBlockHandle) (ts : List (ℕ × ℕ)) (es : List EntryIndex) → 0 < length ss → 0 < length ts → h ≢ g → change_count (entries_of_block i h ss ++ (entries_of_block j g ts ++ es)) ≡ suc (change_count (entries_of_block j g ts ++ es))
+changes_front : (i : ℕ) (h : FileBlockHandle) (ss : List (ℕ × ℕ)) (j : ℕ) (g : FileBlockHandle) (ts : List (ℕ × ℕ)) (es : List EntryIndex) →
+    0 < length ss → 0 < length ts → h ≢ g → change_count (entries_of_block i h ss ++ (entries_of_block j g ts ++ es)) ≡ suc
+    (change_count (entries_of_block j g ts ++ es))
 changes_front i h [] j g ts es l m d = absurd (omega arith)
 changes_front i h (s ∷ ss) j g [] es l m d = absurd (omega arith)
 changes_front i h (s ∷ ss) j g (t ∷ ts) es l m d = changes_more i h s ss (entry_of j g t) (entries_of_block (suc j) g ts ++ es) (other_place_is h g d)
@@ -57,7 +60,9 @@ change_count_is i b (c ∷ cs) h =
 -- as many stretches of entries as blocks
 pub block_count_is : (i : ℕ) (bs : List BlockSpans) → AreDistinctBlocks bs → block_count (entries_in_blocks i bs) ≡ length bs
 block_count_is i [] h = refl
-block_count_is i (b ∷ bs) h = some (entries_in_blocks i (b ∷ bs)) (let l = length-append (entries_of_block i b.handle b.spans) (entries_in_blocks (i + length b.spans) bs) in let m = length-spread i b.handle b.spans in let p = h.0 in omega arith) ∙ ap suc (change_count_is i b bs h)
+block_count_is i (b ∷ bs) h = some (entries_in_blocks i (b ∷ bs))
+    (let l = length-append (entries_of_block i b.handle b.spans) (entries_in_blocks (i + length b.spans) bs) in
+    let m = length-spread i b.handle b.spans in let p = h.0 in omega arith) ∙ ap suc (change_count_is i b bs h)
   where
     some : (es : List EntryIndex) → 0 < length es → block_count es ≡ suc (change_count es)
     some [] l = absurd (omega arith)
@@ -78,7 +83,8 @@ seq_at_spot i p k o bs b a e =
     sym (ap entry_seq (sym (slice_get_drop p (entries_in_blocks i bs)) ∙ ap (λ xs. slice_get xs 0) tail) ∙ head_seq (i + p) o b.handle b.spans rest inside)
 
 -- a part of the entries that stands in one block
-pub block_part : (i p k o n : ℕ) (bs : List BlockSpans) (b : BlockSpans) → IsAt p bs k o → b ≡ get_or bs k b → o + n ≤ length b.spans → drop p (take (p + n) (entries_in_blocks i bs)) ≡ entries_of_block (i + p) b.handle (take n (drop o b.spans))
+pub block_part : (i p k o n : ℕ) (bs : List BlockSpans) (b : BlockSpans) → IsAt p bs k o → b ≡ get_or bs k b → o + n ≤ length b.spans →
+    drop p (take (p + n) (entries_in_blocks i bs)) ≡ entries_of_block (i + p) b.handle (take n (drop o b.spans))
 block_part i p k o n bs b a e l =
     let rest = entries_in_blocks (i + count (take (suc k) bs)) (drop (suc k) bs) in
     let tail : drop p (entries_in_blocks i bs) ≡ entries_of_block (i + p) b.handle (drop o b.spans) ++ rest =

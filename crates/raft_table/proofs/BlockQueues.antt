@@ -1,6 +1,26 @@
 -- Queues of blocks, as what their blocks hold.
 use Rattle.std.proofs.Common.{◌≡◌, ◌≢◌, ◌⊎◌, inl, inr, true, false, ℕ, zero, suc, ◌+◌, ◌-◌, ◌<◌, ◌≤◌, List, [], ◌∷◌, ◌++◌, length, get_or, set, take, drop, refl, sym, ap, ◌∙◌, subst, arith}
-use Rattle.std.proofs.lemmas.List.{append_assoc, length-append, length-drop, length-map, length-take-le, take-take, take_at, drop_at, take-map, drop-map, map-set, get_or-map, get_or_default, take_more, take_more_set, take_all, length-set, map-append, drop-set-lt}
+use Rattle.std.proofs.lemmas.List.{
+  append_assoc,
+  length-append,
+  length-drop,
+  length-map,
+  length-take-le,
+  take-take,
+  take_at,
+  drop_at,
+  take-map,
+  drop-map,
+  map-set,
+  get_or-map,
+  get_or_default,
+  take_more,
+  take_more_set,
+  take_all,
+  length-set,
+  map-append,
+  drop-set-lt,
+}
 use Rattle.raft_base.specs.declared.pipe_log.FileBlockHandle.{FileBlockHandle}
 use Rattle.raft_table.specs.declared.memtable.block.Block.{Block}
 use Rattle.raft_table.specs.Blocks.{BlockSpans, block_spans, blocks_shown}
@@ -10,7 +30,8 @@ use Rattle.raft_table.proofs.BlockSearch.{take_past}
 use Rattle.raft_table.proofs.BlockJoins.{same_place_self, other_place_is}
 
 -- what a queue holds that was turned, cut, joined, and turned back
-pub spliced : {X : Type 0} (kept rest n : ℕ) (xs more a b c d : List X) → kept ≤ rest → rest ≤ length xs → n ≡ length xs - rest → a ≡ drop rest xs ++ take rest xs → b ≡ take (n + kept) a → c ≡ b ++ more → d ≡ drop n c ++ take n c → d ≡ take kept xs ++ more ++ drop rest xs
+pub spliced : {X : Type 0} (kept rest n : ℕ) (xs more a b c d : List X) → kept ≤ rest → rest ≤ length xs → n ≡ length xs - rest →
+    a ≡ drop rest xs ++ take rest xs → b ≡ take (n + kept) a → c ≡ b ++ more → d ≡ drop n c ++ take n c → d ≡ take kept xs ++ more ++ drop rest xs
 spliced kept rest n xs more a b c d k l e f g h j =
     let m : length (drop rest xs) ≡ n = length-drop rest xs ∙ sym e in
     let cut : b ≡ drop rest xs ++ take kept xs =
@@ -22,7 +43,9 @@ spliced kept rest n xs more a b c d k l e f g h j =
     ∙ ap (λ ys. (take kept xs ++ more) ++ ys) (take_at (drop rest xs) (take kept xs ++ more) n m)
 
 -- the same, put in front of what comes last
-pub spliced_round : {X : Type 0} (kept rest n w : ℕ) (xs more a b c d : List X) → kept ≤ rest → rest ≤ length xs → n ≡ length xs - rest → w ≡ length c - kept → a ≡ drop rest xs ++ take rest xs → b ≡ take (n + kept) a → c ≡ more ++ b → d ≡ drop w c ++ take w c → d ≡ take kept xs ++ more ++ drop rest xs
+pub spliced_round : {X : Type 0} (kept rest n w : ℕ) (xs more a b c d : List X) → kept ≤ rest → rest ≤ length xs → n ≡ length xs - rest →
+    w ≡ length c - kept → a ≡ drop rest xs ++ take rest xs → b ≡ take (n + kept) a → c ≡ more ++ b → d ≡ drop w c ++ take w c →
+    d ≡ take kept xs ++ more ++ drop rest xs
 spliced_round kept rest n w xs more a b c d k l e u f g h j =
     let m : length (drop rest xs) ≡ n = length-drop rest xs ∙ sym e in
     let cut : b ≡ drop rest xs ++ take kept xs =
@@ -65,12 +88,14 @@ first_of_last_shown k m bs b c l e h s =
     ∙ ap (set (blocks_shown bs) k) (stretch_is c (first_spans m (block_spans b)) h s)
     ∙ first_of_last_set k m (blocks_shown bs) (block_spans b) (length-map bs block_spans ∙ l) (shown_at bs k b (omega arith) e)
 
-pub keep_front_blocks_shown : (k m : ℕ) (old bs : List Block) (b c : Block) → k < length old → bs ≡ take (k + 1) old → b ≡ get_or bs k b → c.handle ≡ b.handle → c.spans.items ≡ take m b.spans.items → blocks_shown (set bs k c) ≡ first_of_last m (take (k + 1) (blocks_shown old))
+pub keep_front_blocks_shown : (k m : ℕ) (old bs : List Block) (b c : Block) → k < length old → bs ≡ take (k + 1) old → b ≡ get_or bs k b →
+    c.handle ≡ b.handle → c.spans.items ≡ take m b.spans.items → blocks_shown (set bs k c) ≡ first_of_last m (take (k + 1) (blocks_shown old))
 keep_front_blocks_shown k m old bs b c l t e h s =
     let n : length bs ≡ suc k = ap length t ∙ length-take-le (k + 1) old (omega arith) ∙ omega arith in
     first_of_last_shown k m bs b c n e h s ∙ ap (first_of_last m) (ap blocks_shown t ∙ sym (take-map block_spans (k + 1) old))
 
-pub drop_front_blocks_shown : (k m : ℕ) (old bs : List Block) (b c : Block) → k < length old → bs ≡ drop k old → b ≡ get_or bs 0 b → c.handle ≡ b.handle → c.spans.items ≡ drop m b.spans.items → blocks_shown (set bs 0 c) ≡ without_first_of_first m (drop k (blocks_shown old))
+pub drop_front_blocks_shown : (k m : ℕ) (old bs : List Block) (b c : Block) → k < length old → bs ≡ drop k old → b ≡ get_or bs 0 b →
+    c.handle ≡ b.handle → c.spans.items ≡ drop m b.spans.items → blocks_shown (set bs 0 c) ≡ without_first_of_first m (drop k (blocks_shown old))
 drop_front_blocks_shown k m old bs b c l t e h s =
     let n : 0 < length bs = rw t (omega (arith, length-drop k old)) in
     first bs n e ∙ ap (without_first_of_first m) (ap blocks_shown t ∙ sym (drop-map block_spans k old))
@@ -114,14 +139,17 @@ first_of_last_last m (x ∷ []) b = refl
 first_of_last_last m (x ∷ y ∷ a) b = ap (λ ys. x ∷ ys) (first_of_last_last m (y ∷ a) b)
 
 -- two that meet, by whether they have the same handle
-pub meets_same : (k m : ℕ) (xs : List BlockSpans) (b c : BlockSpans) (cs : List BlockSpans) → k < length xs → b ≡ get_or xs k b → b.handle ≡ c.handle → joined_blocks (first_of_last m (take (k + 1) xs)) (c ∷ cs) ≡ take (k + 1) (set xs k (with_spans_behind (first_spans m b) c.spans)) ++ cs
+pub meets_same : (k m : ℕ) (xs : List BlockSpans) (b c : BlockSpans) (cs : List BlockSpans) → k < length xs → b ≡ get_or xs k b →
+    b.handle ≡ c.handle → joined_blocks (first_of_last m (take (k + 1) xs)) (c ∷ cs) ≡ take (k + 1)
+    (set xs k (with_spans_behind (first_spans m b) c.spans)) ++ cs
 meets_same k m xs b c cs l e h =
     let t : is_same_place b.handle c.handle ≡ true = rw h (same_place_self c.handle) in
     let w : take (k + 1) xs ≡ take k xs ++ b ∷ [] = take_more xs k b l ∙ ap (λ y. take k xs ++ y ∷ []) (sym e) in
     ap (λ ys. joined_blocks (first_of_last m ys) (c ∷ cs)) w ∙ ap (λ ys. joined_blocks ys (c ∷ cs)) (first_of_last_last m (take k xs) b) ∙ joined_last (take k xs) (first_spans m b) c cs
     ∙ rw (t, take_more_set xs k (with_spans_behind (first_spans m b) c.spans) l) (sym (append_assoc (take k xs) (with_spans_behind (first_spans m b) c.spans ∷ []) cs))
 
-pub meets_other : (k m : ℕ) (xs : List BlockSpans) (b c : BlockSpans) (cs : List BlockSpans) → k < length xs → b ≡ get_or xs k b → b.handle ≢ c.handle → joined_blocks (first_of_last m (take (k + 1) xs)) (c ∷ cs) ≡ take (k + 1) (set xs k (first_spans m b)) ++ c ∷ cs
+pub meets_other : (k m : ℕ) (xs : List BlockSpans) (b c : BlockSpans) (cs : List BlockSpans) → k < length xs → b ≡ get_or xs k b →
+    b.handle ≢ c.handle → joined_blocks (first_of_last m (take (k + 1) xs)) (c ∷ cs) ≡ take (k + 1) (set xs k (first_spans m b)) ++ c ∷ cs
 meets_other k m xs b c cs l e h =
     let t : is_same_place b.handle c.handle ≡ false = other_place_is b.handle c.handle h in
     let w : take (k + 1) xs ≡ take k xs ++ b ∷ [] = take_more xs k b l ∙ ap (λ y. take k xs ++ y ∷ []) (sym e) in
@@ -157,7 +185,9 @@ pub one_block : (bs : List Block) (k : ℕ) (b c : Block) → k < length bs → 
 one_block bs k b c l e f = e ∙ get_or_default bs k b c l ∙ sym f
 
 -- a block behind the last of others
-pub pushed_same : (k : ℕ) (bs : List Block) (b c y : Block) → k + 1 ≡ length bs → b ≡ get_or bs k b → b.handle ≡ y.handle → c.handle ≡ b.handle → c.spans.items ≡ b.spans.items ++ y.spans.items → (blocks_shown (set bs k c) ≡ joined_blocks (blocks_shown bs) (block_spans y ∷ [])) × (seam (blocks_shown bs) (block_spans y ∷ []) ≡ 1)
+pub pushed_same : (k : ℕ) (bs : List Block) (b c y : Block) → k + 1 ≡ length bs → b ≡ get_or bs k b → b.handle ≡ y.handle → c.handle ≡ b.handle →
+    c.spans.items ≡ b.spans.items ++ y.spans.items → (blocks_shown (set bs k c) ≡ joined_blocks (blocks_shown bs) (block_spans y ∷ [])) ×
+    (seam (blocks_shown bs) (block_spans y ∷ []) ≡ 1)
 pushed_same k bs b c y l e h g s =
     let xs = blocks_shown bs in
     let n : k + 1 ≡ length xs = l ∙ sym (length-map bs block_spans) in
@@ -171,7 +201,8 @@ pushed_same k bs b c y l e h g s =
     let right : joined_blocks xs (block_spans y ∷ []) ≡ take k xs ++ new ∷ [] = ap (λ ys. joined_blocks ys (block_spans y ∷ [])) w ∙ joined_last (take k xs) (block_spans b) (block_spans y) [] ∙ rw t refl in
     (left ∙ sym right, ap (λ ys. seam ys (block_spans y ∷ [])) w ∙ seam_last (take k xs) (block_spans b) (block_spans y) [] ∙ rw t refl)
 
-pub pushed_other : (k : ℕ) (bs : List Block) (b y : Block) → k + 1 ≡ length bs → b ≡ get_or bs k b → b.handle ≢ y.handle → (blocks_shown (bs ++ y ∷ []) ≡ joined_blocks (blocks_shown bs) (block_spans y ∷ [])) × (seam (blocks_shown bs) (block_spans y ∷ []) ≡ 0)
+pub pushed_other : (k : ℕ) (bs : List Block) (b y : Block) → k + 1 ≡ length bs → b ≡ get_or bs k b → b.handle ≢ y.handle →
+    (blocks_shown (bs ++ y ∷ []) ≡ joined_blocks (blocks_shown bs) (block_spans y ∷ [])) × (seam (blocks_shown bs) (block_spans y ∷ []) ≡ 0)
 pushed_other k bs b y l e h =
     let xs = blocks_shown bs in
     let n : k + 1 ≡ length xs = l ∙ sym (length-map bs block_spans) in
@@ -179,7 +210,8 @@ pushed_other k bs b y l e h =
     let t : is_same_place b.handle y.handle ≡ false = other_place_is b.handle y.handle h in
     let w : xs ≡ take k xs ++ block_spans b ∷ [] = sym (take_all (k + 1) xs (omega arith)) ∙ take_more xs k (block_spans b) (omega arith) ∙ ap (λ z. take k xs ++ z ∷ []) (sym at) in
     let right : joined_blocks xs (block_spans y ∷ []) ≡ xs ++ block_spans y ∷ [] =
-    ap (λ ys. joined_blocks ys (block_spans y ∷ [])) w ∙ joined_last (take k xs) (block_spans b) (block_spans y) [] ∙ rw t (sym (append_assoc (take k xs) (block_spans b ∷ []) (block_spans y ∷ []))) ∙ ap (λ ys. ys ++ block_spans y ∷ []) (sym w) in
+    ap (λ ys. joined_blocks ys (block_spans y ∷ [])) w ∙ joined_last (take k xs) (block_spans b) (block_spans y) []
+    ∙ rw t (sym (append_assoc (take k xs) (block_spans b ∷ []) (block_spans y ∷ []))) ∙ ap (λ ys. ys ++ block_spans y ∷ []) (sym w) in
     (map-append block_spans bs (y ∷ []) ∙ sym right, ap (λ ys. seam ys (block_spans y ∷ [])) w ∙ seam_last (take k xs) (block_spans b) (block_spans y) [] ∙ rw t refl)
 
 -- what meeting blocks leave
@@ -188,7 +220,9 @@ pub record AreMet (kept m : ℕ) (old new more left : List BlockSpans) (gone : �
   pub behind : (n : ℕ) → kept ≤ n → drop n new ≡ drop n old
   pub seam : seam (take kept old) more ≡ gone
 
-pub met_other : (kept m : ℕ) (bs more : List Block) (a b c y : Block) → 0 < kept → kept ≤ length bs → 0 < length more → a ≡ get_or bs (kept - 1) a → y ≡ get_or more 0 y → a.handle ≢ y.handle → b ≡ get_or bs (kept - 1) b → c.handle ≡ b.handle → c.spans.items ≡ take m b.spans.items → AreMet kept m (blocks_shown bs) (blocks_shown (set bs (kept - 1) c)) (blocks_shown more) (blocks_shown more) 0
+pub met_other : (kept m : ℕ) (bs more : List Block) (a b c y : Block) → 0 < kept → kept ≤ length bs → 0 < length more → a ≡ get_or bs (kept - 1) a →
+    y ≡ get_or more 0 y → a.handle ≢ y.handle → b ≡ get_or bs (kept - 1) b → c.handle ≡ b.handle → c.spans.items ≡ take m b.spans.items →
+    AreMet kept m (blocks_shown bs) (blocks_shown (set bs (kept - 1) c)) (blocks_shown more) (blocks_shown more) 0
 met_other kept m bs more a b c y p l q e f d g h s =
     let k = kept - 1 in
     let one = one_block bs k b a (omega arith) g e in
@@ -204,7 +238,10 @@ met_other kept m bs more a b c y p l q e f d g h s =
       seam = seam_other k (blocks_shown bs) (block_spans b) (block_spans y) (blocks_shown (drop 1 more)) (omega arith) at dif;
     }))
 
-pub met_same : (kept m : ℕ) (bs more : List Block) (a b c y : Block) → 0 < kept → kept ≤ length bs → 0 < length more → a ≡ get_or bs (kept - 1) a → y ≡ get_or more 0 y → a.handle ≡ y.handle → b ≡ get_or bs (kept - 1) b → c.handle ≡ b.handle → c.spans.items ≡ take m b.spans.items ++ y.spans.items → AreMet kept m (blocks_shown bs) (blocks_shown (set bs (kept - 1) c)) (blocks_shown more) (blocks_shown (drop 1 more)) 1
+pub met_same : (kept m : ℕ) (bs more : List Block) (a b c y : Block) → 0 < kept → kept ≤ length bs → 0 < length more → a ≡ get_or bs (kept - 1) a →
+    y ≡ get_or more 0 y → a.handle ≡ y.handle → b ≡ get_or bs (kept - 1) b → c.handle ≡ b.handle →
+    c.spans.items ≡ take m b.spans.items ++ y.spans.items → AreMet kept m (blocks_shown bs) (blocks_shown (set bs (kept - 1) c)) (blocks_shown more)
+    (blocks_shown (drop 1 more)) 1
 met_same kept m bs more a b c y p l q e f d g h s =
     let k = kept - 1 in
     let one = one_block bs k b a (omega arith) g e in

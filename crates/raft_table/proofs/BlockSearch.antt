@@ -23,7 +23,8 @@ take_past [] b n = ap (λ z. take z b) (omega arith)
 take_past (x ∷ a) b n = let e : suc (length a) + n ≡ suc (length a + n) = omega arith in rw e (ap (λ ys. x ∷ ys) (take_past a b n))
 
 -- the block whose first index is at or below an index, where the next one's is above it
-pub at_start : (x i k s : ℕ) (bs : List BlockSpans) (ss : List ℕ) → ss ≡ starts_of i bs → i ≤ x → x < i + count bs → k < length ss → s ≡ get_or ss k s → s ≤ x → ((d : ℕ) → suc k < length ss → x < get_or ss (suc k) d) → IsAt (x - i) bs k (x - s)
+pub at_start : (x i k s : ℕ) (bs : List BlockSpans) (ss : List ℕ) → ss ≡ starts_of i bs → i ≤ x → x < i + count bs → k < length ss →
+    s ≡ get_or ss k s → s ≤ x → ((d : ℕ) → suc k < length ss → x < get_or ss (suc k) d) → IsAt (x - i) bs k (x - s)
 at_start x i k s bs ss e lo hi l g le up =
     let n : length ss ≡ length bs = rw e (length-starts i bs) in
     let f : s ≡ i + count (take k bs) = g ∙ ap (λ xs. get_or xs k s) e ∙ start_at k i bs s (omega arith) in
@@ -79,7 +80,9 @@ found_some ss x zero h up = let a = up 0 0 (omega arith) (index_some ss x h) in 
 found_some ss x (suc k) h up = omega arith
 
 -- what stands from a spot on
-pub at_spot : (i p k o : ℕ) (bs : List BlockSpans) (d : BlockSpans) → IsAt p bs k o → drop p (entries_in_blocks i bs) ≡ entries_of_block (i + p) (get_or bs k d).handle (drop o (get_or bs k d).spans) ++ entries_in_blocks (i + count (take (suc k) bs)) (drop (suc k) bs)
+pub at_spot : (i p k o : ℕ) (bs : List BlockSpans) (d : BlockSpans) → IsAt p bs k o →
+    drop p (entries_in_blocks i bs) ≡ entries_of_block (i + p) (get_or bs k d).handle (drop o (get_or bs k d).spans) ++ entries_in_blocks
+    (i + count (take (suc k) bs)) (drop (suc k) bs)
 at_spot i p k o [] d a = absurd (let l = a.block in omega arith)
 at_spot i p zero o (b ∷ bs) d a =
     let l = a.inside d in
@@ -101,7 +104,9 @@ at_spot i p (suc k) o (b ∷ bs) d a =
     ∙ rw (u, v) refl
 
 -- what stands below it
-pub below_spot : (i p k o : ℕ) (bs : List BlockSpans) (d : BlockSpans) → k < length bs → count (take k bs) + o ≡ p → o ≤ length (get_or bs k d).spans → take p (entries_in_blocks i bs) ≡ entries_in_blocks i (take k bs) ++ entries_of_block (i + count (take k bs)) (get_or bs k d).handle (take o (get_or bs k d).spans)
+pub below_spot : (i p k o : ℕ) (bs : List BlockSpans) (d : BlockSpans) → k < length bs → count (take k bs) + o ≡ p →
+    o ≤ length (get_or bs k d).spans → take p (entries_in_blocks i bs) ≡ entries_in_blocks i (take k bs) ++ entries_of_block (i + count (take k bs))
+    (get_or bs k d).handle (take o (get_or bs k d).spans)
 below_spot i p k o [] d l e m = absurd (omega arith)
 below_spot i p zero o (b ∷ bs) d l e m =
     let q : p ≡ o = sym e ∙ omega arith in

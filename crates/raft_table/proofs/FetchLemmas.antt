@@ -26,15 +26,21 @@ total_more xs n d l = let e : n + 1 ≡ suc n = omega arith in rw e at (sum_by_m
 too_many : (limit n total len : ℕ) (xs : List EntryIndex) (d : EntryIndex) → n < length xs → total ≡ total_len n xs → len ≡ (get_or xs n d).entry_len → limit < total + len → 0 < total → is_too_many (Some limit) n xs ≡ true
 too_many limit n total len xs d l e f g h = let t = total_more xs n d l in grind (arith, nat_tests)
 
-few_enough : (limit n total len : ℕ) (xs : List EntryIndex) (d : EntryIndex) → n < length xs → total ≡ total_len n xs → len ≡ (get_or xs n d).entry_len → ((limit < total + len) × (total ≤ 0)) ⊎ (total + len ≤ limit) → is_too_many (Some limit) n xs ≡ false
+few_enough : (limit n total len : ℕ) (xs : List EntryIndex) (d : EntryIndex) → n < length xs → total ≡ total_len n xs →
+    len ≡ (get_or xs n d).entry_len → ((limit < total + len) × (total ≤ 0)) ⊎ (total + len ≤ limit) → is_too_many (Some limit) n xs ≡ false
 few_enough limit n total len xs d l e f (inl g) = let t = total_more xs n d l in grind (arith, nat_tests)
 few_enough limit n total len xs d l e f (inr g) = let t = total_more xs n d l in grind (arith, nat_tests)
 
 -- a loop over the lengths, where it stops and where it goes on
-pub limit_stops : (limit n total len : ℕ) (xs : List EntryIndex) (d : EntryIndex) → n < length xs → total ≡ total_len n xs → len ≡ (get_or xs n d).entry_len → limit < total + len → 0 < total → ((m : ℕ) → m < n → is_too_many (Some limit) m xs ≡ false) → IsLimitCount (Some limit) xs n
+pub limit_stops : (limit n total len : ℕ) (xs : List EntryIndex) (d : EntryIndex) → n < length xs → total ≡ total_len n xs →
+    len ≡ (get_or xs n d).entry_len → limit < total + len → 0 < total → ((m : ℕ) → m < n → is_too_many (Some limit) m xs ≡ false) →
+    IsLimitCount (Some limit) xs n
 limit_stops limit n total len xs d l e f g h k = record { there = omega arith; fit = k; stops = λ _. too_many limit n total len xs d l e f g h }
 
-pub limit_more : (limit n total len : ℕ) (xs : List EntryIndex) (d : EntryIndex) → n < length xs → total ≡ total_len n xs → len ≡ (get_or xs n d).entry_len → ((limit < total + len) × (total ≤ 0)) ⊎ (total + len ≤ limit) → ((m : ℕ) → m < n → is_too_many (Some limit) m xs ≡ false) → (total + len ≡ total_len (suc n) xs) × ((m : ℕ) → m < suc n → is_too_many (Some limit) m xs ≡ false)
+pub limit_more : (limit n total len : ℕ) (xs : List EntryIndex) (d : EntryIndex) → n < length xs → total ≡ total_len n xs →
+    len ≡ (get_or xs n d).entry_len → ((limit < total + len) × (total ≤ 0)) ⊎ (total + len ≤ limit) →
+    ((m : ℕ) → m < n → is_too_many (Some limit) m xs ≡ false) →
+    (total + len ≡ total_len (suc n) xs) × ((m : ℕ) → m < suc n → is_too_many (Some limit) m xs ≡ false)
 limit_more limit n total len xs d l e f g k =
     let t = total_more xs n d l in (
       omega arith,
@@ -89,7 +95,9 @@ part_front a b n xs h l =
     let r = ap length p in
     drop-take a n xs ∙ sym (ap (take n) p ∙ take-take n (b - a) (drop a xs) (omega arith))
 
-pub fetched_part : (limit : Option ℕ) (begin end n : ℕ) (es old new : List EntryIndex) → AreTableEntries es → start_of es ≤ begin → begin ≤ end → IsLimitCount limit (drop (begin - start_of es) (take (end - start_of es) es)) n → new ≡ old ++ drop (begin - start_of es) (take (begin - start_of es + n) es) → FetchesWithin limit (entries_between begin end es) old new
+pub fetched_part : (limit : Option ℕ) (begin end n : ℕ) (es old new : List EntryIndex) → AreTableEntries es → start_of es ≤ begin → begin ≤ end →
+    IsLimitCount limit (drop (begin - start_of es) (take (end - start_of es) es)) n →
+    new ≡ old ++ drop (begin - start_of es) (take (begin - start_of es + n) es) → FetchesWithin limit (entries_between begin end es) old new
 fetched_part limit begin end n es old new h a b w e =
     let p = between_is begin end es h in
     record {

@@ -46,7 +46,8 @@ from_first None (Some d) reach n u h k = k
 from_first (Some c) (Some d) reach n u h k = from_less d (min c d) u (omega arith) k
 
 -- behind an older mark with a run
-pub from_later : (c floor : ℕ) (b reach : Option ℕ) (n : Mark) (t u w : List EntryIndex) (dropped : Bool) → AreFromCut (Some c) t → FitsCut reach b n u → AreFromCut b u → cond dropped u (entries_within floor b t ++ u) ≡ w → AreFromCut (lesser (Some c) b) w
+pub from_later : (c floor : ℕ) (b reach : Option ℕ) (n : Mark) (t u w : List EntryIndex) (dropped : Bool) → AreFromCut (Some c) t →
+    FitsCut reach b n u → AreFromCut b u → cond dropped u (entries_within floor b t ++ u) ≡ w → AreFromCut (lesser (Some c) b) w
 from_later c floor b reach n t u w dropped h k l is = subst (AreFromCut (lesser (Some c) b)) is (go dropped (from_first (Some c) b reach n u k l))
   where
     older : (b : Option ℕ) → AreFromCut (lesser (Some c) b) (entries_within floor b t)
@@ -74,7 +75,8 @@ empty [] some e = absurd (omega (arith, some))
 empty (x ∷ es) some e = cc
 
 -- a run that begins among own entries, or right behind them, leaves their region mark as it is
-pub run_stays : (q : LogQueue) (m : Mark) (own : List EntryIndex) (start : ℕ) → Fits q m own → 0 < end_of own → start_of own ≤ start → start ≤ end_of own → joined_at q (end_of own) m (record fresh { reach = Some start; cut = Some start }) ≡ m
+pub run_stays : (q : LogQueue) (m : Mark) (own : List EntryIndex) (start : ℕ) → Fits q m own → 0 < end_of own → start_of own ≤ start →
+    start ≤ end_of own → joined_at q (end_of own) m (record fresh { reach = Some start; cut = Some start }) ≡ m
 run_stays q m own start f some low high = by_cleaned m.cleaned refl
   where
     n : Mark

@@ -60,13 +60,17 @@ pub few_behind : (q : LogQueue) (n : ℕ) (es : List EntryIndex) (c : Counts) �
 few_behind q n es c h = omega (arith, h q, entry_count-cut q n es)
 
 -- a run of one queue in place of those behind a front, where there is no room for it
-pub full_behind : (q : LogQueue) (c : Counts) (n : ℕ) (es run : List EntryIndex) (a r m : ℕ) → 2 ^ 64 + of_queue q a r ≤ live q c + m → r ≡ entry_count Rewrite (drop n es) → a ≡ entry_count Append (drop n es) → m ≡ length run → placed_in q run ≡ run → 2 ^ 64 + entry_count q es ≤ live q c + entry_count q (take n es ++ run)
+pub full_behind : (q : LogQueue) (c : Counts) (n : ℕ) (es run : List EntryIndex) (a r m : ℕ) → 2 ^ 64 + of_queue q a r ≤ live q c + m →
+    r ≡ entry_count Rewrite (drop n es) → a ≡ entry_count Append (drop n es) → m ≡ length run → placed_in q run ≡ run →
+    2 ^ 64 + entry_count q es ≤ live q c + entry_count q (take n es ++ run)
 full_behind q c n es run a r m h e f l k =
     let o : of_queue q a r ≡ entry_count q (drop n es) = each_queue (λ p. of_queue p a r ≡ entry_count p (drop n es)) f e q in
     omega (arith, entry_count-append q (take n es) run, ap length k, entry_count-cut q n es)
 
 -- .. and where there is
-pub recounted_behind : (q : LogQueue) (c new : Counts) (n : ℕ) (es run after : List EntryIndex) (a r m : ℕ) → ((p : LogQueue) → live p new + of_queue p a r ≡ live p c + count_in p q m) → r ≡ entry_count Rewrite (drop n es) → a ≡ entry_count Append (drop n es) → m ≡ length run → placed_in q run ≡ run → after ≡ take n es ++ run → AreRecounted es after c new
+pub recounted_behind : (q : LogQueue) (c new : Counts) (n : ℕ) (es run after : List EntryIndex) (a r m : ℕ) →
+    ((p : LogQueue) → live p new + of_queue p a r ≡ live p c + count_in p q m) → r ≡ entry_count Rewrite (drop n es) →
+    a ≡ entry_count Append (drop n es) → m ≡ length run → placed_in q run ≡ run → after ≡ take n es ++ run → AreRecounted es after c new
 recounted_behind q c new n es run after a r m h e f l k w p =
     let o : of_queue p a r ≡ entry_count p (drop n es) = each_queue (λ x. of_queue x a r ≡ entry_count x (drop n es)) f e p in
     let t : entry_count p after ≡ entry_count p (take n es) + count_in p q m =

@@ -42,7 +42,9 @@ contains-insert : (s : KeySet) (k q : List ℕ) → finset.contains (finset.inse
 contains-insert s k q = finset.contains-insert nat_list_cmp_total s k q
 
 insert-twice : (s : KeySet) (k : List ℕ) → finset.insert s k ≡ finset.insert (finset.insert s k) k
-insert-twice s k = same_set _ _ (λ q. contains-insert s k q ∙ sym (contains-insert (finset.insert s k) k q ∙ ap (λ x. eq_by_cmp (slice_cmp nat_cmp) q k || x) (contains-insert s k q) ∙ or_twice (eq_by_cmp (slice_cmp nat_cmp) q k) (finset.contains s q)))
+insert-twice s k = same_set _ _
+    (λ q. contains-insert s k q ∙ sym (contains-insert (finset.insert s k) k q
+    ∙ ap (λ x. eq_by_cmp (slice_cmp nat_cmp) q k || x) (contains-insert s k q) ∙ or_twice (eq_by_cmp (slice_cmp nat_cmp) q k) (finset.contains s q)))
 
 insert-swap : (s : KeySet) (k j : List ℕ) → finset.insert (finset.insert s k) j ≡ finset.insert (finset.insert s j) k
 insert-swap s k j = same_set _ _ (λ q.

@@ -86,7 +86,9 @@ weight-file q None = refl
 weight-file q (Some s) = refl
 
 -- a pair that is put counts, and the one that it replaces no longer does
-pub pair_count-insert : (q : LogQueue) (keys : Keys) (key value : List ℕ) (file : FileId) → pair_count q (finite.insert keys key (record { value = value; file = file })) + file_weight q (file_at keys key) ≡ pair_count q keys + file_weight q (Some file)
+pub pair_count-insert : (q : LogQueue) (keys : Keys) (key value : List ℕ) (file : FileId) →
+    pair_count q (finite.insert keys key (record { value = value; file = file })) + file_weight q (file_at keys key) ≡ pair_count q keys + file_weight
+    q (Some file)
 pair_count-insert q keys key value file =
     rw (finite.entries-insert nat_list_cmp_total, ← weight-file q (finite.get keys key), finite.get-entries)
     (count-put nat_list_cmp_total (λ s. is_same q s.file.queue) key (record { value = value; file = file }) (finite.entries keys) (finite.entries_sorted keys))
@@ -98,10 +100,13 @@ pair_count-remove q keys key =
     (count-without nat_list_cmp_total (λ s. is_same q s.file.queue) key (finite.entries keys) (finite.entries_sorted keys))
 
 -- a pair that is moved counts where it is then
-pub pair_count-with_moved : (q : LogQueue) (keys : Keys) (key : List ℕ) (file : FileId) → pair_count q (with_moved keys key file) + file_weight q (file_at keys key) ≡ pair_count q keys + file_weight q (option_map (λ _. file) (file_at keys key))
+pub pair_count-with_moved : (q : LogQueue) (keys : Keys) (key : List ℕ) (file : FileId) →
+    pair_count q (with_moved keys key file) + file_weight q (file_at keys key) ≡ pair_count q keys + file_weight q
+    (option_map (λ _. file) (file_at keys key))
 pair_count-with_moved q keys key file = go (finite.get keys key) refl
   where
-    go : (found : Option Stored) → finite.get keys key ≡ found → pair_count q (moved_to file keys key found) + file_weight q (option_map (λ s. s.file) found) ≡ pair_count q keys + file_weight q (option_map (λ _. file) (option_map (λ s. s.file) found))
+    go : (found : Option Stored) → finite.get keys key ≡ found → pair_count q (moved_to file keys key found) + file_weight q
+        (option_map (λ s. s.file) found) ≡ pair_count q keys + file_weight q (option_map (λ _. file) (option_map (λ s. s.file) found))
     go None e = refl
     go (Some s) e = rw (ap (λ o. option_map (λ s. s.file) o) e) at (pair_count-insert q keys key s.value file)
 
@@ -119,4 +124,12 @@ pair_count-both keys = rw finite.len-entries (go (finite.entries keys))
 
     go : (es : List (List ℕ × Stored)) → length (filter (λ e. is_same Append e.1.file.queue) es) + length (filter (λ e. is_same Rewrite e.1.file.queue) es) ≡ length es
     go [] = refl
-    go (e ∷ es) = omega (arith, go es, one e.1.file.queue, length-cond (is_same Append e.1.file.queue) e (filter (λ e. is_same Append e.1.file.queue) es), length-cond (is_same Rewrite e.1.file.queue) e (filter (λ e. is_same Rewrite e.1.file.queue) es))
+    go (e ∷ es) = omega (
+      arith,
+      go es,
+      one e.1.file.queue,
+      length-cond (is_same Append e.1.file.queue) e
+          (filter (λ e. is_same Append e.1.file.queue) es),
+      length-cond (is_same Rewrite e.1.file.queue) e
+          (filter (λ e. is_same Rewrite e.1.file.queue) es),
+    )

@@ -15,7 +15,9 @@ get-with_pairs : (es : List (List ℕ × Stored)) (keys : Keys) (q : List ℕ) �
 get-with_pairs [] keys q h = refl
 get-with_pairs (e ∷ es) keys q h =
     let rest = get-with_pairs es (finite.insert keys e.0 e.1) q (second_of_both _ _ h) ∙ ap (option_or (find (slice_cmp nat_cmp) q es)) (finite.get-insert nat_list_cmp_total keys e.0 e.1 q) in
-    elim (eq_by_cmp (slice_cmp nat_cmp) q e.0) as (λ b. eq_by_cmp (slice_cmp nat_cmp) q e.0 ≡ b → finite.get (with_pairs keys (e ∷ es)) q ≡ option_or (find (slice_cmp nat_cmp) q es) (cond b (Some e.1) (finite.get keys q)) → finite.get (with_pairs keys (e ∷ es)) q ≡ option_or (cond b (Some e.1) (find (slice_cmp nat_cmp) q es)) (finite.get keys q)) [
+    elim (eq_by_cmp (slice_cmp nat_cmp) q e.0) as (λ b. eq_by_cmp (slice_cmp nat_cmp) q e.0 ≡ b →
+    finite.get (with_pairs keys (e ∷ es)) q ≡ option_or (find (slice_cmp nat_cmp) q es) (cond b (Some e.1) (finite.get keys q)) →
+    finite.get (with_pairs keys (e ∷ es)) q ≡ option_or (cond b (Some e.1) (find (slice_cmp nat_cmp) q es)) (finite.get keys q)) [
       | true ↦ λ t r. r ∙ ap (λ o. option_or o (Some e.1)) (find-below nat_list_cmp_total q es (below_all-equal nat_list_cmp_total q e.0 es (equal _ t) (first_of_both _ _ h)))
       | false ↦ λ t r. r
     ] refl rest

@@ -40,7 +40,8 @@ module _ {K X : Type 0} (key : K → List ℕ) (stored : X → Stored) where
   pub len-map_of : (es : List (K × X)) → Ordered es → finite.len (map_of es) ≡ length es
   len-map_of es h = finite.len-entries (map_of es) ∙ ap length (entries-map_of es h) ∙ length-map _ _
 
-  pub map_of-insert_entry : (k : K) (x : X) (es : List (K × X)) → Ordered es → Ordered (insert_entry (by_key (slice_cmp nat_cmp) key stored) es k x) → map_of (insert_entry (by_key (slice_cmp nat_cmp) key stored) es k x) ≡ finite.insert (map_of es) (key k) (stored x)
+  pub map_of-insert_entry : (k : K) (x : X) (es : List (K × X)) → Ordered es → Ordered (insert_entry (by_key (slice_cmp nat_cmp) key stored) es k x) →
+      map_of (insert_entry (by_key (slice_cmp nat_cmp) key stored) es k x) ≡ finite.insert (map_of es) (key k) (stored x)
   map_of-insert_entry k x es h g =
       finite.same_entries_map _ _ (entries-map_of _ g ∙ shown-insert_entry (slice_cmp nat_cmp) key stored k x es
       ∙ ap (finite.put (slice_cmp nat_cmp) (key k) (stored x)) (sym (entries-map_of es h))
@@ -52,7 +53,8 @@ module _ {K X : Type 0} (key : K → List ℕ) (stored : X → Stored) where
       ∙ sym (rw (entries-map_of es h) at (entries-remove nat_list_cmp_total (slice_cmp-IsAntisymmetric nat_cmp-IsAntisymmetric) (map_of es) q)))
 
   -- a write of the same value with another file
-  pub map_of-set_value : (q : List ℕ) (x y : X) (es : List (K × X)) → Ordered es → Ordered (set_value (at q) es x) → lookup (at q) es ≡ Some y → (stored x).value ≡ (stored y).value → map_of (set_value (at q) es x) ≡ with_moved (map_of es) q (stored x).file
+  pub map_of-set_value : (q : List ℕ) (x y : X) (es : List (K × X)) → Ordered es → Ordered (set_value (at q) es x) → lookup (at q) es ≡ Some y →
+      (stored x).value ≡ (stored y).value → map_of (set_value (at q) es x) ≡ with_moved (map_of es) q (stored x).file
   map_of-set_value q x y es h g found same =
       finite.same_entries_map _ _ (entries-map_of _ g ∙ shown-set_value (slice_cmp nat_cmp) key stored nat_list_cmp_total q x es (in_order es h) (rw found refl)
       ∙ ap (finite.put (slice_cmp nat_cmp) q (stored x)) (sym (entries-map_of es h))

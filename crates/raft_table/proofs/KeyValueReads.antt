@@ -76,7 +76,9 @@ scanned-shown a keys s s' s'' e e' e'' sound is p q =
     ap (map bytes_of) (sought-tested (λ (p : Entry). p.0.items) s s' s'' e e' e'' a.pairs.entries p q) ∙ sym (chosen-shown a keys (λ p. is_between s e p.0) sound is)
 
 -- the first pair, and the others
-pub first-shown : (a b : Inside) (keys : Keys) (k : Vec ℕ Global) (s : StoredValue) → IsOrderedAndCounted a → keys_shown a ≡ keys → IsOrdered key_cmp b.pairs → a.pairs.entries ≡ (k, s) ∷ b.pairs.entries → finite.entries keys ≡ (k.items, stored_of s) ∷ finite.entries (keys_shown b)
+pub first-shown : (a b : Inside) (keys : Keys) (k : Vec ℕ Global) (s : StoredValue) → IsOrderedAndCounted a → keys_shown a ≡ keys →
+    IsOrdered key_cmp b.pairs → a.pairs.entries ≡ (k, s) ∷ b.pairs.entries → finite.entries keys ≡ (k.items, stored_of s) ∷ finite.entries
+    (keys_shown b)
 first-shown a b keys k s sound is ordered first =
     sym (ap finite.entries is) ∙ entries-shown a sound.ordered ∙ ap (map pair_of) first ∙ ap (λ es. (k.items, stored_of s) ∷ es) (sym (entries-shown b ordered))
 

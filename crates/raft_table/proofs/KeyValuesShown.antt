@@ -41,7 +41,9 @@ rewritten-le-len a sound = omega (arith, sound.counted, pair_count-le-len Rewrit
 pub appended-shown : (a : Inside) (keys : Keys) → IsOrderedAndCounted a → keys_shown a ≡ keys → pair_count Append keys + a.rewritten ≡ length a.pairs.entries
 appended-shown a keys sound is = rw (← is) (omega (arith, sound.counted, pair_count-both (keys_shown a), len-shown a (keys_shown a) sound refl))
 
-pub shown-insert : (a b : Inside) (keys : Keys) (k : Vec ℕ Global) (s : StoredValue) → IsOrderedAndCounted a → keys_shown a ≡ keys → IsOrdered key_cmp b.pairs → b.pairs.entries ≡ insert_entry key_cmp a.pairs.entries k s → keys_shown b ≡ finite.insert keys k.items (record { value = s.value.items; file = s.file })
+pub shown-insert : (a b : Inside) (keys : Keys) (k : Vec ℕ Global) (s : StoredValue) → IsOrderedAndCounted a → keys_shown a ≡ keys →
+    IsOrdered key_cmp b.pairs → b.pairs.entries ≡ insert_entry key_cmp a.pairs.entries k s →
+    keys_shown b ≡ finite.insert keys k.items (record { value = s.value.items; file = s.file })
 shown-insert a b keys k s sound is ordered put =
     ap (map_of bytes_of stored_of) put
     ∙ map_of-insert_entry bytes_of stored_of k s a.pairs.entries sound.ordered (subst (Ordered bytes_of stored_of) put ordered)
@@ -53,14 +55,18 @@ shown-remove a b keys q sound is ordered gone =
     ∙ map_of-remove_entry bytes_of stored_of q a.pairs.entries sound.ordered (subst (Ordered bytes_of stored_of) gone ordered)
     ∙ ap (λ (m : Keys). finite.remove m q) is
 
-pub shown-set_file : (a b : Inside) (keys : Keys) (q : List ℕ) (s t : StoredValue) → IsOrderedAndCounted a → keys_shown a ≡ keys → IsOrdered key_cmp b.pairs → lookup (has q) a.pairs.entries ≡ Some s → b.pairs.entries ≡ set_value (has q) a.pairs.entries t → t.value ≡ s.value → keys_shown b ≡ with_moved keys q t.file
+pub shown-set_file : (a b : Inside) (keys : Keys) (q : List ℕ) (s t : StoredValue) → IsOrderedAndCounted a → keys_shown a ≡ keys →
+    IsOrdered key_cmp b.pairs → lookup (has q) a.pairs.entries ≡ Some s → b.pairs.entries ≡ set_value (has q) a.pairs.entries t → t.value ≡ s.value →
+    keys_shown b ≡ with_moved keys q t.file
 shown-set_file a b keys q s t sound is ordered found set same =
     ap (map_of bytes_of stored_of) set
     ∙ map_of-set_value bytes_of stored_of q t s a.pairs.entries sound.ordered (subst (Ordered bytes_of stored_of) set ordered) found (ap (λ v. v.items) same)
     ∙ ap (λ m. with_moved m q t.file) is
 
 -- the count of rewritten pairs is kept where it changes as the pairs do
-pub sound-changed : (a b : Inside) (old new : Keys) (gone came : ℕ) → IsOrderedAndCounted a → keys_shown a ≡ old → IsOrdered key_cmp b.pairs → keys_shown b ≡ new → b.rewritten + gone ≡ a.rewritten + came → pair_count Rewrite new + gone ≡ pair_count Rewrite old + came → IsOrderedAndCounted b
+pub sound-changed : (a b : Inside) (old new : Keys) (gone came : ℕ) → IsOrderedAndCounted a → keys_shown a ≡ old → IsOrdered key_cmp b.pairs →
+    keys_shown b ≡ new → b.rewritten + gone ≡ a.rewritten + came → pair_count Rewrite new + gone ≡ pair_count Rewrite old + came →
+    IsOrderedAndCounted b
 sound-changed a b old new gone came sound was ordered is number pairs =
     let before : a.rewritten ≡ pair_count Rewrite old = subst (λ (k : Keys). a.rewritten ≡ pair_count Rewrite k) was sound.counted in
     let after : b.rewritten ≡ pair_count Rewrite new = omega arith in

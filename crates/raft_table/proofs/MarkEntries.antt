@@ -47,7 +47,8 @@ kept_barred : (barred : Option (ℕ × ℕ)) (b : Bool) (x y : Option (ℕ × �
 kept_barred None b x y o e = cc
 kept_barred (Some p) b x y o e = e
 
-later_append : (s s1 : ℕ) (m n : Mark) (t u w o : List EntryIndex) (r c : ℕ) → m.reach ≡ Some r → RisesFrom s o → RisesFrom s1 t → FitsRun r c (end_of t) m.reach_floor m.floor m.reach_cut m.barred → LiesWithin n.reach_floor n.reach_cut n.barred
+later_append : (s s1 : ℕ) (m n : Mark) (t u w o : List EntryIndex) (r c : ℕ) → m.reach ≡ Some r → RisesFrom s o → RisesFrom s1 t →
+    FitsRun r c (end_of t) m.reach_floor m.floor m.reach_cut m.barred → LiesWithin n.reach_floor n.reach_cut n.barred
     → over Append n u t ≡ Some w
     → option_and_then (λ v. over Append n u v) (cond (misses (Some r) (end_of (entries_within m.reach_floor m.reach_cut o)) || is_barred m.barred o) None (Some (entries_within m.floor (Some c) o ++ t)))
     ≡ over Append (joined_later Append c (end_of (entries_within n.reach_floor n.reach_cut t)) m n) w o
@@ -59,7 +60,9 @@ later_append s s1 m n t u w o r c reach run run1 f f' is = rw reach (go (misses 
     ok2 : (misses n.reach (end_of (entries_within n.reach_floor n.reach_cut t)) ≡ false) × (is_barred n.barred t ≡ false)
     ok2 = or_false _ _ ok.0
 
-    content : (x : Bool) → cond x u (entries_within n.floor n.cut t ++ u) ≡ w → cond x u (entries_within n.floor n.cut (entries_within m.floor (Some c) o ++ t) ++ u) ≡ cond x w (entries_within (max m.floor n.floor) (lesser (Some c) n.cut) o ++ w)
+    content : (x : Bool) → cond x u (entries_within n.floor n.cut t ++ u) ≡ w →
+        cond x u (entries_within n.floor n.cut (entries_within m.floor (Some c) o ++ t) ++ u) ≡ cond x w
+        (entries_within (max m.floor n.floor) (lesser (Some c) n.cut) o ++ w)
     content true e = e
     content false e = rw (within-both, ← e)
 
@@ -67,7 +70,9 @@ later_append s s1 m n t u w o r c reach run run1 f f' is = rw reach (go (misses 
         → option_and_then (λ v. over Append n u v) (cond (x || y) None (Some (entries_within m.floor (Some c) o ++ t)))
         ≡ cond (x || is_barred (joined_later Append c (end_of (entries_within n.reach_floor n.reach_cut t)) m n).barred o) None (Some (cond n.cleaned w (entries_within (max m.floor n.floor) (lesser (Some c) n.cut) o ++ w)))
     go true y h k = refl
-    go false true h k = rw (kept_barred m.barred (is_detached n.reach (end_of (entries_within n.reach_floor n.reach_cut t)) (at_most_bound c n.reach_cut)) (Some (max m.floor n.reach_floor, at_most_bound c n.reach_cut)) (narrowed_bars m.floor (Some c) n.barred) o k)
+    go false true h k = rw (kept_barred m.barred
+        (is_detached n.reach (end_of (entries_within n.reach_floor n.reach_cut t)) (at_most_bound c n.reach_cut))
+        (Some (max m.floor n.reach_floor, at_most_bound c n.reach_cut)) (narrowed_bars m.floor (Some c) n.barred) o k)
     go false false h k = rw (refuses_later s s1 o t r c m.reach_floor m.floor m.reach_cut m.barred n.reach n.reach_floor n.reach_cut n.barred run run1 f f' ok2.0 ok2.1 h k, content n.cleaned ok.1)
 
 -- an older table without a run
@@ -166,7 +171,8 @@ pushed_part false x y d o = refl
 
 not_missed : (s s1 : ℕ) (o t u : List EntryIndex) (n : Mark) (c lo : ℕ) → RisesFrom s o → RisesFrom s1 t → Settled lo c (end_of t) o → (x y : Option ℕ) → FitsCut x y n u
     → cond (misses x (end_of (entries_within n.reach_floor n.reach_cut (entries_within lo (Some c) o ++ t)))) u (entries_within n.floor y (entries_within lo (Some c) o ++ t) ++ u)
-    ≡ entries_within (cond (is_detached x (end_of (entries_within n.reach_floor n.reach_cut t)) (at_most_bound c n.reach_cut) || misses x (end_of (entries_within n.reach_floor n.reach_cut t))) (max (max lo n.floor) c) (max lo n.floor)) (lesser (Some c) y) o
+    ≡ entries_within (cond (is_detached x (end_of (entries_within n.reach_floor n.reach_cut t)) (at_most_bound c n.reach_cut) || misses x
+    (end_of (entries_within n.reach_floor n.reach_cut t))) (max (max lo n.floor) c) (max lo n.floor)) (lesser (Some c) y) o
     ++ cond (misses x (end_of (entries_within n.reach_floor n.reach_cut t))) u (entries_within n.floor y t ++ u)
 not_missed s s1 o t u n c lo run run1 st None y f = within-both n.floor y lo (Some c) o t u
 not_missed s s1 o t u n c lo run run1 st (Some r) None f = absurd f
@@ -187,8 +193,14 @@ later_rewrite s s1 m n t u o r c reach run run1 f none f' w is = rw reach (ap (�
     X = end_of (entries_within n.reach_floor n.reach_cut t)
 
     by_cleaned : (b : Bool) → n.cleaned ≡ b → cond b u (cond (misses n.reach X) u (entries_within n.floor n.cut t ++ u)) ≡ w
-        → cond b u (cond (misses n.reach (end_of (entries_within n.reach_floor n.reach_cut (cond (misses (Some r) (end_of (entries_within m.reach_floor m.reach_cut o))) t (entries_within m.floor (Some c) o ++ t))))) u (entries_within n.floor n.cut (cond (misses (Some r) (end_of (entries_within m.reach_floor m.reach_cut o))) t (entries_within m.floor (Some c) o ++ t)) ++ u))
-        ≡ cond b w (cond (misses (Some r) (end_of (entries_within m.reach_floor m.reach_cut o))) w (entries_within (cond (is_detached n.reach X (at_most_bound c n.reach_cut) || misses n.reach X) (max (max m.floor n.floor) c) (max m.floor n.floor)) (lesser (Some c) n.cut) o ++ w))
+        → cond b u (cond (misses n.reach
+        (end_of (entries_within n.reach_floor n.reach_cut
+        (cond (misses (Some r) (end_of (entries_within m.reach_floor m.reach_cut o))) t (entries_within m.floor (Some c) o ++ t))))) u
+        (entries_within n.floor n.cut (cond (misses (Some r) (end_of (entries_within m.reach_floor m.reach_cut o))) t
+        (entries_within m.floor (Some c) o ++ t)) ++ u))
+        ≡ cond b w (cond (misses (Some r) (end_of (entries_within m.reach_floor m.reach_cut o))) w
+        (entries_within (cond (is_detached n.reach X (at_most_bound c n.reach_cut) || misses n.reach X) (max (max m.floor n.floor) c)
+        (max m.floor n.floor)) (lesser (Some c) n.cut) o ++ w))
     by_cleaned true e is = is
     by_cleaned false e is = by_missed (misses (Some r) (end_of (entries_within m.reach_floor m.reach_cut o))) refl
       where
@@ -196,7 +208,10 @@ later_rewrite s s1 m n t u o r c reach run run1 f none f' w is = rw reach (ap (�
             → cond (misses n.reach (end_of (entries_within n.reach_floor n.reach_cut (cond b t (entries_within m.floor (Some c) o ++ t))))) u (entries_within n.floor n.cut (cond b t (entries_within m.floor (Some c) o ++ t)) ++ u)
             ≡ cond b w (entries_within (cond (is_detached n.reach X (at_most_bound c n.reach_cut) || misses n.reach X) (max (max m.floor n.floor) c) (max m.floor n.floor)) (lesser (Some c) n.cut) o ++ w)
         by_missed true h = is
-        by_missed false h = not_missed s s1 o t u n c m.floor run run1 (settled_list s o r c (end_of t) m.reach_floor m.floor m.reach_cut m.barred run f h (rw none)) n.reach n.cut (f'.uncleaned e) ∙ ap (λ v. entries_within (cond (is_detached n.reach X (at_most_bound c n.reach_cut) || misses n.reach X) (max (max m.floor n.floor) c) (max m.floor n.floor)) (lesser (Some c) n.cut) o ++ v) is
+        by_missed false h = not_missed s s1 o t u n c m.floor run run1
+            (settled_list s o r c (end_of t) m.reach_floor m.floor m.reach_cut m.barred run f h (rw none)) n.reach n.cut (f'.uncleaned e)
+            ∙ ap (λ v. entries_within (cond (is_detached n.reach X (at_most_bound c n.reach_cut) || misses n.reach X) (max (max m.floor n.floor) c)
+            (max m.floor n.floor)) (lesser (Some c) n.cut) o ++ v) is
 
 join_rewrite : (m n : Mark) (t u w o : List EntryIndex) → IsRun o → IsRun t → Fits Rewrite m t → Fits Rewrite n u → over Rewrite n u t ≡ Some w
     → option_and_then (λ v. over Rewrite n u v) (over Rewrite m t o) ≡ over Rewrite (joined_at Rewrite (end_of (entries_within n.reach_floor n.reach_cut t)) m n) w o

@@ -51,7 +51,9 @@ pub union_one : (a : KeySet) (key : List ℕ) → finset.insert a key ≡ finset
 union_one a key = same_set _ _ (λ q.
     finset.contains-insert nat_list_cmp_total a key q
     ∙ sym (finset.contains-union nat_list_cmp_total a (finset.insert finset.empty key) q
-    ∙ ap (λ x. finset.contains a q || x) (finset.contains-insert nat_list_cmp_total finset.empty key q ∙ ap (λ x. eq_by_cmp (slice_cmp nat_cmp) q key || x) (finset.contains-empty (slice_cmp nat_cmp) q) ∙ or_none (eq_by_cmp (slice_cmp nat_cmp) q key))
+    ∙ ap (λ x. finset.contains a q || x) (finset.contains-insert nat_list_cmp_total finset.empty key q
+    ∙ ap (λ x. eq_by_cmp (slice_cmp nat_cmp) q key || x) (finset.contains-empty (slice_cmp nat_cmp) q)
+    ∙ or_none (eq_by_cmp (slice_cmp nat_cmp) q key))
     ∙ or_comm (finset.contains a q) (eq_by_cmp (slice_cmp nat_cmp) q key)))
 
 pub lesser_assoc : (a b c : Option ℕ) → lesser (lesser a b) c ≡ lesser a (lesser b c)
@@ -199,7 +201,34 @@ joined_fresh q x m = go q m.cleaned m.reach m.cut refl refl refl
   where
     go : (q : LogQueue) (b : Bool) (y z : Option ℕ) → m.cleaned ≡ b → m.reach ≡ y → m.cut ≡ z → ◌≡◌ {A = Mark} (cond b m (joined_uncleaned y z q x m fresh)) m
     go q true y z e f g = refl
-    go q false None z e f g = λ i. record { cleaned = sym e i; reach = sym f i; reach_floor = m.reach_floor; reach_cut = m.reach_cut; barred = none_behind m.barred i; floor = omega_max m.floor i; cut = same_cut m.cut i; deleted = union_empty m.deleted i }
+    go q false None z e f g = λ i. record {
+      cleaned = sym e i;
+      reach = sym f i;
+      reach_floor = m.reach_floor;
+      reach_cut = m.reach_cut;
+      barred = none_behind m.barred i;
+      floor = omega_max m.floor i;
+      cut = same_cut m.cut i;
+      deleted = union_empty m.deleted i;
+    }
     go q false (Some r) None e f g = refl
-    go Append false (Some r) (Some c) e f g = λ i. record { cleaned = sym e i; reach = m.reach; reach_floor = m.reach_floor; reach_cut = m.reach_cut; barred = none_behind m.barred i; floor = omega_max m.floor i; cut = sym g i; deleted = union_empty m.deleted i }
-    go Rewrite false (Some r) (Some c) e f g = λ i. record { cleaned = sym e i; reach = m.reach; reach_floor = m.reach_floor; reach_cut = m.reach_cut; barred = m.barred; floor = omega_max m.floor i; cut = sym g i; deleted = union_empty m.deleted i }
+    go Append false (Some r) (Some c) e f g = λ i. record {
+      cleaned = sym e i;
+      reach = m.reach;
+      reach_floor = m.reach_floor;
+      reach_cut = m.reach_cut;
+      barred = none_behind m.barred i;
+      floor = omega_max m.floor i;
+      cut = sym g i;
+      deleted = union_empty m.deleted i;
+    }
+    go Rewrite false (Some r) (Some c) e f g = λ i. record {
+      cleaned = sym e i;
+      reach = m.reach;
+      reach_floor = m.reach_floor;
+      reach_cut = m.reach_cut;
+      barred = m.barred;
+      floor = omega_max m.floor i;
+      cut = sym g i;
+      deleted = union_empty m.deleted i;
+    }

@@ -109,7 +109,8 @@ abbrev Seat : ℕ → ℕ → ℕ → Option ℕ → ℕ → Option (ℕ × ℕ)
 Seat c e lo reach_cut r barred = (e ≡ 0) ⊎ ((c ≤ e) ⊎ ((c ≤ lo) ⊎ (IsBelow reach_cut r ⊎ IsBarring barred)))
 
 -- the older table's part of the joined one
-seat_older : (s e r c lo lo' l : ℕ) (d reach_cut : Option ℕ) (barred barred' : Option (ℕ × ℕ)) → lo ≤ lo' → (IsBarring barred → IsBarring barred') → Seat c e lo reach_cut r barred → Seat (at_most_bound c d) (top s e l d) lo' reach_cut r barred'
+seat_older : (s e r c lo lo' l : ℕ) (d reach_cut : Option ℕ) (barred barred' : Option (ℕ × ℕ)) → lo ≤ lo' → (IsBarring barred → IsBarring barred') →
+    Seat c e lo reach_cut r barred → Seat (at_most_bound c d) (top s e l d) lo' reach_cut r barred'
 seat_older s e r c lo lo' l d reach_cut barred barred' h k (inl z) = inl (nothing d)
   where
     nothing : (d : Option ℕ) → top s e l d ≡ 0
@@ -193,7 +194,9 @@ at_most_less c d (Some t) h = omega arith
 -- in the append queue, where the newer mark has a run
 fits_later_append : (s1 : ℕ) (n : Mark) (t u : List EntryIndex) (r c reach_floor lo : ℕ) (reach_cut : Option ℕ) (barred : Option (ℕ × ℕ)) (r' d : ℕ) → RisesFrom s1 t → FitsRun r c (end_of t) reach_floor lo reach_cut barred
     → FitsRun r' d (end_of u) n.reach_floor n.floor n.reach_cut n.barred → misses (Some r') (end_of (entries_within n.reach_floor n.reach_cut t)) ≡ false
-    → FitsRun r (min c d) (end_of (entries_within n.floor (Some d) t ++ u)) reach_floor (max lo n.floor) reach_cut (barred_of barred (is_detached (Some r') (end_of (entries_within n.reach_floor n.reach_cut t)) (at_most_bound c n.reach_cut)) (Some (max lo n.reach_floor, at_most_bound c n.reach_cut)) (narrowed_bars lo (Some c) n.barred))
+    → FitsRun r (min c d) (end_of (entries_within n.floor (Some d) t ++ u)) reach_floor (max lo n.floor) reach_cut
+    (barred_of barred (is_detached (Some r') (end_of (entries_within n.reach_floor n.reach_cut t)) (at_most_bound c n.reach_cut))
+    (Some (max lo n.reach_floor, at_most_bound c n.reach_cut)) (narrowed_bars lo (Some c) n.barred))
 fits_later_append s1 n t u r c reach_floor lo reach_cut barred r' d run1 f f' ok = record {
   cut_first = omega (arith, f.cut_first);
   floor_rises = omega (arith, f.floor_rises);
@@ -203,7 +206,9 @@ fits_later_append s1 n t u r c reach_floor lo reach_cut barred r' d run1 f f' ok
       (seat_newer c (top s1 (end_of t) n.floor (Some d)) (end_of u) (max lo n.floor) r d n.floor r' reach_cut n.reach_cut _ n.barred (omega arith)
       (newly_barring barred _ _ lo (Some c) n.barred)
       (λ below. inr (barring_now barred _ _ _ (apart_there r' _ c n.reach_cut (rw (end_of-part_run s1 n.reach_floor n.reach_cut t run1) (top_held s1 (end_of t) n.reach_floor r' n.reach_cut below)) below ok)))
-      (λ _. seat_older s1 (end_of t) r c lo (max lo n.floor) n.floor (Some d) reach_cut barred _ (omega arith) (still_barring barred (is_detached (Some r') (end_of (entries_within n.reach_floor n.reach_cut t)) (at_most_bound c n.reach_cut)) (Some (max lo n.reach_floor, at_most_bound c n.reach_cut)) (narrowed_bars lo (Some c) n.barred)) f.seated)
+      (λ _. seat_older s1 (end_of t) r c lo (max lo n.floor) n.floor (Some d) reach_cut barred _ (omega arith)
+      (still_barring barred (is_detached (Some r') (end_of (entries_within n.reach_floor n.reach_cut t)) (at_most_bound c n.reach_cut))
+      (Some (max lo n.reach_floor, at_most_bound c n.reach_cut)) (narrowed_bars lo (Some c) n.barred)) f.seated)
       f'.seated);
 }
 
@@ -216,7 +221,8 @@ at_most_held c d None h = tt
 at_most_held c d (Some t) h = omega (arith, held_least c d)
 
 -- where the newer mark has no run
-fits_later_no_run : (s1 l : ℕ) (d : Option ℕ) (t u : List EntryIndex) (r c reach_floor lo : ℕ) (reach_cut : Option ℕ) (barred : Option (ℕ × ℕ)) (x : Option (ℕ × ℕ)) → RisesFrom s1 t → FitsRun r c (end_of t) reach_floor lo reach_cut barred → u ≡ []
+fits_later_no_run : (s1 l : ℕ) (d : Option ℕ) (t u : List EntryIndex) (r c reach_floor lo : ℕ) (reach_cut : Option ℕ) (barred : Option (ℕ × ℕ))
+    (x : Option (ℕ × ℕ)) → RisesFrom s1 t → FitsRun r c (end_of t) reach_floor lo reach_cut barred → u ≡ []
     → FitsRun r (at_most_bound c d) (end_of (entries_within l d t ++ u)) reach_floor (max lo l) reach_cut (barred_of barred false x None)
 fits_later_no_run s1 l d t u r c reach_floor lo reach_cut barred x run1 f none = record {
   cut_first = omega (arith, f.cut_first, held_least c d);
@@ -230,7 +236,8 @@ fits_later_no_run s1 l d t u r c reach_floor lo reach_cut barred x run1 f none =
 fits_later_rewrite : (s1 : ℕ) (n : Mark) (t u : List EntryIndex) (r c reach_floor lo : ℕ) (reach_cut : Option ℕ) (r' d : ℕ) → RisesFrom s1 t → FitsRun r c (end_of t) reach_floor lo reach_cut None
     → FitsRun r' d (end_of u) n.reach_floor n.floor n.reach_cut None
     → FitsRun r (min c d) (end_of (cond (misses (Some r') (end_of (entries_within n.reach_floor n.reach_cut t))) u (entries_within n.floor (Some d) t ++ u))) reach_floor
-    (cond (is_detached (Some r') (end_of (entries_within n.reach_floor n.reach_cut t)) (at_most_bound c n.reach_cut) || misses (Some r') (end_of (entries_within n.reach_floor n.reach_cut t))) (max (max lo n.floor) c) (max lo n.floor)) reach_cut None
+    (cond (is_detached (Some r') (end_of (entries_within n.reach_floor n.reach_cut t)) (at_most_bound c n.reach_cut) || misses (Some r')
+    (end_of (entries_within n.reach_floor n.reach_cut t))) (max (max lo n.floor) c) (max lo n.floor)) reach_cut None
 fits_later_rewrite s1 n t u r c reach_floor lo reach_cut r' d run1 f f' = record {
   cut_first = omega (arith, f.cut_first);
   floor_rises = grows (is_detached (Some r') (end_of (entries_within n.reach_floor n.reach_cut t)) (at_most_bound c n.reach_cut) || misses (Some r') (end_of (entries_within n.reach_floor n.reach_cut t)));
@@ -279,7 +286,9 @@ fits_join_append m n t u w run f f' is = by_cleaned m.cleaned refl f.uncleaned
     ok2 = or_false _ _ ok.0
 
     later : (r c : ℕ) → FitsRun r c (end_of t) m.reach_floor m.floor m.reach_cut m.barred → (x y : Option ℕ) → misses x X ≡ false → FitsCut x y n u → (x ≡ None → n.barred ≡ None) → entries_within n.floor y t ++ u ≡ w
-        → FitsRun r (at_most_bound c y) (end_of w) m.reach_floor (max m.floor n.floor) m.reach_cut (barred_of m.barred (is_detached x X (at_most_bound c n.reach_cut)) (Some (max m.floor n.reach_floor, at_most_bound c n.reach_cut)) (narrowed_bars m.floor (Some c) n.barred))
+        → FitsRun r (at_most_bound c y) (end_of w) m.reach_floor (max m.floor n.floor) m.reach_cut
+        (barred_of m.barred (is_detached x X (at_most_bound c n.reach_cut)) (Some (max m.floor n.reach_floor, at_most_bound c n.reach_cut))
+        (narrowed_bars m.floor (Some c) n.barred))
     later r c h None y miss k b v = rw (← v, b refl) (fits_later_no_run (start_of t) n.floor y t u r c m.reach_floor m.floor m.reach_cut m.barred (Some (max m.floor n.reach_floor, at_most_bound c n.reach_cut)) (rises t run) h k)
     later r c h (Some x) None miss k b v = absurd k
     later r c h (Some x) (Some d) miss k b v = rw (← v) (fits_later_append (start_of t) n t u r c m.reach_floor m.floor m.reach_cut m.barred x d (rises t run) h k miss)

@@ -32,7 +32,8 @@ pub after-append : (q : LogQueue) (id : ℕ) (o : Option Table) (ss rs : List St
 after-append q id o [] rs = refl
 after-append q id o (s ∷ ss) rs = go (λ u. after-append q id u ss rs) (after_step q (table_of id o) s)
   where
-    go : ((u : Option Table) → after q id u (ss ++ rs) ≡ option_and_then (λ u. after q id u rs) (after q id u ss)) → (x : Option (Option Table)) → option_and_then (λ u. after q id u (ss ++ rs)) x ≡ option_and_then (λ u. after q id u rs) (option_and_then (λ u. after q id u ss) x)
+    go : ((u : Option Table) → after q id u (ss ++ rs) ≡ option_and_then (λ u. after q id u rs) (after q id u ss)) → (x : Option (Option Table)) →
+        option_and_then (λ u. after q id u (ss ++ rs)) x ≡ option_and_then (λ u. after q id u rs) (option_and_then (λ u. after q id u ss) x)
     go ih None = refl
     go ih (Some u) = ih u
 
@@ -96,10 +97,12 @@ stands_one q id s good = record {
   every = λ o h. one_after q id o s ∙ sym (one_step q id s o);
 }
 
-pub stands_join : (q : LogQueue) (id : ℕ) (m n : Mark) (t u w : Option Table) (ss rs : List Step) → AreSteps ss → AreSteps rs → Stands q id m t ss → Stands q id n u rs → table_over_older q id n u t ≡ Some w → Stands q id (joined_mark q id m t n) w (ss ++ rs)
+pub stands_join : (q : LogQueue) (id : ℕ) (m n : Mark) (t u w : Option Table) (ss rs : List Step) → AreSteps ss → AreSteps rs → Stands q id m t ss →
+    Stands q id n u rs → table_over_older q id n u t ≡ Some w → Stands q id (joined_mark q id m t n) w (ss ++ rs)
 stands_join q id m n t u w ss rs good good' h k is = record {
   own_table = table_after q id t w rs good' h.own_table (k.every t h.own_table ∙ is);
-  fits = fits_join q m n (table_of id t).entries (table_of id u).entries (table_of id w).entries h.own_table.run h.fits k.fits (entries-over_table q n (table_of id u) (table_of id t) (table_of id w) (table-applied q id n u t w h.own_table is).0);
+  fits = fits_join q m n (table_of id t).entries (table_of id u).entries (table_of id w).entries h.own_table.run h.fits k.fits
+      (entries-over_table q n (table_of id u) (table_of id t) (table_of id w) (table-applied q id n u t w h.own_table is).0);
   every = λ o r. after-append q id o ss rs ∙ inner o r (after q id o ss) refl ∙ (rw (h.every o r) (join_applied q id m n t u w o h.fits k.fits h.own_table r is));
 }
   where

@@ -16,7 +16,8 @@ abbrev pub barred_of : Option (ℕ × ℕ) → Bool → Option (ℕ × ℕ) → 
 barred_of barred b x y = option_or barred (cond b x y)
 
 -- an older table over which nothing is refused has no entry between lo and the cut c, or reaches the cut
-settled : (s e r c et reach_floor lo : ℕ) (reach_cut : Option ℕ) (barred : Option (ℕ × ℕ)) → FitsRun r c et reach_floor lo reach_cut barred → misses (Some r) (top s e reach_floor reach_cut) ≡ false → ((p : ℕ × ℕ) → barred ≡ Some p → top s e p.0 (Some p.1) ≡ 0)
+settled : (s e r c et reach_floor lo : ℕ) (reach_cut : Option ℕ) (barred : Option (ℕ × ℕ)) → FitsRun r c et reach_floor lo reach_cut barred →
+    misses (Some r) (top s e reach_floor reach_cut) ≡ false → ((p : ℕ × ℕ) → barred ≡ Some p → top s e p.0 (Some p.1) ≡ 0)
     → (top s e lo (Some c) ≡ 0) ⊎ ((c ≤ e) × ((et ≡ 0) ⊎ (c ≤ et)))
 settled s e r c et reach_floor lo None None f ok open' = grind (arith, nat_tests)
 settled s e r c et reach_floor lo (Some t) None f ok open' = grind (arith, nat_tests)

@@ -172,7 +172,8 @@ none_over q id m t o x h none is = go m.cleaned refl t o h.region none is
 pub applied-some : (q : LogQueue) (id : ℕ) (m : Mark) (t o : Option Table) (x : Table) → table_over q m (table_of id t) (table_of id o) ≡ Some x → table_over_older q id m t o ≡ Some (some_there (is_there_over m t o) x)
 applied-some q id m t o x is = rw is (there_if-some (is_there_over m t o) x)
 
-pub table-applied : (q : LogQueue) (id : ℕ) (m : Mark) (t o w : Option Table) → IsTableOf id (table_of id o) → table_over_older q id m t o ≡ Some w → (table_over q m (table_of id t) (table_of id o) ≡ Some (table_of id w)) × (is_some w ≡ is_there_over m t o)
+pub table-applied : (q : LogQueue) (id : ℕ) (m : Mark) (t o w : Option Table) → IsTableOf id (table_of id o) → table_over_older q id m t o ≡ Some w →
+    (table_over q m (table_of id t) (table_of id o) ≡ Some (table_of id w)) × (is_some w ≡ is_there_over m t o)
 table-applied q id m t o w h is = go (table_over q m (table_of id t) (table_of id o)) refl
   where
     go : (y : Option Table) → table_over q m (table_of id t) (table_of id o) ≡ y → (table_over q m (table_of id t) (table_of id o) ≡ Some (table_of id w)) × (is_some w ≡ is_there_over m t o)
@@ -186,7 +187,8 @@ table-applied q id m t o w h is = go (table_over q m (table_of id t) (table_of i
         (e ∙ ap (λ y. Some y) (sym whole), ap is_some (sym same) ∙ is_some-there (is_there_over m t o) x)
 
 -- tables that may be absent, one over the other
-pub join_applied : (q : LogQueue) (id : ℕ) (m n : Mark) (t u w o : Option Table) → Fits q m (table_of id t).entries → Fits q n (table_of id u).entries → IsTableOf id (table_of id t) → IsTableOf id (table_of id o) → table_over_older q id n u t ≡ Some w
+pub join_applied : (q : LogQueue) (id : ℕ) (m n : Mark) (t u w o : Option Table) → Fits q m (table_of id t).entries →
+    Fits q n (table_of id u).entries → IsTableOf id (table_of id t) → IsTableOf id (table_of id o) → table_over_older q id n u t ≡ Some w
     → option_and_then (λ v. table_over_older q id n u v) (table_over_older q id m t o) ≡ table_over_older q id (joined_mark q id m t n) w o
 join_applied q id m n t u w o fits fits' own h is = go (table_over q m (table_of id t) (table_of id o)) refl
   where
@@ -207,7 +209,9 @@ join_applied q id m n t u w o fits fits' own h is = go (table_over q m (table_of
     go (Some x) e =
         let v : Option Table = some_there (is_there_over m t o) x in
         let whole : table_of id v ≡ x = table_of-there id (is_there_over m t o) x (λ n. none_over q id m t o x h n e) in
-        let content : table_over q n (table_of id u) (table_of id v) ≡ table_over q j (table_of id w) (table_of id o) = ap (table_over q n (table_of id u)) whole ∙ sym (ap (option_and_then (λ v. table_over q n (table_of id u) v)) e) ∙ law in
+        let content : table_over q n (table_of id u) (table_of id v) ≡ table_over q j (table_of id w)
+        (table_of id o) = ap (table_over q n (table_of id u)) whole ∙ sym (ap (option_and_then (λ v. table_over q n (table_of id u) v)) e)
+        ∙ law in
         let flag : is_there_over n u v ≡ is_there_over j w o = ap (λ b. cond n.cleaned (is_some u) (is_some u || b)) (is_some-there (is_there_over m t o) x) ∙ there in
         ap (option_and_then (λ v. table_over_older q id n u v)) (applied-some q id m t o x e) ∙ (rw (content, flag) refl)
 
@@ -247,14 +251,32 @@ keys_kept : (o : Keys) → pairs_over finite.empty (without finset.empty o) ≡ 
 keys_kept o = same_keys _ _ (λ q. rw (get-pairs_over, get-without, finite.get-empty {X = Stored} (slice_cmp nat_cmp) q, finset.contains-empty (slice_cmp nat_cmp) q) refl)
 
 key_put : (o : Keys) (key : List ℕ) (s : Stored) → pairs_over (finite.insert finite.empty key s) (without finset.empty o) ≡ finite.insert o key s
-key_put o key s = same_keys _ _ (λ q. rw (get-pairs_over, get-without, finite.get-insert nat_list_cmp_total finite.empty key s q, finite.get-insert nat_list_cmp_total o key s q, finite.get-empty {X = Stored} (slice_cmp nat_cmp) q, finset.contains-empty (slice_cmp nat_cmp) q) (go (eq_by_cmp (slice_cmp nat_cmp) q key) (finite.get o q)))
+key_put o key s = same_keys _ _
+    (λ q. rw (
+      get-pairs_over,
+      get-without,
+      finite.get-insert nat_list_cmp_total finite.empty key s q,
+      finite.get-insert nat_list_cmp_total o key s q,
+      finite.get-empty {X = Stored} (slice_cmp nat_cmp) q,
+      finset.contains-empty (slice_cmp nat_cmp) q,
+    )
+    (go (eq_by_cmp (slice_cmp nat_cmp) q key) (finite.get o q)))
   where
     go : (b : Bool) (x : Option Stored) → option_or (cond b (Some s) None) x ≡ cond b (Some s) x
     go true x = refl
     go false x = refl
 
 key_deleted : (o : Keys) (key : List ℕ) → pairs_over finite.empty (without (finset.insert finset.empty key) o) ≡ finite.remove o key
-key_deleted o key = same_keys _ _ (λ q. rw (get-pairs_over, get-without, finite.get-remove nat_list_cmp_total o key q, finset.contains-insert nat_list_cmp_total finset.empty key q, finite.get-empty {X = Stored} (slice_cmp nat_cmp) q, finset.contains-empty (slice_cmp nat_cmp) q) (go (eq_by_cmp (slice_cmp nat_cmp) q key) (finite.get o q)))
+key_deleted o key = same_keys _ _
+    (λ q. rw (
+      get-pairs_over,
+      get-without,
+      finite.get-remove nat_list_cmp_total o key q,
+      finset.contains-insert nat_list_cmp_total finset.empty key q,
+      finite.get-empty {X = Stored} (slice_cmp nat_cmp) q,
+      finset.contains-empty (slice_cmp nat_cmp) q,
+    )
+    (go (eq_by_cmp (slice_cmp nat_cmp) q key) (finite.get o q)))
   where
     go : (b : Bool) (x : Option Stored) → cond (not (b || false)) x None ≡ cond b None x
     go true x = refl

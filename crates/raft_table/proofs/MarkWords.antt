@@ -97,5 +97,7 @@ end_of-from i (e ∷ es) = end_of-cond (leb i e.index) e (from i es) ∙ one i e
     one i k n m h = grind (arith, nat_tests)
 
 -- where a part of what an older mark leaves ends
-pub end_of-part_both : (l : ℕ) (d : Option ℕ) (floor c : ℕ) (o t : List EntryIndex) → end_of (entries_within l d (entries_within floor (Some c) o ++ t)) ≡ max (end_of (entries_within (max floor l) (lesser (Some c) d) o)) (end_of (entries_within l d t))
+pub end_of-part_both : (l : ℕ) (d : Option ℕ) (floor c : ℕ) (o t : List EntryIndex) →
+    end_of (entries_within l d (entries_within floor (Some c) o ++ t)) ≡ max (end_of (entries_within (max floor l) (lesser (Some c) d) o))
+    (end_of (entries_within l d t))
 end_of-part_both l d floor c o t = rw (within-append, within-within, end_of-append) refl

@@ -55,7 +55,9 @@ joined_bound Rewrite q es (e ∷ run) after h = at (leaves_hole es e.index) h
     at false k = subst (λ xs. entry_count q xs ≤ entry_count q es + entry_count q (e ∷ run)) (of_some (below e.index es ++ e ∷ run) after k) (below_bound q e.index es (e ∷ run))
 
 -- why a run is refused, told of the merge that it is a part of
-pub merge_refused : (rule queue : LogQueue) (counts : Counts) (older newer : Table) (e : Error) → IsTableRunFault queue counts older.entries (entries_after_replay rule older.entries newer.entries) e → IsTableMergeFault counts older newer (Some rule) e
+pub merge_refused : (rule queue : LogQueue) (counts : Counts) (older newer : Table) (e : Error) →
+    IsTableRunFault queue counts older.entries (entries_after_replay rule older.entries newer.entries) e →
+    IsTableMergeFault counts older newer (Some rule) e
 merge_refused rule queue counts older newer e h = at (entries_after_replay rule older.entries newer.entries) refl e h
   where
     at : (o : Option (List EntryIndex)) → entries_after_replay rule older.entries newer.entries ≡ o → (x : Error) → IsTableRunFault queue counts older.entries o x → IsTableMergeFault counts older newer (Some rule) x
@@ -76,7 +78,9 @@ pairs_bound q keys (e ∷ es) =
 pub joined_uncleaned : (rule q : LogQueue) (older newer w : Table) → after_merge rule older newer ≡ Some w → live_of q w ≤ live_of q older + live_of q newer
 joined_uncleaned rule q older newer w e = go (entries_after_replay rule older.entries newer.entries) refl e
   where
-    go : (o : Option (List EntryIndex)) → entries_after_replay rule older.entries newer.entries ≡ o → option_map {U = Table} (λ es. record older { entries = es; keys = pairs_over newer.keys older.keys }) o ≡ Some w → live_of q w ≤ live_of q older + live_of q newer
+    go : (o : Option (List EntryIndex)) → entries_after_replay rule older.entries newer.entries ≡ o →
+        option_map {U = Table} (λ es. record older { entries = es; keys = pairs_over newer.keys older.keys }) o ≡ Some w →
+        live_of q w ≤ live_of q older + live_of q newer
     go None k e = absurd cc
     go (Some es) k e = subst (λ w. live_of q w ≤ live_of q older + live_of q newer) (of_some (record older { entries = es; keys = pairs_over newer.keys older.keys }) w e)
         (omega (arith, joined_bound rule q older.entries newer.entries es k, pairs_bound q older.keys (finite.entries newer.keys)))

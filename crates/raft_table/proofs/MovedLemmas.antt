@@ -25,7 +25,9 @@ at_places i i0 n run es r =
     ∙ ap (λ o. option_or o (entry_at i (from (i0 + n) es))) (entry_with_index-append i (below i0 es) (take n (from i0 run)))
     ∙ rw (middle, entry_with_index-below i i0 es, entry_with_index-below i (i0 + n) (from i0 run), entry_with_index-from i i0 run, entry_with_index-from i (i0 + n) es) (at (ltb i i0) (ltb i (i0 + n)) (leb i0 i) refl refl refl)
   where
-    at : (a b c : Bool) → ltb i i0 ≡ a → ltb i (i0 + n) ≡ b → leb i0 i ≡ c → option_or (option_or (cond a (entry_at i es) None) (cond b (cond a None (entry_at i run)) None)) (cond b None (entry_at i es)) ≡ cond (c && b) (entry_at i run) (entry_at i es)
+    at : (a b c : Bool) → ltb i i0 ≡ a → ltb i (i0 + n) ≡ b → leb i0 i ≡ c →
+        option_or (option_or (cond a (entry_at i es) None) (cond b (cond a None (entry_at i run)) None)) (cond b None (entry_at i es)) ≡ cond (c && b)
+        (entry_at i run) (entry_at i es)
     at true true true e f g = absurd (grind (arith, nat_tests))
     at true true false e f g = none_behind _ ∙ none_behind (entry_at i es)
     at true false c e f g = absurd (grind (arith, nat_tests))
@@ -53,7 +55,9 @@ run_from_met run es met e r h l m =
     let rr = RisesFrom-drop (e.index - x) x run (run_rising Rewrite run r) (omega arith) in
     rw (from_is e.index x run (run_rising Rewrite run r)) (rw k at rr)
 
-pub moved_by_index : (gate : Option ℕ) (run es after met : List EntryIndex) (e : EntryIndex) (i : ℕ) → IsRunIn Rewrite run → AreTableEntries es → overlap run es ≡ e ∷ met → entries_after_rewrite gate run es ≡ Some after → entry_at i after ≡ cond (leb e.index i && ltb i (e.index + moved_count gate run es)) (entry_at i run) (entry_at i es)
+pub moved_by_index : (gate : Option ℕ) (run es after met : List EntryIndex) (e : EntryIndex) (i : ℕ) → IsRunIn Rewrite run → AreTableEntries es →
+    overlap run es ≡ e ∷ met → entries_after_rewrite gate run es ≡ Some after →
+    entry_at i after ≡ cond (leb e.index i && ltb i (e.index + moved_count gate run es)) (entry_at i run) (entry_at i es)
 moved_by_index gate run es after met e i r h m f =
     let is = accepted _ (with_places run e.index (moved_count gate run es) es) after (ap (rewritten_from gate run es) (sym m) ∙ f) in
     subst (λ xs. entry_at i xs ≡ cond (leb e.index i && ltb i (e.index + moved_count gate run es)) (entry_at i run) (entry_at i es)) is.1

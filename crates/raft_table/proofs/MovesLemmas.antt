@@ -56,7 +56,9 @@ unfolding placed_in
 whole_test q xs h = ap length (filter_all (is_placed_in q) xs h)
 
 -- with a gate the places begin right behind the rewritten entries; without one those that move are among them
-pub all_rewritten : (gate : Option ℕ) (at k : ℕ) (es : List EntryIndex) → AreTableEntries es → at + k ≤ length es → is_misplaced gate at (entry_count Rewrite es) ≡ false → (m : ℕ) → m ≡ prefix_len (may_move gate) (drop at (take (at + k) es)) → (at ≤ entry_count Rewrite es) × (min (at + m) (entry_count Rewrite es) + newly_rewritten gate m ≡ at + m)
+pub all_rewritten : (gate : Option ℕ) (at k : ℕ) (es : List EntryIndex) → AreTableEntries es → at + k ≤ length es →
+    is_misplaced gate at (entry_count Rewrite es) ≡ false → (m : ℕ) → m ≡ prefix_len (may_move gate) (drop at (take (at + k) es)) →
+    (at ≤ entry_count Rewrite es) × (min (at + m) (entry_count Rewrite es) + newly_rewritten gate m ≡ at + m)
 all_rewritten (Some gate) at k es h l t m e = (grind (arith, nat_tests), grind (arith, nat_tests))
 all_rewritten None at k es h l t m e =
     let w : at ≤ entry_count Rewrite es = grind (arith, nat_tests) in
@@ -82,7 +84,9 @@ pub record Moves (gate : Option ℕ) (at m : ℕ) (es places : List EntryIndex) 
   pub rewritten : entry_count Rewrite (take at es ++ take m places ++ drop (at + m) es) ≡ entry_count Rewrite es + newly_rewritten gate m
   pub appended : entry_count Append (take at es ++ take m places ++ drop (at + m) es) + newly_rewritten gate m ≡ entry_count Append es
 
-pub moves : (gate : Option ℕ) (at m : ℕ) (es places : List EntryIndex) → AreTableEntries es → at + length places ≤ length es → RisesFrom (start_of es + at) places → placed_in Rewrite places ≡ places → is_misplaced gate at (entry_count Rewrite es) ≡ false → m ≡ prefix_len (may_move gate) (drop at (take (at + length places) es)) → Moves gate at m es places
+pub moves : (gate : Option ℕ) (at m : ℕ) (es places : List EntryIndex) → AreTableEntries es → at + length places ≤ length es →
+    RisesFrom (start_of es + at) places → placed_in Rewrite places ≡ places → is_misplaced gate at (entry_count Rewrite es) ≡ false →
+    m ≡ prefix_len (may_move gate) (drop at (take (at + length places) es)) → Moves gate at m es places
 moves gate at m es places h l r q t e =
     let k = length places in
     let s = start_of es in

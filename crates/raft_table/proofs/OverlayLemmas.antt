@@ -33,7 +33,11 @@ overlay_exact m ss a r h = go m.cleaned refl
     clean b e = sym h.holds.cleaned ∙ e
 
     go : (b : Bool) → m.cleaned ≡ b
-        → ◌≡◌ {A = Table} (record r { entries = cond m.cleaned a.entries (rewritten_within m.floor m.cut a.entries r.entries ++ a.entries); keys = cond m.cleaned a.keys (pairs_over a.keys (without m.deleted r.keys)); atomic_group = cond m.cleaned a.atomic_group r.atomic_group }) (overlay ss a r)
+        → ◌≡◌ {A = Table} (record r {
+          entries = cond m.cleaned a.entries (rewritten_within m.floor m.cut a.entries r.entries ++ a.entries);
+          keys = cond m.cleaned a.keys (pairs_over a.keys (without m.deleted r.keys));
+          atomic_group = cond m.cleaned a.atomic_group r.atomic_group;
+        }) (overlay ss a r)
     go true e = rw (e, clean true e) refl
     go false e =
         let d : m.deleted ≡ deleted_of finset.empty ss = sym (h.holds.deleted e finset.empty ∙ empty_union m.deleted) in

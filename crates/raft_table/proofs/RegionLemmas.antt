@@ -15,7 +15,13 @@ use Rattle.raft_table.proofs.MarkTables.{applied-some, some_there, table_of-ther
 pub stands_run : (q : LogQueue) (id : ℕ) (n : Mark) (u t : Option Table) (rs : List Step) → AreSteps rs → IsTableOf id (table_of id t) → Stands q id n u rs → IsRunOver q n (table_of id u) (table_of id t)
 stands_run q id n u t rs good h k = λ es e.
     let x : Table = record (table_of id t) { entries = es; keys = keys_over n (table_of id u).keys (table_of id t).keys; atomic_group = atomic_group_over n (table_of id u).atomic_group (table_of id t).atomic_group } in
-    let over : table_over q n (table_of id u) (table_of id t) ≡ Some x = ap (option_map (λ ys. record (table_of id t) { entries = ys; keys = keys_over n (table_of id u).keys (table_of id t).keys; atomic_group = atomic_group_over n (table_of id u).atomic_group (table_of id t).atomic_group })) e in
+    let over : table_over q n (table_of id u)
+    (table_of id t) ≡ Some x = ap (option_map
+    (λ ys. record (table_of id t) {
+      entries = ys;
+      keys = keys_over n (table_of id u).keys (table_of id t).keys;
+      atomic_group = atomic_group_over n (table_of id u).atomic_group (table_of id t).atomic_group;
+    })) e in
     let w = table_after q id t (some_there (is_there_over n u t) x) rs good h (k.every t h ∙ applied-some q id n u t x over) in
     (subst (IsTableOf id) (table_of-there id (is_there_over n u t) x (λ none. none_over q id n u t x h none over)) w).run
 

@@ -65,7 +65,8 @@ meeting_apart q run es h r l a =
     nil_from_length _ (ap length (meeting_is q run es h r l) ∙ length-drop (x - s) (take (x + length run - s) es) ∙ omega arith)
 
 -- a rewriting that meets no entries
-pub rewritten_apart : (gate : Option ℕ) (q : LogQueue) (run es : List EntryIndex) → AreTableEntries es → IsRunIn q run → 0 < length run → AreDisjoint (start_of es) (length es) (start_of run) (length run) → entries_after_rewrite gate run es ≡ Some es
+pub rewritten_apart : (gate : Option ℕ) (q : LogQueue) (run es : List EntryIndex) → AreTableEntries es → IsRunIn q run → 0 < length run →
+    AreDisjoint (start_of es) (length es) (start_of run) (length run) → entries_after_rewrite gate run es ≡ Some es
 rewritten_apart gate q run es h r l a = ap (rewritten_from gate run es) (meeting_apart q run es h r l a)
 
 pub recounted_is : (gate : Option ℕ) (run es : List EntryIndex) (counts : Counts) → 0 < length run → counts_after_rewrite gate run es counts ≡ with_rewritten gate (length run) (moved_count gate run es) counts
@@ -82,14 +83,18 @@ pub with_rewritten_none : (gate : Option ℕ) (n : ℕ) (counts : Counts) → wi
 with_rewritten_none (Some gate) n counts = none_deleted n (with_added Rewrite n counts)
 with_rewritten_none None n counts = refl
 
-pub recounted_apart : (gate : Option ℕ) (q : LogQueue) (run es : List EntryIndex) (counts : Counts) → AreTableEntries es → IsRunIn q run → 0 < length run → AreDisjoint (start_of es) (length es) (start_of run) (length run) → counts_after_rewrite gate run es counts ≡ with_deleted Rewrite (length run) (with_added Rewrite (length run) counts)
+pub recounted_apart : (gate : Option ℕ) (q : LogQueue) (run es : List EntryIndex) (counts : Counts) → AreTableEntries es → IsRunIn q run →
+    0 < length run → AreDisjoint (start_of es) (length es) (start_of run) (length run) →
+    counts_after_rewrite gate run es counts ≡ with_deleted Rewrite (length run) (with_added Rewrite (length run) counts)
 recounted_apart gate q run es counts h r l a =
     recounted_is gate run es counts l
     ∙ ap (λ met. with_rewritten gate (length run) (prefix_len (may_move gate) met) counts) (meeting_apart q run es h r l a)
     ∙ with_rewritten_none gate (length run) counts
 
 -- a rewriting that meets entries, told by the first of them
-rewritten_at : (gate : Option ℕ) (run es met : List EntryIndex) (i : ℕ) → 0 < length met → start_of met ≡ i → rewritten_from gate run es met ≡ cond (is_misplaced gate (length (below i es)) (entry_count Rewrite es)) None (Some (with_places run i (moved_count gate run es) es))
+rewritten_at : (gate : Option ℕ) (run es met : List EntryIndex) (i : ℕ) → 0 < length met → start_of met ≡ i →
+    rewritten_from gate run es met ≡ cond (is_misplaced gate (length (below i es)) (entry_count Rewrite es)) None
+    (Some (with_places run i (moved_count gate run es) es))
 rewritten_at gate run es [] i l e = absurd (omega arith)
 rewritten_at gate run es (x ∷ met) i l e = rw e refl
 
@@ -107,10 +112,14 @@ pub record RewritesAt (gate : Option ℕ) (run es : List EntryIndex) (at skipped
   pub rising : RisesFrom (start_of es + at) (places_of run skipped count)
   pub placed : placed_in Rewrite (places_of run skipped count) ≡ places_of run skipped count
   pub refused : is_misplaced gate at (entry_count Rewrite es) ≡ true → entries_after_rewrite gate run es ≡ None
-  pub ok : is_misplaced gate at (entry_count Rewrite es) ≡ false → entries_after_rewrite gate run es ≡ Some (take at es ++ take (moves_of gate run es at skipped count) (places_of run skipped count) ++ drop (at + moves_of gate run es at skipped count) es)
+  pub ok : is_misplaced gate at (entry_count Rewrite es) ≡ false →
+      entries_after_rewrite gate run es ≡ Some
+      (take at es ++ take (moves_of gate run es at skipped count) (places_of run skipped count) ++ drop (at + moves_of gate run es at skipped count)
+      es)
   pub counts : moved_count gate run es ≡ moves_of gate run es at skipped count
 
-pub rewrites_at : (gate : Option ℕ) (run es : List EntryIndex) (m : Overlap) → AreTableEntries es → IsRunIn Rewrite run → 0 < length run → IsOverlap (start_of es) (length es) (start_of run) (length run) m → RewritesAt gate run es m.at m.skipped m.count
+pub rewrites_at : (gate : Option ℕ) (run es : List EntryIndex) (m : Overlap) → AreTableEntries es → IsRunIn Rewrite run → 0 < length run →
+    IsOverlap (start_of es) (length es) (start_of run) (length run) m → RewritesAt gate run es m.at m.skipped m.count
 rewrites_at gate run es m h r l x =
     let s = start_of es in
     let y = start_of run in
@@ -133,10 +142,13 @@ rewrites_at gate run es m h r l x =
     let same : moved_count gate run es ≡ moves_of gate run es at skipped count = rw (cut, len) refl in
     let metlen : length (overlap run es) ≡ count = rw cut (length-drop at (take (at + count) es) ∙ omega (arith, length-take-le (at + count) es inside)) in
     let head : start_of (overlap run es) ≡ s + at =
-    rw cut (start_of_rise (s + at) (drop at (take (at + count) es)) (omega (arith, ap length cut)) (RisesFrom-drop at s (take (at + count) es) (RisesFrom-take (at + count) s es (sound_rising es h)) (omega (arith, length-take-le (at + count) es inside)))) in
+    rw cut (start_of_rise (s + at) (drop at (take (at + count) es)) (omega (arith, ap length cut))
+    (RisesFrom-drop at s (take (at + count) es) (RisesFrom-take (at + count) s es (sound_rising es h))
+    (omega (arith, length-take-le (at + count) es inside)))) in
     let under : below (s + at) es ≡ take at es = below_take (s + at) at s es refl (sound_rising es h) in
     let underlen : length (below (s + at) es) ≡ at = rw under (length-take-le at es (omega arith)) in
-    let whole : entries_after_rewrite gate run es ≡ cond (is_misplaced gate (length (below (s + at) es)) (entry_count Rewrite es)) None (Some (with_places run (s + at) (moved_count gate run es) es)) = rewritten_at gate run es (overlap run es) (s + at) (omega arith) head in
+    let whole : entries_after_rewrite gate run es ≡ cond (is_misplaced gate (length (below (s + at) es)) (entry_count Rewrite es)) None
+    (Some (with_places run (s + at) (moved_count gate run es) es)) = rewritten_at gate run es (overlap run es) (s + at) (omega arith) head in
     let k = moved_count gate run es in
     let few : k ≤ count = omega (arith, prefix_len-le-length (may_move gate) (overlap run es)) in
     let mine : from (s + at) run ≡ drop skipped run = from_drop (s + at) skipped y run (omega arith) (run_rising Rewrite run r) in

@@ -73,7 +73,9 @@ replayed-in Rewrite q es (r ∷ run) after e =
     ] e
 
 -- where a run with an outcome is refused as `Full`, the live count of its queue and the run's length reach 2^64
-full_by : (q : LogQueue) (counts : Counts) (es run : List EntryIndex) (outcome : Option (List EntryIndex)) → ((after : List EntryIndex) → outcome ≡ Some after → entry_count q after ≤ entry_count q es + entry_count q run) → IsTableRunFault q counts es outcome errors.Full → 2 ^ 64 ≤ live q counts + length run
+full_by : (q : LogQueue) (counts : Counts) (es run : List EntryIndex) (outcome : Option (List EntryIndex)) →
+    ((after : List EntryIndex) → outcome ≡ Some after → entry_count q after ≤ entry_count q es + entry_count q run) →
+    IsTableRunFault q counts es outcome errors.Full → 2 ^ 64 ≤ live q counts + length run
 full_by q counts es run None h f = absurd f
 full_by q counts es run (Some after) h f = omega (arith, h after refl, f, entry_count-le q run)
 

@@ -72,7 +72,9 @@ spans_length run at n l =
     rw e (length-map (take n (drop at run)) (λ x. (x.entry_offset, x.entry_len)) ∙ length-take-le n (drop at run) (omega (arith, length-drop at run)))
 
 -- a group of a run's entries behind the first ones
-pub group_of : (run : List EntryIndex) (at n : ℕ) (h : FileBlockHandle) (d : EntryIndex) → AreTableEntries run → at + n ≤ length run → at < length run → ((j : ℕ) (e : EntryIndex) → at ≤ j → j < at + n → (get_or run j e).entries ≡ Some h) → take at run ++ entries_of_block (get_or run at d).index h (spans_of (take (at + n - at) (drop at run))) ≡ take (at + n) run
+pub group_of : (run : List EntryIndex) (at n : ℕ) (h : FileBlockHandle) (d : EntryIndex) → AreTableEntries run → at + n ≤ length run →
+    at < length run → ((j : ℕ) (e : EntryIndex) → at ≤ j → j < at + n → (get_or run j e).entries ≡ Some h) →
+    take at run ++ entries_of_block (get_or run at d).index h (spans_of (take (at + n - at) (drop at run))) ≡ take (at + n) run
 group_of run at n h d s l m a =
     let up = sound_rising run s in
     let i = index_at at (start_of run) run d m up in

@@ -17,7 +17,8 @@ module _ {F : Type 0} (calls : F → List ℕ → List ℕ → Bool → F → Ty
   visit-stops f next key value rest answer called e = (answer, next, called, rw e refl)
 
   -- after one that answers true the others are visited
-  pub visit-goes : (f next last : F) (key value : List ℕ) (rest : List (List ℕ × List ℕ)) (answer : Bool) → calls f key value answer next → answer ≡ true → VisitsUntilFalse calls next rest last → VisitsUntilFalse calls f ((key, value) ∷ rest) last
+  pub visit-goes : (f next last : F) (key value : List ℕ) (rest : List (List ℕ × List ℕ)) (answer : Bool) → calls f key value answer next →
+      answer ≡ true → VisitsUntilFalse calls next rest last → VisitsUntilFalse calls f ((key, value) ∷ rest) last
   visit-goes f next last key value rest answer called e visits = (answer, next, called, rw e visits)
 
 module _ {E P : Type 0} (show : E → P) (t : E → Bool) where
@@ -89,7 +90,8 @@ swapped_and true false false d x y p q = λ i. p i && q i
 swapped_and false b c d x y p q = λ i. p i && y
 
 -- what is sought and then tested is what lies between the bounds
-pub sought-tested : {X : Type 0} (key : X → List ℕ) (s s' s'' e e' e'' : Option (List ℕ)) (es : List X) → IsDivided s s' s'' → IsDivided e e' e'' → filter (λ x. is_between s'' e'' (key x)) (filter (λ x. is_between s' e' (key x)) es) ≡ filter (λ x. is_between s e (key x)) es
+pub sought-tested : {X : Type 0} (key : X → List ℕ) (s s' s'' e e' e'' : Option (List ℕ)) (es : List X) → IsDivided s s' s'' → IsDivided e e' e'' →
+    filter (λ x. is_between s'' e'' (key x)) (filter (λ x. is_between s' e' (key x)) es) ≡ filter (λ x. is_between s e (key x)) es
 sought-tested key s s' s'' e e' e'' es p q =
     filter-filter _ _ es
     ∙ filter-same _ _ es (λ x. swapped_and (is_from s' (key x)) (is_from s'' (key x)) (is_below e' (key x)) (is_below e'' (key x)) _ _ (from-divided s s' s'' (key x) p) (below-divided e e' e'' (key x) q))

@@ -101,7 +101,8 @@ over_left q m own older e run =
     atomic_group false = refl
 
 -- a merge that the start rule accepts, and that is counted, fails for want of memory alone
-pub join_memory : (q : LogQueue) (counts : Counts) (left own w : Table) (e : Error) → IsTableMergeFault counts left own (Some q) e → after_merge q left own ≡ Some w → ((p : LogQueue) → live p counts + live_of p own < 2 ^ 64) → e ≡ errors.Memory
+pub join_memory : (q : LogQueue) (counts : Counts) (left own w : Table) (e : Error) → IsTableMergeFault counts left own (Some q) e →
+    after_merge q left own ≡ Some w → ((p : LogQueue) → live p counts + live_of p own < 2 ^ 64) → e ≡ errors.Memory
 join_memory q counts left own w (errors.Corruption text) r is room = absurd cc
 join_memory q counts left own w errors.Full r is room = absurd (let full = r.1 in let low = room r.0 in omega arith)
 join_memory q counts left own w errors.Memory r is room = refl

@@ -57,7 +57,8 @@ begun_compacted (Some start) floor i (x ∷ xs) h (inr is) = go (cases_lt x.inde
     go (inr l) = inr (subst (BeginAt start) (sym (from_start i x.index (x ∷ xs) (first_rising x xs h) l)) is)
 
 -- steps without a truncation and a clean leave entries that begin so
-begun_after : (id : ℕ) (ss : List Step) (o t : Option Table) (start : Option ℕ) (floor : ℕ) → AreSteps ss → AreUntruncated ss → has_clean ss ≡ false → IsTableOf id (table_of id o) → AreBegun start floor (table_of id o).entries → after Append id o ss ≡ Some t
+begun_after : (id : ℕ) (ss : List Step) (o t : Option Table) (start : Option ℕ) (floor : ℕ) → AreSteps ss → AreUntruncated ss → has_clean ss ≡ false →
+    IsTableOf id (table_of id o) → AreBegun start floor (table_of id o).entries → after Append id o ss ≡ Some t
     → AreBegun (lesser start (least_cut ss)) (max floor (greatest_compaction ss)) (table_of id t).entries
 begun_after id [] o t start floor good un kept h b is = begun_same start (lesser start None) floor (max floor 0) _ _ (alone start) (omega arith) (ap (λ u. (table_of id u).entries) (same_some o t is)) b
   where
@@ -66,7 +67,8 @@ begun_after id [] o t start floor good un kept h b is = begun_same start (lesser
     alone (Some n) = refl
 begun_after id (Run [] ∷ ss) o t start floor good un kept h b is = begun_after id ss (Some (table_of id o)) t start floor good.1 un kept (record { region = h.region; run = h.run }) b is
 begun_after id (Run (e ∷ run) ∷ ss) o t start floor good un kept h b is =
-    go (λ g k. begun_after id ss (Some (record (table_of id o) { entries = below e.index (table_of id o).entries ++ e ∷ run })) t (lesser start (Some e.index)) floor good.1 un kept g (begun_run start floor (table_of id o).entries run e h.run b) k)
+    go (λ g k. begun_after id ss (Some (record (table_of id o) { entries = below e.index (table_of id o).entries ++ e ∷ run })) t
+    (lesser start (Some e.index)) floor good.1 un kept g (begun_run start floor (table_of id o).entries run e h.run b) k)
     (leaves_hole (table_of id o).entries e.index) refl is
   where
     go : (IsTableOf id (record (table_of id o) { entries = below e.index (table_of id o).entries ++ e ∷ run }) → after Append id (Some (record (table_of id o) { entries = below e.index (table_of id o).entries ++ e ∷ run })) ss ≡ Some t
@@ -77,14 +79,25 @@ begun_after id (Run (e ∷ run) ∷ ss) o t start floor good un kept h b is =
     go ih true hole k = absurd cc
     go ih false hole k =
         begun_same _ _ _ _ _ _ (lesser_assoc start (Some e.index) (least_cut ss)) refl refl
-        (ih (record { region = h.region; run = run_replayed Append (table_of id o).entries (e ∷ run) (below e.index (table_of id o).entries ++ e ∷ run) h.run good.0 (ap (λ x. cond x None (Some (below e.index (table_of id o).entries ++ e ∷ run))) hole) }) k)
+        (ih (record {
+          region = h.region;
+          run = run_replayed Append (table_of id o).entries (e ∷ run)
+              (below e.index (table_of id o).entries ++ e ∷ run) h.run good.0
+              (ap (λ x. cond x None (Some (below e.index (table_of id o).entries ++ e ∷ run))) hole);
+        }) k)
 begun_after id (Compact i ∷ ss) o t start floor good un kept h b is =
     begun_same _ _ (max (max floor i) (greatest_compaction ss)) (max floor (max i (greatest_compaction ss))) _ _ refl (omega arith) refl
-    (begun_after id ss (Some (record (table_of id o) { entries = from i (table_of id o).entries })) t start (max floor i) good.1 un kept (record { region = h.region; run = run_from i (table_of id o).entries h.run }) (begun_compacted start floor i (table_of id o).entries h.run b) is)
+    (begun_after id ss (Some (record (table_of id o) { entries = from i (table_of id o).entries })) t start (max floor i) good.1 un kept
+    (record { region = h.region; run = run_from i (table_of id o).entries h.run }) (begun_compacted start floor i (table_of id o).entries h.run b)
+    is)
 begun_after id (Truncate i ∷ ss) o t start floor good un kept h b is = absurd un
 begun_after id (Put k v f ∷ ss) o t start floor good un kept h b is = begun_after id ss (Some (with_pair (table_of id o) k v f)) t start floor good.1 un kept (record { region = h.region; run = h.run }) b is
-begun_after id (Del k ∷ ss) o t start floor good un kept h b is = begun_after id ss (Some (record (table_of id o) { keys = finite.remove (table_of id o).keys k })) t start floor good.1 un kept (record { region = h.region; run = h.run }) b is
-begun_after id (AtomicGroup first_seq last_seq ∷ ss) o t start floor good un kept h b is = begun_after id ss (Some (record (table_of id o) { atomic_group = Some (first_seq, last_seq) })) t start floor good.1 un kept (record { region = h.region; run = h.run }) b is
+begun_after id (Del k ∷ ss) o t start floor good un kept h b is = begun_after id ss
+    (Some (record (table_of id o) { keys = finite.remove (table_of id o).keys k })) t start floor good.1 un kept
+    (record { region = h.region; run = h.run }) b is
+begun_after id (AtomicGroup first_seq last_seq ∷ ss) o t start floor good un kept h b is = begun_after id ss
+    (Some (record (table_of id o) { atomic_group = Some (first_seq, last_seq) })) t start floor good.1 un kept
+    (record { region = h.region; run = h.run }) b is
 begun_after id (Clean ∷ ss) o t start floor good un kept h b is = absurd cc
 
 pub untruncated_within : (floor : ℕ) (cut : Option ℕ) (own es : List EntryIndex) → AreBegun cut floor own → rewritten_within floor cut own es ≡ reaching_within floor cut es
@@ -101,4 +114,6 @@ untruncated_within floor (Some cut) (x ∷ xs) es (inr is) = rw (eq-eqb x.index 
 pub untruncated_overlay : (id : ℕ) (ss : List Step) (t : Option Table) (es : List EntryIndex) → AreSteps ss → AreUntruncated ss → has_clean ss ≡ false → after Append id None ss ≡ Some t
     → rewritten_within (greatest_compaction ss) (least_cut ss) (table_of id t).entries es ≡ reaching_within (greatest_compaction ss) (least_cut ss) es
 untruncated_overlay id ss t es good un kept is =
-    untruncated_within (greatest_compaction ss) (least_cut ss) (table_of id t).entries es (begun_same _ _ (max 0 (greatest_compaction ss)) (greatest_compaction ss) _ _ refl (omega arith) refl (begun_after id ss None t None 0 good un kept (no_table id) refl is))
+    untruncated_within (greatest_compaction ss) (least_cut ss) (table_of id t).entries es
+    (begun_same _ _ (max 0 (greatest_compaction ss)) (greatest_compaction ss) _ _ refl (omega arith) refl
+    (begun_after id ss None t None 0 good un kept (no_table id) refl is))

@@ -48,26 +48,34 @@ next_span p k o bs d a l = record {
 }
 
 -- a part of the entries up to the end of a block, and what stands behind
-pub walk_part : (i p k o n e : ℕ) (bs : List BlockSpans) (b : BlockSpans) → IsAt p bs k o → b ≡ get_or bs k b → o + n ≤ length b.spans → p + n ≤ e → e ≤ count bs → drop p (take e (entries_in_blocks i bs)) ≡ entries_of_block (i + p) b.handle (take n (drop o b.spans)) ++ drop (p + n) (take e (entries_in_blocks i bs))
+pub walk_part : (i p k o n e : ℕ) (bs : List BlockSpans) (b : BlockSpans) → IsAt p bs k o → b ≡ get_or bs k b → o + n ≤ length b.spans → p + n ≤ e →
+    e ≤ count bs → drop p (take e (entries_in_blocks i bs)) ≡ entries_of_block (i + p) b.handle (take n (drop o b.spans)) ++ drop (p + n)
+    (take e (entries_in_blocks i bs))
 walk_part i p k o n e bs b a q l m c =
     part_split p (p + n) e (entries_in_blocks i bs) (omega arith) m (rw (length-expanded i bs) c)
     ∙ ap (λ xs. xs ++ drop (p + n) (take e (entries_in_blocks i bs))) (block_part i p k o n bs b a q l)
 
 -- one part more
-pub walk_more : (i s p k o n : ℕ) (bs : List BlockSpans) (b : BlockSpans) → s ≤ p → IsAt p bs k o → b ≡ get_or bs k b → o + n ≤ length b.spans → p + n ≤ count bs → drop s (take (p + n) (entries_in_blocks i bs)) ≡ drop s (take p (entries_in_blocks i bs)) ++ entries_of_block (i + p) b.handle (take n (drop o b.spans))
+pub walk_more : (i s p k o n : ℕ) (bs : List BlockSpans) (b : BlockSpans) → s ≤ p → IsAt p bs k o → b ≡ get_or bs k b → o + n ≤ length b.spans →
+    p + n ≤ count bs → drop s (take (p + n) (entries_in_blocks i bs)) ≡ drop s (take p (entries_in_blocks i bs)) ++ entries_of_block (i + p) b.handle
+    (take n (drop o b.spans))
 walk_more i s p k o n bs b g a q l c =
     part_split s p (p + n) (entries_in_blocks i bs) g (omega arith) (rw (length-expanded i bs) c)
     ∙ ap (λ xs. drop s (take p (entries_in_blocks i bs)) ++ xs) (block_part i p k o n bs b a q l)
 
 -- the entries of one block move together
-pub moves_all : (gate : Option ℕ) (i : ℕ) (h : FileBlockHandle) (ss : List (ℕ × ℕ)) (rest : List EntryIndex) → ((e : EntryIndex) → e.entries ≡ Some h → true ≡ may_move gate e) → prefix_len (may_move gate) (entries_of_block i h ss ++ rest) ≡ length ss + prefix_len (may_move gate) rest
+pub moves_all : (gate : Option ℕ) (i : ℕ) (h : FileBlockHandle) (ss : List (ℕ × ℕ)) (rest : List EntryIndex) →
+    ((e : EntryIndex) → e.entries ≡ Some h → true ≡ may_move gate e) →
+    prefix_len (may_move gate) (entries_of_block i h ss ++ rest) ≡ length ss + prefix_len (may_move gate) rest
 moves_all gate i h [] rest m = omega arith
 moves_all gate i h (s ∷ ss) rest m =
     let t = sym (m (entry_of i h s) refl) in
     let r = moves_all gate (suc i) h ss rest m in
     rw t (omega arith)
 
-pub moves_none : (gate : Option ℕ) (i : ℕ) (h : FileBlockHandle) (ss : List (ℕ × ℕ)) (rest : List EntryIndex) → ((e : EntryIndex) → e.entries ≡ Some h → false ≡ may_move gate e) → 0 < length ss → prefix_len (may_move gate) (entries_of_block i h ss ++ rest) ≡ 0
+pub moves_none : (gate : Option ℕ) (i : ℕ) (h : FileBlockHandle) (ss : List (ℕ × ℕ)) (rest : List EntryIndex) →
+    ((e : EntryIndex) → e.entries ≡ Some h → false ≡ may_move gate e) → 0 < length ss →
+    prefix_len (may_move gate) (entries_of_block i h ss ++ rest) ≡ 0
 moves_none gate i h [] rest m l = absurd (omega arith)
 moves_none gate i h (s ∷ ss) rest m l = rw (sym (m (entry_of i h s) refl)) refl
 
@@ -106,7 +114,10 @@ walk_next_span p k o bs b a q l =
     subst (λ y. IsAt y bs k (o + 1)) (let u : suc p ≡ p + 1 = omega arith in u) (subst (λ z. IsAt (suc p) bs k z) (let u : suc o ≡ o + 1 = omega arith in u) s)
 
 -- where the entries of the next block may not move, and where they may
-pub walk_stops : (gate : Option ℕ) (i s p k o e : ℕ) (bs : List BlockSpans) (b : BlockSpans) → IsAt p bs k o → b ≡ get_or bs k b → p < e → e ≤ count bs → ((x : EntryIndex) → x.entries ≡ Some b.handle → false ≡ may_move gate x) → prefix_len (may_move gate) (drop s (take e (entries_in_blocks i bs))) + s ≡ p + prefix_len (may_move gate) (drop p (take e (entries_in_blocks i bs))) → p - s ≡ prefix_len (may_move gate) (drop s (take e (entries_in_blocks i bs)))
+pub walk_stops : (gate : Option ℕ) (i s p k o e : ℕ) (bs : List BlockSpans) (b : BlockSpans) → IsAt p bs k o → b ≡ get_or bs k b → p < e →
+    e ≤ count bs → ((x : EntryIndex) → x.entries ≡ Some b.handle → false ≡ may_move gate x) →
+    prefix_len (may_move gate) (drop s (take e (entries_in_blocks i bs))) + s ≡ p + prefix_len (may_move gate)
+    (drop p (take e (entries_in_blocks i bs))) → p - s ≡ prefix_len (may_move gate) (drop s (take e (entries_in_blocks i bs)))
 walk_stops gate i s p k o e bs b a q l c m h =
     let g = walk_inside p k o bs b a q in
     let one = take 1 (drop o b.spans) in
@@ -116,7 +127,11 @@ walk_stops gate i s p k o e bs b a q l c m h =
     ∙ moves_none gate (i + p) b.handle one (drop (p + 1) (take e (entries_in_blocks i bs))) m (omega arith) in
     omega arith
 
-pub walk_goes : (gate : Option ℕ) (i s p k o n e : ℕ) (bs : List BlockSpans) (b : BlockSpans) → IsAt p bs k o → b ≡ get_or bs k b → IsStep p k o n e bs b → e ≤ count bs → ((x : EntryIndex) → x.entries ≡ Some b.handle → true ≡ may_move gate x) → prefix_len (may_move gate) (drop s (take e (entries_in_blocks i bs))) + s ≡ p + prefix_len (may_move gate) (drop p (take e (entries_in_blocks i bs))) → prefix_len (may_move gate) (drop s (take e (entries_in_blocks i bs))) + s ≡ p + n + prefix_len (may_move gate) (drop (p + n) (take e (entries_in_blocks i bs)))
+pub walk_goes : (gate : Option ℕ) (i s p k o n e : ℕ) (bs : List BlockSpans) (b : BlockSpans) → IsAt p bs k o → b ≡ get_or bs k b →
+    IsStep p k o n e bs b → e ≤ count bs → ((x : EntryIndex) → x.entries ≡ Some b.handle → true ≡ may_move gate x) →
+    prefix_len (may_move gate) (drop s (take e (entries_in_blocks i bs))) + s ≡ p + prefix_len (may_move gate)
+    (drop p (take e (entries_in_blocks i bs))) → prefix_len (may_move gate) (drop s (take e (entries_in_blocks i bs))) + s ≡ p + n + prefix_len
+    (may_move gate) (drop (p + n) (take e (entries_in_blocks i bs)))
 walk_goes gate i s p k o n e bs b a q t c m h =
     let w = t.within in
     let some = take n (drop o b.spans) in
@@ -127,6 +142,7 @@ walk_goes gate i s p k o n e bs b a q t c m h =
     omega arith
 
 -- the length of the entry at a spot
-pub walk_len : (i s p k o e len : ℕ) (bs : List BlockSpans) (b : BlockSpans) (x : ℕ × ℕ) (d : EntryIndex) → IsAt p bs k o → b ≡ get_or bs k b → x ≡ get_or b.spans o x → len ≡ x.1 → s ≤ p → p < e → len ≡ (get_or (drop s (take e (entries_in_blocks i bs))) (p - s) d).entry_len
+pub walk_len : (i s p k o e len : ℕ) (bs : List BlockSpans) (b : BlockSpans) (x : ℕ × ℕ) (d : EntryIndex) → IsAt p bs k o → b ≡ get_or bs k b →
+    x ≡ get_or b.spans o x → len ≡ x.1 → s ≤ p → p < e → len ≡ (get_or (drop s (take e (entries_in_blocks i bs))) (p - s) d).entry_len
 walk_len i s p k o e len bs b x d a q f h l m =
     h ∙ ap (λ (y : EntryIndex). y.entry_len) (entry_is i p k o bs b x d a q f ∙ sym (part_at s e p (entries_in_blocks i bs) d l m))

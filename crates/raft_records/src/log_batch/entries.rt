@@ -1,6 +1,6 @@
 //! Entries with their bytes in batches, and batches put together.
 
-ghost use Rattle.std.specs.Prelude.{◌≡◌, ◌≢◌, ◌+◌, ◌-◌, ◌^◌, ◌<◌, ◌≤◌, [], ◌∷◌, ◌++◌, map, length, IfOk, IfErr, OnOk, OnErr, drop, IsTrue, ◌↔◌, vec_len, vec_capacity};
+ghost use Rattle.std.specs.Prelude.{◌≡◌, ◌≢◌, ◌+◌, ◌-◌, ◌^◌, ◌<◌, ◌≤◌, [], ◌∷◌, ◌++◌, map, length, IfErr, OnOk, OnErr, drop, IsTrue, ◌↔◌, vec_len, vec_capacity};
 ghost use Rattle.std.specs.List.{concat};
 ghost use Rattle.raft_base.specs.Runs.{IsConsecutive};
 ghost use Rattle.raft_records.specs.Entries.{entry_with_index, with_lengths};

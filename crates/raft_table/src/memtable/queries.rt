@@ -1,6 +1,6 @@
 //! What a table returns of its records.
 
-ghost use Rattle.std.specs.Prelude.{◌≡◌, ◌+◌, ◌-◌, ◌<◌, ◌++◌, length, IsOk, OnOk, OnErr, IfErr, Some, None};
+ghost use Rattle.std.specs.Prelude.{◌≡◌, ◌-◌, ◌<◌, ◌++◌, length, IsOk, OnOk, OnErr, IfErr, Some, None};
 ghost use Rattle.std.specs.Fn.{CalledAtTwo};
 ghost use Rattle.std.specs.FinMap as finite;
 ghost use Rattle.std.specs.List.{slice_get};

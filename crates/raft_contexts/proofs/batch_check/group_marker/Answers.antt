@@ -13,4 +13,5 @@ loop-item-preserved c =
     (one_more (map item_of c.args.items.now) (map item_of (drop (c.loop-item.item-index + 1) c.args.items.now)) (item_of c.item-item.result) c.loop-item.marker c.in_ok-found.found before c.in_ok-found.ensures.ok)
 
 pub returns-clause-marker : goal.returns-clause-marker
-returns-clause-marker c = sym (or_none c.loop-item.marker) ∙ ap (λ rest. option_or c.loop-item.marker (first_marker (map item_of rest))) (sym (none_left c.args.items.now c.loop-item.item-index c.loop-item-test.false)) ∙ c.loop-item.invariant.2
+returns-clause-marker c = sym (or_none c.loop-item.marker) ∙ ap (λ rest. option_or c.loop-item.marker (first_marker (map item_of rest)))
+    (sym (none_left c.args.items.now c.loop-item.item-index c.loop-item-test.false)) ∙ c.loop-item.invariant.2

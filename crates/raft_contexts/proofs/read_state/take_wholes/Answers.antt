@@ -15,7 +15,9 @@ loop-whole-preserved c =
     let next = ap (map whole_shown) c.in-Some.ensures.steps.0 in
     let rest = map whole_shown c.next.new.self.rest.items in (
       (subst (AllByRecursion CanTakeEffect) next at.0).1,
-      sym (ap (λ ws. regions_after Rewrite (regions_in c.loop-whole.regions) (region_steps_of_wholes ws)) next ∙ more_taken (regions_in c.loop-whole.regions) (regions_in c.take_group.new.self) (whole_shown c.in-Some.whole) rest c.in_ok-take_group.ensures.ok) ∙ at.1,
+      sym (ap (λ ws. regions_after Rewrite (regions_in c.loop-whole.regions) (region_steps_of_wholes ws)) next
+          ∙ more_taken (regions_in c.loop-whole.regions) (regions_in c.take_group.new.self) (whole_shown c.in-Some.whole) rest
+          c.in_ok-take_group.ensures.ok) ∙ at.1,
       c.in_ok-take_group.ensures.cleaned ∙ at.2,
       omega (arith, c.in_ok-take_group.ensures.other, at.3),
       λ e f. at.4 e (subst (λ ws. IsStepsFault Rewrite (regions_in c.loop-whole.regions) (region_steps_of_wholes ws) e) (sym next)

@@ -16,5 +16,6 @@ invariant-loop-whole l =
     × (regions_after Rewrite (regions_in l.regions) (region_steps_of_wholes (map whole_shown l.whole-iterator.rest.items)) ≡ regions_after Rewrite (regions_in l.fn.regions) (region_steps_of_wholes (map whole_shown l.fn.wholes.items)))
     × (l.regions.accessor.cleaned ≡ l.fn.regions.accessor.cleaned)
     × (live_in_all Append l.regions.accessor.tables ≤ live_in_all Append l.fn.regions.accessor.tables)
-    × ((e : Error) → IsStepsFault Rewrite (regions_in l.regions) (region_steps_of_wholes (map whole_shown l.whole-iterator.rest.items)) e → IsStepsFault Rewrite (regions_in l.fn.regions) (region_steps_of_wholes (map whole_shown l.fn.wholes.items)) e)
+    × ((e : Error) → IsStepsFault Rewrite (regions_in l.regions) (region_steps_of_wholes (map whole_shown l.whole-iterator.rest.items)) e →
+    IsStepsFault Rewrite (regions_in l.fn.regions) (region_steps_of_wholes (map whole_shown l.fn.wholes.items)) e)
     × (map whole_shown l.fn.wholes.items ≡ [] → map whole_shown l.whole-iterator.rest.items ≡ [])

@@ -7,12 +7,16 @@ pub returns-in_err-format-2-clause-refused : goal.returns-in_err-format-2-clause
 returns-in_err-format-2-clause-refused c =
     let split : c.args.bytes.now ≡ c.split_at.result.0.now ++ c.split_at.result.1.now = split_is _ _ _ _ c.split_at.ensures.front c.split_at.ensures.back in
     let p = err_from_is_err_and c.from_residual-in_err-format-2.result c.from_residual-in_err-format-2.ensures.1 in
-    rw (p.1) (not_sealed c.args.signature c.args.bytes.now c.split_at.result.0.now c.split_at.result.1.now c.checksum_of-found.result c.crc32-actual.result c.sign.result c.checksum_of-found.type_inv c.sign.type_inv split c.checksum_of-found.ensures c.crc32-actual.ensures c.sign.ensures c.if-found-sign.true)
+    rw (p.1) (not_sealed c.args.signature c.args.bytes.now c.split_at.result.0.now c.split_at.result.1.now c.checksum_of-found.result
+    c.crc32-actual.result c.sign.result c.checksum_of-found.type_inv c.sign.type_inv split c.checksum_of-found.ensures c.crc32-actual.ensures
+    c.sign.ensures c.if-found-sign.true)
 
 pub returns-then-found-sign-clause-refused : goal.returns-then-found-sign-clause-refused
 returns-then-found-sign-clause-refused c =
     let split : c.args.bytes.now ≡ c.split_at.result.0.now ++ c.split_at.result.1.now = split_is _ _ _ _ c.split_at.ensures.front c.split_at.ensures.back in
-    not_sealed c.args.signature c.args.bytes.now c.split_at.result.0.now c.split_at.result.1.now c.checksum_of-found.result c.crc32-actual.result c.sign.result c.checksum_of-found.type_inv c.sign.type_inv split c.checksum_of-found.ensures c.crc32-actual.ensures c.sign.ensures c.if-found-sign.true
+    not_sealed c.args.signature c.args.bytes.now c.split_at.result.0.now c.split_at.result.1.now c.checksum_of-found.result c.crc32-actual.result
+    c.sign.result c.checksum_of-found.type_inv c.sign.type_inv split c.checksum_of-found.ensures c.crc32-actual.ensures c.sign.ensures
+    c.if-found-sign.true
 
 pub returns-in_err-format-2-clause-fault : goal.returns-in_err-format-2-clause-fault
 returns-in_err-format-2-clause-fault c =
@@ -41,4 +45,6 @@ returns-then-found-sign-clause-fault c =
 
 pub returns-clause-ok : goal.returns-clause-ok
 returns-clause-ok c =
-    sealed_by c.args.signature c.args.bytes.now c.split_at.result.0.now c.split_at.result.1.now c.checksum_of-found.result c.crc32-actual.result (omega (arith, c.split_at.ensures.back_len, c.split_at.ensures.front_len)) (split_is _ _ _ _ c.split_at.ensures.front c.split_at.ensures.back) c.checksum_of-found.ensures c.crc32-actual.ensures (c.if-found-sign.false ∙ c.sign.ensures)
+    sealed_by c.args.signature c.args.bytes.now c.split_at.result.0.now c.split_at.result.1.now c.checksum_of-found.result c.crc32-actual.result
+    (omega (arith, c.split_at.ensures.back_len, c.split_at.ensures.front_len)) (split_is _ _ _ _ c.split_at.ensures.front c.split_at.ensures.back)
+    c.checksum_of-found.ensures c.crc32-actual.ensures (c.if-found-sign.false ∙ c.sign.ensures)

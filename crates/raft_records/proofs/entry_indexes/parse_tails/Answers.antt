@@ -19,12 +19,21 @@ pub returns-in_err-tail-in-None-clause-fault : goal.returns-in_err-tail-in-None-
 returns-in_err-tail-in-None-clause-fault c =
     let p = err_from_is_err_and c.from_residual-in_err-tail-in-None.result c.from_residual-in_err-tail-in-None.ensures.1 in
     let so = c.loop.invariant in
-    rw (p.1, p.2) (inr (tail_fault c.args.first c.args.entries_size c.args.bytes.now c.loop.rest.now c.loop.entries.items c.loop.index c.loop.offset c.args.count (c.args.count - c.loop.counter - 1) _ so.so_far (omega (arith, so.counted)) c.in_err-tail-in-None.ensures.fault))
+    rw (p.1, p.2) (inr (tail_fault c.args.first c.args.entries_size c.args.bytes.now c.loop.rest.now c.loop.entries.items c.loop.index c.loop.offset
+    c.args.count (c.args.count - c.loop.counter - 1) _ so.so_far (omega (arith, so.counted)) c.in_err-tail-in-None.ensures.fault))
 
 -- what was read, by either reader
-read : (c : goal.After-push_reserved) → Reads (IsTail (c.loop.index, c.loop.offset)) c.loop.rest.now c.match-short_tail.tail.1.now (entry_between c.loop.index c.loop.offset c.match-short_tail.tail.0) × (c.loop.offset ≤ c.match-short_tail.tail.0) × (length c.match-short_tail.tail.1.now < length c.loop.rest.now)
+read : (c : goal.After-push_reserved) → Reads (IsTail (c.loop.index, c.loop.offset)) c.loop.rest.now c.match-short_tail.tail.1.now
+    (entry_between c.loop.index c.loop.offset c.match-short_tail.tail.0) × (c.loop.offset ≤ c.match-short_tail.tail.0) ×
+    (length c.match-short_tail.tail.1.now < length c.loop.rest.now)
 read c = elim c.match-short_tail.branch [
-  | in-Some w ↦ rw w.tail-is (w.in-Some.ensures.read c.loop.index (let b : c.args.count ≤ 18446744073709551615 - c.args.first = leb-true _ _ w.in-Some.ensures.bounded in omega (arith, b, c.loop.invariant.index_is, c.loop-test.true)), w.in-Some.ensures.ends, w.in-Some.ensures.shorter)
+  | in-Some w ↦ rw w.tail-is (
+    w.in-Some.ensures.read c.loop.index
+        (let b : c.args.count ≤ 18446744073709551615 - c.args.first = leb-true _ _ w.in-Some.ensures.bounded in omega
+        (arith, b, c.loop.invariant.index_is, c.loop-test.true)),
+    w.in-Some.ensures.ends,
+    w.in-Some.ensures.shorter,
+  )
   | in-None+in_ok-tail-in-None w ↦ rw w.tail-is (w.in_ok-tail-in-None.ensures.ok, w.in_ok-tail-in-None.ensures.ends, w.in_ok-tail-in-None.ensures.shorter)
 ]
 

@@ -12,4 +12,6 @@ overflow_cast-result c =
 pub returns-in-Some-clause-read : goal.returns-in-Some-clause-read
 returns-in-Some-clause-read c =
     let read = c.in-Some.ensures.some in
-    λ index bound. tail_read c.args.bytes.now c.in-Some.rest.now index c.args.offset c.in-Some.tail (entry_between index c.args.offset c.in-Some.tail) bound (omega (arith, c.from.ensures, c.if-tail-from.true)) (omega (arith, short_below read.front c.in-Some.tail read.spells)) (short_is_read c.args.bytes.now c.in-Some.rest.now c.in-Some.tail read) refl
+    λ index bound. tail_read c.args.bytes.now c.in-Some.rest.now index c.args.offset c.in-Some.tail (entry_between index c.args.offset c.in-Some.tail)
+    bound (omega (arith, c.from.ensures, c.if-tail-from.true)) (omega (arith, short_below read.front c.in-Some.tail read.spells))
+    (short_is_read c.args.bytes.now c.in-Some.rest.now c.in-Some.tail read) refl

@@ -39,8 +39,11 @@ returns-then-offset-clause-refused c =
 
 pub returns-then-offset-clause-fault : goal.returns-then-offset-clause-fault
 returns-then-offset-clause-fault c =
-    inr (header_numbers_fault _ _ _ _ _ _ c.parse_u64-len_and_type.ensures.read c.parse_u64-offset.ensures.read (inr (type_ok _ _ c.in_ok-compression_type.ensures.ok, inr (c.if-offset-len.false, c.if-offset.true, c.corruption-then-offset.ensures))))
+    inr (header_numbers_fault _ _ _ _ _ _ c.parse_u64-len_and_type.ensures.read c.parse_u64-offset.ensures.read
+    (inr (type_ok _ _ c.in_ok-compression_type.ensures.ok, inr (c.if-offset-len.false, c.if-offset.true, c.corruption-then-offset.ensures))))
 
 pub returns-clause-ok : goal.returns-clause-ok
 returns-clause-ok c =
-    header_read c.args.bytes.now c.parse_u64-len_and_type.result.1.now c.parse_u64-offset.result.1.now c.parse_u64-len_and_type.result.0 c.parse_u64-offset.result.0 c.in_ok-compression_type.compression_type c.parse_u64-len_and_type.ensures.read c.parse_u64-offset.ensures.read c.in_ok-compression_type.ensures.ok c.if-offset-len.false c.if-offset.false
+    header_read c.args.bytes.now c.parse_u64-len_and_type.result.1.now c.parse_u64-offset.result.1.now c.parse_u64-len_and_type.result.0
+    c.parse_u64-offset.result.0 c.in_ok-compression_type.compression_type c.parse_u64-len_and_type.ensures.read c.parse_u64-offset.ensures.read
+    c.in_ok-compression_type.ensures.ok c.if-offset-len.false c.if-offset.false

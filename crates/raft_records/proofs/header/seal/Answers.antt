@@ -34,7 +34,10 @@ returns c =
     let some : length c.args.buf.now.items ≢ 0 = grind (arith, common_steps) in
     let u = unsealed_of items es buf c.requires some in
     let at : offset ≡ item_offset es = c.offset_behind-offset.ensures es (c.requires.whole ∙ sym c.entries_size.ensures) in
-    let written : c.seal_behind.new.buf ≡ take offset buf ++ (item_batch_bytes items ++ checksum_bytes signature (item_batch_bytes items)) = c.seal_behind.ensures ∙ ap (λ xs. take offset xs ++ (item_batch_bytes items ++ checksum_bytes signature (item_batch_bytes items))) c.as_mut_slice.ensures.value in
+    let written : c.seal_behind.new.buf ≡ take offset
+    buf ++ (item_batch_bytes items ++ checksum_bytes signature (item_batch_bytes items)) = c.seal_behind.ensures
+    ∙ ap (λ xs. take offset xs ++ (item_batch_bytes items ++ checksum_bytes signature (item_batch_bytes items))) c.as_mut_slice.ensures.value
+    in
     let sealed = sealed_at signature items es buf c.seal_behind.new.buf offset u.0 u.1 at written in
     let counted : length buf ≡ c.args.buf.now.len = sym (ap length c.as_mut_slice.ensures.value) ∙ c.as_mut_slice.ensures.len in
     written_back c.args.buf.now.len c.seal_behind.new.buf buf counted (sealed_len signature items es buf c.seal_behind.new.buf u.0 u.1 sealed) ∙ sealed

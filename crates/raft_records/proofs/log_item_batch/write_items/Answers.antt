@@ -12,4 +12,5 @@ unfolding item_batch_bytes
 returns-clause-ok c =
     let whole : take c.loop-item.item-index c.args.items.now ≡ c.args.items.now = take_all c.loop-item.item-index c.args.items.now (omega arith) in
     let written = c.loop-item.invariant ∙ ap (λ xs. c.args.buf.now.items ++ (varint (length c.args.items.now) ++ flat_map item_bytes (map item_of xs))) whole in
-    rw (length-map c.args.items.now item_of) (c.in_ok-extend_from_slice.ensures.items ∙ ap (λ t. t ++ no_checksum) written ∙ append_assoc c.args.buf.now.items (varint (length c.args.items.now) ++ flat_map item_bytes (map item_of c.args.items.now)) no_checksum)
+    rw (length-map c.args.items.now item_of) (c.in_ok-extend_from_slice.ensures.items ∙ ap (λ t. t ++ no_checksum) written
+    ∙ append_assoc c.args.buf.now.items (varint (length c.args.items.now) ++ flat_map item_bytes (map item_of c.args.items.now)) no_checksum)

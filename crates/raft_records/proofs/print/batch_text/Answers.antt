@@ -11,4 +11,5 @@ returns-in_err-batch-clause-refused c =
 pub returns-clause-ok : goal.returns-clause-ok
 returns-clause-ok c =
     let lines = rw (c.new-text.ensures.bytes, c.as_slice.ensures.value) at c.in_ok-append_lines.ensures in
-    decoded_text c.args.bytes.now c.decode.new.buf.now _ _ _ _ _ c.into_items-items.result.items c.in_ok-batch.batch _ c.in_ok-batch.ensures.ok c.into_items-items.ensures (c.len.ensures ∙ c.into_items-items.result.ok.0) lines c.in_ok-append_counts.ensures
+    decoded_text c.args.bytes.now c.decode.new.buf.now _ _ _ _ _ c.into_items-items.result.items c.in_ok-batch.batch _ c.in_ok-batch.ensures.ok
+    c.into_items-items.ensures (c.len.ensures ∙ c.into_items-items.result.ok.0) lines c.in_ok-append_counts.ensures

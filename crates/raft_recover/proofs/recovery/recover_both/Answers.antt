@@ -20,7 +20,9 @@ returns-clause-whole g c =
 pub returns-in_err-merge_append_context-clause-refused : goal.returns-in_err-merge_append_context-clause-refused
 returns-in_err-merge_append_context-clause-refused g c good =
     let p = err_from_is_err_and c.from_residual-in_err-merge_append_context.result c.from_residual-in_err-merge_append_context.ensures.1 in
-    rw (p.1, p.2) (both_merged c.args.rewrite.now c.args.append.now good.0.3 good.1.3 c.in_ok-both.both c.in_ok-both.appended c.in_ok-both.ensures.rewritten c.in_ok-both.ensures.appended (Err c.in_err-merge_append_context.field-0.0) c.in_err-merge_append_context.ensures.memory)
+    rw (p.1, p.2) (both_merged c.args.rewrite.now c.args.append.now good.0.3 good.1.3 c.in_ok-both.both c.in_ok-both.appended
+    c.in_ok-both.ensures.rewritten c.in_ok-both.ensures.appended (Err c.in_err-merge_append_context.field-0.0)
+    c.in_err-merge_append_context.ensures.memory)
 
 pub returns-in_err-merge_append_context-clause-place : goal.returns-in_err-merge_append_context-clause-place
 returns-in_err-merge_append_context-clause-place g c good few_rewrite few_append =

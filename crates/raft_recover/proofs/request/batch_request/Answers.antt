@@ -10,7 +10,9 @@ four_words c =
 
 pub returns-clause-asked : goal.returns-clause-asked
 returns-clause-asked c =
-    IfSome_then c.context_named.result c.context_named.ensures.named (λ context named. asks_batch _ c.as_str.result.now c.as_str-2.result.now c.as_str-3.result.now c.as_str-4.result.now context (four_words c) (same_text _ _ c.if-ne.ensures) named)
+    IfSome_then c.context_named.result c.context_named.ensures.named
+    (λ context named. asks_batch _ c.as_str.result.now c.as_str-2.result.now c.as_str-3.result.now c.as_str-4.result.now context (four_words c)
+    (same_text _ _ c.if-ne.ensures) named)
 
 pub returns-clause-refused : goal.returns-clause-refused
 returns-clause-refused c =

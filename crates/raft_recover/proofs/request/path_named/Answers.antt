@@ -8,4 +8,6 @@ returns-in_err-seq-clause-refused c =
 
 pub returns-in_err-number_named-clause-refused : goal.returns-in_err-number_named-clause-refused
 returns-in_err-number_named-clause-refused c =
-    none_holds c.from_residual-in_err-number_named.result (λ p. let parts = path_parts c.args.word.now (Some (c.in_ok-seq.seq, c.in_ok-seq.path)) c.in_ok-seq.ensures.cases p in c.in_err-number_named.ensures.refused p.seq (rw parts.0 p.named.number))
+    none_holds c.from_residual-in_err-number_named.result
+    (λ p. let parts = path_parts c.args.word.now (Some (c.in_ok-seq.seq, c.in_ok-seq.path)) c.in_ok-seq.ensures.cases p in
+    c.in_err-number_named.ensures.refused p.seq (rw parts.0 p.named.number))

@@ -13,7 +13,8 @@ rest c = map string_bytes (take (length c.args.words.now - 4) (drop 4 c.args.wor
 words : (c : In-Some-number_named) → map string_bytes c.args.words.now ≡ c.as_str.result.now ∷ c.as_str-2.result.now ∷ c.as_str-3.result.now ∷ c.as_str-4.result.now ∷ rest c
 words c =
     let items = four_and_more c.args.words.now c.command-item.result c.queue-item.result c.version-item.result c.workers-item.result c.in-len4-up.len_at_least c.command-item.is c.queue-item.is c.version-item.is c.workers-item.is in
-    four_texts string_bytes c.args.words.now _ c.command-item.result c.queue-item.result c.version-item.result c.workers-item.result _ _ _ _ items c.as_str.ensures.value c.as_str-2.ensures.value c.as_str-3.ensures.value c.as_str-4.ensures.value
+    four_texts string_bytes c.args.words.now _ c.command-item.result c.queue-item.result c.version-item.result c.workers-item.result _ _ _ _ items
+    c.as_str.ensures.value c.as_str-2.ensures.value c.as_str-3.ensures.value c.as_str-4.ensures.value
 
 -- what the words ask for, where those behind the first four name these paths
 asked : (c : In-Some-number_named) (paths : List (ℕ × List ℕ)) → ArePathsNamed (rest c) paths

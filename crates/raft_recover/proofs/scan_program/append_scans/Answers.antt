@@ -23,11 +23,16 @@ goes_on c =
     let file : ℕ × Vec ℕ Global = (c.in-Some.seq, c.in-Some.bytes) in
     let is : c.in_ok-part.part ≡ whole_file c.args.queue c.args.version (file_shown file) =
     c.in_ok-part.ensures.ok ∙ ap (λ (id : FileId). record { id = id; version = c.args.version; offset = 0; bytes = c.in-Some.bytes.items }) c.new.ensures in
-    let before = subst (λ (l : List (ℕ × Vec ℕ Global)). AreBegun c.args.past_damage c.args.queue c.args.version (map file_shown c.args.files.items) (map file_shown l) (string_bytes c.args.text.now) (string_bytes c.loop-seq.text) c.loop-seq.all_undamaged) c.in-Some.ensures.steps.0 c.loop-seq.invariant in
+    let before = subst (λ (l : List (ℕ × Vec ℕ Global)). AreBegun c.args.past_damage c.args.queue c.args.version (map file_shown c.args.files.items)
+    (map file_shown l) (string_bytes c.args.text.now) (string_bytes c.loop-seq.text) c.loop-seq.all_undamaged) c.in-Some.ensures.steps.0
+    c.loop-seq.invariant in
     let found = c.in_ok-undamaged.ensures.ok in
     let scanned = subst (λ (p : Part). IsScanned c.args.past_damage p c.in_ok-undamaged.undamaged found.0) is found.2 in
-    λ all is_all. subst (λ (b : Bool). AreBegun c.args.past_damage c.args.queue c.args.version (map file_shown c.args.files.items) (map file_shown c.next.new.self.rest.items) (string_bytes c.args.text.now) (string_bytes c.append_scan.new.text) b) (sym is_all)
-    (file_scanned c.args.past_damage c.args.queue c.args.version (map file_shown c.args.files.items) (map file_shown c.next.new.self.rest.items) (file_shown file) (string_bytes c.args.text.now) (string_bytes c.loop-seq.text) _ found.0 c.loop-seq.all_undamaged c.in_ok-undamaged.undamaged before found.1 scanned)
+    λ all is_all. subst (λ (b : Bool). AreBegun c.args.past_damage c.args.queue c.args.version (map file_shown c.args.files.items)
+    (map file_shown c.next.new.self.rest.items) (string_bytes c.args.text.now) (string_bytes c.append_scan.new.text) b) (sym is_all)
+    (file_scanned c.args.past_damage c.args.queue c.args.version (map file_shown c.args.files.items) (map file_shown c.next.new.self.rest.items)
+    (file_shown file) (string_bytes c.args.text.now) (string_bytes c.loop-seq.text) _ found.0 c.loop-seq.all_undamaged c.in_ok-undamaged.undamaged
+    before found.1 scanned)
 
 pub loop-seq-preserved : goal.loop-seq-preserved
 loop-seq-preserved c = goes_on (at.loop-seq-preserved c).In_ok-undamaged c.both-all_undamaged.result c.both-all_undamaged.ensures

@@ -8,4 +8,5 @@ place_split p q a b c d e reason same = ap (λ (x : List ℕ). x ++ (a ++ (b ++ 
 
 pub returns-in-Ok : goal.returns-in-Ok
 returns-in-Ok c =
-    c.in-Ok.ensures.ok ∙ place_split c.queue_name-queue.result.now (queue_text c.args.id.queue) (codes " file ") (decimal c.args.id.seq) (codes ", offset ") (decimal c.args.offset) (codes ": ") (string_bytes c.args.reason) c.queue_name-queue.ensures
+    c.in-Ok.ensures.ok ∙ place_split c.queue_name-queue.result.now (queue_text c.args.id.queue) (codes " file ") (decimal c.args.id.seq)
+    (codes ", offset ") (decimal c.args.offset) (codes ": ") (string_bytes c.args.reason) c.queue_name-queue.ensures

@@ -34,7 +34,8 @@ pub returns-in_err-replay_part-clause-place : goal.returns-in_err-replay_part-cl
 returns-in_err-replay_part-clause-place g c =
     let p = err_from_is_err_and c.from_residual.result c.from_residual.ensures.1 in
     rw (p.1, p.2)
-    (stopped_among (g.M.ReplayMachine.stands_for c.args.machine.now) (g.M.ReplayMachine.stands_for c.loop-part.machine) (IsStoodFor g.M.ReplayMachine.stands_for) c.args.segment.now.items c.loop-part.part-index c.part-item.result _ c.loop-part.invariant.read
+    (stopped_among (g.M.ReplayMachine.stands_for c.args.machine.now) (g.M.ReplayMachine.stands_for c.loop-part.machine)
+    (IsStoodFor g.M.ReplayMachine.stands_for) c.args.segment.now.items c.loop-part.part-index c.part-item.result _ c.loop-part.invariant.read
     (item_here c.deref-part-items.ensures.value (let t = c.loop-part-test.true in omega arith) c.part-item.is) c.in_err-replay_part.ensures.place)
 
 pub loop-part-preserved : goal.loop-part-preserved

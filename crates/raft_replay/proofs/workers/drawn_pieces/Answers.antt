@@ -23,16 +23,22 @@ returns-in_err-seats-clause-refused g c =
 
 pub close-requires : goal.close-requires
 close-requires g c =
-    let done = c.in_ok-seats.ensures.ok c.args.segments.now c.in_ok-tickets.tickets (are_back g.M.ReplayMachine.stands_exactly (g.F.Factory.may_refuse c.args.factory.now) c.args.segments.now c.in_ok-tickets.tickets c.in_ok-worked.worked.items c.in_ok-worked.ensures.given) in
+    let done = c.in_ok-seats.ensures.ok c.args.segments.now c.in_ok-tickets.tickets
+    (are_back g.M.ReplayMachine.stands_exactly (g.F.Factory.may_refuse c.args.factory.now) c.args.segments.now c.in_ok-tickets.tickets
+    c.in_ok-worked.worked.items c.in_ok-worked.ensures.given) in
     (c.in_ok-seats.ensures.count ∙ c.in_ok-worked.ensures.count ∙ c.in_ok-tickets.ensures.seats.0 ∙ sym c.in_ok-tickets.ensures.tickets.1, done.of_tickets)
 
 pub returns-clause-pieces : goal.returns-clause-pieces
 returns-clause-pieces g c =
-    let done = c.in_ok-seats.ensures.ok c.args.segments.now c.in_ok-tickets.tickets (are_back g.M.ReplayMachine.stands_exactly (g.F.Factory.may_refuse c.args.factory.now) c.args.segments.now c.in_ok-tickets.tickets c.in_ok-worked.worked.items c.in_ok-worked.ensures.given) in done.each
+    let done = c.in_ok-seats.ensures.ok c.args.segments.now c.in_ok-tickets.tickets
+    (are_back g.M.ReplayMachine.stands_exactly (g.F.Factory.may_refuse c.args.factory.now) c.args.segments.now c.in_ok-tickets.tickets
+    c.in_ok-worked.worked.items c.in_ok-worked.ensures.given) in done.each
 
 pub returns-clause-tile : goal.returns-clause-tile
 returns-clause-tile g c x inside =
-    let done = c.in_ok-seats.ensures.ok c.args.segments.now c.in_ok-tickets.tickets (are_back g.M.ReplayMachine.stands_exactly (g.F.Factory.may_refuse c.args.factory.now) c.args.segments.now c.in_ok-tickets.tickets c.in_ok-worked.worked.items c.in_ok-worked.ensures.given) in
+    let done = c.in_ok-seats.ensures.ok c.args.segments.now c.in_ok-tickets.tickets
+    (are_back g.M.ReplayMachine.stands_exactly (g.F.Factory.may_refuse c.args.factory.now) c.args.segments.now c.in_ok-tickets.tickets
+    c.in_ok-worked.worked.items c.in_ok-worked.ensures.given) in
     let workers = c.requires.workers in
     let count = c.in_ok-seats.ensures.count ∙ c.in_ok-worked.ensures.count ∙ c.in_ok-tickets.ensures.seats.0 in
     let held = c.in_ok-seats.seats.ok.0 in

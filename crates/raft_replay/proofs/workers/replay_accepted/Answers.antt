@@ -19,7 +19,9 @@ returns-then-is_empty-clause-ok g c =
     let none = (Decides-eqb (vec_len c.in_ok-machines.machines) 0).0 (sym c.is_empty.ensures ∙ c.if-is_empty.true) in
     let held = c.in_ok-machines.machines.ok.0 in nil_from_length c.in_ok-machines.machines.items (omega arith) in
     if_ok c.new_target.result
-    (λ m given. replayed_none g.M.ReplayMachine.stands_for g.M.ReplayMachine.stands_exactly laws.exact_stands c.args.segments.now m (subst (λ (l : List g.row.M.Denot). AreInOrder g.M.ReplayMachine.stands_exactly c.args.segments.now l) empty line) (c.requires.factory m given))
+    (λ m given. replayed_none g.M.ReplayMachine.stands_for g.M.ReplayMachine.stands_exactly laws.exact_stands c.args.segments.now m
+    (subst (λ (l : List g.row.M.Denot). AreInOrder g.M.ReplayMachine.stands_exactly c.args.segments.now l) empty line)
+    (c.requires.factory m given))
     c.new_target.ensures.ok
 
 pub returns-clause-ok : goal.returns-clause-ok
@@ -32,4 +34,5 @@ pub returns-clause-refused : goal.returns-clause-refused
 returns-clause-refused g c =
     let laws = g.met.M.ReplayMachine g.world.𝓛 g.world.𝓜 g.world.𝓡 ((λ s x. x), (λ x. x), (λ x. x), λ x. x) in
     let line = c.in_ok-machines.ensures.ok c.args.segments.now c.in_ok-pieces.ensures.pieces c.in_ok-pieces.ensures.tile in
-    merged_err g.M.ReplayMachine.stands_for g.M.ReplayMachine.stands_exactly laws.exact_stands c.args.segments.now c.in_ok-machines.machines.items line c.args.queue c.requires.accepted.3 (g.F.Factory.may_refuse c.args.factory.now) c.merge_at_once.result c.merge_at_once.ensures
+    merged_err g.M.ReplayMachine.stands_for g.M.ReplayMachine.stands_exactly laws.exact_stands c.args.segments.now c.in_ok-machines.machines.items
+    line c.args.queue c.requires.accepted.3 (g.F.Factory.may_refuse c.args.factory.now) c.merge_at_once.result c.merge_at_once.ensures

@@ -10,7 +10,9 @@ pub returns-clause-number : goal.returns-clause-number
 returns-clause-number g c =
     let old = table_in c.args.slot.now.content.tables c.args.id in
     let new = table_in c.change.new.self.content.tables c.args.id in
-    elim c.change.result as (λ r. OnOk r (after_change old c.answer_at-change.result ≡ Some new) → IfOk r (IsAnswer c.answer_at-change.result old new) → OnOk r (IsAllowed c.answer_at-change.result) → IfOk r (IsChangeAnswer g.F.FnOnce c.args.f c.args.id)) [
+    elim c.change.result as (λ r. OnOk r (after_change old c.answer_at-change.result ≡ Some new) →
+    IfOk r (IsAnswer c.answer_at-change.result old new) → OnOk r (IsAllowed c.answer_at-change.result) →
+    IfOk r (IsChangeAnswer g.F.FnOnce c.args.f c.args.id)) [
       | Ok n ↦ λ e a l. (old, new, c.answer_at-change.result, c.answer_at-change.ensures.allowed, c.answer_at-change.ensures.gave, e, a, l)
       | Err x ↦ λ e a l. tt
     ] c.change.ensures.changed.ok c.change.ensures.answer c.change.ensures.allowed

@@ -37,5 +37,7 @@ returns-clause-tables c =
     let at = c.loop-id.invariant in
     let ids = c.deref-id-items.result.now in
     let none : drop c.loop-id.id-index ids ≡ [] = drop_of_length-le ids {i = c.loop-id.id-index} (omega (arith, c.loop-id-test.false)) in
-    added-all c.args.slot.now c.loop-id.slot.content.tables c.args.core.now.tables c.list_cleaned.new.core.tables c.loop-id.core.tables c.holds_own_tables.ensures c.in_ok-list_cleaned.ensures.none (λ id ne. c.in_ok-list_cleaned.ensures.others id (λ e. ne (e ∙ c.number.ensures)))
+    added-all c.args.slot.now c.loop-id.slot.content.tables c.args.core.now.tables c.list_cleaned.new.core.tables c.loop-id.core.tables
+    c.holds_own_tables.ensures c.in_ok-list_cleaned.ensures.none
+    (λ id ne. c.in_ok-list_cleaned.ensures.others id (λ e. ne (e ∙ c.number.ensures)))
     (subst (λ l. HasOnly l c.loop-id.slot.content.tables) none at.1) at.2

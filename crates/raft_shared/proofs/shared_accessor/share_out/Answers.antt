@@ -23,7 +23,8 @@ loop-id-preserved c =
     let one : drop c.loop-id.id-index ids ≡ id ∷ rest = at_drop_more (λ l. l) ids c.loop-id.id-index 0 c.loop-id-test.true in (
       at.0 ++ id ∷ [],
       append_assoc at.0 (id ∷ []) rest ∙ ap (λ l. at.0 ++ l) (sym one) ∙ at.1,
-      shares-listed c.args.core.tables at.0 id 0 c.loop-id.slots.items c.slot_of.result c.index_mut.result.now c.list.new.self at.2 (omega (arith, c.slot_of.ensures.bound, at.3)) (omega (arith, c.slot_of.ensures.value)) c.index_mut.ensures.value c.in_ok-list.ensures.ok,
+      shares-listed c.args.core.tables at.0 id 0 c.loop-id.slots.items c.slot_of.result c.index_mut.result.now c.list.new.self at.2
+          (omega (arith, c.slot_of.ensures.bound, at.3)) (omega (arith, c.slot_of.ensures.value)) c.index_mut.ensures.value c.in_ok-list.ensures.ok,
       length-listed c.loop-id.slots.items c.slot_of.result c.list.new.self ∙ at.3,
     )
 

@@ -12,13 +12,26 @@ abbrev after : goal.After-self-1 → Inside
 after c = record c.self.inside { slots = with_item c.self.inside.slots c.slot_of.result c.apply_rewrite_atomic_group.new.self; stats = c.apply_rewrite_atomic_group.new.stats }
 
 slotted : (c : goal.After-self-1) → InSlot c.self.inside (after c) c.args.id c.slot_of.result c.index_mut.result.now c.apply_rewrite_atomic_group.new.self c.apply_rewrite_atomic_group.new.stats
-slotted c = record { at = c.slot_of.ensures.value; bound = c.slot_of.ensures.bound; lent = c.index_mut.ensures.value; slots = refl; stats = refl; one = c.apply_rewrite_atomic_group.ensures.outcome.one; recounted = c.apply_rewrite_atomic_group.ensures.outcome.recounted }
+slotted c = record {
+  at = c.slot_of.ensures.value;
+  bound = c.slot_of.ensures.bound;
+  lent = c.index_mut.ensures.value;
+  slots = refl;
+  stats = refl;
+  one = c.apply_rewrite_atomic_group.ensures.outcome.one;
+  recounted = c.apply_rewrite_atomic_group.ensures.outcome.recounted;
+}
 
 pub invariant_of-self : goal.invariant_of-self
 invariant_of-self c = kept-in c.self.inside (after c) c.args.id c.slot_of.result c.index_mut.result.now c.apply_rewrite_atomic_group.new.self c.apply_rewrite_atomic_group.new.stats c.self.invariant (slotted c)
 
 pub returns-clause-changed : goal.returns-clause-changed
-returns-clause-changed c = changed-in c.self.inside (after c) c.args.id c.slot_of.result c.index_mut.result.now c.apply_rewrite_atomic_group.new.self c.apply_rewrite_atomic_group.new.stats c.self.invariant (slotted c) c.args.self.now c.self.view_is (λ t. Some (record t { atomic_group = Some (c.args.start, c.args.end) })) (λ t k e. ⊥) c.apply_rewrite_atomic_group.result c.apply_rewrite_atomic_group.ensures.outcome refl
+returns-clause-changed c = changed-in c.self.inside (after c) c.args.id c.slot_of.result c.index_mut.result.now c.apply_rewrite_atomic_group.new.self
+    c.apply_rewrite_atomic_group.new.stats c.self.invariant (slotted c) c.args.self.now c.self.view_is
+    (λ t. Some (record t { atomic_group = Some (c.args.start, c.args.end) })) (λ t k e. ⊥) c.apply_rewrite_atomic_group.result
+    c.apply_rewrite_atomic_group.ensures.outcome refl
 
 pub returns-clause-counts : goal.returns-clause-counts
-returns-clause-counts c = counted-in c.self.inside (after c) c.args.id c.slot_of.result c.index_mut.result.now c.apply_rewrite_atomic_group.new.self c.apply_rewrite_atomic_group.new.stats c.self.invariant (slotted c) c.args.self.now c.self.view_is (λ t k. k) c.apply_rewrite_atomic_group.ensures.counts
+returns-clause-counts c = counted-in c.self.inside (after c) c.args.id c.slot_of.result c.index_mut.result.now c.apply_rewrite_atomic_group.new.self
+    c.apply_rewrite_atomic_group.new.stats c.self.invariant (slotted c) c.args.self.now c.self.view_is
+    (λ t k. k) c.apply_rewrite_atomic_group.ensures.counts

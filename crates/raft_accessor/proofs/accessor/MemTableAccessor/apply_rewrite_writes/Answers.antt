@@ -26,5 +26,7 @@ returns-in_err-rewrite_item-clause-refused g c =
       c.next.new.self,
       it.ensures.into_iter_gives,
       Yields-more g.I.IntoIter.Iterator.next_gives it.result at.yielded at.item-iterator x c.next.new.self at.yielded_by c.in-Some.ensures.steps,
-      refused_last (Rewriting c.args.watermark c.args.new_file) (map item_of at.yielded) (item_of x) (map item_of (at.yielded ++ x ∷ [])) c.args.self.now at.self c.rewrite_item.new.self _ (map-append item_of at.yielded (x ∷ [])) at.invariant c.in_err-rewrite_item.ensures.err c.in_err-rewrite_item.ensures.cleaned c.in_err-rewrite_item.ensures.counts_err c.in_err-rewrite_item.ensures.fault,
+      refused_last (Rewriting c.args.watermark c.args.new_file) (map item_of at.yielded) (item_of x) (map item_of (at.yielded ++ x ∷ []))
+          c.args.self.now at.self c.rewrite_item.new.self _ (map-append item_of at.yielded (x ∷ [])) at.invariant c.in_err-rewrite_item.ensures.err
+          c.in_err-rewrite_item.ensures.cleaned c.in_err-rewrite_item.ensures.counts_err c.in_err-rewrite_item.ensures.fault,
     )

@@ -21,10 +21,13 @@ pub invariant_of-self : goal.invariant_of-self
 invariant_of-self c = kept-in c.self.inside (after c) c.args.id c.slot_of.result c.index_mut.result.now c.change.new.self c.change.new.stats c.self.invariant (slotted c)
 
 pub returns-clause-changed : goal.returns-clause-changed
-returns-clause-changed c = changed-in c.self.inside (after c) c.args.id c.slot_of.result c.index_mut.result.now c.change.new.self c.change.new.stats c.self.invariant (slotted c) c.args.self.now c.self.view_is (λ t. after_change t c.args.change) (λ t k. IsChangeFault t k c.args.change) c.change.result c.change.ensures.outcome refl
+returns-clause-changed c = changed-in c.self.inside (after c) c.args.id c.slot_of.result c.index_mut.result.now c.change.new.self c.change.new.stats
+    c.self.invariant (slotted c) c.args.self.now c.self.view_is (λ t. after_change t c.args.change) (λ t k. IsChangeFault t k c.args.change)
+    c.change.result c.change.ensures.outcome refl
 
 pub returns-clause-answer : goal.returns-clause-answer
-returns-clause-answer c = answers-in c.self.inside (after c) c.args.id c.slot_of.result c.index_mut.result.now c.change.new.self c.change.new.stats c.self.invariant (slotted c) c.args.self.now c.self.view_is (IsAnswer c.args.change) c.change.result c.change.ensures.answer
+returns-clause-answer c = answers-in c.self.inside (after c) c.args.id c.slot_of.result c.index_mut.result.now c.change.new.self c.change.new.stats
+    c.self.invariant (slotted c) c.args.self.now c.self.view_is (IsAnswer c.args.change) c.change.result c.change.ensures.answer
 
 pub returns-clause-counts : goal.returns-clause-counts
 returns-clause-counts c =

@@ -44,7 +44,9 @@ pub returns-clause-replaced : goal.returns-clause-replaced
 returns-clause-replaced c = rw (were c) c.insert.ensures.replaced
 
 pub returns-clause-counts : goal.returns-clause-counts
-returns-clause-counts c = counted_ok-in c.self.inside (after c) c.args.id c.slot_of.result c.index_mut.result.now c.insert.new.self c.insert.new.stats c.self.invariant (slotted c) c.args.self.now c.self.view_is (λ t k. with_table_deleted t (with_table_added c.args.table k)) c.insert.result c.insert.ensures.counts
+returns-clause-counts c = counted_ok-in c.self.inside (after c) c.args.id c.slot_of.result c.index_mut.result.now c.insert.new.self c.insert.new.stats
+    c.self.invariant (slotted c) c.args.self.now c.self.view_is (λ t k. with_table_deleted t (with_table_added c.args.table k)) c.insert.result
+    c.insert.ensures.counts
 
 pub returns-clause-err : goal.returns-clause-err
 returns-clause-err c =
@@ -55,7 +57,10 @@ returns-clause-err c =
 
 pub returns-clause-fault : goal.returns-clause-fault
 returns-clause-fault c =
-    elim c.insert.result as (λ r. IfErr r (λ e. (e ≡ errors.Memory) ⊎ ((e ≡ errors.Full) × ((q : LogQueue) × (2 ^ 64 ≤ live q c.self.inside.stats + live_of q c.args.table)))) → IfErr r (λ e. (e ≡ errors.Memory) ⊎ ((e ≡ errors.Full) × ((q : LogQueue) × (2 ^ 64 ≤ live_in_all q c.args.self.now.tables + live_of q c.args.table))))) [
+    elim c.insert.result as (λ r. IfErr r
+    (λ e. (e ≡ errors.Memory) ⊎ ((e ≡ errors.Full) × ((q : LogQueue) × (2 ^ 64 ≤ live q c.self.inside.stats + live_of q c.args.table)))) →
+    IfErr r (λ e. (e ≡ errors.Memory) ⊎
+    ((e ≡ errors.Full) × ((q : LogQueue) × (2 ^ 64 ≤ live_in_all q c.args.self.now.tables + live_of q c.args.table))))) [
       | Ok n ↦ λ f. tt
       | Err x ↦ λ f. elim f [
         | inl m ↦ inl m

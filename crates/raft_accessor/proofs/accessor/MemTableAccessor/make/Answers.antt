@@ -18,7 +18,8 @@ pub invariant_of-self : goal.invariant_of-self
 invariant_of-self c = kept-in c.self.inside (after c) c.args.id c.slot_of.result c.index_mut.result.now c.make.new.self c.make.new.stats c.self.invariant (slotted c)
 
 pub returns-clause-changed : goal.returns-clause-changed
-returns-clause-changed c = changed-in c.self.inside (after c) c.args.id c.slot_of.result c.index_mut.result.now c.make.new.self c.make.new.stats c.self.invariant (slotted c) c.args.self.now c.self.view_is (λ t. Some t) (λ t k e. ⊥) c.make.result c.make.ensures.outcome refl
+returns-clause-changed c = changed-in c.self.inside (after c) c.args.id c.slot_of.result c.index_mut.result.now c.make.new.self c.make.new.stats
+    c.self.invariant (slotted c) c.args.self.now c.self.view_is (λ t. Some t) (λ t k e. ⊥) c.make.result c.make.ensures.outcome refl
 
 pub returns-clause-counts : goal.returns-clause-counts
 returns-clause-counts c = counted-in c.self.inside (after c) c.args.id c.slot_of.result c.index_mut.result.now c.make.new.self c.make.new.stats c.self.invariant (slotted c) c.args.self.now c.self.view_is (λ t k. k) c.make.ensures.counts

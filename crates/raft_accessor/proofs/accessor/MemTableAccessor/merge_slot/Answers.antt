@@ -36,13 +36,17 @@ returns-in_err-merge_table-clause-fault c =
 pub returns-in_err-merge_table-clause-err : goal.returns-in_err-merge_table-clause-err
 returns-in_err-merge_table-clause-err c =
     let p = err_from_is_err_and c.from_residual.result c.from_residual.ensures.1 in
-    rw (p.1, p.2) (λ k. left-of (with_neighbor c.args.kind) c.args.self.now.tables c.merge_table.new.self.tables c.args.newer _ (ap (λ es. finite.from_entries es) c.into_iter-id-iterator.ensures.into_iter_gives ∙ c.into_entries-id-items.ensures.entries)
-    (c.loop-id.invariant.5 None c.merge_table.new.self.tables (leaves-first (with_neighbor c.args.kind) c.loop-id.self.tables c.merge_table.new.self.tables _ _ _ _ c.in-Some.ensures.steps (c.in_err-merge_table.ensures.err k) c.merge_table.ensures.others)))
+    rw (p.1, p.2) (λ k. left-of (with_neighbor c.args.kind) c.args.self.now.tables c.merge_table.new.self.tables c.args.newer _
+    (ap (λ es. finite.from_entries es) c.into_iter-id-iterator.ensures.into_iter_gives ∙ c.into_entries-id-items.ensures.entries)
+    (c.loop-id.invariant.5 None c.merge_table.new.self.tables
+    (leaves-first (with_neighbor c.args.kind) c.loop-id.self.tables c.merge_table.new.self.tables _ _ _ _ c.in-Some.ensures.steps
+    (c.in_err-merge_table.ensures.err k) c.merge_table.ensures.others)))
 
 pub returns-in_err-merge_table-clause-others : goal.returns-in_err-merge_table-clause-others
 returns-in_err-merge_table-clause-others c =
     let p = err_from_is_err_and c.from_residual.result c.from_residual.ensures.1 in
-    rw p.1 (others-of (with_neighbor c.args.kind) _ c.args.self.now.tables c.merge_table.new.self.tables c.args.newer _ (ap (λ es. finite.from_entries es) c.into_iter-id-iterator.ensures.into_iter_gives ∙ c.into_entries-id-items.ensures.entries)
+    rw p.1 (others-of (with_neighbor c.args.kind) _ c.args.self.now.tables c.merge_table.new.self.tables c.args.newer _
+    (ap (λ es. finite.from_entries es) c.into_iter-id-iterator.ensures.into_iter_gives ∙ c.into_entries-id-items.ensures.entries)
     (c.loop-id.invariant.5 (Some _) c.merge_table.new.self.tables (leaves-others (with_neighbor c.args.kind) c.loop-id.self.tables c.merge_table.new.self.tables _ _ _ _ c.in-Some.ensures.steps c.merge_table.ensures.others)))
 
 pub returns-clause-ok : goal.returns-clause-ok

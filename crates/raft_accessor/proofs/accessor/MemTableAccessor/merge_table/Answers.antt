@@ -23,16 +23,21 @@ pub invariant_of-self : goal.invariant_of-self
 invariant_of-self c = kept-in c.self.inside (after c) c.args.id c.slot_of.result c.index_mut.result.now c.merge_neighbor.new.self c.merge_neighbor.new.stats c.self.invariant (slotted c)
 
 pub returns-clause-ok : goal.returns-clause-ok
-returns-clause-ok c = merged-in c.self.inside (after c) c.args.id c.slot_of.result c.index_mut.result.now c.merge_neighbor.new.self c.merge_neighbor.new.stats c.self.invariant (slotted c) c.args.self.now c.self.view_is (with_neighbor c.args.kind) c.args.newer c.merge_neighbor.result c.merge_neighbor.ensures
+returns-clause-ok c = merged-in c.self.inside (after c) c.args.id c.slot_of.result c.index_mut.result.now c.merge_neighbor.new.self
+    c.merge_neighbor.new.stats c.self.invariant (slotted c) c.args.self.now c.self.view_is (with_neighbor c.args.kind) c.args.newer
+    c.merge_neighbor.result c.merge_neighbor.ensures
 
 pub returns-clause-fault : goal.returns-clause-fault
 returns-clause-fault c =
     let old = table_in c.args.self.now.tables c.args.id in
     refused-with (neighbor_rule c.args.kind old c.args.newer) c.merge_neighbor.new.stats old c.args.newer c.merge_neighbor.result
-    (refused-in c.self.inside (after c) c.args.id c.slot_of.result c.index_mut.result.now c.merge_neighbor.new.self c.merge_neighbor.new.stats c.self.invariant (slotted c) c.args.self.now c.self.view_is (λ (k : Counts) (t : Table). IsFaultBeside c.args.kind k t c.args.newer) _ c.merge_neighbor.result c.merge_neighbor.ensures)
+    (refused-in c.self.inside (after c) c.args.id c.slot_of.result c.index_mut.result.now c.merge_neighbor.new.self c.merge_neighbor.new.stats
+    c.self.invariant (slotted c) c.args.self.now c.self.view_is (λ (k : Counts) (t : Table). IsFaultBeside c.args.kind k t c.args.newer) _
+    c.merge_neighbor.result c.merge_neighbor.ensures)
 
 pub returns-clause-err : goal.returns-clause-err
-returns-clause-err c = left-in c.self.inside (after c) c.args.id c.slot_of.result c.index_mut.result.now c.merge_neighbor.new.self c.merge_neighbor.new.stats c.self.invariant (slotted c) c.args.self.now c.self.view_is _ c.merge_neighbor.result c.merge_neighbor.ensures
+returns-clause-err c = left-in c.self.inside (after c) c.args.id c.slot_of.result c.index_mut.result.now c.merge_neighbor.new.self
+    c.merge_neighbor.new.stats c.self.invariant (slotted c) c.args.self.now c.self.view_is _ c.merge_neighbor.result c.merge_neighbor.ensures
 
 pub returns-clause-others : goal.returns-clause-others
 returns-clause-others c = alone-in c.self.inside (after c) c.args.id c.slot_of.result c.index_mut.result.now c.merge_neighbor.new.self c.merge_neighbor.new.stats c.self.invariant (slotted c) c.args.self.now c.self.view_is

@@ -20,4 +20,6 @@ pub invariant_of-self : goal.invariant_of-self
 invariant_of-self c = kept-in c.self.inside (after c) c.args.item.raft_group_id c.slot_of.result c.index_mut.result.now c.replay_item.new.self c.replay_item.new.stats c.self.invariant (slotted c)
 
 pub returns : goal.returns
-returns c = written-in c.self.inside (after c) (item_of c.args.item) c.slot_of.result c.index_mut.result.now c.replay_item.new.self c.replay_item.new.stats c.self.invariant (slotted c) c.args.self.now c.self.view_is (Replaying c.args.queue) c.replay_item.result c.replay_item.ensures
+returns c = written-in c.self.inside (after c) (item_of c.args.item) c.slot_of.result c.index_mut.result.now c.replay_item.new.self
+    c.replay_item.new.stats c.self.invariant (slotted c) c.args.self.now c.self.view_is (Replaying c.args.queue) c.replay_item.result
+    c.replay_item.ensures

@@ -14,10 +14,20 @@ abbrev after : goal.After-self-1 → Inside
 after c = record c.self.inside { slots = with_item c.self.inside.slots c.slot_of.result c.rewrite_item.new.self; stats = c.rewrite_item.new.stats }
 
 slotted : (c : goal.After-self-1) → InSlot c.self.inside (after c) c.args.item.raft_group_id c.slot_of.result c.index_mut.result.now c.rewrite_item.new.self c.rewrite_item.new.stats
-slotted c = record { at = c.slot_of.ensures.value; bound = c.slot_of.ensures.bound; lent = c.index_mut.ensures.value; slots = refl; stats = refl; one = (c.rewrite_item.ensures c.self.inside.cleaned.items).one; recounted = (c.rewrite_item.ensures c.self.inside.cleaned.items).recounted }
+slotted c = record {
+  at = c.slot_of.ensures.value;
+  bound = c.slot_of.ensures.bound;
+  lent = c.index_mut.ensures.value;
+  slots = refl;
+  stats = refl;
+  one = (c.rewrite_item.ensures c.self.inside.cleaned.items).one;
+  recounted = (c.rewrite_item.ensures c.self.inside.cleaned.items).recounted;
+}
 
 pub invariant_of-self : goal.invariant_of-self
 invariant_of-self c = kept-in c.self.inside (after c) c.args.item.raft_group_id c.slot_of.result c.index_mut.result.now c.rewrite_item.new.self c.rewrite_item.new.stats c.self.invariant (slotted c)
 
 pub returns : goal.returns
-returns c = written-in c.self.inside (after c) (item_of c.args.item) c.slot_of.result c.index_mut.result.now c.rewrite_item.new.self c.rewrite_item.new.stats c.self.invariant (slotted c) c.args.self.now c.self.view_is (Rewriting c.args.gate c.args.seq) c.rewrite_item.result (c.rewrite_item.ensures c.self.inside.cleaned.items)
+returns c = written-in c.self.inside (after c) (item_of c.args.item) c.slot_of.result c.index_mut.result.now c.rewrite_item.new.self
+    c.rewrite_item.new.stats c.self.invariant (slotted c) c.args.self.now c.self.view_is (Rewriting c.args.gate c.args.seq) c.rewrite_item.result
+    (c.rewrite_item.ensures c.self.inside.cleaned.items)

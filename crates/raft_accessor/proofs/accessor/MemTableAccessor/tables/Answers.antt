@@ -20,5 +20,7 @@ returns-clause-tables c =
     let none = drop-none c.deref-slot-items.result.now c.loop-slot.slot-index (omega (arith, c.loop-slot-test.false)) in
     subst (λ m. IsPermutation (map (λ t. t.now) c.loop-slot.tables.items) (finite.values m)) (ap together c.deref-slot-items.ensures.value ∙ ap (λ (x : Accessor). x.tables) c.self.view_is)
     (IsPermutation-trans (map (λ t. t.now) c.loop-slot.tables.items) (map (λ e. e.1) (slot_entries c.deref-slot-items.result.now)) (finite.values (together c.deref-slot-items.result.now))
-    (subst (λ l. IsPermutation l (map (λ e. e.1) (slot_entries c.deref-slot-items.result.now))) (ap (λ es. map (λ t. t.now) c.loop-slot.tables.items ++ map (λ e. e.1) es) none ∙ append-nil (map (λ t. t.now) c.loop-slot.tables.items)) c.loop-slot.invariant)
+    (subst (λ l. IsPermutation l (map (λ e. e.1) (slot_entries c.deref-slot-items.result.now)))
+    (ap (λ es. map (λ t. t.now) c.loop-slot.tables.items ++ map (λ e. e.1) es) none ∙ append-nil (map (λ t. t.now) c.loop-slot.tables.items))
+    c.loop-slot.invariant)
     (together-permuted c.deref-slot-items.result.now (subst (AreSlots 0) (sym c.deref-slot-items.ensures.value) c.self.invariant.slots)))

@@ -23,10 +23,14 @@ pub returns-clause-tables : goal.returns-clause-tables
 returns-clause-tables c = shown-changed c.self.inside (after c) c.args.self.now c.args.id c.slot_of.result c.index_mut.result.now None c.self.invariant c.self.view_is (gone c)
 
 pub returns-clause-removed : goal.returns-clause-removed
-returns-clause-removed c = c.take.ensures.removed ∙ sym (get-shown c.self.inside c.args.self.now c.args.id c.slot_of.result c.index_mut.result.now c.self.invariant c.self.view_is c.slot_of.ensures.value c.slot_of.ensures.bound c.index_mut.ensures.value)
+returns-clause-removed c = c.take.ensures.removed
+    ∙ sym (get-shown c.self.inside c.args.self.now c.args.id c.slot_of.result c.index_mut.result.now c.self.invariant c.self.view_is
+    c.slot_of.ensures.value c.slot_of.ensures.bound c.index_mut.ensures.value)
 
 pub returns-clause-counts : goal.returns-clause-counts
 returns-clause-counts c =
     c.take.ensures.counts
-    ∙ ap (λ o. with_table_deleted (table_of c.args.id o) c.self.inside.stats) (sym (get-shown c.self.inside c.args.self.now c.args.id c.slot_of.result c.index_mut.result.now c.self.invariant c.self.view_is c.slot_of.ensures.value c.slot_of.ensures.bound c.index_mut.ensures.value))
+    ∙ ap (λ o. with_table_deleted (table_of c.args.id o) c.self.inside.stats)
+    (sym (get-shown c.self.inside c.args.self.now c.args.id c.slot_of.result c.index_mut.result.now c.self.invariant c.self.view_is
+    c.slot_of.ensures.value c.slot_of.ensures.bound c.index_mut.ensures.value))
     ∙ ap (λ (x : Accessor). with_table_deleted (table_in c.args.self.now.tables c.args.id) x.counts) c.self.view_is

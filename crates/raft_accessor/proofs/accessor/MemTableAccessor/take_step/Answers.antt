@@ -20,7 +20,8 @@ pub invariant_of-self : goal.invariant_of-self
 invariant_of-self c = kept-in c.self.inside (after c) c.args.id c.slot_of.result c.index_mut.result.now c.take_step.new.self c.take_step.new.stats c.self.invariant (slotted c)
 
 pub returns-clause-taken : goal.returns-clause-taken
-returns-clause-taken c = step-in c.self.inside (after c) c.args.id c.slot_of.result c.index_mut.result.now c.take_step.new.self c.take_step.new.stats c.self.invariant (slotted c) c.args.self.now c.self.view_is c.args.queue (step_shown c.args.step) c.take_step.result c.take_step.ensures
+returns-clause-taken c = step-in c.self.inside (after c) c.args.id c.slot_of.result c.index_mut.result.now c.take_step.new.self c.take_step.new.stats
+    c.self.invariant (slotted c) c.args.self.now c.self.view_is c.args.queue (step_shown c.args.step) c.take_step.result c.take_step.ensures
 
 pub returns-clause-exact_counts : goal.returns-clause-exact_counts
 returns-clause-exact_counts c = subst (λ (x : Accessor). AreCountsOf x.tables x.counts) c.self.view_is c.self.invariant.counted

@@ -17,7 +17,10 @@ pub loop-slot-init : goal.loop-slot-init
 loop-slot-init c =
     let slots = c.deref-slot-items.result.now in
     let are = subst (AreSlots 0) (sym c.deref-slot-items.ensures.value) c.self.invariant.slots in
-    let one = λ (q : LogQueue). added-permuted (live_of q) (tables_of slots) (finite.values (together slots)) (together-permuted slots are) ∙ sym (live-added q (together slots)) ∙ sym (subst (λ s. live q c.self.inside.stats ≡ live_in_all q (together s)) (sym c.deref-slot-items.ensures.value) (c.self.invariant.counted q)) in
+    let one = λ (q : LogQueue). added-permuted (live_of q) (tables_of slots) (finite.values (together slots)) (together-permuted slots are)
+    ∙ sym (live-added q (together slots))
+    ∙ sym (subst (λ s. live q c.self.inside.stats ≡ live_in_all q (together s)) (sym c.deref-slot-items.ensures.value)
+    (c.self.invariant.counted q)) in
     (omega arith, omega arith, omega arith, omega (arith, one Append, one Rewrite, c.live_entries.ensures, c.live_entries-2.ensures))
 
 pub loop-slot-preserved : goal.loop-slot-preserved
@@ -76,7 +79,15 @@ returns-clause-entries c =
     let are = subst (AreSlots 0) (sym c.deref-slot-items.ensures.value) c.self.invariant.slots in
     let m : together slots ≡ c.args.self.now.tables = ap together c.deref-slot-items.ensures.value ∙ ap (λ (x : Accessor). x.tables) c.self.view_is in
     let entries = λ (t : Table). length t.entries in
-    omega (arith, c.loop-slot.invariant.0, ap (λ es. added entries (map (λ e. e.1) es)) none, added-permuted entries (tables_of slots) (finite.values (together slots)) (together-permuted slots are), total-values entries (together slots), ap (total entries) m)
+    omega (
+      arith,
+      c.loop-slot.invariant.0,
+      ap (λ es. added entries (map (λ e. e.1) es)) none,
+      added-permuted entries (tables_of slots)
+          (finite.values (together slots)) (together-permuted slots are),
+      total-values entries (together slots),
+      ap (total entries) m,
+    )
 
 pub returns-clause-keys : goal.returns-clause-keys
 returns-clause-keys c =

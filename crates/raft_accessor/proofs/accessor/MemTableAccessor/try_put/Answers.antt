@@ -16,13 +16,24 @@ abbrev after : goal.After-self-1 → Inside
 after c = record c.self.inside { slots = with_item c.self.inside.slots c.slot_of.result c.try_put.new.self; stats = c.try_put.new.stats }
 
 slotted : (c : goal.After-self-1) → InSlot c.self.inside (after c) c.args.id c.slot_of.result c.index_mut.result.now c.try_put.new.self c.try_put.new.stats
-slotted c = let taken = c.try_put.ensures.taken Append [] in record { at = c.slot_of.ensures.value; bound = c.slot_of.ensures.bound; lent = c.index_mut.ensures.value; slots = refl; stats = refl; one = taken.one; recounted = taken.recounted }
+slotted c = let taken = c.try_put.ensures.taken Append [] in
+    record {
+      at = c.slot_of.ensures.value;
+      bound = c.slot_of.ensures.bound;
+      lent = c.index_mut.ensures.value;
+      slots = refl;
+      stats = refl;
+      one = taken.one;
+      recounted = taken.recounted;
+    }
 
 pub invariant_of-self : goal.invariant_of-self
 invariant_of-self c = kept-in c.self.inside (after c) c.args.id c.slot_of.result c.index_mut.result.now c.try_put.new.self c.try_put.new.stats c.self.invariant (slotted c)
 
 pub returns-clause-taken : goal.returns-clause-taken
-returns-clause-taken c = λ q. step-in c.self.inside (after c) c.args.id c.slot_of.result c.index_mut.result.now c.try_put.new.self c.try_put.new.stats c.self.invariant (slotted c) c.args.self.now c.self.view_is q (Put c.args.key.now c.args.value.now c.args.file) (cond c.try_put.result (Ok tt) (Err Memory)) (c.try_put.ensures.taken q c.self.inside.cleaned.items)
+returns-clause-taken c = λ q. step-in c.self.inside (after c) c.args.id c.slot_of.result c.index_mut.result.now c.try_put.new.self c.try_put.new.stats
+    c.self.invariant (slotted c) c.args.self.now c.self.view_is q (Put c.args.key.now c.args.value.now c.args.file)
+    (cond c.try_put.result (Ok tt) (Err Memory)) (c.try_put.ensures.taken q c.self.inside.cleaned.items)
 
 pub returns-clause-entries : goal.returns-clause-entries
 returns-clause-entries c = rw (← c.self.view_is) (λ e. subst (λ (t : Table). t.entries ≡ [] → ⊥)

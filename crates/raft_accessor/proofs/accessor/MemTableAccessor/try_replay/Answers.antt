@@ -27,7 +27,9 @@ pub invariant_of-self : goal.invariant_of-self
 invariant_of-self c = kept-in c.self.inside (after c) c.args.id c.slot_of.result c.index_mut.result.now c.try_replay.new.self c.try_replay.new.stats c.self.invariant (slotted c)
 
 pub returns-clause-changed : goal.returns-clause-changed
-returns-clause-changed c = changed-in c.self.inside (after c) c.args.id c.slot_of.result c.index_mut.result.now c.try_replay.new.self c.try_replay.new.stats c.self.invariant (slotted c) c.args.self.now c.self.view_is (λ t. after_replay c.args.queue t (run_shown c.args.run.now)) (λ t k e. ⊥) (ok_or c.try_replay.result Memory) c.try_replay.ensures.outcome refl
+returns-clause-changed c = changed-in c.self.inside (after c) c.args.id c.slot_of.result c.index_mut.result.now c.try_replay.new.self
+    c.try_replay.new.stats c.self.invariant (slotted c) c.args.self.now c.self.view_is (λ t. after_replay c.args.queue t (run_shown c.args.run.now))
+    (λ t k e. ⊥) (ok_or c.try_replay.result Memory) c.try_replay.ensures.outcome refl
 
 pub returns-clause-accepted : goal.returns-clause-accepted
 returns-clause-accepted c =
@@ -42,4 +44,6 @@ returns-clause-ends c =
     c.try_replay.ensures.ends)
 
 pub returns-clause-counts : goal.returns-clause-counts
-returns-clause-counts c = counted_some-in c.self.inside (after c) c.args.id c.slot_of.result c.index_mut.result.now c.try_replay.new.self c.try_replay.new.stats c.self.invariant (slotted c) c.args.self.now c.self.view_is (λ t k. counts_with_run c.args.queue t.entries (run_shown c.args.run.now) k) c.try_replay.result c.try_replay.ensures.counts
+returns-clause-counts c = counted_some-in c.self.inside (after c) c.args.id c.slot_of.result c.index_mut.result.now c.try_replay.new.self
+    c.try_replay.new.stats c.self.invariant (slotted c) c.args.self.now c.self.view_is
+    (λ t k. counts_with_run c.args.queue t.entries (run_shown c.args.run.now) k) c.try_replay.result c.try_replay.ensures.counts

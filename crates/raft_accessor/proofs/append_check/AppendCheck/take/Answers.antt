@@ -10,11 +10,14 @@ returns-in_ok-insert-in-EntryIndexes-clause-ok c =
     let entries = c.in-EntryIndexes.entries.0.items in
     let after = c.in_ok-extent-in-EntryIndexes.extent in
     let takes = subst (λ run. TakesRun c.extent.result run after) c.deref.ensures.value c.in_ok-extent-in-EntryIndexes.ensures.ok in
-    rw c.in-EntryIndexes.is (run_next c.args.self.now.extents.entries c.insert.new.self.entries c.args.item.now.raft_group_id (option_map (λ t. t.now) c.args.table) entries c.extent.result after c.extent.ensures takes c.in_ok-insert-in-EntryIndexes.ensures.updates.0)
+    rw c.in-EntryIndexes.is (run_next c.args.self.now.extents.entries c.insert.new.self.entries c.args.item.now.raft_group_id
+    (option_map (λ t. t.now) c.args.table) entries c.extent.result after c.extent.ensures takes c.in_ok-insert-in-EntryIndexes.ensures.updates.0)
 
 pub returns-in_ok-insert-in-Command-clause-ok : goal.returns-in_ok-insert-in-Command-clause-ok
 returns-in_ok-insert-in-Command-clause-ok c =
-    rw c.in-Command.is (command_next c.args.self.now.extents.entries c.insert-in-Command.new.self.entries c.args.item.now.raft_group_id (option_map (λ t. t.now) c.args.table) c.in-Command.command c.extent-in-Command.result c.commanded-extent.result c.extent-in-Command.ensures c.commanded-extent.ensures c.in_ok-insert-in-Command.ensures.updates.0)
+    rw c.in-Command.is (command_next c.args.self.now.extents.entries c.insert-in-Command.new.self.entries c.args.item.now.raft_group_id
+    (option_map (λ t. t.now) c.args.table) c.in-Command.command c.extent-in-Command.result c.commanded-extent.result c.extent-in-Command.ensures
+    c.commanded-extent.ensures c.in_ok-insert-in-Command.ensures.updates.0)
 
 pub returns-in-Kv-clause-ok : goal.returns-in-Kv-clause-ok
 returns-in-Kv-clause-ok c =

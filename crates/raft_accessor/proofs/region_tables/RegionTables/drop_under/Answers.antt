@@ -34,4 +34,5 @@ returns-in_err-check_newer_mark c =
 pub returns : goal.returns
 returns c =
     cleaned_joined c.args.queue c.args.mark.now c.args.self.now c.args.id c.args.stats.now c.in-Some.table.now c.end_at_reach-end.result c.remove.new.self c.remove.new.stats
-    (sym c.get.ensures.value ∙ ap (option_map (λ t. t.now)) c.in-Some.is) (sym c.is_cleaned.ensures ∙ c.if-not-is_cleaned.false) c.in_ok-check_newer_mark.ensures.ok c.end_at_reach-end.ensures c.remove.ensures.after c.remove.ensures.counts c.remove.ensures.recounted
+    (sym c.get.ensures.value ∙ ap (option_map (λ t. t.now)) c.in-Some.is) (sym c.is_cleaned.ensures ∙ c.if-not-is_cleaned.false)
+    c.in_ok-check_newer_mark.ensures.ok c.end_at_reach-end.ensures c.remove.ensures.after c.remove.ensures.counts c.remove.ensures.recounted

@@ -16,7 +16,18 @@ loop-table-preserved c =
     let both = records_of_both c.get-table.result.now c.holds_one_run.ensures in (
       omega (arith, c.loop-table.invariant.0, ap (added (λ (t : Table). length t.entries)) s, ap (λ (t : Table). length t.entries) is, c.entries_count.ensures),
       omega (arith, c.loop-table.invariant.1, ap length s),
-      omega (arith, c.loop-table.invariant.2, ap (added (λ (t : Table). finite.len t.keys)) s, ap (added (live_of Append)) s, ap (added (live_of Rewrite)) s, ap (λ (t : Table). finite.len t.keys) is, ap (live_of Append) is, ap (live_of Rewrite) is, c.entries_count.ensures, both),
+      omega (
+        arith,
+        c.loop-table.invariant.2,
+        ap (added (λ (t : Table). finite.len t.keys)) s,
+        ap (added (live_of Append)) s,
+        ap (added (live_of Rewrite)) s,
+        ap (λ (t : Table). finite.len t.keys) is,
+        ap (live_of Append) is,
+        ap (live_of Rewrite) is,
+        c.entries_count.ensures,
+        both,
+      ),
     )
 
 pub returns-clause-entries : goal.returns-clause-entries

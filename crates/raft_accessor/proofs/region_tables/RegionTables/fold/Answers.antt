@@ -19,5 +19,7 @@ returns g c =
       values,
       subst (λ m. IsPermutation values (finite.values m)) c.self.view_is (values-permuted c.self.inside.tables.entries c.values-table-items.ensures.unique),
       subst (λ (l : List Table). FoldsTo (Makes g.F.FnMut) (c.args.f.now, c.args.init) l (c.loop-table.f, c.loop-table.answer)) all
-          (c.loop-table.invariant (c.loop-table.f, c.loop-table.answer) (subst (λ (l : List Table). FoldsTo (Makes g.F.FnMut) (c.loop-table.f, c.loop-table.answer) l (c.loop-table.f, c.loop-table.answer)) (sym c.in-None.ensures.steps.0) refl)),
+          (c.loop-table.invariant (c.loop-table.f, c.loop-table.answer)
+          (subst (λ (l : List Table). FoldsTo (Makes g.F.FnMut) (c.loop-table.f, c.loop-table.answer) l (c.loop-table.f, c.loop-table.answer))
+          (sym c.in-None.ensures.steps.0) refl)),
     )

@@ -10,14 +10,26 @@ use Rattle.raft_accessor.proofs.region_tables.RegionTables.push_ids.Goals as goa
 pub loop-table-preserved-in-Continue-1 : goal.loop-table-preserved-in-Continue-1
 loop-table-preserved-in-Continue-1 g c = λ last h.
     c.loop-table.invariant last
-    (subst (λ (l : List Table). FoldsTo (KeepsId g.F.FnMut) (c.loop-table.wanted, c.loop-table.ids.items) l last) (sym c.in-Some.ensures.steps)
-    ((c.wanted.new.self, c.push.new.self.items), subst (λ t. KeepsId g.F.FnMut (c.loop-table.wanted, c.loop-table.ids.items) t (c.wanted.new.self, c.push.new.self.items)) c.get-table.ensures (true, called_at g.F.FnMut c.wanted.ensures c.if-wanted.true, c.in_ok-push.ensures.items ∙ ap (λ i. c.loop-table.ids.items ++ i ∷ []) c.region_id.ensures), h))
+    (subst (λ (l : List Table). FoldsTo (KeepsId g.F.FnMut) (c.loop-table.wanted, c.loop-table.ids.items) l last) (sym c.in-Some.ensures.steps) (
+      (c.wanted.new.self, c.push.new.self.items),
+      subst (λ t. KeepsId g.F.FnMut (c.loop-table.wanted, c.loop-table.ids.items) t (c.wanted.new.self, c.push.new.self.items)) c.get-table.ensures (
+        true,
+        called_at g.F.FnMut c.wanted.ensures c.if-wanted.true,
+        c.in_ok-push.ensures.items
+            ∙ ap (λ i. c.loop-table.ids.items ++ i ∷ []) c.region_id.ensures,
+      ),
+      h,
+    ))
 
 pub loop-table-preserved : goal.loop-table-preserved
 loop-table-preserved g c = λ last h.
     c.loop-table.invariant last
-    (subst (λ (l : List Table). FoldsTo (KeepsId g.F.FnMut) (c.loop-table.wanted, c.loop-table.ids.items) l last) (sym c.in-Some.ensures.steps)
-    ((c.wanted.new.self, c.loop-table.ids.items), subst (λ t. KeepsId g.F.FnMut (c.loop-table.wanted, c.loop-table.ids.items) t (c.wanted.new.self, c.loop-table.ids.items)) c.get-table.ensures (false, called_at g.F.FnMut c.wanted.ensures c.if-wanted.false, refl), h))
+    (subst (λ (l : List Table). FoldsTo (KeepsId g.F.FnMut) (c.loop-table.wanted, c.loop-table.ids.items) l last) (sym c.in-Some.ensures.steps) (
+      (c.wanted.new.self, c.loop-table.ids.items),
+      subst (λ t. KeepsId g.F.FnMut (c.loop-table.wanted, c.loop-table.ids.items) t (c.wanted.new.self, c.loop-table.ids.items)) c.get-table.ensures
+          (false, called_at g.F.FnMut c.wanted.ensures c.if-wanted.false, refl),
+      h,
+    ))
 
 pub returns-clause-ok : goal.returns-clause-ok
 returns-clause-ok g c =
@@ -26,5 +38,7 @@ returns-clause-ok g c =
       values,
       subst (λ m. IsPermutation values (finite.values m)) c.self.view_is (values-permuted c.self.inside.tables.entries c.values-table-items.ensures.unique),
       subst (λ (l : List Table). FoldsTo (KeepsId g.F.FnMut) (c.args.wanted.now, c.args.ids.now.items) l (c.loop-table.wanted, c.loop-table.ids.items)) all
-          (c.loop-table.invariant (c.loop-table.wanted, c.loop-table.ids.items) (subst (λ (l : List Table). FoldsTo (KeepsId g.F.FnMut) (c.loop-table.wanted, c.loop-table.ids.items) l (c.loop-table.wanted, c.loop-table.ids.items)) (sym c.in-None.ensures.steps.0) refl)),
+          (c.loop-table.invariant (c.loop-table.wanted, c.loop-table.ids.items)
+          (subst (λ (l : List Table). FoldsTo (KeepsId g.F.FnMut) (c.loop-table.wanted, c.loop-table.ids.items) l
+          (c.loop-table.wanted, c.loop-table.ids.items)) (sym c.in-None.ensures.steps.0) refl)),
     )

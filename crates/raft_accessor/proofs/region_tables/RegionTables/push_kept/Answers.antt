@@ -13,8 +13,17 @@ loop-table-preserved-in-Continue-1 g c = (
   search of_calls,
   λ last h.
       c.loop-table.invariant.1 last
-      (subst (λ (l : List Table). FoldsTo (Collects g.F.FnMut) (c.loop-table.f, map (λ t. t.now) c.loop-table.tables.items) l last) (sym c.in-Some.ensures.steps)
-      ((c.f.new.self, map (λ t. t.now) c.push.new.self.items), subst (λ t. Collects g.F.FnMut (c.loop-table.f, map (λ t. t.now) c.loop-table.tables.items) t (c.f.new.self, map (λ t. t.now) c.push.new.self.items)) c.get-table.ensures (true, called_at g.F.FnMut c.f.ensures c.if-f.true, ap (map (λ t. t.now)) c.in_ok-push.ensures.items ∙ map-append (λ t. t.now) c.loop-table.tables.items (c.get-table.result ∷ [])), h)),
+      (subst (λ (l : List Table). FoldsTo (Collects g.F.FnMut) (c.loop-table.f, map (λ t. t.now) c.loop-table.tables.items) l last) (sym c.in-Some.ensures.steps) (
+        (c.f.new.self, map (λ t. t.now) c.push.new.self.items),
+        subst (λ t. Collects g.F.FnMut (c.loop-table.f, map (λ t. t.now) c.loop-table.tables.items) t
+            (c.f.new.self, map (λ t. t.now) c.push.new.self.items)) c.get-table.ensures (
+              true,
+              called_at g.F.FnMut c.f.ensures c.if-f.true,
+              ap (map (λ t. t.now)) c.in_ok-push.ensures.items
+                  ∙ map-append (λ t. t.now) c.loop-table.tables.items (c.get-table.result ∷ []),
+            ),
+        h,
+      )),
 )
 
 pub loop-table-preserved : goal.loop-table-preserved
@@ -22,8 +31,12 @@ loop-table-preserved g c = (
   search of_calls,
   λ last h.
       c.loop-table.invariant.1 last
-      (subst (λ (l : List Table). FoldsTo (Collects g.F.FnMut) (c.loop-table.f, map (λ t. t.now) c.loop-table.tables.items) l last) (sym c.in-Some.ensures.steps)
-      ((c.f.new.self, map (λ t. t.now) c.loop-table.tables.items), subst (λ t. Collects g.F.FnMut (c.loop-table.f, map (λ t. t.now) c.loop-table.tables.items) t (c.f.new.self, map (λ t. t.now) c.loop-table.tables.items)) c.get-table.ensures (false, called_at g.F.FnMut c.f.ensures c.if-f.false, refl), h)),
+      (subst (λ (l : List Table). FoldsTo (Collects g.F.FnMut) (c.loop-table.f, map (λ t. t.now) c.loop-table.tables.items) l last) (sym c.in-Some.ensures.steps) (
+        (c.f.new.self, map (λ t. t.now) c.loop-table.tables.items),
+        subst (λ t. Collects g.F.FnMut (c.loop-table.f, map (λ t. t.now) c.loop-table.tables.items) t
+            (c.f.new.self, map (λ t. t.now) c.loop-table.tables.items)) c.get-table.ensures (false, called_at g.F.FnMut c.f.ensures c.if-f.false, refl),
+        h,
+      )),
 )
 
 pub returns-clause-ok : goal.returns-clause-ok
@@ -33,5 +46,7 @@ returns-clause-ok g c =
       values,
       subst (λ m. IsPermutation values (finite.values m)) c.self.view_is (values-permuted c.self.inside.tables.entries c.values-table-items.ensures.unique),
       subst (λ (l : List Table). FoldsTo (Collects g.F.FnMut) (c.args.f.now, map (λ t. t.now) c.args.tables.now.items) l (c.loop-table.f, map (λ t. t.now) c.loop-table.tables.items)) all
-          (c.loop-table.invariant.1 (c.loop-table.f, map (λ t. t.now) c.loop-table.tables.items) (subst (λ (l : List Table). FoldsTo (Collects g.F.FnMut) (c.loop-table.f, map (λ t. t.now) c.loop-table.tables.items) l (c.loop-table.f, map (λ t. t.now) c.loop-table.tables.items)) (sym c.in-None.ensures.steps.0) refl)),
+          (c.loop-table.invariant.1 (c.loop-table.f, map (λ t. t.now) c.loop-table.tables.items)
+          (subst (λ (l : List Table). FoldsTo (Collects g.F.FnMut) (c.loop-table.f, map (λ t. t.now) c.loop-table.tables.items) l
+          (c.loop-table.f, map (λ t. t.now) c.loop-table.tables.items)) (sym c.in-None.ensures.steps.0) refl)),
     )

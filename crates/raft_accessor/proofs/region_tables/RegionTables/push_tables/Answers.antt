@@ -9,5 +9,6 @@ returns-clause-ok c =
     let all : c.into_iter-table-iterator.result ≡ values = c.into_iter-table-iterator.ensures.into_iter_gives ∙ c.values-table-items.ensures.rest in (
       values,
       subst (λ m. IsPermutation values (finite.values m)) c.self.view_is (values-permuted c.self.inside.tables.entries c.values-table-items.ensures.unique),
-      sym (append-nil (map (λ t. t.now) c.loop-table.tables.items)) ∙ ap (λ l. map (λ t. t.now) c.loop-table.tables.items ++ l) (sym c.in-None.ensures.steps.0) ∙ c.loop-table.invariant ∙ ap (λ l. map (λ t. t.now) c.args.tables.now.items ++ l) all,
+      sym (append-nil (map (λ t. t.now) c.loop-table.tables.items)) ∙ ap (λ l. map (λ t. t.now) c.loop-table.tables.items ++ l)
+          (sym c.in-None.ensures.steps.0) ∙ c.loop-table.invariant ∙ ap (λ l. map (λ t. t.now) c.args.tables.now.items ++ l) all,
     )

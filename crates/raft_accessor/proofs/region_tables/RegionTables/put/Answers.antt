@@ -29,11 +29,23 @@ returns-in_err-add_table-clause-one c = one_same c.args.self.now _ c.args.id (sh
 
 pub returns-in_err-add_table-clause-recounted : goal.returns-in_err-add_table-clause-recounted
 returns-in_err-add_table-clause-recounted c = λ q.
-    omega (arith, ap (live q) c.in_err-add_table.ensures.err, ap (λ m. live_of q (table_in m c.args.id)) (shown-same c.self.inside (record c.self.inside { tables = c.reserve.new.self }) c.args.self.now c.self.view_is c.reserve.ensures.entries.2))
+    omega (
+      arith,
+      ap (live q) c.in_err-add_table.ensures.err,
+      ap (λ m. live_of q (table_in m c.args.id))
+          (shown-same c.self.inside (record c.self.inside { tables = c.reserve.new.self }) c.args.self.now c.self.view_is c.reserve.ensures.entries.2),
+    )
 
 pub delete_replaced-requires : goal.delete_replaced-requires
 delete_replaced-requires c = λ q.
-    omega (arith, c.requires.counted q, c.in_ok-add_table.ensures.live q, ap (live_of q) c.get.ensures, ap (λ o. live_of q (table_of c.args.id o)) (c.in-Ok.ensures.old ∙ c.reserve.ensures.entries.2 c.args.id ∙ sym (get-shown c.self.inside c.args.self.now c.args.id c.self.view_is)))
+    omega (
+      arith,
+      c.requires.counted q,
+      c.in_ok-add_table.ensures.live q,
+      ap (live_of q) c.get.ensures,
+      ap (λ o. live_of q (table_of c.args.id o))
+          (c.in-Ok.ensures.old ∙ c.reserve.ensures.entries.2 c.args.id ∙ sym (get-shown c.self.inside c.args.self.now c.args.id c.self.view_is)),
+    )
 
 abbrev after : goal.After-delete_replaced → Inside
 after c = record c.self.inside { tables = c.insert.new.self }
@@ -53,11 +65,21 @@ pub returns-clause-replaced : goal.returns-clause-replaced
 returns-clause-replaced c = was c
 
 pub returns-clause-counts : goal.returns-clause-counts
-returns-clause-counts c = c.delete_replaced.ensures.counts ∙ ap (λ o. with_table_deleted (table_of c.args.id o) c.add_table.new.self) (was c) ∙ ap (with_table_deleted (table_in c.args.self.now c.args.id)) (c.in_ok-add_table.ensures.ok ∙ ap (λ t. with_table_added t c.args.stats.now) c.get.ensures)
+returns-clause-counts c = c.delete_replaced.ensures.counts ∙ ap (λ o. with_table_deleted (table_of c.args.id o) c.add_table.new.self) (was c)
+    ∙ ap (with_table_deleted (table_in c.args.self.now c.args.id))
+    (c.in_ok-add_table.ensures.ok ∙ ap (λ t. with_table_added t c.args.stats.now) c.get.ensures)
 
 pub returns-clause-one : goal.returns-clause-one
 returns-clause-one c = one_written c.args.self.now _ c.args.id c.args.table (shown c)
 
 pub returns-clause-recounted : goal.returns-clause-recounted
 returns-clause-recounted c = λ q.
-    omega (arith, c.delete_replaced.ensures.live q, c.in_ok-add_table.ensures.live q, ap (live_of q) c.get.ensures, ap (λ o. live_of q (table_of c.args.id o)) (was c), ap (λ m. live_of q (table_in m c.args.id)) (shown c), ap (λ o. live_of q (table_of c.args.id o)) (get_own c.args.self.now c.args.id c.args.table))
+    omega (
+      arith,
+      c.delete_replaced.ensures.live q,
+      c.in_ok-add_table.ensures.live q,
+      ap (live_of q) c.get.ensures,
+      ap (λ o. live_of q (table_of c.args.id o)) (was c),
+      ap (λ m. live_of q (table_in m c.args.id)) (shown c),
+      ap (λ o. live_of q (table_of c.args.id o)) (get_own c.args.self.now c.args.id c.args.table),
+    )

@@ -20,14 +20,25 @@ join_under-requires-clause-older c = λ e.
     sym (ap (λ o. live_of Append (table_of c.args.id o)) (lent c.self.inside c.args.self.now c.args.id _ _ _ c.self.view_is c.get_mut.ensures.value c.in-Some.is (c.deref_mut.ensures.value ∙ c.table.view_is))) ∙ c.requires.older e
 
 pub join_under-requires-clause-counted : goal.join_under-requires-clause-counted
-join_under-requires-clause-counted c = subst (λ t. IsCounted t c.args.stats.now) (ap (table_of c.args.id) (lent c.self.inside c.args.self.now c.args.id _ _ _ c.self.view_is c.get_mut.ensures.value c.in-Some.is (c.deref_mut.ensures.value ∙ c.table.view_is))) c.requires.counted
+join_under-requires-clause-counted c = subst (λ t. IsCounted t c.args.stats.now)
+    (ap (table_of c.args.id) (lent c.self.inside c.args.self.now c.args.id _ _ _ c.self.view_is c.get_mut.ensures.value c.in-Some.is
+    (c.deref_mut.ensures.value ∙ c.table.view_is))) c.requires.counted
 
 pub returns-in-Some : goal.returns-in-Some
 returns-in-Some c =
     let after : Inside = record c.self.inside { tables = c.get_mut.follows.lender c.join_under.new.self } in
     let was : finite.get c.args.self.now c.args.id ≡ Some c.deref_mut.result.now = lent c.self.inside c.args.self.now c.args.id _ _ _ c.self.view_is c.get_mut.ensures.value c.in-Some.is (c.deref_mut.ensures.value ∙ c.table.view_is) in
-    let shown : tables_shown after ≡ finite.insert c.args.self.now c.args.id c.join_under.new.self = shown-with c.self.inside after c.args.self.now c.args.id (Some c.join_under.new.self) c.self.view_is ((c.get_mut.follows.holds c.join_under.new.self).3 (ap is_some (sym c.get_mut.ensures.value ∙ ap option_copied_mut c.in-Some.is))).0 in
-    put_there c.args.queue c.args.mark.now c.args.newer c.args.self.now c.args.id c.args.stats.now c.join_under.result _ c.join_under.new.stats c.deref_mut.result.now c.deref_mut-in-Some.result.now c.join_under.new.self was (c.deref_mut-in-Some.ensures.value ∙ c.newer.view_is) shown (record { ok = c.join_under.ensures.ok; answer = c.join_under.ensures.end; fault = c.join_under.ensures.fault; few = c.join_under.ensures.few }) c.join_under.ensures.recounted
+    let shown : tables_shown after ≡ finite.insert c.args.self.now c.args.id c.join_under.new.self = shown-with c.self.inside after c.args.self.now
+    c.args.id (Some c.join_under.new.self) c.self.view_is
+    ((c.get_mut.follows.holds c.join_under.new.self).3 (ap is_some (sym c.get_mut.ensures.value ∙ ap option_copied_mut c.in-Some.is))).0 in
+    put_there c.args.queue c.args.mark.now c.args.newer c.args.self.now c.args.id c.args.stats.now c.join_under.result _ c.join_under.new.stats
+    c.deref_mut.result.now c.deref_mut-in-Some.result.now c.join_under.new.self was (c.deref_mut-in-Some.ensures.value ∙ c.newer.view_is) shown
+    (record {
+      ok = c.join_under.ensures.ok;
+      answer = c.join_under.ensures.end;
+      fault = c.join_under.ensures.fault;
+      few = c.join_under.ensures.few;
+    }) c.join_under.ensures.recounted
 
 -- ---- it has none
 

@@ -18,4 +18,10 @@ pub returns-clause-counts : goal.returns-clause-counts
 returns-clause-counts c = c.delete_replaced.ensures.counts ∙ ap (λ o. with_table_deleted (table_of c.args.id o) c.args.stats.now) (c.remove-removed.ensures.value ∙ sym (get-shown c.self.inside c.args.self.now c.args.id c.self.view_is))
 
 pub returns-clause-recounted : goal.returns-clause-recounted
-returns-clause-recounted c = λ q. omega (arith, c.delete_replaced.ensures.live q, ap (λ o. live_of q (table_of c.args.id o)) (c.remove-removed.ensures.value ∙ sym (get-shown c.self.inside c.args.self.now c.args.id c.self.view_is)), live_of_empty q c.args.id)
+returns-clause-recounted c = λ q. omega (
+  arith,
+  c.delete_replaced.ensures.live q,
+  ap (λ o. live_of q (table_of c.args.id o))
+      (c.remove-removed.ensures.value ∙ sym (get-shown c.self.inside c.args.self.now c.args.id c.self.view_is)),
+  live_of_empty q c.args.id,
+)

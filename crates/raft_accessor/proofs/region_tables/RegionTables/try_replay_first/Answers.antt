@@ -24,14 +24,19 @@ try_replay-requires-clause-counted c = λ q. omega (arith, ap (live_of q) (c.der
 
 pub returns-then-not-try_replay-clause-outcome : goal.returns-then-not-try_replay-clause-outcome
 returns-then-not-try_replay-clause-outcome c =
-    not_taken c.args.self.now _ c.args.id _ (λ e. ⊥) c.args.stats.now c.try_replay.new.stats (shown-same c.self.inside (record c.self.inside { tables = c.reserve.new.self }) c.args.self.now c.self.view_is c.reserve.ensures.entries.2) c.if-not-try_replay.ensures.done.1
+    not_taken c.args.self.now _ c.args.id _ (λ e. ⊥) c.args.stats.now c.try_replay.new.stats
+    (shown-same c.self.inside (record c.self.inside { tables = c.reserve.new.self }) c.args.self.now c.self.view_is c.reserve.ensures.entries.2)
+    c.if-not-try_replay.ensures.done.1
 
 pub returns-clause-outcome : goal.returns-clause-outcome
 returns-clause-outcome c =
     let reserved : Inside = record c.self.inside { tables = c.reserve.new.self } in
     let made : Inside = record c.self.inside { tables = c.insert.new.self } in
     let same : tables_shown reserved ≡ c.args.self.now = shown-same c.self.inside reserved c.args.self.now c.self.view_is c.reserve.ensures.entries.2 in
-    taken c.args.self.now _ c.args.id c.deref_mut.result.now c.try_replay.new.self (λ t. after_replay c.args.queue t (run_shown c.args.run.now)) (λ e. ⊥) c.args.stats.now c.try_replay.new.stats (0, 0) (ap (table_of c.args.id) c.requires.first ∙ sym (c.deref_mut.ensures.value ∙ c.table.view_is ∙ c.in-Ok.ensures)) c.if-not-try_replay.ensures.done.0 c.try_replay.ensures.recounted
+    taken c.args.self.now _ c.args.id c.deref_mut.result.now c.try_replay.new.self (λ t. after_replay c.args.queue t (run_shown c.args.run.now))
+    (λ e. ⊥) c.args.stats.now c.try_replay.new.stats (0, 0)
+    (ap (table_of c.args.id) c.requires.first ∙ sym (c.deref_mut.ensures.value ∙ c.table.view_is ∙ c.in-Ok.ensures))
+    c.if-not-try_replay.ensures.done.0 c.try_replay.ensures.recounted
     (shown-with reserved made c.args.self.now c.args.id (Some c.try_replay.new.self) same c.in-Ok-insert.ensures.updates.0)
 
 pub returns-clause-ends : goal.returns-clause-ends

@@ -30,7 +30,9 @@ after g c = record c.self.inside { tables = c.get_mut.follows.lender c.change.ne
 
 pub invariant_of-self : goal.invariant_of-self
 invariant_of-self g c =
-    kept-with c.self.inside (after g c) c.args.id (Some c.change.new.arg2) c.self.invariant (λ u e. ap (λ (o : Table). o.region_id) (sym (some_is e)) ∙ c.requires.may.region _ _ _ (gave g c) ∙ region-in c.self.inside c.args.self.now c.args.id c.self.invariant c.self.view_is)
+    kept-with c.self.inside (after g c) c.args.id (Some c.change.new.arg2) c.self.invariant
+    (λ u e. ap (λ (o : Table). o.region_id) (sym (some_is e)) ∙ c.requires.may.region _ _ _ (gave g c)
+    ∙ region-in c.self.inside c.args.self.now c.args.id c.self.invariant c.self.view_is)
     ((c.get_mut.follows.holds c.change.new.arg2).3 (ap is_some (sym c.get_mut.ensures.value ∙ ap option_copied_mut c.in-Some.is))).0
 
 pub returns-in-Some : goal.returns-in-Some
@@ -43,22 +45,38 @@ returns-in-Some g c =
 pub returns-in_err-reserve : goal.returns-in_err-reserve
 returns-in_err-reserve g c =
     let p = err_from_is_err_and c.from_residual.result c.from_residual.ensures.1 in
-    rw (p.1, p.2) (no_memory g.F.FnOnce c.args.change c.args.self.now c.args.id c.args.stats.now _ (shown-same c.self.inside (record c.self.inside { tables = c.reserve.new.self }) c.args.self.now c.self.view_is (λ q. c.reserve.ensures.entries.2 q ∙ ap (λ m. lookup (nat_eq q) m.entries) c.get_mut.follows.holds-at-none)))
+    rw (p.1, p.2) (no_memory g.F.FnOnce c.args.change c.args.self.now c.args.id c.args.stats.now _
+    (shown-same c.self.inside (record c.self.inside { tables = c.reserve.new.self }) c.args.self.now c.self.view_is
+    (λ q. c.reserve.ensures.entries.2 q ∙ ap (λ m. lookup (nat_eq q) m.entries) c.get_mut.follows.holds-at-none)))
 
 pub returns-in_err-table : goal.returns-in_err-table
 returns-in_err-table g c =
     let p = err_from_is_err_and c.from_residual-in_err-table.result c.from_residual-in_err-table.ensures.1 in
-    rw (p.1, p.2) (no_memory g.F.FnOnce c.args.change c.args.self.now c.args.id c.args.stats.now _ (shown-same c.self.inside (record c.self.inside { tables = c.reserve.new.self }) c.args.self.now c.self.view_is (λ q. c.reserve.ensures.entries.2 q ∙ ap (λ m. lookup (nat_eq q) m.entries) c.get_mut.follows.holds-at-none)))
+    rw (p.1, p.2) (no_memory g.F.FnOnce c.args.change c.args.self.now c.args.id c.args.stats.now _
+    (shown-same c.self.inside (record c.self.inside { tables = c.reserve.new.self }) c.args.self.now c.self.view_is
+    (λ q. c.reserve.ensures.entries.2 q ∙ ap (λ m. lookup (nat_eq q) m.entries) c.get_mut.follows.holds-at-none)))
 
 pub change-requires-2 : goal.change-requires-2
-change-requires-2 g c = c.requires.may.pre _ _ (c.deref_mut-2.ensures.value ∙ c.table-2.view_is ∙ c.in_ok-table.ensures ∙ sym (ap (table_of c.args.id) (absent c.self.inside c.args.self.now c.args.id _ c.self.view_is c.get_mut.ensures.value c.in_default.is))) refl
+change-requires-2 g c = c.requires.may.pre _ _ (c.deref_mut-2.ensures.value ∙ c.table-2.view_is ∙ c.in_ok-table.ensures
+    ∙ sym (ap (table_of c.args.id) (absent c.self.inside c.args.self.now c.args.id _ c.self.view_is c.get_mut.ensures.value c.in_default.is))) refl
 
 pub returns-in_err-answer : goal.returns-in_err-answer
 returns-in_err-answer g c =
     let p = err_from_is_err_and c.from_residual-in_err-answer.result c.from_residual-in_err-answer.ensures.1 in
     let none : finite.get c.args.self.now c.args.id ≡ None = absent c.self.inside c.args.self.now c.args.id _ c.self.view_is c.get_mut.ensures.value c.in_default.is in
-    let gave : TableCalls g.F.FnOnce c.args.change (table_in c.args.self.now c.args.id) c.args.stats.now c.change-2.result c.change-2.new.arg2 c.change-2.new.arg3 = record { table = _; stats = _; shows = (c.deref_mut-2.ensures.value ∙ c.table-2.view_is ∙ c.in_ok-table.ensures ∙ sym (ap (table_of c.args.id) none), refl); left = _; left_stats = _; met = c.change-2.ensures; leaves = (refl, refl) } in
-    rw (p.1, p.2) (refused g.F.FnOnce c.args.change c.args.self.now c.args.id c.args.stats.now _ c.change-2.new.arg2 c.change-2.new.arg3 _ c.requires.may (subst (λ r. TableCalls g.F.FnOnce c.args.change (table_in c.args.self.now c.args.id) c.args.stats.now r c.change-2.new.arg2 c.change-2.new.arg3) c.in_err-answer.was gave)
+    let gave : TableCalls g.F.FnOnce c.args.change (table_in c.args.self.now c.args.id) c.args.stats.now c.change-2.result c.change-2.new.arg2
+    c.change-2.new.arg3 = record {
+      table = _;
+      stats = _;
+      shows = (c.deref_mut-2.ensures.value ∙ c.table-2.view_is ∙ c.in_ok-table.ensures ∙ sym (ap (table_of c.args.id) none), refl);
+      left = _;
+      left_stats = _;
+      met = c.change-2.ensures;
+      leaves = (refl, refl);
+    } in
+    rw (p.1, p.2) (refused g.F.FnOnce c.args.change c.args.self.now c.args.id c.args.stats.now _ c.change-2.new.arg2 c.change-2.new.arg3 _
+    c.requires.may (subst (λ r. TableCalls g.F.FnOnce c.args.change (table_in c.args.self.now c.args.id) c.args.stats.now r c.change-2.new.arg2
+    c.change-2.new.arg3) c.in_err-answer.was gave)
     (shown-same c.self.inside (record c.self.inside { tables = c.reserve.new.self }) c.args.self.now c.self.view_is (λ q. c.reserve.ensures.entries.2 q ∙ ap (λ m. lookup (nat_eq q) m.entries) c.get_mut.follows.holds-at-none)))
 
 made-by : (g : given.Over) (c : goal.Joined-this g) → TableCalls g.F.FnOnce c.args.change (table_in c.args.self.now c.args.id) c.args.stats.now (Ok c.in_ok-answer.answer) c.change-2.new.arg2 c.change-2.new.arg3
@@ -75,10 +93,14 @@ with_made g c = record c.self.inside { tables = c.insert.new.self }
 
 pub invariant_of-self-2 : goal.invariant_of-self-2
 invariant_of-self-2 g c =
-    kept-with (reserved g c) (with_made g c) c.args.id (Some c.change-2.new.arg2) (kept-same c.self.inside (reserved g c) c.self.invariant (λ q. c.reserve.ensures.entries.2 q ∙ ap (λ m. lookup (nat_eq q) m.entries) c.get_mut.follows.holds-at-none))
+    kept-with (reserved g c) (with_made g c) c.args.id (Some c.change-2.new.arg2)
+    (kept-same c.self.inside (reserved g c) c.self.invariant
+    (λ q. c.reserve.ensures.entries.2 q ∙ ap (λ m. lookup (nat_eq q) m.entries) c.get_mut.follows.holds-at-none))
     (λ u e. ap (λ (o : Table). o.region_id) (sym (some_is e)) ∙ c.requires.may.region _ _ _ (made-by g c) ∙ region-in c.self.inside c.args.self.now c.args.id c.self.invariant c.self.view_is) c.in-Ok.ensures.updates.0
 
 pub returns : goal.returns
 returns g c =
     made g.F.FnOnce c.args.change c.args.self.now c.args.id c.args.stats.now c.in_ok-answer.answer c.change-2.new.arg2 c.change-2.new.arg3 _ c.requires.may (made-by g c)
-    (shown-with (reserved g c) (with_made g c) c.args.self.now c.args.id (Some c.change-2.new.arg2) (shown-same c.self.inside (reserved g c) c.args.self.now c.self.view_is (λ q. c.reserve.ensures.entries.2 q ∙ ap (λ m. lookup (nat_eq q) m.entries) c.get_mut.follows.holds-at-none)) c.in-Ok.ensures.updates.0)
+    (shown-with (reserved g c) (with_made g c) c.args.self.now c.args.id (Some c.change-2.new.arg2)
+    (shown-same c.self.inside (reserved g c) c.args.self.now c.self.view_is
+    (λ q. c.reserve.ensures.entries.2 q ∙ ap (λ m. lookup (nat_eq q) m.entries) c.get_mut.follows.holds-at-none)) c.in-Ok.ensures.updates.0)

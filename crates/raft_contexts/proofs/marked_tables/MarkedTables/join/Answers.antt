@@ -14,4 +14,5 @@ returns-in_err-join_regions-clause-fault c =
 pub returns-clause-ok : goal.returns-clause-ok
 returns-clause-ok c = λ older newer.
     let joined = c.in_ok-join_regions.ensures.ok (stand_runs c.args.queue (regions_in c.args.self.now) (regions_in c.args.newer) older newer) in
-    on_ok c.append_cleaned.result (λ _. subst (λ (t : Tables). AreJoined c.args.queue (regions_in c.args.self.now) (regions_in c.args.newer) (record { tables = t; marks = c.join_regions.new.self.marks })) (sym c.append_cleaned.ensures.tables) joined) c.append_cleaned.ensures.ok
+    on_ok c.append_cleaned.result (λ _. subst (λ (t : Tables). AreJoined c.args.queue (regions_in c.args.self.now) (regions_in c.args.newer)
+    (record { tables = t; marks = c.join_regions.new.self.marks })) (sym c.append_cleaned.ensures.tables) joined) c.append_cleaned.ensures.ok

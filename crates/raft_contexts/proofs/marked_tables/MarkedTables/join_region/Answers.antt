@@ -19,7 +19,9 @@ run_joined c = c.in_ok-add_run.ensures.ok ∙ ap (λ n. finite.insert c.args.sel
 pub returns-in-Some-clause-ok : goal.returns-in-Some-clause-ok
 returns-in-Some-clause-ok c =
     let new = regions_in (record { accessor = c.join_table.new.self; marks = c.add_run.new.self }) in
-    subst (λ (m : Mark). IsRunOver c.args.queue m (table_of c.args.id c.args.newer) (table_in c.args.self.now.accessor.tables c.args.id) → joined_region c.args.queue c.args.id (region_in (regions_in c.args.self.now) c.args.id) (record { mark = m; table = c.args.newer }) ≡ Some (region_in new c.args.id)) c.into_mark-mark.ensures
+    subst (λ (m : Mark). IsRunOver c.args.queue m (table_of c.args.id c.args.newer) (table_in c.args.self.now.accessor.tables c.args.id) →
+    joined_region c.args.queue c.args.id (region_in (regions_in c.args.self.now) c.args.id) (record { mark = m; table = c.args.newer }) ≡ Some
+    (region_in new c.args.id)) c.into_mark-mark.ensures
     (λ run. region_joined c.args.queue (regions_in c.args.self.now) new c.args.id c.into_mark-mark.result c.args.newer c.in_ok-end.end c.in_ok-end.ensures.joined.answer (run_joined c) (c.in_ok-end.ensures.joined.ok run))
 
 pub returns-in-Some-clause-others : goal.returns-in-Some-clause-others
@@ -33,7 +35,9 @@ returns-in-Some-clause-few c = λ q. live_joined q c.args.self.now.accessor.tabl
 pub returns-clause-ok : goal.returns-clause-ok
 returns-clause-ok c =
     let new = regions_in (record { accessor = c.join_table.new.self; marks = c.join.new.self }) in
-    subst (λ (m : Mark). IsRunOver c.args.queue m (table_of c.args.id c.args.newer) (table_in c.args.self.now.accessor.tables c.args.id) → joined_region c.args.queue c.args.id (region_in (regions_in c.args.self.now) c.args.id) (record { mark = m; table = c.args.newer }) ≡ Some (region_in new c.args.id)) c.into_mark-mark.ensures
+    subst (λ (m : Mark). IsRunOver c.args.queue m (table_of c.args.id c.args.newer) (table_in c.args.self.now.accessor.tables c.args.id) →
+    joined_region c.args.queue c.args.id (region_in (regions_in c.args.self.now) c.args.id) (record { mark = m; table = c.args.newer }) ≡ Some
+    (region_in new c.args.id)) c.into_mark-mark.ensures
     (λ run. region_joined c.args.queue (regions_in c.args.self.now) new c.args.id c.into_mark-mark.result c.args.newer c.in_ok-end.end c.in_ok-end.ensures.joined.answer c.in_ok-join.ensures.ok (c.in_ok-end.ensures.joined.ok run))
 
 pub returns-clause-others : goal.returns-clause-others

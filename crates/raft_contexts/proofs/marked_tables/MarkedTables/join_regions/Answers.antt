@@ -32,7 +32,8 @@ loop-slot-preserved c =
     let at = c.loop-slot.invariant in
     let is = c.in-Some.ensures.steps.0 in (
       slots_joining_step c.args.queue c.args.tables.now.tables (regions_in c.args.self.now) c.args.marks (regions_in c.make_room.new.self) c.loop-slot.tables.tables _ _ _ _ is at.1
-          (subst (λ (x : MarkedTables). AreSlotsJoining c.args.queue c.args.tables.now.tables (regions_in c.args.self.now) c.args.marks (regions_in x) c.loop-slot.tables.tables c.loop-slot.slot-iterator.rest.items) (sym c.make_room.ensures) at.0)
+          (subst (λ (x : MarkedTables). AreSlotsJoining c.args.queue c.args.tables.now.tables (regions_in c.args.self.now) c.args.marks
+          (regions_in x) c.loop-slot.tables.tables c.loop-slot.slot-iterator.rest.items) (sym c.make_room.ensures) at.0)
           (regions_in c.join_slot.new.self) c.join_slot.new.tables.tables c.in_ok-join_slot.ensures.ok c.in_ok-join_slot.ensures.others c.in_ok-join_slot.ensures.few,
       subst (λ n. AreSlots n c.next.new.self.rest.items) (omega arith) (subst (AreSlots c.loop-slot.number) is at.1).1,
       omega (arith, ap length is, at.2),
@@ -45,8 +46,11 @@ returns-in_err-join_slot-clause-fault c =
     let at = c.loop-slot.invariant in
     let p = err_from_is_err_and c.from_residual-in_err-join_slot.result c.from_residual-in_err-join_slot.ensures.1 in
     λ runs. rw (p.1, p.2) (slots_joining_fault c.args.queue c.args.tables.now.tables (regions_in c.args.self.now) c.args.marks (regions_in c.make_room.new.self) c.loop-slot.tables.tables _ _ _ _ c.in-Some.ensures.steps.0 at.1
-    (subst (λ (x : MarkedTables). AreSlotsJoining c.args.queue c.args.tables.now.tables (regions_in c.args.self.now) c.args.marks (regions_in x) c.loop-slot.tables.tables c.loop-slot.slot-iterator.rest.items) (sym c.make_room.ensures) at.0) _ c.in_err-join_slot.ensures.fault runs)
+    (subst (λ (x : MarkedTables). AreSlotsJoining c.args.queue c.args.tables.now.tables (regions_in c.args.self.now) c.args.marks
+    (regions_in x) c.loop-slot.tables.tables c.loop-slot.slot-iterator.rest.items) (sym c.make_room.ensures) at.0) _
+    c.in_err-join_slot.ensures.fault runs)
 
 pub returns-clause-ok : goal.returns-clause-ok
 returns-clause-ok c =
-    λ runs. all_slots_joined c.args.queue c.args.tables.now.tables (regions_in c.args.self.now) c.args.marks (regions_in c.loop-slot.self) c.loop-slot.tables.tables _ c.loop-slot.invariant.0 (omega (arith, c.in-None.ensures.steps.0, c.loop-slot.slot-iterator.rest.ok.0)) runs
+    λ runs. all_slots_joined c.args.queue c.args.tables.now.tables (regions_in c.args.self.now) c.args.marks (regions_in c.loop-slot.self)
+    c.loop-slot.tables.tables _ c.loop-slot.invariant.0 (omega (arith, c.in-None.ensures.steps.0, c.loop-slot.slot-iterator.rest.ok.0)) runs

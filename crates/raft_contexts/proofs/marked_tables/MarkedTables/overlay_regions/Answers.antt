@@ -30,4 +30,5 @@ returns-in_err-overlay_slot-clause-fault c =
 
 pub returns-clause-ok : goal.returns-clause-ok
 returns-clause-ok c =
-    λ runs. all_slots_overlaid c.args.appended.now.tables c.args.self.now.accessor.tables c.args.marks c.loop-slot.self.accessor.tables c.loop-slot.appended.tables _ c.loop-slot.invariant.0 (omega (arith, c.in-None.ensures.steps.0, c.loop-slot.slot-iterator.rest.ok.0)) runs
+    λ runs. all_slots_overlaid c.args.appended.now.tables c.args.self.now.accessor.tables c.args.marks c.loop-slot.self.accessor.tables
+    c.loop-slot.appended.tables _ c.loop-slot.invariant.0 (omega (arith, c.in-None.ensures.steps.0, c.loop-slot.slot-iterator.rest.ok.0)) runs

@@ -8,23 +8,33 @@ use Rattle.raft_contexts.proofs.RegionOverlayLemmas.{overlaying_none, own_taken,
 use Rattle.raft_contexts.proofs.marked_tables.MarkedTables.overlay_slot.Goals as goal
 
 pub loop-id-init : goal.loop-id-init
-loop-id-init c = (overlaying_none c.args.appended.now.tables c.args.self.now.accessor.tables _ (subst (λ es. IsDistinct nat_eq (keys_of es)) (sym c.into_iter-id-iterator.ensures.into_iter_gives) c.into_entries-id-items.ensures.once) c.requires.own, refl)
+loop-id-init c = (
+  overlaying_none c.args.appended.now.tables c.args.self.now.accessor.tables _
+      (subst (λ es. IsDistinct nat_eq (keys_of es)) (sym c.into_iter-id-iterator.ensures.into_iter_gives) c.into_entries-id-items.ensures.once)
+      c.requires.own,
+  refl,
+)
 
 pub overlay_table-requires-clause-own : goal.overlay_table-requires-clause-own
 overlay_table-requires-clause-own c =
-    own_taken c.args.appended.now.tables c.args.self.now.accessor.tables _ c.loop-id.self.accessor.tables c.loop-id.appended.tables _ _ c.in-Some.id c.in-Some.mark c.in-Some.ensures.steps c.loop-id.invariant.0 c.take-table.result c.take-table.ensures.removed
+    own_taken c.args.appended.now.tables c.args.self.now.accessor.tables _ c.loop-id.self.accessor.tables c.loop-id.appended.tables _ _ c.in-Some.id
+    c.in-Some.mark c.in-Some.ensures.steps c.loop-id.invariant.0 c.take-table.result c.take-table.ensures.removed
 
 pub loop-id-preserved : goal.loop-id-preserved
 loop-id-preserved c = (
-  overlaying_step c.args.appended.now.tables c.args.self.now.accessor.tables _ c.loop-id.self.accessor.tables c.loop-id.appended.tables _ _ c.in-Some.id c.in-Some.mark c.in-Some.ensures.steps c.loop-id.invariant.0 c.take-table.result c.take-table.ensures.removed
-      c.overlay_table.new.self.tables c.take-table.new.self.tables (rw c.into_mark-mark.ensures at c.in_ok-overlay_table.ensures.overlaid.ok) c.in_ok-overlay_table.ensures.overlaid.one c.in_ok-overlay_table.ensures.overlaid.few c.take-table.ensures.tables,
+  overlaying_step c.args.appended.now.tables c.args.self.now.accessor.tables _ c.loop-id.self.accessor.tables c.loop-id.appended.tables _ _
+      c.in-Some.id c.in-Some.mark c.in-Some.ensures.steps c.loop-id.invariant.0 c.take-table.result c.take-table.ensures.removed
+      c.overlay_table.new.self.tables c.take-table.new.self.tables (rw c.into_mark-mark.ensures at c.in_ok-overlay_table.ensures.overlaid.ok)
+      c.in_ok-overlay_table.ensures.overlaid.one c.in_ok-overlay_table.ensures.overlaid.few c.take-table.ensures.tables,
   c.take-table.ensures.cleaned ∙ c.loop-id.invariant.1,
 )
 
 pub returns-in_err-overlay_table-clause-fault : goal.returns-in_err-overlay_table-clause-fault
 returns-in_err-overlay_table-clause-fault c =
     let p = err_from_is_err_and c.from_residual.result c.from_residual.ensures.1 in
-    rw (p.1, p.2) (overlaying_refused c.args.appended.now.tables c.args.self.now.accessor.tables _ c.loop-id.self.accessor.tables c.loop-id.appended.tables _ _ c.in-Some.id c.in-Some.mark c.in-Some.ensures.steps c.loop-id.invariant.0 c.take-table.result c.take-table.ensures.removed
+    rw (p.1, p.2) (overlaying_refused c.args.appended.now.tables c.args.self.now.accessor.tables _ c.loop-id.self.accessor.tables
+    c.loop-id.appended.tables _ _ c.in-Some.id c.in-Some.mark c.in-Some.ensures.steps c.loop-id.invariant.0 c.take-table.result
+    c.take-table.ensures.removed
     c.loop-id.self.accessor.counts _ c.overlay_table.ensures.exact_counts c.in_err-overlay_table.ensures.overlaid.fault)
 
 pub returns-clause-ok : goal.returns-clause-ok
@@ -37,7 +47,9 @@ pub returns-clause-own_left : goal.returns-clause-own_left
 returns-clause-own_left c = c.loop-id.invariant.0.own_left
 
 pub returns-clause-others : goal.returns-clause-others
-returns-clause-others c = others_kept c.args.appended.now.tables c.loop-id.appended.tables c.args.marks _ _ (ap (λ es. finite.from_entries es) c.into_iter-id-iterator.ensures.into_iter_gives ∙ c.into_entries-id-items.ensures.entries) c.loop-id.invariant.0.others
+returns-clause-others c = others_kept c.args.appended.now.tables c.loop-id.appended.tables c.args.marks _ _
+    (ap (λ es. finite.from_entries es) c.into_iter-id-iterator.ensures.into_iter_gives ∙ c.into_entries-id-items.ensures.entries)
+    c.loop-id.invariant.0.others
 
 pub returns-clause-few : goal.returns-clause-few
 returns-clause-few c = c.loop-id.invariant.0.few

@@ -13,7 +13,9 @@ loop-item-preserved-in_ok-take_item c =
     let is = c.in-Some.ensures.steps in (
       rest_of_queue c.args.queue _ _ _ (split_items c.in-Some.item _ _ is.0) at.0,
       omega (arith, at.1, is.1, ap length is.0),
-      λ r d t. at.2 r d (each_more c.args.queue _ _ _ c.loop-item.self c.take_item.new.self d r (split_items c.in-Some.item _ _ is.0) at.0 (not_tried c.args.queue (steps_of_items (item_of c.in-Some.item ∷ [])) _ c.try_run.new.self _ _ _ c.if-not-branch.true c.in_ok-try_run.ensures c.in_ok-take_item.ensures) t),
+      λ r d t. at.2 r d (each_more c.args.queue _ _ _ c.loop-item.self c.take_item.new.self d r (split_items c.in-Some.item _ _ is.0) at.0
+          (not_tried c.args.queue (steps_of_items (item_of c.in-Some.item ∷ [])) _ c.try_run.new.self _ _ _ c.if-not-branch.true
+          c.in_ok-try_run.ensures c.in_ok-take_item.ensures) t),
     )
 
 pub loop-item-preserved-else-not-branch : goal.loop-item-preserved-else-not-branch
@@ -22,7 +24,8 @@ loop-item-preserved-else-not-branch c =
     let is = c.in-Some.ensures.steps in (
       rest_of_queue c.args.queue _ _ _ (split_items c.in-Some.item _ _ is.0) at.0,
       omega (arith, at.1, is.1, ap length is.0),
-      λ r d t. at.2 r d (each_more c.args.queue _ _ _ c.loop-item.self c.try_run.new.self d r (split_items c.in-Some.item _ _ is.0) at.0 (tried c.args.queue (steps_of_items (item_of c.in-Some.item ∷ [])) _ _ _ c.if-not-branch.false c.in_ok-try_run.ensures) t),
+      λ r d t. at.2 r d (each_more c.args.queue _ _ _ c.loop-item.self c.try_run.new.self d r (split_items c.in-Some.item _ _ is.0) at.0
+          (tried c.args.queue (steps_of_items (item_of c.in-Some.item ∷ [])) _ _ _ c.if-not-branch.false c.in_ok-try_run.ensures) t),
     )
 
 pub loop-item-preserved : goal.loop-item-preserved
@@ -31,7 +34,8 @@ loop-item-preserved c =
     let is = c.in-Some.ensures.steps in (
       rest_of_queue c.args.queue _ _ _ (split_items c.in-Some.item _ _ is.0) at.0,
       omega (arith, at.1, is.1, ap length is.0),
-      λ r d t. at.2 r d (each_more c.args.queue _ _ _ c.loop-item.self c.try_run.new.self d r (split_items c.in-Some.item _ _ is.0) at.0 (tried c.args.queue (steps_of_items (item_of c.in-Some.item ∷ [])) _ _ _ c.if-not-branch.false c.in_ok-try_run.ensures) t),
+      λ r d t. at.2 r d (each_more c.args.queue _ _ _ c.loop-item.self c.try_run.new.self d r (split_items c.in-Some.item _ _ is.0) at.0
+          (tried c.args.queue (steps_of_items (item_of c.in-Some.item ∷ [])) _ _ _ c.if-not-branch.false c.in_ok-try_run.ensures) t),
     )
 
 pub loop-item-preserved-else-not-branch-2 : goal.loop-item-preserved-else-not-branch-2
@@ -40,7 +44,8 @@ loop-item-preserved-else-not-branch-2 c =
     let is = c.in-Some.ensures.steps in (
       rest_of_queue c.args.queue _ _ _ (split_items c.in-Some.item _ _ is.0) at.0,
       omega (arith, at.1, is.1, ap length is.0),
-      λ r d t. at.2 r d (each_more c.args.queue _ _ _ c.loop-item.self c.try_run.new.self d r (split_items c.in-Some.item _ _ is.0) at.0 (tried c.args.queue (steps_of_items (item_of c.in-Some.item ∷ [])) _ _ _ c.if-not-branch.false c.in_ok-try_run.ensures) t),
+      λ r d t. at.2 r d (each_more c.args.queue _ _ _ c.loop-item.self c.try_run.new.self d r (split_items c.in-Some.item _ _ is.0) at.0
+          (tried c.args.queue (steps_of_items (item_of c.in-Some.item ∷ [])) _ _ _ c.if-not-branch.false c.in_ok-try_run.ensures) t),
     )
 
 pub loop-item-preserved-else-not-branch-3 : goal.loop-item-preserved-else-not-branch-3
@@ -49,7 +54,8 @@ loop-item-preserved-else-not-branch-3 c =
     let is = c.in-Some.ensures.steps in (
       rest_of_queue c.args.queue _ _ _ (split_items c.in-Some.item _ _ is.0) at.0,
       omega (arith, at.1, is.1, ap length is.0),
-      λ r d t. at.2 r d (each_more c.args.queue _ _ _ c.loop-item.self c.try_run.new.self d r (split_items c.in-Some.item _ _ is.0) at.0 (tried c.args.queue (steps_of_items (item_of c.in-Some.item ∷ [])) _ _ _ c.if-not-branch.false c.in_ok-try_run.ensures) t),
+      λ r d t. at.2 r d (each_more c.args.queue _ _ _ c.loop-item.self c.try_run.new.self d r (split_items c.in-Some.item _ _ is.0) at.0
+          (tried c.args.queue (steps_of_items (item_of c.in-Some.item ∷ [])) _ _ _ c.if-not-branch.false c.in_ok-try_run.ensures) t),
     )
 
 pub returns-in_err-take_item : goal.returns-in_err-take_item

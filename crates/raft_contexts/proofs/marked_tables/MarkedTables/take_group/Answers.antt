@@ -15,7 +15,9 @@ returns-in_err-take_steps-clause-fault c =
     let p = err_from_is_err_and c.from_residual-in_err-take_steps.result c.from_residual-in_err-take_steps.ensures.1 in
     let files = on_each c.in_ok-regions.regions.items (AtomicGroup c.args.whole.first_seq c.args.whole.last_seq) in
     let items = subst (λ (l : List RegionStep). AreStepsTaken Rewrite l (Err c.in_err-take_steps.field-0.0) c.args.self.now c.take_steps.new.self) c.into_steps.ensures c.in_err-take_steps.ensures in
-    rw (p.1, p.2) (whole_fault (whole_shown c.args.whole) c.in_ok-regions.regions.items c.args.self.now c.take_steps.new.self (Err c.in_err-take_steps.field-0.0) c.in_ok-regions.ensures (taken_refused Rewrite c.args.whole.items files c.args.self.now c.take_steps.new.self _ items))
+    rw (p.1, p.2) (whole_fault (whole_shown c.args.whole) c.in_ok-regions.regions.items c.args.self.now c.take_steps.new.self
+    (Err c.in_err-take_steps.field-0.0) c.in_ok-regions.ensures
+    (taken_refused Rewrite c.args.whole.items files c.args.self.now c.take_steps.new.self _ items))
 
 taken : (c : goal.After-drop-regions-2) → AreStepsTaken Rewrite (c.args.whole.items ++ on_each c.in_ok-regions.regions.items (AtomicGroup c.args.whole.first_seq c.args.whole.last_seq)) c.take_seqs.result c.args.self.now c.take_seqs.new.self
 taken c =

@@ -28,4 +28,5 @@ pub returns-clause-counts : goal.returns-clause-counts
 returns-clause-counts c = (taken c).counts
 
 pub returns-clause-other : goal.returns-clause-other
-returns-clause-other c = other_in c.args.file.queue (steps_of_items c.args.batch.now) c.args.self.now c.take_read_items.new.self c.take_read_items.result (items_in_queue c.args.file.queue c.args.file c.args.batch.now refl c.requires.in_file) (taken c).ok
+returns-clause-other c = other_in c.args.file.queue (steps_of_items c.args.batch.now) c.args.self.now c.take_read_items.new.self
+    c.take_read_items.result (items_in_queue c.args.file.queue c.args.file c.args.batch.now refl c.requires.in_file) (taken c).ok

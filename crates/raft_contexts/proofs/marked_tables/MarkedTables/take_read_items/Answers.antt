@@ -17,13 +17,17 @@ pub take_read_item-requires-clause-steps : goal.take_read_item-requires-clause-s
 take_read_item-requires-clause-steps c =
     let items = c.args.items.now in
     let i = c.loop-item.item-index in
-    steps_in_front c.args.queue c.args.place (get_or items i no_read_item) (drop (i + 1) items) _ c.loop-item.rest.now c.split_at.result.0.now c.split_at.result.1.now c.span_count.result (next_at items i no_read_item c.loop-item-test.true) c.span_count.ensures c.split_at.ensures.front c.split_at.ensures.back c.loop-item.invariant.0
+    steps_in_front c.args.queue c.args.place (get_or items i no_read_item) (drop (i + 1) items) _ c.loop-item.rest.now c.split_at.result.0.now
+    c.split_at.result.1.now c.span_count.result (next_at items i no_read_item c.loop-item-test.true) c.span_count.ensures c.split_at.ensures.front
+    c.split_at.ensures.back c.loop-item.invariant.0
 
 pub take_read_item-requires-clause-decoded : goal.take_read_item-requires-clause-decoded
 take_read_item-requires-clause-decoded c =
     let items = c.args.items.now in
     let i = c.loop-item.item-index in
-    decoded_in_front c.args.queue c.args.place (get_or items i no_read_item) (drop (i + 1) items) _ c.loop-item.rest.now c.split_at.result.0.now c.split_at.result.1.now c.span_count.result (next_at items i no_read_item c.loop-item-test.true) c.span_count.ensures c.split_at.ensures.front c.split_at.ensures.back c.loop-item.invariant.0
+    decoded_in_front c.args.queue c.args.place (get_or items i no_read_item) (drop (i + 1) items) _ c.loop-item.rest.now c.split_at.result.0.now
+    c.split_at.result.1.now c.span_count.result (next_at items i no_read_item c.loop-item-test.true) c.span_count.ensures c.split_at.ensures.front
+    c.split_at.ensures.back c.loop-item.invariant.0
 
 pub take_read_item-requires-clause-stands : goal.take_read_item-requires-clause-stands
 take_read_item-requires-clause-stands c = c.loop-item.invariant.1
@@ -32,7 +36,9 @@ pub loop-item-preserved : goal.loop-item-preserved
 loop-item-preserved c =
     let items = c.args.items.now in
     let i = c.loop-item.item-index in
-    midway_more c.args.queue c.args.place (get_or items i no_read_item) (drop (i + 1) items) _ c.loop-item.rest.now c.split_at.result.0.now c.split_at.result.1.now c.span_count.result (next_at items i no_read_item c.loop-item-test.true) c.span_count.ensures c.split_at.ensures.front c.split_at.ensures.back
+    midway_more c.args.queue c.args.place (get_or items i no_read_item) (drop (i + 1) items) _ c.loop-item.rest.now c.split_at.result.0.now
+    c.split_at.result.1.now c.span_count.result (next_at items i no_read_item c.loop-item-test.true) c.span_count.ensures c.split_at.ensures.front
+    c.split_at.ensures.back
     items c.args.spans.now c.args.self.now c.loop-item.self c.take_read_item.new.self c.loop-item.invariant c.in_ok-take_read_item.ensures
 
 pub returns-in_err-take_read_item : goal.returns-in_err-take_read_item
@@ -40,7 +46,9 @@ returns-in_err-take_read_item c =
     let items = c.args.items.now in
     let i = c.loop-item.item-index in
     let p = err_from_is_err_and c.from_residual.result c.from_residual.ensures.1 in
-    rw (p.1, p.2) (midway_refused c.args.queue c.args.place (get_or items i no_read_item) (drop (i + 1) items) _ c.loop-item.rest.now c.split_at.result.0.now c.split_at.result.1.now c.span_count.result (next_at items i no_read_item c.loop-item-test.true) c.span_count.ensures c.split_at.ensures.front c.split_at.ensures.back
+    rw (p.1, p.2) (midway_refused c.args.queue c.args.place (get_or items i no_read_item) (drop (i + 1) items) _ c.loop-item.rest.now
+    c.split_at.result.0.now c.split_at.result.1.now c.span_count.result (next_at items i no_read_item c.loop-item-test.true) c.span_count.ensures
+    c.split_at.ensures.front c.split_at.ensures.back
     items c.args.spans.now c.args.self.now c.loop-item.self c.take_read_item.new.self _ c.loop-item.invariant c.in_err-take_read_item.ensures)
 
 pub returns : goal.returns

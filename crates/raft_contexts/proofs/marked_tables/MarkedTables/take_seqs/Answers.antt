@@ -28,4 +28,6 @@ returns-in_err-take_step c =
     (taken_refused Rewrite (on_each (id ∷ []) step) (on_each (drop (c.loop-id.id-index + 1) c.args.regions.now) step) c.loop-id.self c.take_step.new.self _ c.in_err-take_step.ensures)))
 
 pub returns : goal.returns
-returns c = c.loop-id.invariant (Ok tt) c.loop-id.self (subst (λ l. AreStepsTaken Rewrite (on_each l (AtomicGroup c.args.first_seq c.args.last_seq)) (Ok tt) c.loop-id.self c.loop-id.self) (sym (drop_of_length-le c.args.regions.now c.loop-id-test.false)) (taken_none Rewrite c.loop-id.self))
+returns c = c.loop-id.invariant (Ok tt) c.loop-id.self
+    (subst (λ l. AreStepsTaken Rewrite (on_each l (AtomicGroup c.args.first_seq c.args.last_seq)) (Ok tt) c.loop-id.self c.loop-id.self)
+    (sym (drop_of_length-le c.args.regions.now c.loop-id-test.false)) (taken_none Rewrite c.loop-id.self))

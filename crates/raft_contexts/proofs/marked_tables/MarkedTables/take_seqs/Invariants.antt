@@ -9,4 +9,5 @@ use Rattle.raft_contexts.proofs.marked_tables.MarkedTables.take_seqs.Given as go
 
 abbrev pub invariant-loop-id : goal.invariant-loop-id
 invariant-loop-id l =
-    (r : Result Unit Error) (c : MarkedTables) → AreStepsTaken Rewrite (on_each (drop l.id-index l.regions) (AtomicGroup l.first_seq l.last_seq)) r l.self c → AreStepsTaken Rewrite (on_each l.regions (AtomicGroup l.first_seq l.last_seq)) r l.fn.self c
+    (r : Result Unit Error) (c : MarkedTables) → AreStepsTaken Rewrite (on_each (drop l.id-index l.regions) (AtomicGroup l.first_seq l.last_seq)) r
+    l.self c → AreStepsTaken Rewrite (on_each l.regions (AtomicGroup l.first_seq l.last_seq)) r l.fn.self c

@@ -19,7 +19,9 @@ pub returns-in_err-take_step : goal.returns-in_err-take_step
 returns-in_err-take_step c =
     let p = err_from_is_err_and c.from_residual.result c.from_residual.ensures.1 in
     rw (p.1, p.2) (subst (λ l. AreStepsTaken c.args.queue (map region_step_shown l) (Err c.in_err-take_step.field-0.0) c.args.self.now c.take_step.new.self) c.into_iter-step-iterator.ensures.into_iter_gives.0
-    (c.loop-step.invariant.2 (Err c.in_err-take_step.field-0.0) c.take_step.new.self (each_refused c.args.queue (region_step_shown c.in-Some.step ∷ []) _ _ c.loop-step.self c.take_step.new.self _ (ap (map region_step_shown) c.in-Some.ensures.steps.0) c.in_err-take_step.ensures)))
+    (c.loop-step.invariant.2 (Err c.in_err-take_step.field-0.0) c.take_step.new.self
+    (each_refused c.args.queue (region_step_shown c.in-Some.step ∷ []) _ _ c.loop-step.self c.take_step.new.self _
+    (ap (map region_step_shown) c.in-Some.ensures.steps.0) c.in_err-take_step.ensures)))
 
 pub returns : goal.returns
 returns c =

@@ -10,4 +10,5 @@ abbrev pub invariant-loop-step : goal.invariant-loop-step
 invariant-loop-step l =
     AreStepsOfQueue l.queue (map region_step_shown (into_iter_items l.step-iterator))
     × (into_iter_len l.step-iterator ≡ length (into_iter_items l.step-iterator))
-    × ((r : Result Unit Error) (c : MarkedTables) → AreStepsTaken l.queue (map region_step_shown (into_iter_items l.step-iterator)) r l.self c → AreStepsTaken l.queue (map region_step_shown (into_iter_items l.initial.step-iterator)) r l.fn.self c)
+    × ((r : Result Unit Error) (c : MarkedTables) → AreStepsTaken l.queue (map region_step_shown (into_iter_items l.step-iterator)) r l.self c →
+    AreStepsTaken l.queue (map region_step_shown (into_iter_items l.initial.step-iterator)) r l.fn.self c)

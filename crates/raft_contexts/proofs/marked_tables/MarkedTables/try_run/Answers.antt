@@ -14,6 +14,7 @@ returns c =
     let own = finite.get c.args.self.now.accessor.tables id in
     let changed = rw c.deref-2.ensures.value at c.in-Some-try_replay_run.ensures.changed in
     let first : first_index run ≡ Some c.in-Some.first.now.index = ap first_index (sym c.deref.ensures.value) ∙ first_of c.deref.result.now c.in-Some.first.now c.in-Some.ensures.item.3.0 c.in-Some.ensures.item.1 in
-    rw c.in-EntryIndexes.is (changed_taken c.args.queue id (Run run) c.args.self.now c.try_replay_run.new.self c.add_run.new.self (Ok tt) (after_replay c.args.queue (table_in c.args.self.now.accessor.tables id) run) (run_step c.args.queue id own run)
+    rw c.in-EntryIndexes.is (changed_taken c.args.queue id (Run run) c.args.self.now c.try_replay_run.new.self c.add_run.new.self (Ok tt)
+    (after_replay c.args.queue (table_in c.args.self.now.accessor.tables id) run) (run_step c.args.queue id own run)
     changed.ok changed.others changed.cleaned (rw c.deref-2.ensures.value at c.in-Some-try_replay_run.ensures.counts) refl
     (run_marked c.args.queue id run c.in-Some.first.now.index c.in-Some-try_replay_run.end own c.args.self.now.marks c.add_run.new.self (Ok tt) first c.in-Some-try_replay_run.ensures.end c.in_ok-add_run.ensures.ok) tt)

@@ -10,4 +10,5 @@ returns-in_err-check_file-clause-fault c =
     rw (p.1, p.2) (c.in_err-check_file.ensures.fault c.args.batch.now)
 
 pub returns-clause-next : goal.returns-clause-next
-returns-clause-next c = may_follow (context_in c.args.self.now) (event c.args.batch.now c.args.file) c.check_batch.result c.in_ok-check_file.ensures.queue (c.in_ok-check_file.ensures.files c.args.batch.now) c.check_batch.ensures.items c.check_batch.ensures.markers
+returns-clause-next c = may_follow (context_in c.args.self.now) (event c.args.batch.now c.args.file) c.check_batch.result
+    c.in_ok-check_file.ensures.queue (c.in_ok-check_file.ensures.files c.args.batch.now) c.check_batch.ensures.items c.check_batch.ensures.markers

@@ -59,5 +59,7 @@ returns-clause-regions c = join_merged c.args.queue (context_in c.args.self.now)
 
 pub returns-clause-history : goal.returns-clause-history
 returns-clause-history c = join_read c.args.queue (context_in c.args.self.now) (context_in c.args.newer) _ (regions_in c.take_wholes.new.regions) (middle_of c) c.in_ok-join.ensures.ok
-    (merged_by (context_in c.args.self.now) (context_in c.args.newer) _ c.in_ok-wholes.ensures.known (c.in_ok-join.ensures.cleaned ∙ ap (λ l. l ++ c.args.newer.regions.accessor.cleaned) c.in_ok-take_wholes.ensures.cleaned) c.joined-self.ensures)
+    (merged_by (context_in c.args.self.now) (context_in c.args.newer) _ c.in_ok-wholes.ensures.known
+    (c.in_ok-join.ensures.cleaned ∙ ap (λ l. l ++ c.args.newer.regions.accessor.cleaned) c.in_ok-take_wholes.ensures.cleaned)
+    c.joined-self.ensures)
     c.in_ok-join.ensures.other

@@ -19,5 +19,7 @@ pub returns : goal.returns
 returns c =
     record {
       ok = ok-in c.self.inside (record c.self.inside { slots = with_item c.make_slots.new.slots c.slot_of.result c.join.new.self }) c.make_slots.new.slots.items c.slot_of.result c.index_mut.result.now c.join.new.self c.self.invariant
-          record { made = c.in_ok-make_slots.ensures.ok; bound = c.slot_of.ensures.bound; lent = c.index_mut.ensures.value; set = refl } c.args.id c.slot_of.ensures.value c.args.self.now c.self.view_is c.join.result (λ m. joined_at c.args.queue c.args.end_at_reach m c.args.newer) c.join.ensures.ok;
+          record { made = c.in_ok-make_slots.ensures.ok; bound = c.slot_of.ensures.bound; lent = c.index_mut.ensures.value; set = refl } c.args.id
+          c.slot_of.ensures.value c.args.self.now c.self.view_is c.join.result (λ m. joined_at c.args.queue c.args.end_at_reach m c.args.newer)
+          c.join.ensures.ok;
     }

@@ -9,7 +9,8 @@ loop-slot-init c = (omega arith, omega arith, few_slots c.self.inside c.deref-sl
 
 pub loop-slot-preserved : goal.loop-slot-preserved
 loop-slot-preserved c = (
-  counted_more (λ (m : Mark). 1) c.deref-slot-items.result.now c.loop-slot.slot-index _ c.slot-item.result c.loop-slot.count c.len-count.result _ refl (omega (arith, c.loop-slot-test.true)) c.slot-item.is (c.len-count.ensures.value ∙ sym (total-ones c.slot-item.result)) c.loop-slot.invariant.0,
+  counted_more (λ (m : Mark). 1) c.deref-slot-items.result.now c.loop-slot.slot-index _ c.slot-item.result c.loop-slot.count c.len-count.result _ refl
+      (omega (arith, c.loop-slot-test.true)) c.slot-item.is (c.len-count.ensures.value ∙ sym (total-ones c.slot-item.result)) c.loop-slot.invariant.0,
   omega (arith, c.loop-slot.invariant.1, c.len-count.ensures.few),
   c.loop-slot.invariant.2,
 )
@@ -18,4 +19,6 @@ pub overflow_add-count : goal.overflow_add-count
 overflow_add-count c = omega (arith, c.loop-slot.invariant.1, c.loop-slot.invariant.2, c.len-count.ensures.few, c.loop-slot-test.true)
 
 pub returns : goal.returns
-returns c = counted_all (λ (m : Mark). 1) c.self.inside c.args.self.now c.deref-slot-items.result.now c.loop-slot.slot-index c.loop-slot.count c.self.invariant c.self.view_is c.deref-slot-items.ensures.value (omega (arith, c.loop-slot-test.false)) c.loop-slot.invariant.0 ∙ total-ones c.args.self.now
+returns c = counted_all (λ (m : Mark). 1) c.self.inside c.args.self.now c.deref-slot-items.result.now c.loop-slot.slot-index c.loop-slot.count
+    c.self.invariant c.self.view_is c.deref-slot-items.ensures.value (omega (arith, c.loop-slot-test.false)) c.loop-slot.invariant.0
+    ∙ total-ones c.args.self.now

@@ -5,7 +5,11 @@ use Rattle.raft_contexts.proofs.WaitingGroupLemmas.{stands-one, steps-with_marke
 use Rattle.raft_contexts.proofs.waiting_groups.WaitingGroups.take_in.Goals as goal
 
 pub returns-clause-stands : goal.returns-clause-stands
-returns-clause-stands c = λ h e. on_ok_weaker c.join_one.result (λ known. stands-one c.args.self.now c.join_one.new.self h c.args.items c.args.id c.args.status c.args.seq (group_shown c.one_marker.result) e c.one_marker.ensures known) c.join_one.ensures.known
+returns-clause-stands c = λ h e. on_ok_weaker c.join_one.result
+    (λ known. stands-one c.args.self.now c.join_one.new.self h c.args.items c.args.id c.args.status c.args.seq (group_shown c.one_marker.result) e
+    c.one_marker.ensures known) c.join_one.ensures.known
 
 pub returns-clause-steps : goal.returns-clause-steps
-returns-clause-steps c = λ h r e. IfOk-weaker c.join_one.result _ _ (λ w whole. steps-with_marker c.args.self.now h r c.args.items c.args.id c.args.status c.args.seq (group_shown c.one_marker.result) (option_map whole_shown w) e c.one_marker.ensures whole) c.join_one.ensures.whole
+returns-clause-steps c = λ h r e. IfOk-weaker c.join_one.result _ _
+    (λ w whole. steps-with_marker c.args.self.now h r c.args.items c.args.id c.args.status c.args.seq (group_shown c.one_marker.result)
+    (option_map whole_shown w) e c.one_marker.ensures whole) c.join_one.ensures.whole

@@ -13,4 +13,5 @@ invariant_of-self c =
 
 pub returns-clause-ok : goal.returns-clause-ok
 returns-clause-ok c =
-    item_view c.add_command.result c.args.self.now (stage_of c.self.inside.state) c.self.inside.item_batch c.add_command.new.self c.self.inside.buf.items (command_item c.args.region c.args.command) (λ s. refl) c.self.view_is c.add_command.ensures.ok
+    item_view c.add_command.result c.args.self.now (stage_of c.self.inside.state) c.self.inside.item_batch c.add_command.new.self
+    c.self.inside.buf.items (command_item c.args.region c.args.command) (λ s. refl) c.self.view_is c.add_command.ensures.ok

@@ -21,7 +21,9 @@ pub invariant_of-self-in-Err : goal.invariant_of-self-in-Err
 invariant_of-self-in-Err c =
     let open_stage : stage_of c.self.inside.state ≡ is_open = rw (← c.self.view_is) at c.requires.open in
     let start : c.len-start.result ≡ length c.reserve_header.new.buf.items = omega (arith, c.len-start.ensures) in
-    cut_held (stage_of c.self.inside.state) c.self.inside.item_batch c.write_strings.new.item_batch c.self.inside.buf.items c.reserve_header.new.buf.items c.write_strings.new.buf.items c.truncate.new.self.items c.len-start.result open_stage c.self.invariant c.reserve_header.ensures.same c.in-Err.ensures.err_bytes start c.truncate.ensures.items c.in-Err.ensures.err
+    cut_held (stage_of c.self.inside.state) c.self.inside.item_batch c.write_strings.new.item_batch c.self.inside.buf.items
+    c.reserve_header.new.buf.items c.write_strings.new.buf.items c.truncate.new.self.items c.len-start.result open_stage c.self.invariant
+    c.reserve_header.ensures.same c.in-Err.ensures.err_bytes start c.truncate.ensures.items c.in-Err.ensures.err
 
 pub invariant_of-self-in_default : goal.invariant_of-self-in_default
 invariant_of-self-in_default c =
@@ -29,7 +31,10 @@ invariant_of-self-in_default c =
     let es = c.args.entry_indexes.items in
     let strings = map (λ e. e.items) c.args.entries.items in
     let counts = c.requires.counts ∙ sym (length-map c.args.entries.items (λ e. e.items)) in
-    let held = added_held (stage_of c.self.inside.state) c.self.inside.item_batch c.write_strings.new.item_batch c.args.region es strings c.self.inside.buf.items c.reserve_header.new.buf.items c.write_strings.new.buf.items open_stage c.self.invariant c.in_ok-reserve_header.ensures.ok c.reserve_header.ensures.same counts (rw c.as_slice.ensures.value at c.in_default.ensures.items) (rw c.as_slice.ensures.value at c.in_default.ensures.bytes) c.in_default.ensures.accepted in
+    let held = added_held (stage_of c.self.inside.state) c.self.inside.item_batch c.write_strings.new.item_batch c.args.region es strings
+    c.self.inside.buf.items c.reserve_header.new.buf.items c.write_strings.new.buf.items open_stage c.self.invariant
+    c.in_ok-reserve_header.ensures.ok c.reserve_header.ensures.same counts (rw c.as_slice.ensures.value at c.in_default.ensures.items)
+    (rw c.as_slice.ensures.value at c.in_default.ensures.bytes) c.in_default.ensures.accepted in
     held.0
 
 pub returns-clause-ok : goal.returns-clause-ok
@@ -38,6 +43,12 @@ returns-clause-ok c =
     let es = c.args.entry_indexes.items in
     let strings = map (λ e. e.items) c.args.entries.items in
     let counts = c.requires.counts ∙ sym (length-map c.args.entries.items (λ e. e.items)) in
-    let held = added_held (stage_of c.self.inside.state) c.self.inside.item_batch c.write_strings.new.item_batch c.args.region es strings c.self.inside.buf.items c.reserve_header.new.buf.items c.write_strings.new.buf.items open_stage c.self.invariant c.in_ok-reserve_header.ensures.ok c.reserve_header.ensures.same counts (rw c.as_slice.ensures.value at c.in_default.ensures.items) (rw c.as_slice.ensures.value at c.in_default.ensures.bytes) c.in_default.ensures.accepted in
+    let held = added_held (stage_of c.self.inside.state) c.self.inside.item_batch c.write_strings.new.item_batch c.args.region es strings
+    c.self.inside.buf.items c.reserve_header.new.buf.items c.write_strings.new.buf.items open_stage c.self.invariant
+    c.in_ok-reserve_header.ensures.ok c.reserve_header.ensures.same counts (rw c.as_slice.ensures.value at c.in_default.ensures.items)
+    (rw c.as_slice.ensures.value at c.in_default.ensures.bytes) c.in_default.ensures.accepted in
     let some : c.args.entry_indexes.items ≢ [] = search rules in
-    added_view c.args.self.now (stage_of c.self.inside.state) c.self.inside.item_batch c.write_strings.new.item_batch c.args.region es strings (entry_bytes_in c.self.inside.item_batch c.self.inside.buf.items) (entry_bytes_in c.write_strings.new.item_batch c.write_strings.new.buf.items) c.self.view_is c.self.invariant.whole some (rw c.as_slice.ensures.value at c.in_default.ensures.items) held.1
+    added_view c.args.self.now (stage_of c.self.inside.state) c.self.inside.item_batch c.write_strings.new.item_batch c.args.region es strings
+    (entry_bytes_in c.self.inside.item_batch c.self.inside.buf.items)
+    (entry_bytes_in c.write_strings.new.item_batch c.write_strings.new.buf.items) c.self.view_is c.self.invariant.whole some
+    (rw c.as_slice.ensures.value at c.in_default.ensures.items) held.1

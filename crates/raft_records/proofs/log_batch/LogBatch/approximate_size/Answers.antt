@@ -18,11 +18,15 @@ some c = search rules
 
 pub returns-in-Encoded-clause-size : goal.returns-in-Encoded-clause-size
 returns-in-Encoded-clause-size c =
-    made c ∙ length_at c.args.self.now (stage_of c.self.inside.state) c.self.inside.item_batch (entry_bytes_in c.self.inside.item_batch c.self.inside.buf.items) c.self.inside.buf.items c.self.view_is (not_open c.self.inside.state c.in-Encoded.is) (some c) c.self.invariant
+    made c ∙ length_at c.args.self.now (stage_of c.self.inside.state) c.self.inside.item_batch
+    (entry_bytes_in c.self.inside.item_batch c.self.inside.buf.items) c.self.inside.buf.items c.self.view_is
+    (not_open c.self.inside.state c.in-Encoded.is) (some c) c.self.invariant
 
 pub returns-in-Encoded-clause-covers : goal.returns-in-Encoded-clause-covers
 returns-in-Encoded-clause-covers c small lt =
-    let size = encoded_length_at c.args.self.now (stage_of c.self.inside.state) c.self.inside.item_batch (entry_bytes_in c.self.inside.item_batch c.self.inside.buf.items) c.self.inside.buf.items c.self.view_is (not_open c.self.inside.state c.in-Encoded.is) (some c) c.self.invariant in
+    let size = encoded_length_at c.args.self.now (stage_of c.self.inside.state) c.self.inside.item_batch
+    (entry_bytes_in c.self.inside.item_batch c.self.inside.buf.items) c.self.inside.buf.items c.self.view_is
+    (not_open c.self.inside.state c.in-Encoded.is) (some c) c.self.invariant in
     omega (arith, made c, size)
 
 pub returns-in-Open-clause-covers : goal.returns-in-Open-clause-covers

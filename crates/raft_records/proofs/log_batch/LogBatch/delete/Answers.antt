@@ -14,4 +14,5 @@ invariant_of-self c =
 
 pub returns-clause-ok : goal.returns-clause-ok
 returns-clause-ok c =
-    item_view c.delete.result c.args.self.now (stage_of c.self.inside.state) c.self.inside.item_batch c.delete.new.self c.self.inside.buf.items (pair_item c.args.region Del c.args.key.items None) (λ s. refl) c.self.view_is c.delete.ensures.ok
+    item_view c.delete.result c.args.self.now (stage_of c.self.inside.state) c.self.inside.item_batch c.delete.new.self c.self.inside.buf.items
+    (pair_item c.args.region Del c.args.key.items None) (λ s. refl) c.self.view_is c.delete.ensures.ok

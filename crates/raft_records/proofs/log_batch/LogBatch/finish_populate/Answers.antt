@@ -23,22 +23,35 @@ invariant_of-self-in-Err c =
 lengths : (c : goal.After-len) → encoded_length c.self.inside.item_batch (drop 16 c.reserve_header.new.buf.items) ≡ encoded_length c.args.self.now.items c.args.self.now.entry_bytes
 lengths c =
     let open_stage : stage_of c.self.inside.state ≡ is_open = rw (← c.self.view_is) at c.requires in
-    let are : drop 16 c.reserve_header.new.buf.items ≡ entry_bytes_in c.self.inside.item_batch c.self.inside.buf.items = c.reserve_header.ensures.same ∙ sym (entries_are (stage_of c.self.inside.state) c.self.inside.item_batch c.self.inside.buf.items open_stage c.self.invariant) in
+    let are : drop 16 c.reserve_header.new.buf.items ≡ entry_bytes_in c.self.inside.item_batch c.self.inside.buf.items = c.reserve_header.ensures.same
+    ∙ sym (entries_are (stage_of c.self.inside.state) c.self.inside.item_batch c.self.inside.buf.items open_stage c.self.invariant) in
     ap (encoded_length c.self.inside.item_batch) are ∙ ap (λ (b : Batch). encoded_length b.items b.entry_bytes) c.self.view_is
 
 pub returns-in-Err-clause-fault : goal.returns-in-Err-clause-fault
 returns-in-Err-clause-fault c =
     let open_stage : stage_of c.self.inside.state ≡ is_open = rw (← c.self.view_is) at c.requires in
-    let are : drop 16 c.reserve_header.new.buf.items ≡ entry_bytes_in c.self.inside.item_batch c.self.inside.buf.items = c.reserve_header.ensures.same ∙ sym (entries_are (stage_of c.self.inside.state) c.self.inside.item_batch c.self.inside.buf.items open_stage c.self.invariant) in
-    let same : encoded_length c.self.inside.item_batch (drop 16 c.reserve_header.new.buf.items) ≡ encoded_length c.args.self.now.items c.args.self.now.entry_bytes = ap (encoded_length c.self.inside.item_batch) are ∙ ap (λ (b : Batch). encoded_length b.items b.entry_bytes) c.self.view_is in
+    let are : drop 16 c.reserve_header.new.buf.items ≡ entry_bytes_in c.self.inside.item_batch c.self.inside.buf.items = c.reserve_header.ensures.same
+    ∙ sym (entries_are (stage_of c.self.inside.state) c.self.inside.item_batch c.self.inside.buf.items open_stage c.self.invariant) in
+    let same : encoded_length c.self.inside.item_batch (drop 16 c.reserve_header.new.buf.items) ≡ encoded_length c.args.self.now.items
+    c.args.self.now.entry_bytes = ap (encoded_length c.self.inside.item_batch) are
+    ∙ ap (λ (b : Batch). encoded_length b.items b.entry_bytes) c.self.view_is in
     λ ne. ((c.in-Err.ensures.fault ne).0, subst (λ (n : ℕ). 2 ^ 56 ≤ n) same (c.in-Err.ensures.fault ne).1)
 
 -- the batch's bytes stand in the buffer, and its entry bytes are the same
-encoding : (c : goal.After-len) → IsHeld encoded c.self.inside.item_batch (entry_bytes_in c.self.inside.item_batch c.encode_behind.new.buf.items) c.encode_behind.new.buf.items × (entry_bytes_in c.self.inside.item_batch c.encode_behind.new.buf.items ≡ entry_bytes_in c.self.inside.item_batch c.self.inside.buf.items)
+encoding : (c : goal.After-len) → IsHeld encoded c.self.inside.item_batch (entry_bytes_in c.self.inside.item_batch c.encode_behind.new.buf.items)
+    c.encode_behind.new.buf.items ×
+    (entry_bytes_in c.self.inside.item_batch c.encode_behind.new.buf.items ≡ entry_bytes_in c.self.inside.item_batch c.self.inside.buf.items)
 encoding c =
     let open_stage : stage_of c.self.inside.state ≡ is_open = rw (← c.self.view_is) at c.requires in
     let some : c.self.inside.item_batch ≢ [] = search rules in
-    populated (stage_of c.self.inside.state) c.self.inside.item_batch c.self.inside.buf.items c.reserve_header.new.buf.items c.encode_behind.new.buf.items open_stage c.self.invariant c.reserve_header.ensures.same some c.in_default.ensures.ok (omega (arith, c.in_default.ensures.accepted, unsealed_len c.self.inside.item_batch (drop 16 c.reserve_header.new.buf.items) c.encode_behind.new.buf.items some c.in_default.ensures.ok))
+    populated (stage_of c.self.inside.state) c.self.inside.item_batch c.self.inside.buf.items c.reserve_header.new.buf.items
+    c.encode_behind.new.buf.items open_stage c.self.invariant c.reserve_header.ensures.same some c.in_default.ensures.ok
+    (omega (
+      arith,
+      c.in_default.ensures.accepted,
+      unsealed_len c.self.inside.item_batch (drop 16 c.reserve_header.new.buf.items)
+          c.encode_behind.new.buf.items some c.in_default.ensures.ok,
+    ))
 
 pub invariant_of-self-2 : goal.invariant_of-self-2
 invariant_of-self-2 c =

@@ -22,14 +22,18 @@ invariant_of-self c =
     let is_sealed : IsSealedStage (stage_of c.self.inside.state) = rw (← c.self.view_is) at c.requires.sealed in
     rw (places c) (placed_held (place c) compressions.None (stage_of c.self.inside.state) c.self.inside.item_batch c.self.inside.buf.items is_sealed c.self.invariant)
 
-viewed : (c : goal.After-place) → batch_with c.place.new.self (entry_bytes_in c.place.new.self c.self.inside.buf.items) (stage_of c.self.inside.state) ≡ batch_with (map (placed_item (place c) compressions.None) c.args.self.now.items) c.args.self.now.entry_bytes c.args.self.now.stage
+viewed : (c : goal.After-place) → batch_with c.place.new.self (entry_bytes_in c.place.new.self c.self.inside.buf.items)
+    (stage_of c.self.inside.state) ≡ batch_with (map (placed_item (place c) compressions.None) c.args.self.now.items) c.args.self.now.entry_bytes
+    c.args.self.now.stage
 viewed c =
     placed_view (place c) compressions.None c.args.self.now (stage_of c.self.inside.state) c.self.inside.item_batch c.place.new.self c.self.inside.buf.items c.self.view_is (places c)
 
 pub returns-clause-placed : goal.returns-clause-placed
 unfolding place
 returns-clause-placed c =
-    let is = place_is c.args.handle c.args.self.now (stage_of c.self.inside.state) c.self.inside.item_batch (entry_bytes_in c.self.inside.item_batch c.self.inside.buf.items) c.entries_size.result c.offset_behind.result c.self.view_is c.self.invariant.whole c.entries_size.ensures c.offset_behind.ensures in
+    let is = place_is c.args.handle c.args.self.now (stage_of c.self.inside.state) c.self.inside.item_batch
+    (entry_bytes_in c.self.inside.item_batch c.self.inside.buf.items) c.entries_size.result c.offset_behind.result c.self.view_is
+    c.self.invariant.whole c.entries_size.ensures c.offset_behind.ensures in
     viewed c ∙ ap (λ (handle : FileBlockHandle). batch_with (map (placed_item handle compressions.None) c.args.self.now.items) c.args.self.now.entry_bytes c.args.self.now.stage) is
 
 pub returns-clause-bytes : goal.returns-clause-bytes

@@ -14,4 +14,5 @@ invariant_of-self c =
 
 pub returns-clause-ok : goal.returns-clause-ok
 returns-clause-ok c =
-    item_view c.put.result c.args.self.now (stage_of c.self.inside.state) c.self.inside.item_batch c.put.new.self c.self.inside.buf.items (pair_item c.args.region Put c.args.key.items (Some c.args.value.items)) (λ s. refl) c.self.view_is c.put.ensures.ok
+    item_view c.put.result c.args.self.now (stage_of c.self.inside.state) c.self.inside.item_batch c.put.new.self c.self.inside.buf.items
+    (pair_item c.args.region Put c.args.key.items (Some c.args.value.items)) (λ s. refl) c.self.view_is c.put.ensures.ok

@@ -7,4 +7,6 @@ pub returns-then-end-gt-MOST_OPEN_BYTES-clause-fault : goal.returns-then-end-gt-
 returns-then-end-gt-MOST_OPEN_BYTES-clause-fault g c =
     let bytes = g.M.Entry.Message.bytes_of c.entry-item.result in
     let past : 16 + 2 ^ 31 ≤ length c.loop-entry.buf.items + length bytes = omega (arith, c.len-end.ensures, c.if-end-gt-MOST_OPEN_BYTES.true, ap length c.in_ok-write_to_vec.ensures.ok, length-append c.loop-entry.buf.items bytes) in
-    laid_past g.M.MessageExt.index_of g.M.Entry.Message.bytes_of c.args.entries.now c.loop-entry.entry-index c.args.buf.now.items c.loop-entry.buf.items c.loop-entry.entry_indexes.items c.entry-item.result c.loop-entry.invariant.laid c.loop-entry-test.true c.entry-item.is c.requires.room past
+    laid_past g.M.MessageExt.index_of g.M.Entry.Message.bytes_of c.args.entries.now c.loop-entry.entry-index c.args.buf.now.items
+    c.loop-entry.buf.items c.loop-entry.entry_indexes.items c.entry-item.result c.loop-entry.invariant.laid c.loop-entry-test.true c.entry-item.is
+    c.requires.room past

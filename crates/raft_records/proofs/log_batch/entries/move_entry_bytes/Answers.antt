@@ -12,6 +12,7 @@ returns-clause-joined c =
           taken_over c.args.buf.now.items c.if-len-le-LOG_BATCH_HEADER_LEN.buf.items c.args.others.now.items short items
       | else-len-le-LOG_BATCH_HEADER_LEN w ↦
           let long : 16 < length c.args.buf.now.items = omega (arith, w.if-len-le-LOG_BATCH_HEADER_LEN.false, c.len.ensures) in
-          let items : c.if-len-le-LOG_BATCH_HEADER_LEN.buf.items ≡ c.args.buf.now.items ++ drop 16 c.args.others.now.items = ap (λ v. v.items) w.buf-is ∙ w.append_entry_bytes.ensures ∙ ap (λ (t : List ℕ). c.args.buf.now.items ++ drop 16 t) w.as_slice.ensures.value in
+          let items : c.if-len-le-LOG_BATCH_HEADER_LEN.buf.items ≡ c.args.buf.now.items ++ drop 16 c.args.others.now.items = ap (λ v. v.items)
+          w.buf-is ∙ w.append_entry_bytes.ensures ∙ ap (λ (t : List ℕ). c.args.buf.now.items ++ drop 16 t) w.as_slice.ensures.value in
           appended c.args.buf.now.items c.if-len-le-LOG_BATCH_HEADER_LEN.buf.items c.args.others.now.items long items
     ]

@@ -9,4 +9,8 @@ add_entry_indexes-requires-clause-consecutive c =
 
 pub add_entry_indexes-requires-clause-room : goal.add_entry_indexes-requires-clause-room
 add_entry_indexes-requires-clause-room c =
-    found_room c.args.entry_indexes.items c.append_strings.new.entry_indexes.items (map (λ e. e.items) c.args.entries.now) c.args.buf.now.items c.append_strings.new.buf.items _ (c.requires.counts ∙ sym (length-map c.args.entries.now (λ e. e.items))) c.in_ok-append_strings.ensures.lengths c.in_ok-append_strings.ensures.bytes (c.in_ok-append_strings.ensures.accepted (some_counted c.args.entry_indexes.items c.args.entries.now c.requires.counts c.requires.some)) c.requires.whole
+    found_room c.args.entry_indexes.items c.append_strings.new.entry_indexes.items (map (λ e. e.items) c.args.entries.now) c.args.buf.now.items
+    c.append_strings.new.buf.items _ (c.requires.counts ∙ sym (length-map c.args.entries.now (λ e. e.items)))
+    c.in_ok-append_strings.ensures.lengths c.in_ok-append_strings.ensures.bytes
+    (c.in_ok-append_strings.ensures.accepted (some_counted c.args.entry_indexes.items c.args.entries.now c.requires.counts c.requires.some))
+    c.requires.whole

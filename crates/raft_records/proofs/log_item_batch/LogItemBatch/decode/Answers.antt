@@ -15,4 +15,6 @@ returns-in_err-batch-clause-fault c =
 
 pub returns-clause-ok : goal.returns-clause-ok
 returns-clause-ok c =
-    rw (one_compression c.args.compression_type) (subst (λ items. IsDecoded c.args.buf.now.now (signature_of c.args.context.now) c.args.entries compressions.None items c.in_ok-rest.rest.now) (sym c.in_ok-batch.ensures.ok) c.in_ok-rest.ensures.ok)
+    rw (one_compression c.args.compression_type)
+    (subst (λ items. IsDecoded c.args.buf.now.now (signature_of c.args.context.now) c.args.entries compressions.None items c.in_ok-rest.rest.now)
+    (sym c.in_ok-batch.ensures.ok) c.in_ok-rest.ensures.ok)

@@ -9,4 +9,5 @@ pub returns-clause-spelled : goal.returns-clause-spelled
 returns-clause-spelled c signature =
     let items = map item_of c.self.inside.items.items in
     let count : length items < 2 ^ 64 = omega (arith, length-map c.self.inside.items.items item_of, c.len-count.ensures, c.len-count.type_inv) in
-    subst (λ (xs : List Item). IsItemBatch (item_batch_bytes xs ++ checksum_bytes signature (item_batch_bytes xs)) signature (map bare xs) []) c.self.view_is (batch_spelled signature items c.self.invariant.0.fit c.self.invariant.0.in_range count)
+    subst (λ (xs : List Item). IsItemBatch (item_batch_bytes xs ++ checksum_bytes signature (item_batch_bytes xs)) signature (map bare xs) [])
+    c.self.view_is (batch_spelled signature items c.self.invariant.0.fit c.self.invariant.0.in_range count)

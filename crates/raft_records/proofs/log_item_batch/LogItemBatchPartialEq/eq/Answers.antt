@@ -7,4 +7,6 @@ returns-clause-tested c =
 
 pub returns-clause-exact : goal.returns-clause-exact
 returns-clause-exact c =
-    exactly c.args.self.now c.args.other.now c.eq.result (items_compared c.self.inside.items.items c.other.inside.items.items c.args.self.now c.args.other.now c.eq.result c.self.view_is c.other.view_is (rw (← c.as_slice.ensures.value, ← c.as_slice-2.ensures.value) c.eq.ensures))
+    exactly c.args.self.now c.args.other.now c.eq.result
+    (items_compared c.self.inside.items.items c.other.inside.items.items c.args.self.now c.args.other.now c.eq.result c.self.view_is
+    c.other.view_is (rw (← c.as_slice.ensures.value, ← c.as_slice-2.ensures.value) c.eq.ensures))

@@ -13,7 +13,8 @@ returns-in_err-count-clause-refused c =
 
 pub returns-in-Err-clause-refused : goal.returns-in-Err-clause-refused
 returns-in-Err-clause-refused c =
-    λ ne. no_items (signature_of c.args.context.now) c.in_ok-count.count c.args.bytes.now c.in_ok-content.content.now c.in_ok-count.behind.now (rw c.get_signature.ensures at c.in_ok-content.ensures.ok) c.in_ok-count.ensures.ok (c.in-Err.ensures.refused ne)
+    λ ne. no_items (signature_of c.args.context.now) c.in_ok-count.count c.args.bytes.now c.in_ok-content.content.now c.in_ok-count.behind.now
+    (rw c.get_signature.ensures at c.in_ok-content.ensures.ok) c.in_ok-count.ensures.ok (c.in-Err.ensures.refused ne)
 
 pub invariant_of-self-in-Ok : goal.invariant_of-self-in-Ok
 invariant_of-self-in-Ok c =

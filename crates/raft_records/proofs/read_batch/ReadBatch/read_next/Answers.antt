@@ -19,14 +19,20 @@ returns-in_err-items_at-clause-refused c =
 
 pub returns-then-len-rest-clause-refused : goal.returns-then-len-rest-clause-refused
 returns-then-len-rest-clause-refused c =
-    λ ne. subst (HasNoFront (λ bytes. IsReadable bytes (signature_of c.args.file.now))) c.split_at.ensures.back (cut_short c.split_at.result.1.now _ (signature_of c.args.file.now) c.in_ok-items_at.items_at c.in_ok-items_at.len c.in_ok-items_at.field-0-0-1 c.in_ok-items_at.ensures.ok c.if-len-rest.true)
+    λ ne. subst (HasNoFront (λ bytes. IsReadable bytes (signature_of c.args.file.now))) c.split_at.ensures.back
+    (cut_short c.split_at.result.1.now _ (signature_of c.args.file.now) c.in_ok-items_at.items_at c.in_ok-items_at.len
+    c.in_ok-items_at.field-0-0-1 c.in_ok-items_at.ensures.ok c.if-len-rest.true)
 
 pub returns-in_err-read_item_batch-clause-refused :
     goal.returns-in_err-read_item_batch-clause-refused
 returns-in_err-read_item_batch-clause-refused c =
     let p = err_from_is_err_and c.from_residual-in_err-read_item_batch.result c.from_residual-in_err-read_item_batch.ensures.1 in
     let item_batch = c.split_at-3.ensures.back ∙ ap (drop c.in_ok-items_at.items_at) c.split_at-2.ensures.front in
-    rw (p.1, p.2) (λ ne. subst (HasNoFront (λ bytes. IsReadable bytes (signature_of c.args.file.now))) c.split_at.ensures.back (no_item_batch c.split_at.result.1.now _ (signature_of c.args.file.now) c.in_ok-items_at.items_at c.in_ok-items_at.len c.in_ok-items_at.field-0-0-1 c.in_ok-items_at.ensures.ok (λ items more b. c.in_err-read_item_batch.ensures.refused ne items more (subst (λ (xs : List ℕ). IsItemBatch xs (signature_of c.args.file.now) items more) (sym item_batch) b))))
+    rw (p.1, p.2) (λ ne. subst (HasNoFront (λ bytes. IsReadable bytes (signature_of c.args.file.now))) c.split_at.ensures.back
+    (no_item_batch c.split_at.result.1.now _ (signature_of c.args.file.now) c.in_ok-items_at.items_at c.in_ok-items_at.len
+    c.in_ok-items_at.field-0-0-1 c.in_ok-items_at.ensures.ok
+    (λ items more b. c.in_err-read_item_batch.ensures.refused ne items more
+    (subst (λ (xs : List ℕ). IsItemBatch xs (signature_of c.args.file.now) items more) (sym item_batch) b))))
 
 pub returns-in_err-read_item_batch-clause-fault : goal.returns-in_err-read_item_batch-clause-fault
 returns-in_err-read_item_batch-clause-fault c =
@@ -48,7 +54,8 @@ returns-clause-ok c =
     let read = c.in_ok-read_item_batch.ensures.ok in
     let free = c.in_ok-read_item_batch.field-0.now in
     let items = subst (λ (xs : List ℕ). IsItemBatch xs (signature_of c.args.file.now) read.read free) item_batch read.item_batch in
-    let frame = batch_stands c.split_at.result.1.now c.in_ok-items_at.field-0-1.now (signature_of c.args.file.now) c.in_ok-items_at.items_at c.in_ok-items_at.len c.in_ok-items_at.field-0-0-1 read.read free c.in_ok-items_at.ensures.ok c.if-len-rest.false items in
+    let frame = batch_stands c.split_at.result.1.now c.in_ok-items_at.field-0-1.now (signature_of c.args.file.now) c.in_ok-items_at.items_at
+    c.in_ok-items_at.len c.in_ok-items_at.field-0-0-1 read.read free c.in_ok-items_at.ensures.ok c.if-len-rest.false items in
     laid_at (record {
       bytes = take c.in_ok-items_at.len c.split_at.result.1.now;
       read = read.read;

@@ -22,9 +22,13 @@ pub returns-in-Some-value-clause-ok : goal.returns-in-Some-value-clause-ok
 returns-in-Some-value-clause-ok c =
     let key = c.in_ok-key-in-3.key in
     let value = c.in-Some-value.value in
-    pair_read c.args.start c.args.bytes.now c.in-Some.behind.now c.in_ok-key-in-3.rest.now (Put key value) (change_of key.now (Some value.now) None) c.args.spans.now.items (rw c.in-3.is at c.in-Some.ensures.cases.0) (rw c.in-Some-value.is at c.in_ok-key-in-3.ensures.ok) (record { taken = refl; shown = λ place. refl })
+    pair_read c.args.start c.args.bytes.now c.in-Some.behind.now c.in_ok-key-in-3.rest.now (Put key value) (change_of key.now (Some value.now) None)
+    c.args.spans.now.items (rw c.in-3.is at c.in-Some.ensures.cases.0) (rw c.in-Some-value.is at c.in_ok-key-in-3.ensures.ok)
+    (record { taken = refl; shown = λ place. refl })
 
 pub returns-in-None-clause-ok : goal.returns-in-None-clause-ok
 returns-in-None-clause-ok c =
     let key = c.in_ok-key-in-3.key in
-    pair_read c.args.start c.args.bytes.now c.in-Some.behind.now c.in_ok-key-in-3.rest.now (Delete key) (change_of key.now None None) c.args.spans.now.items (rw c.in-3.is at c.in-Some.ensures.cases.0) (rw c.in-None.is at c.in_ok-key-in-3.ensures.ok) (record { taken = refl; shown = λ place. refl })
+    pair_read c.args.start c.args.bytes.now c.in-Some.behind.now c.in_ok-key-in-3.rest.now (Delete key) (change_of key.now None None)
+    c.args.spans.now.items (rw c.in-3.is at c.in-Some.ensures.cases.0) (rw c.in-None.is at c.in_ok-key-in-3.ensures.ok)
+    (record { taken = refl; shown = λ place. refl })

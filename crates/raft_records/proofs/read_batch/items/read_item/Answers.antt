@@ -21,4 +21,6 @@ returns-in_err-push-clause-fault c =
 
 pub returns-clause-ok : goal.returns-clause-ok
 returns-clause-ok c =
-    held_item c.args.start c.in_ok-region.region c.args.bytes.now c.in_ok-region.behind.now c.in_ok-content.rest.now c.in_ok-content.content c.in_ok-content.end c.args.items.now.items c.push.new.self.items c.args.spans.now.items c.read_content.new.spans.items c.in_ok-region.ensures.ok c.in_ok-content.ensures.ok c.in_ok-push.ensures.items
+    held_item c.args.start c.in_ok-region.region c.args.bytes.now c.in_ok-region.behind.now c.in_ok-content.rest.now c.in_ok-content.content
+    c.in_ok-content.end c.args.items.now.items c.push.new.self.items c.args.spans.now.items c.read_content.new.spans.items
+    c.in_ok-region.ensures.ok c.in_ok-content.ensures.ok c.in_ok-push.ensures.items

@@ -25,5 +25,7 @@ loop-preserved c =
     let so = c.loop.invariant in
     elim c.match-read_short_item.branch [
       | in-Some w ↦ rw (w.items-is, w.spans-is, w.end-is) (one_more_held c.args.bytes.now c.loop.rest.now _ c.loop.items.items _ c.loop.spans.items _ c.loop.offset _ c.loop.counter so w.in-Some.ensures.some)
-      | in-None+in_ok-end-in-None w ↦ rw (w.items-is, w.spans-is, w.end-is) (one_more_held c.args.bytes.now c.loop.rest.now _ c.loop.items.items _ c.loop.spans.items _ c.loop.offset _ c.loop.counter so (rw (← w.in-None.ensures.items, ← w.in-None.ensures.spans) w.in_ok-end-in-None.ensures.ok))
+      | in-None+in_ok-end-in-None w ↦ rw (w.items-is, w.spans-is, w.end-is)
+          (one_more_held c.args.bytes.now c.loop.rest.now _ c.loop.items.items _ c.loop.spans.items _ c.loop.offset _ c.loop.counter so
+          (rw (← w.in-None.ensures.items, ← w.in-None.ensures.spans) w.in_ok-end-in-None.ensures.ok))
     ]

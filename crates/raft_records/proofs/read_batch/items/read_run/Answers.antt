@@ -15,18 +15,24 @@ returns-then-count-eq0-clause-ok c = no_entries_read c.args.start c.in_ok-count.
 pub returns-in_err-first-clause-refused : goal.returns-in_err-first-clause-refused
 returns-in_err-first-clause-refused c =
     let p = err_from_is_err_and c.from_residual-in_err-first.result c.from_residual-in_err-first.ensures.1 in
-    rw (p.1) (λ ne. no_run c.args.start c.in_ok-count.count c.args.bytes.now c.in_ok-count.behind.now c.in_ok-count.ensures.ok (no_first_index c.args.start c.in_ok-count.count c.in_ok-count.behind.now (omega arith) c.in_err-first.ensures.refused))
+    rw (p.1) (λ ne. no_run c.args.start c.in_ok-count.count c.args.bytes.now c.in_ok-count.behind.now c.in_ok-count.ensures.ok
+    (no_first_index c.args.start c.in_ok-count.count c.in_ok-count.behind.now (omega arith) c.in_err-first.ensures.refused))
 
 pub returns-in_err-end-clause-refused : goal.returns-in_err-end-clause-refused
 returns-in_err-end-clause-refused c =
     let p = err_from_is_err_and c.from_residual-in_err-end.result c.from_residual-in_err-end.ensures.1 in
-    rw (p.1, p.2) (λ ne. no_run c.args.start c.in_ok-count.count c.args.bytes.now c.in_ok-count.behind.now c.in_ok-count.ensures.ok (no_tails c.args.start c.in_ok-count.count c.in_ok-first.first c.in_ok-count.behind.now c.in_ok-first.tails.now (omega arith) c.in_ok-first.ensures.ok (c.in_err-end.ensures.refused ne)))
+    rw (p.1, p.2) (λ ne. no_run c.args.start c.in_ok-count.count c.args.bytes.now c.in_ok-count.behind.now c.in_ok-count.ensures.ok
+    (no_tails c.args.start c.in_ok-count.count c.in_ok-first.first c.in_ok-count.behind.now c.in_ok-first.tails.now
+    (omega arith) c.in_ok-first.ensures.ok (c.in_err-end.ensures.refused ne)))
 
 pub returns-in_err-end-clause-fault : goal.returns-in_err-end-clause-fault
 returns-in_err-end-clause-fault c =
     let p = err_from_is_err_and c.from_residual-in_err-end.result c.from_residual-in_err-end.ensures.1 in
-    rw (p.1, p.2) (entries_fault c.args.start c.in_ok-count.count c.in_ok-first.first c.args.bytes.now c.in_ok-count.behind.now c.in_ok-first.tails.now _ (omega arith) c.in_ok-count.ensures.ok c.in_ok-first.ensures.ok c.in_err-end.ensures.fault)
+    rw (p.1, p.2) (entries_fault c.args.start c.in_ok-count.count c.in_ok-first.first c.args.bytes.now c.in_ok-count.behind.now
+    c.in_ok-first.tails.now _ (omega arith) c.in_ok-count.ensures.ok c.in_ok-first.ensures.ok c.in_err-end.ensures.fault)
 
 pub returns-clause-ok : goal.returns-clause-ok
 returns-clause-ok c =
-    run_read_of c.args.start c.in_ok-count.count c.in_ok-first.first c.args.bytes.now c.in_ok-count.behind.now c.in_ok-first.tails.now c.in_ok-end.rest.now c.in_ok-end.end c.args.spans.now.items c.read_spans.new.spans.items (omega arith) c.in_ok-count.ensures.ok c.in_ok-first.ensures.ok c.in_ok-end.ensures.ok
+    run_read_of c.args.start c.in_ok-count.count c.in_ok-first.first c.args.bytes.now c.in_ok-count.behind.now c.in_ok-first.tails.now
+    c.in_ok-end.rest.now c.in_ok-end.end c.args.spans.now.items c.read_spans.new.spans.items (omega arith) c.in_ok-count.ensures.ok
+    c.in_ok-first.ensures.ok c.in_ok-end.ensures.ok

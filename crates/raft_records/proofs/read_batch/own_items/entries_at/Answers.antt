@@ -12,12 +12,17 @@ loop-entry_offset-init c = (
 )
 
 pub overflow_add-index : goal.overflow_add-index
-overflow_add-index c = omega (arith, next_bounded c.args.first c.loop-entry_offset.index c.loop-entry_offset.entry_offset-index c.args.place c.args.spans.now c.loop-entry_offset.run.items c.loop-entry_offset-test.true c.loop-entry_offset.invariant.0)
+overflow_add-index c = omega (
+  arith,
+  next_bounded c.args.first c.loop-entry_offset.index c.loop-entry_offset.entry_offset-index c.args.place
+      c.args.spans.now c.loop-entry_offset.run.items c.loop-entry_offset-test.true c.loop-entry_offset.invariant.0,
+)
 
 pub loop-entry_offset-preserved : goal.loop-entry_offset-preserved
 loop-entry_offset-preserved c =
     let so = c.loop-entry_offset.invariant in (
-      one_more c.args.first c.loop-entry_offset.index c.loop-entry_offset.entry_offset-index c.args.place c.args.spans.now c.loop-entry_offset.run.items c.push_reserved.new.self.items c.loop-entry_offset-test.true so.0 c.push_reserved.ensures.items,
+      one_more c.args.first c.loop-entry_offset.index c.loop-entry_offset.entry_offset-index c.args.place c.args.spans.now
+          c.loop-entry_offset.run.items c.push_reserved.new.self.items c.loop-entry_offset-test.true so.0 c.push_reserved.ensures.items,
       omega (arith, c.push_reserved.ensures.len, so.1),
       omega (arith, c.push_reserved.ensures.capacity, so.2),
     )

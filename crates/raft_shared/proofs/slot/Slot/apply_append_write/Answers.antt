@@ -20,7 +20,8 @@ own c = c.requires ∙ sym (ap (λ (s : Slot). s.number) c.self.view_is)
 pub invariant_of-self : goal.invariant_of-self
 invariant_of-self c =
     kept-with c.self.inside (after c) c.args.item.raft_group_id c.self.invariant (own c) refl c.append_item.ensures.one c.append_item.ensures.recounted
-    (all-after (λ id. slot_of id ≡ c.self.inside.number) Appending (item_of c.args.item) c.append_item.result c.self.inside.cleaned.items c.append_item.new.cleaned.items (own c) c.self.invariant.cleaned c.append_item.ensures.cleaned c.append_item.ensures.cleaned_err)
+    (all-after (λ id. slot_of id ≡ c.self.inside.number) Appending (item_of c.args.item) c.append_item.result c.self.inside.cleaned.items
+    c.append_item.new.cleaned.items (own c) c.self.invariant.cleaned c.append_item.ensures.cleaned c.append_item.ensures.cleaned_err)
 
 pub returns-clause-written : goal.returns-clause-written
 returns-clause-written c = rw (← c.self.view_is) (slot-written Appending c.self.inside (after c) (item_of c.args.item) c.append_item.result c.self.invariant c.append_item.ensures)

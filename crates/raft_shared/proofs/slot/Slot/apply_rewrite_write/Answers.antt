@@ -19,4 +19,6 @@ invariant_of-self c =
     kept-with c.self.inside (after c) c.args.item.raft_group_id c.self.invariant (c.requires ∙ sym (ap (λ (s : Slot). s.number) c.self.view_is)) refl e.one e.recounted c.self.invariant.cleaned
 
 pub returns-clause-written : goal.returns-clause-written
-returns-clause-written c = rw (← c.self.view_is) (slot-written (Rewriting c.args.watermark c.args.new_file) c.self.inside (after c) (item_of c.args.item) c.rewrite_item.result c.self.invariant (c.rewrite_item.ensures c.self.inside.cleaned.items))
+returns-clause-written c = rw (← c.self.view_is)
+    (slot-written (Rewriting c.args.watermark c.args.new_file) c.self.inside (after c) (item_of c.args.item) c.rewrite_item.result c.self.invariant
+    (c.rewrite_item.ensures c.self.inside.cleaned.items))

@@ -17,4 +17,7 @@ pub invariant_of-self : goal.invariant_of-self
 invariant_of-self c = kept-with c.self.inside (after c) c.args.id c.self.invariant (c.requires ∙ sym (ap (λ (s : Slot). s.number) c.self.view_is)) refl c.change.ensures.outcome.one c.change.ensures.outcome.recounted c.self.invariant.cleaned
 
 pub returns-clause-changed : goal.returns-clause-changed
-returns-clause-changed c = rw (← c.self.view_is) (slot-changed (after_change (table_in c.self.inside.tables c.args.id) c.args.change) (IsChangeFault (table_in c.self.inside.tables c.args.id) c.self.inside.stats c.args.change) c.self.inside (after c) c.args.id c.change.result c.change.ensures.outcome refl)
+returns-clause-changed c = rw (← c.self.view_is)
+    (slot-changed (after_change (table_in c.self.inside.tables c.args.id) c.args.change)
+    (IsChangeFault (table_in c.self.inside.tables c.args.id) c.self.inside.stats c.args.change) c.self.inside (after c) c.args.id c.change.result
+    c.change.ensures.outcome refl)

@@ -23,7 +23,8 @@ invariant_of-self c = kept-with c.self.inside (after c) c.args.id c.self.invaria
 
 pub returns-clause-own : goal.returns-clause-own
 returns-clause-own c =
-    rw (← c.self.view_is) (elim c.insert.result as (λ r. IfOk r (λ o. o ≡ finite.get c.self.inside.tables c.args.id) → IfOk r (λ o. IfSome o (λ t. t.region_id ≡ c.args.id)) → IfOk r (λ o. IfSome o (IsSlotTable c.self.inside.number c.args.id))) [
+    rw (← c.self.view_is) (elim c.insert.result as (λ r. IfOk r (λ o. o ≡ finite.get c.self.inside.tables c.args.id) →
+    IfOk r (λ o. IfSome o (λ t. t.region_id ≡ c.args.id)) → IfOk r (λ o. IfSome o (IsSlotTable c.self.inside.number c.args.id))) [
       | Ok None ↦ λ e o. tt
       | Ok (Some t) ↦ λ e o. record { own = o; slot = c.self.invariant.regions c.args.id t (sym e) }
       | Err x ↦ λ e o. tt
@@ -31,7 +32,11 @@ returns-clause-own c =
 
 pub returns-clause-fault : goal.returns-clause-fault
 returns-clause-fault c =
-    rw (← c.self.view_is) (elim c.insert.result as (λ r. IfErr r (λ e. (e ≡ errors.Memory) ⊎ ((e ≡ errors.Full) × ((q : LogQueue) × (2 ^ 64 ≤ live q c.self.inside.stats + live_of q c.args.table)))) → IfErr r (λ e. (e ≡ errors.Memory) ⊎ ((e ≡ errors.Full) × ((q : LogQueue) × (2 ^ 64 ≤ live_in_all q c.self.inside.tables + live_of q c.args.table))))) [
+    rw (← c.self.view_is) (elim c.insert.result
+    as (λ r. IfErr r (λ e. (e ≡ errors.Memory) ⊎
+    ((e ≡ errors.Full) × ((q : LogQueue) × (2 ^ 64 ≤ live q c.self.inside.stats + live_of q c.args.table)))) →
+    IfErr r (λ e. (e ≡ errors.Memory) ⊎
+    ((e ≡ errors.Full) × ((q : LogQueue) × (2 ^ 64 ≤ live_in_all q c.self.inside.tables + live_of q c.args.table))))) [
       | Ok n ↦ λ f. tt
       | Err x ↦ λ f. elim f [
         | inl m ↦ inl m

@@ -9,7 +9,8 @@ pub remove-requires : goal.remove-requires
 remove-requires c = table-counted c.self.inside.tables c.self.inside.stats c.args.id c.self.invariant.counted
 
 pub invariant_of-self : goal.invariant_of-self
-invariant_of-self c = kept-taken c.self.inside (record c.self.inside { tables = c.remove.new.self; stats = c.remove.new.stats }) c.args.id c.self.invariant (c.requires ∙ sym (ap (λ (s : Slot). s.number) c.self.view_is)) refl c.remove.ensures.after c.remove.ensures.recounted refl
+invariant_of-self c = kept-taken c.self.inside (record c.self.inside { tables = c.remove.new.self; stats = c.remove.new.stats }) c.args.id
+    c.self.invariant (c.requires ∙ sym (ap (λ (s : Slot). s.number) c.self.view_is)) refl c.remove.ensures.after c.remove.ensures.recounted refl
 
 pub returns-clause-own : goal.returns-clause-own
 returns-clause-own c =

@@ -7,19 +7,22 @@ use Rattle.raft_size.proofs.size_number.SizeNumber.parse.Goals.{else-is_empty-vi
 pub returns-then-is_empty-2-clause-none : goal.returns-then-is_empty-2-clause-none
 returns-then-is_empty-2-clause-none c =
     let taken = taken_by c.args.text.now c.split_sign-is_negative.result.0 c.split_sign-is_negative.result.1.now c.split_digits.result.0.now c.split_digits.result.1.now c.split_fraction.result.0.now c.split_fraction.result.1.now
-    c.split_sign-is_negative.ensures.minus c.split_sign-is_negative.ensures.rest c.split_digits.ensures.split c.split_digits.ensures.digits c.split_digits.ensures.stops c.split_fraction.ensures.split c.split_fraction.ensures.digits c.split_fraction.ensures.stops in
+    c.split_sign-is_negative.ensures.minus c.split_sign-is_negative.ensures.rest c.split_digits.ensures.split c.split_digits.ensures.digits
+    c.split_digits.ensures.stops c.split_fraction.ensures.split c.split_fraction.ensures.digits c.split_fraction.ensures.stops in
     no_digit _ _ _ _ _ taken (eqb-true _ 0 (sym c.is_empty.ensures ∙ c.if-is_empty.true)) (eqb-true _ 0 (sym c.is_empty-then-is_empty.ensures ∙ c.if-is_empty-2.true))
 
 pub returns-in_err-is_exponent_negative-clause-none : goal.returns-in_err-is_exponent_negative-clause-none
 returns-in_err-is_exponent_negative-clause-none c =
     let taken = taken_by c.args.text.now c.split_sign-is_negative.result.0 c.split_sign-is_negative.result.1.now c.split_digits.result.0.now c.split_digits.result.1.now c.split_fraction.result.0.now c.split_fraction.result.1.now
-    c.split_sign-is_negative.ensures.minus c.split_sign-is_negative.ensures.rest c.split_digits.ensures.split c.split_digits.ensures.digits c.split_digits.ensures.stops c.split_fraction.ensures.split c.split_fraction.ensures.digits c.split_fraction.ensures.stops in
+    c.split_sign-is_negative.ensures.minus c.split_sign-is_negative.ensures.rest c.split_digits.ensures.split c.split_digits.ensures.digits
+    c.split_digits.ensures.stops c.split_fraction.ensures.split c.split_fraction.ensures.digits c.split_fraction.ensures.stops in
     IfNone-from c.from_residual.result (no_exponent _ _ _ _ _ taken c.in_err-is_exponent_negative.ensures.none)
 
 pub returns-clause-number : goal.returns-clause-number
 returns-clause-number c =
     let taken = taken_by c.args.text.now c.split_sign-is_negative.result.0 c.split_sign-is_negative.result.1.now c.split_digits.result.0.now c.split_digits.result.1.now c.split_fraction.result.0.now c.split_fraction.result.1.now
-    c.split_sign-is_negative.ensures.minus c.split_sign-is_negative.ensures.rest c.split_digits.ensures.split c.split_digits.ensures.digits c.split_digits.ensures.stops c.split_fraction.ensures.split c.split_fraction.ensures.digits c.split_fraction.ensures.stops in
+    c.split_sign-is_negative.ensures.minus c.split_sign-is_negative.ensures.rest c.split_digits.ensures.split c.split_digits.ensures.digits
+    c.split_digits.ensures.stops c.split_fraction.ensures.split c.split_fraction.ensures.digits c.split_fraction.ensures.stops in
     let whole = c.split_digits.result.0.now in
     let fraction = c.split_fraction.result.0.now in
     let some : 0 < length whole + length fraction = elim c.else-is_empty.branch [

@@ -16,7 +16,9 @@ was : (c : goal.After-self-in-Some-1) → finite.get c.args.self.now c.args.id �
 was c = there c.self.inside c.args.self.now c.args.id _ _ c.self.view_is c.get_mut.ensures.value c.in-Some.is
 
 shown : (c : goal.After-self-in-Some-1) → slot_shown (record c.self.inside { marks = c.get_mut.follows.lender c.add_run.new.self }) ≡ finite.insert c.args.self.now c.args.id c.add_run.new.self
-shown c = shown-with c.self.inside (record c.self.inside { marks = c.get_mut.follows.lender c.add_run.new.self }) c.args.self.now c.args.id c.add_run.new.self c.self.view_is ((c.get_mut.follows.holds c.add_run.new.self).3 (ap is_some (sym c.get_mut.ensures.value ∙ ap option_copied_mut c.in-Some.is))).0
+shown c = shown-with c.self.inside (record c.self.inside { marks = c.get_mut.follows.lender c.add_run.new.self }) c.args.self.now c.args.id
+    c.add_run.new.self c.self.view_is
+    ((c.get_mut.follows.holds c.add_run.new.self).3 (ap is_some (sym c.get_mut.ensures.value ∙ ap option_copied_mut c.in-Some.is))).0
 
 pub returns-in-Some-clause-ok : goal.returns-in-Some-clause-ok
 returns-in-Some-clause-ok c =
@@ -32,7 +34,9 @@ returns-clause-ok c =
     let before : Inside = record c.self.inside { marks = c.get_mut.follows.lender-at-none } in
     let same : slot_shown before ≡ c.args.self.now = shown-same c.self.inside before c.args.self.now c.self.view_is (λ q. ap (λ m. lookup (nat_eq q) m.entries) c.get_mut.follows.holds-at-none) in
     let none : finite.get c.args.self.now c.args.id ≡ None = absent c.self.inside c.args.self.now c.args.id _ c.self.view_is c.get_mut.ensures.value c.in_default.is in
-    let joined : c.of_run.result ≡ joined_at c.args.queue c.args.end (mark_in c.args.self.now c.args.id) run = c.of_run.ensures ∙ sym (first_run c.args.queue c.args.end c.args.start) ∙ ap (λ m. joined_at c.args.queue c.args.end m run) (sym (mark_of_none c.args.self.now c.args.id none)) in
+    let joined : c.of_run.result ≡ joined_at c.args.queue c.args.end (mark_in c.args.self.now c.args.id) run = c.of_run.ensures
+    ∙ sym (first_run c.args.queue c.args.end c.args.start)
+    ∙ ap (λ m. joined_at c.args.queue c.args.end m run) (sym (mark_of_none c.args.self.now c.args.id none)) in
     subst (λ m. OnOk c.put-2.result (c.put-2.new.self ≡ finite.insert c.args.self.now c.args.id m)) joined (subst (λ m. OnOk c.put-2.result (c.put-2.new.self ≡ finite.insert m c.args.id c.of_run.result)) same c.put-2.ensures.ok)
 
 pub returns-clause-err : goal.returns-clause-err

@@ -18,17 +18,23 @@ update-requires g c = subst (MayChangeMark g.F.FnOnce c.args.change) (mark_of_so
 pub returns-in-Some : goal.returns-in-Some
 returns-in-Some g c =
     updated g.F.FnOnce c.args.change c.args.self.now c.args.id c.in-Some.mark.now c.update.result c.update.new.self _ (there c.self.inside c.args.self.now c.args.id _ _ c.self.view_is c.get_mut.ensures.value c.in-Some.is) c.update.ensures
-    (shown-with c.self.inside (record c.self.inside { marks = c.get_mut.follows.lender c.update.new.self }) c.args.self.now c.args.id c.update.new.self c.self.view_is ((c.get_mut.follows.holds c.update.new.self).3 (ap is_some (sym c.get_mut.ensures.value ∙ ap option_copied_mut c.in-Some.is))).0)
+    (shown-with c.self.inside (record c.self.inside { marks = c.get_mut.follows.lender c.update.new.self }) c.args.self.now c.args.id
+    c.update.new.self c.self.view_is
+    ((c.get_mut.follows.holds c.update.new.self).3 (ap is_some (sym c.get_mut.ensures.value ∙ ap option_copied_mut c.in-Some.is))).0)
 
 -- ---- the mark is made
 
 pub changed-requires : goal.changed-requires
-changed-requires g c = subst (MayChangeMark g.F.FnOnce c.args.change) (mark_of_none c.args.self.now c.args.id (absent c.self.inside c.args.self.now c.args.id _ c.self.view_is c.get_mut.ensures.value c.in_default.is) ∙ sym c.new.ensures) c.requires
+changed-requires g c = subst (MayChangeMark g.F.FnOnce c.args.change)
+    (mark_of_none c.args.self.now c.args.id (absent c.self.inside c.args.self.now c.args.id _ c.self.view_is c.get_mut.ensures.value c.in_default.is)
+    ∙ sym c.new.ensures) c.requires
 
 pub returns-in_err-mark : goal.returns-in_err-mark
 returns-in_err-mark g c =
     let p = err_from_is_err_and c.from_residual.result c.from_residual.ensures.1 in
-    rw (p.1, p.2) (refused g.F.FnOnce c.args.change c.args.self.now c.args.id _ _ (shown-same c.self.inside (record c.self.inside { marks = c.get_mut.follows.lender-at-none }) c.args.self.now c.self.view_is (λ q. ap (λ m. lookup (nat_eq q) m.entries) c.get_mut.follows.holds-at-none)))
+    rw (p.1, p.2) (refused g.F.FnOnce c.args.change c.args.self.now c.args.id _ _
+    (shown-same c.self.inside (record c.self.inside { marks = c.get_mut.follows.lender-at-none }) c.args.self.now c.self.view_is
+    (λ q. ap (λ m. lookup (nat_eq q) m.entries) c.get_mut.follows.holds-at-none)))
 
 pub returns : goal.returns
 returns g c =

@@ -18,7 +18,9 @@ put_behind-requires-clause-table_entries c =
     let run = c.args.rhs.now in
     let l : 0 < length run = not_nil run c.in-Some.ensures.0 in
     let s : start_of run ≡ c.in-Some.first = sym c.in-Some.ensures.1 in
-    sound_under c.args.rule c.args.queue c.args.self.now run c.in-Some-kept_under.keep c.kept_under.ensures.table_entries (may_join c.args.queue c.args.self.now c.requires.rewritten) (run_alone c.args.queue c.args.rhs.now c.holds_one_run.ensures c.requires.alone) l (rw s c.in-Some-kept_under.ensures.kept)
+    sound_under c.args.rule c.args.queue c.args.self.now run c.in-Some-kept_under.keep c.kept_under.ensures.table_entries
+    (may_join c.args.queue c.args.self.now c.requires.rewritten) (run_alone c.args.queue c.args.rhs.now c.holds_one_run.ensures c.requires.alone)
+    l (rw s c.in-Some-kept_under.ensures.kept)
 
 pub put_behind-requires-clause-queue : goal.put_behind-requires-clause-queue
 put_behind-requires-clause-queue c = (run_alone c.args.queue c.args.rhs.now c.holds_one_run.ensures c.requires.alone).placed

@@ -16,7 +16,9 @@ unfolding from
 returns-then-self-eq0-clause-entries c = rw (← c.self.view_is, (kept_facts c.self.invariant.0).empty (omega arith)) refl
 
 pub returns-then-index-self-clause-entries : goal.returns-then-index-self-clause-entries
-returns-then-index-self-clause-entries c = rw (← c.self.view_is) (sym (from_start c.args.index c.self.inside.first (entries_in_blocks c.self.inside.first (blocks_shown c.self.inside.blocks.items)) (rises_expanded c.self.inside.first (blocks_shown c.self.inside.blocks.items)) (omega arith)))
+returns-then-index-self-clause-entries c = rw (← c.self.view_is)
+    (sym (from_start c.args.index c.self.inside.first (entries_in_blocks c.self.inside.first (blocks_shown c.self.inside.blocks.items))
+    (rises_expanded c.self.inside.first (blocks_shown c.self.inside.blocks.items)) (omega arith)))
 
 pub drop_front-requires : goal.drop_front-requires
 drop_front-requires c = let l = (kept_facts c.self.invariant.0).length in rw (← c.self.view_is) (omega arith)
@@ -56,7 +58,9 @@ returns-then-self-eq0-clause-counts c = none_below c.args.stats.now c.args.index
 pub returns-then-index-self-clause-counts : goal.returns-then-index-self-clause-counts
 returns-then-index-self-clause-counts c =
     none_below c.args.stats.now c.args.index c.args.self.now
-    (rw (← c.self.view_is) (below_start c.args.index c.self.inside.first (entries_in_blocks c.self.inside.first (blocks_shown c.self.inside.blocks.items)) (rises_expanded c.self.inside.first (blocks_shown c.self.inside.blocks.items)) (omega arith)))
+    (rw (← c.self.view_is) (below_start c.args.index c.self.inside.first
+    (entries_in_blocks c.self.inside.first (blocks_shown c.self.inside.blocks.items))
+    (rises_expanded c.self.inside.first (blocks_shown c.self.inside.blocks.items)) (omega arith)))
 
 pub returns-clause-counts : goal.returns-clause-counts
 returns-clause-counts c =

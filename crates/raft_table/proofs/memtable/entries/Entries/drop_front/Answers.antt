@@ -33,7 +33,9 @@ overflow_sub-self c = let l = (kept_facts c.self.invariant.0).length in let h = 
 pub invariant_of-self : goal.invariant_of-self
 invariant_of-self c =
     let a = spot_at c.self.inside.first _ c.spot_of-nth.ensures c.args.count refl in
-    let k = (kept_drop c.self.inside.first c.self.inside.len c.args.count c.spot_of-nth.result.0 c.spot_of-nth.result.1 (blocks_shown c.self.inside.blocks.items) (starts_of c.self.inside.first (blocks_shown c.self.inside.blocks.items)) c.self.inside.rewritten c.self.invariant.0 a).0 in
+    let k = (kept_drop c.self.inside.first c.self.inside.len c.args.count c.spot_of-nth.result.0 c.spot_of-nth.result.1
+    (blocks_shown c.self.inside.blocks.items) (starts_of c.self.inside.first (blocks_shown c.self.inside.blocks.items))
+    c.self.inside.rewritten c.self.invariant.0 a).0 in
     rw (c.drop_front_blocks.ensures, c.min.ensures) (
       kept_with k refl,
       starts_dropped c.self.inside.first (c.self.inside.first + c.args.count) c.spot_of-nth.result.0 (blocks_shown c.self.inside.blocks.items) _
@@ -44,4 +46,6 @@ pub returns : goal.returns
 returns c =
     rw (← c.self.view_is)
     (ap (entries_in_blocks (c.self.inside.first + c.args.count)) c.drop_front_blocks.ensures
-    ∙ (kept_drop c.self.inside.first c.self.inside.len c.args.count c.spot_of-nth.result.0 c.spot_of-nth.result.1 (blocks_shown c.self.inside.blocks.items) (starts_of c.self.inside.first (blocks_shown c.self.inside.blocks.items)) c.self.inside.rewritten c.self.invariant.0 (spot_at c.self.inside.first _ c.spot_of-nth.ensures c.args.count refl)).1)
+    ∙ (kept_drop c.self.inside.first c.self.inside.len c.args.count c.spot_of-nth.result.0 c.spot_of-nth.result.1
+    (blocks_shown c.self.inside.blocks.items) (starts_of c.self.inside.first (blocks_shown c.self.inside.blocks.items)) c.self.inside.rewritten
+    c.self.invariant.0 (spot_at c.self.inside.first _ c.spot_of-nth.ensures c.args.count refl)).1)

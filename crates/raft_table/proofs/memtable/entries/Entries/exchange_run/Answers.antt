@@ -13,7 +13,9 @@ exchange-requires-clause-appended c = rw c.count_behind-rewritten.ensures.append
 
 pub returns-clause-recounted : goal.returns-clause-recounted
 returns-clause-recounted c =
-    recounted_behind c.args.queue c.args.stats.now c.exchange.new.stats c.args.keep c.args.self.now (run_shown c.args.run.now) c.lay.new.self _ _ _ c.exchange.ensures.live c.count_behind-rewritten.ensures.rewritten c.count_behind-rewritten.ensures.appended c.len.ensures (each_placed c.args.queue (run_shown c.args.run.now) c.requires.queue) c.in_ok-lay.ensures.ok
+    recounted_behind c.args.queue c.args.stats.now c.exchange.new.stats c.args.keep c.args.self.now (run_shown c.args.run.now) c.lay.new.self _ _ _
+    c.exchange.ensures.live c.count_behind-rewritten.ensures.rewritten c.count_behind-rewritten.ensures.appended c.len.ensures
+    (each_placed c.args.queue (run_shown c.args.run.now) c.requires.queue) c.in_ok-lay.ensures.ok
 
 pub returns-clause-counts : goal.returns-clause-counts
 returns-clause-counts c =

@@ -18,7 +18,9 @@ movable-count-requires-clause-within c = let l = (kept_facts c.self.invariant.0)
 count_is : (c : goal.After-extend-arg-1) → c.movable-count.result ≡ prefix_len (is_placed_before c.args.gate) (drop c.self.inside.rewritten (entries_in_blocks c.self.inside.first (blocks_shown c.self.inside.blocks.items)))
 count_is c =
     let l = (kept_facts c.self.invariant.0).length in
-    (rw (← c.self.view_is) at c.movable-count.ensures) ∙ (ap (λ xs. prefix_len (is_placed_before c.args.gate) (drop c.self.inside.rewritten xs)) (take_all c.self.inside.len (entries_in_blocks c.self.inside.first (blocks_shown c.self.inside.blocks.items)) (omega arith)))
+    (rw (← c.self.view_is) at c.movable-count.ensures)
+    ∙ (ap (λ xs. prefix_len (is_placed_before c.args.gate) (drop c.self.inside.rewritten xs))
+    (take_all c.self.inside.len (entries_in_blocks c.self.inside.first (blocks_shown c.self.inside.blocks.items)) (omega arith)))
 
 room : (c : goal.After-extend-arg-1) → c.self.inside.rewritten + c.movable-count.result ≤ c.self.inside.len
 room c =
@@ -38,6 +40,11 @@ pub returns-clause-ok : goal.returns-clause-ok
 returns-clause-ok c =
     let l = (kept_facts c.self.invariant.0).length in
     let n : c.movable-count.result ≡ prefix_len (is_placed_before c.args.gate) (drop c.self.inside.rewritten (entries_in_blocks c.self.inside.first (blocks_shown c.self.inside.blocks.items))) =
-    (rw (← c.self.view_is) at c.movable-count.ensures) ∙ ap (λ xs. prefix_len (is_placed_before c.args.gate) (drop c.self.inside.rewritten xs)) (take_all c.self.inside.len (entries_in_blocks c.self.inside.first (blocks_shown c.self.inside.blocks.items)) (omega arith)) in
+    (rw (← c.self.view_is) at c.movable-count.ensures) ∙ ap (λ xs. prefix_len (is_placed_before c.args.gate) (drop c.self.inside.rewritten xs))
+    (take_all c.self.inside.len (entries_in_blocks c.self.inside.first (blocks_shown c.self.inside.blocks.items)) (omega arith)) in
     rw (← c.self.view_is)
-    (on_ok_weaker c.extend.result (λ h. (rw (← c.self.view_is) at h) ∙ ap (λ xs. c.args.vec.now.items ++ xs) (sym (appended_before_is c.args.gate c.movable-count.result c.self.inside.rewritten (entries_in_blocks c.self.inside.first (blocks_shown c.self.inside.blocks.items)) c.self.invariant.0.table_entries c.self.invariant.0.rewritten n))) c.extend.ensures.ok)
+    (on_ok_weaker c.extend.result (λ h. (rw (← c.self.view_is) at h)
+    ∙ ap (λ xs. c.args.vec.now.items ++ xs)
+    (sym (appended_before_is c.args.gate c.movable-count.result c.self.inside.rewritten
+    (entries_in_blocks c.self.inside.first (blocks_shown c.self.inside.blocks.items)) c.self.invariant.0.table_entries
+    c.self.invariant.0.rewritten n))) c.extend.ensures.ok)

@@ -48,7 +48,9 @@ returns-clause-ok c =
     let s : start_of (entries_in_blocks c.self.inside.first (blocks_shown c.self.inside.blocks.items)) ≡ c.self.inside.first = (kept_facts c.self.invariant.0).start (omega arith) in
     let w = rw (← c.self.view_is) at c.count_within-count.ensures in
     rw (is_found c, ← c.self.view_is)
-    (on_ok_weaker c.extend.result (λ h. fetched_part c.args.limit c.args.begin c.args.end c.count_within-count.result (entries_in_blocks c.self.inside.first (blocks_shown c.self.inside.blocks.items)) c.args.vec.now.items c.extend.new.vec.items c.self.invariant.0.table_entries (omega arith) (omega arith) (rw s w) (rw (s, c.self.view_is) h)) c.extend.ensures.ok)
+    (on_ok_weaker c.extend.result (λ h. fetched_part c.args.limit c.args.begin c.args.end c.count_within-count.result
+    (entries_in_blocks c.self.inside.first (blocks_shown c.self.inside.blocks.items)) c.args.vec.now.items c.extend.new.vec.items
+    c.self.invariant.0.table_entries (omega arith) (omega arith) (rw s w) (rw (s, c.self.view_is) h)) c.extend.ensures.ok)
 
 pub returns-clause-fault : goal.returns-clause-fault
 returns-clause-fault c =

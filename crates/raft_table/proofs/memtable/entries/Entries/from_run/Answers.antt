@@ -14,10 +14,21 @@ push-requires-clause-filled c =
 
 pub push-requires-clause-table_entries : goal.push-requires-clause-table_entries
 push-requires-clause-table_entries c =
-    rw (c.loop-at.invariant.0, c.in_ok-spans.ensures.ok, (group_of c.args.run.now c.loop-at.at c.count_of.result c.in-Some.handle _ c.requires c.count_of.ensures.within c.loop-at-test.true c.count_of.ensures.all)) (AreTableEntries-take (c.loop-at.at + c.count_of.result) c.args.run.now c.requires)
+    rw (
+      c.loop-at.invariant.0,
+      c.in_ok-spans.ensures.ok,
+      (group_of c.args.run.now c.loop-at.at c.count_of.result c.in-Some.handle _ c.requires c.count_of.ensures.within c.loop-at-test.true
+          c.count_of.ensures.all),
+    ) (AreTableEntries-take (c.loop-at.at + c.count_of.result) c.args.run.now c.requires)
 
 pub loop-at-smaller : goal.loop-at-smaller
 loop-at-smaller c = let p = (c.count_of.ensures.some _ c.loop-at-test.true c.in-Some.is) in let w = c.count_of.ensures.within in omega arith
 
 pub loop-at-preserved : goal.loop-at-preserved
-loop-at-preserved c = (c.in_ok-push.ensures.ok ∙ rw (c.loop-at.invariant.0, c.in_ok-spans.ensures.ok) (group_of c.args.run.now c.loop-at.at c.count_of.result c.in-Some.handle _ c.requires c.count_of.ensures.within c.loop-at-test.true c.count_of.ensures.all), c.count_of.ensures.within)
+loop-at-preserved c = (
+  c.in_ok-push.ensures.ok
+      ∙ rw (c.loop-at.invariant.0, c.in_ok-spans.ensures.ok)
+      (group_of c.args.run.now c.loop-at.at c.count_of.result c.in-Some.handle _ c.requires c.count_of.ensures.within c.loop-at-test.true
+      c.count_of.ensures.all),
+  c.count_of.ensures.within,
+)

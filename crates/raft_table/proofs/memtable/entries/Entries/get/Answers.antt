@@ -8,12 +8,16 @@ use Rattle.raft_table.proofs.BlockQueues.{block_at, block_within}
 use Rattle.raft_table.proofs.memtable.entries.Entries.get.Goals as goal
 
 pub returns-then-index-self : goal.returns-then-index-self
-returns-then-index-self c = rw (← c.self.view_is) (sym (entry_at_low c.args.index c.self.inside.first (entries_in_blocks c.self.inside.first (blocks_shown c.self.inside.blocks.items)) (omega arith) (rises_expanded c.self.inside.first (blocks_shown c.self.inside.blocks.items))))
+returns-then-index-self c = rw (← c.self.view_is)
+    (sym (entry_at_low c.args.index c.self.inside.first (entries_in_blocks c.self.inside.first (blocks_shown c.self.inside.blocks.items))
+    (omega arith) (rises_expanded c.self.inside.first (blocks_shown c.self.inside.blocks.items))))
 
 pub returns-then-index-self-2 : goal.returns-then-index-self-2
 returns-then-index-self-2 c =
     let l = (kept_facts c.self.invariant.0).length in
-    rw (← c.self.view_is) (sym (entry_at_past c.args.index (c.args.index - c.self.inside.first) c.self.inside.first (entries_in_blocks c.self.inside.first (blocks_shown c.self.inside.blocks.items)) (omega arith) (omega arith) (rises_expanded c.self.inside.first (blocks_shown c.self.inside.blocks.items))))
+    rw (← c.self.view_is) (sym (entry_at_past c.args.index (c.args.index - c.self.inside.first) c.self.inside.first
+    (entries_in_blocks c.self.inside.first (blocks_shown c.self.inside.blocks.items)) (omega arith) (omega arith)
+    (rises_expanded c.self.inside.first (blocks_shown c.self.inside.blocks.items))))
 
 pub spot_of-nth-requires-clause-within : goal.spot_of-nth-requires-clause-within
 spot_of-nth-requires-clause-within c = let l = c.self.invariant.0.len in (omega arith, omega arith)
@@ -34,4 +38,5 @@ returns c =
     let a = c.spot_of-nth.ensures in
     let b = block_at c.self.inside.blocks.items c.index-block.result.now a c.index-block.ensures in
     rw (← c.self.view_is)
-    (entry_at_spot c.args.index c.self.inside.first c.spot_of-nth.result.0 c.spot_of-nth.result.1 (blocks_shown c.self.inside.blocks.items) (block_spans c.index-block.result.now) c.index-span.result.now (omega arith) a b.same c.index-span.ensures)
+    (entry_at_spot c.args.index c.self.inside.first c.spot_of-nth.result.0 c.spot_of-nth.result.1 (blocks_shown c.self.inside.blocks.items)
+    (block_spans c.index-block.result.now) c.index-span.result.now (omega arith) a b.same c.index-span.ensures)

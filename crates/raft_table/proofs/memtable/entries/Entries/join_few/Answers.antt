@@ -29,7 +29,8 @@ put_few_blocks-requires-clause-within c =
 pub put_few_blocks-requires-clause-kept : goal.put_few_blocks-requires-clause-kept
 put_few_blocks-requires-clause-kept c d p =
     let e : c.spot_of-nth.result.0 ≡ c.spot_of-nth.result.0 + 1 - 1 = omega arith in
-    subst (λ k. c.spot_of-nth.result.1 + 1 ≤ length (get_or c.self.inside.blocks.items k d).spans.items) e (let w = spot_inside c.self.inside.blocks.items (spot_at c.self.inside.first _ c.spot_of-nth.ensures (c.args.keep - 1) refl) d in omega arith)
+    subst (λ k. c.spot_of-nth.result.1 + 1 ≤ length (get_or c.self.inside.blocks.items k d).spans.items) e
+    (let w = spot_inside c.self.inside.blocks.items (spot_at c.self.inside.first _ c.spot_of-nth.ensures (c.args.keep - 1) refl) d in omega arith)
 
 pub put_few_blocks-requires-clause-more : goal.put_few_blocks-requires-clause-more
 put_few_blocks-requires-clause-more c =
@@ -65,14 +66,20 @@ overflow_add-self-2 c =
     let f = sound_fits (start_of es) es s (sound_rising es s) (omega arith) in
     omega arith
 
-put : (c : goal.After-run-2-1) → IsKeptAs c.self.inside.first (c.args.keep + c.run.inside.len) (joined_blocks (first_of_last (c.spot_of-nth.result.1 + 1) (take (c.spot_of-nth.result.0 + 1) (blocks_shown c.self.inside.blocks.items))) (blocks_shown c.run.inside.blocks.items))
+put : (c : goal.After-run-2-1) → IsKeptAs c.self.inside.first (c.args.keep + c.run.inside.len)
+    (joined_blocks (first_of_last (c.spot_of-nth.result.1 + 1) (take (c.spot_of-nth.result.0 + 1) (blocks_shown c.self.inside.blocks.items)))
+    (blocks_shown c.run.inside.blocks.items))
     (starts_of c.self.inside.first (joined_blocks (first_of_last (c.spot_of-nth.result.1 + 1) (take (c.spot_of-nth.result.0 + 1) (blocks_shown c.self.inside.blocks.items))) (blocks_shown c.run.inside.blocks.items)))
-    (min c.self.inside.rewritten c.args.keep + c.run.inside.rewritten) (take c.args.keep (entries_in_blocks c.self.inside.first (blocks_shown c.self.inside.blocks.items)) ++ entries_in_blocks c.run.inside.first (blocks_shown c.run.inside.blocks.items))
+    (min c.self.inside.rewritten c.args.keep + c.run.inside.rewritten)
+    (take c.args.keep (entries_in_blocks c.self.inside.first (blocks_shown c.self.inside.blocks.items)) ++ entries_in_blocks c.run.inside.first
+    (blocks_shown c.run.inside.blocks.items))
 put c =
-    let s : AreTableEntries (take c.args.keep (entries_in_blocks c.self.inside.first (blocks_shown c.self.inside.blocks.items)) ++ entries_in_blocks c.run.inside.first (blocks_shown c.run.inside.blocks.items)) = rw (c.self.view_is, c.run.view_is) c.requires.table_entries in
+    let s : AreTableEntries (take c.args.keep (entries_in_blocks c.self.inside.first (blocks_shown c.self.inside.blocks.items)) ++ entries_in_blocks
+    c.run.inside.first (blocks_shown c.run.inside.blocks.items)) = rw (c.self.view_is, c.run.view_is) c.requires.table_entries in
     kept_join_few c.self.invariant.0 c.run.invariant.0 c.args.keep (c.spot_of-nth.result.0 + 1) (c.spot_of-nth.result.1 + 1) c.requires.keep.0
     (let l = (kept_facts c.self.invariant.0).length in let h = rw (← c.self.view_is) at c.requires.keep.1 in omega arith)
-    (front_of c.self.inside.first c.args.keep c.spot_of-nth.result.0 c.spot_of-nth.result.1 (blocks_shown c.self.inside.blocks.items) c.self.invariant.0.distinct c.requires.keep.0 (spot_at c.self.inside.first _ c.spot_of-nth.ensures (c.args.keep - 1) refl))
+    (front_of c.self.inside.first c.args.keep c.spot_of-nth.result.0 c.spot_of-nth.result.1 (blocks_shown c.self.inside.blocks.items)
+    c.self.invariant.0.distinct c.requires.keep.0 (spot_at c.self.inside.first _ c.spot_of-nth.ensures (c.args.keep - 1) refl))
     (let m = (kept_facts c.run.invariant.0).length in let h = rw (← c.run.view_is) at c.requires.run in omega arith)
     s
 
@@ -83,4 +90,8 @@ pub invariant_of-run-2 : goal.invariant_of-run-2
 invariant_of-run-2 c = (kept_with (kept_nil _ _ _ [] _ (ap blocks_shown c.in_ok-put_few_blocks.ensures.emptied) refl refl refl) refl, inl c.clear-2.ensures.items)
 
 pub returns-clause-ok : goal.returns-clause-ok
-returns-clause-ok c = rw (← c.self.view_is, ← c.run.view_is) (ap (entries_in_blocks c.self.inside.first) c.in_ok-put_few_blocks.ensures.ok ∙ (put c).entries, ap (λ xs. entries_in_blocks c.run.inside.first (blocks_shown xs)) c.in_ok-put_few_blocks.ensures.emptied)
+returns-clause-ok c = rw (← c.self.view_is, ← c.run.view_is) (
+  ap (entries_in_blocks c.self.inside.first) c.in_ok-put_few_blocks.ensures.ok
+      ∙ (put c).entries,
+  ap (λ xs. entries_in_blocks c.run.inside.first (blocks_shown xs)) c.in_ok-put_few_blocks.ensures.emptied,
+)

@@ -33,4 +33,5 @@ pub returns : goal.returns
 returns c =
     rw (← c.self.view_is)
     (ap (entries_in_blocks c.self.inside.first) c.keep_front_blocks.ensures
-    ∙ (kept_front c.self.inside.first c.args.count c.spot_of-nth.result.0 c.spot_of-nth.result.1 (blocks_shown c.self.inside.blocks.items) c.self.invariant.0 (omega arith) (spot_at c.self.inside.first _ c.spot_of-nth.ensures (c.args.count - 1) refl)).1)
+    ∙ (kept_front c.self.inside.first c.args.count c.spot_of-nth.result.0 c.spot_of-nth.result.1 (blocks_shown c.self.inside.blocks.items)
+    c.self.invariant.0 (omega arith) (spot_at c.self.inside.first _ c.spot_of-nth.ensures (c.args.count - 1) refl)).1)

@@ -14,7 +14,9 @@ pub from_run-requires : goal.from_run-requires
 from_run-requires c = sound_behind c.args.keep c.args.self.now c.args.run.now c.requires.table_entries
 
 -- the entries of the only block of a run
-only_block : (run : List EntryIndex) (h : FileBlockHandle) (d : EntryIndex) → AreTableEntries run → 0 < length run → ((j : ℕ) (e : EntryIndex) → 0 ≤ j → j < 0 + length run → (get_or run j e).entries ≡ Some h) → entries_of_block (get_or run 0 d).index h (spans_of run) ≡ run
+only_block : (run : List EntryIndex) (h : FileBlockHandle) (d : EntryIndex) → AreTableEntries run → 0 < length run →
+    ((j : ℕ) (e : EntryIndex) → 0 ≤ j → j < 0 + length run → (get_or run j e).entries ≡ Some h) →
+    entries_of_block (get_or run 0 d).index h (spans_of run) ≡ run
 only_block run h d s l a =
     let e : 0 + length run - 0 ≡ length run = omega arith in
     let z : 0 + length run ≡ length run = omega arith in
@@ -23,7 +25,9 @@ only_block run h d s l a =
     rw (e, z, t) at g
 
 -- .. behind others
-laid : (keep : ℕ) (es run : List EntryIndex) (h : FileBlockHandle) (ss : List (ℕ × ℕ)) (d : EntryIndex) → AreTableEntries (take keep es ++ run) → 0 < length run → ss ≡ spans_of run → ((j : ℕ) (e : EntryIndex) → 0 ≤ j → j < 0 + length run → (get_or run j e).entries ≡ Some h) → take keep es ++ run ≡ take keep es ++ entries_of_block (get_or run 0 d).index h ss
+laid : (keep : ℕ) (es run : List EntryIndex) (h : FileBlockHandle) (ss : List (ℕ × ℕ)) (d : EntryIndex) → AreTableEntries (take keep es ++ run) →
+    0 < length run → ss ≡ spans_of run → ((j : ℕ) (e : EntryIndex) → 0 ≤ j → j < 0 + length run → (get_or run j e).entries ≡ Some h) →
+    take keep es ++ run ≡ take keep es ++ entries_of_block (get_or run 0 d).index h ss
 laid keep es run h ss d s l q a =
     let o = only_block run h d (sound_behind keep es run s) l a in
     ap (λ xs. take keep es ++ xs) (sym o) ∙ ap (λ xs. take keep es ++ entries_of_block (get_or run 0 d).index h xs) (sym q)

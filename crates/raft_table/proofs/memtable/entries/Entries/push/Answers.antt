@@ -24,7 +24,9 @@ overflow_add-self-2 c =
 abbrev stretch : (c : goal.After-self-3-1) → BlockSpans
 stretch c = record { handle = c.args.handle; spans = c.args.spans.items }
 
-pushed : (c : goal.After-self-3-1) → IsPushed c.self.inside.first c.first_of-self-inside.result c.self.inside.len c.args.index (blocks_shown c.self.inside.blocks.items) (starts_of c.self.inside.first (blocks_shown c.self.inside.blocks.items)) c.self.inside.rewritten (stretch c)
+pushed : (c : goal.After-self-3-1) → IsPushed c.self.inside.first c.first_of-self-inside.result c.self.inside.len c.args.index
+    (blocks_shown c.self.inside.blocks.items) (starts_of c.self.inside.first (blocks_shown c.self.inside.blocks.items)) c.self.inside.rewritten
+    (stretch c)
 pushed c = kept_push c.self.invariant.0 c.first_of-self-inside.result c.args.index (stretch c) c.requires.filled (rw c.self.view_is c.requires.table_entries) c.first_of-self-inside.ensures.0 c.first_of-self-inside.ensures.1
 
 starts : (c : goal.After-self-3-1) → AreStarts c.first_of-self-inside.result (joined_blocks (blocks_shown c.self.inside.blocks.items) (stretch c ∷ [])) c.push_behind.new.starts.items

@@ -18,11 +18,15 @@ exchange-requires-clause-appended c = rw c.count_behind-rewritten.ensures.append
 
 pub returns-then-not-has_room-clause-fault : goal.returns-then-not-has_room-clause-fault
 returns-then-not-has_room-clause-fault c =
-    full_behind c.args.queue c.args.stats.now c.args.keep c.args.self.now c.args.run.now _ _ _ c.if-not-has_room.ensures c.count_behind-rewritten.ensures.rewritten c.count_behind-rewritten.ensures.appended c.len-added.ensures (each_placed c.args.queue c.args.run.now c.requires.queue)
+    full_behind c.args.queue c.args.stats.now c.args.keep c.args.self.now c.args.run.now _ _ _ c.if-not-has_room.ensures
+    c.count_behind-rewritten.ensures.rewritten c.count_behind-rewritten.ensures.appended c.len-added.ensures
+    (each_placed c.args.queue c.args.run.now c.requires.queue)
 
 pub returns-clause-recounted : goal.returns-clause-recounted
 returns-clause-recounted c =
-    recounted_behind c.args.queue c.args.stats.now c.exchange.new.stats c.args.keep c.args.self.now c.args.run.now c.put_run.new.self _ _ _ c.exchange.ensures.live c.count_behind-rewritten.ensures.rewritten c.count_behind-rewritten.ensures.appended c.len-added.ensures (each_placed c.args.queue c.args.run.now c.requires.queue) c.in_ok-put_run.ensures.ok.0
+    recounted_behind c.args.queue c.args.stats.now c.exchange.new.stats c.args.keep c.args.self.now c.args.run.now c.put_run.new.self _ _ _
+    c.exchange.ensures.live c.count_behind-rewritten.ensures.rewritten c.count_behind-rewritten.ensures.appended c.len-added.ensures
+    (each_placed c.args.queue c.args.run.now c.requires.queue) c.in_ok-put_run.ensures.ok.0
 
 pub returns-clause-counts : goal.returns-clause-counts
 returns-clause-counts c =

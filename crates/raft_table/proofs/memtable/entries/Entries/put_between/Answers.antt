@@ -20,43 +20,74 @@ pub overflow_add-end : goal.overflow_add-end
 overflow_add-end c = let f = (between_fits c.self.invariant.0 c.run.invariant.0 c.args.at (rw (← c.run.view_is) at c.requires.run) (rw (← c.self.view_is, ← c.run.view_is) at c.requires.behind)) in let a = f.1 in let b = f.2 in omega arith
 
 pub overflow_add-moved : goal.overflow_add-moved
-overflow_add-moved c = let f = (between_fits c.self.invariant.0 c.run.invariant.0 c.args.at (rw (← c.run.view_is) at c.requires.run) (rw (← c.self.view_is, ← c.run.view_is) at c.requires.behind)) in let a = f.1 in let b = f.2 in let d = f.3 in omega arith
+overflow_add-moved c = let f = (between_fits c.self.invariant.0 c.run.invariant.0 c.args.at (rw (← c.run.view_is) at c.requires.run)
+    (rw (← c.self.view_is, ← c.run.view_is) at c.requires.behind)) in let a = f.1 in let b = f.2 in let d = f.3 in omega arith
 
 pub overflow_add-rewritten : goal.overflow_add-rewritten
-overflow_add-rewritten c = let f = (between_fits c.self.invariant.0 c.run.invariant.0 c.args.at (rw (← c.run.view_is) at c.requires.run) (rw (← c.self.view_is, ← c.run.view_is) at c.requires.behind)) in let a = f.1 in let b = f.2 in let d = f.3 in let e = f.4 in omega arith
+overflow_add-rewritten c = let f = (between_fits c.self.invariant.0 c.run.invariant.0 c.args.at (rw (← c.run.view_is) at c.requires.run)
+    (rw (← c.self.view_is, ← c.run.view_is) at c.requires.behind)) in let a = f.1 in let b = f.2 in let d = f.3 in let e = f.4 in omega arith
 
 pub overflow_add-index : goal.overflow_add-index
 overflow_add-index c = let f = (between_fits c.self.invariant.0 c.run.invariant.0 c.args.at (rw (← c.run.view_is) at c.requires.run) (rw (← c.self.view_is, ← c.run.view_is) at c.requires.behind)) in let a = f.1 in let b = f.2 in omega arith
 
 pub find-nth-requires : goal.find-nth-requires
-find-nth-requires c = index_of (kept_with c.self.invariant.0 c.in_ok-keep_starts.ensures.ok) (c.args.at + c.run.inside.len) refl (between_fits c.self.invariant.0 c.run.invariant.0 c.args.at (rw (← c.run.view_is) at c.requires.run) (rw (← c.self.view_is, ← c.run.view_is) at c.requires.behind)).1
+find-nth-requires c = index_of (kept_with c.self.invariant.0 c.in_ok-keep_starts.ensures.ok) (c.args.at + c.run.inside.len) refl
+    (between_fits c.self.invariant.0 c.run.invariant.0 c.args.at (rw (← c.run.view_is) at c.requires.run)
+    (rw (← c.self.view_is, ← c.run.view_is) at c.requires.behind)).1
 
 pub index-block-requires : goal.index-block-requires
-index-block-requires c = let w = block_within c.self.inside.blocks.items (found (kept_with c.self.invariant.0 c.in_ok-keep_starts.ensures.ok) c.find-nth.ensures (c.args.at + c.run.inside.len) refl (between_fits c.self.invariant.0 c.run.invariant.0 c.args.at (rw (← c.run.view_is) at c.requires.run) (rw (← c.self.view_is, ← c.run.view_is) at c.requires.behind)).1) in omega (arith, c.self.inside.blocks.ok)
+index-block-requires c = let w = block_within c.self.inside.blocks.items
+    (found (kept_with c.self.invariant.0 c.in_ok-keep_starts.ensures.ok) c.find-nth.ensures (c.args.at + c.run.inside.len) refl
+    (between_fits c.self.invariant.0 c.run.invariant.0 c.args.at (rw (← c.run.view_is) at c.requires.run)
+    (rw (← c.self.view_is, ← c.run.view_is) at c.requires.behind)).1) in omega (arith, c.self.inside.blocks.ok)
 
 pub spans_behind-requires : goal.spans_behind-requires
-spans_behind-requires c = let b = block_at c.self.inside.blocks.items c.index-block.result.now (found (kept_with c.self.invariant.0 c.in_ok-keep_starts.ensures.ok) c.find-nth.ensures (c.args.at + c.run.inside.len) refl (between_fits c.self.invariant.0 c.run.invariant.0 c.args.at (rw (← c.run.view_is) at c.requires.run) (rw (← c.self.view_is, ← c.run.view_is) at c.requires.behind)).1) c.index-block.ensures in let w = b.inside in omega arith
+spans_behind-requires c = let b = block_at c.self.inside.blocks.items c.index-block.result.now
+    (found (kept_with c.self.invariant.0 c.in_ok-keep_starts.ensures.ok) c.find-nth.ensures (c.args.at + c.run.inside.len) refl
+    (between_fits c.self.invariant.0 c.run.invariant.0 c.args.at (rw (← c.run.view_is) at c.requires.run)
+    (rw (← c.self.view_is, ← c.run.view_is) at c.requires.behind)).1) c.index-block.ensures in let w = b.inside in omega arith
 
 pub spot_behind-spot-requires-clause-bounded : goal.spot_behind-spot-requires-clause-bounded
-spot_behind-spot-requires-clause-bounded c = let f = (between_fits c.self.invariant.0 c.run.invariant.0 c.args.at (rw (← c.run.view_is) at c.requires.run) (rw (← c.self.view_is, ← c.run.view_is) at c.requires.behind)) in let a = f.1 in let b = f.2 in omega arith
+spot_behind-spot-requires-clause-bounded c =
+    let f = (between_fits c.self.invariant.0 c.run.invariant.0 c.args.at (rw (← c.run.view_is) at c.requires.run)
+    (rw (← c.self.view_is, ← c.run.view_is) at c.requires.behind)) in let a = f.1 in let b = f.2 in omega arith
 
 pub spot_behind-spot-requires-clause-within : goal.spot_behind-spot-requires-clause-within
-spot_behind-spot-requires-clause-within c l = index_of (kept_with c.self.invariant.0 c.in_ok-keep_starts.ensures.ok) (c.args.at - 1) refl (let f = (between_fits c.self.invariant.0 c.run.invariant.0 c.args.at (rw (← c.run.view_is) at c.requires.run) (rw (← c.self.view_is, ← c.run.view_is) at c.requires.behind)) in let a = f.1 in omega arith)
+spot_behind-spot-requires-clause-within c l = index_of (kept_with c.self.invariant.0 c.in_ok-keep_starts.ensures.ok) (c.args.at - 1) refl
+    (let f = (between_fits c.self.invariant.0 c.run.invariant.0 c.args.at (rw (← c.run.view_is) at c.requires.run)
+    (rw (← c.self.view_is, ← c.run.view_is) at c.requires.behind)) in let a = f.1 in omega arith)
 
 pub overflow_add-nth : goal.overflow_add-nth
-overflow_add-nth c = let w = block_within c.self.inside.blocks.items (found (kept_with c.self.invariant.0 c.in_ok-keep_starts.ensures.ok) c.find-nth.ensures (c.args.at + c.run.inside.len) refl (between_fits c.self.invariant.0 c.run.invariant.0 c.args.at (rw (← c.run.view_is) at c.requires.run) (rw (← c.self.view_is, ← c.run.view_is) at c.requires.behind)).1) in omega (arith, c.self.inside.blocks.ok)
+overflow_add-nth c = let w = block_within c.self.inside.blocks.items
+    (found (kept_with c.self.invariant.0 c.in_ok-keep_starts.ensures.ok) c.find-nth.ensures (c.args.at + c.run.inside.len) refl
+    (between_fits c.self.invariant.0 c.run.invariant.0 c.args.at (rw (← c.run.view_is) at c.requires.run)
+    (rw (← c.self.view_is, ← c.run.view_is) at c.requires.behind)).1) in omega (arith, c.self.inside.blocks.ok)
 
 pub put_blocks-requires-clause-order : goal.put_blocks-requires-clause-order
 put_blocks-requires-clause-order c =
-    cut_order c.args.at (c.args.at + c.run.inside.len) c.spot_behind-spot.result.0 c.spot_behind-spot.result.1 c.find-nth.result.0 c.find-nth.result.1 (blocks_shown c.self.inside.blocks.items) c.spot_behind-spot.ensures.none (λ l. c.spot_behind-spot.ensures.some (blocks_shown c.self.inside.blocks.items) l c.in_ok-keep_starts.ensures.ok (let f = (between_fits c.self.invariant.0 c.run.invariant.0 c.args.at (rw (← c.run.view_is) at c.requires.run) (rw (← c.self.view_is, ← c.run.view_is) at c.requires.behind)) in let g = f.1 in let n = c.self.invariant.0.len in omega arith)) (found (kept_with c.self.invariant.0 c.in_ok-keep_starts.ensures.ok) c.find-nth.ensures (c.args.at + c.run.inside.len) refl (between_fits c.self.invariant.0 c.run.invariant.0 c.args.at (rw (← c.run.view_is) at c.requires.run) (rw (← c.self.view_is, ← c.run.view_is) at c.requires.behind)).1) (omega arith)
+    cut_order c.args.at (c.args.at + c.run.inside.len) c.spot_behind-spot.result.0 c.spot_behind-spot.result.1 c.find-nth.result.0 c.find-nth.result.1
+    (blocks_shown c.self.inside.blocks.items) c.spot_behind-spot.ensures.none
+    (λ l. c.spot_behind-spot.ensures.some (blocks_shown c.self.inside.blocks.items) l c.in_ok-keep_starts.ensures.ok
+    (let f = (between_fits c.self.invariant.0 c.run.invariant.0 c.args.at (rw (← c.run.view_is) at c.requires.run)
+    (rw (← c.self.view_is, ← c.run.view_is) at c.requires.behind)) in let g = f.1 in let n = c.self.invariant.0.len in omega arith))
+    (found (kept_with c.self.invariant.0 c.in_ok-keep_starts.ensures.ok) c.find-nth.ensures (c.args.at + c.run.inside.len) refl
+    (between_fits c.self.invariant.0 c.run.invariant.0 c.args.at (rw (← c.run.view_is) at c.requires.run)
+    (rw (← c.self.view_is, ← c.run.view_is) at c.requires.behind)).1) (omega arith)
 
 pub put_blocks-requires-clause-within : goal.put_blocks-requires-clause-within
-put_blocks-requires-clause-within c = let w = block_within c.self.inside.blocks.items (found (kept_with c.self.invariant.0 c.in_ok-keep_starts.ensures.ok) c.find-nth.ensures (c.args.at + c.run.inside.len) refl (between_fits c.self.invariant.0 c.run.invariant.0 c.args.at (rw (← c.run.view_is) at c.requires.run) (rw (← c.self.view_is, ← c.run.view_is) at c.requires.behind)).1) in omega arith
+put_blocks-requires-clause-within c =
+    let w = block_within c.self.inside.blocks.items
+    (found (kept_with c.self.invariant.0 c.in_ok-keep_starts.ensures.ok) c.find-nth.ensures (c.args.at + c.run.inside.len) refl
+    (between_fits c.self.invariant.0 c.run.invariant.0 c.args.at (rw (← c.run.view_is) at c.requires.run)
+    (rw (← c.self.view_is, ← c.run.view_is) at c.requires.behind)).1) in omega arith
 
 pub put_blocks-requires-clause-kept : goal.put_blocks-requires-clause-kept
 put_blocks-requires-clause-kept c d p =
     elim (cases_lt 0 c.args.at) [
-      | inl l ↦ let u = c.spot_behind-spot.ensures.some (blocks_shown c.self.inside.blocks.items) l c.in_ok-keep_starts.ensures.ok (let f = (between_fits c.self.invariant.0 c.run.invariant.0 c.args.at (rw (← c.run.view_is) at c.requires.run) (rw (← c.self.view_is, ← c.run.view_is) at c.requires.behind)) in let g = f.1 in let n = c.self.invariant.0.len in omega arith) in let w = spot_inside c.self.inside.blocks.items u.0 d in let v = u.2 in omega arith
+      | inl l ↦ let u = c.spot_behind-spot.ensures.some (blocks_shown c.self.inside.blocks.items) l c.in_ok-keep_starts.ensures.ok
+          (let f = (between_fits c.self.invariant.0 c.run.invariant.0 c.args.at (rw (← c.run.view_is) at c.requires.run)
+          (rw (← c.self.view_is, ← c.run.view_is) at c.requires.behind)) in let g = f.1 in let n = c.self.invariant.0.len in omega arith) in
+          let w = spot_inside c.self.inside.blocks.items u.0 d in let v = u.2 in omega arith
       | inr l ↦ let z = (c.spot_behind-spot.ensures.none (omega arith)).0 in absurd (omega arith)
     ]
 
@@ -68,21 +99,45 @@ put_blocks-requires-clause-more c =
     let ys = blocks_shown c.run.inside.blocks.items in
     let t : BlockSpans = (record { handle = c.index-block.result.now.handle; spans = c.in_ok-spans.spans.items }) in
     let n : length c.push_with_start.new.blocks.items ≡ length (joined_blocks ys (t ∷ [])) = sym (length-map c.push_with_start.new.blocks.items block_spans) ∙ ap length c.in_ok-push_with_start.ensures.blocks in
-    let m : length c.push_with_start.new.starts.items ≡ length (joined_blocks ys (t ∷ [])) = ap length c.in_ok-push_with_start.ensures.starts ∙ pushed_length c.run.inside.first (c.self.inside.first + (c.args.at + c.run.inside.len)) ys t c.keep_starts-2.new.starts.items c.in_ok-keep_starts-2.ensures.ok in
+    let m : length c.push_with_start.new.starts.items ≡ length (joined_blocks ys (t ∷ [])) = ap length c.in_ok-push_with_start.ensures.starts
+    ∙ pushed_length c.run.inside.first (c.self.inside.first + (c.args.at + c.run.inside.len)) ys t c.keep_starts-2.new.starts.items
+    c.in_ok-keep_starts-2.ensures.ok in
     (rw n (joined_some ys t), m ∙ sym n)
 
 put : (c : goal.After-drop-blocks-2) → let es = entries_in_blocks c.self.inside.first (blocks_shown c.self.inside.blocks.items) in let ys = blocks_shown c.run.inside.blocks.items in
-    IsKeptAs c.self.inside.first c.self.inside.len (joined_blocks (first_of_last c.spot_behind-spot.result.1 (take c.spot_behind-spot.result.0 (blocks_shown c.self.inside.blocks.items))) (joined_blocks ys ((record { handle = c.index-block.result.now.handle; spans = c.in_ok-spans.spans.items }) ∷ [])) ++ drop (c.find-nth.result.0 + 1) (blocks_shown c.self.inside.blocks.items))
-    (take c.spot_behind-spot.result.0 c.keep_starts.new.starts.items ++ drop (seam (take c.spot_behind-spot.result.0 (blocks_shown c.self.inside.blocks.items)) (joined_blocks ys ((record { handle = c.index-block.result.now.handle; spans = c.in_ok-spans.spans.items }) ∷ []))) (c.keep_starts-2.new.starts.items ++ drop (seam ys ((record { handle = c.index-block.result.now.handle; spans = c.in_ok-spans.spans.items }) ∷ [])) ((c.self.inside.first + (c.args.at + c.run.inside.len)) ∷ [])) ++ drop (c.find-nth.result.0 + 1) c.keep_starts.new.starts.items)
+    IsKeptAs c.self.inside.first c.self.inside.len
+    (joined_blocks (first_of_last c.spot_behind-spot.result.1 (take c.spot_behind-spot.result.0 (blocks_shown c.self.inside.blocks.items)))
+    (joined_blocks ys ((record { handle = c.index-block.result.now.handle; spans = c.in_ok-spans.spans.items }) ∷ [])) ++ drop
+    (c.find-nth.result.0 + 1) (blocks_shown c.self.inside.blocks.items))
+    (take c.spot_behind-spot.result.0 c.keep_starts.new.starts.items ++ drop
+    (seam (take c.spot_behind-spot.result.0 (blocks_shown c.self.inside.blocks.items))
+    (joined_blocks ys ((record { handle = c.index-block.result.now.handle; spans = c.in_ok-spans.spans.items }) ∷ [])))
+    (c.keep_starts-2.new.starts.items ++ drop
+    (seam ys ((record { handle = c.index-block.result.now.handle; spans = c.in_ok-spans.spans.items }) ∷ []))
+    ((c.self.inside.first + (c.args.at + c.run.inside.len)) ∷ [])) ++ drop (c.find-nth.result.0 + 1) c.keep_starts.new.starts.items)
     (min c.self.inside.rewritten c.args.at + c.run.inside.rewritten + (c.self.inside.rewritten - min c.self.inside.rewritten (c.args.at + c.run.inside.len)))
     (take c.args.at es ++ entries_in_blocks c.run.inside.first ys ++ drop (c.args.at + c.run.inside.len) es)
 put c =
     let es = entries_in_blocks c.self.inside.first (blocks_shown c.self.inside.blocks.items) in
     let fs = entries_in_blocks c.run.inside.first (blocks_shown c.run.inside.blocks.items) in
-    let b = block_at c.self.inside.blocks.items c.index-block.result.now (found (kept_with c.self.invariant.0 c.in_ok-keep_starts.ensures.ok) c.find-nth.ensures (c.args.at + c.run.inside.len) refl (between_fits c.self.invariant.0 c.run.invariant.0 c.args.at (rw (← c.run.view_is) at c.requires.run) (rw (← c.self.view_is, ← c.run.view_is) at c.requires.behind)).1) c.index-block.ensures in
+    let b = block_at c.self.inside.blocks.items c.index-block.result.now
+    (found (kept_with c.self.invariant.0 c.in_ok-keep_starts.ensures.ok) c.find-nth.ensures (c.args.at + c.run.inside.len) refl
+    (between_fits c.self.invariant.0 c.run.invariant.0 c.args.at (rw (← c.run.view_is) at c.requires.run)
+    (rw (← c.self.view_is, ← c.run.view_is) at c.requires.behind)).1) c.index-block.ensures in
     let s : AreTableEntries (take c.args.at es ++ fs ++ drop (c.args.at + length fs) es) = rw (c.self.view_is, c.run.view_is) c.requires.table_entries in
-    put_between (kept_with c.self.invariant.0 c.in_ok-keep_starts.ensures.ok) (kept_with c.run.invariant.0 c.in_ok-keep_starts-2.ensures.ok) c.args.at c.spot_behind-spot.result.0 c.spot_behind-spot.result.1 c.find-nth.result.0 c.find-nth.result.1 (c.self.inside.first + (c.args.at + c.run.inside.len)) (block_spans c.index-block.result.now) (record { handle = c.index-block.result.now.handle; spans = c.in_ok-spans.spans.items })
-    c.spot_behind-spot.ensures.none (λ l. c.spot_behind-spot.ensures.some (blocks_shown c.self.inside.blocks.items) l c.in_ok-keep_starts.ensures.ok (let f = (between_fits c.self.invariant.0 c.run.invariant.0 c.args.at (rw (← c.run.view_is) at c.requires.run) (rw (← c.self.view_is, ← c.run.view_is) at c.requires.behind)) in let g = f.1 in let n = c.self.invariant.0.len in omega arith)) (found (kept_with c.self.invariant.0 c.in_ok-keep_starts.ensures.ok) c.find-nth.ensures (c.args.at + c.run.inside.len) refl (between_fits c.self.invariant.0 c.run.invariant.0 c.args.at (rw (← c.run.view_is) at c.requires.run) (rw (← c.self.view_is, ← c.run.view_is) at c.requires.behind)).1) (between_fits c.self.invariant.0 c.run.invariant.0 c.args.at (rw (← c.run.view_is) at c.requires.run) (rw (← c.self.view_is, ← c.run.view_is) at c.requires.behind)).0 refl b.same
+    put_between (kept_with c.self.invariant.0 c.in_ok-keep_starts.ensures.ok) (kept_with c.run.invariant.0 c.in_ok-keep_starts-2.ensures.ok) c.args.at
+    c.spot_behind-spot.result.0 c.spot_behind-spot.result.1 c.find-nth.result.0 c.find-nth.result.1
+    (c.self.inside.first + (c.args.at + c.run.inside.len)) (block_spans c.index-block.result.now)
+    (record { handle = c.index-block.result.now.handle; spans = c.in_ok-spans.spans.items })
+    c.spot_behind-spot.ensures.none
+    (λ l. c.spot_behind-spot.ensures.some (blocks_shown c.self.inside.blocks.items) l c.in_ok-keep_starts.ensures.ok
+    (let f = (between_fits c.self.invariant.0 c.run.invariant.0 c.args.at (rw (← c.run.view_is) at c.requires.run)
+    (rw (← c.self.view_is, ← c.run.view_is) at c.requires.behind)) in let g = f.1 in let n = c.self.invariant.0.len in omega arith))
+    (found (kept_with c.self.invariant.0 c.in_ok-keep_starts.ensures.ok) c.find-nth.ensures (c.args.at + c.run.inside.len) refl
+    (between_fits c.self.invariant.0 c.run.invariant.0 c.args.at (rw (← c.run.view_is) at c.requires.run)
+    (rw (← c.self.view_is, ← c.run.view_is) at c.requires.behind)).1)
+    (between_fits c.self.invariant.0 c.run.invariant.0 c.args.at (rw (← c.run.view_is) at c.requires.run)
+    (rw (← c.self.view_is, ← c.run.view_is) at c.requires.behind)).0 refl b.same
     (ap (λ (ss : List (ℕ × ℕ)). without_first_spans 0 (record { handle = c.index-block.result.now.handle; spans = ss })) c.in_ok-spans.ensures.ok)
     (subst (λ k. AreTableEntries (take c.args.at es ++ fs ++ drop (c.args.at + k) es)) (kept_facts c.run.invariant.0).length s)
 
@@ -96,5 +151,9 @@ returns-clause-ok c =
     let es = entries_in_blocks c.self.inside.first (blocks_shown c.self.inside.blocks.items) in
     let fs = entries_in_blocks c.run.inside.first (blocks_shown c.run.inside.blocks.items) in
     rw (← c.self.view_is, ← c.run.view_is)
-    (ap (entries_in_blocks c.self.inside.first) (c.in_ok-put_blocks.ensures.blocks ∙ ap (λ ys. joined_blocks (first_of_last c.spot_behind-spot.result.1 (take c.spot_behind-spot.result.0 (blocks_shown c.self.inside.blocks.items))) ys ++ drop (c.find-nth.result.0 + 1) (blocks_shown c.self.inside.blocks.items)) c.in_ok-push_with_start.ensures.blocks)
+    (ap (entries_in_blocks c.self.inside.first)
+    (c.in_ok-put_blocks.ensures.blocks
+    ∙ ap (λ ys. joined_blocks (first_of_last c.spot_behind-spot.result.1
+    (take c.spot_behind-spot.result.0 (blocks_shown c.self.inside.blocks.items))) ys ++ drop (c.find-nth.result.0 + 1)
+    (blocks_shown c.self.inside.blocks.items)) c.in_ok-push_with_start.ensures.blocks)
     ∙ (put c).entries ∙ ap (λ k. take c.args.at es ++ fs ++ drop (c.args.at + k) es) (sym (kept_facts c.run.invariant.0).length))

@@ -4,4 +4,10 @@ use Rattle.raft_table.proofs.memtable.entries.Entries.put_run_behind.Goals as go
 
 pub returns-then-not-has_room_behind-clause-fault : goal.returns-then-not-has_room_behind-clause-fault
 returns-then-not-has_room_behind-clause-fault c =
-    omega (arith, c.if-not-has_room_behind.ensures, ap length (each_placed c.args.queue c.args.run.now c.requires.queue), entry_count-append c.args.queue (take c.args.keep c.args.self.now) c.args.run.now, entry_count-cut c.args.queue c.args.keep c.args.self.now)
+    omega (
+      arith,
+      c.if-not-has_room_behind.ensures,
+      ap length (each_placed c.args.queue c.args.run.now c.requires.queue),
+      entry_count-append c.args.queue (take c.args.keep c.args.self.now) c.args.run.now,
+      entry_count-cut c.args.queue c.args.keep c.args.self.now,
+    )

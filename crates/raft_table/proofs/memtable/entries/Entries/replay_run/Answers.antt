@@ -18,7 +18,8 @@ put_run_behind-requires-clause-table_entries c =
     let run = c.args.run.now in
     let l : 0 < length run = c.in-Some.ensures.item.3.0 in
     let s : start_of run ≡ c.in-Some.first.now.index = start_of_front run c.in-Some.first.now l c.in-Some.ensures.item.1 in
-    sound_under c.args.queue c.args.queue c.args.self.now run c.in-Some-kept_under.keep c.kept_under.ensures.table_entries (may_join c.args.queue c.args.self.now c.requires.rewritten) c.requires.run l (rw s c.in-Some-kept_under.ensures.kept)
+    sound_under c.args.queue c.args.queue c.args.self.now run c.in-Some-kept_under.keep c.kept_under.ensures.table_entries
+    (may_join c.args.queue c.args.self.now c.requires.rewritten) c.requires.run l (rw s c.in-Some-kept_under.ensures.kept)
 
 replay : (c : goal.After-put_run_behind) → IsReplay c.args.queue c.args.self.now c.args.run.now c.in-Some-kept_under.keep
 replay c =

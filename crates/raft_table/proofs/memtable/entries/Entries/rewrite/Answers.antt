@@ -30,7 +30,8 @@ overlap-requires c =
     omega arith
 
 -- a refusal of the counts
-full_is : (n : ℕ) (counts : Counts) (gate : Option ℕ) (run es after : List EntryIndex) → entries_after_rewrite gate run es ≡ Some after → 2 ^ 64 ≤ live Rewrite counts + n → IsRewriteFault n counts (entries_after_rewrite gate run es) errors.Full
+full_is : (n : ℕ) (counts : Counts) (gate : Option ℕ) (run es after : List EntryIndex) → entries_after_rewrite gate run es ≡ Some after →
+    2 ^ 64 ≤ live Rewrite counts + n → IsRewriteFault n counts (entries_after_rewrite gate run es) errors.Full
 full_is n counts gate run es after e h = rw e h
 
 start_apart : (c : goal.After-count_unmoved) → start_of c.args.run.now ≡ c.in-Some.head.now.index
@@ -50,7 +51,8 @@ returns-in_default-overlap-clause-counts c =
 
 pub returns-in_default-overlap-clause-fault : goal.returns-in_default-overlap-clause-fault
 returns-in_default-overlap-clause-fault c =
-    IfErr-weaker c.count_unmoved.result (λ e. (e ≡ errors.Full) × (2 ^ 64 ≤ live Rewrite c.args.stats.now + length c.args.run.now)) (IsRewriteFault (length c.args.run.now) c.args.stats.now (entries_after_rewrite c.args.gate c.args.run.now c.args.self.now))
+    IfErr-weaker c.count_unmoved.result (λ e. (e ≡ errors.Full) × (2 ^ 64 ≤ live Rewrite c.args.stats.now + length c.args.run.now))
+    (IsRewriteFault (length c.args.run.now) c.args.stats.now (entries_after_rewrite c.args.gate c.args.run.now c.args.self.now))
     (λ e h. rw h.0 (full_is (length c.args.run.now) c.args.stats.now c.args.gate c.args.run.now c.args.self.now c.args.self.now (apart c) h.1)) c.count_unmoved.ensures.full
 
 corruption_is : (n : ℕ) (counts : Counts) (text : List ℕ) (e : Error) → IsCorruption text e → IsRewriteFault n counts None e
@@ -95,17 +97,22 @@ returns-clause-ok c =
 pub returns-clause-counts : goal.returns-clause-counts
 returns-clause-counts c =
     let f = at_moved c in
-    on_ok_weaker c.move_places.result (λ h. h.1 ∙ ap (λ m. with_rewritten c.args.gate (length c.args.run.now) m c.args.stats.now) (sym f.counts) ∙ sym (recounted_is c.args.gate c.args.run.now c.args.self.now c.args.stats.now c.in-Some.ensures.item.3.0)) c.move_places.ensures.ok
+    on_ok_weaker c.move_places.result (λ h. h.1 ∙ ap (λ m. with_rewritten c.args.gate (length c.args.run.now) m c.args.stats.now) (sym f.counts)
+    ∙ sym (recounted_is c.args.gate c.args.run.now c.args.self.now c.args.stats.now c.in-Some.ensures.item.3.0)) c.move_places.ensures.ok
 
 -- want of memory, or of room
-either_is : (n : ℕ) (counts : Counts) (gate : Option ℕ) (run es after : List EntryIndex) (e : Error) → entries_after_rewrite gate run es ≡ Some after → (e ≡ errors.Memory) ⊎ ((e ≡ errors.Full) × (2 ^ 64 ≤ live Rewrite counts + n)) → IsRewriteFault n counts (entries_after_rewrite gate run es) e
+either_is : (n : ℕ) (counts : Counts) (gate : Option ℕ) (run es after : List EntryIndex) (e : Error) →
+    entries_after_rewrite gate run es ≡ Some after → (e ≡ errors.Memory) ⊎ ((e ≡ errors.Full) × (2 ^ 64 ≤ live Rewrite counts + n)) →
+    IsRewriteFault n counts (entries_after_rewrite gate run es) e
 either_is n counts gate run es after e h (inl m) = rw (m, h) tt
 either_is n counts gate run es after e h (inr f) = rw f.0 (full_is n counts gate run es after h f.1)
 
 pub returns-clause-fault : goal.returns-clause-fault
 returns-clause-fault c =
     let f = at_moved c in
-    IfErr-weaker c.move_places.result (λ e. (e ≡ errors.Memory) ⊎ ((e ≡ errors.Full) × (2 ^ 64 ≤ live Rewrite c.args.stats.now + length c.args.run.now))) (IsRewriteFault (length c.args.run.now) c.args.stats.now (entries_after_rewrite c.args.gate c.args.run.now c.args.self.now))
+    IfErr-weaker c.move_places.result
+    (λ e. (e ≡ errors.Memory) ⊎ ((e ≡ errors.Full) × (2 ^ 64 ≤ live Rewrite c.args.stats.now + length c.args.run.now)))
+    (IsRewriteFault (length c.args.run.now) c.args.stats.now (entries_after_rewrite c.args.gate c.args.run.now c.args.self.now))
     (λ e h. either_is (length c.args.run.now) c.args.stats.now c.args.gate c.args.run.now c.args.self.now _ e (f.ok (sym c.if-is_misplaced.ensures)) h) c.move_places.ensures.fault
 
 pub returns-in_default-clause-places_alone : goal.returns-in_default-clause-places_alone

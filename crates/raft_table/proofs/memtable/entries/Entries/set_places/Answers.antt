@@ -33,4 +33,6 @@ pub returns-clause-ok : goal.returns-clause-ok
 returns-clause-ok c =
     let l = (kept_facts c.self.invariant.0).length in
     let e = rw c.self.view_is at (behind c.args.at (length c.args.places.now) c.self.inside.len (entries_in_blocks c.self.inside.first (blocks_shown c.self.inside.blocks.items)) l c.if-at-places.false) in
-    on_ok_weaker c.put_run.result (λ h. h.0 ∙ ap (λ xs. take c.args.at c.args.self.now ++ xs) c.in_ok-run.ensures.ok ∙ sym (append-nil (take c.args.at c.args.self.now ++ c.args.places.now)) ∙ ap (λ zs. take c.args.at c.args.self.now ++ c.args.places.now ++ zs) (sym e)) c.put_run.ensures.ok
+    on_ok_weaker c.put_run.result (λ h. h.0 ∙ ap (λ xs. take c.args.at c.args.self.now ++ xs) c.in_ok-run.ensures.ok
+    ∙ sym (append-nil (take c.args.at c.args.self.now ++ c.args.places.now))
+    ∙ ap (λ zs. take c.args.at c.args.self.now ++ c.args.places.now ++ zs) (sym e)) c.put_run.ensures.ok

@@ -23,4 +23,6 @@ pub returns-clause-meets : goal.returns-clause-meets
 returns-clause-meets c =
     let l = (kept_facts c.self.invariant.0).length in
     let s = (kept_facts c.self.invariant.0).start (omega arith) in
-    rw (← c.self.view_is) (start_joins c.args.index (c.args.index - c.self.inside.first) (entries_in_blocks c.self.inside.first (blocks_shown c.self.inside.blocks.items)) c.self.invariant.0.table_entries (omega arith) (omega arith) (omega arith))
+    rw (← c.self.view_is) (start_joins c.args.index (c.args.index - c.self.inside.first)
+    (entries_in_blocks c.self.inside.first (blocks_shown c.self.inside.blocks.items)) c.self.invariant.0.table_entries (omega arith) (omega arith)
+    (omega arith))

@@ -5,7 +5,9 @@ use Rattle.raft_table.proofs.BlockQueues.{AreMet, met_same, met_other, set_same,
 use Rattle.raft_table.specs.declared.memtable.block.Block.{Block}
 use Rattle.raft_table.proofs.memtable.entries.block_deques.meet.Goals as goal
 
-other : (c : goal.After-blocks-1) → AreMet c.args.spot.0 c.args.spot.1 (blocks_shown c.args.blocks.now.items) (blocks_shown (set c.args.blocks.now.items (c.args.spot.0 - 1) c.shorten.new.block)) (blocks_shown c.args.more.now.items) (blocks_shown c.args.more.now.items) 0
+other : (c : goal.After-blocks-1) → AreMet c.args.spot.0 c.args.spot.1 (blocks_shown c.args.blocks.now.items)
+    (blocks_shown (set c.args.blocks.now.items (c.args.spot.0 - 1) c.shorten.new.block)) (blocks_shown c.args.more.now.items)
+    (blocks_shown c.args.more.now.items) 0
 other c = met_other c.args.spot.0 c.args.spot.1 c.args.blocks.now.items c.args.more.now.items c.index.result.now c.index_mut.result.now c.shorten.new.block c.index-2.result.now
     (omega arith) c.requires.within c.requires.more c.index.ensures c.index-2.ensures c.if-not-is_same.ensures c.index_mut.ensures.value c.shorten.ensures.handle c.shorten.ensures.spans
 
@@ -29,7 +31,9 @@ returns-in_err-lengthen-clause-err c =
       refl,
     )
 
-same : (c : goal.After-drop_front-2) → AreMet c.args.spot.0 c.args.spot.1 (blocks_shown c.args.blocks.now.items) (blocks_shown (set c.args.blocks.now.items (c.args.spot.0 - 1) c.lengthen.new.block)) (blocks_shown c.args.more.now.items) (blocks_shown (drop 1 c.args.more.now.items)) 1
+same : (c : goal.After-drop_front-2) → AreMet c.args.spot.0 c.args.spot.1 (blocks_shown c.args.blocks.now.items)
+    (blocks_shown (set c.args.blocks.now.items (c.args.spot.0 - 1) c.lengthen.new.block)) (blocks_shown c.args.more.now.items)
+    (blocks_shown (drop 1 c.args.more.now.items)) 1
 same c = met_same c.args.spot.0 c.args.spot.1 c.args.blocks.now.items c.args.more.now.items c.index.result.now c.index_mut-2.result.now c.lengthen.new.block c.index_mut-3.result.now
     (omega arith) c.requires.within c.requires.more c.index.ensures c.index_mut-3.ensures.value
     (c.if-not-is_same.ensures ∙ ap (λ (y : Block). y.handle) (one_block c.args.more.now.items 0 c.index-2.result.now c.index_mut-3.result.now c.requires.more c.index-2.ensures c.index_mut-3.ensures.value))

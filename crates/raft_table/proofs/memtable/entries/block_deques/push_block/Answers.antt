@@ -15,11 +15,19 @@ last c = omega (arith, c.args.blocks.now.ok)
 same : (c : goal.After-drop-block) → c.index_mut.result.now.handle ≡ c.args.block.handle
 same c = ap (λ (y : Block). y.handle) (one_block c.args.blocks.now.items (c.len-len.result - 1) c.index_mut.result.now c.index.result.now (last c) c.index_mut.ensures.value c.index.ensures) ∙ c.if-is_same.ensures
 
-pushed : (c : goal.After-drop-block) → c.lengthen.new.block.spans.items ≡ take c.len-kept.result c.index_mut.result.now.spans.items ++ c.args.block.spans.items → (blocks_shown (set c.args.blocks.now.items (c.len-len.result - 1) c.lengthen.new.block) ≡ joined_blocks (blocks_shown c.args.blocks.now.items) (block_spans c.args.block ∷ [])) × (seam (blocks_shown c.args.blocks.now.items) (block_spans c.args.block ∷ []) ≡ 1)
+pushed : (c : goal.After-drop-block) →
+    c.lengthen.new.block.spans.items ≡ take c.len-kept.result c.index_mut.result.now.spans.items ++ c.args.block.spans.items →
+    (blocks_shown (set c.args.blocks.now.items (c.len-len.result - 1) c.lengthen.new.block) ≡ joined_blocks (blocks_shown c.args.blocks.now.items)
+    (block_spans c.args.block ∷ [])) × (seam (blocks_shown c.args.blocks.now.items) (block_spans c.args.block ∷ []) ≡ 1)
 pushed c h =
     let k = c.len-len.result - 1 in
     let b = c.index_mut.result.now in
-    let kept : c.len-kept.result ≡ length b.spans.items = omega (arith, ap (λ (y : Block). length y.spans.items) (one_block c.args.blocks.now.items k b c.index-then-is_same.result.now (last c) c.index_mut.ensures.value c.index-then-is_same.ensures), c.index-then-is_same.result.now.spans.ok) in
+    let kept : c.len-kept.result ≡ length b.spans.items = omega (
+      arith,
+      ap (λ (y : Block). length y.spans.items)
+          (one_block c.args.blocks.now.items k b c.index-then-is_same.result.now (last c) c.index_mut.ensures.value c.index-then-is_same.ensures),
+      c.index-then-is_same.result.now.spans.ok,
+    ) in
     pushed_same k c.args.blocks.now.items b c.lengthen.new.block c.args.block (omega (arith, c.args.blocks.now.ok)) c.index_mut.ensures.value (same c) c.lengthen.ensures.handle
     (h ∙ ap (λ ys. ys ++ c.args.block.spans.items) (take_all c.len-kept.result b.spans.items (omega arith)))
 

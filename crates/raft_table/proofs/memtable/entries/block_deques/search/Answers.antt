@@ -11,7 +11,8 @@ index-start-requires c = let s = index_some c.args.starts.now.items c.args.index
 pub returns-then-start-index : goal.returns-then-start-index
 returns-then-start-index c i bs e lo hi =
     let s = index_some c.args.starts.now.items c.args.index c.requires in
-    at_start c.args.index i (c.len-last.result - 1) c.index-start.result.now bs c.args.starts.now.items e lo hi (omega (arith, c.args.starts.now.ok)) c.index-start.ensures c.if-start-index.true (λ d l. absurd (omega (arith, c.args.starts.now.ok)))
+    at_start c.args.index i (c.len-last.result - 1) c.index-start.result.now bs c.args.starts.now.items e lo hi (omega (arith, c.args.starts.now.ok))
+    c.index-start.ensures c.if-start-index.true (λ d l. absurd (omega (arith, c.args.starts.now.ok)))
 
 pub count_at_or_below-nth-requires : goal.count_at_or_below-nth-requires
 count_at_or_below-nth-requires c = index_rises c.args.starts.now.items c.args.index c.requires

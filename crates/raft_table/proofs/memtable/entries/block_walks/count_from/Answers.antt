@@ -42,7 +42,8 @@ loop-i-preserved c =
     let a = c.loop-i.invariant.0 c.loop-i-test.true in
     let b = block_at c.args.blocks.now.items c.index-block.result.now a c.index-block.ensures in
     let d = entry_of 0 c.index-block.result.now.handle c.index.result.now in
-    let len = λ (j : ℕ). walk_len j c.args.start c.loop-i.i c.loop-i.spot.0 c.loop-i.spot.1 c.args.end c.from.result bs (block_spans c.index-block.result.now) c.index.result.now d a b.same c.index.ensures c.from.ensures i c.loop-i-test.true in
+    let len = λ (j : ℕ). walk_len j c.args.start c.loop-i.i c.loop-i.spot.0 c.loop-i.spot.1 c.args.end c.from.result bs
+    (block_spans c.index-block.result.now) c.index.result.now d a b.same c.index.ensures c.from.ensures i c.loop-i-test.true in
     let k : c.loop-i.i + 1 - c.args.start ≡ suc n = omega arith in
     let bound = c.loop-i.invariant.1 in
     let more = λ (j : ℕ). limit_more c.args.limit n c.loop-i.total c.from.result (drop c.args.start (take c.args.end (entries_in_blocks j bs))) d

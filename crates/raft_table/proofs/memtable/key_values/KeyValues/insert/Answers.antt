@@ -26,7 +26,9 @@ replaced c = c.file_in-replaced.ensures ∙ sym (file-shown c.self.inside c.args
 put : (c : goal.After-self-1) → keys_shown (after c) ≡ finite.insert c.args.self.now c.args.key.items (record { value = c.args.value.items; file = c.args.file })
 put c = shown-insert c.self.inside (after c) c.args.self.now c.args.key (record { value = c.args.value; file = c.args.file }) c.self.invariant c.self.view_is c.insert.ensures.ordered c.in_ok-insert.ensures.entries
 
-counts : (c : goal.After-self-1) (q : LogQueue) → pair_count q (finite.insert c.args.self.now c.args.key.items (record { value = c.args.value.items; file = c.args.file })) + file_weight q c.file_in-replaced.result ≡ pair_count q c.args.self.now + file_weight q (Some c.args.file)
+counts : (c : goal.After-self-1) (q : LogQueue) →
+    pair_count q (finite.insert c.args.self.now c.args.key.items (record { value = c.args.value.items; file = c.args.file })) + file_weight q
+    c.file_in-replaced.result ≡ pair_count q c.args.self.now + file_weight q (Some c.args.file)
 counts c q = rw (replaced c) (pair_count-insert q c.args.self.now c.args.key.items c.args.value.items c.args.file)
 
 pub invariant_of-self-2 : goal.invariant_of-self-2

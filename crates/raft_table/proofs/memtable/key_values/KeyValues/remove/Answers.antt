@@ -37,7 +37,8 @@ counts c q = subst (λ f. pair_count q (finite.remove c.args.self.now c.args.key
 pub invariant_of-self-2 : goal.invariant_of-self-2
 invariant_of-self-2 c =
     let fits = counted-shown c.self.inside c.args.self.now c.args.key.now (Some c.in_ok-removed.removed.file) c.self.invariant c.self.view_is (removed c) in
-    sound-changed c.self.inside (after c) c.args.self.now _ (file_weight Rewrite (Some c.in_ok-removed.removed.file)) 0 c.self.invariant c.self.view_is c.remove.ensures.ordered (gone c) (omega (arith, fits)) (omega (arith, counts c Rewrite))
+    sound-changed c.self.inside (after c) c.args.self.now _ (file_weight Rewrite (Some c.in_ok-removed.removed.file)) 0 c.self.invariant
+    c.self.view_is c.remove.ensures.ordered (gone c) (omega (arith, fits)) (omega (arith, counts c Rewrite))
 
 pub returns-clause-after : goal.returns-clause-after
 returns-clause-after c = gone c

@@ -54,7 +54,8 @@ counts c q =
 pub invariant_of-self-2 : goal.invariant_of-self-2
 invariant_of-self-2 c =
     let fits = counted-shown c.self.inside c.args.self.now c.args.key.now (Some c.in_ok-pair.pair.now.file) c.self.invariant c.self.view_is (left c) in
-    sound-changed c.self.inside (after c) c.args.self.now _ (file_weight Rewrite (Some c.in_ok-pair.pair.now.file)) (file_weight Rewrite (Some c.args.file)) c.self.invariant c.self.view_is (ordered c) (moved c) (omega (arith, fits)) (counts c Rewrite)
+    sound-changed c.self.inside (after c) c.args.self.now _ (file_weight Rewrite (Some c.in_ok-pair.pair.now.file))
+    (file_weight Rewrite (Some c.args.file)) c.self.invariant c.self.view_is (ordered c) (moved c) (omega (arith, fits)) (counts c Rewrite)
 
 pub returns-clause-after : goal.returns-clause-after
 returns-clause-after c = moved c

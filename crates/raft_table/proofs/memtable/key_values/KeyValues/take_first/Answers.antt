@@ -10,12 +10,19 @@ use Rattle.raft_table.proofs.memtable.key_values.KeyValues.take_first.Goals as g
 
 pub returns-in_err-key-clause-none : goal.returns-in_err-key-clause-none
 returns-in_err-key-clause-none c =
-    let none : c.args.self.now ≡ finite.empty = finite.empty_of_len c.args.self.now (omega (arith, len-shown c.self.inside c.args.self.now c.self.invariant c.self.view_is, c.pop_first.ensures.len, none_left _ c.in_err-key.ensures.variant)) in
+    let none : c.args.self.now ≡ finite.empty = finite.empty_of_len c.args.self.now
+    (omega (
+      arith,
+      len-shown c.self.inside c.args.self.now c.self.invariant c.self.view_is,
+      c.pop_first.ensures.len,
+      none_left _ c.in_err-key.ensures.variant,
+    )) in
     search rules
 
 pub overflow_sub-self : goal.overflow_sub-self
 overflow_sub-self c =
-    let first = first-shown c.self.inside (record c.self.inside { pairs = c.pop_first.new.self; rewritten = 0 }) c.args.self.now c.in_ok-key.key c.in_ok-key.pair c.self.invariant c.self.view_is c.pop_first.ensures.ordered c.in_ok-key.ensures.removal in
+    let first = first-shown c.self.inside (record c.self.inside { pairs = c.pop_first.new.self; rewritten = 0 }) c.args.self.now c.in_ok-key.key
+    c.in_ok-key.pair c.self.invariant c.self.view_is c.pop_first.ensures.ordered c.in_ok-key.ensures.removal in
     omega (arith, c.rewritten.ensures, pair_count-first Rewrite c.args.self.now _ _ _ first, c.self.invariant.counted, ap (pair_count Rewrite) c.self.view_is)
 
 abbrev after : goal.After-self-1 → Inside
@@ -28,7 +35,8 @@ pub invariant_of-self-2 : goal.invariant_of-self-2
 invariant_of-self-2 c =
     let counts = pair_count-first Rewrite c.args.self.now (keys_shown (after c)) _ _ (first c) in
     let before = c.self.invariant.counted ∙ ap (pair_count Rewrite) c.self.view_is in
-    sound-changed c.self.inside (after c) c.args.self.now (keys_shown (after c)) c.rewritten.result 0 c.self.invariant c.self.view_is c.pop_first.ensures.ordered refl (omega (arith, c.rewritten.ensures, counts, before)) (omega (arith, c.rewritten.ensures, counts))
+    sound-changed c.self.inside (after c) c.args.self.now (keys_shown (after c)) c.rewritten.result 0 c.self.invariant c.self.view_is
+    c.pop_first.ensures.ordered refl (omega (arith, c.rewritten.ensures, counts, before)) (omega (arith, c.rewritten.ensures, counts))
 
 pub returns-clause-first : goal.returns-clause-first
 returns-clause-first c = first c

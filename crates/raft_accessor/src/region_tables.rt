@@ -36,6 +36,7 @@ use std::collections::hash_map::IntoIter;
 use std::marker::Model;
 
 /// The tables of some regions, each under its region's id.
+#[doc(hidden)]
 #[derive(Drop)]
 pub struct RegionTables {
     tables: HashMap<u64, BoxedTable>,

@@ -12,6 +12,7 @@ use raft_records::AtomicGroupStatus;
 use std::alloc::Global;
 
 /// What stands before the first `Begin` of a group: what ends a stretch that began earlier.
+#[doc(hidden)]
 #[derive(Debug, Drop)]
 pub enum GroupFront {
     /// No `Begin` and no `End` has come; the items so far.
@@ -23,6 +24,7 @@ pub enum GroupFront {
 }
 
 /// A stretch that has begun and not ended: the number of the file of its `Begin`, and its items.
+#[doc(hidden)]
 #[derive(Debug, Drop)]
 pub struct OpenStretch {
     pub first_seq: FileSeq,
@@ -30,6 +32,7 @@ pub struct OpenStretch {
 }
 
 /// What is known of a group.
+#[doc(hidden)]
 #[derive(Debug, Drop)]
 pub struct WaitingGroup {
     pub front: GroupFront,
@@ -37,6 +40,7 @@ pub struct WaitingGroup {
 }
 
 /// A group that is whole: its items, and the numbers of the files of its `Begin` and its `End`.
+#[doc(hidden)]
 #[derive(Debug, Drop)]
 pub struct WholeGroup {
     pub items: WaitingItems,

@@ -21,6 +21,7 @@ use std::collections::BTreeMap;
 use std::marker::Model;
 
 /// What is known of the groups that have a group marker.
+#[doc(hidden)]
 #[derive(Debug, Drop)]
 pub struct WaitingGroups {
     groups: BTreeMap<u64, WaitingGroup>,

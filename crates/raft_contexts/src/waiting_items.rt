@@ -14,6 +14,7 @@ use std::marker::Model;
 
 /// The steps of items that wait for the end of their group. An item without a step, as the group's own
 /// group marker, is dropped when it comes in.
+#[doc(hidden)]
 #[derive(Debug, Drop)]
 pub struct WaitingItems {
     steps: Vec<RegionStep>,

@@ -52,6 +52,7 @@ pub fn print_batch<R: Read, W: Write>(
 /// # Errors
 ///
 /// `Io` where the writer fails: a front of the bytes, and not all of them, was written then.
+#[doc(hidden)]
 pub fn write_whole<W: Write>(writer: &mut W, bytes: &[u8]) -> Result<()>
     ensures ok { OnOk result (Appends (W.contents writer.old) (W.contents writer.new) bytes.now) }
     ensures err { OnErr result (AppendsFront (W.contents writer.old) (W.contents writer.new)

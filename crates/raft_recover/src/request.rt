@@ -157,6 +157,7 @@ fn with_path<'a>(
 }
 
 /// Returns the number and the path of a file, on both sides of a word's first `=`.
+#[doc(hidden)]
 pub fn path_named(word: &str) -> Option<(FileSeq, &str)>
     ensures named { IfSome result (λ file. NamesPath word.now file.0 file.1.now) }
     ensures refused { IfNone result (IsPathWord word.now → ⊥) }
@@ -170,6 +171,7 @@ pub fn path_named(word: &str) -> Option<(FileSeq, &str)>
 /// # Errors
 ///
 /// `Io` where a file can't be read, `Memory`.
+#[doc(hidden)]
 pub fn read_files<R: Files + AllocGlobal>(
     rt: &R,
     named: &[(FileSeq, &str)],

@@ -165,6 +165,7 @@ fn print_scan<S: Files + AllocGlobal, W: Write>(
 /// # Errors
 ///
 /// `Memory`. Some lines may then be appended.
+#[doc(hidden)]
 pub fn append_scans(
     alloc: Global,
     queue: LogQueue,

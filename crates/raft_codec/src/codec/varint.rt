@@ -45,6 +45,7 @@ pub fn parse_var_u64(bytes: &[u8]) -> Result<(u64, &[u8])>
 
 /// Returns the number in front of `bytes` and what follows it, where the number takes four bytes at most, as
 /// most numbers do. Returns nothing where it takes more, or where no number is there.
+#[doc(hidden)]
 #[inline(always)]
 pub fn parse_short_var_u64(bytes: &[u8]) -> Option<(u64, &[u8])>
     ensures some { IfSome result (λ read. Reads IsShortVarint bytes.now read.1.now read.0) }
@@ -145,6 +146,7 @@ pub(crate) fn takes_byte<W: Write>(writer: &mut W, byte: u8) -> Result<bool>
 }
 
 /// Appends the shortest spelling of `number`. On `Err` the vector is as it was.
+#[doc(hidden)]
 #[inline]
 pub fn append_var_u64(buf: &mut Vec<u8>, number: u64) -> std::result::Result<(), AllocError>
     ensures ok { OnOk result (buf.new.items ≡ buf.old.items ++ varint number) }

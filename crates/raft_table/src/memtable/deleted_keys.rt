@@ -14,6 +14,7 @@ use std::marker::Model;
 use std::mem;
 
 /// The keys that were deleted, in the order of their bytes.
+#[doc(hidden)]
 #[derive(Debug, Drop)]
 pub struct DeletedKeys {
     keys: BTreeMap<Vec<u8>, ()>,

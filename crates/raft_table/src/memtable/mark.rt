@@ -195,6 +195,7 @@ impl Mark {
     }
 
     /// Returns the deleted keys.
+    #[doc(hidden)]
     pub fn deleted(&self) -> &DeletedKeys
         ensures { result.now ≡ self.now.deleted }
     {

@@ -2,10 +2,10 @@
 
 mod common;
 
-use common::{batch_bytes, entry, file, files, lines, parts, run};
+use common::{entry, file, files, lines, parts, run};
 use raft_recover::{
-    Batches, Block, Content, Entry, ErrorKind, FileId, FilePart, LogBatch, LogFile, Pair, Queue,
-    Summary, Tables, crc32, readable_front, recover,
+    Batches, Block, Content, Entry, ErrorKind, FileId, LogBatch, LogFile, Pair, Queue, Result,
+    Summary, Tables, crc32, recover,
 };
 
 const APPEND_9: FileId = FileId {
@@ -175,6 +175,26 @@ fn a_gate_or_a_limit_of_0_is_not_none() {
         (tables.live(Queue::Append), tables.live(Queue::Rewrite)),
         (2, 3)
     );
+}
+
+#[test]
+fn a_first_index_or_a_file_of_0_is_not_none() {
+    let mut tables = Tables::new().unwrap();
+    let mut seen = |change: &dyn Fn(&mut Tables) -> Result<()>| {
+        change(&mut tables).unwrap();
+        let summary = tables.summary(7).unwrap();
+        (summary.first_index, summary.append_seq, summary.rewrite_seq)
+    };
+    let first = FileId { seq: 0, ..APPEND_9 };
+    let put = seen(&|tables| tables.put(7, b"k", b"v", first));
+    assert_eq!(put, (None, Some(0), None));
+    let appended = seen(&|tables| tables.append(7, &run(Queue::Append, 0, 0..2)));
+    assert_eq!(appended, (Some(0), Some(0), None));
+    let moved = run(Queue::Rewrite, 0, 0..2);
+    let rewritten = seen(&|tables| tables.rewrite(7, &moved, Some(0)));
+    assert_eq!(rewritten, (Some(0), Some(0), Some(0)));
+    let all_moved = seen(&|tables| tables.rewrite_key(7, b"k", Some(0), 0));
+    assert_eq!(all_moved, (Some(0), None, Some(0)));
 }
 
 #[test]
@@ -373,83 +393,6 @@ fn items_of_the_append_queue_are_no_rewriting() {
     let mut tables = Tables::new().unwrap();
     let e = tables.apply_rewrite(batch, Some(9), 1).unwrap_err();
     assert_eq!(e.kind, ErrorKind::Corruption, "{e}");
-}
-
-#[test]
-fn batches_are_walked_item_by_item() {
-    let files = files();
-    let (mut batches, mut items, mut entries) = (0, 0, 0);
-    for part in &parts(&files)[..3] {
-        for batch in Batches::new(*part).unwrap() {
-            let batch = batch.unwrap();
-            batches += 1;
-            items += batch.len();
-            assert_eq!(batch.iter().count(), batch.len());
-            assert_eq!(batch.get(batch.len()), None);
-            for item in batch.iter() {
-                if let Content::Entries(list) = item.content {
-                    entries += list.len();
-                    assert!(
-                        list.iter()
-                            .all(|entry| entry.block.file.seq == part.file.seq)
-                    );
-                }
-            }
-        }
-    }
-    // as demo/README.md says
-    assert_eq!((batches, items, entries), (36, 107, 108));
-}
-
-#[test]
-fn a_torn_tail_is_found() {
-    let files = files();
-    let whole = parts(&files)[0];
-    assert_eq!(readable_front(whole).unwrap(), (whole.bytes.len(), None));
-    let cut = FilePart {
-        bytes: &whole.bytes[..whole.bytes.len() - 1],
-        ..whole
-    };
-    let mut batches = Batches::new(cut).unwrap();
-    let mut last = 0;
-    let refused = loop {
-        let at = batches.next_at().unwrap();
-        match batches.next() {
-            Some(Ok(_)) => last = batches.next_at().unwrap(),
-            Some(Err(e)) => {
-                assert_eq!(at, last);
-                break e;
-            }
-            None => panic!("the last batch is cut short"),
-        }
-    };
-    assert_eq!(refused.kind, ErrorKind::Corruption);
-    assert_eq!(readable_front(cut).unwrap(), (last, Some(refused)));
-    assert!(batches.next().is_none());
-    let past = FilePart {
-        offset: u64::MAX,
-        ..whole
-    };
-    assert_eq!(
-        readable_front(past).unwrap_err().kind,
-        ErrorKind::InvalidArgument
-    );
-    assert_eq!(
-        Batches::new(past).unwrap_err().kind,
-        ErrorKind::InvalidArgument
-    );
-}
-
-#[test]
-fn batches_end_behind_a_refusal() {
-    let sound = batch_bytes(file(1), |batch| batch.clean(7).unwrap());
-    let torn = [&sound[..], &sound[..20], &sound[..]].concat();
-    let mut batches = Batches::new(FilePart::new(file(1), &torn)).unwrap();
-    assert!(batches.next().unwrap().is_ok());
-    assert_eq!(batches.next_at(), Some(sound.len()));
-    assert!(batches.next().unwrap().is_err());
-    assert_eq!(batches.next_at(), None);
-    assert!(batches.next().is_none());
 }
 
 #[test]

@@ -339,6 +339,22 @@ fn files_that_no_engine_of_this_crate_wrote_are_refused_and_stay_as_they_are() {
 }
 
 #[test]
+fn a_file_of_raft_engine_is_found_wherever_it_stands() {
+    let foreign = b"RAFT-LOG-FILE-HEADER-9986AB3E47F320B394C8E84916EB0ED5".to_vec();
+    let files = vec![(1, vec![]), (2, foreign.clone())];
+    for (queue, append, rewrite) in [
+        (Queue::Append, files.clone(), vec![]),
+        (Queue::Rewrite, vec![(1, vec![])], files),
+    ] {
+        let found = MemoryFiles::found(append, rewrite);
+        let e = Engine::with_files(found.clone(), Options::new()).unwrap_err();
+        assert_eq!((e.kind, e.offset), (ErrorKind::InvalidArgument, Some(0)));
+        assert_eq!(e.file, Some(FileId::new(queue, 2)));
+        assert_eq!((found.asked(), &found.files(queue)[1].1), (0, &foreign));
+    }
+}
+
+#[test]
 fn a_torn_tail_is_cut_wherever_it_was_torn() {
     let engine = engine();
     write(&engine, |batch| batch.put(7, b"key", b"value"));

@@ -13,6 +13,8 @@ use std::sync::{Arc, OnceLock};
 use std::time::Duration;
 use std::{io, thread};
 
+const FIRST: FileId = FileId::new(Queue::Append, 1);
+
 /// A batch that puts a number under a key.
 fn batch(number: u64) -> LogBatch {
     let mut batch = LogBatch::new().unwrap();
@@ -175,7 +177,9 @@ fn a_file_that_cant_be_read_is_named_and_the_engine_goes_on() {
     let is_broken = AtomicBool::new(false);
     let files = MemoryFiles::new();
     let hooked = Hooked::new(&files, |call: Call<'_>| match call {
-        Call::Read(..) if is_broken.load(SeqCst) => Err(io::ErrorKind::PermissionDenied.into()),
+        Call::Read(FIRST, _) if is_broken.load(SeqCst) => {
+            Err(io::ErrorKind::PermissionDenied.into())
+        }
         _ => Ok(()),
     });
     let engine = Engine::with_files(Arc::new(hooked), Options::new()).unwrap();
@@ -184,13 +188,14 @@ fn a_file_that_cant_be_read_is_named_and_the_engine_goes_on() {
     for e in [engine.entry(7, 1).map(drop), engine.rewrite(1)] {
         let e = e.unwrap_err();
         assert_eq!(e.kind, ErrorKind::Io);
-        assert_eq!(e.file, Some(FileId::new(Queue::Append, 1)));
-        assert!(e.offset.is_some());
+        // the block stands behind the header of its batch
+        assert_eq!((e.file, e.offset), (Some(FIRST), Some(16)));
     }
     let e = Engine::with_files(Arc::clone(engine.files()), Options::new())
         .map(drop)
         .unwrap_err();
-    assert_eq!((e.kind, e.offset), (ErrorKind::Io, Some(0)));
+    let place = (Some(FIRST), Some(0));
+    assert_eq!((e.kind, (e.file, e.offset)), (ErrorKind::Io, place));
     is_broken.store(false, SeqCst);
     assert_eq!(engine.entry(7, 1).unwrap().unwrap(), b"1");
     engine.write(&mut batch(2), true).unwrap();

@@ -31,18 +31,14 @@ extern "C" fn fdatasync(file: c_int) -> c_int {
     sync(file)
 }
 
-/// Notes a sync, and fails where that is its turn: the system may then have dropped bytes.
+/// Notes a sync, and fails where that is its turn, once: the system may have dropped bytes, and says so of one sync alone.
 fn sync(file: c_int) -> c_int {
     let path = fs::read_link(format!("/proc/self/fd/{file}")).unwrap();
     let name = path.file_name().unwrap().to_string_lossy();
     SYNCED.with_borrow_mut(|synced| synced.push(name.into_owned()));
-    match GOOD.get() {
-        0 => -1,
-        good => {
-            GOOD.set(good - 1);
-            0
-        }
-    }
+    let good = GOOD.get();
+    GOOD.set(good.checked_sub(1).unwrap_or(usize::MAX));
+    if good == 0 { -1 } else { 0 }
 }
 
 /// The names of what was synced since this was asked before.
@@ -97,6 +93,20 @@ fn a_file_without_new_bytes_isnt_synced_again() {
 }
 
 #[test]
+fn bytes_of_a_deleted_file_are_synced_no_more() {
+    let room = TempFolder::new();
+    let files = FolderFiles::open(room.path()).unwrap();
+    files.rotate(FIRST).unwrap();
+    files.write(FIRST, b"bytes").unwrap();
+    synced();
+    files.delete(FIRST).unwrap();
+    files.sync(Queue::Append).unwrap();
+    files.rotate(SECOND).unwrap();
+    let folder = name(room.path());
+    assert_eq!(synced(), [folder.clone(), folder]);
+}
+
+#[test]
 fn an_engine_syncs_its_files_where_bytes_are_to_last() {
     let room = TempFolder::new();
     let engine = Engine::open(room.path(), Options::new()).unwrap();
@@ -131,7 +141,6 @@ fn after_a_sync_that_failed_nothing_more_is_changed() {
             files.write(FIRST, b"bytes").unwrap();
             GOOD.set(good);
             change(&files).unwrap_err();
-            GOOD.set(usize::MAX);
             synced();
             for (change, _) in changes {
                 let e = change(&files).unwrap_err();
@@ -153,7 +162,6 @@ fn a_folder_whose_syncs_fail_isnt_opened() {
     for good in 0..3 {
         GOOD.set(good);
         let e = FolderFiles::open(&path).unwrap_err();
-        GOOD.set(usize::MAX);
         assert_eq!(e.kind, ErrorKind::Io, "{good}");
     }
     FolderFiles::open(&path).unwrap();

@@ -323,6 +323,9 @@ fn all_keys_of_a_region_are_walked() {
         .collect();
     assert_eq!(keys, [&b""[..], b"a", b"b", b"c"]);
     assert_eq!(tables.pairs(8).unwrap(), []);
+    tables.put(9, b"", b"", APPEND_3).unwrap();
+    assert_eq!(tables.pairs(9).unwrap(), [pair(b"", b"")]);
+    assert_eq!(tables.pairs_before(9, 3).unwrap(), [pair(b"", b"")]);
 }
 
 #[test]

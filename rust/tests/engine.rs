@@ -115,6 +115,16 @@ fn entries_are_read_by_ranges() {
 }
 
 #[test]
+fn an_entry_of_index_0_is_the_first_and_the_last_one() {
+    let engine = engine();
+    write(&engine, |batch| batch.add_entries(7, 0, &["none before"]));
+    assert_eq!(engine.first_index(7).unwrap(), Some(0));
+    assert_eq!(engine.last_index(7).unwrap(), Some(0));
+    assert_eq!(texts(engine.entries(7, ..)), ["none before"]);
+    assert_eq!(texts(engine.entries(7, 0..=0)), ["none before"]);
+}
+
+#[test]
 fn blocks_at_the_same_offset_of_several_files_are_told_apart() {
     let engine = engine();
     for (index, text) in (1..).zip(["a", "b", "c"]) {
@@ -175,6 +185,7 @@ fn a_refused_batch_stays_as_it_was_and_the_engine_goes_on() {
     let e = engine.write(&mut closed, false).unwrap_err();
     assert_eq!(e.kind, ErrorKind::InvalidArgument);
     assert_eq!(engine.get(7, b"key").unwrap(), None);
+    assert_eq!(engine.stats().batches, 3);
 }
 
 #[test]

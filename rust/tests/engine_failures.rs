@@ -6,6 +6,7 @@ use common::hooked::{Call, Hooked};
 use common::model::region_of;
 use raft_recover::{
     Engine, Error, ErrorKind, FileId, Files, LogBatch, MemoryFiles, Options, Queue, Result,
+    Unsynced,
 };
 use std::panic::{AssertUnwindSafe, catch_unwind};
 use std::sync::atomic::{AtomicBool, AtomicUsize, Ordering::SeqCst};
@@ -139,6 +140,31 @@ fn where_any_change_fails_every_later_call_says_so_and_nothing_is_lost() {
         let last = region.keys.get(&b"a"[..]).map(|value| value[0]);
         assert_eq!(last.unwrap_or(0), written as u8);
     }
+}
+
+#[test]
+fn a_batch_lasts_where_the_file_behind_it_cant_be_begun() {
+    let (has_failed, since) = (AtomicBool::new(false), AtomicUsize::new(0));
+    let files = MemoryFiles::new();
+    let hooked = Hooked::new(&files, |call: Call<'_>| {
+        since.fetch_add(usize::from(has_failed.load(SeqCst)), SeqCst);
+        match call {
+            Call::Rotate(file) if file.seq == 2 => {
+                has_failed.store(true, SeqCst);
+                Err(io::ErrorKind::StorageFull.into())
+            }
+            _ => Ok(()),
+        }
+    });
+    let engine = Engine::with_files(hooked, Options::new().target_file_size(1)).unwrap();
+    engine.write(&mut batch(1), true).unwrap();
+    let e = engine.write(&mut batch(2), true).unwrap_err();
+    let place = (Some(FileId::new(Queue::Append, 2)), Some(0));
+    assert_eq!((e.kind, (e.file, e.offset)), (ErrorKind::Failed, place));
+    assert_eq!(since.load(SeqCst), 0, "something was asked of failed files");
+    let left = files.left(files.asked(), Unsynced::default(), Unsynced::default());
+    let opened = Engine::with_files(left, Options::new()).unwrap();
+    assert_eq!(opened.last_index(7).unwrap(), Some(1));
 }
 
 #[test]

@@ -4,6 +4,7 @@ mod common;
 
 use common::engines::{asked_since, engine, write};
 use common::model::region_of;
+use common::{batch_bytes, file};
 use raft_recover::{Engine, MemoryFiles, Options, Queue};
 
 #[test]
@@ -91,6 +92,19 @@ fn a_rewriting_of_more_than_is_read_at_once_moves_all() {
     engine.rewrite_again().unwrap();
     assert_eq!(engine.purge().unwrap().rewrite_files, 1);
     assert!(same());
+}
+
+#[test]
+fn records_move_out_of_a_file_of_number_0() {
+    let bytes = batch_bytes(file(0), |batch| {
+        batch.add_entries(7, 1, &["an entry"]).unwrap();
+    });
+    let found = MemoryFiles::found(vec![(0, bytes), (1, vec![])], vec![]);
+    let engine = Engine::with_files(found, Options::new()).unwrap();
+    engine.rewrite(0).unwrap();
+    assert_eq!(engine.stats().rewrite.records, 1);
+    assert_eq!(engine.purge().unwrap().append_files, 1);
+    assert_eq!(engine.entry(7, 1).unwrap().unwrap(), b"an entry");
 }
 
 #[test]

@@ -110,3 +110,13 @@ fn what_was_scanned_stays_as_it_was() {
     assert_eq!(engine.scan(7, ..).unwrap().len(), 0);
     assert!(scanned.eq(model));
 }
+
+#[test]
+fn a_pair_of_no_bytes_is_found() {
+    let engine = Engine::with_files(MemoryFiles::new(), Options::new()).unwrap();
+    let mut batch = LogBatch::new().unwrap();
+    batch.put(7, b"", b"").unwrap();
+    engine.write(&mut batch, false).unwrap();
+    let pair = (vec![], vec![]);
+    assert!(engine.scan(7, ..).unwrap().eq([pair]));
+}

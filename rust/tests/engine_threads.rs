@@ -138,6 +138,38 @@ fn nobody_goes_on_before_the_sync_and_all_who_wait_go_on_after_one() {
     assert!((1..4).contains(&syncs), "{syncs}");
 }
 
+/// How many syncs four batches take that are handed in while a new file is begun, one of them before the others.
+fn syncs_of_four() -> u64 {
+    let gate = Gate::default();
+    let hooked = Hooked::new(&MemoryFiles::new(), |call: Call<'_>| {
+        if matches!(call, Call::Rotate(_)) {
+            gate.pass();
+        }
+        Ok(())
+    });
+    let engine = Engine::with_files(hooked, Options::new()).unwrap();
+    let before = engine.stats().syncs;
+    thread::scope(|scope| {
+        let closed = gate.close();
+        scope.spawn(|| engine.rotate().unwrap());
+        gate.wait_for(1);
+        for region in 0..4 {
+            let engine = &engine;
+            scope.spawn(move || engine.write(&mut batch(region, 1), true).unwrap());
+            thread::sleep(Duration::from_millis(50));
+        }
+        drop(closed);
+    });
+    assert_eq!(engine.stats().batches, 4);
+    engine.stats().syncs - before - 1 // without that in front of the new file
+}
+
+#[test]
+fn who_comes_while_the_leader_waits_for_a_turn_is_in_its_group() {
+    // where a thread comes late it has a group of its own
+    assert!((0..10).any(|_| syncs_of_four() == 1));
+}
+
 #[test]
 fn who_wants_no_sync_goes_on_before_it() {
     let (gates, is_first_over) = ([Gate::default(), Gate::default()], AtomicBool::new(false));

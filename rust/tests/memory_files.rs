@@ -105,6 +105,43 @@ fn deletions_that_were_not_synced_may_not_be_done() {
 }
 
 #[test]
+fn deletions_add_up_and_a_new_file_syncs_none_of_them() {
+    let [third, fourth] = [3, 4].map(|seq| FileId::new(Queue::Append, seq));
+    let files = asked(&[
+        Ask::Begin(FIRST),
+        Ask::Begin(SECOND),
+        Ask::Begin(third),
+        Ask::Delete(FIRST),
+        Ask::Sync(Queue::Append),
+        Ask::Delete(SECOND),
+        Ask::Begin(fourth),
+    ]);
+    let most = files.unsynced(7, Queue::Append);
+    assert_eq!((most.steps, most.deletions), (1, 1));
+    assert_eq!(lefts(&files, false), ["2: 3:", "2: 3: 4:"]);
+    assert_eq!(lefts(&files, true), ["3:", "3: 4:"]);
+    files.sync(Queue::Append).unwrap();
+    assert_eq!(lefts(&files, false), ["3: 4:"]);
+}
+
+#[test]
+fn bytes_are_read_where_all_of_them_are_there() {
+    let files = asked(&[Ask::Begin(FIRST), write(FIRST, "abc")]);
+    let read = |offset, len| {
+        let mut bytes = vec![0; len];
+        files.read(FIRST, offset, &mut bytes).map(|()| bytes)
+    };
+    for (offset, expected) in [(0, "abc"), (1, "bc"), (3, "")] {
+        let bytes = read(offset, expected.len()).unwrap();
+        assert_eq!(bytes, expected.as_bytes());
+    }
+    for (offset, len) in [(0, 4), (2, 2), (3, 1), (4, 0), (u64::MAX, 1)] {
+        let e = read(offset, len).unwrap_err();
+        assert_eq!(e.kind(), io::ErrorKind::UnexpectedEof, "{offset} {len}");
+    }
+}
+
+#[test]
 fn one_queue_says_nothing_of_the_other() {
     let files = asked(&[
         Ask::Begin(FIRST),

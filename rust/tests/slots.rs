@@ -111,6 +111,21 @@ fn a_group_marker_changes_no_slot() {
 }
 
 #[test]
+fn a_key_that_begins_like_a_group_marker_is_none() {
+    let mut slot = slot(7);
+    let key = b"__\x01a".to_vec();
+    let put = Content::Put {
+        key: key.clone(),
+        value: vec![0],
+    };
+    for (content, live) in [(put, 1), (Content::Delete { key }, 0)] {
+        let item = Item { region: 7, content };
+        slot.write(&item, APPEND_9).unwrap();
+        assert_eq!(slot.live(Queue::Append), live);
+    }
+}
+
+#[test]
 fn the_items_of_a_batch_are_written_one_by_one() {
     let mut batch = LogBatch::new().unwrap();
     batch.add_entries(7, 10, &["x"; 10]).unwrap();

@@ -72,6 +72,13 @@ fn all_calls<F: Files>(engine: &Engine<F>) -> Vec<Error> {
         .collect()
 }
 
+/// What the system said of a call on a file.
+fn source_of(e: &Error) -> io::ErrorKind {
+    let source = std::error::Error::source(e).unwrap();
+    let source: &io::Error = source.downcast_ref().unwrap();
+    source.kind()
+}
+
 /// What a change is about that fails: a file, and where in it.
 fn place_of(call: Call<'_>, files: &MemoryFiles) -> (Option<FileId>, Option<u64>) {
     let end_of = |queue| {
@@ -117,11 +124,10 @@ fn where_any_change_fails_every_later_call_says_so_and_nothing_is_lost() {
         let first = result.unwrap_err();
         assert_eq!(first.kind, ErrorKind::Io);
         assert_eq!(Some(&(first.file, first.offset)), place.get(), "{first}");
-        let source = std::error::Error::source(&first).unwrap();
-        let source: &io::Error = source.downcast_ref().unwrap();
-        assert_eq!(source.kind(), io::ErrorKind::StorageFull);
+        assert_eq!(source_of(&first), io::ErrorKind::StorageFull);
         for e in all_calls(&engine) {
             assert_eq!(e.kind, ErrorKind::Failed);
+            assert_eq!(source_of(&e), io::ErrorKind::StorageFull);
             assert_eq!((e.file, e.offset), (first.file, first.offset));
             assert_eq!(e.text, format!("Failed: {first}"));
         }

@@ -85,6 +85,19 @@ fn batches_end_behind_a_refusal() {
 }
 
 #[test]
+fn a_tail_of_any_length_is_told() {
+    let sound = batch_bytes(file(1), |batch| batch.clean(7).unwrap());
+    for len in 1..sound.len() {
+        let torn = [&sound[..], &sound[..len]].concat();
+        let part = FilePart::new(file(1), &torn);
+        let (front, refused) = readable_front(part).unwrap();
+        assert_eq!((front, refused.is_some()), (sound.len(), true), "{len}");
+        let batches = Batches::new(part).unwrap();
+        assert_eq!(batches.map(|batch| batch.err()).last(), Some(refused));
+    }
+}
+
+#[test]
 fn a_part_may_begin_anywhere_and_end_at_the_last_offset() {
     let sound = batch_bytes(file(3), |batch| batch.clean(7).unwrap());
     let torn = [&sound[..], &sound[..20]].concat();

@@ -142,6 +142,26 @@ fn errors_of_one_kind_with_other_words_are_not_equal() {
 }
 
 #[test]
+fn errors_are_the_same_where_kind_words_and_place_are() {
+    let with_source = FolderFiles::open("/no/folder").unwrap_err();
+    let mut same = Queue::try_from(2).unwrap_err();
+    (same.kind, same.text) = (with_source.kind, with_source.text.clone());
+    let has_source = |e: &Error| std::error::Error::source(e).is_some();
+    assert!(has_source(&with_source) && !has_source(&same));
+    assert_eq!(with_source, same);
+    let mut others = [(); 4].map(|()| same.clone());
+    others[0].kind = ErrorKind::Other;
+    others[1].text.push('.');
+    others[2].file = Some(FileId::new(Queue::Append, 1));
+    others[3].offset = Some(0);
+    for other in &others {
+        assert_ne!(*other, same);
+    }
+    let all: HashSet<_> = others.into_iter().chain([with_source, same]).collect();
+    assert_eq!(all.len(), 5);
+}
+
+#[test]
 fn a_part_begins_at_offset_0_and_is_shown_without_its_bytes() {
     let bytes = vec![7; 1 << 20];
     let part = FilePart::new(LogFile::new(Queue::Append, 3, Version::V2), &bytes);

@@ -108,6 +108,28 @@ fn records_move_out_of_a_file_of_number_0() {
 }
 
 #[test]
+fn a_gate_behind_the_last_file_is_that_file() {
+    let files = MemoryFiles::new();
+    let engine = Engine::with_files(files.clone(), Options::new()).unwrap();
+    for index in 1..=3 {
+        write(&engine, |batch| {
+            batch.add_entries(7, index, &[index.to_string()])?;
+            batch.put(7, b"a", &index.to_le_bytes())
+        });
+        engine.rewrite(u64::MAX).unwrap();
+        let stats = engine.stats();
+        assert_eq!(stats.append.records, 0);
+        assert_eq!(stats.rewrite.records as u64, index + 1);
+        engine.rotate().unwrap();
+        assert_eq!(engine.purge().unwrap().append_files, 1);
+    }
+    let expected = region_of(&engine, 7).unwrap();
+    let left = files.left(files.asked(), Default::default(), Default::default());
+    let opened = Engine::with_files(left, Options::new()).unwrap();
+    assert_eq!(region_of(&opened, 7).unwrap(), expected);
+}
+
+#[test]
 fn small_regions_move_all_at_once() {
     let engine = engine();
     for region in 1..=100 {
@@ -172,6 +194,28 @@ fn a_purge_leaves_half_of_the_bytes_that_may_stay() {
         assert_eq!(engine.stats().append.bytes, stay * len);
         assert_eq!(engine.entries(7, ..).unwrap().len(), 10);
     }
+}
+
+#[test]
+fn a_purge_counts_the_files_that_each_of_its_steps_deletes() {
+    let options = Options::new().target_file_size(100).purge_above(500);
+    let engine = Engine::with_files(MemoryFiles::new(), options).unwrap();
+    for region in [8, 7] {
+        for index in 1..=8 {
+            write(&engine, |batch| {
+                batch.add_entries(region, index, &[[7; 100]])
+            });
+        }
+    }
+    write(&engine, |batch| batch.clean(8)); // no record has to move out of the first eight files
+    let before = engine.stats();
+    let purged = engine.purge().unwrap();
+    let after = engine.stats();
+    let append = after.append.first_file - before.append.first_file;
+    let rewrite = after.rewrite.first_file - before.rewrite.first_file;
+    assert!(append > 8 && rewrite == 1, "{after:?}");
+    assert_eq!(purged.append_files as u64, append);
+    assert_eq!(purged.rewrite_files as u64, rewrite);
 }
 
 #[test]

@@ -67,7 +67,7 @@ fn entries_are_read_by_ranges() {
     });
     write(&engine, |batch| batch.add_entries(7, 5, &["55", "6"]));
     write(&engine, |batch| batch.compact(7, 3));
-    let rows: [(_, &[&str]); 8] = [
+    let rows: [(_, &[&str]); 10] = [
         (
             (Bound::Unbounded, Bound::Unbounded),
             &["333", "4", "55", "6"],
@@ -79,6 +79,8 @@ fn entries_are_read_by_ranges() {
         ((Bound::Included(4), Bound::Excluded(4)), &[]),
         ((Bound::Included(9), Bound::Unbounded), &[]),
         ((Bound::Unbounded, Bound::Excluded(1)), &[]),
+        ((Bound::Excluded(u64::MAX), Bound::Unbounded), &[]),
+        ((Bound::Excluded(u64::MAX), Bound::Included(u64::MAX)), &[]),
     ];
     for (range, expected) in rows {
         assert_eq!(texts(engine.entries(7, range)), expected, "{range:?}");
@@ -312,6 +314,34 @@ fn damaged_bytes_are_told_by_file_and_offset() {
     engine.rewrite(1).unwrap();
     assert_eq!(engine.purge().unwrap().append_files, 1);
     assert_eq!(engine.entry(9, 1).unwrap().unwrap(), b"sound");
+}
+
+#[test]
+fn damaged_bytes_that_are_to_move_again_are_told_by_file_and_offset() {
+    let engine = engine();
+    for (region, text) in [(7, "sound"), (8, "damaged")] {
+        write(&engine, |batch| batch.add_entries(region, 1, &[text]));
+    }
+    engine.rotate().unwrap();
+    engine.rewrite(1).unwrap();
+    assert_eq!(engine.purge().unwrap().append_files, 1);
+    let mut files = engine.files().files(Queue::Rewrite);
+    let bytes = &mut files[0].1;
+    let at = bytes.windows(7).position(|bytes| bytes == b"damaged");
+    bytes[at.unwrap()] ^= 1;
+    let found = MemoryFiles::found(engine.files().files(Queue::Append), files);
+    let engine = Engine::with_files(found, Options::new()).unwrap();
+    let told = engine.entry(8, 1).unwrap_err();
+    assert_eq!(told.kind, ErrorKind::Corruption);
+    assert_eq!(told.file, Some(FileId::new(Queue::Rewrite, 1)));
+    assert!(
+        told.offset
+            .is_some_and(|offset| offset <= at.unwrap() as u64)
+    );
+    assert_eq!(engine.rewrite_again().unwrap_err(), told);
+    write(&engine, |batch| batch.clean(8));
+    write(&engine, |batch| batch.add_entries(7, 2, &["sound too"]));
+    assert_eq!(texts(engine.entries(7, 2..)), ["sound too"]);
 }
 
 #[test]

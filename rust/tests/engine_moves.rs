@@ -230,6 +230,22 @@ fn a_purge_moves_nothing_out_of_the_file_that_is_written_to() {
 
 #[test]
 fn records_move_again_once_there_are_twice_as_many_bytes() {
+    for (more, purged) in [(8, 0), (12, 1)] {
+        let engine = ten_files(&Options::new().purge_above(200));
+        engine.purge().unwrap();
+        let before = engine.stats().rewrite.bytes;
+        for index in 11..=10 + more {
+            write(&engine, |batch| batch.add_entries(7, index, &[[7; 100]]));
+        }
+        engine.rewrite(u64::MAX).unwrap();
+        assert_eq!(engine.stats().rewrite.bytes / before, 1 + purged);
+        assert_eq!(engine.purge().unwrap().rewrite_files as u64, purged);
+        assert_eq!(engine.entries(7, ..).unwrap().len() as u64, 10 + more);
+    }
+}
+
+#[test]
+fn records_move_no_more_where_there_are_not_more_bytes() {
     let engine = ten_files(&Options::new().purge_above(200));
     engine.purge().unwrap();
     let moved = engine.stats().rewrite;

@@ -5,7 +5,7 @@ mod common;
 use common::engines::{asked_since, engine, write};
 use common::model::region_of;
 use common::{batch_bytes, file};
-use raft_recover::{Engine, MemoryFiles, Options, Queue};
+use raft_recover::{Ask, Engine, MemoryFiles, Options, Queue};
 
 #[test]
 fn records_move_and_files_go() {
@@ -42,6 +42,12 @@ fn records_move_and_files_go() {
     assert_eq!(engine.purge().unwrap().rewrite_files, 1);
     same(&engine);
     assert_eq!(engine.purge().unwrap(), Default::default());
+    let syncs = [Queue::Append, Queue::Rewrite].map(|queue| {
+        let asks = files.asks();
+        asks.iter().filter(|ask| **ask == Ask::Sync(queue)).count() as u64
+    });
+    assert!(syncs[1] > 0);
+    assert_eq!(engine.stats().syncs, syncs[0] + syncs[1]);
     let (append, rewrite) = (files.files(Queue::Append), files.files(Queue::Rewrite));
     same(&Engine::with_files(MemoryFiles::found(append, rewrite), options).unwrap());
 }

@@ -128,6 +128,21 @@ fn what_is_there_is_found() {
 }
 
 #[test]
+fn files_of_any_number_and_length_are_found() {
+    let room = TempFolder::new();
+    let bytes = vec![7; 3 << 20];
+    for name in ["0000000000000000.raftlog", "18446744073709551615.rewrite"] {
+        fs::write(room.path().join(name), &bytes).unwrap();
+    }
+    let files = FolderFiles::open(room.path()).unwrap();
+    for (queue, seq) in [(Queue::Append, 0), (Queue::Rewrite, u64::MAX)] {
+        assert_eq!(files.list(queue).unwrap(), [(seq, bytes.len() as u64)]);
+        let found = read(&files, FileId::new(queue, seq), 0, bytes.len());
+        assert!(found.unwrap() == bytes);
+    }
+}
+
+#[test]
 fn names_that_are_none_of_log_files_are_left_alone_and_those_that_seem_so_are_refused() {
     for name in ["LOG", "0000000000000001.raftlog.old", "a.log", "raftlog"] {
         let room = TempFolder::new();

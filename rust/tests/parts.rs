@@ -4,7 +4,8 @@ mod common;
 
 use common::{batch_bytes, file, files, parts};
 use raft_recover::{
-    Batches, Content, Context, ErrorKind, FileId, FilePart, Queue, readable_front, recover,
+    Batches, Content, Context, ErrorKind, FileId, FilePart, LogFile, Queue, Version,
+    readable_front, recover,
 };
 
 #[test]
@@ -82,6 +83,23 @@ fn batches_end_behind_a_refusal() {
     assert!(batches.next().unwrap().is_err());
     assert_eq!(batches.next_at(), None);
     assert!(batches.next().is_none());
+}
+
+#[test]
+fn a_refusal_names_the_file_of_either_queue() {
+    for queue in [Queue::Append, Queue::Rewrite] {
+        for version in [Version::V1, Version::V2] {
+            for seq in [0, 3, u64::MAX] {
+                let file = LogFile::new(queue, seq, version);
+                let mut bytes = batch_bytes(file, |batch| batch.clean(7).unwrap());
+                bytes.extend([7; 100]);
+                let part = FilePart::new(file, &bytes);
+                let e = Context::new().unwrap().replay(part).unwrap_err();
+                let offset = bytes.len() as u64 - 100;
+                assert_eq!((e.file, e.offset), (Some(file.into()), Some(offset)), "{e}");
+            }
+        }
+    }
 }
 
 #[test]

@@ -1,7 +1,7 @@
 //! Batches, item by item.
 
 use crate::sys::{self, ItemsHandle};
-use crate::{Error, FilePart, Result};
+use crate::{Error, ErrorKind, FilePart, Result};
 use std::iter::FusedIterator;
 
 mod batch;
@@ -113,7 +113,7 @@ impl Iterator for Batches<'_> {
                 Some(Ok(Batch::of(handle)))
             }
             Ok(None) => None,
-            Err(e) => Some(Err(e)),
+            Err(e) => Some(Err(placed(e, self.part, at))),
         }
     }
 }
@@ -134,7 +134,8 @@ impl FusedIterator for Batches<'_> {}
 /// let torn = [batch.bytes()?, b"a write that stopped half way".to_vec()].concat();
 /// let (front, refused) = readable_front(FilePart::new(file, &torn))?;
 /// assert_eq!(front, len);
-/// assert_eq!(refused.unwrap().kind, ErrorKind::Corruption);
+/// let refused = refused.unwrap();
+/// assert_eq!((refused.kind, refused.offset), (ErrorKind::Corruption, Some(len as u64)));
 /// assert_eq!(readable_front(FilePart::new(file, &torn[..front]))?, (len, None));
 /// # Ok::<(), raft_recover::Error>(())
 /// ```
@@ -144,7 +145,16 @@ impl FusedIterator for Batches<'_> {}
 /// `InvalidArgument` where the bytes end past offset 2^64 - 1.
 pub fn readable_front(part: FilePart<'_>) -> Result<(usize, Option<Error>)> {
     part.check()?;
-    Ok(sys::readable_front(part))
+    let (front, refused) = sys::readable_front(part);
+    Ok((front, refused.map(|e| placed(e, part, front))))
+}
+
+/// Says of a refusal where in the file the batch begins that can't be read.
+fn placed(refused: Error, part: FilePart<'_>, at: usize) -> Error {
+    match refused.kind {
+        ErrorKind::Memory => refused,
+        _ => refused.at(part.file.into(), part.offset + at as u64),
+    }
 }
 
 /// Returns how long the log batch is whose header stands in front of the bytes, if one does. So files are cut between batches,

@@ -123,15 +123,15 @@ fn a_part_may_begin_anywhere_and_end_at_the_last_offset() {
         offset,
         ..FilePart::new(file(3), &torn)
     };
-    let of_first = readable_front(part(0)).unwrap();
     let last = u64::MAX - torn.len() as u64;
     for offset in [0, 1, 1 << 40, last] {
-        assert_eq!(readable_front(part(offset)).unwrap(), of_first);
-        let mut batches = Batches::new(part(offset)).unwrap();
-        assert_eq!(batches.nth(1).unwrap().err(), of_first.1);
         let refused = Context::new().unwrap().replay(part(offset)).unwrap_err();
         assert_eq!(refused.file, Some(FileId::new(Queue::Append, 3)));
         assert_eq!(refused.offset, Some(offset + sound.len() as u64));
+        let mut batches = Batches::new(part(offset)).unwrap();
+        assert_eq!(batches.nth(1).unwrap().unwrap_err(), refused);
+        let front = readable_front(part(offset)).unwrap();
+        assert_eq!(front, (sound.len(), Some(refused)));
     }
     let past = part(last + 1);
     let results = [

@@ -12,7 +12,7 @@ use std::alloc::Global;
 /// The changes of a table and those of a newer one, and whether that is merged as an appended table or as the newer
 /// neighbor.
 pub(crate) static DIRECT: [Call; 9] = [
-    // Entries of three files and two keys, behind those of the append queue and over them.
+    // Entries of three files, over those of the append queue and behind them, and more keys than a node of a map has.
     Call::MergeDirectly(
         &[
             Change::Append(10, 20, 1),
@@ -23,8 +23,19 @@ pub(crate) static DIRECT: [Call; 9] = [
             Change::Append(15, 18, 2),
             Change::Append(18, 19, 3),
             Change::Append(19, 30, 4),
+            Change::Put(b"a", 2),
+            Change::Put(b"b", 2),
+            Change::Put(b"c", 2),
+            Change::Put(b"d", 2),
+            Change::Put(b"e", 2),
+            Change::Put(b"f", 2),
+            Change::Put(b"g", 2),
+            Change::Put(b"h", 2),
+            Change::Put(b"i", 2),
+            Change::Put(b"j", 2),
             Change::Put(b"k", 2),
-            Change::Put(b"l", 3),
+            Change::Put(b"l", 2),
+            Change::Put(b"m", 2),
         ],
         false,
     ),
@@ -59,7 +70,7 @@ pub(crate) static DIRECT: [Call; 9] = [
     ),
     // The first records of a table.
     Call::MergeDirectly(&[], &[Change::Append(0, 3, 1), Change::Put(b"k", 1)], false),
-    // An appended table after a hole, with a key that was rewritten.
+    // An appended table after a hole, with as many keys, one of which was rewritten.
     Call::MergeDirectly(
         &[
             Change::Append(10, 20, 1),
@@ -71,8 +82,18 @@ pub(crate) static DIRECT: [Call; 9] = [
         ],
         &[
             Change::Append(25, 30, 2),
+            Change::Put(b"a", 2),
+            Change::Put(b"b", 2),
+            Change::Put(b"c", 2),
+            Change::Put(b"d", 2),
+            Change::Put(b"e", 2),
+            Change::Put(b"f", 2),
+            Change::Put(b"g", 2),
+            Change::Put(b"h", 2),
+            Change::Put(b"i", 2),
             Change::Put(b"k", 2),
             Change::Put(b"l", 2),
+            Change::Put(b"m", 2),
         ],
         true,
     ),

@@ -1,9 +1,9 @@
 //! Calls of an accessor answer, count and leave what their rows say. A region has the slot that raft-engine gives it.
 
 use crate::calls::{Call, call_core, tables_of};
-use crate::items::{Item, answered};
+use crate::items::{Item, NEW, answered};
 use crate::rows::{Outline, Row, lists};
-use crate::seen::taken_of;
+use crate::seen::{counts, taken_of};
 use raft_memtable::{Error, LogQueue, MemTable, MemTableAccessor, Result, slot_of};
 use std::alloc::Global;
 
@@ -16,21 +16,12 @@ fn outline(table: &MemTable) -> Outline {
     )
 }
 
-/// Returns how many records are live in the append queue, were written to the rewrite queue, and were deleted from it.
-fn counts(core: &MemTableAccessor) -> (usize, usize, usize) {
-    let stats = core.stats();
-    (
-        stats.live_entries(LogQueue::Append),
-        stats.rewrite_entries(),
-        stats.deleted_rewrite_entries(),
-    )
-}
-
 /// Tests whether a call returns and leaves what its row says.
 fn is_kept(alloc: Global, core: &mut MemTableAccessor, row: &Row) -> Result<bool> {
     let (call, expected, numbers, (region, table)) = *row;
     let answer = answered(call_core(alloc, core, call))?.map(|answer| answer.0);
-    Ok(answer == expected && counts(core) == numbers && core.get(region).map(outline) == table)
+    let is_counted = counts(core.stats()) == numbers;
+    Ok(answer == expected && is_counted && core.get(region).map(outline) == table)
 }
 
 fn are_kept(alloc: Global) -> Result<bool> {
@@ -52,6 +43,95 @@ fn each_call_changes_tables_and_is_counted(rt: HostRuntime) {
         kept = are_kept(rt.alloc());
     }
     assert!(rt; matches!(kept, Ok(true)));
+}
+
+/// A call, a region, and the table that `get_or_insert` hands out for it then: its outline, and the value of `k` in it;
+/// and how many tables there are.
+type Handed = (Call, u64, Outline, Option<&'static [u8]>, usize);
+
+/// Calls of an accessor without tables, one after the other. The regions 3 and 73 have one slot.
+static HANDED: [Handed; 12] = [
+    (Call::Nothing, 3, (0, 0, 0, 0), None, 1),
+    (
+        Call::AppendWrites(&[Item::Put(3, b"k", true, Some(NEW))]),
+        3,
+        (0, 0, 1, 0),
+        Some(b"v"),
+        1,
+    ),
+    (
+        Call::AppendWrites(&[Item::Entries(3, 10, 20, NEW)]),
+        3,
+        (10, 20, 11, 0),
+        Some(b"v"),
+        1,
+    ),
+    (Call::Nothing, 73, (0, 0, 0, 0), None, 2),
+    (
+        Call::AppendWrites(&[Item::Entries(73, 1, 4, NEW)]),
+        73,
+        (1, 4, 3, 0),
+        None,
+        2,
+    ),
+    (Call::Nothing, 3, (10, 20, 11, 0), Some(b"v"), 2),
+    (
+        Call::RewriteWrites(&[Item::Put(3, b"k", true, Some(NEW))], Some(1), 50),
+        3,
+        (10, 20, 10, 1),
+        Some(b"v"),
+        2,
+    ),
+    (
+        Call::AppendWrites(&[Item::Delete(3, b"k")]),
+        3,
+        (10, 20, 10, 0),
+        None,
+        2,
+    ),
+    (Call::Remove(3, false), 3, (0, 0, 0, 0), None, 2),
+    (Call::Nothing, 73, (1, 4, 3, 0), None, 2),
+    (Call::Nothing, 0, (0, 0, 0, 0), None, 3),
+    (Call::Nothing, u64::MAX, (0, 0, 0, 0), None, 4),
+];
+
+fn handed_out() -> &'static [Handed] {
+    &HANDED
+}
+
+/// Tests whether a table is the region's own, as in the row.
+fn is_own(table: &MemTable, row: &Handed) -> bool {
+    let (_, region, expected, value, _) = *row;
+    table.region_id() == region && outline(table) == expected && table.get(b"k") == value
+}
+
+/// Tests whether the table of the row is handed out after the row's call, by a second call again, and by `get`.
+fn is_handed(alloc: Global, core: &mut MemTableAccessor, row: &Handed) -> Result<bool> {
+    let (call, region, _, _, count) = *row;
+    call_core(alloc, core, call)?;
+    let is_first = is_own(core.get_or_insert(region)?, row);
+    let is_second = is_own(core.get_or_insert(region)?, row);
+    let is_found = core.get(region).is_some_and(|table| is_own(table, row));
+    Ok(is_first && is_second && is_found && core.tables()?.len() == count)
+}
+
+fn are_handed(alloc: Global) -> Result<bool> {
+    let mut core = MemTableAccessor::new(alloc)?;
+    for row in handed_out() {
+        if !is_handed(alloc, &mut core, row)? {
+            return Ok(false);
+        }
+    }
+    Ok(true)
+}
+
+#[test]
+fn a_region_is_handed_its_own_table(rt: HostRuntime) {
+    let mut handed = are_handed(rt.alloc());
+    if matches!(handed, Err(Error::Memory)) {
+        handed = are_handed(rt.alloc());
+    }
+    assert!(rt; matches!(handed, Ok(true)));
 }
 
 /// Cleans of three regions, one of them twice.

@@ -1,6 +1,6 @@
 //! What can be seen of an accessor and of shared tables.
 
-use raft_memtable::{Error, FileSeq, LogQueue, MemTable, MemTableAccessor, Result};
+use raft_memtable::{Error, FileSeq, GlobalStats, LogQueue, MemTable, MemTableAccessor, Result};
 use raft_records::{Command, LogBatch, LogItemContent};
 use raft_recover::SharedAccessor;
 use std::alloc::Global;
@@ -61,6 +61,15 @@ pub(crate) fn shape(table: &MemTable) -> Shape {
         ),
         table.atomic_group(),
         (place(table), pairs(table)),
+    )
+}
+
+/// Returns how many records are live in the append queue, were written to the rewrite queue, and were deleted from it.
+pub(crate) fn counts(stats: &GlobalStats) -> (usize, usize, usize) {
+    (
+        stats.live_entries(LogQueue::Append),
+        stats.rewrite_entries(),
+        stats.deleted_rewrite_entries(),
     )
 }
 

@@ -5,10 +5,11 @@ mod rows;
 use crate::refusals::is_refused_for;
 use raft_records::{
     ATOMIC_GROUP_KEY, AtomicGroupStatus, Command, EntryIndex, EntryIndexes, Error, KeyValue,
-    LogItem, LogItemContent, OpType, Result,
+    LogItem, LogItemContent, OpType, Result, codec,
 };
-use rows::{Content, ContentRow, Form, MarkerRow, Read, ReadRow};
+use rows::{Content, ContentRow, Form, FrontsRow, MarkerRow, Read, ReadRow};
 use std::alloc::Global;
+use std::io::ErrorKind;
 use std::process::Abort;
 
 /// Returns a change of a key of region 7.
@@ -134,8 +135,9 @@ fn is_fault(read: Read, e: &Error) -> bool {
     match (read, e) {
         (Read::Unrecognized(text), Error::Corruption(found)) => found.as_str() == text,
         (Read::Corruption, Error::Corruption(_)) => true,
-        (Read::Codec, Error::Codec(_)) => true,
-        (Read::Io, Error::Io(_)) => true,
+        (Read::Codec, Error::Codec(codec::Error::Io(e))) => e.kind() == ErrorKind::UnexpectedEof,
+        (Read::Endless, Error::Codec(codec::Error::Io(e))) => e.kind() == ErrorKind::InvalidData,
+        (Read::Io, Error::Io(e)) => e.kind() == ErrorKind::UnexpectedEof,
         _ => false,
     }
 }
@@ -213,17 +215,41 @@ fn are_fronts_refused(alloc: Global, form: Form, whole: &[u8]) -> Result<bool> {
     Ok(true)
 }
 
-/// Tests whether bytes are refused as corrupt, or for what a codec or a slice refuses, and they and the number of entry
-/// bytes stay, where memory is refused too.
+/// Tests whether bytes are refused as corrupt, or since they end too early, and they and the number of entry bytes stay,
+/// where memory is refused too.
 fn is_refused_and_left(alloc: Global, form: Form, bytes: &[u8]) -> Result<bool> {
     let mut rest = bytes;
     let mut size = 1;
     match decode(alloc, form, &mut rest, &mut size) {
         Ok(_read) => Ok(false),
         Err(_) if rest != bytes || size != 1 => Ok(false),
-        Err(Error::Corruption(_) | Error::Codec(_) | Error::Io(_)) => Ok(true),
-        Err(e) => Err(e),
+        Err(Error::Memory) => Err(Error::Memory),
+        Err(e) => {
+            let is_short = is_fault(Read::Codec, &e) || is_fault(Read::Io, &e);
+            Ok(is_short || is_fault(Read::Corruption, &e))
+        }
     }
+}
+
+/// Returns what is read of a front that lacks this.
+fn read_without(lacking: u8) -> Read {
+    match lacking {
+        b'i' => Read::Io,
+        b'k' => Read::Corruption,
+        _ => Read::Codec,
+    }
+}
+
+/// Tests whether each shorter front is refused for what it lacks, and left.
+fn is_fronts_row(alloc: Global, row: &FrontsRow) -> Result<bool> {
+    let (form, whole, lacking) = *row;
+    for (len, letter) in lacking.iter().enumerate() {
+        let front = whole.get(..len).unwrap_or(whole);
+        if !is_read_row(alloc, &(form, front, read_without(*letter)))? {
+            return Ok(false);
+        }
+    }
+    Ok(lacking.len() == whole.len())
 }
 
 /// Tests this of the bytes of an item, if it is written.
@@ -273,6 +299,9 @@ fn fronts_are_refused(rt: &impl Abort, alloc: Global) -> Result<()> {
     }
     for row in rows::markers() {
         assert!(rt; are_marker_fronts_refused(alloc, row)?, "{:?}", row.1);
+    }
+    for row in rows::fronts() {
+        assert!(rt; is_fronts_row(alloc, row)?, "of {:?}", row.1);
     }
     assert!(rt; are_fronts_refused(alloc, Form::KeyValue, b"\x01\x01k\x82\x00vv")?);
     Ok(())

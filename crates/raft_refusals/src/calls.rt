@@ -5,12 +5,13 @@ use crate::found::Found;
 use crate::histories::{Batch, CONTEXTS, History, KEPT, LONG_CONTEXTS, OVERLAYS};
 use crate::item_batches::ITEM_BATCHES;
 use crate::items::{Form, ITEMS};
+use crate::merges::DIRECT;
 use crate::parts::{BLOCKS, CUTS, PARTS};
 use crate::recoveries::{DRAWS, How, PIECES, PRINTS, SHARES, TICKETS, WORKERS};
 use crate::steps::Step;
 use crate::tables::CHANGES;
 use crate::writes::{MERGES, WRITES};
-use crate::{batches, contexts, item_batches, items, parts, recoveries, tables, writes};
+use crate::{batches, contexts, item_batches, items, merges, parts, recoveries, tables, writes};
 use raft_records::{FileSeq, Result, Version};
 use std::thread::Threads;
 
@@ -36,6 +37,9 @@ pub(crate) enum Call {
     Write(&'static [writes::Call]),
     /// Tables that were written are merged into older ones, as those of the append queue or as the newer neighbors.
     MergeTables(&'static [writes::Call], &'static [writes::Call], bool),
+    /// The changes of a newer table are merged into those of an older one, as those of the append queue or as the newer
+    /// neighbor.
+    MergeDirectly(&'static [tables::Change], &'static [tables::Change], bool),
     /// The contexts of a history are merged, one for each batch.
     Merge(History),
     /// A history of the append queue is put over one of the rewrite queue.
@@ -64,6 +68,7 @@ fn calls_of(row: &str) -> &'static [Call] {
         "tables" => &CHANGES,
         "writes" => &WRITES,
         "table-merges" => &MERGES,
+        "direct-merges" => &DIRECT,
         "contexts" => &CONTEXTS,
         "long-contexts" => &LONG_CONTEXTS,
         "overlays" => &OVERLAYS,
@@ -106,6 +111,9 @@ fn make<R: Threads + Sync>(rt: &R, found: &mut Found, call: Call) -> Result<()> 
         Call::Write(calls) => writes::write_all(found, calls),
         Call::MergeTables(older, newer, is_append) => {
             writes::merge(found, older, newer, is_append)
+        }
+        Call::MergeDirectly(older, newer, is_append) => {
+            merges::merge(found, older, newer, is_append)
         }
         Call::Merge(history) => contexts::merge(found, history),
         Call::Overlay(rewritten, appended) => contexts::overlay(found, rewritten, appended),

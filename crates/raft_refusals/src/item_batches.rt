@@ -1,11 +1,13 @@
 //! Batches of items without entry bytes.
 
+ghost use Rattle.std.specs.Prelude.{◌≡◌};
+
 use crate::calls::Call;
 use crate::found::{Found, is_refused};
 use crate::steps::Line;
 use raft_records::{
-    Command, CompressionType, FileBlockHandle, FileId, LogFileContext, LogItemBatch, LogQueue,
-    Result, Version,
+    Command, CompressionType, EntryIndex, Error, FileBlockHandle, FileId, LogFileContext,
+    LogItemBatch, LogQueue, Result, Version,
 };
 use std::alloc::Global;
 
@@ -17,6 +19,8 @@ enum Change {
     Delete(&'static [u8]),
     /// Two items of another batch are moved after the batch's own.
     Merge,
+    /// Two entries of a region, the first index, and the lengths.
+    Entries(u64, u64, (u16, u16)),
 }
 
 static CHANGES: [Change; 5] = [
@@ -33,6 +37,15 @@ static CHANGES: [Change; 5] = [
     Change::Merge,
 ];
 
+/// The last entry has the greatest index that an entry can have.
+static ENTRIES: [Change; 5] = [
+    Change::Entries(7, 10, (2, 1)),
+    Change::Entries(300, 1, (5, 0)),
+    Change::Entries(7, 12, (0, 300)),
+    Change::Entries(8, 300, (1, 1)),
+    Change::Entries(1, 18_446_744_073_709_551_613, (128, 16_384)),
+];
+
 /// Returns the bytes of a batch without items, and of one of several.
 pub(crate) fn encode(found: &mut Found) -> Result<()> {
     let mut batch = LogItemBatch::default(found.alloc);
@@ -43,13 +56,23 @@ pub(crate) fn encode(found: &mut Found) -> Result<()> {
     encode_again(found, &mut batch)
 }
 
+/// Returns the bytes of a batch of entries alone. Its first item and its fifth find no room in what it has.
+pub(crate) fn add_entries(found: &mut Found) -> Result<()> {
+    let mut batch = LogItemBatch::default(found.alloc);
+    for change in &ENTRIES {
+        change_again(found, &mut batch, *change)?;
+    }
+    encode_again(found, &mut batch)
+}
+
+/// Makes a change; where there is no memory the batch has to be as it was.
 fn change_again(found: &mut Found, batch: &mut LogItemBatch, change: Change) -> Result<()> {
     let before = batch.clone()?;
     let answer = apply(found.alloc, batch, change);
     if !is_refused(&answer) {
         return answer;
     }
-    found.look(*batch == before);
+    found.look(*batch == before && batch.entries_size() == before.entries_size());
     let answer = apply(found.alloc, batch, change);
     found.again(answer)
 }
@@ -61,7 +84,35 @@ fn apply(alloc: Global, batch: &mut LogItemBatch, change: Change) -> Result<()> 
         Change::PutLine(key, line) => batch.put_message(1, Vec::from_slice(alloc, key)?, &line),
         Change::Delete(key) => batch.delete(1, Vec::from_slice(alloc, key)?),
         Change::Merge => merge(alloc, batch),
+        Change::Entries(region, first, lengths) => add_two(alloc, batch, region, first, lengths),
     }
+}
+
+/// Returns an entry with so many bytes.
+fn entry(index: u64, entry_len: u32) -> EntryIndex
+    ensures index { result.index ≡ index }
+    ensures len { result.entry_len ≡ entry_len }
+{
+    EntryIndex {
+        index,
+        entry_len,
+        ..EntryIndex::default()
+    }
+}
+
+fn add_two(
+    alloc: Global,
+    batch: &mut LogItemBatch,
+    region: u64,
+    first: u64,
+    lengths: (u16, u16),
+) -> Result<()> {
+    if batch.entries_size() > 1_000_000 || first > 18_446_744_073_709_551_613 {
+        return Err(Error::Failed);
+    }
+    let (one, other) = (u32::from(lengths.0), u32::from(lengths.1));
+    let entries = Vec::from_slice(alloc, &[entry(first, one), entry(first + 1, other)])?;
+    batch.add_entry_indexes(region, entries)
 }
 
 fn put(alloc: Global, batch: &mut LogItemBatch, key: &[u8], value: &[u8]) -> Result<()> {

@@ -9,6 +9,7 @@ mod found;
 mod histories;
 mod item_batches;
 mod items;
+mod merges;
 mod numbers;
 mod parts;
 mod recoveries;
@@ -26,10 +27,11 @@ use std::io::Write;
 use std::sync::Wait;
 use std::thread::Threads;
 
-const ROWS: [&str; 29] = [
+const ROWS: [&str; 31] = [
     "numbers",
     "items",
     "item-batches",
+    "item-batch-entries",
     "item-batch-bytes",
     "batches",
     "batch-merge",
@@ -43,6 +45,7 @@ const ROWS: [&str; 29] = [
     "regions",
     "take",
     "table-merges",
+    "direct-merges",
     "shared",
     "shared-take",
     "slot-take",
@@ -105,6 +108,7 @@ fn call<R: Threads + Wait + Sync>(rt: &R, row: &str, found: &mut Found) -> Resul
     match row {
         "numbers" => numbers::encode(found),
         "item-batches" => item_batches::encode(found),
+        "item-batch-entries" => item_batches::add_entries(found),
         "batch-merge" => batches::merge(found),
         "groups" => batches::group(found),
         "fetches" => tables::fetch_all(found),

@@ -11,7 +11,7 @@ use raft_records::CompressionType;
 use std::alloc::Global;
 
 /// The region whose table is changed.
-const REGION: u64 = 5;
+pub(crate) const REGION: u64 = 5;
 
 /// A change of the table.
 #[derive(Clone, Copy)]
@@ -118,7 +118,9 @@ fn print_answer(found: &mut Found, answer: &Result<u64>, tables: &MemTableAccess
     )?.as_str())
 }
 
-fn shape(table: &MemTable) -> (u64, u64, usize, FileSeq, FileSeq) {
+/// Returns the first index of a table and the one past the last, how many blocks there are, and the least file in both
+/// queues, 0 for none.
+pub(crate) fn shape(table: &MemTable) -> (u64, u64, usize, FileSeq, FileSeq) {
     (
         table.first_index().unwrap_or(0),
         table.last_index().map_or(0, |last| last.saturating_add(1)),
@@ -133,7 +135,7 @@ fn apply(alloc: Global, tables: &mut MemTableAccessor, change: Change) -> Result
     tables.change(REGION, change)
 }
 
-fn change_of(alloc: Global, change: Change) -> Result<TableChange> {
+pub(crate) fn change_of(alloc: Global, change: Change) -> Result<TableChange> {
     Ok(match change {
         Change::Append(start, end, seq) => {
             TableChange::Append(run(alloc, start, end, FileId::new(LogQueue::Append, seq))?)

@@ -1,8 +1,8 @@
 //! Tables and cleaned regions in each of the 128 slots: no call and no walk leaves a slot out.
 
 use crate::items::{Item, NEW, items, run};
-use crate::seen::{Seen, see_core, see_shared, shape};
-use raft_memtable::{Error, LogQueue, MemTableAccessor, Result, TableChange, slot_of};
+use crate::seen::{Seen, counts, see_core, see_shared, shape};
+use raft_memtable::{Error, MemTableAccessor, Result, TableChange, slot_of};
 use raft_recover::{SharedAccessor, Slot};
 use std::alloc::Global;
 use std::sync::Wait;
@@ -131,18 +131,42 @@ fn are_own(slot: &Slot, before: &MemTableAccessor) -> bool {
     (0..REGIONS).all(|region| is_own(slot, region, before))
 }
 
-/// Tests whether each slot takes its own tables out of an accessor, which then has none.
+/// How many of the regions 0, 3, .. 2,199 each slot has, by the formula of `hash_u64`. Each of them has an entry, which is
+/// appended, and a key, which is rewritten.
+static FILLED: [usize; 128] = [
+    9, 6, 8, 4, 6, 4, 2, 3, 6, 12, 11, 6, 4, 3, 6, 4, 6, 5, 3, 3, 5, 6, 3, 6, 2, 6, 8, 4, 8, 3, 1,
+    8, 7, 2, 11, 4, 6, 6, 6, 5, 4, 5, 4, 7, 9, 6, 3, 4, 5, 6, 6, 9, 6, 5, 6, 8, 6, 10, 3, 8, 5, 10,
+    4, 4, 11, 7, 7, 3, 2, 7, 8, 5, 10, 6, 3, 10, 5, 4, 3, 6, 2, 9, 6, 8, 6, 4, 7, 5, 4, 8, 5, 3, 8,
+    9, 3, 4, 7, 3, 3, 3, 6, 6, 5, 6, 4, 7, 6, 5, 4, 10, 2, 5, 6, 6, 6, 4, 3, 8, 7, 5, 13, 6, 4, 10,
+    4, 7, 12, 2,
+];
+
+fn filled() -> &'static [usize; 128] {
+    &FILLED
+}
+
+/// Tests whether a slot counts the records of so many filled regions, and an accessor those that are left of 734 once
+/// so many of them were taken.
+fn are_counted(slot: &Slot, own: usize, core: &MemTableAccessor, taken: usize) -> bool {
+    let left = 734usize.saturating_sub(taken);
+    counts(slot.stats()) == (own, own, 0) && counts(core.stats()) == (left, 734, taken)
+}
+
+/// Tests whether each slot takes its own tables out of an accessor, with their counts, which then has none.
 fn take(alloc: Global) -> Result<bool> {
     let before = core_of(alloc)?;
     let mut core = core_of(alloc)?;
+    let mut taken = 0usize;
     for number in 0..128 {
+        let own = filled()[number];
         let mut slot = Slot::new(alloc, number);
         slot.take_tables(&mut core);
-        if !are_own(&slot, &before) {
+        taken = taken.saturating_add(own);
+        if !are_own(&slot, &before) || !are_counted(&slot, own, &core, taken) {
             return Ok(false);
         }
     }
-    Ok(core.is_empty() && core.stats().live_entries(LogQueue::Append) == 0)
+    Ok(core.is_empty() && taken == 734)
 }
 
 #[test]

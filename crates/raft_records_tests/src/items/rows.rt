@@ -115,7 +115,11 @@ pub(super) enum Read {
     /// A type that none is known of, in the words of the refusal.
     Unrecognized(&'static str),
     Corruption,
+    /// A number that ends too early, or no type of a command or of a change of a key.
     Codec,
+    /// A number that doesn't end.
+    Endless,
+    /// No type of an item.
     Io,
 }
 
@@ -261,7 +265,7 @@ static READINGS: [ReadRow; 83] = [
     (
         Form::KeyValue,
         b"\x02\x80\x80\x80\x80\x80\x80\x80\x80\x80\x02k",
-        Read::Codec,
+        Read::Endless,
     ),
     (Form::KeyValue, b"\x01\x05p", Read::Corruption),
     (Form::KeyValue, b"\x02\x02k", Read::Corruption),
@@ -323,6 +327,43 @@ static READINGS: [ReadRow; 83] = [
 
 pub(super) fn readings() -> &'static [ReadRow] {
     &READINGS
+}
+
+/// As what bytes are read, the bytes, and what each shorter front of them lacks, from the empty one on: `n` a number,
+/// `i` the type of an item, `t` that of a command or of a change of a key, `k` bytes of a key or a value.
+pub(super) type FrontsRow = (Form, &'static [u8], &'static [u8]);
+
+static FRONTS: [FrontsRow; 14] = [
+    (Form::Item, b"\x01\x02\x01", b"nit"),
+    (Form::Item, b"\x01\x02\x02\x07", b"nitn"),
+    (Form::Item, b"\x80\x01\x02\x03\xac\x02", b"nnitnn"),
+    (
+        Form::Item,
+        b"\x01\x03\x01\x03put\x05put_v",
+        b"nitnkkknkkkkk",
+    ),
+    (Form::Item, b"\xac\x02\x03\x02\x03del", b"nnitnkkk"),
+    (Form::Item, b"\x07\x01\x02\x0a\x02\x03", b"ninnnn"),
+    (
+        Form::Item,
+        b"\x07\x01\x02\xac\x02\x80\x01\x80\x81\x01",
+        b"ninnnnnnnn",
+    ),
+    (Form::Command, b"\x01", b"t"),
+    (
+        Form::Command,
+        b"\x02\xff\xff\xff\xff\xff\xff\xff\xff\xff\x01",
+        b"tnnnnnnnnnn",
+    ),
+    (Form::Command, b"\x03\xac\x02", b"tnn"),
+    (Form::KeyValue, b"\x01\x00\x00", b"tnn"),
+    (Form::KeyValue, b"\x01\x01k\x82\x00vv", b"tnknnkk"),
+    (Form::KeyValue, b"\x02\x03del", b"tnkkk"),
+    (Form::Entries, b"\x03\xac\x02\x01\x02\x03", b"nnnnnn"),
+];
+
+pub(super) fn fronts() -> &'static [FrontsRow] {
+    &FRONTS
 }
 
 /// How an item of region 7 changes the group markers' key, its value, and as which group marker it is read, if it is

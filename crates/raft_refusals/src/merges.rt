@@ -1,0 +1,225 @@
+//! Merges of two tables of a region, called on the tables themselves.
+
+ghost use Rattle.raft_memtable.specs.Table.{IsCounted};
+
+use crate::calls::Call;
+use crate::found::{Found, is_refused, word};
+use crate::seen::number;
+use crate::tables::{Change, REGION, change_of, shape};
+use raft_memtable::{Error, GlobalStats, LogQueue, MemTable, Result};
+use std::alloc::Global;
+
+/// The changes of a table and those of a newer one, and whether that is merged as an appended table or as the newer
+/// neighbor.
+pub(crate) static DIRECT: [Call; 9] = [
+    // Entries of three files, over those of the append queue and behind them, and more keys than a node of a map has.
+    Call::MergeDirectly(
+        &[
+            Change::Append(10, 20, 1),
+            Change::Put(b"j", 1),
+            Change::Put(b"k", 1),
+        ],
+        &[
+            Change::Append(15, 18, 2),
+            Change::Append(18, 19, 3),
+            Change::Append(19, 30, 4),
+            Change::Put(b"a", 2),
+            Change::Put(b"b", 2),
+            Change::Put(b"c", 2),
+            Change::Put(b"d", 2),
+            Change::Put(b"e", 2),
+            Change::Put(b"f", 2),
+            Change::Put(b"g", 2),
+            Change::Put(b"h", 2),
+            Change::Put(b"i", 2),
+            Change::Put(b"j", 2),
+            Change::Put(b"k", 2),
+            Change::Put(b"l", 2),
+            Change::Put(b"m", 2),
+            Change::Put(b"n", 2),
+            Change::Put(b"o", 2),
+            Change::Put(b"p", 2),
+            Change::Put(b"q", 2),
+            Change::Put(b"r", 2),
+        ],
+        false,
+    ),
+    // A hole in the append queue.
+    Call::MergeDirectly(
+        &[Change::Append(10, 20, 1), Change::Put(b"j", 1)],
+        &[Change::Append(25, 30, 2)],
+        false,
+    ),
+    // A hole in the rewrite queue.
+    Call::MergeDirectly(
+        &[
+            Change::Append(10, 20, 1),
+            Change::Put(b"j", 1),
+            Change::Rewrite(10, 20, 50, Some(1)),
+            Change::RewriteKey(b"j", Some(1), 50),
+        ],
+        &[
+            Change::Append(25, 30, 2),
+            Change::Rewrite(25, 30, 51, Some(2)),
+        ],
+        false,
+    ),
+    // Neighbors of two queues.
+    Call::MergeDirectly(
+        &[Change::Append(10, 20, 1)],
+        &[
+            Change::Append(25, 30, 2),
+            Change::Rewrite(25, 30, 51, Some(2)),
+        ],
+        false,
+    ),
+    // The first records of a table.
+    Call::MergeDirectly(&[], &[Change::Append(0, 3, 1), Change::Put(b"k", 1)], false),
+    // An appended table after a hole, with as many keys, one of which was rewritten.
+    Call::MergeDirectly(
+        &[
+            Change::Append(10, 20, 1),
+            Change::Put(b"j", 1),
+            Change::Put(b"k", 1),
+            Change::Rewrite(10, 20, 50, Some(1)),
+            Change::RewriteKey(b"j", Some(1), 50),
+            Change::RewriteKey(b"k", Some(1), 50),
+        ],
+        &[
+            Change::Append(25, 30, 2),
+            Change::Put(b"a", 2),
+            Change::Put(b"b", 2),
+            Change::Put(b"c", 2),
+            Change::Put(b"d", 2),
+            Change::Put(b"e", 2),
+            Change::Put(b"f", 2),
+            Change::Put(b"g", 2),
+            Change::Put(b"h", 2),
+            Change::Put(b"i", 2),
+            Change::Put(b"k", 2),
+            Change::Put(b"l", 2),
+            Change::Put(b"m", 2),
+            Change::Put(b"n", 2),
+            Change::Put(b"o", 2),
+            Change::Put(b"p", 2),
+            Change::Put(b"q", 2),
+            Change::Put(b"r", 2),
+        ],
+        true,
+    ),
+    // One over rewritten entries.
+    Call::MergeDirectly(
+        &[
+            Change::Append(10, 20, 1),
+            Change::Rewrite(10, 20, 50, Some(1)),
+        ],
+        &[Change::Append(15, 18, 2)],
+        true,
+    ),
+    // One behind an appended table.
+    Call::MergeDirectly(
+        &[Change::Append(10, 20, 1)],
+        &[Change::Append(20, 25, 2)],
+        true,
+    ),
+    // A rewritten table as an appended one.
+    Call::MergeDirectly(
+        &[
+            Change::Append(10, 20, 1),
+            Change::Rewrite(10, 20, 50, Some(1)),
+        ],
+        &[
+            Change::Append(15, 18, 2),
+            Change::Rewrite(15, 18, 51, Some(2)),
+        ],
+        true,
+    ),
+];
+
+/// A table, and the counts of its records alone.
+#[derive(Drop)]
+struct Counted {
+    table: MemTable,
+    stats: GlobalStats,
+    ghost counted: { IsCounted table stats },
+}
+
+impl Counted {
+    /// Returns a table that was changed so.
+    fn after(alloc: Global, changes: &[Change]) -> Result<Counted> {
+        let mut counted = Counted {
+            table: MemTable::new(alloc, REGION),
+            stats: GlobalStats::default(),
+        };
+        for change in changes {
+            counted.change(alloc, *change)?;
+        }
+        Ok(counted)
+    }
+
+    fn change(&mut self, alloc: Global, change: Change) -> Result<()> {
+        let change = change_of(alloc, change)?;
+        self.table.change(change, &mut self.stats)?;
+        Ok(())
+    }
+
+    fn merge(&mut self, newer: &mut MemTable, is_append: bool) -> Result<()> {
+        if self.table.region_id() != newer.region_id() {
+            return Err(Error::Failed);
+        }
+        if is_append {
+            self.table.merge_append_table(newer, &mut self.stats)
+        } else {
+            self.table.merge_newer_neighbor(newer, &mut self.stats)
+        }
+    }
+
+    /// Returns how many records are live in the append queue, were written to the rewrite queue, and were deleted from
+    /// it.
+    fn counts(&self) -> (usize, usize, usize) {
+        (
+            self.stats.live_entries(LogQueue::Append),
+            self.stats.rewrite_entries(),
+            self.stats.deleted_rewrite_entries(),
+        )
+    }
+
+    /// Tests whether the live records that are counted are those of the table.
+    fn is_counted(&self, queue: LogQueue) -> bool {
+        self.stats.live_entries(queue) as u128 == self.table.records(queue)
+    }
+}
+
+/// Merges a newer table into an older one, and adds what that returns, and both tables then. The older one has to agree
+/// with its counts, also where there is no memory; both have to be as they were where the merge is refused otherwise.
+pub(crate) fn merge(
+    found: &mut Found,
+    older: &[Change],
+    newer: &[Change],
+    is_append: bool,
+) -> Result<()> {
+    let mut older = Counted::after(found.alloc, older)?;
+    let mut newer = Counted::after(found.alloc, newer)?.table;
+    let before = (number(&older.table), older.counts(), number(&newer));
+    let answer = older.merge(&mut newer, is_append);
+    found.look(older.is_counted(LogQueue::Append) && older.is_counted(LogQueue::Rewrite));
+    found.look(older.table.region_id() == REGION && newer.region_id() == REGION);
+    if is_refused(&answer) {
+        return answer;
+    }
+    let after = (number(&older.table), older.counts(), number(&newer));
+    found.look(answer.is_ok() || after == before);
+    print_merged(found, word(&answer), &older, &newer)
+}
+
+fn print_merged(found: &mut Found, is: &str, older: &Counted, newer: &MemTable) -> Result<()> {
+    let alloc = found.alloc;
+    let (first, end, blocks, append, rewrite) = shape(&older.table);
+    let keys = older.table.key_count();
+    let (live, written, deleted) = older.counts();
+    let (newer_first, newer_end, ..) = shape(newer);
+    let newer_keys = newer.key_count();
+    found.line(format!(in alloc;
+        "{is}: {first}..{end} in {blocks} keys {keys} files {append} {rewrite}, append {live} written {written} deleted {deleted}, newer {newer_first}..{newer_end} keys {newer_keys}"
+    )?.as_str())
+}

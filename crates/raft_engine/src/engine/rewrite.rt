@@ -5,8 +5,8 @@ ghost use Rattle.raft_records.specs.LogBatch.{empty_batch};
 ghost use Rattle.raft_accessor.specs.Writes.{AreWritten, Rewriting};
 ghost use Rattle.raft_engine.specs.Faults.{Breaks, IsTellingFault};
 ghost use Rattle.raft_engine.specs.Moved.{AreRegionsRewritten, AreSomeRewritten, IsReady, IsRegionRewritten, IsRegionUnmoved, IsRewritten, IsTold, IsUnrewritten, IsUntold};
-ghost use Rattle.raft_engine.specs.MovingFaults.{AreTaken, FailsBehind, IsItemRefusal, IsRewritingFault, IsUntaken};
-ghost use Rattle.raft_engine.specs.WrittenBatch.{AreFirstWritten, LacksRoom};
+ghost use Rattle.raft_engine.specs.MovingFaults.{AreTaken, IsFaultOfRegions, IsRegionFault, IsRewritingFault};
+ghost use Rattle.raft_engine.specs.WrittenBatch.{AreFirstWritten, IsNextRefused, LacksRoom};
 
 use super::Engine;
 use crate::limits::LAST_OFFSET;
@@ -39,7 +39,7 @@ impl<F: EngineFiles> Engine<F> {
         ensures accepted { OnOk result (self.old.intact ≡ true) }
         ensures err { IfErr result (IsUnrewritten gate self.old self.new) }
         ensures fault { IfErr result (λ e. Breaks self.old self.new
-            → IsRewritingFault F.may_fail self.old self.new e) }
+            → IsRewritingFault F.may_fail gate self.old self.new e) }
     {
         if !self.intact {
             return Err(Error::Failed);
@@ -59,7 +59,7 @@ impl<F: EngineFiles> Engine<F> {
         ensures ok { OnOk result (AreRegionsRewritten gate regions.now self.old self.new) }
         ensures err { IfErr result (AreSomeRewritten gate regions.now self.old self.new) }
         ensures fault { IfErr result (λ e. Breaks self.old self.new
-            → FailsBehind F.may_fail (IsUntaken gate) self.old.asks self.new.asks e) }
+            → IsFaultOfRegions F.may_fail gate regions.now self.old self.new e) }
     {
         for region in regions {
             self.rewrite_region(*region, gate)?;
@@ -122,7 +122,7 @@ impl<F: EngineFiles> Engine<F> {
         ensures ok { OnOk result (IsRegionRewritten gate region self.old self.new) }
         ensures err { IfErr result (IsRegionUnmoved gate region self.old self.new) }
         ensures fault { IfErr result (λ e. Breaks self.old self.new
-            → FailsBehind F.may_fail (IsUntaken gate) self.old.asks self.new.asks e) }
+            → IsRegionFault F.may_fail gate region self.old self.new e) }
     {
         moves_are_stored();
         batches_are_read_back();
@@ -168,7 +168,8 @@ pub(super) fn rewrite_items(
         (AreWritten (Rewriting gate seq) batch.old.items accessor.old accessor.new) }
     ensures err { OnErr result
         (AreFirstWritten (Rewriting gate seq) batch.old.items accessor.old accessor.new) }
-    ensures fault { IfErr result IsItemRefusal }
+    ensures fault { IfErr result
+        (IsNextRefused (Rewriting gate seq) batch.old.items accessor.old accessor.new) }
     ensures room { AreTaken gate seq accessor.old.tables batch.old.items → IfErr result LacksRoom }
     ensures emptied { batch.new ≡ empty_batch }
 {

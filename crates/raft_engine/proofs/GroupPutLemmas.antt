@@ -229,8 +229,20 @@ all_put file offset all old now placed at left none h =
 -- batches that are put in place
 module _ (file : LogFileContext) (offset : ℕ) (all : List Batch) (old now : List Ask) (ys : List Batch) (i at : ℕ) (b : Batch) (low : i < length ys) (is : b ≡ get_or ys i b)
     (h : ArePutSoFar file offset all old now (take i ys) at (drop i ys)) where
-  pub next_at : drop i ys ≡ b ∷ drop (i + 1) ys
+  next_at : drop i ys ≡ b ∷ drop (i + 1) ys
   next_at = drop_more ys i b low ∙ ap (λ (x : Batch). x ∷ drop (i + 1) ys) (sym is)
+
+  pub made_at : b.stage ≡ encoded
+  made_at = next_made file offset all old now (take i ys) at (drop i ys) b (drop (i + 1) ys) next_at h
+
+  pub low_at : at ≤ 2 ^ 63
+  low_at = next_low file offset all old now (take i ys) at (drop i ys) b (drop (i + 1) ys) next_at h
+
+  pub size_at : (len : ℕ) → len ≡ approximate_length b.stage b.items b.entry_bytes → len ≡ encoded_length b.items b.entry_bytes
+  size_at = next_size file offset all old now (take i ys) at (drop i ys) b (drop (i + 1) ys) next_at h
+
+  pub may_put_at : (new : List Ask) → MayBeAsked (ask file.id.queue (Put (bytes_for file b))) now new → AreFirstPut file all old new
+  may_put_at = may_put file offset all old now (take i ys) at (drop i ys) b (drop (i + 1) ys) next_at h
 
   pub one_put_at : (new : List Ask) (put : Batch) (len more : ℕ) → new ≡ ask file.id.queue (Put (bytes_for file b)) ∷ now → put.items ≡ placed_at file.id at b
       → len ≡ approximate_length b.stage b.items b.entry_bytes → more ≡ at + len
@@ -260,17 +272,20 @@ puts_split file [] b rest asks = refl
 puts_split file (x ∷ xs) b rest asks = puts_split file xs b rest (ask file.id.queue (Put (bytes_for file x)) ∷ asks)
 
 -- behind the first batches the files fail to put the next one
-pub next_fails : (MayFail : Failures) (file : LogFileContext) (all front : List Batch) (b : Batch) (rest : List Batch) (old now new : List Ask) (e : Error)
-    → front ++ b ∷ rest ≡ all → now ≡ puts_asks file front old → MayBeAsked (ask file.id.queue (Put (bytes_for file b))) now new
-    → MayFail now (ask file.id.queue (Put (bytes_for file b))) e → FailsAmong MayFail (puts_asks file all []) old new e
-next_fails MayFail file all front b rest old now new e split put may why =
+pub fails_at : (MayFail : Failures) (file : LogFileContext) (offset : ℕ) (all : List Batch) (old now : List Ask) (ys : List Batch) (i at : ℕ) (b : Batch) → i < length ys → b ≡ get_or ys i b
+    → ArePutSoFar file offset all old now (take i ys) at (drop i ys) → (new : List Ask) (e : Error)
+    → MayBeAsked (ask file.id.queue (Put (bytes_for file b))) now new → MayFail now (ask file.id.queue (Put (bytes_for file b))) e
+    → FailsAmong MayFail (puts_asks file all []) old new e
+fails_at MayFail file offset all old now ys i at b low is h new e may why =
     let its : Ask = ask file.id.queue (Put (bytes_for file b)) in
-    let are : now ≡ puts_asks file front [] ++ old = put ∙ puts_behind file front old in
+    let rest : List Batch = drop (i + 1) ys in
+    let whole : all ≡ h.front ++ b ∷ rest = sym h.split ∙ ap (λ (l : List Batch). h.front ++ l) (next_at file offset all old now ys i at b low is h) in
+    let are : now ≡ puts_asks file h.front [] ++ old = h.asked ∙ puts_behind file h.front old in
     record {
       later = puts_asks file rest [];
       failed = its;
-      earlier = puts_asks file front [];
-      split = ap (λ (l : List Batch). puts_asks file l []) (sym split) ∙ puts_split file front b rest [] ∙ puts_behind file rest (its ∷ puts_asks file front []);
+      earlier = puts_asks file h.front [];
+      split = ap (λ (l : List Batch). puts_asks file l []) whole ∙ puts_split file h.front b rest [] ∙ puts_behind file rest (its ∷ puts_asks file h.front []);
       asked = subst (λ (l : List Ask). MayBeAsked its l new) are may;
       why = subst (λ (l : List Ask). MayFail l its e) are why;
     }

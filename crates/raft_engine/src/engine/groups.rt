@@ -85,9 +85,9 @@ impl<F: EngineFiles> Engine<F> {
     /// # Errors
     ///
     /// `Full` where a batch would begin past 2^63 in the file, or has 2^56 bytes or more, and those of `moving_group`: the
-    /// engine is then as it was, but for reads. Those of `EngineFiles::append`, and `Memory` or `Full` once a batch was asked
-    /// for: the engine isn't intact any more. The first ones of the batches were put then, and the tables are as they were; or all
-    /// were, and the tables have the first ones of their items.
+    /// engine is then as it was, but for reads. Those of `EngineFiles::append`: the engine isn't intact any more, the first ones of
+    /// the batches were put, and the tables are as they were. Those of `rewrite_items` once all were put: it isn't intact either,
+    /// and the tables have the first ones of their items.
     fn move_group(&mut self, region: u64) -> Result<()>
         requires { IsReady self.old }
         ensures ok { OnOk result (((finite.get self.old.accessor.tables region ≡ None) × (self.new ≡ self.old))

@@ -32,8 +32,9 @@ impl<F: EngineFiles> Engine<F> {
     /// more than 2^63; `Memory`. The engine is then as it was. `Full` where a region's batch has 2^31 bytes of entries or 2^56
     /// bytes in all, or the last rewrite file more than 2^63; `Corruption` where the bytes of an entry aren't found at its
     /// place; `InvalidArgument` where a key is that of the group markers; those of `EngineFiles::read`; `Memory`. The records
-    /// of some regions moved then, and the engine is intact. The other ones of `EngineFiles`, and `Memory` or `Full` once a
-    /// batch was asked for: it isn't intact any more.
+    /// of some regions moved then, and the engine is intact. The other ones of `EngineFiles`; and, once a region's batch was put,
+    /// `Memory`, or `Full` where with the records of its next item 2^64 or more would be live in the rewrite queue: it isn't
+    /// intact any more.
     pub fn rewrite(&mut self, gate: FileSeq) -> Result<()>
         ensures ok { OnOk result (IsRewritten gate self.old self.new) }
         ensures accepted { OnOk result (self.old.intact ≡ true) }
@@ -114,9 +115,8 @@ impl<F: EngineFiles> Engine<F> {
     /// # Errors
     ///
     /// `Full` where the last rewrite file has more than 2^63 bytes, or the batch 2^56 or more, and those of `moving_batch`: the
-    /// engine is then as it was, but for reads. Those of `EngineFiles::append`, and `Memory` or `Full` once the batch was asked
-    /// for: the engine isn't intact any more, and the tables are as they were or, once it was put, have the first ones of its
-    /// items.
+    /// engine is then as it was, but for reads. Those of `EngineFiles::append`, and those of `rewrite_items` once the batch was put:
+    /// the engine isn't intact any more, and the tables are as they were or, once it was put, have the first ones of its items.
     pub(crate) fn rewrite_region(&mut self, region: u64, gate: Option<FileSeq>) -> Result<()>
         requires { IsReady self.old }
         ensures ok { OnOk result (IsRegionRewritten gate region self.old self.new) }

@@ -44,7 +44,8 @@ returns-clause-fault g c =
     let new = c.rewrite_regions.new.self in
     let is_told = c.in_ok-tell.ensures.ok in
     let ready = told_ready old told c.in_ok-tell.ensures.accepted is_told in
-    if_err_so (λ e. Breaks told new → IsFaultOfRegions (g.F.EngineFiles.may_fail) (Some c.args.gate) c.as_slice.result.now told new e) (λ e. Breaks old new → IsRewritingFault (g.F.EngineFiles.may_fail) c.args.gate old new e) c.rewrite_regions.result
+    if_err_so (λ e. Breaks told new → IsFaultOfRegions (g.F.EngineFiles.may_fail) (Some c.args.gate) c.as_slice.result.now told new e)
+    (λ e. Breaks old new → IsRewritingFault (g.F.EngineFiles.may_fail) c.args.gate old new e) c.rewrite_regions.result
     (λ e f broken. inr (record {
       told = told;
       is_told = is_told;

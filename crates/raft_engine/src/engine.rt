@@ -20,7 +20,7 @@ ghost use Rattle.raft_engine.specs.Opened.{IsOpened};
 ghost use Rattle.raft_engine.specs.StoredFound.{found_asks};
 ghost use Rattle.raft_engine.specs.Unopened.{AreBothAccepted, AreUnrecoveredAs, IsUnopened};
 ghost use Rattle.raft_engine.specs.Purged.{ArePurged, IsUnpurged};
-ghost use Rattle.raft_engine.specs.WrittenBatch.{AreFirstWritten, IsNextRefused, IsOneMore, IsOnlySynced, IsRotated, IsUnrotated, IsUnwritten, LacksRoom};
+ghost use Rattle.raft_engine.specs.WrittenBatch.{IsNextRefused, IsOneMore, IsOnlySynced, IsRotated, IsUnrotated, IsUnwritten, LacksRoom};
 
 use crate::limits::{FIRST_SEQ, LAST_OFFSET};
 use crate::opened::open_files;
@@ -411,7 +411,6 @@ impl<F: EngineFiles> Engine<F> {
 /// then.
 fn apply(accessor: &mut MemTableAccessor, batch: &mut LogBatch) -> Result<()>
     ensures ok { OnOk result (AreWritten Appending batch.old.items accessor.old accessor.new) }
-    ensures err { OnErr result (AreFirstWritten Appending batch.old.items accessor.old accessor.new) }
     ensures room { AreAccepted accessor.old.tables batch.old.items → IfErr result LacksRoom }
     ensures fault { IfErr result
         (IsNextRefused Appending batch.old.items accessor.old accessor.new) }

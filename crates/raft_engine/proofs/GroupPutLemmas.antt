@@ -227,10 +227,13 @@ all_put file offset all old now placed at left none h =
     (h.asked ∙ ap (λ (l : List Batch). puts_asks file l old) is, h.places ∙ ap (placed_from file.id offset) is)
 
 -- batches that are put in place
-module _ (file : LogFileContext) (offset : ℕ) (all : List Batch) (old now : List Ask) (ys : List Batch) (i at : ℕ) (b : Batch) (low : i < length ys) (is : b ≡ get_or ys i b)
+module _ (file : LogFileContext) (offset : ℕ) (all : List Batch) (old now : List Ask) (ys : List Batch) (i at : ℕ) (d : Batch) (low : i < length ys)
     (h : ArePutSoFar file offset all old now (take i ys) at (drop i ys)) where
+  abbrev b : Batch
+  b = get_or ys i d
+
   next_at : drop i ys ≡ b ∷ drop (i + 1) ys
-  next_at = drop_more ys i b low ∙ ap (λ (x : Batch). x ∷ drop (i + 1) ys) (sym is)
+  next_at = drop_more ys i d low
 
   pub made_at : b.stage ≡ encoded
   made_at = next_made file offset all old now (take i ys) at (drop i ys) b (drop (i + 1) ys) next_at h
@@ -272,14 +275,15 @@ puts_split file [] b rest asks = refl
 puts_split file (x ∷ xs) b rest asks = puts_split file xs b rest (ask file.id.queue (Put (bytes_for file x)) ∷ asks)
 
 -- behind the first batches the files fail to put the next one
-pub fails_at : (MayFail : Failures) (file : LogFileContext) (offset : ℕ) (all : List Batch) (old now : List Ask) (ys : List Batch) (i at : ℕ) (b : Batch) → i < length ys → b ≡ get_or ys i b
+pub fails_at : (MayFail : Failures) (file : LogFileContext) (offset : ℕ) (all : List Batch) (old now : List Ask) (ys : List Batch) (i at : ℕ) (d : Batch) → i < length ys
     → ArePutSoFar file offset all old now (take i ys) at (drop i ys) → (new : List Ask) (e : Error)
-    → MayBeAsked (ask file.id.queue (Put (bytes_for file b))) now new → MayFail now (ask file.id.queue (Put (bytes_for file b))) e
+    → MayBeAsked (ask file.id.queue (Put (bytes_for file (get_or ys i d)))) now new → MayFail now (ask file.id.queue (Put (bytes_for file (get_or ys i d)))) e
     → FailsAmong MayFail (puts_asks file all []) old new e
-fails_at MayFail file offset all old now ys i at b low is h new e may why =
+fails_at MayFail file offset all old now ys i at d low h new e may why =
+    let b : Batch = get_or ys i d in
     let its : Ask = ask file.id.queue (Put (bytes_for file b)) in
     let rest : List Batch = drop (i + 1) ys in
-    let whole : all ≡ h.front ++ b ∷ rest = sym h.split ∙ ap (λ (l : List Batch). h.front ++ l) (next_at file offset all old now ys i at b low is h) in
+    let whole : all ≡ h.front ++ b ∷ rest = sym h.split ∙ ap (λ (l : List Batch). h.front ++ l) (next_at file offset all old now ys i at d low h) in
     let are : now ≡ puts_asks file h.front [] ++ old = h.asked ∙ puts_behind file h.front old in
     record {
       later = puts_asks file rest [];

@@ -13,7 +13,7 @@ use Rattle.raft_records.specs.Item.{Item, item_of}
 use Rattle.raft_accessor.specs.Accessor.{Accessor}
 use Rattle.raft_accessor.specs.AppendChecks.{AreAccepted}
 use Rattle.raft_accessor.specs.Writes.{Appending, Writing, AreItemsRefused, AreWritten}
-use Rattle.raft_engine.specs.WrittenBatch.{AreFirstWritten, LacksRoom}
+use Rattle.raft_engine.specs.WrittenBatch.{AreFirstWritten, IsNextRefused, LacksRoom}
 
 -- all items, in order
 drained : {X Z : Type 0} (s : IntoIter X Z) (xs : List X) → into_iter_len s ≡ length (into_iter_items s) → Drains into_iter_steps s xs → xs ≡ into_iter_items s
@@ -54,6 +54,25 @@ first_so (Err e) w s items old new is p =
       written = h.written;
     }
 
+-- and the next one is refused
+pub next_refused : {R : Type 0} (r : Result R Error) (w : Writing) (s : IntoIter LogItem Global) (items : List Item) (old new : Accessor) → map item_of (into_iter_items s) ≡ items
+    → IfErr r (λ e. (it : IntoIter LogItem Global) × (xs : List LogItem) × (u : IntoIter LogItem Global) × (it ≡ s) × Yields into_iter_steps it xs u × AreItemsRefused w (map item_of xs) old new e)
+    → IfErr r (IsNextRefused w items old new)
+next_refused (Ok x) w s items old new is p = tt
+next_refused (Err e) w s items old new is p =
+    let yields = subst (λ (it : IntoIter LogItem Global). Yields into_iter_steps it p.1 p.2) p.3 p.4 in
+    let left : List Item = map item_of (into_iter_items p.2) in
+    let h = p.5 in
+    record {
+      front = h.front;
+      item = h.item;
+      rest = left;
+      split = sym is ∙ ap (map item_of) (parted s p.2 p.1 yields) ∙ map-append item_of p.1 (into_iter_items p.2) ∙ ap (λ (l : List Item). l ++ left) h.split
+          ∙ append_assoc h.front (h.item ∷ []) left;
+      written = h.written;
+      fault = h.fault;
+    }
+
 -- items that are accepted are refused, whichever of them is, for want of room alone
 pub room_so : ((items rest : List Item) (old new : Accessor) (e : Error) → AreAccepted old.tables (items ++ rest) → AreItemsRefused Appending items old new e → LacksRoom e)
     → {R : Type 0} (r : Result R Error) (s : IntoIter LogItem Global) (items : List Item) (old new : Accessor) → map item_of (into_iter_items s) ≡ items → AreAccepted old.tables items
@@ -69,7 +88,3 @@ room_so law (Err e) s items old new is accepted p =
 -- none are written
 pub none_first : (w : Writing) (items : List Item) (a : Accessor) → AreFirstWritten w items a a
 none_first w items a = record { front = []; rest = items; split = refl; written = record { asked = tt; accepted = tt; tables = refl; cleaned = sym (append-nil a.cleaned); counts = refl } }
-
--- all are
-pub all_first : (w : Writing) (items : List Item) (old new : Accessor) → AreWritten w items old new → AreFirstWritten w items old new
-all_first w items old new h = record { front = items; rest = []; split = sym (append-nil items); written = h }

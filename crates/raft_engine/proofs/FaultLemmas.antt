@@ -42,7 +42,7 @@ put_made : (context file : LogFileContext) (made batch : Batch) → context ≡ 
 put_made context file made batch is_file is_made =
     ap (λ (c : LogFileContext). put_asks c made) is_file ∙ ap (λ (b : Batch). put_asks file b) is_made ∙ items_made file batch batch.items
 
-put_whole : (context file : LogFileContext) (made batch : Batch) (old half : List Ask) → context ≡ file → made ≡ record batch { stage = encoded } → batch.items ≢ []
+pub put_whole : (context file : LogFileContext) (made batch : Batch) (old half : List Ask) → context ≡ file → made ≡ record batch { stage = encoded } → batch.items ≢ []
     → half ≡ ask context.id.queue (Put (bytes_for context made)) ∷ old → half ≡ put_asks file batch ++ old
 put_whole context file made batch old half is_file is_made some is =
     let some_made : made.items ≢ [] = subst (λ (b : Batch). b.items ≢ []) (sym is_made) some in
@@ -83,6 +83,12 @@ module _ (MayFail : Failures) where
       → FailsAmong MayFail (put_asks context made) old new e → FailsAmong MayFail (put_asks file batch) old new e
   put_made_fails context file made batch old new e is_file is_made f =
       subst (λ (l : List Ask). FailsAmong MayFail l old new e) (put_made context file made batch is_file is_made) f
+
+  pub made_fails : (context file : LogFileContext) (made batch : Batch) (old new : List Ask) (e : Error) → context ≡ file → made ≡ record batch { stage = encoded } → batch.items ≢ []
+      → MayBeAsked (ask context.id.queue (Put (bytes_for context made))) old new → MayFail old (ask context.id.queue (Put (bytes_for context made))) e → FailsAmong MayFail (put_asks file batch) old new e
+  made_fails context file made batch old new e is_file is_made some may why =
+      let some_made : made.items ≢ [] = subst (λ (b : Batch). b.items ≢ []) (sym is_made) some in
+      put_made_fails context file made batch old new e is_file is_made (put_fails context made old new e some_made may why)
 
   -- ---- a sync that may be wanted
 
@@ -172,8 +178,7 @@ module _ (MayFail : Failures) where
       → MayBeAsked (ask context.id.queue (Put (bytes_for context made))) old new → MayFail old (ask context.id.queue (Put (bytes_for context made))) e
       → FailsAmong MayFail (synced_if sync (put_asks file batch)) old new e
   writing_put context file made batch sync old new e is_file is_made some may why =
-      let some_made : made.items ≢ [] = subst (λ (b : Batch). b.items ≢ []) (sym is_made) some in
-      let f = put_made_fails context file made batch old new e is_file is_made (put_fails context made old new e some_made may why) in
+      let f = made_fails context file made batch old new e is_file is_made some may why in
       subst (λ (l : List Ask). FailsAmong MayFail l old new e) (synced_front sync (put_asks file batch)) (part_failed MayFail (synced_if sync []) (put_asks file batch) old new e f)
 
   -- they are put, but not synced

@@ -1,8 +1,9 @@
 -- Batches of a group that are made, put and written to the tables, one after another.
-use Rattle.std.proofs.Common.{◌≡◌, ◌≢◌, inl, inr, ℕ, ◌+◌, ◌<◌, ◌≤◌, ◌^◌, List, [], ◌∷◌, ◌++◌, length, map, take, refl, sym, ap, ◌∙◌, subst, append_assoc, append-nil, length-append, arith}
+use Rattle.std.proofs.Common.{◌≡◌, ◌≢◌, inl, inr, ℕ, ◌+◌, ◌<◌, ◌≤◌, ◌^◌, List, [], ◌∷◌, ◌++◌, get_or, length, map, set, take, drop, refl, sym, ap, ◌∙◌, subst, append_assoc, append-nil, length-append, arith}
 use Rattle.std.proofs.lemmas.Grind.{flat_map-append}
-use Rattle.std.proofs.lemmas.List.{map-append}
+use Rattle.std.proofs.lemmas.List.{drop_all, drop_more, drop-set-lt, map-append, take_all, take_more_set}
 use Rattle.std.specs.List.{AllByRecursion}
+use Rattle.raft_base.specs.declared.errors.Error.{Error}
 use Rattle.raft_base.specs.declared.pipe_log.FileId.{FileId}
 use Rattle.raft_base.specs.declared.pipe_log.LogFileContext.{LogFileContext}
 use Rattle.raft_records.specs.Item.{Item}
@@ -14,8 +15,9 @@ use Rattle.raft_files.specs.Asks.{Ask, MayBeAsked, Put, ask}
 use Rattle.raft_engine.specs.BatchBytes.{bytes_for, placed_at}
 use Rattle.raft_engine.specs.GroupBatches.{placed_from, puts_asks}
 use Rattle.raft_engine.specs.GroupPlaces.{AreFirstPut, BeginInTime, IsOneTooLong, as_encoded, end_from, items_of_batches}
+use Rattle.raft_engine.specs.OpeningAsks.{Failures, FailsAmong}
 use Rattle.raft_engine.specs.StoredAsks.{IsWritableBatch}
-use Rattle.raft_engine.specs.WrittenBatch.{AreFirstWritten}
+use Rattle.raft_engine.specs.WrittenBatch.{AreFirstWritten, IsNextRefused}
 use Rattle.raft_engine.proofs.PartLemmas.{each_more}
 
 -- ---- one batch more at the end
@@ -224,6 +226,74 @@ all_put file offset all old now placed at left none h =
     let is : h.front ≡ all = sym (append-nil h.front) ∙ ap (λ (l : List Batch). h.front ++ l) (sym none) ∙ h.split in
     (h.asked ∙ ap (λ (l : List Batch). puts_asks file l old) is, h.places ∙ ap (placed_from file.id offset) is)
 
+-- batches that are put in place
+module _ (file : LogFileContext) (offset : ℕ) (all : List Batch) (old now : List Ask) (ys : List Batch) (i at : ℕ) (d : Batch) (low : i < length ys)
+    (h : ArePutSoFar file offset all old now (take i ys) at (drop i ys)) where
+  abbrev b : Batch
+  b = get_or ys i d
+
+  next_at : drop i ys ≡ b ∷ drop (i + 1) ys
+  next_at = drop_more ys i d low
+
+  pub made_at : b.stage ≡ encoded
+  made_at = next_made file offset all old now (take i ys) at (drop i ys) b (drop (i + 1) ys) next_at h
+
+  pub low_at : at ≤ 2 ^ 63
+  low_at = next_low file offset all old now (take i ys) at (drop i ys) b (drop (i + 1) ys) next_at h
+
+  pub size_at : (len : ℕ) → len ≡ approximate_length b.stage b.items b.entry_bytes → len ≡ encoded_length b.items b.entry_bytes
+  size_at = next_size file offset all old now (take i ys) at (drop i ys) b (drop (i + 1) ys) next_at h
+
+  pub may_put_at : (new : List Ask) → MayBeAsked (ask file.id.queue (Put (bytes_for file b))) now new → AreFirstPut file all old new
+  may_put_at = may_put file offset all old now (take i ys) at (drop i ys) b (drop (i + 1) ys) next_at h
+
+  pub one_put_at : (new : List Ask) (put : Batch) (len more : ℕ) → new ≡ ask file.id.queue (Put (bytes_for file b)) ∷ now → put.items ≡ placed_at file.id at b
+      → len ≡ approximate_length b.stage b.items b.entry_bytes → more ≡ at + len
+      → ArePutSoFar file offset all old new (take (i + 1) (set ys i put)) more (drop (i + 1) (set ys i put))
+  one_put_at new put len more e places long ends =
+      subst (ArePutSoFar file offset all old new (take (i + 1) (set ys i put)) more) (sym (drop-set-lt (i + 1) ys i put (omega arith)))
+      (one_put file offset all old now (take i ys) at (drop i ys) b (drop (i + 1) ys) next_at h new put (take (i + 1) (set ys i put)) len more e places (take_more_set ys i put low) long ends)
+
+pub all_put_at : (file : LogFileContext) (offset : ℕ) (all : List Batch) (old now : List Ask) (ys : List Batch) (i at : ℕ) → length ys ≤ i
+    → ArePutSoFar file offset all old now (take i ys) at (drop i ys) → (now ≡ puts_asks file all old) × (items_of_batches ys ≡ placed_from file.id offset all)
+all_put_at file offset all old now ys i at most h =
+    let put = all_put file offset all old now (take i ys) at (drop i ys) (drop_all i ys most) h in
+    (put.0, ap items_of_batches (sym (take_all i ys most)) ∙ put.1)
+
+-- ---- where the files fail
+
+-- what is put behind what was asked
+puts_behind : (file : LogFileContext) (xs : List Batch) (asks : List Ask) → puts_asks file xs asks ≡ puts_asks file xs [] ++ asks
+puts_behind file [] asks = refl
+puts_behind file (x ∷ xs) asks =
+    let a : Ask = ask file.id.queue (Put (bytes_for file x)) in
+    puts_behind file xs (a ∷ asks) ∙ sym (append_assoc (puts_asks file xs []) (a ∷ []) asks) ∙ ap (λ (l : List Ask). l ++ asks) (sym (puts_behind file xs (a ∷ [])))
+
+puts_split : (file : LogFileContext) (xs : List Batch) (b : Batch) (rest : List Batch) (asks : List Ask)
+    → puts_asks file (xs ++ b ∷ rest) asks ≡ puts_asks file rest (ask file.id.queue (Put (bytes_for file b)) ∷ puts_asks file xs asks)
+puts_split file [] b rest asks = refl
+puts_split file (x ∷ xs) b rest asks = puts_split file xs b rest (ask file.id.queue (Put (bytes_for file x)) ∷ asks)
+
+-- behind the first batches the files fail to put the next one
+pub fails_at : (MayFail : Failures) (file : LogFileContext) (offset : ℕ) (all : List Batch) (old now : List Ask) (ys : List Batch) (i at : ℕ) (d : Batch) → i < length ys
+    → ArePutSoFar file offset all old now (take i ys) at (drop i ys) → (new : List Ask) (e : Error)
+    → MayBeAsked (ask file.id.queue (Put (bytes_for file (get_or ys i d)))) now new → MayFail now (ask file.id.queue (Put (bytes_for file (get_or ys i d)))) e
+    → FailsAmong MayFail (puts_asks file all []) old new e
+fails_at MayFail file offset all old now ys i at d low h new e may why =
+    let b : Batch = get_or ys i d in
+    let its : Ask = ask file.id.queue (Put (bytes_for file b)) in
+    let rest : List Batch = drop (i + 1) ys in
+    let whole : all ≡ h.front ++ b ∷ rest = sym h.split ∙ ap (λ (l : List Batch). h.front ++ l) (next_at file offset all old now ys i at d low h) in
+    let are : now ≡ puts_asks file h.front [] ++ old = h.asked ∙ puts_behind file h.front old in
+    record {
+      later = puts_asks file rest [];
+      failed = its;
+      earlier = puts_asks file h.front [];
+      split = ap (λ (l : List Batch). puts_asks file l []) whole ∙ puts_split file h.front b rest [] ∙ puts_behind file rest (its ∷ puts_asks file h.front []);
+      asked = subst (λ (l : List Ask). MayBeAsked its l new) are may;
+      why = subst (λ (l : List Ask). MayFail l its e) are why;
+    }
+
 -- ---- items that are written
 
 -- the items of the first batches are written, and these are left
@@ -261,4 +331,21 @@ first_written w all old now new left b rest next f h = record {
       ∙ ap (λ (l : List Item). items_of_batches h.front ++ l) (append_assoc f.front f.rest (items_of_batches rest))
       ∙ sym (append_assoc (items_of_batches h.front) f.front (f.rest ++ items_of_batches rest));
   written = written_append w (items_of_batches h.front) f.front old now new h.written f.written;
+}
+
+-- the next item is refused
+pub group_refused : (w : Writing) (all : List Batch) (old now new : Accessor) (e : Error) (left : List Batch) (b : Batch) (rest : List Batch)
+    → left ≡ b ∷ rest → IsNextRefused w b.items now new e → AreWrittenSoFar w all old now left
+    → IsNextRefused w (items_of_batches all) old new e
+group_refused w all old now new e left b rest next f h = record {
+  front = items_of_batches h.front ++ f.front;
+  item = f.item;
+  rest = f.rest ++ items_of_batches rest;
+  split =
+      ap items_of_batches (sym h.split ∙ ap (λ (l : List Batch). h.front ++ l) next) ∙ flat_map-append (λ (x : Batch). x.items) h.front (b ∷ rest)
+      ∙ ap (λ (l : List Item). items_of_batches h.front ++ (l ++ items_of_batches rest)) f.split
+      ∙ ap (λ (l : List Item). items_of_batches h.front ++ l) (append_assoc f.front (f.item ∷ f.rest) (items_of_batches rest))
+      ∙ sym (append_assoc (items_of_batches h.front) f.front (f.item ∷ (f.rest ++ items_of_batches rest)));
+  written = written_append w (items_of_batches h.front) f.front old now new h.written f.written;
+  fault = f.fault;
 }

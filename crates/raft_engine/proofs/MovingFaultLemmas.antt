@@ -1,6 +1,6 @@
 -- Why a call that moves records breaks an engine.
-use Rattle.std.proofs.Common.{◌≡◌, ◌≢◌, ◌⊎◌, inl, inr, ℕ, suc, ◌<◌, ◌-◌, ◌^◌, true, List, [], ◌∷◌, ◌++◌, map, Option, Some, None, Result, Ok, Err, IfErr, refl, sym, ap, ◌∙◌, subst, append_assoc}
-use Rattle.std.proofs.lemmas.List.{map-append}
+use Rattle.std.proofs.Common.{◌≡◌, ◌≢◌, inl, inr, ℕ, suc, ◌+◌, ◌<◌, ◌-◌, ◌^◌, true, List, [], ◌∷◌, ◌++◌, get_or, length, map, take, drop, Option, Some, None, Result, Ok, Err, IfErr, refl, sym, ap, ◌∙◌, subst, append_assoc}
+use Rattle.std.proofs.lemmas.List.{drop_more, map-append, take-append-drop}
 use Rattle.std.specs.List.{AllByRecursion}
 use Rattle.std.specs.Option.{option_and_then}
 use Rattle.std.specs.FinMap as finite
@@ -15,8 +15,6 @@ use Rattle.raft_base.specs.declared.errors.Error.{Error}
 use Rattle.raft_base.specs.declared.errors.Error.TheVariants as errors
 use Rattle.raft_base.specs.declared.pipe_log.FileBlockHandle.{FileBlockHandle}
 use Rattle.raft_base.specs.declared.pipe_log.FileId.{FileId}
-use Rattle.raft_base.specs.declared.pipe_log.LogFileContext.{LogFileContext}
-use Rattle.raft_base.specs.declared.pipe_log.LogQueue.{LogQueue}
 use Rattle.raft_base.specs.declared.pipe_log.LogQueue.TheVariants.{Rewrite}
 use Rattle.raft_records.specs.Entries.{with_lengths}
 use Rattle.raft_records.specs.Item.{Content, Item, item_of}
@@ -29,132 +27,25 @@ use Rattle.raft_table.specs.TableEntries.{AreTableEntries, IsRunIn, is_placed_in
 use Rattle.raft_accessor.specs.Accessor.{Accessor}
 use Rattle.raft_accessor.specs.Writes.{AreItemsRefused, IsFor, IsWriteFault, Rewriting, after_content, after_items}
 use Rattle.raft_accessor.proofs.MapLemmas.{none_some}
-use Rattle.raft_files.specs.Asks.{Ask, MayBeAsked, Put, ask}
+use Rattle.raft_files.specs.Asks.{Ask}
 use Rattle.raft_engine_fronts.specs.Contents.{placed_entries}
 use Rattle.raft_engine_laws.specs.Moving.{AreCopies, moving_items, put_items}
-use Rattle.raft_engine.specs.BatchBytes.{bytes_for, place_at, placed_at}
-use Rattle.raft_engine.specs.GroupBatches.{ArePartsRead, EntriesPart, puts_asks}
-use Rattle.raft_engine.specs.GroupParts.{IsGroupInParts}
+use Rattle.raft_engine.specs.BatchBytes.{place_at, placed_at}
 use Rattle.raft_engine.specs.KeptEngine.{KeptEngine}
-use Rattle.raft_engine.specs.Moved.{AreRegionsRewritten, IsRegionRewritten, IsTold}
-use Rattle.raft_engine.specs.MovedAgain.{IsRewriteRotated, next_rewrite_asks}
-use Rattle.raft_engine.specs.MovedGroups.{AreRegionsMovedAgain, IsRegionMovedAgain}
-use Rattle.raft_engine.specs.MovingFaults.{AreTaken, FailsBehind, IsItemRefusal, IsUntaken}
+use Rattle.raft_engine.specs.Moved.{AreRegionsRewritten}
+use Rattle.raft_engine.specs.MovedAgain.{IsRewriteRotated}
+use Rattle.raft_engine.specs.MovedGroups.{AreRegionsMovedAgain}
+use Rattle.raft_engine.specs.MovingFaults.{AreTaken, AreUntaken, IsFaultOfRegions, IsFaultOfRegionsAgain, IsRegionFault, IsRegionFaultAgain}
 use Rattle.raft_engine.specs.OpeningAsks.{Failures}
 use Rattle.raft_engine.specs.Rewriting.{IsBatchMoving, moving_entries, moving_pairs}
-use Rattle.raft_engine.specs.WrittenBatch.{LacksRoom}
+use Rattle.raft_engine.specs.WrittenBatch.{IsNextRefused, LacksRoom}
 use Rattle.raft_engine.proofs.DrainLemmas.{parted}
 use Rattle.raft_engine.proofs.FetchedLemmas.{fetched_consecutive}
 use Rattle.raft_engine.proofs.MovingPuts.{batch_taken, placed_moving, same_copies}
 
--- ---- more is asked
-
--- behind what was asked, more was
-pub record Grows (old new : List Ask) : Type 0 where
-  pub more : List Ask
-  pub is : new ≡ more ++ old
-
-pub grows_on : (a b c : List Ask) → Grows a b → Grows b c → Grows a c
-grows_on a b c g h = record { more = h.more ++ g.more; is = h.is ∙ ap (λ (l : List Ask). h.more ++ l) g.is ∙ sym (append_assoc h.more g.more a) }
-
-pub puts_grow : (file : LogFileContext) (batches : List Batch) (asks : List Ask) → Grows asks (puts_asks file batches asks)
-puts_grow file [] asks = record { more = []; is = refl }
-puts_grow file (batch ∷ batches) asks =
-    grows_on asks (ask file.id.queue (Put (bytes_for file batch)) ∷ asks) (puts_asks file batches (ask file.id.queue (Put (bytes_for file batch)) ∷ asks))
-    (record { more = ask file.id.queue (Put (bytes_for file batch)) ∷ []; is = refl }) (puts_grow file batches (ask file.id.queue (Put (bytes_for file batch)) ∷ asks))
-
-parts_grow : (parts : List EntriesPart) (old new : List Ask) → ArePartsRead parts old new → Grows old new
-parts_grow [] old new same = record { more = []; is = same }
-parts_grow (part ∷ parts) old new r = grows_on old r.0 new (record { more = r.1.reads; is = r.1.asked }) (parts_grow parts r.0 new r.2)
-
-region_grows : (gate : Option ℕ) (region : ℕ) (old new : KeptEngine) → IsRegionRewritten gate region old new → Grows old.asks new.asks
-region_grows gate region old new (inl none) = record { more = []; is = ap (λ (o : KeptEngine). o.asks) none.1 }
-region_grows gate region old new (inr m) =
-    grows_on old.asks m.between new.asks (record { more = m.moving.moving.read.reads; is = m.moving.moving.read.asked }) (record { more = _; is = ap (λ (o : KeptEngine). o.asks) m.moved })
-
-pub regions_grow : (gate : Option ℕ) (regions : List ℕ) (old new : KeptEngine) → AreRegionsRewritten gate regions old new → Grows old.asks new.asks
-regions_grow gate [] old new same = record { more = []; is = ap (λ (o : KeptEngine). o.asks) same }
-regions_grow gate (region ∷ regions) old new r = grows_on old.asks r.0.asks new.asks (region_grows gate region old r.0 r.1) (regions_grow gate regions r.0 new r.2)
-
-again_grows : (region : ℕ) (old new : KeptEngine) → IsRegionMovedAgain region old new → Grows old.asks new.asks
-again_grows region old new (inl one) = region_grows None region old new one.1
-again_grows region old new (inr group) =
-    let m = group.1 in
-    grows_on old.asks m.between new.asks (parts_grow m.group.parts.moving.parts old.asks m.between m.group.parts.moving.read)
-    (let puts = puts_grow _ m.batches m.between in record { more = puts.more; is = ap (λ (o : KeptEngine). o.asks) m.moved ∙ puts.is })
-
-pub all_again_grow : (regions : List ℕ) (old new : KeptEngine) → AreRegionsMovedAgain regions old new → Grows old.asks new.asks
-all_again_grow [] old new same = record { more = []; is = ap (λ (o : KeptEngine). o.asks) same }
-all_again_grow (region ∷ regions) old new r = grows_on old.asks r.0.asks new.asks (again_grows region old r.0 r.1) (all_again_grow regions r.0 new r.2)
-
-pub told_grows : (old told : KeptEngine) → IsTold old told → Grows old.asks told.asks
-told_grows old told t = grows_on old.asks _ told.asks (record { more = _ ∷ []; is = refl }) (record { more = _; is = ap (λ (o : KeptEngine). o.asks) t.told })
-
--- ---- a batch that isn't put
-
-module _ (MayFail : Failures) (IsRefused : Error → Type 0) where
-  pub behind_more : (old between new : List Ask) (e : Error) → Grows old between → FailsBehind MayFail IsRefused between new e → FailsBehind MayFail IsRefused old new e
-  behind_more old between new e g f =
-      let same : f.more ++ between ≡ (f.more ++ g.more) ++ old = ap (λ (l : List Ask). f.more ++ l) g.is ∙ sym (append_assoc f.more g.more old) in
-      record {
-        more = f.more ++ g.more;
-        bytes = f.bytes;
-        why = subst (λ (l : List Ask). (MayBeAsked (ask Rewrite (Put f.bytes)) l new × MayFail l (ask Rewrite (Put f.bytes)) e) ⊎ ((new ≡ ask Rewrite (Put f.bytes) ∷ l) × IsRefused e)) same f.why;
-      }
-
-  pub put_behind : (queue : LogQueue) (bytes : List ℕ) (old between new : List Ask) (e : Error) → queue ≡ Rewrite → Grows old between
-      → MayBeAsked (ask queue (Put bytes)) between new → MayFail between (ask queue (Put bytes)) e → FailsBehind MayFail IsRefused old new e
-  put_behind queue bytes old between new e is g may why = record {
-    more = g.more;
-    bytes = bytes;
-    why = inl (
-      subst (λ (q : LogQueue). MayBeAsked (ask q (Put bytes)) (g.more ++ old) new) is (subst (λ (l : List Ask). MayBeAsked (ask queue (Put bytes)) l new) g.is may),
-      subst (λ (q : LogQueue). MayFail (g.more ++ old) (ask q (Put bytes)) e) is (subst (λ (l : List Ask). MayFail l (ask queue (Put bytes)) e) g.is why),
-    );
-  }
-
-  pub untaken_behind : (queue : LogQueue) (bytes : List ℕ) (old between new : List Ask) (e : Error) → queue ≡ Rewrite → Grows old between
-      → new ≡ ask queue (Put bytes) ∷ between → IsRefused e → FailsBehind MayFail IsRefused old new e
-  untaken_behind queue bytes old between new e is g put refused = record {
-    more = g.more;
-    bytes = bytes;
-    why = inr (
-      put ∙ ap (λ (q : LogQueue). ask q (Put bytes) ∷ between) is ∙ ap (λ (l : List Ask). ask Rewrite (Put bytes) ∷ l) g.is,
-      refused,
-    );
-  }
-
-  -- of batches the last one was put
-  pub all_behind : (file : LogFileContext) (batches : List Batch) (old between new : List Ask) (e : Error) → file.id.queue ≡ Rewrite → batches ≢ [] → Grows old between
-      → new ≡ puts_asks file batches between → IsRefused e → FailsBehind MayFail IsRefused old new e
-  all_behind file [] old between new e is some g put refused = absurd (some refl)
-  all_behind file (batch ∷ []) old between new e is some g put refused = untaken_behind file.id.queue (bytes_for file batch) old between new e is g put refused
-  all_behind file (batch ∷ next ∷ batches) old between new e is some g put refused =
-      all_behind file (next ∷ batches) old (ask file.id.queue (Put (bytes_for file batch)) ∷ between) new e is (λ none. absurd cc)
-      (grows_on old between _ g (record { more = ask file.id.queue (Put (bytes_for file batch)) ∷ []; is = refl })) put refused
-
--- a weaker reason
-pub behind_so : (MayFail : Failures) (P Q : Error → Type 0) (old new : List Ask) (e : Error) → (P e → Q e) → FailsBehind MayFail P old new e → FailsBehind MayFail Q old new e
-behind_so MayFail P Q old new e so f = record { more = f.more; bytes = f.bytes; why = elim f.why [ inl of_files ↦ inl of_files | inr refused ↦ inr (refused.0, so refused.1) ] }
-
 -- ---- tables that don't take a batch
 
 module _ (gate : Option ℕ) (seq : ℕ) where
-  -- the refusal of an item
-  pub item_refusal : (id : ℕ) (o : Option Table) (live : ℕ) (content : Content) (e : Error) → IsWriteFault (Rewriting gate seq) id o live content e → IsItemRefusal e
-  item_refusal id o live content (errors.Corruption text) f = inr tt
-  item_refusal id o live content errors.Full f = inl (inr refl)
-  item_refusal id o live content errors.Memory f = inl (inl refl)
-  item_refusal id o live content (errors.InvalidArgument text) f = absurd f
-  item_refusal id o live content (errors.Io text) f = absurd f
-  item_refusal id o live content (errors.Codec text) f = absurd f
-  item_refusal id o live content (errors.Message text) f = absurd f
-  item_refusal id o live content (errors.TryAgain text) f = absurd f
-  item_refusal id o live content errors.EntryCompacted f = absurd f
-  item_refusal id o live content errors.EntryNotFound f = absurd f
-  item_refusal id o live content (errors.Other text) f = absurd f
-  item_refusal id o live content errors.Failed f = absurd f
-
   -- of one that is taken
   item_room : (id : ℕ) (o : Option Table) (live : ℕ) (content : Content) (e : Error) → IsFor (Rewriting gate seq) content → after_content (Rewriting gate seq) id o content ≢ None
       → IsWriteFault (Rewriting gate seq) id o live content e → LacksRoom e
@@ -207,14 +98,6 @@ module _ (gate : Option ℕ) (seq : ℕ) where
       h.fault
 
   -- a loop over the items of a batch that was drained
-  pub drain_refusal : {R : Type 0} (r : Result R Error) (s : IntoIter LogItem Global) (old new : Accessor)
-      → IfErr r (λ e. (it : IntoIter LogItem Global) × (xs : List LogItem) × (u : IntoIter LogItem Global) × (it ≡ s) × Yields into_iter_steps it xs u × AreItemsRefused (Rewriting gate seq) (map item_of xs) old new e)
-      → IfErr r IsItemRefusal
-  drain_refusal (Ok x) s old new p = tt
-  drain_refusal (Err e) s old new p =
-      let h = p.5 in
-      item_refusal h.item.raft_group_id (finite.get new.tables h.item.raft_group_id) _ h.item.content e h.fault
-
   pub drain_room : {R : Type 0} (r : Result R Error) (s : IntoIter LogItem Global) (items : List Item) (old new : Accessor) → map item_of (into_iter_items s) ≡ items → AreTaken gate seq old.tables items
       → IfErr r (λ e. (it : IntoIter LogItem Global) × (xs : List LogItem) × (u : IntoIter LogItem Global) × (it ≡ s) × Yields into_iter_steps it xs u × AreItemsRefused (Rewriting gate seq) (map item_of xs) old new e)
       → IfErr r LacksRoom
@@ -278,32 +161,30 @@ batch_is_taken gate tables t old asks batch seq offset there sound m =
       taken = taken.1;
     }
 
--- why the batch isn't taken, by the gate
-pub untaken : (gate : Option ℕ) (tables : Tables) (t : Table) (old asks : List Ask) (batch : Batch) (seq offset : ℕ) (e : Error) → finite.get tables t.region_id ≡ Some t → AreTableEntries t.entries → IsBatchMoving gate t old asks batch
-    → IsItemRefusal e → (AreTaken gate seq tables (placed_at (record { queue = Rewrite; seq = seq }) offset batch) → LacksRoom e) → IsUntaken gate e
-untaken None tables t old asks batch seq offset e there sound m refusal room = refusal
-untaken (Some gate) tables t old asks batch seq offset e there sound m refusal room = room (batch_is_taken gate tables t old asks batch seq offset there sound m)
+-- the refusal of one of its items, by the gate
+pub untaken : (gate : Option ℕ) (t : Table) (asks between : List Ask) (batch : Batch) (seq offset : ℕ) (old new : Accessor) (e : Error)
+    → finite.get old.tables t.region_id ≡ Some t → AreTableEntries t.entries → IsBatchMoving gate t asks between batch
+    → (AreTaken gate seq old.tables (placed_at (record { queue = Rewrite; seq = seq }) offset batch) → LacksRoom e)
+    → IsNextRefused (Rewriting gate seq) (placed_at (record { queue = Rewrite; seq = seq }) offset batch) old new e
+    → AreUntaken gate seq (placed_at (record { queue = Rewrite; seq = seq }) offset batch) old new e
+untaken None t asks between batch seq offset old new e there sound m room refused = refused
+untaken (Some gate) t asks between batch seq offset old new e there sound m room refused = (room (batch_is_taken gate old.tables t asks between batch seq offset there sound m), refused)
 
--- ---- a new file
+-- ---- all regions
 
-pub begun_grows : (told begun : KeptEngine) → IsRewriteRotated told begun → Grows told.asks begun.asks
-begun_grows told begun r = record { more = next_rewrite_asks r.seq; is = ap (λ (o : KeptEngine). o.asks) r.rotated }
+module _ (MayFail : Failures) where
+  pub fault_of_regions : (gate : Option ℕ) (i : ℕ) (regions : List ℕ) (d : ℕ) (old now new : KeptEngine) (e : Error) → i < length regions
+      → AreRegionsRewritten gate (take i regions) old now → IsRegionFault MayFail gate (get_or regions i d) now new e → IsFaultOfRegions MayFail gate regions old new e
+  fault_of_regions gate i regions d old now new e l h f =
+      let split : regions ≡ take i regions ++ get_or regions i d ∷ drop (i + 1) regions = sym (take-append-drop i regions) ∙ ap (λ (rs : List ℕ). take i regions ++ rs) (drop_more regions i d l) in
+      record { front = take i regions; region = get_or regions i d; back = drop (i + 1) regions; split = split; between = now; moved = h; fault = f }
 
+  pub fault_of_regions_again : (i : ℕ) (regions : List ℕ) (d : ℕ) (old now new : KeptEngine) (e : Error) → i < length regions
+      → AreRegionsMovedAgain (take i regions) old now → IsRegionFaultAgain MayFail (get_or regions i d) now new e → IsFaultOfRegionsAgain MayFail regions old new e
+  fault_of_regions_again i regions d old now new e l h f =
+      let split : regions ≡ take i regions ++ get_or regions i d ∷ drop (i + 1) regions = sym (take-append-drop i regions) ∙ ap (λ (rs : List ℕ). take i regions ++ rs) (drop_more regions i d l) in
+      record { front = take i regions; region = get_or regions i d; back = drop (i + 1) regions; split = split; between = now; moved = h; fault = f }
+
+-- an engine is as intact behind a new file as before it
 pub begun_intact : (told begun : KeptEngine) → IsRewriteRotated told begun → told.intact ≡ true → begun.intact ≡ true
 begun_intact told begun r intact = ap (λ (o : KeptEngine). o.intact) r.rotated ∙ intact
-
--- ---- a group
-
-pub group_not_empty : (t : Table) (old new : List Ask) (group : ℕ) (batches : List Batch) → IsGroupInParts t old new group batches → batches ≢ []
-group_not_empty t old new group batches p = subst (λ (l : List Batch). l ≢ []) (sym p.moving.are) (λ none. absurd cc)
-
--- behind the first batches of it the bytes of the next one aren't put, or there is no memory to go on
-module _ (MayFail : Failures) (file : LogFileContext) (front : List Batch) (batch : Batch) (old now new : List Ask) (is : file.id.queue ≡ Rewrite) (all : now ≡ puts_asks file front old) where
-  now_grows : Grows old now
-  now_grows = let g = puts_grow file front old in record { more = g.more; is = all ∙ g.is }
-
-  pub next_behind : (e : Error) → MayBeAsked (ask file.id.queue (Put (bytes_for file batch))) now new → MayFail now (ask file.id.queue (Put (bytes_for file batch))) e → FailsBehind MayFail IsItemRefusal old new e
-  next_behind e may why = put_behind MayFail IsItemRefusal file.id.queue (bytes_for file batch) old now new e is now_grows may why
-
-  pub memory_behind : new ≡ ask file.id.queue (Put (bytes_for file batch)) ∷ now → FailsBehind MayFail IsItemRefusal old new errors.Memory
-  memory_behind put = untaken_behind MayFail IsItemRefusal file.id.queue (bytes_for file batch) old now new errors.Memory is now_grows put (inl (inl refl))

@@ -1,5 +1,5 @@
 -- What an engine keeps once a batch is written.
-use Rattle.std.proofs.Common.{◌≡◌, ◌≢◌, ◌⊎◌, inl, inr, ℕ, ◌+◌, Bool, true, false, List, [], ◌∷◌, ◌++◌, Some, Result, Ok, Err, IfErr, OnOk, OnErr, length, map, refl, sym, ap, ◌∙◌, subst, append-nil}
+use Rattle.std.proofs.Common.{◌≡◌, ◌≢◌, ◌⊎◌, inl, inr, ℕ, ◌+◌, ◌≤◌, ◌^◌, Bool, true, false, List, [], ◌∷◌, ◌++◌, Some, Result, Ok, Err, IfErr, OnOk, OnErr, length, map, refl, sym, ap, ◌∙◌, subst, append-nil, arith}
 use Rattle.raft_base.specs.Signature.{signature_in}
 use Rattle.raft_base.specs.declared.compression_type.CompressionType.TheVariants as compressions
 use Rattle.raft_base.specs.declared.errors.Error.{Error}
@@ -30,7 +30,7 @@ use Rattle.raft_engine.specs.KeptEngineView.{AreFilesOf, IsKeptBy}
 use Rattle.raft_engine.specs.ReadBack.{IsReadBackAlone, WrittenBatchesAreReadBack}
 use Rattle.raft_engine.specs.Stored.{AreKeptStored}
 use Rattle.raft_engine.specs.StoredAsks.{IsWritableBatch, SyncsAreStored, WrittenBatchesAreStored}
-use Rattle.raft_engine.specs.WrittenBatch.{AreFirstWritten, IsHalfWritten, IsOneMore, IsUnwritten, LacksRoom, file_of, synced_if}
+use Rattle.raft_engine.specs.WrittenBatch.{AreCutShort, IsHalfWritten, IsOneMore, IsUnwritten, file_of, synced_if}
 use Rattle.raft_engine.specs.declared.queue_files.QueueFiles.{QueueFiles}
 use Rattle.raft_engine.proofs.FilesLemmas.{files_last, files_put, files_same}
 use Rattle.raft_engine.proofs.ReadBackLemmas.{none_before, same_read_back}
@@ -119,7 +119,7 @@ module _
 
   -- the batch is half written
   half_by : (sync : Bool) (new : List Ask) (untold' : Batch) (other : Accessor) (error : Error) (missing part : List Ask) → synced_if sync (its_ask ∷ []) ≡ missing ++ part → new ≡ part ++ asks
-      → (other ≡ accessor) ⊎ ((missing ≡ []) × LacksRoom error × AreFirstWritten Appending (placed_at id (length old_bytes) batch) accessor other)
+      → (other ≡ accessor) ⊎ ((missing ≡ []) × AreCutShort (placed_at id (length old_bytes) batch) accessor other error)
       → IsHalfWritten sync batch engine (record { version = version; asks = new; untold = untold'; accessor = other; intact = false }) error
   half_by sync new untold' other error missing part split e tables = record {
     seq = append.seq;
@@ -134,6 +134,13 @@ module _
   pub placed_accepted : (items : List Item) → items ≡ placed_at file.id append.len made → AreAccepted accessor.tables items
   placed_accepted items placed = subst (AreAccepted accessor.tables) (sym (placed ∙ placed_made)) accepted
 
+  -- the items with their places, whose writing was cut short
+  pub placed_cut : (items : List Item) (other : Accessor) (error : Error) → items ≡ placed_at file.id append.len made → AreCutShort items accessor other error
+      → AreCutShort (placed_at id (length old_bytes) batch) accessor other error
+  placed_cut items other error placed cut =
+      let are = placed ∙ placed_made ∙ ap (λ (n : ℕ). placed_at id n batch) (k.whole is_intact).append_files.ends in
+      subst (λ (l : List Item). AreCutShort l accessor other error) are cut
+
   module _ (sync : Bool) (new : List Ask) (untold' : Batch) (other : Accessor) (error : Error) where
     pub half_written : MayBeAsked (ask file.id.queue (Put (bytes_for file made))) asks new → other ≡ accessor
         → IsHalfWritten sync batch engine (record { version = version; asks = new; untold = untold'; accessor = other; intact = false }) error
@@ -141,12 +148,10 @@ module _
     half_written (inr e) same = half_by sync new untold' other error (synced_if sync []) (its_ask ∷ []) (parts_if sync its_ask) (e ∙ ask_made) (inl same)
 
     pub whole_asked : new ≡ synced_if sync (ask file.id.queue (Put (bytes_for file made)) ∷ asks)
-        → (items : List Item) → items ≡ placed_at file.id append.len made → AreFirstWritten Appending items accessor other → LacksRoom error
+        → (items : List Item) → items ≡ placed_at file.id append.len made → AreCutShort items accessor other error
         → IsHalfWritten sync batch engine (record { version = version; asks = new; untold = untold'; accessor = other; intact = false }) error
-    whole_asked e items placed first room =
-        let are_items = placed ∙ placed_made ∙ ap (λ (n : ℕ). placed_at id n batch) (k.whole is_intact).append_files.ends in
-        half_by sync new untold' other error [] _ refl (e ∙ ap (synced_if sync) ask_made ∙ front_if sync its_ask asks)
-        (inr (refl, room, subst (λ (l : List Item). AreFirstWritten Appending l accessor other) are_items first))
+    whole_asked e items placed cut =
+        half_by sync new untold' other error [] _ refl (e ∙ ap (synced_if sync) ask_made ∙ front_if sync its_ask asks) (inr (refl, placed_cut items other error placed cut))
 
   -- the bytes were put or not, and the engine isn't intact any more
   pub kept_half : (new : List Ask) (append' rewrite' : QueueFiles) (untold' : Batch) (other : Accessor) → MayBeAsked (ask file.id.queue (Put (bytes_for file made))) asks new → IsKeptBy version new append' rewrite' untold' other false
@@ -247,20 +252,27 @@ module _
         others = ap (λ (b : Bool). record { version = version; asks = new; untold = untold'; accessor = other; intact = b }) (sym is_intact);
       }
 
--- untold items aren't joined for want of room alone
-pub merge_room : {P : Type 0} (e : Error) → (e ≢ errors.Memory → (e ≡ errors.Full) × P) → LacksRoom e
-merge_room errors.Memory f = inl refl
-merge_room errors.Full f = inr refl
-merge_room (errors.Corruption text) f = inr (f (λ p. cc)).0
-merge_room (errors.InvalidArgument text) f = inr (f (λ p. cc)).0
-merge_room (errors.Io text) f = inr (f (λ p. cc)).0
-merge_room (errors.Codec text) f = inr (f (λ p. cc)).0
-merge_room (errors.Message text) f = inr (f (λ p. cc)).0
-merge_room (errors.TryAgain text) f = inr (f (λ p. cc)).0
-merge_room errors.EntryCompacted f = inr (f (λ p. cc)).0
-merge_room errors.EntryNotFound f = inr (f (λ p. cc)).0
-merge_room (errors.Other text) f = inr (f (λ p. cc)).0
-merge_room errors.Failed f = inr (f (λ p. cc)).0
+few : (old taken : Batch) (a b : List Item) → old ≡ record empty_batch { items = a } → taken ≡ record empty_batch { items = b } → 2 ^ 31 ≤ length old.entry_bytes + length taken.entry_bytes → ⊥
+few old taken a b is are many =
+    let none : length old.entry_bytes ≡ 0 = ap (λ (x : Batch). length x.entry_bytes) is in
+    let no_more : length taken.entry_bytes ≡ 0 = ap (λ (x : Batch). length x.entry_bytes) are in
+    omega (arith, none, no_more, many)
+
+-- untold items, which have no bytes, aren't joined for want of memory alone
+pub merge_memory : (old taken : Batch) (a b : List Item) (e : Error) → old ≡ record empty_batch { items = a } → taken ≡ record empty_batch { items = b }
+    → (e ≢ errors.Memory → (e ≡ errors.Full) × (2 ^ 31 ≤ length old.entry_bytes + length taken.entry_bytes)) → e ≡ errors.Memory
+merge_memory old taken a b errors.Memory is are f = refl
+merge_memory old taken a b (errors.Corruption text) is are f = absurd (few old taken a b is are (f (λ p. cc)).1)
+merge_memory old taken a b errors.Full is are f = absurd (few old taken a b is are (f (λ p. cc)).1)
+merge_memory old taken a b (errors.InvalidArgument text) is are f = absurd (few old taken a b is are (f (λ p. cc)).1)
+merge_memory old taken a b (errors.Io text) is are f = absurd (few old taken a b is are (f (λ p. cc)).1)
+merge_memory old taken a b (errors.Codec text) is are f = absurd (few old taken a b is are (f (λ p. cc)).1)
+merge_memory old taken a b (errors.Message text) is are f = absurd (few old taken a b is are (f (λ p. cc)).1)
+merge_memory old taken a b (errors.TryAgain text) is are f = absurd (few old taken a b is are (f (λ p. cc)).1)
+merge_memory old taken a b errors.EntryCompacted is are f = absurd (few old taken a b is are (f (λ p. cc)).1)
+merge_memory old taken a b errors.EntryNotFound is are f = absurd (few old taken a b is are (f (λ p. cc)).1)
+merge_memory old taken a b (errors.Other text) is are f = absurd (few old taken a b is are (f (λ p. cc)).1)
+merge_memory old taken a b errors.Failed is are f = absurd (few old taken a b is are (f (λ p. cc)).1)
 
 -- ---- a batch without items
 

@@ -1,15 +1,16 @@
 -- With which error a call breaks an engine, a sync fails, or no engine is made.
-use Rattle.std.specs.Prelude.{◌≡◌, ◌≢◌, ◌⊎◌, ℕ, ◌+◌, Bool, true, false, List, [], ◌∷◌, ◌++◌}
+use Rattle.std.specs.Prelude.{◌≡◌, ◌≢◌, ◌⊎◌, ℕ, ◌+◌, Bool, true, false, List, [], ◌∷◌, ◌++◌, length}
 use Rattle.raft_base.specs.declared.errors.Error.{Error}
 use Rattle.raft_base.specs.declared.errors.Error.TheVariants as errors
 use Rattle.raft_base.specs.declared.pipe_log.LogQueue.{LogQueue}
 use Rattle.raft_base.specs.declared.pipe_log.LogQueue.TheVariants.{Append, Rewrite}
 use Rattle.raft_records.specs.LogBatch.{Batch}
 use Rattle.raft_files.specs.Asks.{Ask, Begin, Sync, ask}
+use Rattle.raft_engine.specs.BatchBytes.{placed_at}
 use Rattle.raft_engine.specs.KeptEngine.{IsLastFile, KeptEngine}
 use Rattle.raft_engine.specs.OpeningAsks.{Failures, FailsAmong}
 use Rattle.raft_engine.specs.Purged.{AreExpired, delete_asks, put_asks}
-use Rattle.raft_engine.specs.WrittenBatch.{LacksRoom, file_of, synced_if}
+use Rattle.raft_engine.specs.WrittenBatch.{AreCutShort, file_of, synced_if}
 
 -- a call finds an intact engine, and leaves one that isn't intact any more
 abbrev pub Breaks : KeptEngine → KeptEngine → Type 0
@@ -33,13 +34,14 @@ pub record IsRotationFault (MayFail : Failures) (old new : KeptEngine) (e : Erro
   pub failed : FailsAmong MayFail (ask Append (Begin (seq + 1)) ∷ ask Append Sync ∷ []) old.asks new.asks e
 
 -- why a batch that is written breaks an engine: the files fail, to put its bytes, if it has items, or to sync them, if that is
--- wanted; or, of a batch with items, all of that was asked, and the error is `Memory` or `Full`
+-- wanted; or, of a batch with items, all of that was asked, and the writing of these, with their places there, is cut short
 pub record IsWritingFault (MayFail : Failures) (sync : Bool) (batch : Batch) (old new : KeptEngine) (e : Error) : Type 0 where
   pub seq : ℕ
   pub bytes : List ℕ
   pub last : IsLastFile Append old.asks seq bytes
   pub why : FailsAmong MayFail (synced_if sync (put_asks (file_of Append old seq) batch)) old.asks new.asks e
-      ⊎ ((batch.items ≢ []) × (new.asks ≡ synced_if sync (put_asks (file_of Append old seq) batch) ++ old.asks) × LacksRoom e)
+      ⊎ ((batch.items ≢ []) × (new.asks ≡ synced_if sync (put_asks (file_of Append old seq) batch) ++ old.asks)
+      × AreCutShort (placed_at (file_of Append old seq).id (length bytes) batch) old.accessor new.accessor e)
 
 -- newest first: what is asked to tell the rewrite queue, behind its last file of this number, what is untold
 abbrev pub telling_asks : KeptEngine → ℕ → List Ask

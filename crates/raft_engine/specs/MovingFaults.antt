@@ -1,25 +1,26 @@
 -- With which error a call that moves records breaks an engine.
-use Rattle.std.specs.Prelude.{◌≡◌, ◌⊎◌, ℕ, List, ◌∷◌, ◌++◌, Option, Some, None}
+use Rattle.std.specs.Prelude.{◌≡◌, ◌⊎◌, ℕ, List, [], ◌∷◌, ◌++◌, length, Option, Some, None}
 use Rattle.std.specs.List.{AllByRecursion}
-use Rattle.raft_base.specs.Errors.{IsCorruptionError}
 use Rattle.raft_base.specs.declared.errors.Error.{Error}
 use Rattle.raft_base.specs.declared.pipe_log.LogQueue.TheVariants.{Rewrite}
 use Rattle.raft_records.specs.Item.{Item}
+use Rattle.raft_records.specs.LogBatch.{Batch}
 use Rattle.raft_history.specs.RegionSteps.{Tables}
+use Rattle.raft_accessor.specs.Accessor.{Accessor}
 use Rattle.raft_accessor.specs.Writes.{IsFor, Rewriting, after_items}
-use Rattle.raft_files.specs.Asks.{Ask, MayBeAsked, Put, ask}
+use Rattle.raft_files.specs.Asks.{Ask}
+use Rattle.raft_engine.specs.BatchBytes.{placed_at}
 use Rattle.raft_engine.specs.Faults.{IsTellingFault}
+use Rattle.raft_engine.specs.GroupBatches.{placed_from, puts_asks}
 use Rattle.raft_engine.specs.KeptEngine.{IsLastFile, KeptEngine}
-use Rattle.raft_engine.specs.Moved.{IsTold}
-use Rattle.raft_engine.specs.MovedAgain.{next_rewrite_asks}
+use Rattle.raft_engine.specs.Moved.{AreRegions, AreRegionsRewritten, IsMoving, IsTold}
+use Rattle.raft_engine.specs.MovedAgain.{IsRewriteRotated, next_rewrite_asks}
+use Rattle.raft_engine.specs.MovedGroups.{AreRegionsMovedAgain, IsGroupOf, IsOnePartOf}
 use Rattle.raft_engine.specs.OpeningAsks.{Failures, FailsAmong}
-use Rattle.raft_engine.specs.WrittenBatch.{LacksRoom}
+use Rattle.raft_engine.specs.Purged.{put_asks}
+use Rattle.raft_engine.specs.WrittenBatch.{IsNextRefused, LacksRoom, file_of}
 
--- ---- a batch
-
--- with which errors tables refuse an item that is written to them by a rewriting: `Memory`, `Full`, or a corruption
-abbrev pub IsItemRefusal : Error → Type 0
-IsItemRefusal e = LacksRoom e ⊎ IsCorruptionError e
+-- ---- items that move
 
 -- tables take items by a rewriting to a file of this number
 pub record AreTaken (gate : Option ℕ) (seq : ℕ) (tables : Tables) (items : List Item) : Type 0 where
@@ -27,24 +28,76 @@ pub record AreTaken (gate : Option ℕ) (seq : ℕ) (tables : Tables) (items : L
   pub after : Tables
   pub taken : after_items (Rewriting gate seq) tables items ≡ Some after
 
--- with which errors tables don't take what moved past a gate, and, without one, what moved again
-abbrev pub IsUntaken : Option ℕ → Error → Type 0
-IsUntaken (Some gate) e = LacksRoom e
-IsUntaken None e = IsItemRefusal e
+-- tables refuse one of these items by a rewriting to a file of this number, past a gate for want of room alone
+abbrev pub AreUntaken : Option ℕ → ℕ → List Item → Accessor → Accessor → Error → Type 0
+AreUntaken (Some gate) seq items old new e = LacksRoom e × IsNextRefused (Rewriting (Some gate) seq) items old new e
+AreUntaken None seq items old new e = IsNextRefused (Rewriting None seq) items old new e
 
--- Behind more that was asked, the files fail to put some bytes in the rewrite queue; or such were put, nothing was asked behind them, and
--- the error is one of those that are named.
-pub record FailsBehind (MayFail : Failures) (IsRefused : Error → Type 0) (old new : List Ask) (e : Error) : Type 0 where
-  pub more : List Ask
+-- ---- one region
+
+-- why a batch of a region's records breaks an engine: the files fail to put it behind the last rewrite file; or it is put, and the tables
+-- refuse one of its items, with their places there
+pub record IsRegionFault (MayFail : Failures) (gate : Option ℕ) (region : ℕ) (old new : KeptEngine) (e : Error) : Type 0 where
+  pub between : List Ask
+  pub batch : Batch
+  pub moving : IsMoving gate region old between batch
+  pub seq : ℕ
   pub bytes : List ℕ
-  pub why : (MayBeAsked (ask Rewrite (Put bytes)) (more ++ old) new × MayFail (more ++ old) (ask Rewrite (Put bytes)) e)
-      ⊎ ((new ≡ ask Rewrite (Put bytes) ∷ (more ++ old)) × IsRefused e)
+  pub last : IsLastFile Rewrite old.asks seq bytes
+  pub why : FailsAmong MayFail (put_asks (file_of Rewrite old seq) batch) between new.asks e
+      ⊎ ((new.asks ≡ put_asks (file_of Rewrite old seq) batch ++ between)
+      × AreUntaken gate seq (placed_at (file_of Rewrite old seq).id (length bytes) batch) old.accessor new.accessor e)
+
+-- why a group of a region's records breaks an engine: the files fail to put one of its batches; or all are put, and the tables refuse one of their items
+pub record IsGroupFault (MayFail : Failures) (region : ℕ) (old new : KeptEngine) (e : Error) : Type 0 where
+  pub between : List Ask
+  pub batches : List Batch
+  pub seq : ℕ
+  pub bytes : List ℕ
+  pub last : IsLastFile Rewrite old.asks seq bytes
+  pub group : IsGroupOf region old between seq batches
+  pub why : FailsAmong MayFail (puts_asks (file_of Rewrite old seq) batches []) between new.asks e
+      ⊎ ((new.asks ≡ puts_asks (file_of Rewrite old seq) batches between)
+      × AreUntaken None seq (placed_from (file_of Rewrite old seq).id (length bytes) batches) old.accessor new.accessor e)
+
+-- why a region's records that move again do: in one batch if its entries are one part, else in a group
+abbrev pub IsRegionFaultAgain : Failures → ℕ → KeptEngine → KeptEngine → Error → Type 0
+IsRegionFaultAgain MayFail region old new e =
+    (IsOnePartOf region old × IsRegionFault MayFail None region old new e) ⊎ (¬ (IsOnePartOf region old) × IsGroupFault MayFail region old new e)
 
 -- ---- all regions
 
--- why a rewriting breaks an engine: in the telling, or with bytes that are put in the rewrite queue
-abbrev pub IsRewritingFault : Failures → KeptEngine → KeptEngine → Error → Type 0
-IsRewritingFault MayFail old new e = IsTellingFault MayFail old new e ⊎ FailsBehind MayFail LacksRoom old.asks new.asks e
+-- of these regions the records of the first ones moved, and those of the next one break the engine
+pub record IsFaultOfRegions (MayFail : Failures) (gate : Option ℕ) (regions : List ℕ) (old new : KeptEngine) (e : Error) : Type 0 where
+  pub front : List ℕ
+  pub region : ℕ
+  pub back : List ℕ
+  pub split : regions ≡ front ++ region ∷ back
+  pub between : KeptEngine
+  pub moved : AreRegionsRewritten gate front old between
+  pub fault : IsRegionFault MayFail gate region between new e
+
+-- so it is where records move again
+pub record IsFaultOfRegionsAgain (MayFail : Failures) (regions : List ℕ) (old new : KeptEngine) (e : Error) : Type 0 where
+  pub front : List ℕ
+  pub region : ℕ
+  pub back : List ℕ
+  pub split : regions ≡ front ++ region ∷ back
+  pub between : KeptEngine
+  pub moved : AreRegionsMovedAgain front old between
+  pub fault : IsRegionFaultAgain MayFail region between new e
+
+-- all is told, and the records of one of all regions break the engine
+pub record IsMovingFault (MayFail : Failures) (gate : ℕ) (old new : KeptEngine) (e : Error) : Type 0 where
+  pub told : KeptEngine
+  pub is_told : IsTold old told
+  pub regions : List ℕ
+  pub all : AreRegions old.accessor.tables regions
+  pub fault : IsFaultOfRegions MayFail (Some gate) regions told new e
+
+-- why a rewriting breaks an engine: in the telling, or behind it with the records of a region
+abbrev pub IsRewritingFault : Failures → ℕ → KeptEngine → KeptEngine → Error → Type 0
+IsRewritingFault MayFail gate old new e = IsTellingFault MayFail old new e ⊎ IsMovingFault MayFail gate old new e
 
 -- why a new file of the rewrite queue breaks an engine: the files fail, to sync this queue or to begin the file behind its last one
 pub record IsRewriteRotationFault (MayFail : Failures) (old new : KeptEngine) (e : Error) : Type 0 where
@@ -59,7 +112,17 @@ pub record IsToldRotationFault (MayFail : Failures) (old new : KeptEngine) (e : 
   pub is_told : IsTold old told
   pub fault : IsRewriteRotationFault MayFail told new e
 
--- why what moves again breaks an engine: in the telling, with the new file, or with bytes that are put in the rewrite queue
+-- it is told, a new file of it is begun, and the records of one of all regions break the engine
+pub record IsMovingFaultAgain (MayFail : Failures) (old new : KeptEngine) (e : Error) : Type 0 where
+  pub told : KeptEngine
+  pub is_told : IsTold old told
+  pub begun : KeptEngine
+  pub is_begun : IsRewriteRotated told begun
+  pub regions : List ℕ
+  pub all : AreRegions old.accessor.tables regions
+  pub fault : IsFaultOfRegionsAgain MayFail regions begun new e
+
+-- why what moves again breaks an engine: in the telling, with the new file, or behind it with the records of a region
 abbrev pub IsAgainFault : Failures → KeptEngine → KeptEngine → Error → Type 0
 IsAgainFault MayFail old new e =
-    IsTellingFault MayFail old new e ⊎ IsToldRotationFault MayFail old new e ⊎ FailsBehind MayFail IsItemRefusal old.asks new.asks e
+    IsTellingFault MayFail old new e ⊎ IsToldRotationFault MayFail old new e ⊎ IsMovingFaultAgain MayFail old new e

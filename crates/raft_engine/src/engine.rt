@@ -20,7 +20,7 @@ ghost use Rattle.raft_engine.specs.Opened.{IsOpened};
 ghost use Rattle.raft_engine.specs.StoredFound.{found_asks};
 ghost use Rattle.raft_engine.specs.Unopened.{AreBothAccepted, AreUnrecoveredAs, IsUnopened};
 ghost use Rattle.raft_engine.specs.Purged.{ArePurged, IsUnpurged};
-ghost use Rattle.raft_engine.specs.WrittenBatch.{AreFirstWritten, IsOneMore, IsOnlySynced, IsRotated, IsUnrotated, IsUnwritten, LacksRoom};
+ghost use Rattle.raft_engine.specs.WrittenBatch.{IsNextRefused, IsOneMore, IsOnlySynced, IsRotated, IsUnrotated, IsUnwritten, LacksRoom};
 
 use crate::limits::{FIRST_SEQ, LAST_OFFSET};
 use crate::opened::open_files;
@@ -319,8 +319,9 @@ impl<F: EngineFiles> Engine<F> {
     ///
     /// `Failed` where the engine isn't intact; `Corruption` where the tables would refuse an item, which the text names;
     /// `Full` where the batch has 2^56 bytes or more, or its file more than 2^63; `Memory`. The engine and the batch are then as
-    /// they were. Those of `EngineFiles`, and `Memory` or `Full` once the bytes were asked for: the engine isn't intact any more,
-    /// and the tables are as they were or, once the bytes were put, have the first ones of the items.
+    /// they were. Those of `EngineFiles`; and, once all was asked, `Memory`, or `Full` where with the records of the next item
+    /// 2^64 or more would be live in the append queue: the engine isn't intact any more, and the tables are as they were or, once
+    /// the bytes were put, have the first ones of the items.
     pub fn write(&mut self, batch: &mut LogBatch, sync: bool) -> Result<()>
         requires { batch.old.stage ≡ is_open }
         ensures ok { OnOk result ((batch.old.items ≡ []) × IsOnlySynced sync self.old self.new
@@ -410,8 +411,9 @@ impl<F: EngineFiles> Engine<F> {
 /// then.
 fn apply(accessor: &mut MemTableAccessor, batch: &mut LogBatch) -> Result<()>
     ensures ok { OnOk result (AreWritten Appending batch.old.items accessor.old accessor.new) }
-    ensures err { OnErr result (AreFirstWritten Appending batch.old.items accessor.old accessor.new) }
     ensures room { AreAccepted accessor.old.tables batch.old.items → IfErr result LacksRoom }
+    ensures fault { IfErr result
+        (IsNextRefused Appending batch.old.items accessor.old accessor.new) }
     ensures emptied { batch.new ≡ empty_batch }
 {
     accepted_items_lack_room_alone();

@@ -2,11 +2,10 @@
 
 ghost use Rattle.std.specs.Prelude.{◌≡◌, ◌≢◌, [], map, IfOk, IfErr, OnOk, OnErr};
 ghost use Rattle.std.specs.List.{AllByRecursion};
-ghost use Rattle.raft_base.specs.declared.pipe_log.LogQueue.TheVariants.{Rewrite};
 ghost use Rattle.raft_records.specs.LogBatch.{Batch, is_open, encoded};
 ghost use Rattle.raft_engine.specs.GroupBatches.{placed_from, puts_asks};
 ghost use Rattle.raft_engine.specs.GroupPlaces.{AreFirstPut, BeginInTime, IsOneTooLong, as_encoded, end_from, items_of_batches};
-ghost use Rattle.raft_engine.specs.MovingFaults.{FailsBehind, IsItemRefusal};
+ghost use Rattle.raft_engine.specs.OpeningAsks.{FailsAmong};
 ghost use Rattle.raft_engine.specs.StoredAsks.{IsWritableBatch};
 
 use crate::limits::LAST_OFFSET;
@@ -50,7 +49,7 @@ pub fn encode_all(batches: Vec<LogBatch>, offset: u64) -> Result<(Vec<LogBatch>,
 ///
 /// # Errors
 ///
-/// Those of `EngineFiles::append`, and `Memory`: the first ones of the batches were put then.
+/// Those of `EngineFiles::append`: the first ones of the batches were put then.
 pub fn put_all<F: EngineFiles>(
     files: &mut F,
     file: &LogFileContext,
@@ -65,18 +64,16 @@ pub fn put_all<F: EngineFiles>(
         ≡ placed_from file.now.id offset batches.items) }
     ensures err { OnErr result (AreFirstPut file.now batches.items (F.asked files.old)
         (F.asked files.new)) }
-    ensures fault { file.now.id.queue ≡ Rewrite → IfErr result (FailsBehind F.may_fail IsItemRefusal
+    ensures fault { IfErr result (FailsAmong F.may_fail (puts_asks file.now batches.items [])
         (F.asked files.old) (F.asked files.new)) }
 {
-    let mut placed = Vec::new(*batches.allocator());
+    let mut placed = batches;
     let mut at = offset;
-    for batch in batches {
-        let mut batch = batch;
+    for batch in placed.iter_mut() {
         batch.is_read_again();
         let len = batch.approximate_size();
-        put(files, file, at, &mut batch, len)?;
+        put(files, file, at, batch, len)?;
         at += len as u64;
-        placed.push(batch)?;
     }
     Ok(placed)
 }

@@ -7,8 +7,8 @@ ghost use Rattle.raft_engine.specs.GroupPlaces.{items_of_batches};
 ghost use Rattle.raft_engine.specs.Faults.{Breaks};
 ghost use Rattle.raft_engine.specs.Moved.{IsReady};
 ghost use Rattle.raft_engine.specs.MovedGroups.{AreRegionsMovedAgain, AreSomeRegionsMovedAgain, IsGroupMoved, IsGroupUnmoved, IsOnePartOf, IsRegionMovedAgain, IsRegionUnmovedAgain};
-ghost use Rattle.raft_engine.specs.MovingFaults.{FailsBehind, IsItemRefusal};
-ghost use Rattle.raft_engine.specs.WrittenBatch.{AreFirstWritten};
+ghost use Rattle.raft_engine.specs.MovingFaults.{IsFaultOfRegionsAgain, IsGroupFault, IsRegionFaultAgain};
+ghost use Rattle.raft_engine.specs.WrittenBatch.{AreFirstWritten, IsNextRefused};
 
 use super::Engine;
 use super::rewrite::rewrite_items;
@@ -35,7 +35,7 @@ impl<F: EngineFiles> Engine<F> {
         ensures ok { OnOk result (AreRegionsMovedAgain regions.now self.old self.new) }
         ensures err { IfErr result (AreSomeRegionsMovedAgain regions.now self.old self.new) }
         ensures fault { IfErr result (λ e. Breaks self.old self.new
-            → FailsBehind F.may_fail IsItemRefusal self.old.asks self.new.asks e) }
+            → IsFaultOfRegionsAgain F.may_fail regions.now self.old self.new e) }
     {
         for region in regions {
             self.move_region_again(*region)?;
@@ -54,7 +54,7 @@ impl<F: EngineFiles> Engine<F> {
         ensures ok { OnOk result (IsRegionMovedAgain region self.old self.new) }
         ensures err { IfErr result (IsRegionUnmovedAgain region self.old self.new) }
         ensures fault { IfErr result (λ e. Breaks self.old self.new
-            → FailsBehind F.may_fail IsItemRefusal self.old.asks self.new.asks e) }
+            → IsRegionFaultAgain F.may_fail region self.old self.new e) }
     {
         if self.is_one_part(region)? {
             return self.rewrite_region(region, None);
@@ -85,16 +85,16 @@ impl<F: EngineFiles> Engine<F> {
     /// # Errors
     ///
     /// `Full` where a batch would begin past 2^63 in the file, or has 2^56 bytes or more, and those of `moving_group`: the
-    /// engine is then as it was, but for reads. Those of `EngineFiles::append`, and `Memory` or `Full` once a batch was asked
-    /// for: the engine isn't intact any more. The first ones of the batches were put then, and the tables are as they were; or all
-    /// were, and the tables have the first ones of their items.
+    /// engine is then as it was, but for reads. Those of `EngineFiles::append`: the engine isn't intact any more, the first ones of
+    /// the batches were put, and the tables are as they were. Those of `rewrite_items` once all were put: it isn't intact either,
+    /// and the tables have the first ones of their items.
     fn move_group(&mut self, region: u64) -> Result<()>
         requires { IsReady self.old }
         ensures ok { OnOk result (((finite.get self.old.accessor.tables region ≡ None) × (self.new ≡ self.old))
             ⊎ IsGroupMoved region self.old self.new) }
         ensures err { IfErr result (IsGroupUnmoved region self.old self.new) }
         ensures fault { IfErr result (λ e. Breaks self.old self.new
-            → FailsBehind F.may_fail IsItemRefusal self.old.asks self.new.asks e) }
+            → IsGroupFault F.may_fail region self.old self.new e) }
     {
         moves_are_stored();
         moved_groups_are_stored();
@@ -126,7 +126,8 @@ fn rewrite_all(accessor: &mut MemTableAccessor, batches: Vec<LogBatch>, seq: Fil
         accessor.old accessor.new) }
     ensures err { OnErr result (AreFirstWritten (Rewriting None seq)
         (items_of_batches batches.items) accessor.old accessor.new) }
-    ensures fault { IfErr result IsItemRefusal }
+    ensures fault { IfErr result (IsNextRefused (Rewriting None seq)
+        (items_of_batches batches.items) accessor.old accessor.new) }
 {
     for batch in batches {
         let mut batch = batch;

@@ -5,8 +5,8 @@ ghost use Rattle.raft_records.specs.LogBatch.{empty_batch};
 ghost use Rattle.raft_accessor.specs.Writes.{AreWritten, Rewriting};
 ghost use Rattle.raft_engine.specs.Faults.{Breaks, IsTellingFault};
 ghost use Rattle.raft_engine.specs.Moved.{AreRegionsRewritten, AreSomeRewritten, IsReady, IsRegionRewritten, IsRegionUnmoved, IsRewritten, IsTold, IsUnrewritten, IsUntold};
-ghost use Rattle.raft_engine.specs.MovingFaults.{AreTaken, FailsBehind, IsItemRefusal, IsRewritingFault, IsUntaken};
-ghost use Rattle.raft_engine.specs.WrittenBatch.{AreFirstWritten, LacksRoom};
+ghost use Rattle.raft_engine.specs.MovingFaults.{AreTaken, IsFaultOfRegions, IsRegionFault, IsRewritingFault};
+ghost use Rattle.raft_engine.specs.WrittenBatch.{AreFirstWritten, IsNextRefused, LacksRoom};
 
 use super::Engine;
 use crate::limits::LAST_OFFSET;
@@ -32,14 +32,15 @@ impl<F: EngineFiles> Engine<F> {
     /// more than 2^63; `Memory`. The engine is then as it was. `Full` where a region's batch has 2^31 bytes of entries or 2^56
     /// bytes in all, or the last rewrite file more than 2^63; `Corruption` where the bytes of an entry aren't found at its
     /// place; `InvalidArgument` where a key is that of the group markers; those of `EngineFiles::read`; `Memory`. The records
-    /// of some regions moved then, and the engine is intact. The other ones of `EngineFiles`, and `Memory` or `Full` once a
-    /// batch was asked for: it isn't intact any more.
+    /// of some regions moved then, and the engine is intact. The other ones of `EngineFiles`; and, once a region's batch was put,
+    /// `Memory`, or `Full` where with the records of its next item 2^64 or more would be live in the rewrite queue: it isn't
+    /// intact any more.
     pub fn rewrite(&mut self, gate: FileSeq) -> Result<()>
         ensures ok { OnOk result (IsRewritten gate self.old self.new) }
         ensures accepted { OnOk result (self.old.intact ≡ true) }
         ensures err { IfErr result (IsUnrewritten gate self.old self.new) }
         ensures fault { IfErr result (λ e. Breaks self.old self.new
-            → IsRewritingFault F.may_fail self.old self.new e) }
+            → IsRewritingFault F.may_fail gate self.old self.new e) }
     {
         if !self.intact {
             return Err(Error::Failed);
@@ -59,7 +60,7 @@ impl<F: EngineFiles> Engine<F> {
         ensures ok { OnOk result (AreRegionsRewritten gate regions.now self.old self.new) }
         ensures err { IfErr result (AreSomeRewritten gate regions.now self.old self.new) }
         ensures fault { IfErr result (λ e. Breaks self.old self.new
-            → FailsBehind F.may_fail (IsUntaken gate) self.old.asks self.new.asks e) }
+            → IsFaultOfRegions F.may_fail gate regions.now self.old self.new e) }
     {
         for region in regions {
             self.rewrite_region(*region, gate)?;
@@ -114,15 +115,14 @@ impl<F: EngineFiles> Engine<F> {
     /// # Errors
     ///
     /// `Full` where the last rewrite file has more than 2^63 bytes, or the batch 2^56 or more, and those of `moving_batch`: the
-    /// engine is then as it was, but for reads. Those of `EngineFiles::append`, and `Memory` or `Full` once the batch was asked
-    /// for: the engine isn't intact any more, and the tables are as they were or, once it was put, have the first ones of its
-    /// items.
+    /// engine is then as it was, but for reads. Those of `EngineFiles::append`, and those of `rewrite_items` once the batch was put:
+    /// the engine isn't intact any more, and the tables are as they were or, once it was put, have the first ones of its items.
     pub(crate) fn rewrite_region(&mut self, region: u64, gate: Option<FileSeq>) -> Result<()>
         requires { IsReady self.old }
         ensures ok { OnOk result (IsRegionRewritten gate region self.old self.new) }
         ensures err { IfErr result (IsRegionUnmoved gate region self.old self.new) }
         ensures fault { IfErr result (λ e. Breaks self.old self.new
-            → FailsBehind F.may_fail (IsUntaken gate) self.old.asks self.new.asks e) }
+            → IsRegionFault F.may_fail gate region self.old self.new e) }
     {
         moves_are_stored();
         batches_are_read_back();
@@ -168,7 +168,8 @@ pub(super) fn rewrite_items(
         (AreWritten (Rewriting gate seq) batch.old.items accessor.old accessor.new) }
     ensures err { OnErr result
         (AreFirstWritten (Rewriting gate seq) batch.old.items accessor.old accessor.new) }
-    ensures fault { IfErr result IsItemRefusal }
+    ensures fault { IfErr result
+        (IsNextRefused (Rewriting gate seq) batch.old.items accessor.old accessor.new) }
     ensures room { AreTaken gate seq accessor.old.tables batch.old.items → IfErr result LacksRoom }
     ensures emptied { batch.new ≡ empty_batch }
 {

@@ -1,5 +1,5 @@
 use Rattle.std.proofs.lemmas.Result.{err_from_is_err_and}
-use Rattle.std.proofs.Common.{◌≡◌, List, inl, inr, None, true, false, refl, sym, ap, ◌∙◌, subst}
+use Rattle.std.proofs.Common.{◌≡◌, List, [], inl, inr, None, true, false, refl, sym, ap, ◌∙◌, subst}
 use Rattle.std.specs.List.{AllByRecursion}
 use Rattle.raft_base.specs.declared.pipe_log.FileId.{FileId}
 use Rattle.raft_base.specs.declared.pipe_log.LogFileContext.{LogFileContext}
@@ -14,11 +14,12 @@ use Rattle.raft_engine.specs.GroupPlaces.{BeginInTime}
 use Rattle.raft_engine.specs.KeptEngine.{KeptEngine}
 use Rattle.raft_engine.specs.Moved.{IsReady}
 use Rattle.raft_engine.specs.MovedGroups.{IsGroupHalfMoved, IsGroupMoved, IsGroupUnmoved}
-use Rattle.raft_engine.specs.WrittenBatch.{AreFirstWritten}
+use Rattle.raft_engine.specs.WrittenBatch.{AreFirstWritten, IsNextRefused}
 use Rattle.raft_engine.proofs.KeptGroups.{all_broken, first_broken, group_half, group_kept, group_long, group_moved, group_open, group_reads, group_some, group_unmade, made_encoded, made_first, made_in_time, made_places, made_put}
 use Rattle.raft_engine.proofs.KeptMoves.{kept_read}
-use Rattle.raft_engine.specs.MovingFaults.{FailsBehind, IsItemRefusal}
-use Rattle.raft_engine.proofs.MovingFaultLemmas.{Grows, all_behind, behind_more, group_not_empty}
+use Rattle.raft_engine.specs.MovingFaults.{IsGroupFault}
+use Rattle.raft_engine.specs.OpeningAsks.{FailsAmong}
+use Rattle.raft_engine.proofs.FilesLemmas.{files_last}
 use Rattle.raft_engine.proofs.engine.Engine.move_group.Goals as goal
 
 pub invariant_of-self : goal.invariant_of-self
@@ -245,18 +246,25 @@ returns-in_err-placed-clause-fault g c =
     let before : KeptEngine = record { version = e.version; asks = old; untold = e.untold; accessor = e.accessor; intact = e.intact } in
     let ready : IsReady before = subst IsReady (sym c.self.view_is) c.requires in
     let p : IsGroupInParts c.in-Some.table.now old between e.rewrite.seq c.in_ok-batches.batches.items = c.in_ok-batches.ensures.ok in
-    let only = group_reads c.moves_are_stored.ensures.read e.version old e.append e.rewrite e.untold e.accessor e.intact
-    c.self.invariant ready.intact c.args.region c.in-Some.table.now (sym c.in-Some.ensures.value) between
-    c.in_ok-batches.batches.items p in
-    let grows : Grows old between = record { more = only.reads; is = only.asked } in
+    let files = (c.self.invariant.whole ready.intact).rewrite_files in
     let new : List Ask = g.F.EngineFiles.asked c.put_all.new.files in
     let file : LogFileContext = record { id = record { queue = Rewrite; seq = e.rewrite.seq }; version = e.version } in
     let is_file : c.new-file.result ≡ file =
     c.new-file.ensures ∙ ap (λ (id : FileId). record { id = id; version = e.version }) c.new.ensures in
+    let after : KeptEngine = record { version = e.version; asks = new; untold = e.untold; accessor = e.accessor; intact = false } in
     let q = err_from_is_err_and c.from_residual-in_err-placed.result c.from_residual-in_err-placed.ensures.1 in
     rw (q.1, q.2)
-    (λ broken. subst (λ (o : KeptEngine). FailsBehind (g.F.EngineFiles.may_fail) IsItemRefusal o.asks new c.in_err-placed.field-0.0) c.self.view_is
-    (behind_more (g.F.EngineFiles.may_fail) IsItemRefusal old between new c.in_err-placed.field-0.0 grows (c.in_err-placed.ensures.fault (ap (λ (f : LogFileContext). f.id.queue) is_file))))
+    (λ broken. subst (λ (o : KeptEngine). IsGroupFault (g.F.EngineFiles.may_fail) c.args.region o after c.in_err-placed.field-0.0) c.self.view_is
+    (record {
+      between = between;
+      batches = c.in_ok-batches.batches.items;
+      seq = e.rewrite.seq;
+      bytes = files.bytes;
+      last = files_last Rewrite old e.rewrite files;
+      group = record { table = c.in-Some.table.now; there = sym c.in-Some.ensures.value; parts = p };
+      why = inl (subst (λ (l : List Ask). FailsAmong (g.F.EngineFiles.may_fail) l between new c.in_err-placed.field-0.0)
+          (made_put c.new-file.result file is_file c.in_ok-batches.batches.items c.in_ok-made.made.items c.in_ok-made.ensures.ok [] _ refl) c.in_err-placed.ensures.fault);
+    }))
 
 pub returns-in_err-rewrite_all-clause-fault : goal.returns-in_err-rewrite_all-clause-fault
 returns-in_err-rewrite_all-clause-fault g c =
@@ -266,17 +274,29 @@ returns-in_err-rewrite_all-clause-fault g c =
     let before : KeptEngine = record { version = e.version; asks = old; untold = e.untold; accessor = e.accessor; intact = e.intact } in
     let ready : IsReady before = subst IsReady (sym c.self.view_is) c.requires in
     let p : IsGroupInParts c.in-Some.table.now old between e.rewrite.seq c.in_ok-batches.batches.items = c.in_ok-batches.ensures.ok in
-    let only = group_reads c.moves_are_stored.ensures.read e.version old e.append e.rewrite e.untold e.accessor e.intact
-    c.self.invariant ready.intact c.args.region c.in-Some.table.now (sym c.in-Some.ensures.value) between
-    c.in_ok-batches.batches.items p in
-    let grows : Grows old between = record { more = only.reads; is = only.asked } in
+    let files = (c.self.invariant.whole ready.intact).rewrite_files in
     let new : List Ask = g.F.EngineFiles.asked c.put_all.new.files in
     let file : LogFileContext = record { id = record { queue = Rewrite; seq = e.rewrite.seq }; version = e.version } in
     let is_file : c.new-file.result ≡ file =
     c.new-file.ensures ∙ ap (λ (id : FileId). record { id = id; version = e.version }) c.new.ensures in
     let is_new : new ≡ puts_asks file c.in_ok-batches.batches.items between =
     made_put c.new-file.result file is_file c.in_ok-batches.batches.items c.in_ok-made.made.items c.in_ok-made.ensures.ok between new c.in_ok-placed.ensures.ok in
+    let places = made_places c.new-file.result file is_file c.in_ok-batches.batches.items c.in_ok-made.made.items c.in_ok-made.ensures.ok
+    e.rewrite.len _ _ files.ends c.in_ok-placed.ensures.placed in
+    let after : KeptEngine = record { version = e.version; asks = new; untold = e.untold; accessor = c.rewrite_all.new.accessor; intact = false } in
     let q = err_from_is_err_and c.from_residual-in_err-rewrite_all.result c.from_residual-in_err-rewrite_all.ensures.1 in
     rw (q.1, q.2)
-    (λ broken. subst (λ (o : KeptEngine). FailsBehind (g.F.EngineFiles.may_fail) IsItemRefusal o.asks new c.in_err-rewrite_all.field-0.0) c.self.view_is
-    (all_behind (g.F.EngineFiles.may_fail) IsItemRefusal file c.in_ok-batches.batches.items old between new c.in_err-rewrite_all.field-0.0 refl (group_not_empty _ _ _ _ _ p) grows is_new c.in_err-rewrite_all.ensures.fault))
+    (λ broken. subst (λ (o : KeptEngine). IsGroupFault (g.F.EngineFiles.may_fail) c.args.region o after c.in_err-rewrite_all.field-0.0) c.self.view_is
+    (record {
+      between = between;
+      batches = c.in_ok-batches.batches.items;
+      seq = e.rewrite.seq;
+      bytes = files.bytes;
+      last = files_last Rewrite old e.rewrite files;
+      group = record { table = c.in-Some.table.now; there = sym c.in-Some.ensures.value; parts = p };
+      why = inr (
+        is_new,
+        subst (λ (l : List Item). IsNextRefused (Rewriting None e.rewrite.seq) l e.accessor c.rewrite_all.new.accessor c.in_err-rewrite_all.field-0.0) places
+            c.in_err-rewrite_all.ensures.fault,
+      );
+    }))

@@ -6,8 +6,7 @@ use Rattle.raft_engine.specs.MovedGroups.{IsGroupUnmoved, IsOnePartOf, IsRegionM
 use Rattle.raft_engine.proofs.MovedRegions.{group_again, group_not_again}
 use Rattle.raft_engine.proofs.RewrittenRegions.{if_err_so, ok_so}
 use Rattle.raft_engine.specs.Faults.{Breaks}
-use Rattle.raft_engine.specs.MovingFaults.{FailsBehind, IsItemRefusal, IsUntaken}
-use Rattle.raft_engine.proofs.MovingFaultLemmas.{behind_so}
+use Rattle.raft_engine.specs.MovingFaults.{IsGroupFault, IsRegionFault, IsRegionFaultAgain}
 use Rattle.raft_engine.proofs.engine.Engine.move_region_again.Goals as goal
 
 pub returns-clause-ok : goal.returns-clause-ok
@@ -39,5 +38,13 @@ pub returns-then-branch-clause-fault : goal.returns-then-branch-clause-fault
 returns-then-branch-clause-fault g c =
     let old = c.args.self.now in
     let new = c.rewrite_region.new.self in
-    if_err_so (λ e. Breaks old new → FailsBehind (g.F.EngineFiles.may_fail) (IsUntaken None) old.asks new.asks e) (λ e. Breaks old new → FailsBehind (g.F.EngineFiles.may_fail) IsItemRefusal old.asks new.asks e) c.rewrite_region.result
-    (λ e f broken. behind_so (g.F.EngineFiles.may_fail) (IsUntaken None) IsItemRefusal old.asks new.asks e (λ refusal. refusal) (f broken)) c.rewrite_region.ensures.fault
+    if_err_so (λ e. Breaks old new → IsRegionFault (g.F.EngineFiles.may_fail) None c.args.region old new e) (λ e. Breaks old new → IsRegionFaultAgain (g.F.EngineFiles.may_fail) c.args.region old new e) c.rewrite_region.result
+    (λ e f broken. inl (c.in_ok-is_one_part.ensures.ok.0 c.if-branch.true, f broken)) c.rewrite_region.ensures.fault
+
+pub returns-clause-fault : goal.returns-clause-fault
+returns-clause-fault g c =
+    let old = c.args.self.now in
+    let new = c.move_group.new.self in
+    let several : ¬ (IsOnePartOf c.args.region old) = λ h. false≢true (sym c.if-branch.false ∙ c.in_ok-is_one_part.ensures.ok.1 h) in
+    if_err_so (λ e. Breaks old new → IsGroupFault (g.F.EngineFiles.may_fail) c.args.region old new e) (λ e. Breaks old new → IsRegionFaultAgain (g.F.EngineFiles.may_fail) c.args.region old new e) c.move_group.result
+    (λ e f broken. inr (several, f broken)) c.move_group.ensures.fault

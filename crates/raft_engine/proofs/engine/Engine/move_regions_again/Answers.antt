@@ -1,8 +1,7 @@
 use Rattle.std.proofs.lemmas.Result.{err_from_is_err_and}
-use Rattle.std.proofs.Common.{rules, ◌<◌, length, take}
+use Rattle.std.proofs.Common.{rules, ◌<◌, length}
 use Rattle.raft_engine.proofs.MovedRegions.{moved_ready, next_region, some_moved}
-use Rattle.raft_engine.specs.MovingFaults.{IsItemRefusal}
-use Rattle.raft_engine.proofs.MovingFaultLemmas.{behind_more, all_again_grow}
+use Rattle.raft_engine.proofs.MovingFaultLemmas.{fault_of_regions_again}
 use Rattle.raft_engine.proofs.engine.Engine.move_regions_again.Goals as goal
 
 pub loop-region-preserved : goal.loop-region-preserved
@@ -20,7 +19,8 @@ returns-in_err-move_region_again-clause-err g c =
 
 pub returns-in_err-move_region_again-clause-fault : goal.returns-in_err-move_region_again-clause-fault
 returns-in_err-move_region_again-clause-fault g c =
+    let less : c.loop-region.region-index < length c.args.regions.now = search rules in
     let p = err_from_is_err_and c.from_residual.result c.from_residual.ensures.1 in
     rw (p.1, p.2)
-    (λ broken. behind_more (g.F.EngineFiles.may_fail) IsItemRefusal _ _ _ _ (all_again_grow (take c.loop-region.region-index c.args.regions.now) _ _ c.loop-region.invariant.1)
+    (λ broken. fault_of_regions_again (g.F.EngineFiles.may_fail) c.loop-region.region-index c.args.regions.now _ _ _ _ _ less c.loop-region.invariant.1
     (c.in_err-move_region_again.ensures.fault (c.loop-region.invariant.0.intact, broken.1)))

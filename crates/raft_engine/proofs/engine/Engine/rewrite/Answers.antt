@@ -4,9 +4,7 @@ use Rattle.raft_engine.specs.Moved.{AreRegions, AreRegionsRewritten, AreSomeRewr
 use Rattle.raft_engine.proofs.RewrittenRegions.{if_err_so, ok_so, told_ready}
 use Rattle.std.proofs.lemmas.Result.{err_from_is_err_and}
 use Rattle.raft_engine.specs.Faults.{Breaks}
-use Rattle.raft_engine.specs.MovingFaults.{FailsBehind, IsRewritingFault, IsUntaken}
-use Rattle.raft_engine.specs.WrittenBatch.{LacksRoom}
-use Rattle.raft_engine.proofs.MovingFaultLemmas.{behind_more, behind_so, told_grows}
+use Rattle.raft_engine.specs.MovingFaults.{IsFaultOfRegions, IsRewritingFault}
 use Rattle.raft_engine.proofs.engine.Engine.rewrite.Goals as goal
 
 pub returns-clause-ok : goal.returns-clause-ok
@@ -46,6 +44,13 @@ returns-clause-fault g c =
     let new = c.rewrite_regions.new.self in
     let is_told = c.in_ok-tell.ensures.ok in
     let ready = told_ready old told c.in_ok-tell.ensures.accepted is_told in
-    if_err_so (λ e. Breaks told new → FailsBehind (g.F.EngineFiles.may_fail) (IsUntaken (Some c.args.gate)) told.asks new.asks e) (λ e. Breaks old new → IsRewritingFault (g.F.EngineFiles.may_fail) old new e) c.rewrite_regions.result
-    (λ e f broken. inr (behind_so (g.F.EngineFiles.may_fail) (IsUntaken (Some c.args.gate)) LacksRoom old.asks new.asks e (λ room. room)
-    (behind_more (g.F.EngineFiles.may_fail) (IsUntaken (Some c.args.gate)) old.asks told.asks new.asks e (told_grows old told is_told) (f (ready.intact, broken.1))))) c.rewrite_regions.ensures.fault
+    if_err_so (λ e. Breaks told new → IsFaultOfRegions (g.F.EngineFiles.may_fail) (Some c.args.gate) c.as_slice.result.now told new e)
+    (λ e. Breaks old new → IsRewritingFault (g.F.EngineFiles.may_fail) c.args.gate old new e) c.rewrite_regions.result
+    (λ e f broken. inr (record {
+      told = told;
+      is_told = is_told;
+      regions = c.as_slice.result.now;
+      all = subst (λ (o : KeptEngine). AreRegions o.accessor.tables c.as_slice.result.now) c.self.view_is
+          (subst (AreRegions c.self.inside.accessor.tables) (sym c.as_slice.ensures.value) c.in_ok-regions.ensures.ok);
+      fault = f (ready.intact, broken.1);
+    })) c.rewrite_regions.ensures.fault

@@ -6,8 +6,8 @@ use Rattle.raft_engine.specs.MovedAgain.{AreMovedAgain, AreUnmovedAgain}
 use Rattle.raft_engine.specs.MovedGroups.{AreRegionsMovedAgain, AreSomeRegionsMovedAgain}
 use Rattle.raft_engine.proofs.RewrittenRegions.{if_err_so, ok_so, told_ready}
 use Rattle.raft_engine.specs.Faults.{Breaks}
-use Rattle.raft_engine.specs.MovingFaults.{FailsBehind, IsAgainFault, IsItemRefusal}
-use Rattle.raft_engine.proofs.MovingFaultLemmas.{begun_grows, begun_intact, behind_more, grows_on, told_grows}
+use Rattle.raft_engine.specs.MovingFaults.{IsAgainFault, IsFaultOfRegionsAgain}
+use Rattle.raft_engine.proofs.MovingFaultLemmas.{begun_intact}
 use Rattle.raft_engine.proofs.engine.Engine.rewrite_again.Goals as goal
 
 pub returns-in_err-rotate_rewrite-clause-err : goal.returns-in_err-rotate_rewrite-clause-err
@@ -65,6 +65,14 @@ returns-clause-fault g c =
     let is_told = c.in_ok-tell.ensures.ok in
     let ready = told_ready old told c.in_ok-tell.ensures.accepted is_told in
     let is_begun = c.in_ok-rotate_rewrite.ensures.ok in
-    let grows = grows_on old.asks told.asks begun.asks (told_grows old told is_told) (begun_grows told begun is_begun) in
-    if_err_so (λ e. Breaks begun new → FailsBehind (g.F.EngineFiles.may_fail) IsItemRefusal begun.asks new.asks e) (λ e. Breaks old new → IsAgainFault (g.F.EngineFiles.may_fail) old new e) c.move_regions_again.result
-    (λ e f broken. inr (inr (behind_more (g.F.EngineFiles.may_fail) IsItemRefusal old.asks begun.asks new.asks e grows (f (begun_intact told begun is_begun ready.intact, broken.1))))) c.move_regions_again.ensures.fault
+    if_err_so (λ e. Breaks begun new → IsFaultOfRegionsAgain (g.F.EngineFiles.may_fail) c.as_slice.result.now begun new e) (λ e. Breaks old new → IsAgainFault (g.F.EngineFiles.may_fail) old new e) c.move_regions_again.result
+    (λ e f broken. inr (inr (record {
+      told = told;
+      is_told = is_told;
+      begun = begun;
+      is_begun = is_begun;
+      regions = c.as_slice.result.now;
+      all = subst (λ (o : KeptEngine). AreRegions o.accessor.tables c.as_slice.result.now) c.self.view_is
+          (subst (AreRegions c.self.inside.accessor.tables) (sym c.as_slice.ensures.value) c.in_ok-regions.ensures.ok);
+      fault = f (begun_intact told begun is_begun ready.intact, broken.1);
+    }))) c.move_regions_again.ensures.fault

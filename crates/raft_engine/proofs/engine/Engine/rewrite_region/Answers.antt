@@ -1,5 +1,5 @@
 use Rattle.std.proofs.lemmas.Result.{err_from_is_err_and}
-use Rattle.std.proofs.Common.{rules, ◌≡◌, ◌≢◌, ◌<◌, ◌^◌, List, [], true, false, inr, refl, sym, ap, ◌∙◌, subst}
+use Rattle.std.proofs.Common.{rules, ◌≡◌, ◌≢◌, ℕ, ◌<◌, ◌^◌, List, [], length, true, false, inl, inr, refl, sym, ap, ◌∙◌, subst}
 use Rattle.std.specs.FinMap as finite
 use Rattle.raft_base.specs.declared.errors.Error.TheVariants as errors
 use Rattle.raft_base.specs.declared.pipe_log.FileId.{FileId}
@@ -13,10 +13,15 @@ use Rattle.raft_engine.proofs.ReadKept.{read_only}
 use Rattle.raft_engine.proofs.RefusalLemmas.{rewrite_full}
 use Rattle.raft_base.specs.declared.pipe_log.LogFileContext.{LogFileContext}
 use Rattle.raft_base.specs.declared.pipe_log.LogQueue.TheVariants.{Rewrite}
+use Rattle.raft_records.specs.Item.{Item}
 use Rattle.raft_records.specs.LogBatch.{Batch}
-use Rattle.raft_engine.specs.BatchBytes.{bytes_for, placed_at}
-use Rattle.raft_engine.specs.MovingFaults.{AreTaken, FailsBehind, IsUntaken}
-use Rattle.raft_engine.proofs.MovingFaultLemmas.{Grows, put_behind, untaken, untaken_behind}
+use Rattle.raft_accessor.specs.Writes.{Rewriting}
+use Rattle.raft_engine.specs.BatchBytes.{placed_at}
+use Rattle.raft_engine.specs.MovingFaults.{AreTaken, IsRegionFault}
+use Rattle.raft_engine.specs.WrittenBatch.{IsNextRefused}
+use Rattle.raft_engine.proofs.FaultLemmas.{made_fails, put_whole}
+use Rattle.raft_engine.proofs.FilesLemmas.{files_last}
+use Rattle.raft_engine.proofs.MovingFaultLemmas.{untaken}
 use Rattle.raft_engine.proofs.engine.Engine.rewrite_region.Goals as goal
 
 pub invariant_of-self : goal.invariant_of-self
@@ -265,17 +270,26 @@ returns-in_err-put-clause-fault g c =
     let e = c.self.inside in
     let old : List Ask = g.F.EngineFiles.asked e.files in
     let between : List Ask = g.F.EngineFiles.asked c.moving_batch.new.files in
-    let m = c.in_ok-batch.ensures.ok in
-    let grows : Grows old between = record { more = m.read.reads; is = m.read.asked } in
+    let ready : IsReady (record { version = e.version; asks = old; untold = e.untold; accessor = e.accessor; intact = e.intact }) = subst IsReady (sym c.self.view_is) c.requires in
+    let some : c.in_ok-batch.batch.items ≢ [] = search rules in
     let its : LogFileContext = record { id = record { queue = Rewrite; seq = e.rewrite.seq }; version = e.version } in
     let file : c.new-file.result ≡ its = c.new-file.ensures ∙ ap (λ (id : FileId). record { id = id; version = e.version }) c.new.ensures in
-    let queue : c.new-file.result.id.queue ≡ Rewrite = ap (λ (f : LogFileContext). f.id.queue) file in
     let new : List Ask = g.F.EngineFiles.asked c.put.new.files in
+    let files = (c.self.invariant.whole ready.intact).rewrite_files in
     let p = err_from_is_err_and c.from_residual-in_err-put.result c.from_residual-in_err-put.ensures.1 in
     rw (p.1, p.2)
-    (λ broken. subst (λ (o : KeptEngine). FailsBehind (g.F.EngineFiles.may_fail) (IsUntaken c.args.gate) o.asks new c.in_err-put.field-0.0) c.self.view_is
-    (put_behind (g.F.EngineFiles.may_fail) (IsUntaken c.args.gate) c.new-file.result.id.queue (bytes_for c.new-file.result c.finish_populate.new.self)
-    old between new c.in_err-put.field-0.0 queue grows c.in_err-put.ensures.err c.in_err-put.ensures.fault))
+    (λ broken. subst (λ (o : KeptEngine). IsRegionFault (g.F.EngineFiles.may_fail) c.args.gate c.args.region o
+    (record { version = e.version; asks = new; untold = e.untold; accessor = e.accessor; intact = false }) c.in_err-put.field-0.0) c.self.view_is
+    (record {
+      between = between;
+      batch = c.in_ok-batch.batch;
+      moving = record { table = c.in-Some.table.now; there = sym c.in-Some.ensures.value; moving = c.in_ok-batch.ensures.ok };
+      seq = e.rewrite.seq;
+      bytes = files.bytes;
+      last = files_last Rewrite old e.rewrite files;
+      why = inl (made_fails (g.F.EngineFiles.may_fail) c.new-file.result its c.finish_populate.new.self c.in_ok-batch.batch between new c.in_err-put.field-0.0
+          file c.in_ok-len.ensures.ok some c.in_err-put.ensures.err c.in_err-put.ensures.fault);
+    }))
 
 pub returns-in_err-rewrite_items-clause-fault : goal.returns-in_err-rewrite_items-clause-fault
 returns-in_err-rewrite_items-clause-fault g c =
@@ -283,17 +297,31 @@ returns-in_err-rewrite_items-clause-fault g c =
     let old : List Ask = g.F.EngineFiles.asked e.files in
     let between : List Ask = g.F.EngineFiles.asked c.moving_batch.new.files in
     let m = c.in_ok-batch.ensures.ok in
-    let grows : Grows old between = record { more = m.read.reads; is = m.read.asked } in
+    let ready : IsReady (record { version = e.version; asks = old; untold = e.untold; accessor = e.accessor; intact = e.intact }) = subst IsReady (sym c.self.view_is) c.requires in
+    let some : c.in_ok-batch.batch.items ≢ [] = search rules in
     let its : LogFileContext = record { id = record { queue = Rewrite; seq = e.rewrite.seq }; version = e.version } in
     let file : c.new-file.result ≡ its = c.new-file.ensures ∙ ap (λ (id : FileId). record { id = id; version = e.version }) c.new.ensures in
-    let queue : c.new-file.result.id.queue ≡ Rewrite = ap (λ (f : LogFileContext). f.id.queue) file in
     let new : List Ask = g.F.EngineFiles.asked c.put.new.files in
-    let placed : c.put.new.batch.items ≡ placed_at its.id e.rewrite.len c.in_ok-batch.batch =
-    c.in_ok-put.ensures.placed ∙ ap (λ (f : LogFileContext). placed_at f.id e.rewrite.len c.finish_populate.new.self) file ∙ ap (λ (b : Batch). placed_at its.id e.rewrite.len b) c.in_ok-len.ensures.ok in
+    let files = (c.self.invariant.whole ready.intact).rewrite_files in
+    let are : c.put.new.batch.items ≡ placed_at its.id (length files.bytes) c.in_ok-batch.batch =
+    c.in_ok-put.ensures.placed ∙ ap (λ (f : LogFileContext). placed_at f.id e.rewrite.len c.finish_populate.new.self) file ∙ ap (λ (b : Batch). placed_at its.id e.rewrite.len b) c.in_ok-len.ensures.ok
+    ∙ ap (λ (n : ℕ). placed_at its.id n c.in_ok-batch.batch) files.ends in
     let p = err_from_is_err_and c.from_residual-in_err-rewrite_items.result c.from_residual-in_err-rewrite_items.ensures.1 in
     rw (p.1, p.2)
-    (λ broken. subst (λ (o : KeptEngine). FailsBehind (g.F.EngineFiles.may_fail) (IsUntaken c.args.gate) o.asks new c.in_err-rewrite_items.field-0.0) c.self.view_is
-    (untaken_behind (g.F.EngineFiles.may_fail) (IsUntaken c.args.gate) c.new-file.result.id.queue (bytes_for c.new-file.result c.finish_populate.new.self) old between new c.in_err-rewrite_items.field-0.0 queue grows c.in_ok-put.ensures.ok
-    (untaken c.args.gate e.accessor.tables c.in-Some.table.now old between c.in_ok-batch.batch e.rewrite.seq e.rewrite.len c.in_err-rewrite_items.field-0.0
-    (ap (finite.get e.accessor.tables) c.in-Some.ensures.own ∙ sym c.in-Some.ensures.value) c.holds_one_run.ensures m c.in_err-rewrite_items.ensures.fault
-    (λ taken. c.in_err-rewrite_items.ensures.room (subst (AreTaken c.args.gate e.rewrite.seq e.accessor.tables) (sym placed) taken)))))
+    (λ broken. subst (λ (o : KeptEngine). IsRegionFault (g.F.EngineFiles.may_fail) c.args.gate c.args.region o
+    (record { version = e.version; asks = new; untold = e.untold; accessor = c.rewrite_items.new.accessor; intact = false }) c.in_err-rewrite_items.field-0.0) c.self.view_is
+    (record {
+      between = between;
+      batch = c.in_ok-batch.batch;
+      moving = record { table = c.in-Some.table.now; there = sym c.in-Some.ensures.value; moving = m };
+      seq = e.rewrite.seq;
+      bytes = files.bytes;
+      last = files_last Rewrite old e.rewrite files;
+      why = inr (
+        put_whole c.new-file.result its c.finish_populate.new.self c.in_ok-batch.batch between new file c.in_ok-len.ensures.ok some c.in_ok-put.ensures.ok,
+        untaken c.args.gate c.in-Some.table.now old between c.in_ok-batch.batch e.rewrite.seq (length files.bytes) e.accessor c.rewrite_items.new.accessor c.in_err-rewrite_items.field-0.0
+            (ap (finite.get e.accessor.tables) c.in-Some.ensures.own ∙ sym c.in-Some.ensures.value) c.holds_one_run.ensures m
+            (λ taken. c.in_err-rewrite_items.ensures.room (subst (AreTaken c.args.gate e.rewrite.seq e.accessor.tables) (sym are) taken))
+            (subst (λ (l : List Item). IsNextRefused (Rewriting c.args.gate e.rewrite.seq) l e.accessor c.rewrite_items.new.accessor c.in_err-rewrite_items.field-0.0) are c.in_err-rewrite_items.ensures.fault),
+      );
+    }))

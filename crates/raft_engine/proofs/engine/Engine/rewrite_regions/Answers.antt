@@ -1,8 +1,7 @@
 use Rattle.std.proofs.lemmas.Result.{err_from_is_err_and}
-use Rattle.std.proofs.Common.{rules, ◌<◌, length, take}
+use Rattle.std.proofs.Common.{rules, ◌<◌, length}
 use Rattle.raft_engine.proofs.RewrittenRegions.{next_region, rewritten_ready, some_rewritten}
-use Rattle.raft_engine.specs.MovingFaults.{IsUntaken}
-use Rattle.raft_engine.proofs.MovingFaultLemmas.{behind_more, regions_grow}
+use Rattle.raft_engine.proofs.MovingFaultLemmas.{fault_of_regions}
 use Rattle.raft_engine.proofs.engine.Engine.rewrite_regions.Goals as goal
 
 pub loop-region-preserved : goal.loop-region-preserved
@@ -20,7 +19,8 @@ returns-in_err-rewrite_region-clause-err g c =
 
 pub returns-in_err-rewrite_region-clause-fault : goal.returns-in_err-rewrite_region-clause-fault
 returns-in_err-rewrite_region-clause-fault g c =
+    let less : c.loop-region.region-index < length c.args.regions.now = search rules in
     let p = err_from_is_err_and c.from_residual.result c.from_residual.ensures.1 in
     rw (p.1, p.2)
-    (λ broken. behind_more (g.F.EngineFiles.may_fail) (IsUntaken c.args.gate) _ _ _ _ (regions_grow c.args.gate (take c.loop-region.region-index c.args.regions.now) _ _ c.loop-region.invariant.1)
+    (λ broken. fault_of_regions (g.F.EngineFiles.may_fail) c.args.gate c.loop-region.region-index c.args.regions.now _ _ _ _ _ less c.loop-region.invariant.1
     (c.in_err-rewrite_region.ensures.fault (c.loop-region.invariant.0.intact, broken.1)))

@@ -4,15 +4,13 @@ use Rattle.raft_base.specs.declared.errors.Error.TheVariants as errors
 use Rattle.raft_base.specs.declared.pipe_log.FileId.{FileId}
 use Rattle.raft_base.specs.declared.pipe_log.LogQueue.TheVariants.{Append}
 use Rattle.raft_accessor.specs.AppendChecks.{AreAcceptedOncePlaced, IsAppendCheckFault}
-use Rattle.raft_accessor.specs.Writes.{Appending}
 use Rattle.raft_files.specs.Asks.{Ask}
 use Rattle.raft_engine_laws.specs.Telling.{taking_items}
 use Rattle.raft_engine.specs.KeptEngine.{IsLastFile, KeptEngine}
 use Rattle.raft_engine.specs.WrittenBatch.{IsHalfWritten, IsOneMore, IsRefusal, synced_if}
-use Rattle.raft_engine.proofs.DrainLemmas.{all_first}
 use Rattle.raft_engine.proofs.KeptLemmas.{last_append}
 use Rattle.raft_engine.proofs.RefusalLemmas.{bytes_refusal, file_refusal, test_refusal}
-use Rattle.raft_engine.proofs.WriteLemmas.{IsReady, half_written, kept_half, kept_more, kept_put, merge_room, none_tested, none_written, one_more, placed_accepted, whole_asked}
+use Rattle.raft_engine.proofs.WriteLemmas.{IsReady, half_written, kept_half, kept_more, kept_put, merge_memory, none_tested, none_written, one_more, placed_accepted, placed_cut, whole_asked}
 use Rattle.raft_base.specs.declared.pipe_log.LogFileContext.{LogFileContext}
 use Rattle.raft_engine.specs.Faults.{IsWritingFault}
 use Rattle.raft_engine.proofs.FaultLemmas.{writing_of_none, writing_put, writing_sync, writing_whole}
@@ -262,11 +260,13 @@ returns-in_err-apply-clause-err g c =
     (whole_asked c.asks_are_stored.ensures.written c.asks_are_stored.ensures.synced
     e.version old e.append e.rewrite e.untold e.accessor e.intact c.self.invariant intact c.args.batch.now ready c.new-file.result file c.finish_populate.new.self c.in_ok-len.ensures.ok
     c.args.sync (g.F.EngineFiles.asked c.sync_if.new.files) e.untold c.apply.new.accessor c.in_err-apply.field-0.0 (c.in_ok-sync_if.ensures.ok ∙ ap (synced_if c.args.sync) c.in_ok-put.ensures.ok)
-    c.put.new.batch.items c.in_ok-put.ensures.placed c.in_err-apply.ensures.err
-    (c.in_err-apply.ensures.room
-    (placed_accepted c.asks_are_stored.ensures.written c.asks_are_stored.ensures.synced
-    e.version old e.append e.rewrite e.untold e.accessor e.intact c.self.invariant intact c.args.batch.now ready c.new-file.result file c.finish_populate.new.self c.in_ok-len.ensures.ok
-    c.put.new.batch.items c.in_ok-put.ensures.placed)))))
+    c.put.new.batch.items c.in_ok-put.ensures.placed (inl (
+      c.in_err-apply.ensures.room
+          (placed_accepted c.asks_are_stored.ensures.written c.asks_are_stored.ensures.synced
+          e.version old e.append e.rewrite e.untold e.accessor e.intact c.self.invariant intact c.args.batch.now ready c.new-file.result file c.finish_populate.new.self c.in_ok-len.ensures.ok
+          c.put.new.batch.items c.in_ok-put.ensures.placed),
+      c.in_err-apply.ensures.fault,
+    )))))
 
 pub returns-in_err-merge-clause-err : goal.returns-in_err-merge-clause-err
 returns-in_err-merge-clause-err g c =
@@ -298,8 +298,8 @@ returns-in_err-merge-clause-err g c =
     (whole_asked c.asks_are_stored.ensures.written c.asks_are_stored.ensures.synced
     e.version old e.append e.rewrite e.untold e.accessor e.intact c.self.invariant intact c.args.batch.now ready c.new-file.result file c.finish_populate.new.self c.in_ok-len.ensures.ok
     c.args.sync (g.F.EngineFiles.asked c.sync_if.new.files) c.merge.new.self c.apply.new.accessor c.in_err-merge.field-0.0 (c.in_ok-sync_if.ensures.ok ∙ ap (synced_if c.args.sync) c.in_ok-put.ensures.ok)
-    c.put.new.batch.items c.in_ok-put.ensures.placed (all_first Appending c.put.new.batch.items e.accessor c.apply.new.accessor c.in_ok-apply.ensures.ok)
-    (merge_room c.in_err-merge.field-0.0 c.in_err-merge.ensures.fault))))
+    c.put.new.batch.items c.in_ok-put.ensures.placed
+    (inr (merge_memory e.untold c.in_ok-taken.taken _ _ c.in_err-merge.field-0.0 (c.self.invariant.whole intact).are_untold c.in_ok-taken.ensures.ok c.in_err-merge.ensures.fault, c.in_ok-apply.ensures.ok)))))
 
 pub returns-in_err-check_append_writes-clause-err : goal.returns-in_err-check_append_writes-clause-err
 returns-in_err-check_append_writes-clause-err g c =
@@ -413,10 +413,15 @@ returns-in_err-apply-clause-fault g c =
       why = inr (
         some,
         writing_whole c.new-file.result its c.finish_populate.new.self c.args.batch.now c.args.sync old (g.F.EngineFiles.asked c.put.new.files) new file c.in_ok-len.ensures.ok some c.in_ok-put.ensures.ok c.in_ok-sync_if.ensures.ok,
-        c.in_err-apply.ensures.room
-            (placed_accepted c.asks_are_stored.ensures.written c.asks_are_stored.ensures.synced
+        placed_cut c.asks_are_stored.ensures.written c.asks_are_stored.ensures.synced
             e.version old e.append e.rewrite e.untold e.accessor e.intact c.self.invariant intact c.args.batch.now ready c.new-file.result file c.finish_populate.new.self c.in_ok-len.ensures.ok
-            c.put.new.batch.items c.in_ok-put.ensures.placed),
+            c.put.new.batch.items c.apply.new.accessor c.in_err-apply.field-0.0 c.in_ok-put.ensures.placed (inl (
+              c.in_err-apply.ensures.room
+                  (placed_accepted c.asks_are_stored.ensures.written c.asks_are_stored.ensures.synced
+                  e.version old e.append e.rewrite e.untold e.accessor e.intact c.self.invariant intact c.args.batch.now ready c.new-file.result file c.finish_populate.new.self c.in_ok-len.ensures.ok
+                  c.put.new.batch.items c.in_ok-put.ensures.placed),
+              c.in_err-apply.ensures.fault,
+            )),
       );
     }))
 
@@ -428,6 +433,16 @@ returns-in_err-merge-clause-fault g c =
     let some : c.args.batch.now.items ≢ [] = search rules in
     let its : LogFileContext = record { id = record { queue = Append; seq = e.append.seq }; version = e.version } in
     let file : c.new-file.result ≡ its = c.new-file.ensures ∙ ap (λ (id : FileId). record { id = id; version = e.version }) c.new.ensures in
+    let ready : IsReady e.accessor.tables c.args.batch.now = record {
+      writable = record {
+        tiled = c.is_read_again.ensures.tiled;
+        in_range = c.is_read_again.ensures.in_range;
+        in_bytes = c.is_read_again.ensures.in_bytes;
+        some = some;
+        short = c.in_ok-len.ensures.accepted;
+      };
+      accepted = rw (c.items.ensures) at c.in_ok-check_append_writes.ensures.ok;
+    } in
     let new : List Ask = g.F.EngineFiles.asked c.sync_if.new.files in
     let p = err_from_is_err_and c.from_residual-in_err-merge.result c.from_residual-in_err-merge.ensures.1 in
     rw (p.1, p.2)
@@ -442,6 +457,9 @@ returns-in_err-merge-clause-fault g c =
         some,
         writing_whole c.new-file.result its c.finish_populate.new.self c.args.batch.now c.args.sync old
             (g.F.EngineFiles.asked c.put.new.files) new file c.in_ok-len.ensures.ok some c.in_ok-put.ensures.ok c.in_ok-sync_if.ensures.ok,
-        merge_room c.in_err-merge.field-0.0 c.in_err-merge.ensures.fault,
+        placed_cut c.asks_are_stored.ensures.written c.asks_are_stored.ensures.synced
+            e.version old e.append e.rewrite e.untold e.accessor e.intact c.self.invariant intact c.args.batch.now ready c.new-file.result file c.finish_populate.new.self c.in_ok-len.ensures.ok
+            c.put.new.batch.items c.apply.new.accessor c.in_err-merge.field-0.0 c.in_ok-put.ensures.placed
+            (inr (merge_memory e.untold c.in_ok-taken.taken _ _ c.in_err-merge.field-0.0 (c.self.invariant.whole intact).are_untold c.in_ok-taken.ensures.ok c.in_err-merge.ensures.fault, c.in_ok-apply.ensures.ok)),
       );
     }))

@@ -1,7 +1,7 @@
 use Rattle.std.proofs.lemmas.Result.{err_from_is_err_and}
 use Rattle.std.proofs.Common.{None}
 use Rattle.raft_accessor.specs.Writes.{Rewriting}
-use Rattle.raft_engine.proofs.GroupPutLemmas.{first_written, one_written}
+use Rattle.raft_engine.proofs.GroupPutLemmas.{first_written, group_refused, one_written}
 use Rattle.raft_engine.proofs.engine.groups.rewrite_all.Goals as goal
 
 pub returns-in_err-rewrite_items-clause-err : goal.returns-in_err-rewrite_items-clause-err
@@ -14,3 +14,9 @@ pub loop-batch-preserved : goal.loop-batch-preserved
 loop-batch-preserved c =
     one_written (Rewriting None c.args.seq) c.args.batches.items c.args.accessor.now c.loop-batch.accessor c.rewrite_items.new.accessor c.loop-batch.batch-iterator.rest.items c.in-Some.batch
     c.next.new.self.rest.items c.in-Some.ensures.steps.0 c.in_ok-rewrite_items.ensures.ok c.loop-batch.invariant
+
+pub returns-in_err-rewrite_items-clause-fault : goal.returns-in_err-rewrite_items-clause-fault
+returns-in_err-rewrite_items-clause-fault c =
+    let p = err_from_is_err_and c.from_residual.result c.from_residual.ensures.1 in
+    rw (p.1, p.2) (group_refused (Rewriting None c.args.seq) c.args.batches.items c.args.accessor.now c.loop-batch.accessor c.rewrite_items.new.accessor c.in_err-rewrite_items.field-0.0 c.loop-batch.batch-iterator.rest.items c.in-Some.batch
+    c.next.new.self.rest.items c.in-Some.ensures.steps.0 c.in_err-rewrite_items.ensures.fault c.loop-batch.invariant)

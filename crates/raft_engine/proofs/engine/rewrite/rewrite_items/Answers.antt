@@ -1,6 +1,6 @@
 use Rattle.raft_accessor.specs.Writes.{Rewriting}
-use Rattle.raft_engine.proofs.DrainLemmas.{apply_so, first_so}
-use Rattle.raft_engine.proofs.MovingFaultLemmas.{drain_refusal, drain_room}
+use Rattle.raft_engine.proofs.DrainLemmas.{apply_so, first_so, next_refused}
+use Rattle.raft_engine.proofs.MovingFaultLemmas.{drain_room}
 use Rattle.raft_engine.proofs.engine.rewrite.rewrite_items.Goals as goal
 
 pub returns-clause-ok : goal.returns-clause-ok
@@ -14,7 +14,7 @@ returns-clause-err c =
 
 pub returns-clause-fault : goal.returns-clause-fault
 returns-clause-fault c =
-    drain_refusal c.args.gate c.args.seq c.apply_rewrite_writes.result c.drain.result c.args.accessor.now c.apply_rewrite_writes.new.self c.apply_rewrite_writes.ensures.refused
+    next_refused c.apply_rewrite_writes.result (Rewriting c.args.gate c.args.seq) c.drain.result c.args.batch.now.items c.args.accessor.now c.apply_rewrite_writes.new.self c.drain.ensures.items c.apply_rewrite_writes.ensures.refused
 
 pub returns-clause-room : goal.returns-clause-room
 returns-clause-room c taken =

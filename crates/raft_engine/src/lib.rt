@@ -23,7 +23,8 @@ mod reading;
 mod recovered;
 mod removals;
 pub mod restarts;
-mod rewriting;
+#[doc(hidden)]
+pub mod rewriting;
 mod stored;
 mod stored_found;
 mod unopened;

@@ -17,7 +17,7 @@ ghost use Rattle.raft_ffi.specs.Strings.{entries_from, strings_of, HasStrings};
 use crate::handles::{Batch, Handle, Items};
 use crate::item_list::items_of;
 use crate::rooms::copy_front;
-use crate::status::{File, Status, answered, memory_code, queue};
+use crate::status::{File, Status, answered, answered_with, memory_code, queue};
 use crate::strings::{consecutive, strings};
 use raft_base::{Error, FileBlockHandle, FileId, Result};
 use raft_records::{Command, LogBatch};
@@ -42,17 +42,11 @@ pub extern "C" fn raft_ffi_batch_stage(alloc: Global, batch: &mut Batch) -> u32
     ensures stage { Holds (λ b. result ≡ stage_number b.stage) batch.old.value }
 {
     let held = batch.take(alloc);
-    let stage = stage_of(&*held);
+    let (is_open, is_sealed) = (held.is_open(), held.is_sealed());
     batch.put(held);
-    stage
-}
-
-fn stage_of(batch: &LogBatch) -> u32
-    ensures { result ≡ stage_number batch.now.stage }
-{
-    if batch.is_open() {
+    if is_open {
         0
-    } else if batch.is_sealed() {
+    } else if is_sealed {
         2
     } else {
         1
@@ -318,23 +312,9 @@ pub extern "C" fn raft_ffi_batch_finish(
     ensures text { HasText result text.old text.new }
 {
     let mut held = batch.take(alloc);
-    let answer = finish(&mut *held, len);
+    let answer = held.finish_populate();
     batch.put(held);
-    answered(alloc, &answer, text)
-}
-
-fn finish(batch: &mut LogBatch, len: &mut usize) -> Result<()>
-    requires { batch.old.stage ≡ is_open }
-    ensures ok { OnOk result (batch.new ≡ at_stage encoded batch.old) }
-    ensures len { OnOk result (len.new ≡ encoded_length batch.old.items batch.old.entry_bytes) }
-    ensures accepted { OnOk result (encoded_length batch.old.items batch.old.entry_bytes < 2 ^ 56) }
-    ensures err { OnErr result (batch.new ≡ batch.old) }
-    ensures refused { OnErr result (batch.old.items ≢ []) }
-    ensures fault { IfErr result (λ e. e ≢ Error.Memory → (e ≡ Error.Full)
-        × (2 ^ 56 ≤ encoded_length batch.old.items batch.old.entry_bytes)) }
-{
-    *len = batch.finish_populate()?;
-    Ok(())
+    answered_with(alloc, answer, len, text)
 }
 
 /// Signs the bytes of a batch that is no longer open for a file. It may be repeated for other files.
@@ -364,22 +344,9 @@ pub extern "C" fn raft_ffi_batch_bytes(alloc: Global, batch: &mut Batch, bytes: 
         (map bare b.items) b.entry_bytes) batch.old.value }
 {
     let held = batch.take(alloc);
-    let len = copy_bytes(&*held, bytes);
+    let len = copy_front(held.encoded_bytes(), bytes);
     batch.put(held);
     len
-}
-
-fn copy_bytes(batch: &LogBatch, room: &mut [u8]) -> usize
-    requires { IsSealedStage batch.now.stage }
-    ensures bytes { (signature : Option ℕ) → batch.now.stage ≡ sealed signature →
-        IsCopied (log_batch_bytes signature batch.now.items batch.now.entry_bytes) room.old
-        room.new result }
-    ensures read_again { (signature : Option ℕ) → batch.now.stage ≡ sealed signature →
-        batch.now.items ≢ [] →
-        IsLogBatch (log_batch_bytes signature batch.now.items batch.now.entry_bytes) signature
-        (map bare batch.now.items) batch.now.entry_bytes }
-{
-    copy_front(batch.encoded_bytes(), room)
 }
 
 /// Gives each entry and each key value of a signed batch its place: the batch was written to a file, from `offset` on.

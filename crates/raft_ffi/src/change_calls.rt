@@ -9,11 +9,12 @@ ghost use Rattle.raft_ffi.specs.EntryData.{entry_of};
 ghost use Rattle.raft_ffi.specs.Rooms.{HasText};
 ghost use Rattle.raft_ffi.specs.Summaries.{number_in};
 
-use crate::changes::{append, compact, delete, put, rewrite, rewrite_key, truncate};
+use crate::changes::{append, change_table, delete, put, rewrite, rewrite_key};
 use crate::entries::Entry;
 use crate::handles::{Handle, Tables};
-use crate::status::{Maybe, Status, answered, queue};
+use crate::status::{Maybe, Status, answered, answered_with, queue};
 use raft_base::FileId;
+use raft_table::TableChange;
 use std::alloc::Global;
 
 /// Puts new entries of the append queue after those of a region below their start. All others go; where
@@ -59,9 +60,9 @@ pub extern "C" fn raft_ffi_tables_compact(
     ensures text { HasText result text.old text.new }
 {
     let mut held = tables.take(alloc);
-    let answer = compact(&mut *held, region, index, dropped);
+    let answer = change_table(&mut *held, region, TableChange::Compact { index });
     tables.put(held);
-    answered(alloc, &answer, text)
+    answered_with(alloc, answer, dropped, text)
 }
 
 /// Drops the entries of a region at or above an index, and says how many those were.
@@ -82,9 +83,9 @@ pub extern "C" fn raft_ffi_tables_truncate(
     ensures text { HasText result text.old text.new }
 {
     let mut held = tables.take(alloc);
-    let answer = truncate(&mut *held, region, index, dropped);
+    let answer = change_table(&mut *held, region, TableChange::Truncate { index });
     tables.put(held);
-    answered(alloc, &answer, text)
+    answered_with(alloc, answer, dropped, text)
 }
 
 /// Puts a key of a region with its value, which were written to the file of number `seq`.

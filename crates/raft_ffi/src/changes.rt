@@ -5,7 +5,7 @@ ghost use Rattle.raft_base.specs.declared.pipe_log.LogQueue.TheVariants.{Append,
 ghost use Rattle.raft_accessor.specs.Accessor.{table_in};
 ghost use Rattle.raft_table.specs.Change.{after_change, IsAllowed, IsAnswer, IsChangeFault};
 ghost use Rattle.raft_table.specs.TableEntries.{IsRunIn};
-ghost use Rattle.raft_ffi.specs.Changes.{AreAppended, AreDropped, AreRewritten, AreUnappended, AreUnrewritten, IsChangedTo, IsCompacted, IsDeleted, IsKeyRewritten, IsKeyUnrewritten, IsMemoryOr, IsPut, IsTruncated, IsUnput};
+ghost use Rattle.raft_ffi.specs.Changes.{AreAppended, AreRewritten, AreUnappended, AreUnrewritten, IsChangedTo, IsDeleted, IsKeyRewritten, IsKeyUnrewritten, IsMemoryOr, IsPut, IsUnput};
 ghost use Rattle.raft_ffi.specs.EntryData.{entry_of};
 
 use crate::entries::{Entry, entry_indexes};
@@ -15,7 +15,7 @@ use raft_table::TableChange;
 use std::alloc::Global;
 
 /// Does what a change says to a region's table. The number is how many entries it drops by a compaction or a truncation.
-fn change_table(tables: &mut MemTableAccessor, region: u64, change: TableChange) -> Result<u64>
+pub(crate) fn change_table(tables: &mut MemTableAccessor, region: u64, change: TableChange) -> Result<u64>
     ensures ok { OnOk result (IsChangedTo (after_change (table_in tables.old.tables region) change)
         region tables.old tables.new) }
     ensures answer { IfOk result (IsAnswer change (table_in tables.old.tables region)
@@ -43,36 +43,6 @@ pub(crate) fn append(
 {
     let run = entry_indexes(alloc, entries)?;
     change_table(tables, region, TableChange::Append(run))?;
-    Ok(())
-}
-
-pub(crate) fn compact(
-    tables: &mut MemTableAccessor,
-    region: u64,
-    index: u64,
-    dropped: &mut u64,
-) -> Result<()>
-    ensures ok { OnOk result (IsCompacted index region tables.old tables.new) }
-    ensures dropped { OnOk result (AreDropped dropped.new region tables.old tables.new) }
-    ensures err { OnErr result (tables.new ≡ tables.old) }
-    ensures memory { IfErr result (λ e. e ≡ Error.Memory) }
-{
-    *dropped = change_table(tables, region, TableChange::Compact { index })?;
-    Ok(())
-}
-
-pub(crate) fn truncate(
-    tables: &mut MemTableAccessor,
-    region: u64,
-    index: u64,
-    dropped: &mut u64,
-) -> Result<()>
-    ensures ok { OnOk result (IsTruncated index region tables.old tables.new) }
-    ensures dropped { OnOk result (AreDropped dropped.new region tables.old tables.new) }
-    ensures err { OnErr result (tables.new ≡ tables.old) }
-    ensures memory { IfErr result (λ e. e ≡ Error.Memory) }
-{
-    *dropped = change_table(tables, region, TableChange::Truncate { index })?;
     Ok(())
 }
 

@@ -59,7 +59,6 @@ pub extern "C" fn raft_ffi_engine_open(
     answered(alloc, &answer, text)
 }
 
-/// Opens found files, and puts the engine into a handle, which holds nothing where that fails.
 fn open_into(
     engine: &mut Engine,
     alloc: Global,

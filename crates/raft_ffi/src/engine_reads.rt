@@ -202,11 +202,9 @@ pub extern "C" fn raft_ffi_engine_last_index(
 fn found_number(found: Option<u64>, number: &mut u64) -> bool
     ensures { IsFound (λ n. number.new ≡ n) found result }
 {
-    match found {
-        Some(found) => {
-            *number = found;
-            true
-        }
-        None => false,
-    }
+    let Some(found) = found else {
+        return false;
+    };
+    *number = found;
+    true
 }

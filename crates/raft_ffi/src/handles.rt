@@ -39,20 +39,16 @@ pub(crate) trait Handle: Sized + Drop {
     /// What this one holds.
     ghost value: { Self → Option Self.Held };
 
-    /// Makes a handle that holds nothing.
     fn empty(alloc: Global) -> Self
         ensures { value result ≡ None };
 
-    /// Makes a handle of the parts of a box.
     fn of_parts(parts: Parts<Self::Held, Global>) -> Self
         ensures { value result ≡ Some parts.value };
 
-    /// Returns the parts of the box.
     fn into_parts(self) -> Parts<Self::Held, Global>
         requires { IsTrue (is_some (value self)) }
         ensures { value self ≡ Some result.value };
 
-    /// Returns what is held.
     final fn into_box(self) -> Box<Self::Held>
         requires { IsTrue (is_some (value self)) }
         ensures { value self ≡ Some result.value }
@@ -60,7 +56,6 @@ pub(crate) trait Handle: Sized + Drop {
         self.into_parts().into_box()
     }
 
-    /// Takes out what is held.
     final fn take(&mut self, alloc: Global) -> Box<Self::Held>
         requires { IsTrue (is_some (value self.old)) }
         ensures value { value self.old ≡ Some result.value }
@@ -69,7 +64,6 @@ pub(crate) trait Handle: Sized + Drop {
         mem::replace(self, Self::empty(alloc)).into_box()
     }
 
-    /// Puts a value in.
     final fn put(&mut self, held: Box<Self::Held>)
         ensures { value self.new ≡ Some held.value }
     {
@@ -77,10 +71,6 @@ pub(crate) trait Handle: Sized + Drop {
     }
 
     /// Puts a value in that isn't on the heap yet.
-    ///
-    /// # Errors
-    ///
-    /// `Memory`. The handle is then as it was.
     final fn put_new(&mut self, alloc: Global, held: Self::Held) -> Result<()>
         ensures ok { OnOk result (value self.new ≡ Some held) }
         ensures err { OnErr result (value self.new ≡ value self.old) }

@@ -44,7 +44,6 @@ impl HeldEngine {
         HeldEngine { engine }
     }
 
-    /// States what lasts, as `Engine::nothing_synced_is_lost` does.
     pub(crate) fn nothing_synced_is_lost(&self)
         ensures { Lasts self.now }
     {
@@ -63,22 +62,20 @@ impl HeldEngine {
         self.engine.write(batch, sync)
     }
 
-    pub(crate) fn purge_expired_files(&mut self, count: &mut usize) -> Result<()>
-        ensures ok { OnOk result (ArePurged count.new self.old self.new) }
+    pub(crate) fn purge_expired_files(&mut self) -> Result<usize>
+        ensures ok { IfOk result (λ count. ArePurged count self.old self.new) }
         ensures accepted { OnOk result (self.old.intact ≡ true) }
         ensures err { IfErr result (IsUnpurged self.old self.new) }
     {
-        *count = self.engine.purge_expired_files()?;
-        Ok(())
+        self.engine.purge_expired_files()
     }
 
-    pub(crate) fn purge_rewrite_files(&mut self, count: &mut usize) -> Result<()>
-        ensures ok { OnOk result (AreRewritesPurged count.new self.old self.new) }
+    pub(crate) fn purge_rewrite_files(&mut self) -> Result<usize>
+        ensures ok { IfOk result (λ count. AreRewritesPurged count self.old self.new) }
         ensures accepted { OnOk result (self.old.intact ≡ true) }
         ensures err { IfErr result (AreRewritesUnpurged self.old self.new) }
     {
-        *count = self.engine.purge_rewrite_files()?;
-        Ok(())
+        self.engine.purge_rewrite_files()
     }
 
     pub(crate) fn take_order(&mut self, room: usize) -> Taking

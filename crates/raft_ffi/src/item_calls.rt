@@ -190,24 +190,16 @@ fn item_at(items: &ItemList, i: usize) -> Option<&LogItem>
 fn find_head(items: &ItemList, i: usize, head: &mut ItemHead) -> bool
     ensures { IsFound (λ item. IsHeadOf item head.new) (slice_get items.now i) result }
 {
-    match item_at(items, i) {
-        Some(item) => {
-            *head = head_of(item);
-            true
-        }
-        None => false,
-    }
-}
-
-fn head_of(item: &LogItem) -> ItemHead
-    ensures { IsHeadOf (item_of item.now) result }
-{
+    let Some(item) = item_at(items, i) else {
+        return false;
+    };
     let (kind, number) = said_by(&item.content);
-    ItemHead {
+    *head = ItemHead {
         region: item.raft_group_id,
         number,
         kind,
-    }
+    };
+    true
 }
 
 /// Returns the number of what a content says, and how many entries it has or the index of its command.
@@ -230,13 +222,11 @@ fn said_by(content: &LogItemContent) -> (u32, u64)
 fn find_entries(items: &ItemList, i: usize, room: &mut [Entry], count: &mut usize) -> bool
     ensures { IsFound (λ es. AreEntriesIn es room.old room.new count.new) (entries_at items.now i) result }
 {
-    match entries_of(items, i) {
-        Some(entries) => {
-            *count = copy_entries(entries, room);
-            true
-        }
-        None => false,
-    }
+    let Some(entries) = entries_of(items, i) else {
+        return false;
+    };
+    *count = copy_entries(entries, room);
+    true
 }
 
 fn entries_of(items: &ItemList, i: usize) -> Option<&[EntryIndex]>

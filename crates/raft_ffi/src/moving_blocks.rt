@@ -3,11 +3,10 @@
 ghost use Rattle.std.specs.Prelude.{◌≡◌, IfErr};
 
 use crate::moving_calls::Place;
-use crate::reads::moving_entries;
 use crate::status::is_rewrite;
 use raft_accessor::MemTableAccessor;
 use raft_base::{EntryIndex, Error, FileBlockHandle, FileId, FileSeq, Result};
-use raft_table::MemTable;
+use raft_engine::rewriting::entries_to_move;
 use std::alloc::Global;
 use std::collections::BTreeSet;
 
@@ -41,24 +40,15 @@ pub(crate) fn blocks_to_move(
         if blocks.size >= max_size {
             return Ok(blocks.places);
         }
-        blocks.add_table(alloc, table, gate)?;
+        let entries = entries_to_move(alloc, table, gate)?;
+        for entry in &entries {
+            blocks.add(entry)?;
+        }
     }
     Ok(blocks.places)
 }
 
 impl Blocks {
-    /// Adds the blocks of entries of a table that move.
-    fn add_table(&mut self, alloc: Global, table: &MemTable, gate: Option<FileSeq>) -> Result<()>
-        ensures memory { IfErr result (λ e. e ≡ Error.Memory) }
-    {
-        let entries = moving_entries(alloc, table, gate)?;
-        for entry in &entries {
-            self.add(entry)?;
-        }
-        Ok(())
-    }
-
-    /// Adds the block of an entry, if it isn't known.
     fn add(&mut self, entry: &EntryIndex) -> Result<()>
         ensures memory { IfErr result (λ e. e ≡ Error.Memory) }
     {

@@ -6,12 +6,13 @@ ghost use Rattle.std.specs.Option.{option_copied};
 ghost use Rattle.raft_accessor.specs.Accessor.{table_in};
 ghost use Rattle.raft_table.specs.KeyValues.{pairs_shown};
 ghost use Rattle.raft_table.specs.Scan.{is_below, is_between};
-ghost use Rattle.raft_ffi.specs.Pairs.{AreInKeyOrder, ArePairsIn, AreScanned, AreScannedIn, bound_in, bytes_of, lengths_of, moving_pairs, pairs_of_both};
+ghost use Rattle.raft_engine.specs.Rewriting.{moving_pairs};
+ghost use Rattle.raft_ffi.specs.Pairs.{AreInKeyOrder, ArePairsIn, AreScanned, AreScannedIn, bound_in, bytes_of, lengths_of, pairs_of_both};
 
 use crate::rooms::copy_front;
 use raft_accessor::MemTableAccessor;
 use raft_base::{Error, Result};
-use raft_table::MemTable;
+use raft_engine::rewriting::pairs_to_move;
 use std::alloc::Global;
 
 pub(crate) fn bound(is_bounded: bool, key: &[u8]) -> Option<&[u8]>
@@ -20,7 +21,6 @@ pub(crate) fn bound(is_bounded: bool, key: &[u8]) -> Option<&[u8]>
     if is_bounded { Some(key) } else { None }
 }
 
-/// Finds the pairs of a region whose key is at or above `start` and below `end`, if that is there, in the order of the keys.
 pub(crate) fn scan_in(
     alloc: Global,
     accessor: &MemTableAccessor,
@@ -76,7 +76,6 @@ fn scanned(
     Ok(found)
 }
 
-/// Returns all pairs of a region: those in append files, and then those in rewrite files.
 fn pairs_of_both(
     alloc: Global,
     accessor: &MemTableAccessor,
@@ -103,27 +102,9 @@ fn pairs_in(
     ensures memory { IfErr result (λ e. e ≡ Error.Memory) }
 {
     match accessor.get(region) {
-        Some(table) => moving_pairs(alloc, table, gate),
-        None => moving_pairs(alloc, &MemTable::new(alloc, region), gate),
+        Some(table) => pairs_to_move(alloc, table, gate),
+        None => Ok(Vec::new(alloc)),
     }
-}
-
-/// Returns the pairs of a table that move past a gate: the appended ones whose file is at or below it; without a gate those
-/// that are rewritten.
-fn moving_pairs(
-    alloc: Global,
-    table: &MemTable,
-    gate: Option<u64>,
-) -> Result<Vec<(Vec<u8>, Vec<u8>)>>
-    ensures ok { IfOk result (λ v. pairs_shown v.items ≡ moving_pairs gate table.now.keys) }
-    ensures memory { IfErr result (λ e. e ≡ Error.Memory) }
-{
-    let mut found = Vec::new(alloc);
-    match gate {
-        Some(gate) => table.fetch_kvs_before(gate, &mut found)?,
-        None => table.fetch_rewritten_kvs(&mut found)?,
-    }
-    Ok(found)
 }
 
 fn keep_between(pairs: &mut Vec<(Vec<u8>, Vec<u8>)>, start: &[u8], end: Option<&[u8]>)

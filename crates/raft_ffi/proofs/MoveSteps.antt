@@ -84,7 +84,8 @@ module _ (h : Handle) where
   parts_ty = ty_struct (Parts.the_type (held h) Heap.the_row ghosts).name (tcons ty_ptr (tcons (layout Heap.the_row) tnil))
 
   abbrev empty_code : Fn
-  empty_code = code (local (ty h) value_local ∷ local (layout Heap.the_row) value_local ∷ []) (seq (assign (place 0 []) (aggregate (int w64 0 ∷ copy (place 1 []) ∷ []))) return)
+  empty_code = code (local (ty h) value_local ∷ local (layout Heap.the_row) value_local ∷ local ty_ptr value_local ∷ [])
+      (seq (assign (place 2 []) (rv_opd (int w64 0))) (seq (assign (place 0 []) (aggregate (copy (place 2 []) ∷ copy (place 1 []) ∷ []))) return))
 
   -- both fields go from one struct to the other
   abbrev move_code : Ty → Ty → Fn
@@ -116,7 +117,8 @@ module _ (h : Handle) where
         let Γ : List (Item 𝓤) = ‵ ((Heap.the_row).own_val a (hv ∷ [])) ∷ [] in
         by ! (subst (λ (us : List Val). ent 𝓤 (types.Kit.⋆ 𝓛 Γ) (WpFn 𝓤 H 𝓣.C 𝓣.Λ empty_code (us ++ []) Post)) (sym ea)
         (qed 𝓛 Γ ∵ enter ! 𝓣.C 𝓣.Λ empty_code (hv ∷ []) _ $ alloc_all ! (λ ls. pass_all ! refl (fa, tt) $
-        sets ! (agg ! (and_then ! (lit ! tt) (and_then ! (get ! refl) (no_more !)))) refl (and_tt _ fa.0, (record { fits = lit< tt }, (fa.1, tt))) $ returns ! (look_at ! 0 refl) $ free_all ! refl $
+        sets ! (of_opd ! (lit ! tt)) refl (tt, record { fits = lit< tt }) $
+        sets ! (agg ! (and_then ! (get ! refl) (and_then ! (get ! refl) (no_more !)))) refl (and_tt _ fa.0, (record { fits = lit< tt }, (fa.1, tt))) $ returns ! (look_at ! 0 refl) $ free_all ! refl $
         nothing ! $ nothing ! $ move ! (2 ∷ 0 ∷ []) $ fjoin ! $ feq_i ! (List Val) (vint w64 0 ∷ []) (ptr_val null_ptr ∷ []) refl $ fjoin ! $
         feq_i ! (List Val) (w ∷ []) (w ∷ []) refl $ fjoin ! $
         fpack ! (Valss (RawPtr ∷ Heap.the_row ∷ [])) (within (shape (type h)) (fields_at h null_ptr a) (w ∷ [])) (vint w64 0 ∷ [], (hv ∷ [], tt)) $ fjoin ! $

@@ -30,6 +30,7 @@ use raft_records::LogBatch;
 use std::alloc::Global;
 use std::marker::Model;
 use std::mem;
+use std::ptr;
 
 /// A type of handles: each holds a value on the heap, or nothing. C keeps it as a pointer, null where it holds nothing.
 pub(crate) trait Handle: Sized + Drop {
@@ -100,10 +101,8 @@ impl Handle for Batch {
     ghost value = { λ h. h.value };
 
     fn empty(alloc: Global) -> Batch {
-        Batch {
-            at: std::ptr::null_mut(),
-            alloc,
-        }
+        let at = ptr::null_mut();
+        Batch { at, alloc }
     }
 
     fn of_parts(parts: Parts<LogBatch, Global>) -> Batch
@@ -142,10 +141,8 @@ impl Handle for Context {
     ghost value = { λ h. h.value };
 
     fn empty(alloc: Global) -> Context {
-        Context {
-            at: std::ptr::null_mut(),
-            alloc,
-        }
+        let at = ptr::null_mut();
+        Context { at, alloc }
     }
 
     fn of_parts(parts: Parts<MemTableRecoverContext, Global>) -> Context
@@ -184,10 +181,8 @@ impl Handle for Engine {
     ghost value = { λ h. h.value };
 
     fn empty(alloc: Global) -> Engine {
-        Engine {
-            at: std::ptr::null_mut(),
-            alloc,
-        }
+        let at = ptr::null_mut();
+        Engine { at, alloc }
     }
 
     fn of_parts(parts: Parts<HeldEngine, Global>) -> Engine
@@ -226,10 +221,8 @@ impl Handle for Found {
     ghost value = { λ h. h.value };
 
     fn empty(alloc: Global) -> Found {
-        Found {
-            at: std::ptr::null_mut(),
-            alloc,
-        }
+        let at = ptr::null_mut();
+        Found { at, alloc }
     }
 
     fn of_parts(parts: Parts<FoundFiles, Global>) -> Found
@@ -268,10 +261,8 @@ impl Handle for Items {
     ghost value = { λ h. h.value };
 
     fn empty(alloc: Global) -> Items {
-        Items {
-            at: std::ptr::null_mut(),
-            alloc,
-        }
+        let at = ptr::null_mut();
+        Items { at, alloc }
     }
 
     fn of_parts(parts: Parts<ItemList, Global>) -> Items
@@ -310,10 +301,8 @@ impl Handle for Tables {
     ghost value = { λ h. h.value };
 
     fn empty(alloc: Global) -> Tables {
-        Tables {
-            at: std::ptr::null_mut(),
-            alloc,
-        }
+        let at = ptr::null_mut();
+        Tables { at, alloc }
     }
 
     fn of_parts(parts: Parts<MemTableAccessor, Global>) -> Tables

@@ -99,10 +99,8 @@ pub extern "C" fn raft_ffi_block_entries(
     len: &mut usize,
     text: &mut [u8],
 ) -> Status
-    ensures ok { result.code ≡ 0
-        → IsEntryBlockOf (length bytes.now) bytes.now (take len.new bytes.now) }
-    ensures refused { result.code ≢ 0 → (entries : List ℕ)
-        → IsEntryBlockOf (length bytes.now) bytes.now entries → ⊥ }
+    ensures ok { result.code ≡ 0 → IsEntryBlockOf (length bytes.now) bytes.now (take len.new bytes.now) }
+    ensures refused { result.code ≢ 0 → (entries : List ℕ) → IsEntryBlockOf (length bytes.now) bytes.now entries → ⊥ }
     ensures fault { result.code ≢ 0 → IsCodeOf IsAnyCorruption result.code }
     ensures text { HasText result text.old text.new }
 {
@@ -111,8 +109,7 @@ pub extern "C" fn raft_ffi_block_entries(
 
 fn entries_len(alloc: Global, bytes: &[u8]) -> Result<usize>
     ensures ok { IfOk result (λ n. IsEntryBlockOf (length bytes.now) bytes.now (take n bytes.now)) }
-    ensures refused { OnErr result ((entries : List ℕ)
-        → IsEntryBlockOf (length bytes.now) bytes.now entries → ⊥) }
+    ensures refused { OnErr result ((entries : List ℕ) → IsEntryBlockOf (length bytes.now) bytes.now entries → ⊥) }
     ensures fault { IfErr result IsAnyCorruption }
 {
     let len = bytes.len();

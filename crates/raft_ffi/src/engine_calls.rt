@@ -108,15 +108,13 @@ pub extern "C" fn raft_ffi_engine_write(
     requires held { IsTrue (is_some engine.old.value) }
     requires batch { IsTrue (is_some batch.old.value) }
     requires open { Holds (λ b. b.stage ≡ is_open) batch.old.value }
-    ensures ok { result.code ≡ 0 → AllHold (IsWrittenOrNone sync) batch.old.value
-        engine.old.value engine.new.value }
+    ensures ok { result.code ≡ 0 → AllHold (IsWrittenOrNone sync) batch.old.value engine.old.value engine.new.value }
     ensures emptied { result.code ≡ 0 → batch.new.value ≡ Some empty_batch }
     ensures accepted { result.code ≡ 0 → Holds (λ e. e.intact ≡ true) engine.old.value }
     ensures tested { result.code ≡ 0 → BothHold
         (λ e b. AreAcceptedOncePlaced e.accessor.tables b.items) engine.old.value batch.old.value }
-    ensures err { result.code ≢ 0 → BothHold
-        (λ old new. IsUnwrittenAs sync result.code batch.old.value batch.new.value old new)
-        engine.old.value engine.new.value }
+    ensures err { result.code ≢ 0 → BothHold (λ old new. IsUnwrittenAs sync result.code batch.old.value batch.new.value
+        old new) engine.old.value engine.new.value }
     ensures text { HasText result text.old text.new }
 {
     let mut held = engine.take(alloc);
@@ -138,8 +136,7 @@ pub extern "C" fn raft_ffi_engine_sync(
     ensures ok { result.code ≡ 0 → BothHold IsSynced engine.old.value engine.new.value }
     ensures accepted { result.code ≡ 0 → Holds (λ e. e.intact ≡ true) engine.old.value }
     ensures err { result.code ≢ 0 → BothHold IsStopped engine.old.value engine.new.value }
-    ensures fault { result.code ≢ 0 → Holds (λ e. e.intact ≡ false → result.code ≡ 12)
-        engine.old.value }
+    ensures fault { result.code ≢ 0 → Holds (λ e. e.intact ≡ false → result.code ≡ 12) engine.old.value }
     ensures text { HasText result text.old text.new }
 {
     let mut held = engine.take(alloc);
@@ -158,8 +155,7 @@ pub extern "C" fn raft_ffi_engine_rotate(
     requires held { IsTrue (is_some engine.old.value) }
     ensures ok { result.code ≡ 0 → BothHold IsRotated engine.old.value engine.new.value }
     ensures accepted { result.code ≡ 0 → Holds (λ e. e.intact ≡ true) engine.old.value }
-    ensures err { result.code ≢ 0 → IsCodeForBoth IsUnrotated engine.old.value engine.new.value
-        result.code }
+    ensures err { result.code ≢ 0 → IsCodeForBoth IsUnrotated engine.old.value engine.new.value result.code }
     ensures text { HasText result text.old text.new }
 {
     let mut held = engine.take(alloc);
@@ -179,8 +175,7 @@ pub extern "C" fn raft_ffi_engine_purge_expired_files(
     requires held { IsTrue (is_some engine.old.value) }
     ensures ok { result.code ≡ 0 → BothHold (ArePurged count.new) engine.old.value engine.new.value }
     ensures accepted { result.code ≡ 0 → Holds (λ e. e.intact ≡ true) engine.old.value }
-    ensures err { result.code ≢ 0 → IsCodeForBoth IsUnpurged engine.old.value engine.new.value
-        result.code }
+    ensures err { result.code ≢ 0 → IsCodeForBoth IsUnpurged engine.old.value engine.new.value result.code }
     ensures text { HasText result text.old text.new }
 {
     let mut held = engine.take(alloc);
@@ -198,11 +193,9 @@ pub extern "C" fn raft_ffi_engine_purge_rewrite_files(
     text: &mut [u8],
 ) -> Status
     requires held { IsTrue (is_some engine.old.value) }
-    ensures ok { result.code ≡ 0 → BothHold (AreRewritesPurged count.new) engine.old.value
-        engine.new.value }
+    ensures ok { result.code ≡ 0 → BothHold (AreRewritesPurged count.new) engine.old.value engine.new.value }
     ensures accepted { result.code ≡ 0 → Holds (λ e. e.intact ≡ true) engine.old.value }
-    ensures err { result.code ≢ 0 → IsCodeForBoth AreRewritesUnpurged engine.old.value
-        engine.new.value result.code }
+    ensures err { result.code ≢ 0 → IsCodeForBoth AreRewritesUnpurged engine.old.value engine.new.value result.code }
     ensures text { HasText result text.old text.new }
 {
     let mut held = engine.take(alloc);

@@ -88,8 +88,7 @@ pub extern "C" fn raft_ffi_engine_entry(
 ) -> bool
     requires held { IsTrue (is_some engine.old.value) }
     ensures same { engine.new.value ≡ engine.old.value }
-    ensures found { Holds (λ e. IsEntryIn region index result entry.new e.accessor)
-        engine.old.value }
+    ensures found { Holds (λ e. IsEntryIn region index result entry.new e.accessor) engine.old.value }
 {
     let held = engine.take(alloc);
     let found = entry_in(held.engine.accessor(), region, index, entry);
@@ -116,9 +115,8 @@ pub extern "C" fn raft_ffi_engine_entries(
     ensures same { engine.new.value ≡ engine.old.value }
     ensures ok { result.code ≡ 0 → Holds (λ e. IsFetched (number_in max_size) begin end
         (table_in e region).entries entries.old entries.new count.new) engine.old.value }
-    ensures fault { result.code ≢ 0 → IsCodeFor
-        (λ e. IsFetchFault (range_answer begin end (table_in e region).entries)) engine.old.value
-        result.code }
+    ensures fault { result.code ≢ 0 → IsCodeFor (λ e. IsFetchFault (range_answer begin end (table_in e region).entries))
+        engine.old.value result.code }
     ensures text { HasText result text.old text.new }
 {
     let held = engine.take(alloc);
@@ -149,9 +147,7 @@ pub extern "C" fn raft_ffi_engine_value(
 ) -> bool
     requires held { IsTrue (is_some engine.old.value) }
     ensures same { engine.new.value ≡ engine.old.value }
-    ensures found { Holds
-        (λ e. IsValueIn region key.now result value.old value.new len.new e.accessor)
-        engine.old.value }
+    ensures found { Holds (λ e. IsValueIn region key.now result value.old value.new len.new e.accessor) engine.old.value }
 {
     let held = engine.take(alloc);
     let found = value_in(held.engine.accessor(), region, key, value, len);
@@ -189,8 +185,7 @@ pub extern "C" fn raft_ffi_engine_last_index(
 ) -> bool
     requires held { IsTrue (is_some engine.old.value) }
     ensures same { engine.new.value ≡ engine.old.value }
-    ensures some { result ≡ true → Holds
-        (λ e. index.new + 1 ≡ end_of (table_in e region).entries) engine.old.value }
+    ensures some { result ≡ true → Holds (λ e. index.new + 1 ≡ end_of (table_in e region).entries) engine.old.value }
     ensures none { result ≡ false → Holds (λ e. (table_in e region).entries ≡ []) engine.old.value }
 {
     let held = engine.take(alloc);

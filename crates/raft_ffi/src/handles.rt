@@ -29,8 +29,7 @@ use raft_contexts::MemTableRecoverContext;
 use raft_records::LogBatch;
 use std::alloc::Global;
 use std::marker::Model;
-use std::mem;
-use std::ptr;
+use std::{mem, ptr};
 
 /// A type of handles: each holds a value on the heap, or nothing. C keeps it as a pointer, null where it holds nothing.
 pub(crate) trait Handle: Sized + Drop {

@@ -11,7 +11,7 @@ ghost use Rattle.raft_records.specs.LogBatch.{empty_batch, is_open};
 ghost use Rattle.raft_ffi.specs.Engines.{IsWrittenOrNone, Lasts};
 ghost use Rattle.raft_ffi.specs.Taking.{IsTaking};
 
-use crate::taking::{Taking, take_within};
+use crate::order_calls::{Taking, take_within};
 use raft_base::{Error, FileId, FileSeq, Result};
 use raft_engine::Engine;
 use raft_orders::HandedFiles;
@@ -55,8 +55,7 @@ impl HeldEngine {
         ensures ok { OnOk result (IsWrittenOrNone sync batch.old self.old self.new) }
         ensures emptied { OnOk result (batch.new ≡ empty_batch) }
         ensures accepted { OnOk result (self.old.intact ≡ true) }
-        ensures tested { OnOk result
-            (AreAcceptedOncePlaced self.old.accessor.tables batch.old.items) }
+        ensures tested { OnOk result (AreAcceptedOncePlaced self.old.accessor.tables batch.old.items) }
         ensures err { IfErr result (IsUnwritten sync batch.old batch.new self.old self.new) }
     {
         self.engine.write(batch, sync)

@@ -68,11 +68,9 @@ fn put_next(
     requires empty { items.old.value ≡ None }
     requires inside { at ≤ length bytes.now }
     requires ends { offset + length bytes.now < 2 ^ 64 }
-    ensures ok { OnOk result (IsNext (part_of file.now offset bytes.now) at
-        (next_shown items.new.value next.new)) }
+    ensures ok { OnOk result (IsNext (part_of file.now offset bytes.now) at (next_shown items.new.value next.new)) }
     ensures err { OnErr result (items.new.value ≡ None) }
-    ensures fault { IfErr result
-        (IsMemoryOr (IsNextFault (signature_of file.now) (drop at bytes.now))) }
+    ensures fault { IfErr result (IsMemoryOr (IsNextFault (signature_of file.now) (drop at bytes.now))) }
 {
     if let Some((batch, behind)) = next_in(alloc, file, offset, bytes, at)? {
         items.put_new(alloc, ItemList::of(batch.into_items()))?;
@@ -104,8 +102,7 @@ pub extern "C" fn raft_ffi_items_head(
 ) -> bool
     requires held { IsTrue (is_some items.old.value) }
     ensures same { items.new.value ≡ items.old.value }
-    ensures found { Holds (λ xs. IsFound (λ item. IsHeadOf item head.new) (slice_get xs i) result)
-        items.old.value }
+    ensures found { Holds (λ xs. IsFound (λ item. IsHeadOf item head.new) (slice_get xs i) result) items.old.value }
 {
     let held = items.take(alloc);
     let found = find_head(&*held, i, head);

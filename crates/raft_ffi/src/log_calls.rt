@@ -44,8 +44,7 @@ pub extern "C" fn raft_ffi_tables_check_append(
 
 fn check_append(accessor: &MemTableAccessor, batch: &LogBatch) -> Result<()>
     ensures ok { OnOk result (AcceptsOncePlaced accessor.now batch.now) }
-    ensures refused { IfErr result (λ e. e ≢ Error.Memory
-        → AreRefusedOncePlaced accessor.now.tables batch.now.items) }
+    ensures refused { IfErr result (λ e. e ≢ Error.Memory → AreRefusedOncePlaced accessor.now.tables batch.now.items) }
     ensures fault { IfErr result (IsAppendCheckFault accessor.now.tables batch.now.items) }
 {
     accessor.check_append_writes(batch.items())
@@ -60,10 +59,8 @@ pub extern "C" fn raft_ffi_tables_cleaned_logs(
 ) -> u32
     requires held { IsTrue (is_some tables.old.value) }
     requires empty { batch.old.value ≡ None }
-    ensures ok { result ≡ 0 → BothHold (λ old new. new ≡ without_cleaned old)
-        tables.old.value tables.new.value }
-    ensures logs { result ≡ 0 → BothHold (λ old logs. logs ≡ cleans_of old.cleaned) tables.old.value
-        batch.new.value }
+    ensures ok { result ≡ 0 → BothHold (λ old new. new ≡ without_cleaned old) tables.old.value tables.new.value }
+    ensures logs { result ≡ 0 → BothHold (λ old logs. logs ≡ cleans_of old.cleaned) tables.old.value batch.new.value }
     ensures err { result ≢ 0 → tables.new.value ≡ tables.old.value }
     ensures batch_err { result ≢ 0 → batch.new.value ≡ None }
     ensures fault { result ≢ 0 → result ≡ 11 }

@@ -4,13 +4,12 @@ ghost use Rattle.std.specs.Prelude.{◌≡◌, ◌<◌, ◌≤◌, true, false, 
 ghost use Rattle.raft_orders.specs.Orders.{ask_of, length_put, next_to_do};
 ghost use Rattle.raft_ffi.specs.Calls.{Holds};
 ghost use Rattle.raft_ffi.specs.Engines.{Lasts, ask_in};
-ghost use Rattle.raft_ffi.specs.Taking.{IsWaiting};
+ghost use Rattle.raft_ffi.specs.Taking.{IsWaiting, IsTaking};
 
 use crate::handles::{Engine, Handle};
 use crate::rooms::copy_front;
 use crate::status::is_rewrite;
-use crate::taking::Taking;
-use raft_orders::{NumberedOrder, Task};
+use raft_orders::{HandedFiles, NumberedOrder, Task};
 use std::alloc::Global;
 
 /// What is to be done to files, without its bytes.
@@ -45,11 +44,9 @@ pub extern "C" fn raft_ffi_engine_take_order(
     ensures same { engine.new.value ≡ engine.old.value }
     ensures taken { is_taken.new ≡ true → Holds
         (λ e. next_to_do e.asks order.new.at ≡ Some (ask_in order.new bytes.new)) engine.old.value }
-    ensures waits { result ≡ true → is_taken.new ≡ false → Holds
-        (λ e. (length bytes.old < order.new.len) × IsWaiting e.asks order.new.at order.new.len)
-        engine.old.value }
-    ensures none { result ≡ false → Holds (λ e. next_to_do e.asks order.new.at ≡ None)
-        engine.old.value }
+    ensures waits { result ≡ true → is_taken.new ≡ false → Holds (λ e. (length bytes.old < order.new.len) × IsWaiting
+        e.asks order.new.at order.new.len) engine.old.value }
+    ensures none { result ≡ false → Holds (λ e. next_to_do e.asks order.new.at ≡ None) engine.old.value }
     ensures untaken { result ≡ false → is_taken.new ≡ false }
     ensures lasts { Holds Lasts engine.old.value }
 {
@@ -112,5 +109,34 @@ fn plain_head(at: u64, is_rewrite: bool, kind: u32, number: u64) -> OrderHead
         len: 0,
         kind,
         is_rewrite,
+    }
+}
+
+/// What becomes of the oldest order that waits.
+#[derive(Drop)]
+pub(crate) enum Taking {
+    /// It is taken.
+    Taken(NumberedOrder),
+    /// It has this number, and more bytes than there is room for, so many.
+    TooLong(u64, usize),
+    /// No order waits; so many were taken.
+    NoneWaits(u64),
+}
+
+pub(crate) fn take_within(files: &mut HandedFiles, room: usize) -> Taking
+    ensures taking { IsTaking files.old.asks room result }
+    ensures same { files.new.asks ≡ files.old.asks }
+{
+    let number = files.taken();
+    let Some(first) = files.first_order() else {
+        return Taking::NoneWaits(number);
+    };
+    let len = first.bytes_len();
+    if len > room {
+        return Taking::TooLong(number, len);
+    }
+    match files.take_order() {
+        Some(taken) => Taking::Taken(taken),
+        None => unreachable!(),
     }
 }

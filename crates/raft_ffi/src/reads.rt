@@ -96,8 +96,7 @@ pub(crate) fn find_regions(
 }
 
 fn ids_of(alloc: Global, tables: &[&MemTable]) -> Result<Vec<u64>>
-    ensures ok { IfOk result (λ ids. ids.items
-        ≡ map (λ t. t.region_id) (map (λ t. t.now) tables.now)) }
+    ensures ok { IfOk result (λ ids. ids.items ≡ map (λ t. t.region_id) (map (λ t. t.now) tables.now)) }
     ensures memory { IfErr result (λ e. e ≡ Error.Memory) }
 {
     let mut ids = Vec::with_capacity(alloc, tables.len())?;
@@ -134,9 +133,8 @@ fn fetch(
     max_size: Option<usize>,
     found: &mut Vec<EntryIndex>,
 ) -> Result<()>
-    ensures ok { OnOk result (Fetches max_size range.0 range.1
-        (table_in accessor.now.tables region).entries found.old.items found.new.items
-        (range_answer range.0 range.1 (table_in accessor.now.tables region).entries)) }
+    ensures ok { OnOk result (Fetches max_size range.0 range.1 (table_in accessor.now.tables region).entries
+        found.old.items found.new.items (range_answer range.0 range.1 (table_in accessor.now.tables region).entries)) }
     ensures fault { IfErr result (IsFetchFault
         (range_answer range.0 range.1 (table_in accessor.now.tables region).entries)) }
 {
@@ -172,8 +170,7 @@ fn moving_in(
     region: u64,
     gate: Option<u64>,
 ) -> Result<Vec<EntryIndex>>
-    ensures ok { IfOk result (λ v. v.items
-        ≡ moving_entries gate (table_in accessor.now.tables region).entries) }
+    ensures ok { IfOk result (λ v. v.items ≡ moving_entries gate (table_in accessor.now.tables region).entries) }
     ensures memory { IfErr result (λ e. e ≡ Error.Memory) }
 {
     match accessor.get(region) {

@@ -16,8 +16,7 @@ pub(crate) fn copy_front<T: Copy>(found: &[T], room: &mut [T]) -> usize
 }
 
 pub(crate) fn copy_found(found: Option<&[u8]>, room: &mut [u8], len: &mut usize) -> bool
-    ensures { IsFound (λ bytes. IsCopied bytes room.old room.new len.new)
-        (option_map (λ v. v.now) found.entry) result }
+    ensures { IsFound (λ bytes. IsCopied bytes room.old room.new len.new) (option_map (λ v. v.now) found.entry) result }
 {
     let Some(found) = found else {
         return false;

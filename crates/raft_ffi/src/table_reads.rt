@@ -77,8 +77,7 @@ pub extern "C" fn raft_ffi_tables_regions(
 ) -> u32
     requires held { IsTrue (is_some tables.old.value) }
     ensures same { tables.new.value ≡ tables.old.value }
-    ensures ok { result ≡ 0 → Holds
-        (λ a. AreRegionsIn a.tables regions.old regions.new count.new) tables.old.value }
+    ensures ok { result ≡ 0 → Holds (λ a. AreRegionsIn a.tables regions.old regions.new count.new) tables.old.value }
     ensures fault { result ≢ 0 → result ≡ 11 }
 {
     let held = tables.take(alloc);
@@ -96,8 +95,7 @@ pub extern "C" fn raft_ffi_tables_cleaned(
 ) -> usize
     requires held { IsTrue (is_some tables.old.value) }
     ensures same { tables.new.value ≡ tables.old.value }
-    ensures found { Holds (λ a. IsCopied a.cleaned regions.old regions.new result)
-        tables.old.value }
+    ensures found { Holds (λ a. IsCopied a.cleaned regions.old regions.new result) tables.old.value }
 {
     let held = tables.take(alloc);
     let count = copy_front(held.cleaned_regions(), regions);
@@ -143,9 +141,8 @@ pub extern "C" fn raft_ffi_tables_entries(
     ensures same { tables.new.value ≡ tables.old.value }
     ensures ok { result.code ≡ 0 → Holds (λ a. IsFetched (number_in max_size) begin end
         (table_in a.tables region).entries entries.old entries.new count.new) tables.old.value }
-    ensures fault { result.code ≢ 0 → IsCodeFor
-        (λ a. IsFetchFault (range_answer begin end (table_in a.tables region).entries)) tables.old.value
-        result.code }
+    ensures fault { result.code ≢ 0 → IsCodeFor (λ a. IsFetchFault (range_answer begin end (table_in a.tables
+        region).entries)) tables.old.value result.code }
     ensures text { HasText result text.old text.new }
 {
     let held = tables.take(alloc);
@@ -176,9 +173,8 @@ pub extern "C" fn raft_ffi_tables_entries_before(
 ) -> u32
     requires held { IsTrue (is_some tables.old.value) }
     ensures same { tables.new.value ≡ tables.old.value }
-    ensures ok { result ≡ 0 → Holds (λ a. AreEntriesIn
-        (appended_before gate (table_in a.tables region).entries) entries.old entries.new count.new)
-        tables.old.value }
+    ensures ok { result ≡ 0 → Holds (λ a. AreEntriesIn (appended_before gate (table_in a.tables region).entries)
+        entries.old entries.new count.new) tables.old.value }
     ensures fault { result ≢ 0 → result ≡ 11 }
 {
     let held = tables.take(alloc);
@@ -198,9 +194,8 @@ pub extern "C" fn raft_ffi_tables_rewritten_entries(
 ) -> u32
     requires held { IsTrue (is_some tables.old.value) }
     ensures same { tables.new.value ≡ tables.old.value }
-    ensures ok { result ≡ 0 → Holds (λ a. AreEntriesIn
-        (placed_in Rewrite (table_in a.tables region).entries) entries.old entries.new count.new)
-        tables.old.value }
+    ensures ok { result ≡ 0 → Holds (λ a. AreEntriesIn (placed_in Rewrite (table_in a.tables region).entries)
+        entries.old entries.new count.new) tables.old.value }
     ensures fault { result ≢ 0 → result ≡ 11 }
 {
     let held = tables.take(alloc);
@@ -221,8 +216,7 @@ pub extern "C" fn raft_ffi_tables_value(
 ) -> bool
     requires held { IsTrue (is_some tables.old.value) }
     ensures same { tables.new.value ≡ tables.old.value }
-    ensures found { Holds (IsValueIn region key.now result value.old value.new len.new)
-        tables.old.value }
+    ensures found { Holds (IsValueIn region key.now result value.old value.new len.new) tables.old.value }
 {
     let held = tables.take(alloc);
     let found = value_in(&*held, region, key, value, len);

@@ -77,10 +77,8 @@ pub extern "C" fn raft_ffi_tables_remove(
     found: &mut bool,
 ) -> u32
     requires held { IsTrue (is_some tables.old.value) }
-    ensures ok { result ≡ 0 → BothHold (IsRemoved region is_listed) tables.old.value
-        tables.new.value }
-    ensures found { result ≡ 0 → Holds (λ old. found.new ≡ is_some (finite.get old.tables region))
-        tables.old.value }
+    ensures ok { result ≡ 0 → BothHold (IsRemoved region is_listed) tables.old.value tables.new.value }
+    ensures found { result ≡ 0 → Holds (λ old. found.new ≡ is_some (finite.get old.tables region)) tables.old.value }
     ensures err { result ≢ 0 → tables.new.value ≡ tables.old.value }
     ensures fault { result ≢ 0 → (result ≡ 11) × IsTrue is_listed }
 {
@@ -116,19 +114,14 @@ pub extern "C" fn raft_ffi_tables_merge_newer(
 ) -> Status
     requires held { IsTrue (is_some tables.old.value) }
     requires newer { IsTrue (is_some newer.value) }
-    ensures ok { result.code ≡ 0 → AllHold (AreMerged with_newer) newer.value tables.old.value
-        tables.new.value }
-    ensures err { result.code ≢ 0 → result.code ≢ 11 → AllHold
-        (λ rhs old new. AreTablesLeft with_newer old.tables rhs.tables new.tables)
-        newer.value tables.old.value tables.new.value }
-    ensures others { result.code ≢ 0 → AllHold
-        (λ rhs old new. AreOthersLeft with_newer old.tables rhs.tables new.tables)
-        newer.value tables.old.value tables.new.value }
-    ensures cleaned { BothHold (λ old new. new.cleaned ≡ old.cleaned) tables.old.value
-        tables.new.value }
-    ensures fault { result.code ≢ 0 → AllHold (λ rhs old new. IsCodeOf
-        (IsMergeRefusal (IsNewerFault new.counts) old.tables rhs.tables) result.code)
-        newer.value tables.old.value tables.new.value }
+    ensures ok { result.code ≡ 0 → AllHold (AreMerged with_newer) newer.value tables.old.value tables.new.value }
+    ensures err { result.code ≢ 0 → result.code ≢ 11 → AllHold (λ rhs old new. AreTablesLeft with_newer old.tables
+        rhs.tables new.tables) newer.value tables.old.value tables.new.value }
+    ensures others { result.code ≢ 0 → AllHold (λ rhs old new. AreOthersLeft with_newer old.tables rhs.tables
+        new.tables) newer.value tables.old.value tables.new.value }
+    ensures cleaned { BothHold (λ old new. new.cleaned ≡ old.cleaned) tables.old.value tables.new.value }
+    ensures fault { result.code ≢ 0 → AllHold (λ rhs old new. IsCodeOf (IsMergeRefusal (IsNewerFault new.counts)
+        old.tables rhs.tables) result.code) newer.value tables.old.value tables.new.value }
     ensures text { HasText result text.old text.new }
 {
     let mut held = tables.take(alloc);
@@ -149,19 +142,14 @@ pub extern "C" fn raft_ffi_tables_merge_append(
 ) -> Status
     requires held { IsTrue (is_some tables.old.value) }
     requires append { IsTrue (is_some append.value) }
-    ensures ok { result.code ≡ 0 → AllHold (AreMerged with_appended) append.value tables.old.value
-        tables.new.value }
-    ensures err { result.code ≢ 0 → result.code ≢ 11 → AllHold
-        (λ rhs old new. AreTablesLeft with_appended old.tables rhs.tables new.tables)
-        append.value tables.old.value tables.new.value }
-    ensures others { result.code ≢ 0 → AllHold
-        (λ rhs old new. AreOthersLeft with_appended old.tables rhs.tables new.tables)
-        append.value tables.old.value tables.new.value }
-    ensures cleaned { BothHold (λ old new. new.cleaned ≡ old.cleaned) tables.old.value
-        tables.new.value }
-    ensures fault { result.code ≢ 0 → AllHold (λ rhs old new. IsCodeOf
-        (IsMergeRefusal (IsAppendedFault new.counts) old.tables rhs.tables) result.code)
-        append.value tables.old.value tables.new.value }
+    ensures ok { result.code ≡ 0 → AllHold (AreMerged with_appended) append.value tables.old.value tables.new.value }
+    ensures err { result.code ≢ 0 → result.code ≢ 11 → AllHold (λ rhs old new. AreTablesLeft with_appended old.tables
+        rhs.tables new.tables) append.value tables.old.value tables.new.value }
+    ensures others { result.code ≢ 0 → AllHold (λ rhs old new. AreOthersLeft with_appended old.tables rhs.tables
+        new.tables) append.value tables.old.value tables.new.value }
+    ensures cleaned { BothHold (λ old new. new.cleaned ≡ old.cleaned) tables.old.value tables.new.value }
+    ensures fault { result.code ≢ 0 → AllHold (λ rhs old new. IsCodeOf (IsMergeRefusal (IsAppendedFault new.counts)
+        old.tables rhs.tables) result.code) append.value tables.old.value tables.new.value }
     ensures text { HasText result text.old text.new }
 {
     let mut held = tables.take(alloc);
@@ -183,8 +171,7 @@ pub extern "C" fn raft_ffi_tables_apply_append(
 ) -> Status
     requires held { IsTrue (is_some tables.old.value) }
     requires items { IsTrue (is_some items.value) }
-    ensures ok { result.code ≡ 0 → AllHold (AreWritten Appending) items.value tables.old.value
-        tables.new.value }
+    ensures ok { result.code ≡ 0 → AllHold (AreWritten Appending) items.value tables.old.value tables.new.value }
     ensures refused { result.code ≢ 0 → AllHold (AreSomeWritten Appending result.code) items.value
         tables.old.value tables.new.value }
     ensures text { HasText result text.old text.new }
@@ -218,9 +205,8 @@ pub extern "C" fn raft_ffi_tables_apply_rewrite(
     requires items { IsTrue (is_some items.value) }
     ensures ok { result.code ≡ 0 → AllHold (AreWritten (Rewriting (number_in gate) seq))
         items.value tables.old.value tables.new.value }
-    ensures refused { result.code ≢ 0 → AllHold
-        (AreSomeWritten (Rewriting (number_in gate) seq) result.code) items.value
-        tables.old.value tables.new.value }
+    ensures refused { result.code ≢ 0 → AllHold (AreSomeWritten (Rewriting (number_in gate) seq) result.code)
+        items.value tables.old.value tables.new.value }
     ensures text { HasText result text.old text.new }
 {
     let mut held = tables.take(alloc);
@@ -237,8 +223,7 @@ pub(crate) fn apply_rewrite(
     seq: u64,
 ) -> Result<()>
     ensures ok { OnOk result (AreWritten (Rewriting gate seq) items accessor.old accessor.new) }
-    ensures refused { IfErr result
-        (IsStoppedAt (Rewriting gate seq) items accessor.old accessor.new) }
+    ensures refused { IfErr result (IsStoppedAt (Rewriting gate seq) items accessor.old accessor.new) }
 {
     accessor.apply_rewrite_writes(items.drain(), gate, seq)
 }

@@ -4,7 +4,7 @@ use Rattle.std.specs.Option.{option_copied}
 use Rattle.std.specs.Prelude.{Some}
 use Rattle.raft_table.specs.KeyValues.{pairs_shown}
 use Rattle.raft_table.specs.Scan.{is_between}
-use Rattle.raft_ffi.proofs.pairs.scanned.Goals as goal
+use Rattle.raft_ffi.proofs.pair_calls.scanned.Goals as goal
 
 pub returns-clause-ok : goal.returns-clause-ok
 returns-clause-ok c =

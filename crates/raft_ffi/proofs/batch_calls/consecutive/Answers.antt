@@ -1,5 +1,5 @@
 use Rattle.raft_ffi.proofs.StringLemmas.{one_entry_more}
-use Rattle.raft_ffi.proofs.strings.consecutive.Goals as goal
+use Rattle.raft_ffi.proofs.batch_calls.consecutive.Goals as goal
 
 pub loop-k-preserved : goal.loop-k-preserved
 loop-k-preserved c =

@@ -1,7 +1,7 @@
 use Rattle.std.proofs.Common.{◌≡◌, ◌++◌, drop, map}
 use Rattle.raft_records.specs.Item.{item_of}
 use Rattle.raft_ffi.specs.Slots.{share_of}
-use Rattle.raft_ffi.proofs.shares.share_of.Given as goal
+use Rattle.raft_ffi.proofs.slot_calls.share_of.Given as goal
 
 -- the copies so far and those of the items that are left make up the share
 abbrev pub invariant-loop-item : goal.invariant-loop-item

@@ -5,7 +5,7 @@ use Rattle.std.specs.Prelude.{Some}
 use Rattle.raft_table.specs.KeyValues.{pairs_shown}
 use Rattle.raft_table.specs.Scan.{is_between}
 use Rattle.raft_ffi.proofs.PairLemmas.{kept_shown}
-use Rattle.raft_ffi.proofs.pairs.keep_between.Goals as goal
+use Rattle.raft_ffi.proofs.pair_calls.keep_between.Goals as goal
 
 pub returns : goal.returns
 returns c =

@@ -1,6 +1,6 @@
 use Rattle.std.proofs.Common.{◌≡◌, ◌+◌, ◌++◌, drop}
 use Rattle.raft_ffi.specs.Strings.{entries_from}
-use Rattle.raft_ffi.proofs.strings.consecutive.Given as goal
+use Rattle.raft_ffi.proofs.batch_calls.consecutive.Given as goal
 
 -- the entries so far and those that are left make up the whole
 abbrev pub invariant-loop-k : goal.invariant-loop-k

@@ -1,7 +1,7 @@
 use Rattle.std.proofs.Common.{◌≡◌, ◌++◌, drop}
 use Rattle.raft_table.specs.KeyValues.{pairs_shown}
 use Rattle.raft_ffi.specs.Pairs.{lengths_of}
-use Rattle.raft_ffi.proofs.pairs.lengths.Given as goal
+use Rattle.raft_ffi.proofs.pair_calls.lengths.Given as goal
 
 -- the lengths so far and those of the pairs that are left make up the whole
 abbrev pub invariant-loop-pair : goal.invariant-loop-pair

@@ -2,7 +2,7 @@ use Rattle.std.proofs.Common.{List, OnOk, ap, map, subst, ◌∙◌}
 use Rattle.raft_accessor.specs.AppendChecks.{AreAcceptedOncePlaced}
 use Rattle.raft_records.specs.Item.{Item, item_of}
 use Rattle.raft_ffi.specs.Slots.{AcceptsShareOncePlaced, share_of}
-use Rattle.raft_ffi.proofs.shares.check_share.Goals as goal
+use Rattle.raft_ffi.proofs.slot_calls.check_share.Goals as goal
 
 pub returns-clause-ok : goal.returns-clause-ok
 unfolding AcceptsShareOncePlaced

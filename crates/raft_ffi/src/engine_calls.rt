@@ -16,7 +16,7 @@ ghost use Rattle.raft_ffi.specs.Rooms.{HasText};
 use crate::found_files::FoundFiles;
 use crate::handles::{Batch, Context, Engine, Found, Handle};
 use crate::held_engine::HeldEngine;
-use crate::status::{Status, answered, version};
+use crate::status::{Status, answered, answered_with, version};
 use raft_base::{Result, Version};
 use raft_contexts::MemTableRecoverContext;
 use raft_orders::HandedFiles;
@@ -179,9 +179,9 @@ pub extern "C" fn raft_ffi_engine_purge_expired_files(
     ensures text { HasText result text.old text.new }
 {
     let mut held = engine.take(alloc);
-    let answer = held.purge_expired_files(count);
+    let answer = held.purge_expired_files();
     engine.put(held);
-    answered(alloc, &answer, text)
+    answered_with(alloc, answer, count, text)
 }
 
 /// Deletes the rewrite files that no table needs, and says how many.
@@ -199,9 +199,9 @@ pub extern "C" fn raft_ffi_engine_purge_rewrite_files(
     ensures text { HasText result text.old text.new }
 {
     let mut held = engine.take(alloc);
-    let answer = held.purge_rewrite_files(count);
+    let answer = held.purge_rewrite_files();
     engine.put(held);
-    answered(alloc, &answer, text)
+    answered_with(alloc, answer, count, text)
 }
 
 /// Frees the engine.

@@ -65,35 +65,21 @@ impl Maybe {
     pub(crate) fn number(self) -> Option<u64>
         ensures { result ≡ number_in self }
     {
-        if self.is_some {
-            Some(self.number)
-        } else {
-            None
-        }
+        self.is_some.then_some(self.number)
     }
 
     pub(crate) fn size(self) -> Option<usize>
         ensures { result ≡ number_in self }
     {
-        if self.is_some {
-            Some(self.number as usize)
-        } else {
-            None
-        }
+        self.is_some.then_some(self.number as usize)
     }
 
     pub(crate) fn of(number: Option<u64>) -> Maybe
         ensures { number_in result ≡ number }
     {
-        match number {
-            Some(number) => Maybe {
-                is_some: true,
-                number,
-            },
-            None => Maybe {
-                is_some: false,
-                number: 0,
-            },
+        Maybe {
+            is_some: number.is_some(),
+            number: number.unwrap_or(0),
         }
     }
 }

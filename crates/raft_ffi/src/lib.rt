@@ -6,7 +6,6 @@ mod byte_calls;
 mod change_calls;
 mod context_calls;
 mod engine_calls;
-mod engine_reads;
 mod entries;
 mod found_calls;
 mod found_files;

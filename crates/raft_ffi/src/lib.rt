@@ -13,7 +13,6 @@ mod handles;
 mod held_engine;
 mod item_calls;
 mod item_list;
-mod log_calls;
 mod moving_calls;
 mod order_calls;
 mod pair_calls;

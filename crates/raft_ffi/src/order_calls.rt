@@ -1,9 +1,9 @@
 //! Calls that hand out what is to be done to an engine's files.
 
-ghost use Rattle.std.specs.Prelude.{◌≡◌, ◌<◌, ◌≤◌, true, false, Some, None, IsTrue, is_some, length};
-ghost use Rattle.raft_orders.specs.Orders.{ask_of, length_put, next_to_do};
+ghost use Rattle.std.specs.Prelude.{◌≡◌, ◌<◌, ◌≤◌, true, false, Some, None, IsTrue, is_some, length, take};
+ghost use Rattle.raft_orders.specs.Orders.{act_of, ask_of, length_put, next_to_do};
 ghost use Rattle.raft_ffi.specs.Calls.{Holds};
-ghost use Rattle.raft_ffi.specs.Engines.{Lasts, ask_in};
+ghost use Rattle.raft_ffi.specs.Engines.{Lasts, act_of_kind, ask_in};
 ghost use Rattle.raft_ffi.specs.Taking.{IsWaiting, IsTaking};
 
 use crate::handles::{Engine, Handle};
@@ -74,41 +74,33 @@ pub extern "C" fn raft_ffi_engine_take_order(
 }
 
 /// Returns what an order says, and copies its bytes.
-#[tactic(auto, using(crate::proofs::OrderLemmas::put_says, crate::proofs::OrderLemmas::plain_says))]
 fn head(taken: &NumberedOrder, bytes: &mut [u8]) -> OrderHead
     requires { length_put taken.now.order.task ≤ length bytes.old }
     ensures number { result.at ≡ taken.now.number }
     ensures says { ask_in result bytes.new ≡ ask_of taken.now.order }
 {
-    let at = taken.number;
-    let is_rewrite = is_rewrite(taken.order.queue);
-    match &taken.order.task {
-        Task::Put(put) => OrderHead {
-            at,
-            number: 0,
-            len: copy_front(put.as_slice(), bytes),
-            kind: 0,
-            is_rewrite,
-        },
-        Task::Begin(seq) => plain_head(at, is_rewrite, 1, *seq),
-        Task::Sync => plain_head(at, is_rewrite, 2, 0),
-        Task::Delete => plain_head(at, is_rewrite, 3, 0),
-        Task::Cut(len) => plain_head(at, is_rewrite, 4, *len),
+    let (kind, number, len) = act(&taken.order.task, bytes);
+    OrderHead {
+        at: taken.number,
+        number,
+        len,
+        kind,
+        is_rewrite: is_rewrite(taken.order.queue),
     }
 }
 
-fn plain_head(at: u64, is_rewrite: bool, kind: u32, number: u64) -> OrderHead
-    ensures at { result.at ≡ at }
-    ensures queue { result.is_rewrite ≡ is_rewrite }
-    ensures kind { result.kind ≡ kind }
-    ensures number { result.number ≡ number }
+/// Returns the kind of a task, its number, and how many bytes it puts, which are copied.
+#[tactic(auto, using(crate::proofs::OrderLemmas::put_says))]
+fn act(task: &Task, bytes: &mut [u8]) -> (u32, u64, usize)
+    requires { length_put task.now ≤ length bytes.old }
+    ensures { act_of_kind result.0 result.1 (take result.2 bytes.new) ≡ act_of task.now }
 {
-    OrderHead {
-        at,
-        number,
-        len: 0,
-        kind,
-        is_rewrite,
+    match task {
+        Task::Put(put) => (0, 0, copy_front(put.as_slice(), bytes)),
+        Task::Begin(seq) => (1, *seq, 0),
+        Task::Sync => (2, 0, 0),
+        Task::Delete => (3, 0, 0),
+        Task::Cut(len) => (4, *len, 0),
     }
 }
 

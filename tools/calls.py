@@ -24,7 +24,7 @@ HEAD = re.compile(r"^( *)pub (?:final )?(?:const |unsafe )*(fn|struct|enum|trait
 METHOD = re.compile(r"^    (?:pub )?(?:final )?fn (\w+)", re.M)
 IMPL = re.compile(r"^impl(?:<[^{}]*?>)? (\w+)(?:<[^{}]*?>)? \{$", re.M)
 USE = re.compile(r"^(?:#\[doc\((hidden)\)\]\n)?pub use ([^;]+);", re.M | re.S)
-MODULE = re.compile(r"^pub mod (\w+);", re.M)
+MODULE = re.compile(r"(?<!#\[doc\(hidden\)\]\n)^pub mod (\w+);", re.M)
 CLAUSE = re.compile(r"\n\s*(?:requires|ensures|ghost)\b|\s*\n?\s*\{|;")
 ENDS_BLOCK = re.compile(r"^\}", re.M)
 

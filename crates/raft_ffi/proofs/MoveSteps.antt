@@ -29,7 +29,7 @@ use denote.Exit.{yes}
 use denote.RattleType.{RattleType, Valss}
 use denote.RawPtr.{RawPtr, null_ptr, ptr_val}
 use denote.Param.{layout}
-use denote.Signature.{Slot, Signature, plain}
+use denote.Signature.{Slot, plain}
 use denote.Steps.{heard, nothing}
 use denote.Struct.Struct.{within}
 use denote.Struct.Owning.{shape}

@@ -179,7 +179,7 @@ pub extern "C" fn raft_ffi_engine_purge_expired_files(
     ensures text { HasText result text.old text.new }
 {
     let mut held = engine.take(alloc);
-    let answer = held.purge_expired_files();
+    let answer = held.engine.purge_expired_files();
     engine.put(held);
     answered_with(alloc, answer, count, text)
 }
@@ -199,7 +199,7 @@ pub extern "C" fn raft_ffi_engine_purge_rewrite_files(
     ensures text { HasText result text.old text.new }
 {
     let mut held = engine.take(alloc);
-    let answer = held.purge_rewrite_files();
+    let answer = held.engine.purge_rewrite_files();
     engine.put(held);
     answered_with(alloc, answer, count, text)
 }

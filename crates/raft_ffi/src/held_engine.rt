@@ -1,11 +1,9 @@
 //! An engine whose files the caller keeps.
 
-ghost use Rattle.std.specs.Prelude.{◌≡◌, true, IfErr, IfOk, OnOk};
+ghost use Rattle.std.specs.Prelude.{◌≡◌, true, IfErr, OnOk};
 ghost use Rattle.raft_accessor.specs.AppendChecks.{AreAcceptedOncePlaced};
 ghost use Rattle.raft_engine.specs.Moved.{IsRewritten, IsUnrewritten};
 ghost use Rattle.raft_engine.specs.MovedAgain.{AreMovedAgain, AreUnmovedAgain};
-ghost use Rattle.raft_engine.specs.Purged.{ArePurged, IsUnpurged};
-ghost use Rattle.raft_engine.specs.PurgedRewrites.{AreRewritesPurged, AreRewritesUnpurged};
 ghost use Rattle.raft_engine.specs.WrittenBatch.{IsUnwritten};
 ghost use Rattle.raft_records.specs.LogBatch.{empty_batch, is_open};
 ghost use Rattle.raft_ffi.specs.Engines.{IsWrittenOrNone, Lasts};
@@ -59,22 +57,6 @@ impl HeldEngine {
         ensures err { IfErr result (IsUnwritten sync batch.old batch.new self.old self.new) }
     {
         self.engine.write(batch, sync)
-    }
-
-    pub(crate) fn purge_expired_files(&mut self) -> Result<usize>
-        ensures ok { IfOk result (λ count. ArePurged count self.old self.new) }
-        ensures accepted { OnOk result (self.old.intact ≡ true) }
-        ensures err { IfErr result (IsUnpurged self.old self.new) }
-    {
-        self.engine.purge_expired_files()
-    }
-
-    pub(crate) fn purge_rewrite_files(&mut self) -> Result<usize>
-        ensures ok { IfOk result (λ count. AreRewritesPurged count self.old self.new) }
-        ensures accepted { OnOk result (self.old.intact ≡ true) }
-        ensures err { IfErr result (AreRewritesUnpurged self.old self.new) }
-    {
-        self.engine.purge_rewrite_files()
     }
 
     pub(crate) fn take_order(&mut self, room: usize) -> Taking

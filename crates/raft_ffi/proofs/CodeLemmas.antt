@@ -1,8 +1,8 @@
 -- The code of a refusal.
-use Rattle.std.proofs.Common.{◌≡◌, ◌≢◌, ◌∙◌, ap, sym, ℕ, Result, Ok, Err, OnErr, OnOk, IfErr, Option, Some, None}
+use Rattle.std.proofs.Common.{◌≡◌, ◌≢◌, ◌∙◌, ap, sym, subst, ℕ, Result, Ok, Err, OnErr, OnOk, IfErr, Option, Some, None}
 use Rattle.raft_base.specs.declared.errors.Error.{Error}
 use Rattle.raft_base.specs.declared.errors.Error.TheVariants as errors
-use Rattle.raft_ffi.specs.Calls.{BothHold, Holds, IsCodeOf, code_of}
+use Rattle.raft_ffi.specs.Calls.{AllHold, BothHold, Holds, IsCodeForBoth, IsCodeOf, code_of}
 
 -- a call that was refused for this reason has the code of an error that has it
 pub refusal : {R : Type 0} (r : Result R Error) (code : ℕ) (P : Error → Type 0) → OnOk r (code ≡ 0) → IfErr r (λ e. code ≡ code_of e) → IfErr r P → code ≢ 0 → IsCodeOf P code
@@ -13,6 +13,18 @@ refusal (Err e) code P zero is fault some = (e, fault, is)
 pub failing : {R : Type 0} (r : Result R Error) (code : ℕ) → OnOk r (code ≡ 0) → IfErr r (λ e. code ≡ code_of e) → IfErr r (λ e. e ≡ errors.Failed) → code ≢ 0 → code ≡ 12
 failing (Ok x) code zero is failed some = absurd (some zero)
 failing (Err e) code zero is failed some = is ∙ ap code_of failed
+
+-- a call that was refused for what two handles hold has the code of an error that has this reason
+pub refused_both : {R V W : Type 0} (P : V → W → Error → Type 0) (r : Result R Error) (code : ℕ) {one : Option V} {other : Option W} {v u : V} {w x : W} → one ≡ Some v → other ≡ Some w → u ≡ v → x ≡ w
+    → IfErr r (P u x) → OnOk r (code ≡ 0) → IfErr r (λ e. code ≡ code_of e) → code ≢ 0 → IsCodeForBoth P one other code
+refused_both {V = V} {W = W} P r code {v = v} {w = w} {x = x} one other same same_other fault zero is some =
+    rw (one, other) (refusal r code (P v w) zero is (subst (λ (y : W). IfErr r (P v y)) same_other (subst (λ (y : V). IfErr r (P y x)) same fault)) some)
+
+-- and one that was refused for what three hold
+pub refused_all : {R U V W : Type 0} (P : U → V → W → Error → Type 0) (r : Result R Error) (code : ℕ) {one : Option U} {other : Option V} {last : Option W} {t u : U} {v x : V} {w : W}
+    → one ≡ Some t → other ≡ Some v → last ≡ Some w → u ≡ t → x ≡ v → IfErr r (P u x w) → OnOk r (code ≡ 0) → IfErr r (λ e. code ≡ code_of e) → code ≢ 0 → AllHold (λ a b c. IsCodeOf (P a b c) code) one other last
+refused_all {U = U} {V = V} P r code {t = t} {v = v} {x = x} {w = w} one other last same same_other fault zero is some =
+    rw (one, other, last) (refusal r code (P t v w) zero is (subst (λ (y : V). IfErr r (P t y w)) same_other (subst (λ (y : U). IfErr r (P y x w)) same fault)) some)
 
 some_code : (e : Error) → code_of e ≢ 0
 some_code (errors.InvalidArgument text) h = absurd cc

@@ -21,61 +21,19 @@ use Rattle.raft_ffi.specs.contracts.handles.Found as Found
 use Rattle.raft_ffi.proofs.HandleSteps.{Handle}
 
 abbrev pub batch : Handle
-batch = record {
-  of = HeldBatch.the_row;
-  laws = held_batch.the_row_laws;
-  owner = Batch.the_type;
-  shown = λ d. (d.at, (d.alloc, d.value));
-  make = λ p a o. record { at = p; alloc = a; value = o };
-  made = λ p a o. refl;
-}
+batch = record { of = HeldBatch.the_row; laws = held_batch.the_row_laws; owner = Batch.the_type; shown = λ d. (d.at, (d.alloc, d.value)); make = λ p a o. record { at = p; alloc = a; value = o }; made = λ p a o. refl }
 
 abbrev pub context : Handle
-context = record {
-  of = HeldContext.the_row;
-  laws = held_context.the_row_laws;
-  owner = Context.the_type;
-  shown = λ d. (d.at, (d.alloc, d.value));
-  make = λ p a o. record { at = p; alloc = a; value = o };
-  made = λ p a o. refl;
-}
+context = record { of = HeldContext.the_row; laws = held_context.the_row_laws; owner = Context.the_type; shown = λ d. (d.at, (d.alloc, d.value)); make = λ p a o. record { at = p; alloc = a; value = o }; made = λ p a o. refl }
 
 abbrev pub items : Handle
-items = record {
-  of = HeldItems.the_row;
-  laws = held_items.the_row_laws;
-  owner = Items.the_type;
-  shown = λ d. (d.at, (d.alloc, d.value));
-  make = λ p a o. record { at = p; alloc = a; value = o };
-  made = λ p a o. refl;
-}
+items = record { of = HeldItems.the_row; laws = held_items.the_row_laws; owner = Items.the_type; shown = λ d. (d.at, (d.alloc, d.value)); make = λ p a o. record { at = p; alloc = a; value = o }; made = λ p a o. refl }
 
 abbrev pub tables : Handle
-tables = record {
-  of = HeldTables.the_row;
-  laws = held_tables.the_row_laws;
-  owner = Tables.the_type;
-  shown = λ d. (d.at, (d.alloc, d.value));
-  make = λ p a o. record { at = p; alloc = a; value = o };
-  made = λ p a o. refl;
-}
+tables = record { of = HeldTables.the_row; laws = held_tables.the_row_laws; owner = Tables.the_type; shown = λ d. (d.at, (d.alloc, d.value)); make = λ p a o. record { at = p; alloc = a; value = o }; made = λ p a o. refl }
 
 abbrev pub engine : Handle
-engine = record {
-  of = HeldEngine.the_row;
-  laws = held_engine.the_row_laws;
-  owner = Engine.the_type;
-  shown = λ d. (d.at, (d.alloc, d.value));
-  make = λ p a o. record { at = p; alloc = a; value = o };
-  made = λ p a o. refl;
-}
+engine = record { of = HeldEngine.the_row; laws = held_engine.the_row_laws; owner = Engine.the_type; shown = λ d. (d.at, (d.alloc, d.value)); make = λ p a o. record { at = p; alloc = a; value = o }; made = λ p a o. refl }
 
 abbrev pub found : Handle
-found = record {
-  of = HeldFound.the_row;
-  laws = held_found.the_row_laws;
-  owner = Found.the_type;
-  shown = λ d. (d.at, (d.alloc, d.value));
-  make = λ p a o. record { at = p; alloc = a; value = o };
-  made = λ p a o. refl;
-}
+found = record { of = HeldFound.the_row; laws = held_found.the_row_laws; owner = Found.the_type; shown = λ d. (d.at, (d.alloc, d.value)); make = λ p a o. record { at = p; alloc = a; value = o }; made = λ p a o. refl }

@@ -1,13 +1,10 @@
 pub mod HandleSteps
 pub mod HandleKinds
-pub mod EmptySteps
-pub mod OfPartsSteps
-pub mod IntoPartsSteps
+pub mod MoveSteps
 pub mod SendSteps
 pub mod RoomLemmas
 pub mod DrainLemmas
 pub mod CodeLemmas
-pub mod RegionLemmas
 pub mod ExactLemmas
 pub mod StringLemmas
 pub mod OrderLemmas

@@ -21,11 +21,6 @@ pub record ArePairsIn (pairs : List (List ℕ × List ℕ)) (old_lens new_lens :
   pub lens : IsCopied (lengths_of pairs) old_lens new_lens count
   pub bytes : IsCopied (bytes_of pairs) old_bytes new_bytes len
 
--- the pairs of a region that move past a gate, or without one those that are rewritten, in the order of the keys
-abbrev pub moving_pairs : Option ℕ → Keys → List (List ℕ × List ℕ)
-moving_pairs None keys = pairs_up_to Rewrite None keys
-moving_pairs (Some gate) keys = pairs_up_to Append (Some gate) keys
-
 -- a bound that the flag says is there
 abbrev pub bound_in : Bool → List ℕ → Option (List ℕ)
 bound_in false key = None

@@ -1,15 +1,14 @@
 -- What the readers of tables find.
-use Rattle.std.specs.Prelude.{◌≡◌, ℕ, Bool, List, [], map, Option, Some, None}
+use Rattle.std.specs.Prelude.{◌≡◌, ℕ, Bool, List, [], map, Option}
 use Rattle.std.specs.FinMap as finite
 use Rattle.std.specs.Option.{option_and_then}
 use Rattle.std.specs.List.Sorted.{IsPermutation, IsNonDecreasing}
 use Rattle.raft_accessor.specs.Accessor.{Accessor, table_in}
 use Rattle.raft_base.specs.declared.entry_index.EntryIndex.{EntryIndex}
-use Rattle.raft_base.specs.declared.pipe_log.LogQueue.TheVariants.{Rewrite}
 use Rattle.raft_history.specs.RegionSteps.{Tables}
-use Rattle.raft_table.specs.Fetches.{Fetches, appended_before, range_answer}
+use Rattle.raft_table.specs.Fetches.{Fetches, range_answer}
 use Rattle.raft_table.specs.KeyValues.{value_at}
-use Rattle.raft_table.specs.TableEntries.{entry_at, placed_in}
+use Rattle.raft_table.specs.TableEntries.{entry_at}
 use Rattle.raft_ffi.specs.Calls.{IsFound}
 use Rattle.raft_ffi.specs.EntryData.{entry_found}
 use Rattle.raft_ffi.specs.declared.entries.Entry.{Entry}
@@ -49,8 +48,3 @@ value_in tables region key = option_and_then (λ t. value_at t.keys key) (finite
 -- the value of a region's key was found, if there is one
 abbrev pub IsValueIn : ℕ → List ℕ → Bool → List ℕ → List ℕ → ℕ → Accessor → Type 0
 IsValueIn region key found old new len a = IsFound (λ bytes. IsCopied bytes old new len) (value_in a.tables region key) found
-
--- the entries that move past a gate; without a gate those that are rewritten
-abbrev pub moving_entries : Option ℕ → List EntryIndex → List EntryIndex
-moving_entries None entries = placed_in Rewrite entries
-moving_entries (Some gate) entries = appended_before gate entries

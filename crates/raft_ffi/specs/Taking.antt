@@ -3,8 +3,8 @@ use Rattle.std.specs.Prelude.{◌≡◌, ℕ, ◌<◌, ◌≤◌, List, Some, No
 use Rattle.raft_files.specs.Asks.{Ask}
 use Rattle.raft_orders.specs.Orders.{ask_of, length_put, next_to_do}
 use Rattle.raft_orders.specs.declared.order.Order.{Order}
-use Rattle.raft_ffi.specs.declared.taking.Taking.{Taking}
-use Rattle.raft_ffi.specs.declared.taking.Taking.TheVariants.{NoneWaits, Taken, TooLong}
+use Rattle.raft_ffi.specs.declared.order_calls.Taking.{Taking}
+use Rattle.raft_ffi.specs.declared.order_calls.Taking.TheVariants.{NoneWaits, Taken, TooLong}
 
 -- an order waits that has this number, and so many bytes
 pub record IsWaiting (asks : List Ask) (number len : ℕ) : Type 0 where

@@ -1,6 +1,6 @@
 //! Calls of batches that are written: items are added to one, its bytes are made, and signed for a file.
 
-ghost use Rattle.std.specs.Prelude.{◌≡◌, ◌≢◌, ℕ, ◌+◌, ◌-◌, ◌^◌, ◌<◌, ◌≤◌, [], IsTrue, IfErr, OnOk, OnErr, Option, Some, None, is_some, length, map};
+ghost use Rattle.std.specs.Prelude.{◌≡◌, ◌≢◌, ℕ, ◌+◌, ◌-◌, ◌^◌, ◌<◌, ◌≤◌, [], IsTrue, IfErr, OnOk, OnErr, Option, Some, None, is_some, length, map, IfOk};
 ghost use Rattle.std.specs.List.{concat};
 ghost use Rattle.raft_base.specs.Signature.{signature_of};
 ghost use Rattle.raft_records.specs.Group.{reserved_key, IsKeyRefusal};
@@ -17,9 +17,8 @@ ghost use Rattle.raft_ffi.specs.Strings.{entries_from, strings_of, HasStrings};
 use crate::handles::{Batch, Handle, Items};
 use crate::item_list::items_of;
 use crate::rooms::copy_front;
-use crate::status::{File, Status, answered, memory_code, queue};
-use crate::strings::{consecutive, strings};
-use raft_base::{Error, FileBlockHandle, FileId, Result};
+use crate::status::{File, Status, answered, answered_with, memory_code, queue};
+use raft_base::{CompressionType, EntryIndex, Error, FileBlockHandle, FileId, Result};
 use raft_records::{Command, LogBatch};
 use std::alloc::Global;
 
@@ -42,17 +41,11 @@ pub extern "C" fn raft_ffi_batch_stage(alloc: Global, batch: &mut Batch) -> u32
     ensures stage { Holds (λ b. result ≡ stage_number b.stage) batch.old.value }
 {
     let held = batch.take(alloc);
-    let stage = stage_of(&*held);
+    let (is_open, is_sealed) = (held.is_open(), held.is_sealed());
     batch.put(held);
-    stage
-}
-
-fn stage_of(batch: &LogBatch) -> u32
-    ensures { result ≡ stage_number batch.now.stage }
-{
-    if batch.is_open() {
+    if is_open {
         0
-    } else if batch.is_sealed() {
+    } else if is_sealed {
         2
     } else {
         1
@@ -64,11 +57,9 @@ fn stage_of(batch: &LogBatch) -> u32
 pub extern "C" fn raft_ffi_batch_size(alloc: Global, batch: &mut Batch) -> usize
     requires held { IsTrue (is_some batch.old.value) }
     ensures same { batch.new.value ≡ batch.old.value }
-    ensures size { Holds (λ b. result ≡ approximate_length b.stage b.items b.entry_bytes)
-        batch.old.value }
-    ensures covers { Holds (λ b. HaveSmallNumbers b.items
-        → encoded_length b.items b.entry_bytes < 2 ^ 56
-        → encoded_length b.items b.entry_bytes ≤ result) batch.old.value }
+    ensures size { Holds (λ b. result ≡ approximate_length b.stage b.items b.entry_bytes) batch.old.value }
+    ensures covers { Holds (λ b. HaveSmallNumbers b.items → encoded_length b.items b.entry_bytes < 2 ^ 56 →
+        encoded_length b.items b.entry_bytes ≤ result) batch.old.value }
 {
     let held = batch.take(alloc);
     let size = held.approximate_size();
@@ -92,16 +83,14 @@ pub extern "C" fn raft_ffi_batch_add_entries(
     requires open { Holds (λ b. b.stage ≡ is_open) batch.old.value }
     requires indexes { first + length lens.now < 2 ^ 64 }
     requires strings { HasStrings lens.now bytes.now }
-    ensures ok { result.code ≡ 0 → BothHold (λ old new. new ≡ with_entries_added old region
-        (entries_from first lens.now) (strings_of lens.now bytes.now)) batch.old.value
-        batch.new.value }
+    ensures ok { result.code ≡ 0 → BothHold (λ old new. new ≡ with_entries_added old region (entries_from first
+        lens.now) (strings_of lens.now bytes.now)) batch.old.value batch.new.value }
     ensures accepted { result.code ≡ 0 → lens.now ≢ [] → Holds (λ old. length old.entry_bytes
         + length (concat (strings_of lens.now bytes.now)) < 2 ^ 31) batch.old.value }
     ensures err { result.code ≢ 0 → batch.new.value ≡ batch.old.value }
     ensures refused { result.code ≢ 0 → lens.now ≢ [] }
-    ensures fault { result.code ≢ 0 → result.code ≢ 11 → Holds (λ old. (result.code ≡ 9)
-        × (2 ^ 31 ≤ length old.entry_bytes + length (concat (strings_of lens.now bytes.now))))
-        batch.old.value }
+    ensures fault { result.code ≢ 0 → result.code ≢ 11 → Holds (λ old. (result.code ≡ 9) × (2 ^ 31 ≤ length
+        old.entry_bytes + length (concat (strings_of lens.now bytes.now)))) batch.old.value }
     ensures text { HasText result text.old text.new }
 {
     let mut held = batch.take(alloc);
@@ -282,9 +271,8 @@ pub extern "C" fn raft_ffi_batch_merge(
     ensures err { result.code ≢ 0 → batch.new.value ≡ batch.old.value }
     ensures more_err { result.code ≢ 0 → more.new.value ≡ more.old.value }
     ensures refused { result.code ≢ 0 → Holds (λ rhs. rhs.items ≢ []) more.old.value }
-    ensures fault { result.code ≢ 0 → result.code ≢ 11 → BothHold (λ old rhs.
-        (result.code ≡ 9) × (2 ^ 31 ≤ length old.entry_bytes + length rhs.entry_bytes))
-        batch.old.value more.old.value }
+    ensures fault { result.code ≢ 0 → result.code ≢ 11 → BothHold (λ old rhs. (result.code ≡ 9) × (2 ^ 31 ≤ length
+        old.entry_bytes + length rhs.entry_bytes)) batch.old.value more.old.value }
     ensures text { HasText result text.old text.new }
 {
     let mut held = batch.take(alloc);
@@ -305,10 +293,8 @@ pub extern "C" fn raft_ffi_batch_finish(
 ) -> Status
     requires held { IsTrue (is_some batch.old.value) }
     requires open { Holds (λ b. b.stage ≡ is_open) batch.old.value }
-    ensures ok { result.code ≡ 0 → BothHold (λ old new. new ≡ at_stage encoded old)
-        batch.old.value batch.new.value }
-    ensures len { result.code ≡ 0 → Holds (λ old. len.new
-        ≡ encoded_length old.items old.entry_bytes) batch.old.value }
+    ensures ok { result.code ≡ 0 → BothHold (λ old new. new ≡ at_stage encoded old) batch.old.value batch.new.value }
+    ensures len { result.code ≡ 0 → Holds (λ old. len.new ≡ encoded_length old.items old.entry_bytes) batch.old.value }
     ensures accepted { result.code ≡ 0 → Holds (λ old. encoded_length old.items old.entry_bytes
         < 2 ^ 56) batch.old.value }
     ensures err { result.code ≢ 0 → batch.new.value ≡ batch.old.value }
@@ -318,23 +304,9 @@ pub extern "C" fn raft_ffi_batch_finish(
     ensures text { HasText result text.old text.new }
 {
     let mut held = batch.take(alloc);
-    let answer = finish(&mut *held, len);
+    let answer = held.finish_populate();
     batch.put(held);
-    answered(alloc, &answer, text)
-}
-
-fn finish(batch: &mut LogBatch, len: &mut usize) -> Result<()>
-    requires { batch.old.stage ≡ is_open }
-    ensures ok { OnOk result (batch.new ≡ at_stage encoded batch.old) }
-    ensures len { OnOk result (len.new ≡ encoded_length batch.old.items batch.old.entry_bytes) }
-    ensures accepted { OnOk result (encoded_length batch.old.items batch.old.entry_bytes < 2 ^ 56) }
-    ensures err { OnErr result (batch.new ≡ batch.old) }
-    ensures refused { OnErr result (batch.old.items ≢ []) }
-    ensures fault { IfErr result (λ e. e ≢ Error.Memory → (e ≡ Error.Full)
-        × (2 ^ 56 ≤ encoded_length batch.old.items batch.old.entry_bytes)) }
-{
-    *len = batch.finish_populate()?;
-    Ok(())
+    answered_with(alloc, answer, len, text)
 }
 
 /// Signs the bytes of a batch that is no longer open for a file. It may be repeated for other files.
@@ -356,30 +328,15 @@ pub extern "C" fn raft_ffi_batch_bytes(alloc: Global, batch: &mut Batch, bytes: 
     requires held { IsTrue (is_some batch.old.value) }
     requires sealed { Holds (λ b. IsSealedStage b.stage) batch.old.value }
     ensures same { batch.new.value ≡ batch.old.value }
-    ensures bytes { Holds (λ b. (signature : Option ℕ) → b.stage ≡ sealed signature →
-        IsCopied (log_batch_bytes signature b.items b.entry_bytes) bytes.old bytes.new result)
-        batch.old.value }
-    ensures read_again { Holds (λ b. (signature : Option ℕ) → b.stage ≡ sealed signature →
-        b.items ≢ [] → IsLogBatch (log_batch_bytes signature b.items b.entry_bytes) signature
-        (map bare b.items) b.entry_bytes) batch.old.value }
+    ensures bytes { Holds (λ b. (signature : Option ℕ) → b.stage ≡ sealed signature → IsCopied (log_batch_bytes
+        signature b.items b.entry_bytes) bytes.old bytes.new result) batch.old.value }
+    ensures read_again { Holds (λ b. (signature : Option ℕ) → b.stage ≡ sealed signature → b.items ≢ [] → IsLogBatch
+        (log_batch_bytes signature b.items b.entry_bytes) signature (map bare b.items) b.entry_bytes) batch.old.value }
 {
     let held = batch.take(alloc);
-    let len = copy_bytes(&*held, bytes);
+    let len = copy_front(held.encoded_bytes(), bytes);
     batch.put(held);
     len
-}
-
-fn copy_bytes(batch: &LogBatch, room: &mut [u8]) -> usize
-    requires { IsSealedStage batch.now.stage }
-    ensures bytes { (signature : Option ℕ) → batch.now.stage ≡ sealed signature →
-        IsCopied (log_batch_bytes signature batch.now.items batch.now.entry_bytes) room.old
-        room.new result }
-    ensures read_again { (signature : Option ℕ) → batch.now.stage ≡ sealed signature →
-        batch.now.items ≢ [] →
-        IsLogBatch (log_batch_bytes signature batch.now.items batch.now.entry_bytes) signature
-        (map bare batch.now.items) batch.now.entry_bytes }
-{
-    copy_front(batch.encoded_bytes(), room)
 }
 
 /// Gives each entry and each key value of a signed batch its place: the batch was written to a file, from `offset` on.
@@ -397,9 +354,8 @@ pub extern "C" fn raft_ffi_batch_written(
     requires offset { offset ≤ 2 ^ 64 - 17 }
     ensures placed { BothHold (λ old new. new
         ≡ written_to (place_at is_rewrite seq offset len) old) batch.old.value batch.new.value }
-    ensures bytes { BothHold (λ old new. (signature : Option ℕ) →
-        log_batch_bytes signature new.items new.entry_bytes
-        ≡ log_batch_bytes signature old.items old.entry_bytes) batch.old.value batch.new.value }
+    ensures bytes { BothHold (λ old new. (signature : Option ℕ) → log_batch_bytes signature new.items new.entry_bytes ≡
+        log_batch_bytes signature old.items old.entry_bytes) batch.old.value batch.new.value }
 {
     let mut held = batch.take(alloc);
     held.finish_write(FileBlockHandle {
@@ -431,4 +387,39 @@ pub extern "C" fn raft_ffi_batch_drop(batch: Batch)
     requires held { IsTrue (is_some batch.value) }
 {
     drop(batch.into_box());
+}
+
+/// Makes as many entries as there are lengths, the indexes of which rise by one from the first on.
+fn consecutive(alloc: Global, first: u64, lens: &[usize]) -> Result<Vec<EntryIndex>>
+    requires { first + length lens.now < 2 ^ 64 }
+    ensures ok { IfOk result (λ v. v.items ≡ entries_from first lens.now) }
+    ensures memory { IfErr result (λ e. e ≡ Error.Memory) }
+{
+    let mut found = Vec::with_capacity(alloc, lens.len())?;
+    for k in 0..lens.len() {
+        found.push(EntryIndex {
+            index: first + k as u64,
+            entries: None,
+            compression_type: CompressionType::None,
+            entry_offset: 0,
+            entry_len: 0,
+        })?;
+    }
+    Ok(found)
+}
+
+/// Cuts bytes into strings of these lengths, in turn.
+fn strings(alloc: Global, lens: &[usize], bytes: &[u8]) -> Result<Vec<Vec<u8>>>
+    requires { HasStrings lens.now bytes.now }
+    ensures ok { IfOk result (λ v. map (λ s. s.items) v.items ≡ strings_of lens.now bytes.now) }
+    ensures memory { IfErr result (λ e. e ≡ Error.Memory) }
+{
+    let mut found = Vec::with_capacity(alloc, lens.len())?;
+    let mut rest = bytes;
+    for len in lens {
+        let (string, after) = rest.split_at(*len);
+        found.push(Vec::from_slice(alloc, string)?)?;
+        rest = after;
+    }
+    Ok(found)
 }

@@ -12,7 +12,7 @@ ghost use Rattle.raft_ffi.specs.Calls.{file_of, IsCodeOf};
 ghost use Rattle.raft_ffi.specs.Lengths.{HasLength};
 ghost use Rattle.raft_ffi.specs.Rooms.{HasText};
 
-use crate::status::{File, Status, answered};
+use crate::status::{File, Status, answered, answered_with};
 use raft_base::{Error, LogFileContext, Result, crc32};
 use raft_codec::codec;
 use raft_records::{LogBatch, next_in};
@@ -99,28 +99,17 @@ pub extern "C" fn raft_ffi_block_entries(
     len: &mut usize,
     text: &mut [u8],
 ) -> Status
-    ensures ok { result.code ≡ 0
-        → IsEntryBlockOf (length bytes.now) bytes.now (take len.new bytes.now) }
-    ensures refused { result.code ≢ 0 → (entries : List ℕ)
-        → IsEntryBlockOf (length bytes.now) bytes.now entries → ⊥ }
+    ensures ok { result.code ≡ 0 → IsEntryBlockOf (length bytes.now) bytes.now (take len.new bytes.now) }
+    ensures refused { result.code ≢ 0 → (entries : List ℕ) → IsEntryBlockOf (length bytes.now) bytes.now entries → ⊥ }
     ensures fault { result.code ≢ 0 → IsCodeOf IsAnyCorruption result.code }
     ensures text { HasText result text.old text.new }
 {
-    let answer = match entries_len(alloc, bytes) {
-        Ok(found) => {
-            *len = found;
-            Ok(())
-        }
-        Err(e) => Err(e),
-    };
-    answered(alloc, &answer, text)
+    answered_with(alloc, entries_len(alloc, bytes), len, text)
 }
 
-/// Returns how many bytes of a whole entry block, from the first on, are its entry bytes.
 fn entries_len(alloc: Global, bytes: &[u8]) -> Result<usize>
     ensures ok { IfOk result (λ n. IsEntryBlockOf (length bytes.now) bytes.now (take n bytes.now)) }
-    ensures refused { OnErr result ((entries : List ℕ)
-        → IsEntryBlockOf (length bytes.now) bytes.now entries → ⊥) }
+    ensures refused { OnErr result ((entries : List ℕ) → IsEntryBlockOf (length bytes.now) bytes.now entries → ⊥) }
     ensures fault { IfErr result IsAnyCorruption }
 {
     let len = bytes.len();

@@ -1,19 +1,22 @@
 //! Calls that change the table of a region.
 
-ghost use Rattle.std.specs.Prelude.{◌≡◌, ◌≢◌, IsTrue, is_some, map};
+ghost use Rattle.std.specs.Prelude.{◌≡◌, ◌≢◌, IsTrue, is_some, map, OnOk, OnErr, IfOk, IfErr};
 ghost use Rattle.raft_base.specs.declared.pipe_log.LogQueue.TheVariants.{Append, Rewrite};
 ghost use Rattle.raft_table.specs.TableEntries.{IsRunIn};
 ghost use Rattle.raft_ffi.specs.Calls.{BothHold, IsCodeFor, id_of};
-ghost use Rattle.raft_ffi.specs.Changes.{AreAppended, AreDropped, AreRewritten, AreUnappended, AreUnrewritten, IsCompacted, IsDeleted, IsKeyRewritten, IsKeyUnrewritten, IsPut, IsTruncated, IsUnput};
+ghost use Rattle.raft_ffi.specs.Changes.{AreAppended, AreDropped, AreRewritten, AreUnappended, AreUnrewritten, IsCompacted, IsDeleted, IsKeyRewritten, IsKeyUnrewritten, IsPut, IsTruncated, IsUnput, IsChangedTo, IsMemoryOr};
 ghost use Rattle.raft_ffi.specs.EntryData.{entry_of};
 ghost use Rattle.raft_ffi.specs.Rooms.{HasText};
 ghost use Rattle.raft_ffi.specs.Summaries.{number_in};
+ghost use Rattle.raft_accessor.specs.Accessor.{table_in};
+ghost use Rattle.raft_table.specs.Change.{after_change, IsAllowed, IsAnswer, IsChangeFault};
 
-use crate::changes::{append, compact, delete, put, rewrite, rewrite_key, truncate};
-use crate::entries::Entry;
+use crate::entries::{Entry, entry_indexes};
 use crate::handles::{Handle, Tables};
-use crate::status::{Maybe, Status, answered, queue};
-use raft_base::FileId;
+use crate::status::{Maybe, Status, answered, answered_with, queue};
+use raft_accessor::MemTableAccessor;
+use raft_base::{Error, FileId, Result};
+use raft_table::TableChange;
 use std::alloc::Global;
 
 /// Puts new entries of the append queue after those of a region below their start. All others go; where
@@ -59,9 +62,9 @@ pub extern "C" fn raft_ffi_tables_compact(
     ensures text { HasText result text.old text.new }
 {
     let mut held = tables.take(alloc);
-    let answer = compact(&mut *held, region, index, dropped);
+    let answer = change_table(&mut *held, region, TableChange::Compact { index });
     tables.put(held);
-    answered(alloc, &answer, text)
+    answered_with(alloc, answer, dropped, text)
 }
 
 /// Drops the entries of a region at or above an index, and says how many those were.
@@ -82,9 +85,9 @@ pub extern "C" fn raft_ffi_tables_truncate(
     ensures text { HasText result text.old text.new }
 {
     let mut held = tables.take(alloc);
-    let answer = truncate(&mut *held, region, index, dropped);
+    let answer = change_table(&mut *held, region, TableChange::Truncate { index });
     tables.put(held);
-    answered(alloc, &answer, text)
+    answered_with(alloc, answer, dropped, text)
 }
 
 /// Puts a key of a region with its value, which were written to the file of number `seq`.
@@ -185,4 +188,104 @@ pub extern "C" fn raft_ffi_tables_rewrite_key(
     let answer = rewrite_key(alloc, &mut *held, region, key, gate.number(), seq);
     tables.put(held);
     answered(alloc, &answer, text)
+}
+
+/// Does what a change says to a region's table. The number is how many entries it drops by a compaction or a truncation.
+fn change_table(tables: &mut MemTableAccessor, region: u64, change: TableChange) -> Result<u64>
+    ensures ok { OnOk result (IsChangedTo (after_change (table_in tables.old.tables region) change)
+        region tables.old tables.new) }
+    ensures answer { IfOk result (IsAnswer change (table_in tables.old.tables region)
+        (table_in tables.new.tables region)) }
+    ensures allowed { OnOk result (IsAllowed change) }
+    ensures err { OnErr result (tables.new ≡ tables.old) }
+    ensures fault { IfErr result (IsMemoryOr
+        (IsChangeFault (table_in tables.old.tables region) tables.old.counts change)) }
+{
+    let answer = tables.change(region, change);
+    tables.counts_are_exact();
+    answer
+}
+
+fn append(
+    alloc: Global,
+    tables: &mut MemTableAccessor,
+    region: u64,
+    entries: &[Entry],
+) -> Result<()>
+    ensures ok { OnOk result (AreAppended (map entry_of entries.now) region tables.old tables.new) }
+    ensures accepted { OnOk result (IsRunIn Append (map entry_of entries.now)) }
+    ensures err { OnErr result (tables.new ≡ tables.old) }
+    ensures fault { IfErr result (AreUnappended (map entry_of entries.now) region tables.old) }
+{
+    let run = entry_indexes(alloc, entries)?;
+    change_table(tables, region, TableChange::Append(run))?;
+    Ok(())
+}
+
+fn put(
+    alloc: Global,
+    tables: &mut MemTableAccessor,
+    region: u64,
+    key: &[u8],
+    value: &[u8],
+    file_id: FileId,
+) -> Result<()>
+    ensures ok { OnOk result (IsPut key.now value.now file_id region tables.old tables.new) }
+    ensures err { OnErr result (tables.new ≡ tables.old) }
+    ensures fault { IfErr result (IsUnput key.now file_id region tables.old) }
+{
+    let key = Vec::from_slice(alloc, key)?;
+    let value = Vec::from_slice(alloc, value)?;
+    let put = TableChange::Put {
+        key,
+        value,
+        file_id,
+    };
+    change_table(tables, region, put)?;
+    Ok(())
+}
+
+fn delete(alloc: Global, tables: &mut MemTableAccessor, region: u64, key: &[u8]) -> Result<()>
+    ensures ok { OnOk result (IsDeleted key.now region tables.old tables.new) }
+    ensures err { OnErr result (tables.new ≡ tables.old) }
+    ensures memory { IfErr result (λ e. e ≡ Error.Memory) }
+{
+    let key = Vec::from_slice(alloc, key)?;
+    change_table(tables, region, TableChange::Delete { key })?;
+    Ok(())
+}
+
+fn rewrite(
+    alloc: Global,
+    tables: &mut MemTableAccessor,
+    region: u64,
+    entries: &[Entry],
+    gate: Option<u64>,
+) -> Result<()>
+    ensures ok { OnOk result (AreRewritten gate (map entry_of entries.now) region tables.old tables.new) }
+    ensures accepted { OnOk result (IsRunIn Rewrite (map entry_of entries.now)) }
+    ensures err { OnErr result (tables.new ≡ tables.old) }
+    ensures fault { IfErr result (AreUnrewritten gate (map entry_of entries.now) region tables.old) }
+{
+    let run = entry_indexes(alloc, entries)?;
+    let moved = TableChange::Rewrite { entries: run, gate };
+    change_table(tables, region, moved)?;
+    Ok(())
+}
+
+fn rewrite_key(
+    alloc: Global,
+    tables: &mut MemTableAccessor,
+    region: u64,
+    key: &[u8],
+    gate: Option<u64>,
+    seq: u64,
+) -> Result<()>
+    ensures ok { OnOk result (IsKeyRewritten gate seq key.now region tables.old tables.new) }
+    ensures err { OnErr result (tables.new ≡ tables.old) }
+    ensures fault { IfErr result (IsKeyUnrewritten gate seq key.now region tables.old) }
+{
+    let key = Vec::from_slice(alloc, key)?;
+    change_table(tables, region, TableChange::RewriteKey { key, gate, seq })?;
+    Ok(())
 }

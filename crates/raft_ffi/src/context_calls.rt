@@ -67,19 +67,15 @@ pub extern "C" fn raft_ffi_context_replay(
 ) -> Status
     requires held { IsTrue (is_some context.old.value) }
     requires ends { offset + length bytes.now < 2 ^ 64 }
-    ensures ok { result.code ≡ 0 → BothHold
-        (HasReplayed (HoldsFrom (part_of (file_of file) offset bytes.now) 0) HasRead HasReadExactly)
-        context.old.value context.new.value }
+    ensures ok { result.code ≡ 0 → BothHold (HasReplayed (HoldsFrom (part_of (file_of file) offset bytes.now) 0) HasRead
+        HasReadExactly) context.old.value context.new.value }
     ensures accepted { result.code ≡ 0 → Holds (λ c. c.stage ≡ Reading) context.old.value }
-    ensures failed { result.code ≢ 0 → Holds (λ c. c.stage ≢ Reading → result.code ≡ 12)
-        context.old.value }
+    ensures failed { result.code ≢ 0 → Holds (λ c. c.stage ≢ Reading → result.code ≡ 12) context.old.value }
     ensures err { result.code ≢ 0 → context.new.value ≡ None }
-    ensures refused { result.code ≢ 0 → result.code ≢ 11 → Holds
-        (λ old. CannotFollow (HoldsFrom (part_of (file_of file) offset bytes.now) 0) (HasRead old))
-        context.old.value }
-    ensures place { result.code ≢ 0 → Holds (λ c. c.stage ≡ Reading
-        → IsRefusedFor (StopsByFault (HasRead c) Sound (part_of (file_of file) offset bytes.now))
-        result text.old text.new) context.old.value }
+    ensures refused { result.code ≢ 0 → result.code ≢ 11 → Holds (λ old. CannotFollow (HoldsFrom (part_of (file_of file)
+        offset bytes.now) 0) (HasRead old)) context.old.value }
+    ensures place { result.code ≢ 0 → Holds (λ c. c.stage ≡ Reading → IsRefusedFor (StopsByFault (HasRead c) Sound
+        (part_of (file_of file) offset bytes.now)) result text.old text.new) context.old.value }
     ensures text { HasText result text.old text.new }
 {
     let mut held = context.take(alloc);
@@ -129,10 +125,8 @@ pub extern "C" fn raft_ffi_context_merge(
     requires newer { IsTrue (is_some newer.value) }
     ensures ok { result.code ≡ 0 → AllHold (IsMergedWith (queue_of is_rewrite)) newer.value
         context.old.value context.new.value }
-    ensures stands { result.code ≡ 0 → AllHold StandsForBoth newer.value context.old.value
-        context.new.value }
-    ensures exact { result.code ≡ 0 → AllHold StandsForBothExactly newer.value context.old.value
-        context.new.value }
+    ensures stands { result.code ≡ 0 → AllHold StandsForBoth newer.value context.old.value context.new.value }
+    ensures exact { result.code ≡ 0 → AllHold StandsForBothExactly newer.value context.old.value context.new.value }
     ensures err { result.code ≢ 0 → context.new.value ≡ None }
     ensures refused { result.code ≢ 0 → result.code ≢ 11
         → BothHold (AreUnsound (queue_of is_rewrite)) context.old.value newer.value }
@@ -162,8 +156,7 @@ fn merge(
     ensures exact { OnOk result (StandsForBothExactly newer context.old context.new) }
     ensures refused { IfErr result (λ e. e ≢ Error.Memory → AreUnsound queue context.old newer) }
     ensures fault { IfErr result (IsNeighborFault queue context.old newer) }
-    ensures failed { (context.old.stage ≢ Reading) ⊎ (newer.stage ≢ Reading)
-        → IfErr result (λ e. e ≡ Error.Failed) }
+    ensures failed { (context.old.stage ≢ Reading) ⊎ (newer.stage ≢ Reading) → IfErr result (λ e. e ≡ Error.Failed) }
 {
     context.merge(newer, queue)
 }
@@ -179,13 +172,10 @@ pub extern "C" fn raft_ffi_context_overlay(
 ) -> Status
     requires held { IsTrue (is_some context.old.value) }
     requires append { IsTrue (is_some append.value) }
-    ensures ok { result.code ≡ 0 → AllHold IsOverlaidWith append.value context.old.value
-        context.new.value }
-    ensures exact { result.code ≡ 0 → AllHold IsOverlaidExactly append.value context.old.value
-        context.new.value }
+    ensures ok { result.code ≡ 0 → AllHold IsOverlaidWith append.value context.old.value context.new.value }
+    ensures exact { result.code ≡ 0 → AllHold IsOverlaidExactly append.value context.old.value context.new.value }
     ensures err { result.code ≢ 0 → context.new.value ≡ None }
-    ensures fault { result.code ≢ 0 → IsCodeForBoth IsMergeAppendFault context.old.value
-        append.value result.code }
+    ensures fault { result.code ≢ 0 → IsCodeForBoth IsMergeAppendFault context.old.value append.value result.code }
     ensures memory { result.code ≢ 0 → BothHold (λ old rhs. AreOfTwoQueues old rhs
         → result.code ≡ 11) context.old.value append.value }
     ensures failed { result.code ≢ 0 → BothHold (λ old rhs. (old.stage ≢ Reading) ⊎ (rhs.stage ≢ Reading)
@@ -207,8 +197,7 @@ fn overlay(context: &mut MemTableRecoverContext, append: MemTableRecoverContext)
     ensures exact { OnOk result (IsOverlaidExactly append context.old context.new) }
     ensures fault { IfErr result (IsMergeAppendFault context.old append) }
     ensures memory { AreOfTwoQueues context.old append → IfErr result (λ e. e ≡ Error.Memory) }
-    ensures failed { (context.old.stage ≢ Reading) ⊎ (append.stage ≢ Reading)
-        → IfErr result (λ e. e ≡ Error.Failed) }
+    ensures failed { (context.old.stage ≢ Reading) ⊎ (append.stage ≢ Reading) → IfErr result (λ e. e ≡ Error.Failed) }
 {
     context.merge_append_context(append)
 }
@@ -223,8 +212,7 @@ pub extern "C" fn raft_ffi_context_kept(
 ) -> Status
     requires held { IsTrue (is_some context.old.value) }
     ensures same { context.new.value ≡ context.old.value }
-    ensures ok { result.code ≡ 0 → Holds (λ c. AreKept (kept_of c.context) kept.new)
-        context.old.value }
+    ensures ok { result.code ≡ 0 → Holds (λ c. AreKept (kept_of c.context) kept.new) context.old.value }
     ensures accepted { result.code ≡ 0 → Holds (λ c. c.stage ≢ Failed) context.old.value }
     ensures fault { result.code ≢ 0 → IsCodeFor IsOfFailed context.old.value result.code }
     ensures text { HasText result text.old text.new }
@@ -278,8 +266,7 @@ pub extern "C" fn raft_ffi_context_finish(
     ensures overlaid { result.code ≡ 0 → BothHold HasBothRead context.value tables.new.value }
     ensures accepted { result.code ≡ 0 → Holds (λ c. c.stage ≢ Failed) context.value }
     ensures err { result.code ≢ 0 → tables.new.value ≡ None }
-    ensures fault { result.code ≢ 0 → IsCodeFor (λ c. IsMemoryOr (IsOfFailed c))
-        context.value result.code }
+    ensures fault { result.code ≢ 0 → IsCodeFor (λ c. IsMemoryOr (IsOfFailed c)) context.value result.code }
     ensures text { HasText result text.old text.new }
 {
     let answer = match finished(alloc, Box::into_inner(context.into_box())) {

@@ -16,7 +16,7 @@ ghost use Rattle.raft_ffi.specs.Rooms.{HasText};
 use crate::found_files::FoundFiles;
 use crate::handles::{Batch, Context, Engine, Found, Handle};
 use crate::held_engine::HeldEngine;
-use crate::status::{Status, answered, version};
+use crate::status::{Status, answered, answered_with, version};
 use raft_base::{Result, Version};
 use raft_contexts::MemTableRecoverContext;
 use raft_orders::HandedFiles;
@@ -59,7 +59,6 @@ pub extern "C" fn raft_ffi_engine_open(
     answered(alloc, &answer, text)
 }
 
-/// Opens found files, and puts the engine into a handle, which holds nothing where that fails.
 fn open_into(
     engine: &mut Engine,
     alloc: Global,
@@ -109,15 +108,13 @@ pub extern "C" fn raft_ffi_engine_write(
     requires held { IsTrue (is_some engine.old.value) }
     requires batch { IsTrue (is_some batch.old.value) }
     requires open { Holds (λ b. b.stage ≡ is_open) batch.old.value }
-    ensures ok { result.code ≡ 0 → AllHold (IsWrittenOrNone sync) batch.old.value
-        engine.old.value engine.new.value }
+    ensures ok { result.code ≡ 0 → AllHold (IsWrittenOrNone sync) batch.old.value engine.old.value engine.new.value }
     ensures emptied { result.code ≡ 0 → batch.new.value ≡ Some empty_batch }
     ensures accepted { result.code ≡ 0 → Holds (λ e. e.intact ≡ true) engine.old.value }
     ensures tested { result.code ≡ 0 → BothHold
         (λ e b. AreAcceptedOncePlaced e.accessor.tables b.items) engine.old.value batch.old.value }
-    ensures err { result.code ≢ 0 → BothHold
-        (λ old new. IsUnwrittenAs sync result.code batch.old.value batch.new.value old new)
-        engine.old.value engine.new.value }
+    ensures err { result.code ≢ 0 → BothHold (λ old new. IsUnwrittenAs sync result.code batch.old.value batch.new.value
+        old new) engine.old.value engine.new.value }
     ensures text { HasText result text.old text.new }
 {
     let mut held = engine.take(alloc);
@@ -139,8 +136,7 @@ pub extern "C" fn raft_ffi_engine_sync(
     ensures ok { result.code ≡ 0 → BothHold IsSynced engine.old.value engine.new.value }
     ensures accepted { result.code ≡ 0 → Holds (λ e. e.intact ≡ true) engine.old.value }
     ensures err { result.code ≢ 0 → BothHold IsStopped engine.old.value engine.new.value }
-    ensures fault { result.code ≢ 0 → Holds (λ e. e.intact ≡ false → result.code ≡ 12)
-        engine.old.value }
+    ensures fault { result.code ≢ 0 → Holds (λ e. e.intact ≡ false → result.code ≡ 12) engine.old.value }
     ensures text { HasText result text.old text.new }
 {
     let mut held = engine.take(alloc);
@@ -159,8 +155,7 @@ pub extern "C" fn raft_ffi_engine_rotate(
     requires held { IsTrue (is_some engine.old.value) }
     ensures ok { result.code ≡ 0 → BothHold IsRotated engine.old.value engine.new.value }
     ensures accepted { result.code ≡ 0 → Holds (λ e. e.intact ≡ true) engine.old.value }
-    ensures err { result.code ≢ 0 → IsCodeForBoth IsUnrotated engine.old.value engine.new.value
-        result.code }
+    ensures err { result.code ≢ 0 → IsCodeForBoth IsUnrotated engine.old.value engine.new.value result.code }
     ensures text { HasText result text.old text.new }
 {
     let mut held = engine.take(alloc);
@@ -180,14 +175,13 @@ pub extern "C" fn raft_ffi_engine_purge_expired_files(
     requires held { IsTrue (is_some engine.old.value) }
     ensures ok { result.code ≡ 0 → BothHold (ArePurged count.new) engine.old.value engine.new.value }
     ensures accepted { result.code ≡ 0 → Holds (λ e. e.intact ≡ true) engine.old.value }
-    ensures err { result.code ≢ 0 → IsCodeForBoth IsUnpurged engine.old.value engine.new.value
-        result.code }
+    ensures err { result.code ≢ 0 → IsCodeForBoth IsUnpurged engine.old.value engine.new.value result.code }
     ensures text { HasText result text.old text.new }
 {
     let mut held = engine.take(alloc);
-    let answer = held.purge_expired_files(count);
+    let answer = held.engine.purge_expired_files();
     engine.put(held);
-    answered(alloc, &answer, text)
+    answered_with(alloc, answer, count, text)
 }
 
 /// Deletes the rewrite files that no table needs, and says how many.
@@ -199,17 +193,15 @@ pub extern "C" fn raft_ffi_engine_purge_rewrite_files(
     text: &mut [u8],
 ) -> Status
     requires held { IsTrue (is_some engine.old.value) }
-    ensures ok { result.code ≡ 0 → BothHold (AreRewritesPurged count.new) engine.old.value
-        engine.new.value }
+    ensures ok { result.code ≡ 0 → BothHold (AreRewritesPurged count.new) engine.old.value engine.new.value }
     ensures accepted { result.code ≡ 0 → Holds (λ e. e.intact ≡ true) engine.old.value }
-    ensures err { result.code ≢ 0 → IsCodeForBoth AreRewritesUnpurged engine.old.value
-        engine.new.value result.code }
+    ensures err { result.code ≢ 0 → IsCodeForBoth AreRewritesUnpurged engine.old.value engine.new.value result.code }
     ensures text { HasText result text.old text.new }
 {
     let mut held = engine.take(alloc);
-    let answer = held.purge_rewrite_files(count);
+    let answer = held.engine.purge_rewrite_files();
     engine.put(held);
-    answered(alloc, &answer, text)
+    answered_with(alloc, answer, count, text)
 }
 
 /// Frees the engine.

@@ -30,9 +30,8 @@ pub extern "C" fn raft_ffi_found_add(
     bytes: &[u8],
 ) -> u32
     requires held { IsTrue (is_some found.old.value) }
-    ensures ok { result ≡ 0 → BothHold
-        (λ old new. new ≡ with_file (queue_of is_rewrite) (seq, bytes.now) old) found.old.value
-        found.new.value }
+    ensures ok { result ≡ 0 → BothHold (λ old new. new ≡ with_file (queue_of is_rewrite) (seq, bytes.now) old)
+        found.old.value found.new.value }
     ensures err { result ≢ 0 → found.new.value ≡ found.old.value }
     ensures fault { result ≢ 0 → result ≡ 11 }
 {

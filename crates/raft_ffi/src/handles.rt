@@ -29,7 +29,7 @@ use raft_contexts::MemTableRecoverContext;
 use raft_records::LogBatch;
 use std::alloc::Global;
 use std::marker::Model;
-use std::mem;
+use std::{mem, ptr};
 
 /// A type of handles: each holds a value on the heap, or nothing. C keeps it as a pointer, null where it holds nothing.
 pub(crate) trait Handle: Sized + Drop {
@@ -39,20 +39,16 @@ pub(crate) trait Handle: Sized + Drop {
     /// What this one holds.
     ghost value: { Self → Option Self.Held };
 
-    /// Makes a handle that holds nothing.
     fn empty(alloc: Global) -> Self
         ensures { value result ≡ None };
 
-    /// Makes a handle of the parts of a box.
     fn of_parts(parts: Parts<Self::Held, Global>) -> Self
         ensures { value result ≡ Some parts.value };
 
-    /// Returns the parts of the box.
     fn into_parts(self) -> Parts<Self::Held, Global>
         requires { IsTrue (is_some (value self)) }
         ensures { value self ≡ Some result.value };
 
-    /// Returns what is held.
     final fn into_box(self) -> Box<Self::Held>
         requires { IsTrue (is_some (value self)) }
         ensures { value self ≡ Some result.value }
@@ -60,7 +56,6 @@ pub(crate) trait Handle: Sized + Drop {
         self.into_parts().into_box()
     }
 
-    /// Takes out what is held.
     final fn take(&mut self, alloc: Global) -> Box<Self::Held>
         requires { IsTrue (is_some (value self.old)) }
         ensures value { value self.old ≡ Some result.value }
@@ -69,7 +64,6 @@ pub(crate) trait Handle: Sized + Drop {
         mem::replace(self, Self::empty(alloc)).into_box()
     }
 
-    /// Puts a value in.
     final fn put(&mut self, held: Box<Self::Held>)
         ensures { value self.new ≡ Some held.value }
     {
@@ -77,10 +71,6 @@ pub(crate) trait Handle: Sized + Drop {
     }
 
     /// Puts a value in that isn't on the heap yet.
-    ///
-    /// # Errors
-    ///
-    /// `Memory`. The handle is then as it was.
     final fn put_new(&mut self, alloc: Global, held: Self::Held) -> Result<()>
         ensures ok { OnOk result (value self.new ≡ Some held) }
         ensures err { OnErr result (value self.new ≡ value self.old) }
@@ -110,10 +100,8 @@ impl Handle for Batch {
     ghost value = { λ h. h.value };
 
     fn empty(alloc: Global) -> Batch {
-        Batch {
-            at: std::ptr::null_mut(),
-            alloc,
-        }
+        let at = ptr::null_mut();
+        Batch { at, alloc }
     }
 
     fn of_parts(parts: Parts<LogBatch, Global>) -> Batch
@@ -152,10 +140,8 @@ impl Handle for Context {
     ghost value = { λ h. h.value };
 
     fn empty(alloc: Global) -> Context {
-        Context {
-            at: std::ptr::null_mut(),
-            alloc,
-        }
+        let at = ptr::null_mut();
+        Context { at, alloc }
     }
 
     fn of_parts(parts: Parts<MemTableRecoverContext, Global>) -> Context
@@ -194,10 +180,8 @@ impl Handle for Engine {
     ghost value = { λ h. h.value };
 
     fn empty(alloc: Global) -> Engine {
-        Engine {
-            at: std::ptr::null_mut(),
-            alloc,
-        }
+        let at = ptr::null_mut();
+        Engine { at, alloc }
     }
 
     fn of_parts(parts: Parts<HeldEngine, Global>) -> Engine
@@ -236,10 +220,8 @@ impl Handle for Found {
     ghost value = { λ h. h.value };
 
     fn empty(alloc: Global) -> Found {
-        Found {
-            at: std::ptr::null_mut(),
-            alloc,
-        }
+        let at = ptr::null_mut();
+        Found { at, alloc }
     }
 
     fn of_parts(parts: Parts<FoundFiles, Global>) -> Found
@@ -278,10 +260,8 @@ impl Handle for Items {
     ghost value = { λ h. h.value };
 
     fn empty(alloc: Global) -> Items {
-        Items {
-            at: std::ptr::null_mut(),
-            alloc,
-        }
+        let at = ptr::null_mut();
+        Items { at, alloc }
     }
 
     fn of_parts(parts: Parts<ItemList, Global>) -> Items
@@ -320,10 +300,8 @@ impl Handle for Tables {
     ghost value = { λ h. h.value };
 
     fn empty(alloc: Global) -> Tables {
-        Tables {
-            at: std::ptr::null_mut(),
-            alloc,
-        }
+        let at = ptr::null_mut();
+        Tables { at, alloc }
     }
 
     fn of_parts(parts: Parts<MemTableAccessor, Global>) -> Tables

@@ -4,14 +4,12 @@ ghost use Rattle.std.specs.Prelude.{◌≡◌, true, IfErr, OnOk};
 ghost use Rattle.raft_accessor.specs.AppendChecks.{AreAcceptedOncePlaced};
 ghost use Rattle.raft_engine.specs.Moved.{IsRewritten, IsUnrewritten};
 ghost use Rattle.raft_engine.specs.MovedAgain.{AreMovedAgain, AreUnmovedAgain};
-ghost use Rattle.raft_engine.specs.Purged.{ArePurged, IsUnpurged};
-ghost use Rattle.raft_engine.specs.PurgedRewrites.{AreRewritesPurged, AreRewritesUnpurged};
 ghost use Rattle.raft_engine.specs.WrittenBatch.{IsUnwritten};
 ghost use Rattle.raft_records.specs.LogBatch.{empty_batch, is_open};
 ghost use Rattle.raft_ffi.specs.Engines.{IsWrittenOrNone, Lasts};
 ghost use Rattle.raft_ffi.specs.Taking.{IsTaking};
 
-use crate::taking::{Taking, take_within};
+use crate::order_calls::{Taking, take_within};
 use raft_base::{Error, FileId, FileSeq, Result};
 use raft_engine::Engine;
 use raft_orders::HandedFiles;
@@ -44,7 +42,6 @@ impl HeldEngine {
         HeldEngine { engine }
     }
 
-    /// States what lasts, as `Engine::nothing_synced_is_lost` does.
     pub(crate) fn nothing_synced_is_lost(&self)
         ensures { Lasts self.now }
     {
@@ -56,29 +53,10 @@ impl HeldEngine {
         ensures ok { OnOk result (IsWrittenOrNone sync batch.old self.old self.new) }
         ensures emptied { OnOk result (batch.new ≡ empty_batch) }
         ensures accepted { OnOk result (self.old.intact ≡ true) }
-        ensures tested { OnOk result
-            (AreAcceptedOncePlaced self.old.accessor.tables batch.old.items) }
+        ensures tested { OnOk result (AreAcceptedOncePlaced self.old.accessor.tables batch.old.items) }
         ensures err { IfErr result (IsUnwritten sync batch.old batch.new self.old self.new) }
     {
         self.engine.write(batch, sync)
-    }
-
-    pub(crate) fn purge_expired_files(&mut self, count: &mut usize) -> Result<()>
-        ensures ok { OnOk result (ArePurged count.new self.old self.new) }
-        ensures accepted { OnOk result (self.old.intact ≡ true) }
-        ensures err { IfErr result (IsUnpurged self.old self.new) }
-    {
-        *count = self.engine.purge_expired_files()?;
-        Ok(())
-    }
-
-    pub(crate) fn purge_rewrite_files(&mut self, count: &mut usize) -> Result<()>
-        ensures ok { OnOk result (AreRewritesPurged count.new self.old self.new) }
-        ensures accepted { OnOk result (self.old.intact ≡ true) }
-        ensures err { IfErr result (AreRewritesUnpurged self.old self.new) }
-    {
-        *count = self.engine.purge_rewrite_files()?;
-        Ok(())
     }
 
     pub(crate) fn take_order(&mut self, room: usize) -> Taking

@@ -68,11 +68,9 @@ fn put_next(
     requires empty { items.old.value ≡ None }
     requires inside { at ≤ length bytes.now }
     requires ends { offset + length bytes.now < 2 ^ 64 }
-    ensures ok { OnOk result (IsNext (part_of file.now offset bytes.now) at
-        (next_shown items.new.value next.new)) }
+    ensures ok { OnOk result (IsNext (part_of file.now offset bytes.now) at (next_shown items.new.value next.new)) }
     ensures err { OnErr result (items.new.value ≡ None) }
-    ensures fault { IfErr result
-        (IsMemoryOr (IsNextFault (signature_of file.now) (drop at bytes.now))) }
+    ensures fault { IfErr result (IsMemoryOr (IsNextFault (signature_of file.now) (drop at bytes.now))) }
 {
     if let Some((batch, behind)) = next_in(alloc, file, offset, bytes, at)? {
         items.put_new(alloc, ItemList::of(batch.into_items()))?;
@@ -104,8 +102,7 @@ pub extern "C" fn raft_ffi_items_head(
 ) -> bool
     requires held { IsTrue (is_some items.old.value) }
     ensures same { items.new.value ≡ items.old.value }
-    ensures found { Holds (λ xs. IsFound (λ item. IsHeadOf item head.new) (slice_get xs i) result)
-        items.old.value }
+    ensures found { Holds (λ xs. IsFound (λ item. IsHeadOf item head.new) (slice_get xs i) result) items.old.value }
 {
     let held = items.take(alloc);
     let found = find_head(&*held, i, head);
@@ -190,24 +187,16 @@ fn item_at(items: &ItemList, i: usize) -> Option<&LogItem>
 fn find_head(items: &ItemList, i: usize, head: &mut ItemHead) -> bool
     ensures { IsFound (λ item. IsHeadOf item head.new) (slice_get items.now i) result }
 {
-    match item_at(items, i) {
-        Some(item) => {
-            *head = head_of(item);
-            true
-        }
-        None => false,
-    }
-}
-
-fn head_of(item: &LogItem) -> ItemHead
-    ensures { IsHeadOf (item_of item.now) result }
-{
+    let Some(item) = item_at(items, i) else {
+        return false;
+    };
     let (kind, number) = said_by(&item.content);
-    ItemHead {
+    *head = ItemHead {
         region: item.raft_group_id,
         number,
         kind,
-    }
+    };
+    true
 }
 
 /// Returns the number of what a content says, and how many entries it has or the index of its command.
@@ -230,13 +219,11 @@ fn said_by(content: &LogItemContent) -> (u32, u64)
 fn find_entries(items: &ItemList, i: usize, room: &mut [Entry], count: &mut usize) -> bool
     ensures { IsFound (λ es. AreEntriesIn es room.old room.new count.new) (entries_at items.now i) result }
 {
-    match entries_of(items, i) {
-        Some(entries) => {
-            *count = copy_entries(entries, room);
-            true
-        }
-        None => false,
-    }
+    let Some(entries) = entries_of(items, i) else {
+        return false;
+    };
+    *count = copy_entries(entries, room);
+    true
 }
 
 fn entries_of(items: &ItemList, i: usize) -> Option<&[EntryIndex]>

@@ -49,7 +49,6 @@ impl ItemList {
     }
 }
 
-/// Takes the items out of a batch, which is gone then.
 pub(crate) fn items_of(alloc: Global, mut batch: LogBatch) -> Result<ItemList>
     ensures ok { IfOk result (λ list. list ≡ batch.items) }
     ensures memory { IfErr result (λ e. e ≡ Error.Memory) }

@@ -7,12 +7,13 @@ ghost use Rattle.raft_ffi.specs.Calls.{BothHold, Holds, IsCodeForBoth};
 ghost use Rattle.raft_ffi.specs.Rooms.{HasText, IsCopied};
 
 use crate::handles::{Engine, Handle};
-use crate::moving_blocks::blocks_to_move;
 use crate::rooms::copy_front;
-use crate::status::{Maybe, Status, answered, memory_code, queue};
+use crate::status::{Maybe, Status, answered, is_rewrite, memory_code, queue};
 use raft_accessor::MemTableAccessor;
-use raft_base::{Error, FileId, FileSeq, Result};
+use raft_base::{EntryIndex, Error, FileBlockHandle, FileId, FileSeq, Result};
+use raft_engine::rewriting::entries_to_move;
 use std::alloc::Global;
+use std::collections::BTreeSet;
 
 /// The place of an entry block.
 #[repr(C)]
@@ -38,8 +39,7 @@ pub extern "C" fn raft_ffi_engine_rewrite(
     requires held { IsTrue (is_some engine.old.value) }
     ensures ok { result.code ≡ 0 → BothHold (IsRewritten gate) engine.old.value engine.new.value }
     ensures accepted { result.code ≡ 0 → Holds (λ e. e.intact ≡ true) engine.old.value }
-    ensures err { result.code ≢ 0 → IsCodeForBoth (IsUnrewritten gate) engine.old.value
-        engine.new.value result.code }
+    ensures err { result.code ≢ 0 → IsCodeForBoth (IsUnrewritten gate) engine.old.value engine.new.value result.code }
     ensures text { HasText result text.old text.new }
 {
     let mut held = engine.take(alloc);
@@ -59,8 +59,7 @@ pub extern "C" fn raft_ffi_engine_rewrite_again(
     requires held { IsTrue (is_some engine.old.value) }
     ensures ok { result.code ≡ 0 → BothHold AreMovedAgain engine.old.value engine.new.value }
     ensures accepted { result.code ≡ 0 → Holds (λ e. e.intact ≡ true) engine.old.value }
-    ensures err { result.code ≢ 0 → IsCodeForBoth AreUnmovedAgain engine.old.value
-        engine.new.value result.code }
+    ensures err { result.code ≢ 0 → IsCodeForBoth AreUnmovedAgain engine.old.value engine.new.value result.code }
     ensures text { HasText result text.old text.new }
 {
     let mut held = engine.take(alloc);
@@ -133,4 +132,66 @@ pub extern "C" fn raft_ffi_engine_lend(
     let answer = held.lend(FileId::new(queue(is_rewrite), seq), offset, bytes);
     engine.put(held);
     memory_code(&answer)
+}
+
+/// Blocks, each once, and how many bytes they have together.
+#[derive(Drop)]
+struct Blocks {
+    places: Vec<Place>,
+    last: Option<FileBlockHandle>,
+    known: BTreeSet<(FileId, u64)>,
+    size: usize,
+}
+
+/// Returns the blocks that are read where records of tables move past a gate, those of one table after another, until they have
+/// `max_size` bytes.
+fn blocks_to_move(
+    alloc: Global,
+    accessor: &MemTableAccessor,
+    gate: Option<FileSeq>,
+    max_size: usize,
+) -> Result<Vec<Place>>
+    ensures memory { IfErr result (λ e. e ≡ Error.Memory) }
+{
+    let mut blocks = Blocks {
+        places: Vec::new(alloc),
+        last: None,
+        known: BTreeSet::new(alloc),
+        size: 0,
+    };
+    let tables = accessor.tables()?;
+    for table in &tables {
+        if blocks.size >= max_size {
+            return Ok(blocks.places);
+        }
+        let entries = entries_to_move(alloc, table, gate)?;
+        for entry in &entries {
+            blocks.add(entry)?;
+        }
+    }
+    Ok(blocks.places)
+}
+
+impl Blocks {
+    fn add(&mut self, entry: &EntryIndex) -> Result<()>
+        ensures memory { IfErr result (λ e. e ≡ Error.Memory) }
+    {
+        let Some(place) = entry.entries else {
+            return Ok(());
+        };
+        if self.last == Some(place) {
+            return Ok(());
+        }
+        self.last = Some(place);
+        if self.known.insert((place.id, place.offset))? {
+            self.places.push(Place {
+                seq: place.id.seq,
+                offset: place.offset,
+                len: place.len,
+                is_rewrite: is_rewrite(place.id.queue),
+            })?;
+            self.size = self.size.saturating_add(place.len);
+        }
+        Ok(())
+    }
 }

@@ -1,16 +1,15 @@
 //! Calls that hand out what is to be done to an engine's files.
 
-ghost use Rattle.std.specs.Prelude.{◌≡◌, ◌<◌, ◌≤◌, true, false, Some, None, IsTrue, is_some, length};
-ghost use Rattle.raft_orders.specs.Orders.{ask_of, length_put, next_to_do};
+ghost use Rattle.std.specs.Prelude.{◌≡◌, ◌<◌, ◌≤◌, true, false, Some, None, IsTrue, is_some, length, take};
+ghost use Rattle.raft_orders.specs.Orders.{act_of, ask_of, length_put, next_to_do};
 ghost use Rattle.raft_ffi.specs.Calls.{Holds};
-ghost use Rattle.raft_ffi.specs.Engines.{Lasts, ask_in};
-ghost use Rattle.raft_ffi.specs.Taking.{IsWaiting};
+ghost use Rattle.raft_ffi.specs.Engines.{Lasts, act_of_kind, ask_in};
+ghost use Rattle.raft_ffi.specs.Taking.{IsWaiting, IsTaking};
 
 use crate::handles::{Engine, Handle};
 use crate::rooms::copy_front;
 use crate::status::is_rewrite;
-use crate::taking::Taking;
-use raft_orders::{NumberedOrder, Task};
+use raft_orders::{HandedFiles, NumberedOrder, Task};
 use std::alloc::Global;
 
 /// What is to be done to files, without its bytes.
@@ -45,11 +44,9 @@ pub extern "C" fn raft_ffi_engine_take_order(
     ensures same { engine.new.value ≡ engine.old.value }
     ensures taken { is_taken.new ≡ true → Holds
         (λ e. next_to_do e.asks order.new.at ≡ Some (ask_in order.new bytes.new)) engine.old.value }
-    ensures waits { result ≡ true → is_taken.new ≡ false → Holds
-        (λ e. (length bytes.old < order.new.len) × IsWaiting e.asks order.new.at order.new.len)
-        engine.old.value }
-    ensures none { result ≡ false → Holds (λ e. next_to_do e.asks order.new.at ≡ None)
-        engine.old.value }
+    ensures waits { result ≡ true → is_taken.new ≡ false → Holds (λ e. (length bytes.old < order.new.len) × IsWaiting
+        e.asks order.new.at order.new.len) engine.old.value }
+    ensures none { result ≡ false → Holds (λ e. next_to_do e.asks order.new.at ≡ None) engine.old.value }
     ensures untaken { result ≡ false → is_taken.new ≡ false }
     ensures lasts { Holds Lasts engine.old.value }
 {
@@ -77,40 +74,61 @@ pub extern "C" fn raft_ffi_engine_take_order(
 }
 
 /// Returns what an order says, and copies its bytes.
-#[tactic(auto, using(crate::proofs::OrderLemmas::put_says, crate::proofs::OrderLemmas::plain_says))]
 fn head(taken: &NumberedOrder, bytes: &mut [u8]) -> OrderHead
     requires { length_put taken.now.order.task ≤ length bytes.old }
     ensures number { result.at ≡ taken.now.number }
     ensures says { ask_in result bytes.new ≡ ask_of taken.now.order }
 {
-    let at = taken.number;
-    let is_rewrite = is_rewrite(taken.order.queue);
-    match &taken.order.task {
-        Task::Put(put) => OrderHead {
-            at,
-            number: 0,
-            len: copy_front(put.as_slice(), bytes),
-            kind: 0,
-            is_rewrite,
-        },
-        Task::Begin(seq) => plain_head(at, is_rewrite, 1, *seq),
-        Task::Sync => plain_head(at, is_rewrite, 2, 0),
-        Task::Delete => plain_head(at, is_rewrite, 3, 0),
-        Task::Cut(len) => plain_head(at, is_rewrite, 4, *len),
+    let (kind, number, len) = act(&taken.order.task, bytes);
+    OrderHead {
+        at: taken.number,
+        number,
+        len,
+        kind,
+        is_rewrite: is_rewrite(taken.order.queue),
     }
 }
 
-fn plain_head(at: u64, is_rewrite: bool, kind: u32, number: u64) -> OrderHead
-    ensures at { result.at ≡ at }
-    ensures queue { result.is_rewrite ≡ is_rewrite }
-    ensures kind { result.kind ≡ kind }
-    ensures number { result.number ≡ number }
+/// Returns the kind of a task, its number, and how many bytes it puts, which are copied.
+#[tactic(auto, using(crate::proofs::OrderLemmas::put_says))]
+fn act(task: &Task, bytes: &mut [u8]) -> (u32, u64, usize)
+    requires { length_put task.now ≤ length bytes.old }
+    ensures { act_of_kind result.0 result.1 (take result.2 bytes.new) ≡ act_of task.now }
 {
-    OrderHead {
-        at,
-        number,
-        len: 0,
-        kind,
-        is_rewrite,
+    match task {
+        Task::Put(put) => (0, 0, copy_front(put.as_slice(), bytes)),
+        Task::Begin(seq) => (1, *seq, 0),
+        Task::Sync => (2, 0, 0),
+        Task::Delete => (3, 0, 0),
+        Task::Cut(len) => (4, *len, 0),
+    }
+}
+
+/// What becomes of the oldest order that waits.
+#[derive(Drop)]
+pub(crate) enum Taking {
+    /// It is taken.
+    Taken(NumberedOrder),
+    /// It has this number, and more bytes than there is room for, so many.
+    TooLong(u64, usize),
+    /// No order waits; so many were taken.
+    NoneWaits(u64),
+}
+
+pub(crate) fn take_within(files: &mut HandedFiles, room: usize) -> Taking
+    ensures taking { IsTaking files.old.asks room result }
+    ensures same { files.new.asks ≡ files.old.asks }
+{
+    let number = files.taken();
+    let Some(first) = files.first_order() else {
+        return Taking::NoneWaits(number);
+    };
+    let len = first.bytes_len();
+    if len > room {
+        return Taking::TooLong(number, len);
+    }
+    match files.take_order() {
+        Some(taken) => Taking::Taken(taken),
+        None => unreachable!(),
     }
 }

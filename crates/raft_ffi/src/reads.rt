@@ -1,14 +1,12 @@
 //! What tables have, found and copied.
 
 ghost use Rattle.std.specs.Prelude.{◌≡◌, OnOk, IfOk, IfErr, map, option_map};
-ghost use Rattle.std.specs.FinMap as finite;
-ghost use Rattle.std.specs.List.Sorted.{IsPermutation};
 ghost use Rattle.raft_accessor.specs.Accessor.{table_in};
 ghost use Rattle.raft_table.specs.Fetches.{Fetches, IsFetchFault, range_answer};
 ghost use Rattle.raft_table.specs.TableEntries.{entry_at};
-ghost use Rattle.raft_ffi.specs.Reads.{AreRegionsIn, IsEntryIn, IsFetched, IsSummaryIn, IsValueIn, moving_entries, value_in};
+ghost use Rattle.raft_engine.specs.Rewriting.{moving_entries};
+ghost use Rattle.raft_ffi.specs.Reads.{AreRegionsIn, IsEntryIn, IsFetched, IsSummaryIn, IsValueIn, value_in};
 ghost use Rattle.raft_ffi.specs.Rooms.{AreEntriesIn};
-ghost use Rattle.raft_ffi.specs.Summaries.{IsSummaryOf};
 
 use crate::entries::{Entry, copy_entries, plain};
 use crate::rooms::{copy_found, copy_front};
@@ -16,31 +14,24 @@ use crate::status::Maybe;
 use crate::table_reads::Summary;
 use raft_accessor::MemTableAccessor;
 use raft_base::{EntryIndex, Error, LogQueue, Result};
+use raft_engine::rewriting::entries_to_move;
 use raft_table::MemTable;
 use std::alloc::Global;
 
 pub(crate) fn summary_in(accessor: &MemTableAccessor, region: u64, summary: &mut Summary) -> bool
     ensures { IsSummaryIn region result summary.new accessor.now }
 {
-    match accessor.get(region) {
-        Some(table) => {
-            *summary = summary_of(table);
-            true
-        }
-        None => false,
-    }
-}
-
-fn summary_of(table: &MemTable) -> Summary
-    ensures { IsSummaryOf table.now result }
-{
-    Summary {
+    let Some(table) = accessor.get(region) else {
+        return false;
+    };
+    *summary = Summary {
         entries: table.entries_count(),
         keys: table.key_count(),
         first: Maybe::of(table.first_index()),
         append_seq: Maybe::of(table.min_file_seq(LogQueue::Append)),
         rewrite_seq: Maybe::of(table.min_file_seq(LogQueue::Rewrite)),
-    }
+    };
+    true
 }
 
 pub(crate) fn entry_in(
@@ -51,13 +42,11 @@ pub(crate) fn entry_in(
 ) -> bool
     ensures { IsEntryIn region index result entry.new accessor.now }
 {
-    match entry_at(accessor, region, index) {
-        Some(found) => {
-            *entry = plain(&found);
-            true
-        }
-        None => false,
-    }
+    let Some(found) = entry_at(accessor, region, index) else {
+        return false;
+    };
+    *entry = plain(&found);
+    true
 }
 
 fn entry_at(accessor: &MemTableAccessor, region: u64, index: u64) -> Option<EntryIndex>
@@ -99,25 +88,15 @@ pub(crate) fn find_regions(
     ensures ok { OnOk result (AreRegionsIn accessor.now.tables regions.old regions.new count.new) }
     ensures memory { IfErr result (λ e. e ≡ Error.Memory) }
 {
-    let mut ids = region_ids(alloc, accessor)?;
+    let tables = accessor.tables()?;
+    let mut ids = ids_of(alloc, tables.as_slice())?;
     ids.sort_unstable();
     *count = copy_front(ids.as_slice(), regions);
     Ok(())
 }
 
-/// Returns the regions that have a table, in no set order.
-fn region_ids(alloc: Global, accessor: &MemTableAccessor) -> Result<Vec<u64>>
-    ensures ok { IfOk result (λ ids. IsPermutation ids.items
-        (map (λ t. t.region_id) (finite.values accessor.now.tables))) }
-    ensures memory { IfErr result (λ e. e ≡ Error.Memory) }
-{
-    let tables = accessor.tables()?;
-    ids_of(alloc, tables.as_slice())
-}
-
 fn ids_of(alloc: Global, tables: &[&MemTable]) -> Result<Vec<u64>>
-    ensures ok { IfOk result (λ ids. ids.items
-        ≡ map (λ t. t.region_id) (map (λ t. t.now) tables.now)) }
+    ensures ok { IfOk result (λ ids. ids.items ≡ map (λ t. t.region_id) (map (λ t. t.now) tables.now)) }
     ensures memory { IfErr result (λ e. e ≡ Error.Memory) }
 {
     let mut ids = Vec::with_capacity(alloc, tables.len())?;
@@ -154,9 +133,8 @@ fn fetch(
     max_size: Option<usize>,
     found: &mut Vec<EntryIndex>,
 ) -> Result<()>
-    ensures ok { OnOk result (Fetches max_size range.0 range.1
-        (table_in accessor.now.tables region).entries found.old.items found.new.items
-        (range_answer range.0 range.1 (table_in accessor.now.tables region).entries)) }
+    ensures ok { OnOk result (Fetches max_size range.0 range.1 (table_in accessor.now.tables region).entries
+        found.old.items found.new.items (range_answer range.0 range.1 (table_in accessor.now.tables region).entries)) }
     ensures fault { IfErr result (IsFetchFault
         (range_answer range.0 range.1 (table_in accessor.now.tables region).entries)) }
 {
@@ -192,30 +170,11 @@ fn moving_in(
     region: u64,
     gate: Option<u64>,
 ) -> Result<Vec<EntryIndex>>
-    ensures ok { IfOk result (λ v. v.items
-        ≡ moving_entries gate (table_in accessor.now.tables region).entries) }
+    ensures ok { IfOk result (λ v. v.items ≡ moving_entries gate (table_in accessor.now.tables region).entries) }
     ensures memory { IfErr result (λ e. e ≡ Error.Memory) }
 {
     match accessor.get(region) {
-        Some(table) => moving_entries(alloc, table, gate),
-        None => moving_entries(alloc, &MemTable::new(alloc, region), gate),
+        Some(table) => entries_to_move(alloc, table, gate),
+        None => Ok(Vec::new(alloc)),
     }
-}
-
-/// Returns the entries of a table that move past a gate: the appended ones from the first on while their file is at or below
-/// it; without a gate those that are rewritten.
-pub(crate) fn moving_entries(
-    alloc: Global,
-    table: &MemTable,
-    gate: Option<u64>,
-) -> Result<Vec<EntryIndex>>
-    ensures ok { IfOk result (λ v. v.items ≡ moving_entries gate table.now.entries) }
-    ensures memory { IfErr result (λ e. e ≡ Error.Memory) }
-{
-    let mut found = Vec::new(alloc);
-    match gate {
-        Some(gate) => table.fetch_entry_indexes_before(gate, &mut found)?,
-        None => table.fetch_rewritten_entry_indexes(&mut found)?,
-    }
-    Ok(found)
 }

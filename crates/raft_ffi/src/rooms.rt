@@ -15,16 +15,12 @@ pub(crate) fn copy_front<T: Copy>(found: &[T], room: &mut [T]) -> usize
     found.len()
 }
 
-/// Copies bytes that may have been found as far as there is room, and says whether they were, and how many they are.
 pub(crate) fn copy_found(found: Option<&[u8]>, room: &mut [u8], len: &mut usize) -> bool
-    ensures { IsFound (λ bytes. IsCopied bytes room.old room.new len.new)
-        (option_map (λ v. v.now) found.entry) result }
+    ensures { IsFound (λ bytes. IsCopied bytes room.old room.new len.new) (option_map (λ v. v.now) found.entry) result }
 {
-    match found {
-        Some(found) => {
-            *len = copy_front(found, room);
-            true
-        }
-        None => false,
-    }
+    let Some(found) = found else {
+        return false;
+    };
+    *len = copy_front(found, room);
+    true
 }

@@ -1,6 +1,6 @@
 //! Calls for tables that are divided into slots, each of which has the tables of the regions whose slot has its number.
 
-ghost use Rattle.std.specs.Prelude.{◌≡◌, ◌≢◌, ◌<◌, false, IsTrue, is_some};
+ghost use Rattle.std.specs.Prelude.{◌≡◌, ◌≢◌, ◌<◌, false, IsTrue, is_some, map, IfErr, IfOk, IfSome, OnErr, OnOk};
 ghost use Rattle.raft_accessor.specs.Accessor.{slot_of};
 ghost use Rattle.raft_accessor.specs.AppendChecks.{AreRefusedOncePlaced, IsAppendCheckFault};
 ghost use Rattle.raft_accessor.specs.Writes.{Appending, AreWritten, Rewriting};
@@ -9,11 +9,17 @@ ghost use Rattle.raft_ffi.specs.Changes.{IsRemoved};
 ghost use Rattle.raft_ffi.specs.Rooms.{HasText};
 ghost use Rattle.raft_ffi.specs.Slots.{AcceptsShareOncePlaced, IsMoved, IsMoveFault, IsShareRefused, share_of};
 ghost use Rattle.raft_ffi.specs.Summaries.{number_in};
+ghost use Rattle.std.specs.FinMap as finite;
+ghost use Rattle.raft_records.specs.Item.{item_of};
 
 use crate::handles::{Batch, Handle, Items, Tables};
-use crate::shares::{apply_share, check_share, move_table, rewrite_share};
+use crate::item_list::ItemList;
 use crate::status::{Maybe, Status, answered};
-use raft_accessor::slot_of;
+use crate::write_calls::{apply_append, apply_rewrite};
+use raft_accessor::{MemTableAccessor, slot_of};
+use raft_base::{Error, Result};
+use raft_records::{LogBatch, LogItem};
+use raft_table::MemTable;
 use std::alloc::Global;
 
 /// Returns the number of the slot that holds a region's table, below 128.
@@ -38,11 +44,9 @@ pub extern "C" fn raft_ffi_tables_move_table(
     requires held { IsTrue (is_some tables.old.value) }
     requires to { IsTrue (is_some to.old.value) }
     ensures removed { BothHold (IsRemoved region false) tables.old.value tables.new.value }
-    ensures ok { result.code ≡ 0 → AllHold (IsMoved region) tables.old.value to.old.value
-        to.new.value }
+    ensures ok { result.code ≡ 0 → AllHold (IsMoved region) tables.old.value to.old.value to.new.value }
     ensures err { result.code ≢ 0 → to.new.value ≡ to.old.value }
-    ensures fault { result.code ≢ 0 → IsCodeForBoth (IsMoveFault region) tables.old.value
-        to.old.value result.code }
+    ensures fault { result.code ≢ 0 → IsCodeForBoth (IsMoveFault region) tables.old.value to.old.value result.code }
     ensures text { HasText result text.old text.new }
 {
     let mut held = tables.take(alloc);
@@ -67,14 +71,11 @@ pub extern "C" fn raft_ffi_slot_check_append(
     requires batch { IsTrue (is_some batch.old.value) }
     ensures same { tables.new.value ≡ tables.old.value }
     ensures same_batch { batch.new.value ≡ batch.old.value }
-    ensures ok { result.code ≡ 0 → BothHold (AcceptsShareOncePlaced number) tables.old.value
-        batch.old.value }
-    ensures refused { result.code ≢ 0 → result.code ≢ 11 → BothHold
-        (λ a b. AreRefusedOncePlaced a.tables (share_of number b.items)) tables.old.value
-        batch.old.value }
-    ensures fault { result.code ≢ 0 → IsCodeForBoth
-        (λ a b. IsAppendCheckFault a.tables (share_of number b.items)) tables.old.value
-        batch.old.value result.code }
+    ensures ok { result.code ≡ 0 → BothHold (AcceptsShareOncePlaced number) tables.old.value batch.old.value }
+    ensures refused { result.code ≢ 0 → result.code ≢ 11 → BothHold (λ a b. AreRefusedOncePlaced a.tables (share_of
+        number b.items)) tables.old.value batch.old.value }
+    ensures fault { result.code ≢ 0 → IsCodeForBoth (λ a b. IsAppendCheckFault a.tables (share_of number b.items))
+        tables.old.value batch.old.value result.code }
     ensures text { HasText result text.old text.new }
 {
     let held = tables.take(alloc);
@@ -100,9 +101,8 @@ pub extern "C" fn raft_ffi_slot_apply_append(
     ensures same { items.new.value ≡ items.old.value }
     ensures ok { result.code ≡ 0 → AllHold (λ xs. AreWritten Appending (share_of number xs))
         items.old.value tables.old.value tables.new.value }
-    ensures refused { result.code ≢ 0 → AllHold (λ xs old new. IsCodeOf
-        (IsShareRefused Appending (share_of number xs) old new) result.code)
-        items.old.value tables.old.value tables.new.value }
+    ensures refused { result.code ≢ 0 → AllHold (λ xs old new. IsCodeOf (IsShareRefused Appending (share_of number xs)
+        old new) result.code) items.old.value tables.old.value tables.new.value }
     ensures text { HasText result text.old text.new }
 {
     let mut held = tables.take(alloc);
@@ -129,12 +129,10 @@ pub extern "C" fn raft_ffi_slot_apply_rewrite(
     requires held { IsTrue (is_some tables.old.value) }
     requires items { IsTrue (is_some items.old.value) }
     ensures same { items.new.value ≡ items.old.value }
-    ensures ok { result.code ≡ 0 → AllHold
-        (λ xs. AreWritten (Rewriting (number_in gate) seq) (share_of number xs))
+    ensures ok { result.code ≡ 0 → AllHold (λ xs. AreWritten (Rewriting (number_in gate) seq) (share_of number xs))
         items.old.value tables.old.value tables.new.value }
-    ensures refused { result.code ≢ 0 → AllHold (λ xs old new. IsCodeOf
-        (IsShareRefused (Rewriting (number_in gate) seq) (share_of number xs) old new) result.code)
-        items.old.value tables.old.value tables.new.value }
+    ensures refused { result.code ≢ 0 → AllHold (λ xs old new. IsCodeOf (IsShareRefused (Rewriting (number_in gate) seq)
+        (share_of number xs) old new) result.code) items.old.value tables.old.value tables.new.value }
     ensures text { HasText result text.old text.new }
 {
     let mut held = tables.take(alloc);
@@ -143,4 +141,92 @@ pub extern "C" fn raft_ffi_slot_apply_rewrite(
     tables.put(held);
     items.put(list);
     answered(alloc, &answer, text)
+}
+
+/// Moves the table of a region, if there is one, from one accessor to another. Where that is refused it is gone.
+fn move_table(from: &mut MemTableAccessor, to: &mut MemTableAccessor, region: u64) -> Result<()>
+    ensures removed { IsRemoved region false from.old from.new }
+    ensures ok { OnOk result (IsMoved region from.old to.old to.new) }
+    ensures err { OnErr result (to.new ≡ to.old) }
+    ensures fault { IfErr result (IsMoveFault region from.old to.old) }
+{
+    let table = take_table(from, region);
+    to.counts_are_exact();
+    let Some(table) = table else {
+        return Ok(());
+    };
+    to.insert(region, table)?;
+    to.counts_are_exact();
+    Ok(())
+}
+
+fn take_table(from: &mut MemTableAccessor, region: u64) -> Option<MemTable>
+    ensures removed { IsRemoved region false from.old from.new }
+    ensures table { result ≡ finite.get from.old.tables region }
+    ensures own { IfSome result (λ t. t.region_id ≡ region) }
+{
+    let _ = from.get(region);
+    let taken = from.remove(region, false);
+    from.counts_are_exact();
+    match taken {
+        Ok(table) => table,
+        Err(_) => unreachable!(),
+    }
+}
+
+fn check_share(
+    alloc: Global,
+    accessor: &MemTableAccessor,
+    number: usize,
+    batch: &LogBatch,
+) -> Result<()>
+    ensures ok { OnOk result (AcceptsShareOncePlaced number accessor.now batch.now) }
+    ensures refused { IfErr result (λ e. e ≢ Error.Memory
+        → AreRefusedOncePlaced accessor.now.tables (share_of number batch.now.items)) }
+    ensures fault { IfErr result (IsAppendCheckFault accessor.now.tables (share_of number batch.now.items)) }
+{
+    let share = share_of(alloc, number, batch.items())?;
+    accessor.check_append_writes(share.as_slice())
+}
+
+fn apply_share(
+    alloc: Global,
+    accessor: &mut MemTableAccessor,
+    number: usize,
+    items: &ItemList,
+) -> Result<()>
+    ensures ok { OnOk result (AreWritten Appending (share_of number items.now) accessor.old accessor.new) }
+    ensures refused { IfErr result (IsShareRefused Appending (share_of number items.now) accessor.old accessor.new) }
+{
+    let share = share_of(alloc, number, items.as_slice())?;
+    apply_append(accessor, ItemList::of(share))
+}
+
+fn rewrite_share(
+    alloc: Global,
+    accessor: &mut MemTableAccessor,
+    number: usize,
+    items: &ItemList,
+    gate: Option<u64>,
+    seq: u64,
+) -> Result<()>
+    ensures ok { OnOk result (AreWritten (Rewriting gate seq) (share_of number items.now) accessor.old accessor.new) }
+    ensures refused { IfErr result (IsShareRefused (Rewriting gate seq) (share_of number items.now) accessor.old
+        accessor.new) }
+{
+    let share = share_of(alloc, number, items.as_slice())?;
+    apply_rewrite(accessor, ItemList::of(share), gate, seq)
+}
+
+fn share_of(alloc: Global, number: usize, items: &[LogItem]) -> Result<Vec<LogItem>>
+    ensures ok { IfOk result (λ share. map item_of share.items ≡ share_of number (map item_of items.now)) }
+    ensures memory { IfErr result (λ e. e ≡ Error.Memory) }
+{
+    let mut share = Vec::new(alloc);
+    for item in items {
+        if slot_of(item.raft_group_id) == number {
+            share.push(item.clone()?)?;
+        }
+    }
+    Ok(share)
 }

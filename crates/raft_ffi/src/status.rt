@@ -1,6 +1,6 @@
 //! What calls take and return, in numbers.
 
-ghost use Rattle.std.specs.Prelude.{◌≡◌, OnOk, OnErr, IfErr};
+ghost use Rattle.std.specs.Prelude.{◌≡◌, OnOk, OnErr, IfOk, IfErr};
 ghost use Rattle.raft_ffi.specs.Calls.{code_of, file_of, queue_of, version_of};
 ghost use Rattle.raft_ffi.specs.Rooms.{IsTextIn, IsTextOf, HasText};
 ghost use Rattle.raft_ffi.specs.Summaries.{number_in};
@@ -65,35 +65,21 @@ impl Maybe {
     pub(crate) fn number(self) -> Option<u64>
         ensures { result ≡ number_in self }
     {
-        if self.is_some {
-            Some(self.number)
-        } else {
-            None
-        }
+        self.is_some.then_some(self.number)
     }
 
     pub(crate) fn size(self) -> Option<usize>
         ensures { result ≡ number_in self }
     {
-        if self.is_some {
-            Some(self.number as usize)
-        } else {
-            None
-        }
+        self.is_some.then_some(self.number as usize)
     }
 
     pub(crate) fn of(number: Option<u64>) -> Maybe
         ensures { number_in result ≡ number }
     {
-        match number {
-            Some(number) => Maybe {
-                is_some: true,
-                number,
-            },
-            None => Maybe {
-                is_some: false,
-                number: 0,
-            },
+        Maybe {
+            is_some: number.is_some(),
+            number: number.unwrap_or(0),
         }
     }
 }
@@ -156,7 +142,27 @@ pub(crate) fn answered(alloc: Global, answer: &Result<()>, text: &mut [u8]) -> S
     }
 }
 
-/// Writes the text of an error as far as there is room, and returns how many bytes it has.
+/// Says how a call ended that finds something, and hands out what it found.
+pub(crate) fn answered_with<T: Copy>(
+    alloc: Global,
+    answer: Result<T>,
+    found: &mut T,
+    text: &mut [u8],
+) -> Status
+    ensures ok { OnOk answer (result.code ≡ 0) }
+    ensures found { IfOk answer (λ x. found.new ≡ x) }
+    ensures err { IfErr answer (λ e. result.code ≡ code_of e) }
+    ensures text { HasText result text.old text.new }
+{
+    match answer {
+        Ok(value) => {
+            *found = value;
+            answered(alloc, &Ok(()), text)
+        }
+        Err(e) => answered(alloc, &Err(e), text),
+    }
+}
+
 fn write_text(alloc: Global, e: &Error, text: &mut [u8]) -> usize
     ensures some { IsTextIn text.old text.new result }
     ensures told { IsTextOf e.now text.old text.new result }

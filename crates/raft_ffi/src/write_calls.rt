@@ -1,19 +1,22 @@
-//! Calls that make tables, and change those of several regions.
+//! Calls that make tables, change those of several regions, and test and hand out batches for them.
 
 ghost use Rattle.std.specs.Prelude.{◌≡◌, ◌≢◌, ◌≤◌, IsTrue, IfErr, OnOk, OnErr, Some, None, is_some};
 ghost use Rattle.std.specs.FinMap as finite;
 ghost use Rattle.raft_accessor.specs.Merges.{with_newer, with_appended, AreTablesLeft, AreOthersLeft, IsNewerFault, IsAppendedFault, IsMergeRefusal};
 ghost use Rattle.raft_accessor.specs.Writes.{Appending, Rewriting, AreWritten};
-ghost use Rattle.raft_ffi.specs.Calls.{AllHold, BothHold, Holds, IsCodeOf};
-ghost use Rattle.raft_ffi.specs.Changes.{AreMerged, AreSomeWritten, IsGroupSet, IsRemoved, IsStoppedAt, no_tables};
+ghost use Rattle.raft_ffi.specs.Calls.{AllHold, BothHold, Holds, IsCodeOf, IsCodeForBoth};
+ghost use Rattle.raft_ffi.specs.Changes.{AreMerged, AreSomeWritten, IsGroupSet, IsRemoved, IsStoppedAt, no_tables, without_cleaned};
 ghost use Rattle.raft_ffi.specs.Rooms.{HasText};
 ghost use Rattle.raft_ffi.specs.Summaries.{number_in};
+ghost use Rattle.raft_accessor.specs.AppendChecks.{AreRefusedOncePlaced, IsAppendCheckFault};
+ghost use Rattle.raft_ffi.specs.Batches.{cleans_of, AcceptsOncePlaced};
 
-use crate::handles::{Handle, Items, Tables};
+use crate::handles::{Batch, Handle, Items, Tables};
 use crate::item_list::ItemList;
 use crate::status::{Maybe, Status, answered, memory_code};
 use raft_accessor::MemTableAccessor;
 use raft_base::{Error, Result};
+use raft_records::LogBatch;
 use std::alloc::Global;
 
 /// Makes no tables.
@@ -77,10 +80,8 @@ pub extern "C" fn raft_ffi_tables_remove(
     found: &mut bool,
 ) -> u32
     requires held { IsTrue (is_some tables.old.value) }
-    ensures ok { result ≡ 0 → BothHold (IsRemoved region is_listed) tables.old.value
-        tables.new.value }
-    ensures found { result ≡ 0 → Holds (λ old. found.new ≡ is_some (finite.get old.tables region))
-        tables.old.value }
+    ensures ok { result ≡ 0 → BothHold (IsRemoved region is_listed) tables.old.value tables.new.value }
+    ensures found { result ≡ 0 → Holds (λ old. found.new ≡ is_some (finite.get old.tables region)) tables.old.value }
     ensures err { result ≢ 0 → tables.new.value ≡ tables.old.value }
     ensures fault { result ≢ 0 → (result ≡ 11) × IsTrue is_listed }
 {
@@ -116,19 +117,14 @@ pub extern "C" fn raft_ffi_tables_merge_newer(
 ) -> Status
     requires held { IsTrue (is_some tables.old.value) }
     requires newer { IsTrue (is_some newer.value) }
-    ensures ok { result.code ≡ 0 → AllHold (AreMerged with_newer) newer.value tables.old.value
-        tables.new.value }
-    ensures err { result.code ≢ 0 → result.code ≢ 11 → AllHold
-        (λ rhs old new. AreTablesLeft with_newer old.tables rhs.tables new.tables)
-        newer.value tables.old.value tables.new.value }
-    ensures others { result.code ≢ 0 → AllHold
-        (λ rhs old new. AreOthersLeft with_newer old.tables rhs.tables new.tables)
-        newer.value tables.old.value tables.new.value }
-    ensures cleaned { BothHold (λ old new. new.cleaned ≡ old.cleaned) tables.old.value
-        tables.new.value }
-    ensures fault { result.code ≢ 0 → AllHold (λ rhs old new. IsCodeOf
-        (IsMergeRefusal (IsNewerFault new.counts) old.tables rhs.tables) result.code)
-        newer.value tables.old.value tables.new.value }
+    ensures ok { result.code ≡ 0 → AllHold (AreMerged with_newer) newer.value tables.old.value tables.new.value }
+    ensures err { result.code ≢ 0 → result.code ≢ 11 → AllHold (λ rhs old new. AreTablesLeft with_newer old.tables
+        rhs.tables new.tables) newer.value tables.old.value tables.new.value }
+    ensures others { result.code ≢ 0 → AllHold (λ rhs old new. AreOthersLeft with_newer old.tables rhs.tables
+        new.tables) newer.value tables.old.value tables.new.value }
+    ensures cleaned { BothHold (λ old new. new.cleaned ≡ old.cleaned) tables.old.value tables.new.value }
+    ensures fault { result.code ≢ 0 → AllHold (λ rhs old new. IsCodeOf (IsMergeRefusal (IsNewerFault new.counts)
+        old.tables rhs.tables) result.code) newer.value tables.old.value tables.new.value }
     ensures text { HasText result text.old text.new }
 {
     let mut held = tables.take(alloc);
@@ -149,19 +145,14 @@ pub extern "C" fn raft_ffi_tables_merge_append(
 ) -> Status
     requires held { IsTrue (is_some tables.old.value) }
     requires append { IsTrue (is_some append.value) }
-    ensures ok { result.code ≡ 0 → AllHold (AreMerged with_appended) append.value tables.old.value
-        tables.new.value }
-    ensures err { result.code ≢ 0 → result.code ≢ 11 → AllHold
-        (λ rhs old new. AreTablesLeft with_appended old.tables rhs.tables new.tables)
-        append.value tables.old.value tables.new.value }
-    ensures others { result.code ≢ 0 → AllHold
-        (λ rhs old new. AreOthersLeft with_appended old.tables rhs.tables new.tables)
-        append.value tables.old.value tables.new.value }
-    ensures cleaned { BothHold (λ old new. new.cleaned ≡ old.cleaned) tables.old.value
-        tables.new.value }
-    ensures fault { result.code ≢ 0 → AllHold (λ rhs old new. IsCodeOf
-        (IsMergeRefusal (IsAppendedFault new.counts) old.tables rhs.tables) result.code)
-        append.value tables.old.value tables.new.value }
+    ensures ok { result.code ≡ 0 → AllHold (AreMerged with_appended) append.value tables.old.value tables.new.value }
+    ensures err { result.code ≢ 0 → result.code ≢ 11 → AllHold (λ rhs old new. AreTablesLeft with_appended old.tables
+        rhs.tables new.tables) append.value tables.old.value tables.new.value }
+    ensures others { result.code ≢ 0 → AllHold (λ rhs old new. AreOthersLeft with_appended old.tables rhs.tables
+        new.tables) append.value tables.old.value tables.new.value }
+    ensures cleaned { BothHold (λ old new. new.cleaned ≡ old.cleaned) tables.old.value tables.new.value }
+    ensures fault { result.code ≢ 0 → AllHold (λ rhs old new. IsCodeOf (IsMergeRefusal (IsAppendedFault new.counts)
+        old.tables rhs.tables) result.code) append.value tables.old.value tables.new.value }
     ensures text { HasText result text.old text.new }
 {
     let mut held = tables.take(alloc);
@@ -183,8 +174,7 @@ pub extern "C" fn raft_ffi_tables_apply_append(
 ) -> Status
     requires held { IsTrue (is_some tables.old.value) }
     requires items { IsTrue (is_some items.value) }
-    ensures ok { result.code ≡ 0 → AllHold (AreWritten Appending) items.value tables.old.value
-        tables.new.value }
+    ensures ok { result.code ≡ 0 → AllHold (AreWritten Appending) items.value tables.old.value tables.new.value }
     ensures refused { result.code ≢ 0 → AllHold (AreSomeWritten Appending result.code) items.value
         tables.old.value tables.new.value }
     ensures text { HasText result text.old text.new }
@@ -218,9 +208,8 @@ pub extern "C" fn raft_ffi_tables_apply_rewrite(
     requires items { IsTrue (is_some items.value) }
     ensures ok { result.code ≡ 0 → AllHold (AreWritten (Rewriting (number_in gate) seq))
         items.value tables.old.value tables.new.value }
-    ensures refused { result.code ≢ 0 → AllHold
-        (AreSomeWritten (Rewriting (number_in gate) seq) result.code) items.value
-        tables.old.value tables.new.value }
+    ensures refused { result.code ≢ 0 → AllHold (AreSomeWritten (Rewriting (number_in gate) seq) result.code)
+        items.value tables.old.value tables.new.value }
     ensures text { HasText result text.old text.new }
 {
     let mut held = tables.take(alloc);
@@ -237,8 +226,79 @@ pub(crate) fn apply_rewrite(
     seq: u64,
 ) -> Result<()>
     ensures ok { OnOk result (AreWritten (Rewriting gate seq) items accessor.old accessor.new) }
-    ensures refused { IfErr result
-        (IsStoppedAt (Rewriting gate seq) items accessor.old accessor.new) }
+    ensures refused { IfErr result (IsStoppedAt (Rewriting gate seq) items accessor.old accessor.new) }
 {
     accessor.apply_rewrite_writes(items.drain(), gate, seq)
+}
+
+/// Tests whether the tables would accept the items of a batch, once it is written to the append queue, whatever their place.
+/// It changes nothing.
+#[unsafe(no_mangle)]
+pub extern "C" fn raft_ffi_tables_check_append(
+    alloc: Global,
+    tables: &mut Tables,
+    batch: &mut Batch,
+    text: &mut [u8],
+) -> Status
+    requires held { IsTrue (is_some tables.old.value) }
+    requires batch { IsTrue (is_some batch.old.value) }
+    ensures same { tables.new.value ≡ tables.old.value }
+    ensures same_batch { batch.new.value ≡ batch.old.value }
+    ensures ok { result.code ≡ 0 → BothHold AcceptsOncePlaced tables.old.value batch.old.value }
+    ensures refused { result.code ≢ 0 → result.code ≢ 11 → BothHold
+        (λ a b. AreRefusedOncePlaced a.tables b.items) tables.old.value batch.old.value }
+    ensures fault { result.code ≢ 0 → IsCodeForBoth
+        (λ a b. IsAppendCheckFault a.tables b.items) tables.old.value batch.old.value result.code }
+    ensures text { HasText result text.old text.new }
+{
+    let held = tables.take(alloc);
+    let logs = batch.take(alloc);
+    let answer = check_append(&*held, &*logs);
+    tables.put(held);
+    batch.put(logs);
+    answered(alloc, &answer, text)
+}
+
+fn check_append(accessor: &MemTableAccessor, batch: &LogBatch) -> Result<()>
+    ensures ok { OnOk result (AcceptsOncePlaced accessor.now batch.now) }
+    ensures refused { IfErr result (λ e. e ≢ Error.Memory → AreRefusedOncePlaced accessor.now.tables batch.now.items) }
+    ensures fault { IfErr result (IsAppendCheckFault accessor.now.tables batch.now.items) }
+{
+    accessor.check_append_writes(batch.items())
+}
+
+/// Hands out the cleaned regions as an open batch with a `Clean` for each, in order. The list is then empty.
+#[unsafe(no_mangle)]
+pub extern "C" fn raft_ffi_tables_cleaned_logs(
+    alloc: Global,
+    tables: &mut Tables,
+    batch: &mut Batch,
+) -> u32
+    requires held { IsTrue (is_some tables.old.value) }
+    requires empty { batch.old.value ≡ None }
+    ensures ok { result ≡ 0 → BothHold (λ old new. new ≡ without_cleaned old) tables.old.value tables.new.value }
+    ensures logs { result ≡ 0 → BothHold (λ old logs. logs ≡ cleans_of old.cleaned) tables.old.value batch.new.value }
+    ensures err { result ≢ 0 → tables.new.value ≡ tables.old.value }
+    ensures batch_err { result ≢ 0 → batch.new.value ≡ None }
+    ensures fault { result ≢ 0 → result ≡ 11 }
+{
+    let mut held = tables.take(alloc);
+    let answer = cleaned_logs(alloc, &mut *held, batch);
+    tables.put(held);
+    memory_code(&answer)
+}
+
+/// Hands out the cleaned regions as an open batch. There is memory for the handle before the list is emptied.
+fn cleaned_logs(alloc: Global, accessor: &mut MemTableAccessor, batch: &mut Batch) -> Result<()>
+    requires empty { batch.old.value ≡ None }
+    ensures ok { OnOk result (accessor.new ≡ without_cleaned accessor.old) }
+    ensures logs { OnOk result (batch.new.value ≡ Some (cleans_of accessor.old.cleaned)) }
+    ensures err { OnErr result (accessor.new ≡ accessor.old) }
+    ensures batch_err { OnErr result (batch.new.value ≡ None) }
+    ensures memory { IfErr result (λ e. e ≡ Error.Memory) }
+{
+    let mut held = Box::new(alloc, LogBatch::default(alloc))?;
+    *held = accessor.take_cleaned_region_logs()?;
+    batch.put(held);
+    Ok(())
 }

@@ -1,13 +1,9 @@
-use Rattle.std.proofs.Common.{IfErr, subst}
+use Rattle.std.proofs.Common.{◌∙◌, refl}
 use Rattle.raft_engine.specs.Purged.{IsUnpurged}
-use Rattle.raft_engine.specs.KeptEngine.{KeptEngine}
-use Rattle.raft_ffi.proofs.CodeLemmas.{refusal}
+use Rattle.raft_ffi.proofs.CodeLemmas.{refused_both}
 use Rattle.raft_ffi.proofs.engine_calls.raft_ffi_engine_purge_expired_files.Goals as goal
 
 pub returns-clause-err : goal.returns-clause-err
-returns-clause-err c = λ some.
-    let old = c.take-held.result.value in
-    let new = c.purge_expired_files-answer.new.self in
-    let fault = subst (λ (o : KeptEngine). IfErr c.purge_expired_files-answer.result (IsUnpurged o new)) c.deref_mut.ensures.value c.purge_expired_files-answer.ensures.err in
-    rw (c.take-held.ensures.value, c.put.ensures)
-    (refusal c.purge_expired_files-answer.result c.answered.result.code (IsUnpurged old new) c.answered.ensures.ok c.answered.ensures.err fault some)
+returns-clause-err c =
+    refused_both IsUnpurged c.purge_expired_files-answer.result c.answered_with.result.code c.take-held.ensures.value c.put.ensures (c.behind-held.view_is ∙ c.deref_mut.ensures.value) refl
+    c.purge_expired_files-answer.ensures.err c.answered_with.ensures.ok c.answered_with.ensures.err

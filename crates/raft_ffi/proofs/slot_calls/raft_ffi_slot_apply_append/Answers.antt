@@ -1,20 +1,9 @@
-use Rattle.std.proofs.Common.{IfErr, List, subst}
-use Rattle.raft_accessor.specs.Accessor.{Accessor}
 use Rattle.raft_accessor.specs.Writes.{Appending}
-use Rattle.raft_records.specs.Item.{Item}
 use Rattle.raft_ffi.specs.Slots.{IsShareRefused, share_of}
-use Rattle.raft_ffi.proofs.CodeLemmas.{refusal}
+use Rattle.raft_ffi.proofs.CodeLemmas.{refused_all}
 use Rattle.raft_ffi.proofs.slot_calls.raft_ffi_slot_apply_append.Goals as goal
 
 pub returns-clause-refused : goal.returns-clause-refused
-returns-clause-refused c = λ some.
-    let old = c.take-held.result.value in
-    let new = c.apply_share-answer.new.accessor in
-    let items = c.take-list.result.value in
-    let fault =
-    subst (λ (xs : List Item). IfErr c.apply_share-answer.result (IsShareRefused Appending (share_of c.args.number xs) old new)) c.deref.ensures
-    (subst (λ (o : Accessor). IfErr c.apply_share-answer.result (IsShareRefused Appending (share_of c.args.number c.deref.result.now) o new))
-    c.deref_mut.ensures.value c.apply_share-answer.ensures.refused) in
-    rw (c.take-held.ensures.value, c.put.ensures, c.take-list.ensures.value)
-    (refusal c.apply_share-answer.result c.answered.result.code (IsShareRefused Appending (share_of c.args.number items) old new)
-    c.answered.ensures.ok c.answered.ensures.err fault some)
+returns-clause-refused c =
+    refused_all (λ xs. IsShareRefused Appending (share_of c.args.number xs)) c.apply_share-answer.result c.answered.result.code c.take-list.ensures.value c.take-held.ensures.value c.put.ensures
+    c.deref.ensures c.deref_mut.ensures.value c.apply_share-answer.ensures.refused c.answered.ensures.ok c.answered.ensures.err

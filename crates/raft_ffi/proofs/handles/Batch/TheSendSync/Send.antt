@@ -1,4 +1,3 @@
--- A handle may go to another thread, as what it holds may.
 use denote.Param.Send.{IsSend}
 use Rattle.raft_records.proofs.log_batch.LogBatch.TheSendSync.{the_send as held}
 use Rattle.raft_ffi.proofs.HandleKinds.{batch}

@@ -1,4 +1,3 @@
--- A handle may go to another thread, as what it holds may.
 use denote.Param.Send.{IsSend}
 use Rattle.raft_contexts.proofs.recover_context.MemTableRecoverContext.TheSendSync.{the_send as held}
 use Rattle.raft_ffi.proofs.HandleKinds.{context}

@@ -41,7 +41,7 @@ pub record IsWritingFault (MayFail : Failures) (sync : Bool) (batch : Batch) (ol
   pub last : IsLastFile Append old.asks seq bytes
   pub why : FailsAmong MayFail (synced_if sync (put_asks (file_of Append old seq) batch)) old.asks new.asks e
       ⊎ ((batch.items ≢ []) × (new.asks ≡ synced_if sync (put_asks (file_of Append old seq) batch) ++ old.asks)
-      × AreCutShort (placed_at (file_of Append old seq).id (length bytes) batch) old.accessor new.accessor e)
+      × AreCutShort batch (placed_at (file_of Append old seq).id (length bytes) batch) old new e)
 
 -- newest first: what is asked to tell the rewrite queue, behind its last file of this number, what is untold
 abbrev pub telling_asks : KeptEngine → ℕ → List Ask

@@ -1,5 +1,5 @@
 -- One batch more in an engine.
-use Rattle.std.specs.Prelude.{◌≡◌, ◌⊎◌, ℕ, ◌+◌, ◌-◌, ◌<◌, ◌≤◌, ◌^◌, Bool, true, false, List, ◌∷◌, length, [], ◌++◌}
+use Rattle.std.specs.Prelude.{◌≡◌, ◌≢◌, ◌⊎◌, ℕ, ◌+◌, ◌-◌, ◌<◌, ◌≤◌, ◌^◌, Bool, true, false, List, ◌∷◌, length, [], ◌++◌}
 use Rattle.std.specs.FinMap as finite
 use Rattle.raft_base.specs.declared.errors.Error.{Error}
 use Rattle.raft_base.specs.declared.errors.Error.TheVariants as errors
@@ -83,9 +83,14 @@ pub record IsNextRefused (w : Writing) (items : List Item) (old new : Accessor) 
 abbrev pub LacksRoom : Error → Type 0
 LacksRoom e = (e ≡ errors.Memory) ⊎ (e ≡ errors.Full)
 
--- the first ones of new items are written to the tables, and the next one isn't for want of room; or all are, and there is no memory to note what they take away
-abbrev pub AreCutShort : List Item → Accessor → Accessor → Error → Type 0
-AreCutShort items old new e = (LacksRoom e × IsNextRefused Appending items old new e) ⊎ ((e ≡ errors.Memory) × AreWritten Appending items old new)
+-- a batch takes something away of the tables, and that isn't noted
+abbrev pub IsUnnoted : Batch → KeptEngine → KeptEngine → Type 0
+IsUnnoted batch old new = (told_items (taking_items old.accessor.tables batch.items) ≢ []) × (new.untold ≡ old.untold)
+
+-- the first ones of a batch's items, with their places, are written to the tables, and the next one isn't for want of room; or all are, and there is no memory to note what they take away
+abbrev pub AreCutShort : Batch → List Item → KeptEngine → KeptEngine → Error → Type 0
+AreCutShort batch items old new e = (LacksRoom e × IsNextRefused Appending items old.accessor new.accessor e)
+    ⊎ ((e ≡ errors.Memory) × AreWritten Appending items old.accessor new.accessor × IsUnnoted batch old new)
 
 -- a batch that the tables would take is put and synced in part, and the tables are as they were; or it is put and synced, and the
 -- writing of its items, with their places there, to the tables is cut short
@@ -96,7 +101,7 @@ pub record IsHalfWritten (sync : Bool) (batch : Batch) (old new : KeptEngine) (e
   pub accepted : AreAcceptedOncePlaced old.accessor.tables batch.items
   pub half : IsHalfAsked (synced_if sync (ask Append (Put (bytes_for (file_of Append old seq) batch)) ∷ [])) old new
   pub tables : (new.accessor ≡ old.accessor)
-      ⊎ ((half.missing ≡ []) × AreCutShort (placed_at (file_of Append old seq).id (length bytes) batch) old.accessor new.accessor e)
+      ⊎ ((half.missing ≡ []) × AreCutShort batch (placed_at (file_of Append old seq).id (length bytes) batch) old new e)
 
 -- a queue's last file has more than 2^63 bytes
 pub record IsLastFull (queue : LogQueue) (asks : List Ask) : Type 0 where

@@ -152,7 +152,8 @@ module _
         → AreCutShort batch items engine (record { version = version; asks = new; untold = untold'; accessor = other; intact = false }) error
         → IsHalfWritten sync batch engine (record { version = version; asks = new; untold = untold'; accessor = other; intact = false }) error
     whole_asked e items placed cut =
-        half_by sync new untold' other error [] _ refl (e ∙ ap (synced_if sync) ask_made ∙ front_if sync its_ask asks) (inr (refl, placed_cut items (record { version = version; asks = new; untold = untold'; accessor = other; intact = false }) error placed cut))
+        let broken : KeptEngine = record { version = version; asks = new; untold = untold'; accessor = other; intact = false } in
+        half_by sync new untold' other error [] _ refl (e ∙ ap (synced_if sync) ask_made ∙ front_if sync its_ask asks) (inr (refl, placed_cut items broken error placed cut))
 
   -- the bytes were put or not, and the engine isn't intact any more
   pub kept_half : (new : List Ask) (append' rewrite' : QueueFiles) (untold' : Batch) (other : Accessor) → MayBeAsked (ask file.id.queue (Put (bytes_for file made))) asks new → IsKeptBy version new append' rewrite' untold' other false

@@ -33,8 +33,8 @@ pub record IsRotationFault (MayFail : Failures) (old new : KeptEngine) (e : Erro
   pub last : IsLastFile Append old.asks seq bytes
   pub failed : FailsAmong MayFail (ask Append (Begin (seq + 1)) ∷ ask Append Sync ∷ []) old.asks new.asks e
 
--- why a batch that is written breaks an engine: the files fail, to put its bytes, if it has items, or to sync them, if that is
--- wanted; or, of a batch with items, all of that was asked, and the writing of these, with their places there, is cut short
+-- why a batch that is written breaks an engine: the files fail, to put its bytes, if it has items, or to sync, if that is wanted; or a
+-- batch with items was put, and synced if that is wanted, and the writing of its items, with their places there, is cut short
 pub record IsWritingFault (MayFail : Failures) (sync : Bool) (batch : Batch) (old new : KeptEngine) (e : Error) : Type 0 where
   pub seq : ℕ
   pub bytes : List ℕ

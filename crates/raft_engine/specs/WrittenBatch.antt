@@ -70,7 +70,7 @@ pub record AreFirstWritten (w : Writing) (items : List Item) (old new : Accessor
   pub split : items ≡ front ++ rest
   pub written : AreWritten w front old new
 
--- the first ones of these items are written so to the tables, and nothing else; the next one isn't, for a reason that comes with this error
+-- the first ones of these items are written so to the tables, and nothing else; the next one isn't, and this error says why
 pub record IsNextRefused (w : Writing) (items : List Item) (old new : Accessor) (e : Error) : Type 0 where
   pub front : List Item
   pub item : Item
@@ -79,7 +79,7 @@ pub record IsNextRefused (w : Writing) (items : List Item) (old new : Accessor) 
   pub written : AreWritten w front old new
   pub fault : IsWriteFault w item.raft_group_id (finite.get new.tables item.raft_group_id) (live_in_all (queue_of w) new.tables) item.content e
 
--- there is no memory, or, says the error, no room for more live records: it is `Memory` or `Full`
+-- the error is `Memory`, or `Full`: no room in the counts
 abbrev pub LacksRoom : Error → Type 0
 LacksRoom e = (e ≡ errors.Memory) ⊎ (e ≡ errors.Full)
 
@@ -92,8 +92,8 @@ abbrev pub AreCutShort : Batch → List Item → KeptEngine → KeptEngine → E
 AreCutShort batch items old new e = (LacksRoom e × IsNextRefused Appending items old.accessor new.accessor e)
     ⊎ ((e ≡ errors.Memory) × AreWritten Appending items old.accessor new.accessor × IsUnnoted batch old new)
 
--- a batch that the tables would take is put and synced in part, and the tables are as they were; or it is put and synced, and the
--- writing of its items, with their places there, to the tables is cut short
+-- a batch that the tables would take is put and synced in part, and the tables are as they were; or it is put, and
+-- synced if that is wanted, and the writing of its items, with their places there, to the tables is cut short
 pub record IsHalfWritten (sync : Bool) (batch : Batch) (old new : KeptEngine) (e : Error) : Type 0 where
   pub seq : ℕ
   pub bytes : List ℕ

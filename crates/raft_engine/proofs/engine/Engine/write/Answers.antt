@@ -299,8 +299,11 @@ returns-in_err-merge-clause-err g c =
     e.version old e.append e.rewrite e.untold e.accessor e.intact c.self.invariant intact c.args.batch.now ready c.new-file.result file c.finish_populate.new.self c.in_ok-len.ensures.ok
     c.args.sync (g.F.EngineFiles.asked c.sync_if.new.files) c.merge.new.self c.apply.new.accessor c.in_err-merge.field-0.0 (c.in_ok-sync_if.ensures.ok ∙ ap (synced_if c.args.sync) c.in_ok-put.ensures.ok)
     c.put.new.batch.items c.in_ok-put.ensures.placed
-    (inr (merge_memory e.untold c.in_ok-taken.taken _ _ c.in_err-merge.field-0.0 (c.self.invariant.whole intact).are_untold c.in_ok-taken.ensures.ok c.in_err-merge.ensures.fault, c.in_ok-apply.ensures.ok,
-            (merge_unnoted c.in_ok-taken.taken _ (rw (c.items-2.ensures) at c.in_ok-taken.ensures.ok) c.in_err-merge.ensures.refused, c.in_err-merge.ensures.err))))))
+    (inr (
+      merge_memory e.untold c.in_ok-taken.taken _ _ c.in_err-merge.field-0.0 (c.self.invariant.whole intact).are_untold c.in_ok-taken.ensures.ok c.in_err-merge.ensures.fault,
+      c.in_ok-apply.ensures.ok,
+      (merge_unnoted c.in_ok-taken.taken _ (rw (c.items-2.ensures) at c.in_ok-taken.ensures.ok) c.in_err-merge.ensures.refused, c.in_err-merge.ensures.err),
+    )))))
 
 pub returns-in_err-check_append_writes-clause-err : goal.returns-in_err-check_append_writes-clause-err
 returns-in_err-check_append_writes-clause-err g c =
@@ -463,7 +466,10 @@ returns-in_err-merge-clause-fault g c =
             e.version old e.append e.rewrite e.untold e.accessor e.intact c.self.invariant intact c.args.batch.now ready c.new-file.result file c.finish_populate.new.self c.in_ok-len.ensures.ok
             c.put.new.batch.items (record { version = e.version; asks = new; untold = c.merge.new.self; accessor = c.apply.new.accessor; intact = false })
             c.in_err-merge.field-0.0 c.in_ok-put.ensures.placed
-            (inr (merge_memory e.untold c.in_ok-taken.taken _ _ c.in_err-merge.field-0.0 (c.self.invariant.whole intact).are_untold c.in_ok-taken.ensures.ok c.in_err-merge.ensures.fault, c.in_ok-apply.ensures.ok,
-            (merge_unnoted c.in_ok-taken.taken _ (rw (c.items-2.ensures) at c.in_ok-taken.ensures.ok) c.in_err-merge.ensures.refused, c.in_err-merge.ensures.err))),
+            (inr (
+              merge_memory e.untold c.in_ok-taken.taken _ _ c.in_err-merge.field-0.0 (c.self.invariant.whole intact).are_untold c.in_ok-taken.ensures.ok c.in_err-merge.ensures.fault,
+              c.in_ok-apply.ensures.ok,
+              (merge_unnoted c.in_ok-taken.taken _ (rw (c.items-2.ensures) at c.in_ok-taken.ensures.ok) c.in_err-merge.ensures.refused, c.in_err-merge.ensures.err),
+            )),
       );
     }))

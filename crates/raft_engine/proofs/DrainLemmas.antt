@@ -45,20 +45,18 @@ next_refused (Ok x) w s items old new is p = tt
 next_refused (Err e) w s items old new is p =
     let yields = subst (λ (it : IntoIter LogItem Global). Yields into_iter_steps it p.1 p.2) p.3 p.4 in
     let left : List Item = map item_of (into_iter_items p.2) in
-    let h = p.5 in
     record {
-      front = h.front;
-      item = h.item;
+      tried = map item_of p.1;
       rest = left;
-      split = sym is ∙ ap (map item_of) (parted s p.2 p.1 yields) ∙ map-append item_of p.1 (into_iter_items p.2) ∙ ap (λ (l : List Item). l ++ left) h.split
-          ∙ append_assoc h.front (h.item ∷ []) left;
-      written = h.written;
-      fault = h.fault;
+      split = sym is ∙ ap (map item_of) (parted s p.2 p.1 yields) ∙ map-append item_of p.1 (into_iter_items p.2);
+      refused = p.5;
     }
 
 -- so the first ones are written
 pub first_of : {w : Writing} {items : List Item} {old new : Accessor} {e : Error} → IsNextRefused w items old new e → AreFirstWritten w items old new
-first_of h = record { front = h.front; rest = h.item ∷ h.rest; split = h.split; written = h.written }
+first_of h =
+    let r = h.refused in
+    record { front = r.front; rest = r.item ∷ h.rest; split = h.split ∙ ap (λ (l : List Item). l ++ h.rest) r.split ∙ append_assoc r.front (r.item ∷ []) h.rest; written = r.written }
 
 -- items that are accepted are refused, whichever of them is, for want of room alone
 pub room_so : ((items rest : List Item) (old new : Accessor) (e : Error) → AreAccepted old.tables (items ++ rest) → AreItemsRefused Appending items old new e → LacksRoom e)

@@ -1,6 +1,5 @@
 -- One batch more in an engine.
 use Rattle.std.specs.Prelude.{◌≡◌, ◌≢◌, ◌⊎◌, ℕ, ◌+◌, ◌-◌, ◌<◌, ◌≤◌, ◌^◌, Bool, true, false, List, ◌∷◌, length, [], ◌++◌}
-use Rattle.std.specs.FinMap as finite
 use Rattle.raft_base.specs.declared.errors.Error.{Error}
 use Rattle.raft_base.specs.declared.errors.Error.TheVariants as errors
 use Rattle.raft_base.specs.declared.pipe_log.LogFileContext.{LogFileContext}
@@ -9,9 +8,9 @@ use Rattle.raft_base.specs.declared.pipe_log.LogQueue.TheVariants.{Append}
 use Rattle.raft_records.specs.Item.{Item}
 use Rattle.raft_records.specs.LogBatch.{Batch, encoded_length}
 use Rattle.raft_history.specs.Batches.{Event}
-use Rattle.raft_accessor.specs.Accessor.{Accessor, live_in_all}
+use Rattle.raft_accessor.specs.Accessor.{Accessor}
 use Rattle.raft_accessor.specs.AppendChecks.{AreAcceptedOncePlaced, AreRefusedOncePlaced}
-use Rattle.raft_accessor.specs.Writes.{Appending, AreWritten, IsWriteFault, Writing, queue_of}
+use Rattle.raft_accessor.specs.Writes.{Appending, AreItemsRefused, AreWritten, Writing}
 use Rattle.raft_files.specs.Asks.{Ask, Begin, Put, Sync, acts_on, ask}
 use Rattle.raft_files.specs.Disk.{begun}
 use Rattle.raft_recover.specs.Files.{FilesHold}
@@ -70,14 +69,12 @@ pub record AreFirstWritten (w : Writing) (items : List Item) (old new : Accessor
   pub split : items ≡ front ++ rest
   pub written : AreWritten w front old new
 
--- the first ones of these items are written so to the tables, and nothing else; the next one isn't, and this error says why
+-- of these items the first ones are tried so, one after another, until the tables refuse one with this error: those in front of it are written, and nothing else
 pub record IsNextRefused (w : Writing) (items : List Item) (old new : Accessor) (e : Error) : Type 0 where
-  pub front : List Item
-  pub item : Item
+  pub tried : List Item
   pub rest : List Item
-  pub split : items ≡ front ++ item ∷ rest
-  pub written : AreWritten w front old new
-  pub fault : IsWriteFault w item.raft_group_id (finite.get new.tables item.raft_group_id) (live_in_all (queue_of w) new.tables) item.content e
+  pub split : items ≡ tried ++ rest
+  pub refused : AreItemsRefused w tried old new e
 
 -- the error is `Memory`, or `Full`: no room in the counts
 abbrev pub LacksRoom : Error → Type 0

@@ -1,5 +1,5 @@
 -- The items that a loop takes of a batch that was drained.
-use Rattle.std.proofs.Common.{◌≡◌, List, [], ◌∷◌, ◌++◌, length, map, Result, Ok, Err, IfErr, OnErr, OnOk, refl, sym, ap, ◌∙◌, subst, append_assoc, append-nil}
+use Rattle.std.proofs.Common.{◌≡◌, List, [], ◌∷◌, ◌++◌, length, map, Result, Ok, Err, IfErr, OnOk, refl, sym, ap, ◌∙◌, subst, append_assoc, append-nil}
 use Rattle.std.proofs.lemmas.Iterator.{items_from_drains}
 use Rattle.std.proofs.lemmas.Iterator.Adapters.{YieldsList-from_vec}
 use Rattle.std.proofs.lemmas.List.{map-append, map-id, length-map}
@@ -37,24 +37,7 @@ pub parted : {X Z : Type 0} (s u : IntoIter X Z) (xs : List X) → Yields into_i
 parted s u [] y = ap into_iter_items y
 parted s u (x ∷ xs) y = y.1.0 ∙ ap (λ l. x ∷ l) (parted y.0 u xs y.2)
 
--- a loop over the items of a batch that was drained writes the first ones of them, if it is stopped
-pub first_so : {R : Type 0} (r : Result R Error) (w : Writing) (s : IntoIter LogItem Global) (items : List Item) (old new : Accessor) → map item_of (into_iter_items s) ≡ items
-    → IfErr r (λ e. (it : IntoIter LogItem Global) × (xs : List LogItem) × (u : IntoIter LogItem Global) × (it ≡ s) × Yields into_iter_steps it xs u × AreItemsRefused w (map item_of xs) old new e)
-    → OnErr r (AreFirstWritten w items old new)
-first_so (Ok x) w s items old new is p = tt
-first_so (Err e) w s items old new is p =
-    let yields = subst (λ (it : IntoIter LogItem Global). Yields into_iter_steps it p.1 p.2) p.3 p.4 in
-    let left : List Item = map item_of (into_iter_items p.2) in
-    let h = p.5 in
-    record {
-      front = h.front;
-      rest = h.item ∷ left;
-      split = sym is ∙ ap (map item_of) (parted s p.2 p.1 yields) ∙ map-append item_of p.1 (into_iter_items p.2) ∙ ap (λ (l : List Item). l ++ left) h.split
-          ∙ append_assoc h.front (h.item ∷ []) left;
-      written = h.written;
-    }
-
--- and the next one is refused
+-- of the items of a batch that was drained the first ones are written, and the next one is refused, if a loop over them is stopped
 pub next_refused : {R : Type 0} (r : Result R Error) (w : Writing) (s : IntoIter LogItem Global) (items : List Item) (old new : Accessor) → map item_of (into_iter_items s) ≡ items
     → IfErr r (λ e. (it : IntoIter LogItem Global) × (xs : List LogItem) × (u : IntoIter LogItem Global) × (it ≡ s) × Yields into_iter_steps it xs u × AreItemsRefused w (map item_of xs) old new e)
     → IfErr r (IsNextRefused w items old new)
@@ -62,16 +45,18 @@ next_refused (Ok x) w s items old new is p = tt
 next_refused (Err e) w s items old new is p =
     let yields = subst (λ (it : IntoIter LogItem Global). Yields into_iter_steps it p.1 p.2) p.3 p.4 in
     let left : List Item = map item_of (into_iter_items p.2) in
-    let h = p.5 in
     record {
-      front = h.front;
-      item = h.item;
+      tried = map item_of p.1;
       rest = left;
-      split = sym is ∙ ap (map item_of) (parted s p.2 p.1 yields) ∙ map-append item_of p.1 (into_iter_items p.2) ∙ ap (λ (l : List Item). l ++ left) h.split
-          ∙ append_assoc h.front (h.item ∷ []) left;
-      written = h.written;
-      fault = h.fault;
+      split = sym is ∙ ap (map item_of) (parted s p.2 p.1 yields) ∙ map-append item_of p.1 (into_iter_items p.2);
+      refused = p.5;
     }
+
+-- so the first ones are written
+pub first_of : {w : Writing} {items : List Item} {old new : Accessor} {e : Error} → IsNextRefused w items old new e → AreFirstWritten w items old new
+first_of h =
+    let r = h.refused in
+    record { front = r.front; rest = r.item ∷ h.rest; split = h.split ∙ ap (λ (l : List Item). l ++ h.rest) r.split ∙ append_assoc r.front (r.item ∷ []) h.rest; written = r.written }
 
 -- items that are accepted are refused, whichever of them is, for want of room alone
 pub room_so : ((items rest : List Item) (old new : Accessor) (e : Error) → AreAccepted old.tables (items ++ rest) → AreItemsRefused Appending items old new e → LacksRoom e)

@@ -17,7 +17,7 @@ use Rattle.raft_engine.specs.GroupBatches.{placed_from, puts_asks}
 use Rattle.raft_engine.specs.GroupPlaces.{AreFirstPut, BeginInTime, IsOneTooLong, as_encoded, end_from, items_of_batches}
 use Rattle.raft_engine.specs.OpeningAsks.{Failures, FailsAmong}
 use Rattle.raft_engine.specs.StoredAsks.{IsWritableBatch}
-use Rattle.raft_engine.specs.WrittenBatch.{AreFirstWritten, IsNextRefused}
+use Rattle.raft_engine.specs.WrittenBatch.{IsNextRefused}
 use Rattle.raft_engine.proofs.PartLemmas.{each_more}
 
 -- ---- one batch more at the end
@@ -319,33 +319,23 @@ pub all_written : (w : Writing) (all : List Batch) (old now : Accessor) (left : 
 all_written w all old now left none h =
     subst (λ (l : List Batch). AreWritten w (items_of_batches l) old now) (sym (append-nil h.front) ∙ ap (λ (l : List Batch). h.front ++ l) (sym none) ∙ h.split) h.written
 
-pub first_written : (w : Writing) (all : List Batch) (old now new : Accessor) (left : List Batch) (b : Batch) (rest : List Batch)
-    → left ≡ b ∷ rest → AreFirstWritten w b.items now new → AreWrittenSoFar w all old now left
-    → AreFirstWritten w (items_of_batches all) old new
-first_written w all old now new left b rest next f h = record {
-  front = items_of_batches h.front ++ f.front;
-  rest = f.rest ++ items_of_batches rest;
-  split =
-      ap items_of_batches (sym h.split ∙ ap (λ (l : List Batch). h.front ++ l) next) ∙ flat_map-append (λ (x : Batch). x.items) h.front (b ∷ rest)
-      ∙ ap (λ (l : List Item). items_of_batches h.front ++ (l ++ items_of_batches rest)) f.split
-      ∙ ap (λ (l : List Item). items_of_batches h.front ++ l) (append_assoc f.front f.rest (items_of_batches rest))
-      ∙ sym (append_assoc (items_of_batches h.front) f.front (f.rest ++ items_of_batches rest));
-  written = written_append w (items_of_batches h.front) f.front old now new h.written f.written;
-}
-
 -- the next item is refused
 pub group_refused : (w : Writing) (all : List Batch) (old now new : Accessor) (e : Error) (left : List Batch) (b : Batch) (rest : List Batch)
     → left ≡ b ∷ rest → IsNextRefused w b.items now new e → AreWrittenSoFar w all old now left
     → IsNextRefused w (items_of_batches all) old new e
 group_refused w all old now new e left b rest next f h = record {
-  front = items_of_batches h.front ++ f.front;
-  item = f.item;
+  tried = items_of_batches h.front ++ f.tried;
   rest = f.rest ++ items_of_batches rest;
   split =
       ap items_of_batches (sym h.split ∙ ap (λ (l : List Batch). h.front ++ l) next) ∙ flat_map-append (λ (x : Batch). x.items) h.front (b ∷ rest)
       ∙ ap (λ (l : List Item). items_of_batches h.front ++ (l ++ items_of_batches rest)) f.split
-      ∙ ap (λ (l : List Item). items_of_batches h.front ++ l) (append_assoc f.front (f.item ∷ f.rest) (items_of_batches rest))
-      ∙ sym (append_assoc (items_of_batches h.front) f.front (f.item ∷ (f.rest ++ items_of_batches rest)));
-  written = written_append w (items_of_batches h.front) f.front old now new h.written f.written;
-  fault = f.fault;
+      ∙ ap (λ (l : List Item). items_of_batches h.front ++ l) (append_assoc f.tried f.rest (items_of_batches rest))
+      ∙ sym (append_assoc (items_of_batches h.front) f.tried (f.rest ++ items_of_batches rest));
+  refused = record {
+    front = items_of_batches h.front ++ f.refused.front;
+    item = f.refused.item;
+    split = ap (λ (l : List Item). items_of_batches h.front ++ l) f.refused.split ∙ sym (append_assoc (items_of_batches h.front) f.refused.front (f.refused.item ∷ []));
+    written = written_append w (items_of_batches h.front) f.refused.front old now new h.written f.refused.written;
+    fault = f.refused.fault;
+  };
 }

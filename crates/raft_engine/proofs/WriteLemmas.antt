@@ -119,7 +119,7 @@ module _
 
   -- the batch is half written
   half_by : (sync : Bool) (new : List Ask) (untold' : Batch) (other : Accessor) (error : Error) (missing part : List Ask) → synced_if sync (its_ask ∷ []) ≡ missing ++ part → new ≡ part ++ asks
-      → (other ≡ accessor) ⊎ ((missing ≡ []) × AreCutShort (placed_at id (length old_bytes) batch) accessor other error)
+      → (other ≡ accessor) ⊎ ((missing ≡ []) × AreCutShort batch (placed_at id (length old_bytes) batch) engine (record { version = version; asks = new; untold = untold'; accessor = other; intact = false }) error)
       → IsHalfWritten sync batch engine (record { version = version; asks = new; untold = untold'; accessor = other; intact = false }) error
   half_by sync new untold' other error missing part split e tables = record {
     seq = append.seq;
@@ -135,11 +135,11 @@ module _
   placed_accepted items placed = subst (AreAccepted accessor.tables) (sym (placed ∙ placed_made)) accepted
 
   -- the items with their places, whose writing was cut short
-  pub placed_cut : (items : List Item) (other : Accessor) (error : Error) → items ≡ placed_at file.id append.len made → AreCutShort items accessor other error
-      → AreCutShort (placed_at id (length old_bytes) batch) accessor other error
+  pub placed_cut : (items : List Item) (other : KeptEngine) (error : Error) → items ≡ placed_at file.id append.len made → AreCutShort batch items engine other error
+      → AreCutShort batch (placed_at id (length old_bytes) batch) engine other error
   placed_cut items other error placed cut =
       let are = placed ∙ placed_made ∙ ap (λ (n : ℕ). placed_at id n batch) (k.whole is_intact).append_files.ends in
-      subst (λ (l : List Item). AreCutShort l accessor other error) are cut
+      subst (λ (l : List Item). AreCutShort batch l engine other error) are cut
 
   module _ (sync : Bool) (new : List Ask) (untold' : Batch) (other : Accessor) (error : Error) where
     pub half_written : MayBeAsked (ask file.id.queue (Put (bytes_for file made))) asks new → other ≡ accessor
@@ -148,10 +148,12 @@ module _
     half_written (inr e) same = half_by sync new untold' other error (synced_if sync []) (its_ask ∷ []) (parts_if sync its_ask) (e ∙ ask_made) (inl same)
 
     pub whole_asked : new ≡ synced_if sync (ask file.id.queue (Put (bytes_for file made)) ∷ asks)
-        → (items : List Item) → items ≡ placed_at file.id append.len made → AreCutShort items accessor other error
+        → (items : List Item) → items ≡ placed_at file.id append.len made
+        → AreCutShort batch items engine (record { version = version; asks = new; untold = untold'; accessor = other; intact = false }) error
         → IsHalfWritten sync batch engine (record { version = version; asks = new; untold = untold'; accessor = other; intact = false }) error
     whole_asked e items placed cut =
-        half_by sync new untold' other error [] _ refl (e ∙ ap (synced_if sync) ask_made ∙ front_if sync its_ask asks) (inr (refl, placed_cut items other error placed cut))
+        let broken : KeptEngine = record { version = version; asks = new; untold = untold'; accessor = other; intact = false } in
+        half_by sync new untold' other error [] _ refl (e ∙ ap (synced_if sync) ask_made ∙ front_if sync its_ask asks) (inr (refl, placed_cut items broken error placed cut))
 
   -- the bytes were put or not, and the engine isn't intact any more
   pub kept_half : (new : List Ask) (append' rewrite' : QueueFiles) (untold' : Batch) (other : Accessor) → MayBeAsked (ask file.id.queue (Put (bytes_for file made))) asks new → IsKeptBy version new append' rewrite' untold' other false
@@ -257,6 +259,10 @@ few old taken a b is are many =
     let none : length old.entry_bytes ≡ 0 = ap (λ (x : Batch). length x.entry_bytes) is in
     let no_more : length taken.entry_bytes ≡ 0 = ap (λ (x : Batch). length x.entry_bytes) are in
     omega (arith, none, no_more, many)
+
+-- items that aren't joined are some
+pub merge_unnoted : (taken : Batch) (b : List Item) → taken ≡ record empty_batch { items = b } → taken.items ≢ [] → b ≢ []
+merge_unnoted taken b are some none = some (ap (λ (x : Batch). x.items) are ∙ none)
 
 -- untold items, which have no bytes, aren't joined for want of memory alone
 pub merge_memory : (old taken : Batch) (a b : List Item) (e : Error) → old ≡ record empty_batch { items = a } → taken ≡ record empty_batch { items = b }

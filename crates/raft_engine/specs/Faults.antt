@@ -33,15 +33,15 @@ pub record IsRotationFault (MayFail : Failures) (old new : KeptEngine) (e : Erro
   pub last : IsLastFile Append old.asks seq bytes
   pub failed : FailsAmong MayFail (ask Append (Begin (seq + 1)) ∷ ask Append Sync ∷ []) old.asks new.asks e
 
--- why a batch that is written breaks an engine: the files fail, to put its bytes, if it has items, or to sync them, if that is
--- wanted; or, of a batch with items, all of that was asked, and the writing of these, with their places there, is cut short
+-- why a batch that is written breaks an engine: the files fail, to put its bytes, if it has items, or to sync, if that is wanted; or a
+-- batch with items was put, and synced if that is wanted, and the writing of its items, with their places there, is cut short
 pub record IsWritingFault (MayFail : Failures) (sync : Bool) (batch : Batch) (old new : KeptEngine) (e : Error) : Type 0 where
   pub seq : ℕ
   pub bytes : List ℕ
   pub last : IsLastFile Append old.asks seq bytes
   pub why : FailsAmong MayFail (synced_if sync (put_asks (file_of Append old seq) batch)) old.asks new.asks e
       ⊎ ((batch.items ≢ []) × (new.asks ≡ synced_if sync (put_asks (file_of Append old seq) batch) ++ old.asks)
-      × AreCutShort (placed_at (file_of Append old seq).id (length bytes) batch) old.accessor new.accessor e)
+      × AreCutShort batch (placed_at (file_of Append old seq).id (length bytes) batch) old new e)
 
 -- newest first: what is asked to tell the rewrite queue, behind its last file of this number, what is untold
 abbrev pub telling_asks : KeptEngine → ℕ → List Ask

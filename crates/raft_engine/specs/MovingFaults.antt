@@ -60,14 +60,14 @@ pub record IsGroupFault (MayFail : Failures) (region : ℕ) (old new : KeptEngin
       ⊎ ((new.asks ≡ puts_asks (file_of Rewrite old seq) batches between)
       × AreUntaken None seq (placed_from (file_of Rewrite old seq).id (length bytes) batches) old.accessor new.accessor e)
 
--- why a region's records that move again do: in one batch if its entries are one part, else in a group
+-- why an engine breaks where a region's records move again: in one batch if its entries are one part, else in a group
 abbrev pub IsRegionFaultAgain : Failures → ℕ → KeptEngine → KeptEngine → Error → Type 0
 IsRegionFaultAgain MayFail region old new e =
     (IsOnePartOf region old × IsRegionFault MayFail None region old new e) ⊎ (¬ (IsOnePartOf region old) × IsGroupFault MayFail region old new e)
 
 -- ---- all regions
 
--- of these regions the records of the first ones moved, and those of the next one break the engine
+-- of these regions the records of the first ones moved, and the engine breaks at the next one
 pub record IsFaultOfRegions (MayFail : Failures) (gate : Option ℕ) (regions : List ℕ) (old new : KeptEngine) (e : Error) : Type 0 where
   pub front : List ℕ
   pub region : ℕ
@@ -77,7 +77,7 @@ pub record IsFaultOfRegions (MayFail : Failures) (gate : Option ℕ) (regions : 
   pub moved : AreRegionsRewritten gate front old between
   pub fault : IsRegionFault MayFail gate region between new e
 
--- so it is where records move again
+-- the same where rewritten records move again
 pub record IsFaultOfRegionsAgain (MayFail : Failures) (regions : List ℕ) (old new : KeptEngine) (e : Error) : Type 0 where
   pub front : List ℕ
   pub region : ℕ
@@ -87,7 +87,7 @@ pub record IsFaultOfRegionsAgain (MayFail : Failures) (regions : List ℕ) (old 
   pub moved : AreRegionsMovedAgain front old between
   pub fault : IsRegionFaultAgain MayFail region between new e
 
--- all is told, and the records of one of all regions break the engine
+-- all is told, and the engine breaks at one of all regions
 pub record IsMovingFault (MayFail : Failures) (gate : ℕ) (old new : KeptEngine) (e : Error) : Type 0 where
   pub told : KeptEngine
   pub is_told : IsTold old told
@@ -112,7 +112,7 @@ pub record IsToldRotationFault (MayFail : Failures) (old new : KeptEngine) (e : 
   pub is_told : IsTold old told
   pub fault : IsRewriteRotationFault MayFail told new e
 
--- it is told, a new file of it is begun, and the records of one of all regions break the engine
+-- it is told, a new file of it is begun, and the engine breaks at one of all regions
 pub record IsMovingFaultAgain (MayFail : Failures) (old new : KeptEngine) (e : Error) : Type 0 where
   pub told : KeptEngine
   pub is_told : IsTold old told

@@ -25,8 +25,7 @@ missing_asks queue (Cut len) = ask queue (asks.Cut len) ∷ []
 abbrev pub Failures : Type 1
 Failures = List Ask → Ask → Error → Type 0
 
--- Of what is wanted, newest first, all was asked that is older than one ask; a call that asks this one may fail with this error, and it
--- was asked or not.
+-- The wanted asks, newest first, were made in order up to one; the call for that one failed with this error, and may have made it or not.
 pub record FailsAmong (MayFail : Failures) (wanted old new : List Ask) (e : Error) : Type 0 where
   pub later : List Ask
   pub failed : Ask

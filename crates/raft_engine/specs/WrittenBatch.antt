@@ -1,6 +1,5 @@
 -- One batch more in an engine.
-use Rattle.std.specs.Prelude.{◌≡◌, ◌⊎◌, ℕ, ◌+◌, ◌-◌, ◌<◌, ◌≤◌, ◌^◌, Bool, true, false, List, ◌∷◌, length, [], ◌++◌}
-use Rattle.std.specs.FinMap as finite
+use Rattle.std.specs.Prelude.{◌≡◌, ◌≢◌, ◌⊎◌, ℕ, ◌+◌, ◌-◌, ◌<◌, ◌≤◌, ◌^◌, Bool, true, false, List, ◌∷◌, length, [], ◌++◌}
 use Rattle.raft_base.specs.declared.errors.Error.{Error}
 use Rattle.raft_base.specs.declared.errors.Error.TheVariants as errors
 use Rattle.raft_base.specs.declared.pipe_log.LogFileContext.{LogFileContext}
@@ -9,9 +8,9 @@ use Rattle.raft_base.specs.declared.pipe_log.LogQueue.TheVariants.{Append}
 use Rattle.raft_records.specs.Item.{Item}
 use Rattle.raft_records.specs.LogBatch.{Batch, encoded_length}
 use Rattle.raft_history.specs.Batches.{Event}
-use Rattle.raft_accessor.specs.Accessor.{Accessor, live_in_all}
+use Rattle.raft_accessor.specs.Accessor.{Accessor}
 use Rattle.raft_accessor.specs.AppendChecks.{AreAcceptedOncePlaced, AreRefusedOncePlaced}
-use Rattle.raft_accessor.specs.Writes.{Appending, AreWritten, IsWriteFault, Writing, queue_of}
+use Rattle.raft_accessor.specs.Writes.{Appending, AreItemsRefused, AreWritten, Writing}
 use Rattle.raft_files.specs.Asks.{Ask, Begin, Put, Sync, acts_on, ask}
 use Rattle.raft_files.specs.Disk.{begun}
 use Rattle.raft_recover.specs.Files.{FilesHold}
@@ -70,25 +69,28 @@ pub record AreFirstWritten (w : Writing) (items : List Item) (old new : Accessor
   pub split : items ≡ front ++ rest
   pub written : AreWritten w front old new
 
--- the first ones of these items are written so to the tables, and nothing else; the next one isn't, for a reason that comes with this error
+-- of these items the first ones are tried so, one after another, until the tables refuse one with this error: those in front of it are written, and nothing else
 pub record IsNextRefused (w : Writing) (items : List Item) (old new : Accessor) (e : Error) : Type 0 where
-  pub front : List Item
-  pub item : Item
+  pub tried : List Item
   pub rest : List Item
-  pub split : items ≡ front ++ item ∷ rest
-  pub written : AreWritten w front old new
-  pub fault : IsWriteFault w item.raft_group_id (finite.get new.tables item.raft_group_id) (live_in_all (queue_of w) new.tables) item.content e
+  pub split : items ≡ tried ++ rest
+  pub refused : AreItemsRefused w tried old new e
 
--- there is no memory, or, says the error, no room for more live records: it is `Memory` or `Full`
+-- the error is `Memory`, or `Full`: no room in the counts
 abbrev pub LacksRoom : Error → Type 0
 LacksRoom e = (e ≡ errors.Memory) ⊎ (e ≡ errors.Full)
 
--- the first ones of new items are written to the tables, and the next one isn't for want of room; or all are, and there is no memory to note what they take away
-abbrev pub AreCutShort : List Item → Accessor → Accessor → Error → Type 0
-AreCutShort items old new e = (LacksRoom e × IsNextRefused Appending items old new e) ⊎ ((e ≡ errors.Memory) × AreWritten Appending items old new)
+-- a batch takes something away of the tables, and that isn't noted
+abbrev pub IsUnnoted : Batch → KeptEngine → KeptEngine → Type 0
+IsUnnoted batch old new = (told_items (taking_items old.accessor.tables batch.items) ≢ []) × (new.untold ≡ old.untold)
 
--- a batch that the tables would take is put and synced in part, and the tables are as they were; or it is put and synced, and the
--- writing of its items, with their places there, to the tables is cut short
+-- the first ones of a batch's items, with their places, are written to the tables, and the next one isn't for want of room; or all are, and there is no memory to note what they take away
+abbrev pub AreCutShort : Batch → List Item → KeptEngine → KeptEngine → Error → Type 0
+AreCutShort batch items old new e = (LacksRoom e × IsNextRefused Appending items old.accessor new.accessor e)
+    ⊎ ((e ≡ errors.Memory) × AreWritten Appending items old.accessor new.accessor × IsUnnoted batch old new)
+
+-- a batch that the tables would take is put and synced in part, and the tables are as they were; or it is put, and
+-- synced if that is wanted, and the writing of its items, with their places there, to the tables is cut short
 pub record IsHalfWritten (sync : Bool) (batch : Batch) (old new : KeptEngine) (e : Error) : Type 0 where
   pub seq : ℕ
   pub bytes : List ℕ
@@ -96,7 +98,7 @@ pub record IsHalfWritten (sync : Bool) (batch : Batch) (old new : KeptEngine) (e
   pub accepted : AreAcceptedOncePlaced old.accessor.tables batch.items
   pub half : IsHalfAsked (synced_if sync (ask Append (Put (bytes_for (file_of Append old seq) batch)) ∷ [])) old new
   pub tables : (new.accessor ≡ old.accessor)
-      ⊎ ((half.missing ≡ []) × AreCutShort (placed_at (file_of Append old seq).id (length bytes) batch) old.accessor new.accessor e)
+      ⊎ ((half.missing ≡ []) × AreCutShort batch (placed_at (file_of Append old seq).id (length bytes) batch) old new e)
 
 -- a queue's last file has more than 2^63 bytes
 pub record IsLastFull (queue : LogQueue) (asks : List Ask) : Type 0 where

@@ -319,9 +319,9 @@ impl<F: EngineFiles> Engine<F> {
     ///
     /// `Failed` where the engine isn't intact; `Corruption` where the tables would refuse an item, which the text names;
     /// `Full` where the batch has 2^56 bytes or more, or its file more than 2^63; `Memory`. The engine and the batch are then as
-    /// they were. Those of `EngineFiles`; and, once all was asked, `Memory`, or `Full` where with the records of the next item
-    /// 2^64 or more would be live in the append queue: the engine isn't intact any more, and the tables are as they were or, once
-    /// the bytes were put, have the first ones of the items.
+    /// they were. Those of `EngineFiles`; and, once all was asked, `Memory`, or `Full` where the live records of the append queue
+    /// and those that the next item names are 2^64 or more together: the engine isn't intact any more, and the tables are as they
+    /// were or, once the bytes were put, and synced if that is wanted, have the first ones of the items, or all of them.
     pub fn write(&mut self, batch: &mut LogBatch, sync: bool) -> Result<()>
         requires { batch.old.stage ≡ is_open }
         ensures ok { OnOk result ((batch.old.items ≡ []) × IsOnlySynced sync self.old self.new

@@ -34,8 +34,8 @@ impl<F: EngineFiles> Engine<F> {
     /// begin past 2^63 in the new file; `Corruption` where the bytes of an entry aren't found at its place; `InvalidArgument`
     /// where a key is that of the group markers; those of `EngineFiles::read`; `Memory`. The records of some regions moved then,
     /// and the engine is intact. The other ones of `EngineFiles`; and, once all batches of a region were put, `Memory`, `Full`
-    /// where with the records of the next item 2^64 or more would be live in the rewrite queue, or a `Corruption` where the tables
-    /// don't take it: it isn't intact any more. A group of which not all batches were put changes nothing.
+    /// where the live records of the rewrite queue and those that the next item names are 2^64 or more together, or a `Corruption`
+    /// where the tables don't take it: it isn't intact any more. A group of which not all batches were put changes nothing.
     pub fn rewrite_again(&mut self) -> Result<()>
         ensures ok { OnOk result (AreMovedAgain self.old self.new) }
         ensures accepted { OnOk result (self.old.intact ≡ true) }

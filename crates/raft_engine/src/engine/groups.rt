@@ -1,6 +1,6 @@
 //! Rewritten records of regions that move to a new file of the rewrite queue, in one batch of a region or in an atomic group.
 
-ghost use Rattle.std.specs.Prelude.{◌≡◌, ◌⊎◌, ◌↔◌, IfErr, IfOk, IsTrue, None, OnErr, OnOk};
+ghost use Rattle.std.specs.Prelude.{◌≡◌, ◌⊎◌, ◌↔◌, IfErr, IfOk, IsTrue, None, OnOk};
 ghost use Rattle.std.specs.FinMap as finite;
 ghost use Rattle.raft_accessor.specs.Writes.{AreWritten, Rewriting};
 ghost use Rattle.raft_engine.specs.GroupPlaces.{items_of_batches};
@@ -8,7 +8,7 @@ ghost use Rattle.raft_engine.specs.Faults.{Breaks};
 ghost use Rattle.raft_engine.specs.Moved.{IsReady};
 ghost use Rattle.raft_engine.specs.MovedGroups.{AreRegionsMovedAgain, AreSomeRegionsMovedAgain, IsGroupMoved, IsGroupUnmoved, IsOnePartOf, IsRegionMovedAgain, IsRegionUnmovedAgain};
 ghost use Rattle.raft_engine.specs.MovingFaults.{IsFaultOfRegionsAgain, IsGroupFault, IsRegionFaultAgain};
-ghost use Rattle.raft_engine.specs.WrittenBatch.{AreFirstWritten, IsNextRefused};
+ghost use Rattle.raft_engine.specs.WrittenBatch.{IsNextRefused};
 
 use super::Engine;
 use super::rewrite::rewrite_items;
@@ -124,8 +124,6 @@ impl<F: EngineFiles> Engine<F> {
 fn rewrite_all(accessor: &mut MemTableAccessor, batches: Vec<LogBatch>, seq: FileSeq) -> Result<()>
     ensures ok { OnOk result (AreWritten (Rewriting None seq) (items_of_batches batches.items)
         accessor.old accessor.new) }
-    ensures err { OnErr result (AreFirstWritten (Rewriting None seq)
-        (items_of_batches batches.items) accessor.old accessor.new) }
     ensures fault { IfErr result (IsNextRefused (Rewriting None seq)
         (items_of_batches batches.items) accessor.old accessor.new) }
 {

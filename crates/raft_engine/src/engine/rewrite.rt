@@ -1,12 +1,12 @@
 //! Records that move to the rewrite queue.
 
-ghost use Rattle.std.specs.Prelude.{◌≡◌, IfErr, OnErr, OnOk, true};
+ghost use Rattle.std.specs.Prelude.{◌≡◌, IfErr, OnOk, true};
 ghost use Rattle.raft_records.specs.LogBatch.{empty_batch};
 ghost use Rattle.raft_accessor.specs.Writes.{AreWritten, Rewriting};
 ghost use Rattle.raft_engine.specs.Faults.{Breaks, IsTellingFault};
 ghost use Rattle.raft_engine.specs.Moved.{AreRegionsRewritten, AreSomeRewritten, IsReady, IsRegionRewritten, IsRegionUnmoved, IsRewritten, IsTold, IsUnrewritten, IsUntold};
 ghost use Rattle.raft_engine.specs.MovingFaults.{AreTaken, IsFaultOfRegions, IsRegionFault, IsRewritingFault};
-ghost use Rattle.raft_engine.specs.WrittenBatch.{AreFirstWritten, IsNextRefused, LacksRoom};
+ghost use Rattle.raft_engine.specs.WrittenBatch.{IsNextRefused, LacksRoom};
 
 use super::Engine;
 use crate::limits::LAST_OFFSET;
@@ -33,8 +33,8 @@ impl<F: EngineFiles> Engine<F> {
     /// bytes in all, or the last rewrite file more than 2^63; `Corruption` where the bytes of an entry aren't found at its
     /// place; `InvalidArgument` where a key is that of the group markers; those of `EngineFiles::read`; `Memory`. The records
     /// of some regions moved then, and the engine is intact. The other ones of `EngineFiles`; and, once a region's batch was put,
-    /// `Memory`, or `Full` where with the records of its next item 2^64 or more would be live in the rewrite queue: it isn't
-    /// intact any more.
+    /// `Memory`, or `Full` where the live records of the rewrite queue and those that its next item names are 2^64 or more
+    /// together: it isn't intact any more.
     pub fn rewrite(&mut self, gate: FileSeq) -> Result<()>
         ensures ok { OnOk result (IsRewritten gate self.old self.new) }
         ensures accepted { OnOk result (self.old.intact ≡ true) }
@@ -166,8 +166,6 @@ pub(super) fn rewrite_items(
 ) -> Result<()>
     ensures ok { OnOk result
         (AreWritten (Rewriting gate seq) batch.old.items accessor.old accessor.new) }
-    ensures err { OnErr result
-        (AreFirstWritten (Rewriting gate seq) batch.old.items accessor.old accessor.new) }
     ensures fault { IfErr result
         (IsNextRefused (Rewriting gate seq) batch.old.items accessor.old accessor.new) }
     ensures room { AreTaken gate seq accessor.old.tables batch.old.items → IfErr result LacksRoom }

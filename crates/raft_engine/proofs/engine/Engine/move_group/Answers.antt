@@ -20,6 +20,7 @@ use Rattle.raft_engine.proofs.KeptMoves.{kept_read}
 use Rattle.raft_engine.specs.MovingFaults.{IsGroupFault}
 use Rattle.raft_engine.specs.OpeningAsks.{FailsAmong}
 use Rattle.raft_engine.proofs.FilesLemmas.{files_last}
+use Rattle.raft_engine.proofs.DrainLemmas.{first_of}
 use Rattle.raft_engine.proofs.engine.Engine.move_group.Goals as goal
 
 pub invariant_of-self : goal.invariant_of-self
@@ -184,7 +185,7 @@ returns-in_err-rewrite_all-clause-err g c =
     (inr (
       is_new,
       subst (λ (l : List Item). AreFirstWritten (Rewriting None e.rewrite.seq) l e.accessor c.rewrite_all.new.accessor) places
-          c.in_err-rewrite_all.ensures.err,
+          (first_of c.in_err-rewrite_all.ensures.fault),
     )))))
 
 pub invariant_of-self-2 : goal.invariant_of-self-2

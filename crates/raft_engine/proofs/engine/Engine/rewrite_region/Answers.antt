@@ -22,6 +22,7 @@ use Rattle.raft_engine.specs.WrittenBatch.{IsNextRefused}
 use Rattle.raft_engine.proofs.FaultLemmas.{made_fails, put_whole}
 use Rattle.raft_engine.proofs.FilesLemmas.{files_last}
 use Rattle.raft_engine.proofs.MovingFaultLemmas.{untaken}
+use Rattle.raft_engine.proofs.DrainLemmas.{first_of}
 use Rattle.raft_engine.proofs.engine.Engine.rewrite_region.Goals as goal
 
 pub invariant_of-self : goal.invariant_of-self
@@ -199,7 +200,8 @@ returns-in_err-rewrite_items-clause-err g c =
           between c.in_ok-batch.batch m w c.new-file.result file c.finish_populate.new.self c.in_ok-len.ensures.ok (g.F.EngineFiles.asked c.put.new.files) c.in_ok-put.ensures.ok,
       made_first c.moves_are_stored.ensures.read e.version old e.append e.rewrite e.untold e.accessor e.intact c.self.invariant
           c.moves_are_stored.ensures.moved ready.intact ready.synced ready.told c.args.gate c.args.region c.in-Some.table.now (sym c.in-Some.ensures.value) c.in-Some.ensures.own c.holds_one_run.ensures
-          between c.in_ok-batch.batch m w c.new-file.result file c.finish_populate.new.self c.in_ok-len.ensures.ok c.put.new.batch.items c.rewrite_items.new.accessor c.in_ok-put.ensures.placed c.in_err-rewrite_items.ensures.err,
+          between c.in_ok-batch.batch m w c.new-file.result file c.finish_populate.new.self c.in_ok-len.ensures.ok c.put.new.batch.items c.rewrite_items.new.accessor
+          c.in_ok-put.ensures.placed (first_of c.in_err-rewrite_items.ensures.fault),
     )))))
 
 pub invariant_of-self-2 : goal.invariant_of-self-2

@@ -10,7 +10,7 @@ use Rattle.raft_engine.specs.KeptEngine.{IsLastFile, KeptEngine}
 use Rattle.raft_engine.specs.WrittenBatch.{IsHalfWritten, IsOneMore, IsRefusal, synced_if}
 use Rattle.raft_engine.proofs.KeptLemmas.{last_append}
 use Rattle.raft_engine.proofs.RefusalLemmas.{bytes_refusal, file_refusal, test_refusal}
-use Rattle.raft_engine.proofs.WriteLemmas.{IsReady, half_written, kept_half, kept_more, kept_put, merge_memory, none_tested, none_written, one_more, placed_accepted, placed_cut, whole_asked}
+use Rattle.raft_engine.proofs.WriteLemmas.{IsReady, half_written, kept_half, kept_more, kept_put, merge_memory, merge_unnoted, none_tested, none_written, one_more, placed_accepted, placed_cut, whole_asked}
 use Rattle.raft_base.specs.declared.pipe_log.LogFileContext.{LogFileContext}
 use Rattle.raft_engine.specs.Faults.{IsWritingFault}
 use Rattle.raft_engine.proofs.FaultLemmas.{writing_of_none, writing_put, writing_sync, writing_whole}
@@ -299,7 +299,11 @@ returns-in_err-merge-clause-err g c =
     e.version old e.append e.rewrite e.untold e.accessor e.intact c.self.invariant intact c.args.batch.now ready c.new-file.result file c.finish_populate.new.self c.in_ok-len.ensures.ok
     c.args.sync (g.F.EngineFiles.asked c.sync_if.new.files) c.merge.new.self c.apply.new.accessor c.in_err-merge.field-0.0 (c.in_ok-sync_if.ensures.ok ∙ ap (synced_if c.args.sync) c.in_ok-put.ensures.ok)
     c.put.new.batch.items c.in_ok-put.ensures.placed
-    (inr (merge_memory e.untold c.in_ok-taken.taken _ _ c.in_err-merge.field-0.0 (c.self.invariant.whole intact).are_untold c.in_ok-taken.ensures.ok c.in_err-merge.ensures.fault, c.in_ok-apply.ensures.ok)))))
+    (inr (
+      merge_memory e.untold c.in_ok-taken.taken _ _ c.in_err-merge.field-0.0 (c.self.invariant.whole intact).are_untold c.in_ok-taken.ensures.ok c.in_err-merge.ensures.fault,
+      c.in_ok-apply.ensures.ok,
+      (merge_unnoted c.in_ok-taken.taken _ (rw (c.items-2.ensures) at c.in_ok-taken.ensures.ok) c.in_err-merge.ensures.refused, c.in_err-merge.ensures.err),
+    )))))
 
 pub returns-in_err-check_append_writes-clause-err : goal.returns-in_err-check_append_writes-clause-err
 returns-in_err-check_append_writes-clause-err g c =
@@ -415,7 +419,8 @@ returns-in_err-apply-clause-fault g c =
         writing_whole c.new-file.result its c.finish_populate.new.self c.args.batch.now c.args.sync old (g.F.EngineFiles.asked c.put.new.files) new file c.in_ok-len.ensures.ok some c.in_ok-put.ensures.ok c.in_ok-sync_if.ensures.ok,
         placed_cut c.asks_are_stored.ensures.written c.asks_are_stored.ensures.synced
             e.version old e.append e.rewrite e.untold e.accessor e.intact c.self.invariant intact c.args.batch.now ready c.new-file.result file c.finish_populate.new.self c.in_ok-len.ensures.ok
-            c.put.new.batch.items c.apply.new.accessor c.in_err-apply.field-0.0 c.in_ok-put.ensures.placed (inl (
+            c.put.new.batch.items (record { version = e.version; asks = new; untold = e.untold; accessor = c.apply.new.accessor; intact = false })
+            c.in_err-apply.field-0.0 c.in_ok-put.ensures.placed (inl (
               c.in_err-apply.ensures.room
                   (placed_accepted c.asks_are_stored.ensures.written c.asks_are_stored.ensures.synced
                   e.version old e.append e.rewrite e.untold e.accessor e.intact c.self.invariant intact c.args.batch.now ready c.new-file.result file c.finish_populate.new.self c.in_ok-len.ensures.ok
@@ -459,7 +464,12 @@ returns-in_err-merge-clause-fault g c =
             (g.F.EngineFiles.asked c.put.new.files) new file c.in_ok-len.ensures.ok some c.in_ok-put.ensures.ok c.in_ok-sync_if.ensures.ok,
         placed_cut c.asks_are_stored.ensures.written c.asks_are_stored.ensures.synced
             e.version old e.append e.rewrite e.untold e.accessor e.intact c.self.invariant intact c.args.batch.now ready c.new-file.result file c.finish_populate.new.self c.in_ok-len.ensures.ok
-            c.put.new.batch.items c.apply.new.accessor c.in_err-merge.field-0.0 c.in_ok-put.ensures.placed
-            (inr (merge_memory e.untold c.in_ok-taken.taken _ _ c.in_err-merge.field-0.0 (c.self.invariant.whole intact).are_untold c.in_ok-taken.ensures.ok c.in_err-merge.ensures.fault, c.in_ok-apply.ensures.ok)),
+            c.put.new.batch.items (record { version = e.version; asks = new; untold = c.merge.new.self; accessor = c.apply.new.accessor; intact = false })
+            c.in_err-merge.field-0.0 c.in_ok-put.ensures.placed
+            (inr (
+              merge_memory e.untold c.in_ok-taken.taken _ _ c.in_err-merge.field-0.0 (c.self.invariant.whole intact).are_untold c.in_ok-taken.ensures.ok c.in_err-merge.ensures.fault,
+              c.in_ok-apply.ensures.ok,
+              (merge_unnoted c.in_ok-taken.taken _ (rw (c.items-2.ensures) at c.in_ok-taken.ensures.ok) c.in_err-merge.ensures.refused, c.in_err-merge.ensures.err),
+            )),
       );
     }))

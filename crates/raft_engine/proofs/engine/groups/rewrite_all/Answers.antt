@@ -1,14 +1,8 @@
 use Rattle.std.proofs.lemmas.Result.{err_from_is_err_and}
 use Rattle.std.proofs.Common.{None}
 use Rattle.raft_accessor.specs.Writes.{Rewriting}
-use Rattle.raft_engine.proofs.GroupPutLemmas.{first_written, group_refused, one_written}
+use Rattle.raft_engine.proofs.GroupPutLemmas.{group_refused, one_written}
 use Rattle.raft_engine.proofs.engine.groups.rewrite_all.Goals as goal
-
-pub returns-in_err-rewrite_items-clause-err : goal.returns-in_err-rewrite_items-clause-err
-returns-in_err-rewrite_items-clause-err c =
-    let p = err_from_is_err_and c.from_residual.result c.from_residual.ensures.1 in
-    rw (p.1) (first_written (Rewriting None c.args.seq) c.args.batches.items c.args.accessor.now c.loop-batch.accessor c.rewrite_items.new.accessor c.loop-batch.batch-iterator.rest.items c.in-Some.batch
-    c.next.new.self.rest.items c.in-Some.ensures.steps.0 c.in_err-rewrite_items.ensures.err c.loop-batch.invariant)
 
 pub loop-batch-preserved : goal.loop-batch-preserved
 loop-batch-preserved c =

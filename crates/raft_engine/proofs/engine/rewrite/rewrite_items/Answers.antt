@@ -1,5 +1,5 @@
 use Rattle.raft_accessor.specs.Writes.{Rewriting}
-use Rattle.raft_engine.proofs.DrainLemmas.{apply_so, first_so, next_refused}
+use Rattle.raft_engine.proofs.DrainLemmas.{apply_so, next_refused}
 use Rattle.raft_engine.proofs.MovingFaultLemmas.{drain_room}
 use Rattle.raft_engine.proofs.engine.rewrite.rewrite_items.Goals as goal
 
@@ -7,10 +7,6 @@ pub returns-clause-ok : goal.returns-clause-ok
 returns-clause-ok c =
     apply_so c.apply_rewrite_writes.result (Rewriting c.args.gate c.args.seq) c.drain.result c.args.batch.now.items c.args.accessor.now
     c.apply_rewrite_writes.new.self c.drain.ensures.items c.drain.ensures.len c.apply_rewrite_writes.ensures.ok
-
-pub returns-clause-err : goal.returns-clause-err
-returns-clause-err c =
-    first_so c.apply_rewrite_writes.result (Rewriting c.args.gate c.args.seq) c.drain.result c.args.batch.now.items c.args.accessor.now c.apply_rewrite_writes.new.self c.drain.ensures.items c.apply_rewrite_writes.ensures.refused
 
 pub returns-clause-fault : goal.returns-clause-fault
 returns-clause-fault c =

@@ -59,14 +59,20 @@ fn what_is_written_is_found_again() {
     }
 }
 
-#[test]
-fn entries_are_read_by_ranges() {
+/// An engine whose region 7 has the entries 3 to 6.
+fn compacted_engine() -> Engine<MemoryFiles> {
     let engine = engine();
     write(&engine, |batch| {
         batch.add_entries(7, 1, &["1", "22", "333", "4"])
     });
     write(&engine, |batch| batch.add_entries(7, 5, &["55", "6"]));
     write(&engine, |batch| batch.compact(7, 3));
+    engine
+}
+
+#[test]
+fn entries_are_read_by_ranges() {
+    let engine = compacted_engine();
     let rows: [(_, &[&str]); 10] = [
         (
             (Bound::Unbounded, Bound::Unbounded),
@@ -85,6 +91,13 @@ fn entries_are_read_by_ranges() {
     for (range, expected) in rows {
         assert_eq!(texts(engine.entries(7, range)), expected, "{range:?}");
     }
+    assert_eq!(texts(engine.entries(9, ..)), [""; 0]);
+    assert_eq!(texts(engine.entries(9, 4..)), [""; 0]);
+}
+
+#[test]
+fn ranges_that_a_region_has_not_are_refused() {
+    let engine = compacted_engine();
     for (begin, end, kind) in [
         (2, 4, ErrorKind::EntryCompacted),
         (3, 8, ErrorKind::EntryNotFound),
@@ -98,10 +111,13 @@ fn entries_are_read_by_ranges() {
     }
     let e = engine.entries(7, 3..=u64::MAX).unwrap_err();
     assert_eq!(e.kind, ErrorKind::EntryNotFound);
-    assert_eq!(texts(engine.entries(9, ..)), [""; 0]);
-    assert_eq!(texts(engine.entries(9, 4..)), [""; 0]);
     let e = engine.entries(9, 1..5).unwrap_err();
     assert_eq!(e.kind, ErrorKind::EntryNotFound);
+}
+
+#[test]
+fn entries_are_read_up_to_a_size() {
+    let engine = compacted_engine();
     for (max_size, expected) in [
         (0, 1),
         (3, 1),

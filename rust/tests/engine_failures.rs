@@ -94,6 +94,29 @@ fn place_of(call: Call<'_>, files: &MemoryFiles) -> (Option<FileId>, Option<u64>
     (Some(file), Some(offset))
 }
 
+/// Each call of an engine fails with its first failure, which asks nothing of the files.
+fn assert_every_call_fails<F: Files>(engine: &Engine<F>, first: &Error) {
+    for e in all_calls(engine) {
+        assert_eq!(e.kind, ErrorKind::Failed);
+        assert_eq!(source_of(&e), io::ErrorKind::StorageFull);
+        assert_eq!((e.file, e.offset), (first.file, first.offset));
+        assert_eq!(e.text, format!("Failed: {first}"));
+    }
+    assert!(format!("{engine:?}").contains("failure: Some"));
+}
+
+/// The files have a front of what `run` writes, and at least what is certain.
+fn assert_nothing_is_lost(files: MemoryFiles, certain: u64, failing: usize) {
+    let opened = Engine::with_files(files, Options::new()).unwrap();
+    let region = region_of(&opened, 7).unwrap();
+    let written = region.entries.len() as u64;
+    assert!(written >= certain, "{failing}: {written} of {certain}");
+    let indexes: Vec<_> = region.entries.keys().copied().collect();
+    assert_eq!(indexes, (1..=written).collect::<Vec<_>>());
+    let last = region.keys.get(&b"a"[..]).map(|value| value[0]);
+    assert_eq!(last.unwrap_or(0), written as u8);
+}
+
 #[test]
 fn where_any_change_fails_every_later_call_says_so_and_nothing_is_lost() {
     let count = AtomicUsize::new(0);
@@ -125,26 +148,13 @@ fn where_any_change_fails_every_later_call_says_so_and_nothing_is_lost() {
         assert_eq!(first.kind, ErrorKind::Io);
         assert_eq!(Some(&(first.file, first.offset)), place.get(), "{first}");
         assert_eq!(source_of(&first), io::ErrorKind::StorageFull);
-        for e in all_calls(&engine) {
-            assert_eq!(e.kind, ErrorKind::Failed);
-            assert_eq!(source_of(&e), io::ErrorKind::StorageFull);
-            assert_eq!((e.file, e.offset), (first.file, first.offset));
-            assert_eq!(e.text, format!("Failed: {first}"));
-        }
+        assert_every_call_fails(&engine, &first);
         assert_eq!(
             made.load(SeqCst),
             failing + 1,
             "something was asked of failed files"
         );
-        assert!(format!("{engine:?}").contains("failure: Some"));
-        let opened = Engine::with_files(files, Options::new()).unwrap();
-        let region = region_of(&opened, 7).unwrap();
-        let written = region.entries.len() as u64;
-        assert!(written >= certain, "{failing}: {written} of {certain}");
-        let indexes: Vec<_> = region.entries.keys().copied().collect();
-        assert_eq!(indexes, (1..=written).collect::<Vec<_>>());
-        let last = region.keys.get(&b"a"[..]).map(|value| value[0]);
-        assert_eq!(last.unwrap_or(0), written as u8);
+        assert_nothing_is_lost(files, certain, failing);
     }
 }
 

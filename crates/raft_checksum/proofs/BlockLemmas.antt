@@ -1,11 +1,7 @@
 -- A text by blocks of its quotient.
-use Rattle.std.proofs.Common.{◌≡◌, ℕ, zero, suc, ◌+◌, ◌^◌, ◌<◌, ◌≤◌, List, [], ◌∷◌, ◌++◌, get_or, length, drop, replicate, inl, inr, refl, sym, ap, ◌∙◌, arith}
-use Rattle.std.proofs.lemmas.Bool.{cases_lt}
-use Rattle.std.proofs.lemmas.List.{get_or-drop, get_or_past}
-use Rattle.std.specs.Int.{bytes_low_first}
+use Rattle.raft_checksum.proofs.Common.{◌≡◌, ℕ, zero, suc, ◌+◌, ◌^◌, ◌<◌, ◌≤◌, List, [], ◌∷◌, ◌++◌, get_or, length, drop, replicate, inl, inr, refl, sym, ap, ◌∙◌, arith, cases_lt, get_or-drop}
+use Rattle.raft_checksum.proofs.Common.{get_or_past, bytes_low_first, crc_steps, register_after, IsQuotient, StartsAlike}
 use lib.Bits.{bit_xor, xor_assoc, xor_comm}
-use Rattle.raft_checksum.specs.Checksum.{crc_steps, register_after}
-use Rattle.raft_checksum.specs.SparseMultiple.{IsQuotient, StartsAlike}
 use Rattle.raft_checksum.proofs.DivisionLemmas.{steps_xor}
 use Rattle.raft_checksum.proofs.RemainderLemmas.{remainder, remainder_same, remainder_after, remainder_first, window_joins, xor_bytes, bytes_small}
 use Rattle.raft_checksum.proofs.WindowLemmas.{window, window_xor, window_more}

@@ -1,8 +1,7 @@
 -- The register is the remainder of a division.
-use Rattle.std.proofs.Common.{◌≡◌, ℕ, zero, suc, ◌+◌, ◌*◌, ◌/◌, ◌%◌, ◌^◌, ◌<◌, Bool, true, false, List, [], ◌∷◌, get_or, length, refl, sym, ap, ◌∙◌, arith}
-use Rattle.std.proofs.Math.Nat.{div-add-mod', mod-lt, mul_assoc, mul_comm, pow-suc}
+use Rattle.raft_checksum.proofs.Common.{◌≡◌, ℕ, zero, suc, ◌+◌, ◌*◌, ◌/◌, ◌%◌, ◌^◌, ◌<◌, Bool, true, false, List, [], ◌∷◌, get_or, length, refl, sym, ap, ◌∙◌, arith, div-add-mod', mod-lt, mul_assoc}
+use Rattle.raft_checksum.proofs.Common.{mul_comm, pow-suc, crc_steps, register_after, number_of_bytes, product_of}
 use lib.Bits.{bit_xor, xor_assoc, xor_comm, xor_self, xor_zero_r, xor_shifted}
-use Rattle.raft_checksum.specs.Checksum.{crc_steps, register_after, number_of_bytes, product_of}
 use Rattle.raft_checksum.proofs.DivisionLemmas.{crc_step, xor_pairs, steps_xor, steps_add, steps_shifted}
 use Rattle.raft_checksum.proofs.WindowLemmas.{xor_shift}
 

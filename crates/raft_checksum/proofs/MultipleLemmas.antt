@@ -1,9 +1,7 @@
 -- A multiple of the polynomial that has five terms takes every register to zero.
-use Rattle.std.proofs.Common.{◌≡◌, ℕ, zero, suc, ◌+◌, ◌*◌, ◌/◌, ◌%◌, ◌^◌, ◌<◌, refl, sym, ap, subst, ◌∙◌, arith}
-use Rattle.std.proofs.Math.Nat.{pow-suc, mul_assoc, mod-lt, div-add-mod', add-mul, mul_comm, zero-mul}
-use Rattle.std.proofs.lemmas.Nat.{pow-add, shl_below}
+use Rattle.raft_checksum.proofs.Common.{◌≡◌, ℕ, zero, suc, ◌+◌, ◌*◌, ◌/◌, ◌%◌, ◌^◌, ◌<◌, refl, sym, ap, subst, ◌∙◌, arith, pow-suc, mul_assoc, mod-lt, div-add-mod', add-mul, mul_comm, zero-mul}
+use Rattle.raft_checksum.proofs.Common.{pow-add, shl_below, crc_steps}
 use lib.Bits.{bit_xor, xor_assoc, xor_comm, xor_self, xor_zero_r, xor_shifted}
-use Rattle.raft_checksum.specs.Checksum.{crc_steps}
 use Rattle.raft_checksum.proofs.DivisionLemmas.{xor_pairs, steps_xor, steps_add, steps_shifted, steps_zero, steps_fit}
 
 -- what the multiple with terms after a, b, c and d steps, and at once, makes of a register

@@ -1,12 +1,7 @@
 -- The remainder that the last 300 bytes of a quotient stand for.
-use Rattle.std.proofs.Common.{◌≡◌, ℕ, zero, suc, ◌+◌, ◌*◌, ◌/◌, ◌^◌, ◌<◌, ◌≤◌, List, [], ◌∷◌, get_or, length, refl, sym, ap, ◌∙◌, arith, below_more}
-use Rattle.std.proofs.Math.Nat.{mod-lt}
-use Rattle.std.proofs.lemmas.List.{drop_all}
-use Rattle.std.specs.Int.{bytes_low_first}
+use Rattle.raft_checksum.proofs.Common.{◌≡◌, ℕ, zero, suc, ◌+◌, ◌*◌, ◌/◌, ◌^◌, ◌<◌, ◌≤◌, List, [], ◌∷◌, get_or, length, refl, sym, ap, ◌∙◌, arith, below_more, mod-lt, drop_all, bytes_low_first}
+use Rattle.raft_checksum.proofs.Common.{little_from, little_number-reads_back, crc_steps, register_after}
 use lib.Bits.{bit_xor, xor_assoc, xor_comm, xor_lt}
-use Rattle.byteorder.specs.Endian.{little_from}
-use Rattle.byteorder.specs.Numbers.{little_number-reads_back}
-use Rattle.raft_checksum.specs.Checksum.{crc_steps, register_after}
 use Rattle.raft_checksum.proofs.DivisionLemmas.{xor_pairs}
 use Rattle.raft_checksum.proofs.MultipleLemmas.{bytes_put_off, divide_step}
 use Rattle.raft_checksum.proofs.WindowLemmas.{window, window_first, window_last, window_on, window_same, window_zero, window_more, window_number, xor_shift}

@@ -1,8 +1,6 @@
 -- The last words of a text, with what the remainder holds taken off.
-use Rattle.std.proofs.Common.{◌≡◌, ℕ, suc, ◌+◌, ◌*◌, ◌^◌, List, [], ◌∷◌, get_or, length, refl, sym, ap, ◌∙◌, arith}
+use Rattle.raft_checksum.proofs.Common.{◌≡◌, ℕ, suc, ◌+◌, ◌*◌, ◌^◌, List, [], ◌∷◌, get_or, length, refl, sym, ap, ◌∙◌, arith, crc_steps, number_of_words, StandFor}
 use lib.Bits.{bit_xor, xor_assoc, xor_comm, xor_zero_r}
-use Rattle.raft_checksum.specs.Checksum.{crc_steps}
-use Rattle.raft_checksum.specs.SparseMultiple.{number_of_words, StandFor}
 use Rattle.raft_checksum.proofs.DivisionLemmas.{steps_xor, steps_add, steps_shifted}
 use Rattle.raft_checksum.proofs.FiveWordLemmas.{both, number_both}
 

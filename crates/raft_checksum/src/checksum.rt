@@ -66,7 +66,6 @@ fn first_eight_bytes(bytes: &[u8]) -> (u64, &[u8])
     (LittleEndian::read_u64(front), back)
 }
 
-/// Returns the register after `bytes`, which join it one at a time.
 #[inline]
 fn by_bytes(mut register: u32, bytes: &[u8]) -> u32
     ensures { result ≡ register_after register bytes.now }
@@ -78,7 +77,6 @@ fn by_bytes(mut register: u32, bytes: &[u8]) -> u32
     register
 }
 
-/// Returns the register after `bytes`, which join it sixteen at a time.
 #[inline]
 fn by_sixteens(mut register: u32, bytes: &[u8]) -> u32
     ensures { result ≡ register_after register bytes.now }

@@ -1,14 +1,8 @@
 -- On numbers in a fixed count of bytes.
-use Rattle.std.proofs.Common.{◌≡◌, ℕ, ◌^◌, ◌<◌, ℤ, pos, List, [], ◌∷◌, ◌++◌, length, get_or, refl, sym, ap, ◌∙◌, arith, ◌+ℤ◌, w16, w32, w64}
-use Rattle.std.specs.Prelude.{FitsSigned}
-use Rattle.std.specs.Int.{Width, byte_len, cast_unsigned, cast_signed, from_be_bytes, from_le_bytes}
-use Rattle.std.proofs.lemmas.Int.{ints, to_z-of_z}
-use Rattle.std.proofs.lemmas.Nat.{be_bytes_2, be_bytes_4, be_bytes_8, le_bytes_2, le_bytes_4, le_bytes_8}
-use Rattle.std.proofs.Math.Facts.{Fits-of_z}
-use Rattle.byteorder.specs.Endian.{big_number, little_number, big_bytes, little_bytes}
-use Rattle.byteorder.specs.Numbers.{big_number-reads_back, little_number-reads_back, length-bytes_high_first, length-bytes_low_first}
-use Rattle.raft_codec.specs.Reading.{Reads, HasOneFront}
-use Rattle.raft_codec.specs.Fixed.{IsSpelledBy, IsReadAgain, IsBig, IsLittle, complement, sign_flipped, u64_desc_bytes, i64_bytes, i64_desc_bytes, signed_le_bytes}
+use Rattle.raft_codec.proofs.Common.{◌≡◌, ℕ, ◌^◌, ◌<◌, ℤ, pos, List, [], ◌∷◌, ◌++◌, length, get_or, refl, sym, ap, ◌∙◌, arith, ◌+ℤ◌, w16, w32, w64, FitsSigned, Width, byte_len, cast_unsigned}
+use Rattle.raft_codec.proofs.Common.{cast_signed, from_be_bytes, from_le_bytes, ints, to_z-of_z, be_bytes_2, be_bytes_4, be_bytes_8, le_bytes_2, le_bytes_4, le_bytes_8, Fits-of_z, big_number}
+use Rattle.raft_codec.proofs.Common.{little_number, big_bytes, little_bytes, big_number-reads_back, little_number-reads_back, length-bytes_high_first, length-bytes_low_first, Reads, HasOneFront}
+use Rattle.raft_codec.proofs.Common.{IsSpelledBy, IsReadAgain, IsBig, IsLittle, complement, sign_flipped, u64_desc_bytes, i64_bytes, i64_desc_bytes, signed_le_bytes}
 use Rattle.raft_codec.proofs.FixedOrder.{sign_flipped-lt, sign_flipped-offset}
 use mir.Val.{bits}
 

@@ -1,19 +1,8 @@
 -- Numbers and their bytes order alike, and numbers that have the same bytes are the same.
-use Rattle.std.proofs.Common.{◌≡◌, ℕ, zero, suc, ◌+◌, ◌-◌, ◌*◌, ◌/◌, ◌%◌, ◌^◌, ◌<◌, ◌≤◌, ℤ, pos, negsuc, refl, sym, ap, ◌∙◌, arith, bit_xor, w64, Ordering, ◌+ℤ◌}
-use Rattle.std.specs.Prelude.{FitsSigned}
-use Rattle.std.specs.Int.{byte_at}
-use Rattle.std.specs.Int.Bits.{xor_assoc, xor_comm, xor_self, xor_shifted, xor_zero_r}
-use Rattle.std.specs.Ordering.{nat_cmp, int_cmp, ordering_then}
-use Rattle.std.specs.Cmp.{nat_cmp_is}
-use Rattle.std.specs.Cmp.Lexicographic.{slice_cmp}
+use Rattle.raft_codec.proofs.Common.{◌≡◌, ℕ, zero, suc, ◌+◌, ◌-◌, ◌*◌, ◌/◌, ◌%◌, ◌^◌, ◌<◌, ◌≤◌, ℤ, pos, negsuc, refl, sym, ap, ◌∙◌, arith, bit_xor, w64, Ordering, ◌+ℤ◌, FitsSigned, byte_at}
+use Rattle.raft_codec.proofs.Common.{xor_assoc, xor_comm, xor_self, xor_shifted, xor_zero_r, nat_cmp, int_cmp, ordering_then, nat_cmp_is, slice_cmp, nat_tests, ranked, ints, mod-mul, div-one}
+use Rattle.raft_codec.proofs.Common.{mod-eq_of_lt, mod-lt, mul-le-mul_right, one-le-pow, pow-succ', big_bytes, complement, sign_flipped}
 use Rattle.std.specs.declared.cmp.Ordering.TheVariants.{Less, Equal, Greater}
-use Rattle.std.proofs.lemmas.Bool.Decides.{nat_tests}
-use Rattle.std.proofs.lemmas.Cmp.{ranked}
-use Rattle.std.proofs.lemmas.Int.{ints}
-use Rattle.std.proofs.Math.Arith.{mod-mul}
-use Rattle.std.proofs.Math.Nat.{div-one, mod-eq_of_lt, mod-lt, mul-le-mul_right, one-le-pow, pow-succ'}
-use Rattle.byteorder.specs.Endian.{big_bytes}
-use Rattle.raft_codec.specs.Fixed.{complement, sign_flipped}
 
 -- ---- order
 

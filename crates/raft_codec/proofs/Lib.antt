@@ -1,3 +1,4 @@
+mod Common
 pub mod FixedLemmas
 pub mod FixedOrder
 pub mod ReadingLemmas

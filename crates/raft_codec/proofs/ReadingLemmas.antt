@@ -1,7 +1,5 @@
 -- What is read of composed spellings, over any spelling.
-use Rattle.std.proofs.Common.{◌≡◌, ℕ, List, ◌∷◌, ◌++◌, refl, sym, ap, ◌∙◌, subst, append_assoc}
-use Rattle.std.proofs.lemmas.List.{append_cancel_left}
-use Rattle.raft_codec.specs.Reading.{Reads, HasNoFront, IsTagged, IsFollowedBy, HasOneFront}
+use Rattle.raft_codec.proofs.Common.{◌≡◌, ℕ, List, ◌∷◌, ◌++◌, refl, sym, ap, ◌∙◌, subst, append_assoc, append_cancel_left, Reads, HasNoFront, IsTagged, IsFollowedBy, HasOneFront}
 
 -- the same bytes are read, seen as another value of another spelling
 pub reads_as : {X Y : Type 0} (P : List ℕ → X → Type 0) (Q : List ℕ → Y → Type 0) (x : X) (y : Y) → ((a : List ℕ) → P a x → Q a y) → {bytes rest : List ℕ} → Reads P bytes rest x → Reads Q bytes rest y

@@ -1,12 +1,9 @@
 -- On spellings of numbers in base 128.
-use Rattle.std.proofs.Common.{◌≡◌, ℕ, zero, suc, ◌+◌, ◌*◌, ◌^◌, ◌%◌, ◌/◌, ◌<◌, ◌≤◌, List, [], ◌∷◌, ◌++◌, length, take, drop, set, get_or, refl, sym, ap, ◌∙◌, subst, arith, add-one, inl, inr}
-use Rattle.std.proofs.lemmas.Bool.{cases_lt}
-use Rattle.std.proofs.lemmas.Bool.Decides.{nat_tests}
-use Rattle.std.proofs.lemmas.List.{append_assoc, drop_more, get_or-take, get_or_past, length-append, length-drop, length-take, length-take-le, take-append-drop, take_all, take_more, take_more_set}
-use Rattle.std.proofs.Math.Nat.{pow-suc, pow-le-pow_right, mul-le-mul_left}
-use Rattle.std.proofs.lemmas.Nat.{pow-add, shl_whole}
-use Rattle.raft_codec.specs.Reading.{Reads}
-use Rattle.raft_codec.specs.Varint.{IsContinued, base_128, IsVarint, IsShortVarint, AllContinue, EndsEarly, IsTooLong, septets_of, varint}
+use Rattle.raft_codec.proofs.Common.{◌≡◌, ℕ, zero, suc, ◌+◌, ◌*◌, ◌^◌, ◌%◌, ◌/◌, ◌<◌, ◌≤◌, List, [], ◌∷◌, ◌++◌, length, take, drop, set, get_or, refl, sym, ap, ◌∙◌, subst, arith, add-one, inl, inr}
+use Rattle.raft_codec.proofs.Common.{cases_lt, nat_tests, drop_more, get_or-take, get_or_past, length-append, length-drop, length-take, length-take-le, take-append-drop, take_all, take_more}
+use Rattle.raft_codec.proofs.Common.{take_more_set, pow-suc, pow-le-pow_right, mul-le-mul_left, pow-add, shl_whole, Reads, IsContinued, base_128, IsVarint, IsShortVarint, AllContinue, EndsEarly}
+use Rattle.raft_codec.proofs.Common.{IsTooLong, septets_of, varint}
+use Rattle.std.proofs.lemmas.List.{append_assoc}
 
 -- ---- a septet at its place
 

@@ -1,3 +1,4 @@
+mod Common
 pub mod SizeDigitLemmas
 pub mod SizeExponentLemmas
 pub mod SizeLawLemmas

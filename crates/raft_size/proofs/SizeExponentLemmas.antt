@@ -1,13 +1,7 @@
 -- The signs and exponents of numbers, as their reader finds them.
-use Rattle.std.proofs.Common.{◌≡◌, ◌≢◌, ◌⊎◌, ℕ, ◌-◌, ◌<◌, ◌≤◌, Bool, true, false, Option, None, Some, IfSome, Bor, List, [], ◌∷◌, ◌++◌, length, get_or, take, drop, refl, sym, ap, subst, ◌∙◌, inl, inr, arith}
-use Rattle.std.specs.Bool.{⊤}
-use Rattle.std.specs.Char.{digit_value}
-use Rattle.std.specs.Str.Parse.{IsNumeral}
-use Rattle.std.proofs.lemmas.Bool.{cases_eq, ne_eqb}
-use Rattle.std.proofs.lemmas.List.{append_assoc, take_rest}
-use Rattle.std.proofs.lemmas.Str.Parse.{digit_from_value}
-use Rattle.raft_size.specs.SizeNumber.{IsSign, IsPower, IsExponent}
-use Rattle.raft_size.specs.SizeReading.{has_minus, behind_sign, NoDigitFirst, NoPointFirst}
+use Rattle.raft_size.proofs.Common.{◌≡◌, ◌≢◌, ◌⊎◌, ℕ, ◌-◌, ◌<◌, ◌≤◌, Bool, true, false, Option, None, Some, IfSome, Bor, List, [], ◌∷◌, ◌++◌, length, get_or, take, drop, refl, sym, ap, subst, ◌∙◌}
+use Rattle.raft_size.proofs.Common.{inl, inr, arith, ⊤, digit_value, IsNumeral, cases_eq, ne_eqb, append_assoc, take_rest, digit_from_value, IsSign, IsPower, IsExponent, has_minus, behind_sign}
+use Rattle.raft_size.proofs.Common.{NoDigitFirst, NoPointFirst}
 
 -- ---- signs
 

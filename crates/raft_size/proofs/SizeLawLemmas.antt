@@ -1,16 +1,8 @@
 -- A text stands for one size at most, and then it has no fault.
-use Rattle.std.proofs.Common.{◌≡◌, ℕ, ◌^◌, ◌<◌, ◌==◌, ◌&&◌, Bool, true, false, not, List, [], ◌∷◌, length, get_or, Result, Ok, Err, refl, sym, ap, subst, ◌∙◌, inl, inr, arith}
-use Rattle.std.specs.Str.{trim, IsNotAscii}
-use Rattle.std.proofs.lemmas.Bool.{eq-eqb, and_parts, both_ways, not-true}
-use Rattle.raft_size.specs.declared.readable_size.ReadableSize.{ReadableSize}
-use Rattle.raft_size.specs.declared.size_text.SizeError.{SizeError}
+use Rattle.raft_size.proofs.Common.{◌≡◌, ℕ, ◌^◌, ◌<◌, ◌==◌, ◌&&◌, Bool, true, false, not, List, [], ◌∷◌, length, get_or, Result, Ok, Err, refl, sym, ap, subst, ◌∙◌, inl, inr, arith, trim}
+use Rattle.raft_size.proofs.Common.{IsNotAscii, eq-eqb, and_parts, both_ways, not-true, ReadableSize, SizeError, Number, digits_of, significant, size_of, size_text, number_text, unit_text}
+use Rattle.raft_size.proofs.Common.{SpellsSize, LacksNumber, HasManyDigits, IsSpellingFault, get_or_past, units, IsAmong, IsUnit, IsReadAs}
 use Rattle.raft_size.specs.declared.size_text.SizeError.TheVariants as faults
-use Rattle.raft_size.specs.SizeNumber.{Number, digits_of, significant, size_of}
-use Rattle.raft_size.specs.SizePrint.{size_text}
-use Rattle.raft_size.specs.SizeText.{number_text, unit_text, SpellsSize, LacksNumber, HasManyDigits, IsSpellingFault}
-use Rattle.std.proofs.lemmas.List.{get_or_past}
-use Rattle.raft_size.specs.SizeUnits.{units, IsAmong, IsUnit}
-use Rattle.raft_size.specs.SizeValue.{IsReadAs}
 use Rattle.raft_size.proofs.SizeNumberLemmas.{number_once}
 use Rattle.raft_size.proofs.SizePrintLemmas.{printed_is_size}
 

@@ -1,23 +1,9 @@
 -- What is printed of a size stands for that size.
-use Rattle.std.proofs.Common.{◌≡◌, ◌≢◌, ℕ, ◌-◌, ◌*◌, ◌/◌, ◌%◌, ◌^◌, ◌<◌, ◌≤◌, ◌==◌, min, true, false, List, [], ◌∷◌, ◌++◌, length, take, drop, codes, if◌then◌else◌, refl, sym, ap, subst, ◌∙◌, inl, inr, lit<, arith, rules}
-use Rattle.std.specs.Bool.{⊤}
-use Rattle.std.specs.Char.{digit_value, is_whitespace}
-use Rattle.std.specs.Fmt.{decimal}
-use Rattle.std.specs.Str.{IsAscii, encode_utf8_all, trim, trim_start, trim_end, skip_leading_whitespace, drop_trailing_whitespace}
-use Rattle.std.specs.Str.Parse.{AllDigits, digits_value}
-use Rattle.std.proofs.lemmas.Bool.{cases_eq, eq-eqb, ne_eqb}
-use Rattle.std.proofs.lemmas.Bool.Decides.{nat_tests}
-use Rattle.std.proofs.lemmas.Fmt.{decimal_is_IsNumeral, decimal_digit}
-use Rattle.std.proofs.lemmas.List.{append-nil, length-append, take_at, drop_at}
-use Rattle.std.proofs.lemmas.Nat.{div-add-mod'}
-use Rattle.std.proofs.lemmas.Str.{chars-IsAscii, encodes-IsAscii}
-use Rattle.std.proofs.lemmas.Str.Ascii.{IsAscii-nil, IsAscii-cons}
-use Rattle.std.proofs.lemmas.Str.Parse.{digit_from_value}
-use Rattle.std.proofs.Math.Nat.{div-le_self, div-one, mul-one, mod-one}
-use Rattle.raft_size.specs.SizeNumber.{Number, IsNumber}
-use Rattle.raft_size.specs.SizePrint.{size_text}
-use Rattle.raft_size.specs.SizeText.{is_number_character, number_len, number_text, unit_text, SpellsSize, IsSizeText}
-use Rattle.raft_size.specs.SizeUnits.{IsUnit}
+use Rattle.raft_size.proofs.Common.{◌≡◌, ◌≢◌, ℕ, ◌-◌, ◌*◌, ◌/◌, ◌%◌, ◌^◌, ◌<◌, ◌≤◌, ◌==◌, min, true, false, List, [], ◌∷◌, ◌++◌, length, take, drop, codes, if◌then◌else◌, refl, sym, ap, subst, ◌∙◌}
+use Rattle.raft_size.proofs.Common.{inl, inr, lit<, arith, rules, ⊤, digit_value, is_whitespace, decimal, IsAscii, encode_utf8_all, trim, trim_start, trim_end, skip_leading_whitespace}
+use Rattle.raft_size.proofs.Common.{drop_trailing_whitespace, AllDigits, digits_value, cases_eq, eq-eqb, ne_eqb, nat_tests, decimal_is_IsNumeral, decimal_digit, append-nil, length-append, take_at}
+use Rattle.raft_size.proofs.Common.{drop_at, div-add-mod', chars-IsAscii, encodes-IsAscii, IsAscii-nil, IsAscii-cons, digit_from_value, div-le_self, div-one, mul-one, mod-one, Number, IsNumber}
+use Rattle.raft_size.proofs.Common.{size_text, is_number_character, number_len, number_text, unit_text, SpellsSize, IsSizeText, IsUnit}
 use Rattle.raft_size.proofs.SizeDigitLemmas.{few_digits}
 
 -- ---- characters that show

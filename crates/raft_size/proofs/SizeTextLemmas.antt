@@ -1,9 +1,6 @@
 -- The texts of sizes, as their reader takes them apart.
-use Rattle.std.proofs.Common.{◌≡◌, ◌≢◌, ◌≤◌, ℕ, List, [], length, take, drop, ap, subst, ◌∙◌}
-use Rattle.std.specs.Str.{trim, IsAscii}
-use Rattle.std.proofs.lemmas.List.Sums.{prefix_len-le-length}
-use Rattle.raft_size.specs.SizeText.{is_number_character, number_len, number_text, unit_text, HasUnit}
-use Rattle.raft_size.specs.SizeUnits.{IsUnit}
+use Rattle.raft_size.proofs.Common.{◌≡◌, ◌≢◌, ◌≤◌, ℕ, List, [], length, take, drop, ap, subst, ◌∙◌, trim, IsAscii, prefix_len-le-length, is_number_character, number_len, number_text, unit_text}
+use Rattle.raft_size.proofs.Common.{HasUnit, IsUnit}
 
 pub number_len-le : (text : List ℕ) → number_len text ≤ length text
 number_len-le text = prefix_len-le-length is_number_character text

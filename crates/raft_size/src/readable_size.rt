@@ -21,10 +21,8 @@ use std::ops::{Div, Mul};
 use std::str::FromStr;
 use toml::Value;
 
-/// The most digits of a number.
 const DIGITS: usize = 20;
 
-/// The most characters of a unit.
 const UNIT_LEN: usize = 3;
 
 /// Room for digits and a unit.
@@ -82,7 +80,6 @@ impl ReadableSize {
             → IsReadAs (size_text n) r → r ≡ Ok (record { 0 = n }) }
     {}
 
-    /// Returns the number and the unit that are printed.
     fn printed(self) -> (u64, &'static str)
         ensures text { size_text self.0 ≡ decimal result.0 ++ result.1.now }
         ensures unit { length result.1.now ≤ 3 }

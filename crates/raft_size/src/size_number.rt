@@ -11,7 +11,6 @@ const SIGNIFICAND_LIMIT: u128 = 100_000_000_000_000_000_000;
 /// A limit above the length of every text, by more than the digits that a size can have.
 const EXPONENT_LIMIT: u128 = 1 << 65;
 
-/// A number, taken apart.
 #[derive(Clone, Copy)]
 pub(super) struct SizeNumber<'a> {
     is_negative: bool,
@@ -22,7 +21,6 @@ pub(super) struct SizeNumber<'a> {
 }
 
 impl<'a> SizeNumber<'a> {
-    /// Returns the number that the text is, if it is one.
     pub(super) fn parse(text: &'a [u8]) -> Option<SizeNumber<'a>>
         ensures number { IfSome result (λ number. IsNumber text.now (number_shown number)) }
         ensures digits { IfSome result (λ number. HasDigitsAlone (number_shown number)) }
@@ -86,7 +84,6 @@ impl<'a> SizeNumber<'a> {
     }
 }
 
-/// Returns whether a minus sign stands in front, and what follows the sign.
 fn split_sign(text: &[u8]) -> (bool, &[u8])
     ensures minus { result.0 ≡ has_minus text.now }
     ensures rest { result.1.now ≡ behind_sign text.now }
@@ -98,7 +95,6 @@ fn split_sign(text: &[u8]) -> (bool, &[u8])
     }
 }
 
-/// Returns the digits in front, and the rest.
 fn split_digits(text: &[u8]) -> (&[u8], &[u8])
     ensures split { text.now ≡ result.0.now ++ result.1.now }
     ensures digits { AllDigits 10 result.0.now }
@@ -112,7 +108,6 @@ fn split_digits(text: &[u8]) -> (&[u8], &[u8])
     text.split_at(text.len())
 }
 
-/// Returns the digits after a point in front, and the rest.
 fn split_fraction(behind: &[u8]) -> (&[u8], &[u8])
     requires { NoDigitFirst behind.now }
     ensures split { TakesFraction behind.now result.0.now result.1.now }
@@ -139,7 +134,6 @@ fn parse_exponent(text: &[u8]) -> Option<(bool, &[u8])>
     }
 }
 
-/// Returns whether a power's sign is a minus, and its digits.
 fn parse_power(text: &[u8]) -> Option<(bool, &[u8])>
     ensures minus { IfSome result (λ power. power.0 ≡ has_minus text.now) }
     ensures digits { IfSome result (λ power. power.1.now ≡ behind_sign text.now) }
@@ -180,7 +174,6 @@ fn scaled(value: u128, up: u128, down: u128) -> u64
     }
 }
 
-/// Returns the value divided by a power of ten, rounded down and capped at the greatest size.
 fn lowered(value: u128, power: u128) -> u64
     requires { value < 2 ^ 120 }
     ensures { result ≡ scaled_size value 0 power }
@@ -192,7 +185,6 @@ fn lowered(value: u128, power: u128) -> u64
     }
 }
 
-/// Returns the value times a power of ten, capped at the greatest size.
 fn raised(value: u128, power: u128) -> u64
     ensures { result ≡ scaled_size value power 0 }
 {
@@ -206,7 +198,6 @@ fn raised(value: u128, power: u128) -> u64
     }
 }
 
-/// Returns the number, capped at the greatest size.
 fn held(number: u128) -> u64
     ensures { result ≡ min (2 ^ 64 - 1) number }
 {

@@ -47,7 +47,6 @@ pub(super) fn parse_size(text: &str) -> Result<u64, SizeError>
     }
 }
 
-/// Returns the size that a text spells.
 fn parse_ascii(text: &str) -> Result<u64, SizeError>
     requires some_text { text.now ≢ [] }
     requires ascii { IsAscii text.now }
@@ -67,7 +66,6 @@ fn parse_ascii(text: &str) -> Result<u64, SizeError>
     Ok(number.size(significand, factor))
 }
 
-/// Returns how long the number in front is.
 fn front_len(text: &[u8]) -> usize
     ensures { result ≡ number_len text.now }
 {
@@ -79,14 +77,12 @@ fn front_len(text: &[u8]) -> usize
     text.len()
 }
 
-/// Tests whether a number may have this character.
 fn is_number_byte(c: u8) -> bool
     ensures { result ≡ is_number_character c }
 {
     c.is_ascii_digit() || matches!(c, b'.' | b'e' | b'E' | b'-' | b'+')
 }
 
-/// Returns the factor of a unit, if the text is one.
 fn unit_factor(unit: &str) -> Option<u64>
     ensures bound { IfSome result (λ factor. factor ≤ 2 ^ 50) }
     ensures known { IfSome result (IsUnit unit.now) }

@@ -1,51 +1,10 @@
 -- Each step on the word keeps the rule of drawing.
-use Rattle.std.proofs.Common.{
-  ◌≡◌,
-  ℕ,
-  zero,
-  suc,
-  ◌+◌,
-  ◌-◌,
-  ◌%◌,
-  ◌^◌,
-  ◌<◌,
-  ◌≤◌,
-  cond,
-  Bool,
-  true,
-  false,
-  List,
-  [],
-  ◌∷◌,
-  ◌++◌,
-  All,
-  length,
-  length-append,
-  get_or,
-  set,
-  take,
-  drop,
-  replicate,
-  sym,
-  refl,
-  ap,
-  ◌∙◌,
-  subst,
-  arith,
-  length-set,
-  get_or-set_same,
-  drop-drop,
-  nat_le,
-  ◌==◌,
-}
-use Rattle.std.proofs.lemmas.Bool.Decides.{nat_tests}
-use Rattle.std.proofs.lemmas.List.{drop-replicate, get_or_append_left}
+use Rattle.std.proofs.Common.{◌≡◌, ℕ, zero, suc, ◌+◌, ◌-◌, ◌%◌, ◌^◌, ◌<◌, ◌≤◌, cond, Bool, true, false, List, [], ◌∷◌, ◌++◌, All, length, length-append, get_or, set, take, drop, replicate}
+use Rattle.std.proofs.Common.{sym, refl, ap, ◌∙◌, subst, arith, length-set, get_or-set_same, drop-drop, nat_le, ◌==◌}
+use Rattle.raft_tickets.proofs.Common.{nat_tests, drop-replicate, get_or_append_left, State, Me, keeps, Allows, Splits, Joins, weigh, occurrences, TicketSeat, AreBelow, AreAbove, Rises, once_below}
+use Rattle.raft_tickets.proofs.Common.{lists_in, occurrences_in, times_passed, times_passed_in, IsDrawn, HasDrawn, only, Continues, IsDrawer}
 use mathlib.Core.Option.{some, some-injective, some-ne-none}
 use lib.ListN.{get_elem?}
-use Rattle.atomic_table.specs.Table.{State, Me, keeps, Allows, Splits, Joins}
-use Rattle.raft_tickets.specs.Weights.{weigh, occurrences}
-use Rattle.raft_tickets.specs.Draws.{TicketSeat, AreBelow, AreAbove, Rises, once_below}
-use Rattle.raft_tickets.specs.Drawing.{lists_in, occurrences_in, times_passed, times_passed_in, IsDrawn, HasDrawn, only, Continues, IsDrawer}
 use Rattle.raft_tickets.proofs.WeightLemmas.{weigh-append, weigh-set, weigh_at, weigh_cut, weigh-replicate, weigh_le, weigh_all_of_one}
 
 abbrev pub Views : Type 0

@@ -1,2 +1,3 @@
+mod Common
 pub mod DrawingLemmas
 pub mod WeightLemmas

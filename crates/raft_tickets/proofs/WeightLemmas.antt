@@ -1,8 +1,7 @@
 -- Weights of lists: joined, changed at one place, and bounded.
-use Rattle.std.proofs.Common.{◌≡◌, ℕ, zero, suc, ◌+◌, ◌≤◌, List, [], ◌∷◌, ◌++◌, set, take, drop, replicate, sym, ap, arith}
+use Rattle.raft_tickets.proofs.Common.{◌≡◌, ℕ, zero, suc, ◌+◌, ◌≤◌, List, [], ◌∷◌, ◌++◌, set, take, drop, replicate, sym, ap, arith, weigh}
 use mathlib.Core.Option.{some, some-injective, some-ne-none}
 use lib.ListN.{get_elem?}
-use Rattle.raft_tickets.specs.Weights.{weigh}
 
 module _ {A : Type 0} (f : A → ℕ) where
   pub weigh-append : (xs ys : List A) → weigh f (xs ++ ys) ≡ weigh f xs + weigh f ys

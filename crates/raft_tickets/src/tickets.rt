@@ -105,7 +105,6 @@ impl Tickets {
     }
 }
 
-/// Returns seats for the lists of `root`, one each.
 fn split_seats(
     alloc: Global,
     shared: &Shared<(), Lists, Sizes, Drawing>,
@@ -129,7 +128,6 @@ fn split_seats(
     Ok(seats)
 }
 
-/// Returns a seat that has drawn nothing.
 fn new_seat(seat: Seat<(), Lists>, total: u64) -> TicketSeat
     requires { seat.me ≡ ([] ∷ [], []) }
     ensures { (result.table ≡ seat.table_id) × (result.total ≡ total) × (result.drawn ≡ []) }
@@ -141,7 +139,6 @@ fn new_seat(seat: Seat<(), Lists>, total: u64) -> TicketSeat
     }
 }
 
-/// Joins the lists of all seats to those of one.
 fn join_seats(
     shared: &Shared<(), Lists, Sizes, Drawing>,
     seat: &mut Seat<(), Lists>,
@@ -159,7 +156,6 @@ fn join_seats(
     }
 }
 
-/// Joins the list of a seat to those of another.
 fn join_seat(
     shared: &Shared<(), Lists, Sizes, Drawing>,
     seat: &mut Seat<(), Lists>,

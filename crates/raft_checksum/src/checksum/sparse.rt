@@ -43,7 +43,6 @@ fn settle(remainder: &mut [u8], quotient: &[u8], bytes: &[u8])
     }
 }
 
-/// Forgets the quotient's bytes past the first 300.
 fn forget(quotient: &mut [u8])
     requires { 455 ≤ length quotient.old }
     ensures before { StartsAlike 300 quotient.old quotient.new }

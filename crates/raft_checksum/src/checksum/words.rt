@@ -9,7 +9,6 @@ ghost use Rattle.raft_checksum.specs.SparseMultiple.{StandFor};
 
 use super::{by_sixteens, first_eight_bytes, two_words, word_then_zeros};
 
-/// Returns the remainder once `word` is divided too.
 #[inline(always)]
 fn divided(remainder: [u64; 5], word: u64) -> [u64; 5]
     ensures { (register : ℕ) → StandFor remainder register →

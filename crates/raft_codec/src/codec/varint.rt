@@ -80,7 +80,6 @@ fn two_septets(first: u8, second: u8) -> u64
     u64::from(first % 0x80) + (u64::from(second % 0x80) << 7)
 }
 
-/// Reads what `parse_var_u64` reads, one septet after another.
 #[inline(never)]
 fn parse_septets(bytes: &[u8]) -> Result<(u64, &[u8])>
     ensures ok { IfOk result (λ read. Reads IsVarint bytes.now read.1.now read.0) }
@@ -171,7 +170,6 @@ pub fn append_var_u64(buf: &mut Vec<u8>, number: u64) -> std::result::Result<(),
     buf.extend_from_slice(&bytes[..len])
 }
 
-/// Returns the shortest spelling of a number of two septets.
 fn in_two_bytes(number: u64) -> [u8; 2]
     requires least { 128 ≤ number }
     requires below { number < 16384 }
@@ -180,7 +178,6 @@ fn in_two_bytes(number: u64) -> [u8; 2]
     [septet(number), (number >> 7) as u8]
 }
 
-/// Returns the shortest spelling of a number of three septets.
 fn in_three_bytes(number: u64) -> [u8; 3]
     requires least { 16384 ≤ number }
     requires below { number < 2097152 }
@@ -189,7 +186,6 @@ fn in_three_bytes(number: u64) -> [u8; 3]
     [septet(number), septet(number >> 7), (number >> 14) as u8]
 }
 
-/// Returns the shortest spelling of a number of four septets.
 fn in_four_bytes(number: u64) -> [u8; 4]
     requires least { 2097152 ≤ number }
     requires below { number < 268435456 }

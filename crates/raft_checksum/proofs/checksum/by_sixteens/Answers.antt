@@ -1,6 +1,5 @@
 -- The words join the register.
-use Rattle.std.proofs.Common.{◌∙◌, ap, bit_xor}
-use Rattle.raft_checksum.specs.Checksum.{crc_steps, register_after}
+use Rattle.raft_checksum.proofs.Common.{◌∙◌, ap, bit_xor, crc_steps, register_after}
 use Rattle.raft_checksum.proofs.checksum.by_sixteens.Goals as goal
 
 pub loop-rest-preserved : goal.loop-rest-preserved

@@ -1,5 +1,4 @@
-use Rattle.std.proofs.Common.{sym, ◌∙◌, arith}
-use Rattle.std.proofs.lemmas.Bool.{eqb-true, eqb-false}
+use Rattle.raft_size.proofs.Common.{sym, ◌∙◌, arith, eqb-true, eqb-false}
 use Rattle.raft_size.proofs.SizeDigitLemmas.{numeral_whole}
 use Rattle.raft_size.proofs.size_number.parse_power.Goals as goal
 use Rattle.raft_size.proofs.size_number.parse_power.Goals.{then-is_empty-via-then-is_empty, then-is_empty-via-else-is_empty+then-not-is_empty}

@@ -1,5 +1,4 @@
-use Rattle.std.proofs.Common.{arith}
-use Rattle.std.proofs.lemmas.Int.Digits.{digits_more}
+use Rattle.raft_size.proofs.Common.{arith, digits_more}
 use Rattle.raft_size.proofs.size_number.split_digits.Goals as goal
 
 pub loop-len-preserved : goal.loop-len-preserved

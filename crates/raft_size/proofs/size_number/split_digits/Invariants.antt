@@ -1,5 +1,4 @@
-use Rattle.std.proofs.Common.{take}
-use Rattle.std.specs.Str.Parse.{AllDigits}
+use Rattle.raft_size.proofs.Common.{take, AllDigits}
 use Rattle.raft_size.proofs.size_number.split_digits.Given as goal
 
 abbrev pub invariant-loop-len : goal.invariant-loop-len

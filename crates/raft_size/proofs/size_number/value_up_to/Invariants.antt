@@ -1,5 +1,4 @@
-use Rattle.std.proofs.Common.{◌≡◌, min, take}
-use Rattle.std.specs.Str.Parse.{digits_value_after}
+use Rattle.raft_size.proofs.Common.{◌≡◌, min, take, digits_value_after}
 use Rattle.raft_size.proofs.size_number.value_up_to.Given as goal
 
 abbrev pub invariant-loop-digit : goal.invariant-loop-digit

@@ -1,6 +1,4 @@
-use Rattle.std.proofs.Common.{sym, ◌∙◌, arith}
-use Rattle.std.proofs.lemmas.List.Sums.{prefix_len_is}
-use Rattle.raft_size.specs.SizeText.{is_number_character}
+use Rattle.raft_size.proofs.Common.{sym, ◌∙◌, arith, prefix_len_is, is_number_character}
 use Rattle.raft_size.proofs.size_text.front_len.Goals as goal
 
 pub returns-then-not-is_number_byte : goal.returns-then-not-is_number_byte

@@ -1,5 +1,4 @@
-use Rattle.std.proofs.Common.{◌≡◌, ◌<◌, ℕ, true, get_or}
-use Rattle.raft_size.specs.SizeText.{is_number_character}
+use Rattle.raft_size.proofs.Common.{◌≡◌, ◌<◌, ℕ, true, get_or, is_number_character}
 use Rattle.raft_size.proofs.size_text.front_len.Given as goal
 
 abbrev pub invariant-loop-len : goal.invariant-loop-len

@@ -1,9 +1,4 @@
-use Rattle.std.proofs.Common.{◌≡◌, ℕ, List, subst, ◌∙◌, arith}
-use Rattle.std.proofs.lemmas.Str.{IsCharBoundary-from_ascii}
-use Rattle.raft_size.specs.SizeNumber.{Number, IsNumber}
-use Rattle.raft_size.specs.SizeReading.{number_shown}
-use Rattle.raft_size.specs.SizeText.{number_text, unit_text}
-use Rattle.raft_size.specs.SizeUnits.{IsUnit}
+use Rattle.raft_size.proofs.Common.{◌≡◌, ℕ, List, subst, ◌∙◌, arith, IsCharBoundary-from_ascii, Number, IsNumber, number_shown, number_text, unit_text, IsUnit}
 use Rattle.raft_size.proofs.SizeTextLemmas.{number_len-le, front_len_is, number_text_is, unit_text_is, has_unit}
 use Rattle.raft_size.proofs.size_text.parse_ascii.Goals as goal
 

@@ -1,5 +1,4 @@
-use Rattle.std.proofs.Common.{ℕ, List, [], ◌∷◌, ap, ◌∙◌}
-use Rattle.raft_tickets.specs.Draws.{TicketSeat}
+use Rattle.raft_tickets.proofs.Common.{ℕ, List, [], ◌∷◌, ap, ◌∙◌, TicketSeat}
 use Rattle.raft_tickets.proofs.DrawingLemmas.{joins, weigh_joined}
 use Rattle.raft_tickets.proofs.tickets.join_seat.Goals as goal
 

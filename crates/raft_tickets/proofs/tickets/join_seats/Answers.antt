@@ -1,5 +1,4 @@
-use Rattle.std.proofs.Common.{◌≡◌, [], ◌∷◌, ◌∙◌, arith}
-use Rattle.raft_tickets.specs.Draws.{TicketSeat}
+use Rattle.raft_tickets.proofs.Common.{◌≡◌, [], ◌∷◌, ◌∙◌, arith, TicketSeat}
 use Rattle.raft_tickets.proofs.DrawingLemmas.{one_fewer, All-front}
 use Rattle.raft_tickets.proofs.tickets.join_seats.Goals as goal
 

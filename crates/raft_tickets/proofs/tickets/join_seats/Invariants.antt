@@ -1,5 +1,4 @@
-use Rattle.std.proofs.Common.{◌≡◌, ℕ, ◌+◌, List, All, vec_len}
-use Rattle.raft_tickets.specs.Weights.{weigh}
+use Rattle.raft_tickets.proofs.Common.{◌≡◌, ℕ, ◌+◌, List, All, vec_len, weigh}
 use Rattle.raft_tickets.proofs.tickets.join_seats.Given as goal
 
 abbrev pub invariant-loop-other : goal.invariant-loop-other

@@ -1,7 +1,4 @@
-use Rattle.std.proofs.Common.{ℕ, ◌≡◌, ◌+◌, List, [], drop, take, length, replicate, sym, ap, ◌∙◌, arith}
-use Rattle.std.proofs.lemmas.List.{length_push}
-use Rattle.std.proofs.lemmas.List.Elements.{All-push}
-use Rattle.raft_tickets.specs.Draws.{TicketSeat}
+use Rattle.raft_tickets.proofs.Common.{ℕ, ◌≡◌, ◌+◌, List, [], drop, take, length, replicate, sym, ap, ◌∙◌, arith, length_push, All-push, TicketSeat}
 use Rattle.raft_tickets.proofs.DrawingLemmas.{nothing, splits, first_left, last_left, fewer_left}
 use Rattle.raft_tickets.proofs.tickets.split_seats.Goals as goal
 

@@ -1,6 +1,5 @@
 -- Blocks of the quotient.
-use Rattle.std.proofs.Common.{◌≡◌, ◌+◌, ◌-◌, min, get_or, length, sym, ap, ◌∙◌, arith}
-use Rattle.raft_checksum.specs.Checksum.{crc_steps}
+use Rattle.raft_checksum.proofs.Common.{◌≡◌, ◌+◌, ◌-◌, min, get_or, length, sym, ap, ◌∙◌, arith, crc_steps}
 use Rattle.raft_checksum.proofs.BlockLemmas.{stands_first, stands_next, remainder_settled}
 use Rattle.raft_checksum.proofs.RemainderLemmas.{remainder_same}
 use Rattle.raft_checksum.proofs.WordLemmas.{bytes_front, bytes_left}

@@ -1,6 +1,5 @@
 -- Two words at a time.
-use Rattle.std.proofs.Common.{◌∙◌, arith, refl, bit_xor}
-use Rattle.raft_checksum.specs.Checksum.{crc_steps}
+use Rattle.raft_checksum.proofs.Common.{◌∙◌, arith, refl, bit_xor, crc_steps}
 use Rattle.raft_checksum.proofs.FiveWordLemmas.{stands_alone}
 use Rattle.raft_checksum.proofs.checksum.words.by_words.Goals as goal
 

@@ -1,7 +1,5 @@
 -- The remainder stands for the register.
-use Rattle.std.proofs.Common.{◌≡◌, ℕ, ◌≤◌, length}
-use Rattle.raft_checksum.specs.Checksum.{register_after}
-use Rattle.raft_checksum.specs.SparseMultiple.{StandFor}
+use Rattle.raft_checksum.proofs.Common.{◌≡◌, ℕ, ◌≤◌, length, register_after, StandFor}
 use Rattle.raft_checksum.proofs.checksum.words.by_words.Given as goal
 
 abbrev pub invariant-loop-rest : goal.invariant-loop-rest

@@ -1,6 +1,5 @@
 -- The quotient of a word is put off.
-use Rattle.std.proofs.Common.{ℕ, ◌≡◌, List, length, get_or, subst, arith}
-use Rattle.raft_checksum.specs.SparseMultiple.{StandFor}
+use Rattle.raft_checksum.proofs.Common.{ℕ, ◌≡◌, List, length, get_or, subst, arith, StandFor}
 use Rattle.raft_checksum.proofs.FiveWordLemmas.{word_divided}
 use Rattle.raft_checksum.proofs.SettledLemmas.{five_words}
 use Rattle.raft_checksum.proofs.checksum.words.divided.Goals as goal

@@ -1,7 +1,5 @@
 -- The last five words by look-ups.
-use Rattle.std.proofs.Common.{ℕ, ◌≡◌, List, length, get_or, bit_xor, ap, subst, ◌∙◌, arith}
-use Rattle.raft_checksum.specs.Checksum.{crc_steps, register_after}
-use Rattle.raft_checksum.specs.SparseMultiple.{StandFor}
+use Rattle.raft_checksum.proofs.Common.{ℕ, ◌≡◌, List, length, get_or, bit_xor, ap, subst, ◌∙◌, arith, crc_steps, register_after, StandFor}
 use Rattle.raft_checksum.proofs.SettledLemmas.{five_words, words_settled}
 use Rattle.raft_checksum.proofs.checksum.words.settled.Goals as goal
 

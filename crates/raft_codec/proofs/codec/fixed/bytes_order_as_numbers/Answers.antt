@@ -1,5 +1,4 @@
-use Rattle.std.proofs.Common.{◌∙◌, arith}
-use Rattle.raft_codec.specs.Fixed.{complement, sign_flipped}
+use Rattle.raft_codec.proofs.Common.{◌∙◌, arith, complement, sign_flipped}
 use Rattle.raft_codec.proofs.FixedOrder.{nat_cmp-complement, nat_cmp-sign_flipped, sign_flipped-lt, sign_flipped-offset, slice_cmp-big_bytes}
 use Rattle.raft_codec.proofs.codec.fixed.bytes_order_as_numbers.Goals as goal
 

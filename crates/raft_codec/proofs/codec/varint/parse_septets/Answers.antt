@@ -1,5 +1,4 @@
-use Rattle.std.proofs.Common.{arith, inl, inr}
-use Rattle.std.proofs.lemmas.List.{take_rest}
+use Rattle.raft_codec.proofs.Common.{arith, inl, inr, take_rest}
 use Rattle.raft_codec.proofs.VarintLemmas.{last_septet, sum_fits, next_septet, is_too_long, too_long, is_early, ends_early}
 use Rattle.raft_codec.proofs.codec.varint.parse_septets.Goals as goal
 

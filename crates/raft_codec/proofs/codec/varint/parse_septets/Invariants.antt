@@ -1,5 +1,4 @@
-use Rattle.std.proofs.Common.{◌≡◌, ◌≤◌, take}
-use Rattle.raft_codec.specs.Varint.{AllContinue, base_128}
+use Rattle.raft_codec.proofs.Common.{◌≡◌, ◌≤◌, take, AllContinue, base_128}
 use Rattle.raft_codec.proofs.codec.varint.parse_septets.Given as goal
 
 -- the bytes so far continue, and spell the number so far

@@ -1,7 +1,4 @@
-use Rattle.std.proofs.Common.{drop, subst, arith}
-use Rattle.std.proofs.lemmas.List.{take_rest}
-use Rattle.raft_codec.specs.Reading.{Reads}
-use Rattle.raft_codec.specs.Varint.{IsShortVarint}
+use Rattle.raft_codec.proofs.Common.{drop, subst, arith, take_rest, Reads, IsShortVarint}
 use Rattle.raft_codec.proofs.VarintLemmas.{short_read, one_septet, three_septets_read, four_septets_read}
 use Rattle.raft_codec.proofs.codec.varint.parse_short_var_u64.Goals as goal
 

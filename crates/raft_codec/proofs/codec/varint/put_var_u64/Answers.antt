@@ -1,5 +1,4 @@
-use Rattle.std.proofs.Common.{◌≡◌, ℕ, ◌*◌, ◌^◌, ◌≤◌, ◌++◌, take, ap, subst, refl, sym, arith, ◌-◌}
-use Rattle.raft_codec.specs.Varint.{varint, septets_of}
+use Rattle.raft_codec.proofs.Common.{◌≡◌, ℕ, ◌*◌, ◌^◌, ◌≤◌, ◌++◌, take, ap, subst, refl, sym, arith, ◌-◌, varint, septets_of}
 use Rattle.raft_codec.proofs.VarintLemmas.{written_last, written_more, rest_falls}
 use Rattle.raft_codec.proofs.codec.varint.put_var_u64.Goals as goal
 

@@ -1,5 +1,4 @@
-use Rattle.std.proofs.Common.{◌≡◌, ◌-◌, ◌*◌, ◌^◌, ◌≤◌, ◌++◌, take}
-use Rattle.raft_codec.specs.Varint.{varint, septets_of}
+use Rattle.raft_codec.proofs.Common.{◌≡◌, ◌-◌, ◌*◌, ◌^◌, ◌≤◌, ◌++◌, take, varint, septets_of}
 use Rattle.raft_codec.proofs.codec.varint.put_var_u64.Given as goal
 
 -- what is written and the septets that are left are the spelling

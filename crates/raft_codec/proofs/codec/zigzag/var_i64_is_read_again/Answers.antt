@@ -1,6 +1,4 @@
-use Rattle.std.proofs.Common.{◌≡◌, ◌^◌, ◌<◌, ℤ, pos, negsuc, ap, arith, w64}
-use Rattle.std.specs.Prelude.{FitsSigned}
-use Rattle.raft_codec.specs.Zigzag.{zigzag}
+use Rattle.raft_codec.proofs.Common.{◌≡◌, ◌^◌, ◌<◌, ℤ, pos, negsuc, ap, arith, w64, FitsSigned, zigzag}
 use Rattle.raft_codec.proofs.VarintLemmas.{varint_spells, varint_shortest, varint_one_front}
 use Rattle.raft_codec.proofs.codec.zigzag.var_i64_is_read_again.Goals as goal
 

@@ -1,5 +1,4 @@
-use Rattle.std.proofs.Common.{◌++◌, ℕ, List, ap, sym, codes, lit<}
-use Rattle.std.proofs.lemmas.Fmt.{decimal_digit}
+use Rattle.raft_size.proofs.Common.{◌++◌, ℕ, List, ap, sym, codes, lit<, decimal_digit}
 use Rattle.raft_size.proofs.readable_size.ReadableSize.printed.Goals as goal
 
 pub returns-then-size-eq0-clause-text : goal.returns-then-size-eq0-clause-text

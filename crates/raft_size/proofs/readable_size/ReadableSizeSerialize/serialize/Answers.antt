@@ -1,10 +1,5 @@
 -- Digits and unit have room.
-use Rattle.std.proofs.Common.{◌≡◌, ◌++◌, List, [], ℕ, ◌≤◌, length, refl, sym, ap, ◌∙◌, subst, arith, le-leb}
-use Rattle.std.specs.Result.{OnOk}
-use Rattle.std.specs.Fmt.Cut.{cut_to}
-use Rattle.std.specs.Fmt.InlineText.{inline_text}
-use Rattle.serde.specs.Event.{Logs, text}
-use Rattle.raft_size.specs.SizePrint.{size_text}
+use Rattle.raft_size.proofs.Common.{◌≡◌, ◌++◌, List, [], ℕ, ◌≤◌, length, refl, sym, ap, ◌∙◌, subst, arith, le-leb, OnOk, cut_to, inline_text, Logs, text, size_text}
 use Rattle.raft_size.proofs.readable_size.ReadableSizeSerialize.serialize.Goals as goal
 
 cut_to_fits : (room : ℕ) (bs : List ℕ) → length bs ≤ room → cut_to room bs ≡ bs

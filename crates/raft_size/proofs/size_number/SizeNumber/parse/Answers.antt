@@ -1,5 +1,4 @@
-use Rattle.std.proofs.Common.{◌+◌, ◌<◌, length, sym, ◌∙◌, arith}
-use Rattle.std.proofs.lemmas.Bool.{eqb-true, eqb-false}
+use Rattle.raft_size.proofs.Common.{◌+◌, ◌<◌, length, sym, ◌∙◌, arith, eqb-true, eqb-false}
 use Rattle.raft_size.proofs.SizeNumberLemmas.{taken_by, taken_number, no_digit, no_exponent, IfNone-from}
 use Rattle.raft_size.proofs.size_number.SizeNumber.parse.Goals as goal
 use Rattle.raft_size.proofs.size_number.SizeNumber.parse.Goals.{else-is_empty-via-then-is_empty+else-is_empty-2, else-is_empty-via-else-is_empty}

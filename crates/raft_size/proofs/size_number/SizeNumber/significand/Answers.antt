@@ -1,6 +1,4 @@
-use Rattle.std.proofs.Common.{◌^◌, arith}
-use Rattle.raft_size.specs.SizeNumber.{digits_of}
-use Rattle.raft_size.specs.SizeReading.{number_shown}
+use Rattle.raft_size.proofs.Common.{◌^◌, arith, digits_of, number_shown}
 use Rattle.raft_size.proofs.SizeDigitLemmas.{AllDigits-append, value_held, few_digits, many_digits}
 use Rattle.raft_size.proofs.size_number.SizeNumber.significand.Goals as goal
 

@@ -1,7 +1,4 @@
-use Rattle.std.proofs.Common.{◌≡◌, ◌*◌, refl, ◌∙◌, arith}
-use Rattle.std.specs.Str.Parse.{digits_value}
-use Rattle.raft_size.specs.SizeNumber.{digits_of}
-use Rattle.raft_size.specs.SizeReading.{number_shown}
+use Rattle.raft_size.proofs.Common.{◌≡◌, ◌*◌, refl, ◌∙◌, arith, digits_value, digits_of, number_shown}
 use Rattle.raft_size.proofs.SizeScalingLemmas.{product_small, size_raised, size_lowered}
 use Rattle.raft_size.proofs.size_number.SizeNumber.size.Goals as goal
 

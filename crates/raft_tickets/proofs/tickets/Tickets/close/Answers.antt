@@ -1,8 +1,4 @@
-use Rattle.std.proofs.Common.{◌≡◌, ◌+◌, [], ◌∷◌, length, ap, ◌∙◌, arith}
-use Rattle.std.proofs.lemmas.List.{length_push}
-use Rattle.std.specs.Slots.{slots_items}
-use Rattle.raft_tickets.specs.Draws.{TicketSeat, Tickets}
-use Rattle.raft_tickets.specs.Weights.{occurrences}
+use Rattle.raft_tickets.proofs.Common.{◌≡◌, ◌+◌, [], ◌∷◌, length, ap, ◌∙◌, arith, length_push, slots_items, TicketSeat, Tickets, occurrences}
 use Rattle.raft_tickets.proofs.DrawingLemmas.{closed_draws, one_fewer}
 use Rattle.raft_tickets.proofs.tickets.Tickets.close.Goals as goal
 

@@ -1,6 +1,4 @@
-use Rattle.std.proofs.Common.{◌≡◌, sym, ap, ◌∙◌, subst, arith}
-use Rattle.raft_tickets.specs.Drawing.{only, Continues}
-use Rattle.raft_tickets.specs.Draws.{AreBelow, TicketSeat, Tickets}
+use Rattle.raft_tickets.proofs.Common.{◌≡◌, sym, ap, ◌∙◌, subst, arith, only, Continues, AreBelow, TicketSeat, Tickets}
 use Rattle.raft_tickets.proofs.DrawingLemmas.{draws, goes_on_drawing, ends_drawing, rises_still}
 use Rattle.raft_tickets.proofs.tickets.Tickets.draw.Goals as goal
 

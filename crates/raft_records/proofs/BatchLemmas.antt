@@ -1,67 +1,47 @@
 -- On lists of items that a batch holds.
-use Rattle.std.proofs.Common.{◌≡◌, ℕ, zero, suc, ◌+◌, ◌-◌, ◌^◌, ◌<◌, List, [], ◌∷◌, ◌++◌, map, length, take, drop, set, get_or, Option, Some, None, refl, sym, ap, ◌∙◌, subst, append_assoc, arith, inl, inr}
-use Rattle.std.specs.Prelude.{bit_xor}
-use Rattle.std.specs.Int.Bits.{xor_assoc, xor_self, xor_zero_l}
-use Rattle.std.proofs.lemmas.Nat.{xor_of_32}
-use Rattle.byteorder.specs.Endian.{little_bytes}
-use Rattle.std.specs.List.{flat_map}
-use Rattle.raft_checksum.specs.Checksum.{crc32_of}
-use Rattle.raft_base.specs.declared.pipe_log.FileBlockHandle.{FileBlockHandle}
-use Rattle.raft_base.specs.declared.pipe_log.FileId.{FileId}
-use Rattle.std.proofs.lemmas.List.{append_cancel_left, length-append, length-map}
-use Rattle.std.proofs.lemmas.List.Edits.{map_over_more}
-use Rattle.raft_base.specs.declared.errors.Error.{Error}
-use Rattle.raft_codec.specs.Reading.{Reads, HasNoFront, HasOneFront, IsFollowedBy, IsSequence, state_after}
-use Rattle.raft_codec.specs.Varint.{IsVarint, varint}
-use Rattle.raft_codec.proofs.VarintLemmas.{varint_one_front, varint_some}
-use Rattle.raft_codec.proofs.ReadingLemmas.{reads_pair, no_first, no_second, pair_one_front}
-use Rattle.raft_codec.proofs.FixedLemmas.{IsReadAgain-little_bytes}
-use Rattle.raft_codec.proofs.SequenceLemmas.{reads_more, stuck, sequence_one_front, fault_after}
-use Rattle.raft_base.specs.declared.compression_type.CompressionType.{CompressionType}
-use Rattle.raft_base.specs.declared.entry_index.EntryIndex.{EntryIndex}
-use Rattle.raft_base.specs.Runs.{IsConsecutive}
-use Rattle.raft_base.proofs.ConsecutiveLemmas.{IsConsecutiveFrom, from_start, consecutive_from, started}
-use Rattle.raft_records.specs.declared.key_value.OpType.{OpType}
+use Rattle.raft_records.proofs.Common.{◌≡◌, ℕ, suc, ◌+◌, ◌-◌, ◌^◌, ◌<◌, List, [], ◌∷◌, ◌++◌, map, length, take, drop, set, get_or, Option, Some, None, refl, sym, ap, ◌∙◌, subst, append_assoc}
+use Rattle.raft_records.proofs.Common.{arith, inl, inr, bit_xor, xor_assoc, xor_self, xor_zero_l, xor_of_32, little_bytes, flat_map, crc32_of, FileBlockHandle, FileId, append_cancel_left}
+use Rattle.raft_records.proofs.Common.{length-append, length-map, map_over_more, Error, Reads, HasNoFront, HasOneFront, IsFollowedBy, IsSequence, state_after, IsVarint, varint, varint_one_front}
+use Rattle.raft_records.proofs.Common.{varint_some, reads_pair, no_first, no_second, pair_one_front, IsReadAgain-little_bytes, reads_more, stuck, sequence_one_front, fault_after, CompressionType}
+use Rattle.raft_records.proofs.Common.{EntryIndex, IsConsecutive, IsConsecutiveFrom, from_start, consecutive_from, started, OpType, Item, Content, entries, command, pair, IsInBytes, Tile, tail_of}
+use Rattle.raft_records.proofs.Common.{IsTail, AreIndexAndTails, IsPairOf, IsContent, IsItem, end_behind, IsWritableWith, tails_bytes, entries_bytes, item_bytes, FitsBehind, FitTogether, end_of_items}
+use Rattle.raft_records.proofs.Common.{placed_item, IsKeptBeside, AreItems, signed_crc, checksum_bytes, IsItemBatch, HasSeal, AreItemsFault, IsItemBatchFault, item_batch_bytes, IsInRange, IsMemory}
+use Rattle.raft_records.proofs.Common.{IsItemFault, item_size, items_size, at_most_usize}
+use Rattle.std.proofs.lemmas.List.{get_or-map, map-set}
 use Rattle.raft_records.specs.declared.key_value.OpType.TheVariants.{Put, Del}
-use Rattle.raft_records.specs.Item.{Item, Content, entries, command, pair, IsInBytes}
-use Rattle.raft_records.specs.Entries.{Tile}
-use Rattle.raft_records.specs.Grammar.{tail_of, IsTail, AreIndexAndTails, IsPairOf, IsContent, IsItem, end_behind}
 use Rattle.raft_records.proofs.Names.{behind_entry, behind_item, placed_entry}
-use Rattle.raft_records.specs.Spelling.{IsWritableWith, tails_bytes, entries_bytes, item_bytes}
-use Rattle.raft_records.specs.ItemBatch.{FitsBehind, FitTogether, end_of_items, placed_item, IsKeptBeside, AreItems, signed_crc, checksum_bytes, IsItemBatch, HasSeal, AreItemsFault, IsItemBatchFault, item_batch_bytes}
-use Rattle.raft_records.specs.Range.{IsInRange}
-use Rattle.raft_records.specs.Faults.{IsMemory, IsItemFault}
 use Rattle.raft_records.proofs.ContentLemmas.{item_one_front}
 use Rattle.raft_records.proofs.InBytesLemmas.{in_bytes_append, in_bytes_placed}
 use Rattle.raft_records.proofs.RangeLemmas.{range_append, range_placed}
 use Rattle.raft_records.proofs.SealLemmas.{four, content_is}
-use Rattle.raft_records.specs.Sizes.{item_size, items_size, at_most_usize}
 
--- ---- one more item
+-- ---- items behind others
 
-pub fit_push : (s : ℕ) (xs : List Item) (x : Item) → FitTogether s xs → FitsBehind (end_of_items s xs) x.content → FitTogether s (xs ++ x ∷ [])
-fit_push s [] x h f = (f, tt)
-fit_push s (y ∷ ys) x h f = (h.0, fit_push (behind_item s y) ys x h.1 f)
+pub fit_append : (s : ℕ) (xs ys : List Item) → FitTogether s xs → FitTogether (end_of_items s xs) ys → FitTogether s (xs ++ ys)
+fit_append s [] ys h g = g
+fit_append s (x ∷ xs) ys h g = (h.0, fit_append (behind_item s x) xs ys h.1 g)
+
+pub end_append : (s : ℕ) (xs ys : List Item) → end_of_items s (xs ++ ys) ≡ end_of_items (end_of_items s xs) ys
+end_append s [] ys = refl
+end_append s (x ∷ xs) ys = end_append (behind_item s x) xs ys
 
 pub end_push : (s : ℕ) (xs : List Item) (x : Item) → end_of_items s (xs ++ x ∷ []) ≡ behind_item (end_of_items s xs) x
-end_push s [] x = refl
-end_push s (y ∷ ys) x = end_push (behind_item s y) ys x
+end_push s xs x = end_append s xs (x ∷ [])
 
-pub size_push : (xs : List Item) (x : Item) → items_size (xs ++ x ∷ []) ≡ items_size xs + item_size x
-size_push [] x = omega arith
-size_push (y ∷ ys) x = omega (arith, size_push ys x)
+pub size_append : (xs ys : List Item) → items_size (xs ++ ys) ≡ items_size xs + items_size ys
+size_append [] ys = omega arith
+size_append (x ∷ xs) ys = omega (arith, size_append xs ys)
 
 pub kept_push : (xs : List Item) (x : Item) (size entry_bytes size' : ℕ) (checksum : Option ℕ) → IsKeptBeside xs size entry_bytes checksum →
     FitsBehind (end_of_items 0 xs) x.content → IsInRange x → IsInBytes x.content → size' ≡ at_most_usize (size + at_most_usize (item_size x)) →
     IsKeptBeside (xs ++ x ∷ []) size' (behind_item (end_of_items 0 xs) x) None
 kept_push xs x size entry_bytes size' checksum k f r b e =
     let before : size ≡ at_most_usize (items_size xs) = k.size in
-    let pushed : items_size (xs ++ x ∷ []) ≡ items_size xs + item_size x = size_push xs x in
+    let pushed : items_size (xs ++ x ∷ []) ≡ items_size xs + item_size x = omega (arith, size_append xs (x ∷ [])) in
     record {
-      fit = fit_push 0 xs x k.fit f;
+      fit = fit_append 0 xs (x ∷ []) k.fit (f, tt);
       in_range = range_append xs (x ∷ []) k.in_range (r, tt);
-      in_bytes = in_bytes_append xs (x ∷ []) k.in_bytes
-          (b, tt);
+      in_bytes = in_bytes_append xs (x ∷ []) k.in_bytes (b, tt);
       entry_bytes = sym (end_push 0 xs x);
       size = omega arith;
       checksum = λ crc some. absurd cc;
@@ -69,23 +49,24 @@ kept_push xs x size entry_bytes size' checksum k f r b e =
 
 -- ---- places
 
-pub fits_placed : (handle : FileBlockHandle) (c : CompressionType) (s : ℕ) (content : Content) → FitsBehind s content → FitsBehind s (placed_item handle c (record { raft_group_id = 0; content = content })).content
-fits_placed handle c s (entries es) h = (consecutive_placed es h.0, tile_placed s es h.1)
+-- entries that keep their indexes
+pub consecutive_mapped : (f : EntryIndex → EntryIndex) → ((e : EntryIndex) → (f e).index ≡ e.index) → (es : List EntryIndex) → IsConsecutive es → IsConsecutive (map f es)
+consecutive_mapped f same es h = consecutive_from (started es h.run).start (map f es) (indexes (started es h.run).start es (from_start es h))
   where
-    from_placed : (i : ℕ) (es : List EntryIndex) → IsConsecutiveFrom i es → IsConsecutiveFrom i (map (placed_entry handle c) es)
-    from_placed i [] h = tt
-    from_placed i (e ∷ es) h = (h.0, h.1, from_placed (i + 1) es h.2)
+    indexes : (i : ℕ) (es : List EntryIndex) → IsConsecutiveFrom i es → IsConsecutiveFrom i (map f es)
+    indexes i [] h = tt
+    indexes i (e ∷ es) h = (same e ∙ h.0, h.1, indexes (i + 1) es h.2)
 
-    consecutive_placed : (es : List EntryIndex) → IsConsecutive es → IsConsecutive (map (placed_entry handle c) es)
-    consecutive_placed es h = consecutive_from (started es h.run).start (map (placed_entry handle c) es) (from_placed (started es h.run).start es (from_start es h))
-
+pub fits_placed : (handle : FileBlockHandle) (c : CompressionType) (s : ℕ) (content : Content) → FitsBehind s content → FitsBehind s (placed_item handle c (record { raft_group_id = 0; content = content })).content
+fits_placed handle c s (entries es) h = (consecutive_mapped (placed_entry handle c) (λ e. refl) es h.0, tile_placed s es h.1)
+  where
     tile_placed : (s : ℕ) (es : List EntryIndex) → Tile s es → Tile s (map (placed_entry handle c) es)
     tile_placed s [] h = tt
     tile_placed s (e ∷ es) h = (h.0, h.1, tile_placed (s + e.entry_len) es h.2)
 fits_placed handle c s (command x) h = h
 fits_placed handle c s (pair p) h = h
 
-end_placed : (handle : FileBlockHandle) (c : CompressionType) (s : ℕ) (es : List EntryIndex) → end_behind s (map (placed_entry handle c) es) ≡ end_behind s es
+pub end_placed : (handle : FileBlockHandle) (c : CompressionType) (s : ℕ) (es : List EntryIndex) → end_behind s (map (placed_entry handle c) es) ≡ end_behind s es
 end_placed handle c s [] = refl
 end_placed handle c s (e ∷ es) = end_placed handle c (tail_of e) es
 
@@ -223,26 +204,16 @@ no_room_for_items signature bytes rest xs e b memory =
 -- ---- loops over items
 
 -- an element seen
-pub seen_at : {X Y : Type 0} (g : X → Y) (ys : List X) (i : ℕ) (x : X) → x ≡ get_or ys i x → g x ≡ get_or (map g ys) i (g x)
-seen_at g ys i x at = ap g at ∙ sym (get_or-map' g ys i x)
-  where
-    get_or-map' : {X Y : Type 0} (g : X → Y) (ys : List X) (i : ℕ) (d : X) → get_or (map g ys) i (g d) ≡ g (get_or ys i d)
-    get_or-map' g [] i d = refl
-    get_or-map' g (y ∷ ys) zero d = refl
-    get_or-map' g (y ∷ ys) (suc i) d = get_or-map' g ys i d
+pub seen_at : {X Y : Type 0} (g : X → Y) (ys : List X) (i : ℕ) (x : X) → i < length ys → x ≡ get_or ys i x → g x ≡ get_or (map g ys) i (g x)
+seen_at g ys i x lt at = ap g at ∙ sym (get_or-map g ys i x (g x) lt)
 
 -- the step of a loop that changes each value, as a view of it says
 pub map_view_more : {X Y : Type 0} (g : X → Y) (f : Y → Y) (xs : List Y) (ys : List X) (i : ℕ) (old new : X) → i < length ys → length xs ≡ length ys →
     map g ys ≡ map f (take i xs) ++ drop i xs → old ≡ get_or ys i old → g new ≡ f (g old) →
     map g (set ys i new) ≡ map f (take (i + 1) xs) ++ drop (i + 1) xs
 map_view_more {X} {Y} g f xs ys i old new lt len e at step =
-    let seen : g old ≡ get_or (map g ys) i (g old) = seen_at g ys i old at in
-    map-set' g ys i new ∙ ap (λ (v : Y). set (map g ys) i v) step ∙ map_over_more f xs (map g ys) i (g old) (omega arith) e seen
-  where
-    map-set' : {X Y : Type 0} (g : X → Y) (ys : List X) (i : ℕ) (v : X) → map g (set ys i v) ≡ set (map g ys) i (g v)
-    map-set' g [] i v = refl
-    map-set' g (y ∷ ys) zero v = refl
-    map-set' {X} {Y} g (y ∷ ys) (suc i) v = ap (λ (t : List Y). g y ∷ t) (map-set' g ys i v)
+    let seen : g old ≡ get_or (map g ys) i (g old) = seen_at g ys i old lt at in
+    map-set g ys i new ∙ ap (λ (v : Y). set (map g ys) i v) step ∙ map_over_more f xs (map g ys) i (g old) (omega arith) e seen
 
 -- ---- what places leave as it is
 

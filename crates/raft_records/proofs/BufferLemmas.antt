@@ -1,18 +1,10 @@
 -- On the buffer of a log batch.
-use Rattle.std.proofs.Common.{◌≡◌, ◌≢◌, ℕ, ◌+◌, ◌-◌, ◌*◌, ◌^◌, ◌<◌, ◌≤◌, List, [], ◌∷◌, ◌++◌, length, take, drop, Option, None, refl, sym, ap, ◌∙◌, subst, append_assoc, arith}
-use Rattle.std.proofs.lemmas.List.{length-append, length-drop, length-take-le, take-append-drop, take_at, drop_at, take_all}
-use Rattle.byteorder.specs.Endian.{big_bytes}
-use Rattle.raft_checksum.specs.Checksum.{crc32_of}
-use Rattle.raft_codec.proofs.FixedLemmas.{IsReadAgain-big_bytes}
-use Rattle.raft_base.specs.declared.compression_type.CompressionType.{CompressionType}
+use Rattle.raft_records.proofs.Common.{◌≡◌, ◌≢◌, ℕ, ◌+◌, ◌-◌, ◌*◌, ◌^◌, ◌<◌, ◌≤◌, List, [], ◌∷◌, ◌++◌, length, take, drop, Option, None, refl, sym, ap, ◌∙◌, subst, append_assoc, arith, length-append}
+use Rattle.raft_records.proofs.Common.{length-drop, length-take-le, take-append-drop, take_at, drop_at, take_all, big_bytes, crc32_of, IsReadAgain-big_bytes, CompressionType, compression_byte, Item}
+use Rattle.raft_records.proofs.Common.{checksum_bytes, item_batch_bytes, entry_bytes_of, IsEncoded, signed_crc, no_checksum, Stage, is_open, encoded, sealed, header_bytes, entry_block, item_offset}
+use Rattle.raft_records.proofs.Common.{unsealed_bytes, encoded_length, log_batch_bytes, entry_bytes_in, IsUnsealed, IsEncodedAs, IsHeldAt, IsHeld, Keeps}
 use Rattle.raft_base.specs.declared.compression_type.CompressionType.TheVariants as compressions
-use Rattle.raft_base.specs.Compression.{compression_byte}
-use Rattle.raft_records.specs.Item.{Item}
 use Rattle.raft_records.proofs.Names.{behind_item}
-use Rattle.raft_records.specs.ItemBatch.{checksum_bytes, item_batch_bytes, entry_bytes_of, IsEncoded, signed_crc, no_checksum}
-use Rattle.raft_records.specs.LogBatch.{Stage, is_open, encoded, sealed, header_bytes, entry_block, item_offset, unsealed_bytes, encoded_length, log_batch_bytes}
-use Rattle.raft_records.specs.Buffer.{entry_bytes_in, IsUnsealed, IsEncodedAs, IsHeldAt, IsHeld}
-use Rattle.raft_records.specs.Spelling.{Keeps}
 use Rattle.raft_records.proofs.BatchLemmas.{end_push}
 use Rattle.raft_records.proofs.SealLemmas.{four}
 

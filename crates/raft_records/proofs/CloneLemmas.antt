@@ -1,20 +1,14 @@
 -- On clones of items: a clone is seen as what it was made of.
-use Rattle.std.proofs.Common.{◌≡◌, ℕ, List, [], ◌∷◌, map, Option, Some, None, Vec, Global, refl, ap, rules}
-use Rattle.std.specs.List.{AllZip, each_same}
-use Rattle.raft_base.specs.declared.pipe_log.FileId.{FileId}
+use Rattle.raft_records.proofs.Common.{◌≡◌, ℕ, List, [], ◌∷◌, map, Option, Some, None, Vec, Global, refl, ap, rules, AllZip, each_same, FileId, Command, KeyValue, OpType, LogItem, LogItemContent}
+use Rattle.raft_records.proofs.Common.{entries, command, pair, Pair, pair_of, content_of, item_of}
 use Rattle.raft_records.specs.contracts.command.CommandClone.TheImpl.{is_clone-value as command_clones}
 use Rattle.raft_records.specs.contracts.entry_indexes.EntryIndexesClone.TheImpl.{is_clone-value as entries_clones}
 use Rattle.raft_records.specs.contracts.key_value.KeyValueClone.TheImpl.{is_clone-value as pair_clones}
 use Rattle.raft_records.specs.contracts.log_item.LogItemContentClone.TheImpl.{is_clone-value as content_clones}
 use Rattle.raft_records.specs.contracts.log_item.LogItemClone.TheImpl.{is_clone-value as item_clones}
-use Rattle.raft_records.specs.declared.command.Command.{Command}
 use Rattle.raft_records.specs.declared.entry_indexes.EntryIndexes.{EntryIndexes as Entries}
-use Rattle.raft_records.specs.declared.key_value.KeyValue.{KeyValue}
-use Rattle.raft_records.specs.declared.key_value.OpType.{OpType}
-use Rattle.raft_records.specs.declared.log_item.LogItem.{LogItem}
-use Rattle.raft_records.specs.declared.log_item.LogItemContent.{LogItemContent}
 use Rattle.raft_records.specs.declared.log_item.LogItemContent.TheVariants.{EntryIndexes, Command as Commands, Kv}
-use Rattle.raft_records.specs.Item.{Item, Content, entries, command, pair, Pair, pair_of, content_of, item_of}
+use Rattle.raft_records.proofs.Names.{item_with}
 
 command_clone : (a b : Command) → command_clones.it a b → b ≡ a
 command_clone a b h = search rules
@@ -63,9 +57,6 @@ content_clone (Commands c) (EntryIndexes y) h = absurd h
 content_clone (Commands c) (Kv q) h = absurd h
 content_clone (Kv p) (EntryIndexes y) h = absurd h
 content_clone (Kv p) (Commands d) h = absurd h
-
-abbrev item_with : ℕ → Content → Item
-item_with region content = record { raft_group_id = region; content = content }
 
 pub item_clone : (a b : LogItem) → item_clones.it a b → item_of b ≡ item_of a
 item_clone a b h =

@@ -1,16 +1,11 @@
 -- On the bytes of items and their contents.
-use Rattle.std.proofs.Common.{◌≡◌, ℕ, List, ◌∷◌, ◌++◌, refl, sym, ap, ◌∙◌, subst, arith}
-use Rattle.raft_codec.specs.Reading.{Reads, HasNoFront, HasOneFront, IsTagged, IsFollowedBy}
-use Rattle.raft_codec.specs.Varint.{IsVarint}
-use Rattle.raft_codec.proofs.VarintLemmas.{varint_one_front}
-use Rattle.raft_codec.proofs.ReadingLemmas.{reads_as, reads_tagged, reads_pair, no_first, no_second, pair_one_front, tagged_at, no_tagged, tagged_same, tagged_one_front}
-use Rattle.raft_base.specs.declared.entry_index.EntryIndex.{EntryIndex}
-use Rattle.raft_records.specs.declared.command.Command.{Command}
+use Rattle.raft_records.proofs.Common.{◌≡◌, ℕ, List, ◌∷◌, ◌++◌, refl, sym, ap, ◌∙◌, subst, arith, Reads, HasNoFront, HasOneFront, IsTagged, IsFollowedBy, IsVarint, varint_one_front, reads_as}
+use Rattle.raft_records.proofs.Common.{reads_tagged, reads_pair, no_first, no_second, pair_one_front, tagged_at, no_tagged, tagged_same, tagged_one_front, EntryIndex, Command, Pair, Content, entries}
+use Rattle.raft_records.proofs.Common.{command, pair, Item, IsCommand, IsKeyValue, IsEntries, IsContent, IsItem}
 use Rattle.raft_records.specs.declared.command.Command.TheVariants.{Clean, Compact, Truncate}
-use Rattle.raft_records.specs.Item.{Pair, Content, entries, command, pair, Item}
-use Rattle.raft_records.specs.Grammar.{IsCommand, IsKeyValue, IsEntries, IsContent, IsItem}
 use Rattle.raft_records.proofs.ItemLemmas.{pair_one}
 use Rattle.raft_records.proofs.EntryLemmas.{entries_one_front}
+use Rattle.raft_records.proofs.Names.{item_with}
 
 -- ---- contents
 
@@ -83,9 +78,6 @@ no_region s bytes none front rest x p e = no_first IsVarint (λ _. IsContent s) 
 
 pub no_content : (s region : ℕ) (bytes mid : List ℕ) → Reads IsVarint bytes mid region → HasNoFront (IsContent s) mid → HasNoFront (IsItem s) bytes
 no_content s region bytes mid r none front rest x p e = no_second IsVarint (λ _. IsContent s) varint_one_front r none front rest x.raft_group_id x.content p e
-
-abbrev item_with : ℕ → Content → Item
-item_with region c = record { raft_group_id = region; content = c }
 
 pub item_one_front : (s : ℕ) → HasOneFront (IsItem s)
 item_one_front s a b more rest x y p q e =

@@ -1,20 +1,9 @@
 -- On item batches that are made of batches as they are read.
-use Rattle.std.proofs.Common.{◌≡◌, ℕ, zero, suc, ◌+◌, ◌≤◌, ◌<◌, ◌^◌, List, [], ◌∷◌, ◌++◌, length, take, drop, get_or, refl, sym, ap, ◌∙◌, subst, arith}
-use Rattle.std.proofs.Math.Seq.{drop-cons}
-use Rattle.std.proofs.Math.ListN.{drop_of_length-le}
-use Rattle.std.proofs.Math.Numerals.{add-one}
-use Rattle.std.proofs.lemmas.List.{append-nil, append_assoc, length-drop, length-take-le}
-use Rattle.raft_base.specs.Runs.{entries_of_block}
-use Rattle.raft_base.specs.declared.pipe_log.FileBlockHandle.{FileBlockHandle}
-use Rattle.raft_records.specs.declared.read_batch.ReadContent.{ReadContent}
+use Rattle.raft_records.proofs.Common.{◌≡◌, ℕ, zero, suc, ◌+◌, ◌≤◌, ◌<◌, ◌^◌, List, [], ◌∷◌, ◌++◌, length, take, drop, get_or, refl, sym, ap, ◌∙◌, subst, arith, drop-cons, drop_of_length-le, add-one}
+use Rattle.raft_records.proofs.Common.{append-nil, length-drop, length-take-le, entries_of_block, FileBlockHandle, ReadContent, ReadItem, IsDecodedIn, Tile, end_behind, end_of_content, Content, Item}
+use Rattle.raft_records.proofs.Common.{FitTogether, FitsBehind, entry_bytes_of, content_shown, item_shown, items_shown, spans_of, spans_taken}
+use Rattle.std.proofs.lemmas.List.{append_assoc}
 use Rattle.raft_records.specs.declared.read_batch.ReadContent.TheVariants as contents
-use Rattle.raft_records.specs.declared.read_batch.ReadItem.{ReadItem}
-use Rattle.raft_records.specs.DecodedIn.{IsDecodedIn}
-use Rattle.raft_records.specs.Entries.{Tile}
-use Rattle.raft_records.specs.Grammar.{end_behind, end_of_content}
-use Rattle.raft_records.specs.Item.{Content, Item}
-use Rattle.raft_records.specs.ItemBatch.{FitTogether, FitsBehind, entry_bytes_of}
-use Rattle.raft_records.specs.ReadBatch.{content_shown, item_shown, items_shown, spans_of, spans_taken}
 use Rattle.raft_records.proofs.BatchLemmas.{end_push}
 use Rattle.raft_records.proofs.ReadBatchLemmas.{shown_in_file}
 
@@ -75,10 +64,10 @@ pub record IsNextItem (place : FileBlockHandle) (item : ReadItem) (own : List (�
 abbrev pub no_item : ReadItem
 no_item = record { region = 0; content = contents.Run 0 0 }
 
-pub next_item : (place : FileBlockHandle) (items : List ReadItem) (n : ℕ) (spans own : List (ℕ × ℕ)) (batch whole : List Item) (s k : ℕ) →
-    n < length items → AreCopied place items n spans batch whole → own ≡ take k spans → k ≡ spans_taken (get_or items n no_item).content →
+pub next_item : {place : FileBlockHandle} {items : List ReadItem} {n : ℕ} {spans own : List (ℕ × ℕ)} {batch whole : List Item} {s k : ℕ} →
+    AreCopied place items n spans batch whole → n < length items → own ≡ take k spans → k ≡ spans_taken (get_or items n no_item).content →
     s ≡ entry_bytes_of batch → IsNextItem place (get_or items n no_item) own s
-next_item place items n spans own batch whole s k low so is k_is s_is =
+next_item {place} {items} {n} {spans} {own} {batch} {whole} {s} {k} so low is k_is s_is =
     let item = get_or items n no_item in
     let split = drop-cons items n no_item low in
     let left = item ∷ drop (suc n) items in
@@ -92,17 +81,17 @@ next_item place items n spans own batch whole s k low so is k_is s_is =
       in_file = subst (λ (xs : List (ℕ × ℕ)). IsDecodedIn place.id (content_shown place item.content xs)) front (shown_in_file place (entry_bytes_of batch) left spans fit).0;
     }
 
-pub copied_end : (place : FileBlockHandle) (item : ReadItem) (own : List (ℕ × ℕ)) (s t end : ℕ) (copy : Content) → IsNextItem place item own s →
+pub copied_end : {place : FileBlockHandle} {item : ReadItem} {own : List (ℕ × ℕ)} {s t end : ℕ} {copy : Content} → IsNextItem place item own s →
     ((first : ℕ) (at : FileBlockHandle) → end ≡ end_behind s (entries_of_block first at own)) → s ≡ t → copy ≡ content_shown place item.content own →
     end ≡ end_of_content t copy
-copied_end place item own s t end copy next ends s_is copy_is =
+copied_end {place} {item} {own} {s} {t} {end} {copy} next ends s_is copy_is =
     end_of_shown s place item.content own end next.taken ends ∙ ap (λ (k : ℕ). end_of_content k (content_shown place item.content own)) s_is ∙ ap (end_of_content t) (sym copy_is)
 
-pub one_more_copied : (place : FileBlockHandle) (items : List ReadItem) (n : ℕ) (spans own rest : List (ℕ × ℕ)) (batch new whole : List Item)
-    (k : ℕ) → n < length items → AreCopied place items n spans batch whole → own ≡ take k spans → rest ≡ drop k spans →
+pub one_more_copied : {place : FileBlockHandle} {items : List ReadItem} {n : ℕ} {spans own rest : List (ℕ × ℕ)} {batch new whole : List Item} {k : ℕ} →
+    AreCopied place items n spans batch whole → n < length items → own ≡ take k spans → rest ≡ drop k spans →
     k ≡ spans_taken (get_or items n no_item).content → new ≡ batch ++ item_shown place (get_or items n no_item) own ∷ [] →
     AreCopied place items (n + 1) rest new whole
-one_more_copied place items n spans own rest batch new whole m low so own_is rest_is m_is new_is =
+one_more_copied {place} {items} {n} {spans} {own} {rest} {batch} {new} {whole} {k = m} so low own_is rest_is m_is new_is =
     let item = get_or items n no_item in
     let k = spans_taken item.content in
     let split : drop n items ≡ item ∷ drop (n + 1) items = drop-cons items n no_item low ∙ ap (λ (i : ℕ). item ∷ drop i items) (sym (add-one n)) in
@@ -118,6 +107,6 @@ one_more_copied place items n spans own rest batch new whole m low so own_is res
     let rest_here : drop k spans ≡ rest = sym (rest_is ∙ ap (λ (i : ℕ). drop i spans) m_is) in
     subst (λ (xs : List (ℕ × ℕ)). AreCopied place items (n + 1) xs new whole) rest_here (subst (λ (ys : List Item). AreCopied place items (n + 1) (drop k spans) ys whole) new_here next)
 
-pub all_copied : (place : FileBlockHandle) (items : List ReadItem) (n : ℕ) (spans : List (ℕ × ℕ)) (batch whole : List Item) → length items ≤ n → AreCopied place items n spans batch whole → batch ≡ whole
-all_copied place items n spans batch whole past so =
+pub all_copied : {place : FileBlockHandle} {items : List ReadItem} {n : ℕ} {spans : List (ℕ × ℕ)} {batch whole : List Item} → AreCopied place items n spans batch whole → length items ≤ n → batch ≡ whole
+all_copied {place} {items} {n} {spans} {batch} so past =
     sym (append-nil batch) ∙ ap (λ (l : List ReadItem). batch ++ items_shown place l spans) (sym (drop_of_length-le items past)) ∙ so.all

@@ -1,17 +1,10 @@
 -- On the bytes of entries.
-use Rattle.std.proofs.Common.{◌≡◌, ℕ, suc, ◌+◌, ◌-◌, ◌^◌, ◌<◌, ◌≤◌, ◌⊎◌, List, [], ◌∷◌, ◌++◌, length, None, refl, sym, ap, ◌∙◌, subst, arith, inl, inr}
-use Rattle.raft_codec.specs.Reading.{Reads, HasNoFront, HasOneFront, IsFollowedBy, IsSequence, state_after, IsSequenceFault}
-use Rattle.raft_codec.specs.Varint.{IsVarint}
-use Rattle.raft_base.specs.declared.errors.Error.{Error}
-use Rattle.raft_codec.proofs.VarintLemmas.{varint_one_front}
-use Rattle.raft_codec.proofs.ReadingLemmas.{reads_pair, no_first, no_second, pair_one_front}
-use Rattle.raft_codec.proofs.SequenceLemmas.{reads_more, state_after-push, stuck, sequence_one_front, fault_after}
+use Rattle.raft_records.proofs.Common.{◌≡◌, ℕ, suc, ◌+◌, ◌-◌, ◌^◌, ◌<◌, ◌≤◌, ◌⊎◌, List, [], ◌∷◌, ◌++◌, length, None, refl, sym, ap, ◌∙◌, subst, arith, inl, inr, Reads, HasNoFront, HasOneFront}
+use Rattle.raft_records.proofs.Common.{IsFollowedBy, IsSequence, state_after, IsSequenceFault, IsVarint, Error, varint_one_front, reads_pair, no_first, no_second, pair_one_front, reads_more}
+use Rattle.raft_records.proofs.Common.{state_after-push, stuck, sequence_one_front, fault_after, EntryIndex, entry_between, tail_of, IsTail, AreTails, AreIndexAndTails, IsEntries, end_behind}
+use Rattle.raft_records.proofs.Common.{IsTailFault, IsTailsFault, IsEntriesFault}
 use Rattle.raft_base.specs.declared.compression_type.CompressionType.TheVariants as compressions
-use Rattle.raft_base.specs.declared.entry_index.EntryIndex.{EntryIndex}
-use Rattle.raft_records.specs.Entries.{entry_between}
-use Rattle.raft_records.specs.Grammar.{tail_of, IsTail, AreTails, AreIndexAndTails, IsEntries, end_behind}
 use Rattle.raft_records.proofs.Names.{behind_entry}
-use Rattle.raft_records.specs.Faults.{IsTailFault, IsTailsFault, IsEntriesFault}
 
 -- ---- one tail offset
 
@@ -81,18 +74,18 @@ one_more_tail first s bytes mid rest es index offset tail so le r =
     let e = entry_between index offset tail in
     subst (λ (o : ℕ). AreReadSoFar first s bytes rest (es ++ e ∷ []) (index + 1) o) (omega arith) (one_more_read first s bytes mid rest es e index offset so r)
 
-pub no_more_tails : (first s : ℕ) (bytes mid : List ℕ) (es : List EntryIndex) (index offset count : ℕ) →
+pub no_more_tails : {first s : ℕ} {bytes mid : List ℕ} {es : List EntryIndex} {index offset : ℕ} (count : ℕ) →
     AreReadSoFar first s bytes mid es index offset → length es < count → HasNoFront (IsTail (index, offset)) mid →
     HasNoFront (AreTails count (first, s)) bytes
-no_more_tails first s bytes mid es index offset count so lt none front rest ys a e =
+no_more_tails {first} {s} {bytes} {mid} {es} {index} {offset} count so lt none front rest ys a e =
     let here : HasNoFront (IsTail (state_after behind_entry (first, s) es)) mid = subst (λ (p : ℕ × ℕ). HasNoFront (IsTail p) mid) (sym so.state) none in
     let len : length ys ≡ count = a.count in
     stuck behind_entry IsTail tail_one_front (first, s) es ys so.reads here front rest a.tails e (omega arith)
 
-pub tail_fault : (first s : ℕ) (bytes mid : List ℕ) (es : List EntryIndex) (index offset count more : ℕ) (fault : Error) →
+pub tail_fault : {first s : ℕ} {bytes mid : List ℕ} {es : List EntryIndex} {index offset count : ℕ} {fault : Error} (more : ℕ) →
     AreReadSoFar first s bytes mid es index offset → count ≡ length es + suc more → IsTailFault (index, offset) mid fault →
     IsSequenceFault behind_entry IsTail IsTailFault count (first, s) bytes fault
-tail_fault first s bytes mid es index offset count more fault so c f =
+tail_fault {first} {s} {bytes} {mid} {es} {index} {offset} {count} {fault} more so c f =
     fault_after behind_entry IsTail IsTailFault (first, s) es count (suc more) fault c so.reads (inl (subst (λ (p : ℕ × ℕ). IsTailFault p mid fault) (sym so.state) f))
 
 pub end_is : (next : ℕ × ℕ) (es : List EntryIndex) → end_behind next.1 es ≡ (state_after behind_entry next es).1

@@ -1,21 +1,14 @@
 -- On equality of items: `==` of what is in memory decides equality of what it is seen as.
-use Rattle.std.proofs.Common.{◌≡◌, ℕ, Bool, true, ◌&&◌, List, [], ◌∷◌, map, refl, sym, ap, ◌∙◌, rules}
-use Rattle.std.specs.Bool.{Decides, one_answer}
-use Rattle.std.specs.Cmp.{unsigned_Decides, first_so, second_so}
-use Rattle.std.specs.Cmp.Lexicographic.{pointwise, pointwise_decides}
+use Rattle.raft_records.proofs.Common.{◌≡◌, ℕ, Bool, true, ◌&&◌, List, [], ◌∷◌, map, refl, sym, ap, ◌∙◌, rules, Decides, one_answer, unsigned_Decides, first_so, second_so, pointwise}
+use Rattle.raft_records.proofs.Common.{pointwise_decides, EntryIndex, Command, KeyValue, LogItem, LogItemContent, same_pair, same_content, same_item, same_items, Item, Content, entries, command, pair}
+use Rattle.raft_records.proofs.Common.{Pair, pair_of, content_of, item_of}
 use Rattle.raft_base.specs.contracts.entry_index.EntryIndexPartialEq.TheImpl.{eq-value as entry_eq}
-use Rattle.raft_base.specs.declared.entry_index.EntryIndex.{EntryIndex}
 use Rattle.raft_records.specs.contracts.command.CommandPartialEq.TheImpl.{eq-value as command_eq}
 use Rattle.raft_records.specs.contracts.key_value.KeyValuePartialEq.TheImpl.{eq-value as pair_eq}
 use Rattle.raft_records.specs.contracts.log_item.LogItemContentPartialEq.TheImpl.{eq-value as content_eq}
 use Rattle.raft_records.specs.contracts.log_item.LogItemPartialEq.TheImpl.{eq-value as item_eq}
-use Rattle.raft_records.specs.declared.command.Command.{Command}
-use Rattle.raft_records.specs.declared.key_value.KeyValue.{KeyValue}
-use Rattle.raft_records.specs.declared.log_item.LogItem.{LogItem}
-use Rattle.raft_records.specs.declared.log_item.LogItemContent.{LogItemContent}
 use Rattle.raft_records.specs.declared.log_item.LogItemContent.TheVariants.{EntryIndexes, Command as Commands, Kv}
-use Rattle.raft_records.specs.Same.{same_pair, same_content, same_item, same_items}
-use Rattle.raft_records.specs.Item.{Item, Content, entries, command, pair, Pair, pair_of, content_of, item_of}
+use Rattle.raft_records.proofs.Names.{item_with}
 
 both : {a b : Bool} → a ≡ true → b ≡ true → (a && b) ≡ true
 both {a} {b} p q = (λ i. p i && q i)
@@ -45,9 +38,6 @@ content_decides (Commands c) (EntryIndexes y) = (λ e. absurd cc, λ e. absurd c
 content_decides (Commands c) (Kv q) = (λ e. absurd cc, λ e. absurd cc)
 content_decides (Kv p) (EntryIndexes y) = (λ e. absurd cc, λ e. absurd cc)
 content_decides (Kv p) (Commands d) = (λ e. absurd cc, λ e. absurd cc)
-
-abbrev item_with : ℕ → Content → Item
-item_with region content = record { raft_group_id = region; content = content }
 
 item_decides : (a b : LogItem) → Decides (item_eq.it a b) (item_of a ≡ item_of b)
 item_decides a b =

@@ -1,22 +1,10 @@
 -- On log batches as they are read, part by part.
-use Rattle.std.proofs.Common.{◌≡◌, ◌≢◌, ℕ, ◌+◌, ◌-◌, ◌*◌, ◌^◌, ◌<◌, ◌≤◌, List, [], ◌∷◌, ◌++◌, map, length, take, drop, Option, None, ◌↔◌, Some, inl, inr, refl, sym, ap, ◌∙◌, subst, append_assoc, arith}
-use Rattle.std.specs.List.{flat_map}
-use Rattle.std.proofs.lemmas.List.{length-append, length-drop, length-take-le, append_cancel_left, take_at, drop_at, drop-drop, take-append-drop}
-use Rattle.byteorder.specs.Endian.{big_bytes}
-use Rattle.raft_codec.specs.Reading.{HasOneFront}
-use Rattle.raft_checksum.specs.Checksum.{crc32_of}
-use Rattle.raft_codec.specs.Varint.{varint}
-use Rattle.raft_codec.proofs.FixedLemmas.{IsReadAgain-big_bytes}
-use Rattle.raft_base.specs.declared.compression_type.CompressionType.{CompressionType}
+use Rattle.raft_records.proofs.Common.{◌≡◌, ◌≢◌, ℕ, ◌+◌, ◌-◌, ◌*◌, ◌^◌, ◌<◌, ◌≤◌, List, [], ◌∷◌, ◌++◌, map, length, take, drop, Option, None, ◌↔◌, Some, inl, inr, refl, sym, ap, ◌∙◌, subst}
+use Rattle.raft_records.proofs.Common.{append_assoc, arith, flat_map, length-append, length-drop, length-take-le, append_cancel_left, take_at, drop_at, drop-drop, take-append-drop, big_bytes}
+use Rattle.raft_records.proofs.Common.{HasOneFront, crc32_of, varint, IsReadAgain-big_bytes, CompressionType, compression_byte, Item, Content, entries, command, pair, bare, AreInRange, content_bytes}
+use Rattle.raft_records.proofs.Common.{item_bytes, signed_crc, checksum_bytes, item_batch_bytes, IsItemBatch, IsBatchOf, header_bytes, entry_block, item_offset, unsealed_bytes, encoded_length}
+use Rattle.raft_records.proofs.Common.{log_batch_bytes, IsLaidOut, IsLogBatch, IsReadable, IsHeader, IsEntryBlockOf, IsFramed, IsFramedWith}
 use Rattle.raft_base.specs.declared.compression_type.CompressionType.TheVariants as compressions
-use Rattle.raft_base.specs.Compression.{compression_byte}
-use Rattle.raft_records.specs.Item.{Item, Content, entries, command, pair, bare}
-use Rattle.raft_records.specs.Range.{AreInRange}
-use Rattle.raft_records.specs.Spelling.{content_bytes, item_bytes}
-use Rattle.raft_records.specs.ItemBatch.{signed_crc, checksum_bytes, item_batch_bytes, IsItemBatch}
-use Rattle.raft_records.specs.LogBatch.{IsBatchOf, header_bytes, entry_block, item_offset, unsealed_bytes, encoded_length, log_batch_bytes, IsLaidOut, IsLogBatch, IsReadable}
-use Rattle.raft_records.specs.Header.{IsHeader, IsEntryBlockOf}
-use Rattle.raft_records.specs.Framing.{IsFramed, IsFramedWith}
 use Rattle.raft_records.proofs.BufferLemmas.{header_len}
 use Rattle.raft_records.proofs.HeaderLemmas.{byte_of_type}
 use Rattle.raft_records.proofs.ItemLemmas.{same_length}
@@ -26,8 +14,9 @@ use Rattle.raft_records.proofs.WrittenLemmas.{batch_spelled}
 
 -- ---- headers
 
-type_one : (c d : CompressionType) → c ≡ d
-type_one compressions.None compressions.None = refl
+-- there is one type of compression
+pub same_compression : (c d : CompressionType) → c ≡ d
+same_compression compressions.None compressions.None = refl
 
 big_one : (x y : ℕ) (more rest : List ℕ) → x < 2 ^ 64 → y < 2 ^ 64 → big_bytes 8 x ++ more ≡ big_bytes 8 y ++ rest → (x ≡ y) × (more ≡ rest)
 big_one x y more rest h k e =
@@ -50,7 +39,7 @@ header_one a b more rest x y h k e =
     let first = big_one (x.2 * 256 + compression_byte x.1) (y.2 * 256 + compression_byte y.1) (big_bytes 8 x.0) (big_bytes 8 y.0) (omega arith) (omega arith) words in
     let second = big_one x.0 y.0 [] [] (omega arith) (omega arith) (ap (λ (t : List ℕ). t ++ []) first.1) in
     let offset : x.0 ≡ y.0 = second.0 in
-    let type : x.1 ≡ y.1 = type_one x.1 y.1 in
+    let type : x.1 ≡ y.1 = same_compression x.1 y.1 in
     let len : x.2 ≡ y.2 = omega (arith, first.0, x_byte, y_byte) in
     (same, λ i. (offset i, type i, len i))
 

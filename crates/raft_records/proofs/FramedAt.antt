@@ -1,12 +1,6 @@
 -- A batch that stands in a part, section by section.
-use Rattle.std.proofs.Common.{◌≡◌, ℕ, ◌+◌, ◌-◌, List, ◌++◌, map, length, take, drop, refl, ap, ◌∙◌, arith}
-use Rattle.raft_base.specs.declared.compression_type.CompressionType.{CompressionType}
-use Rattle.raft_base.specs.declared.compression_type.CompressionType.TheVariants as compressions
-use Rattle.raft_records.specs.FilePart.{Part, IsBatchAt}
-use Rattle.raft_records.specs.Framing.{IsFramed}
-use Rattle.raft_records.specs.Item.{Item}
-use Rattle.raft_records.specs.ItemBatch.{placed_item}
-use Rattle.raft_records.proofs.FrameLemmas.{framed, laid_out}
+use Rattle.raft_records.proofs.Common.{◌≡◌, ℕ, ◌+◌, ◌-◌, List, ◌++◌, map, length, take, drop, ap, ◌∙◌, arith, CompressionType, Part, IsBatchAt, IsFramed, Item, placed_item}
+use Rattle.raft_records.proofs.FrameLemmas.{framed, laid_out, same_compression}
 use Rattle.raft_records.proofs.Names.{part_signature, entries_place, place_between}
 
 -- a batch begins at this byte: its header gives the offset of its item batch
@@ -18,10 +12,6 @@ pub record IsFramedAt (part : Part) (at : ℕ) (items : List Item) (next : ℕ) 
   pub stands : drop at part.bytes ≡ bytes ++ drop next part.bytes
   pub ends : next ≡ at + length bytes
   pub places : items ≡ map (placed_item (entries_place part at offset) frame.compression) read
-
--- there is one type of compression
-same_type : (c d : CompressionType) → c ≡ d
-same_type compressions.None compressions.None = refl
 
 pub framed_at : {part : Part} {at : ℕ} {items : List Item} {next : ℕ} → IsBatchAt part at items next → IsFramedAt part at items next
 framed_at {part} {at} {items} {next} b =
@@ -37,7 +27,7 @@ framed_at {part} {at} {items} {next} b =
       places = b.places
           ∙ ap (λ (n : ℕ). map (placed_item (place_between part at n) b.laid_out.compression) b.read) len
           ∙ ap (λ (c : CompressionType). map (placed_item (entries_place part at (16 + length b.between)) c) b.read)
-          (same_type b.laid_out.compression frame.compression);
+          (same_compression b.laid_out.compression frame.compression);
     }
 
 pub laid_at : {part : Part} {at : ℕ} {items : List Item} {next : ℕ} → IsFramedAt part at items next → IsBatchAt part at items next
@@ -56,5 +46,5 @@ laid_at {part} {at} {items} {next} b =
       places = b.places
           ∙ ap (λ (n : ℕ). map (placed_item (place_between part at n) b.frame.compression) b.read) len
           ∙ ap (λ (c : CompressionType). map (placed_item (place_between part at (length between)) c) b.read)
-          (same_type b.frame.compression lies.1.compression);
+          (same_compression b.frame.compression lies.1.compression);
     }

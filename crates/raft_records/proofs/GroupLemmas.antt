@@ -1,31 +1,21 @@
 -- On group markers.
-use Rattle.std.proofs.Common.{◌≡◌, ◌↔◌, ℕ, ◌<◌, Bool, true, eqb, if◌then◌else◌, List, Option, Some, None, option_map, option_and_then, IsTrue, refl, sym, ap, subst, ◌∙◌, arith}
+use Rattle.raft_records.proofs.Common.{◌≡◌, ◌↔◌, ℕ, ◌<◌, Bool, true, eqb, if◌then◌else◌, List, Option, Some, None, option_map, option_and_then, IsTrue, refl, sym, ap, subst, ◌∙◌, arith, Ordering}
+use Rattle.raft_records.proofs.Common.{is_eq, pointwise, is_eq-slice_cmp, nat_cmp-IsAntisymmetric, slice_cmp-IsAntisymmetric, Error, AtomicGroupStatus, Item, reserved_key, is_reserved, status_byte}
+use Rattle.raft_records.proofs.Common.{status_of, group_marker_item, marker_byte, marker_of, IsGroupMarkerRead, IsGroupMarkerFault}
 use lib.Dec.{T}
-use Rattle.std.specs.declared.cmp.Ordering.{Ordering}
 use Rattle.std.specs.declared.cmp.Ordering.TheVariants.{Less, Equal, Greater}
-use Rattle.std.specs.Ordering.{is_eq}
-use Rattle.std.specs.Cmp.Lexicographic.{pointwise}
-use Rattle.std.proofs.lemmas.Map.Text.{is_eq-slice_cmp}
-use Rattle.std.specs.FinMap.{nat_cmp-IsAntisymmetric, slice_cmp-IsAntisymmetric}
-use Rattle.raft_base.specs.declared.errors.Error.{Error}
-use Rattle.raft_records.specs.declared.atomic_group.AtomicGroupStatus.{AtomicGroupStatus}
 use Rattle.raft_records.specs.declared.atomic_group.AtomicGroupStatus.TheVariants.{Begin, Middle, End}
-use Rattle.raft_records.specs.Item.{Item}
-use Rattle.raft_records.specs.Group.{reserved_key, is_reserved, status_byte, status_of, group_marker_item, marker_byte, marker_of, IsGroupMarkerRead, IsGroupMarkerFault}
 
 pub one_byte : {a b : ℕ} → Some a ≡ Some b → a ≡ b
 one_byte e = cc
 
+status_again : (s : AtomicGroupStatus) → status_of (status_byte s) ≡ Some s
+status_again Begin = refl
+status_again Middle = refl
+status_again End = refl
+
 one_status : (s t : AtomicGroupStatus) → status_byte s ≡ status_byte t → s ≡ t
-one_status Begin Begin e = refl
-one_status Middle Middle e = refl
-one_status End End e = refl
-one_status Begin Middle e = absurd (omega arith)
-one_status Begin End e = absurd (omega arith)
-one_status Middle Begin e = absurd (omega arith)
-one_status Middle End e = absurd (omega arith)
-one_status End Begin e = absurd (omega arith)
-one_status End Middle e = absurd (omega arith)
+one_status s t e = let same : Some s ≡ Some t = sym (status_again s) ∙ ap status_of e ∙ status_again t in cc
 
 pub marker_read : (item : Item) (status : AtomicGroupStatus) (read : Option (ℕ × AtomicGroupStatus)) → marker_byte item.content ≡ Some (status_byte status) → IsGroupMarkerRead item read → read ≡ Some (item.raft_group_id, status)
 marker_read item status None m r = let e : Some (status_byte status) ≡ None = sym m ∙ r in absurd cc
@@ -72,11 +62,6 @@ pub marker_written : (id : ℕ) (status : AtomicGroupStatus) → marker_byte (gr
 marker_written id status = ap (λ (b : Bool). if b then Some (status_byte status) else None) is_reserved_key
 
 -- ---- the marker that an item is
-
-status_again : (s : AtomicGroupStatus) → status_of (status_byte s) ≡ Some s
-status_again Begin = refl
-status_again Middle = refl
-status_again End = refl
 
 abbrev with_status : ℕ → AtomicGroupStatus → ℕ × AtomicGroupStatus
 with_status group status = (group, status)

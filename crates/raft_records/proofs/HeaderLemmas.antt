@@ -1,16 +1,8 @@
 -- On headers of log batches.
-use Rattle.std.proofs.Common.{◌≡◌, ◌≢◌, ℕ, ◌+◌, ◌-◌, ◌*◌, ◌/◌, ◌%◌, ◌^◌, ◌<◌, ◌≤◌, List, [], ◌++◌, ◌⊎◌, length, take, drop, refl, sym, ap, ◌∙◌, append_assoc, arith}
-use Rattle.std.proofs.lemmas.List.{length-append, length-drop, append_cancel_left, append-nil, take_at, drop_at, take_all, drop_all, drop-drop}
-use Rattle.byteorder.specs.Endian.{big_bytes}
-use Rattle.raft_codec.specs.Reading.{Reads, HasNoFront}
-use Rattle.raft_codec.specs.Fixed.{IsBig}
-use Rattle.raft_codec.proofs.FixedLemmas.{IsReadAgain-big_bytes}
-use Rattle.raft_base.specs.declared.compression_type.CompressionType.{CompressionType}
+use Rattle.raft_records.proofs.Common.{◌≡◌, ◌≢◌, ℕ, ◌+◌, ◌-◌, ◌*◌, ◌/◌, ◌%◌, ◌^◌, ◌<◌, ◌≤◌, List, [], ◌++◌, ◌⊎◌, length, take, drop, refl, sym, ap, ◌∙◌, append_assoc, arith, length-append}
+use Rattle.raft_records.proofs.Common.{length-drop, append_cancel_left, append-nil, take_at, drop_at, take_all, drop_all, drop-drop, big_bytes, Reads, HasNoFront, IsBig, IsReadAgain-big_bytes}
+use Rattle.raft_records.proofs.Common.{CompressionType, Error, compression_byte, IsCompressionFault, header_bytes, IsHeader, IsOffsetFault, IsHeaderNumbersFault}
 use Rattle.raft_base.specs.declared.compression_type.CompressionType.TheVariants.{None}
-use Rattle.raft_base.specs.declared.errors.Error.{Error}
-use Rattle.raft_base.specs.Compression.{compression_byte, IsCompressionFault}
-use Rattle.raft_records.specs.LogBatch.{header_bytes}
-use Rattle.raft_records.specs.Header.{IsHeader, IsOffsetFault, IsHeaderNumbersFault}
 use Rattle.raft_records.proofs.BufferLemmas.{header_len}
 
 pub byte_of_type : (c : CompressionType) → compression_byte c ≡ 0

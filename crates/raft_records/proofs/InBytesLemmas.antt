@@ -1,9 +1,6 @@
 -- On items that bytes hold but for their places and files.
-use Rattle.std.proofs.Common.{ℕ, List, [], ◌∷◌, ◌++◌, map}
-use Rattle.raft_base.specs.declared.pipe_log.FileBlockHandle.{FileBlockHandle}
-use Rattle.raft_base.specs.declared.compression_type.CompressionType.{CompressionType}
-use Rattle.raft_records.specs.Item.{Item, Content, entries, command, pair, IsInBytes, AreInBytes}
-use Rattle.raft_records.specs.ItemBatch.{placed_content, placed_item, raised_content, raised_item}
+use Rattle.raft_records.proofs.Common.{ℕ, List, [], ◌∷◌, ◌++◌, map, FileBlockHandle, CompressionType, Item, Content, entries, command, pair, IsInBytes, AreInBytes, placed_content, placed_item}
+use Rattle.raft_records.proofs.Common.{raised_content, raised_item}
 
 pub in_bytes_append : (xs ys : List Item) → AreInBytes xs → AreInBytes ys → AreInBytes (xs ++ ys)
 in_bytes_append [] ys h k = k

@@ -1,19 +1,10 @@
 -- On the bytes of commands and key values.
-use Rattle.std.proofs.Common.{◌≡◌, ℕ, ◌+◌, ◌<◌, ◌≤◌, List, [], ◌∷◌, ◌++◌, length, take, drop, Option, Some, None, refl, sym, ap, ◌∙◌, subst, arith, inl, inr}
-use Rattle.std.proofs.lemmas.List.{take-append-drop, length-take-le, length-append}
-use Rattle.raft_codec.specs.Reading.{Reads, HasNoFront, HasOneFront, IsTagged, IsFollowedBy}
-use Rattle.raft_codec.specs.Varint.{IsVarint}
-use Rattle.raft_codec.proofs.VarintLemmas.{varint_one_front}
-use Rattle.raft_codec.proofs.ReadingLemmas.{reads_as, reads_tagged, reads_pair, no_first, no_second, second_at, pair_one_front, heads, tagged_at, no_tagged, tagged_same, tagged_one_front}
+use Rattle.raft_records.proofs.Common.{◌≡◌, ℕ, ◌+◌, ◌<◌, ◌≤◌, List, [], ◌∷◌, ◌++◌, length, take, drop, Option, Some, None, refl, sym, ap, ◌∙◌, subst, arith, inl, inr, take-append-drop, length-take-le}
+use Rattle.raft_records.proofs.Common.{length-append, Reads, HasNoFront, HasOneFront, IsTagged, IsFollowedBy, IsVarint, varint_one_front, reads_as, reads_tagged, reads_pair, no_first, no_second}
+use Rattle.raft_records.proofs.Common.{second_at, pair_one_front, heads, tagged_at, no_tagged, tagged_same, tagged_one_front, Error, FileId, IsMemory, IsKeyValueFault, change_of, OpType, Pair}
+use Rattle.raft_records.proofs.Common.{IsCommand, IsByteString, IsKeyValue, IsPairOf}
 use Rattle.raft_records.specs.declared.command.Command.TheVariants.{Compact, Truncate}
-use Rattle.raft_base.specs.declared.errors.Error.{Error}
-use Rattle.raft_base.specs.declared.pipe_log.FileId.{FileId}
-use Rattle.raft_records.specs.Faults.{IsMemory, IsKeyValueFault}
-use Rattle.raft_records.specs.ReadWords.{change_of}
-use Rattle.raft_records.specs.declared.key_value.OpType.{OpType}
 use Rattle.raft_records.specs.declared.key_value.OpType.TheVariants.{Put, Del}
-use Rattle.raft_records.specs.Item.{Pair}
-use Rattle.raft_records.specs.Grammar.{IsCommand, IsByteString, IsKeyValue, IsPairOf}
 
 -- ---- commands
 

@@ -1,15 +1,10 @@
 -- On entries whose bytes are laid or raised.
-use Rattle.std.proofs.Common.{◌≡◌, ℕ, zero, suc, ◌+◌, ◌^◌, ◌<◌, ◌≤◌, List, [], ◌∷◌, ◌++◌, map, length, take, drop, set, get_or, Option, None, refl, sym, ap, ◌∙◌, subst, append_assoc, arith}
-use Rattle.std.proofs.lemmas.List.{length-map, length-take-le, take_more, drop_more, get_or_at, set_at}
-use Rattle.raft_base.specs.declared.entry_index.EntryIndex.{EntryIndex}
-use Rattle.raft_base.specs.Runs.{IsConsecutive}
-use Rattle.raft_base.proofs.ConsecutiveLemmas.{IsConsecutiveFrom, from_start, consecutive_from, started}
-use Rattle.raft_records.specs.Item.{Item, Content, entries, command, pair}
-use Rattle.raft_records.specs.Entries.{Tile}
-use Rattle.raft_records.specs.Grammar.{tail_of, end_behind}
+use Rattle.raft_records.proofs.Common.{◌≡◌, ℕ, zero, suc, ◌+◌, ◌^◌, ◌<◌, ◌≤◌, List, [], ◌∷◌, ◌++◌, map, length, take, drop, set, get_or, Option, None, refl, sym, ap, ◌∙◌, subst, append_assoc, arith}
+use Rattle.raft_records.proofs.Common.{length-map, length-take-le, take_more, drop_more, get_or_at, set_at, EntryIndex, IsConsecutive, IsConsecutiveFrom, from_start, consecutive_from, started, Item}
+use Rattle.raft_records.proofs.Common.{Content, entries, command, pair, Tile, tail_of, end_behind, FitsBehind, FitTogether, end_of_items, entry_bytes_of, with_offsets_from, entry_lengths}
+use Rattle.raft_records.proofs.Common.{raised_entry, raised_content, raised_item, CanRaise, CanRaiseContent, IsKeptBeside, item_size, items_size, at_most_usize}
 use Rattle.raft_records.proofs.Names.{behind_item}
-use Rattle.raft_records.specs.ItemBatch.{FitsBehind, FitTogether, end_of_items, entry_bytes_of, with_offsets_from, entry_lengths, raised_entry, raised_content, raised_item, CanRaise, CanRaiseContent, IsKeptBeside}
-use Rattle.raft_records.specs.Sizes.{item_size, items_size, at_most_usize}
+use Rattle.raft_records.proofs.BatchLemmas.{consecutive_mapped, end_append, fit_append, size_append}
 use Rattle.raft_records.proofs.InBytesLemmas.{in_bytes_append, in_bytes_raised}
 use Rattle.raft_records.proofs.RangeLemmas.{range_append, range_raised}
 
@@ -38,8 +33,8 @@ entry_lengths-split (x ∷ xs) zero e lt at = let len : e.entry_len ≡ x.entry_
 entry_lengths-split (x ∷ xs) (suc i) e lt at = omega (arith, entry_lengths-split xs i e (omega arith) at)
 
 -- a list whose front is changed is the same behind it
-pub rest_at : (front xs ys : List EntryIndex) (i : ℕ) (d : EntryIndex) → ys ≡ front ++ drop i xs → length front ≡ i → i < length xs → get_or ys i d ≡ get_or xs i d
-rest_at front xs ys i d e len lt = ap (λ (t : List EntryIndex). get_or t i d) (e ∙ ap (λ (t : List EntryIndex). front ++ t) (drop_more xs i d lt)) ∙ get_or_at front (get_or xs i d) (drop (i + 1) xs) d i len
+pub rest_at : {X : Type 0} (front xs ys : List X) (i : ℕ) (d : X) → ys ≡ front ++ drop i xs → length front ≡ i → i < length xs → get_or ys i d ≡ get_or xs i d
+rest_at {X} front xs ys i d e len lt = ap (λ (t : List X). get_or t i d) (e ∙ ap (λ (t : List X). front ++ t) (drop_more xs i d lt)) ∙ get_or_at front (get_or xs i d) (drop (i + 1) xs) d i len
 
 -- the step of a loop that lays entries
 pub lay_more : (s i offset : ℕ) (xs ys : List EntryIndex) (x : EntryIndex) → i < length xs → ys ≡ with_offsets_from s (take i xs) ++ drop i xs →
@@ -114,13 +109,6 @@ items_raise_at s by end [] i d h le lt in_range = absurd (omega arith)
 items_raise_at s by end (x ∷ xs) zero d h le lt in_range = content_raises s by end x.content h.0 (omega (arith, items_end (behind_item s x) xs h.1)) lt
 items_raise_at s by end (x ∷ xs) (suc i) d h le lt in_range = items_raise_at (behind_item s x) by end xs i d h.1 le lt (omega arith)
 
-raised_from : (i by : ℕ) (es : List EntryIndex) → IsConsecutiveFrom i es → IsConsecutiveFrom i (map (raised_entry by) es)
-raised_from i by [] h = tt
-raised_from i by (e ∷ es) h = (h.0, h.1, raised_from (i + 1) by es h.2)
-
-raised_consecutive : (by : ℕ) (es : List EntryIndex) → IsConsecutive es → IsConsecutive (map (raised_entry by) es)
-raised_consecutive by es h = consecutive_from (started es h.run).start (map (raised_entry by) es) (raised_from (started es h.run).start by es (from_start es h))
-
 raised_tile : (s by : ℕ) (es : List EntryIndex) → Tile s es → end_behind s es + by < 2 ^ 32 → Tile (s + by) (map (raised_entry by) es)
 raised_tile s by [] h lt = tt
 raised_tile s by (e ∷ es) h lt =
@@ -136,7 +124,7 @@ raised_end s by (e ∷ es) =
     ap (λ (o : ℕ). end_behind o (map (raised_entry by) es)) same ∙ raised_end (tail_of e) by es
 
 raised_content_fits : (s by : ℕ) (c : Content) → FitsBehind s c → behind_item s (record { raft_group_id = 0; content = c }) + by < 2 ^ 32 → FitsBehind (s + by) (raised_content by c)
-raised_content_fits s by (entries es) h lt = (raised_consecutive by es h.0, raised_tile s by es h.1 lt)
+raised_content_fits s by (entries es) h lt = (consecutive_mapped (raised_entry by) (λ e. refl) es h.0, raised_tile s by es h.1 lt)
 raised_content_fits s by (command c) h lt = h
 raised_content_fits s by (pair p) h lt = h
 
@@ -171,18 +159,6 @@ raised_items_size by (x ∷ xs) = omega (arith, raised_size by x, raised_items_s
 
 -- ---- two lists of items
 
-fit_append : (s : ℕ) (xs ys : List Item) → FitTogether s xs → FitTogether (end_of_items s xs) ys → FitTogether s (xs ++ ys)
-fit_append s [] ys h g = g
-fit_append s (x ∷ xs) ys h g = (h.0, fit_append (behind_item s x) xs ys h.1 g)
-
-end_append : (s : ℕ) (xs ys : List Item) → end_of_items s (xs ++ ys) ≡ end_of_items (end_of_items s xs) ys
-end_append s [] ys = refl
-end_append s (x ∷ xs) ys = end_append (behind_item s x) xs ys
-
-size_append : (xs ys : List Item) → items_size (xs ++ ys) ≡ items_size xs + items_size ys
-size_append [] ys = omega arith
-size_append (x ∷ xs) ys = omega (arith, size_append xs ys)
-
 pub merged_end : (xs ys : List Item) → entry_bytes_of (xs ++ map (raised_item (entry_bytes_of xs)) ys) ≡ entry_bytes_of xs + entry_bytes_of ys
 merged_end xs ys =
     let start : entry_bytes_of xs ≡ 0 + entry_bytes_of xs = omega arith in
@@ -215,15 +191,12 @@ raise_fits by i xs ys d lt e h =
     let len : length (map (raised_entry by) (take i xs)) ≡ i = length-map (take i xs) (raised_entry by) ∙ length-take-le i xs (omega arith) in
     rw (rest_at (map (raised_entry by) (take i xs)) xs ys i d e len lt) (can_raise_at by xs i d h lt)
 
-item_rest_at : (front xs ys : List Item) (i : ℕ) (d : Item) → ys ≡ front ++ drop i xs → length front ≡ i → i < length xs → get_or ys i d ≡ get_or xs i d
-item_rest_at front xs ys i d e len lt = ap (λ (t : List Item). get_or t i d) (e ∙ ap (λ (t : List Item). front ++ t) (drop_more xs i d lt)) ∙ get_or_at front (get_or xs i d) (drop (i + 1) xs) d i len
-
 -- the item that a loop raises next can be raised
 pub raise_next : (by end i : ℕ) (xs ys : List Item) (x : Item) → i < length xs → ys ≡ map (raised_item by) (take i xs) ++ drop i xs →
     x ≡ get_or ys i x → FitTogether 0 xs → end ≡ entry_bytes_of xs → by + end < 2 ^ 32 → CanRaiseContent by x.content
 raise_next by end i xs ys x lt e at fit ends room =
     let len : length (map (raised_item by) (take i xs)) ≡ i = length-map (take i xs) (raised_item by) ∙ length-take-le i xs (omega arith) in
-    let seen : x ≡ get_or xs i x = at ∙ item_rest_at (map (raised_item by) (take i xs)) xs ys i x e len lt in
+    let seen : x ≡ get_or xs i x = at ∙ rest_at (map (raised_item by) (take i xs)) xs ys i x e len lt in
     let last : end_of_items 0 xs ≤ end = omega (arith, ends) in
     let sum : end + by < 2 ^ 32 = omega arith in
     subst (λ (v : Item). CanRaiseContent by v.content) (sym seen) (items_raise_at 0 by end xs i x fit last sum lt)

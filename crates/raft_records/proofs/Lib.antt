@@ -1,3 +1,4 @@
+mod Common
 pub mod BatchLemmas
 pub mod BufferLemmas
 pub mod CloneLemmas

@@ -1,10 +1,6 @@
 -- The text of entries, by the first and the last one.
-use Rattle.std.proofs.Common.{◌≡◌, ℕ, zero, suc, ◌-◌, List, [], ◌∷◌, ◌++◌, length, Some, codes, arith, refl, ap, append_assoc}
-use Rattle.std.specs.List.{slice_get}
-use Rattle.std.specs.Fmt.{decimal}
-use Rattle.raft_base.specs.declared.entry_index.EntryIndex.{EntryIndex}
-use Rattle.raft_records.specs.Grammar.{end_behind, tail_of}
-use Rattle.raft_records.specs.Lines.{entries_text}
+use Rattle.raft_records.proofs.Common.{◌≡◌, ℕ, zero, suc, ◌-◌, List, [], ◌∷◌, ◌++◌, length, Some, codes, arith, refl, ap, append_assoc, slice_get, decimal, EntryIndex, end_behind, tail_of}
+use Rattle.raft_records.proofs.Common.{entries_text}
 
 -- entries end where the last one does
 last_end : (s k : ℕ) (es : List EntryIndex) (last : EntryIndex) → suc k ≡ length es → Some last ≡ slice_get es k → end_behind s es ≡ tail_of last

@@ -1,12 +1,6 @@
 -- Names for proofs of what definitions say in place.
 use Rattle.std.specs.Prelude.{ℕ, ◌+◌, ◌-◌, Option, Some}
-use Rattle.raft_base.specs.declared.compression_type.CompressionType.{CompressionType}
-use Rattle.raft_base.specs.declared.entry_index.EntryIndex.{EntryIndex}
-use Rattle.raft_base.specs.declared.pipe_log.FileBlockHandle.{FileBlockHandle}
-use Rattle.raft_base.specs.Signature.{signature_in}
-use Rattle.raft_records.specs.FilePart.{Part}
-use Rattle.raft_records.specs.Item.{Item}
-use Rattle.raft_records.specs.Grammar.{tail_of, end_of_content}
+use Rattle.raft_records.proofs.Common.{CompressionType, EntryIndex, FileBlockHandle, signature_in, Part, Content, Item, tail_of, end_of_content}
 
 -- the index and the offset behind an entry
 abbrev pub behind_entry : ℕ × ℕ → EntryIndex → ℕ × ℕ
@@ -31,3 +25,7 @@ place_between part at len = record { id = part.id; offset = part.offset + at + 1
 -- where the bytes between the header and the item batch lie in the file
 abbrev pub entries_place : Part → ℕ → ℕ → FileBlockHandle
 entries_place part at offset = record { id = part.id; offset = part.offset + at + 16; len = offset - 16 }
+
+-- what is said of this region
+abbrev pub item_with : ℕ → Content → Item
+item_with region content = record { raft_group_id = region; content = content }

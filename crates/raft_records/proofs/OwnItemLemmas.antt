@@ -1,11 +1,8 @@
 -- Entries of a place, one after another.
-use Rattle.std.proofs.Common.{◌≡◌, ℕ, ◌+◌, ◌-◌, ◌<◌, ◌^◌, suc, length, List, [], ◌∷◌, ◌++◌, drop, slice_index_or, Some, sym, ap, subst, ◌∙◌, arith}
-use Rattle.std.specs.List.{AllByRecursion}
-use Rattle.std.proofs.lemmas.List.{at_drop_more, append_assoc}
+use Rattle.raft_records.proofs.Common.{◌≡◌, ℕ, ◌+◌, ◌-◌, ◌<◌, ◌^◌, suc, length, List, [], ◌∷◌, ◌++◌, drop, slice_index_or, Some, sym, ap, subst, ◌∙◌, arith, AllByRecursion, at_drop_more, EntryIndex}
+use Rattle.raft_records.proofs.Common.{FileBlockHandle, entries_of_block}
+use Rattle.std.proofs.lemmas.List.{append_assoc}
 use Rattle.raft_base.specs.declared.compression_type.CompressionType.TheVariants as compressions
-use Rattle.raft_base.specs.declared.entry_index.EntryIndex.{EntryIndex}
-use Rattle.raft_base.specs.declared.pipe_log.FileBlockHandle.{FileBlockHandle}
-use Rattle.raft_base.specs.Runs.{entries_of_block}
 
 -- the entry of one span
 abbrev pub spanned : ℕ → FileBlockHandle → ℕ × ℕ → EntryIndex

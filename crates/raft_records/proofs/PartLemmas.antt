@@ -1,27 +1,16 @@
 -- On the batches that stand in a part of a file.
-use Rattle.std.proofs.Common.{◌≡◌, ◌≢◌, ℕ, ◌+◌, ◌-◌, ◌^◌, ◌<◌, ◌≤◌, List, [], ◌∷◌, ◌++◌, map, length, take, drop, Option, Some, None, refl, sym, ap, ◌∙◌, subst, append_assoc, arith, inr}
-use Rattle.raft_base.specs.declared.pipe_log.FileBlockHandle.{FileBlockHandle}
+use Rattle.raft_records.proofs.Common.{◌≡◌, ◌≢◌, ℕ, ◌+◌, ◌-◌, ◌^◌, ◌<◌, ◌≤◌, List, [], ◌∷◌, ◌++◌, map, length, take, drop, Option, Some, None, refl, sym, ap, ◌∙◌, subst, append_assoc, arith, inr}
+use Rattle.raft_records.proofs.Common.{FileBlockHandle, Error, IsMemory, Part, IsBatchAt, IsNext, IsNextFault, StandBetween, AreBatchesUpTo, AreInRange, length-append, length-drop, length-take-le}
+use Rattle.raft_records.proofs.Common.{take-append-drop, take_at, drop_at, drop-take, drop-drop, take-add, Reads, HasNoFront, CompressionType, Item, bare, AreInBytes, IsItemBatch, IsItemBatchFault}
+use Rattle.raft_records.proofs.Common.{placed_item, IsBatchOf, IsReadable, entry_block, entry_place, item_offset, encoded_length, log_batch_bytes, IsHeader, IsFramed}
 use Rattle.raft_base.specs.declared.compression_type.CompressionType.TheVariants as compressions
-use Rattle.raft_base.specs.declared.errors.Error.{Error}
-use Rattle.raft_records.specs.Faults.{IsMemory}
-use Rattle.raft_records.specs.FilePart.{Part, IsBatchAt, IsNext, IsNextFault, StandBetween, AreBatchesUpTo}
 use Rattle.raft_records.proofs.Names.{part_signature, entries_place}
-use Rattle.raft_records.specs.Range.{AreInRange}
 use Rattle.raft_records.proofs.BatchLemmas.{no_room_for_items, one_batch}
 use Rattle.raft_records.proofs.ItemLemmas.{same_length}
 use Rattle.raft_records.proofs.ReadPlaceLemmas.{items_read}
-use Rattle.std.proofs.lemmas.List.{length-append, length-drop, length-take-le, take-append-drop, take_at, drop_at, drop-take, drop-drop}
-use Rattle.std.proofs.Math.Seq.{take-add}
-use Rattle.raft_codec.specs.Reading.{Reads, HasNoFront}
-use Rattle.raft_base.specs.declared.compression_type.CompressionType.{CompressionType}
-use Rattle.raft_records.specs.Item.{Item, bare, AreInBytes}
-use Rattle.raft_records.specs.ItemBatch.{IsItemBatch, IsItemBatchFault, placed_item}
-use Rattle.raft_records.specs.LogBatch.{IsBatchOf, IsReadable, entry_block, entry_place, item_offset, encoded_length, log_batch_bytes}
-use Rattle.raft_records.specs.Header.{IsHeader}
-use Rattle.raft_records.specs.Framing.{IsFramed}
 use Rattle.raft_records.proofs.FramedAt.{IsFramedAt, framed_at, laid_at}
 use Rattle.raft_records.proofs.BufferLemmas.{header_len}
-use Rattle.raft_records.proofs.FrameLemmas.{header_one, readable, framed, log_batch_spelled, log_batch_length}
+use Rattle.raft_records.proofs.FrameLemmas.{header_one, readable, framed, same_compression, log_batch_spelled, log_batch_length}
 
 -- where no header stands, no batch does
 pub no_header : (xs : List ℕ) (signature : Option ℕ) → HasNoFront IsHeader xs → HasNoFront (λ bytes. IsReadable bytes signature) xs
@@ -139,9 +128,6 @@ encoded_some : (items : List Item) (es : List ℕ) → items ≢ [] → 0 < enco
 encoded_some [] es some = absurd (some refl)
 encoded_some (x ∷ xs) es some = omega arith
 
-one_type : (c : CompressionType) → c ≡ compressions.None
-one_type compressions.None = refl
-
 pub written_next : (part : Part) (at : ℕ) (handle : FileBlockHandle) (items : List Item) (es rest : List ℕ) (answer : Option (List Item × ℕ)) →
     IsBatchOf items es → AreInRange items → AreInBytes items → items ≢ [] → encoded_length items es < 2 ^ 56 → handle.id ≡ part.id →
     handle.offset ≡ part.offset + at → drop at part.bytes ≡ log_batch_bytes (part_signature part) items es ++ rest → IsNext part at answer →
@@ -159,7 +145,8 @@ written_next part at handle items es rest (Some next) b r held some fits id offs
     let begin : part.offset + at + 16 ≡ handle.offset + 16 = omega (arith, offset) in
     let moved_to : entries_place part at n.offset ≡ entry_place handle es = λ i. record { id = sym id i; offset = begin i; len = len i } in
     let moved : map (placed_item (entries_place part at n.offset) n.frame.compression) n.read ≡ map (placed_item (entry_place handle es) compressions.None) (map bare items) =
-    ap (λ p. map (placed_item p n.frame.compression) n.read) moved_to ∙ ap (λ c. map (placed_item (entry_place handle es) c) n.read) (one_type n.frame.compression) ∙ ap (map (placed_item (entry_place handle es) compressions.None)) one.3 in
+    ap (λ p. map (placed_item p n.frame.compression) n.read) moved_to
+    ∙ ap (λ c. map (placed_item (entry_place handle es) c) n.read) (same_compression n.frame.compression compressions.None) ∙ ap (map (placed_item (entry_place handle es) compressions.None)) one.3 in
     let items_are : next.0 ≡ map (placed_item (entry_place handle es) compressions.None) items = n.places ∙ moved ∙ items_read (entry_place handle es) compressions.None items held in
     λ i. Some (items_are i, ends i)
 
@@ -186,7 +173,7 @@ written_stands part at handle items es rest b r held some fits id offset stands 
       ends = ap (λ (k : ℕ). at + k) (sym long);
       places = sym (items_read (entry_place handle es) compressions.None items held)
           ∙ ap (λ p. map (placed_item p compressions.None) (map bare items)) place
-          ∙ ap (λ c. map (placed_item (entries_place part at (item_offset es)) c) (map bare items)) (sym (one_type frame.compression));
+          ∙ ap (λ c. map (placed_item (entries_place part at (item_offset es)) c) (map bare items)) (sym (same_compression frame.compression compressions.None));
     })
 
 pub written_accepted : (part : Part) (at : ℕ) (items : List Item) (es rest : List ℕ) → IsBatchOf items es → AreInRange items → items ≢ [] →

@@ -1,12 +1,8 @@
 -- On log batches whose entries get their places.
-use Rattle.std.proofs.Common.{◌≡◌, ℕ, ◌+◌, ◌-◌, List, [], ◌∷◌, ◌++◌, map, length, take, drop, Option, refl, sym, ap, ◌∙◌, arith}
-use Rattle.raft_base.specs.declared.pipe_log.FileBlockHandle.{FileBlockHandle}
-use Rattle.raft_base.specs.declared.compression_type.CompressionType.{CompressionType}
+use Rattle.raft_records.proofs.Common.{◌≡◌, ℕ, ◌+◌, ◌-◌, List, [], ◌∷◌, ◌++◌, map, length, take, drop, Option, refl, sym, ap, ◌∙◌, arith, FileBlockHandle, CompressionType, Item, placed_item}
+use Rattle.raft_records.proofs.Common.{checksum_bytes, entry_bytes_of, Stage, Batch, is_open, encoded, sealed, IsSealedStage, header_bytes, entry_block, entry_place, item_offset, log_batch_bytes}
+use Rattle.raft_records.proofs.Common.{entry_bytes_in, IsHeld}
 use Rattle.raft_base.specs.declared.compression_type.CompressionType.TheVariants as compressions
-use Rattle.raft_records.specs.Item.{Item}
-use Rattle.raft_records.specs.ItemBatch.{placed_item, checksum_bytes, entry_bytes_of}
-use Rattle.raft_records.specs.LogBatch.{Stage, Batch, is_open, encoded, sealed, IsSealedStage, header_bytes, entry_block, entry_place, item_offset, log_batch_bytes}
-use Rattle.raft_records.specs.Buffer.{entry_bytes_in, IsHeld}
 use Rattle.raft_records.proofs.BatchLemmas.{batch_placed, end_of_placed}
 use Rattle.raft_records.proofs.StageLemmas.{batch_with}
 

@@ -1,20 +1,9 @@
 -- The text of a batch that was decoded: no line shows a place.
-use Rattle.std.proofs.Common.{◌≡◌, ℕ, List, [], ◌∷◌, ◌++◌, length, map, Option, None, Some, IfSome, Result, Ok, Err, IfErr, OnErr, refl, ap, sym, subst, ◌∙◌, ◌+◌}
-use Rattle.std.proofs.lemmas.List.{length-map}
-use Rattle.std.specs.List.{flat_map}
-use Rattle.raft_base.specs.declared.pipe_log.FileBlockHandle.{FileBlockHandle}
-use Rattle.raft_base.specs.declared.compression_type.CompressionType.{CompressionType}
-use Rattle.raft_base.specs.declared.entry_index.EntryIndex.{EntryIndex}
-use Rattle.raft_records.specs.declared.log_item.LogItem.{LogItem}
-use Rattle.raft_records.specs.Item.{Item, Content, entries, command, pair, item_of}
-use Rattle.raft_records.specs.Grammar.{end_behind}
-use Rattle.raft_records.specs.ItemBatch.{IsDecoded, placed_item, placed_content}
+use Rattle.raft_records.proofs.Common.{◌≡◌, ℕ, List, [], ◌∷◌, ◌++◌, length, map, Option, None, Some, IfSome, Result, Ok, Err, IfErr, OnErr, refl, ap, sym, subst, ◌∙◌, ◌+◌, length-map, flat_map}
+use Rattle.raft_records.proofs.Common.{FileBlockHandle, CompressionType, LogItem, Item, Content, entries, command, pair, item_of, IsDecoded, placed_item, placed_content}
+use Rattle.raft_records.proofs.Common.{IsTextOf, line_of, last_line, content_text}
+use Rattle.raft_records.proofs.BatchLemmas.{end_placed}
 use Rattle.raft_records.proofs.Names.{placed_entry}
-use Rattle.raft_records.specs.Lines.{IsTextOf, line_of, last_line, content_text}
-
-end_placed : (handle : FileBlockHandle) (compression : CompressionType) (s : ℕ) (es : List EntryIndex) → end_behind s (map (placed_entry handle compression) es) ≡ end_behind s es
-end_placed handle compression s [] = refl
-end_placed handle compression s (e ∷ es) = end_placed handle compression (e.entry_offset + e.entry_len) es
 
 content_placed : (handle : FileBlockHandle) (compression : CompressionType) (content : Content) → content_text (placed_content handle compression content) ≡ content_text content
 content_placed handle compression (entries []) = refl

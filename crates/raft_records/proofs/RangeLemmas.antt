@@ -1,12 +1,7 @@
 -- On items whose numbers are in range.
-use Rattle.std.proofs.Common.{ℕ, ◌^◌, ◌<◌, List, [], ◌∷◌, ◌++◌, map, sym, subst}
-use Rattle.std.proofs.lemmas.List.{length-map}
-use Rattle.raft_base.specs.declared.pipe_log.FileBlockHandle.{FileBlockHandle}
-use Rattle.raft_base.specs.declared.compression_type.CompressionType.{CompressionType}
-use Rattle.raft_records.specs.Item.{Item, Content, entries, command, pair}
-use Rattle.raft_records.specs.Range.{IsContentInRange, AreInRange}
+use Rattle.raft_records.proofs.Common.{ℕ, ◌^◌, ◌<◌, List, [], ◌∷◌, ◌++◌, map, sym, subst, length-map, FileBlockHandle, CompressionType, Item, Content, entries, command, pair, IsContentInRange}
+use Rattle.raft_records.proofs.Common.{AreInRange, placed_item, raised_entry, raised_item}
 use Rattle.raft_records.proofs.Names.{placed_entry}
-use Rattle.raft_records.specs.ItemBatch.{placed_item, raised_entry, raised_item}
 
 pub range_append : (xs ys : List Item) → AreInRange xs → AreInRange ys → AreInRange (xs ++ ys)
 range_append [] ys h k = k

@@ -1,28 +1,15 @@
 -- On batches as they are read.
-use Rattle.std.proofs.Common.{◌≡◌, ℕ, suc, ◌+◌, ◌≤◌, ◌<◌, List, [], ◌∷◌, ◌++◌, map, length, take, drop, get_or, Some, refl, sym, ap, ◌∙◌, subst, arith}
-use Rattle.std.proofs.Math.Numerals.{add-one}
-use Rattle.std.proofs.Math.Seq.{take-length}
-use Rattle.std.proofs.lemmas.List.{append-nil, length-append, length-map, length_push, map-append, take-append-le, drop-append-le, length-drop}
-use Rattle.std.specs.List.{AllByRecursion}
-use Rattle.raft_base.specs.Runs.{entries_of_block}
-use Rattle.raft_base.specs.declared.compression_type.CompressionType.{CompressionType}
+use Rattle.raft_records.proofs.Common.{◌≡◌, ℕ, suc, ◌+◌, ◌≤◌, ◌<◌, List, [], ◌∷◌, ◌++◌, map, length, take, drop, get_or, Some, refl, sym, ap, ◌∙◌, subst, arith, add-one, take-length, append-nil}
+use Rattle.raft_records.proofs.Common.{length-append, length-map, length_push, map-append, take-append-le, drop-append-le, length-drop, AllByRecursion, entries_of_block, EntryIndex}
+use Rattle.raft_records.proofs.Common.{FileBlockHandle, Reads, IsSequence, IsVarint, ReadContent, Command, ReadItem, AreDecodedIn, IsDecodedIn, IsPlaceInFile, AreTails, IsCommand, IsItem, IsKeyValue}
+use Rattle.raft_records.proofs.Common.{IsTail, Item, Pair, command, entries, pair, FitTogether, FitsBehind, end_of_items, placed_item, entry_between, content_shown, item_shown, items_shown, spans_of}
+use Rattle.raft_records.proofs.Common.{spans_taken, AreEntriesRead, AreHeldAs, AreTailsRead, IsChange, IsContentFault, IsContentRead, IsHeldAs, IsItemRead, IsMemory, IsTagged, IsContent, Reached}
+use Rattle.raft_records.proofs.Common.{change_of, content_made, reached, span_of, Content, Error, None, Option, inr}
+use Rattle.std.proofs.lemmas.List.{append_assoc}
+use Rattle.raft_records.proofs.ItemLemmas.{no_room_for_pair}
 use Rattle.raft_base.specs.declared.compression_type.CompressionType.TheVariants as compressions
-use Rattle.raft_base.specs.declared.entry_index.EntryIndex.{EntryIndex}
-use Rattle.raft_base.specs.declared.pipe_log.FileBlockHandle.{FileBlockHandle}
-use Rattle.raft_codec.specs.Reading.{Reads, IsSequence}
-use Rattle.raft_codec.specs.Varint.{IsVarint}
-use Rattle.raft_records.specs.declared.read_batch.ReadContent.{ReadContent}
 use Rattle.raft_records.specs.declared.read_batch.ReadContent.TheVariants.{Run}
 use Rattle.raft_records.specs.declared.read_batch.ReadContent.TheVariants as contents
-use Rattle.raft_records.specs.declared.command.Command.{Command}
-use Rattle.raft_records.specs.declared.read_batch.ReadItem.{ReadItem}
-use Rattle.raft_records.specs.DecodedIn.{AreDecodedIn, IsDecodedIn, IsPlaceInFile}
-use Rattle.raft_records.specs.Grammar.{AreTails, IsCommand, IsItem, IsKeyValue, IsTail}
-use Rattle.raft_records.specs.Item.{Item, Pair, command, entries, pair}
-use Rattle.raft_records.specs.ItemBatch.{FitTogether, FitsBehind, end_of_items, placed_item}
-use Rattle.raft_records.specs.Entries.{entry_between}
-use Rattle.raft_records.specs.ReadBatch.{content_shown, item_shown, items_shown, spans_of, spans_taken}
-use Rattle.raft_records.specs.ReadWords.{AreHeldAs, AreSpansRead, IsContentRead, IsHeldAs, IsItemRead, reached, span_of}
 use Rattle.raft_records.proofs.BatchLemmas.{behind_placed, end_push, fits_placed, item_fits, one_more_item}
 use Rattle.raft_records.proofs.ContentLemmas.{command_content, entries_content, item_read, pair_content}
 use Rattle.raft_records.proofs.EntryLemmas.{AreReadSoFar, end_read, entries_read, one_more_tail, run_read}
@@ -43,22 +30,18 @@ spans_shown place next bytes (e ∷ es) q =
     λ i. first i ∷ rest i
 
 -- a run holds the entries whose tail offsets were read
-pub run_held : (count first s : ℕ) (bytes rest : List ℕ) (es : List EntryIndex) → Reads (AreTails count (first, s)) bytes rest es → IsHeldAs (Run first count) (map span_of es) (entries es)
+run_held : (count first s : ℕ) (bytes rest : List ℕ) (es : List EntryIndex) → Reads (AreTails count (first, s)) bytes rest es → IsHeldAs (Run first count) es (entries es)
 run_held count first s bytes rest es r =
-    record {
-      taken = sym r.spells.count ∙ sym (length-map es span_of);
-      shown = λ place. ap entries (spans_shown place (first, s) r.front es r.spells.tails);
-    }
+    record { taken = sym r.spells.count; made = refl; shown = λ place. ap entries (spans_shown place (first, s) r.front es r.spells.tails) }
 
 -- entries were read behind their count and the first index
-pub run_read_of : (s count first : ℕ) (bytes mid tails rest : List ℕ) (end : ℕ) (old new : List (ℕ × ℕ)) → 0 < count →
-    Reads IsVarint bytes mid count → Reads IsVarint mid tails first → AreSpansRead count first (reached tails s old) (reached rest end new) →
-    IsContentRead (Run first count) (reached (1 ∷ bytes) s old) (reached rest end new)
-run_read_of s count first bytes mid tails rest end old new some counted begins r =
+pub run_read_of : {X : Type 0} {kept_of : EntryIndex → X} {s count first : ℕ} {bytes mid tails rest : List ℕ} {end : ℕ} {old new : List X} → 0 < count →
+    Reads IsVarint bytes mid count → Reads IsVarint mid tails first → AreTailsRead kept_of count first (reached tails s old) (reached rest end new) →
+    AreEntriesRead kept_of first count (reached bytes s old) (reached rest end new)
+run_read_of {s = s} {count = count} {first = first} {bytes = bytes} {mid = mid} {tails = tails} {rest = rest} some counted begins r =
     record {
-      read = entries r.read;
-      own = map span_of r.read;
-      reads = entries_content s (1 ∷ bytes) bytes rest r.read refl (entries_read s count bytes mid rest r.read counted (run_read s count first mid tails rest r.read some begins r.reads));
+      read = r.read;
+      reads = entries_read s count bytes mid rest r.read counted (run_read s count first mid tails rest r.read some begins r.reads);
       ends = r.ends;
       added = r.added;
       held = run_held count first s tails rest r.read r.reads;
@@ -69,34 +52,68 @@ pub byte_read : (n : ℕ) (rest : List ℕ) → n < 128 → Reads IsVarint (n �
 byte_read n rest small =
     record { front = n ∷ []; spells = record { continued = small; value = omega arith; at_most_ten = omega arith; tenth = omega arith }; split = refl }
 
-pub no_entries_read : (s count : ℕ) (bytes rest : List ℕ) (spans : List (ℕ × ℕ)) → count ≡ 0 → Reads IsVarint bytes rest count → IsContentRead (Run 0 0) (reached (1 ∷ bytes) s spans) (reached rest s spans)
-no_entries_read s count bytes rest spans none r =
+pub no_entries_read : {X : Type 0} {kept_of : EntryIndex → X} {s count : ℕ} {bytes rest : List ℕ} {kept : List X} → count ≡ 0 → Reads IsVarint bytes rest count → AreEntriesRead kept_of 0 0 (reached bytes s kept) (reached rest s kept)
+no_entries_read {s = s} {count = count} {bytes = bytes} {rest = rest} {kept = kept} none r =
     record {
-      read = entries [];
-      own = [];
-      reads = entries_content s (1 ∷ bytes) bytes rest [] refl (entries_read s count bytes rest rest [] r (record { front = []; spells = (refl, none); split = refl }));
+      read = [];
+      reads = entries_read s count bytes rest rest [] r (record { front = []; spells = (refl, none); split = refl });
       ends = refl;
-      added = sym (append-nil spans);
-      held = record { taken = refl; shown = λ place. refl };
+      added = sym (append-nil kept);
+      held = record { taken = refl; made = refl; shown = λ place. refl };
     }
 
 -- ---- contents
 
-pub command_read : (s : ℕ) (bytes behind rest : List ℕ) (c : Command) (spans : List (ℕ × ℕ)) → bytes ≡ 2 ∷ behind → Reads IsCommand behind rest c → IsContentRead (contents.Command c) (reached bytes s spans) (reached rest s spans)
-command_read s bytes behind rest c spans split r =
-    record { read = command c; own = []; reads = command_content s bytes behind rest c split r; ends = refl; added = sym (append-nil spans); held = record { taken = refl; shown = λ place. refl } }
+pub entries_are_content : {X : Type 0} {kept_of : EntryIndex → X} {s first count : ℕ} {bytes behind rest : List ℕ} {end : ℕ} {old new : List X} →
+    bytes ≡ 1 ∷ behind → AreEntriesRead kept_of first count (reached behind s old) (reached rest end new) →
+    IsContentRead kept_of (Run first count) (reached bytes s old) (reached rest end new)
+entries_are_content {s = s} {bytes = bytes} {behind = behind} {rest = rest} split r =
+    record { read = entries r.read; own = r.read; reads = entries_content s bytes behind rest r.read split r.reads; ends = r.ends; added = r.added; held = r.held }
 
-pub pair_read : (s : ℕ) (bytes behind rest : List ℕ) (content : ReadContent) (p : Pair) (spans : List (ℕ × ℕ)) → bytes ≡ 3 ∷ behind →
-    Reads IsKeyValue behind rest p → IsHeldAs content [] (pair p) → IsContentRead content (reached bytes s spans) (reached rest s spans)
-pair_read s bytes behind rest content p spans split r held =
-    record { read = pair p; own = []; reads = pair_content s bytes behind rest p split r; ends = refl; added = sym (append-nil spans); held = held }
+pub command_read : {X : Type 0} {kept_of : EntryIndex → X} {s : ℕ} {bytes behind rest : List ℕ} {c : Command} {kept : List X} → bytes ≡ 2 ∷ behind →
+    Reads IsCommand behind rest c → IsContentRead kept_of (contents.Command c) (reached bytes s kept) (reached rest s kept)
+command_read {s = s} {bytes = bytes} {behind = behind} {rest = rest} {c = c} {kept = kept} split r =
+    record { read = command c; own = []; reads = command_content s bytes behind rest c split r; ends = refl; added = sym (append-nil kept); held = record { taken = refl; made = refl; shown = λ place. refl } }
+
+pub pair_read : {X : Type 0} {kept_of : EntryIndex → X} {s : ℕ} {bytes behind rest : List ℕ} {content : ReadContent} {p : Pair} {kept : List X} → bytes ≡ 3 ∷ behind →
+    Reads IsKeyValue behind rest p → IsHeldAs content [] (pair p) → IsContentRead kept_of content (reached bytes s kept) (reached rest s kept)
+pair_read {s = s} {bytes = bytes} {behind = behind} {rest = rest} {p = p} {kept = kept} split r held =
+    record { read = pair p; own = []; reads = pair_content s bytes behind rest p split r; ends = refl; added = sym (append-nil kept); held = held }
+
+all_same : (es : List EntryIndex) → map (λ e. e) es ≡ es
+all_same [] = refl
+all_same (e ∷ es) = ap (λ (t : List EntryIndex). e ∷ t) (all_same es)
+
+-- all entries that were kept are those that were read
+pub entries_kept : {first count : ℕ} {old new : Reached EntryIndex} → (r : AreEntriesRead (λ e. e) first count old new) → old.kept ≡ [] → new.kept ≡ r.read
+entries_kept r none = r.added ∙ ap (λ (es : List EntryIndex). es ++ map (λ e. e) r.read) none ∙ all_same r.read
+
+pub content_is_made : {content : ReadContent} {old new : Reached EntryIndex} → (r : IsContentRead (λ e. e) content old new) → old.kept ≡ [] → content_made content new.kept ≡ r.read
+content_is_made {content} r none = ap (content_made content) (r.added ∙ ap (λ (es : List EntryIndex). es ++ map (λ e. e) r.own) none ∙ all_same r.own) ∙ r.held.made
+
+-- where a change of a key was read, there may be no memory for it
+no_room : {X : Type 0} (old new : Reached X) (e : Error) (key : List ℕ) (value : Option (List ℕ)) (read : Content) → Reads (IsContent old.end) old.bytes new.bytes read →
+    pair (change_of key value None) ≡ read → IsMemory e → IsContentFault old.end old.bytes e
+no_room old new e key value read r made memory =
+    let here : Reads (IsContent old.end) old.bytes new.bytes (pair (change_of key value None)) = subst (λ (c : Content). Reads (IsContent old.end) old.bytes new.bytes c) (sym made) r in
+    let tagged : IsTagged 3 IsKeyValue here.front (change_of key value None) = here.spells in
+    let behind = tagged.0 ++ new.bytes in
+    let fault = no_room_for_pair behind new.bytes key value e (record { front = tagged.0; spells = tagged.2; split = refl }) memory in
+    subst (λ (b : List ℕ). IsContentFault old.end b e) (sym (here.split ∙ ap (λ (t : List ℕ). t ++ new.bytes) tagged.1)) (inr (inr (inr (refl, fault))))
+
+pub no_room_for_change : {X : Type 0} {kept_of : EntryIndex → X} {content : ReadContent} {old new : Reached X} (e : Error) → IsChange content →
+    IsContentRead kept_of content old new → IsMemory e → IsContentFault old.end old.bytes e
+no_room_for_change {content = contents.Put key value} {old = old} {new = new} e change r memory = no_room old new e key.now (Some value.now) r.read r.reads r.held.made memory
+no_room_for_change {content = contents.Delete key} {old = old} {new = new} e change r memory = no_room old new e key.now None r.read r.reads r.held.made memory
+no_room_for_change {content = Run first count} e change r memory = absurd change
+no_room_for_change {content = contents.Command c} e change r memory = absurd change
 
 -- a region and a content that was read, as an item that is added
-pub held_item : (s region : ℕ) (bytes mid rest : List ℕ) (content : ReadContent) (end : ℕ) (items new_items : List ReadItem)
-    (spans new_spans : List (ℕ × ℕ)) → Reads IsVarint bytes mid region → IsContentRead content (reached mid s spans) (reached rest end new_spans) →
+pub held_item : {s region : ℕ} {bytes mid rest : List ℕ} {content : ReadContent} {end : ℕ} {items new_items : List ReadItem}
+    {spans new_spans : List (ℕ × ℕ)} → Reads IsVarint bytes mid region → IsContentRead span_of content (reached mid s spans) (reached rest end new_spans) →
     new_items ≡ items ++ record { region = region; content = content } ∷ [] →
     IsItemRead items new_items (reached bytes s spans) (reached rest end new_spans)
-held_item s region bytes mid rest content end items new_items spans new_spans r c added =
+held_item {s = s} {region = region} {bytes = bytes} {mid = mid} {rest = rest} {content = content} r c added =
     record {
       read = record { raft_group_id = region; content = c.read };
       item = record { region = region; content = content };
@@ -117,36 +134,31 @@ two_in_front (x ∷ y ∷ rest) a b some first second = λ i. first i ∷ second
 
 -- ---- spans so far
 
--- the spans that were read so far, and behind their entries come this index and this offset
-pub record AreSpansSoFar (first s : ℕ) (bytes rest : List ℕ) (old new : List (ℕ × ℕ)) (index offset count : ℕ) : Type 0 where
+-- what is kept of the entries that were read so far, and behind them come this index and this offset
+pub record AreKeptSoFar {X : Type 0} (kept_of : EntryIndex → X) (first s : ℕ) (bytes rest : List ℕ) (old new : List X) (index offset count : ℕ) : Type 0 where
   pub read : List EntryIndex
   pub so_far : AreReadSoFar first s bytes rest read index offset
-  pub added : new ≡ old ++ map span_of read
+  pub added : new ≡ old ++ map kept_of read
   pub counted : length read ≡ count
 
-pub one_more_span : (first s : ℕ) (bytes mid rest : List ℕ) (old new : List (ℕ × ℕ)) (index offset tail count len : ℕ) →
-    AreSpansSoFar first s bytes mid old new index offset count → offset + len ≡ tail →
-    Reads (IsTail (index, offset)) mid rest (entry_between index offset tail) → AreSpansSoFar first s bytes rest old (new ++ (offset, len) ∷ [])
-    (index + 1) tail (count + 1)
-one_more_span first s bytes mid rest old new index offset tail count len so sum r =
+pub one_more_kept : {X : Type 0} {kept_of : EntryIndex → X} {first s : ℕ} {bytes mid rest : List ℕ} {old new : List X} {index offset tail count : ℕ} {value : X} →
+    AreKeptSoFar kept_of first s bytes mid old new index offset count → offset ≤ tail →
+    Reads (IsTail (index, offset)) mid rest (entry_between index offset tail) → value ≡ kept_of (entry_between index offset tail) →
+    AreKeptSoFar kept_of first s bytes rest old (new ++ value ∷ []) (index + 1) tail (count + 1)
+one_more_kept {X} {kept_of} {first} {s} {bytes} {mid} {rest} {old} {new} {index} {offset} {tail} {count} {value} so le r is =
     let e = entry_between index offset tail in
     let es = so.read in
-    let is_len : e.entry_len ≡ len = omega arith in
     record {
       read = es ++ e ∷ [];
-      so_far = one_more_tail first s bytes mid rest es index offset tail so.so_far (omega arith) r;
-      added = ap (λ (l : ℕ). new ++ (offset, l) ∷ []) (sym is_len) ∙ ap (λ (xs : List (ℕ × ℕ)). xs ++ span_of e ∷ []) so.added
-          ∙ more_spans old (map span_of es) (span_of e) ∙ ap (λ (xs : List (ℕ × ℕ)). old ++ xs) (sym (map-append span_of es (e ∷ [])));
+      so_far = one_more_tail first s bytes mid rest es index offset tail so.so_far le r;
+      added = ap (λ (v : X). new ++ v ∷ []) is ∙ ap (λ (xs : List X). xs ++ kept_of e ∷ []) so.added
+          ∙ append_assoc old (map kept_of es) (kept_of e ∷ []) ∙ ap (λ (xs : List X). old ++ xs) (sym (map-append kept_of es (e ∷ [])));
       counted = omega (arith, length_push es e, so.counted);
     }
-  where
-    more_spans : (xs ys : List (ℕ × ℕ)) (z : ℕ × ℕ) → (xs ++ ys) ++ z ∷ [] ≡ xs ++ (ys ++ z ∷ [])
-    more_spans [] ys z = refl
-    more_spans (x ∷ xs) ys z = ap (λ (l : List (ℕ × ℕ)). x ∷ l) (more_spans xs ys z)
 
-pub spans_read : (first s n count : ℕ) (bytes rest : List ℕ) (old new : List (ℕ × ℕ)) (index offset : ℕ) → count ≡ n →
-    AreSpansSoFar first s bytes rest old new index offset count → AreSpansRead n first (reached bytes s old) (reached rest offset new)
-spans_read first s n count bytes rest old new index offset all so =
+pub tails_read : {X : Type 0} {kept_of : EntryIndex → X} {first s n count : ℕ} {bytes rest : List ℕ} {old new : List X} {index offset : ℕ} → count ≡ n →
+    AreKeptSoFar kept_of first s bytes rest old new index offset count → AreTailsRead kept_of n first (reached bytes s old) (reached rest offset new)
+tails_read {first = first} {s = s} {bytes = bytes} {rest = rest} {index = index} {offset = offset} all so =
     let reads = so.so_far.reads in
     record {
       read = so.read;
@@ -157,7 +169,8 @@ spans_read first s n count bytes rest old new index offset all so =
 
 -- ---- items
 
-pub item_held : (place : FileBlockHandle) (item : ReadItem) (own : List (ℕ × ℕ)) (x : Item) → item.region ≡ x.raft_group_id → IsHeldAs item.content own x.content → item_shown place item own ≡ placed_item place compressions.None x
+pub item_held : (place : FileBlockHandle) (item : ReadItem) (own : List EntryIndex) (x : Item) → item.region ≡ x.raft_group_id →
+    IsHeldAs item.content own x.content → item_shown place item (map span_of own) ≡ placed_item place compressions.None x
 item_held place item own x region h = λ i. record { raft_group_id = region i; content = h.shown place i }
 
 spans_push : (items : List ReadItem) (item : ReadItem) → spans_of (items ++ item ∷ []) ≡ spans_of items + spans_taken item.content
@@ -179,12 +192,12 @@ shown_push place (y ∷ ys) item spans own e t =
     ∙ ap (λ (xs : List (ℕ × ℕ)). item_shown place y (take n spans) ∷ items_shown place (ys ++ item ∷ []) xs) rest
     ∙ ap (λ (xs : List Item). item_shown place y (take n spans) ∷ xs) (shown_push place ys item (drop n spans) own left t)
 
-pub items_held_push : (items : List ReadItem) (item : ReadItem) (spans own : List (ℕ × ℕ)) (xs : List Item) (x : Item) → AreHeldAs items spans xs →
-    item.region ≡ x.raft_group_id → IsHeldAs item.content own x.content → AreHeldAs (items ++ item ∷ []) (spans ++ own) (xs ++ x ∷ [])
+pub items_held_push : (items : List ReadItem) (item : ReadItem) (spans : List (ℕ × ℕ)) (own : List EntryIndex) (xs : List Item) (x : Item) → AreHeldAs items spans xs →
+    item.region ≡ x.raft_group_id → IsHeldAs item.content own x.content → AreHeldAs (items ++ item ∷ []) (spans ++ map span_of own) (xs ++ x ∷ [])
 items_held_push items item spans own xs x h region k =
     record {
-      taken = omega (arith, h.taken, k.taken, spans_push items item, length-append spans own);
-      shown = λ place. shown_push place items item spans own h.taken k.taken ∙ ap (λ (ys : List Item). ys ++ item_shown place item own ∷ [])
+      taken = omega (arith, h.taken, k.taken, spans_push items item, length-append spans (map span_of own), length-map own span_of);
+      shown = λ place. shown_push place items item spans (map span_of own) h.taken (k.taken ∙ sym (length-map own span_of)) ∙ ap (λ (ys : List Item). ys ++ item_shown place item (map span_of own) ∷ [])
           (h.shown place) ∙ ap (λ (y : Item). map (placed_item place compressions.None) xs ++ y ∷ []) (item_held place item own x region k)
           ∙ sym (map-append (placed_item place compressions.None) xs (x ∷ []));
     }
@@ -203,7 +216,7 @@ pub one_more_held : (bytes mid rest : List ℕ) (items new_items : List ReadItem
 one_more_held bytes mid rest items new_items spans new_spans offset end count so r =
     let xs = so.read in
     let held = items_held_push items r.item spans r.own xs r.read so.held r.region r.held in
-    let here : AreHeldAs new_items (spans ++ r.own) (xs ++ r.read ∷ []) = subst (λ (ys : List ReadItem). AreHeldAs ys (spans ++ r.own) (xs ++ r.read ∷ [])) (sym r.added) held in
+    let here : AreHeldAs new_items (spans ++ map span_of r.own) (xs ++ r.read ∷ []) = subst (λ (ys : List ReadItem). AreHeldAs ys (spans ++ map span_of r.own) (xs ++ r.read ∷ [])) (sym r.added) held in
     record {
       read = xs ++ r.read ∷ [];
       reads = one_more_item bytes mid rest xs r.read offset so.reads so.ends r.reads;
@@ -238,6 +251,3 @@ shown_in_file place s [] spans f = tt
 shown_in_file place s (y ∷ ys) spans f =
     let n = spans_taken y.content in
     (content_in_file place s y.content (take n spans) f.0, shown_in_file place (behind_item s (item_shown place y (take n spans))) ys (drop n spans) f.1)
-
-pub one_compression : (c : CompressionType) → c ≡ compressions.None
-one_compression compressions.None = refl

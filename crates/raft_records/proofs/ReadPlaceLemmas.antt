@@ -1,10 +1,6 @@
 -- On items that were written, read and given their places.
-use Rattle.std.proofs.Common.{◌≡◌, List, [], ◌∷◌, map, Some, refl, ap}
-use Rattle.raft_base.specs.declared.pipe_log.FileBlockHandle.{FileBlockHandle}
-use Rattle.raft_base.specs.declared.compression_type.CompressionType.{CompressionType}
-use Rattle.raft_base.specs.declared.entry_index.EntryIndex.{EntryIndex}
-use Rattle.raft_records.specs.Item.{Item, Content, entries, command, pair, bare_entry, bare_content, bare, IsInBytes, AreInBytes}
-use Rattle.raft_records.specs.ItemBatch.{placed_content, placed_item}
+use Rattle.raft_records.proofs.Common.{◌≡◌, List, [], ◌∷◌, map, Some, refl, ap, FileBlockHandle, CompressionType, EntryIndex, Item, Content, entries, command, pair, bare_entry, bare_content, bare}
+use Rattle.raft_records.proofs.Common.{IsInBytes, AreInBytes, placed_content, placed_item}
 use Rattle.raft_records.proofs.Names.{placed_entry}
 
 entries_read : (handle : FileBlockHandle) (c : CompressionType) (es : List EntryIndex) → map (placed_entry handle c) (map bare_entry es) ≡ map (placed_entry handle c) es

@@ -1,14 +1,7 @@
 -- On checksums behind bytes.
-use Rattle.std.proofs.Common.{◌≡◌, ◌≢◌, ℕ, ◌^◌, ◌<◌, List, [], ◌++◌, length, take, drop, Option, Some, None, refl, sym, ap, ◌∙◌, arith}
-use Rattle.std.specs.Prelude.{bit_xor}
-use Rattle.std.specs.Int.Bits.{xor_assoc, xor_self, xor_zero_r}
-use Rattle.std.proofs.lemmas.List.{take-append-drop, length-append, append_cancel_left, append-nil, nil_from_length}
-use Rattle.byteorder.specs.Endian.{little_bytes}
-use Rattle.raft_codec.specs.Reading.{Reads}
-use Rattle.raft_codec.specs.Fixed.{IsLittle}
-use Rattle.raft_checksum.specs.Checksum.{crc32_of}
-use Rattle.raft_codec.proofs.FixedLemmas.{IsReadAgain-little_bytes}
-use Rattle.raft_records.specs.ItemBatch.{signed_crc, checksum_bytes, HasSeal}
+use Rattle.raft_records.proofs.Common.{◌≡◌, ◌≢◌, ℕ, ◌^◌, ◌<◌, List, [], ◌++◌, length, take, drop, Option, Some, None, refl, sym, ap, ◌∙◌, arith, bit_xor, xor_assoc, xor_self, xor_zero_r}
+use Rattle.raft_records.proofs.Common.{take-append-drop, length-append, append_cancel_left, append-nil, nil_from_length, little_bytes, Reads, IsLittle, crc32_of, IsReadAgain-little_bytes, signed_crc}
+use Rattle.raft_records.proofs.Common.{checksum_bytes, HasSeal, Error, IsChecksumFault, IsCorruption, codes, decimal}
 use Rattle.raft_records.proofs.ItemLemmas.{same_length}
 
 pub four : (n : ℕ) → length (little_bytes 4 n) ≡ 4
@@ -22,14 +15,19 @@ all_four seal rest n len r =
     r.split ∙ ap (λ (t : List ℕ). r.front ++ t) none ∙ append-nil r.front ∙ r.spells.written
 
 -- signing twice is signing never
-pub signed_twice : (signature : Option ℕ) (n : ℕ) → signed_crc signature (signed_crc signature n) ≡ n
+signed_twice : (signature : Option ℕ) (n : ℕ) → signed_crc signature (signed_crc signature n) ≡ n
 signed_twice None n = refl
 signed_twice (Some s) n = xor_assoc n s s ∙ ap (bit_xor n) (xor_self s) ∙ xor_zero_r n
 
-pub sealed_by : (signature : Option ℕ) (bytes content seal : List ℕ) (found actual : ℕ) → 0 < length content → bytes ≡ content ++ seal →
-    seal ≡ little_bytes 4 found → actual ≡ crc32_of content → found ≡ signed_crc signature actual → HasSeal signature bytes content
-sealed_by signature bytes content seal found actual some split read crc same =
-    record { some = some; split = split ∙ ap (λ (t : List ℕ). content ++ t) (read ∙ ap (little_bytes 4) (same ∙ ap (signed_crc signature) crc)) }
+-- the two parts of a split are the whole
+split_is : (bytes front back : List ℕ) (n : ℕ) → front ≡ take n bytes → back ≡ drop n bytes → bytes ≡ front ++ back
+split_is bytes front back n f b = sym (take-append-drop n bytes) ∙ ap (λ (t : List ℕ). t ++ drop n bytes) (sym f) ∙ ap (λ (t : List ℕ). front ++ t) (sym b)
+
+pub sealed_by : {signature : Option ℕ} {bytes content seal : List ℕ} {found actual : ℕ} (n : ℕ) → content ≡ take n bytes → seal ≡ drop n bytes →
+    0 < length content → seal ≡ little_bytes 4 found → actual ≡ crc32_of content → found ≡ signed_crc signature actual →
+    HasSeal signature bytes content
+sealed_by {signature} {bytes} {content} {seal} n front back some read crc same =
+    record { some = some; split = split_is bytes content seal n front back ∙ ap (λ (t : List ℕ). content ++ t) (read ∙ ap (little_bytes 4) (same ∙ ap (signed_crc signature) crc)) }
 
 -- bytes have one content before a checksum
 pub content_is : (signature : Option ℕ) (bytes content c seal : List ℕ) → bytes ≡ content ++ seal → length seal ≡ 4 → HasSeal signature bytes c → (c ≡ content) × (checksum_bytes signature c ≡ seal)
@@ -39,11 +37,11 @@ content_is signature bytes content c seal split len s =
     let same = same_length c content (checksum_bytes signature c) seal lens e in
     (same, append_cancel_left content (checksum_bytes signature c) seal (ap (λ (t : List ℕ). t ++ checksum_bytes signature c) (sym same) ∙ e))
 
-pub not_sealed : (signature : Option ℕ) (bytes content seal : List ℕ) (found actual written : ℕ) → found < 2 ^ 32 → written < 2 ^ 32 →
-    bytes ≡ content ++ seal → seal ≡ little_bytes 4 found → actual ≡ crc32_of content → written ≡ signed_crc signature actual → found ≢ written →
-    (c : List ℕ) → HasSeal signature bytes c → ⊥
-not_sealed signature bytes content seal found actual written found_fits written_fits split read crc signs differs c s =
-    let is = content_is signature bytes content c seal split (ap length read ∙ four found) s in
+pub not_sealed : {signature : Option ℕ} {bytes content seal : List ℕ} {found actual written : ℕ} (n : ℕ) → content ≡ take n bytes → seal ≡ drop n bytes →
+    found < 2 ^ 32 → written < 2 ^ 32 → seal ≡ little_bytes 4 found → actual ≡ crc32_of content → written ≡ signed_crc signature actual →
+    found ≢ written → (c : List ℕ) → HasSeal signature bytes c → ⊥
+not_sealed {signature} {bytes} {content} {seal} {found} {actual} {written} n front back found_fits written_fits read crc signs differs c s =
+    let is = content_is signature bytes content c seal (split_is bytes content seal n front back) (ap length read ∙ four found) s in
     let number : written ≡ signed_crc signature (crc32_of c) = signs ∙ ap (signed_crc signature) (crc ∙ ap crc32_of (sym is.0)) in
     let bytes_same : little_bytes 4 found ≡ little_bytes 4 written = sym read ∙ sym is.1 ∙ ap (little_bytes 4) (sym number) in
     let same = (IsReadAgain-little_bytes 4).one_front (little_bytes 4 found) (little_bytes 4 written) [] [] found written
@@ -52,10 +50,17 @@ not_sealed signature bytes content seal found actual written found_fits written_
     differs same.1
 
 -- why the checksum is refused
-pub checksum_differs : (signature : Option ℕ) (content : List ℕ) (found actual written : ℕ) → actual ≡ crc32_of content → written ≡ signed_crc signature actual → found ≢ written → crc32_of content ≢ signed_crc signature found
-checksum_differs signature content found actual written crc signs differs e =
-    differs (sym (signed_twice signature found) ∙ ap (signed_crc signature) (sym e ∙ sym crc) ∙ sym signs)
-
--- the two parts of a split are the whole
-pub split_is : (bytes front back : List ℕ) (n : ℕ) → front ≡ take n bytes → back ≡ drop n bytes → bytes ≡ front ++ back
-split_is bytes front back n f b = sym (take-append-drop n bytes) ∙ ap (λ (t : List ℕ). t ++ drop n bytes) (sym f) ∙ ap (λ (t : List ℕ). front ++ t) (sym b)
+pub checksum_fault : {signature : Option ℕ} {bytes content seal : List ℕ} {found actual written : ℕ} (n : ℕ) (e : Error) → content ≡ take n bytes →
+    seal ≡ drop n bytes → found < 2 ^ 32 → seal ≡ little_bytes 4 found → actual ≡ crc32_of content → written ≡ signed_crc signature actual →
+    found ≢ written →
+    IsCorruption (codes "Checksum expected " ++ (decimal (signed_crc signature found) ++ (codes " but got " ++ decimal (crc32_of content)))) e →
+    IsChecksumFault signature bytes e
+checksum_fault {signature} {bytes} {content} {seal} {found} {actual} {written} n e front back found_fits read crc signs differs error =
+    record {
+      content = content;
+      found = found;
+      found_fits = found_fits;
+      split = split_is bytes content seal n front back ∙ ap (λ (t : List ℕ). content ++ t) read;
+      differs = λ same. differs (sym (signed_twice signature found) ∙ ap (signed_crc signature) (sym same ∙ sym crc) ∙ sym signs);
+      error = error;
+    }

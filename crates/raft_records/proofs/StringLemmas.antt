@@ -1,24 +1,13 @@
 -- On entries with their bytes.
-use Rattle.std.proofs.Common.{◌≡◌, ◌≢◌, true, ℕ, zero, suc, ◌+◌, ◌-◌, ◌^◌, ◌<◌, ◌≤◌, List, [], ◌∷◌, ◌++◌, map, length, take, drop, get_or, set, ◌↔◌, refl, sym, ap, ◌∙◌, subst, append_assoc, add-one, arith}
-use Rattle.std.specs.Prelude.{nat_eq}
-use Rattle.std.specs.List.{concat}
-use Rattle.std.proofs.lemmas.Bool.{eqb-true}
-use Rattle.std.proofs.lemmas.List.{length-append, length-drop, length-map, length-set, drop_more, drop-append-le}
-use Rattle.raft_base.specs.declared.entry_index.EntryIndex.{EntryIndex}
-use Rattle.raft_base.specs.NoEntry.{no_entry}
-use Rattle.raft_base.specs.Runs.{IsConsecutive}
-use Rattle.raft_base.proofs.ConsecutiveLemmas.{IsConsecutiveFrom, from_first, from_start, consecutive_from, started}
-use Rattle.raft_records.specs.Grammar.{end_behind}
-use Rattle.raft_records.specs.Item.{Item, entries, entries_item}
-use Rattle.raft_records.specs.ItemBatch.{FitsBehind, entry_bytes_of, entry_lengths, with_offsets_from}
-use Rattle.raft_records.specs.LogBatch.{Stage, Batch, is_open, with_entries_added}
-use Rattle.raft_records.specs.Buffer.{entry_bytes_in, IsHeld}
+use Rattle.raft_records.proofs.Common.{◌≡◌, ◌≢◌, true, ℕ, zero, suc, ◌+◌, ◌-◌, ◌^◌, ◌<◌, ◌≤◌, List, [], ◌∷◌, ◌++◌, map, length, take, drop, get_or, set, ◌↔◌, refl, sym, ap, ◌∙◌, subst, append_assoc}
+use Rattle.raft_records.proofs.Common.{arith, nat_eq, concat, eqb-true, length-append, length-drop, length-map, length-set, drop_more, drop-append-le, EntryIndex, no_entry, IsConsecutive}
+use Rattle.raft_records.proofs.Common.{IsConsecutiveFrom, from_first, from_start, consecutive_from, started, end_behind, Item, entries, entries_item, FitsBehind, entry_bytes_of, entry_lengths}
+use Rattle.raft_records.proofs.Common.{with_offsets_from, Stage, Batch, is_open, with_entries_added, entry_bytes_in, IsHeld, entry_with_index, with_lengths, Keeps}
+use Rattle.std.proofs.Common.{add-one}
 use Rattle.raft_records.proofs.BatchLemmas.{end_push}
 use Rattle.raft_records.proofs.LayLemmas.{end_of_laid, laid_fits}
-use Rattle.raft_records.proofs.BufferLemmas.{open_entries, held_open, cut_to}
-use Rattle.raft_records.proofs.StageLemmas.{batch_with, open_held, entries_are, reheld}
-use Rattle.raft_records.specs.Entries.{entry_with_index, with_lengths}
-use Rattle.raft_records.specs.Spelling.{Keeps}
+use Rattle.raft_records.proofs.BufferLemmas.{open_entries, held_open}
+use Rattle.raft_records.proofs.StageLemmas.{batch_with, open_held, entries_are}
 
 pub keeps_more : (start buf more new : List ℕ) → Keeps start buf → new ≡ buf ++ more → Keeps start new
 keeps_more start buf more new k e =
@@ -44,10 +33,6 @@ lengths_from index (x ∷ xs) (s ∷ ss) h = (h.0, h.1, lengths_from (index + 1)
 pub lengths_consecutive : (es : List EntryIndex) (strings : List (List ℕ)) → IsConsecutive es → IsConsecutive (with_lengths es strings)
 lengths_consecutive es strings h = consecutive_from (started es h.run).start (with_lengths es strings) (lengths_from (started es h.run).start es strings (from_start es h))
 
-pub none_consecutive : {X : Type 0} (index_of : X → ℕ) (xs : List X) → nat_eq (length xs) 0 ≡ true → IsConsecutive (map (λ x. entry_with_index (index_of x)) xs)
-none_consecutive index_of [] none = consecutive_from 0 [] tt
-none_consecutive index_of (x ∷ xs) none = let len : length (x ∷ xs) ≡ 0 = eqb-true (length (x ∷ xs)) 0 none in absurd (omega arith)
-
 -- ---- the batch with these entries
 
 -- where the bytes of entries stand behind those of a batch
@@ -59,42 +44,34 @@ added_end items region es strings e =
     ∙ end_of_laid (entry_bytes_of items) (with_lengths es strings)
     ∙ ap (λ (n : ℕ). entry_bytes_of items + n) (lengths_total es strings e)
 
-pub added_held : (stage : Stage) (items new : List Item) (region : ℕ) (es : List EntryIndex) (strings : List (List ℕ)) (buf mid bytes : List ℕ) →
+pub added_held : {stage : Stage} {items new : List Item} {buf bytes : List ℕ} (region : ℕ) (mid : List ℕ) (es : List EntryIndex) (strings : List (List ℕ)) →
     stage ≡ is_open → IsHeld stage items (entry_bytes_in items buf) buf → 16 ≤ length mid → drop 16 mid ≡ drop 16 buf → length es ≡ length strings →
     new ≡ items ++ entries_item region (with_offsets_from (entry_bytes_of items) (with_lengths es strings)) ∷ [] → bytes ≡ mid ++ concat strings →
     length bytes < 16 + 2 ^ 31 → IsHeld stage new (entry_bytes_in new bytes) bytes ×
     (entry_bytes_in new bytes ≡ entry_bytes_in items buf ++ concat strings)
-added_held stage items new region es strings buf mid bytes e h room same counts added written fits =
+added_held {stage} {items} {new} {buf} {bytes} region mid es strings e h room same counts added written fits =
     let behind : drop 16 bytes ≡ drop 16 buf ++ concat strings = ap (drop 16) written ∙ drop-append-le 16 mid (concat strings) room ∙ ap (λ (t : List ℕ). t ++ concat strings) same in
     let total : entry_bytes_of new ≡ entry_bytes_of items + length (concat strings) = ap entry_bytes_of added ∙ added_end items region es strings counts in
-    let len : length bytes - 16 ≡ entry_bytes_of new = omega (
-      arith,
-      total,
-      open_held stage items (entry_bytes_in items buf) buf e h,
-      ap length behind,
-      length-append (drop 16 buf) (concat strings),
-      length-drop 16 buf,
-      length-drop 16 bytes,
-    ) in (
+    let len : length bytes - 16 ≡ entry_bytes_of new = omega (arith, total, open_held e h, ap length behind, length-append (drop 16 buf) (concat strings), length-drop 16 buf, length-drop 16 bytes) in (
       subst (λ (s : Stage). IsHeld s new (entry_bytes_in new bytes) bytes) (sym e) (held_open new bytes len (omega (arith, len, fits))),
-      open_entries (entry_bytes_of new) bytes len ∙ behind ∙ ap (λ (t : List ℕ). t ++ concat strings) (sym (entries_are stage items buf e h)),
+      open_entries (entry_bytes_of new) bytes len ∙ behind ∙ ap (λ (t : List ℕ). t ++ concat strings) (sym (entries_are e h)),
     )
 
-pub added_view : (now : Batch) (stage : Stage) (items new : List Item) (region : ℕ) (es : List EntryIndex) (strings : List (List ℕ))
-    (old bytes : List ℕ) → batch_with items old stage ≡ now → length old ≡ entry_bytes_of items → es ≢ [] →
+pub added_view : {now : Batch} {stage : Stage} {items new : List Item} {old bytes : List ℕ} (region : ℕ) (es : List EntryIndex)
+    (strings : List (List ℕ)) → batch_with items old stage ≡ now → length old ≡ entry_bytes_of items → es ≢ [] →
     new ≡ items ++ entries_item region (with_offsets_from (entry_bytes_of items) (with_lengths es strings)) ∷ [] → bytes ≡ old ++ concat strings →
     batch_with new bytes stage ≡ with_entries_added now region es strings
-added_view now stage items new region [] strings old bytes view whole some added written = absurd (some refl)
-added_view now stage items new region (e ∷ es) strings old bytes view whole some added written =
+added_view region [] strings view whole some added written = absurd (some refl)
+added_view {now} {stage} {items} {new} {old} {bytes} region (e ∷ es) strings view whole some added written =
     ap (λ (xs : List Item). batch_with xs bytes stage) added
     ∙ ap (λ (t : List ℕ). batch_with (items ++ entries_item region (with_offsets_from (entry_bytes_of items) (with_lengths (e ∷ es) strings)) ∷ []) t stage) written
     ∙ ap (λ (n : ℕ). batch_with (items ++ entries_item region (with_offsets_from n (with_lengths (e ∷ es) strings)) ∷ []) (old ++ concat strings) stage) (sym whole)
     ∙ ap (λ (b : Batch). with_entries_added b region (e ∷ es) strings) view
 
 -- room for the header was made
-pub reserved_len : (stage : Stage) (items : List Item) (old new : List ℕ) → stage ≡ is_open → IsHeld stage items (entry_bytes_in items old) old → 16 ≤ length new → drop 16 new ≡ drop 16 old → length new ≡ 16 + entry_bytes_of items
-reserved_len stage items old new e h room same =
-    omega (arith, room, open_held stage items (entry_bytes_in items old) old e h, ap length same, length-drop 16 old, length-drop 16 new)
+pub reserved_len : {stage : Stage} {items : List Item} {old : List ℕ} (new : List ℕ) → stage ≡ is_open →
+    IsHeld stage items (entry_bytes_in items old) old → 16 ≤ length new → drop 16 new ≡ drop 16 old → length new ≡ 16 + entry_bytes_of items
+reserved_len {stage} {items} {old} new e h room same = omega (arith, room, open_held e h, ap length same, length-drop 16 old, length-drop 16 new)
 
 -- messages with as many indexes
 pub same_counts : {X : Type 0} (bytes_of : X → List ℕ) (index_of : X → ℕ) (xs : List X) → length (map (λ x. entry_with_index (index_of x)) xs) ≡ length (map bytes_of xs)
@@ -125,38 +102,32 @@ set_length bytes_of (y ∷ ys) (z ∷ zs) zero e x lt count at there =
 set_length bytes_of (y ∷ ys) (z ∷ zs) (suc i) e x lt count at there =
     ap (λ (t : List EntryIndex). record y { entry_len = length (bytes_of z) } ∷ t) (set_length bytes_of ys zs i e x (omega (arith, lt)) (omega (arith, count)) at there)
 
-strung_more : {X : Type 0} (bytes_of : X → List ℕ) (es : List EntryIndex) (xs : List X) (i : ℕ) (start buf new : List ℕ) (now : List EntryIndex)
-    (e : EntryIndex) (x : X) → IsStringing bytes_of es xs i start buf now → i < length xs → length es ≡ length xs → e ≡ get_or now i e →
-    x ≡ get_or xs i x → new ≡ buf ++ bytes_of x → length new < 16 + 2 ^ 31 →
-    IsStringing bytes_of es xs (i + 1) start new (set now i (record e { entry_len = length (bytes_of x) }))
-strung_more {X} bytes_of es xs i start buf new now e x w lt count at there appended fits =
+pub strung_next : {X : Type 0} (bytes_of : X → List ℕ) (es : List EntryIndex) (xs : List X) (i : ℕ) (start buf new : List ℕ) (now : List EntryIndex)
+    (e : EntryIndex) (x : X) (len : ℕ) → IsStringing bytes_of es xs i start buf now → i < length xs → length es ≡ length xs → e ≡ get_or now i e →
+    x ≡ get_or xs i x → new ≡ buf ++ bytes_of x → length new < 16 + 2 ^ 31 → len ≡ length (bytes_of x) →
+    IsStringing bytes_of es xs (i + 1) start new (set now i (record e { entry_len = len }))
+strung_next {X} bytes_of es xs i start buf new now e x len w lt count at there appended fits same =
     let next = next_is xs i x lt there in
     let rest = concat (map bytes_of (drop (i + 1) xs)) in
     let here : e ≡ get_or (with_lengths (take i es) (map bytes_of xs) ++ drop i es) i e = at ∙ ap (λ (t : List EntryIndex). get_or t i e) w.lengths in
     record {
       keeps = keeps_more start buf (bytes_of x) new w.keeps appended;
       bytes = ap (λ (t : List ℕ). t ++ rest) appended ∙ append_assoc buf (bytes_of x) rest ∙ ap (λ (ys : List X). buf ++ concat (map bytes_of ys)) (sym next) ∙ w.bytes;
-      lengths = ap (λ (t : List EntryIndex). set t i (record e { entry_len = length (bytes_of x) })) w.lengths
+      lengths = ap (λ (n : ℕ). set now i (record e { entry_len = n })) same
+          ∙ ap (λ (t : List EntryIndex). set t i (record e { entry_len = length (bytes_of x) })) w.lengths
           ∙ set_length bytes_of es xs i e x (omega (arith, lt, count)) count here there
           ∙ ap (λ (n : ℕ). with_lengths (take n es) (map bytes_of xs) ++ drop n es) (sym (add-one i));
-      count = length-set now i (record e { entry_len = length (bytes_of x) }) ∙ w.count;
+      count = length-set now i (record e { entry_len = len }) ∙ w.count;
       small = λ some. fits;
     }
 
-pub strung_next : {X : Type 0} (bytes_of : X → List ℕ) (es : List EntryIndex) (xs : List X) (i : ℕ) (start buf new : List ℕ) (now : List EntryIndex)
-    (e : EntryIndex) (x : X) (len : ℕ) → IsStringing bytes_of es xs i start buf now → i < length xs → length es ≡ length xs → e ≡ get_or now i e →
-    x ≡ get_or xs i x → new ≡ buf ++ bytes_of x → length new < 16 + 2 ^ 31 → len ≡ length (bytes_of x) →
-    IsStringing bytes_of es xs (i + 1) start new (set now i (record e { entry_len = len }))
-strung_next bytes_of es xs i start buf new now e x len w lt count at there appended fits same =
-    subst (λ (n : ℕ). IsStringing bytes_of es xs (i + 1) start new (set now i (record e { entry_len = n }))) (sym same) (strung_more bytes_of es xs i start buf new now e x w lt count at there appended fits)
-
-pub strung_past : {X : Type 0} (bytes_of : X → List ℕ) (es : List EntryIndex) (xs : List X) (i : ℕ) (start buf : List ℕ) (now : List EntryIndex)
-    (x : X) → IsStringing bytes_of es xs i start buf now → i < length xs → x ≡ get_or xs i x → 16 ≤ length start →
+-- bytes that pass the limit
+pub past_limit : {X : Type 0} (bytes_of : X → List ℕ) (xs : List X) (i : ℕ) (start buf : List ℕ) (x : X) →
+    buf ++ concat (map bytes_of (drop i xs)) ≡ start ++ concat (map bytes_of xs) → i < length xs → x ≡ get_or xs i x → 16 ≤ length start →
     16 + 2 ^ 31 ≤ length buf + length (bytes_of x) → 2 ^ 31 ≤ length start - 16 + length (concat (map bytes_of xs))
-strung_past bytes_of es xs i start buf now x w lt there room past =
-    let next = next_is xs i x lt there in
+past_limit bytes_of xs i start buf x bytes lt there room past =
     let rest = concat (map bytes_of (drop (i + 1) xs)) in
-    let whole = ap (λ ys. length (buf ++ concat (map bytes_of ys))) (sym next) ∙ ap length w.bytes in
+    let whole = ap (λ ys. length (buf ++ concat (map bytes_of ys))) (sym (next_is xs i x lt there)) ∙ ap length bytes in
     omega (arith, room, past, whole, length-append buf (bytes_of x ++ rest), length-append (bytes_of x) rest, length-append start (concat (map bytes_of xs)))
 
 pub some_counted : {X Y : Type 0} (xs : List X) (ys : List Y) → length xs ≡ length ys → xs ≢ [] → ys ≢ []
@@ -193,40 +164,6 @@ pub record AreLaid {X : Type 0} (index_of : X → ℕ) (bytes_of : X → List �
   pub laid : now ++ laid_messages index_of bytes_of (length buf - 16) (drop i xs) ≡ laid_messages index_of bytes_of (length start - 16) xs
   pub small : 0 < i → length buf < 16 + 2 ^ 31
 
-pub laid_more : {X : Type 0} (index_of : X → ℕ) (bytes_of : X → List ℕ) (xs : List X) (i : ℕ) (start buf new : List ℕ) (now : List EntryIndex) (x : X)
-    (index offset len : ℕ) → AreLaid index_of bytes_of xs i start buf now → i < length xs → x ≡ get_or xs i x → new ≡ buf ++ bytes_of x →
-    length new < 16 + 2 ^ 31 → index ≡ index_of x → offset ≡ length buf - 16 → len ≡ length (bytes_of x) →
-    AreLaid index_of bytes_of xs (i + 1) start new (now ++ message_entry index offset len ∷ [])
-laid_more {X} index_of bytes_of xs i start buf new now x index offset len w lt there appended fits named at counted =
-    let next = next_is xs i x lt there in
-    let behind = drop (i + 1) xs in
-    let rest = concat (map bytes_of behind) in
-    let ends : length new - 16 ≡ length buf - 16 + length (bytes_of x) = omega (arith, w.room, ap length appended, length-append buf (bytes_of x)) in
-    let tail = laid_messages index_of bytes_of (length buf - 16 + length (bytes_of x)) behind in
-    record {
-      keeps = keeps_more start buf (bytes_of x) new w.keeps appended;
-      room = omega (arith, w.room, ap length appended, length-append buf (bytes_of x));
-      bytes = ap (λ (t : List ℕ). t ++ rest) appended ∙ append_assoc buf (bytes_of x) rest ∙ ap (λ (ys : List X). buf ++ concat (map bytes_of ys)) (sym next) ∙ w.bytes;
-      laid =
-          append_assoc now (message_entry index offset len ∷ []) (laid_messages index_of bytes_of (length new - 16) behind)
-          ∙ ap (λ (n : ℕ). now ++ message_entry index offset len ∷ laid_messages index_of bytes_of n behind) ends
-          ∙ ap (λ (n : ℕ). now ++ message_entry n offset len ∷ tail) named
-          ∙ ap (λ (n : ℕ). now ++ message_entry (index_of x) n len ∷ tail) at
-          ∙ ap (λ (n : ℕ). now ++ message_entry (index_of x) (length buf - 16) n ∷ tail) counted
-          ∙ ap (λ (ys : List X). now ++ laid_messages index_of bytes_of (length buf - 16) ys) (sym next)
-          ∙ w.laid;
-      small = λ some. fits;
-    }
-
-pub laid_past : {X : Type 0} (index_of : X → ℕ) (bytes_of : X → List ℕ) (xs : List X) (i : ℕ) (start buf : List ℕ) (now : List EntryIndex) (x : X) →
-    AreLaid index_of bytes_of xs i start buf now → i < length xs → x ≡ get_or xs i x → 16 ≤ length start →
-    16 + 2 ^ 31 ≤ length buf + length (bytes_of x) → 2 ^ 31 ≤ length start - 16 + length (concat (map bytes_of xs))
-laid_past index_of bytes_of xs i start buf now x w lt there room past =
-    let next = next_is xs i x lt there in
-    let rest = concat (map bytes_of (drop (i + 1) xs)) in
-    let whole = ap (λ ys. length (buf ++ concat (map bytes_of ys))) (sym next) ∙ ap length w.bytes in
-    omega (arith, room, past, whole, length-append buf (bytes_of x ++ rest), length-append (bytes_of x) rest, length-append start (concat (map bytes_of xs)))
-
 -- entries that were laid behind those of a batch
 laid_is : {X : Type 0} (index_of : X → ℕ) (bytes_of : X → List ℕ) (xs : List X) (old : List ℕ) (found : List EntryIndex) (before : ℕ) →
     found ≡ laid_messages index_of bytes_of (length old - 16) xs → length old ≡ 16 + before → found ≡ laid_messages index_of bytes_of before xs
@@ -255,11 +192,3 @@ with_first_message index_of [] x l h = absurd (omega arith)
 with_first_message {X} index_of (y ∷ ys) x l h =
     let es = map (λ x. entry_with_index (index_of x)) (y ∷ ys) in
     subst (λ (z : X). IsConsecutive es ↔ IsConsecutiveFrom (index_of z) es) (sym h) (from_first (entry_with_index (index_of y)) (map (λ x. entry_with_index (index_of x)) ys), consecutive_from (index_of y) es)
-
--- a refused addition, cut off again
-pub cut_held : (stage : Stage) (items kept : List Item) (old mid new cut : List ℕ) (n : ℕ) → stage ≡ is_open →
-    IsHeld stage items (entry_bytes_in items old) old → drop 16 mid ≡ drop 16 old → Keeps mid new → n ≡ length mid → cut ≡ take n new → kept ≡ items →
-    IsHeld stage kept (entry_bytes_in kept cut) cut
-cut_held stage items kept old mid new cut n e h same keeps len is_cut is_kept =
-    let back : cut ≡ mid = is_cut ∙ cut_to mid new n len keeps in
-    subst (λ (xs : List Item). IsHeld stage xs (entry_bytes_in xs cut) cut) (sym is_kept) (reheld stage items old cut e h (ap (drop 16) back ∙ same))

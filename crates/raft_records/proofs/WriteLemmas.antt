@@ -1,8 +1,6 @@
 -- What a writer holds that takes bytes part by part.
-use Rattle.std.proofs.Common.{◌≡◌, ℕ, ◌-◌, List, ◌++◌, Option, length, sym, ap, ◌∙◌, subst, take, drop, append_assoc, take-append-drop}
-use Rattle.std.specs.Io.KnownBytes.{Appends}
-use Rattle.std.proofs.KnownBytes.{Appends-trans}
-use Rattle.std.proofs.lemmas.List.{take_rest}
+use Rattle.raft_records.proofs.Common.{◌≡◌, ℕ, ◌-◌, List, ◌++◌, Option, length, sym, ap, ◌∙◌, subst, take, drop, append_assoc, Appends, Appends-trans, take_rest}
+use Rattle.std.proofs.Common.{take-append-drop}
 
 -- bytes in two parts, of which the first was written
 pub record IsHalfWritten (old new : Option (List ℕ)) (all rest : List ℕ) : Type 0 where

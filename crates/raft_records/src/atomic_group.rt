@@ -52,7 +52,6 @@ impl AtomicGroupStatus {
         }
     }
 
-    /// Returns the status that a byte stands for. Any other byte is `Corruption`.
     fn from_u8(alloc: Global, byte: u8) -> Result<AtomicGroupStatus>
         ensures ok { IfOk result (λ status. byte ≡ status_byte status) }
         ensures fault { IfErr result (IsStatusFault byte) }
@@ -67,7 +66,6 @@ impl AtomicGroupStatus {
         }
     }
 
-    /// Returns the byte that stands for the status.
     pub(crate) fn to_u8(self) -> u8
         ensures { result ≡ status_byte self }
     {
@@ -83,7 +81,6 @@ pub fn is_reserved(key: &[u8]) -> bool
     key == ATOMIC_GROUP_KEY.as_slice()
 }
 
-/// Returns the byte of a group marker, if the change is one.
 fn marker_byte(kv: &KeyValue) -> Option<u8>
     ensures { result ≡ marker_byte (pair (pair_of kv.now)) }
 {
@@ -182,7 +179,6 @@ impl AtomicGroupBuilder {
         self.add_marker(AtomicGroupStatus::End, log_batch)
     }
 
-    /// Adds a group marker with this status to an open batch.
     fn add_marker(&mut self, status: AtomicGroupStatus, log_batch: &mut LogBatch) -> Result<()>
         requires { log_batch.old.stage ≡ is_open }
         ensures ok { OnOk result (log_batch.new
@@ -203,6 +199,7 @@ impl AtomicGroupBuilder {
 
 /// States that what is added as a group marker is read as the group marker of its group with its status, and is
 /// never refused. What is read is a function of the item. `is_reserved` is true of the reserved key alone.
+#[tactic(auto, using(crate::proofs::GroupLemmas::marker_written, crate::proofs::GroupLemmas::marker_read, crate::proofs::GroupLemmas::marker_accepted, crate::proofs::GroupLemmas::marker_is, crate::proofs::GroupLemmas::reserved_test))]
 pub fn group_markers_are_read_again()
     ensures is_marker { (id : ℕ) (status : Status) →
         marker_byte (group_marker_item id status).content ≡ Some (status_byte status) }

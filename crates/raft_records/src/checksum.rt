@@ -36,7 +36,7 @@ pub(crate) fn verify_checksum(alloc: Global, bytes: &[u8], signature: Option<u32
     Ok(content)
 }
 
-/// Returns the checksum that these four bytes are.
+#[tactic(auto, using(crate::proofs::SealLemmas::all_four))]
 fn checksum_of(seal: &[u8]) -> u32
     requires { length seal.now ≡ LOG_BATCH_CHECKSUM_LEN }
     ensures { seal.now ≡ little_bytes 4 result }

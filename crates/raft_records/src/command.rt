@@ -33,14 +33,12 @@ pub enum Command {
 }
 
 impl Command {
-    /// Returns the approximate length of the command's bytes.
     pub(crate) fn approximate_size(&self) -> usize
         ensures { result ≡ command_size self.now }
     {
         match self {
             Command::Clean => 1,
-            Command::Compact { .. } => 1 + 8,
-            Command::Truncate { .. } => 1 + 8,
+            Command::Compact { .. } | Command::Truncate { .. } => 1 + 8,
         }
     }
 
@@ -57,7 +55,6 @@ impl Command {
         Ok(self.write(buf)?)
     }
 
-    /// Does the same as `encode`; only memory can fail.
     pub(crate) fn write(&self, buf: &mut Vec<u8>) -> AllocResult<()>
         ensures ok { OnOk result (buf.new.items ≡ buf.old.items ++ command_bytes self.now) }
         ensures err { OnErr result (buf.new.items ≡ buf.old.items) }
@@ -86,7 +83,7 @@ impl Command {
         Ok(command)
     }
 
-    /// Returns the command in front of `bytes` and what follows it.
+    #[tactic(auto, using(crate::proofs::ItemLemmas::compact_read, crate::proofs::ItemLemmas::truncate_read))]
     pub(crate) fn parse(alloc: Global, bytes: &[u8]) -> Result<(Command, &[u8])>
         ensures ok { IfOk result (λ read. Reads IsCommand bytes.now read.1.now read.0) }
         ensures refused { OnErr result (HasNoFront IsCommand bytes.now) }
@@ -111,7 +108,6 @@ impl Command {
     }
 }
 
-/// Appends a command's type byte and an index. On `Err` the vector is as it was.
 fn append_indexed(buf: &mut Vec<u8>, kind: u8, index: u64) -> AllocResult<()>
     ensures ok { OnOk result (buf.new.items ≡ buf.old.items ++ kind ∷ varint index) }
     ensures err { OnErr result (buf.new.items ≡ buf.old.items) }

@@ -31,7 +31,6 @@ pub fn entries_block_in(part: &FilePart, place: FileBlockHandle) -> Result<&[u8]
     }
 }
 
-/// Returns the bytes of the part from those at the place on, if that is in the part.
 fn bytes_from(part: &FilePart, place: FileBlockHandle) -> Option<&[u8]>
     ensures { MatchOption result (IsPlaceIn part.now place → ⊥)
         (λ bytes. IsPlaceIn part.now place

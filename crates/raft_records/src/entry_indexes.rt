@@ -2,8 +2,8 @@
 
 ghost use Rattle.std.specs.Prelude.{◌≡◌, ◌≢◌, ◌↔◌, ◌-◌, ◌^◌, ◌<◌, ◌≤◌, ◌++◌, map, length, Some, IsTrue, IfOk, IfErr, IfSome, OnOk, OnErr, OnSome, ℕ};
 ghost use Rattle.raft_codec.specs.Reading.{Reads, HasNoFront};
-ghost use Rattle.raft_records.specs.Grammar.{IsEntries, IsTail, AreTails, end_behind, tail_of};
-ghost use Rattle.raft_records.specs.Faults.{IsEntriesFault, IsTailFault, IsTailsFault, IsEntriesRefusal};
+ghost use Rattle.raft_records.specs.Grammar.{IsEntries, IsTail, end_behind, tail_of};
+ghost use Rattle.raft_records.specs.Faults.{IsEntriesFault, IsTailFault, IsEntriesRefusal};
 ghost use Rattle.raft_records.specs.Entries.{RunOn, AreWritable, entry_between};
 ghost use Rattle.raft_codec.specs.Varint.{varint};
 ghost use Rattle.raft_records.specs.ItemBatch.{raised_entry, CanRaise};
@@ -11,6 +11,7 @@ ghost use Rattle.raft_records.specs.Sizes.{entries_size, at_most_usize};
 ghost use Rattle.raft_records.specs.Spelling.{Keeps, tails_bytes, entries_bytes};
 
 use crate::number::append_number;
+use crate::read_batch::items::read_entries;
 use raft_base::{
     AllocResult, CompressionType, EntryIndex, Error, FileBlockHandle, Result, is_consecutive,
 };
@@ -18,7 +19,6 @@ use raft_codec::codec;
 use raft_codec::codec::BytesSlice;
 use std::alloc::Global;
 
-/// Tests whether each entry's bytes begin where those of the one before it end, and end below 2^32.
 fn runs_on(entries: &[EntryIndex]) -> bool
     ensures { IsTrue result ↔ RunOn entries.now }
 {
@@ -53,7 +53,6 @@ impl EntryIndexes {
         Ok(<EntryIndexes as Clone>::clone(self)?)
     }
 
-    /// Returns the approximate length of the entries' bytes, capped at `usize::MAX`.
     pub(crate) fn approximate_size(&self) -> usize
         ensures { result ≡ at_most_usize (entries_size self.now.0.items) }
     {
@@ -62,7 +61,6 @@ impl EntryIndexes {
         tails.saturating_add(8 + first)
     }
 
-    /// Gives each entry its place.
     pub(crate) fn place(&mut self, handle: FileBlockHandle, compression_type: CompressionType)
         ensures { self.new.0.items ≡
             map (λ (e : EntryIndex). record e {
@@ -76,7 +74,6 @@ impl EntryIndexes {
         }
     }
 
-    /// Raises the entries' offsets: their bytes stand `by` bytes further back.
     pub(crate) fn raise_offsets(&mut self, by: u32)
         requires { CanRaise by self.old.0.items }
         ensures { self.new.0.items ≡ map (raised_entry by) self.old.0.items }
@@ -86,7 +83,6 @@ impl EntryIndexes {
         }
     }
 
-    /// Tests whether the entries can be written: their indexes are consecutive and their bytes run on.
     pub(crate) fn is_writable(&self) -> bool
         ensures { IsTrue result ↔ AreWritable self.now.0.items }
     {
@@ -154,36 +150,14 @@ impl EntryIndexes {
             HasNoFront (IsEntries entries_size.old) buf.old.now) }
         ensures fault { IfErr result (IsEntriesFault entries_size.old buf.old.now) }
     {
-        let (entries, end, rest) = EntryIndexes::parse(alloc, *buf, *entries_size)?;
+        let mut entries: Vec<EntryIndex> = Vec::new(alloc);
+        let (_, _, end, rest) = read_entries(alloc, *buf, *entries_size, &mut entries)?;
         *entries_size = end;
         *buf = rest;
-        Ok(entries)
-    }
-
-    /// Returns the entries in front of `bytes`, the end of their bytes, and what follows them.
-    pub(crate) fn parse(
-        alloc: Global,
-        bytes: &[u8],
-        entries_size: u32,
-    ) -> Result<(EntryIndexes, u32, &[u8])>
-        ensures ok { IfOk result (λ read.
-            Reads (IsEntries entries_size) bytes.now read.2.now read.0.0.items) }
-        ensures size { IfOk result (λ read. read.1 ≡ end_behind entries_size read.0.0.items) }
-        ensures refused { IfErr result (λ e. e ≢ Error.Memory →
-            HasNoFront (IsEntries entries_size) bytes.now) }
-        ensures fault { IfErr result (IsEntriesFault entries_size bytes.now) }
-    {
-        let (count, behind) = codec::parse_var_u64(bytes)?;
-        if count == 0 {
-            return Ok((EntryIndexes(Vec::new(alloc)), entries_size, behind));
-        }
-        let (first, tails) = codec::parse_var_u64(behind)?;
-        let (entries, end, rest) = parse_tails(alloc, tails, count, first, entries_size)?;
-        Ok((EntryIndexes(entries), end, rest))
+        Ok(EntryIndexes(entries))
     }
 }
 
-/// Appends the first index and the tail offsets of entries.
 fn append_run(buf: &mut Vec<u8>, first: u64, entries: &[EntryIndex]) -> AllocResult<()>
     ensures ok { OnOk result (buf.new.items
         ≡ buf.old.items ++ (varint first ++ tails_bytes entries.now)) }
@@ -201,49 +175,6 @@ pub(crate) fn tail_offset(entry: &EntryIndex) -> u64
     ensures { result ≡ tail_of entry.now }
 {
     u64::from(entry.entry_offset) + u64::from(entry.entry_len)
-}
-
-/// Reads the tail offsets of `count` entries from the index `first` on, after `entries_size` entry bytes.
-#[inline(never)]
-fn parse_tails(
-    alloc: Global,
-    bytes: &[u8],
-    count: u64,
-    first: u64,
-    entries_size: u32,
-) -> Result<(Vec<EntryIndex>, u32, &[u8])>
-    ensures ok { IfOk result (λ read.
-        Reads (AreTails count (first, entries_size)) bytes.now read.2.now read.0.items) }
-    ensures size { IfOk result (λ read. read.1 ≡ end_behind entries_size read.0.items) }
-    ensures refused { IfErr result (λ e. e ≢ Error.Memory →
-        HasNoFront (AreTails count (first, entries_size)) bytes.now) }
-    ensures fault { IfErr result (IsTailsFault count (first, entries_size) bytes.now) }
-{
-    // Each entry takes a byte at least, so no count makes more room than bytes are there.
-    let room = count.min(bytes.len() as u64);
-    let mut entries = Vec::with_capacity(alloc, room as usize)?;
-    let mut rest = bytes;
-    let mut index = first;
-    let mut offset = entries_size;
-    // Where none of their indexes is 2^64 - 1, no index is tested by itself.
-    let bounded = count <= u64::MAX - first;
-    for _ in 0..count {
-        let (tail, behind) = match short_tail(rest, offset, bounded) {
-            Some(read) => read,
-            None => parse_tail(alloc, rest, index, offset)?,
-        };
-        entries.push_reserved(EntryIndex {
-            index,
-            entries: None,
-            compression_type: CompressionType::None,
-            entry_offset: offset,
-            entry_len: tail - offset,
-        });
-        rest = behind;
-        index += 1;
-        offset = tail;
-    }
-    Ok((entries, offset, rest))
 }
 
 /// Returns the tail offset of an entry whose bytes begin at `offset`, and what follows it, where it takes four

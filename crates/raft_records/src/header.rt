@@ -4,7 +4,7 @@ ghost use Rattle.std.specs.Prelude.{◌≡◌, ◌≢◌, ℕ, ◌+◌, ◌≤�
 ghost use Rattle.raft_codec.specs.Reading.{Reads, HasNoFront};
 ghost use Rattle.raft_codec.specs.Fixed.{IsBig};
 ghost use Rattle.raft_base.specs.declared.compression_type.CompressionType.TheVariants as compressions;
-ghost use Rattle.raft_records.specs.Header.{IsHeader, IsHeaderFault, IsEntryBlockOf, IsLentBlockFault, IsEntryBlockFault};
+ghost use Rattle.raft_records.specs.Header.{IsHeader, IsHeaderFault, IsEntryBlockOf, IsLentBlockFault};
 ghost use Rattle.raft_records.specs.LogBatch.{header_bytes, entry_block, item_offset, encoded, encoded_length, log_batch_bytes};
 ghost use Rattle.raft_records.specs.Buffer.{IsUnsealed, IsHeld, entry_bytes_in};
 ghost use Rattle.raft_records.specs.ItemBatch.{IsEncoded, item_batch_bytes, checksum_bytes};
@@ -27,6 +27,7 @@ const LENGTH_LIMIT: u64 = 1 << 56;
 
 /// Returns the header in front of `bytes`, as the offset of the item batch, the compression type and the length
 /// of the batch, and what follows it. Success takes no memory.
+#[tactic(auto, using(crate::proofs::HeaderLemmas::header_read, crate::proofs::HeaderLemmas::too_short_for_header))]
 pub(crate) fn parse_header(
     alloc: Global,
     bytes: &[u8],
@@ -55,7 +56,6 @@ pub(crate) fn parse_header(
     Ok(((offset as usize, compression_type, len as usize), rest))
 }
 
-/// Returns the number in the first eight bytes, the highest first, and what follows them.
 fn parse_u64(bytes: &[u8]) -> (u64, &[u8])
     requires { 8 ≤ length bytes.now }
     ensures read { Reads (IsBig 8) bytes.now result.1.now result.0 }
@@ -68,8 +68,6 @@ fn parse_u64(bytes: &[u8]) -> (u64, &[u8])
     }
 }
 
-/// Writes the header of an uncompressed batch of `len` bytes, whose item batch begins at `offset`,
-/// over the first sixteen bytes.
 fn write_header(buf: &mut [u8], offset: usize, len: usize)
     requires room { 16 ≤ length buf.old }
     requires fits { len < 2 ^ 56 }
@@ -80,7 +78,6 @@ fn write_header(buf: &mut [u8], offset: usize, len: usize)
     BigEndian::write_u64(&mut buf[8..], offset as u64);
 }
 
-/// Makes the buffer hold sixteen bytes at least. What follows them stays, also on `Err`.
 pub(crate) fn reserve_header(buf: &mut Vec<u8>) -> AllocResult<()>
     ensures ok { OnOk result (16 ≤ length buf.new.items) }
     ensures same { drop 16 buf.new.items ≡ drop 16 buf.old.items }
@@ -92,7 +89,6 @@ pub(crate) fn reserve_header(buf: &mut Vec<u8>) -> AllocResult<()>
     Ok(())
 }
 
-/// Appends the checksum of the entry bytes after the header, if there are any.
 fn close_entry_block(buf: &mut Vec<u8>) -> AllocResult<()>
     requires { 16 ≤ length buf.old.items }
     ensures ok { OnOk result
@@ -107,7 +103,6 @@ fn close_entry_block(buf: &mut Vec<u8>) -> AllocResult<()>
     buf.extend_from_slice(&seal)
 }
 
-/// Returns where the item batch begins after that many entry bytes.
 pub(crate) fn offset_behind(entries_size: u32) -> usize
     ensures { (entry_bytes : List ℕ) → length entry_bytes ≡ entries_size →
         result ≡ item_offset entry_bytes }
@@ -116,28 +111,6 @@ pub(crate) fn offset_behind(entries_size: u32) -> usize
         LOG_BATCH_HEADER_LEN
     } else {
         LOG_BATCH_HEADER_LEN + entries_size as usize + LOG_BATCH_CHECKSUM_LEN
-    }
-}
-
-/// Returns the entry bytes in the entry block of `len` bytes in front of `bytes`; one of length 0 holds none.
-pub(crate) fn parse_entry_block(
-    alloc: Global,
-    bytes: &[u8],
-    len: usize,
-    compression_type: CompressionType,
-) -> Result<Vec<u8>>
-    ensures ok { IfOk result (λ entries. IsEntryBlockOf len bytes.now entries.items) }
-    ensures some { OnErr result (0 < len) }
-    ensures refused { IfErr result (λ e. e ≢ Error.Memory →
-        (entries : List ℕ) → IsEntryBlockOf len bytes.now entries → ⊥) }
-    ensures fault { IfErr result (IsEntryBlockFault len bytes.now) }
-{
-    let content = lent_entry_block(alloc, bytes, len)?;
-    if content.is_empty() {
-        return Ok(Vec::new(alloc));
-    }
-    match compression_type {
-        CompressionType::None => Ok(Vec::from_slice(alloc, content)?),
     }
 }
 
@@ -184,7 +157,6 @@ pub(crate) fn encode_behind(buf: &mut Vec<u8>, item_batch: &mut LogItemBatch) ->
     Ok(())
 }
 
-/// Signs the bytes of a batch for a file.
 pub(crate) fn seal(item_batch: &LogItemBatch, buf: &mut Vec<u8>, context: &LogFileContext)
     requires { IsHeld encoded item_batch.now (entry_bytes_in item_batch.now buf.old.items)
         buf.old.items }
@@ -199,7 +171,6 @@ pub(crate) fn seal(item_batch: &LogItemBatch, buf: &mut Vec<u8>, context: &LogFi
     seal_behind(item_batch, buf.as_mut_slice(), offset, context);
 }
 
-/// Signs an item batch whose bytes stand from `offset` on.
 fn seal_behind(item_batch: &LogItemBatch, buf: &mut [u8], offset: usize, context: &LogFileContext)
     requires within { offset ≤ length buf.old }
     requires encoded { IsEncoded item_batch.now (drop offset buf.old) }

@@ -91,7 +91,6 @@ impl KeyValue {
         Ok(<KeyValue as Clone>::clone(self)?)
     }
 
-    /// Returns the approximate length of the change's bytes, capped at `usize::MAX`.
     pub(crate) fn approximate_size(&self) -> usize
         ensures { result ≡ at_most_usize (pair_size (pair_of self.now)) }
     {
@@ -116,7 +115,6 @@ impl KeyValue {
         }
     }
 
-    /// Tests whether the change can be written: a `Put` has a value.
     pub(crate) fn is_writable(&self) -> bool
         ensures { IsTrue result ↔ IsWritablePair (pair_of self.now) }
     {
@@ -148,7 +146,6 @@ impl KeyValue {
         Ok(())
     }
 
-    /// Appends the change's bytes. On `Err` some bytes may follow those of the vector.
     pub(crate) fn write(&self, buf: &mut Vec<u8>) -> AllocResult<()>
         ensures ok { OnOk result (buf.new.items ≡ buf.old.items ++ pair_bytes (pair_of self.now)) }
         ensures err { OnErr result (Keeps buf.old.items buf.new.items) }
@@ -205,6 +202,7 @@ impl KeyValue {
 }
 
 /// Returns the key of the change in front of `bytes`, its value if it is a put, and what follows it.
+#[tactic(auto, using(crate::proofs::ItemLemmas::put_read, crate::proofs::ItemLemmas::del_read))]
 pub(crate) fn parse_pair(alloc: Global, bytes: &[u8]) -> Result<(&[u8], Option<&[u8]>, &[u8])>
     ensures ok { IfOk result (λ read. Reads IsKeyValue bytes.now read.2.now
         (change_of read.0.now (option_map (λ v. v.now) read.1) None)) }
@@ -227,7 +225,6 @@ pub(crate) fn parse_pair(alloc: Global, bytes: &[u8]) -> Result<(&[u8], Option<&
     }
 }
 
-/// Appends the length of `text` and then `text`. On `Err` some bytes may follow those of the vector.
 fn append_byte_string(buf: &mut Vec<u8>, text: &[u8]) -> AllocResult<()>
     ensures ok { OnOk result (buf.new.items ≡ buf.old.items ++ byte_string text.now) }
     ensures err { OnErr result (Keeps buf.old.items buf.new.items) }
@@ -236,7 +233,6 @@ fn append_byte_string(buf: &mut Vec<u8>, text: &[u8]) -> AllocResult<()>
     buf.extend_from_slice(text)
 }
 
-/// Reads a length and that many bytes after it in front of `bytes`, and returns these and what follows them.
 fn parse_byte_string(alloc: Global, bytes: &[u8]) -> Result<(&[u8], &[u8])>
     ensures ok { IfOk result (λ read. Reads IsByteString bytes.now read.1.now read.0.now) }
     ensures refused { OnErr result (HasNoFront IsByteString bytes.now) }

@@ -25,6 +25,7 @@ ghost use Rattle.raft_records.specs.Written.{ItemIsSpelled, ItemBatchIsSpelled};
 /// States that what is written of an item is a spelling of it, and that no spelling of an item begins another;
 /// so it is read again, whatever follows it. What is written and signed of a batch is an item batch of its
 /// items. Bytes are an item batch of one list of items, with one rest.
+#[tactic(auto, using(crate::proofs::WrittenLemmas::item_spelled, crate::proofs::WrittenLemmas::batch_spelled))]
 pub fn items_are_read_again()
     ensures item { ItemIsSpelled }
     ensures one_front { (s : ℕ) → HasOneFront (IsItem s) }
@@ -38,6 +39,7 @@ pub fn items_are_read_again()
 /// States that what is written of an item's content is a spelling of it, and that no spelling begins another;
 /// so it is read again by itself: commands, key values without what bytes don't hold, and entries after any
 /// entry bytes.
+#[tactic(auto, using(crate::proofs::WrittenLemmas::command_spelled, crate::proofs::WrittenLemmas::entries_spelled))]
 pub fn contents_are_read_again()
     ensures command { (c : Command) → IsContentInRange (command c) → IsCommand (command_bytes c) c }
     ensures one_command { HasOneFront IsCommand }
@@ -65,6 +67,7 @@ pub fn batches_belong_to_one_file()
 /// read in one way only. So they are a log batch of one list of items and of one string of entry bytes. Bytes are
 /// a readable batch exactly where a header is read of them, and an item batch from the offset that it gives to
 /// their end.
+#[tactic(auto, using(crate::proofs::FrameLemmas::log_batch_spelled, crate::proofs::FrameLemmas::one_entry_block))]
 pub fn log_batches_are_read_again()
     ensures written { LogBatchIsSpelled }
     ensures sections { (bytes : List ℕ) (signature : Option ℕ) (items : List Item)
@@ -100,6 +103,7 @@ pub fn log_batches_belong_to_one_file()
 /// offset of the place that they were written to, are never refused there: `next_batch` returns exactly the items
 /// that `finish_write` leaves, and where the bytes end. So the batch stands there. What else is asked holds of every
 /// batch whose bytes are made, as its `is_read_again` states.
+#[tactic(auto, using(crate::proofs::PartLemmas::written_stands, crate::proofs::PartLemmas::written_next, crate::proofs::PartLemmas::written_accepted))]
 pub fn written_batches_are_next()
     ensures stands { WrittenBatchStands }
     ensures next { (part : Part) (at : ℕ) (handle : FileBlockHandle) (items : List Item)
@@ -125,6 +129,7 @@ pub fn written_batches_are_next()
 
 /// States that what is read of a written batch is what the batch holds once the write has given its items their
 /// places.
+#[tactic(auto, using(crate::proofs::ReadPlaceLemmas::items_read))]
 pub fn placed_items_are_read()
     ensures { (handle : FileBlockHandle) (compression : CompressionType) (items : List Item) →
         AreInBytes items →

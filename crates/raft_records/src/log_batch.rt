@@ -16,7 +16,7 @@ ghost use Rattle.raft_records.specs.ItemBatch.{placed_item};
 
 use crate::checksum::LOG_BATCH_CHECKSUM_LEN;
 use crate::header::{
-    LOG_BATCH_HEADER_LEN, encode_behind, offset_behind, parse_entry_block, parse_header,
+    LOG_BATCH_HEADER_LEN, encode_behind, lent_entry_block, offset_behind, parse_header,
     reserve_header, seal,
 };
 use crate::laws::log_batches_are_read_again;
@@ -54,7 +54,6 @@ impl BufState {
     ghost use Rattle.raft_records.specs.LogBatch.{stage_number};
     ghost use Rattle.raft_records.specs.LogBatchModel.{stage_of};
 
-    /// Tests whether both are states of the same stage.
     fn is_same_stage(self, other: BufState) -> bool
         ensures { IsTrue result ↔ (stage_number (stage_of self) ≡ stage_number (stage_of other)) }
     {
@@ -259,6 +258,7 @@ impl LogBatch {
     /// bytes, which are 2^31 - 1 at most. Its items' numbers are in the ranges of their types. Bytes hold all
     /// of its items but places and files. Its bytes are fewer than 2^56 once they are made, and, where it has
     /// items, they are a log batch of these items and entry bytes. This is a law: it computes nothing.
+    #[tactic(auto, using(crate::proofs::StageLemmas::encoded_short))]
     pub fn is_read_again(&self)
         ensures tiled { IsBatchOf self.now.items self.now.entry_bytes }
         ensures in_range { AreInRange self.now.items }
@@ -312,11 +312,15 @@ impl LogBatch {
             (entries : List ℕ) → IsEntryBlockOf place.len buf.now entries → ⊥) }
         ensures fault { IfErr result (IsEntryBlockFault place.len buf.now) }
     {
-        parse_entry_block(alloc, buf, place.len, compression_type)
+        let content = lent_entry_block(alloc, buf, place.len)?;
+        if content.is_empty() {
+            return Ok(Vec::new(alloc));
+        }
+        match compression_type {
+            CompressionType::None => Ok(Vec::from_slice(alloc, content)?),
+        }
     }
-}
 
-impl LogBatch {
     /// Adds the removal of a region's key to an open batch.
     ///
     /// # Errors
@@ -367,8 +371,6 @@ impl LogBatch {
         self.item_batch.put_message(region, key, message)
     }
 
-    /// Adds a value of a region's key to an open batch, whatever the key. On `Err` the batch is as it
-    /// was.
     pub(crate) fn put_unchecked(&mut self, region: u64, key: Vec<u8>, value: Vec<u8>) -> Result<()>
         requires { self.old.stage ≡ is_open }
         ensures ok { OnOk result (self.new
@@ -378,22 +380,7 @@ impl LogBatch {
     {
         self.item_batch.put(region, key, value)
     }
-}
 
-/// Refuses the key of the group markers.
-fn refuse_reserved(key: &Vec<u8>) -> Result<()>
-    ensures accepted { OnOk result (key.now.items ≢ reserved_key) }
-    ensures fault { IfErr result (IsKeyRefusal key.now.items) }
-{
-    if is_reserved(key.as_slice()) {
-        return Err(Error::InvalidArgument(format!(in *key.allocator();
-            "the key {key:?} is kept for group markers"
-        )?));
-    }
-    Ok(())
-}
-
-impl LogBatch {
     /// Gives the items of a sealed batch their places. Every entry gets the place of the entry bytes with their
     /// checksum, which begins 16 bytes after the batch's, and has length 0 where there are no entry bytes.
     /// Every key value gets its file. It asks that the place of the batch begins at 2^64 - 17 at
@@ -416,6 +403,18 @@ impl LogBatch {
         };
         self.item_batch.place(entry_place, CompressionType::None);
     }
+}
+
+fn refuse_reserved(key: &Vec<u8>) -> Result<()>
+    ensures accepted { OnOk result (key.now.items ≢ reserved_key) }
+    ensures fault { IfErr result (IsKeyRefusal key.now.items) }
+{
+    if is_reserved(key.as_slice()) {
+        return Err(Error::InvalidArgument(format!(in *key.allocator();
+            "the key {key:?} is kept for group markers"
+        )?));
+    }
+    Ok(())
 }
 
 /// A batch is ready once it is no longer open. Its bytes are signed for the file that they are asked
@@ -497,7 +496,6 @@ impl LogBatch {
         Ok(<LogBatch as Clone>::clone(self)?)
     }
 
-    /// Returns the bytes of the entries.
     fn entry_bytes(&self) -> &[u8]
         ensures { result.now ≡ self.now.entry_bytes }
     {

@@ -3,22 +3,22 @@
 ghost use Rattle.std.specs.Prelude.{◌≡◌, ◌≢◌, ◌↔◌, ◌++◌, IsTrue, IfOk, IfErr, OnOk, OnErr};
 ghost use Rattle.std.specs.Option.{option_map};
 ghost use Rattle.raft_codec.specs.Reading.{Reads, HasNoFront};
-ghost use Rattle.raft_records.specs.Grammar.{IsItem, IsContent, end_of_content};
+ghost use Rattle.raft_records.specs.Grammar.{IsItem, end_of_content};
 ghost use Rattle.raft_records.specs.Item.{item_of, content_of, entries_item, command_item, pair_item};
-ghost use Rattle.raft_records.specs.Faults.{IsItemFault, IsContentFault, IsItemRefusal};
+ghost use Rattle.raft_records.specs.Faults.{IsItemFault, IsItemRefusal};
 ghost use Rattle.raft_records.specs.ItemBatch.{placed_item, raised_item, CanRaiseContent};
 ghost use Rattle.raft_records.specs.Range.{IsInRange};
+ghost use Rattle.raft_records.specs.ReadWords.{IsChange, content_made};
 ghost use Rattle.raft_records.specs.Sizes.{item_size, at_most_usize};
 ghost use Rattle.raft_records.specs.Spelling.{Keeps, item_bytes, content_bytes, IsWritable};
 
 use crate::number::append_number;
-use crate::{Command, EntryIndexes, KeyValue, OpType};
+use crate::read_batch::items::read_content;
+use crate::{Command, EntryIndexes, KeyValue, OpType, ReadContent};
 use raft_base::{AllocResult, CompressionType, EntryIndex, Error, FileBlockHandle, Result};
 use raft_codec::codec;
 use raft_codec::codec::BytesSlice;
 use std::alloc::Global;
-use std::io;
-use std::io::ErrorKind;
 
 pub(crate) const TYPE_ENTRIES: u8 = 1;
 
@@ -94,7 +94,6 @@ impl LogItem {
         Ok(<LogItem as Clone>::clone(self)?)
     }
 
-    /// Returns the approximate length of the item's bytes, capped at `usize::MAX`.
     pub(crate) fn approximate_size(&self) -> usize
         ensures { result ≡ at_most_usize (item_size (item_of self.now)) }
     {
@@ -106,7 +105,6 @@ impl LogItem {
         content.saturating_add(8 + 1)
     }
 
-    /// Gives the item's entries their place, its key value its file.
     pub(crate) fn place(&mut self, handle: FileBlockHandle, compression_type: CompressionType)
         ensures { item_of self.new ≡ placed_item handle compression_type (item_of self.old) }
     {
@@ -117,7 +115,6 @@ impl LogItem {
         }
     }
 
-    /// Raises the offsets of the item's entries: their bytes stand `by` bytes further back.
     pub(crate) fn raise_offsets(&mut self, by: u32)
         requires { CanRaiseContent by (content_of self.old.content) }
         ensures { item_of self.new ≡ raised_item by (item_of self.old) }
@@ -145,8 +142,6 @@ impl LogItem {
         }
     }
 
-    /// Tests whether the item can be written: its entries are consecutive and their bytes run on, its `Put` has
-    /// a value.
     fn is_writable(&self) -> bool
         ensures { IsTrue result ↔ IsWritable (item_of self.now) }
     {
@@ -183,7 +178,6 @@ impl LogItem {
         Ok(())
     }
 
-    /// Appends the item's bytes. On `Err` some bytes may follow those of the vector.
     pub(crate) fn write(&self, buf: &mut Vec<u8>) -> AllocResult<()>
         ensures ok { OnOk result (buf.new.items ≡ buf.old.items ++ item_bytes (item_of self.now)) }
         ensures err { OnErr result (Keeps buf.old.items buf.new.items) }
@@ -216,7 +210,9 @@ impl LogItem {
         ensures fault { IfErr result (IsItemFault entries_size.old buf.old.now) }
     {
         let (raft_group_id, behind) = codec::parse_var_u64(*buf)?;
-        let (content, end, rest) = LogItemContent::parse(alloc, behind, *entries_size)?;
+        let mut entries: Vec<EntryIndex> = Vec::new(alloc);
+        let (read, end, rest) = read_content(alloc, behind, *entries_size, &mut entries)?;
+        let content = made_content(alloc, read, entries)?;
         *entries_size = end;
         *buf = rest;
         Ok(LogItem {
@@ -240,7 +236,6 @@ impl LogItemContent {
         Ok(<LogItemContent as Clone>::clone(self)?)
     }
 
-    /// Appends the type byte and the content's bytes. On `Err` some bytes may follow those of the vector.
     fn write(&self, buf: &mut Vec<u8>) -> AllocResult<()>
         ensures ok { OnOk result (buf.new.items
             ≡ buf.old.items ++ content_bytes (content_of self.now)) }
@@ -261,36 +256,28 @@ impl LogItemContent {
             }
         }
     }
+}
 
-    /// Returns the content in front of `bytes`, the end of its entries' bytes, and what follows it.
-    fn parse(alloc: Global, bytes: &[u8], entries_size: u32) -> Result<(LogItemContent, u32, &[u8])>
-        ensures ok { IfOk result (λ read.
-            Reads (IsContent entries_size) bytes.now read.2.now (content_of read.0)) }
-        ensures size { IfOk result (λ read.
-            read.1 ≡ end_of_content entries_size (content_of read.0)) }
-        ensures refused { IfErr result (λ e. e ≢ Error.Memory →
-            HasNoFront (IsContent entries_size) bytes.now) }
-        ensures fault { IfErr result (IsContentFault entries_size bytes.now) }
-    {
-        let Some((kind, behind)) = bytes.split_first() else {
-            return Err(Error::Io(io::Error::new(ErrorKind::UnexpectedEof, "eof")));
-        };
-        let kind = *kind;
-        match kind {
-            TYPE_ENTRIES => {
-                let (entries, end, rest) = EntryIndexes::parse(alloc, behind, entries_size)?;
-                Ok((LogItemContent::EntryIndexes(entries), end, rest))
-            }
-            TYPE_COMMAND => {
-                let (command, rest) = Command::parse(alloc, behind)?;
-                Ok((LogItemContent::Command(command), entries_size, rest))
-            }
-            TYPE_KV => {
-                let mut rest = behind;
-                let kv = KeyValue::decode(alloc, &mut rest)?;
-                Ok((LogItemContent::Kv(kv), entries_size, rest))
-            }
-            _ => Err(Error::Corruption(format!(in alloc; "Unrecognized log item type: {kind}")?)),
+/// Returns a content that says the same. A run has these entries.
+fn made_content(
+    alloc: Global,
+    content: ReadContent<'_>,
+    entries: Vec<EntryIndex>,
+) -> Result<LogItemContent>
+    ensures ok { IfOk result (λ own. content_of own ≡ content_made content.entry entries.items) }
+    ensures change { OnErr result (IsChange content.entry) }
+    ensures memory { IfErr result (λ e. e ≡ Error.Memory) }
+{
+    match content {
+        ReadContent::Run { .. } => Ok(LogItemContent::EntryIndexes(EntryIndexes(entries))),
+        ReadContent::Command(command) => Ok(LogItemContent::Command(command)),
+        ReadContent::Put { key, value } => {
+            let kv = KeyValue::copied(alloc, key, Some(value), None)?;
+            Ok(LogItemContent::Kv(kv))
+        }
+        ReadContent::Delete { key } => {
+            let kv = KeyValue::copied(alloc, key, None, None)?;
+            Ok(LogItemContent::Kv(kv))
         }
     }
 }

@@ -189,8 +189,6 @@ impl LogItemBatch {
         Ok(self.add(LogItem::new_entry_indexes(region, entry_indexes), end)?)
     }
 
-    /// Adds entries of a region that have their offsets, behind the bytes of the batch, up to `end`. On `Err` the
-    /// batch is as it was.
     pub(crate) fn add_laid_entries(
         &mut self,
         region: u64,
@@ -321,7 +319,6 @@ impl LogItemBatch {
         items.into_iter()
     }
 
-    /// Gives every entry its place and every key value its file. It takes no memory.
     pub(crate) fn place(&mut self, handle: FileBlockHandle, compression_type: CompressionType)
         ensures { self.new ≡ map (placed_item handle compression_type) self.old }
     {
@@ -403,7 +400,6 @@ impl LogItemBatch {
         Ok(batch)
     }
 
-    /// Returns the same items, with the file of their places beside them.
     #[inline(always)]
     pub(crate) fn with_file(mut self, file: FileId) -> LogItemBatch
         requires { AreDecodedIn file self }
@@ -486,7 +482,6 @@ impl LogItemBatch {
     }
 }
 
-/// Appends the count, the items and four zero bytes. On `Err` some bytes may follow those of the vector.
 fn write_items(buf: &mut Vec<u8>, items: &[LogItem]) -> AllocResult<()>
     ensures ok { OnOk result
         (buf.new.items

@@ -22,7 +22,6 @@ pub(crate) fn append_number(buf: &mut Vec<u8>, number: u64) -> AllocResult<()>
     codec::append_var_u64(buf, number)
 }
 
-/// Returns the shortest spelling of a number of two septets.
 #[inline(always)]
 fn in_two_bytes(number: u64) -> [u8; 2]
     requires least { 128 ≤ number }

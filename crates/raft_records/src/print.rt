@@ -53,6 +53,7 @@ pub fn print_batch<R: Read, W: Write>(
 ///
 /// `Io` where the writer fails: a front of the bytes, and not all of them, was written then.
 #[doc(hidden)]
+#[tactic(auto, using(crate::proofs::WriteLemmas::written_on))]
 pub fn write_whole<W: Write>(writer: &mut W, bytes: &[u8]) -> Result<()>
     ensures ok { OnOk result (Appends (W.contents writer.old) (W.contents writer.new) bytes.now) }
     ensures err { OnErr result (AppendsFront (W.contents writer.old) (W.contents writer.new)
@@ -91,7 +92,6 @@ fn write_some<W: Write>(writer: &mut W, bytes: &[u8]) -> Result<usize>
     }
 }
 
-/// Returns the error of a writer that took nothing.
 fn unwritten() -> Error
     ensures { IsIoError result }
 {
@@ -126,7 +126,6 @@ pub fn batch_text(alloc: Global, bytes: &[u8], context: &LogFileContext) -> Resu
     Ok(text)
 }
 
-/// Appends a line for each item.
 fn append_lines(alloc: Global, items: &[LogItem], text: &mut String) -> AllocResult<()>
     ensures { OnOk result (string_bytes text.new
         ≡ string_bytes text.old ++ flat_map line_of (map item_of items.now)) }
@@ -137,7 +136,6 @@ fn append_lines(alloc: Global, items: &[LogItem], text: &mut String) -> AllocRes
     Ok(())
 }
 
-/// Appends the line of an item.
 fn append_line(alloc: Global, item: &LogItem, text: &mut String) -> AllocResult<()>
     ensures { OnOk result
         (string_bytes text.new ≡ string_bytes text.old ++ line_of (item_of item.now)) }
@@ -147,7 +145,6 @@ fn append_line(alloc: Global, item: &LogItem, text: &mut String) -> AllocResult<
     text.push('\n')
 }
 
-/// Appends what an item changes.
 fn append_content(alloc: Global, content: &LogItemContent, text: &mut String) -> AllocResult<()>
     ensures { OnOk result
         (string_bytes text.new ≡ string_bytes text.old ++ content_text (content_of content.now)) }
@@ -161,7 +158,6 @@ fn append_content(alloc: Global, content: &LogItemContent, text: &mut String) ->
     }
 }
 
-/// Appends how many entries there are, the first one's index and the last one's tail offset.
 fn append_entries(entries: &[EntryIndex], text: &mut String) -> AllocResult<()>
     ensures { OnOk result (string_bytes text.new
         ≡ string_bytes text.old ++ entries_text entries.now) }
@@ -175,7 +171,6 @@ fn append_entries(entries: &[EntryIndex], text: &mut String) -> AllocResult<()>
     write!(text, "entries {count} first {index} tail {tail}")
 }
 
-/// Appends the change of a key.
 fn append_key_value(alloc: Global, kv: &KeyValue, text: &mut String) -> AllocResult<()>
     ensures { OnOk result (string_bytes text.new
         ≡ string_bytes text.old
@@ -198,7 +193,6 @@ fn append_key_value(alloc: Global, kv: &KeyValue, text: &mut String) -> AllocRes
     }
 }
 
-/// Appends bytes in base 16, `-` where there are none.
 fn append_bytes(alloc: Global, bytes: &[u8], text: &mut String) -> AllocResult<()>
     ensures { OnOk result (string_bytes text.new ≡ string_bytes text.old ++ bytes_text bytes.now) }
 {
@@ -209,7 +203,6 @@ fn append_bytes(alloc: Global, bytes: &[u8], text: &mut String) -> AllocResult<(
     text.push_str(digits.as_str())
 }
 
-/// Appends the last line: how many items there are, and how many bytes are left after them.
 fn append_counts(items: usize, rest: usize, text: &mut String) -> AllocResult<()>
     ensures { OnOk result (string_bytes text.new
         ≡ string_bytes text.old ++ last_line items rest) }

@@ -16,7 +16,8 @@ ghost use Rattle.raft_records.specs.ItemBatch.{IsDecoded, IsItemBatch, IsItemBat
 ghost use Rattle.raft_records.specs.LogBatch.{IsReadable};
 ghost use Rattle.raft_records.specs.ReadBatch.{items_shown, spans_of};
 
-mod items;
+pub(crate) mod items;
+mod kept;
 mod own_items;
 mod short_items;
 

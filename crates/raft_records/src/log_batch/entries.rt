@@ -230,7 +230,6 @@ fn write_messages<M: MessageExt>(
     Ok(item_batch.add_laid_entries(region, entry_indexes, end)?)
 }
 
-/// Tests whether the indexes of messages rise by one from message to message and none is 2^64 - 1.
 fn have_consecutive_indexes<M: MessageExt>(entries: &[M::Entry]) -> bool
     ensures { IsTrue result ↔ IsConsecutive (map (λ e. entry_with_index (M.index_of e)) entries.now) }
 {
@@ -316,7 +315,6 @@ fn move_entry_bytes(buf: &mut Vec<u8>, others: &mut Vec<u8>)
     others.shrink_to(MAX_LOG_BATCH_BUFFER_CAP);
 }
 
-/// Appends the entry bytes of `others`, for which there is room.
 fn append_entry_bytes(buf: &mut Vec<u8>, others: &[u8])
     requires { length buf.old.items + (length others.now - 16) ≤ vec_capacity buf.old }
     ensures { buf.new.items ≡ buf.old.items ++ drop 16 others.now }

@@ -7,7 +7,6 @@ ghost use Rattle.raft_records.specs.ItemBatch.{placed_item, raised_item, with_of
 use crate::LogItem;
 use raft_base::{CompressionType, EntryIndex, FileBlockHandle};
 
-/// Gives each item its place.
 pub(super) fn place_items(
     items: &mut Vec<LogItem>,
     handle: FileBlockHandle,
@@ -36,7 +35,6 @@ pub(super) fn set_offsets(entries: &mut Vec<EntryIndex>, start: u32) -> u32
     offset
 }
 
-/// Raises the offsets of all entries: their bytes stand `by` bytes further back.
 pub(super) fn raise_item_offsets(items: &mut Vec<LogItem>, by: u32)
     requires fit { FitTogether 0 (map item_of items.old.items) }
     requires room { by + entry_bytes_of (map item_of items.old.items) < 2 ^ 32 }

@@ -48,7 +48,6 @@ impl ReadItem<'_> {
     }
 }
 
-/// Returns a content that says the same. A run has these spans.
 fn own_content(
     alloc: Global,
     place: FileBlockHandle,
@@ -76,7 +75,6 @@ fn own_content(
     }
 }
 
-/// Returns the entries of a place from an index on, one for each of these spans.
 fn entries_at(
     alloc: Global,
     first: u64,

@@ -5,7 +5,7 @@ ghost use Rattle.std.specs.Vec.{vec_len, vec_capacity};
 ghost use Rattle.raft_codec.specs.Reading.{Reads};
 ghost use Rattle.raft_records.specs.Grammar.{IsByteString, IsKeyValue};
 ghost use Rattle.raft_records.specs.Item.{Pair, pair};
-ghost use Rattle.raft_records.specs.ReadWords.{AreSpansRead, IsContentRead, IsHeldAs, IsItemRead, reached};
+ghost use Rattle.raft_records.specs.ReadWords.{AreTailsRead, IsContentRead, IsHeldAs, IsItemRead, reached, span_of};
 
 use crate::entry_indexes::short_tail;
 use crate::log_item::{TYPE_ENTRIES, TYPE_KV};
@@ -45,7 +45,7 @@ fn read_short_content<'a>(
     start: u32,
     spans: &mut Vec<(u32, u32)>,
 ) -> Option<(ReadContent<'a>, u32, &'a [u8])>
-    ensures some { IfSome result (λ read. IsContentRead read.0
+    ensures some { IfSome result (λ read. IsContentRead span_of read.0
         (reached bytes.now start spans.old.items) (reached read.2.now read.1 spans.new.items)) }
     ensures none { IfNone result (spans.new.items ≡ spans.old.items) }
 {
@@ -73,7 +73,7 @@ fn read_short_run<'a>(
     start: u32,
     spans: &mut Vec<(u32, u32)>,
 ) -> Option<(ReadContent<'a>, u32, &'a [u8])>
-    ensures some { IfSome result (λ read. IsContentRead read.0
+    ensures some { IfSome result (λ read. IsContentRead span_of read.0
         (reached (1 ∷ count ∷ bytes.now) start spans.old.items)
         (reached read.2.now read.1 spans.new.items)) }
     ensures none { IfNone result (spans.new.items ≡ spans.old.items) }
@@ -109,7 +109,7 @@ fn read_short_spans<'a>(
 ) -> Option<(u32, &'a [u8])>
     requires { vec_len spans.old + count ≤ vec_capacity spans.old }
     ensures some { IfSome result (λ read. (first : ℕ) → first + count < 2 ^ 64 →
-        AreSpansRead count first
+        AreTailsRead span_of count first
         (reached bytes.now start spans.old.items) (reached read.1.now read.0 spans.new.items)) }
     ensures none { IfNone result (spans.new.items ≡ spans.old.items) }
 {

@@ -1,6 +1,4 @@
-use Rattle.std.proofs.Common.{◌≡◌, ◌++◌, take}
-use Rattle.raft_codec.specs.Varint.{varint}
-use Rattle.raft_records.specs.Spelling.{tails_bytes}
+use Rattle.raft_records.proofs.Common.{◌≡◌, ◌++◌, take, varint, tails_bytes}
 use Rattle.raft_records.proofs.entry_indexes.append_run.Given as goal
 
 -- the first index and the tail offsets so far stand behind the old bytes

@@ -1,6 +1,4 @@
-use Rattle.raft_records.specs.Entries.{entry_between}
-use Rattle.std.proofs.Common.{refl, ◌≤◌, ◌<◌, ◌⊎◌, ◌^◌, arith, inl, inr}
-use Rattle.std.proofs.lemmas.Result.{err_from_is_err_and}
+use Rattle.raft_records.proofs.Common.{entry_between, refl, ◌≤◌, ◌<◌, ◌⊎◌, ◌^◌, arith, inl, inr, err_from_is_err_and}
 use Rattle.raft_records.proofs.EntryLemmas.{no_tail, tail_read}
 use Rattle.raft_records.proofs.entry_indexes.parse_tail.Goals as goal
 use Rattle.raft_records.proofs.entry_indexes.parse_tail.Goals.{then-tail-from-via-then-tail-from, then-tail-from-via-else-tail-from+then-tail-from-2}

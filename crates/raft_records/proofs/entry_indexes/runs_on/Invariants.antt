@@ -1,5 +1,4 @@
-use Rattle.std.proofs.Common.{◌↔◌, drop}
-use Rattle.raft_records.specs.Entries.{Tile, RunOn}
+use Rattle.raft_records.proofs.Common.{◌↔◌, drop, Tile, RunOn}
 use Rattle.raft_records.proofs.entry_indexes.runs_on.Given as goal
 
 -- what is left to see decides

@@ -1,6 +1,4 @@
-use Rattle.raft_records.specs.Entries.{entry_between}
-use Rattle.std.proofs.Common.{refl, arith}
-use Rattle.raft_codec.proofs.VarintLemmas.{short_below, short_is_read}
+use Rattle.raft_records.proofs.Common.{entry_between, refl, arith, short_below, short_is_read}
 use Rattle.raft_records.proofs.EntryLemmas.{tail_read}
 use Rattle.raft_records.proofs.entry_indexes.short_tail.Goals as goal
 

@@ -1,10 +1,5 @@
-use Rattle.std.proofs.Common.{ℕ, List, drop, ap, ◌∙◌, subst}
-use Rattle.std.proofs.lemmas.Result.{IfErr-weaker}
-use Rattle.raft_codec.specs.Reading.{HasNoFront}
-use Rattle.raft_base.specs.Signature.{signature_of}
-use Rattle.raft_records.specs.FilePart.{Part}
+use Rattle.raft_records.proofs.Common.{ℕ, List, drop, ap, ◌∙◌, subst, IfErr-weaker, HasNoFront, signature_of, Part, IsReadable}
 use Rattle.raft_records.proofs.Names.{part_signature}
-use Rattle.raft_records.specs.LogBatch.{IsReadable}
 use Rattle.raft_records.proofs.file_part.next_batch.Goals as goal
 
 pub returns-clause-refused : goal.returns-clause-refused

@@ -1,6 +1,4 @@
-use Rattle.std.proofs.Common.{sym, subst, arith}
-use Rattle.std.proofs.lemmas.Result.{err_from_is_err_and}
-use Rattle.raft_records.specs.FilePart.{part_of, IsBatchAt}
+use Rattle.raft_records.proofs.Common.{sym, subst, arith, err_from_is_err_and, part_of, IsBatchAt}
 use Rattle.raft_records.proofs.PartLemmas.{batch_inside, no_room_for_batch}
 use Rattle.raft_records.proofs.file_part.next_in.Goals as goal
 

@@ -1,5 +1,4 @@
-use Rattle.std.proofs.Common.{◌≡◌, ◌∙◌, ◌<◌, ◌^◌, sym, ap, subst, length, arith}
-use Rattle.std.proofs.lemmas.Result.{err_from_is_err_and}
+use Rattle.raft_records.proofs.Common.{◌≡◌, ◌∙◌, ◌<◌, ◌^◌, sym, ap, subst, length, arith, err_from_is_err_and}
 use Rattle.raft_records.proofs.BufferLemmas.{closed_keeps, behind_keeps, length_is}
 use Rattle.raft_records.proofs.StageLemmas.{encoded_whole}
 use Rattle.raft_records.proofs.header.encode_behind.Goals as goal

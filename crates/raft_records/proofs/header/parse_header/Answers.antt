@@ -1,17 +1,6 @@
-use Rattle.std.proofs.Common.{inl, inr}
-use Rattle.std.proofs.lemmas.Result.{err_from_is_err_and}
-use Rattle.raft_records.proofs.HeaderLemmas.{header_read, too_short_for_header, unknown_type, offset_past_end, offset_in_header, type_ok, header_numbers_fault}
+use Rattle.raft_records.proofs.Common.{inl, inr, err_from_is_err_and}
+use Rattle.raft_records.proofs.HeaderLemmas.{unknown_type, offset_past_end, offset_in_header, type_ok, header_numbers_fault}
 use Rattle.raft_records.proofs.header.parse_header.Goals as goal
-
-pub returns-in_err-format-clause-refused : goal.returns-in_err-format-clause-refused
-returns-in_err-format-clause-refused c =
-    let p = err_from_is_err_and c.from_residual.result c.from_residual.ensures.1 in
-    rw (p.1) (too_short_for_header c.args.bytes.now c.if-len-lt-LOG_BATCH_HEADER_LEN.true)
-
-pub returns-then-len-lt-LOG_BATCH_HEADER_LEN-clause-refused :
-    goal.returns-then-len-lt-LOG_BATCH_HEADER_LEN-clause-refused
-returns-then-len-lt-LOG_BATCH_HEADER_LEN-clause-refused c =
-    too_short_for_header c.args.bytes.now c.if-len-lt-LOG_BATCH_HEADER_LEN.true
 
 pub returns-in_err-compression_type-clause-refused :
     goal.returns-in_err-compression_type-clause-refused
@@ -41,9 +30,3 @@ pub returns-then-offset-clause-fault : goal.returns-then-offset-clause-fault
 returns-then-offset-clause-fault c =
     inr (header_numbers_fault _ _ _ _ _ _ c.parse_u64-len_and_type.ensures.read c.parse_u64-offset.ensures.read
     (inr (type_ok _ _ c.in_ok-compression_type.ensures.ok, inr (c.if-offset-len.false, c.if-offset.true, c.corruption-then-offset.ensures))))
-
-pub returns-clause-ok : goal.returns-clause-ok
-returns-clause-ok c =
-    header_read c.args.bytes.now c.parse_u64-len_and_type.result.1.now c.parse_u64-offset.result.1.now c.parse_u64-len_and_type.result.0
-    c.parse_u64-offset.result.0 c.in_ok-compression_type.compression_type c.parse_u64-len_and_type.ensures.read c.parse_u64-offset.ensures.read
-    c.in_ok-compression_type.ensures.ok c.if-offset-len.false c.if-offset.false

@@ -1,5 +1,4 @@
-use Rattle.std.proofs.Common.{◌∙◌, sym, arith}
-use Rattle.std.proofs.lemmas.List.{drop_all}
+use Rattle.raft_records.proofs.Common.{◌∙◌, sym, arith, drop_all}
 use Rattle.raft_records.proofs.header.reserve_header.Goals as goal
 
 pub returns-in_err-extend_from_slice-clause-same :

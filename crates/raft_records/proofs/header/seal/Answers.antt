@@ -1,9 +1,5 @@
-use Rattle.std.proofs.Common.{◌≡◌, ◌≢◌, ◌∙◌, ◌++◌, ◌≤◌, take, drop, length, ap, sym, subst, arith}
-use Rattle.std.proofs.lemmas.Grind.{common_steps}
-use Rattle.raft_base.specs.Signature.{signature_of}
-use Rattle.raft_records.specs.ItemBatch.{IsEncoded, item_batch_bytes, checksum_bytes}
-use Rattle.raft_records.specs.LogBatch.{item_offset}
-use Rattle.raft_records.specs.Buffer.{entry_bytes_in}
+use Rattle.raft_records.proofs.Common.{◌≡◌, ◌≢◌, ◌∙◌, ◌++◌, ◌≤◌, take, drop, length, ap, sym, subst, arith, common_steps, signature_of, IsEncoded, item_batch_bytes, checksum_bytes, item_offset}
+use Rattle.raft_records.proofs.Common.{entry_bytes_in}
 use Rattle.raft_records.proofs.BufferLemmas.{offset_within, encoded_at, sealed_at}
 use Rattle.raft_records.proofs.StageLemmas.{nothing_sealed, unsealed_of, written_back, sealed_len}
 use Rattle.raft_records.proofs.header.seal.Goals as goal

@@ -1,5 +1,5 @@
 use Rattle.std.proofs.lemmas.Result.{err_from_is_err_and}
-use Rattle.raft_records.proofs.ItemLemmas.{no_key, no_value, no_put, no_del, put_read, del_read}
+use Rattle.raft_records.proofs.ItemLemmas.{no_key, no_value, no_put, no_del}
 use Rattle.raft_records.proofs.key_value.parse_pair.Goals as goal
 
 pub returns-in_err-key-in-Put-clause-refused : goal.returns-in_err-key-in-Put-clause-refused
@@ -16,11 +16,3 @@ pub returns-in_err-key-in-Del-clause-refused : goal.returns-in_err-key-in-Del-cl
 returns-in_err-key-in-Del-clause-refused c =
     let p = err_from_is_err_and c.from_residual-in_err-key-in-Del.result c.from_residual-in_err-key-in-Del.ensures.1 in
     rw (p.1) (no_del (rw (c.in_ok-from_u8.ensures.ok, c.in-Del.is) at c.in-Some.ensures.cases.0) c.in_err-key-in-Del.ensures.refused)
-
-pub returns-in_ok-value-in-Put-clause-ok : goal.returns-in_ok-value-in-Put-clause-ok
-returns-in_ok-value-in-Put-clause-ok c =
-    put_read c.in_ok-key-in-Put.key.now c.in_ok-value-in-Put.value.now (rw (c.in_ok-from_u8.ensures.ok, c.in-Put.is) at c.in-Some.ensures.cases.0) c.in_ok-key-in-Put.ensures.ok c.in_ok-value-in-Put.ensures.ok
-
-pub returns-in_ok-key-in-Del-clause-ok : goal.returns-in_ok-key-in-Del-clause-ok
-returns-in_ok-key-in-Del-clause-ok c =
-    del_read c.in_ok-key-in-Del.key.now (rw (c.in_ok-from_u8.ensures.ok, c.in-Del.is) at c.in-Some.ensures.cases.0) c.in_ok-key-in-Del.ensures.ok

@@ -1,5 +1,4 @@
-use Rattle.std.proofs.Common.{ℕ, ◌%◌, ◌^◌, Some, subst, arith}
-use Rattle.raft_records.specs.ItemBatch.{IsItemBatch}
+use Rattle.raft_records.proofs.Common.{ℕ, ◌%◌, ◌^◌, Some, subst, arith, IsItemBatch}
 use Rattle.raft_records.proofs.BatchLemmas.{one_file}
 use Rattle.raft_records.proofs.laws.batches_belong_to_one_file.Goals as goal
 

@@ -1,11 +1,8 @@
 use Rattle.raft_records.proofs.ContentLemmas.{command_one_front}
 use Rattle.raft_records.proofs.EntryLemmas.{entries_one_front}
 use Rattle.raft_records.proofs.ItemLemmas.{pair_one}
-use Rattle.raft_records.proofs.WrittenLemmas.{command_spelled, pair_spelled, entries_spelled}
+use Rattle.raft_records.proofs.WrittenLemmas.{pair_spelled}
 use Rattle.raft_records.proofs.laws.contents_are_read_again.Goals as goal
-
-pub returns-clause-command : goal.returns-clause-command
-returns-clause-command c = command_spelled
 
 pub returns-clause-one_command : goal.returns-clause-one_command
 returns-clause-one_command c = command_one_front
@@ -15,9 +12,6 @@ returns-clause-key_value c = λ p w r. pair_spelled p.op_type p.key p.value w r.
 
 pub returns-clause-one_key_value : goal.returns-clause-one_key_value
 returns-clause-one_key_value c = pair_one
-
-pub returns-clause-entries : goal.returns-clause-entries
-returns-clause-entries c = λ s es h t r. entries_spelled s es r h t
 
 pub returns-clause-one_entries : goal.returns-clause-one_entries
 returns-clause-one_entries c = entries_one_front

@@ -1,8 +1,5 @@
-use Rattle.raft_records.proofs.FrameLemmas.{header_one, readable, one_entry_block, parts, one_log_batch, log_batch_spelled}
+use Rattle.raft_records.proofs.FrameLemmas.{header_one, readable, parts, one_log_batch}
 use Rattle.raft_records.proofs.laws.log_batches_are_read_again.Goals as goal
-
-pub returns-clause-written : goal.returns-clause-written
-returns-clause-written c = log_batch_spelled
 
 pub returns-clause-sections : goal.returns-clause-sections
 returns-clause-sections c = parts
@@ -12,9 +9,6 @@ returns-clause-readable c = readable
 
 pub returns-clause-one_header : goal.returns-clause-one_header
 returns-clause-one_header c = header_one
-
-pub returns-clause-one_entry_block : goal.returns-clause-one_entry_block
-returns-clause-one_entry_block c = one_entry_block
 
 pub returns-clause-one_batch : goal.returns-clause-one_batch
 returns-clause-one_batch c = one_log_batch

@@ -1,5 +1,4 @@
-use Rattle.std.proofs.Common.{ℕ, ◌%◌, ◌^◌, Some, subst, arith}
-use Rattle.raft_records.specs.LogBatch.{IsLogBatch}
+use Rattle.raft_records.proofs.Common.{ℕ, ◌%◌, ◌^◌, Some, subst, arith, IsLogBatch}
 use Rattle.raft_records.proofs.FrameLemmas.{one_file_readable}
 use Rattle.raft_records.proofs.laws.log_batches_belong_to_one_file.Goals as goal
 

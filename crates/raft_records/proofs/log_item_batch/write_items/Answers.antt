@@ -1,10 +1,4 @@
-use Rattle.std.proofs.Common.{◌≡◌, ◌++◌, length, map, take, ap, ◌∙◌, append_assoc, arith}
-use Rattle.std.specs.List.{flat_map}
-use Rattle.std.proofs.lemmas.List.{take_all, length-map}
-use Rattle.raft_codec.specs.Varint.{varint}
-use Rattle.raft_records.specs.Item.{item_of}
-use Rattle.raft_records.specs.Spelling.{item_bytes}
-use Rattle.raft_records.specs.ItemBatch.{item_batch_bytes, no_checksum}
+use Rattle.raft_records.proofs.Common.{◌≡◌, ◌++◌, length, map, take, ap, ◌∙◌, append_assoc, arith, flat_map, take_all, length-map, varint, item_of, item_bytes, item_batch_bytes, no_checksum}
 use Rattle.raft_records.proofs.log_item_batch.write_items.Goals as goal
 
 pub returns-clause-ok : goal.returns-clause-ok

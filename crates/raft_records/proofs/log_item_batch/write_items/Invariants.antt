@@ -1,8 +1,4 @@
-use Rattle.std.proofs.Common.{◌≡◌, ◌++◌, map, take, length}
-use Rattle.std.specs.List.{flat_map}
-use Rattle.raft_codec.specs.Varint.{varint}
-use Rattle.raft_records.specs.Item.{item_of}
-use Rattle.raft_records.specs.Spelling.{item_bytes}
+use Rattle.raft_records.proofs.Common.{◌≡◌, ◌++◌, map, take, length, flat_map, varint, item_of, item_bytes}
 use Rattle.raft_records.proofs.log_item_batch.write_items.Given as goal
 
 -- the count and the items so far stand behind the old bytes

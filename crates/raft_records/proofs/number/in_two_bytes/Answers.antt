@@ -1,5 +1,4 @@
-use Rattle.std.proofs.Common.{sym, arith}
-use Rattle.raft_codec.proofs.VarintLemmas.{two_septets}
+use Rattle.raft_records.proofs.Common.{sym, arith, two_septets}
 use Rattle.raft_records.proofs.number.in_two_bytes.Goals as goal
 
 pub returns : goal.returns

@@ -1,7 +1,4 @@
-use Rattle.std.proofs.Common.{◌≡◌, ◌++◌, map, string_bytes, drop}
-use Rattle.std.specs.List.{flat_map}
-use Rattle.raft_records.specs.Item.{item_of}
-use Rattle.raft_records.specs.Lines.{line_of}
+use Rattle.raft_records.proofs.Common.{◌≡◌, ◌++◌, map, string_bytes, drop, flat_map, item_of, line_of}
 use Rattle.raft_records.proofs.print.append_lines.Given as goal
 
 -- the lines so far and those of the items that are left make up the whole

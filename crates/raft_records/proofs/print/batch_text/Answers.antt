@@ -1,5 +1,4 @@
-use Rattle.std.proofs.Common.{◌∙◌}
-use Rattle.std.proofs.lemmas.Result.{err_from_is_err_and}
+use Rattle.raft_records.proofs.Common.{◌∙◌, err_from_is_err_and}
 use Rattle.raft_records.proofs.PrintLemmas.{decoded_text}
 use Rattle.raft_records.proofs.print.batch_text.Goals as goal
 

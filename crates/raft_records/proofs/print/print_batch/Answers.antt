@@ -1,7 +1,4 @@
-use Rattle.std.proofs.Common.{inr, string_bytes, subst}
-use Rattle.std.proofs.lemmas.Result.{err_from_is_err_and}
-use Rattle.raft_base.specs.Signature.{signature_of}
-use Rattle.raft_records.specs.Lines.{IsNoItemBatch, IsPrintFault, IsTextOf, AppendsFront}
+use Rattle.raft_records.proofs.Common.{inr, string_bytes, subst, err_from_is_err_and, signature_of, IsNoItemBatch, IsPrintFault, IsTextOf, AppendsFront}
 use Rattle.raft_records.proofs.PrintLemmas.{of_input, on_both}
 use Rattle.raft_records.proofs.print.print_batch.Goals as goal
 

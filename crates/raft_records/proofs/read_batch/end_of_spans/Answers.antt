@@ -1,5 +1,4 @@
-use Rattle.std.proofs.Common.{◌≡◌, ◌-◌, ◌+◌, ◌<◌, ◌^◌, suc, length, arith, sym, subst, ap, ◌∙◌}
-use Rattle.std.proofs.lemmas.Bool.{ltb-true}
+use Rattle.raft_records.proofs.Common.{◌≡◌, ◌-◌, ◌+◌, ◌<◌, ◌^◌, suc, length, arith, sym, subst, ap, ◌∙◌, ltb-true}
 use Rattle.raft_records.proofs.CopyLemmas.{end_of_block, tail_of_block}
 use Rattle.raft_records.proofs.read_batch.end_of_spans.Goals as goal
 

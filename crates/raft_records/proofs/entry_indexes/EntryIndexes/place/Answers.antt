@@ -1,6 +1,4 @@
-use Rattle.std.proofs.Common.{arith}
-use Rattle.std.proofs.lemmas.List.{get_or_default}
-use Rattle.std.proofs.lemmas.List.Edits.{map_over_more}
+use Rattle.raft_records.proofs.Common.{arith, get_or_default, map_over_more}
 use Rattle.raft_records.proofs.Names.{placed_entry}
 use Rattle.raft_records.proofs.entry_indexes.EntryIndexes.place.Goals as goal
 

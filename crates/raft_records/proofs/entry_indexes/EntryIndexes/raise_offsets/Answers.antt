@@ -1,8 +1,4 @@
-use Rattle.std.proofs.Common.{arith}
-use Rattle.std.proofs.lemmas.List.{get_or_default}
-use Rattle.std.proofs.lemmas.List.Edits.{map_over_more}
-use Rattle.raft_base.specs.NoEntry.{no_entry}
-use Rattle.raft_records.specs.ItemBatch.{raised_entry}
+use Rattle.raft_records.proofs.Common.{arith, get_or_default, map_over_more, no_entry, raised_entry}
 use Rattle.raft_records.proofs.LayLemmas.{raise_fits}
 use Rattle.raft_records.proofs.entry_indexes.EntryIndexes.raise_offsets.Goals as goal
 

@@ -1,5 +1,4 @@
-use Rattle.std.proofs.Common.{◌≡◌, ◌++◌, map, take, drop}
-use Rattle.raft_records.specs.ItemBatch.{raised_entry}
+use Rattle.raft_records.proofs.Common.{◌≡◌, ◌++◌, map, take, drop, raised_entry}
 use Rattle.raft_records.proofs.entry_indexes.EntryIndexes.raise_offsets.Given as goal
 
 -- the entries so far are raised

@@ -1,10 +1,5 @@
-use Rattle.std.proofs.Common.{◌≡◌, ◌≢◌, ◌+◌, ◌^◌, ◌<◌, ◌≤◌, ◌∙◌, List, [], length, ap, sym, subst, arith, rules}
-use Rattle.raft_records.specs.Item.{Item}
-use Rattle.raft_records.specs.ItemBatch.{item_batch_bytes}
-use Rattle.raft_records.specs.LogBatch.{Batch}
-use Rattle.raft_records.specs.LogBatchModel.{stage_of}
-use Rattle.raft_records.specs.Buffer.{entry_bytes_in}
-use Rattle.raft_records.specs.Sizes.{at_most_usize, HaveSmallNumbers}
+use Rattle.raft_records.proofs.Common.{◌≡◌, ◌≢◌, ◌+◌, ◌^◌, ◌<◌, ◌≤◌, ◌∙◌, List, [], length, ap, sym, subst, arith, rules, Item, item_batch_bytes, Batch, at_most_usize}
+use Rattle.raft_records.proofs.Common.{HaveSmallNumbers}
 use Rattle.raft_records.proofs.LengthLemmas.{open_covers}
 use Rattle.raft_records.proofs.StageLemmas.{encoded_length_at, length_at, not_open}
 use Rattle.raft_records.proofs.log_batch.LogBatch.approximate_size.Goals as goal
@@ -17,16 +12,11 @@ some : (c : goal.After-len) → c.self.inside.item_batch ≢ []
 some c = search rules
 
 pub returns-in-Encoded-clause-size : goal.returns-in-Encoded-clause-size
-returns-in-Encoded-clause-size c =
-    made c ∙ length_at c.args.self.now (stage_of c.self.inside.state) c.self.inside.item_batch
-    (entry_bytes_in c.self.inside.item_batch c.self.inside.buf.items) c.self.inside.buf.items c.self.view_is
-    (not_open c.self.inside.state c.in-Encoded.is) (some c) c.self.invariant
+returns-in-Encoded-clause-size c = made c ∙ length_at c.self.view_is (not_open c.self.inside.state c.in-Encoded.is) (some c) c.self.invariant
 
 pub returns-in-Encoded-clause-covers : goal.returns-in-Encoded-clause-covers
 returns-in-Encoded-clause-covers c small lt =
-    let size = encoded_length_at c.args.self.now (stage_of c.self.inside.state) c.self.inside.item_batch
-    (entry_bytes_in c.self.inside.item_batch c.self.inside.buf.items) c.self.inside.buf.items c.self.view_is
-    (not_open c.self.inside.state c.in-Encoded.is) (some c) c.self.invariant in
+    let size = encoded_length_at c.self.view_is (not_open c.self.inside.state c.in-Encoded.is) (some c) c.self.invariant in
     omega (arith, made c, size)
 
 pub returns-in-Open-clause-covers : goal.returns-in-Open-clause-covers

@@ -1,18 +1,12 @@
-use Rattle.std.proofs.Common.{◌≡◌, None, refl}
-use Rattle.raft_records.specs.Item.{pair_item}
+use Rattle.raft_records.proofs.Common.{None, refl, pair_item}
 use Rattle.raft_records.specs.declared.key_value.OpType.TheVariants.{Del}
-use Rattle.raft_records.specs.LogBatch.{is_open}
-use Rattle.raft_records.specs.LogBatchModel.{stage_of}
-use Rattle.raft_records.proofs.StageLemmas.{item_kept, item_view, reheld_more}
+use Rattle.raft_records.proofs.StageLemmas.{item_held, item_view}
 use Rattle.raft_records.proofs.log_batch.LogBatch.delete.Goals as goal
 
 pub invariant_of-self : goal.invariant_of-self
 invariant_of-self c =
-    let open_stage : stage_of c.self.inside.state ≡ is_open = rw (← c.self.view_is) at c.requires in
-    let same = item_kept c.delete.result c.self.inside.item_batch c.delete.new.self (pair_item c.args.region Del c.args.key.items None) (λ s. refl) c.delete.ensures.ok c.delete.ensures.err in
-    reheld_more (stage_of c.self.inside.state) c.self.inside.item_batch c.delete.new.self c.self.inside.buf.items open_stage c.self.invariant same
+    item_held c.delete.result (pair_item c.args.region Del c.args.key.items None) (λ s. refl) c.self.view_is c.requires c.self.invariant c.delete.ensures.ok c.delete.ensures.err
 
 pub returns-clause-ok : goal.returns-clause-ok
 returns-clause-ok c =
-    item_view c.delete.result c.args.self.now (stage_of c.self.inside.state) c.self.inside.item_batch c.delete.new.self c.self.inside.buf.items
-    (pair_item c.args.region Del c.args.key.items None) (λ s. refl) c.self.view_is c.delete.ensures.ok
+    item_view c.delete.new.self c.self.inside.buf.items c.delete.result (pair_item c.args.region Del c.args.key.items None) (λ s. refl) c.self.view_is c.delete.ensures.ok

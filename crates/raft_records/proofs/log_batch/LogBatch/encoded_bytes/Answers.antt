@@ -1,6 +1,4 @@
-use Rattle.std.proofs.Common.{◌≡◌, ◌≢◌, map, sym, subst, rules}
-use Rattle.raft_records.specs.Item.{bare}
-use Rattle.raft_records.specs.LogBatch.{is_open, log_batch_bytes, IsLogBatch}
+use Rattle.raft_records.proofs.Common.{◌≡◌, ◌≢◌, map, sym, subst, rules, bare, is_open, log_batch_bytes, IsLogBatch}
 use Rattle.raft_records.proofs.log_batch.LogBatch.encoded_bytes.Goals as goal
 
 pub returns-clause-read_again : goal.returns-clause-read_again

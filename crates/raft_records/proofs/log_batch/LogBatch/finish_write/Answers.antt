@@ -1,10 +1,5 @@
-use Rattle.std.proofs.Common.{◌≡◌, ◌+◌, ◌-◌, ◌∙◌, map, ap}
-use Rattle.raft_base.specs.declared.pipe_log.FileBlockHandle.{FileBlockHandle}
+use Rattle.raft_records.proofs.Common.{◌≡◌, ◌+◌, ◌-◌, ◌∙◌, map, ap, FileBlockHandle, placed_item, Batch, IsSealedStage, log_batch_bytes, stage_of, entry_bytes_in}
 use Rattle.raft_base.specs.declared.compression_type.CompressionType.TheVariants as compressions
-use Rattle.raft_records.specs.ItemBatch.{placed_item}
-use Rattle.raft_records.specs.LogBatch.{Batch, IsSealedStage, log_batch_bytes}
-use Rattle.raft_records.specs.LogBatchModel.{stage_of}
-use Rattle.raft_records.specs.Buffer.{entry_bytes_in}
 use Rattle.raft_records.proofs.PlaceLemmas.{place_is, placed_held, placed_view, log_bytes_placed}
 use Rattle.raft_records.proofs.StageLemmas.{batch_with}
 use Rattle.raft_records.proofs.log_batch.LogBatch.finish_write.Goals as goal

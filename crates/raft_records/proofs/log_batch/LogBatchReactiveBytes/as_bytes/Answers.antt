@@ -1,6 +1,4 @@
-use Rattle.std.proofs.Common.{◌∙◌, ap}
-use Rattle.raft_base.specs.Signature.{signature_of}
-use Rattle.raft_records.specs.LogBatch.{Batch, log_batch_bytes}
+use Rattle.raft_records.proofs.Common.{◌∙◌, ap, signature_of, Batch, log_batch_bytes}
 use Rattle.raft_records.proofs.log_batch.LogBatchReactiveBytes.as_bytes.Goals as goal
 
 pub returns : goal.returns

@@ -1,5 +1,4 @@
-use Rattle.std.proofs.Common.{◌≡◌, ◌≤◌, length}
-use Rattle.std.specs.Vec.{vec_len, vec_capacity}
+use Rattle.raft_records.proofs.Common.{◌≡◌, ◌≤◌, length, vec_len, vec_capacity}
 use Rattle.raft_records.proofs.StringLemmas.{AreLaid}
 use Rattle.raft_records.proofs.log_batch.entries.append_messages.Given as goal
 

@@ -1,14 +1,13 @@
-use Rattle.std.proofs.Common.{◌≡◌, ◌+◌, ◌^◌, ◌<◌, ◌≤◌, ◌++◌, ◌∙◌, List, ℕ, length, refl, ap, arith}
-use Rattle.std.proofs.lemmas.List.{length-append}
-use Rattle.raft_records.proofs.StringLemmas.{strung_next, strung_past}
+use Rattle.raft_records.proofs.Common.{◌≡◌, ◌+◌, ◌^◌, ◌<◌, ◌≤◌, ◌++◌, ◌∙◌, List, ℕ, length, refl, ap, arith, length-append}
+use Rattle.raft_records.proofs.StringLemmas.{past_limit, strung_next}
 use Rattle.raft_records.proofs.log_batch.entries.append_strings.Goals as goal
 
 pub returns-then-len-gt-MOST_OPEN_BYTES-clause-fault : goal.returns-then-len-gt-MOST_OPEN_BYTES-clause-fault
 returns-then-len-gt-MOST_OPEN_BYTES-clause-fault c ne =
     let past : 16 + 2 ^ 31 ≤ length c.loop-i.buf.items + length c.index-entries-i.result.items = omega (arith, c.len.ensures, c.len-in-loop-i.ensures, c.if-len-gt-MOST_OPEN_BYTES.true) in (
       refl,
-      strung_past (λ e. e.items) c.args.entry_indexes.now.items c.args.entries.now c.loop-i.i c.args.buf.now.items c.loop-i.buf.items
-          c.loop-i.entry_indexes.items c.index-entries-i.result c.loop-i.invariant c.loop-i-test.true c.index-entries-i.is c.requires.room past,
+      past_limit (λ e. e.items) c.args.entries.now c.loop-i.i c.args.buf.now.items c.loop-i.buf.items c.index-entries-i.result c.loop-i.invariant.bytes
+          c.loop-i-test.true c.index-entries-i.is c.requires.room past,
     )
 
 pub loop-i-preserved : goal.loop-i-preserved

@@ -1,7 +1,4 @@
-use Rattle.std.proofs.Common.{◌↔◌, drop, map}
-use Rattle.raft_base.specs.Runs.{IsConsecutive}
-use Rattle.raft_base.proofs.ConsecutiveLemmas.{IsConsecutiveFrom}
-use Rattle.raft_records.specs.Entries.{entry_with_index}
+use Rattle.raft_records.proofs.Common.{◌↔◌, drop, map, IsConsecutive, IsConsecutiveFrom, entry_with_index}
 use Rattle.raft_records.proofs.log_batch.entries.have_consecutive_indexes.Given as goal
 
 -- what is left to see decides

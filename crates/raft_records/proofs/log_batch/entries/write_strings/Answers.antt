@@ -1,5 +1,4 @@
-use Rattle.std.proofs.Common.{◌∙◌, map, sym, refl}
-use Rattle.std.proofs.lemmas.List.{length-map}
+use Rattle.raft_records.proofs.Common.{◌∙◌, map, sym, refl, length-map}
 use Rattle.raft_records.proofs.StringLemmas.{found_room, found_consecutive, some_counted}
 use Rattle.raft_records.proofs.log_batch.entries.write_strings.Goals as goal
 

@@ -1,7 +1,4 @@
-use Rattle.std.proofs.Common.{◌≡◌, ◌+◌, arith, ◌++◌, ◌∷◌, [], map, ap, ◌∙◌}
-use Rattle.std.proofs.lemmas.List.{map-append}
-use Rattle.raft_records.specs.Item.{item_of}
-use Rattle.raft_records.specs.Sizes.{item_size, at_most_usize}
+use Rattle.raft_records.proofs.Common.{◌≡◌, ◌+◌, arith, ◌++◌, ◌∷◌, [], map, ap, ◌∙◌, map-append, item_of, item_size, at_most_usize}
 use Rattle.raft_records.proofs.BatchLemmas.{kept_push}
 use Rattle.raft_records.proofs.log_item_batch.LogItemBatch.add.Goals as goal
 

@@ -1,6 +1,4 @@
-use Rattle.std.proofs.Common.{sym, subst, ◌∙◌, ap}
-use Rattle.raft_records.specs.Item.{Item, IsInBytes}
-use Rattle.raft_records.specs.ItemBatch.{FitsBehind, entry_bytes_of}
+use Rattle.raft_records.proofs.Common.{sym, subst, ◌∙◌, ap, Item, IsInBytes, FitsBehind, entry_bytes_of}
 use Rattle.raft_records.proofs.Names.{behind_item}
 use Rattle.raft_records.proofs.log_item_batch.LogItemBatch.add_laid_entries.Goals as goal
 

@@ -1,6 +1,4 @@
-use Rattle.std.proofs.Common.{ap, subst, arith}
-use Rattle.raft_records.specs.ItemBatch.{FitTogether}
-use Rattle.raft_records.specs.Sizes.{items_size}
+use Rattle.raft_records.proofs.Common.{ap, subst, arith, FitTogether, items_size}
 use Rattle.raft_records.proofs.LengthLemmas.{size_covers}
 use Rattle.raft_records.proofs.log_item_batch.LogItemBatch.approximate_size.Goals as goal
 

@@ -1,10 +1,7 @@
-use Rattle.std.proofs.Common.{sym, subst}
-use Rattle.std.proofs.lemmas.Result.{err_from_is_err_and}
-use Rattle.raft_base.specs.Signature.{signature_of}
+use Rattle.raft_records.proofs.Common.{sym, subst, err_from_is_err_and, signature_of, IsDecoded}
 use Rattle.raft_base.specs.declared.compression_type.CompressionType.TheVariants as compressions
-use Rattle.raft_records.specs.ItemBatch.{IsDecoded}
 use Rattle.raft_records.proofs.BatchLemmas.{no_room_for_items}
-use Rattle.raft_records.proofs.ReadBatchLemmas.{one_compression}
+use Rattle.raft_records.proofs.FrameLemmas.{same_compression}
 use Rattle.raft_records.proofs.log_item_batch.LogItemBatch.decode.Goals as goal
 
 pub returns-in_err-batch-clause-fault : goal.returns-in_err-batch-clause-fault
@@ -15,6 +12,6 @@ returns-in_err-batch-clause-fault c =
 
 pub returns-clause-ok : goal.returns-clause-ok
 returns-clause-ok c =
-    rw (one_compression c.args.compression_type)
+    rw (same_compression c.args.compression_type compressions.None)
     (subst (λ items. IsDecoded c.args.buf.now.now (signature_of c.args.context.now) c.args.entries compressions.None items c.in_ok-rest.rest.now)
     (sym c.in_ok-batch.ensures.ok) c.in_ok-rest.ensures.ok)

@@ -1,6 +1,4 @@
-use Rattle.std.proofs.Common.{◌≡◌, map, drop}
-use Rattle.raft_records.specs.Item.{item_of}
-use Rattle.raft_records.specs.ItemBatch.{first_entry}
+use Rattle.raft_records.proofs.Common.{◌≡◌, map, drop, item_of, first_entry}
 use Rattle.raft_records.proofs.log_item_batch.LogItemBatch.entry_index.Given as goal
 
 -- the items so far have none

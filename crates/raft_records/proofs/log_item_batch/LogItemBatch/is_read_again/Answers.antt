@@ -1,7 +1,4 @@
-use Rattle.std.proofs.Common.{◌^◌, ◌<◌, List, [], ◌++◌, map, length, subst, arith}
-use Rattle.std.proofs.lemmas.List.{length-map}
-use Rattle.raft_records.specs.Item.{Item, bare, item_of}
-use Rattle.raft_records.specs.ItemBatch.{IsItemBatch, item_batch_bytes, checksum_bytes}
+use Rattle.raft_records.proofs.Common.{◌^◌, ◌<◌, List, [], ◌++◌, map, length, subst, arith, length-map, Item, bare, item_of, IsItemBatch, item_batch_bytes, checksum_bytes}
 use Rattle.raft_records.proofs.WrittenLemmas.{batch_spelled}
 use Rattle.raft_records.proofs.log_item_batch.LogItemBatch.is_read_again.Goals as goal
 

@@ -1,7 +1,4 @@
-use Rattle.std.proofs.Common.{◌≡◌, ◌+◌, ◌^◌, ◌<◌, ◌++◌, map, ap, ◌∙◌, arith}
-use Rattle.std.proofs.lemmas.List.{map-append}
-use Rattle.raft_records.specs.Item.{item_of}
-use Rattle.raft_records.specs.ItemBatch.{raised_item}
+use Rattle.raft_records.proofs.Common.{◌≡◌, ◌+◌, ◌^◌, ◌<◌, ◌++◌, map, ap, ◌∙◌, arith, map-append, item_of, raised_item}
 use Rattle.raft_records.proofs.LayLemmas.{merged_kept}
 use Rattle.raft_records.proofs.log_item_batch.LogItemBatch.merge.Goals as goal
 

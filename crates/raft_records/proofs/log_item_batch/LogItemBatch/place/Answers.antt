@@ -1,5 +1,4 @@
-use Rattle.std.proofs.Common.{map}
-use Rattle.raft_records.specs.Item.{item_of}
+use Rattle.raft_records.proofs.Common.{map, item_of}
 use Rattle.raft_records.proofs.BatchLemmas.{placed_kept}
 use Rattle.raft_records.proofs.log_item_batch.LogItemBatch.place.Goals as goal
 

@@ -1,7 +1,5 @@
 use Rattle.std.specs.Prelude.{IfSome}
-use Rattle.std.proofs.Common.{◌∙◌, sym, subst}
-use Rattle.raft_records.specs.ItemBatch.{IsKeptBeside}
-use Rattle.raft_records.specs.DecodedIn.{AreDecodedIn}
+use Rattle.raft_records.proofs.Common.{◌∙◌, sym, subst, IsKeptBeside, AreDecodedIn}
 use Rattle.raft_records.proofs.CloneLemmas.{items_clone}
 use Rattle.raft_records.proofs.log_item_batch.LogItemBatchClone.clone.Goals as goal
 

@@ -1,7 +1,4 @@
-use Rattle.std.proofs.Common.{◌≡◌, length, map, ap, sym, ◌∙◌, arith}
-use Rattle.std.proofs.lemmas.List.{length-map}
-use Rattle.raft_records.specs.Item.{item_of}
-use Rattle.raft_records.specs.ItemBatch.{placed_item}
+use Rattle.raft_records.proofs.Common.{◌≡◌, length, map, ap, sym, ◌∙◌, arith, length-map, item_of, placed_item}
 use Rattle.raft_records.proofs.BatchLemmas.{map_view_more}
 use Rattle.raft_records.proofs.log_item_batch.places.place_items.Goals as goal
 

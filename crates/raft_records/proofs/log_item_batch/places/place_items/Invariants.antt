@@ -1,6 +1,4 @@
-use Rattle.std.proofs.Common.{◌≡◌, ◌++◌, map, take, drop}
-use Rattle.raft_records.specs.Item.{item_of}
-use Rattle.raft_records.specs.ItemBatch.{placed_item}
+use Rattle.raft_records.proofs.Common.{◌≡◌, ◌++◌, map, take, drop, item_of, placed_item}
 use Rattle.raft_records.proofs.log_item_batch.places.place_items.Given as goal
 
 -- the items so far have their place

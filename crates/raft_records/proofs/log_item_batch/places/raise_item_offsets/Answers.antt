@@ -1,14 +1,11 @@
-use Rattle.std.proofs.Common.{◌≡◌, length, map, refl, ap, subst, sym, ◌∙◌, arith}
-use Rattle.std.proofs.lemmas.List.{length-map}
-use Rattle.raft_records.specs.Item.{item_of, content_of}
-use Rattle.raft_records.specs.ItemBatch.{raised_item, CanRaiseContent, entry_bytes_of}
+use Rattle.raft_records.proofs.Common.{◌≡◌, length, map, refl, ap, subst, sym, ◌∙◌, arith, length-map, item_of, content_of, raised_item, CanRaiseContent, entry_bytes_of}
 use Rattle.raft_records.proofs.BatchLemmas.{map_view_more, seen_at}
 use Rattle.raft_records.proofs.LayLemmas.{raise_next}
 use Rattle.raft_records.proofs.log_item_batch.places.raise_item_offsets.Goals as goal
 
 pub raise_offsets-requires : goal.raise_offsets-requires
 raise_offsets-requires c =
-    let seen = seen_at item_of c.loop-item.item-items c.loop-item.item-index c.item-item.result c.item-item.is in
+    let seen = seen_at item_of c.loop-item.item-items c.loop-item.item-index c.item-item.result (omega arith) c.item-item.is in
     let next = raise_next c.args.by (entry_bytes_of (map item_of c.args.items.now.items)) c.loop-item.item-index (map item_of c.args.items.now.items)
     (map item_of c.loop-item.item-items) (item_of c.item-item.result)
     (omega (arith, length-map c.args.items.now.items item_of, ap length c.deref_mut-item-items.ensures.value)) c.loop-item.invariant seen

@@ -1,7 +1,5 @@
-use Rattle.std.proofs.Common.{arith}
+use Rattle.raft_records.proofs.Common.{arith, get_or_default, no_entry}
 use Rattle.std.specs.Prelude.{slice_index_or}
-use Rattle.std.proofs.lemmas.List.{get_or_default}
-use Rattle.raft_base.specs.NoEntry.{no_entry}
 use Rattle.raft_records.proofs.LayLemmas.{lay_more}
 use Rattle.raft_records.proofs.log_item_batch.places.set_offsets.Goals as goal
 

@@ -1,5 +1,4 @@
-use Rattle.std.proofs.Common.{◌≡◌, ◌+◌, ◌++◌, take, drop}
-use Rattle.raft_records.specs.ItemBatch.{with_offsets_from, entry_lengths}
+use Rattle.raft_records.proofs.Common.{◌≡◌, ◌+◌, ◌++◌, take, drop, with_offsets_from, entry_lengths}
 use Rattle.raft_records.proofs.log_item_batch.places.set_offsets.Given as goal
 
 -- the entries so far are laid, and end at the offset

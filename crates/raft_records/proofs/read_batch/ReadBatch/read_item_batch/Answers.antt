@@ -1,7 +1,4 @@
-use Rattle.std.proofs.Common.{subst, sym}
-use Rattle.std.proofs.lemmas.Result.{err_from_is_err_and}
-use Rattle.raft_base.specs.Signature.{signature_of}
-use Rattle.raft_records.specs.ItemBatch.{FitTogether}
+use Rattle.raft_records.proofs.Common.{subst, sym, err_from_is_err_and, signature_of, FitTogether}
 use Rattle.raft_records.proofs.BatchLemmas.{no_items_count, no_items, counted_read, batch_read}
 use Rattle.raft_records.proofs.ReadBatchLemmas.{items_fit, shown_in_file}
 use Rattle.raft_records.proofs.read_batch.ReadBatch.read_item_batch.Goals as goal

@@ -1,15 +1,10 @@
-use Rattle.std.proofs.Common.{ℕ, ◌+◌, ◌++◌, List, map, take, drop, ap, sym, ◌∙◌, subst, inr}
-use Rattle.std.proofs.lemmas.List.{length-take-le}
-use Rattle.std.proofs.lemmas.Result.{err_from_is_err_and}
-use Rattle.raft_codec.specs.Reading.{HasNoFront}
-use Rattle.raft_base.specs.Signature.{signature_of}
-use Rattle.raft_records.specs.FilePart.{part_of, IsNextFault}
+use Rattle.raft_records.proofs.Common.{ℕ, ◌+◌, ◌++◌, List, map, take, drop, ap, sym, ◌∙◌, subst, inr, length-take-le, err_from_is_err_and, HasNoFront, signature_of, part_of, IsNextFault, IsItemBatch}
+use Rattle.raft_records.proofs.Common.{IsItemBatchFault, placed_item, IsReadable}
+use Rattle.raft_base.specs.declared.compression_type.CompressionType.TheVariants as compressions
 use Rattle.raft_records.proofs.FramedAt.{laid_at}
 use Rattle.raft_records.proofs.Names.{entries_place}
-use Rattle.raft_records.specs.ItemBatch.{IsItemBatch, IsItemBatchFault, placed_item}
-use Rattle.raft_records.specs.LogBatch.{IsReadable}
 use Rattle.raft_records.proofs.PartLemmas.{no_header, cut_short, no_item_batch, batch_stands, batch_split}
-use Rattle.raft_records.proofs.ReadBatchLemmas.{one_compression}
+use Rattle.raft_records.proofs.FrameLemmas.{same_compression}
 use Rattle.raft_records.proofs.read_batch.ReadBatch.read_next.Goals as goal
 
 pub returns-in_err-items_at-clause-refused : goal.returns-in_err-items_at-clause-refused
@@ -63,5 +58,5 @@ returns-clause-ok c =
       frame = frame.0;
       stands = batch_split c.args.bytes.now c.args.at c.in_ok-items_at.len ∙ ap (λ (xs : List ℕ). take c.in_ok-items_at.len xs ++ drop (c.args.at + c.in_ok-items_at.len) c.args.bytes.now) (sym c.split_at.ensures.back);
       ends = ap (λ n. c.args.at + n) (sym (length-take-le c.in_ok-items_at.len c.split_at.result.1.now c.if-len-rest.false));
-      places = read.places ∙ ap (λ compression. map (placed_item (entries_place part c.args.at c.in_ok-items_at.items_at) compression) read.read) (sym (one_compression frame.0.compression));
+      places = read.places ∙ ap (λ compression. map (placed_item (entries_place part c.args.at c.in_ok-items_at.items_at) compression) read.read) (sym (same_compression frame.0.compression compressions.None));
     })

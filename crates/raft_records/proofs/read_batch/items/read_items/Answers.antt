@@ -1,5 +1,4 @@
-use Rattle.std.proofs.Common.{◌-◌, arith, inl, inr}
-use Rattle.std.proofs.lemmas.Result.{err_from_is_err_and}
+use Rattle.raft_records.proofs.Common.{◌-◌, arith, inl, inr, err_from_is_err_and}
 use Rattle.raft_records.proofs.BatchLemmas.{no_more_items, item_fault}
 use Rattle.raft_records.proofs.ReadBatchLemmas.{one_more_held}
 use Rattle.raft_records.proofs.read_batch.items.read_items.Goals as goal

@@ -1,6 +1,5 @@
-use Rattle.std.proofs.Common.{◌++◌, ap, sym, ◌∙◌, arith, append-nil}
-use Rattle.std.proofs.Math.ListN.{drop_of_length-le}
-use Rattle.raft_base.specs.Runs.{entries_of_block}
+use Rattle.raft_records.proofs.Common.{◌++◌, ap, sym, ◌∙◌, arith, drop_of_length-le, entries_of_block}
+use Rattle.std.proofs.Common.{append-nil}
 use Rattle.raft_records.proofs.OwnItemLemmas.{one_more, next_bounded}
 use Rattle.raft_records.proofs.read_batch.own_items.entries_at.Goals as goal
 

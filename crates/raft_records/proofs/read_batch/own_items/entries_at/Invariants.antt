@@ -1,5 +1,4 @@
-use Rattle.std.proofs.Common.{◌≡◌, ◌≤◌, length}
-use Rattle.std.specs.Vec.{vec_len, vec_capacity}
+use Rattle.raft_records.proofs.Common.{◌≡◌, ◌≤◌, length, vec_len, vec_capacity}
 use Rattle.raft_records.proofs.OwnItemLemmas.{IsSoFar}
 use Rattle.raft_records.proofs.read_batch.own_items.entries_at.Given as goal
 

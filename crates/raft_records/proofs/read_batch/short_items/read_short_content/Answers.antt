@@ -1,5 +1,4 @@
-use Rattle.std.proofs.Common.{◌∷◌, drop, refl}
-use Rattle.std.proofs.lemmas.List.{take_rest}
+use Rattle.raft_records.proofs.Common.{refl, take_rest}
 use Rattle.raft_records.proofs.ReadBatchLemmas.{pair_read, two_in_front}
 use Rattle.raft_records.proofs.read_batch.short_items.read_short_content.Goals as goal
 
@@ -14,4 +13,4 @@ returns-in_ok-content-in-3-clause-some c =
     let bytes = c.args.bytes.now in
     let read = c.in_ok-content-in-3.ensures in
     let split = two_in_front bytes 3 1 c.in-len2-up.len_at_least c.in-3.is c.if-first-eq-PUT.true in
-    pair_read c.args.start bytes (1 ∷ drop 2 bytes) c.in_ok-content-in-3.rest.now c.in_ok-content-in-3.content read.0 c.args.spans.now.items split (rw (← take_rest) read.1) read.2
+    pair_read {p = read.0} split (rw (← take_rest) read.1) read.2

@@ -1,17 +1,12 @@
 -- What a cut leaves of blocks.
-use Rattle.std.proofs.Common.{◌≡◌, ◌≢◌, inl, inr, ◌^◌, ℕ, zero, suc, ◌+◌, ◌-◌, ◌<◌, ◌≤◌, min, List, [], ◌∷◌, ◌++◌, length, get_or, set, take, drop, refl, sym, ap, ◌∙◌, subst, arith}
-use Rattle.std.proofs.lemmas.List.{nil_from_length, append-nil, length-drop, length-take-le, take-append-drop}
-use Rattle.raft_base.specs.declared.pipe_log.LogQueue.TheVariants.{Append, Rewrite}
-use Rattle.raft_base.specs.Runs.{end_of, entries_of_block}
-use Rattle.raft_base.proofs.ConsecutiveLemmas.{end_bounded}
-use Rattle.raft_table.specs.Blocks.{BlockSpans, entries_in_blocks, Differs, AreDistinctBlocks}
-use Rattle.raft_table.specs.BlockWords.{count, starts_of, AreStarts, AreKept, first_spans, without_first_spans, first_of_last, without_first_of_first, IsAt, IsIndexOf}
-use Rattle.raft_table.specs.TableEntries.{AreTableEntries, start_of, placed_in, entry_count}
+use Rattle.raft_table.proofs.CutLemmas.{front_below, behind_from}
+use Rattle.raft_table.proofs.Common.{◌≡◌, ◌≢◌, inl, inr, ◌^◌, ℕ, zero, suc, ◌+◌, ◌-◌, ◌<◌, ◌≤◌, min, List, [], ◌∷◌, ◌++◌, length, get_or, set, take, drop, refl, sym, ap, ◌∙◌, subst, arith, nil_from_length, append-nil, length-drop}
+use Rattle.raft_table.proofs.Common.{length-take-le, take-append-drop, end_of, entries_of_block, end_bounded, BlockSpans, entries_in_blocks, Differs, AreDistinctBlocks, count, starts_of, AreStarts, AreKept, first_spans, without_first_spans}
+use Rattle.raft_table.proofs.Common.{first_of_last, without_first_of_first, IsAt, IsIndexOf, AreTableEntries, start_of, placed_in, entry_count, IsPart, EntryIndex, below, from, Append, Rewrite}
 use Rattle.raft_table.proofs.PlaceLemmas.{entries_in_both}
 use Rattle.raft_table.proofs.RunLemmas.{start-of_rising, end_of-run}
 use Rattle.raft_table.proofs.SoundLemmas.{AreTableEntries-nil, AreTableEntries-drop, AreTableEntries-take, cut_counts}
-use Rattle.raft_table.proofs.BlockLemmas.{length-starts, length-expanded, count-append, expanded-append, starts_drop, count_cut, rises_expanded}
-use Rattle.raft_table.proofs.BlockSearch.{at_spot, below_spot, spot_within}
+use Rattle.raft_table.proofs.BlockLemmas.{length-starts, length-expanded, count-append, expanded-append, starts_drop, count_cut, rises_expanded, at_spot, below_spot, spot_within}
 
 -- what the numbers that are kept say
 pub record KeptFacts (i n : ℕ) (bs : List BlockSpans) (r : ℕ) : Type 0 where
@@ -65,13 +60,24 @@ kept_bounded {i} {n} {bs} h l =
     let b = (kept_facts h).bounded (omega arith) in
     omega arith
 
--- an index within, and where it is found
-pub within_of : {i n x : ℕ} {bs : List BlockSpans} {ss : List ℕ} {r : ℕ} → AreKept i n bs ss r → (w : ℕ) → x ≡ i + w → w < n
-    → (i ≤ x) × (x < i + count bs)
-within_of h w e l = let k = h.len in (omega arith, omega arith)
+-- what a table shows has as many entries as it keeps
+pub shown_len : {i n : ℕ} {bs : List BlockSpans} {ss : List ℕ} {r : ℕ} {es : List EntryIndex} → AreKept i n bs ss r → entries_in_blocks i bs ≡ es → length es ≡ n
+shown_len h e = ap length (sym e) ∙ (kept_facts h).length
 
-pub spot_at : {k o : ℕ} {bs : List BlockSpans} (i x : ℕ) → IsAt (x - i) bs k o → (w : ℕ) → x ≡ i + w → IsAt w bs k o
-spot_at {k} {o} {bs} i x a w e = subst (λ z. IsAt z bs k o) (let q : x - i ≡ w = omega arith in q) a
+-- a cut by an index
+pub kept_cut : {i n : ℕ} {bs : List BlockSpans} {ss : List ℕ} {r : ℕ} → AreKept i n bs ss r → (x k : ℕ) → k ≡ min (x - i) n →
+    (drop k (entries_in_blocks i bs) ≡ from x (entries_in_blocks i bs)) × (take k (entries_in_blocks i bs) ≡ below x (entries_in_blocks i bs))
+kept_cut {i} {n} {bs} h x k e =
+    let l = (kept_facts h).length in
+    (behind_from x i k (entries_in_blocks i bs) (rises_expanded i bs) (rw l e), front_below x i k (entries_in_blocks i bs) (rises_expanded i bs) (rw l e))
+
+-- an entry that is kept can be found
+pub within_of : {i n : ℕ} {bs : List BlockSpans} {ss : List ℕ} {r : ℕ} → AreKept i n bs ss r → (w : ℕ) → w < n → (w < count bs) × (i + count bs < 2 ^ 64)
+within_of h w l = let k = h.len in (omega arith, (let b = (kept_facts h).bounded (omega arith) in omega arith))
+
+-- .. and those from it on are a part
+pub part_of : {i n a e : ℕ} {bs : List BlockSpans} {ss : List ℕ} {r : ℕ} {spot : ℕ × ℕ} → AreKept i n bs ss r → IsAt a bs spot.0 spot.1 → a ≤ e → e ≤ n → IsPart bs spot a e
+part_of h s l m = let k = h.len in record { first = s; distinct = h.distinct; order = l; within = omega arith }
 
 -- first indexes that are kept, if any are: as many as blocks, and what a cut leaves of them
 pub starts_kept : (i : ℕ) (bs : List BlockSpans) (ss : List ℕ) → AreStarts i bs ss → 0 < length ss → ss ≡ starts_of i bs
@@ -166,17 +172,9 @@ pub record IsFront (i p k : ℕ) (bs front : List BlockSpans) : Type 0 where
   pub count : count front ≡ p
 
 cut_is : (k m : ℕ) (bs : List BlockSpans) (b : BlockSpans) (rest : List BlockSpans) → drop k bs ≡ b ∷ rest → first_of_last m (take (suc k) bs) ≡ take k bs ++ first_spans m b ∷ []
-cut_is k m [] b rest h = none k h
-  where
-    none : (k : ℕ) → drop k [] ≡ b ∷ rest → first_of_last m (take (suc k) []) ≡ take k [] ++ first_spans m b ∷ []
-    none zero h = absurd (omega (arith, ap length h))
-    none (suc k) h = absurd (omega (arith, ap length h))
+cut_is k m [] b rest h = absurd (omega (arith, ap length h, length-drop {A = BlockSpans} k []))
 cut_is zero m (x ∷ bs) b rest h = let s = split_drop 0 (x ∷ bs) b rest b h in ap (λ (y : BlockSpans). first_spans m y ∷ []) s.0
-cut_is (suc k) m (x ∷ []) b rest h = none k h
-  where
-    none : (k : ℕ) → drop k [] ≡ b ∷ rest → first_of_last m (take (suc (suc k)) (x ∷ [])) ≡ take (suc k) (x ∷ []) ++ first_spans m b ∷ []
-    none zero h = absurd (omega (arith, ap length h))
-    none (suc k) h = absurd (omega (arith, ap length h))
+cut_is (suc k) m (x ∷ []) b rest h = absurd (omega (arith, ap length h, length-drop {A = BlockSpans} k []))
 cut_is (suc k) m (x ∷ y ∷ bs) b rest h = ap (λ ys. x ∷ ys) (cut_is k m (y ∷ bs) b rest h)
 
 stretches_back : (front : List BlockSpans) (b c : BlockSpans) (rest : List BlockSpans) → c.handle ≡ b.handle → 0 < length c.spans → AreDistinctBlocks (front ++ b ∷ rest) → AreDistinctBlocks (front ++ c ∷ [])

@@ -1,16 +1,7 @@
 -- Blocks behind others, joined where two that meet have the same handle.
-use Rattle.std.proofs.Common.{◌≡◌, ◌≢◌, ℕ, ◌+◌, ◌<◌, Bool, true, false, eqb, List, [], ◌∷◌, ◌++◌, length, take, drop, refl, sym, ap, ◌∙◌, subst, arith}
-use Rattle.std.proofs.lemmas.List.{append-nil, append_assoc, length-append}
-use Rattle.std.proofs.lemmas.Bool.Decides.{nat_tests}
-use Rattle.raft_base.specs.declared.pipe_log.FileBlockHandle.{FileBlockHandle}
-use Rattle.raft_base.specs.declared.pipe_log.LogQueue.{LogQueue}
-use Rattle.raft_base.specs.declared.pipe_log.LogQueue.TheVariants.{Append, Rewrite}
-use Rattle.raft_base.specs.Runs.{entries_of_block}
-use Rattle.raft_table.specs.Blocks.{BlockSpans, entries_in_blocks, Differs, AreDistinctBlocks}
-use Rattle.raft_table.specs.BlockWords.{count, starts_of, AreKept, with_spans_behind, first_of_last, joined_blocks, seam}
-use Rattle.raft_table.specs.TableEntries.{AreTableEntries, entry_count}
-use Rattle.raft_table.specs.Fetches.{is_same_place}
-use Rattle.raft_table.specs.Queues.{is_same}
+use Rattle.raft_table.proofs.Common.{◌≡◌, ◌≢◌, ℕ, ◌+◌, ◌<◌, Bool, true, false, eqb, List, [], ◌∷◌, ◌++◌, length, take, drop, refl, sym, ap, ◌∙◌, subst, arith, append-nil, append_assoc, length-append, nat_tests}
+use Rattle.raft_table.proofs.Common.{FileBlockHandle, LogQueue, entries_of_block, BlockSpans, entries_in_blocks, Differs, AreDistinctBlocks, count, starts_of, AreKept, with_spans_behind, first_of_last, joined_blocks}
+use Rattle.raft_table.proofs.Common.{seam, AreTableEntries, entry_count, is_same_place, is_same, Append, Rewrite}
 use Rattle.raft_table.proofs.BlockLemmas.{spread-append, length-expanded, count-append, expanded-append, starts-append}
 use Rattle.raft_table.proofs.BlockCuts.{IsFront, Differs-same}
 
@@ -20,7 +11,7 @@ same_queue Append Rewrite h = cc
 same_queue Rewrite Append h = cc
 same_queue Rewrite Rewrite h = refl
 
-same_queue_self : (q : LogQueue) → is_same q q ≡ true
+pub same_queue_self : (q : LogQueue) → is_same q q ≡ true
 same_queue_self Append = refl
 same_queue_self Rewrite = refl
 
@@ -55,20 +46,13 @@ pub other_place : (a b : FileBlockHandle) → is_same_place a b ≡ false → a 
 other_place a b h e = let t : is_same_place a b ≡ true = rw (← e) (same_place_self a) in cc
 
 pub other_place_is : (a b : FileBlockHandle) → a ≢ b → is_same_place a b ≡ false
-other_place_is a b n = at (is_same_place a b) refl
-  where
-    at : (t : Bool) → is_same_place a b ≡ t → is_same_place a b ≡ false
-    at true h = absurd (n (same_place a b h))
-    at false h = h
+other_place_is a b n = (elim (is_same_place a b) as (λ t. is_same_place a b ≡ t → is_same_place a b ≡ false) [ true ↦ λ h. absurd (n (same_place a b h)) | false ↦ λ h. h ]) refl
 
 pub joined_append : (f y r : List BlockSpans) → 0 < length y → joined_blocks f y ++ r ≡ joined_blocks f (y ++ r)
 joined_append f [] r l = absurd (omega arith)
 joined_append [] (c ∷ y) r l = refl
-joined_append (b ∷ []) (c ∷ y) r l = at (is_same_place b.handle c.handle) refl
-  where
-    at : (t : Bool) → is_same_place b.handle c.handle ≡ t → joined_blocks (b ∷ []) (c ∷ y) ++ r ≡ joined_blocks (b ∷ []) (c ∷ y ++ r)
-    at true h = rw h refl
-    at false h = rw h refl
+joined_append (b ∷ []) (c ∷ y) r l = (elim (is_same_place b.handle c.handle) as
+    (λ t. is_same_place b.handle c.handle ≡ t → joined_blocks (b ∷ []) (c ∷ y) ++ r ≡ joined_blocks (b ∷ []) (c ∷ y ++ r)) [ true ↦ λ h. rw h refl | false ↦ λ h. rw h refl ]) refl
 joined_append (b ∷ d ∷ f) (c ∷ y) r l = ap (λ ys. b ∷ ys) (joined_append (d ∷ f) (c ∷ y) r l)
 
 pub joined_expanded : (i : ℕ) (f y : List BlockSpans) → entries_in_blocks i (joined_blocks f y) ≡ entries_in_blocks i f ++ entries_in_blocks (i + count f) y
@@ -133,11 +117,7 @@ joined_stretches (b ∷ d ∷ f) y h k = (h.0, first d f y h.1, joined_stretches
   where
     first : (d : BlockSpans) (f y : List BlockSpans) → b.handle ≢ d.handle → Differs b (joined_blocks (d ∷ f) y)
     first d [] [] n = n
-    first d [] (c ∷ y) n = at (is_same_place d.handle c.handle) refl
-      where
-        at : (t : Bool) → is_same_place d.handle c.handle ≡ t → Differs b (joined_blocks (d ∷ []) (c ∷ y))
-        at true t = rw t n
-        at false t = rw t n
+    first d [] (c ∷ y) n = (elim (is_same_place d.handle c.handle) as (λ t. is_same_place d.handle c.handle ≡ t → Differs b (joined_blocks (d ∷ []) (c ∷ y))) [ true ↦ λ t. rw t n | false ↦ λ t. rw t n ]) refl
     first d (x ∷ f) y n = n
 
 pub seam_cut : (m : ℕ) (f y : List BlockSpans) → seam (first_of_last m f) y ≡ seam f y

@@ -1,27 +1,16 @@
 -- What is kept of entries behind or between others.
-use Rattle.std.proofs.Common.{◌≡◌, ◌^◌, true, Some, ℕ, suc, ◌+◌, ◌<◌, ◌≤◌, min, List, [], ◌∷◌, ◌++◌, length, take, drop, refl, sym, ap, ◌∙◌, subst, arith}
-use Rattle.std.proofs.lemmas.List.{append-nil, length-append, length-take-le, take_all, drop_all}
-use Rattle.raft_base.specs.declared.pipe_log.FileBlockHandle.{FileBlockHandle}
-use Rattle.raft_base.specs.declared.pipe_log.LogQueue.{LogQueue}
-use Rattle.raft_base.specs.declared.pipe_log.LogQueue.TheVariants.{Append, Rewrite}
+use Rattle.raft_table.proofs.Common.{◌≡◌, ◌^◌, Some, ℕ, suc, ◌+◌, ◌<◌, ◌≤◌, min, List, [], ◌∷◌, ◌++◌, length, take, drop, refl, sym, ap, ◌∙◌, subst, arith, append-nil, length-append, length-take-le, take_all, drop_all}
+use Rattle.raft_table.proofs.Common.{FileBlockHandle, LogQueue, EntryIndex, RisesFrom, entries_of_block, end_bounded, BlockSpans, entries_in_blocks, AreDistinctBlocks, count, starts_of, AreKept, first_of_last}
+use Rattle.raft_table.proofs.Common.{joined_blocks, seam, AreTableEntries, start_of, placed_in, is_placed_in, entry_count, count_in, Append, Rewrite, zero, ◌-◌, true, false, get_or, inl, inr, nil_from_length}
+use Rattle.raft_table.proofs.Common.{append_assoc, length-drop, drop_more, cases_lt, without_first_spans, without_first_of_first, IsAt, is_same_place}
 use Rattle.raft_base.specs.declared.compression_type.CompressionType.TheVariants as compression
-use Rattle.raft_base.specs.declared.entry_index.EntryIndex.{EntryIndex}
-use Rattle.raft_base.specs.Runs.{RisesFrom, entries_of_block}
-use Rattle.raft_base.proofs.ConsecutiveLemmas.{end_bounded}
-use Rattle.raft_table.specs.Blocks.{BlockSpans, entries_in_blocks, AreDistinctBlocks}
-use Rattle.raft_table.specs.BlockWords.{count, starts_of, AreKept, first_of_last, joined_blocks, seam}
-use Rattle.raft_table.specs.TableEntries.{AreTableEntries, start_of, placed_in, is_placed_in, entry_count}
-use Rattle.raft_table.specs.Queues.{is_same, count_in}
-use Rattle.raft_table.proofs.RunLemmas.{start-of_rising, end_of-run}
-use Rattle.raft_table.proofs.PlaceLemmas.{entry_count-append, entries_in_one}
+use Rattle.raft_table.proofs.RunLemmas.{start-of_rising, end_of-run, rises_behind, RisesFrom-drop}
+use Rattle.raft_table.proofs.PlaceLemmas.{entry_count-append, entries_in_one, entries_in_front, entry_count-cut}
 use Rattle.raft_table.proofs.SoundLemmas.{sound_rising, cut_counts}
-use Rattle.raft_table.proofs.BlockLemmas.{length-spread, rises_spread, length-expanded, length-starts, rises_expanded}
-use Rattle.raft_table.proofs.BlockCuts.{IsFront, kept_with, kept_facts, kept_length}
-use Rattle.raft_table.proofs.BlockJoins.{seam_cut, kept_put}
-
-rises_behind : (s : ℕ) (a b : List EntryIndex) → RisesFrom s (a ++ b) → RisesFrom (s + length a) b
-rises_behind s [] b h = let e : s + 0 ≡ s = omega arith in rw e h
-rises_behind s (x ∷ a) b h = let e : s + suc (length a) ≡ suc s + length a = omega arith in rw e (rises_behind (suc s) a b h.1)
+use Rattle.raft_table.proofs.BlockLemmas.{length-spread, rises_spread, length-expanded, length-starts, rises_expanded, expanded-append, starts_drop, count_cut, count_take_more, count_take-le, spot_within}
+use Rattle.raft_table.proofs.BlockCuts.{IsFront, kept_with, kept_facts, kept_length, shown_len, kept_drop, front_of}
+use Rattle.raft_table.proofs.BlockJoins.{seam_cut, kept_put, same_queue_self, joined_append, joined_expanded, joined_starts, joined_count, joined_stretches}
+use Rattle.raft_table.proofs.RewriteLemmas.{behind_sound}
 
 -- entries behind others start where those end
 pub behind_index : (i : ℕ) (a b : List EntryIndex) → AreTableEntries (a ++ b) → RisesFrom i a → 0 < length a → 0 < length b → start_of b ≡ i + length a
@@ -31,14 +20,10 @@ behind_index i (x ∷ a) b h r l m =
     let e = r.0 in
     start-of_rising (x.index + length (x ∷ a)) b (rises_behind x.index (x ∷ a) b up) m ∙ omega arith
 
-is_same_self : (q : LogQueue) → is_same q q ≡ true
-is_same_self Append = refl
-is_same_self Rewrite = refl
-
 placed_spread : (i : ℕ) (h : FileBlockHandle) (ss : List (ℕ × ℕ)) → placed_in h.id.queue (entries_of_block i h ss) ≡ entries_of_block i h ss
 unfolding placed_in is_placed_in
 placed_spread i h [] = refl
-placed_spread i h (s ∷ ss) = rw (is_same_self h.id.queue) (ap (λ es. record { index = i; entries = Some h; compression_type = compression.None; entry_offset = s.0; entry_len = s.1 } ∷ es) (placed_spread (suc i) h ss))
+placed_spread i h (s ∷ ss) = rw (same_queue_self h.id.queue) (ap (λ es. record { index = i; entries = Some h; compression_type = compression.None; entry_offset = s.0; entry_len = s.1 } ∷ es) (placed_spread (suc i) h ss))
 
 pub entries_in_spread : (q : LogQueue) (i : ℕ) (h : FileBlockHandle) (ss : List (ℕ × ℕ)) → entry_count q (entries_of_block i h ss) ≡ count_in q h.id.queue (length ss)
 entries_in_spread q i h ss = entries_in_one q h.id.queue (entries_of_block i h ss) (placed_spread i h ss) ∙ ap (count_in q h.id.queue) (length-spread i h ss)
@@ -134,6 +119,22 @@ pub record IsKeptAs (i n : ℕ) (bs : List BlockSpans) (ss : List ℕ) (r : ℕ)
   pub kept : AreKept i n bs ss r
   pub entries : entries_in_blocks i bs ≡ es
 
+pub joined_fits : {i n j m : ℕ} {bs ys : List BlockSpans} {ss us : List ℕ} {r q : ℕ} → AreKept i n bs ss r → AreKept j m ys us q → (w : ℕ) → w ≤ n → 0 < m →
+    AreTableEntries (take w (entries_in_blocks i bs) ++ entries_in_blocks j ys) → (w + m < 2 ^ 64) × (min r w + q < 2 ^ 64)
+joined_fits {i} {n} {j} {m} {bs} {ys} h g w l p s =
+    let es = take w (entries_in_blocks i bs) ++ entries_in_blocks j ys in
+    let a = length-append (take w (entries_in_blocks i bs)) (entries_in_blocks j ys) in
+    let b = (kept_facts h).length in
+    let c = (kept_facts g).length in
+    let d = (kept_facts g).both in
+    let e = length-take-le w (entries_in_blocks i bs) (omega arith) in
+    let f = sound_fits (start_of es) es s (sound_rising es s) (omega arith) in
+    (omega arith, omega arith)
+
+pub blocks_filled : (i : ℕ) (bs : List BlockSpans) → 0 < length (entries_in_blocks i bs) → 0 < length bs
+blocks_filled i [] l = l
+blocks_filled i (b ∷ bs) l = omega arith
+
 pub kept_join : {i n j m : ℕ} {bs ys : List BlockSpans} {ss tt : List ℕ} {r q : ℕ} → AreKept i n bs ss r → AreKept j m ys tt q → (w k o rest : ℕ) →
     0 < w → w ≤ n → IsFront i w k bs (first_of_last o (take k bs)) → 0 < m →
     AreTableEntries (take w (entries_in_blocks i bs) ++ entries_in_blocks j ys) → rest ≡ length bs →
@@ -148,7 +149,7 @@ kept_join {i} {n} {j} {m} {bs} {ys} {ss} {tt} {r} {q} h g w k o rest l d f p s e
     let up : RisesFrom i (take w es) = subst (RisesFrom i) f.entries (rises_expanded i front) in
     let y : j ≡ i + w = sym ((kept_facts g).start p) ∙ behind_index i (take w es) (entries_in_blocks j ys) s up (omega arith) (omega arith) ∙ omega arith in
     let gl = g.len in
-    let some : 0 < length ys = filled ys (omega arith) in
+    let some : 0 < length ys = blocks_filled j ys (omega arith) in
     let n1 : drop rest bs ≡ [] = drop_all rest bs (omega arith) in
     let n2 : drop rest ss ≡ [] = drop_all rest ss (let z = kept_length h in omega arith) in
     let whole : take w es ++ entries_in_blocks (i + w) ys ++ [] ≡ take w es ++ entries_in_blocks j ys = append-nil (take w es ++ entries_in_blocks (i + w) ys) ∙ ap (λ z. take w es ++ entries_in_blocks z ys) (sym y) in
@@ -159,14 +160,6 @@ kept_join {i} {n} {j} {m} {bs} {ys} {ss} {tt} {r} {q} h g w k o rest l d f p s e
     let put = kept_put i w k (w + m) bs front ys [] ss tt [] (min r w + q) f h.starts (g.starts ∙ ap (λ z. starts_of z ys) y) refl some (subst AreDistinctBlocks (sym (append-nil ys)) g.distinct) (omega arith)
     (subst AreTableEntries (sym whole) s) (subst (λ xs. min r w + q ≡ entry_count Rewrite xs) (sym whole) (omega arith)) in
     rw (n1, n2, ← seam_cut o (take k bs) ys) (record { kept = put.0; entries = put.1 ∙ whole })
-  where
-    filled : (ys : List BlockSpans) → 0 < count ys → 0 < length ys
-    filled [] l = l
-    filled (c ∷ cs) l = omega arith
-
-pub blocks_filled : (i : ℕ) (bs : List BlockSpans) → 0 < length (entries_in_blocks i bs) → 0 < length bs
-blocks_filled i [] l = l
-blocks_filled i (b ∷ bs) l = omega arith
 
 -- the same without first indexes
 pub kept_join_few : {i n j m : ℕ} {bs ys : List BlockSpans} {ss us : List ℕ} {r q : ℕ} → AreKept i n bs ss r → AreKept j m ys us q → (w k o : ℕ)
@@ -181,3 +174,160 @@ kept_join_few {i} {n} {j} {m} {bs} {ys} {ss} {us} {r} {q} h g w k o l d f p s =
       kept = subst (λ xs. AreKept i (w + m) xs (starts_of i xs) (min r w + q)) e (kept_with a.kept refl);
       entries = ap (entries_in_blocks i) (sym e) ∙ a.entries;
     }
+
+pub joined_some : (ys : List BlockSpans) (t : BlockSpans) → 0 < length (joined_blocks ys (t ∷ []))
+joined_some [] t = omega arith
+joined_some (b ∷ []) t = (elim (is_same_place b.handle t.handle) as (λ z. is_same_place b.handle t.handle ≡ z → 0 < length (joined_blocks (b ∷ []) (t ∷ []))) [ true ↦ λ h. rw h (omega arith) | false ↦ λ h. rw h (omega arith) ]) refl
+joined_some (b ∷ d ∷ ys) t = omega arith
+
+-- a later entry stands in no earlier block
+pub later_block : (p q k w o v : ℕ) (bs : List BlockSpans) → IsAt p bs k o → IsAt q bs w v → p ≤ q → k ≤ w
+later_block p q k w o v bs a b l =
+    elim (cases_lt w k) [
+      | inl x ↦ let c = count_take-le (suc w) k bs (omega arith) in
+          let m = count_take_more w bs (record { handle = record { id = record { queue = Append; seq = 0 }; offset = 0; len = 0 }; spans = [] })
+          b.block in let i = b.inside (record { handle = record { id = record { queue = Append; seq = 0 }; offset = 0; len = 0 }; spans = [] }) in
+          let g = a.spot in let h = b.spot in absurd (omega arith)
+      | inr x ↦ x
+    ]
+
+without_first_of_first_is : (w o : ℕ) (bs : List BlockSpans) (b t : BlockSpans) → w < length bs → b ≡ get_or bs w b → t ≡ without_first_spans o b → without_first_of_first o (drop w bs) ≡ t ∷ drop (w + 1) bs
+without_first_of_first_is w o bs b t l e f =
+    ap (without_first_of_first o) (drop_more bs w b l ∙ ap (λ y. y ∷ drop (w + 1) bs) (sym e)) ∙ ap (λ y. y ∷ drop (w + 1) bs) (sym f)
+
+-- no entries in front
+pub front_none : (i m : ℕ) (bs : List BlockSpans) → IsFront i 0 0 bs (first_of_last m (take 0 bs))
+front_none i m bs = record { entries = refl; distinct = tt; starts = refl; count = refl }
+
+-- the first indexes of blocks with one more behind
+pub pushed_starts : (j x : ℕ) (ys : List BlockSpans) (t : BlockSpans) (ss : List ℕ) → ss ≡ starts_of j ys → x ≡ j + count ys → ss ++ drop (seam ys (t ∷ [])) (x ∷ []) ≡ starts_of j (joined_blocks ys (t ∷ []))
+pushed_starts j x ys t ss e f =
+    ap (λ zs. zs ++ drop (seam ys (t ∷ [])) (x ∷ [])) e ∙ ap (λ z. starts_of j ys ++ drop (seam ys (t ∷ [])) (z ∷ [])) f ∙ sym (joined_starts j ys (t ∷ []))
+
+-- where a run between others starts
+pub between_start : {i n j m : ℕ} {bs ys : List BlockSpans} {ss us : List ℕ} {r q : ℕ} → AreKept i n bs ss r → AreKept j m ys us q → (p : ℕ) → 0 < m →
+    p + m < n → AreTableEntries (take p (entries_in_blocks i bs) ++ entries_in_blocks j ys ++ drop (p + m) (entries_in_blocks i bs)) → j ≡ i + p
+between_start {i} {n} {j} {m} {bs} {ys} h g p l f s =
+    let es = entries_in_blocks i bs in
+    let d = p + m in
+    let le = (kept_facts h).length in
+    let ly = (kept_facts g).length in
+    let ld = length-drop d es in
+    let behind = behind_index j (entries_in_blocks j ys) (drop d es) (behind_sound (take p es) (entries_in_blocks j ys) (drop d es) s) (rises_expanded j ys) (omega arith) (omega arith) in
+    let start = start-of_rising (i + d) (drop d es) (RisesFrom-drop d i es (rises_expanded i bs) (omega arith)) (omega arith) in
+    omega arith
+
+-- what is kept where a run stands between the first entries and those from a spot on, the first block of which is cut
+pub kept_between : {i n j m : ℕ} {bs ys : List BlockSpans} {ss us : List ℕ} {r q : ℕ} → AreKept i n bs ss r → AreKept j m ys us q →
+    (p k w o x : ℕ) (front : List BlockSpans) (b t : BlockSpans) → IsFront i p k bs front → IsAt (p + m) bs w o → 0 < m → x ≡ i + (p + m) →
+    b ≡ get_or bs w b → t ≡ without_first_spans o b →
+    AreTableEntries (take p (entries_in_blocks i bs) ++ entries_in_blocks j ys ++ drop (p + m) (entries_in_blocks i bs)) →
+    IsKeptAs i n (joined_blocks front (joined_blocks ys (t ∷ [])) ++ drop (w + 1) bs)
+    (take k ss ++ drop (seam front (joined_blocks ys (t ∷ []))) (us ++ drop (seam ys (t ∷ [])) (x ∷ [])) ++ drop (w + 1) ss)
+    (min r p + q + (r - min r (p + m))) (take p (entries_in_blocks i bs) ++ entries_in_blocks j ys ++ drop (p + m) (entries_in_blocks i bs))
+kept_between {i} {n} {j} {m} {bs} {ys} {ss} {us} {r} {q} h g p k w o x front b t f a l ex eb et s =
+    let es = entries_in_blocks i bs in
+    let d = p + m in
+    let rest = drop (w + 1) bs in
+    let more = joined_blocks ys (t ∷ []) in
+    let kd = kept_drop i n d w o bs ss r h a in
+    let is = without_first_of_first_is w o bs b t a.block eb et in
+    let behind : entries_in_blocks (i + d) (t ∷ rest) ≡ drop d es = subst (λ zs. entries_in_blocks (i + d) zs ≡ drop d es) is kd.1 in
+    let back : AreDistinctBlocks (t ∷ rest) = subst AreDistinctBlocks is kd.0.distinct in
+    let n0 = h.len in
+    let pw = spot_within d w o bs a in
+    let y : j ≡ i + p = between_start h g p l (omega arith) s in
+    let m0 = g.len in
+    let inside : o < length b.spans = subst (λ (z : BlockSpans). o < length z.spans) (sym eb) (a.inside b) in
+    let lt : length t.spans ≡ length b.spans - o = ap (λ (z : BlockSpans). length z.spans) et ∙ length-drop o b.spans in
+    let cy = joined_count ys (t ∷ []) in
+    let spot = a.spot in
+    let w1 : w + 1 ≡ suc w = omega arith in
+    let upto : count (take (w + 1) bs) ≡ count (take w bs) + length b.spans =
+    ap (λ z. count (take z bs)) w1 ∙ count_take_more w bs b a.block ∙ ap (λ (z : BlockSpans). count (take w bs) + length z.spans) (sym eb) in
+    let cc = count_cut (w + 1) bs in
+    let us1 : us ≡ starts_of (i + p) ys = g.starts ∙ ap (λ z. starts_of z ys) y in
+    let more_starts = pushed_starts (i + p) x ys t us us1 (omega arith) in
+    let rest_starts : drop (w + 1) ss ≡ starts_of (i + p + count more) rest =
+    ap (drop (w + 1)) h.starts ∙ starts_drop (w + 1) i bs ∙ ap (λ z. starts_of z rest) (let e : i + count (take (w + 1) bs) ≡ i + p + count more = omega arith in e) in
+    let str : AreDistinctBlocks (more ++ rest) = subst AreDistinctBlocks (sym (joined_append ys (t ∷ []) rest (omega arith))) (joined_stretches ys (t ∷ rest) g.distinct back) in
+    let top = take p es in
+    let mid = entries_in_blocks (i + p) ys in
+    let seg = entries_in_blocks (i + p + count ys) (t ∷ []) in
+    let low = entries_in_blocks (i + p + count more) rest in
+    let tail : seg ++ low ≡ drop d es =
+    ap (λ z. seg ++ entries_in_blocks z rest) (let e : i + p + count more ≡ i + p + count ys + count (t ∷ []) = omega arith in e)
+    ∙ sym (expanded-append (i + p + count ys) (t ∷ []) rest)
+    ∙ ap (λ z. entries_in_blocks z (t ∷ rest)) (let e : i + p + count ys ≡ i + d = omega arith in e) ∙ behind in
+    let whole : top ++ entries_in_blocks (i + p) more ++ low ≡ top ++ entries_in_blocks j ys ++ drop d es =
+    ap (λ z. top ++ z ++ low) (joined_expanded (i + p) ys (t ∷ []))
+    ∙ ap (λ z. z ++ low) (sym (append_assoc top mid seg)) ∙ append_assoc (top ++ mid) seg low
+    ∙ ap (λ z. top ++ mid ++ z) tail ∙ ap (λ z. top ++ entries_in_blocks z ys ++ drop d es) (sym y) in
+    let ca = entry_count-append Rewrite (top ++ entries_in_blocks j ys) (drop d es) in
+    let cb = entry_count-append Rewrite top (entries_in_blocks j ys) in
+    let cf = entries_in_front p es h.table_entries.in_front in
+    let cd = entries_in_front d es h.table_entries.in_front in
+    let ce = entry_count-cut Rewrite d es in
+    let r0 = h.rewritten in
+    let q0 = g.rewritten in
+    let put = kept_put i p k n bs front more rest ss (us ++ drop (seam ys (t ∷ [])) (x ∷ [])) (drop (w + 1) ss) (min r p + q + (r - min r d)) f h.starts more_starts rest_starts (joined_some ys t) str (omega arith)
+    (subst AreTableEntries (sym whole) s) (subst (λ zs. min r p + q + (r - min r d) ≡ entry_count Rewrite zs) (sym whole) (omega arith)) in
+    record { kept = put.0; entries = put.1 ∙ whole }
+
+-- how many first indexes there are
+pub pushed_length : (j x : ℕ) (ys : List BlockSpans) (t : BlockSpans) (ss : List ℕ) → ss ≡ starts_of j ys → length (ss ++ drop (seam ys (t ∷ [])) (x ∷ [])) ≡ length (joined_blocks ys (t ∷ []))
+pushed_length j x ys t ss e =
+    let k = seam ys (t ∷ []) in
+    let z = j + count ys in
+    length-append ss (drop k (x ∷ [])) ∙ ap (λ n. length ss + n) (length-drop k (x ∷ []) ∙ sym (length-drop k (z ∷ []))) ∙ sym (length-append ss (drop k (z ∷ [])))
+    ∙ ap length (pushed_starts j z ys t ss e refl) ∙ length-starts j (joined_blocks ys (t ∷ []))
+
+-- a block after others adds one block and its first index, or none where it has the place of the last
+pub pushed_count : (x : ℕ) (ys : List BlockSpans) (t : BlockSpans) → length ys + length (drop (seam ys (t ∷ [])) (x ∷ [])) ≡ length (joined_blocks ys (t ∷ []))
+pushed_count x ys t =
+    let k = drop (seam ys (t ∷ [])) (x ∷ []) in
+    ap (λ n. n + length k) (sym (length-starts 0 ys)) ∙ sym (length-append (starts_of 0 ys) k) ∙ pushed_length 0 x ys t (starts_of 0 ys) refl
+
+pub none_left : (x k : ℕ) → length (drop k (x ∷ [])) ≡ 0 → drop k (x ∷ []) ≡ []
+none_left x k e = nil_from_length (drop k (x ∷ [])) e
+
+pub one_left : (x k : ℕ) → 0 < length (drop k (x ∷ [])) → drop k (x ∷ []) ≡ x ∷ []
+one_left x zero l = refl
+one_left x (suc k) l = let n = length-drop (suc k) (x ∷ []) in absurd (omega arith)
+
+-- numbers of entries and of a run between them
+pub between_fits : {i n j m : ℕ} {bs ys : List BlockSpans} {ss us : List ℕ} {r q : ℕ} {es run : List EntryIndex} → AreKept i n bs ss r → AreKept j m ys us q → (p : ℕ) →
+    entries_in_blocks i bs ≡ es → entries_in_blocks j ys ≡ run → 0 < length run → p + length run < length es → (0 < m) × (p + m < n) × (i + n < 2 ^ 64) × (q ≤ m) × (r ≤ n)
+between_fits {i} {n} {j} {m} h g p e u l f =
+    let le = shown_len h e in
+    let ly = shown_len g u in
+    let b = (kept_facts h).both in
+    let c = (kept_facts g).both in
+    (omega arith, omega arith, (kept_facts h).bounded (omega arith), omega arith, omega arith)
+
+-- the first entries as blocks, by where they end
+pub front_at_spot : (i p k v : ℕ) (bs : List BlockSpans) → AreDistinctBlocks bs → (p ≡ 0 → (k ≡ 0) × (v ≡ 0)) → (0 < p → IsAt (p - 1) bs (k - 1) (v - 1) × (0 < k) × (0 < v)) → IsFront i p k bs (first_of_last v (take k bs))
+front_at_spot i zero k v bs str e f = let z = e refl in rw (z.0) (front_none i v bs)
+front_at_spot i (suc p) k v bs str e f =
+    let u = f (omega arith) in
+    let a = u.1 in
+    let b = u.2 in
+    let x : k - 1 + 1 ≡ k = omega arith in
+    let y : v - 1 + 1 ≡ v = omega arith in
+    subst (λ z. IsFront i (suc p) z bs (first_of_last v (take z bs))) x
+    (subst (λ z. IsFront i (suc p) (k - 1 + 1) bs (first_of_last z (take (k - 1 + 1) bs))) y (front_of i (suc p) (k - 1) (v - 1) bs str (omega arith) u.0))
+
+pub put_between : {i n j m : ℕ} {bs ys : List BlockSpans} {ss us : List ℕ} {r q : ℕ} → AreKept i n bs ss r → AreKept j m ys us q →
+    (p k v w o x : ℕ) (b t : BlockSpans) → (p ≡ 0 → (k ≡ 0) × (v ≡ 0)) → (0 < p → IsAt (p - 1) bs (k - 1) (v - 1) × (0 < k) × (0 < v)) →
+    IsAt (p + m) bs w o → 0 < m → x ≡ i + (p + m) → b ≡ get_or bs w b → t ≡ without_first_spans o b →
+    AreTableEntries (take p (entries_in_blocks i bs) ++ entries_in_blocks j ys ++ drop (p + m) (entries_in_blocks i bs)) →
+    IsKeptAs i n (joined_blocks (first_of_last v (take k bs)) (joined_blocks ys (t ∷ [])) ++ drop (w + 1) bs)
+    (take k ss ++ drop (seam (take k bs) (joined_blocks ys (t ∷ []))) (us ++ drop (seam ys (t ∷ [])) (x ∷ [])) ++ drop (w + 1) ss)
+    (min r p + q + (r - min r (p + m))) (take p (entries_in_blocks i bs) ++ entries_in_blocks j ys ++ drop (p + m) (entries_in_blocks i bs))
+put_between {i} {n} {j} {m} {bs} {ys} {ss} {us} {r} {q} h g p k v w o x b t e f a l ex eb et s =
+    rw (← seam_cut v (take k bs) (joined_blocks ys (t ∷ []))) (kept_between h g p k w o x (first_of_last v (take k bs)) b t (front_at_spot i p k v bs h.distinct e f) a l ex eb et s)
+
+-- a cut ends no later than a block behind it
+pub cut_order : (p q k v w o : ℕ) (bs : List BlockSpans) → (p ≡ 0 → (k ≡ 0) × (v ≡ 0)) → (0 < p → IsAt (p - 1) bs (k - 1) (v - 1) × (0 < k) × (0 < v)) → IsAt q bs w o → p ≤ q → k ≤ w + 1
+cut_order zero q k v w o bs e f a l = let z = (e refl).0 in omega arith
+cut_order (suc p) q k v w o bs e f a l = let u = (f (omega arith)).0 in let x = later_block (suc p - 1) q (k - 1) w (v - 1) o bs u a (omega arith) in omega arith

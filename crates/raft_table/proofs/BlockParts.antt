@@ -1,18 +1,9 @@
 -- What stands in a block, and what changes from one to the next.
-use Rattle.std.proofs.Common.{◌≡◌, ◌≢◌, ℕ, zero, suc, ◌+◌, ◌<◌, ◌≤◌, true, false, List, [], ◌∷◌, ◌++◌, length, get_or, take, drop, refl, sym, ap, ◌∙◌, subst, arith, Some}
-use Rattle.std.specs.List.{slice_get}
-use Rattle.std.proofs.lemmas.List.{append-nil, length-append, length-drop, take-append-le, drop-take}
-use Rattle.raft_base.specs.declared.pipe_log.FileBlockHandle.{FileBlockHandle}
-use Rattle.raft_base.specs.declared.entry_index.EntryIndex.{EntryIndex}
-use Rattle.raft_base.specs.Runs.{entries_of_block}
-use Rattle.raft_table.specs.Blocks.{BlockSpans, entries_in_blocks, AreDistinctBlocks}
-use Rattle.raft_table.specs.BlockWords.{count, IsAt}
-use Rattle.raft_table.specs.TableEntries.{start_of}
-use Rattle.raft_table.specs.Fetches.{change_count, block_count, entry_seq, are_same_places}
+use Rattle.raft_table.proofs.Common.{◌≡◌, ◌≢◌, ℕ, zero, suc, ◌+◌, ◌<◌, ◌≤◌, true, false, List, [], ◌∷◌, ◌++◌, length, get_or, take, drop, refl, sym, ap, ◌∙◌, subst, arith, Some, slice_get, append-nil, length-append, length-drop}
+use Rattle.raft_table.proofs.Common.{take-append-le, drop-take, FileBlockHandle, EntryIndex, entries_of_block, BlockSpans, entries_in_blocks, AreDistinctBlocks, count, IsAt, start_of, change_count, block_count, entry_seq, are_same_places}
 use Rattle.raft_table.proofs.RunLemmas.{start-of_rising}
 use Rattle.raft_table.proofs.FetchLemmas.{slice_get_drop}
-use Rattle.raft_table.proofs.BlockLemmas.{length-spread, spread_take, rises_expanded}
-use Rattle.raft_table.proofs.BlockSearch.{at_spot, entry_of}
+use Rattle.raft_table.proofs.BlockLemmas.{length-spread, spread_take, rises_expanded, at_spot, entry_of}
 use Rattle.raft_table.proofs.BlockJoins.{same_place_self, other_place_is}
 
 -- the entries of blocks start where they do

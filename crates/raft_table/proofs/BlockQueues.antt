@@ -1,32 +1,9 @@
 -- Queues of blocks, as what their blocks hold.
-use Rattle.std.proofs.Common.{◌≡◌, ◌≢◌, ◌⊎◌, inl, inr, true, false, ℕ, zero, suc, ◌+◌, ◌-◌, ◌<◌, ◌≤◌, List, [], ◌∷◌, ◌++◌, length, get_or, set, take, drop, refl, sym, ap, ◌∙◌, subst, arith}
-use Rattle.std.proofs.lemmas.List.{
-  append_assoc,
-  length-append,
-  length-drop,
-  length-map,
-  length-take-le,
-  take-take,
-  take_at,
-  drop_at,
-  take-map,
-  drop-map,
-  map-set,
-  get_or-map,
-  get_or_default,
-  take_more,
-  take_more_set,
-  take_all,
-  length-set,
-  map-append,
-  drop-set-lt,
-}
-use Rattle.raft_base.specs.declared.pipe_log.FileBlockHandle.{FileBlockHandle}
-use Rattle.raft_table.specs.declared.memtable.block.Block.{Block}
-use Rattle.raft_table.specs.Blocks.{BlockSpans, block_spans, blocks_shown}
-use Rattle.raft_table.specs.BlockWords.{first_spans, without_first_spans, with_spans_behind, first_of_last, without_first_of_first, joined_blocks, seam, IsAt}
-use Rattle.raft_table.specs.Fetches.{is_same_place}
-use Rattle.raft_table.proofs.BlockSearch.{take_past}
+use Rattle.raft_table.proofs.Common.{◌≡◌, ◌≢◌, true, false, ℕ, zero, suc, ◌+◌, ◌-◌, ◌<◌, ◌≤◌, List, [], ◌∷◌, ◌++◌, length, get_or, set, take, drop, refl, sym, ap, ◌∙◌, subst, arith, FileBlockHandle, Block, BlockSpans}
+use Rattle.raft_table.proofs.Common.{block_spans, blocks_shown, first_spans, without_first_spans, with_spans_behind, first_of_last, without_first_of_first, joined_blocks, seam, IsAt, is_same_place}
+use Rattle.raft_table.proofs.Common.{append_assoc, length-append, length-drop, length-map, length-take-le, take-take, take_at, drop_at, take-map, get_or_default, take_more, take_all, map-append}
+use Rattle.std.proofs.lemmas.List.{drop-map, map-set, get_or-map, take_more_set, length-set, drop-set-lt}
+use Rattle.std.proofs.Math.Seq.{take-append-add}
 use Rattle.raft_table.proofs.BlockJoins.{same_place_self, other_place_is}
 
 -- what a queue holds that was turned, cut, joined, and turned back
@@ -35,7 +12,7 @@ pub spliced : {X : Type 0} (kept rest n : ℕ) (xs more a b c d : List X) → ke
 spliced kept rest n xs more a b c d k l e f g h j =
     let m : length (drop rest xs) ≡ n = length-drop rest xs ∙ sym e in
     let cut : b ≡ drop rest xs ++ take kept xs =
-    g ∙ ap (take (n + kept)) f ∙ ap (λ i. take (i + kept) (drop rest xs ++ take rest xs)) (sym m) ∙ take_past (drop rest xs) (take rest xs) kept
+    g ∙ ap (take (n + kept)) f ∙ ap (λ i. take (i + kept) (drop rest xs ++ take rest xs)) (sym m) ∙ take-append-add (drop rest xs) (take rest xs) kept
     ∙ ap (λ ys. drop rest xs ++ ys) (take-take kept rest xs k) in
     let whole : c ≡ drop rest xs ++ (take kept xs ++ more) = h ∙ ap (λ ys. ys ++ more) cut ∙ append_assoc (drop rest xs) (take kept xs) more in
     j ∙ ap (λ ys. drop n ys ++ take n ys) whole
@@ -49,7 +26,7 @@ pub spliced_round : {X : Type 0} (kept rest n w : ℕ) (xs more a b c d : List X
 spliced_round kept rest n w xs more a b c d k l e u f g h j =
     let m : length (drop rest xs) ≡ n = length-drop rest xs ∙ sym e in
     let cut : b ≡ drop rest xs ++ take kept xs =
-    g ∙ ap (take (n + kept)) f ∙ ap (λ i. take (i + kept) (drop rest xs ++ take rest xs)) (sym m) ∙ take_past (drop rest xs) (take rest xs) kept
+    g ∙ ap (take (n + kept)) f ∙ ap (λ i. take (i + kept) (drop rest xs ++ take rest xs)) (sym m) ∙ take-append-add (drop rest xs) (take rest xs) kept
     ∙ ap (λ ys. drop rest xs ++ ys) (take-take kept rest xs k) in
     let front = more ++ drop rest xs in
     let whole : c ≡ front ++ take kept xs = h ∙ ap (λ ys. more ++ ys) cut ∙ sym (append_assoc more (drop rest xs) (take kept xs)) in
@@ -59,11 +36,6 @@ spliced_round kept rest n w xs more a b c d k l e u f g h j =
     ∙ ap (λ ys. ys ++ take w (front ++ take kept xs)) (drop_at front (take kept xs) w q)
     ∙ ap (λ ys. take kept xs ++ ys) (take_at front (take kept xs) w q)
     ∙ sym (append_assoc (take kept xs) more (drop rest xs))
-
--- room in one of two queues, also where the second has fewer
-pub room_left : (a b d e c f g h : ℕ) → (a + b ≤ c) ⊎ (a + b ≤ f) → d ≡ a → e ≤ b → g ≡ c → h ≡ f → (d + e ≤ g) ⊎ (d + e ≤ h)
-room_left a b d e c f g h (inl r) p q s t = inl (omega arith)
-room_left a b d e c f g h (inr r) p q s t = inr (omega arith)
 
 pub shown_at : (bs : List Block) (k : ℕ) (b : Block) → k < length bs → b ≡ get_or bs k b → block_spans b ≡ get_or (blocks_shown bs) k (block_spans b)
 shown_at bs k b l e = ap block_spans e ∙ sym (get_or-map block_spans bs k b (block_spans b) l)

@@ -1,50 +1,23 @@
 -- What a cut of a table's entries leaves, and how many.
-use Rattle.std.proofs.Common.{◌≡◌, ℕ, ◌-◌, ◌<◌, ◌≤◌, max, min, Bool, true, false, cond, ltb, List, [], ◌∷◌, length, take, drop, Option, Some, None, refl, sym, ap, subst, ◌∙◌, inl, inr, arith}
+use Rattle.raft_table.proofs.Common.{drop_min, take_min, ◌≡◌, ℕ, ◌-◌, ◌<◌, ◌≤◌, max, min, Bool, true, false, cond, ltb, List, [], length, take, drop, Option, Some, None, refl, sym, ap, subst, ◌∙◌, arith, nat_tests}
+use Rattle.raft_table.proofs.Common.{LogQueue, EntryIndex, RisesFrom, end_of, below, from, is_placed_in, placed_in, entry_count, Keys, pair_count, entries_within, at_most_bound}
 use Rattle.std.specs.Prelude.{filter}
-use Rattle.std.proofs.lemmas.Bool.{cases_lt}
-use Rattle.std.proofs.lemmas.Bool.Decides.{nat_tests}
-use Rattle.raft_base.specs.declared.pipe_log.LogQueue.{LogQueue}
-use Rattle.raft_base.specs.declared.entry_index.EntryIndex.{EntryIndex}
-use Rattle.raft_base.specs.Runs.{RisesFrom, end_of}
-use Rattle.raft_table.specs.TableEntries.{AreTableEntries, start_of, below, from, is_placed_in, placed_in, entry_count}
 use Rattle.std.specs.FinMap as finite
-use Rattle.raft_table.specs.KeyValues.{Keys, pair_count}
-use Rattle.raft_table.specs.Marks.{entries_within}
+use Rattle.raft_table.proofs.KeyValueCounts.{length-filter-le}
 use Rattle.raft_table.proofs.KeyValueReads.{entries-empty}
-use Rattle.raft_table.proofs.RunLemmas.{filter_comm, below_start, from_start}
-use Rattle.raft_table.proofs.SoundLemmas.{sound_rising, below_cut, from_cut}
-use Rattle.raft_table.specs.MarkJoins.{at_most_bound}
-use Rattle.raft_table.proofs.PartEnds.{end_of-part_run}
-use Rattle.raft_table.proofs.MarkWords.{within-within, within-from, within-below}
+use Rattle.raft_table.proofs.RunLemmas.{filter_comm}
+use Rattle.raft_table.proofs.RewriteLemmas.{below_is, from_is}
+use Rattle.raft_table.proofs.MarkWords.{within-within, within-from, within-below, end_of-part_run}
 
--- so many in front are the entries below an index
-pub front_below : (i first n : ℕ) (es : List EntryIndex) → AreTableEntries es → start_of es ≡ first → n ≡ min (i - first) (length es) → take n es ≡ below i es
-front_below i first n es h s e = elim (cases_lt i (start_of es)) [
-  | inl l ↦ ap (λ k. take k es) (none i first n (length es) (omega arith) e) ∙ sym (below_start i (start_of es) es (sound_rising es h) (omega arith))
-  | inr l ↦ below_cut i n es h l (rw s e)
-]
-  where
-    none : (i first n k : ℕ) → i < first → n ≡ min (i - first) k → n ≡ 0
-    none i first n k l e = omega arith
+-- so many in front are the entries below an index, and those behind them the ones from it on
+pub front_below : (i first n : ℕ) (es : List EntryIndex) → RisesFrom first es → n ≡ min (i - first) (length es) → take n es ≡ below i es
+front_below i first n es r e = ap (λ k. take k es) e ∙ take_min (i - first) es ∙ sym (below_is i first es r)
 
-pub below_zero : (es : List EntryIndex) → below 0 es ≡ []
-unfolding below
-below_zero [] = refl
-below_zero (e ∷ es) = rw (none e.index) (below_zero es)
-  where
-    none : (i : ℕ) → ltb i 0 ≡ false
-    none i = grind (arith, nat_tests)
+pub behind_from : (i first n : ℕ) (es : List EntryIndex) → RisesFrom first es → n ≡ min (i - first) (length es) → drop n es ≡ from i es
+behind_from i first n es r e = ap (λ k. drop k es) e ∙ drop_min (i - first) es ∙ sym (from_is i first es r)
 
 pub within-cut : (floor cut : ℕ) (es : List EntryIndex) → below cut (from floor es) ≡ entries_within floor (Some cut) es
 within-cut floor cut es = ap (below cut) (sym (within-from floor es)) ∙ sym (within-below cut (entries_within floor None es)) ∙ within-within 0 (Some cut) floor None es ∙ ap (λ l. entries_within l (Some cut) es) (omega arith)
-
-length-filter-le : {X : Type 0} (p : X → Bool) (xs : List X) → length (filter p xs) ≤ length xs
-length-filter-le p [] = omega arith
-length-filter-le p (x ∷ xs) = go (p x) (length-filter-le p xs)
-  where
-    go : (b : Bool) → length (filter p xs) ≤ length xs → length (cond b (x ∷ filter p xs) (filter p xs)) ≤ length (x ∷ xs)
-    go true h = omega arith
-    go false h = omega arith
 
 -- a part has at most the entries of all
 pub within-fewer : (q : LogQueue) (floor : ℕ) (cut : Option ℕ) (es : List EntryIndex) → entry_count q (entries_within floor cut es) ≤ entry_count q es
@@ -71,16 +44,6 @@ end_unmet s es floor cut end m x h e f g l = sym (end_of-within s es floor cut h
   where
     go : (n : ℕ) → x ≡ n → cond (ltb (max s floor) n) n 0 ≡ 0
     go n k = grind (arith, nat_tests)
-
--- and those that are not in front of an index
-pub behind_from : (i first n : ℕ) (es : List EntryIndex) → AreTableEntries es → start_of es ≡ first → n ≡ min (i - first) (length es) → drop n es ≡ from i es
-behind_from i first n es h s e = elim (cases_lt i (start_of es)) [
-  | inl l ↦ ap (λ k. drop k es) (none i first n (length es) (omega arith) e) ∙ sym (from_start i (start_of es) es (sound_rising es h) (omega arith))
-  | inr l ↦ from_cut i n es h l (rw s e)
-]
-  where
-    none : (i first n k : ℕ) → i < first → n ≡ min (i - first) k → n ≡ 0
-    none i first n k l e = omega arith
 
 -- a part, or nothing
 pub kept-fewer : (q : LogQueue) (gone : Bool) (floor : ℕ) (cut : Option ℕ) (es xs : List EntryIndex) → xs ≡ cond gone [] (entries_within floor cut es) → entry_count q xs ≤ entry_count q es

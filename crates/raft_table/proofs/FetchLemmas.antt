@@ -1,15 +1,7 @@
 -- Parts of a table's entries, as a fetch takes them.
-use Rattle.std.proofs.Common.{◌≡◌, ℕ, zero, suc, ◌+◌, ◌-◌, ◌<◌, ◌≤◌, ◌⊎◌, inl, inr, true, false, List, [], ◌∷◌, ◌++◌, length, get_or, take, drop, Option, Some, refl, sym, ap, ◌∙◌, subst, arith}
-use Rattle.std.specs.List.{prefix_len, slice_get, take_while}
-use Rattle.std.proofs.lemmas.List.{drop_at, length-take, take-take, drop-take, get_or-drop, get_or-take}
-use Rattle.std.proofs.lemmas.List.Sums.{sum_by_more}
-use Rattle.std.proofs.lemmas.Bool.{cases_lt}
-use Rattle.std.proofs.lemmas.Bool.Decides.{nat_tests}
-use Rattle.raft_base.specs.declared.pipe_log.LogQueue.TheVariants.{Append, Rewrite}
-use Rattle.raft_base.specs.declared.entry_index.EntryIndex.{EntryIndex}
-use Rattle.raft_table.specs.TableEntries.{AreTableEntries, start_of, from, entries_between, placed_in, entry_count}
-use Rattle.raft_table.specs.Fetches.{total_len, is_too_many, IsLimitCount, FetchesWithin, NotFound, Compacted, Found, range_answer, appended_before}
-use Rattle.raft_table.specs.Rewriting.{is_placed_before}
+use Rattle.raft_table.proofs.Common.{◌≡◌, ℕ, zero, suc, ◌+◌, ◌-◌, ◌<◌, ◌≤◌, ◌⊎◌, inl, inr, true, false, List, [], ◌∷◌, ◌++◌, length, get_or, take, drop, Option, Some, refl, sym, ap, ◌∙◌, subst, arith, prefix_len, slice_get, take_while}
+use Rattle.raft_table.proofs.Common.{drop_at, length-take, take-take, drop-take, get_or-drop, get_or-take, sum_by_more, cases_lt, nat_tests, EntryIndex, AreTableEntries, start_of, from, entries_between, placed_in, entry_count, total_len}
+use Rattle.raft_table.proofs.Common.{is_too_many, IsLimitCount, FetchesWithin, NotFound, Compacted, Found, range_answer, appended_before, is_placed_before, Append, Rewrite}
 use Rattle.raft_table.proofs.RunLemmas.{RisesFrom-take}
 use Rattle.raft_table.proofs.SoundLemmas.{sound_rising}
 use Rattle.raft_table.proofs.StartLemmas.{sound_end}
@@ -58,8 +50,7 @@ pub appended_is : (es : List EntryIndex) → AreTableEntries es → placed_in Ap
 appended_is es h = sym (ap (drop (entry_count Rewrite es)) h.in_front ∙ drop_at (placed_in Rewrite es) (placed_in Append es) (entry_count Rewrite es) refl)
 
 pub slice_get_drop : {X : Type 0} (n : ℕ) (xs : List X) → slice_get (drop n xs) 0 ≡ slice_get xs n
-slice_get_drop zero [] = refl
-slice_get_drop zero (x ∷ xs) = refl
+slice_get_drop zero xs = refl
 slice_get_drop (suc n) [] = refl
 slice_get_drop (suc n) (x ∷ xs) = slice_get_drop n xs
 

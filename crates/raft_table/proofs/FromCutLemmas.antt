@@ -1,13 +1,6 @@
 -- Own entries that are not below the cut of their region mark.
-use Rattle.std.proofs.Common.{◌≡◌, ℕ, ◌≤◌, ◌<◌, suc, min, Bool, true, false, cond, List, [], ◌∷◌, ◌++◌, filter, Option, Some, None, refl, sym, subst, arith}
-use Rattle.raft_base.specs.declared.pipe_log.LogQueue.{LogQueue}
-use Rattle.raft_base.specs.declared.entry_index.EntryIndex.{EntryIndex}
-use Rattle.raft_base.specs.Runs.{RisesFrom, end_of}
-use Rattle.raft_table.specs.TableEntries.{start_of}
-use Rattle.raft_table.specs.KeyValues.{lesser}
-use Rattle.raft_table.specs.Marks.{Mark, entries_within}
-use Rattle.raft_table.specs.MarkFits.{FitsCut, AreFromCut, Fits}
-use Rattle.raft_table.specs.MarkJoins.{fresh, joined_at}
+use Rattle.raft_table.proofs.Common.{◌≡◌, ℕ, ◌≤◌, ◌<◌, suc, min, Bool, true, false, cond, List, [], ◌∷◌, ◌++◌, filter, Option, Some, None, refl, sym, subst, arith, LogQueue, EntryIndex, RisesFrom, end_of, start_of}
+use Rattle.raft_table.proofs.Common.{lesser, Mark, entries_within, FitsCut, AreFromCut, Fits, fresh, joined_at}
 use Rattle.raft_table.proofs.StepMarkLemmas.{run_covered}
 
 from_less : (c d : ℕ) (es : List EntryIndex) → d ≤ c → AreFromCut (Some c) es → AreFromCut (Some d) es
@@ -20,11 +13,7 @@ from_append c (x ∷ xs) ys h k = (h.0, from_append c xs ys h.1 k)
 
 from_filter : (c : ℕ) (p : EntryIndex → Bool) (es : List EntryIndex) → AreFromCut (Some c) es → AreFromCut (Some c) (filter p es)
 from_filter c p [] h = tt
-from_filter c p (e ∷ es) h = go (p e) (from_filter c p es h.1)
-  where
-    go : (b : Bool) → AreFromCut (Some c) (filter p es) → AreFromCut (Some c) (cond b (e ∷ filter p es) (filter p es))
-    go true k = (h.0, k)
-    go false k = k
+from_filter c p (e ∷ es) h = (elim (p e) as (λ b. AreFromCut (Some c) (filter p es) → AreFromCut (Some c) (cond b (e ∷ filter p es) (filter p es))) [ true ↦ λ k. (h.0, k) | false ↦ λ k. k ]) (from_filter c p es h.1)
 
 from_within : (c floor : ℕ) (cut : Option ℕ) (es : List EntryIndex) → AreFromCut (Some c) es → AreFromCut (Some c) (entries_within floor cut es)
 unfolding entries_within
@@ -54,13 +43,10 @@ from_later c floor b reach n t u w dropped h k l is = subst (AreFromCut (lesser 
     older None = from_within c floor None t h
     older (Some d) = from_within (min c d) floor (Some d) t (from_less c (min c d) t (omega arith) h)
 
-    both : (b : Option ℕ) → AreFromCut (lesser (Some c) b) (entries_within floor b t) → AreFromCut (lesser (Some c) b) u → AreFromCut (lesser (Some c) b) (entries_within floor b t ++ u)
-    both None x y = from_append c (entries_within floor None t) u x y
-    both (Some d) x y = from_append (min c d) (entries_within floor (Some d) t) u x y
-
     go : (dropped : Bool) → AreFromCut (lesser (Some c) b) u → AreFromCut (lesser (Some c) b) (cond dropped u (entries_within floor b t ++ u))
     go true y = y
-    go false y = both b (older b) y
+    go false y = (elim b as (λ b. AreFromCut (lesser (Some c) b) (entries_within floor b t) → AreFromCut (lesser (Some c) b) u → AreFromCut (lesser (Some c) b) (entries_within floor b t ++ u))
+        [ None ↦ λ x y. from_append c (entries_within floor None t) u x y | Some d ↦ λ x y. from_append (min c d) (entries_within floor (Some d) t) u x y ]) (older b) y
 
 -- ---- what a run changes
 
@@ -77,7 +63,7 @@ empty (x ∷ es) some e = cc
 -- a run that begins among own entries, or right behind them, leaves their region mark as it is
 pub run_stays : (q : LogQueue) (m : Mark) (own : List EntryIndex) (start : ℕ) → Fits q m own → 0 < end_of own → start_of own ≤ start →
     start ≤ end_of own → joined_at q (end_of own) m (record fresh { reach = Some start; cut = Some start }) ≡ m
-run_stays q m own start f some low high = by_cleaned m.cleaned refl
+run_stays q m own start f some low high = (elim m.cleaned as (λ b. m.cleaned ≡ b → joined_at q (end_of own) m n ≡ m) [ true ↦ λ e. rw e refl | false ↦ λ e. by_run m.reach m.cut refl refl (f.uncleaned e) (f.from_cut e) ]) refl
   where
     n : Mark
     n = record fresh { reach = Some start; cut = Some start }
@@ -86,10 +72,6 @@ run_stays q m own start f some low high = by_cleaned m.cleaned refl
     by_run None y e k h l = absurd (empty own some h)
     by_run (Some r) None e k h l = absurd h
     by_run (Some r) (Some c) e k h l = run_covered q (end_of own) start r c m e k (omega (arith, cut_low c own some l, low)) high some
-
-    by_cleaned : (b : Bool) → m.cleaned ≡ b → joined_at q (end_of own) m n ≡ m
-    by_cleaned true e = rw e refl
-    by_cleaned false e = by_run m.reach m.cut refl refl (f.uncleaned e) (f.from_cut e)
 
 -- the region mark of no step has no entries
 pub none_of_fresh : (q : LogQueue) (own : List EntryIndex) → Fits q fresh own → own ≡ []

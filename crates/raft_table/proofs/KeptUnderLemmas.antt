@@ -1,16 +1,44 @@
--- What stays in front of a run, and what it takes the place of.
-use Rattle.std.proofs.Common.{◌≡◌, ℕ, ◌+◌, ◌<◌, ◌≤◌, ◌^◌, inl, inr, ◌++◌, List, ◌∷◌, [], length, take, drop, refl, sym, ap, subst, ◌∙◌, arith, Some}
-use Rattle.raft_base.specs.declared.pipe_log.LogQueue.{LogQueue}
-use Rattle.raft_base.specs.declared.pipe_log.LogQueue.TheVariants.{Append, Rewrite}
-use Rattle.raft_base.specs.declared.entry_index.EntryIndex.{EntryIndex}
-use Rattle.raft_table.specs.Counts.{Counts, live, with_added}
-use Rattle.raft_table.specs.TableEntries.{AreTableEntries, IsRunIn, start_of, placed_in, entry_count, AreCounted, AreRecounted}
-use Rattle.raft_table.specs.Queues.{count_in, of_queue}
-use Rattle.raft_table.specs.Start.{entries_after_replay, replaced_by, counts_without, counts_with_run}
-use Rattle.raft_table.specs.StartOf.{IsKeptUnder}
-use Rattle.raft_table.proofs.GoneLemmas.{from_rest}
+-- What stays in front of a run, what it takes the place of, and the counts after entries are gone.
+use Rattle.raft_table.proofs.Common.{◌≡◌, ℕ, ◌+◌, ◌-◌, ◌<◌, ◌≤◌, min, false, List, [], ◌∷◌, length, take, drop, sym, ap, ◌∙◌, arith, length-take, length-take-le, drop_min, LogQueue, EntryIndex, Counts, with_added}
+use Rattle.raft_table.proofs.Common.{with_deleted, AreTableEntries, start_of, below, from, placed_in, leaves_hole, counts_without, counts_with_run, Append, Rewrite, ◌^◌, inl, inr, ◌++◌, refl, subst, Some, live, IsRunIn}
+use Rattle.raft_table.proofs.Common.{entry_count, AreCounted, AreRecounted, count_in, of_queue, entries_after_replay, replaced_by, IsKeptUnder}
+use Rattle.raft_table.proofs.SoundLemmas.{sound_rising}
+use Rattle.raft_table.proofs.RewriteLemmas.{below_is, from_is}
 use Rattle.raft_table.proofs.PlaceLemmas.{each_queue, entry_count-append, entry_count-cut, entries_in_one}
 use Rattle.raft_table.proofs.StartLemmas.{MayJoin, sound_joined, sound_run}
+
+-- nothing is gone
+pub none_gone : (c : Counts) → c ≡ counts_without [] c
+unfolding placed_in
+none_gone c =
+    let a : c.append ≡ c.append - 0 = omega arith in
+    let d : c.deleted ≡ c.deleted + 0 = omega arith in
+    ap (λ n. record { append = n; written = c.written; deleted = c.deleted }) a ∙ ap (λ n. record { append = c.append - 0; written = c.written; deleted = n }) d
+
+-- where nothing stands below an index, nothing goes
+pub none_below : (c : Counts) (i : ℕ) (es : List EntryIndex) → below i es ≡ [] → c ≡ counts_without (below i es) c
+none_below c i es e = rw e (none_gone c)
+
+-- where nothing stands from an index on, nothing goes
+pub none_above : (c : Counts) (i : ℕ) (es : List EntryIndex) → from i es ≡ [] → c ≡ counts_without (from i es) c
+none_above c i es e = rw e (none_gone c)
+
+pub same_deleted : (c one new : Counts) (r a s b : ℕ) → one ≡ with_deleted Rewrite r c → new ≡ with_deleted Append a one → r ≡ s → a ≡ b → new ≡ with_deleted Rewrite s (with_deleted Append b c)
+same_deleted c one new r a s b e f g h = rw (← g, ← h) (f ∙ ap (with_deleted Append a) e)
+
+-- the entries from a start on are those behind the ones below it
+pub from_rest : (i n : ℕ) (es : List EntryIndex) → AreTableEntries es → below i es ≡ take n es → n ≤ length es → from i es ≡ drop n es
+from_rest i n es h e l =
+    let t = ap length (sym (below_is i (start_of es) es (sound_rising es h)) ∙ e) in
+    let m : min (i - start_of es) (length es) ≡ n = omega (arith, t, length-take (i - start_of es) es, length-take-le n es l) in
+    from_is i (start_of es) es (sound_rising es h) ∙ sym (drop_min (i - start_of es) es) ∙ ap (λ j. drop j es) m
+
+-- the counts with a run that joins the entries, stands in front of them, or behind a hole
+pub counts_joined : (q : LogQueue) (es run : List EntryIndex) (n : ℕ) (c new : Counts) → AreTableEntries es → 0 < length run →
+    leaves_hole es (start_of run) ≡ false → below (start_of run) es ≡ take n es → n ≤ length es →
+    new ≡ with_added q (length run) (counts_without (drop n es) c) → new ≡ counts_with_run q es run c
+counts_joined q es [] n c new h l f e k w = absurd (omega arith)
+counts_joined q es (x ∷ run) n c new h l f e k w = rw (f, from_rest x.index n es h e k) w
 
 -- a run behind so many entries that stay
 pub record IsReplay (rule : LogQueue) (es run : List EntryIndex) (n : ℕ) : Type 0 where

@@ -1,27 +1,13 @@
 -- The keys of an ordered map as a set, and key values without them.
-use Rattle.std.proofs.Common.{◌≡◌, ℕ, Bool, true, false, cond, not, ◌||◌, List, [], ◌∷◌, length, map, None, refl, sym, ap, ◌∙◌, arith}
-use Rattle.std.specs.declared.alloc.Global.{Global}
-use Rattle.std.specs.declared.vec.Vec.{Vec}
-use Rattle.std.specs.declared.cmp.Ordering.{Ordering}
+use Rattle.std.proofs.Math.Bool.{or_assoc, or_comm}
+use Rattle.raft_table.proofs.Common.{◌≡◌, ℕ, Bool, true, false, cond, not, ◌||◌, List, [], ◌∷◌, length, map, None, refl, sym, ap, ◌∙◌, arith, Global, Vec, Ordering, list_any, AllByRecursion, IsStrictlySortedBy, nat_cmp}
+use Rattle.raft_table.proofs.Common.{eq_by_cmp, match_ordering, slice_cmp, nat_list_cmp_total, insert_entry, keys_of, slice_cmp-IsAntisymmetric, nat_cmp-IsAntisymmetric, sorted_head, sorted_tail, KeySet, without, Keys}
 use Rattle.std.specs.declared.cmp.Ordering.TheVariants.{Less, Equal, Greater}
-use Rattle.std.specs.List.{list_any, AllByRecursion}
-use Rattle.std.specs.List.Sorted.{IsStrictlySortedBy}
-use Rattle.std.specs.Ordering.{nat_cmp, eq_by_cmp, match_ordering}
-use Rattle.std.specs.Cmp.Lexicographic.{slice_cmp, nat_list_cmp_total}
-use Rattle.std.specs.BTreeMap.{insert_entry}
-use Rattle.std.specs.Map.{keys_of}
 use Rattle.std.specs.FinMap as finite
-use Rattle.std.specs.FinMap.{slice_cmp-IsAntisymmetric, nat_cmp-IsAntisymmetric}
 use Rattle.std.specs.FinSet as finset
-use Rattle.std.proofs.lemmas.Map.Keys.{sorted_head, sorted_tail}
-use Rattle.raft_table.specs.KeySets.{KeySet, without}
-use Rattle.raft_table.specs.KeyValues.{Keys}
+use Rattle.raft_table.proofs.KeyValuesShown.{key_cmp}
 use Rattle.raft_table.proofs.MarkExact.{same_set}
 use Rattle.raft_table.proofs.MarkTables.{get-without, same_keys}
-
--- the order of stored keys
-abbrev pub key_cmp : Vec ℕ Global → Vec ℕ Global → Ordering
-key_cmp x y = slice_cmp nat_cmp x.items y.items
 
 abbrev pub bytes_of : List (Vec ℕ Global × Unit {0}) → List (List ℕ)
 bytes_of es = map (λ e. e.0.items) es
@@ -38,28 +24,14 @@ or_swap true true x = refl
 or_swap true false x = refl
 or_swap false b x = refl
 
-contains-insert : (s : KeySet) (k q : List ℕ) → finset.contains (finset.insert s k) q ≡ (eq_by_cmp (slice_cmp nat_cmp) q k || finset.contains s q)
-contains-insert s k q = finset.contains-insert nat_list_cmp_total s k q
-
 insert-twice : (s : KeySet) (k : List ℕ) → finset.insert s k ≡ finset.insert (finset.insert s k) k
-insert-twice s k = same_set _ _
-    (λ q. contains-insert s k q ∙ sym (contains-insert (finset.insert s k) k q
-    ∙ ap (λ x. eq_by_cmp (slice_cmp nat_cmp) q k || x) (contains-insert s k q) ∙ or_twice (eq_by_cmp (slice_cmp nat_cmp) q k) (finset.contains s q)))
+insert-twice s k = same_set _ _ (λ q. simp (finset.contains-insert nat_list_cmp_total) (sym (or_twice (eq_by_cmp (slice_cmp nat_cmp) q k) (finset.contains s q))))
 
 insert-swap : (s : KeySet) (k j : List ℕ) → finset.insert (finset.insert s k) j ≡ finset.insert (finset.insert s j) k
-insert-swap s k j = same_set _ _ (λ q.
-    contains-insert (finset.insert s k) j q ∙ ap (λ x. eq_by_cmp (slice_cmp nat_cmp) q j || x) (contains-insert s k q)
-    ∙ or_swap (eq_by_cmp (slice_cmp nat_cmp) q j) (eq_by_cmp (slice_cmp nat_cmp) q k) (finset.contains s q)
-    ∙ sym (contains-insert (finset.insert s j) k q ∙ ap (λ x. eq_by_cmp (slice_cmp nat_cmp) q k || x) (contains-insert s j q)))
+insert-swap s k j = same_set _ _ (λ q. simp (finset.contains-insert nat_list_cmp_total) (or_swap (eq_by_cmp (slice_cmp nat_cmp) q j) (eq_by_cmp (slice_cmp nat_cmp) q k) (finset.contains s q)))
 
 pub union-swap : (s t : KeySet) → finset.union s t ≡ finset.union t s
-union-swap s t = same_set _ _ (λ q. finset.contains-union nat_list_cmp_total s t q ∙ swap (finset.contains s q) (finset.contains t q) ∙ sym (finset.contains-union nat_list_cmp_total t s q))
-  where
-    swap : (a b : Bool) → (a || b) ≡ (b || a)
-    swap true true = refl
-    swap true false = refl
-    swap false true = refl
-    swap false false = refl
+union-swap s t = same_set _ _ (λ q. simp (finset.contains-union nat_list_cmp_total) (or_comm (finset.contains s q) (finset.contains t q)))
 
 pub set_of-insert_entry : (k : Vec ℕ Global) (es : List (Vec ℕ Global × Unit {0})) → set_of (insert_entry key_cmp es k tt) ≡ finset.insert (set_of es) k.items
 set_of-insert_entry k [] = refl
@@ -83,15 +55,8 @@ len-set_of (e ∷ es) h =
 
 -- the keys of the one set put to the other one by one
 pub union-insert : (s r : KeySet) (k : List ℕ) → finset.union (finset.insert s k) r ≡ finset.union s (finset.insert r k)
-union-insert s r k = same_set _ _ (λ q.
-    finset.contains-union nat_list_cmp_total (finset.insert s k) r q ∙ ap (λ x. x || finset.contains r q) (contains-insert s k q)
-    ∙ or_move (eq_by_cmp (slice_cmp nat_cmp) q k) (finset.contains s q) (finset.contains r q)
-    ∙ sym (finset.contains-union nat_list_cmp_total s (finset.insert r k) q ∙ ap (λ x. finset.contains s q || x) (contains-insert r k q)))
-  where
-    or_move : (a b c : Bool) → ((a || b) || c) ≡ (b || (a || c))
-    or_move true true c = refl
-    or_move true false c = refl
-    or_move false b c = refl
+union-insert s r k = same_set _ _ (λ q. simp (finset.contains-union nat_list_cmp_total, finset.contains-insert nat_list_cmp_total)
+    (or_assoc (eq_by_cmp (slice_cmp nat_cmp) q k) (finset.contains s q) (finset.contains r q) ∙ or_swap (eq_by_cmp (slice_cmp nat_cmp) q k) (finset.contains s q) (finset.contains r q)))
 
 -- keys taken away one by one
 abbrev pub removed : List (List ℕ) → Keys → Keys

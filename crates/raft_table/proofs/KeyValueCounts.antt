@@ -1,20 +1,10 @@
 -- How many pairs have their file in a queue, after a pair is put or taken away.
-use Rattle.std.proofs.Common.{◌≡◌, ℕ, ◌+◌, ◌≤◌, Bool, true, false, cond, not, List, [], ◌∷◌, length, filter, Option, Some, None, refl, sym, ap, ◌∙◌, arith}
+use Rattle.raft_table.proofs.Common.{◌≡◌, ℕ, ◌+◌, ◌≤◌, Bool, true, false, cond, not, List, [], ◌∷◌, length, filter, Option, Some, None, refl, sym, ap, ◌∙◌, arith, Ordering, eq_by_cmp, is_eq, option_map, IsTotalOrder}
+use Rattle.raft_table.proofs.Common.{alike_right, eq_by_cmp_equiv, nat_list_cmp_total, FinMap, IsAntisymmetric, find, put, is_sorted, same_map, nat_cmp-IsAntisymmetric, slice_cmp-IsAntisymmetric, where_key, by_order}
+use Rattle.raft_table.proofs.Common.{is_sorted-where_key, find-where_key, FileId, LogQueue, is_same, Stored, Keys, file_at, with_moved, moved_to, pair_count, file_weight, Append, Rewrite}
 use lib.Dec.{T}
-use Rattle.std.specs.declared.cmp.Ordering.{Ordering}
 use Rattle.std.specs.declared.cmp.Ordering.TheVariants.{Less, Equal, Greater}
-use Rattle.std.specs.Ordering.{eq_by_cmp, is_eq}
-use Rattle.std.specs.Option.{option_map}
-use Rattle.std.specs.Cmp.{IsTotalOrder, alike_right, eq_by_cmp_equiv}
-use Rattle.std.specs.Cmp.Lexicographic.{nat_list_cmp_total}
 use Rattle.std.specs.FinMap as finite
-use Rattle.std.specs.FinMap.{FinMap, IsAntisymmetric, find, put, is_sorted, same_map, nat_cmp-IsAntisymmetric, slice_cmp-IsAntisymmetric}
-use Rattle.std.specs.FinMap.Entries.{where_key, by_order, is_sorted-where_key, find-where_key}
-use Rattle.raft_base.specs.declared.pipe_log.FileId.{FileId}
-use Rattle.raft_base.specs.declared.pipe_log.LogQueue.{LogQueue}
-use Rattle.raft_base.specs.declared.pipe_log.LogQueue.TheVariants.{Append, Rewrite}
-use Rattle.raft_table.specs.Queues.{is_same}
-use Rattle.raft_table.specs.KeyValues.{Stored, Keys, file_at, with_moved, moved_to, pair_count, file_weight}
 use Rattle.raft_table.proofs.Shown.{find-below, where_key-below, below_all-less, below_all-equal, first_of_both, second_of_both, equal}
 
 -- what the value found counts by the test
@@ -73,13 +63,9 @@ entries-remove {A} {V} {R} o same m k =
         ∙ sym (find-where_key R _ q (λ x t. ap (λ r. not (is_eq r)) (sym (alike_right o q x k t))) (finite.entries m))
         ∙ sym (finite.get-from_sorted R left q in_order)
 
-length-filter-le : {X : Type 0} (p : X → Bool) (xs : List X) → length (filter p xs) ≤ length xs
+pub length-filter-le : {X : Type 0} (p : X → Bool) (xs : List X) → length (filter p xs) ≤ length xs
 length-filter-le p [] = omega arith
-length-filter-le p (x ∷ xs) = omega (arith, length-filter-le p xs, length-cond (p x) x (filter p xs), le_one (p x))
-  where
-    le_one : (b : Bool) → cond b 1 0 ≤ 1
-    le_one true = omega arith
-    le_one false = omega arith
+length-filter-le p (x ∷ xs) = omega (arith, length-filter-le p xs, length-cond (p x) x (filter p xs), (elim (p x) as (λ b. cond b 1 0 ≤ 1) [ true ↦ omega arith | false ↦ omega arith ]))
 
 weight-file : (q : LogQueue) (found : Option Stored) → weight (λ s. is_same q s.file.queue) found ≡ file_weight q (option_map (λ s. s.file) found)
 weight-file q None = refl

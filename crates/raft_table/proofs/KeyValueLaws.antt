@@ -1,14 +1,8 @@
 -- What merged pairs hold at a key, and what the least of some numbers is.
-use Rattle.std.proofs.Common.{◌≡◌, ℕ, suc, ◌≤◌, true, false, cond, List, [], ◌∷◌, length, min, Option, Some, None, Contains, All, refl, sym, ap, subst, ◌∙◌, arith, inl, inr}
-use Rattle.std.specs.Ordering.{nat_cmp, eq_by_cmp}
-use Rattle.std.specs.Option.{option_or}
-use Rattle.std.specs.Cmp.Lexicographic.{slice_cmp, nat_list_cmp_total}
+use Rattle.raft_table.proofs.Common.{◌≡◌, ℕ, suc, ◌≤◌, true, false, cond, List, [], ◌∷◌, length, min, Option, Some, None, Contains, All, refl, sym, ap, subst, ◌∙◌, arith, inl, inr, nat_cmp, eq_by_cmp, option_or}
+use Rattle.raft_table.proofs.Common.{slice_cmp, nat_list_cmp_total, find, is_sorted, cases_lt, All-cons, Keys, Stored, least, lesser, pairs_over, with_pairs}
 use Rattle.std.specs.FinMap as finite
-use Rattle.std.specs.FinMap.{find, is_sorted}
 use lib.Dec.{T}
-use Rattle.std.proofs.lemmas.Bool.{cases_lt}
-use Rattle.std.proofs.lemmas.List.Elements.{All-cons}
-use Rattle.raft_table.specs.KeyValues.{Keys, Stored, least, lesser, pairs_over, with_pairs}
 use Rattle.raft_table.proofs.Shown.{find-below, below_all-equal, first_of_both, second_of_both, equal}
 
 get-with_pairs : (es : List (List ℕ × Stored)) (keys : Keys) (q : List ℕ) → T (is_sorted (slice_cmp nat_cmp) es) → finite.get (with_pairs keys es) q ≡ option_or (find (slice_cmp nat_cmp) q es) (finite.get keys q)
@@ -28,11 +22,7 @@ get-pairs_over newer older q = get-with_pairs (finite.entries newer) older q (fi
 
 pub least-none : (ns : List ℕ) → least ns ≡ None → ns ≡ []
 least-none [] e = refl
-least-none (n ∷ ns) e = go (least ns) e
-  where
-    go : (m : Option ℕ) → lesser (Some n) m ≡ None → n ∷ ns ≡ []
-    go None e = absurd cc
-    go (Some m) e = absurd cc
+least-none (n ∷ ns) e = (elim (least ns) as (λ m. lesser (Some n) m ≡ None → n ∷ ns ≡ []) [ None ↦ λ e. absurd cc | Some m ↦ λ e. absurd cc ]) e
 
 all_above : (a b : ℕ) (ns : List ℕ) → a ≤ b → All (λ m. b ≤ m) ns → All (λ m. a ≤ m) ns
 all_above a b ns p h = λ k d l. omega (arith, h k d l)

@@ -1,24 +1,13 @@
 -- What walks over the stored pairs find, as contracts see it.
-use Rattle.std.proofs.Common.{◌≡◌, ℕ, Bool, ◌+◌, ◌<◌, true, false, cond, List, reverse, [], ◌∷◌, ◌++◌, append_assoc, length, filter, map, Option, refl, sym, ap, ◌∙◌, arith, inl, inr}
-use Rattle.std.specs.declared.alloc.Global.{Global}
-use Rattle.std.specs.declared.vec.Vec.{Vec}
-use Rattle.std.specs.Ordering.{nat_cmp}
-use Rattle.std.specs.Cmp.Lexicographic.{slice_cmp}
-use Rattle.std.specs.BTreeMap.{IsOrdered, values}
-use Rattle.std.proofs.lemmas.Bool.{false≢true, cases_lt}
-use Rattle.std.specs.Map.{values_of}
+use Rattle.raft_table.proofs.Common.{◌≡◌, ℕ, Bool, ◌+◌, ◌<◌, true, false, cond, List, reverse, [], ◌∷◌, ◌++◌, length, filter, map, Option, refl, sym, ap, ◌∙◌, arith, inl, inr, Global, Vec, nat_cmp, nil_from_length}
+use Rattle.raft_table.proofs.Common.{slice_cmp, IsOrdered, values, false≢true, cases_lt, values_of, LogQueue, StoredValue, is_same, count_in, Keys, Stored, pair_count, seqs_in, is_up_to, pairs_up_to, key_value}
+use Rattle.raft_table.proofs.Common.{pairs_over, with_pairs, keys_shown, stored_of, IsOrderedAndCounted, is_between, is_forward, IsDivided, pairs_between}
+use Rattle.std.proofs.Common.{append_assoc}
 use Rattle.std.specs.FinMap as finite
-use Rattle.raft_base.specs.declared.pipe_log.LogQueue.{LogQueue}
 use Rattle.raft_table.specs.declared.memtable.key_values.KeyValues.TheInside.{Inside}
-use Rattle.raft_table.specs.declared.memtable.key_values.StoredValue.{StoredValue}
-use Rattle.raft_table.specs.Queues.{is_same, count_in}
-use Rattle.raft_table.specs.KeyValues.{Keys, Stored, pair_count, seqs_in, is_up_to, pairs_up_to, key_value, pairs_over, with_pairs}
-use Rattle.raft_table.specs.KeyValueView.{keys_shown, stored_of, IsOrderedAndCounted}
-use Rattle.raft_table.proofs.KeyValueMaps.{entries-map_of}
-use Rattle.raft_table.specs.Scan.{is_between, is_forward, IsDivided, pairs_between}
 use Rattle.raft_table.proofs.ScanLemmas.{none-between, sought-tested}
 use Rattle.raft_table.proofs.KeyValueCounts.{length-cond}
-use Rattle.raft_table.proofs.KeyValuesShown.{key_cmp}
+use Rattle.raft_table.proofs.KeyValuesShown.{key_cmp, entries-map_of}
 
 abbrev pub Entry : Type 0
 Entry = Vec ℕ Global × StoredValue
@@ -87,12 +76,8 @@ pub pair_count-first : (q : LogQueue) (keys rest : Keys) (key : List ℕ) (s : S
 pair_count-first q keys rest key s first =
     rw first (omega (arith, length-cond (is_same q s.file.queue) (key, s) (filter (λ e. is_same q e.1.file.queue) (finite.entries rest))))
 
-no_length : {X : Type 0} (xs : List X) → length xs ≡ 0 → xs ≡ []
-no_length [] e = refl
-no_length (x ∷ xs) e = absurd (omega arith)
-
 pub entries-empty : finite.entries (finite.empty {K = List ℕ} {X = Stored} {R = slice_cmp nat_cmp}) ≡ []
-entries-empty = no_length _ (sym (finite.len-entries _) ∙ finite.len-empty (slice_cmp nat_cmp) Stored)
+entries-empty = nil_from_length _ (sym (finite.len-entries _) ∙ finite.len-empty (slice_cmp nat_cmp) Stored)
 
 -- no pairs put over some leave these
 pub pairs_over-empty : (newer older : Keys) → newer ≡ finite.empty → pairs_over newer older ≡ older

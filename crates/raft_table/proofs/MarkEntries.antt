@@ -1,21 +1,10 @@
 -- Entries under two marks, one after the other, and under the joined one.
-use Rattle.std.proofs.Common.{◌≡◌, ◌⊎◌, ℕ, ◌≤◌, max, min, Bool, true, false, cond, ◌&&◌, ◌||◌, ltb, eqb, List, [], ◌++◌, Option, Some, None, refl, sym, ap, ◌∙◌, arith}
-use Rattle.std.specs.Prelude.{is_some}
-use Rattle.std.specs.Option.{option_and_then}
-use Rattle.std.proofs.lemmas.List.{append-nil}
-use Rattle.std.proofs.lemmas.Bool.Decides.{nat_tests}
-use Rattle.raft_base.specs.declared.pipe_log.LogQueue.{LogQueue}
-use Rattle.raft_base.specs.declared.pipe_log.LogQueue.TheVariants.{Append, Rewrite}
-use Rattle.raft_base.specs.declared.entry_index.EntryIndex.{EntryIndex}
-use Rattle.raft_base.specs.Runs.{RisesFrom, IsRun, end_of}
-use Rattle.raft_table.specs.KeyValues.{lesser}
-use Rattle.raft_table.specs.Marks.{Mark, entries_within, misses, is_missed, is_barred, entries_over}
-use Rattle.raft_table.specs.MarkFits.{IsNotAbove, LiesWithin, FitsRun, FitsCut, Fits}
-use Rattle.raft_table.specs.MarkJoins.{at_most_bound, narrowed_bars, is_detached, joined_first, joined_later, joined_uncleaned, joined_at}
-use Rattle.raft_table.specs.TableEntries.{start_of}
+use Rattle.std.proofs.lemmas.Bool.{or_parts}
+use Rattle.raft_table.proofs.Common.{◌≡◌, ◌⊎◌, ℕ, ◌≤◌, max, min, Bool, true, false, cond, ◌&&◌, ◌||◌, ltb, eqb, List, [], ◌++◌, Option, Some, None, refl, sym, ap, ◌∙◌, arith, is_some, Append, Rewrite, option_and_then}
+use Rattle.raft_table.proofs.Common.{append-nil, nat_tests, LogQueue, EntryIndex, RisesFrom, IsRun, end_of, lesser, Mark, entries_within, misses, is_missed, is_barred, entries_over, IsNotAbove, LiesWithin, FitsRun}
+use Rattle.raft_table.proofs.Common.{FitsCut, Fits, at_most_bound, narrowed_bars, is_detached, joined_first, joined_later, joined_uncleaned, joined_at, start_of}
 use Rattle.raft_table.proofs.RunLemmas.{rises}
-use Rattle.raft_table.proofs.MarkWords.{within-within, within-both, within-empty, within-nil, end_of-nil, nil_of_end}
-use Rattle.raft_table.proofs.PartEnds.{top, end_of-part_run}
+use Rattle.raft_table.proofs.MarkWords.{within-within, within-both, within-empty, within-nil, end_of-nil, nil_of_end, top, end_of-part_run}
 use Rattle.raft_table.proofs.MarkMeets.{barred_of, Settled, settled_list, met_list, at_cut_list, none_within, refuses_later}
 
 pub same_some : {X : Type 0} (x y : X) → Some x ≡ Some y → x ≡ y
@@ -33,15 +22,8 @@ over Rewrite m own older = Some (cond m.cleaned own (cond (misses m.reach (end_o
 
 pub over_is : (q : LogQueue) (m : Mark) (own older : List EntryIndex) → entries_over q m own older ≡ over q m own older
 over_is Append m own older = refl
-over_is Rewrite m own older = ap (λ x. Some (cond m.cleaned own x)) (go (is_missed m older))
-  where
-    go : (b : Bool) → cond b [] (entries_within m.floor m.cut older) ++ own ≡ cond b own (entries_within m.floor m.cut older ++ own)
-    go true = refl
-    go false = refl
-
-pub or_false : (x y : Bool) → (x || y) ≡ false → (x ≡ false) × (y ≡ false)
-or_false true y e = cc
-or_false false y e = (refl, e)
+over_is Rewrite m own older = ap (λ x. Some (cond m.cleaned own x)) (elim (is_missed m older) as
+    (λ b. cond b [] (entries_within m.floor m.cut older) ++ own ≡ cond b own (entries_within m.floor m.cut older ++ own)) [ true ↦ refl | false ↦ refl ])
 
 kept_barred : (barred : Option (ℕ × ℕ)) (b : Bool) (x y : Option (ℕ × ℕ)) (o : List EntryIndex) → is_barred barred o ≡ true → is_barred (barred_of barred b x y) o ≡ true
 kept_barred None b x y o e = cc
@@ -58,7 +40,7 @@ later_append s s1 m n t u w o r c reach run run1 f f' is = rw reach (go (misses 
     ok = accepted _ _ _ is
 
     ok2 : (misses n.reach (end_of (entries_within n.reach_floor n.reach_cut t)) ≡ false) × (is_barred n.barred t ≡ false)
-    ok2 = or_false _ _ ok.0
+    ok2 = or_parts _ _ ok.0
 
     content : (x : Bool) → cond x u (entries_within n.floor n.cut t ++ u) ≡ w →
         cond x u (entries_within n.floor n.cut (entries_within m.floor (Some c) o ++ t) ++ u) ≡ cond x w

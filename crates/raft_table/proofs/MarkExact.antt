@@ -1,60 +1,28 @@
 -- What an overlay reads of a mark, of one step and of two neighbors.
-use Rattle.std.proofs.Common.{◌≡◌, ℕ, ◌≤◌, max, Bool, true, false, cond, ◌||◌, List, [], ◌∷◌, ◌++◌, Option, Some, None, refl, sym, ap, ◌∙◌, arith}
-use Rattle.std.specs.Ordering.{nat_cmp, eq_by_cmp}
-use Rattle.std.specs.Cmp.Lexicographic.{slice_cmp, nat_list_cmp_total}
+use Rattle.std.proofs.Math.Bool.{or_assoc, or_comm, or-false}
+use Rattle.raft_table.proofs.Common.{◌≡◌, ℕ, ◌≤◌, max, Bool, true, false, cond, ◌||◌, List, [], ◌∷◌, ◌++◌, Option, Some, None, refl, sym, ap, ◌∙◌, arith, nat_cmp, eq_by_cmp, slice_cmp, nat_list_cmp_total, option_or}
+use Rattle.raft_table.proofs.Common.{false≢true, LogQueue, EntryIndex, KeySet, Step, Run, Compact, Truncate, Put, Del, AtomicGroup, Clean, Mark, FitsCut, Fits, joined_deleted, joined_uncleaned, joined_at, fresh, mark_of}
+use Rattle.raft_table.proofs.Common.{lesser, has_clean, greatest_compaction, least_cut, deleted_of, HoldsDeleted, IsExactMark}
 use Rattle.std.specs.FinSet as finset
-use Rattle.std.specs.Option.{option_or}
 use Rattle.std.specs.FinSet.{slice_cmp-IsAntisymmetric, nat_cmp-IsAntisymmetric}
-use Rattle.std.proofs.lemmas.Bool.{false≢true}
-use Rattle.raft_base.specs.declared.pipe_log.LogQueue.{LogQueue}
 use Rattle.raft_base.specs.declared.pipe_log.LogQueue.TheVariants.{Append, Rewrite}
-use Rattle.raft_base.specs.declared.entry_index.EntryIndex.{EntryIndex}
-use Rattle.raft_table.specs.KeySets.{KeySet}
-use Rattle.raft_table.specs.Steps.{Step, Run, Compact, Truncate, Put, Del, AtomicGroup, Clean}
-use Rattle.raft_table.specs.Marks.{Mark}
-use Rattle.raft_table.specs.MarkFits.{FitsCut, Fits}
-use Rattle.raft_table.specs.MarkJoins.{joined_deleted, joined_uncleaned, joined_at, fresh, mark_of}
-use Rattle.raft_table.specs.KeyValues.{lesser}
-use Rattle.raft_table.specs.Overlay.{has_clean, greatest_compaction, least_cut, deleted_of, HoldsDeleted, IsExactMark}
 
 -- two sets with the same keys are the same
 pub same_set : (a b : KeySet) → ((q : List ℕ) → finset.contains a q ≡ finset.contains b q) → a ≡ b
 same_set a b h = finset.same_set nat_list_cmp_total (slice_cmp-IsAntisymmetric nat_cmp-IsAntisymmetric) a b h
 
-or_assoc : (x y z : Bool) → ((x || y) || z) ≡ (x || (y || z))
-or_assoc true y z = refl
-or_assoc false y z = refl
-
-or_none : (x : Bool) → (x || false) ≡ x
-or_none true = refl
-or_none false = refl
-
-or_comm : (x y : Bool) → (x || y) ≡ (y || x)
-or_comm true true = refl
-or_comm true false = refl
-or_comm false true = refl
-or_comm false false = refl
-
 pub union_assoc : (a b c : KeySet) → finset.union (finset.union a b) c ≡ finset.union a (finset.union b c)
-union_assoc a b c = same_set _ _ (λ q.
-    finset.contains-union nat_list_cmp_total (finset.union a b) c q ∙ ap (λ x. x || finset.contains c q) (finset.contains-union nat_list_cmp_total a b q)
-    ∙ or_assoc (finset.contains a q) (finset.contains b q) (finset.contains c q)
-    ∙ sym (finset.contains-union nat_list_cmp_total a (finset.union b c) q ∙ ap (λ x. finset.contains a q || x) (finset.contains-union nat_list_cmp_total b c q)))
+union_assoc a b c = same_set _ _ (λ q. simp (finset.contains-union nat_list_cmp_total) (or_assoc (finset.contains a q) (finset.contains b q) (finset.contains c q)))
 
 pub union_empty : (a : KeySet) → finset.union a finset.empty ≡ a
-union_empty a = same_set _ _ (λ q. finset.contains-union nat_list_cmp_total a finset.empty q ∙ ap (λ x. finset.contains a q || x) (finset.contains-empty (slice_cmp nat_cmp) q) ∙ or_none (finset.contains a q))
+union_empty a = same_set _ _ (λ q. simp (finset.contains-union nat_list_cmp_total, finset.contains-empty (slice_cmp nat_cmp)) (or-false _))
 
 pub empty_union : (a : KeySet) → finset.union finset.empty a ≡ a
-empty_union a = same_set _ _ (λ q. finset.contains-union nat_list_cmp_total finset.empty a q ∙ ap (λ x. x || finset.contains a q) (finset.contains-empty (slice_cmp nat_cmp) q))
+empty_union a = same_set _ _ (λ q. simp (finset.contains-union nat_list_cmp_total, finset.contains-empty (slice_cmp nat_cmp)))
 
 pub union_one : (a : KeySet) (key : List ℕ) → finset.insert a key ≡ finset.union a (finset.insert finset.empty key)
-union_one a key = same_set _ _ (λ q.
-    finset.contains-insert nat_list_cmp_total a key q
-    ∙ sym (finset.contains-union nat_list_cmp_total a (finset.insert finset.empty key) q
-    ∙ ap (λ x. finset.contains a q || x) (finset.contains-insert nat_list_cmp_total finset.empty key q
-    ∙ ap (λ x. eq_by_cmp (slice_cmp nat_cmp) q key || x) (finset.contains-empty (slice_cmp nat_cmp) q)
-    ∙ or_none (eq_by_cmp (slice_cmp nat_cmp) q key))
-    ∙ or_comm (finset.contains a q) (eq_by_cmp (slice_cmp nat_cmp) q key)))
+union_one a key = same_set _ _ (λ q. simp (finset.contains-union nat_list_cmp_total, finset.contains-insert nat_list_cmp_total, finset.contains-empty (slice_cmp nat_cmp), or-false)
+    (or_comm (eq_by_cmp (slice_cmp nat_cmp) q key) (finset.contains a q)))
 
 pub lesser_assoc : (a b c : Option ℕ) → lesser (lesser a b) c ≡ lesser a (lesser b c)
 lesser_assoc None b c = refl
@@ -62,46 +30,22 @@ lesser_assoc (Some a) None c = refl
 lesser_assoc (Some a) (Some b) None = refl
 lesser_assoc (Some a) (Some b) (Some c) = ap (λ x. Some x) (omega arith)
 
-clean-append : (ss rs : List Step) → has_clean (ss ++ rs) ≡ (has_clean ss || has_clean rs)
-clean-append [] rs = refl
-clean-append (Run run ∷ ss) rs = clean-append ss rs
-clean-append (Compact i ∷ ss) rs = clean-append ss rs
-clean-append (Truncate i ∷ ss) rs = clean-append ss rs
-clean-append (Put k v f ∷ ss) rs = clean-append ss rs
-clean-append (Del k ∷ ss) rs = clean-append ss rs
-clean-append (AtomicGroup first_seq last_seq ∷ ss) rs = clean-append ss rs
-clean-append (Clean ∷ ss) rs = refl
+-- what an overlay reads of steps, with more behind them
+abbrev IsReadOn : List Step → List Step → Type 0
+IsReadOn ss rs =
+    (has_clean (ss ++ rs) ≡ (has_clean ss || has_clean rs)) × (greatest_compaction (ss ++ rs) ≡ max (greatest_compaction ss) (greatest_compaction rs))
+    × (least_cut (ss ++ rs) ≡ lesser (least_cut ss) (least_cut rs)) × ((d : KeySet) → deleted_of d (ss ++ rs) ≡ deleted_of (deleted_of d ss) rs)
 
-greatest-append : (ss rs : List Step) → greatest_compaction (ss ++ rs) ≡ max (greatest_compaction ss) (greatest_compaction rs)
-greatest-append [] rs = omega arith
-greatest-append (Run run ∷ ss) rs = greatest-append ss rs
-greatest-append (Compact i ∷ ss) rs = omega (arith, greatest-append ss rs)
-greatest-append (Truncate i ∷ ss) rs = greatest-append ss rs
-greatest-append (Put k v f ∷ ss) rs = greatest-append ss rs
-greatest-append (Del k ∷ ss) rs = greatest-append ss rs
-greatest-append (AtomicGroup first_seq last_seq ∷ ss) rs = greatest-append ss rs
-greatest-append (Clean ∷ ss) rs = greatest-append ss rs
-
-least-append : (ss rs : List Step) → least_cut (ss ++ rs) ≡ lesser (least_cut ss) (least_cut rs)
-least-append [] rs = refl
-least-append (Run [] ∷ ss) rs = least-append ss rs
-least-append (Run (e ∷ run) ∷ ss) rs = ap (lesser (Some e.index)) (least-append ss rs) ∙ sym (lesser_assoc (Some e.index) (least_cut ss) (least_cut rs))
-least-append (Compact i ∷ ss) rs = least-append ss rs
-least-append (Truncate i ∷ ss) rs = ap (lesser (Some i)) (least-append ss rs) ∙ sym (lesser_assoc (Some i) (least_cut ss) (least_cut rs))
-least-append (Put k v f ∷ ss) rs = least-append ss rs
-least-append (Del k ∷ ss) rs = least-append ss rs
-least-append (AtomicGroup first_seq last_seq ∷ ss) rs = least-append ss rs
-least-append (Clean ∷ ss) rs = least-append ss rs
-
-deleted-append : (d : KeySet) (ss rs : List Step) → deleted_of d (ss ++ rs) ≡ deleted_of (deleted_of d ss) rs
-deleted-append d [] rs = refl
-deleted-append d (Run run ∷ ss) rs = deleted-append d ss rs
-deleted-append d (Compact i ∷ ss) rs = deleted-append d ss rs
-deleted-append d (Truncate i ∷ ss) rs = deleted-append d ss rs
-deleted-append d (Put k v f ∷ ss) rs = deleted-append d ss rs
-deleted-append d (Del k ∷ ss) rs = deleted-append (finset.insert d k) ss rs
-deleted-append d (AtomicGroup first_seq last_seq ∷ ss) rs = deleted-append d ss rs
-deleted-append d (Clean ∷ ss) rs = deleted-append finset.empty ss rs
+read_on : (ss rs : List Step) → IsReadOn ss rs
+read_on [] rs = (refl, omega arith, refl, λ d. refl)
+read_on (Run [] ∷ ss) rs = read_on ss rs
+read_on (Run (e ∷ run) ∷ ss) rs = let h = read_on ss rs in (h.0, h.1, ap (lesser (Some e.index)) h.2 ∙ sym (lesser_assoc (Some e.index) (least_cut ss) (least_cut rs)), h.3)
+read_on (Compact i ∷ ss) rs = let h = read_on ss rs in (h.0, omega (arith, h.1), h.2, h.3)
+read_on (Truncate i ∷ ss) rs = let h = read_on ss rs in (h.0, h.1, ap (lesser (Some i)) h.2 ∙ sym (lesser_assoc (Some i) (least_cut ss) (least_cut rs)), h.3)
+read_on (Put k v f ∷ ss) rs = read_on ss rs
+read_on (Del k ∷ ss) rs = let h = read_on ss rs in (h.0, h.1, h.2, λ d. h.3 (finset.insert d k))
+read_on (AtomicGroup first_seq last_seq ∷ ss) rs = read_on ss rs
+read_on (Clean ∷ ss) rs = let h = read_on ss rs in (refl, h.1, h.2, λ d. h.3 finset.empty)
 
 same_deleted : (m : Mark) (ss : List Step) → m.cleaned ≡ has_clean ss → m.deleted ≡ finset.empty → ((d : KeySet) → deleted_of d ss ≡ d) → HoldsDeleted m ss
 same_deleted m ss c e h = record { cleaned = c; deleted = λ _ d. h d ∙ sym (ap (finset.union d) e ∙ union_empty d); none_deleted = λ _. e }
@@ -126,7 +70,7 @@ exact_one (Del k) = record { holds = holds_one (Del k); greatest = λ e. refl; l
 exact_one (AtomicGroup first_seq last_seq) = record { holds = holds_one (AtomicGroup first_seq last_seq); greatest = λ e. refl; least = λ e. refl }
 exact_one Clean = record { holds = holds_one Clean; greatest = λ e. absurd (false≢true (sym e)); least = λ e. absurd (false≢true (sym e)) }
 
-clash : {X : Type 0} {b : Bool} → b ≡ true → b ≡ false → X
+pub clash : {X : Type 0} {b : Bool} → b ≡ true → b ≡ false → X
 clash e f = absurd (false≢true (sym f ∙ e))
 
 -- in both queues, told by what the joined mark has of the two
@@ -134,38 +78,31 @@ pub holds_join : (m n j : Mark) (ss rs : List Step) → HoldsDeleted m ss → Ho
 holds_join m n j ss rs h k c d = go m.cleaned n.cleaned refl refl c d
   where
     clean : (b : Bool) → m.cleaned ≡ b → (b || has_clean rs) ≡ has_clean (ss ++ rs)
-    clean b e = ap (λ x. x || has_clean rs) (sym e ∙ h.cleaned) ∙ sym (clean-append ss rs)
+    clean b e = ap (λ x. x || has_clean rs) (sym e ∙ h.cleaned) ∙ sym ((read_on ss rs).0)
 
     go : (a b : Bool) → m.cleaned ≡ a → n.cleaned ≡ b → j.cleaned ≡ cond a true b → j.deleted ≡ cond a m.deleted (cond b n.deleted (finset.union m.deleted n.deleted)) → HoldsDeleted j (ss ++ rs)
     go true b e f c d = record { cleaned = c ∙ clean true e; deleted = λ z _. clash c z; none_deleted = λ _. d ∙ h.none_deleted e }
     go false true e f c d = record { cleaned = c ∙ sym f ∙ k.cleaned ∙ clean false e; deleted = λ z _. clash c z; none_deleted = λ _. d ∙ k.none_deleted f }
     go false false e f c d = record {
       cleaned = c ∙ sym f ∙ k.cleaned ∙ clean false e;
-      deleted = λ _ x. deleted-append x ss rs ∙ k.deleted f (deleted_of x ss) ∙ ap (λ y. finset.union y n.deleted) (h.deleted e x) ∙ union_assoc x m.deleted n.deleted ∙ ap (finset.union x) (sym d);
+      deleted = λ _ x. (read_on ss rs).3 x ∙ k.deleted f (deleted_of x ss) ∙ ap (λ y. finset.union y n.deleted) (h.deleted e x) ∙ union_assoc x m.deleted n.deleted ∙ ap (finset.union x) (sym d);
       none_deleted = λ z. clash z c;
     }
 
 -- a mark holds at most the keys deleted since the last clean
 pub deleted_count : (m : Mark) (ss : List Step) → HoldsDeleted m ss → finset.len m.deleted ≤ finset.len (deleted_of finset.empty ss)
-deleted_count m ss h = go m.cleaned refl
-  where
-    go : (b : Bool) → m.cleaned ≡ b → finset.len m.deleted ≤ finset.len (deleted_of finset.empty ss)
-    go true e = omega (arith, ap finset.len (h.none_deleted e), finset.len-empty (slice_cmp nat_cmp))
-    go false e = omega (arith, ap finset.len (h.deleted e finset.empty ∙ empty_union m.deleted))
+deleted_count m ss h = (elim m.cleaned as (λ b. m.cleaned ≡ b → finset.len m.deleted ≤ finset.len (deleted_of finset.empty ss))
+    [ true ↦ λ e. omega (arith, ap finset.len (h.none_deleted e), finset.len-empty (slice_cmp nat_cmp)) | false ↦ λ e. omega (arith, ap finset.len (h.deleted e finset.empty ∙ empty_union m.deleted)) ]) refl
 
 pub exact_join : (x : ℕ) (m n : Mark) (t : List EntryIndex) (ss rs : List Step) → {q : LogQueue} → Fits q m t → IsExactMark m ss → IsExactMark n rs → IsExactMark (joined_at Append x m n) (ss ++ rs)
 exact_join x m n t ss rs {q} fits h k = by_cleaned m.cleaned refl
   where
     live_parts : (j : Mark) → m.cleaned ≡ false → j.cleaned ≡ n.cleaned → j.floor ≡ max m.floor n.floor → j.cut ≡ lesser m.cut n.cut → j.deleted ≡ joined_deleted m n → IsExactMark j (ss ++ rs)
     live_parts j e c l u d = record {
-      holds = holds_join m n j ss rs h.holds k.holds (c ∙ sym (pick m.cleaned true n.cleaned e)) (d ∙ sym (pick m.cleaned m.deleted (joined_deleted m n) e));
-      greatest = λ z. l ∙ ap (max m.floor) (k.greatest (sym c ∙ z)) ∙ ap (λ y. max y (greatest_compaction rs)) (h.greatest e) ∙ sym (greatest-append ss rs);
-      least = λ z. u ∙ ap (lesser m.cut) (k.least (sym c ∙ z)) ∙ ap (λ y. lesser y (least_cut rs)) (h.least e) ∙ sym (least-append ss rs);
+      holds = holds_join m n j ss rs h.holds k.holds (rw e c) (rw e d);
+      greatest = λ z. l ∙ ap (max m.floor) (k.greatest (sym c ∙ z)) ∙ ap (λ y. max y (greatest_compaction rs)) (h.greatest e) ∙ sym ((read_on ss rs).1);
+      least = λ z. u ∙ ap (lesser m.cut) (k.least (sym c ∙ z)) ∙ ap (λ y. lesser y (least_cut rs)) (h.least e) ∙ sym ((read_on ss rs).2);
     }
-      where
-        pick : {X : Type 0} (b : Bool) (x y : X) → b ≡ false → cond b x y ≡ y
-        pick true x y z = absurd (false≢true (sym z))
-        pick false x y z = refl
 
     by_run : (y z : Option ℕ) → m.cleaned ≡ false → m.cut ≡ z → FitsCut y z m t → IsExactMark (joined_uncleaned y z Append x m n) (ss ++ rs)
     by_run None z e u f = live_parts _ e refl refl refl refl
@@ -174,20 +111,16 @@ exact_join x m n t ss rs {q} fits h k = by_cleaned m.cleaned refl
 
     by_cleaned : (b : Bool) → m.cleaned ≡ b → IsExactMark (cond b m (joined_uncleaned m.reach m.cut Append x m n)) (ss ++ rs)
     by_cleaned true e = record {
-      holds = holds_join m n m ss rs h.holds k.holds (e ∙ sym (chosen m.cleaned true n.cleaned e)) (sym (chosen m.cleaned m.deleted (joined_deleted m n) e));
+      holds = holds_join m n m ss rs h.holds k.holds (rw e refl) (rw e refl);
       greatest = λ z. clash e z;
       least = λ z. clash e z;
     }
-      where
-        chosen : {X : Type 0} (b : Bool) (x y : X) → b ≡ true → cond b x y ≡ x
-        chosen true x y z = refl
-        chosen false x y z = absurd (false≢true z)
     by_cleaned false e = by_run m.reach m.cut e refl (fits.uncleaned e)
 
 omega_max : (i : ℕ) → max i 0 ≡ i
 omega_max i = omega arith
 
-pub none_behind : (b : Option (ℕ × ℕ)) → option_or b None ≡ b
+pub none_behind : {X : Type 0} (b : Option X) → option_or b None ≡ b
 none_behind None = refl
 none_behind (Some p) = refl
 
@@ -199,36 +132,13 @@ same_cut (Some c) = refl
 pub joined_fresh : (q : LogQueue) (x : ℕ) (m : Mark) → joined_at q x m fresh ≡ m
 joined_fresh q x m = go q m.cleaned m.reach m.cut refl refl refl
   where
+    same : (b : Bool) (y : Option ℕ) (barred : Option (ℕ × ℕ)) (floor : ℕ) (cut : Option ℕ) (d : KeySet) → b ≡ m.cleaned → y ≡ m.reach → barred ≡ m.barred → floor ≡ m.floor → cut ≡ m.cut → d ≡ m.deleted
+        → ◌≡◌ {A = Mark} (record { cleaned = b; reach = y; reach_floor = m.reach_floor; reach_cut = m.reach_cut; barred = barred; floor = floor; cut = cut; deleted = d }) m
+    same b y barred floor cut d e f g h k l = rw (e, f, g, h, k, l) refl
+
     go : (q : LogQueue) (b : Bool) (y z : Option ℕ) → m.cleaned ≡ b → m.reach ≡ y → m.cut ≡ z → ◌≡◌ {A = Mark} (cond b m (joined_uncleaned y z q x m fresh)) m
     go q true y z e f g = refl
-    go q false None z e f g = λ i. record {
-      cleaned = sym e i;
-      reach = sym f i;
-      reach_floor = m.reach_floor;
-      reach_cut = m.reach_cut;
-      barred = none_behind m.barred i;
-      floor = omega_max m.floor i;
-      cut = same_cut m.cut i;
-      deleted = union_empty m.deleted i;
-    }
+    go q false None z e f g = same _ _ _ _ _ _ (sym e) (sym f) (none_behind m.barred) (omega_max m.floor) (same_cut m.cut) (union_empty m.deleted)
     go q false (Some r) None e f g = refl
-    go Append false (Some r) (Some c) e f g = λ i. record {
-      cleaned = sym e i;
-      reach = m.reach;
-      reach_floor = m.reach_floor;
-      reach_cut = m.reach_cut;
-      barred = none_behind m.barred i;
-      floor = omega_max m.floor i;
-      cut = sym g i;
-      deleted = union_empty m.deleted i;
-    }
-    go Rewrite false (Some r) (Some c) e f g = λ i. record {
-      cleaned = sym e i;
-      reach = m.reach;
-      reach_floor = m.reach_floor;
-      reach_cut = m.reach_cut;
-      barred = m.barred;
-      floor = omega_max m.floor i;
-      cut = sym g i;
-      deleted = union_empty m.deleted i;
-    }
+    go Append false (Some r) (Some c) e f g = same _ _ _ _ _ _ (sym e) refl (none_behind m.barred) (omega_max m.floor) (sym g) (union_empty m.deleted)
+    go Rewrite false (Some r) (Some c) e f g = same _ _ _ _ _ _ (sym e) refl refl (omega_max m.floor) (sym g) (union_empty m.deleted)

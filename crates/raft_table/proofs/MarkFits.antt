@@ -1,23 +1,14 @@
 -- The joined mark fits the joined entries.
-use Rattle.std.proofs.Common.{◌≡◌, ◌⊎◌, ℕ, ◌≤◌, max, min, Bool, true, false, cond, ◌||◌, List, [], ◌++◌, Option, Some, None, refl, sym, subst, ◌∙◌, inl, inr, arith}
-use Rattle.std.specs.Prelude.{is_some}
-use Rattle.std.proofs.lemmas.List.{append-nil}
-use Rattle.std.proofs.lemmas.Bool.{false≢true}
-use Rattle.std.proofs.lemmas.Bool.Decides.{nat_tests}
-use Rattle.raft_base.specs.declared.pipe_log.LogQueue.{LogQueue}
-use Rattle.raft_base.specs.declared.pipe_log.LogQueue.TheVariants.{Append, Rewrite}
-use Rattle.raft_base.specs.declared.entry_index.EntryIndex.{EntryIndex}
-use Rattle.raft_base.specs.Runs.{RisesFrom, IsRun, end_of}
-use Rattle.raft_table.specs.TableEntries.{start_of}
-use Rattle.raft_table.specs.KeyValues.{lesser}
-use Rattle.raft_table.specs.Marks.{Mark, entries_within, misses, is_barred, entries_over}
-use Rattle.raft_table.specs.MarkFits.{IsNotAbove, IsBelow, LiesWithin, BarsStaying, IsBarring, FitsRun, FitsCut, AreFromCut, BarsIn, Fits}
-use Rattle.raft_table.specs.MarkJoins.{at_most_bound, narrowed_bars, is_detached, joined_first, joined_uncleaned, joined_at}
+use Rattle.std.proofs.lemmas.Bool.{or_parts}
+use Rattle.raft_table.proofs.Common.{◌≡◌, ◌⊎◌, ℕ, ◌≤◌, max, min, Bool, true, false, cond, ◌||◌, List, [], ◌++◌, Option, Some, None, refl, sym, subst, ◌∙◌, inl, inr, arith, is_some, append-nil, nat_tests, LogQueue}
+use Rattle.raft_table.proofs.Common.{EntryIndex, RisesFrom, IsRun, end_of, start_of, lesser, Mark, entries_within, misses, is_barred, entries_over, IsNotAbove, IsBelow, LiesWithin, BarsStaying, IsBarring, FitsRun}
+use Rattle.raft_table.proofs.Common.{FitsCut, AreFromCut, BarsIn, EndsAtCut, Fits, at_most_bound, narrowed_bars, is_detached, joined_first, joined_uncleaned, joined_at, Append, Rewrite}
 use Rattle.raft_table.proofs.FromCutLemmas.{from_first, from_later}
-use Rattle.raft_table.proofs.PartEnds.{top, end_of-part_run}
+use Rattle.raft_table.proofs.MarkWords.{top, end_of-part_run}
 use Rattle.raft_table.proofs.MarkMeets.{barred_of, bounds}
 use Rattle.raft_table.proofs.RunLemmas.{end_of-append, rises}
-use Rattle.raft_table.proofs.MarkEntries.{same_some, accepted, or_false, over, over_is, over_nil, narrowed_bounds}
+use Rattle.raft_table.proofs.MarkEntries.{same_some, accepted, over, over_is, over_nil, narrowed_bounds}
+use Rattle.raft_table.proofs.MarkExact.{clash}
 
 fits_narrowed : (l0 lo : ℕ) (reach_cut cut : Option ℕ) (barred : Option (ℕ × ℕ)) → LiesWithin l0 reach_cut barred → LiesWithin (max lo l0) (lesser cut reach_cut) (narrowed_bars lo cut barred)
 fits_narrowed l0 lo reach_cut cut None f = tt
@@ -26,19 +17,19 @@ fits_narrowed l0 lo None (Some c) (Some p) f = (omega arith, omega arith)
 fits_narrowed l0 lo (Some t) None (Some p) f = (omega arith, f.1)
 fits_narrowed l0 lo (Some t) (Some c) (Some p) f = (omega arith, omega arith)
 
-seated_first : (cut : Option ℕ) (r d e lo : ℕ) (reach_cut : Option ℕ) (barred : Option (ℕ × ℕ)) (l : ℕ) → (e ≡ 0) ⊎ ((d ≤ e) ⊎ ((d ≤ lo) ⊎ (IsBelow reach_cut r ⊎ IsBarring barred)))
-    → (e ≡ 0) ⊎ ((at_most_bound d cut ≤ e) ⊎ ((at_most_bound d cut ≤ max l lo) ⊎ (IsBelow (lesser cut reach_cut) r ⊎ IsBarring (narrowed_bars l cut barred))))
+held_least : (c : ℕ) (d : Option ℕ) → at_most_bound c d ≤ c
+held_least c None = omega arith
+held_least c (Some d) = omega arith
+
+lower_held : (c e : ℕ) (b : Option ℕ) → e ≤ c → IsNotAbove c b → IsNotAbove e b
+lower_held c e None l h = tt
+lower_held c e (Some t) l h = omega arith
+
+seated_first : (cut : Option ℕ) (r d e lo : ℕ) (reach_cut : Option ℕ) (barred : Option (ℕ × ℕ)) (l : ℕ) → EndsAtCut d e lo reach_cut r barred →
+    EndsAtCut (at_most_bound d cut) e (max l lo) (lesser cut reach_cut) r (narrowed_bars l cut barred)
 seated_first cut r d e lo reach_cut barred l (inl h) = inl h
-seated_first cut r d e lo reach_cut barred l (inr (inl h)) = inr (inl (held cut))
-  where
-    held : (cut : Option ℕ) → at_most_bound d cut ≤ e
-    held None = h
-    held (Some c) = omega arith
-seated_first cut r d e lo reach_cut barred l (inr (inr (inl h))) = inr (inr (inl (held cut)))
-  where
-    held : (cut : Option ℕ) → at_most_bound d cut ≤ max l lo
-    held None = omega arith
-    held (Some c) = omega arith
+seated_first cut r d e lo reach_cut barred l (inr (inl h)) = inr (inl (omega (arith, held_least d cut)))
+seated_first cut r d e lo reach_cut barred l (inr (inr (inl h))) = inr (inr (inl (omega (arith, held_least d cut))))
 seated_first cut r d e lo reach_cut barred l (inr (inr (inr (inl h)))) = inr (inr (inr (inl (least cut reach_cut h))))
   where
     least : (cut reach_cut : Option ℕ) → IsBelow reach_cut r → IsBelow (lesser cut reach_cut) r
@@ -51,17 +42,13 @@ seated_first cut r d e lo reach_cut (Some p) l (inr (inr (inr (inr h)))) = inr (
 fits_run_first : (cut : Option ℕ) (r d e reach_floor lo : ℕ) (reach_cut : Option ℕ) (barred : Option (ℕ × ℕ)) (l : ℕ) → FitsRun r d e reach_floor lo reach_cut barred
     → FitsRun r (at_most_bound d cut) e (max l reach_floor) (max l lo) (lesser cut reach_cut) (narrowed_bars l cut barred)
 fits_run_first cut r d e reach_floor lo reach_cut barred l f = record {
-  cut_first = first cut;
+  cut_first = (elim cut as (λ cut. at_most_bound d cut ≤ r) [ None ↦ f.cut_first | Some c ↦ omega (arith, f.cut_first) ]);
   floor_rises = omega (arith, f.floor_rises);
   cut_falls = falls cut reach_cut f.cut_falls;
   covers = cover cut barred f.covers;
   seated = seated_first cut r d e lo reach_cut barred l f.seated;
 }
   where
-    first : (cut : Option ℕ) → at_most_bound d cut ≤ r
-    first None = f.cut_first
-    first (Some c) = omega (arith, f.cut_first)
-
     falls : (cut reach_cut : Option ℕ) → IsNotAbove d reach_cut → IsNotAbove (at_most_bound d cut) (lesser cut reach_cut)
     falls None reach_cut h = h
     falls (Some c) None h = omega arith
@@ -101,16 +88,9 @@ still_above : (s e l c : ℕ) (d : Option ℕ) → c ≤ e → (top s e l d ≡ 
 still_above s e l c None h = grind (arith, nat_tests)
 still_above s e l c (Some d) h = grind (arith, nat_tests)
 
-held_least : (c : ℕ) (d : Option ℕ) → at_most_bound c d ≤ c
-held_least c None = omega arith
-held_least c (Some d) = omega arith
-
-abbrev Seat : ℕ → ℕ → ℕ → Option ℕ → ℕ → Option (ℕ × ℕ) → Type 0
-Seat c e lo reach_cut r barred = (e ≡ 0) ⊎ ((c ≤ e) ⊎ ((c ≤ lo) ⊎ (IsBelow reach_cut r ⊎ IsBarring barred)))
-
 -- the older table's part of the joined one
 seat_older : (s e r c lo lo' l : ℕ) (d reach_cut : Option ℕ) (barred barred' : Option (ℕ × ℕ)) → lo ≤ lo' → (IsBarring barred → IsBarring barred') →
-    Seat c e lo reach_cut r barred → Seat (at_most_bound c d) (top s e l d) lo' reach_cut r barred'
+    EndsAtCut c e lo reach_cut r barred → EndsAtCut (at_most_bound c d) (top s e l d) lo' reach_cut r barred'
 seat_older s e r c lo lo' l d reach_cut barred barred' h k (inl z) = inl (nothing d)
   where
     nothing : (d : Option ℕ) → top s e l d ≡ 0
@@ -122,12 +102,12 @@ seat_older s e r c lo lo' l d reach_cut barred barred' h k (inr (inr (inr (inl z
 seat_older s e r c lo lo' l d reach_cut barred barred' h k (inr (inr (inr (inr z)))) = inr (inr (inr (inr (k z))))
 
 -- and with the newer table behind it, which ends at e
-seat_more : (c x e lo r : ℕ) (reach_cut : Option ℕ) (barred : Option (ℕ × ℕ)) → e ≡ 0 → Seat c x lo reach_cut r barred → Seat c (max x e) lo reach_cut r barred
+seat_more : (c x e lo r : ℕ) (reach_cut : Option ℕ) (barred : Option (ℕ × ℕ)) → e ≡ 0 → EndsAtCut c x lo reach_cut r barred → EndsAtCut c (max x e) lo reach_cut r barred
 seat_more c x e lo r reach_cut barred z h = let k : max x e ≡ x = omega arith in rw k h
 
 -- the newer mark's seat
 seat_newer : (c x e lo r d l r' : ℕ) (reach_cut b : Option ℕ) (barred barred' : Option (ℕ × ℕ)) → l ≤ lo → (IsBarring barred' → IsBarring barred) → (IsBelow b r' → (min c d ≤ lo) ⊎ IsBarring barred)
-    → (e ≡ 0 → Seat (min c d) x lo reach_cut r barred) → Seat d e l b r' barred' → Seat (min c d) (max x e) lo reach_cut r barred
+    → (e ≡ 0 → EndsAtCut (min c d) x lo reach_cut r barred) → EndsAtCut d e l b r' barred' → EndsAtCut (min c d) (max x e) lo reach_cut r barred
 seat_newer c x e lo r d l r' reach_cut b barred barred' h k m f (inl z) = seat_more (min c d) x e lo r reach_cut barred z (f z)
 seat_newer c x e lo r d l r' reach_cut b barred barred' h k m f (inr (inl z)) = inr (inl (omega arith))
 seat_newer c x e lo r d l r' reach_cut b barred barred' h k m f (inr (inr (inl z))) = inr (inr (inl (omega arith)))
@@ -164,32 +144,16 @@ top_held s e l r (Some b) h = grind (arith, nat_tests)
 meets_within : (l0 lo c : ℕ) (reach_cut : Option ℕ) (barred : Option (ℕ × ℕ)) (x : Bool) (l : ℕ) (b : Option ℕ) (barred' : Option (ℕ × ℕ)) → LiesWithin l0 reach_cut barred → l0 ≤ lo → IsNotAbove c reach_cut
     → LiesWithin l0 reach_cut (barred_of barred x (Some (max lo l, at_most_bound c b)) (narrowed_bars lo (Some c) barred'))
 meets_within l0 lo c reach_cut (Some p) x l b barred' f h k = f
-meets_within l0 lo c reach_cut None true l b barred' f h k = (omega arith, at_most reach_cut k)
-  where
-    at_most : (reach_cut : Option ℕ) → IsNotAbove c reach_cut → IsNotAbove (at_most_bound c b) reach_cut
-    at_most None k = tt
-    at_most (Some t) k = omega (arith, held_least c b)
+meets_within l0 lo c reach_cut None true l b barred' f h k = (omega arith, lower_held c (at_most_bound c b) reach_cut (held_least c b) k)
 meets_within l0 lo c reach_cut None false l b None f h k = tt
-meets_within l0 lo c reach_cut None false l b (Some p) f h k = (omega arith, at_most reach_cut k)
-  where
-    at_most : (reach_cut : Option ℕ) → IsNotAbove c reach_cut → IsNotAbove (min p.1 c) reach_cut
-    at_most None k = tt
-    at_most (Some t) k = omega arith
+meets_within l0 lo c reach_cut None false l b (Some p) f h k = (omega arith, lower_held c (min p.1 c) reach_cut (omega arith) k)
 
 covers_later : (lo c : ℕ) (barred : Option (ℕ × ℕ)) (x : Bool) (l0 : ℕ) (b : Option ℕ) (barred' : Option (ℕ × ℕ)) (l d : ℕ) → BarsStaying barred lo c → BarsStaying barred' l d → l0 ≤ l → IsNotAbove d b
     → BarsStaying (barred_of barred x (Some (max lo l0, at_most_bound c b)) (narrowed_bars lo (Some c) barred')) (max lo l) (min c d)
 covers_later lo c (Some p) x l0 b barred' l d f f' h k = (omega arith, omega arith)
-covers_later lo c None true l0 b barred' l d f f' h k = (omega arith, at_most b k)
-  where
-    at_most : (b : Option ℕ) → IsNotAbove d b → min c d ≤ at_most_bound c b
-    at_most None k = omega arith
-    at_most (Some b) k = omega arith
+covers_later lo c None true l0 b barred' l d f f' h k = (omega arith, ((elim b as (λ b. IsNotAbove d b → min c d ≤ at_most_bound c b) [ None ↦ λ k. omega arith | Some b ↦ λ k. omega arith ]) k))
 covers_later lo c None false l0 b None l d f f' h k = tt
 covers_later lo c None false l0 b (Some p) l d f f' h k = (omega arith, omega arith)
-
-at_most_less : (c d : ℕ) (reach_cut : Option ℕ) → IsNotAbove c reach_cut → IsNotAbove (at_most_bound c (Some d)) reach_cut
-at_most_less c d None h = tt
-at_most_less c d (Some t) h = omega arith
 
 -- in the append queue, where the newer mark has a run
 fits_later_append : (s1 : ℕ) (n : Mark) (t u : List EntryIndex) (r c reach_floor lo : ℕ) (reach_cut : Option ℕ) (barred : Option (ℕ × ℕ)) (r' d : ℕ) → RisesFrom s1 t → FitsRun r c (end_of t) reach_floor lo reach_cut barred
@@ -200,7 +164,7 @@ fits_later_append : (s1 : ℕ) (n : Mark) (t u : List EntryIndex) (r c reach_flo
 fits_later_append s1 n t u r c reach_floor lo reach_cut barred r' d run1 f f' ok = record {
   cut_first = omega (arith, f.cut_first);
   floor_rises = omega (arith, f.floor_rises);
-  cut_falls = at_most_less c d reach_cut f.cut_falls;
+  cut_falls = lower_held c (min c d) reach_cut (omega arith) f.cut_falls;
   covers = covers_later lo c barred _ n.reach_floor n.reach_cut n.barred n.floor d f.covers f'.covers f'.floor_rises f'.cut_falls;
   seated = rw (end_of-both_parts s1 n.floor (Some d) t u run1)
       (seat_newer c (top s1 (end_of t) n.floor (Some d)) (end_of u) (max lo n.floor) r d n.floor r' reach_cut n.reach_cut _ n.barred (omega arith)
@@ -216,10 +180,6 @@ covers_less : (barred : Option (ℕ × ℕ)) (x : Option (ℕ × ℕ)) (lo c lo'
 covers_less None x lo c lo' c' h k f = tt
 covers_less (Some p) x lo c lo' c' h k f = (omega arith, omega arith)
 
-at_most_held : (c : ℕ) (d reach_cut : Option ℕ) → IsNotAbove c reach_cut → IsNotAbove (at_most_bound c d) reach_cut
-at_most_held c d None h = tt
-at_most_held c d (Some t) h = omega (arith, held_least c d)
-
 -- where the newer mark has no run
 fits_later_no_run : (s1 l : ℕ) (d : Option ℕ) (t u : List EntryIndex) (r c reach_floor lo : ℕ) (reach_cut : Option ℕ) (barred : Option (ℕ × ℕ))
     (x : Option (ℕ × ℕ)) → RisesFrom s1 t → FitsRun r c (end_of t) reach_floor lo reach_cut barred → u ≡ []
@@ -227,7 +187,7 @@ fits_later_no_run : (s1 l : ℕ) (d : Option ℕ) (t u : List EntryIndex) (r c r
 fits_later_no_run s1 l d t u r c reach_floor lo reach_cut barred x run1 f none = record {
   cut_first = omega (arith, f.cut_first, held_least c d);
   floor_rises = omega (arith, f.floor_rises);
-  cut_falls = at_most_held c d reach_cut f.cut_falls;
+  cut_falls = lower_held c (at_most_bound c d) reach_cut (held_least c d) f.cut_falls;
   covers = covers_less barred x lo c (max lo l) (at_most_bound c d) (omega arith) (held_least c d) f.covers;
   seated = rw (none, append-nil, end_of-part_run s1 l d t run1) (seat_older s1 (end_of t) r c lo (max lo l) l d reach_cut barred (barred_of barred false x None) (omega arith) (still_barring barred false x None) f.seated);
 }
@@ -240,18 +200,15 @@ fits_later_rewrite : (s1 : ℕ) (n : Mark) (t u : List EntryIndex) (r c reach_fl
     (end_of (entries_within n.reach_floor n.reach_cut t))) (max (max lo n.floor) c) (max lo n.floor)) reach_cut None
 fits_later_rewrite s1 n t u r c reach_floor lo reach_cut r' d run1 f f' = record {
   cut_first = omega (arith, f.cut_first);
-  floor_rises = grows (is_detached (Some r') (end_of (entries_within n.reach_floor n.reach_cut t)) (at_most_bound c n.reach_cut) || misses (Some r') (end_of (entries_within n.reach_floor n.reach_cut t)));
-  cut_falls = at_most_less c d reach_cut f.cut_falls;
+  floor_rises = (elim (is_detached (Some r') (end_of (entries_within n.reach_floor n.reach_cut t)) (at_most_bound c n.reach_cut) || misses (Some r') (end_of (entries_within n.reach_floor n.reach_cut t))) as
+      (λ b. reach_floor ≤ cond b (max (max lo n.floor) c) (max lo n.floor)) [ true ↦ omega (arith, f.floor_rises) | false ↦ omega (arith, f.floor_rises) ]);
+  cut_falls = lower_held c (min c d) reach_cut (omega arith) f.cut_falls;
   covers = tt;
   seated = seat (misses (Some r') (end_of (entries_within n.reach_floor n.reach_cut t))) (is_detached (Some r') (end_of (entries_within n.reach_floor n.reach_cut t)) (at_most_bound c n.reach_cut)) refl refl;
 }
   where
-    grows : (b : Bool) → reach_floor ≤ cond b (max (max lo n.floor) c) (max lo n.floor)
-    grows true = omega (arith, f.floor_rises)
-    grows false = omega (arith, f.floor_rises)
-
     seat : (miss barred : Bool) → misses (Some r') (end_of (entries_within n.reach_floor n.reach_cut t)) ≡ miss → is_detached (Some r') (end_of (entries_within n.reach_floor n.reach_cut t)) (at_most_bound c n.reach_cut) ≡ barred
-        → Seat (min c d) (end_of (cond miss u (entries_within n.floor (Some d) t ++ u))) (cond (barred || miss) (max (max lo n.floor) c) (max lo n.floor)) reach_cut r None
+        → EndsAtCut (min c d) (end_of (cond miss u (entries_within n.floor (Some d) t ++ u))) (cond (barred || miss) (max (max lo n.floor) c) (max lo n.floor)) reach_cut r None
     seat true true h k = inr (inr (inl (omega arith)))
     seat true false h k = inr (inr (inl (omega arith)))
     seat false true h k = inr (inr (inl (omega arith)))
@@ -264,17 +221,12 @@ fits_later_rewrite s1 n t u r c reach_floor lo reach_cut r' d run1 f f' = record
         both : {b : Bool} → b ≡ false → b ≡ true → ⊥
         both x y = cc
 
-clash : {A : Type 0} {b : Bool} → b ≡ true → b ≡ false → A
-clash x y = absurd (false≢true (sym y ∙ x))
-
-clear_some : (r : ℕ) → ◌≡◌ {A = Option ℕ} (Some r) None → ⊥
-clear_some r e = cc
-
 first_table : (q : LogQueue) (n : Mark) (t u w : List EntryIndex) → t ≡ [] → over q n u t ≡ Some w → u ≡ w
 first_table q n t u w e is = same_some u w (sym (over_nil q n u) ∙ over_is q n u [] ∙ (rw e at is))
 
 fits_join_append : (m n : Mark) (t u w : List EntryIndex) → IsRun t → Fits Append m t → Fits Append n u → over Append n u t ≡ Some w → Fits Append (joined_at Append (end_of (entries_within n.reach_floor n.reach_cut t)) m n) w
-fits_join_append m n t u w run f f' is = by_cleaned m.cleaned refl f.uncleaned
+fits_join_append m n t u w run f f' is = (elim m.cleaned as (λ b. m.cleaned ≡ b → (b ≡ false → FitsCut m.reach m.cut m t) → Fits Append (cond b m (joined_uncleaned m.reach m.cut Append X m n)) w)
+    [ true ↦ λ e h. record { bars = tt; behind = f.behind; within = f.within; uncleaned = λ x. clash e x; from_cut = λ x. clash e x } | false ↦ λ e h. by_run m.reach m.cut refl refl (h refl) (f.from_cut e) ]) refl f.uncleaned
   where
     X : ℕ
     X = end_of (entries_within n.reach_floor n.reach_cut t)
@@ -283,7 +235,7 @@ fits_join_append m n t u w run f f' is = by_cleaned m.cleaned refl f.uncleaned
     ok = accepted _ _ _ is
 
     ok2 : (misses n.reach X ≡ false) × (is_barred n.barred t ≡ false)
-    ok2 = or_false _ _ ok.0
+    ok2 = or_parts _ _ ok.0
 
     later : (r c : ℕ) → FitsRun r c (end_of t) m.reach_floor m.floor m.reach_cut m.barred → (x y : Option ℕ) → misses x X ≡ false → FitsCut x y n u → (x ≡ None → n.barred ≡ None) → entries_within n.floor y t ++ u ≡ w
         → FitsRun r (at_most_bound c y) (end_of w) m.reach_floor (max m.floor n.floor) m.reach_cut
@@ -298,18 +250,15 @@ fits_join_append m n t u w run f f' is = by_cleaned m.cleaned refl f.uncleaned
     by_run (Some r) None k e h l = absurd h
     by_run (Some r) (Some c) k e h l = record {
       bars = tt;
-      behind = λ none. absurd (clear_some r (sym k ∙ none));
+      behind = λ none. let n : ◌≡◌ {A = Option ℕ} (Some r) None = sym k ∙ none in absurd cc;
       within = meets_within m.reach_floor m.floor c m.reach_cut m.barred _ n.reach_floor n.reach_cut n.barred f.within h.floor_rises h.cut_falls;
       uncleaned = λ clean. rw (k, bounds c n.cut) (later r c h n.reach n.cut ok2.0 (f'.uncleaned clean) f'.behind (rw clean at ok.1));
       from_cut = λ clean. from_later c n.floor n.cut n.reach n t u w n.cleaned l (f'.uncleaned clean) (f'.from_cut clean) ok.1;
     }
 
-    by_cleaned : (b : Bool) → m.cleaned ≡ b → (b ≡ false → FitsCut m.reach m.cut m t) → Fits Append (cond b m (joined_uncleaned m.reach m.cut Append X m n)) w
-    by_cleaned true e h = record { bars = tt; behind = f.behind; within = f.within; uncleaned = λ x. clash e x; from_cut = λ x. clash e x }
-    by_cleaned false e h = by_run m.reach m.cut refl refl (h refl) (f.from_cut e)
-
 fits_join_rewrite : (m n : Mark) (t u w : List EntryIndex) → IsRun t → Fits Rewrite m t → Fits Rewrite n u → over Rewrite n u t ≡ Some w → Fits Rewrite (joined_at Rewrite (end_of (entries_within n.reach_floor n.reach_cut t)) m n) w
-fits_join_rewrite m n t u w run f f' is = by_cleaned m.cleaned refl f.uncleaned
+fits_join_rewrite m n t u w run f f' is = (elim m.cleaned as (λ b. m.cleaned ≡ b → (b ≡ false → FitsCut m.reach m.cut m t) → Fits Rewrite (cond b m (joined_uncleaned m.reach m.cut Rewrite X m n)) w)
+    [ true ↦ λ e h. record { bars = f.bars; behind = f.behind; within = f.within; uncleaned = λ x. clash e x; from_cut = λ x. clash e x } | false ↦ λ e h. by_run m.reach m.cut refl refl (h refl) (f.from_cut e) ]) refl f.uncleaned
   where
     X : ℕ
     X = end_of (entries_within n.reach_floor n.reach_cut t)
@@ -333,10 +282,6 @@ fits_join_rewrite m n t u w run f f' is = by_cleaned m.cleaned refl f.uncleaned
       uncleaned = λ clean. rw (k, bounds c n.cut, f.bars) (later r c (rw f.bars at h) n.reach n.cut (f'.uncleaned clean) (rw clean at ok));
       from_cut = λ clean. from_later c n.floor n.cut n.reach n t u w (misses n.reach X) l (f'.uncleaned clean) (f'.from_cut clean) (rw clean at ok);
     }
-
-    by_cleaned : (b : Bool) → m.cleaned ≡ b → (b ≡ false → FitsCut m.reach m.cut m t) → Fits Rewrite (cond b m (joined_uncleaned m.reach m.cut Rewrite X m n)) w
-    by_cleaned true e h = record { bars = f.bars; behind = f.behind; within = f.within; uncleaned = λ x. clash e x; from_cut = λ x. clash e x }
-    by_cleaned false e h = by_run m.reach m.cut refl refl (h refl) (f.from_cut e)
 
 pub fits_join : (q : LogQueue) (m n : Mark) (t u w : List EntryIndex) → IsRun t → Fits q m t → Fits q n u → entries_over q n u t ≡ Some w → Fits q (joined_at q (end_of (entries_within n.reach_floor n.reach_cut t)) m n) w
 fits_join Append m n t u w run f f' is = fits_join_append m n t u w run f f' (sym (over_is Append n u t) ∙ is)

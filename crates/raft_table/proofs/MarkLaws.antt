@@ -1,15 +1,6 @@
 -- A mark and a table stand for steps: none, one, and those of two neighbors.
-use Rattle.std.proofs.Common.{◌≡◌, ℕ, List, [], ◌∷◌, ◌++◌, Option, Some, None, refl, sym, ap, subst, ◌∙◌, inl, inr, arith}
-use Rattle.std.specs.Option.{option_and_then}
-use Rattle.raft_base.specs.declared.pipe_log.LogQueue.{LogQueue}
-use Rattle.raft_base.specs.declared.pipe_log.LogQueue.TheVariants.{Append, Rewrite}
-use Rattle.raft_base.specs.declared.entry_index.EntryIndex.{EntryIndex}
-use Rattle.raft_table.specs.Steps.{Step, Run, Compact, Truncate, Put, Del, AtomicGroup, Clean, table_of, after_step, after, IsStep, AreSteps, IsTableOf}
-use Rattle.raft_table.specs.Table.{Table}
-use Rattle.raft_table.specs.Marks.{Mark, entries_over, table_over, table_over_older}
-use Rattle.raft_table.specs.MarkFits.{AreFromCut, BarsIn, Fits}
-use Rattle.raft_table.specs.Stands.{Stands}
-use Rattle.raft_table.specs.MarkJoins.{joined_mark, fresh, mark_of, own_of}
+use Rattle.raft_table.proofs.Common.{◌≡◌, ℕ, List, [], ◌∷◌, ◌++◌, Option, Some, None, refl, sym, ap, subst, ◌∙◌, inl, inr, arith, option_and_then, LogQueue, EntryIndex, Step, Run, Compact, Truncate, Put, Del, AtomicGroup, Clean, table_of}
+use Rattle.raft_table.proofs.Common.{after_step, after, IsStep, AreSteps, IsTableOf, Table, Mark, entries_over, table_over, table_over_older, AreFromCut, BarsIn, Fits, Stands, joined_mark, fresh, mark_of, own_of, Append, Rewrite}
 use Rattle.raft_table.proofs.MarkWords.{end_of-first}
 use Rattle.raft_table.proofs.MarkEntries.{same_some}
 use Rattle.raft_table.proofs.FromCutLemmas.{from_none, from_rises}
@@ -22,10 +13,7 @@ pub entries-over_table : (q : LogQueue) (m : Mark) (t o w : Table) → table_ove
 entries-over_table q m t o w is = go (entries_over q m t.entries o.entries) refl
   where
     go : (x : Option (List EntryIndex)) → entries_over q m t.entries o.entries ≡ x → entries_over q m t.entries o.entries ≡ Some w.entries
-    go None e = absurd (no_some (rw e at is))
-      where
-        no_some : ◌≡◌ {A = Option Table} None (Some w) → ⊥
-        no_some h = cc
+    go None e = let n : ◌≡◌ {A = Option Table} None (Some w) = rw e at is in absurd cc
     go (Some es) e = e ∙ ap (λ (t : Table). Some t.entries) (same_some _ w (rw e at is))
 
 pub after-append : (q : LogQueue) (id : ℕ) (o : Option Table) (ss rs : List Step) → after q id o (ss ++ rs) ≡ option_and_then (λ u. after q id u rs) (after q id o ss)
@@ -38,11 +26,7 @@ after-append q id o (s ∷ ss) rs = go (λ u. after-append q id u ss rs) (after_
     go ih (Some u) = ih u
 
 one_after : (q : LogQueue) (id : ℕ) (o : Option Table) (s : Step) → after q id o (s ∷ []) ≡ after_step q (table_of id o) s
-one_after q id o s = go (after_step q (table_of id o) s)
-  where
-    go : (x : Option (Option Table)) → option_and_then (λ u. Some u) x ≡ x
-    go None = refl
-    go (Some u) = refl
+one_after q id o s = elim (after_step q (table_of id o) s) as (λ x. option_and_then (λ u. Some u) x ≡ x) [ None ↦ refl | Some u ↦ refl ]
 
 bars_none : (q : LogQueue) → BarsIn q None
 bars_none Append = tt

@@ -1,19 +1,15 @@
 -- What a newer first run meets of an older table, behind what an older mark leaves of still older entries.
-use Rattle.std.proofs.Common.{◌≡◌, ◌⊎◌, ℕ, ◌≤◌, max, min, Bool, true, false, cond, ◌||◌, ltb, eqb, List, ◌++◌, Option, Some, None, refl, sym, ap, ◌∙◌, inl, arith}
-use Rattle.std.specs.Option.{option_or}
-use Rattle.std.proofs.lemmas.Bool.Decides.{nat_tests}
-use Rattle.raft_base.specs.declared.entry_index.EntryIndex.{EntryIndex}
-use Rattle.raft_base.specs.Runs.{RisesFrom, end_of}
-use Rattle.raft_table.specs.KeyValues.{lesser}
-use Rattle.raft_table.specs.Marks.{entries_within, misses, is_barred}
-use Rattle.raft_table.specs.MarkFits.{LiesWithin, BarsStaying, FitsRun}
-use Rattle.raft_table.specs.MarkJoins.{at_most_bound, narrowed_bars, is_detached}
-use Rattle.raft_table.proofs.MarkWords.{end_of-part_both}
-use Rattle.raft_table.proofs.PartEnds.{top, end_of-part_run}
+use Rattle.raft_table.proofs.Common.{◌≡◌, ◌⊎◌, ℕ, ◌≤◌, max, min, Bool, true, false, cond, ◌||◌, ltb, eqb, List, ◌++◌, Option, Some, None, refl, sym, ap, ◌∙◌, inl, arith, option_or, nat_tests, EntryIndex, RisesFrom}
+use Rattle.raft_table.proofs.Common.{end_of, lesser, entries_within, misses, is_barred, LiesWithin, BarsStaying, FitsRun, at_most_bound, narrowed_bars, is_detached}
+use Rattle.raft_table.proofs.MarkWords.{end_of-part_both, top, end_of-part_run}
 
 -- barred indexes of an older mark, or else one of two
 abbrev pub barred_of : Option (ℕ × ℕ) → Bool → Option (ℕ × ℕ) → Option (ℕ × ℕ) → Option (ℕ × ℕ)
 barred_of barred b x y = option_or barred (cond b x y)
+
+-- a wider entries_within of a run without entries has no narrower one with entries
+pub none_within : (s e l d lo c : ℕ) → l ≤ lo → c ≤ d → top s e l (Some d) ≡ 0 → top s e lo (Some c) ≡ 0
+none_within s e l d lo c h k z = grind (arith, nat_tests)
 
 -- an older table over which nothing is refused has no entry between lo and the cut c, or reaches the cut
 settled : (s e r c et reach_floor lo : ℕ) (reach_cut : Option ℕ) (barred : Option (ℕ × ℕ)) → FitsRun r c et reach_floor lo reach_cut barred →
@@ -21,10 +17,7 @@ settled : (s e r c et reach_floor lo : ℕ) (reach_cut : Option ℕ) (barred : O
     → (top s e lo (Some c) ≡ 0) ⊎ ((c ≤ e) × ((et ≡ 0) ⊎ (c ≤ et)))
 settled s e r c et reach_floor lo None None f ok open' = grind (arith, nat_tests)
 settled s e r c et reach_floor lo (Some t) None f ok open' = grind (arith, nat_tests)
-settled s e r c et reach_floor lo reach_cut (Some p) f ok open' = inl (shut_out s e p.0 p.1 lo c f.covers.0 f.covers.1 (open' p refl))
-  where
-    shut_out : (s e l d lo c : ℕ) → l ≤ lo → c ≤ d → top s e l (Some d) ≡ 0 → top s e lo (Some c) ≡ 0
-    shut_out s e l d lo c h k z = grind (arith, nat_tests)
+settled s e r c et reach_floor lo reach_cut (Some p) f ok open' = inl (none_within s e p.0 p.1 lo c f.covers.0 f.covers.1 (open' p refl))
 
 -- where what the newer run meets ends: x of the own table t, from s1 to e1, y of the older one
 met : (s e s1 e1 c lo z : ℕ) (b : Option ℕ) → (top s e lo (Some c) ≡ 0) ⊎ ((c ≤ e) × ((e1 ≡ 0) ⊎ (c ≤ e1)))
@@ -37,10 +30,6 @@ at_cut : (s e c et lo z : ℕ) (b : Option ℕ) → (top s e lo (Some c) ≡ 0) 
     → (top s e (max lo z) (lesser (Some c) b) ≡ 0) ⊎ (top s e (max lo z) (lesser (Some c) b) ≡ at_most_bound c b)
 at_cut s e c et lo z None h = grind (arith, nat_tests)
 at_cut s e c et lo z (Some b) h = grind (arith, nat_tests)
-
--- a wider entries_within of a run without entries has no narrower one with entries
-pub none_within : (s e l d lo c : ℕ) → l ≤ lo → c ≤ d → top s e l (Some d) ≡ 0 → top s e lo (Some c) ≡ 0
-none_within s e l d lo c h k z = grind (arith, nat_tests)
 
 -- whether the newer run, or its second meeting, refuses
 answer : (r : Option ℕ) (x y b : ℕ) (z : Bool) → (y ≡ 0) ⊎ (y ≡ b) → (y ≡ 0 → z ≡ false) → misses r x ≡ false

@@ -1,28 +1,11 @@
 -- Tables under two marks, one after the other, and under the joined one; and one step as a mark.
-use Rattle.std.proofs.Common.{◌≡◌, ℕ, Bool, true, false, cond, not, ◌||◌, List, [], ◌∷◌, ◌++◌, Option, Some, None, refl, sym, ap, ◌∙◌}
-use Rattle.std.specs.Prelude.{is_some}
-use Rattle.std.specs.Option.{option_and_then, option_map, option_or}
-use Rattle.std.specs.Ordering.{nat_cmp, eq_by_cmp}
-use Rattle.std.specs.Cmp.Lexicographic.{slice_cmp, nat_list_cmp_total}
+use Rattle.raft_table.proofs.Common.{◌≡◌, ℕ, Bool, true, false, cond, not, ◌||◌, List, [], ◌∷◌, ◌++◌, Option, Some, None, refl, sym, ap, ◌∙◌, is_some, option_and_then, option_map, option_or, nat_cmp, eq_by_cmp}
+use Rattle.raft_table.proofs.Common.{slice_cmp, nat_list_cmp_total, slice_cmp-IsAntisymmetric, nat_cmp-IsAntisymmetric, false≢true, append-nil, LogQueue, EntryIndex, IsRun, end_of, below, from, KeySet, without, Keys}
+use Rattle.raft_table.proofs.Common.{Stored, pairs_over, newer_atomic_group, leaves_hole, entries_after_replay, Step, Run, Compact, Truncate, Put, Del, AtomicGroup, Clean, table_of, after_step, IsTableOf, Table}
+use Rattle.raft_table.proofs.Common.{empty_table, Mark, entries_within, misses, is_refused_over, entries_over, keys_over, atomic_group_over, table_over, is_there_over, there_if, table_over_older, FitsCut, Fits}
+use Rattle.raft_table.proofs.Common.{joined_deleted, joined_uncleaned, joined_at, joined_mark, end_at_reach, fresh, mark_of, own_of, Append, Rewrite}
 use Rattle.std.specs.FinMap as finite
-use Rattle.std.specs.FinMap.{slice_cmp-IsAntisymmetric, nat_cmp-IsAntisymmetric}
 use Rattle.std.specs.FinSet as finset
-use Rattle.std.proofs.lemmas.Bool.{false≢true}
-use Rattle.std.proofs.lemmas.List.{append-nil}
-use Rattle.raft_base.specs.declared.pipe_log.LogQueue.{LogQueue}
-use Rattle.raft_base.specs.declared.pipe_log.LogQueue.TheVariants.{Append, Rewrite}
-use Rattle.raft_base.specs.declared.entry_index.EntryIndex.{EntryIndex}
-use Rattle.raft_base.specs.Runs.{IsRun, end_of}
-use Rattle.raft_table.specs.TableEntries.{below, from}
-use Rattle.raft_table.specs.KeySets.{KeySet, without}
-use Rattle.raft_table.specs.KeyValues.{Keys, Stored, pairs_over}
-use Rattle.raft_table.specs.Merge.{newer_atomic_group}
-use Rattle.raft_table.specs.Start.{leaves_hole, entries_after_replay}
-use Rattle.raft_table.specs.Steps.{Step, Run, Compact, Truncate, Put, Del, AtomicGroup, Clean, table_of, after_step, IsTableOf}
-use Rattle.raft_table.specs.Table.{Table, empty_table}
-use Rattle.raft_table.specs.Marks.{Mark, entries_within, misses, is_refused_over, entries_over, keys_over, atomic_group_over, table_over, is_there_over, there_if, table_over_older}
-use Rattle.raft_table.specs.MarkFits.{FitsCut, Fits}
-use Rattle.raft_table.specs.MarkJoins.{joined_deleted, joined_uncleaned, joined_at, joined_mark, end_at_reach, fresh, mark_of, own_of}
 use Rattle.raft_table.proofs.KeyValueLaws.{get-pairs_over}
 use Rattle.raft_table.proofs.MarkWords.{within-whole, within-from, within-below}
 use Rattle.raft_table.proofs.MarkEntries.{same_some, join_entries, over_nil}
@@ -40,11 +23,7 @@ over_both : (t o u : Option Stored) (d e : Bool) → option_or u (cond (not e) (
 over_both t o (Some u) d e = refl
 over_both t o None true true = refl
 over_both t o None false true = refl
-over_both None o None d false = or_false d
-  where
-    or_false : (d : Bool) → cond (not d) o None ≡ cond (not (d || false)) o None
-    or_false true = refl
-    or_false false = refl
+over_both None o None d false = elim d as (λ d. cond (not d) o None ≡ cond (not (d || false)) o None) [ true ↦ refl | false ↦ refl ]
 over_both (Some t) o None d false = refl
 
 join_live_keys : (d e : KeySet) (t u o : Keys) → pairs_over u (without e (pairs_over t (without d o))) ≡ pairs_over (pairs_over u (without e t)) (without (finset.union d e) o)
@@ -72,16 +51,14 @@ join_there false false t false o = refl
 
 -- what the joined mark has of the two beside its numbers
 pub joined_parts : (q : LogQueue) (x : ℕ) (m n : Mark) (t : List EntryIndex) → Fits q m t → ((joined_at q x m n).cleaned ≡ cond m.cleaned true n.cleaned) × ((joined_at q x m n).deleted ≡ cond m.cleaned m.deleted (joined_deleted m n))
-joined_parts q x m n t fits = by_cleaned m.cleaned refl
+joined_parts q x m n t fits = (elim m.cleaned as
+    (λ b. m.cleaned ≡ b → ((cond b m (joined_uncleaned m.reach m.cut q x m n)).cleaned ≡ cond b true n.cleaned) × ((cond b m (joined_uncleaned m.reach m.cut q x m n)).deleted ≡ cond b m.deleted (joined_deleted m n)))
+    [ true ↦ λ e. (e, refl) | false ↦ λ e. by_run m.reach m.cut (fits.uncleaned e) ]) refl
   where
     by_run : (y z : Option ℕ) → FitsCut y z m t → ((joined_uncleaned y z q x m n).cleaned ≡ n.cleaned) × ((joined_uncleaned y z q x m n).deleted ≡ joined_deleted m n)
     by_run None z h = (refl, refl)
     by_run (Some r) None h = absurd h
     by_run (Some r) (Some c) h = (refl, refl)
-
-    by_cleaned : (b : Bool) → m.cleaned ≡ b → ((cond b m (joined_uncleaned m.reach m.cut q x m n)).cleaned ≡ cond b true n.cleaned) × ((cond b m (joined_uncleaned m.reach m.cut q x m n)).deleted ≡ cond b m.deleted (joined_deleted m n))
-    by_cleaned true e = (e, refl)
-    by_cleaned false e = by_run m.reach m.cut (fits.uncleaned e)
 
 -- the table with these parts
 abbrev rebuilt : Table → Keys → Option (ℕ × ℕ) → List EntryIndex → Table
@@ -138,21 +115,15 @@ empty_parts : (id : ℕ) (older : Table) (es : List EntryIndex) (keys : Keys) (a
 empty_parts id older es keys atomic_group e f g k = rw (e, f, g, k) refl
 
 no_keys : (d : KeySet) → pairs_over finite.empty (without d finite.empty) ≡ finite.empty
-no_keys d = same_keys _ _ (λ q. rw (get-pairs_over, get-without, finite.get-empty {X = Stored} (slice_cmp nat_cmp) q) (either (finset.contains d q)))
-  where
-    either : (b : Bool) → ◌≡◌ {A = Option Stored} (cond (not b) None None) None
-    either true = refl
-    either false = refl
+no_keys d = same_keys _ _ (λ q. rw (get-pairs_over, get-without, finite.get-empty {X = Stored} (slice_cmp nat_cmp) q) (elim (finset.contains d q) as
+    (λ b. ◌≡◌ {A = Option Stored} (cond (not b) None None) None) [ true ↦ refl | false ↦ refl ]))
 
 -- what is applied without a table has no records
 none_cleaned : (q : LogQueue) (id : ℕ) (m : Mark) (o x : Table) → o.region_id ≡ id → m.cleaned ≡ true → table_over q m (empty_table id) o ≡ Some x → x ≡ empty_table id
 none_cleaned q id m o x r e is = go (is_refused_over q m o.entries) refl
   where
     go : (b : Bool) → is_refused_over q m o.entries ≡ b → x ≡ empty_table id
-    go true k = absurd (no_some (rw k at is))
-      where
-        no_some : ◌≡◌ {A = Option Table} None (Some x) → ⊥
-        no_some h = cc
+    go true k = let n : ◌≡◌ {A = Option Table} None (Some x) = rw k at is in absurd cc
     go false k = sym (same_some _ x (rw (k, e) at is)) ∙ empty_parts id o [] finite.empty None r refl refl refl
 
 none_live : (q : LogQueue) (id : ℕ) (m : Mark) (x : Table) → m.cleaned ≡ false → table_over q m (empty_table id) (empty_table id) ≡ Some x → x ≡ empty_table id
@@ -177,10 +148,7 @@ pub table-applied : (q : LogQueue) (id : ℕ) (m : Mark) (t o w : Option Table) 
 table-applied q id m t o w h is = go (table_over q m (table_of id t) (table_of id o)) refl
   where
     go : (y : Option Table) → table_over q m (table_of id t) (table_of id o) ≡ y → (table_over q m (table_of id t) (table_of id o) ≡ Some (table_of id w)) × (is_some w ≡ is_there_over m t o)
-    go None e = absurd (no_some (rw e at is))
-      where
-        no_some : ◌≡◌ {A = Option (Option Table)} None (Some w) → ⊥
-        no_some h = cc
+    go None e = let n : ◌≡◌ {A = Option (Option Table)} None (Some w) = rw e at is in absurd cc
     go (Some x) e =
         let same : some_there (is_there_over m t o) x ≡ w = same_some _ w (sym (applied-some q id m t o x e) ∙ is) in
         let whole : table_of id w ≡ x = ap (table_of id) (sym same) ∙ table_of-there id (is_there_over m t o) x (λ n. none_over q id m t o x h n e) in
@@ -216,9 +184,6 @@ join_applied q id m n t u w o fits fits' own h is = go (table_over q m (table_of
         ap (option_and_then (λ v. table_over_older q id n u v)) (applied-some q id m t o x e) ∙ (rw (content, flag) refl)
 
 -- one step's mark
-pub from_whole : (o : List EntryIndex) → from 0 o ≡ o
-from_whole o = sym (within-from 0 o) ∙ within-whole o
-
 meets : (f : ℕ) (o : List EntryIndex) → misses (Some f) (end_of (entries_within 0 None o)) ≡ leaves_hole o f
 meets f o = ap (λ es. misses (Some f) (end_of es)) (within-whole o) ∙ sym (hole_end o f)
 
@@ -227,11 +192,7 @@ either_behind true a run = refl
 either_behind false a run = refl
 
 run_over : (q : LogQueue) (e : EntryIndex) (run o : List EntryIndex) → entries_over q (mark_of (Run (e ∷ run))) (e ∷ run) o ≡ entries_after_replay q o (e ∷ run)
-run_over Append e run o = rw (meets e.index o, within-below, or_false (leaves_hole o e.index)) refl
-  where
-    or_false : (b : Bool) → (b || false) ≡ b
-    or_false true = refl
-    or_false false = refl
+run_over Append e run o = rw (meets e.index o, within-below, (elim (leaves_hole o e.index) as (λ b. (b || false) ≡ b) [ true ↦ refl | false ↦ refl ])) refl
 run_over Rewrite e run o = rw (meets e.index o, within-below) (ap (λ x. Some x) (either_behind (leaves_hole o e.index) (below e.index o) (e ∷ run)))
 
 -- a mark without a run, of a region that wasn't cleaned
@@ -245,7 +206,7 @@ cut_over Append i o = ap (λ x. Some x) (append-nil (entries_within 0 (Some i) o
 cut_over Rewrite i o = ap (λ x. Some x) (append-nil (entries_within 0 (Some i) o) ∙ within-below i o)
 
 untouched : (q : LogQueue) (deleted : KeySet) (o : List EntryIndex) → entries_over q (record fresh { deleted = deleted }) [] o ≡ Some o
-untouched q deleted o = kept_over q 0 deleted o ∙ ap (λ x. Some x) (from_whole o)
+untouched q deleted o = kept_over q 0 deleted o ∙ ap (λ x. Some x) (sym (within-from 0 o) ∙ within-whole o)
 
 keys_kept : (o : Keys) → pairs_over finite.empty (without finset.empty o) ≡ o
 keys_kept o = same_keys _ _ (λ q. rw (get-pairs_over, get-without, finite.get-empty {X = Stored} (slice_cmp nat_cmp) q, finset.contains-empty (slice_cmp nat_cmp) q) refl)
@@ -260,11 +221,7 @@ key_put o key s = same_keys _ _
       finite.get-empty {X = Stored} (slice_cmp nat_cmp) q,
       finset.contains-empty (slice_cmp nat_cmp) q,
     )
-    (go (eq_by_cmp (slice_cmp nat_cmp) q key) (finite.get o q)))
-  where
-    go : (b : Bool) (x : Option Stored) → option_or (cond b (Some s) None) x ≡ cond b (Some s) x
-    go true x = refl
-    go false x = refl
+    (elim (eq_by_cmp (slice_cmp nat_cmp) q key) as (λ b. option_or (cond b (Some s) None) (finite.get o q) ≡ cond b (Some s) (finite.get o q)) [ true ↦ refl | false ↦ refl ]))
 
 key_deleted : (o : Keys) (key : List ℕ) → pairs_over finite.empty (without (finset.insert finset.empty key) o) ≡ finite.remove o key
 key_deleted o key = same_keys _ _
@@ -276,11 +233,7 @@ key_deleted o key = same_keys _ _
       finite.get-empty {X = Stored} (slice_cmp nat_cmp) q,
       finset.contains-empty (slice_cmp nat_cmp) q,
     )
-    (go (eq_by_cmp (slice_cmp nat_cmp) q key) (finite.get o q)))
-  where
-    go : (b : Bool) (x : Option Stored) → cond (not (b || false)) x None ≡ cond b None x
-    go true x = refl
-    go false x = refl
+    (elim (eq_by_cmp (slice_cmp nat_cmp) q key) as (λ b. cond (not (b || false)) (finite.get o q) None ≡ cond b None (finite.get o q)) [ true ↦ refl | false ↦ refl ]))
 
 pub one_step : (q : LogQueue) (id : ℕ) (s : Step) (o : Option Table) → table_over_older q id (mark_of s) (own_of id s) o ≡ after_step q (table_of id o) s
 one_step q id (Run []) o = rw (untouched q finset.empty (table_of id o).entries, keys_kept (table_of id o).keys) refl
@@ -321,8 +274,4 @@ applied_none q id m t r = rw (own_alone q id m (table_of id t) r) (go m.cleaned 
     go false (Some x) = refl
 
 pub applied_fresh : (q : LogQueue) (id : ℕ) (o : Option Table) → table_over_older q id fresh None o ≡ Some o
-applied_fresh q id o = rw (untouched q finset.empty (table_of id o).entries, keys_kept (table_of id o).keys) (go o)
-  where
-    go : (o : Option Table) → there_if (is_some o) (Some (table_of id o)) ≡ Some o
-    go None = refl
-    go (Some x) = refl
+applied_fresh q id o = rw (untouched q finset.empty (table_of id o).entries, keys_kept (table_of id o).keys) (elim o as (λ o. there_if (is_some o) (Some (table_of id o)) ≡ Some o) [ None ↦ refl | Some x ↦ refl ])

@@ -1,29 +1,10 @@
--- Laws of the words of marks on lists of entries.
-use Rattle.std.proofs.Common.{◌≡◌, ℕ, suc, ◌<◌, ◌≤◌, max, Bool, true, false, cond, ◌&&◌, ltb, leb, List, [], ◌∷◌, ◌++◌, Option, Some, None, refl, ap, ◌∙◌, append_assoc, arith}
-use Rattle.std.specs.Prelude.{filter}
-use Rattle.std.proofs.lemmas.List.Elements.{filter-append}
-use Rattle.std.proofs.lemmas.Bool.Decides.{nat_tests}
-use Rattle.raft_base.specs.declared.entry_index.EntryIndex.{EntryIndex}
-use Rattle.raft_base.specs.Runs.{end_of}
-use Rattle.raft_table.specs.TableEntries.{below, from}
-use Rattle.raft_table.specs.Marks.{entries_within, is_under}
-use Rattle.raft_table.specs.KeyValues.{lesser}
-use Rattle.raft_table.proofs.RunLemmas.{end_of-append}
+-- Laws of the words of marks on lists of entries, and where parts of runs end.
+use Rattle.raft_table.proofs.Common.{◌≡◌, ℕ, suc, ◌<◌, ◌≤◌, max, Bool, true, false, cond, ◌&&◌, ltb, leb, List, [], ◌∷◌, ◌++◌, Option, Some, None, refl, ap, ◌∙◌, arith, filter-append, nat_tests, EntryIndex, end_of}
+use Rattle.raft_table.proofs.Common.{below, from, entries_within, is_under, lesser, ◌⊎◌, min, inl, inr, RisesFrom, append_assoc, filter}
+use Rattle.std.proofs.lemmas.List.Elements.{filter_agree}
+use Rattle.raft_table.proofs.RunLemmas.{filter-filter, end_of-append}
 
--- two filters are one
-filter-filter : {X : Type 0} (p q r : X → Bool) → ((x : X) → (q x && p x) ≡ r x) → (xs : List X) → filter p (filter q xs) ≡ filter r xs
-filter-filter p q r same [] = refl
-filter-filter p q r same (x ∷ xs) = go (q x) (r x) (same x) (filter-filter p q r same xs)
-  where
-    go : (a c : Bool) → (a && p x) ≡ c → filter p (filter q xs) ≡ filter r xs → filter p (cond a (x ∷ filter q xs) (filter q xs)) ≡ cond c (x ∷ filter r xs) (filter r xs)
-    go true c e ih = cc
-    go false c e ih = cc
-
-same_filter : {X : Type 0} (p q : X → Bool) → ((x : X) → p x ≡ q x) → (xs : List X) → filter p xs ≡ filter q xs
-same_filter p q same [] = refl
-same_filter p q same (x ∷ xs) = rw (same x, same_filter p q same xs) refl
-
-filter-none : {X : Type 0} (p : X → Bool) → ((x : X) → p x ≡ false) → (xs : List X) → filter p xs ≡ []
+pub filter-none : {X : Type 0} (p : X → Bool) → ((x : X) → p x ≡ false) → (xs : List X) → filter p xs ≡ []
 filter-none p none [] = refl
 filter-none p none (x ∷ xs) = rw (none x) (filter-none p none xs)
 
@@ -49,15 +30,11 @@ within-whole es = filter-all _ (λ e. grind (arith, nat_tests)) es
 
 pub within-from : (floor : ℕ) (es : List EntryIndex) → entries_within floor None es ≡ from floor es
 unfolding entries_within from
-within-from floor es = same_filter _ _ (λ e. and_true (leb floor e.index)) es
-  where
-    and_true : (b : Bool) → (b && true) ≡ b
-    and_true true = refl
-    and_true false = refl
+within-from floor es = filter_agree _ _ (λ e. (elim (leb floor e.index) as (λ b. (b && true) ≡ b) [ true ↦ refl | false ↦ refl ])) es
 
 pub within-below : (i : ℕ) (es : List EntryIndex) → entries_within 0 (Some i) es ≡ below i es
 unfolding entries_within below
-within-below i es = same_filter _ _ (λ e. grind (arith, nat_tests)) es
+within-below i es = filter_agree _ _ (λ e. grind (arith, nat_tests)) es
 
 both_parts : (l floor k : ℕ) (d cut : Option ℕ) → ((leb floor k && is_under cut k) && (leb l k && is_under d k)) ≡ (leb (max floor l) k && is_under (lesser cut d) k)
 both_parts l floor k d cut = grind (arith, nat_tests)
@@ -101,3 +78,24 @@ pub end_of-part_both : (l : ℕ) (d : Option ℕ) (floor c : ℕ) (o t : List En
     end_of (entries_within l d (entries_within floor (Some c) o ++ t)) ≡ max (end_of (entries_within (max floor l) (lesser (Some c) d) o))
     (end_of (entries_within l d t))
 end_of-part_both l d floor c o t = rw (within-append, within-within, end_of-append) refl
+
+-- where the part from a to b of a run from s to e ends
+abbrev pub top : ℕ → ℕ → ℕ → Option ℕ → ℕ
+top s e a None = cond (ltb (max s a) e) e 0
+top s e a (Some b) = cond (ltb (max s a) (min e b)) (min e b) 0
+
+-- a run ends behind its start
+end_of-rising : (s : ℕ) (es : List EntryIndex) → RisesFrom s es → (end_of es ≡ 0) ⊎ (s < end_of es)
+unfolding end_of
+end_of-rising s [] h = inl refl
+end_of-rising s (e ∷ es) h = inr (omega (arith, h.0))
+
+top_more : (s e a : ℕ) (b : Option ℕ) (k m : ℕ) → k ≡ s → (e ≡ 0) ⊎ (suc s < e) → m ≡ top (suc s) e a b → cond (leb a k && is_under b k) (max (suc k) m) m ≡ top s (max (suc k) e) a b
+top_more s e a b k m is h e' = grind (arith, nat_tests)
+
+pub end_of-part_run : (s a : ℕ) (b : Option ℕ) (es : List EntryIndex) → RisesFrom s es → end_of (entries_within a b es) ≡ top s (end_of es) a b
+unfolding end_of entries_within
+end_of-part_run s a None [] h = grind (arith, nat_tests)
+end_of-part_run s a (Some b) [] h = grind (arith, nat_tests)
+end_of-part_run s a b (e ∷ es) h = end_of-cond (leb a e.index && is_under b e.index) e (filter (λ e. leb a e.index && is_under b e.index) es)
+    ∙ top_more s (end_of es) a b e.index _ h.0 (end_of-rising (suc s) es h.1) (end_of-part_run (suc s) a b es h.1)

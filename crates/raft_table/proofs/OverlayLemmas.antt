@@ -1,29 +1,16 @@
 -- An appended table over a rewritten one: by a mark and by its steps, and that it is a run.
-use Rattle.std.proofs.Common.{◌≡◌, ℕ, ◌+◌, ◌<◌, ◌≤◌, Bool, true, false, cond, not, ◌||◌, ltb, eqb, List, [], ◌∷◌, ◌++◌, length, Option, Some, None, refl, sym, ap, subst, ◌∙◌, arith}
+use Rattle.raft_table.proofs.Common.{◌≡◌, ℕ, ◌+◌, ◌<◌, ◌≤◌, Bool, true, false, cond, not, ◌||◌, ltb, eqb, List, [], ◌∷◌, ◌++◌, length, Option, Some, None, refl, sym, ap, subst, ◌∙◌, arith, append-nil, nat_tests}
+use Rattle.raft_table.proofs.Common.{EntryIndex, RisesFrom, IsRun, end_of, from, start_of, without, pairs_over, left_by, Mark, entries_within, FitsCut, Stands, after_merge, has_clean, deleted_of, is_unjoined}
+use Rattle.raft_table.proofs.Common.{rewritten_within, overlay, overlay_under, IsExactMark, Step, table_of, AreSteps, IsTableOf, Table}
 use Rattle.std.specs.FinMap as finite
 use Rattle.std.specs.FinSet as finset
-use Rattle.std.proofs.lemmas.List.{append-nil}
-use Rattle.std.proofs.lemmas.Bool.Decides.{nat_tests}
 use Rattle.raft_base.specs.declared.pipe_log.LogQueue.TheVariants.{Append, Rewrite}
-use Rattle.raft_base.specs.declared.entry_index.EntryIndex.{EntryIndex}
-use Rattle.raft_base.specs.Runs.{RisesFrom, IsRun, end_of}
-use Rattle.raft_table.specs.TableEntries.{below, from, start_of}
-use Rattle.raft_table.specs.KeySets.{without}
-use Rattle.raft_table.specs.KeyValues.{pairs_over}
-use Rattle.raft_table.specs.MarkedJoins.{left_by}
-use Rattle.raft_table.specs.Marks.{Mark, entries_within}
-use Rattle.raft_table.specs.MarkFits.{FitsCut}
-use Rattle.raft_table.specs.Stands.{Stands}
-use Rattle.raft_table.specs.Merge.{after_merge}
-use Rattle.raft_table.specs.Overlay.{has_clean, deleted_of, is_unjoined, rewritten_within, overlay, overlay_under, IsExactMark}
-use Rattle.raft_table.specs.Steps.{Step, table_of, AreSteps, IsTableOf}
-use Rattle.raft_table.specs.Table.{Table}
 use Rattle.raft_table.proofs.RunLemmas.{end_of-run, RisesFrom-append, rises}
-use Rattle.raft_table.proofs.MarkWords.{within-within, within-below, within-from, end_of-first}
-use Rattle.raft_table.proofs.PartEnds.{top, end_of-part_run}
+use Rattle.raft_table.proofs.MarkWords.{within-from, end_of-first, top, end_of-part_run}
 use Rattle.raft_table.proofs.MarkExact.{empty_union}
 use Rattle.raft_table.proofs.MarkRuns.{run_from, run_below, first_rising}
 use Rattle.raft_table.proofs.UnderLemmas.{replayed_run, whole_keys}
+use Rattle.raft_table.proofs.CutLemmas.{within-cut}
 
 -- what the mark says is what the steps say
 pub overlay_exact : (m : Mark) (ss : List Step) (a r : Table) → IsExactMark m ss → overlay_under m a r ≡ overlay ss a r
@@ -48,30 +35,21 @@ pub over_rewritten : (m : Mark) (a r : Table) → IsRun (overlay_under m a r).en
     → after_merge Rewrite (left_by (is_unjoined m.cut (end_of r.entries) a.entries) m r) a ≡ Some (record (overlay_under m a r) { atomic_group = cond m.cleaned None r.atomic_group })
 over_rewritten m a r run =
     let left = left_by (is_unjoined m.cut (end_of r.entries) a.entries) m r in
-    let es = entries m.cleaned in
-    rw (replayed_run Rewrite left.entries a.entries (subst IsRun es run), ← es, ← keys m.cleaned) refl
-  where
-    entries : (b : Bool) → cond b a.entries (rewritten_within m.floor m.cut a.entries r.entries ++ a.entries) ≡ cond b [] (rewritten_within m.floor m.cut a.entries r.entries) ++ a.entries
-    entries true = refl
-    entries false = refl
-
-    keys : (b : Bool) → cond b a.keys (pairs_over a.keys (without m.deleted r.keys)) ≡ pairs_over a.keys (cond b finite.empty (without m.deleted r.keys))
-    keys true = sym (whole_keys a.keys)
-    keys false = refl
+    let es = (elim m.cleaned as (λ b. cond b a.entries (rewritten_within m.floor m.cut a.entries r.entries ++ a.entries) ≡ cond b [] (rewritten_within m.floor m.cut a.entries r.entries) ++ a.entries) [ true ↦ refl | false ↦ refl ]) in
+    rw (
+      replayed_run Rewrite left.entries a.entries (subst IsRun es run),
+      ← es,
+      ← (elim m.cleaned as
+          (λ b. cond b a.keys (pairs_over a.keys (without m.deleted r.keys)) ≡ pairs_over a.keys (cond b finite.empty (without m.deleted r.keys))) [ true ↦ sym (whole_keys a.keys) | false ↦ refl ]),
+    ) refl
 
 -- and with that group
 pub with_group_over : (m : Mark) (a r t u : Table) → t ≡ record (overlay_under m a r) { atomic_group = cond m.cleaned None r.atomic_group } → u.atomic_group ≡ a.atomic_group
     → record t { atomic_group = cond m.cleaned u.atomic_group t.atomic_group } ≡ overlay_under m a r
 with_group_over m a r t u is group =
     ap (λ (t : Table). record t { atomic_group = cond m.cleaned u.atomic_group t.atomic_group }) is
-    ∙ ap (λ g. record (overlay_under m a r) { atomic_group = g }) (ap (λ g. cond m.cleaned g (cond m.cleaned None r.atomic_group)) group ∙ same m.cleaned)
-  where
-    same : (b : Bool) → cond b a.atomic_group (cond b None r.atomic_group) ≡ cond b a.atomic_group r.atomic_group
-    same true = refl
-    same false = refl
-
-within-cut : (floor cut : ℕ) (es : List EntryIndex) → below cut (from floor es) ≡ entries_within floor (Some cut) es
-within-cut floor cut es = ap (below cut) (sym (within-from floor es)) ∙ sym (within-below cut (entries_within floor None es)) ∙ within-within 0 (Some cut) floor None es ∙ ap (λ l. entries_within l (Some cut) es) (omega arith)
+    ∙ ap (λ g. record (overlay_under m a r) { atomic_group = g }) (ap (λ g. cond m.cleaned g (cond m.cleaned None r.atomic_group)) group ∙ (elim m.cleaned as
+    (λ b. cond b a.atomic_group (cond b None r.atomic_group) ≡ cond b a.atomic_group r.atomic_group) [ true ↦ refl | false ↦ refl ]))
 
 -- a part of a run is one
 part_run : (floor : ℕ) (cut : Option ℕ) (es : List EntryIndex) → IsRun es → IsRun (entries_within floor cut es)
@@ -93,7 +71,8 @@ joined_at_cut i c n h = grind (arith, nat_tests)
 
 -- an overlay is a run
 pub overlay_run : (id : ℕ) (m : Mark) (a : Option Table) (ss : List Step) (r : Table) → AreSteps ss → Stands Append id m a ss → IsTableOf id r → IsRun (overlay_under m (table_of id a) r).entries
-overlay_run id m a ss r good h k = by_cleaned m.cleaned refl
+overlay_run id m a ss r good h k = (elim m.cleaned as (λ b. m.cleaned ≡ b → IsRun (cond b (table_of id a).entries (rewritten_within m.floor m.cut (table_of id a).entries r.entries ++ (table_of id a).entries)))
+    [ true ↦ λ e. h.own_table.run | false ↦ λ e. by_cut m.reach m.cut refl (h.fits.uncleaned e) ]) refl
   where
     by_own : (c : ℕ) (own : List EntryIndex) → IsRun own → IsRun (rewritten_within m.floor (Some c) own r.entries ++ own)
     by_own c [] run = subst IsRun (sym (append-nil (entries_within m.floor (Some c) r.entries))) (part_run m.floor (Some c) r.entries k.run)
@@ -111,7 +90,3 @@ overlay_run id m a ss r good h k = by_cleaned m.cleaned refl
     by_cut y (Some c) is f = by_own c (table_of id a).entries h.own_table.run
     by_cut None None is f = subst (λ own. IsRun (entries_within m.floor None r.entries ++ own)) (sym f) (subst IsRun (sym (append-nil (entries_within m.floor None r.entries))) (part_run m.floor None r.entries k.run))
     by_cut (Some s) None is f = absurd f
-
-    by_cleaned : (b : Bool) → m.cleaned ≡ b → IsRun (cond b (table_of id a).entries (rewritten_within m.floor m.cut (table_of id a).entries r.entries ++ (table_of id a).entries))
-    by_cleaned true e = h.own_table.run
-    by_cleaned false e = by_cut m.reach m.cut refl (h.fits.uncleaned e)

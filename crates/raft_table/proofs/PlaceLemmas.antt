@@ -1,14 +1,6 @@
 -- How many entries have their place in a queue, after a cut or behind one another.
-use Rattle.std.proofs.Common.{◌≡◌, ℕ, zero, suc, ◌+◌, min, Bool, true, false, List, [], ◌∷◌, ◌++◌, length, take, drop, filter, refl, sym, ap, subst, ◌∙◌, arith, Option, Some, None}
-use Rattle.std.specs.List.{AllByRecursion}
-use Rattle.std.specs.Option.{option_map_or}
-use Rattle.std.proofs.lemmas.List.{length-append, take-append-drop}
-use Rattle.raft_base.specs.declared.pipe_log.LogQueue.{LogQueue}
-use Rattle.raft_base.specs.declared.pipe_log.LogQueue.TheVariants.{Append, Rewrite}
-use Rattle.raft_base.specs.declared.pipe_log.FileBlockHandle.{FileBlockHandle}
-use Rattle.raft_base.specs.declared.entry_index.EntryIndex.{EntryIndex}
-use Rattle.raft_table.specs.TableEntries.{placed_in, is_placed_in, entry_count, RewrittenInFront}
-use Rattle.raft_table.specs.Queues.{is_same, count_in}
+use Rattle.raft_table.proofs.Common.{get_or, ◌<◌, ◌≡◌, ℕ, zero, suc, ◌+◌, min, Bool, true, false, List, [], ◌∷◌, ◌++◌, length, take, drop, filter, refl, sym, ap, subst, ◌∙◌, arith, Some, None, AllByRecursion}
+use Rattle.raft_table.proofs.Common.{option_map_or, length-append, take-append-drop, LogQueue, FileBlockHandle, EntryIndex, placed_in, is_placed_in, entry_count, RewrittenInFront, is_same, count_in, Append, Rewrite}
 use Rattle.raft_table.proofs.RunLemmas.{placed_in-append}
 
 -- what holds of both queues holds of each
@@ -24,11 +16,7 @@ AllTest b p (x ∷ xs) = (p x ≡ b) × AllTest b p xs
 pub AllTest-filter : {X : Type 0} (p : X → Bool) (xs : List X) → AllTest true p (filter p xs)
 unfolding AllTest
 AllTest-filter p [] = tt
-AllTest-filter p (x ∷ xs) = at (p x) refl (AllTest-filter p xs)
-  where
-    at : (b : Bool) → p x ≡ b → AllTest true p (filter p xs) → AllTest true p (filter p (x ∷ xs))
-    at true e h = rw e (e, h)
-    at false e h = rw e h
+AllTest-filter p (x ∷ xs) = (elim (p x) as (λ b. p x ≡ b → AllTest true p (filter p xs) → AllTest true p (filter p (x ∷ xs))) [ true ↦ λ e h. rw e (e, h) | false ↦ λ e h. rw e h ]) refl (AllTest-filter p xs)
 
 pub AllTest-weaker : {X : Type 0} (a b : Bool) (p q : X → Bool) → ((x : X) → p x ≡ a → q x ≡ b) → (xs : List X) → AllTest a p xs → AllTest b q xs
 unfolding AllTest
@@ -46,6 +34,12 @@ unfolding AllTest
 AllTest-drop b p zero xs h = h
 AllTest-drop b p (suc n) [] h = tt
 AllTest-drop b p (suc n) (x ∷ xs) h = AllTest-drop b p n xs h.1
+
+pub at_test : {X : Type 0} (p : X → Bool) (i : ℕ) (es : List X) (d : X) → i < length es → AllTest true p es → p (get_or es i d) ≡ true
+unfolding AllTest
+at_test p i [] d l h = absurd (omega arith)
+at_test p zero (x ∷ es) d l h = h.0
+at_test p (suc i) (x ∷ es) d l h = at_test p i es d (omega arith) h.1
 
 pub filter_none : {X : Type 0} (p : X → Bool) (xs : List X) → AllTest false p xs → filter p xs ≡ []
 unfolding AllTest
@@ -82,17 +76,14 @@ each_placed q (e ∷ es) h = rw h.0 (ap (λ xs. e ∷ xs) (each_placed q es h.1)
 -- no entry has its place in both queues
 pub placed_apart : (q r : LogQueue) → is_same q r ≡ false → (e : EntryIndex) → is_placed_in q e ≡ true → is_placed_in r e ≡ false
 unfolding is_placed_in
-placed_apart q r d e h = at e.entries h
+placed_apart q r d e h = (elim e.entries as (λ o. option_map_or (λ (place : FileBlockHandle). is_same place.id.queue q) o false ≡ true → option_map_or (λ (place : FileBlockHandle). is_same place.id.queue r) o false ≡ false)
+    [ None ↦ λ k. refl | Some b ↦ λ k. same b.id.queue q r d k ]) h
   where
     same : (a b c : LogQueue) → is_same b c ≡ false → is_same a b ≡ true → is_same a c ≡ false
     same Append Append c n s = n
     same Append Rewrite c n s = cc
     same Rewrite Append c n s = cc
     same Rewrite Rewrite c n s = n
-
-    at : (o : Option FileBlockHandle) → option_map_or (λ (place : FileBlockHandle). is_same place.id.queue q) o false ≡ true → option_map_or (λ (place : FileBlockHandle). is_same place.id.queue r) o false ≡ false
-    at None k = refl
-    at (Some b) k = same b.id.queue q r d k
 
 pub placed_in_other : (q r : LogQueue) → is_same q r ≡ false → (es : List EntryIndex) → placed_in r (placed_in q es) ≡ []
 unfolding placed_in

@@ -1,13 +1,6 @@
 -- Tables over older ones where their marks stand for steps.
-use Rattle.std.proofs.Common.{◌≡◌, ℕ, Bool, true, false, cond, ◌||◌, List, Option, Some, refl, ap, subst, ◌∙◌}
-use Rattle.std.specs.Prelude.{is_some}
-use Rattle.std.specs.Option.{option_map}
-use Rattle.raft_base.specs.declared.pipe_log.LogQueue.{LogQueue}
-use Rattle.raft_table.specs.MarkedJoins.{IsRunOver}
-use Rattle.raft_table.specs.Marks.{Mark, keys_over, atomic_group_over, table_over, is_there_over, table_over_older}
-use Rattle.raft_table.specs.Stands.{Stands}
-use Rattle.raft_table.specs.Steps.{Step, table_of, AreSteps, IsTableOf}
-use Rattle.raft_table.specs.Table.{Table}
+use Rattle.raft_table.proofs.Common.{◌≡◌, ℕ, Bool, true, false, cond, ◌||◌, List, Option, Some, refl, ap, subst, ◌∙◌, is_some, option_map, LogQueue, IsRunOver, Mark, keys_over, atomic_group_over, table_over}
+use Rattle.raft_table.proofs.Common.{is_there_over, table_over_older, Stands, Step, table_of, AreSteps, IsTableOf, Table}
 use Rattle.raft_table.proofs.MarkRuns.{table_after}
 use Rattle.raft_table.proofs.MarkTables.{applied-some, some_there, table_of-there, none_over}
 

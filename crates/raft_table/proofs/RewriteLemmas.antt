@@ -1,23 +1,125 @@
--- Where a run meets a table's entries, and what rewriting to its places gives.
-use Rattle.std.proofs.Common.{◌≡◌, ℕ, ◌+◌, ◌-◌, ◌<◌, ◌≤◌, min, true, false, cond, ltb, List, [], ◌∷◌, ◌++◌, length, take, drop, Option, Some, None, refl, sym, ap, ◌∙◌, arith, inl, inr}
-use Rattle.std.specs.List.{prefix_len}
-use Rattle.std.proofs.lemmas.List.{nil_from_length, length-take-le, length-take, length-drop, take-take, take_min}
-use Rattle.std.proofs.lemmas.List.Sums.{prefix_len-le-length}
-use Rattle.std.proofs.lemmas.Bool.{cases_lt}
-use Rattle.std.proofs.lemmas.Bool.Decides.{nat_tests}
-use Rattle.raft_base.specs.declared.pipe_log.LogQueue.{LogQueue}
-use Rattle.raft_base.specs.declared.pipe_log.LogQueue.TheVariants.{Append, Rewrite}
-use Rattle.raft_base.specs.declared.entry_index.EntryIndex.{EntryIndex}
-use Rattle.raft_base.specs.Runs.{RisesFrom, end_of}
-use Rattle.raft_table.specs.declared.memtable.entries.Overlap.{Overlap}
-use Rattle.raft_table.specs.Counts.{Counts, with_added, with_deleted}
-use Rattle.raft_table.specs.TableEntries.{IsRunIn, AreTableEntries, start_of, below, from, placed_in, entry_count}
-use Rattle.raft_table.specs.Overlaps.{IsOverlap, AreDisjoint}
-use Rattle.raft_table.specs.Rewriting.{may_move, overlap, moved_count, is_misplaced, with_places, rewritten_from, entries_after_rewrite, with_rewritten, counts_after_rewrite}
-use Rattle.raft_table.proofs.RunLemmas.{below_take, below_start, from_drop, from_start, end_of-run, RisesFrom-take, RisesFrom-drop, rises}
-use Rattle.raft_table.proofs.SoundLemmas.{sound_rising}
-use Rattle.raft_table.proofs.MovesLemmas.{placed_in-take, placed_in-drop}
-use Rattle.raft_table.proofs.PlaceLemmas.{each_placed}
+-- Where a run meets a table's entries, what rewriting to its places gives, and what it leaves in each queue.
+use Rattle.raft_table.proofs.Common.{◌≡◌, ℕ, suc, ◌+◌, ◌≤◌, min, Bool, true, false, List, [], ◌∷◌, ◌++◌, length, take, drop, Option, Some, None, refl, sym, ap, ◌∙◌, subst, arith, prefix_len, append_assoc, length-take-le, length-append}
+use Rattle.raft_table.proofs.Common.{length-drop, drop-take, take-take, take_at, drop_at, prefix_len-le-length, nat_tests, LogQueue, EntryIndex, RisesFrom, end_of, run_of, end_bounded, bounded_of, AreTableEntries, RewrittenInFront}
+use Rattle.raft_table.proofs.Common.{start_of, placed_in, is_placed_in, entry_count, may_move, is_misplaced, newly_rewritten, Append, Rewrite, ◌-◌, ◌<◌, cond, ltb, inl, inr, nil_from_length, length-take, take_min, cases_lt, Overlap, Counts}
+use Rattle.raft_table.proofs.Common.{with_added, with_deleted, IsRunIn, below, from, IsOverlap, AreDisjoint, overlap, moved_count, with_places, rewritten_from, entries_after_rewrite, with_rewritten, counts_after_rewrite}
+use Rattle.raft_table.proofs.RunLemmas.{start-of_rising, RisesFrom-take, RisesFrom-append, RisesFrom-drop, end_of-run, placed_in-append, below_take, below_start, from_drop, from_start, rises}
+use Rattle.raft_table.proofs.PlaceLemmas.{AllTest, AllTest-filter, AllTest-take, AllTest-drop, filter_all, each_placed, entry_count-append, entries_in_one, placed_in_other}
+use Rattle.raft_table.proofs.SoundLemmas.{sound_rising, AreTableEntries-take, AreTableEntries-drop, cut_counts}
+use Rattle.raft_table.proofs.StartLemmas.{run_alone}
+
+pub AllTest-prefix : {X : Type 0} (p : X → Bool) (xs : List X) → AllTest true p (take (prefix_len p xs) xs)
+unfolding AllTest
+AllTest-prefix p [] = tt
+AllTest-prefix p (x ∷ xs) = (elim (p x) as (λ b. p x ≡ b → AllTest true p (take (prefix_len p xs) xs) → AllTest true p (take (prefix_len p (x ∷ xs)) (x ∷ xs)))
+    [ true ↦ λ e h. let k : 1 + prefix_len p xs ≡ suc (prefix_len p xs) = omega arith in rw (e, k) (e, h) | false ↦ λ e h. rw e tt ]) refl (AllTest-prefix p xs)
+
+pub placed_in-take : (q : LogQueue) (n : ℕ) (es : List EntryIndex) → placed_in q es ≡ es → placed_in q (take n es) ≡ take n es
+unfolding placed_in
+placed_in-take q n es h =
+    filter_all (is_placed_in q) (take n es)
+    (AllTest-take true (is_placed_in q) n es (subst (AllTest true (is_placed_in q)) h (AllTest-filter (is_placed_in q) es)))
+
+pub placed_in-drop : (q : LogQueue) (n : ℕ) (es : List EntryIndex) → placed_in q es ≡ es → placed_in q (drop n es) ≡ drop n es
+unfolding placed_in
+placed_in-drop q n es h =
+    filter_all (is_placed_in q) (drop n es)
+    (AllTest-drop true (is_placed_in q) n es (subst (AllTest true (is_placed_in q)) h (AllTest-filter (is_placed_in q) es)))
+
+-- rewritten entries in front of what has them in front
+pub in_front_of : (a b : List EntryIndex) → placed_in Rewrite a ≡ a → RewrittenInFront b → RewrittenInFront (a ++ b)
+in_front_of a b h k =
+    let none : placed_in Append a ≡ [] = ap (placed_in Append) (sym h) ∙ placed_in_other Rewrite Append refl a in
+    ap (λ xs. a ++ xs) k ∙ sym (append_assoc a (placed_in Rewrite b) (placed_in Append b))
+    ∙ sym (rw (placed_in-append Rewrite a b, placed_in-append Append a b, none, h) refl)
+
+pub end_of-same : (s : ℕ) (a b : List EntryIndex) → RisesFrom s a → RisesFrom s b → length a ≡ length b → end_of a ≡ end_of b
+end_of-same s [] [] h k e = refl
+end_of-same s [] (y ∷ b) h k e = absurd (omega arith)
+end_of-same s (x ∷ a) [] h k e = absurd (omega arith)
+end_of-same s (x ∷ a) (y ∷ b) h k e =
+    end_of-run s (x ∷ a) h (omega arith) ∙ ap (λ n. s + n) e ∙ sym (end_of-run s (y ∷ b) k (omega arith))
+
+pub whole_test : (q : LogQueue) (xs : List EntryIndex) → AllTest true (is_placed_in q) xs → entry_count q xs ≡ length xs
+unfolding placed_in
+whole_test q xs h = ap length (filter_all (is_placed_in q) xs h)
+
+-- with a gate the places begin right behind the rewritten entries; without one those that move are among them
+pub all_rewritten : (gate : Option ℕ) (at k : ℕ) (es : List EntryIndex) → AreTableEntries es → at + k ≤ length es →
+    is_misplaced gate at (entry_count Rewrite es) ≡ false → (m : ℕ) → m ≡ prefix_len (may_move gate) (drop at (take (at + k) es)) →
+    (at ≤ entry_count Rewrite es) × (min (at + m) (entry_count Rewrite es) + newly_rewritten gate m ≡ at + m)
+all_rewritten (Some gate) at k es h l t m e = (grind (arith, nat_tests), grind (arith, nat_tests))
+all_rewritten None at k es h l t m e =
+    let w : at ≤ entry_count Rewrite es = grind (arith, nat_tests) in
+    let xs = take k (drop at es) in
+    let c : drop at (take (at + k) es) ≡ xs = drop-take at k es in
+    let p : m ≡ prefix_len (is_placed_in Rewrite) xs = rw c at e in
+    let len : length xs ≡ k = length-take-le k (drop at es) (omega (arith, length-drop at es)) in
+    let mk : m ≤ k = omega (arith, prefix_len-le-length (is_placed_in Rewrite) xs) in
+    let front : drop at (take (at + m) es) ≡ take m xs = drop-take at m es ∙ sym (take-take m k (drop at es) mk) in
+    let passes : AllTest true (is_placed_in Rewrite) (take m xs) = rw p (AllTest-prefix (is_placed_in Rewrite) xs) in
+    let whole : entry_count Rewrite (take m xs) ≡ m = whole_test Rewrite (take m xs) passes ∙ length-take-le m xs (omega arith) in
+    let a = cut_counts at (take (at + m) es) (AreTableEntries-take (at + m) es h) (omega (arith, length-take-le (at + m) es (omega arith))) in
+    let b = cut_counts (at + m) es h (omega arith) in
+    let d : entry_count Rewrite (drop at (take (at + m) es)) ≡ m = rw front whole in
+    let f : take at (take (at + m) es) ≡ take at es = take-take at (at + m) es (omega arith) in
+    let g = cut_counts at es h (omega arith) in
+    let i = ap (entry_count Rewrite) f in
+    (w, omega arith)
+
+pub record Moves (gate : Option ℕ) (at m : ℕ) (es places : List EntryIndex) : Type 0 where
+  pub within : m ≤ length places
+  pub table_entries : AreTableEntries (take at es ++ take m places ++ drop (at + m) es)
+  pub rewritten : entry_count Rewrite (take at es ++ take m places ++ drop (at + m) es) ≡ entry_count Rewrite es + newly_rewritten gate m
+  pub appended : entry_count Append (take at es ++ take m places ++ drop (at + m) es) + newly_rewritten gate m ≡ entry_count Append es
+
+pub moves : (gate : Option ℕ) (at m : ℕ) (es places : List EntryIndex) → AreTableEntries es → at + length places ≤ length es →
+    RisesFrom (start_of es + at) places → placed_in Rewrite places ≡ places → is_misplaced gate at (entry_count Rewrite es) ≡ false →
+    m ≡ prefix_len (may_move gate) (drop at (take (at + length places) es)) → Moves gate at m es places
+moves gate at m es places h l r q t e =
+    let k = length places in
+    let s = start_of es in
+    let sub : length (drop at (take (at + k) es)) ≡ k = rw (drop-take at k es) (length-take-le k (drop at es) (omega (arith, length-drop at es))) in
+    let mk : m ≤ k = omega (arith, prefix_len-le-length (may_move gate) (drop at (take (at + k) es))) in
+    let w = all_rewritten gate at k es h l t m e in
+    let ca = cut_counts at es h (omega arith) in
+    let cb = cut_counts (at + m) es h (omega arith) in
+    let front : placed_in Rewrite (take at es) ≡ take at es = each_placed Rewrite (take at es) (run_alone Rewrite (take at es) (AreTableEntries-take at es h) (omega (arith, w.0))).placed in
+    let mid : placed_in Rewrite (take m places) ≡ take m places = placed_in-take Rewrite m places q in
+    let na : length (take at es) ≡ at = length-take-le at es (omega arith) in
+    let nb : length (take m places) ≡ m = length-take-le m places mk in
+    let ab = take at es ++ take m places in
+    let nab : length ab ≡ at + m = length-append (take at es) (take m places) ∙ omega arith in
+    let both : placed_in Rewrite ab ≡ ab = placed_in-append Rewrite (take at es) (take m places) ∙ rw (front, mid) refl in
+    let rise_ab : RisesFrom s ab = RisesFrom-append s (take at es) (take m places) (RisesFrom-take at s es (sound_rising es h)) (rw na (RisesFrom-take m (s + at) places r)) in
+    let rise : RisesFrom s (ab ++ drop (at + m) es) = RisesFrom-append s ab (drop (at + m) es) rise_ab (rw nab (RisesFrom-drop (at + m) s es (sound_rising es h) (omega arith))) in
+    let n : length (ab ++ drop (at + m) es) ≡ length es = length-append ab (drop (at + m) es) ∙ omega (arith, length-drop (at + m) es) in
+    let top = end_of-same s (ab ++ drop (at + m) es) es rise (sound_rising es h) n in
+    let bound = end_bounded es h.consecutive.bounded in
+    let ra = entry_count-append Rewrite ab (drop (at + m) es) in
+    let rb = entry_count-append Append ab (drop (at + m) es) in
+    let ia = entries_in_one Rewrite Rewrite ab both in
+    let ib = entries_in_one Append Rewrite ab both in
+    let w0 = w.0 in
+    let w1 = w.1 in
+    record {
+      within = mk;
+      table_entries = record {
+        consecutive = record { run = run_of s (ab ++ drop (at + m) es) rise; bounded = bounded_of (ab ++ drop (at + m) es) (omega arith) };
+        in_front = in_front_of ab (drop (at + m) es) both (AreTableEntries-drop (at + m) es h).in_front;
+      };
+      rewritten = omega arith;
+      appended = omega arith;
+    }
+
+-- what stands between others is a table's entries
+pub middle_sound : (a b c : List EntryIndex) → AreTableEntries (a ++ b ++ c) → AreTableEntries b
+middle_sound a b c h =
+    let n = length (a ++ b) in
+    subst AreTableEntries (drop_at a b (length a) refl) (AreTableEntries-drop (length a) (a ++ b) (subst AreTableEntries (take_at (a ++ b) c n refl) (AreTableEntries-take n (a ++ b ++ c) h)))
+
+pub behind_sound : (a b c : List EntryIndex) → AreTableEntries (a ++ b ++ c) → AreTableEntries (b ++ c)
+behind_sound a b c h = subst AreTableEntries (drop_at a (b ++ c) (length a) refl) (AreTableEntries-drop (length a) (a ++ (b ++ c)) (subst AreTableEntries (append_assoc a b c) h))
 
 pub below_is : (i s : ℕ) (es : List EntryIndex) → RisesFrom s es → below i es ≡ take (i - s) es
 below_is i s es h =
@@ -142,9 +244,9 @@ rewrites_at gate run es m h r l x =
     let same : moved_count gate run es ≡ moves_of gate run es at skipped count = rw (cut, len) refl in
     let metlen : length (overlap run es) ≡ count = rw cut (length-drop at (take (at + count) es) ∙ omega (arith, length-take-le (at + count) es inside)) in
     let head : start_of (overlap run es) ≡ s + at =
-    rw cut (start_of_rise (s + at) (drop at (take (at + count) es)) (omega (arith, ap length cut))
+    rw cut (start-of_rising (s + at) (drop at (take (at + count) es))
     (RisesFrom-drop at s (take (at + count) es) (RisesFrom-take (at + count) s es (sound_rising es h))
-    (omega (arith, length-take-le (at + count) es inside)))) in
+    (omega (arith, length-take-le (at + count) es inside))) (omega (arith, ap length cut))) in
     let under : below (s + at) es ≡ take at es = below_take (s + at) at s es refl (sound_rising es h) in
     let underlen : length (below (s + at) es) ≡ at = rw under (length-take-le at es (omega arith)) in
     let whole : entries_after_rewrite gate run es ≡ cond (is_misplaced gate (length (below (s + at) es)) (entry_count Rewrite es)) None
@@ -164,7 +266,3 @@ rewrites_at gate run es m h r l x =
       ok = λ t. whole ∙ rw (underlen, t) (ap (λ z. Some z) (rw (← same) spelled));
       counts = same;
     }
-  where
-    start_of_rise : (i : ℕ) (zs : List EntryIndex) → 0 < length zs → RisesFrom i zs → start_of zs ≡ i
-    start_of_rise i [] p k = absurd (omega arith)
-    start_of_rise i (z ∷ zs) p k = k.0

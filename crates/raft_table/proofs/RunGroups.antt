@@ -1,21 +1,10 @@
 -- Stretches of a run that stand in one block.
-use Rattle.std.proofs.Common.{◌≡◌, ℕ, suc, ◌+◌, ◌-◌, ◌<◌, ◌≤◌, Bool, true, false, List, [], ◌∷◌, ◌++◌, length, get_or, take, drop, refl, sym, ap, ◌∙◌, subst, arith, Option, Some, None}
-use Rattle.std.specs.Option.{option_map_or}
-use Rattle.std.proofs.lemmas.List.{drop-take, take-append-drop, length-take-le, get_or-take, get_or-drop, take-take, length-drop, length-map}
-use Rattle.raft_base.specs.declared.pipe_log.FileBlockHandle.{FileBlockHandle}
-use Rattle.raft_base.specs.declared.pipe_log.LogQueue.{LogQueue}
-use Rattle.raft_base.specs.declared.pipe_log.LogQueue.TheVariants.{Append, Rewrite}
-use Rattle.raft_base.specs.declared.compression_type.CompressionType.{CompressionType}
+use Rattle.raft_table.proofs.Common.{◌≡◌, ℕ, suc, ◌+◌, ◌-◌, ◌<◌, ◌≤◌, Bool, true, false, List, [], ◌∷◌, ◌++◌, length, get_or, take, drop, refl, sym, ap, ◌∙◌, subst, arith, Option, Some, None, option_map_or, drop-take}
+use Rattle.raft_table.proofs.Common.{take-append-drop, length-take-le, get_or-take, get_or-drop, take-take, length-drop, FileBlockHandle, LogQueue, CompressionType, EntryIndex, RisesFrom, entries_of_block, spans_of}
+use Rattle.raft_table.proofs.Common.{is_same, AreTableEntries, start_of, placed_in, is_placed_in, Append, Rewrite}
 use Rattle.raft_base.specs.declared.compression_type.CompressionType.TheVariants as compression
-use Rattle.raft_base.specs.declared.entry_index.EntryIndex.{EntryIndex}
-use Rattle.raft_base.specs.Runs.{RisesFrom, entries_of_block}
-use Rattle.raft_table.specs.BlockWords.{spans_of}
-use Rattle.raft_table.specs.Queues.{is_same}
-use Rattle.raft_table.specs.TableEntries.{AreTableEntries, start_of, placed_in, is_placed_in}
-use Rattle.raft_table.proofs.RunLemmas.{RisesFrom-take, RisesFrom-drop}
-use Rattle.raft_table.proofs.PlaceLemmas.{AllTest, AllTest-filter, AllTest-weaker}
-use Rattle.raft_table.proofs.ListTestLemmas.{at_test}
-use Rattle.raft_table.proofs.LookupLemmas.{index_at}
+use Rattle.raft_table.proofs.RunLemmas.{RisesFrom-take, RisesFrom-drop, index_at}
+use Rattle.raft_table.proofs.PlaceLemmas.{AllTest, AllTest-filter, AllTest-weaker, at_test}
 use Rattle.raft_table.proofs.SoundLemmas.{sound_rising}
 
 abbrev pub has_block : Option FileBlockHandle → Bool
@@ -29,11 +18,7 @@ all_append p (x ∷ a) b h k = (h.0, all_append p a b h.1 k)
 
 placed_has : (q : LogQueue) (e : EntryIndex) → is_placed_in q e ≡ true → has_block e.entries ≡ true
 unfolding is_placed_in
-placed_has q e h = at e.entries h
-  where
-    at : (o : Option FileBlockHandle) → option_map_or (λ (place : FileBlockHandle). is_same place.id.queue q) o false ≡ true → has_block o ≡ true
-    at None h = cc
-    at (Some b) h = refl
+placed_has q e h = (elim e.entries as (λ o. option_map_or (λ (place : FileBlockHandle). is_same place.id.queue q) o false ≡ true → has_block o ≡ true) [ None ↦ λ h. cc | Some b ↦ λ h. refl ]) h
 
 -- each of a table's entries has a place
 pub has_place : (es : List EntryIndex) (j : ℕ) (d : EntryIndex) → AreTableEntries es → j < length es → (get_or es j d).entries ≡ None → ⊥
@@ -65,11 +50,6 @@ group_is x h (e ∷ g) r a =
     let first = head_is x h e r.0 (a 0 e (omega arith)) in
     let rest = group_is (suc x) h g r.1 (λ j d l. a (suc j) d (omega arith)) in
     rw (first, rest) refl
-
-pub spans_length : (run : List EntryIndex) (at n : ℕ) → at + n ≤ length run → length (spans_of (take (at + n - at) (drop at run))) ≡ n
-spans_length run at n l =
-    let e : at + n - at ≡ n = omega arith in
-    rw e (length-map (take n (drop at run)) (λ x. (x.entry_offset, x.entry_len)) ∙ length-take-le n (drop at run) (omega (arith, length-drop at run)))
 
 -- a group of a run's entries behind the first ones
 pub group_of : (run : List EntryIndex) (at n : ℕ) (h : FileBlockHandle) (d : EntryIndex) → AreTableEntries run → at + n ≤ length run →

@@ -1,27 +1,21 @@
--- Filters of runs: cutting a run at an index is taking or dropping its front.
-use Rattle.std.proofs.Common.{◌≡◌, ℕ, zero, suc, ◌+◌, ◌<◌, ◌≤◌, max, Bool, true, false, ltb, leb, List, [], ◌∷◌, ◌++◌, length, take, drop, filter, Some, refl, sym, ap, arith}
-use Rattle.std.proofs.lemmas.List.Elements.{filter-append}
-use Rattle.std.specs.Prelude.{◌&&◌, nat_lt}
-use Rattle.std.proofs.lemmas.Bool.{lt-ltb}
-use Rattle.std.proofs.lemmas.Bool.Decides.{nat_tests}
-use Rattle.raft_base.specs.declared.pipe_log.LogQueue.{LogQueue}
-use Rattle.raft_base.specs.declared.entry_index.EntryIndex.{EntryIndex}
-use Rattle.raft_base.specs.Runs.{RisesFrom, IsRun, end_of}
-use Rattle.raft_base.proofs.ConsecutiveLemmas.{run_of}
-use Rattle.raft_table.specs.TableEntries.{start_of, below, from, placed_in, is_placed_in}
-use Rattle.raft_table.specs.Marks.{misses}
-use Rattle.raft_table.specs.Start.{leaves_hole}
+-- Runs: cutting one at an index is taking or dropping its front, and what is looked up in it.
+use Rattle.raft_table.proofs.Common.{◌≡◌, ℕ, zero, suc, ◌+◌, ◌<◌, ◌≤◌, max, Bool, true, false, ltb, leb, List, [], ◌∷◌, ◌++◌, length, take, drop, filter, Some, refl, sym, ap, arith, filter-append, nat_lt, lt-ltb}
+use Rattle.raft_table.proofs.Common.{nat_tests, LogQueue, EntryIndex, RisesFrom, IsRun, end_of, run_of, start_of, below, from, placed_in, is_placed_in, misses, leaves_hole, eqb, get_or, None, ◌∙◌, entry_at, cond, ◌&&◌}
+use Rattle.std.proofs.Math.Bool.{and_comm}
+
+-- two filters are one
+pub filter-filter : {X : Type 0} (p q r : X → Bool) → ((x : X) → (q x && p x) ≡ r x) → (xs : List X) → filter p (filter q xs) ≡ filter r xs
+filter-filter p q r same [] = refl
+filter-filter p q r same (x ∷ xs) = go (q x) (r x) (same x) (filter-filter p q r same xs)
+  where
+    go : (a c : Bool) → (a && p x) ≡ c → filter p (filter q xs) ≡ filter r xs → filter p (cond a (x ∷ filter q xs) (filter q xs)) ≡ cond c (x ∷ filter r xs) (filter r xs)
+    go true c e ih = cc
+    go false c e ih = cc
 
 -- the order of two filters is free
 pub filter_comm : {X : Type 0} (p q : X → Bool) (xs : List X) → filter p (filter q xs) ≡ filter q (filter p xs)
-filter_comm p q [] = refl
-filter_comm p q (x ∷ xs) = at (p x) (q x) refl refl (filter_comm p q xs)
-  where
-    at : (a b : Bool) → p x ≡ a → q x ≡ b → filter p (filter q xs) ≡ filter q (filter p xs) → filter p (filter q (x ∷ xs)) ≡ filter q (filter p (x ∷ xs))
-    at true true e f h = rw (e, f, e) (ap (λ ys. x ∷ ys) h)
-    at true false e f h = rw (e, f) h
-    at false true e f h = rw (e, f, e) h
-    at false false e f h = rw (e, f) h
+filter_comm p q xs =
+    filter-filter p q (λ x. q x && p x) (λ x. refl) xs ∙ sym (filter-filter q p (λ x. q x && p x) (λ x. and_comm (p x) (q x)) xs)
 
 -- the test for a hole, told by the end of the entries
 pub hole_end : (es : List EntryIndex) (start : ℕ) → leaves_hole es start ≡ misses (Some start) (end_of es)
@@ -96,6 +90,10 @@ RisesFrom-append s (x ∷ a) b h k =
     let e : s + suc (length a) ≡ suc s + length a = omega arith in
     (h.0, RisesFrom-append (suc s) a b h.1 (rw e at k))
 
+pub rises_behind : (s : ℕ) (a b : List EntryIndex) → RisesFrom s (a ++ b) → RisesFrom (s + length a) b
+rises_behind s [] b h = let e : s + 0 ≡ s = omega arith in rw e h
+rises_behind s (x ∷ a) b h = let e : s + suc (length a) ≡ suc s + length a = omega arith in rw e (rises_behind (suc s) a b h.1)
+
 pub RisesFrom-take : (n s : ℕ) (es : List EntryIndex) → RisesFrom s es → RisesFrom s (take n es)
 RisesFrom-take zero s es h = tt
 RisesFrom-take (suc n) s [] h = tt
@@ -138,3 +136,23 @@ unfolding end_of
 end_of-drop zero es = omega arith
 end_of-drop (suc n) [] = omega arith
 end_of-drop (suc n) (e ∷ es) = let h = end_of-drop n es in omega arith
+
+-- nothing stands below the start
+pub entry_at_low : (i s : ℕ) (es : List EntryIndex) → i < s → RisesFrom s es → entry_at i es ≡ None
+entry_at_low i s [] l h = refl
+entry_at_low i s (e ∷ es) l h =
+    let t : eqb e.index i ≡ false = rw h.0 (grind (arith, nat_tests)) in
+    rw t (entry_at_low i (suc s) es (omega arith) h.1)
+
+pub entry_at_past : (i k s : ℕ) (es : List EntryIndex) → i ≡ s + k → length es ≤ k → RisesFrom s es → entry_at i es ≡ None
+entry_at_past i k s [] e l h = refl
+entry_at_past i zero s (x ∷ es) e l h = absurd (omega arith)
+entry_at_past i (suc k) s (x ∷ es) e l h =
+    let t : eqb x.index i ≡ false = rw h.0 (grind (arith, nat_tests)) in
+    rw t (entry_at_past i k (suc s) es (omega arith) (omega arith) h.1)
+
+-- the index at a place
+pub index_at : (k s : ℕ) (es : List EntryIndex) (d : EntryIndex) → k < length es → RisesFrom s es → (get_or es k d).index ≡ s + k
+index_at k s [] d l h = absurd (omega arith)
+index_at zero s (x ∷ es) d l h = h.0 ∙ omega arith
+index_at (suc k) s (x ∷ es) d l h = index_at k (suc s) es d (omega arith) h.1 ∙ omega arith

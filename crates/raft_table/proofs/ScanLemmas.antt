@@ -1,15 +1,9 @@
 -- Visiting pairs one at a time, from the front or from the back.
-use Rattle.std.proofs.Common.{◌≡◌, ℕ, Bool, true, false, cond, not, ◌&&◌, Option, Some, None, inl, inr, List, [], ◌∷◌, ◌++◌, filter, map, reverse, refl, sym, ap, ◌∙◌}
-use Rattle.std.proofs.lemmas.List.{reverse-append, map-append}
-use Rattle.std.proofs.lemmas.List.Elements.{filter-append}
-use Rattle.std.proofs.Math.Bool.{and-true}
-use Rattle.std.proofs.lemmas.Bool.{false≢true}
-use Rattle.std.specs.declared.cmp.Ordering.{Ordering}
+use Rattle.raft_table.proofs.Common.{◌≡◌, ℕ, Bool, true, false, not, ◌&&◌, Option, Some, None, inl, inr, List, [], ◌∷◌, ◌++◌, filter, map, reverse, refl, sym, ap, ◌∙◌, reverse-append, map-append, filter-append, and-true}
+use Rattle.raft_table.proofs.Common.{false≢true, Ordering, nat_cmp, is_le, is_lt, ordering_reverse, slice_cmp, nat_list_cmp_total, le_lt_trans, is_from, is_below, is_between, is_forward, IsDivided, VisitsUntilFalse}
 use Rattle.std.specs.declared.cmp.Ordering.TheVariants.{Less, Equal, Greater}
-use Rattle.std.specs.Ordering.{nat_cmp, is_le, is_lt, ordering_reverse}
-use Rattle.std.specs.Cmp.Lexicographic.{slice_cmp, nat_list_cmp_total}
-use Rattle.std.specs.BTreeMap.Comparable.{le_lt_trans}
-use Rattle.raft_table.specs.Scan.{is_from, is_below, is_between, is_forward, IsDivided, VisitsUntilFalse}
+use Rattle.raft_table.proofs.MarkWords.{filter-none}
+use Rattle.raft_table.proofs.RunLemmas.{filter-filter}
 
 module _ {F : Type 0} (calls : F → List ℕ → List ℕ → Bool → F → Type 0) where
   -- a call that answers false is the last
@@ -40,18 +34,6 @@ module _ {E P : Type 0} (show : E → P) (t : E → Bool) where
 
 pub filter-same : {X : Type 0} (p q : X → Bool) (xs : List X) → ((x : X) → p x ≡ q x) → filter p xs ≡ filter q xs
 filter-same p q xs same = λ i. filter (λ x. same x i) xs
-
-filter-filter : {X : Type 0} (p q : X → Bool) (xs : List X) → filter p (filter q xs) ≡ filter (λ x. q x && p x) xs
-filter-filter p q [] = refl
-filter-filter p q (x ∷ xs) =
-    elim (q x) as (λ b. filter p (cond b (x ∷ filter q xs) (filter q xs)) ≡ cond (b && p x) (x ∷ filter (λ x. q x && p x) xs) (filter (λ x. q x && p x) xs)) [
-      | true ↦ ap (λ r. cond (p x) (x ∷ r) r) (filter-filter p q xs)
-      | false ↦ filter-filter p q xs
-    ]
-
-filter-none : {X : Type 0} (p : X → Bool) (xs : List X) → ((x : X) → p x ≡ false) → filter p xs ≡ []
-filter-none p [] none = refl
-filter-none p (x ∷ xs) none = rw (none x) (filter-none p xs none)
 
 -- below a bound, as a range tests it
 not_past : (r s : Ordering) → s ≡ ordering_reverse r → not (is_le r) ≡ is_lt s
@@ -93,8 +75,7 @@ swapped_and false b c d x y p q = λ i. p i && y
 pub sought-tested : {X : Type 0} (key : X → List ℕ) (s s' s'' e e' e'' : Option (List ℕ)) (es : List X) → IsDivided s s' s'' → IsDivided e e' e'' →
     filter (λ x. is_between s'' e'' (key x)) (filter (λ x. is_between s' e' (key x)) es) ≡ filter (λ x. is_between s e (key x)) es
 sought-tested key s s' s'' e e' e'' es p q =
-    filter-filter _ _ es
-    ∙ filter-same _ _ es (λ x. swapped_and (is_from s' (key x)) (is_from s'' (key x)) (is_below e' (key x)) (is_below e'' (key x)) _ _ (from-divided s s' s'' (key x) p) (below-divided e e' e'' (key x) q))
+    filter-filter _ _ _ (λ x. swapped_and (is_from s' (key x)) (is_from s'' (key x)) (is_below e' (key x)) (is_below e'' (key x)) _ _ (from-divided s s' s'' (key x) p) (below-divided e e' e'' (key x) q)) es
 
 pub none-between : {X : Type 0} (key : X → List ℕ) (s e : Option (List ℕ)) (es : List X) → is_forward s e ≡ false → filter (λ x. is_between s e (key x)) es ≡ []
-none-between key s e es backwards = filter-none _ es (λ x. between-backwards s e (key x) backwards)
+none-between key s e es backwards = filter-none _ (λ x. between-backwards s e (key x) backwards) es

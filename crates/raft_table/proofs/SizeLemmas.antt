@@ -1,15 +1,8 @@
 -- How many records a table has, and what a fetch finds of its entries.
-use Rattle.std.proofs.Common.{◌≡◌, ℕ, zero, suc, ◌+◌, ◌-◌, ◌<◌, ◌≤◌, ◌⊎◌, inl, inr, Bool, true, false, cond, ltb, leb, ◌&&◌, List, ◌++◌, length, take, drop, Option, Some, None, refl, sym, ap, ◌∙◌, arith}
+use Rattle.raft_table.proofs.Common.{◌≡◌, ℕ, zero, suc, ◌+◌, ◌-◌, ◌<◌, ◌≤◌, ◌⊎◌, inl, inr, Bool, true, false, cond, ltb, leb, ◌&&◌, List, ◌++◌, length, take, drop, Option, Some, None, refl, sym, ap, ◌∙◌, arith, cases_lt}
+use Rattle.raft_table.proofs.Common.{nat_tests, length-append, length-take-le, length-drop, take_all, EntryIndex, RisesFrom, end_of, AreTableEntries, start_of, below, entries_between, placed_in, entry_count, entry_at}
+use Rattle.raft_table.proofs.Common.{Empty, NotFound, Compacted, Found, range_answer, total_len, is_too_many, IsLimitCount, FetchesWithin, Table, live_of, Append, Rewrite}
 use Rattle.std.specs.FinMap as finite
-use Rattle.std.proofs.lemmas.Bool.{cases_lt}
-use Rattle.std.proofs.lemmas.Bool.Decides.{nat_tests}
-use Rattle.std.proofs.lemmas.List.{length-append, length-take-le, length-drop, take_all}
-use Rattle.raft_base.specs.declared.pipe_log.LogQueue.TheVariants.{Append, Rewrite}
-use Rattle.raft_base.specs.declared.entry_index.EntryIndex.{EntryIndex}
-use Rattle.raft_base.specs.Runs.{RisesFrom, end_of}
-use Rattle.raft_table.specs.TableEntries.{AreTableEntries, start_of, below, entries_between, placed_in, entry_count, entry_at}
-use Rattle.raft_table.specs.Fetches.{Empty, NotFound, Compacted, Found, range_answer, total_len, is_too_many, IsLimitCount, FetchesWithin}
-use Rattle.raft_table.specs.Table.{Table, live_of}
 use Rattle.raft_table.proofs.FetchLemmas.{between_is}
 use Rattle.raft_table.proofs.KeyValueCounts.{pair_count-both}
 use Rattle.raft_table.proofs.RunLemmas.{RisesFrom-take, RisesFrom-drop}
@@ -67,22 +60,14 @@ found_is_whole begin end es h f =
 
 pub unlimited_is_all : (es old new : List EntryIndex) → FetchesWithin None es old new → new ≡ old ++ es
 unlimited_is_all es old new f =
-    f.appended ∙ ap (λ xs. old ++ xs) (take_all f.count es (all (cases_lt f.count (length es))))
-  where
-    all : (f.count < length es) ⊎ (length es ≤ f.count) → length es ≤ f.count
-    all (inl l) = let e = f.within.stops l in absurd cc
-    all (inr l) = l
+    f.appended ∙ ap (λ xs. old ++ xs) (take_all f.count es (elim (cases_lt f.count (length es)) [
+      | inl l ↦ let e = f.within.stops l in absurd cc
+      | inr l ↦ l
+    ]))
 
 pub first_is_fetched : (limit : Option ℕ) (es : List EntryIndex) (n : ℕ) → IsLimitCount limit es n → 0 < length es → 0 < n
-first_is_fetched limit es zero h l = absurd (none limit (h.stops l))
-  where
-    none : (limit : Option ℕ) → is_too_many limit 0 es ≡ true → ⊥
-    none None e = absurd cc
-    none (Some limit) e = at (ltb limit (total_len 1 es)) e
-      where
-        at : (b : Bool) → (b && false) ≡ true → ⊥
-        at true e = absurd cc
-        at false e = absurd cc
+first_is_fetched limit es zero h l = absurd ((elim limit as (λ limit. is_too_many limit 0 es ≡ true → ⊥)
+    [ None ↦ λ e. absurd cc | Some limit ↦ λ e. (elim (ltb limit (total_len 1 es)) as (λ b. (b && false) ≡ true → ⊥) [ true ↦ λ e. absurd cc | false ↦ λ e. absurd cc ]) e ]) (h.stops l))
 first_is_fetched limit es (suc n) h l = omega arith
 
 pub limit_is_kept : (limit n : ℕ) (es : List EntryIndex) → IsLimitCount (Some limit) es (suc n) → (total_len (suc n) es ≤ limit) ⊎ (total_len n es ≡ 0)

@@ -1,13 +1,6 @@
 -- What cuts and joins leave of a table's entries.
-use Rattle.std.proofs.Common.{◌≡◌, ℕ, ◌+◌, ◌-◌, ◌<◌, ◌≤◌, min, List, [], ◌∷◌, ◌++◌, length, get_or, take, drop, refl, sym, ap, ◌∙◌, subst, arith, None}
-use Rattle.std.specs.List.{slice_get}
-use Rattle.std.proofs.lemmas.List.{take_min, drop_min, length-take-le}
-use Rattle.std.proofs.Math.Seq.{drop-append_seam}
-use Rattle.raft_base.specs.declared.pipe_log.LogQueue.TheVariants.{Append, Rewrite}
-use Rattle.raft_base.specs.declared.entry_index.EntryIndex.{EntryIndex}
-use Rattle.raft_base.specs.Runs.{RisesFrom, end_of}
-use Rattle.raft_base.proofs.ConsecutiveLemmas.{run_of, end_bounded, bounded_of}
-use Rattle.raft_table.specs.TableEntries.{AreTableEntries, RewrittenInFront, start_of, below, from, placed_in, entry_count}
+use Rattle.raft_table.proofs.Common.{◌≡◌, ℕ, ◌+◌, ◌-◌, ◌<◌, ◌≤◌, min, List, [], ◌∷◌, ◌++◌, length, get_or, take, drop, refl, sym, ap, ◌∙◌, subst, arith, None, slice_get, length-take-le, drop-append_seam, EntryIndex}
+use Rattle.raft_table.proofs.Common.{RisesFrom, end_of, run_of, end_bounded, bounded_of, AreTableEntries, RewrittenInFront, start_of, below, from, placed_in, entry_count, Append, Rewrite}
 use Rattle.raft_table.proofs.RunLemmas.{below-append, from-append, below-placed_in, from-placed_in, below_take, from_drop, RisesFrom-take, rises, IsRun-drop, end_of-take, end_of-drop}
 use Rattle.raft_table.proofs.PlaceLemmas.{entries_in_front, entries_in_both, entry_count-cut}
 
@@ -56,17 +49,6 @@ sound_behind keep es run h = subst AreTableEntries (drop-append_seam (take keep 
 pub start_of_front : (es : List EntryIndex) (e : EntryIndex) → 0 < length es → e ≡ get_or es 0 e → start_of es ≡ e.index
 start_of_front [] e l h = absurd (omega arith)
 start_of_front (x ∷ es) e l h = ap (λ y. y.index) (sym h)
-
--- the entries from an index above the start on are what is behind that many, and those below it that many
-pub from_cut : (i n : ℕ) (es : List EntryIndex) → AreTableEntries es → start_of es ≤ i → n ≡ min (i - start_of es) (length es) → drop n es ≡ from i es
-from_cut i n es h le e =
-    ap (λ k. drop k es) e ∙ drop_min (i - start_of es) es
-    ∙ sym (from_drop i (i - start_of es) (start_of es) es (omega arith) (sound_rising es h))
-
-pub below_cut : (i n : ℕ) (es : List EntryIndex) → AreTableEntries es → start_of es ≤ i → n ≡ min (i - start_of es) (length es) → take n es ≡ below i es
-below_cut i n es h le e =
-    ap (λ k. take k es) e ∙ take_min (i - start_of es) es
-    ∙ sym (below_take i (i - start_of es) (start_of es) es (omega arith) (sound_rising es h))
 
 -- how many of a cut front are in each queue
 pub record CutCounts (n : ℕ) (es : List EntryIndex) : Type 0 where

@@ -1,23 +1,14 @@
 -- What stands at an index after a cut, and of entries one behind the other.
-use Rattle.std.proofs.Common.{◌≡◌, ℕ, ◌<◌, Bool, true, false, cond, ltb, leb, eqb, List, [], ◌∷◌, ◌++◌, length, Option, Some, None, refl, subst, ◌∙◌, arith}
-use Rattle.std.specs.Option.{option_or}
-use Rattle.std.proofs.lemmas.Bool.Decides.{nat_tests}
-use Rattle.raft_base.specs.declared.pipe_log.LogQueue.{LogQueue}
-use Rattle.raft_base.specs.declared.pipe_log.LogQueue.TheVariants.{Append, Rewrite}
-use Rattle.raft_base.specs.declared.entry_index.EntryIndex.{EntryIndex}
-use Rattle.raft_base.specs.Runs.{IsRun}
-use Rattle.raft_table.specs.TableEntries.{IsRunIn, start_of, below, from, entry_at, StandsBehind}
-use Rattle.raft_table.specs.Start.{leaves_hole, entries_after_append, entries_after_replay}
-use Rattle.raft_table.proofs.RunLemmas.{rises}
-use Rattle.raft_table.proofs.LookupLemmas.{entry_at_low}
+use Rattle.raft_table.proofs.Common.{◌≡◌, ℕ, ◌<◌, Bool, true, false, cond, ltb, leb, eqb, List, [], ◌∷◌, ◌++◌, length, Option, Some, None, refl, subst, ◌∙◌, arith, option_or, nat_tests, LogQueue, EntryIndex, IsRun}
+use Rattle.raft_table.proofs.Common.{IsRunIn, start_of, below, from, entry_at, StandsBehind, leaves_hole, entries_after_append, entries_after_replay, Append, Rewrite}
+use Rattle.raft_table.proofs.RunLemmas.{rises, entry_at_low}
+use Rattle.raft_table.proofs.MarkEntries.{same_some, accepted}
+use Rattle.raft_table.proofs.MarkExact.{none_behind}
 
 pub entry_with_index-append : (i : ℕ) (a b : List EntryIndex) → entry_at i (a ++ b) ≡ option_or (entry_at i a) (entry_at i b)
 entry_with_index-append i [] b = refl
-entry_with_index-append i (x ∷ a) b = at (eqb x.index i) refl (entry_with_index-append i a b)
-  where
-    at : (t : Bool) → eqb x.index i ≡ t → entry_at i (a ++ b) ≡ option_or (entry_at i a) (entry_at i b) → entry_at i (x ∷ (a ++ b)) ≡ option_or (entry_at i (x ∷ a)) (entry_at i b)
-    at true e h = rw e refl
-    at false e h = rw e h
+entry_with_index-append i (x ∷ a) b = (elim (eqb x.index i) as (λ t. eqb x.index i ≡ t → entry_at i (a ++ b) ≡ option_or (entry_at i a) (entry_at i b) → entry_at i (x ∷ (a ++ b)) ≡ option_or (entry_at i (x ∷ a)) (entry_at i b))
+    [ true ↦ λ e h. rw e refl | false ↦ λ e h. rw e h ]) refl (entry_with_index-append i a b)
 
 -- whichever it is
 either : (o : Option EntryIndex) (t : Bool) → o ≡ cond t o o
@@ -58,18 +49,10 @@ run_stands es run r = λ i. at i (ltb i (start_of run)) refl
     at i true e =
         let low : entry_at i run ≡ None = entry_at_low i (start_of run) run (grind (arith, nat_tests)) (rises run r) in
         entry_with_index-append i (below (start_of run) es) run ∙ rw (entry_with_index-below i (start_of run) es, low, e) (none_behind (entry_at i es))
-      where
-        none_behind : {X : Type 0} (o : Option X) → option_or o None ≡ o
-        none_behind None = refl
-        none_behind (Some x) = refl
     at i false e = entry_with_index-append i (below (start_of run) es) run ∙ rw (entry_with_index-below i (start_of run) es, e) refl
 
 pub behind_stands : (q : LogQueue) (es run : List EntryIndex) → IsRunIn q run → StandsBehind es run (below (start_of run) es ++ run)
 behind_stands q es run r = run_stands es run r.consecutive.run
-
-pub accepted : {X : Type 0} (b : Bool) (x after : X) → cond b None (Some x) ≡ Some after → (b ≡ false) × (x ≡ after)
-accepted true x after e = absurd cc
-accepted false x after e = (refl, cc)
 
 pub appended_stands : (es run after : List EntryIndex) → IsRunIn Append run → 0 < length run → entries_after_append es run ≡ Some after → StandsBehind es run after
 appended_stands es [] after r l e = absurd (omega arith)
@@ -82,9 +65,6 @@ replayed_stands q es [] after r l e = absurd (omega arith)
 replayed_stands q es (x ∷ run) after r l e =
     let h = accepted _ (below x.index es ++ x ∷ run) after e in
     subst (StandsBehind es (x ∷ run)) h.1 (behind_stands q es (x ∷ run) r)
-
-same_some : {X : Type 0} (x y : X) → Some x ≡ Some y → x ≡ y
-same_some x y e = cc
 
 pub rewritten_stands : (q : LogQueue) (es run after : List EntryIndex) → IsRunIn q run → 0 < length run → leaves_hole es (start_of run) ≡ false → entries_after_replay Rewrite es run ≡ Some after → StandsBehind es run after
 rewritten_stands q es [] after r l n e = absurd (omega arith)

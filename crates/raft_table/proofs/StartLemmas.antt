@@ -1,18 +1,8 @@
 -- Where a run starts among the entries, and what is joined there.
-use Rattle.std.proofs.Common.{◌≡◌, ℕ, zero, suc, ◌+◌, ◌-◌, ◌<◌, ◌≤◌, false, ltb, List, [], ◌∷◌, ◌++◌, length, take, Some, refl, sym, ap, ◌∙◌, arith}
-use Rattle.std.proofs.lemmas.List.{append-nil, append_assoc, nil_from_length, length-take-le}
-use Rattle.std.proofs.lemmas.Bool.Decides.{nat_tests}
-use Rattle.raft_base.specs.declared.pipe_log.LogQueue.{LogQueue}
-use Rattle.raft_base.specs.declared.pipe_log.LogQueue.TheVariants.{Append, Rewrite}
-use Rattle.raft_base.specs.declared.entry_index.EntryIndex.{EntryIndex}
-use Rattle.raft_base.specs.Runs.{RisesFrom, end_of}
-use Rattle.raft_base.proofs.ConsecutiveLemmas.{run_of, end_bounded, bounded_of}
+use Rattle.raft_table.proofs.Common.{◌≡◌, ℕ, zero, suc, ◌+◌, ◌-◌, ◌<◌, ◌≤◌, false, ltb, List, [], ◌∷◌, ◌++◌, length, take, Some, refl, sym, ap, ◌∙◌, arith, append-nil, append_assoc, nil_from_length, length-take-le}
+use Rattle.raft_table.proofs.Common.{nat_tests, LogQueue, EntryIndex, RisesFrom, end_of, run_of, end_bounded, bounded_of, IsRunIn, AreTableEntries, RewrittenInFront, start_of, below, placed_in, entry_count, misses}
+use Rattle.raft_table.proofs.Common.{starts_in_front, IsStart, other, Append, Rewrite}
 use Rattle.raft_table.specs.declared.memtable.entries.Start.TheVariants.{Joins, InFront, BehindHole}
-use Rattle.raft_table.specs.TableEntries.{IsRunIn, AreTableEntries, RewrittenInFront, start_of, below, placed_in, entry_count}
-use Rattle.raft_table.specs.Marks.{misses}
-use Rattle.raft_table.specs.Start.{starts_in_front}
-use Rattle.raft_table.specs.StartOf.{IsStart}
-use Rattle.raft_table.specs.Queues.{other}
 use Rattle.raft_table.proofs.RunLemmas.{hole_end, below_take, below_start, end_of-run, end_of-take, end_of-append, RisesFrom-take, rises, RisesFrom-append, placed_in-append}
 use Rattle.raft_table.proofs.PlaceLemmas.{placed_in_other, placed_each, each_placed, entry_count-cut}
 use Rattle.raft_table.proofs.SoundLemmas.{sound_rising, AreTableEntries-take}

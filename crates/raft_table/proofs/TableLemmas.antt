@@ -1,14 +1,8 @@
 -- Counts of tables.
-use Rattle.std.proofs.Common.{◌≡◌, ℕ, ◌≤◌, List, Some, refl, sym, ap, ◌∙◌, arith}
-use Rattle.raft_base.specs.declared.pipe_log.FileId.{FileId}
-use Rattle.raft_base.specs.declared.pipe_log.LogQueue.{LogQueue}
+use Rattle.raft_table.proofs.Common.{◌≡◌, ℕ, ◌≤◌, List, Some, refl, sym, ap, ◌∙◌, arith, FileId, LogQueue, Keys, file_at, file_weight, pair_count, placed_in, empty_table, live_of, count_in}
 use Rattle.raft_base.specs.declared.pipe_log.LogQueue.TheVariants.{Append, Rewrite}
-use Rattle.raft_table.specs.KeyValues.{Keys, file_at, file_weight, pair_count}
-use Rattle.raft_table.specs.TableEntries.{placed_in}
-use Rattle.raft_table.specs.Table.{empty_table, live_of}
-use Rattle.raft_table.specs.Queues.{count_in}
 use Rattle.raft_table.proofs.KeyValueReads.{entries-empty}
-use Rattle.raft_table.proofs.KeyValueMaps.{file_weight-le}
+use Rattle.raft_table.proofs.KeyValuesShown.{file_weight-le}
 
 -- a record of a queue counts there
 pub count_in_own : (q : LogQueue) (n : ℕ) → count_in q q n ≡ n

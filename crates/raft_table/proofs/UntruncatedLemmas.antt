@@ -1,20 +1,8 @@
 -- Without truncations appended entries begin at the least start of a run, or no rewritten one stays.
-use Rattle.std.proofs.Common.{◌≡◌, ◌⊎◌, ℕ, ◌<◌, ◌≤◌, max, min, Bool, true, false, cond, List, [], ◌∷◌, ◌++◌, Option, Some, None, refl, sym, ap, subst, ◌∙◌, inl, inr, eq-eqb, arith}
-use Rattle.std.specs.Prelude.{nat_lt}
-use Rattle.std.specs.Option.{option_and_then, option_map}
+use Rattle.raft_table.proofs.Common.{◌≡◌, ◌⊎◌, ℕ, ◌<◌, ◌≤◌, max, min, Bool, true, false, cond, List, [], ◌∷◌, ◌++◌, Option, Some, None, refl, sym, ap, subst, ◌∙◌, inl, inr, eq-eqb, arith, nat_lt, option_and_then}
+use Rattle.raft_table.proofs.Common.{option_map, cases_lt, lt-ltb, EntryIndex, IsRun, end_of, below, from, lesser, entries_within, has_clean, greatest_compaction, least_cut, is_unjoined, rewritten_within, AreUntruncated}
+use Rattle.raft_table.proofs.Common.{reaching_within, leaves_hole, Step, Run, Compact, Truncate, Put, Del, AtomicGroup, Clean, table_of, after, AreSteps, IsTableOf, Table, with_pair, Append}
 use Rattle.std.specs.FinMap as finite
-use Rattle.std.proofs.lemmas.Bool.{cases_lt, lt-ltb}
-use Rattle.raft_base.specs.declared.pipe_log.LogQueue.TheVariants.{Append}
-use Rattle.raft_base.specs.declared.entry_index.EntryIndex.{EntryIndex}
-use Rattle.raft_base.specs.Runs.{IsRun, end_of}
-use Rattle.raft_table.specs.TableEntries.{below, from}
-use Rattle.raft_table.specs.KeyValues.{lesser}
-use Rattle.raft_table.specs.Marks.{entries_within}
-use Rattle.raft_table.specs.Overlay.{has_clean, greatest_compaction, least_cut, is_unjoined, rewritten_within}
-use Rattle.raft_table.specs.Untruncated.{AreUntruncated, reaching_within}
-use Rattle.raft_table.specs.Start.{leaves_hole}
-use Rattle.raft_table.specs.Steps.{Step, Run, Compact, Truncate, Put, Del, AtomicGroup, Clean, table_of, after, AreSteps, IsTableOf}
-use Rattle.raft_table.specs.Table.{Table, with_pair}
 use Rattle.raft_table.proofs.MarkEntries.{same_some}
 use Rattle.raft_table.proofs.MarkExact.{lesser_assoc}
 use Rattle.raft_table.proofs.MarkRuns.{first_rising, run_from, run_replayed, no_table}
@@ -60,11 +48,8 @@ begun_compacted (Some start) floor i (x ∷ xs) h (inr is) = go (cases_lt x.inde
 begun_after : (id : ℕ) (ss : List Step) (o t : Option Table) (start : Option ℕ) (floor : ℕ) → AreSteps ss → AreUntruncated ss → has_clean ss ≡ false →
     IsTableOf id (table_of id o) → AreBegun start floor (table_of id o).entries → after Append id o ss ≡ Some t
     → AreBegun (lesser start (least_cut ss)) (max floor (greatest_compaction ss)) (table_of id t).entries
-begun_after id [] o t start floor good un kept h b is = begun_same start (lesser start None) floor (max floor 0) _ _ (alone start) (omega arith) (ap (λ u. (table_of id u).entries) (same_some o t is)) b
-  where
-    alone : (a : Option ℕ) → a ≡ lesser a None
-    alone None = refl
-    alone (Some n) = refl
+begun_after id [] o t start floor good un kept h b is = begun_same start (lesser start None) floor (max floor 0) _ _ (elim start as (λ a. a ≡ lesser a None)
+    [ None ↦ refl | Some n ↦ refl ]) (omega arith) (ap (λ u. (table_of id u).entries) (same_some o t is)) b
 begun_after id (Run [] ∷ ss) o t start floor good un kept h b is = begun_after id ss (Some (table_of id o)) t start floor good.1 un kept (record { region = h.region; run = h.run }) b is
 begun_after id (Run (e ∷ run) ∷ ss) o t start floor good un kept h b is =
     go (λ g k. begun_after id ss (Some (record (table_of id o) { entries = below e.index (table_of id o).entries ++ e ∷ run })) t

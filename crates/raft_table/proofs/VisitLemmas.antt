@@ -1,21 +1,12 @@
 -- What a scan visits: each pair between the bounds, once, in order.
-use Rattle.std.proofs.Common.{◌≡◌, ℕ, zero, suc, ◌<◌, Bool, true, false, cond, List, [], ◌∷◌, length, filter, map, get_or, All, Contains, Option, Some, None, refl, sym, ap, subst, ◌∙◌, arith}
+use Rattle.raft_table.proofs.Common.{◌≡◌, ℕ, zero, suc, ◌<◌, Bool, true, false, cond, List, [], ◌∷◌, length, filter, map, get_or, All, Contains, Option, Some, None, refl, sym, ap, subst, ◌∙◌, arith, Ordering, nat_cmp}
+use Rattle.raft_table.proofs.Common.{eq_by_cmp, is_eq, option_map, IsTotalOrder, eq_by_cmp_equiv, slice_cmp, nat_list_cmp_total, AllByRecursion, IsStrictlySortedBy, IsAntisymmetric, find, is_sorted}
+use Rattle.raft_table.proofs.Common.{nat_cmp-IsAntisymmetric, slice_cmp-IsAntisymmetric, below_all, is_sorted-where_key, All-nil, All-cons, All-map, Keys, Stored, value_at, key_value, is_between, pairs_between}
 use lib.Dec.{T}
-use Rattle.std.specs.declared.cmp.Ordering.{Ordering}
 use Rattle.std.specs.declared.cmp.Ordering.TheVariants.{Less}
-use Rattle.std.specs.Ordering.{nat_cmp, eq_by_cmp, is_eq}
-use Rattle.std.specs.Option.{option_map}
-use Rattle.std.specs.Cmp.{IsTotalOrder, eq_by_cmp_equiv}
-use Rattle.std.specs.Cmp.Lexicographic.{slice_cmp, nat_list_cmp_total}
-use Rattle.std.specs.List.{AllByRecursion}
-use Rattle.std.specs.List.Sorted.{IsStrictlySortedBy}
 use Rattle.std.specs.FinMap as finite
-use Rattle.std.specs.FinMap.{IsAntisymmetric, find, is_sorted, nat_cmp-IsAntisymmetric, slice_cmp-IsAntisymmetric}
-use Rattle.std.specs.FinMap.Entries.{below_all, is_sorted-where_key}
-use Rattle.std.proofs.lemmas.List.Elements.{All-nil, All-cons, All-map}
-use Rattle.raft_table.specs.KeyValues.{Keys, Stored, value_at, key_value}
-use Rattle.raft_table.specs.Scan.{is_between, pairs_between}
 use Rattle.raft_table.proofs.Shown.{first_of_both, second_of_both, equal, less}
+use Rattle.raft_table.proofs.MarkEntries.{same_some}
 
 module _ {A V : Type 0} {R : A → A → Ordering} (o : IsTotalOrder R) where
   below_at : (x : A) (es : List (A × V)) (e : A × V) (k : ℕ) → T (below_all R x es) → k < length es → get_or es k e ≡ e → R x e.0 ≡ Less
@@ -32,16 +23,13 @@ module _ {A V : Type 0} {R : A → A → Ordering} (o : IsTotalOrder R) where
       let apart : eq_by_cmp R e.0 x.0 ≡ false = (eq_by_cmp_equiv o).symm e.0 x.0 ∙ ap is_eq (below_at x.0 es e k (first_of_both _ _ h) (omega arith) s) in
       ap (λ b. cond b (Some x.1) (find R e.0 es)) apart ∙ own_found es e k (second_of_both _ _ h) (omega arith) s
 
-some_same : {X : Type 0} (x y : X) → Some x ≡ Some y → x ≡ y
-some_same x y e = cc
-
 -- what a key finds is there
 found_there : {A V : Type 0} {R : A → A → Ordering} → IsAntisymmetric R → (q : A) (v : V) (es : List (A × V)) → find R q es ≡ Some v → Contains es (q, v)
 found_there same q v [] e = absurd cc
 found_there {A} {V} {R} same q v (x ∷ es) e = at (eq_by_cmp R q x.0) refl e (found_there same q v es)
   where
     at : (b : Bool) → eq_by_cmp R q x.0 ≡ b → cond b (Some x.1) (find R q es) ≡ Some v → (find R q es ≡ Some v → Contains es (q, v)) → Contains (x ∷ es) (q, v)
-    at true t e rest = (0, omega arith, ap (λ k. (k, x.1)) (sym (same q x.0 (equal _ t))) ∙ ap (λ w. (q, w)) (some_same x.1 v e))
+    at true t e rest = (0, omega arith, ap (λ k. (k, x.1)) (sym (same q x.0 (equal _ t))) ∙ ap (λ w. (q, w)) (same_some x.1 v e))
     at false t e rest = let h = rest e in (suc h.0, omega (arith, h.1), h.2)
 
 all_kept : {X : Type 0} (p : X → Bool) (P : X → Type 0) (xs : List X) → ((x : X) → Contains xs x → p x ≡ true → P x) → All P (filter p xs)
@@ -94,7 +82,7 @@ pairs_are_visited start end keys key value h t = at (finite.get keys key) refl h
     at (Some s) is e =
         let there = found_there (slice_cmp-IsAntisymmetric nat_cmp-IsAntisymmetric) key s (finite.entries keys) (sym (finite.get-entries keys key) ∙ is) in
         let kept = kept_there (λ e. is_between start end e.0) (finite.entries keys) (key, s) there.0 there.1 there.2 t in
-        subst (λ v. Contains (pairs_between start end false keys) (key, v)) (some_same s.value value e) (mapped_there key_value _ (key, s) kept.0 kept.1 kept.2)
+        subst (λ v. Contains (pairs_between start end false keys) (key, v)) (same_some s.value value e) (mapped_there key_value _ (key, s) kept.0 kept.1 kept.2)
 
 pub visits_rise : (start end : Option (List ℕ)) (keys : Keys) → IsStrictlySortedBy (slice_cmp nat_cmp) (map (λ p. p.0) (pairs_between start end false keys))
 visits_rise start end keys = rising_keys _ (is_sorted-where_key (slice_cmp nat_cmp) (is_between start end) (finite.entries keys) (finite.entries_sorted keys))

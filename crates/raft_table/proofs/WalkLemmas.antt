@@ -1,18 +1,35 @@
--- Walks over blocks, from the spot of an entry on.
-use Rattle.std.proofs.Common.{◌≡◌, ℕ, zero, suc, ◌+◌, ◌-◌, ◌<◌, ◌≤◌, true, false, List, [], ◌∷◌, ◌++◌, length, get_or, take, drop, min, refl, sym, ap, ◌∙◌, subst, arith, inl, inr, Option, Some}
-use Rattle.std.specs.List.{prefix_len}
-use Rattle.std.proofs.lemmas.List.{length-drop, length-take-le, take_all, take-take, drop-append-le, take-append-drop, get_or_default}
-use Rattle.std.proofs.lemmas.Bool.{cases_lt}
-use Rattle.raft_base.specs.declared.pipe_log.FileBlockHandle.{FileBlockHandle}
-use Rattle.raft_base.specs.declared.entry_index.EntryIndex.{EntryIndex}
-use Rattle.raft_base.specs.Runs.{entries_of_block}
-use Rattle.raft_table.specs.Blocks.{BlockSpans, entries_in_blocks, AreDistinctBlocks}
-use Rattle.raft_table.specs.BlockWords.{count, IsAt}
-use Rattle.raft_table.specs.Rewriting.{may_move}
-use Rattle.raft_table.proofs.BlockLemmas.{length-expanded, count_take_more}
+-- Walks over blocks, from the spot of an entry on, and entries whose spans are set behind.
+use Rattle.raft_table.proofs.Common.{◌≡◌, ℕ, ◌+◌, ◌<◌, List, [], ◌∷◌, ◌++◌, length, map, take, drop, suc, refl, sym, ap, ◌∙◌, Some, append_assoc, drop_at, drop_more, take-append_seam, FileBlockHandle, EntryIndex}
+use Rattle.raft_table.proofs.Common.{entries_of_block, without_span, with_spans, zero, ◌-◌, ◌≤◌, true, false, get_or, min, subst, arith, inl, inr, Option, prefix_len, length-drop, length-take-le, take_all, take-take}
+use Rattle.raft_table.proofs.Common.{drop-append-le, take-append-drop, cases_lt, BlockSpans, entries_in_blocks, AreDistinctBlocks, count, IsAt, may_move}
+use Rattle.raft_base.specs.declared.compression_type.CompressionType.TheVariants as compression
+use Rattle.raft_table.proofs.BlockLemmas.{length-expanded, count_take_more, entry_of, entry_is}
 use Rattle.raft_table.proofs.FetchLemmas.{part_at}
-use Rattle.raft_table.proofs.BlockSearch.{entry_of, entry_is}
 use Rattle.raft_table.proofs.BlockParts.{block_part}
+
+-- the entries of a block get their places, and those behind none
+pub spans_set : (i : ℕ) (h : FileBlockHandle) (ss : List (ℕ × ℕ)) (rest : List EntryIndex) → with_spans ss (map without_span (entries_of_block i h ss ++ rest)) ≡ entries_of_block i h ss ++ map without_span rest
+spans_set i h [] rest = refl
+spans_set i h (s ∷ ss) rest = ap (λ es. record { index = i; entries = Some h; compression_type = compression.None; entry_offset = s.0; entry_len = s.1 } ∷ es) (spans_set (suc i) h ss rest)
+
+-- those of a part of a block, behind others
+pub part_set : (front : List EntryIndex) (n i : ℕ) (h : FileBlockHandle) (ss : List (ℕ × ℕ)) (rest : List EntryIndex) → length front ≡ n →
+    take n (front ++ map without_span (entries_of_block i h ss ++ rest)) ++ with_spans ss
+    (drop n (front ++ map without_span (entries_of_block i h ss ++ rest))) ≡ (front ++ entries_of_block i h ss) ++ map without_span rest
+part_set front n i h ss rest l =
+    let es = map without_span (entries_of_block i h ss ++ rest) in
+    let t : take n (front ++ es) ≡ front = ap (λ k. take k (front ++ es)) (sym l) ∙ take-append_seam front es in
+    rw (t, drop_at front es n l, spans_set i h ss rest) (sym (append_assoc front (entries_of_block i h ss) (map without_span rest)))
+
+-- one entry more of a block, without its place
+pub unset_more : (i next k more : ℕ) (h : FileBlockHandle) (ss : List (ℕ × ℕ)) (front : List EntryIndex) (e : EntryIndex) →
+    e ≡ record { index = i; entries = Some h; compression_type = compression.None; entry_offset = 0; entry_len = 0 } → k < length ss → next ≡ suc i →
+    more ≡ k + 1 → (front ++ e ∷ []) ++ map without_span (entries_of_block next h (drop more ss)) ≡ front ++ map without_span
+    (entries_of_block i h (drop k ss))
+unset_more i next k more h ss front e q l n m =
+    rw (n, m) (append_assoc front (e ∷ []) (map without_span (entries_of_block (suc i) h (drop (k + 1) ss)))
+    ∙ ap (λ x. front ++ (x ∷ map without_span (entries_of_block (suc i) h (drop (k + 1) ss)))) q
+    ∙ ap (λ ys. front ++ map without_span (entries_of_block i h ys)) (sym (drop_more ss k (0, 0) l)))
 
 -- a part of a list, divided
 pub part_split : {X : Type 0} (a b c : ℕ) (xs : List X) → a ≤ b → b ≤ c → c ≤ length xs → drop a (take c xs) ≡ drop a (take b xs) ++ drop b (take c xs)
@@ -38,14 +55,6 @@ next_block p k o n bs d a h e l =
       | inr x ↦ let t = ap count (take_all (suc k) bs (omega arith)) in absurd (omega arith)
     ] in
     record { block = more; spot = omega arith; inside = λ c. block_filled (suc k) bs c h more }
-
--- behind another entry of a block stands the next one
-pub next_span : (p k o : ℕ) (bs : List BlockSpans) (d : BlockSpans) → IsAt p bs k o → suc o < length (get_or bs k d).spans → IsAt (suc p) bs k (suc o)
-next_span p k o bs d a l = record {
-  block = a.block;
-  spot = let w = a.spot in omega arith;
-  inside = λ c. subst (λ (y : BlockSpans). suc o < length y.spans) (get_or_default bs k d c a.block) l;
-}
 
 -- a part of the entries up to the end of a block, and what stands behind
 pub walk_part : (i p k o n e : ℕ) (bs : List BlockSpans) (b : BlockSpans) → IsAt p bs k o → b ≡ get_or bs k b → o + n ≤ length b.spans → p + n ≤ e →
@@ -106,12 +115,6 @@ walk_next_block p k o bs b a h q l c =
     let i = walk_inside p k o bs b a q in
     let t : o + 1 ≡ length (get_or bs k b).spans = (let u : o + 1 ≡ length b.spans = omega arith in u) ∙ ap (λ (y : BlockSpans). length y.spans) q in
     subst (λ z. IsAt (p + 1) bs z 0) (let u : suc k ≡ k + 1 = omega arith in u) (next_block p k o 1 bs b a h t c)
-
-pub walk_next_span : (p k o : ℕ) (bs : List BlockSpans) (b : BlockSpans) → IsAt p bs k o → b ≡ get_or bs k b → o + 1 < length b.spans → IsAt (p + 1) bs k (o + 1)
-walk_next_span p k o bs b a q l =
-    let t : suc o < length (get_or bs k b).spans = subst (λ (y : BlockSpans). suc o < length y.spans) q (omega arith) in
-    let s = next_span p k o bs b a t in
-    subst (λ y. IsAt y bs k (o + 1)) (let u : suc p ≡ p + 1 = omega arith in u) (subst (λ z. IsAt (suc p) bs k z) (let u : suc o ≡ o + 1 = omega arith in u) s)
 
 -- where the entries of the next block may not move, and where they may
 pub walk_stops : (gate : Option ℕ) (i s p k o e : ℕ) (bs : List BlockSpans) (b : BlockSpans) → IsAt p bs k o → b ≡ get_or bs k b → p < e →

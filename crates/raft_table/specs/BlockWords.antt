@@ -88,3 +88,10 @@ pub record IsAt (p : ℕ) (bs : List BlockSpans) (k o : ℕ) : Type 0 where
   pub block : k < length bs
   pub spot : count (take k bs) + o ≡ p
   pub inside : (d : BlockSpans) → o < length (slice_index_or bs k d).spans
+
+-- the entries after the first `start`, among the first `end`: the first of them stands at this spot
+pub record IsPart (bs : List BlockSpans) (at : ℕ × ℕ) (start end : ℕ) : Type 0 where
+  pub first : IsAt start bs at.0 at.1
+  pub distinct : AreDistinctBlocks bs
+  pub order : start ≤ end
+  pub within : end ≤ count bs

@@ -1,10 +1,7 @@
 //! How many records of all regions are live in each queue.
 
 ghost use Rattle.std.specs.Prelude.{◌≡◌, ◌+◌, ◌^◌, ◌<◌, ◌≤◌, IsOk, IfOk, OnOk, OnErr, IfErr, MatchBool};
-ghost use Rattle.raft_base.specs.declared.pipe_log.LogQueue.{LogQueue};
-ghost use Rattle.raft_table.specs.Queues.{count_in};
-ghost use Rattle.raft_table.specs.Counts.{live, with_added, with_deleted, without_deleted, after_refusal};
-ghost use Rattle.raft_table.specs.Table.{live_of, IsCounted, with_table_added, with_table_deleted};
+ghost use Rattle.raft_table.specs.Common.{LogQueue, Rewrite, count_in, live, with_added, with_deleted, without_deleted, after_refusal, live_of, IsCounted, with_table_added, with_table_deleted};
 
 use crate::memtable::MemTable;
 use raft_base::{Error, LogQueue, Result};
@@ -92,6 +89,32 @@ impl GlobalStats {
         count <= usize::MAX - self.live_entries(queue)
     }
 
+    pub(crate) fn add_fitting(&mut self, queue: LogQueue, count: usize)
+        requires { live queue self.old + count < 2 ^ 64 }
+        ensures after { self.new ≡ with_added queue count self.old }
+        ensures live { (q : LogQueue) → live q self.new ≡ live q self.old + count_in q queue count }
+    {
+        if self.add(queue, count).is_err() {
+            unreachable!()
+        }
+    }
+
+    pub(crate) fn add_unmoved(&mut self, count: usize) -> Result<()>
+        ensures ok { OnOk result (self.new
+            ≡ with_deleted Rewrite count (with_added Rewrite count self.old)) }
+        ensures live { OnOk result ((q : LogQueue) → live q self.new ≡ live q self.old) }
+        ensures full { IfErr result (λ e. (e ≡ Error.Full) ×
+            (2 ^ 64 ≤ live Rewrite self.old + count)) }
+        ensures err { OnErr result (self.new ≡ self.old) }
+    {
+        if !self.can_add(LogQueue::Rewrite, count) {
+            return Err(Error::Full);
+        }
+        self.add_fitting(LogQueue::Rewrite, count);
+        self.delete(LogQueue::Rewrite, count);
+        Ok(())
+    }
+
     /// Takes `count` live records of `queue` off.
     pub fn delete(&mut self, queue: LogQueue, count: usize)
         requires { count ≤ live queue self.old }
@@ -146,8 +169,6 @@ impl GlobalStats {
         self.has_room_in(table, LogQueue::Append) && self.has_room_in(table, LogQueue::Rewrite)
     }
 
-    /// Tests whether the records of a table in `queue` can be counted beside those that are live
-    /// there.
     fn has_room_in(&self, table: &MemTable, queue: LogQueue) -> bool
         ensures { MatchBool result (live queue self.now + live_of queue table.now < 2 ^ 64)
             (2 ^ 64 ≤ live queue self.now + live_of queue table.now) }
@@ -155,19 +176,15 @@ impl GlobalStats {
         table.records(queue) <= (usize::MAX - self.live_entries(queue)) as u128
     }
 
-    /// Counts the records of a table in `queue`.
     fn add_records(&mut self, table: &MemTable, queue: LogQueue)
         requires { live queue self.old + live_of queue table.now < 2 ^ 64 }
         ensures after { self.new ≡ with_added queue (live_of queue table.now) self.old }
         ensures live { (q : LogQueue) → live q self.new
             ≡ live q self.old + count_in q queue (live_of queue table.now) }
     {
-        if self.add(queue, table.records(queue) as usize).is_err() {
-            unreachable!()
-        }
+        self.add_fitting(queue, table.records(queue) as usize);
     }
 
-    /// Takes the records of a table in `queue` off.
     fn delete_records(&mut self, table: &MemTable, queue: LogQueue)
         requires { live_of queue table.now ≤ live queue self.old }
         ensures after { self.new ≡ with_deleted queue (live_of queue table.now) self.old }
@@ -215,7 +232,6 @@ impl GlobalStats {
     }
 }
 
-/// Returns the sum, or `Full` where it would pass 2^64 - 1.
 fn sum(a: usize, b: usize) -> Result<usize>
     ensures ok { IfOk result (λ s. s ≡ a + b) }
     ensures accepted { a + b < 2 ^ 64 → IsOk result }

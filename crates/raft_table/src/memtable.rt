@@ -1,20 +1,11 @@
 //! The table of a region: where its entries stand, its key values, and its atomic group.
 
-ghost use Rattle.std.specs.Prelude.{◌≡◌, ◌≢◌, ◌+◌, ◌≤◌, ◌^◌, false, length, MatchOption, OnOk, OnErr, IfErr, Some, [], option_map, MatchBool};
+ghost use Rattle.std.specs.Prelude.{◌≡◌, ◌≢◌, ◌+◌, ◌≤◌, ◌^◌, false, length, MatchOption, OnOk, OnErr, IfErr, Some, [], MatchBool, option_map};
+ghost use Rattle.raft_table.specs.Common.{LogQueue, Append, Rewrite, end_of, IsRunIn, AreTableEntries, start_of, entry_at, entry_count, below, from, blocks_shown, entries_in_blocks, AreDistinctBlocks, Counts, live, with_added, block_count};
+ghost use Rattle.raft_table.specs.Common.{value_at, file_at, file_weight, empty_table, live_of, IsCounted, IsRecounted, after_append, after_replay, after_rewrite, after_rewrite_key, with_pair, with_pair_deleted, with_rewritten_key};
+ghost use Rattle.raft_table.specs.Common.{MovesKeyAlone, leaves_append, IsTablePutFault, IsKeyRewriteFault, entries_after_rewrite, counts_after_rewrite, IsRewriteFault, MovesPlacesAlone, count_in, other, run_shown, entries_after_append};
+ghost use Rattle.raft_table.specs.Common.{entries_after_replay, counts_with_run, counts_without, IsTableRunFault};
 ghost use Rattle.std.specs.FinMap as finite;
-ghost use Rattle.raft_base.specs.declared.pipe_log.LogQueue.{LogQueue};
-ghost use Rattle.raft_base.specs.declared.pipe_log.LogQueue.TheVariants.{Append, Rewrite};
-ghost use Rattle.raft_base.specs.Runs.{end_of};
-ghost use Rattle.raft_table.specs.TableEntries.{IsRunIn, AreTableEntries, start_of, entry_at, entry_count, below, from};
-ghost use Rattle.raft_table.specs.Blocks.{blocks_shown, entries_in_blocks, AreDistinctBlocks};
-ghost use Rattle.raft_table.specs.Counts.{Counts, live, with_added};
-ghost use Rattle.raft_table.specs.Fetches.{block_count};
-ghost use Rattle.raft_table.specs.KeyValues.{value_at, file_at, file_weight};
-ghost use Rattle.raft_table.specs.Table.{empty_table, live_of, IsCounted, IsRecounted, after_append, after_replay, after_rewrite, after_rewrite_key, with_pair, with_pair_deleted, with_rewritten_key, MovesKeyAlone, leaves_append, IsTablePutFault, IsKeyRewriteFault};
-ghost use Rattle.raft_table.specs.Rewriting.{entries_after_rewrite, counts_after_rewrite, IsRewriteFault, MovesPlacesAlone};
-ghost use Rattle.raft_table.specs.Queues.{count_in, other};
-ghost use Rattle.raft_table.specs.RunShown.{run_shown};
-ghost use Rattle.raft_table.specs.Start.{entries_after_append, entries_after_replay, counts_with_run, counts_without, IsTableRunFault};
 
 mod block;
 mod bounds;
@@ -114,7 +105,7 @@ impl MemTable {
     pub fn rewrite_count(&self) -> usize
         ensures { result ≡ entry_count Rewrite self.now.entries }
     {
-        self.entries.rewrite_count()
+        self.entries.count_in(LogQueue::Rewrite)
     }
 
     /// Returns the least index.
@@ -266,7 +257,13 @@ impl MemTable {
         if self.records(queue.other()) > 0 {
             return false;
         }
-        self.entries.try_replay_run(run, queue, stats)
+        let Some(first) = run.first_index() else {
+            return true;
+        };
+        let Some(keep) = self.entries.kept_under(queue, first) else {
+            return false;
+        };
+        self.entries.put_run_behind(keep, run, queue, stats).is_ok()
     }
 
     /// Gives the entries the places of a run of the rewrite queue, from the first shared index on
@@ -408,16 +405,19 @@ impl MemTable {
         ensures region { self.new.region_id ≡ self.old.region_id }
     {
         let Some(file) = self.keys.file_of(&key) else {
-            return count_unmoved(stats);
+            return stats.add_unmoved(1);
         };
         match file.queue {
             LogQueue::Append => {
                 if !gate.is_some_and(|gate| file.seq <= gate) {
-                    return count_unmoved(stats);
+                    return stats.add_unmoved(1);
                 }
-                count_written(stats)?;
+                if !stats.can_add(LogQueue::Rewrite, 1) {
+                    return Err(Error::Full);
+                }
                 self.keys
                     .set_file(&key, FileId::new(LogQueue::Rewrite, seq));
+                stats.add_fitting(LogQueue::Rewrite, 1);
                 stats.delete(LogQueue::Append, 1);
                 Ok(())
             }
@@ -428,7 +428,7 @@ impl MemTable {
                         "a key is rewritten to an older file",
                     ));
                 }
-                count_unmoved(stats)?;
+                stats.add_unmoved(1)?;
                 self.keys
                     .set_file(&key, FileId::new(LogQueue::Rewrite, seq));
                 Ok(())
@@ -436,7 +436,6 @@ impl MemTable {
         }
     }
 
-    /// Tests whether a key has a pair in `queue`.
     fn has_pair_in(&self, key: &[u8], queue: LogQueue) -> bool
         ensures { MatchBool result (file_weight queue (file_at self.now.keys key.now)
             ≡ 1) (file_weight queue (file_at self.now.keys key.now) ≡ 0) }
@@ -461,30 +460,4 @@ impl MemTable {
     {
         self.atomic_group = Some((start, end));
     }
-}
-
-/// Counts a record that was written to the rewrite queue.
-fn count_written(stats: &mut GlobalStats) -> Result<()>
-    ensures ok { OnOk result (stats.new ≡ with_added Rewrite 1 stats.old) }
-    ensures live { OnOk result ((q : LogQueue) →
-        live q stats.new ≡ live q stats.old + count_in q Rewrite 1) }
-    ensures err { OnErr result (stats.new ≡ stats.old) }
-    ensures full { IfErr result (λ e. (e ≡ Error.Full) × (2 ^ 64 ≤ live Rewrite stats.old + 1)) }
-{
-    if !stats.can_add(LogQueue::Rewrite, 1) {
-        return Err(Error::Full);
-    }
-    stats.add(LogQueue::Rewrite, 1)
-}
-
-/// Counts a record that was written to the rewrite queue without another place that it leaves.
-fn count_unmoved(stats: &mut GlobalStats) -> Result<()>
-    ensures ok { OnOk result (stats.new ≡ with_rewritten_key false stats.old) }
-    ensures live { OnOk result ((q : LogQueue) → live q stats.new ≡ live q stats.old) }
-    ensures err { OnErr result (stats.new ≡ stats.old) }
-    ensures full { IfErr result (λ e. (e ≡ Error.Full) × (2 ^ 64 ≤ live Rewrite stats.old + 1)) }
-{
-    count_written(stats)?;
-    stats.delete(LogQueue::Rewrite, 1);
-    Ok(())
 }

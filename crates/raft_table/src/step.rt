@@ -1,9 +1,7 @@
 //! Steps: what the items of batches do to the tables of their regions.
 
 ghost use Rattle.std.specs.Prelude.{◌≡◌, MatchBool};
-ghost use Rattle.raft_table.specs.StepShown.{step_shown};
-ghost use Rattle.raft_table.specs.Steps.{Clean};
-ghost use Rattle.raft_table.specs.TakenSteps.{LeavesTable};
+ghost use Rattle.raft_table.specs.Common.{step_shown, Clean, LeavesTable};
 
 use raft_base::{EntryIndex, FileId, FileSeq};
 

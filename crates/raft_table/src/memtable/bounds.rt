@@ -1,10 +1,8 @@
 //! Bounds that may be absent.
 
 ghost use Rattle.std.specs.Prelude.{◌≡◌};
-ghost use Rattle.raft_table.specs.KeyValues.{lesser};
-ghost use Rattle.raft_table.specs.MarkJoins.{at_most_bound};
+ghost use Rattle.raft_table.specs.Common.{lesser, at_most_bound};
 
-/// Returns the lesser of two numbers, where both are there.
 pub(super) fn lesser(a: Option<u64>, b: Option<u64>) -> Option<u64>
     ensures { result ≡ lesser a b }
 {
@@ -15,7 +13,6 @@ pub(super) fn lesser(a: Option<u64>, b: Option<u64>) -> Option<u64>
     }
 }
 
-/// Returns the lesser of `bound` and `other`, or `bound` alone.
 pub(super) fn capped(bound: u64, other: Option<u64>) -> u64
     ensures { result ≡ at_most_bound bound other }
 {

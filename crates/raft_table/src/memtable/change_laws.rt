@@ -1,18 +1,9 @@
 //! Laws of changes: what stands at an index and under a key after them.
 
 ghost use Rattle.std.specs.Prelude.{◌≡◌, ◌<◌, ℕ, List, [], ◌∷◌, Option, Some, None, nat_lt, length, false, true, if◌then◌else◌, ◌+◌, ◌&&◌, nat_le};
-ghost use Rattle.std.specs.Option.{option_or};
+ghost use Rattle.raft_table.specs.Common.{option_or, LogQueue, EntryIndex, Append, Rewrite, IsRunIn, StandsBehind, start_of, entry_at, below, from, AreTableEntries, Keys, pairs_over, overlap, moved_count, entries_after_rewrite, Table};
+ghost use Rattle.raft_table.specs.Common.{entries_after_append, entries_after_replay, leaves_hole, last_entry, last_pair, Step, AreSteps, table_of, after};
 ghost use Rattle.std.specs.FinMap as finite;
-ghost use Rattle.raft_base.specs.declared.pipe_log.LogQueue.{LogQueue};
-ghost use Rattle.raft_base.specs.declared.entry_index.EntryIndex.{EntryIndex};
-ghost use Rattle.raft_base.specs.declared.pipe_log.LogQueue.TheVariants.{Append, Rewrite};
-ghost use Rattle.raft_table.specs.TableEntries.{IsRunIn, StandsBehind, start_of, entry_at, below, from, AreTableEntries};
-ghost use Rattle.raft_table.specs.KeyValues.{Keys, pairs_over};
-ghost use Rattle.raft_table.specs.Rewriting.{overlap, moved_count, entries_after_rewrite};
-ghost use Rattle.raft_table.specs.Table.{Table};
-ghost use Rattle.raft_table.specs.Start.{entries_after_append, entries_after_replay, leaves_hole};
-ghost use Rattle.raft_table.specs.LastWord.{last_entry, last_pair};
-ghost use Rattle.raft_table.specs.Steps.{Step, AreSteps, table_of, after};
 
 /// States what stands at an index, after each change of a table's entries but a rewriting: where a run
 /// is accepted, the old entries below its first index and its own from there on, but for a hole in the
@@ -38,7 +29,7 @@ pub fn entries_stand_by_index()
 
 /// States what stands at an index after a rewriting: the run's places from the first shared index
 /// on, as many as move, and the old ones elsewhere.
-#[tactic(auto, using(crate::proofs::MovedLemmas::unmoved))]
+#[tactic(auto, using(crate::proofs::AloneLemmas::unmoved))]
 pub fn rewriting_stands_by_index()
     ensures moved { (gate : Option ℕ) (run es after met : List EntryIndex) (e : EntryIndex) (i : ℕ)
         → IsRunIn Rewrite run → AreTableEntries es → overlap run es ≡ e ∷ met

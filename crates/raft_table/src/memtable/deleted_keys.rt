@@ -1,10 +1,8 @@
 //! A set of keys.
 
 ghost use Rattle.std.specs.Prelude.{◌≡◌, ◌<◌, ◌≤◌, OnOk, OnErr, IfSome, IfNone, map};
+ghost use Rattle.raft_table.specs.Common.{LogQueue, without, pair_count};
 ghost use Rattle.std.specs.FinSet as finset;
-ghost use Rattle.raft_base.specs.declared.pipe_log.LogQueue.{LogQueue};
-ghost use Rattle.raft_table.specs.KeySets.{without};
-ghost use Rattle.raft_table.specs.KeyValues.{pair_count};
 
 use crate::memtable::key_values::KeyValues;
 use raft_base::AllocResult;
@@ -89,7 +87,6 @@ impl DeletedKeys {
         self.take_each(rhs)
     }
 
-    /// Takes over one key of `rhs` after another.
     fn take_each(&mut self, rhs: &mut DeletedKeys) -> AllocResult<()>
         ensures ok { OnOk result (self.new ≡ finset.union self.old rhs.old) }
         ensures emptied { OnOk result (rhs.new ≡ finset.empty) }
@@ -100,7 +97,6 @@ impl DeletedKeys {
         Ok(())
     }
 
-    /// Takes the first key away.
     fn take_first(&mut self) -> Option<Vec<u8>>
         ensures first { IfSome result (λ k. self.old ≡ finset.insert self.new k.items) }
         ensures fewer { IfSome result (λ k. finset.len self.new < finset.len self.old) }
@@ -119,7 +115,6 @@ impl DeletedKeys {
     }
 }
 
-/// Takes the pairs of all keys of a map away.
 fn delete_all(deleted: &BTreeMap<Vec<u8>, ()>, keys: &mut KeyValues)
     ensures after { keys.new
         ≡ without (finset.from_list (map (λ e. e.0.items) deleted.now.entries)) keys.old }

@@ -1,11 +1,7 @@
 //! The entries of a region, in order of index.
 
 ghost use Rattle.std.specs.Prelude.{◌≡◌, ◌≢◌, ◌+◌, ◌<◌, [], length, MatchOption};
-ghost use Rattle.raft_table.specs.Blocks.{blocks_shown, entries_in_blocks, AreDistinctBlocks};
-ghost use Rattle.raft_table.specs.Fetches.{block_count};
-ghost use Rattle.raft_base.specs.Runs.{end_of};
-ghost use Rattle.raft_table.specs.TableEntries.{AreTableEntries, start_of, entry_at, entry_count};
-ghost use Rattle.raft_base.specs.declared.pipe_log.LogQueue.TheVariants.{Rewrite};
+ghost use Rattle.raft_table.specs.Common.{blocks_shown, entries_in_blocks, AreDistinctBlocks, block_count, end_of, AreTableEntries, start_of, entry_at, entry_count};
 
 mod block_deques;
 mod block_walks;
@@ -75,7 +71,6 @@ impl Model for Entries {
 }
 
 impl Entries {
-    /// Makes one without entries.
     pub fn new(alloc: Global) -> Entries
         ensures { result ≡ [] }
     {
@@ -88,15 +83,13 @@ impl Entries {
         }
     }
 
-    /// States that the entries are one run without gaps, each has a place, and the rewritten ones
-    /// stand in front of the appended ones. This is a law: it computes nothing.
+    /// States that the entries are one run. This is a law: it computes nothing.
     pub fn holds_one_run(&self)
         ensures { AreTableEntries self.now }
     {
         let _ = &self.blocks;
     }
 
-    /// Returns the blocks that are kept.
     pub fn blocks(&self) -> &VecDeque<Block>
         ensures entries { entries_in_blocks (start_of self.now) (blocks_shown result.now.items)
             ≡ self.now }
@@ -106,7 +99,6 @@ impl Entries {
         &self.blocks
     }
 
-    /// Returns the least index.
     pub fn first_index(&self) -> Option<u64>
         ensures { MatchOption result (self.now ≡ []) (λ i. (self.now ≢ []) ×
             (i ≡ start_of self.now)) }
@@ -117,7 +109,6 @@ impl Entries {
         Some(self.first)
     }
 
-    /// Returns the greatest index.
     pub fn last_index(&self) -> Option<u64>
         ensures { MatchOption result (self.now ≡ []) (λ i. i + 1 ≡ end_of self.now) }
     {
@@ -127,14 +118,12 @@ impl Entries {
         Some(self.first + (self.len - 1) as u64)
     }
 
-    /// Returns how many there are.
     pub fn len(&self) -> usize
         ensures { result ≡ length self.now }
     {
         self.len
     }
 
-    /// Returns how many of them are in `queue`.
     pub fn count_in(&self, queue: LogQueue) -> usize
         ensures { result ≡ entry_count queue self.now }
     {
@@ -144,31 +133,29 @@ impl Entries {
         }
     }
 
-    /// Returns the allocator that the entries were made with.
     pub(crate) fn allocator(&self) -> Global {
         *self.blocks.allocator()
     }
 
-    /// Returns how many of them are rewritten.
-    pub fn rewrite_count(&self) -> usize
-        ensures { result ≡ entry_count Rewrite self.now }
-    {
-        self.rewritten
-    }
-
-    /// Returns the entry with this index.
     pub fn get(&self, index: u64) -> Option<EntryIndex>
         ensures { result ≡ entry_at index self.now }
     {
         if index < self.first {
             return None;
         }
-        if index - self.first >= self.len as u64 {
+        let at = index - self.first;
+        if at >= self.len as u64 {
             return None;
         }
-        let (nth, at) = spot_of(&self.blocks, &self.starts, self.first, self.len, index);
+        let (nth, below) = spot_of(
+            &self.blocks,
+            &self.starts,
+            self.first,
+            self.len,
+            at as usize,
+        );
         let block = &self.blocks[nth];
-        let span = block.spans[at];
+        let span = block.spans[below];
         Some(EntryIndex {
             index,
             entries: Some(block.handle),

@@ -1,7 +1,6 @@
 //! Why a run is refused that leaves a hole.
 
-ghost use Rattle.raft_base.specs.Corruption.{IsCorruption};
-ghost use Rattle.raft_table.specs.Holes.{hole_text, hole_text_above, hole_text_from};
+ghost use Rattle.raft_table.specs.Common.{IsCorruption, hole_text, hole_text_above, hole_text_from};
 
 use raft_base::Error;
 use std::alloc::Global;
@@ -14,14 +13,12 @@ pub fn hole_error(alloc: Global, region_id: u64, start: u64, end: u64) -> Error
     hole_error_from(alloc, region_id, "index ", start, end)
 }
 
-/// Makes the [`hole_error`] of a run that starts above the index `below`, where no more is known.
 pub fn hole_error_above(alloc: Global, region_id: u64, below: u64, end: u64) -> Error
     ensures { IsCorruption (hole_text_above region_id below end) result }
 {
     hole_error_from(alloc, region_id, "above index ", below, end)
 }
 
-/// Makes the [`hole_error`] with these words in front of what is known of the start.
 fn hole_error_from(alloc: Global, region_id: u64, words: &str, index: u64, end: u64) -> Error
     ensures { IsCorruption (hole_text_from region_id words.now index end) result }
 {

@@ -1,23 +1,9 @@
 //! Joins of two tables of one region under the newer one's region mark.
 
 ghost use Rattle.std.specs.Prelude.{◌≡◌, ◌≢◌, ℕ, ◌+◌, ◌≤◌, false, [], if◌then◌else◌, MatchBool, OnOk, OnErr, IfOk, IfErr, Some, None, ◌^◌};
+ghost use Rattle.raft_table.specs.Common.{LogQueue, IsCorruption, IsRun, end_of, live, hole_text, hole_text_above, without, pair_count, IsMarkFault, IsFaultUnder, IsRunOver, left_by, entries_within, is_missed, is_barred, is_refused_over};
+ghost use Rattle.raft_table.specs.Common.{table_over, end_at_reach, newer_atomic_group, is_unjoined, overlay_under, IsOverlayFault, other, empty_table, live_of, IsCounted, IsRecounted, start_of, Append, Rewrite};
 ghost use Rattle.std.specs.FinMap as finite;
-ghost use Rattle.raft_base.specs.declared.pipe_log.LogQueue.{LogQueue};
-ghost use Rattle.raft_base.specs.Corruption.{IsCorruption};
-ghost use Rattle.raft_base.specs.Runs.{IsRun, end_of};
-ghost use Rattle.raft_table.specs.Counts.{live};
-ghost use Rattle.raft_table.specs.Holes.{hole_text, hole_text_above};
-ghost use Rattle.raft_table.specs.KeySets.{without};
-ghost use Rattle.raft_table.specs.KeyValues.{pair_count};
-ghost use Rattle.raft_table.specs.MarkedJoins.{IsMarkFault, IsFaultUnder, IsRunOver, left_by};
-ghost use Rattle.raft_table.specs.Marks.{entries_within, is_missed, is_barred, is_refused_over, table_over};
-ghost use Rattle.raft_table.specs.MarkJoins.{end_at_reach};
-ghost use Rattle.raft_table.specs.Merge.{newer_atomic_group};
-ghost use Rattle.raft_table.specs.Overlay.{is_unjoined, overlay_under, IsOverlayFault};
-ghost use Rattle.raft_table.specs.Queues.{other};
-ghost use Rattle.raft_table.specs.Table.{empty_table, live_of, IsCounted, IsRecounted};
-ghost use Rattle.raft_table.specs.TableEntries.{start_of};
-ghost use Rattle.raft_base.specs.declared.pipe_log.LogQueue.TheVariants.{Append, Rewrite};
 
 use crate::global_stats::GlobalStats;
 use crate::memtable::MemTable;
@@ -130,7 +116,6 @@ impl MemTable {
         Ok(())
     }
 
-    /// Tests whether there are no records and no atomic group.
     fn is_blank(&self) -> bool
         ensures { MatchBool result (self.now ≡ empty_table self.now.region_id) (Unit {0}) }
     {
@@ -140,11 +125,6 @@ impl MemTable {
         }
     }
 
-    /// Becomes the table `rhs` of the same region, whose records it counts, and leaves it empty.
-    ///
-    /// # Errors
-    ///
-    /// `Full`. Nothing has then changed.
     fn take_whole(&mut self, rhs: &mut MemTable, stats: &mut GlobalStats) -> Result<()>
         requires blank { self.old ≡ empty_table rhs.old.region_id }
         ensures ok { OnOk result (self.new ≡ rhs.old) }
@@ -160,8 +140,6 @@ impl MemTable {
         Ok(())
     }
 
-    /// Tests whether there are entries in an appended table that don't join these at the region
-    /// mark's cut.
     fn is_unjoined(&self, rhs: &MemTable, mark: &Mark) -> bool
         ensures { result ≡ is_unjoined mark.now.cut (end_of self.now.entries) rhs.now.entries }
     {
@@ -171,7 +149,6 @@ impl MemTable {
         }
     }
 
-    /// Takes over the atomic group of a newer table, if it has one.
     pub(super) fn take_atomic_group(&mut self, rhs: &mut MemTable)
         ensures atomic_group { self.new ≡ record self.old {
           atomic_group = newer_atomic_group rhs.old.atomic_group self.old.atomic_group;
@@ -183,7 +160,6 @@ impl MemTable {
         }
     }
 
-    /// Takes the atomic group of an appended table away, and over where the region was cleaned.
     fn take_appended_group(&mut self, rhs: &mut MemTable, mark: &Mark)
         ensures atomic_group { self.new ≡ record self.old {
           atomic_group = if mark.now.cleaned then rhs.old.atomic_group else self.old.atomic_group;
@@ -238,10 +214,6 @@ impl MemTable {
 
     /// Refuses a newer region mark whose first run leaves a hole after the entries that it meets, which
     /// end at `end`.
-    ///
-    /// # Errors
-    ///
-    /// `Corruption`, or `Memory` where its text finds none.
     fn check_first_run(&self, mark: &Mark, end: u64) -> Result<()>
         requires { end ≡ end_at_reach mark.now self.now }
         ensures ok { OnOk result (is_missed mark.now self.now.entries ≡ false) }
@@ -259,10 +231,6 @@ impl MemTable {
     }
 
     /// Refuses a newer region mark over an entry where it lets none stand: a later run leaves a hole after it.
-    ///
-    /// # Errors
-    ///
-    /// `Corruption`, or `Memory` where its text finds none.
     fn check_barred(&self, mark: &Mark) -> Result<()>
         ensures ok { OnOk result (is_barred mark.now.barred self.now.entries ≡ false) }
         ensures fault { IfErr result (IsMarkFault
@@ -281,8 +249,6 @@ impl MemTable {
         Err(hole_error_above(self.entries.allocator(), self.region_id, below, end))
     }
 
-    /// Drops what a newer region mark drops: all where the region was cleaned, else the entries off its
-    /// bounds, or all of them where they are `gone`, and the deleted keys.
     fn drop_older(&mut self, gone: bool, mark: &Mark, stats: &mut GlobalStats)
         requires counted { IsCounted self.old stats.old }
         ensures left { self.new ≡ left_by gone mark.now self.old }
@@ -300,7 +266,6 @@ impl MemTable {
         self.drop_deleted(mark.deleted(), stats);
     }
 
-    /// Drops the entries off a region mark's bounds, or all of them.
     fn drop_entries(&mut self, gone: bool, mark: &Mark, stats: &mut GlobalStats)
         requires counted { IsCounted self.old stats.old }
         ensures left { self.new ≡ record self.old {
@@ -316,7 +281,6 @@ impl MemTable {
         self.entries.keep_within(mark.floor(), mark.cut(), stats);
     }
 
-    /// Drops all key values.
     fn drop_keys(&mut self, stats: &mut GlobalStats)
         requires counted { IsCounted self.old stats.old }
         ensures dropped { self.new ≡ record self.old { keys = finite.empty } }
@@ -327,7 +291,6 @@ impl MemTable {
         self.keys.clear();
     }
 
-    /// Deletes keys and their values.
     fn drop_deleted(&mut self, deleted: &DeletedKeys, stats: &mut GlobalStats)
         requires counted { IsCounted self.old stats.old }
         ensures dropped { self.new ≡ record self.old { keys = without deleted.now self.old.keys } }

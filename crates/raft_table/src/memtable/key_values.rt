@@ -1,12 +1,9 @@
 //! The key values of one region.
 
 ghost use Rattle.std.specs.Prelude.{◌≡◌, ◌+◌, ◌≤◌, ◌∷◌, ◌++◌, ◌↔◌, IsTrue, OnOk, OnErr, IfOk, IfSome, IfNone, filter, length, map, take};
-ghost use Rattle.std.specs.Option.{option_copied, option_map};
-ghost use Rattle.std.specs.Fn.{CalledAtTwo};
+ghost use Rattle.raft_table.specs.Common.{option_copied, option_map, CalledAtTwo, LogQueue, VisitsUntilFalse, pairs_between, Keys, pair_count, file_weight, value_at, file_at, with_moved, seqs_in, least, lesser, is_up_to, pairs_up_to};
+ghost use Rattle.raft_table.specs.Common.{pairs_shown, pairs_over, ArePartlyOver};
 ghost use Rattle.std.specs.FinMap as finite;
-ghost use Rattle.raft_base.specs.declared.pipe_log.LogQueue.{LogQueue};
-ghost use Rattle.raft_table.specs.Scan.{VisitsUntilFalse, pairs_between};
-ghost use Rattle.raft_table.specs.KeyValues.{Keys, pair_count, file_weight, value_at, file_at, with_moved, seqs_in, least, lesser, is_up_to, pairs_up_to, pairs_shown, pairs_over, ArePartlyOver};
 
 mod scan;
 
@@ -50,7 +47,6 @@ impl Model for KeyValues {
 }
 
 impl KeyValues {
-    /// Makes one without pairs.
     pub fn new(alloc: Global) -> KeyValues
         ensures { result ≡ finite.empty }
     {
@@ -61,21 +57,18 @@ impl KeyValues {
         }
     }
 
-    /// Returns how many pairs there are.
     pub fn len(&self) -> usize
         ensures { result ≡ finite.len self.now }
     {
         self.pairs.len()
     }
 
-    /// Tests whether there are no pairs.
     pub fn is_empty(&self) -> bool
         ensures { IsTrue result ↔ (self.now ≡ finite.empty) }
     {
         self.pairs.is_empty()
     }
 
-    /// Takes all pairs away.
     pub fn clear(&mut self)
         ensures { self.new ≡ finite.empty }
     {
@@ -83,7 +76,6 @@ impl KeyValues {
         self.rewritten = 0;
     }
 
-    /// Returns how many pairs have their file in `queue`.
     pub fn count_in(&self, queue: LogQueue) -> usize
         ensures { result ≡ pair_count queue self.now }
     {
@@ -93,7 +85,6 @@ impl KeyValues {
         }
     }
 
-    /// Returns the value of `key`.
     pub fn get(&self, key: &[u8]) -> Option<&[u8]>
         ensures { option_map (λ v. v.now) result ≡ value_at self.now key.now }
     {
@@ -103,7 +94,6 @@ impl KeyValues {
         }
     }
 
-    /// Returns the file that the pair of `key` was written to.
     pub fn file_of(&self, key: &[u8]) -> Option<FileId>
         ensures { result ≡ file_at self.now key.now }
     {
@@ -113,12 +103,6 @@ impl KeyValues {
         }
     }
 
-    /// Puts a key with its value, which were written to `file`. Returns the file of the pair that
-    /// it replaces.
-    ///
-    /// # Errors
-    ///
-    /// Where there is no memory for one more pair. The pairs are then as they were.
     pub fn insert(
         &mut self,
         key: Vec<u8>,
@@ -139,7 +123,6 @@ impl KeyValues {
         Ok(replaced)
     }
 
-    /// Takes the pair of `key` away, and returns its file.
     pub fn remove(&mut self, key: &[u8]) -> Option<FileId>
         ensures after { self.new ≡ finite.remove self.old key.now }
         ensures removed { result ≡ file_at self.old key.now }
@@ -151,7 +134,6 @@ impl KeyValues {
         Some(removed.file)
     }
 
-    /// Moves the pair of `key`, if there is one, to `file`. Returns the file that it was in.
     pub fn set_file(&mut self, key: &[u8], file: FileId) -> Option<FileId>
         ensures after { self.new ≡ with_moved self.old key.now file }
         ensures moved { result ≡ file_at self.old key.now }
@@ -167,7 +149,6 @@ impl KeyValues {
         Some(left)
     }
 
-    /// Returns the least number among the files of the pairs in `queue`.
     pub fn least_seq_in(&self, queue: LogQueue) -> Option<FileSeq>
         ensures { result ≡ least (seqs_in queue self.now) }
     {
@@ -180,12 +161,6 @@ impl KeyValues {
         least
     }
 
-    /// Appends the pairs in `queue` whose file is at or below `gate`, if there is one, in the
-    /// order of their keys.
-    ///
-    /// # Errors
-    ///
-    /// Where there is no memory for them. The vector is then as it was.
     pub fn fetch(
         &self,
         queue: LogQueue,
@@ -204,7 +179,6 @@ impl KeyValues {
         pushed
     }
 
-    /// Does what [`MemTable::scan`](crate::MemTable::scan) does.
     pub fn scan<F: FnMut(&[u8], &[u8]) -> bool>(
         &self,
         start: Option<&[u8]>,
@@ -230,12 +204,8 @@ impl KeyValues {
         }
     }
 
-    /// Puts the pairs of `rhs` over these, and leaves `rhs` empty.
-    ///
-    /// # Errors
-    ///
-    /// Where there is no memory for all of them. The first of them, in the order of their keys, have then
-    /// been put, one is lost, and the others are left in `rhs`.
+    /// Puts the pairs of `rhs` over these, and leaves `rhs` empty. Where there is no memory for all, the first of them, in
+    /// the order of their keys, have been put, one is lost, and the others are left in `rhs`.
     pub fn absorb(&mut self, rhs: &mut KeyValues) -> AllocResult<()>
         ensures ok { OnOk result (self.new ≡ pairs_over rhs.old self.old) }
         ensures emptied { OnOk result (rhs.new ≡ finite.empty) }
@@ -253,7 +223,6 @@ impl KeyValues {
         Ok(())
     }
 
-    /// Takes the first pair away.
     fn take_first(&mut self) -> Option<(Vec<u8>, StoredValue)>
         ensures first { IfSome result (λ p. finite.entries self.old
             ≡ (p.0.items, record { value = p.1.value.items; file = p.1.file })
@@ -267,8 +236,6 @@ impl KeyValues {
     }
 }
 
-/// Pushes clones of the pairs in `queue` whose file is at or below the gate, until one finds no
-/// memory.
 fn push_fetched(
     pairs: &BTreeMap<Vec<u8>, StoredValue>,
     queue: LogQueue,
@@ -288,14 +255,12 @@ fn push_fetched(
     Ok(())
 }
 
-/// Copies the bytes.
 fn copied(bytes: &Vec<u8>) -> AllocResult<Vec<u8>>
     ensures { IfOk result (λ copy. copy.items ≡ bytes.now.items) }
 {
     bytes.clone()
 }
 
-/// Tests whether a file is in `queue`, and at or below the gate, if there is one.
 fn is_up_to(file: FileId, queue: LogQueue, gate: Option<FileSeq>) -> bool
     ensures { result ≡ is_up_to queue gate file }
 {
@@ -306,14 +271,12 @@ fn is_up_to(file: FileId, queue: LogQueue, gate: Option<FileSeq>) -> bool
         }
 }
 
-/// Returns the file that a pair was in.
 fn file_in(pair: Option<StoredValue>) -> Option<FileId>
     ensures { result ≡ option_map (λ s. s.file) pair }
 {
     pair.map(|pair| pair.file)
 }
 
-/// Returns what a pair of that file counts in the rewrite queue.
 fn rewritten(file: Option<FileId>) -> usize
     ensures { result ≡ file_weight LogQueue.Rewrite file }
 {

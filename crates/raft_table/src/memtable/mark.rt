@@ -1,20 +1,13 @@
 //! Region marks of regions, and tables merged under them.
 
 ghost use Rattle.std.specs.Prelude.{◌≡◌, ◌<◌, ◌||◌, MatchBool, OnOk, OnErr, Some, None};
-ghost use Rattle.raft_base.specs.declared.pipe_log.LogQueue.TheVariants.{Append, Rewrite};
+ghost use Rattle.raft_table.specs.Common.{Append, Rewrite, misses, fresh, is_settled, mark_of, end_at_reach, joined_at, joined_barred, joined_deleted, joined_floor, is_detached, narrowed_bars, with_bounds, lesser, LogQueue, step_shown};
 ghost use Rattle.std.specs.FinSet as finset;
-ghost use Rattle.raft_table.specs.Marks.{misses};
-ghost use Rattle.raft_table.specs.MarkJoins.{fresh, is_settled, mark_of, end_at_reach, joined_at, joined_barred, joined_deleted, joined_floor, is_detached, narrowed_bars};
-ghost use Rattle.raft_table.specs.MarkBounds.{with_bounds};
-ghost use Rattle.raft_table.specs.KeyValues.{lesser};
-ghost use Rattle.raft_base.specs.declared.pipe_log.LogQueue.{LogQueue};
-ghost use Rattle.raft_table.specs.Steps.{Run};
-ghost use Rattle.raft_table.specs.StepShown.{step_shown};
 
 use crate::memtable::bounds::{capped, lesser};
 use crate::memtable::deleted_keys::DeletedKeys;
 use crate::step::Step;
-use raft_base::{AllocResult, EntryIndex, LogQueue};
+use raft_base::{AllocResult, LogQueue};
 use std::alloc::Global;
 use std::marker::Model;
 use std::mem;
@@ -22,6 +15,14 @@ use std::mem;
 /// What steps on a region do to every older table of it.
 #[derive(Debug, Drop)]
 pub struct Mark {
+    bounds: Bounds,
+    /// Keys that were deleted.
+    deleted: DeletedKeys,
+}
+
+/// All of a region mark but its deleted keys.
+#[derive(Debug, Clone, Copy)]
+struct Bounds {
     /// Whether the region was cleaned.
     cleaned: bool,
     /// The start of the first run before any clean.
@@ -35,20 +36,6 @@ pub struct Mark {
     /// Where older entries begin that stay.
     floor: u64,
     /// The index that they stay below, if a run or a truncation came.
-    cut: Option<u64>,
-    /// Keys that were deleted.
-    deleted: DeletedKeys,
-}
-
-/// All of a region mark but its deleted keys.
-#[derive(Clone, Copy)]
-struct Bounds {
-    cleaned: bool,
-    reach: Option<u64>,
-    reach_floor: u64,
-    reach_cut: Option<u64>,
-    barred: Option<(u64, u64)>,
-    floor: u64,
     cut: Option<u64>,
 }
 
@@ -64,13 +51,15 @@ const NO_BOUNDS: Bounds = Bounds {
 };
 
 impl Bounds {
-    /// Returns the bounds of a step.
     fn of_step(step: &Step) -> Bounds
         ensures { with_bounds result ≡ record (mark_of (step_shown step.now))
             { deleted = finset.empty } }
     {
         match step {
-            Step::Run(run) => Bounds::of_run(run),
+            Step::Run(run) => match run.first() {
+                Some(first) => Bounds::of_start(first.index),
+                None => NO_BOUNDS,
+            },
             Step::Compact { index } => Bounds {
                 floor: *index,
                 ..NO_BOUNDS
@@ -87,17 +76,13 @@ impl Bounds {
         }
     }
 
-    /// Returns the bounds of a run.
-    fn of_run(run: &[EntryIndex]) -> Bounds
-        ensures { with_bounds result ≡ mark_of (Run run.now) }
+    fn of_start(start: u64) -> Bounds
+        ensures { with_bounds result ≡ record fresh { reach = Some start; cut = Some start } }
     {
-        match run.first() {
-            Some(first) => Bounds {
-                reach: Some(first.index),
-                cut: Some(first.index),
-                ..NO_BOUNDS
-            },
-            None => NO_BOUNDS,
+        Bounds {
+            reach: Some(start),
+            cut: Some(start),
+            ..NO_BOUNDS
         }
     }
 }
@@ -121,13 +106,7 @@ impl Mark {
         ensures { result ≡ fresh }
     {
         Mark {
-            cleaned: false,
-            reach: None,
-            reach_floor: 0,
-            reach_cut: None,
-            barred: None,
-            floor: 0,
-            cut: None,
+            bounds: NO_BOUNDS,
             deleted: DeletedKeys::new(alloc),
         }
     }
@@ -137,9 +116,8 @@ impl Mark {
         ensures { result ≡ record fresh { reach = Some start; cut = Some start } }
     {
         Mark {
-            reach: Some(start),
-            cut: Some(start),
-            ..Mark::new(alloc)
+            bounds: Bounds::of_start(start),
+            deleted: DeletedKeys::new(alloc),
         }
     }
 
@@ -147,14 +125,14 @@ impl Mark {
     pub fn is_cleaned(&self) -> bool
         ensures { result ≡ self.now.cleaned }
     {
-        self.cleaned
+        self.bounds.cleaned
     }
 
     /// Returns the greatest compaction before the first run.
     pub fn reach_floor(&self) -> u64
         ensures { result ≡ self.now.reach_floor }
     {
-        self.reach_floor
+        self.bounds.reach_floor
     }
 
     /// Returns the least truncation before the first run; none without a run, or without such a
@@ -162,7 +140,7 @@ impl Mark {
     pub fn reach_cut(&self) -> Option<u64>
         ensures { result ≡ self.now.reach_cut }
     {
-        self.reach_cut
+        self.bounds.reach_cut
     }
 
     /// Returns where no older entry may stand, if anywhere: from the first of these indexes on and
@@ -170,28 +148,28 @@ impl Mark {
     pub fn barred(&self) -> Option<(u64, u64)>
         ensures { result ≡ self.now.barred }
     {
-        self.barred
+        self.bounds.barred
     }
 
     /// Returns the start of the first run, if there was one.
     pub fn reach(&self) -> Option<u64>
         ensures { result ≡ self.now.reach }
     {
-        self.reach
+        self.bounds.reach
     }
 
     /// Returns where older entries begin that stay.
     pub fn floor(&self) -> u64
         ensures { result ≡ self.now.floor }
     {
-        self.floor
+        self.bounds.floor
     }
 
     /// Returns the index that the older entries stay below, if a run or a truncation came.
     pub fn cut(&self) -> Option<u64>
         ensures { result ≡ self.now.cut }
     {
-        self.cut
+        self.bounds.cut
     }
 
     /// Returns the deleted keys.
@@ -206,7 +184,7 @@ impl Mark {
     pub fn misses(&self, end: u64) -> bool
         ensures { result ≡ misses self.now.reach end }
     {
-        misses(self.reach, end)
+        misses(self.bounds.reach, end)
     }
 
     /// Joins the region mark of newer steps, whose first run meets own entries that end at
@@ -226,12 +204,10 @@ impl Mark {
             return Ok(());
         }
         self.join_deleted(newer)?;
-        self.join_bounds(queue, end_at_reach, newer.bounds());
+        self.join_bounds(queue, end_at_reach, newer.bounds);
         Ok(())
     }
-}
 
-impl Mark {
     /// Joins the region mark of a run that starts at `start`, where the own entries end at `end`.
     pub fn add_run(&mut self, queue: LogQueue, end: u64, start: u64)
         ensures { self.new
@@ -240,12 +216,7 @@ impl Mark {
         if self.covers(end, start) {
             return;
         }
-        let run = Bounds {
-            reach: Some(start),
-            cut: Some(start),
-            ..NO_BOUNDS
-        };
-        self.join_bounds(queue, end, run);
+        self.join_bounds(queue, end, Bounds::of_start(start));
     }
 
     /// Joins the region mark of a step. Where the step is a run, the own entries in front of it end at `end`.
@@ -291,7 +262,7 @@ impl Mark {
         ensures { MatchBool result ((queue : LogQueue) → joined_at queue end self.now
             (record fresh { reach = Some start; cut = Some start }) ≡ self.now) (Unit {0}) }
     {
-        let (Some(_), Some(cut)) = (self.reach, self.cut) else {
+        let (Some(_), Some(cut)) = (self.bounds.reach, self.bounds.cut) else {
             return false;
         };
         if start < cut {
@@ -303,38 +274,12 @@ impl Mark {
         0 < end
     }
 
-    /// Tests whether newer steps change nothing: the region was cleaned (or no steps give such a region
-    /// mark).
     fn is_settled(&self) -> bool
         ensures { result ≡ is_settled self.now }
     {
-        self.cleaned || self.reach.is_some() && self.cut.is_none()
+        self.bounds.cleaned || self.bounds.reach.is_some() && self.bounds.cut.is_none()
     }
 
-    /// Returns all but the deleted keys.
-    fn bounds(&self) -> Bounds
-        ensures { result ≡ record {
-          cleaned = self.now.cleaned;
-          reach = self.now.reach;
-          reach_floor = self.now.reach_floor;
-          reach_cut = self.now.reach_cut;
-          barred = self.now.barred;
-          floor = self.now.floor;
-          cut = self.now.cut;
-        } }
-    {
-        Bounds {
-            cleaned: self.cleaned,
-            reach: self.reach,
-            reach_floor: self.reach_floor,
-            reach_cut: self.reach_cut,
-            barred: self.barred,
-            floor: self.floor,
-            cut: self.cut,
-        }
-    }
-
-    /// Joins the bounds of newer steps, whose first run meets own entries that end at `end`.
     #[inline(always)]
     fn join_bounds(&mut self, queue: LogQueue, end: u64, newer: Bounds)
         ensures { self.new ≡ record (joined_at queue end self.old (with_bounds newer))
@@ -343,39 +288,47 @@ impl Mark {
         if self.is_settled() {
             return;
         }
-        let floor = self.floor.max(newer.floor);
-        match (self.reach, self.cut) {
+        let older = self.bounds;
+        let floor = older.floor.max(newer.floor);
+        match (older.reach, older.cut) {
             (Some(_), Some(cut)) => {
                 let bound = capped(cut, newer.reach_cut);
                 let detached = is_detached(newer.reach, end, bound);
-                let met = (self.floor.max(newer.reach_floor), bound);
-                let newer_barred = narrowed(self.floor, self.cut, newer.barred);
-                self.barred = joined_barred(queue, detached, self.barred, met, newer_barred);
+                let met = (older.floor.max(newer.reach_floor), bound);
+                let newer_barred = narrowed(older.floor, older.cut, newer.barred);
+                self.bounds.barred = joined_barred(
+                    queue,
+                    detached,
+                    older.barred,
+                    met,
+                    newer_barred,
+                );
                 let dropped = drops_below(newer.reach, end, bound);
-                self.floor = joined_floor(queue, dropped, floor, cut);
+                self.bounds.floor = joined_floor(queue, dropped, floor, cut);
             }
             (_, _) => {
-                self.reach = newer.reach;
-                if self.reach.is_some() {
-                    self.reach_floor = self.floor.max(newer.reach_floor);
-                    self.reach_cut = lesser(self.cut, newer.reach_cut);
+                self.bounds.reach = newer.reach;
+                if newer.reach.is_some() {
+                    self.bounds.reach_floor = older.floor.max(newer.reach_floor);
+                    self.bounds.reach_cut = lesser(older.cut, newer.reach_cut);
                 }
-                self.barred = self.barred.or(narrowed(self.floor, self.cut, newer.barred));
-                self.floor = floor;
+                self.bounds.barred = older
+                    .barred
+                    .or(narrowed(older.floor, older.cut, newer.barred));
+                self.bounds.floor = floor;
             }
         }
-        self.cut = lesser(self.cut, newer.cut);
-        self.cleaned = newer.cleaned;
+        self.bounds.cut = lesser(older.cut, newer.cut);
+        self.bounds.cleaned = newer.cleaned;
     }
 
-    /// Takes over the keys that the newer steps deleted.
     fn join_deleted(&mut self, newer: &mut Mark) -> AllocResult<()>
         ensures err { OnErr result (self.new ≡ record self.old { deleted = self.new.deleted }) }
         ensures ok { OnOk result (self.new ≡ record self.old
             { deleted = joined_deleted self.old newer.old }) }
         ensures newer { newer.new ≡ record newer.old { deleted = newer.new.deleted } }
     {
-        if newer.cleaned {
+        if newer.bounds.cleaned {
             mem::swap(&mut self.deleted, &mut newer.deleted);
             return Ok(());
         }
@@ -383,7 +336,6 @@ impl Mark {
     }
 }
 
-/// Tests whether a first run leaves a hole after entries that end at `end`.
 fn misses(reach: Option<u64>, end: u64) -> bool
     ensures { result ≡ misses reach end }
 {
@@ -393,7 +345,6 @@ fn misses(reach: Option<u64>, end: u64) -> bool
     }
 }
 
-/// Narrows barred indexes of a newer region mark to the entries that an older region mark leaves.
 fn narrowed(floor: u64, cut: Option<u64>, barred: Option<(u64, u64)>) -> Option<(u64, u64)>
     ensures { result ≡ narrowed_bars floor cut barred }
 {
@@ -401,8 +352,6 @@ fn narrowed(floor: u64, cut: Option<u64>, barred: Option<(u64, u64)>) -> Option<
     Some((floor.max(from), capped(below, cut)))
 }
 
-/// Tests whether a newer first run is detached: it meets no entry of the older table (those that it meets end at
-/// `end`), and starts above the bound below which still older ones stay.
 fn is_detached(reach: Option<u64>, end: u64, bound: u64) -> bool
     ensures { result ≡ is_detached reach end bound }
 {
@@ -412,15 +361,12 @@ fn is_detached(reach: Option<u64>, end: u64, bound: u64) -> bool
     }
 }
 
-/// Tests whether a newer first run leaves no older entry below the cut in the rewrite queue.
 fn drops_below(reach: Option<u64>, end: u64, bound: u64) -> bool
     ensures { result ≡ is_detached reach end bound || misses reach end }
 {
     is_detached(reach, end, bound) || misses(reach, end)
 }
 
-/// Returns the barred indexes of two region marks: the older one's, else those that a newer first run which is
-/// detached would meet, else the newer one's.
 fn joined_barred(
     queue: LogQueue,
     detached: bool,
@@ -436,7 +382,6 @@ fn joined_barred(
     }
 }
 
-/// Returns where older entries begin that stay after a run with this cut.
 fn joined_floor(queue: LogQueue, dropped: bool, floor: u64, cut: u64) -> u64
     ensures { result ≡ joined_floor queue dropped floor cut }
 {

@@ -1,14 +1,9 @@
 //! Merges of two tables of one region.
 
 ghost use Rattle.std.specs.Prelude.{◌≡◌, ◌≢◌, ◌+◌, ◌<◌, ◌≤◌, ◌^◌, [], OnOk, IfErr, Some};
+ghost use Rattle.raft_table.specs.Common.{LogQueue, Append, Rewrite, live, pairs_over, pair_count, counts_after_merge, counts_with_keys, counts_with_others, joint_queue, append_rule, after_merge, after_newer, after_appended};
+ghost use Rattle.raft_table.specs.Common.{IsTableMergeFault, count_in, other, empty_table, live_of, IsCounted, IsRecounted};
 ghost use Rattle.std.specs.FinMap as finite;
-ghost use Rattle.raft_base.specs.declared.pipe_log.LogQueue.{LogQueue};
-ghost use Rattle.raft_base.specs.declared.pipe_log.LogQueue.TheVariants.{Append, Rewrite};
-ghost use Rattle.raft_table.specs.Counts.{live};
-ghost use Rattle.raft_table.specs.KeyValues.{pairs_over, pair_count};
-ghost use Rattle.raft_table.specs.Merge.{counts_after_merge, counts_with_keys, counts_with_others, joint_queue, append_rule, after_merge, after_newer, after_appended, IsTableMergeFault};
-ghost use Rattle.raft_table.specs.Queues.{count_in, other};
-ghost use Rattle.raft_table.specs.Table.{empty_table, live_of, IsCounted, IsRecounted};
 
 use crate::global_stats::GlobalStats;
 use crate::memtable::MemTable;
@@ -98,7 +93,6 @@ impl MemTable {
         self.merge_by_rule(rule, rhs, LogQueue::Append, stats)
     }
 
-    /// Returns the one queue of the records of two tables, if there is one.
     fn joint_queue(&self, rhs: &MemTable) -> Option<LogQueue>
         ensures { result ≡ joint_queue self.now rhs.now }
     {
@@ -111,7 +105,6 @@ impl MemTable {
         Some(LogQueue::Append)
     }
 
-    /// Returns the start rule by which an append table joins this one, if it may.
     fn append_rule(&self, rhs: &MemTable) -> Option<LogQueue>
         ensures { result ≡ append_rule self.now rhs.now }
     {
@@ -124,8 +117,6 @@ impl MemTable {
         Some(LogQueue::Rewrite)
     }
 
-    /// Moves the entries and pairs of `rhs`, which are in one queue and can be counted, into this table:
-    /// its run by a start rule, its pairs over the own ones.
     pub(super) fn merge_by_rule(
         &mut self,
         rule: LogQueue,
@@ -155,7 +146,6 @@ impl MemTable {
     }
 }
 
-/// Puts newer pairs over older ones, and counts them.
 fn absorb_keys(keys: &mut KeyValues, newer: &mut KeyValues, stats: &mut GlobalStats) -> Result<()>
     requires room { (q : LogQueue) → live q stats.old + pair_count q newer.old < 2 ^ 64 }
     requires counted { (q : LogQueue) → pair_count q keys.old ≤ live q stats.old }
@@ -185,7 +175,6 @@ fn absorb_keys(keys: &mut KeyValues, newer: &mut KeyValues, stats: &mut GlobalSt
     Ok(())
 }
 
-/// Counts `after` records of `queue` in place of `before`.
 fn recount(stats: &mut GlobalStats, queue: LogQueue, before: usize, after: usize)
     requires counted { before ≤ live queue stats.old }
     requires room { live queue stats.old + after < 2 ^ 64 + before }
@@ -195,7 +184,7 @@ fn recount(stats: &mut GlobalStats, queue: LogQueue, before: usize, after: usize
 {
     if after <= before {
         stats.delete(queue, before - after);
-    } else if stats.add(queue, after - before).is_err() {
-        unreachable!()
+    } else {
+        stats.add_fitting(queue, after - before);
     }
 }

@@ -1,16 +1,9 @@
 //! What a table returns of its records.
 
 ghost use Rattle.std.specs.Prelude.{◌≡◌, ◌-◌, ◌<◌, ◌++◌, length, IsOk, OnOk, OnErr, IfErr, Some, None};
-ghost use Rattle.std.specs.Fn.{CalledAtTwo};
+ghost use Rattle.raft_table.specs.Common.{CalledAtTwo, slice_get, option_copied, Append, Rewrite, placed_in, Fetches, IsFetchFault, range_answer, appended_before, block_count, entry_seq, is_some_before, pairs_shown, pairs_up_to};
+ghost use Rattle.raft_table.specs.Common.{VisitsUntilFalse, pairs_between, least_of, at_most_group_seq};
 ghost use Rattle.std.specs.FinMap as finite;
-ghost use Rattle.std.specs.List.{slice_get};
-ghost use Rattle.std.specs.Option.{option_copied};
-ghost use Rattle.raft_base.specs.declared.pipe_log.LogQueue.TheVariants.{Append, Rewrite};
-ghost use Rattle.raft_table.specs.TableEntries.{placed_in};
-ghost use Rattle.raft_table.specs.Fetches.{Fetches, IsFetchFault, range_answer, appended_before, block_count, entry_seq, is_some_before};
-ghost use Rattle.raft_table.specs.KeyValues.{pairs_shown, pairs_up_to};
-ghost use Rattle.raft_table.specs.Scan.{VisitsUntilFalse, pairs_between};
-ghost use Rattle.raft_table.specs.Least.{least_of, at_most_group_seq};
 
 use crate::memtable::MemTable;
 use crate::memtable::bounds::lesser;
@@ -21,7 +14,7 @@ impl MemTable {
     pub fn block_count(&self) -> usize
         ensures { result ≡ block_count self.now.entries }
     {
-        self.entries.block_count()
+        self.entries.blocks().len()
     }
 
     /// Returns how many entries there are.
@@ -176,8 +169,6 @@ impl MemTable {
     }
 }
 
-/// Returns a file number, lowered to at most the first one of an atomic group where it is at or below the group's
-/// last one.
 fn lowered(atomic_group: Option<(FileSeq, FileSeq)>, seq: Option<FileSeq>) -> Option<FileSeq>
     ensures { result ≡ at_most_group_seq atomic_group seq }
 {

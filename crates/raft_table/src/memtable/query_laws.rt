@@ -1,22 +1,9 @@
 //! Laws of tables: what their sizes, their queries and their refusals mean.
 
 ghost use Rattle.std.specs.Prelude.{◌≡◌, ◌<◌, ◌≤◌, ℕ, List, [], ◌++◌, Option, Some, None, nat_lt, length, false, true, if◌then◌else◌, ◌⊎◌, suc, ◌+◌, ◌^◌, ◌&&◌, map, reverse, All, Contains, nat_le};
-ghost use Rattle.std.specs.Ordering.{nat_cmp};
-ghost use Rattle.std.specs.Cmp.Lexicographic.{slice_cmp};
-ghost use Rattle.std.specs.List.Sorted.{IsStrictlySortedBy};
+ghost use Rattle.raft_table.specs.Common.{nat_cmp, slice_cmp, IsStrictlySortedBy, Error, LogQueue, EntryIndex, Counts, live, Append, Rewrite, RisesFrom, end_of, start_of, entry_at, AreTableEntries, entries_between, entry_count, Found};
+ghost use Rattle.raft_table.specs.Common.{range_answer, total_len, IsLimitCount, FetchesWithin, Keys, value_at, least, is_between, pairs_between, Table, live_of, entries_after_append, entries_after_replay, IsTableRunFault};
 ghost use Rattle.std.specs.FinMap as finite;
-ghost use Rattle.raft_base.specs.declared.errors.Error.{Error};
-ghost use Rattle.raft_base.specs.declared.pipe_log.LogQueue.{LogQueue};
-ghost use Rattle.raft_base.specs.declared.entry_index.EntryIndex.{EntryIndex};
-ghost use Rattle.raft_table.specs.Counts.{Counts, live};
-ghost use Rattle.raft_base.specs.declared.pipe_log.LogQueue.TheVariants.{Append, Rewrite};
-ghost use Rattle.raft_base.specs.Runs.{RisesFrom, end_of};
-ghost use Rattle.raft_table.specs.TableEntries.{start_of, entry_at, AreTableEntries, entries_between, entry_count};
-ghost use Rattle.raft_table.specs.Fetches.{Found, range_answer, total_len, IsLimitCount, FetchesWithin};
-ghost use Rattle.raft_table.specs.KeyValues.{Keys, value_at, least};
-ghost use Rattle.raft_table.specs.Scan.{is_between, pairs_between};
-ghost use Rattle.raft_table.specs.Table.{Table, live_of};
-ghost use Rattle.raft_table.specs.Start.{entries_after_append, entries_after_replay, IsTableRunFault};
 
 use raft_base::Error;
 

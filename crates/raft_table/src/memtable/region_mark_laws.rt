@@ -1,18 +1,9 @@
 //! Laws of region marks: that they stand for the steps on their regions.
 
 ghost use Rattle.std.specs.Prelude.{◌≡◌, ◌≤◌, ℕ, List, [], ◌∷◌, ◌++◌, Option, Some, None, false};
+ghost use Rattle.raft_table.specs.Common.{LogQueue, Append, EntryIndex, IsRun, Mark, table_over_older, Stands, joined_mark, mark_of, own_of, HoldsDeleted, IsExactMark, has_clean, greatest_compaction, least_cut, deleted_of};
+ghost use Rattle.raft_table.specs.Common.{rewritten_within, overlay, overlay_under, AreUntruncated, reaching_within, Step, IsStep, AreSteps, IsTableOf, table_of, after, Table};
 ghost use Rattle.std.specs.FinSet as finset;
-ghost use Rattle.raft_base.specs.declared.pipe_log.LogQueue.{LogQueue};
-ghost use Rattle.raft_base.specs.declared.pipe_log.LogQueue.TheVariants.{Append};
-ghost use Rattle.raft_base.specs.declared.entry_index.EntryIndex.{EntryIndex};
-ghost use Rattle.raft_base.specs.Runs.{IsRun};
-ghost use Rattle.raft_table.specs.Marks.{Mark, table_over_older};
-ghost use Rattle.raft_table.specs.Stands.{Stands};
-ghost use Rattle.raft_table.specs.MarkJoins.{joined_mark, mark_of, own_of};
-ghost use Rattle.raft_table.specs.Overlay.{HoldsDeleted, IsExactMark, has_clean, greatest_compaction, least_cut, deleted_of, rewritten_within, overlay, overlay_under};
-ghost use Rattle.raft_table.specs.Untruncated.{AreUntruncated, reaching_within};
-ghost use Rattle.raft_table.specs.Steps.{Step, IsStep, AreSteps, IsTableOf, table_of, after};
-ghost use Rattle.raft_table.specs.Table.{Table};
 
 /// States that a region mark and an own table stand for the steps on a region: those of one step for it;
 /// those of two neighbors, joined, for the steps of both, or one reading refuses where the join does; and

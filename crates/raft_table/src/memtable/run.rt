@@ -1,8 +1,7 @@
 //! Runs, as tables are given them.
 
 ghost use Rattle.std.specs.Prelude.{◌≡◌, [], ◌<◌, length, MatchOption};
-ghost use Rattle.raft_table.specs.RunShown.{run_shown};
-ghost use Rattle.raft_table.specs.TableEntries.{start_of};
+ghost use Rattle.raft_table.specs.Common.{run_shown, start_of};
 
 use raft_base::{EntryIndex, FileBlockHandle};
 
@@ -20,7 +19,6 @@ pub enum Run<'a> {
 }
 
 impl Run<'_> {
-    /// Returns the index of the first entry.
     pub(crate) fn first_index(&self) -> Option<u64>
         ensures { MatchOption result (run_shown self.now ≡ [])
             (λ i. (i ≡ start_of (run_shown self.now)) × (0 < length (run_shown self.now))) }
@@ -36,7 +34,6 @@ impl Run<'_> {
         }
     }
 
-    /// Returns how many entries there are.
     pub(crate) fn len(&self) -> usize
         ensures { result ≡ length (run_shown self.now) }
     {

@@ -1,16 +1,8 @@
 //! Steps on a table.
 
 ghost use Rattle.std.specs.Prelude.{◌≡◌, ◌≢◌, [], MatchBool, OnOk, OnErr, IfErr, Some};
-ghost use Rattle.raft_base.specs.declared.pipe_log.LogQueue.TheVariants.{Append, Rewrite};
-ghost use Rattle.raft_table.specs.Counts.{with_added};
-ghost use Rattle.raft_table.specs.KeyValues.{file_at};
-ghost use Rattle.raft_table.specs.Queues.{other};
-ghost use Rattle.raft_table.specs.Start.{counts_with_run};
-ghost use Rattle.raft_table.specs.StepShown.{step_shown};
-ghost use Rattle.raft_table.specs.Steps.{after_step};
-ghost use Rattle.raft_table.specs.Table.{after_replay, live_of, with_pair, with_pair_deleted, IsCounted, IsRecounted};
-ghost use Rattle.raft_table.specs.TableEntries.{IsRunIn};
-ghost use Rattle.raft_table.specs.TakenSteps.{IsStepOfQueue, LeavesTable, IsUnmixed, counts_after_step, IsReplayFault, IsStepFault};
+ghost use Rattle.raft_table.specs.Common.{Append, Rewrite, with_added, file_at, other, counts_with_run, step_shown, after_step, after_replay, live_of, with_pair, with_pair_deleted, IsCounted, IsRecounted, IsRunIn, IsStepOfQueue};
+ghost use Rattle.raft_table.specs.Common.{LeavesTable, IsUnmixed, counts_after_step, IsReplayFault, IsStepFault};
 
 use crate::global_stats::GlobalStats;
 use crate::memtable::MemTable;
@@ -106,7 +98,6 @@ impl MemTable {
         }
     }
 
-    /// Puts a run of `queue` that is read again, where the table has no record of the other queue.
     fn replay(
         &mut self,
         queue: LogQueue,
@@ -124,25 +115,13 @@ impl MemTable {
         ensures region { self.new.region_id ≡ self.old.region_id }
         ensures recounted { IsRecounted self.old self.new stats.old stats.new }
     {
-        match queue {
-            LogQueue::Append => {
-                if self.records(LogQueue::Rewrite) > 0 {
-                    return Err(Error::invalid_argument(
-                        self.entries.allocator(),
-                        "the table has rewritten records",
-                    ));
-                }
-                self.replay_append(run, stats)
-            }
-            LogQueue::Rewrite => {
-                if self.records(LogQueue::Append) > 0 {
-                    return Err(Error::invalid_argument(
-                        self.entries.allocator(),
-                        "the table has appended records",
-                    ));
-                }
-                self.replay_rewrite(run, stats)
-            }
+        if self.records(queue.other()) > 0 {
+            let text = match queue {
+                LogQueue::Append => "the table has rewritten records",
+                LogQueue::Rewrite => "the table has appended records",
+            };
+            return Err(Error::invalid_argument(self.entries.allocator(), text));
         }
+        self.entries.replay_run(self.region_id, &run, queue, stats)
     }
 }

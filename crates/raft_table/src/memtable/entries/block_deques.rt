@@ -1,10 +1,7 @@
 //! Deques of blocks and of their first indexes.
 
 ghost use Rattle.std.specs.Prelude.{◌≡◌, ◌≢◌, ◌+◌, ◌⊎◌, ◌-◌, ◌≤◌, ◌<◌, ℕ, List, [], ◌∷◌, ◌++◌, length, take, drop, slice_index_or, ◌^◌, MatchBool, OnOk, OnErr, IfOk};
-ghost use Rattle.std.specs.List.Sorted.{IsNonDecreasingBy};
-ghost use Rattle.std.specs.VecDeque.{deque_len, deque_capacity};
-ghost use Rattle.raft_table.specs.Blocks.{BlockSpans, block_spans, blocks_shown};
-ghost use Rattle.raft_table.specs.BlockWords.{count, starts_of, AreStarts, first_of_last, joined_blocks, seam, IsIndexOf, IsAt};
+ghost use Rattle.raft_table.specs.Common.{IsNonDecreasingBy, deque_len, deque_capacity, BlockSpans, block_spans, blocks_shown, count, starts_of, AreStarts, first_of_last, joined_blocks, seam, IsIndexOf, IsAt};
 
 use crate::memtable::block::Block;
 use raft_base::{AllocResult, FileBlockHandle};
@@ -12,7 +9,6 @@ use std::alloc::Global;
 use std::collections::VecDeque;
 use std::mem::swap;
 
-/// Returns how many starts are at or below an index.
 fn count_at_or_below(starts: &VecDeque<u64>, index: u64) -> usize
     requires { IsNonDecreasingBy (λ (y : ℕ). y) starts.now.items }
     ensures bound { result ≤ length starts.now.items }
@@ -26,26 +22,26 @@ fn count_at_or_below(starts: &VecDeque<u64>, index: u64) -> usize
 /// Up to so many blocks are walked: their first indexes aren't kept.
 pub(super) const FEW: usize = 3;
 
-/// Returns the block and the offset in it of the entry with an index, among `len` entries from the
-/// index `first` on.
+/// Returns the block and the offset in it of the entry after the first `at`, among `len` entries from
+/// the index `first` on.
 pub(super) fn spot_of(
     blocks: &VecDeque<Block>,
     starts: &VecDeque<u64>,
     first: u64,
     len: usize,
-    index: u64,
+    at: usize,
 ) -> (usize, usize)
     requires starts { AreStarts first (blocks_shown blocks.now.items) starts.now.items }
-    requires within { (first ≤ index) × (index < first + count (blocks_shown blocks.now.items)) }
-    ensures { IsAt (index - first) (blocks_shown blocks.now.items) result.0 result.1 }
+    requires within { (at < count (blocks_shown blocks.now.items))
+        × (first + count (blocks_shown blocks.now.items) < 2 ^ 64) }
+    ensures { IsAt at (blocks_shown blocks.now.items) result.0 result.1 }
 {
     if starts.is_empty() {
-        return spot_among(blocks, (index - first) as usize);
+        return spot_among(blocks, at);
     }
-    find(starts, first, len, index)
+    find(starts, first, len, first + at as u64)
 }
 
-/// Returns the block and the offset in it of the entry after so many.
 fn spot_among(blocks: &VecDeque<Block>, behind: usize) -> (usize, usize)
     requires { behind < count (blocks_shown blocks.now.items) }
     ensures { IsAt behind (blocks_shown blocks.now.items) result.0 result.1 }
@@ -117,7 +113,6 @@ pub(super) fn spot_behind(starts: &VecDeque<u64>, first: u64, kept: usize) -> (u
     (nth + 1, last + 1)
 }
 
-/// Returns the spans after the first `dropped`.
 pub(super) fn spans_behind(
     alloc: Global,
     spans: &VecDeque<(u32, u32)>,
@@ -133,7 +128,6 @@ pub(super) fn spans_behind(
     Ok(behind)
 }
 
-/// Tests whether two places are one.
 #[inline(always)]
 pub(super) fn is_same(a: &FileBlockHandle, b: &FileBlockHandle) -> bool
     ensures { MatchBool result (a.now ≡ b.now) (a.now ≢ b.now) }
@@ -181,8 +175,6 @@ pub(super) fn put_blocks(
     Ok(())
 }
 
-/// Puts more blocks after so many first ones, of the last of which so many entries stay. Where the two
-/// that meet have the same place they are one block.
 pub(super) fn put_few_blocks(
     blocks: &mut VecDeque<Block>,
     spot: (usize, usize),
@@ -260,7 +252,7 @@ fn meet(
     }
     let last = nth - 1;
     if !is_same(&blocks[last].handle, &more[0].handle) {
-        shorten(&mut blocks[last], kept);
+        blocks[last].spans.truncate(kept);
         return Ok(());
     }
     lengthen(&mut blocks[last], kept, &mut more[0].spans)?;
@@ -269,7 +261,6 @@ fn meet(
     Ok(())
 }
 
-/// Drops the first element.
 fn drop_front<T: Drop>(deque: &mut VecDeque<T>)
     ensures items { deque.new.items ≡ drop 1 deque.old.items }
     ensures fewer { deque_len deque.new ≤ deque_len deque.old }
@@ -278,35 +269,6 @@ fn drop_front<T: Drop>(deque: &mut VecDeque<T>)
     drop(deque.pop_front());
 }
 
-/// Puts a block, whose first entry has this index, after others, the first of which starts at
-/// `first`. Few blocks get no first indexes.
-#[inline(always)]
-pub(super) fn push_behind(
-    blocks: &mut VecDeque<Block>,
-    starts: &mut VecDeque<u64>,
-    first: u64,
-    index: u64,
-    block: Block,
-) -> AllocResult<()>
-    requires starts { AreStarts first (blocks_shown blocks.old.items) starts.old.items }
-    requires bounded { 0 < length blocks.old.items
-        → first + count (blocks_shown blocks.old.items) < 2 ^ 64 }
-    ensures blocks { OnOk result (blocks_shown blocks.new.items
-        ≡ joined_blocks (blocks_shown blocks.old.items) (block_spans block ∷ [])) }
-    ensures starts { OnOk result ((starts.new.items ≡ [])
-        ⊎ (starts.new.items ≡ starts_of first (blocks_shown blocks.old.items)
-        ++ drop (seam (blocks_shown blocks.old.items) (block_spans block ∷ [])) (index ∷ []))) }
-    ensures err { OnErr result ((blocks_shown blocks.new.items ≡ blocks_shown blocks.old.items)
-        × AreStarts first (blocks_shown blocks.old.items) starts.new.items) }
-{
-    if starts.is_empty() && blocks.len() < FEW {
-        return push_block(blocks, block);
-    }
-    keep_starts(blocks, starts, first)?;
-    push_with_start(blocks, starts, index, block)
-}
-
-/// Keeps the first indexes of blocks, the first of which starts at `first`, where they aren't kept.
 #[inline(always)]
 pub(super) fn keep_starts(
     blocks: &VecDeque<Block>,
@@ -328,7 +290,6 @@ pub(super) fn keep_starts(
     Ok(())
 }
 
-/// Appends the first indexes of blocks, for which there is room, to none.
 #[inline(never)]
 fn push_starts(blocks: &VecDeque<Block>, starts: &mut VecDeque<u64>, first: u64)
     requires none { starts.old.items ≡ [] }
@@ -344,7 +305,6 @@ fn push_starts(blocks: &VecDeque<Block>, starts: &mut VecDeque<u64>, first: u64)
     }
 }
 
-/// Puts a block, whose first entry has this index, after others, and the index after theirs.
 #[inline(always)]
 pub(super) fn push_with_start(
     blocks: &mut VecDeque<Block>,
@@ -373,7 +333,7 @@ pub(super) fn push_with_start(
 /// Puts a block after others. Where it has the place of the last of them its entries go after those
 /// of that one.
 #[inline(never)]
-fn push_block(blocks: &mut VecDeque<Block>, mut block: Block) -> AllocResult<()>
+pub(super) fn push_block(blocks: &mut VecDeque<Block>, mut block: Block) -> AllocResult<()>
     ensures ok { OnOk result (blocks_shown blocks.new.items
         ≡ joined_blocks (blocks_shown blocks.old.items) (block_spans block ∷ [])) }
     ensures err { OnErr result (blocks_shown blocks.new.items ≡ blocks_shown blocks.old.items) }
@@ -402,7 +362,6 @@ fn make_first_room(blocks: &mut VecDeque<Block>) -> AllocResult<()>
     blocks.reserve_exact(FEW)
 }
 
-/// Keeps so many entries of a block, and moves more after them.
 #[inline(never)]
 fn lengthen(block: &mut Block, kept: usize, more: &mut VecDeque<(u32, u32)>) -> AllocResult<()>
     requires { kept ≤ length block.old.spans.items }
@@ -419,14 +378,6 @@ fn lengthen(block: &mut Block, kept: usize, more: &mut VecDeque<(u32, u32)>) -> 
         unreachable!()
     }
     Ok(())
-}
-
-/// Keeps so many entries of a block.
-fn shorten(block: &mut Block, kept: usize)
-    ensures handle { block.new.handle ≡ block.old.handle }
-    ensures spans { block.new.spans.items ≡ take kept block.old.spans.items }
-{
-    block.spans.truncate(kept);
 }
 
 /// Keeps the first `kept` elements and those from `rest` on, and puts more between them. The shorter
@@ -454,7 +405,6 @@ fn splice<T: Drop>(deque: &mut VecDeque<T>, kept: usize, rest: usize, more: &mut
     swap(deque, more);
 }
 
-/// Moves more elements after those of a queue that has room for them.
 fn append<T>(deque: &mut VecDeque<T>, more: &mut VecDeque<T>)
     requires room { deque_len deque.old + deque_len more.old ≤ deque_capacity deque.old }
     ensures items { deque.new.items ≡ deque.old.items ++ more.old.items }

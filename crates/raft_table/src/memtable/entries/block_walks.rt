@@ -1,14 +1,8 @@
 //! Walks over entries in order, block by block.
 
 ghost use Rattle.std.specs.Prelude.{◌≡◌, ◌+◌, ◌-◌, ◌≤◌, ◌<◌, ◌^◌, ◌++◌, ℕ, List, map, take, drop, slice_index_or, length, Some};
-ghost use Rattle.std.specs.List.{prefix_len};
-ghost use Rattle.std.specs.Vec.{vec_len, vec_capacity};
-ghost use Rattle.raft_base.specs.declared.entry_index.EntryIndex.{EntryIndex};
-ghost use Rattle.raft_base.specs.Runs.{entries_of_block};
-ghost use Rattle.raft_table.specs.Blocks.{BlockSpans, block_spans, blocks_shown, entries_in_blocks, AreDistinctBlocks};
-ghost use Rattle.raft_table.specs.BlockWords.{count, without_span, with_spans, IsAt};
-ghost use Rattle.raft_table.specs.Fetches.{IsLimitCount};
-ghost use Rattle.raft_table.specs.Rewriting.{may_move};
+ghost use Rattle.raft_table.specs.Common.{prefix_len, vec_len, vec_capacity, EntryIndex, entries_of_block, BlockSpans, block_spans, blocks_shown, entries_in_blocks, AreDistinctBlocks, count, without_span, with_spans, IsAt, IsPart};
+ghost use Rattle.raft_table.specs.Common.{IsLimitCount, may_move};
 
 use crate::memtable::block::Block;
 use raft_base::{EntryIndex, FileBlockHandle, FileSeq, LogQueue};
@@ -27,10 +21,7 @@ pub(super) fn push_entries(
     start: usize,
     end: usize,
 )
-    requires spot { IsAt start (blocks_shown blocks.now.items) spot.0 spot.1 }
-    requires distinct { AreDistinctBlocks (blocks_shown blocks.now.items) }
-    requires order { start ≤ end }
-    requires within { end ≤ count (blocks_shown blocks.now.items) }
+    requires part { IsPart (blocks_shown blocks.now.items) spot start end }
     requires bounded { first + end < 2 ^ 64 }
     requires room { vec_len vec.old + (end - start) ≤ vec_capacity vec.old }
     ensures { vec.new.items ≡ vec.old.items ++ drop start
@@ -41,7 +32,6 @@ pub(super) fn push_entries(
     set_spans(vec, len, blocks, spot, start, end);
 }
 
-/// Appends those entries without their spans.
 fn push_without_spans(
     vec: &mut Vec<EntryIndex>,
     first: u64,
@@ -50,10 +40,7 @@ fn push_without_spans(
     start: usize,
     end: usize,
 )
-    requires spot { IsAt start (blocks_shown blocks.now.items) spot.0 spot.1 }
-    requires distinct { AreDistinctBlocks (blocks_shown blocks.now.items) }
-    requires order { start ≤ end }
-    requires within { end ≤ count (blocks_shown blocks.now.items) }
+    requires part { IsPart (blocks_shown blocks.now.items) spot start end }
     requires bounded { first + end < 2 ^ 64 }
     requires room { vec_len vec.old + (end - start) ≤ vec_capacity vec.old }
     ensures { vec.new.items
@@ -73,8 +60,6 @@ fn push_without_spans(
     }
 }
 
-/// Appends so many entries of a block, after the first `at`, without their spans to a vector with room
-/// for them. The first of them has the index `first`.
 fn push_without_spans_of(
     vec: &mut Vec<EntryIndex>,
     first: u64,
@@ -102,8 +87,6 @@ fn push_without_spans_of(
     }
 }
 
-/// Sets the spans of the entries after the first `len` of a vector, which are those after the first
-/// `start` among the first `end`.
 fn set_spans(
     vec: &mut Vec<EntryIndex>,
     len: usize,
@@ -112,10 +95,7 @@ fn set_spans(
     start: usize,
     end: usize,
 )
-    requires spot { IsAt start (blocks_shown blocks.now.items) spot.0 spot.1 }
-    requires distinct { AreDistinctBlocks (blocks_shown blocks.now.items) }
-    requires order { start ≤ end }
-    requires within { end ≤ count (blocks_shown blocks.now.items) }
+    requires part { IsPart (blocks_shown blocks.now.items) spot start end }
     requires there { len + (end - start) ≤ length vec.old.items }
     ensures { (i : ℕ) (front : List EntryIndex) → length front ≡ len
         → vec.old.items
@@ -137,8 +117,6 @@ fn set_spans(
     }
 }
 
-/// Gives entries after the first `len` of a vector the spans of so many of a block after the first
-/// `at`.
 fn set_spans_of(vec: &mut Vec<EntryIndex>, len: usize, block: &Block, at: usize, count: usize)
     requires within { at + count ≤ length block.now.spans.items }
     requires there { len + count ≤ length vec.old.items }
@@ -153,7 +131,6 @@ fn set_spans_of(vec: &mut Vec<EntryIndex>, len: usize, block: &Block, at: usize,
     }
 }
 
-/// Sets the span of an entry.
 fn set_span(entry: &mut EntryIndex, span: (u32, u32))
     ensures { entry.new ≡ record entry.old { entry_offset = span.0; entry_len = span.1 } }
 {
@@ -161,8 +138,6 @@ fn set_span(entry: &mut EntryIndex, span: (u32, u32))
     entry.entry_len = span.1;
 }
 
-/// Returns how many entries after the first `start`, among the first `end`, may move, up to the
-/// first that may not. The first of them stands at `spot`.
 pub(super) fn movable_from(
     blocks: &VecDeque<Block>,
     spot: (usize, usize),
@@ -170,10 +145,7 @@ pub(super) fn movable_from(
     end: usize,
     gate: Option<FileSeq>,
 ) -> usize
-    requires spot { IsAt start (blocks_shown blocks.now.items) spot.0 spot.1 }
-    requires distinct { AreDistinctBlocks (blocks_shown blocks.now.items) }
-    requires order { start ≤ end }
-    requires within { end ≤ count (blocks_shown blocks.now.items) }
+    requires { IsPart (blocks_shown blocks.now.items) spot start end }
     ensures { (i : ℕ)
         → result ≡ prefix_len (may_move gate)
         (drop start (take end (entries_in_blocks i (blocks_shown blocks.now.items)))) }
@@ -192,7 +164,6 @@ pub(super) fn movable_from(
     end - start
 }
 
-/// Tests whether the entries of a place may move.
 #[tactic(auto, unfolding(crate::specs::TableEntries::is_placed_in, crate::specs::Rewriting::is_placed_before))]
 fn is_movable(handle: &FileBlockHandle, gate: Option<FileSeq>) -> bool
     ensures { (e : EntryIndex) → e.entries ≡ Some handle.now → result ≡ may_move gate e }
@@ -203,8 +174,6 @@ fn is_movable(handle: &FileBlockHandle, gate: Option<FileSeq>) -> bool
     }
 }
 
-/// Returns how many entries after the first `start`, among the first `end`, a limit on the total
-/// of their lengths lets through. The first of them stands at `spot`.
 pub(super) fn count_from(
     blocks: &VecDeque<Block>,
     mut spot: (usize, usize),
@@ -212,10 +181,7 @@ pub(super) fn count_from(
     end: usize,
     limit: usize,
 ) -> usize
-    requires spot { IsAt start (blocks_shown blocks.now.items) spot.0 spot.1 }
-    requires distinct { AreDistinctBlocks (blocks_shown blocks.now.items) }
-    requires order { start ≤ end }
-    requires within { end ≤ count (blocks_shown blocks.now.items) }
+    requires { IsPart (blocks_shown blocks.now.items) spot start end }
     ensures { (i : ℕ) → IsLimitCount (Some limit)
         (drop start (take end (entries_in_blocks i (blocks_shown blocks.now.items)))) result }
 {
@@ -232,8 +198,6 @@ pub(super) fn count_from(
     end - start
 }
 
-/// Returns the spot of the next entry: after the last one in its block, or first in the next
-/// block.
 fn next(block: &Block, spot: (usize, usize)) -> (usize, usize)
     requires within { spot.0 + 1 < 2 ^ 64 }
     requires inside { spot.1 < length block.now.spans.items }

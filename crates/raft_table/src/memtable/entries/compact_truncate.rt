@@ -1,12 +1,7 @@
 //! Entries that go, from the front or from the back.
 
 ghost use Rattle.std.specs.Prelude.{◌≡◌, ◌≢◌, ◌+◌, ◌≤◌, ◌<◌, [], length, take, drop, set, slice_index_or};
-ghost use Rattle.raft_table.specs.Blocks.{blocks_shown};
-ghost use Rattle.raft_table.specs.BlockWords.{first_of_last, without_first_of_first};
-ghost use Rattle.raft_base.specs.Runs.{end_of};
-ghost use Rattle.raft_table.specs.TableEntries.{below, from, AreCounted, AreRecounted};
-ghost use Rattle.raft_table.specs.Start.{counts_without};
-ghost use Rattle.raft_table.specs.Marks.{entries_within};
+ghost use Rattle.raft_table.specs.Common.{blocks_shown, first_of_last, without_first_of_first, end_of, below, from, AreCounted, AreRecounted, counts_without, entries_within};
 
 use crate::global_stats::GlobalStats;
 use crate::memtable::block::Block;
@@ -17,7 +12,6 @@ use raft_base::LogQueue;
 use std::collections::VecDeque;
 
 impl Entries {
-    /// Drops the entries below an index, and returns how many those were.
     pub fn compact_to(&mut self, index: u64, stats: &mut GlobalStats) -> u64
         requires { AreCounted self.old stats.old }
         ensures entries { self.new ≡ from index self.old }
@@ -25,13 +19,10 @@ impl Entries {
         ensures counts { stats.new ≡ counts_without (below index self.old) stats.old }
         ensures recounted { AreRecounted self.old self.new stats.old stats.new }
     {
-        if self.len == 0 {
+        let count = index.saturating_sub(self.first).min(self.len as u64) as usize;
+        if count == 0 {
             return 0;
         }
-        if index <= self.first {
-            return 0;
-        }
-        let count = (index - self.first).min(self.len as u64) as usize;
         let rewritten = self.rewritten.min(count);
         self.drop_front(count);
         stats.delete(LogQueue::Rewrite, rewritten);
@@ -39,7 +30,6 @@ impl Entries {
         count as u64
     }
 
-    /// Drops the entries at or above an index, and returns how many those were.
     pub fn truncate_from(&mut self, index: u64, stats: &mut GlobalStats) -> u64
         requires { AreCounted self.old stats.old }
         ensures entries { self.new ≡ below index self.old }
@@ -59,7 +49,6 @@ impl Entries {
         dropped as u64
     }
 
-    /// Drops the entries below an index, and those at or above a bound, if there is one.
     pub fn keep_within(&mut self, index: u64, cut: Option<u64>, stats: &mut GlobalStats)
         requires { AreCounted self.old stats.old }
         ensures entries { self.new ≡ entries_within index cut self.old }
@@ -72,7 +61,6 @@ impl Entries {
         self.truncate_from(cut, stats);
     }
 
-    /// Returns the greatest index plus one, 0 without entries.
     pub fn end(&self) -> u64
         ensures { result ≡ end_of self.now }
     {
@@ -83,8 +71,6 @@ impl Entries {
         }
     }
 
-    /// Returns the end of the entries from an index on, and below a bound, if there is one: the
-    /// greatest index plus one, 0 where there are none.
     pub fn end_within(&self, index: u64, cut: Option<u64>) -> u64
         ensures { result ≡ end_of (entries_within index cut self.now) }
     {
@@ -95,7 +81,6 @@ impl Entries {
         0
     }
 
-    /// Drops so many entries from the front.
     fn drop_front(&mut self, count: usize)
         requires { count ≤ length self.old }
         ensures { self.new ≡ drop count self.old }
@@ -105,7 +90,7 @@ impl Entries {
             return;
         }
         let index = self.first + count as u64;
-        let (nth, dropped) = spot_of(&self.blocks, &self.starts, self.first, self.len, index);
+        let (nth, dropped) = spot_of(&self.blocks, &self.starts, self.first, self.len, count);
         drop_front_blocks(&mut self.blocks, nth, dropped);
         drop_front_starts(&mut self.starts, nth, index);
         self.first = index;
@@ -113,7 +98,6 @@ impl Entries {
         self.rewritten -= self.rewritten.min(count);
     }
 
-    /// Keeps so many entries from the front.
     fn keep_front(&mut self, count: usize)
         requires { count ≤ length self.old }
         ensures { self.new ≡ take count self.old }
@@ -122,15 +106,13 @@ impl Entries {
             self.clear();
             return;
         }
-        let index = self.first + (count - 1) as u64;
-        let (nth, last) = spot_of(&self.blocks, &self.starts, self.first, self.len, index);
+        let (nth, last) = spot_of(&self.blocks, &self.starts, self.first, self.len, count - 1);
         keep_front_blocks(&mut self.blocks, nth, last + 1);
         self.starts.truncate(nth + 1);
         self.len = count;
         self.rewritten = self.rewritten.min(count);
     }
 
-    /// Drops all entries.
     pub(super) fn clear(&mut self)
         ensures { self.new ≡ [] }
     {
@@ -141,7 +123,6 @@ impl Entries {
     }
 }
 
-/// Keeps so many whole blocks, and so many entries of the next one.
 fn keep_front_blocks(blocks: &mut VecDeque<Block>, nth: usize, kept: usize)
     requires nth { nth < length blocks.old.items }
     ensures { blocks_shown blocks.new.items
@@ -151,7 +132,6 @@ fn keep_front_blocks(blocks: &mut VecDeque<Block>, nth: usize, kept: usize)
     blocks[nth].spans.truncate(kept);
 }
 
-/// Drops whole blocks from the front, and so many entries of the next one.
 fn drop_front_blocks(blocks: &mut VecDeque<Block>, nth: usize, dropped: usize)
     requires nth { nth < length blocks.old.items }
     requires dropped { (d : Block) → dropped
@@ -160,10 +140,9 @@ fn drop_front_blocks(blocks: &mut VecDeque<Block>, nth: usize, dropped: usize)
         ≡ without_first_of_first dropped (drop nth (blocks_shown blocks.old.items)) }
 {
     drop_first(blocks, nth);
-    drop_spans(&mut blocks[0], dropped);
+    drop_first(&mut blocks[0].spans, dropped);
 }
 
-/// Drops so many first indexes, and sets the one that is then in front, if there are any.
 fn drop_front_starts(starts: &mut VecDeque<u64>, nth: usize, index: u64)
     requires { starts.old.items ≢ [] → nth < length starts.old.items }
     ensures none { starts.old.items ≡ [] → starts.new.items ≡ [] }
@@ -177,16 +156,6 @@ fn drop_front_starts(starts: &mut VecDeque<u64>, nth: usize, index: u64)
     starts[0] = index;
 }
 
-/// Drops so many entries of a block.
-fn drop_spans(block: &mut Block, dropped: usize)
-    requires { dropped ≤ length block.old.spans.items }
-    ensures handle { block.new.handle ≡ block.old.handle }
-    ensures spans { block.new.spans.items ≡ drop dropped block.old.spans.items }
-{
-    drop_first(&mut block.spans, dropped);
-}
-
-/// Drops so many elements from the front.
 fn drop_first<T: Drop>(deque: &mut VecDeque<T>, count: usize)
     requires { count ≤ length deque.old.items }
     ensures { deque.new.items ≡ drop count deque.old.items }

@@ -1,11 +1,7 @@
 //! Entries handed out of a table.
 
 ghost use Rattle.std.specs.Prelude.{◌≡◌, ◌+◌, ◌-◌, ◌≤◌, ◌<◌, ◌++◌, take, drop, length, OnOk, OnErr, IfErr};
-ghost use Rattle.std.specs.List.{prefix_len, slice_get};
-ghost use Rattle.raft_base.specs.declared.pipe_log.LogQueue.TheVariants.{Append, Rewrite};
-ghost use Rattle.raft_table.specs.TableEntries.{placed_in};
-ghost use Rattle.raft_table.specs.Fetches.{Fetches, IsFetchFault, IsLimitCount, range_answer, appended_before, block_count, entry_seq, first_entry_seq};
-ghost use Rattle.raft_table.specs.Rewriting.{may_move};
+ghost use Rattle.raft_table.specs.Common.{prefix_len, slice_get, Append, Rewrite, placed_in, Fetches, IsFetchFault, IsLimitCount, range_answer, appended_before, entry_seq, first_entry_seq, may_move};
 
 use crate::memtable::entries::Entries;
 use crate::memtable::entries::block_deques::spot_of;
@@ -13,7 +9,6 @@ use crate::memtable::entries::block_walks::{count_from, movable_from, push_entri
 use raft_base::{EntryIndex, Error, FileSeq, LogQueue, Result};
 
 impl Entries {
-    /// Does what [`MemTable::fetch_entries_to`](crate::MemTable::fetch_entries_to) does.
     pub fn fetch_to(
         &self,
         begin: u64,
@@ -44,7 +39,6 @@ impl Entries {
         self.extend(vec, start, start + count)
     }
 
-    /// Appends the rewritten entries to `vec`, which stays as it was where there is no memory.
     pub fn fetch_rewritten(&self, vec: &mut Vec<EntryIndex>) -> Result<()>
         ensures ok { OnOk result (vec.new.items ≡ vec.old.items ++ placed_in Rewrite self.now) }
         ensures err { OnErr result (vec.new.items ≡ vec.old.items) }
@@ -53,8 +47,6 @@ impl Entries {
         self.extend(vec, 0, self.rewritten)
     }
 
-    /// Appends the appended entries from the first on while their file is at or below `gate` to
-    /// `vec`, which stays as it was where there is no memory.
     pub fn fetch_before(&self, gate: FileSeq, vec: &mut Vec<EntryIndex>) -> Result<()>
         ensures ok { OnOk result (vec.new.items ≡ vec.old.items ++ appended_before gate self.now) }
         ensures err { OnErr result (vec.new.items ≡ vec.old.items) }
@@ -65,19 +57,16 @@ impl Entries {
         self.extend(vec, start, start + count)
     }
 
-    /// Returns the file number of the entry after the first `at` ones.
     pub fn seq_at(&self, at: usize) -> Option<FileSeq>
         ensures { result ≡ entry_seq (slice_get self.now at) }
     {
         if at >= self.len {
             return None;
         }
-        let index = self.first + at as u64;
-        let (nth, _) = spot_of(&self.blocks, &self.starts, self.first, self.len, index);
+        let (nth, _) = spot_of(&self.blocks, &self.starts, self.first, self.len, at);
         Some(self.blocks[nth].handle.id.seq)
     }
 
-    /// Returns the file number of the first entry in `queue`.
     pub fn first_entry_seq_in(&self, queue: LogQueue) -> Option<FileSeq>
         ensures { result ≡ first_entry_seq queue self.now }
     {
@@ -88,15 +77,6 @@ impl Entries {
         }
     }
 
-    /// Returns how many blocks there are.
-    pub fn block_count(&self) -> usize
-        ensures { result ≡ block_count self.now }
-    {
-        self.blocks.len()
-    }
-
-    /// Returns how many entries after the first `at`, among the first `end`, may move, up to the
-    /// first that may not.
     pub(super) fn movable(&self, at: usize, end: usize, gate: Option<FileSeq>) -> usize
         requires order { at ≤ end }
         requires within { end ≤ length self.now }
@@ -105,13 +85,10 @@ impl Entries {
         if at == end {
             return 0;
         }
-        let index = self.first + at as u64;
-        let spot = spot_of(&self.blocks, &self.starts, self.first, self.len, index);
+        let spot = spot_of(&self.blocks, &self.starts, self.first, self.len, at);
         movable_from(&self.blocks, spot, at, end, gate)
     }
 
-    /// Returns how many entries after the first `start`, among the first `end`, a limit on the
-    /// total of their lengths lets through.
     fn count_within(&self, start: usize, end: usize, limit: Option<usize>) -> usize
         requires order { start ≤ end }
         requires within { end ≤ length self.now }
@@ -123,13 +100,10 @@ impl Entries {
         if start == end {
             return 0;
         }
-        let index = self.first + start as u64;
-        let spot = spot_of(&self.blocks, &self.starts, self.first, self.len, index);
+        let spot = spot_of(&self.blocks, &self.starts, self.first, self.len, start);
         count_from(&self.blocks, spot, start, end, limit)
     }
 
-    /// Appends the entries after the first `start`, among the first `end`, to a vector, which
-    /// stays as it was where there is no memory.
     fn extend(&self, vec: &mut Vec<EntryIndex>, start: usize, end: usize) -> Result<()>
         requires order { start ≤ end }
         requires within { end ≤ length self.now }
@@ -139,8 +113,7 @@ impl Entries {
     {
         vec.reserve(end - start)?;
         if start < end {
-            let index = self.first + start as u64;
-            let spot = spot_of(&self.blocks, &self.starts, self.first, self.len, index);
+            let spot = spot_of(&self.blocks, &self.starts, self.first, self.len, start);
             push_entries(vec, self.first, &self.blocks, spot, start, end);
         }
         Ok(())

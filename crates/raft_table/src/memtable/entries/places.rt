@@ -1,22 +1,14 @@
 //! Places that move to the rewrite queue, or within it.
 
 ghost use Rattle.std.specs.Prelude.{◌≡◌, ◌⊎◌, ◌+◌, ◌<◌, ◌≤◌, ◌^◌, ◌++◌, length, take, drop, MatchOption, OnOk, OnErr, IfErr, false};
-ghost use Rattle.std.specs.List.{prefix_len};
-ghost use Rattle.raft_table.specs.Counts.{live, with_added, with_deleted};
-ghost use Rattle.raft_base.specs.Runs.{RisesFrom};
-ghost use Rattle.raft_table.specs.TableEntries.{AreTableEntries, IsRunIn, start_of, placed_in, entry_count, AreCounted, AreRecounted};
-ghost use Rattle.raft_table.specs.Queues.{count_in};
-ghost use Rattle.raft_table.specs.Overlaps.{IsOverlap, AreDisjoint};
-ghost use Rattle.raft_table.specs.Rewriting.{may_move, is_misplaced, newly_rewritten, with_rewritten, entries_after_rewrite, counts_after_rewrite, IsRewriteFault, MovesPlacesAlone};
-ghost use Rattle.raft_base.specs.declared.pipe_log.LogQueue.{LogQueue};
-ghost use Rattle.raft_base.specs.declared.pipe_log.LogQueue.TheVariants.{Append, Rewrite};
+ghost use Rattle.raft_table.specs.Common.{prefix_len, live, RisesFrom, AreTableEntries, IsRunIn, start_of, placed_in, entry_count, AreCounted, AreRecounted, IsOverlap, AreDisjoint, may_move, is_misplaced, newly_rewritten, with_rewritten};
+ghost use Rattle.raft_table.specs.Common.{entries_after_rewrite, counts_after_rewrite, IsRewriteFault, MovesPlacesAlone, LogQueue, Append, Rewrite};
 
 use crate::global_stats::GlobalStats;
 use crate::memtable::entries::{Entries, Overlap};
 use raft_base::{AllocResult, EntryIndex, Error, FileSeq, LogQueue, Result};
 
 impl Entries {
-    /// Does what [`MemTable::rewrite`](crate::MemTable::rewrite) does to the entries.
     pub fn rewrite(
         &mut self,
         run: &[EntryIndex],
@@ -38,7 +30,7 @@ impl Entries {
             return Ok(());
         };
         let Some(overlap) = self.overlap(head.index, run.len()) else {
-            return count_unmoved(run.len(), stats);
+            return stats.add_unmoved(run.len());
         };
         if self.is_misplaced(overlap.at, gate) {
             return Err(Error::corruption(
@@ -50,7 +42,6 @@ impl Entries {
         self.move_places(overlap.at, places, gate, run.len(), stats)
     }
 
-    /// Returns where a run of `len` indexes from `start` on overlaps the entries, if it does.
     fn overlap(&self, start: u64, len: usize) -> Option<Overlap>
         requires { start + len < 2 ^ 64 }
         ensures meets { MatchOption result
@@ -75,15 +66,12 @@ impl Entries {
         })
     }
 
-    /// Tests whether so many entries below a run are no place for it.
     fn is_misplaced(&self, at: usize, gate: Option<FileSeq>) -> bool
         ensures { result ≡ is_misplaced gate at (entry_count Rewrite self.now) }
     {
         self.rewritten < at || gate.is_some() && at < self.rewritten
     }
 
-    /// Gives the entries from `at` on these places, as far as they may move, and counts a rewriting
-    /// by `written` entries.
     fn move_places(
         &mut self,
         at: usize,
@@ -118,7 +106,6 @@ impl Entries {
         Ok(())
     }
 
-    /// Gives the entries after the first `at` these places.
     fn set_places(&mut self, at: usize, places: &[EntryIndex]) -> AllocResult<()>
         requires within { at + length places.now ≤ length self.old }
         requires table_entries { AreTableEntries
@@ -138,7 +125,6 @@ impl Entries {
     }
 }
 
-/// Counts a rewriting by `written` entries that moved so many places.
 fn count_moved(gate: Option<FileSeq>, written: usize, moved: usize, stats: &mut GlobalStats)
     requires room { live Rewrite stats.old + written < 2 ^ 64 }
     requires moved { moved ≤ written }
@@ -148,41 +134,12 @@ fn count_moved(gate: Option<FileSeq>, written: usize, moved: usize, stats: &mut 
     ensures rewritten { live Rewrite stats.new
         ≡ live Rewrite stats.old + newly_rewritten gate moved }
 {
-    add_written(stats, written);
+    stats.add_fitting(LogQueue::Rewrite, written);
     match gate {
         Some(_) => {
             stats.delete(LogQueue::Append, moved);
             stats.delete(LogQueue::Rewrite, written - moved);
         }
         None => stats.delete(LogQueue::Rewrite, written),
-    }
-}
-
-/// Counts a rewriting by `written` entries that moves no place.
-fn count_unmoved(written: usize, stats: &mut GlobalStats) -> Result<()>
-    ensures ok { OnOk result (stats.new
-        ≡ with_deleted Rewrite written (with_added Rewrite written stats.old)) }
-    ensures live { OnOk result ((q : LogQueue) → live q stats.new ≡ live q stats.old) }
-    ensures full { IfErr result (λ e. (e ≡ Error.Full) ×
-        (2 ^ 64 ≤ live Rewrite stats.old + written)) }
-    ensures err { OnErr result (stats.new ≡ stats.old) }
-{
-    if !stats.can_add(LogQueue::Rewrite, written) {
-        return Err(Error::Full);
-    }
-    add_written(stats, written);
-    stats.delete(LogQueue::Rewrite, written);
-    Ok(())
-}
-
-/// Counts so many records that were written to the rewrite queue.
-fn add_written(stats: &mut GlobalStats, written: usize)
-    requires { live Rewrite stats.old + written < 2 ^ 64 }
-    ensures after { stats.new ≡ with_added Rewrite written stats.old }
-    ensures live { (q : LogQueue) → live q stats.new
-        ≡ live q stats.old + count_in q Rewrite written }
-{
-    if stats.add(LogQueue::Rewrite, written).is_err() {
-        unreachable!()
     }
 }

@@ -1,18 +1,12 @@
 //! Runs that become entries, and entries after or between others.
 
 ghost use Rattle.std.specs.Prelude.{◌≡◌, ◌≢◌, ◌+◌, ◌≤◌, ◌<◌, ℕ, [], ◌++◌, length, take, drop, slice_index_or, Some, MatchBool, OnOk, OnErr, IfOk};
-ghost use Rattle.raft_base.specs.declared.pipe_log.LogQueue.TheVariants.{Rewrite};
-ghost use Rattle.raft_base.specs.declared.entry_index.EntryIndex.{EntryIndex};
-ghost use Rattle.raft_base.specs.Runs.{entries_of_block};
-ghost use Rattle.raft_table.specs.BlockWords.{spans_of};
-ghost use Rattle.raft_table.specs.RunShown.{run_shown};
-ghost use Rattle.raft_table.specs.TableEntries.{AreTableEntries};
-ghost use Rattle.raft_table.specs.Queues.{count_in};
+ghost use Rattle.raft_table.specs.Common.{Rewrite, EntryIndex, entries_of_block, spans_of, run_shown, AreTableEntries, count_in};
 
 use crate::memtable::block::Block;
 use crate::memtable::entries::Entries;
 use crate::memtable::entries::block_deques::{
-    FEW, find, is_same, keep_starts, push_behind, push_with_start, put_blocks, put_few_blocks,
+    FEW, find, is_same, keep_starts, push_block, push_with_start, put_blocks, put_few_blocks,
     search, spans_behind, spot_behind, spot_of,
 };
 use crate::memtable::run::Run;
@@ -22,7 +16,6 @@ use std::collections::VecDeque;
 use std::mem::swap;
 
 impl Entries {
-    /// Returns the entries of a run.
     pub(super) fn from_run(alloc: Global, run: &[EntryIndex]) -> AllocResult<Entries>
         requires { AreTableEntries run.now }
         ensures ok { IfOk result (λ entries. entries ≡ run.now) }
@@ -41,7 +34,6 @@ impl Entries {
         Ok(entries)
     }
 
-    /// Puts the entries of one block, from an index on, after the others.
     #[inline(always)]
     fn push(
         &mut self,
@@ -57,21 +49,22 @@ impl Entries {
         ensures err { OnErr result (self.new ≡ self.old) }
     {
         let count = spans.len();
-        let rewritten = rewritten_in(handle.id.queue, count);
-        push_behind(
-            &mut self.blocks,
-            &mut self.starts,
-            self.first,
-            index,
-            Block { handle, spans },
-        )?;
-        self.first = first_of(self.len, self.first, index);
-        self.len += count;
-        self.rewritten += rewritten;
+        let first = first_of(self.len, self.first, index);
+        let len = self.len + count;
+        let rewritten = self.rewritten + rewritten_in(handle.id.queue, count);
+        let block = Block { handle, spans };
+        if self.starts.is_empty() && self.blocks.len() < FEW {
+            push_block(&mut self.blocks, block)?;
+        } else {
+            keep_starts(&self.blocks, &mut self.starts, self.first)?;
+            push_with_start(&mut self.blocks, &mut self.starts, index, block)?;
+        }
+        self.first = first;
+        self.len = len;
+        self.rewritten = rewritten;
         Ok(())
     }
 
-    /// Keeps the first `keep` entries, and puts the entries of a run after them.
     #[inline(always)]
     pub(super) fn lay(&mut self, keep: usize, run: &Run<'_>) -> AllocResult<()>
         requires keep { keep ≤ length self.old }
@@ -93,7 +86,6 @@ impl Entries {
         }
     }
 
-    /// Keeps the first `keep` entries, and puts these after them.
     #[inline(never)]
     fn lay_entries(&mut self, keep: usize, run: &[EntryIndex]) -> AllocResult<()>
         requires keep { keep ≤ length self.old }
@@ -114,7 +106,6 @@ impl Entries {
         self.put_run(keep, &mut entries)
     }
 
-    /// Keeps the first `keep` entries, and puts those of one block, from an index on, after them.
     #[inline(always)]
     fn lay_block(
         &mut self,
@@ -139,7 +130,6 @@ impl Entries {
         self.put_run(keep, &mut run)
     }
 
-    /// Keeps the first `keep` entries, and moves a run after them.
     pub(super) fn put_run(&mut self, keep: usize, run: &mut Entries) -> AllocResult<()>
         requires keep { keep ≤ length self.old }
         requires run { 0 < length run.old }
@@ -158,7 +148,6 @@ impl Entries {
         self.join(keep, run)
     }
 
-    /// Tests whether there are few blocks, those of a run with them.
     fn are_few_with(&self, run: &Entries) -> bool {
         self.blocks.len() <= FEW && run.blocks.len() <= FEW - self.blocks.len()
     }
@@ -171,8 +160,7 @@ impl Entries {
         ensures ok { OnOk result ((self.new ≡ take keep self.old ++ run.old) × (run.new ≡ [])) }
         ensures err { OnErr result ((self.new ≡ self.old) × (run.new ≡ run.old)) }
     {
-        let index = self.first + (keep - 1) as u64;
-        let (nth, last) = spot_of(&self.blocks, &self.starts, self.first, self.len, index);
+        let (nth, last) = spot_of(&self.blocks, &self.starts, self.first, self.len, keep - 1);
         put_few_blocks(&mut self.blocks, (nth + 1, last + 1), &mut run.blocks)?;
         self.starts.clear();
         run.starts.clear();
@@ -183,7 +171,6 @@ impl Entries {
         Ok(())
     }
 
-    /// Keeps the first `keep` entries, of which there are some, and moves a run after them.
     fn join(&mut self, keep: usize, run: &mut Entries) -> AllocResult<()>
         requires keep { (0 < keep) × (keep ≤ length self.old) }
         requires run { 0 < length run.old }
@@ -210,7 +197,6 @@ impl Entries {
         Ok(())
     }
 
-    /// Puts a run in place of as many entries after the first `at`. Others stand after those.
     pub(super) fn put_between(&mut self, at: usize, run: Entries) -> AllocResult<()>
         requires run { 0 < length run }
         requires behind { at + length run < length self.old }
@@ -249,15 +235,12 @@ impl Entries {
     }
 }
 
-/// Returns the first index of so many entries from `first` on, with others from `index` on after
-/// them.
 fn first_of(len: usize, first: u64, index: u64) -> u64
     ensures { (len ≡ 0 → result ≡ index) × (0 < len → result ≡ first) }
 {
     if len == 0 { index } else { first }
 }
 
-/// Returns how many of so many entries in `queue` are rewritten.
 fn rewritten_in(queue: LogQueue, count: usize) -> usize
     ensures { result ≡ count_in Rewrite queue count }
 {
@@ -267,8 +250,6 @@ fn rewritten_in(queue: LogQueue, count: usize) -> usize
     }
 }
 
-/// Returns how many entries of a run, after the first `at` ones, have this place, up to the first
-/// that has another or none.
 fn count_of(handle: &FileBlockHandle, run: &[EntryIndex], at: usize) -> usize
     requires { at ≤ length run.now }
     ensures within { at + result ≤ length run.now }
@@ -285,7 +266,6 @@ fn count_of(handle: &FileBlockHandle, run: &[EntryIndex], at: usize) -> usize
     run.len() - at
 }
 
-/// Tests whether an entry has this place.
 fn has_place(entry: &EntryIndex, handle: &FileBlockHandle) -> bool
     ensures { MatchBool result (entry.now.entries ≡ Some handle.now)
         (entry.now.entries ≢ Some handle.now) }
@@ -296,7 +276,6 @@ fn has_place(entry: &EntryIndex, handle: &FileBlockHandle) -> bool
     }
 }
 
-/// Returns the spans of entries.
 fn spans_of(alloc: Global, run: &[EntryIndex]) -> AllocResult<VecDeque<(u32, u32)>>
     ensures ok { IfOk result (λ spans. spans.items ≡ spans_of run.now) }
 {

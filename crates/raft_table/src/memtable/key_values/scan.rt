@@ -1,9 +1,7 @@
 //! Walks over the key values between two keys.
 
 ghost use Rattle.std.specs.Prelude.{◌≡◌, IsTrue, filter, map, reverse};
-ghost use Rattle.std.specs.Option.{option_copied, option_map};
-ghost use Rattle.std.specs.Fn.{CalledAtTwo};
-ghost use Rattle.raft_table.specs.Scan.{is_from, is_below, is_between, is_forward, IsDivided, VisitsUntilFalse};
+ghost use Rattle.raft_table.specs.Common.{option_copied, option_map, CalledAtTwo, is_from, is_below, is_between, is_forward, IsDivided, VisitsUntilFalse};
 
 use super::StoredValue;
 use std::alloc::{AllocError, Global};
@@ -24,7 +22,6 @@ pub(super) fn divided(alloc: Global, bound: Option<&[u8]>) -> (Option<Vec<u8>>, 
     }
 }
 
-/// Returns the pairs from one key on and below the other.
 pub(super) fn sought<'a>(
     pairs: &'a BTreeMap<Vec<u8>, StoredValue>,
     start: &Option<Vec<u8>>,
@@ -45,7 +42,6 @@ pub(super) fn sought<'a>(
     }
 }
 
-/// Tests whether `start` isn't above `end`.
 pub(super) fn is_forward(start: Option<&[u8]>, end: Option<&[u8]>) -> bool
     ensures { result ≡ is_forward (option_copied start.entry) (option_copied end.entry) }
 {
@@ -55,7 +51,6 @@ pub(super) fn is_forward(start: Option<&[u8]>, end: Option<&[u8]>) -> bool
     }
 }
 
-/// Calls `f` at the pairs between the bounds in turn, until it returns false.
 pub(super) fn visit<F: FnMut(&[u8], &[u8]) -> bool>(
     mut pairs: Range<'_, Vec<u8>, StoredValue>,
     start: Option<&[u8]>,
@@ -75,7 +70,6 @@ pub(super) fn visit<F: FnMut(&[u8], &[u8]) -> bool>(
     }
 }
 
-/// Calls `f` at the pairs between the bounds from the last one back, until it returns false.
 pub(super) fn visit_back<F: FnMut(&[u8], &[u8]) -> bool>(
     mut pairs: Range<'_, Vec<u8>, StoredValue>,
     start: Option<&[u8]>,
@@ -95,14 +89,12 @@ pub(super) fn visit_back<F: FnMut(&[u8], &[u8]) -> bool>(
     }
 }
 
-/// Tests whether a key is at or above `start` and below `end`, where these are there.
 fn is_between(key: &[u8], start: Option<&[u8]>, end: Option<&[u8]>) -> bool
     ensures { result ≡ is_between (option_copied start.entry) (option_copied end.entry) key.now }
 {
     is_from(key, start) && is_below(key, end)
 }
 
-/// Tests whether a key is at or above `start`, if it is there.
 fn is_from(key: &[u8], start: Option<&[u8]>) -> bool
     ensures { result ≡ is_from (option_copied start.entry) key.now }
 {
@@ -112,7 +104,6 @@ fn is_from(key: &[u8], start: Option<&[u8]>) -> bool
     }
 }
 
-/// Tests whether a key is below `end`, if it is there.
 fn is_below(key: &[u8], end: Option<&[u8]>) -> bool
     ensures { result ≡ is_below (option_copied end.entry) key.now }
 {

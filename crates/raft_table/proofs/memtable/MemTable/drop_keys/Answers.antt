@@ -1,5 +1,4 @@
-use Rattle.std.proofs.Common.{arith}
-use Rattle.raft_base.specs.declared.pipe_log.LogQueue.TheVariants.{Append, Rewrite}
+use Rattle.raft_table.proofs.Common.{arith, Append, Rewrite}
 use Rattle.raft_table.proofs.PlaceLemmas.{each_queue}
 use Rattle.raft_table.proofs.CutLemmas.{pair_count-empty}
 use Rattle.raft_table.proofs.memtable.MemTable.drop_keys.Goals as goal

@@ -1,6 +1,4 @@
-use Rattle.std.proofs.Common.{sym, ap}
-use Rattle.raft_base.specs.Runs.{end_of}
-use Rattle.raft_table.specs.TableEntries.{start_of}
+use Rattle.raft_table.proofs.Common.{sym, ap, end_of, start_of}
 use Rattle.raft_table.proofs.memtable.MemTable.ends.Goals as goal
 
 pub returns-in-None : goal.returns-in-None

@@ -1,7 +1,4 @@
-use Rattle.std.proofs.Common.{◌≡◌, ◌∙◌, sym, subst}
-use Rattle.std.specs.Prelude.{MatchBool}
-use Rattle.raft_table.specs.Table.{Table, empty_table}
-use Rattle.raft_table.specs.TableView.{table_shown}
+use Rattle.raft_table.proofs.Common.{◌≡◌, ◌∙◌, sym, subst, MatchBool, Table, empty_table, table_shown}
 use Rattle.raft_table.proofs.UnderLemmas.{blank}
 use Rattle.raft_table.proofs.memtable.MemTable.is_blank.Goals as goal
 

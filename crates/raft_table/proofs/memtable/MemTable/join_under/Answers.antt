@@ -1,14 +1,6 @@
-use Rattle.std.proofs.Common.{arith, refl, sym, ap, ◌+◌, ◌<◌, ◌^◌, ◌∙◌, Some}
-use Rattle.std.proofs.lemmas.Result.{err_from_is_err_and}
-use Rattle.raft_base.specs.declared.pipe_log.LogQueue.{LogQueue}
-use Rattle.raft_table.specs.Counts.{live}
-use Rattle.raft_table.specs.MarkedJoins.{left_by}
-use Rattle.raft_table.specs.Merge.{after_merge, newer_atomic_group}
-use Rattle.raft_table.specs.Table.{Table, live_of}
+use Rattle.raft_table.proofs.Common.{arith, refl, sym, ap, ◌+◌, ◌<◌, ◌^◌, ◌∙◌, Some, err_from_is_err_and, LogQueue, live, left_by, after_merge, newer_atomic_group, Table, live_of, misses, table_over}
 use Rattle.raft_table.proofs.MarkEntries.{same_some}
-use Rattle.raft_table.proofs.MergeLemmas.{joined_uncleaned}
-use Rattle.raft_table.proofs.UnderLemmas.{over_left, join_memory}
-use Rattle.raft_table.specs.Marks.{misses, table_over}
+use Rattle.raft_table.proofs.UnderLemmas.{over_left, join_memory, joined_uncleaned}
 use Rattle.raft_table.proofs.MarkTables.{own_alone}
 use Rattle.raft_table.proofs.memtable.MemTable.join_under.Goals as goal
 
@@ -17,19 +9,6 @@ returns-then-is_blank-clause-ok c = λ run.
     ap (table_over c.args.queue c.args.mark.now c.args.rhs.now) c.if-is_blank.ensures
     ∙ own_alone c.args.queue c.args.self.now.region_id c.args.mark.now c.args.rhs.now (sym c.requires.region)
     ∙ ap (λ (t : Table). Some t) (sym c.in_ok-take_whole.ensures.ok)
-
-pub returns-then-is_blank-clause-few : goal.returns-then-is_blank-clause-few
-returns-then-is_blank-clause-few c = λ q. omega (arith, ap (live_of q) c.in_ok-take_whole.ensures.ok)
-
-pub returns-in_err-take_whole-clause-fault : goal.returns-in_err-take_whole-clause-fault
-returns-in_err-take_whole-clause-fault c = λ run.
-    let p = err_from_is_err_and c.from_residual.result c.from_residual.ensures.1 in
-    rw (p.1, p.2, c.in_err-take_whole.ensures.fault.0) c.in_err-take_whole.ensures.fault.1
-
-pub returns-in_err-take_whole-clause-err : goal.returns-in_err-take_whole-clause-err
-returns-in_err-take_whole-clause-err c = λ run.
-    let p = err_from_is_err_and c.from_residual.result c.from_residual.ensures.1 in
-    rw (p.1, p.2) (λ n. c.in_err-take_whole.ensures.err)
 
 pub returns-in_err-merge_by_rule-clause-fault : goal.returns-in_err-merge_by_rule-clause-fault
 returns-in_err-merge_by_rule-clause-fault c = λ run.

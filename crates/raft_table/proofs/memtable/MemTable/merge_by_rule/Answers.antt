@@ -1,9 +1,8 @@
-use Rattle.std.proofs.Common.{arith}
-use Rattle.std.proofs.lemmas.Result.{err_from_is_err_and}
-use Rattle.raft_base.specs.declared.pipe_log.LogQueue.TheVariants.{Append, Rewrite}
-use Rattle.raft_table.proofs.MergeLemmas.{joined_bound, merge_refused}
+use Rattle.raft_table.proofs.Common.{arith, err_from_is_err_and, Append, Rewrite}
 use Rattle.raft_table.proofs.PlaceLemmas.{each_queue}
 use Rattle.raft_table.proofs.memtable.MemTable.merge_by_rule.Goals as goal
+use Rattle.raft_table.proofs.UnderLemmas.{merge_refused}
+use Rattle.raft_table.proofs.RunCounts.{replayed-in}
 
 pub returns-in_err-absorb-clause-fault : goal.returns-in_err-absorb-clause-fault
 returns-in_err-absorb-clause-fault c =
@@ -18,5 +17,5 @@ absorb_keys-requires-clause-room c =
     let a = rw (← c.rhs.view_is) at c.requires.room Append in
     let b = rw (← c.rhs.view_is) at c.requires.room Rewrite in
     each_queue _
-    (omega (arith, a, joined_bound c.args.rule Append es rs mid c.in_ok-absorb.ensures.ok, c.in_ok-absorb.ensures.recounted Append))
-    (omega (arith, b, joined_bound c.args.rule Rewrite es rs mid c.in_ok-absorb.ensures.ok, c.in_ok-absorb.ensures.recounted Rewrite))
+    (omega (arith, a, replayed-in c.args.rule Append es rs mid c.in_ok-absorb.ensures.ok, c.in_ok-absorb.ensures.recounted Append))
+    (omega (arith, b, replayed-in c.args.rule Rewrite es rs mid c.in_ok-absorb.ensures.ok, c.in_ok-absorb.ensures.recounted Rewrite))

@@ -1,5 +1,4 @@
-use Rattle.std.proofs.Common.{arith}
-use Rattle.raft_base.specs.declared.pipe_log.LogQueue.TheVariants.{Append}
+use Rattle.raft_table.proofs.Common.{arith, Append}
 use Rattle.raft_table.proofs.TableLemmas.{pair_counted}
 use Rattle.raft_table.proofs.AloneLemmas.{key_moves}
 use Rattle.raft_table.proofs.memtable.MemTable.rewrite_key.Goals as goal
@@ -7,7 +6,7 @@ use Rattle.raft_table.proofs.memtable.MemTable.rewrite_key.Goals as goal
 pub delete-requires : goal.delete-requires
 delete-requires c =
     let a = rw c.in-Append.is at (pair_counted c.self.inside.keys c.deref.result.now c.in-Some.file c.in-Some.ensures) in
-    omega (arith, rw (← c.self.view_is) at (c.requires Append), c.in_ok-count_written-in-Append.ensures.live Append)
+    omega (arith, rw (← c.self.view_is) at (c.requires Append), c.add_fitting.ensures.live Append)
 
 pub returns-in-Append-clause-file_alone : goal.returns-in-Append-clause-file_alone
 returns-in-Append-clause-file_alone c =

@@ -1,5 +1,4 @@
-use Rattle.std.proofs.Common.{ap, arith}
-use Rattle.raft_table.specs.Table.{live_of}
+use Rattle.raft_table.proofs.Common.{ap, arith, live_of}
 use Rattle.raft_table.proofs.TableLemmas.{live_of_empty}
 use Rattle.raft_table.proofs.memtable.MemTable.take_whole.Goals as goal
 

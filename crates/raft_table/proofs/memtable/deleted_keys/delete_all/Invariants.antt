@@ -1,6 +1,4 @@
-use Rattle.std.proofs.Common.{◌≡◌, ◌≤◌}
-use Rattle.raft_base.specs.declared.pipe_log.LogQueue.{LogQueue}
-use Rattle.raft_table.specs.KeyValues.{pair_count}
+use Rattle.raft_table.proofs.Common.{◌≡◌, ◌≤◌, LogQueue, pair_count}
 use Rattle.raft_table.proofs.KeySetLemmas.{removed, bytes_of}
 use Rattle.raft_table.proofs.memtable.deleted_keys.delete_all.Given as goal
 

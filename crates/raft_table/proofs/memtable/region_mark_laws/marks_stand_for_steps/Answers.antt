@@ -1,5 +1,4 @@
-use Rattle.raft_table.specs.MarkJoins.{end_at_reach}
-use Rattle.raft_table.specs.Steps.{table_of}
+use Rattle.raft_table.proofs.Common.{end_at_reach, table_of}
 use Rattle.raft_table.proofs.MarkExact.{holds_join, deleted_count}
 use Rattle.raft_table.proofs.MarkLaws.{stands_one, stands_join, refused_join, stands_alone}
 use Rattle.raft_table.proofs.MarkTables.{joined_parts}

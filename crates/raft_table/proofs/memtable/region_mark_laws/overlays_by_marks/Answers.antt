@@ -1,5 +1,4 @@
-use Rattle.raft_table.specs.MarkJoins.{end_at_reach}
-use Rattle.raft_table.specs.Steps.{table_of}
+use Rattle.raft_table.proofs.Common.{end_at_reach, table_of}
 use Rattle.raft_table.proofs.MarkExact.{exact_one, exact_join}
 use Rattle.raft_table.proofs.OverlayLemmas.{overlay_exact, overlay_run}
 use Rattle.raft_table.proofs.memtable.region_mark_laws.overlays_by_marks.Goals as goal

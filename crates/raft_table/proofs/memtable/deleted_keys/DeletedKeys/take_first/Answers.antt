@@ -1,10 +1,7 @@
-use Rattle.std.proofs.Common.{ap, sym, ◌∙◌, length, arith}
+use Rattle.std.proofs.Common.{ap, length, arith}
 use Rattle.std.specs.FinSet as finset
-use Rattle.raft_table.proofs.KeySetLemmas.{set_of, len-set_of}
+use Rattle.raft_table.proofs.KeySetLemmas.{len-set_of}
 use Rattle.raft_table.proofs.memtable.deleted_keys.DeletedKeys.take_first.Goals as goal
-
-pub returns-clause-first : goal.returns-clause-first
-returns-clause-first c = sym c.self.view_is ∙ ap set_of c.in_ok-key.ensures.removal
 
 pub returns-clause-fewer : goal.returns-clause-fewer
 returns-clause-fewer c =

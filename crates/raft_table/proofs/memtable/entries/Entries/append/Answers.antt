@@ -1,12 +1,9 @@
-use Rattle.std.proofs.Common.{◌≡◌, ◌<◌, length}
-use Rattle.raft_base.specs.declared.pipe_log.LogQueue.TheVariants.{Append}
-use Rattle.raft_table.specs.TableEntries.{start_of}
+use Rattle.raft_table.proofs.Common.{◌≡◌, ◌<◌, length, start_of, IsStart, on_ok_weaker, Append}
 use Rattle.raft_table.proofs.SoundLemmas.{start_of_front}
-use Rattle.raft_table.specs.StartOf.{IsStart}
 use Rattle.raft_table.specs.declared.memtable.entries.Start.TheVariants.{Joins}
 use Rattle.raft_table.proofs.StartLemmas.{sound_joined}
-use Rattle.raft_table.proofs.GoneLemmas.{counts_joined, on_ok}
 use Rattle.raft_table.proofs.memtable.entries.Entries.append.Goals as goal
+use Rattle.raft_table.proofs.KeptUnderLemmas.{counts_joined}
 
 pub put_run_behind-requires-clause-table_entries : goal.put_run_behind-requires-clause-table_entries
 put_run_behind-requires-clause-table_entries c =
@@ -14,7 +11,7 @@ put_run_behind-requires-clause-table_entries c =
     let h : c.deref.result.now ≡ run = c.deref.ensures.value in
     let l : 0 < length run = rw (← h) c.in-Some.ensures.item.3.0 in
     let s : start_of run ≡ c.in-Some.first.now.index = start_of_front run c.in-Some.first.now l (rw (← h) c.in-Some.ensures.item.1) in
-    rw c.deref-in-Joins.ensures.value
+    rw c.deref-2.ensures.value
     (sound_joined Append c.in-Joins.keep c.args.self.now run c.start.ensures.table_entries tt c.requires.run l (rw s c.in-Joins.ensures.meets))
 
 pub returns-in-Joins-clause-counts : goal.returns-in-Joins-clause-counts
@@ -24,6 +21,6 @@ returns-in-Joins-clause-counts c =
     let l : 0 < length run = rw (← h) c.in-Some.ensures.item.3.0 in
     let s : start_of run ≡ c.in-Some.first.now.index = start_of_front run c.in-Some.first.now l (rw (← h) c.in-Some.ensures.item.1) in
     let m : IsStart c.args.self.now (start_of run) (Joins c.in-Joins.keep) = rw s c.in-Joins.ensures.meets in
-    on_ok c.put_run_behind.result
-    (λ w. counts_joined Append c.args.self.now run c.in-Joins.keep c.args.stats.now c.put_run_behind.new.stats c.start.ensures.table_entries l m.2 m.0 m.1 (rw c.deref-in-Joins.ensures.value at w))
+    on_ok_weaker c.put_run_behind.result
+    (λ w. counts_joined Append c.args.self.now run c.in-Joins.keep c.args.stats.now c.put_run_behind.new.stats c.start.ensures.table_entries l m.2 m.0 m.1 (rw c.deref-2.ensures.value at w))
     c.put_run_behind.ensures.counts

@@ -1,6 +1,4 @@
-use Rattle.std.proofs.Common.{arith}
-use Rattle.std.proofs.lemmas.List.{length-map}
-use Rattle.raft_table.specs.Blocks.{block_spans, blocks_shown}
+use Rattle.raft_table.proofs.Common.{arith, length-map, block_spans, blocks_shown}
 use Rattle.raft_table.proofs.BlockParts.{block_count_is, expanded_start}
 use Rattle.raft_table.proofs.memtable.entries.Entries.blocks.Goals as goal
 

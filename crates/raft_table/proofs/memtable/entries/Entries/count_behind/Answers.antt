@@ -1,5 +1,4 @@
-use Rattle.std.proofs.Common.{arith}
-use Rattle.raft_table.specs.Blocks.{blocks_shown, entries_in_blocks}
+use Rattle.raft_table.proofs.Common.{arith, blocks_shown, entries_in_blocks}
 use Rattle.raft_table.proofs.BlockCuts.{kept_facts}
 use Rattle.raft_table.proofs.SoundLemmas.{cut_counts}
 use Rattle.raft_table.proofs.memtable.entries.Entries.count_behind.Goals as goal

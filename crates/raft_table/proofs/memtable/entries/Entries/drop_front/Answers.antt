@@ -1,9 +1,6 @@
-use Rattle.std.proofs.Common.{◌+◌, arith, refl, ap, ◌∙◌}
-use Rattle.std.proofs.lemmas.List.{drop_all}
-use Rattle.raft_table.specs.Blocks.{blocks_shown, entries_in_blocks}
-use Rattle.raft_table.specs.BlockWords.{starts_of}
-use Rattle.raft_table.proofs.BlockCuts.{kept_with, within_of, spot_at, starts_length, starts_dropped, kept_facts, kept_drop}
-use Rattle.raft_table.proofs.BlockQueues.{block_within, spot_inside}
+use Rattle.raft_table.proofs.Common.{◌+◌, arith, refl, ap, ◌∙◌, drop_all, blocks_shown, entries_in_blocks, starts_of}
+use Rattle.raft_table.proofs.BlockCuts.{kept_with, shown_len, within_of, starts_length, starts_dropped, kept_facts, kept_drop}
+use Rattle.raft_table.proofs.BlockQueues.{spot_inside}
 use Rattle.raft_table.proofs.memtable.entries.Entries.drop_front.Goals as goal
 
 pub returns-then-count-self : goal.returns-then-count-self
@@ -13,17 +10,14 @@ pub overflow_add-index : goal.overflow_add-index
 overflow_add-index c = let f = (kept_facts c.self.invariant.0) in let l = f.length in let h = rw (← c.self.view_is) at c.requires in let b = f.bounded (omega arith) in omega arith
 
 pub spot_of-nth-requires-clause-within : goal.spot_of-nth-requires-clause-within
-spot_of-nth-requires-clause-within c = within_of c.self.invariant.0 c.args.count refl (let l = (kept_facts c.self.invariant.0).length in let h = rw (← c.self.view_is) at c.requires in omega arith)
-
-pub drop_front_blocks-requires-clause-nth : goal.drop_front_blocks-requires-clause-nth
-drop_front_blocks-requires-clause-nth c = block_within c.self.inside.blocks.items (spot_at c.self.inside.first _ c.spot_of-nth.ensures c.args.count refl)
+spot_of-nth-requires-clause-within c = within_of c.self.invariant.0 c.args.count (let l = shown_len c.self.invariant.0 c.self.view_is in let h = c.requires in omega arith)
 
 pub drop_front_blocks-requires-clause-dropped : goal.drop_front_blocks-requires-clause-dropped
-drop_front_blocks-requires-clause-dropped c d = let w = spot_inside c.self.inside.blocks.items (spot_at c.self.inside.first _ c.spot_of-nth.ensures c.args.count refl) d in omega arith
+drop_front_blocks-requires-clause-dropped c d = let w = spot_inside c.self.inside.blocks.items c.spot_of-nth.ensures d in omega arith
 
 pub drop_front_starts-requires : goal.drop_front_starts-requires
 drop_front_starts-requires c d =
-    let w = (spot_at c.self.inside.first _ c.spot_of-nth.ensures c.args.count refl).block in
+    let w = c.spot_of-nth.ensures.block in
     let n = starts_length c.self.inside.first (blocks_shown c.self.inside.blocks.items) c.self.inside.starts.items c.self.invariant.1 d in
     omega arith
 
@@ -32,7 +26,7 @@ overflow_sub-self c = let l = (kept_facts c.self.invariant.0).length in let h = 
 
 pub invariant_of-self : goal.invariant_of-self
 invariant_of-self c =
-    let a = spot_at c.self.inside.first _ c.spot_of-nth.ensures c.args.count refl in
+    let a = c.spot_of-nth.ensures in
     let k = (kept_drop c.self.inside.first c.self.inside.len c.args.count c.spot_of-nth.result.0 c.spot_of-nth.result.1
     (blocks_shown c.self.inside.blocks.items) (starts_of c.self.inside.first (blocks_shown c.self.inside.blocks.items))
     c.self.inside.rewritten c.self.invariant.0 a).0 in
@@ -48,4 +42,4 @@ returns c =
     (ap (entries_in_blocks (c.self.inside.first + c.args.count)) c.drop_front_blocks.ensures
     ∙ (kept_drop c.self.inside.first c.self.inside.len c.args.count c.spot_of-nth.result.0 c.spot_of-nth.result.1
     (blocks_shown c.self.inside.blocks.items) (starts_of c.self.inside.first (blocks_shown c.self.inside.blocks.items)) c.self.inside.rewritten
-    c.self.invariant.0 (spot_at c.self.inside.first _ c.spot_of-nth.ensures c.args.count refl)).1)
+    c.self.invariant.0 c.spot_of-nth.ensures).1)

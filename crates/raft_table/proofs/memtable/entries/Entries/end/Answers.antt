@@ -1,6 +1,4 @@
-use Rattle.std.proofs.Common.{ap, sym, ◌∙◌, arith}
-use Rattle.raft_base.specs.Runs.{end_of}
-use Rattle.raft_base.proofs.ConsecutiveLemmas.{end_bounded}
+use Rattle.raft_table.proofs.Common.{ap, sym, ◌∙◌, arith, end_of, end_bounded}
 use Rattle.raft_table.proofs.MarkWords.{end_of-nil}
 use Rattle.raft_table.proofs.memtable.entries.Entries.end.Goals as goal
 

@@ -1,6 +1,4 @@
-use Rattle.std.proofs.Common.{subst}
-use Rattle.raft_table.specs.Blocks.{blocks_shown}
-use Rattle.raft_base.specs.Runs.{RisesFrom}
+use Rattle.raft_table.proofs.Common.{subst, blocks_shown, RisesFrom}
 use Rattle.raft_table.proofs.BlockLemmas.{rises_expanded}
 use Rattle.raft_table.proofs.CutLemmas.{end_met, end_unmet}
 use Rattle.raft_table.proofs.memtable.entries.Entries.end_within.Goals as goal

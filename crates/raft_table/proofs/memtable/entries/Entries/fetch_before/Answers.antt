@@ -1,11 +1,5 @@
-use Rattle.std.proofs.Common.{◌≡◌, ◌+◌, ◌≤◌, ◌++◌, drop, arith, sym, ap, ◌∙◌}
-use Rattle.std.proofs.lemmas.List.{length-drop, take_all}
-use Rattle.std.proofs.lemmas.Result.{on_ok_weaker}
-use Rattle.raft_table.specs.Blocks.{blocks_shown, entries_in_blocks}
+use Rattle.raft_table.proofs.Common.{◌≡◌, ◌+◌, ◌≤◌, ◌++◌, drop, arith, sym, ap, ◌∙◌, length-drop, take_all, on_ok_weaker, blocks_shown, entries_in_blocks, prefix_len, prefix_len-le-length, is_placed_before}
 use Rattle.raft_table.proofs.BlockCuts.{kept_facts}
-use Rattle.std.specs.List.{prefix_len}
-use Rattle.std.proofs.lemmas.List.Sums.{prefix_len-le-length}
-use Rattle.raft_table.specs.Rewriting.{is_placed_before}
 use Rattle.raft_table.proofs.FetchLemmas.{appended_before_is}
 use Rattle.raft_table.proofs.memtable.entries.Entries.fetch_before.Goals as goal
 

@@ -1,11 +1,6 @@
-use Rattle.std.proofs.Common.{◌≡◌, ◌-◌, length, take, arith}
-use Rattle.std.proofs.lemmas.List.{length-take, length-drop}
-use Rattle.std.proofs.lemmas.Result.{on_ok_weaker, IfErr-weaker}
-use Rattle.raft_table.specs.Blocks.{blocks_shown, entries_in_blocks}
-use Rattle.raft_table.specs.TableEntries.{start_of}
+use Rattle.raft_table.proofs.Common.{◌≡◌, ◌-◌, length, take, arith, length-take, length-drop, on_ok_weaker, IfErr-weaker, blocks_shown, entries_in_blocks, start_of, Found, IsFetchFault, range_answer}
 use Rattle.raft_table.proofs.BlockCuts.{kept_facts}
 use Rattle.raft_base.specs.declared.errors.Error.TheVariants as errors
-use Rattle.raft_table.specs.Fetches.{Found, IsFetchFault, range_answer}
 use Rattle.raft_table.proofs.FetchLemmas.{range_none, range_below, range_behind, range_found, fetched_part}
 use Rattle.raft_table.proofs.memtable.entries.Entries.fetch_to.Goals as goal
 

@@ -1,16 +1,10 @@
-use Rattle.std.proofs.Common.{◌+◌, arith, ◌∙◌}
+use Rattle.std.proofs.Common.{◌+◌, ◌∙◌}
 use Rattle.raft_table.proofs.SoundLemmas.{AreTableEntries-take}
-use Rattle.raft_table.proofs.RunGroups.{has_place, group_of, spans_length}
+use Rattle.raft_table.proofs.RunGroups.{has_place, group_of}
 use Rattle.raft_table.proofs.memtable.entries.Entries.from_run.Goals as goal
 
 pub unreachable-requires : goal.unreachable-requires
 unreachable-requires c = has_place c.args.run.now c.loop-at.at _ c.requires c.loop-at-test.true c.in_default.is
-
-pub push-requires-clause-filled : goal.push-requires-clause-filled
-push-requires-clause-filled c =
-    let p = (c.count_of.ensures.some _ c.loop-at-test.true c.in-Some.is) in
-    let n = spans_length c.args.run.now c.loop-at.at c.count_of.result c.count_of.ensures.within in
-    rw c.in_ok-spans.ensures.ok (omega arith)
 
 pub push-requires-clause-table_entries : goal.push-requires-clause-table_entries
 push-requires-clause-table_entries c =
@@ -20,9 +14,6 @@ push-requires-clause-table_entries c =
       (group_of c.args.run.now c.loop-at.at c.count_of.result c.in-Some.handle _ c.requires c.count_of.ensures.within c.loop-at-test.true
           c.count_of.ensures.all),
     ) (AreTableEntries-take (c.loop-at.at + c.count_of.result) c.args.run.now c.requires)
-
-pub loop-at-smaller : goal.loop-at-smaller
-loop-at-smaller c = let p = (c.count_of.ensures.some _ c.loop-at-test.true c.in-Some.is) in let w = c.count_of.ensures.within in omega arith
 
 pub loop-at-preserved : goal.loop-at-preserved
 loop-at-preserved c = (

@@ -1,10 +1,8 @@
-use Rattle.std.proofs.Common.{◌-◌, arith, sym}
-use Rattle.raft_table.specs.Blocks.{block_spans, blocks_shown, entries_in_blocks}
-use Rattle.raft_table.proofs.BlockLemmas.{rises_expanded}
-use Rattle.raft_table.proofs.BlockSearch.{entry_at_spot}
-use Rattle.raft_table.proofs.BlockCuts.{kept_facts}
-use Rattle.raft_table.proofs.LookupLemmas.{entry_at_low, entry_at_past}
-use Rattle.raft_table.proofs.BlockQueues.{block_at, block_within}
+use Rattle.raft_table.proofs.Common.{◌-◌, arith, sym, block_spans, blocks_shown, entries_in_blocks}
+use Rattle.raft_table.proofs.BlockLemmas.{rises_expanded, entry_at_spot}
+use Rattle.raft_table.proofs.BlockCuts.{within_of, kept_facts}
+use Rattle.raft_table.proofs.RunLemmas.{entry_at_low, entry_at_past}
+use Rattle.raft_table.proofs.BlockQueues.{block_at}
 use Rattle.raft_table.proofs.memtable.entries.Entries.get.Goals as goal
 
 pub returns-then-index-self : goal.returns-then-index-self
@@ -12,20 +10,15 @@ returns-then-index-self c = rw (← c.self.view_is)
     (sym (entry_at_low c.args.index c.self.inside.first (entries_in_blocks c.self.inside.first (blocks_shown c.self.inside.blocks.items))
     (omega arith) (rises_expanded c.self.inside.first (blocks_shown c.self.inside.blocks.items))))
 
-pub returns-then-index-self-2 : goal.returns-then-index-self-2
-returns-then-index-self-2 c =
+pub returns-then-at-self : goal.returns-then-at-self
+returns-then-at-self c =
     let l = (kept_facts c.self.invariant.0).length in
     rw (← c.self.view_is) (sym (entry_at_past c.args.index (c.args.index - c.self.inside.first) c.self.inside.first
     (entries_in_blocks c.self.inside.first (blocks_shown c.self.inside.blocks.items)) (omega arith) (omega arith)
     (rises_expanded c.self.inside.first (blocks_shown c.self.inside.blocks.items))))
 
 pub spot_of-nth-requires-clause-within : goal.spot_of-nth-requires-clause-within
-spot_of-nth-requires-clause-within c = let l = c.self.invariant.0.len in (omega arith, omega arith)
-
-pub index-block-requires : goal.index-block-requires
-index-block-requires c =
-    let a = c.spot_of-nth.ensures in
-    let w = block_within c.self.inside.blocks.items a in omega (arith, c.self.inside.blocks.ok)
+spot_of-nth-requires-clause-within c = within_of c.self.invariant.0 (c.args.index - c.self.inside.first) (omega arith)
 
 pub index-span-requires : goal.index-span-requires
 index-span-requires c =

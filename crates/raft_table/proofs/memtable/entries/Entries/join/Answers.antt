@@ -1,13 +1,10 @@
-use Rattle.std.proofs.Common.{◌≡◌, inl, inr, [], ◌+◌, ◌-◌, ◌<◌, ◌≤◌, min, ◌++◌, length, take, drop, get_or, arith, refl, ap, subst, ◌∙◌}
-use Rattle.std.proofs.lemmas.List.{length-append, length-map, length-take-le}
-use Rattle.raft_table.specs.Blocks.{block_spans, blocks_shown, entries_in_blocks}
-use Rattle.raft_table.specs.BlockWords.{first_of_last, joined_blocks, seam}
-use Rattle.raft_table.specs.TableEntries.{AreTableEntries, start_of}
-use Rattle.raft_table.proofs.SoundLemmas.{sound_rising}
-use Rattle.raft_table.proofs.BlockKept.{IsKeptAs, kept_join, sound_fits, blocks_filled}
-use Rattle.raft_table.proofs.BlockCuts.{kept_bounded, kept_with, found, index_of, kept_length, front_of, kept_facts, kept_nil}
+use Rattle.raft_table.proofs.Common.{◌≡◌, inl, inr, [], ◌+◌, ◌-◌, ◌<◌, ◌≤◌, min, ◌++◌, length, take, drop, get_or, arith, refl, ap, subst, ◌∙◌, length-map, block_spans, blocks_shown, entries_in_blocks, first_of_last}
+use Rattle.raft_table.proofs.Common.{joined_blocks, seam, AreTableEntries, ◌^◌, IsAt}
+use Rattle.raft_table.proofs.BlockKept.{IsKeptAs, kept_join, joined_fits, blocks_filled}
+use Rattle.raft_table.proofs.BlockCuts.{shown_len, kept_bounded, kept_with, found, index_of, kept_length, front_of, kept_facts, kept_nil}
 use Rattle.raft_table.proofs.BlockQueues.{block_within, spot_inside}
 use Rattle.raft_table.proofs.memtable.entries.Entries.join.Goals as goal
+use Rattle.raft_table.proofs.memtable.entries.Entries.join.Goals.{After-search-nth}
 
 pub keep_starts-requires-clause-bounded : goal.keep_starts-requires-clause-bounded
 keep_starts-requires-clause-bounded c l = kept_bounded c.self.invariant.0 (let n = length-map c.self.inside.blocks.items block_spans in omega arith)
@@ -16,39 +13,36 @@ pub keep_starts-requires-2-clause-bounded : goal.keep_starts-requires-2-clause-b
 keep_starts-requires-2-clause-bounded c l = kept_bounded c.run.invariant.0 (let n = length-map c.run.inside.blocks.items block_spans in omega arith)
 
 pub overflow_add-self-inside : goal.overflow_add-self-inside
-overflow_add-self-inside c = let f = (kept_facts c.self.invariant.0) in let l = f.length in let h = rw (← c.self.view_is) at c.requires.keep.1 in let p = c.requires.keep.0 in let b = f.bounded (omega arith) in omega arith
+overflow_add-self-inside c =
+    let l = shown_len c.self.invariant.0 c.self.view_is in
+    let p = c.requires.keep.0 in
+    let h = c.requires.keep.1 in
+    let b = (kept_facts c.self.invariant.0).bounded (omega arith) in omega arith
 
 pub search-nth-requires : goal.search-nth-requires
-search-nth-requires c = index_of (kept_with c.self.invariant.0 c.in_ok-keep_starts.ensures.ok) (c.args.keep - 1) refl
-    (let l = (kept_facts c.self.invariant.0).length in let h = (rw (← c.self.view_is) at c.requires.keep.1) in let p = c.requires.keep.0 in
-    omega arith)
+search-nth-requires c =
+    index_of (kept_with c.self.invariant.0 c.in_ok-keep_starts.ensures.ok) (c.args.keep - 1) refl
+    (let l = shown_len c.self.invariant.0 c.self.view_is in let p = c.requires.keep.0 in let h = c.requires.keep.1 in omega arith)
+
+there : (c : After-search-nth) → IsAt (c.args.keep - 1) (blocks_shown c.self.inside.blocks.items) c.search-nth.result.0 c.search-nth.result.1
+there c =
+    found (kept_with c.self.invariant.0 c.in_ok-keep_starts.ensures.ok) c.search-nth.ensures (c.args.keep - 1) refl
+    (let l = shown_len c.self.invariant.0 c.self.view_is in let p = c.requires.keep.0 in let h = c.requires.keep.1 in omega arith)
 
 pub overflow_add-last : goal.overflow_add-last
-overflow_add-last c = let a = (found (kept_with c.self.invariant.0 c.in_ok-keep_starts.ensures.ok) c.search-nth.ensures (c.args.keep - 1) refl
-    (let l = (kept_facts c.self.invariant.0).length in let h = (rw (← c.self.view_is) at c.requires.keep.1) in let p = c.requires.keep.0 in
-    omega arith)) in let p = a.spot in omega arith
+overflow_add-last c = let p = (there (goal.at.overflow_add-last c).After-search-nth).spot in omega arith
 
 pub overflow_add-nth : goal.overflow_add-nth
-overflow_add-nth c = let w = block_within c.self.inside.blocks.items
-    (found (kept_with c.self.invariant.0 c.in_ok-keep_starts.ensures.ok) c.search-nth.ensures (c.args.keep - 1) refl
-    (let l = (kept_facts c.self.invariant.0).length in let h = (rw (← c.self.view_is) at c.requires.keep.1) in let p = c.requires.keep.0 in
-    omega arith)) in omega (arith, c.self.inside.blocks.ok)
+overflow_add-nth c = let w = block_within c.self.inside.blocks.items (there (goal.at.overflow_add-nth c).After-search-nth) in omega (arith, c.self.inside.blocks.ok)
 
 pub put_blocks-requires-clause-order : goal.put_blocks-requires-clause-order
-put_blocks-requires-clause-order c =
-    let w = block_within c.self.inside.blocks.items
-    (found (kept_with c.self.invariant.0 c.in_ok-keep_starts.ensures.ok) c.search-nth.ensures (c.args.keep - 1) refl
-    (let l = (kept_facts c.self.invariant.0).length in let h = (rw (← c.self.view_is) at c.requires.keep.1) in let p = c.requires.keep.0 in
-    omega arith)) in omega (arith, c.self.inside.blocks.ok)
+put_blocks-requires-clause-order c = let w = block_within c.self.inside.blocks.items (there (goal.at.put_blocks-requires-clause-order c).After-search-nth) in omega (arith, c.self.inside.blocks.ok)
 
 pub put_blocks-requires-clause-kept : goal.put_blocks-requires-clause-kept
 put_blocks-requires-clause-kept c d p =
     let e : c.search-nth.result.0 ≡ c.search-nth.result.0 + 1 - 1 = omega arith in
     subst (λ k. c.search-nth.result.1 + 1 ≤ length (get_or c.self.inside.blocks.items k d).spans.items) e
-    (let w = spot_inside c.self.inside.blocks.items
-    (found (kept_with c.self.invariant.0 c.in_ok-keep_starts.ensures.ok) c.search-nth.ensures (c.args.keep - 1) refl
-    (let l = (kept_facts c.self.invariant.0).length in let h = (rw (← c.self.view_is) at c.requires.keep.1) in let p = c.requires.keep.0 in
-    omega arith)) d in omega arith)
+    (let w = spot_inside c.self.inside.blocks.items (there (goal.at.put_blocks-requires-clause-kept c).After-search-nth) d in omega arith)
 
 pub put_blocks-requires-clause-starts : goal.put_blocks-requires-clause-starts
 put_blocks-requires-clause-starts c = kept_length (kept_with c.self.invariant.0 c.in_ok-keep_starts.ensures.ok) ∙ length-map c.self.inside.blocks.items block_spans
@@ -61,32 +55,17 @@ put_blocks-requires-clause-more c =
     let f = blocks_filled c.run.inside.first (blocks_shown c.run.inside.blocks.items) h in
     (omega arith, omega arith)
 
+fits : (c : After-search-nth) → (c.args.keep + c.run.inside.len < 2 ^ 64) × (min c.self.inside.rewritten c.args.keep + c.run.inside.rewritten < 2 ^ 64)
+fits c =
+    let l = shown_len c.self.invariant.0 c.self.view_is in
+    let m = shown_len c.run.invariant.0 c.run.view_is in
+    joined_fits c.self.invariant.0 c.run.invariant.0 c.args.keep (omega (arith, c.requires.keep.1)) (omega (arith, c.requires.run)) (rw (c.self.view_is, c.run.view_is) c.requires.table_entries)
+
 pub overflow_add-self : goal.overflow_add-self
-overflow_add-self c =
-    let es = take c.args.keep (entries_in_blocks c.self.inside.first (blocks_shown c.self.inside.blocks.items)) ++ entries_in_blocks c.run.inside.first (blocks_shown c.run.inside.blocks.items) in
-    let s : AreTableEntries es = rw (c.self.view_is, c.run.view_is) c.requires.table_entries in
-    let l = (kept_facts c.self.invariant.0).length in
-    let m = (kept_facts c.run.invariant.0).length in
-    let h = rw (← c.self.view_is) at c.requires.keep.1 in
-    let p = c.requires.keep.0 in
-    let a = length-append (take c.args.keep (entries_in_blocks c.self.inside.first (blocks_shown c.self.inside.blocks.items))) (entries_in_blocks c.run.inside.first (blocks_shown c.run.inside.blocks.items)) in
-    let b = length-take-le c.args.keep (entries_in_blocks c.self.inside.first (blocks_shown c.self.inside.blocks.items)) (omega arith) in
-    let f = sound_fits (start_of es) es s (sound_rising es s) (omega arith) in
-    omega arith
+overflow_add-self c = let f = (fits (goal.at.overflow_add-self c).After-search-nth).0 in omega arith
 
 pub overflow_add-self-2 : goal.overflow_add-self-2
-overflow_add-self-2 c =
-    let es = take c.args.keep (entries_in_blocks c.self.inside.first (blocks_shown c.self.inside.blocks.items)) ++ entries_in_blocks c.run.inside.first (blocks_shown c.run.inside.blocks.items) in
-    let s : AreTableEntries es = rw (c.self.view_is, c.run.view_is) c.requires.table_entries in
-    let l = (kept_facts c.self.invariant.0).length in
-    let m = (kept_facts c.run.invariant.0).length in
-    let m2 = (kept_facts c.run.invariant.0).both in
-    let h = rw (← c.self.view_is) at c.requires.keep.1 in
-    let p = c.requires.keep.0 in
-    let a = length-append (take c.args.keep (entries_in_blocks c.self.inside.first (blocks_shown c.self.inside.blocks.items))) (entries_in_blocks c.run.inside.first (blocks_shown c.run.inside.blocks.items)) in
-    let b = length-take-le c.args.keep (entries_in_blocks c.self.inside.first (blocks_shown c.self.inside.blocks.items)) (omega arith) in
-    let f = sound_fits (start_of es) es s (sound_rising es s) (omega arith) in
-    omega arith
+overflow_add-self-2 c = let f = (fits (goal.at.overflow_add-self-2 c).After-search-nth).1 in omega arith
 
 put : (c : goal.After-run-2-1) → IsKeptAs c.self.inside.first (c.args.keep + c.run.inside.len)
     (joined_blocks (first_of_last (c.search-nth.result.1 + 1) (take (c.search-nth.result.0 + 1) (blocks_shown c.self.inside.blocks.items)))
@@ -106,8 +85,7 @@ put c =
     (front_of c.self.inside.first c.args.keep c.search-nth.result.0 c.search-nth.result.1 (blocks_shown c.self.inside.blocks.items)
     c.self.invariant.0.distinct c.requires.keep.0
     (found (kept_with c.self.invariant.0 c.in_ok-keep_starts.ensures.ok) c.search-nth.ensures (c.args.keep - 1) refl
-    (let l = (kept_facts c.self.invariant.0).length in let h = (rw (← c.self.view_is) at c.requires.keep.1) in let p = c.requires.keep.0 in
-    omega arith)))
+    (let l = shown_len c.self.invariant.0 c.self.view_is in let p = c.requires.keep.0 in let h = c.requires.keep.1 in omega arith)))
     (let m = (kept_facts c.run.invariant.0).length in let h = rw (← c.run.view_is) at c.requires.run in omega arith)
     s (let n = length-map c.self.inside.blocks.items block_spans in omega (arith, c.self.inside.blocks.ok))
 

@@ -1,70 +1,30 @@
-use Rattle.std.proofs.Common.{◌≡◌, inl, [], ◌+◌, ◌-◌, ◌<◌, ◌≤◌, min, ◌++◌, length, take, get_or, arith, refl, ap, subst, ◌∙◌}
-use Rattle.std.proofs.lemmas.List.{length-append, length-map, length-take-le}
-use Rattle.raft_table.specs.Blocks.{block_spans, blocks_shown, entries_in_blocks}
-use Rattle.raft_table.specs.BlockWords.{starts_of, first_of_last, joined_blocks}
-use Rattle.raft_table.specs.TableEntries.{AreTableEntries, start_of}
-use Rattle.raft_table.proofs.SoundLemmas.{sound_rising}
-use Rattle.raft_table.proofs.BlockKept.{IsKeptAs, kept_join_few, sound_fits, blocks_filled}
-use Rattle.raft_table.proofs.BlockCuts.{kept_with, within_of, spot_at, front_of, kept_facts, kept_nil}
-use Rattle.raft_table.proofs.BlockQueues.{block_within, spot_inside}
+use Rattle.raft_table.proofs.Common.{◌≡◌, inl, [], ◌+◌, ◌-◌, ◌<◌, ◌≤◌, min, ◌++◌, length, take, get_or, arith, refl, ap, subst, ◌∙◌, blocks_shown, entries_in_blocks, starts_of, first_of_last, joined_blocks, AreTableEntries, ◌^◌}
+use Rattle.raft_table.proofs.BlockKept.{IsKeptAs, kept_join_few, joined_fits}
+use Rattle.raft_table.proofs.BlockCuts.{kept_with, shown_len, within_of, front_of, kept_facts, kept_nil}
+use Rattle.raft_table.proofs.BlockQueues.{spot_inside}
 use Rattle.raft_table.proofs.memtable.entries.Entries.join_few.Goals as goal
-
-pub overflow_add-index : goal.overflow_add-index
-overflow_add-index c = let f = (kept_facts c.self.invariant.0) in let l = f.length in let h = rw (← c.self.view_is) at c.requires.keep.1 in let p = c.requires.keep.0 in let b = f.bounded (omega arith) in omega arith
+use Rattle.raft_table.proofs.memtable.entries.Entries.join_few.Goals.{In_ok-put_few_blocks}
 
 pub spot_of-nth-requires-clause-within : goal.spot_of-nth-requires-clause-within
-spot_of-nth-requires-clause-within c = within_of c.self.invariant.0 (c.args.keep - 1) refl (let l = (kept_facts c.self.invariant.0).length in let h = (rw (← c.self.view_is) at c.requires.keep.1) in let p = c.requires.keep.0 in omega arith)
-
-pub overflow_add-last : goal.overflow_add-last
-overflow_add-last c = let a = (spot_at c.self.inside.first _ c.spot_of-nth.ensures (c.args.keep - 1) refl) in let p = a.spot in omega arith
-
-pub overflow_add-nth : goal.overflow_add-nth
-overflow_add-nth c = let w = block_within c.self.inside.blocks.items (spot_at c.self.inside.first _ c.spot_of-nth.ensures (c.args.keep - 1) refl) in omega (arith, c.self.inside.blocks.ok)
-
-pub put_few_blocks-requires-clause-within : goal.put_few_blocks-requires-clause-within
-put_few_blocks-requires-clause-within c =
-    let w = block_within c.self.inside.blocks.items (spot_at c.self.inside.first _ c.spot_of-nth.ensures (c.args.keep - 1) refl) in
-    (omega arith, omega arith)
+spot_of-nth-requires-clause-within c = within_of c.self.invariant.0 (c.args.keep - 1) (let l = shown_len c.self.invariant.0 c.self.view_is in let h = c.requires.keep in omega arith)
 
 pub put_few_blocks-requires-clause-kept : goal.put_few_blocks-requires-clause-kept
 put_few_blocks-requires-clause-kept c d p =
     let e : c.spot_of-nth.result.0 ≡ c.spot_of-nth.result.0 + 1 - 1 = omega arith in
     subst (λ k. c.spot_of-nth.result.1 + 1 ≤ length (get_or c.self.inside.blocks.items k d).spans.items) e
-    (let w = spot_inside c.self.inside.blocks.items (spot_at c.self.inside.first _ c.spot_of-nth.ensures (c.args.keep - 1) refl) d in omega arith)
+    (let w = spot_inside c.self.inside.blocks.items c.spot_of-nth.ensures d in omega arith)
 
-pub put_few_blocks-requires-clause-more : goal.put_few_blocks-requires-clause-more
-put_few_blocks-requires-clause-more c =
-    let n = length-map c.run.inside.blocks.items block_spans in
-    let h : 0 < length (entries_in_blocks c.run.inside.first (blocks_shown c.run.inside.blocks.items)) = rw c.run.view_is c.requires.run in
-    let f = blocks_filled c.run.inside.first (blocks_shown c.run.inside.blocks.items) h in
-    omega arith
+fits : (c : In_ok-put_few_blocks) → (c.args.keep + c.run.inside.len < 2 ^ 64) × (min c.self.inside.rewritten c.args.keep + c.run.inside.rewritten < 2 ^ 64)
+fits c =
+    let l = shown_len c.self.invariant.0 c.self.view_is in
+    let m = shown_len c.run.invariant.0 c.run.view_is in
+    joined_fits c.self.invariant.0 c.run.invariant.0 c.args.keep (omega (arith, c.requires.keep.1)) (omega (arith, c.requires.run)) (rw (c.self.view_is, c.run.view_is) c.requires.table_entries)
 
 pub overflow_add-self : goal.overflow_add-self
-overflow_add-self c =
-    let es = take c.args.keep (entries_in_blocks c.self.inside.first (blocks_shown c.self.inside.blocks.items)) ++ entries_in_blocks c.run.inside.first (blocks_shown c.run.inside.blocks.items) in
-    let s : AreTableEntries es = rw (c.self.view_is, c.run.view_is) c.requires.table_entries in
-    let l = (kept_facts c.self.invariant.0).length in
-    let m = (kept_facts c.run.invariant.0).length in
-    let h = rw (← c.self.view_is) at c.requires.keep.1 in
-    let p = c.requires.keep.0 in
-    let a = length-append (take c.args.keep (entries_in_blocks c.self.inside.first (blocks_shown c.self.inside.blocks.items))) (entries_in_blocks c.run.inside.first (blocks_shown c.run.inside.blocks.items)) in
-    let b = length-take-le c.args.keep (entries_in_blocks c.self.inside.first (blocks_shown c.self.inside.blocks.items)) (omega arith) in
-    let f = sound_fits (start_of es) es s (sound_rising es s) (omega arith) in
-    omega arith
+overflow_add-self c = let f = (fits (goal.at.overflow_add-self c).In_ok-put_few_blocks).0 in omega arith
 
 pub overflow_add-self-2 : goal.overflow_add-self-2
-overflow_add-self-2 c =
-    let es = take c.args.keep (entries_in_blocks c.self.inside.first (blocks_shown c.self.inside.blocks.items)) ++ entries_in_blocks c.run.inside.first (blocks_shown c.run.inside.blocks.items) in
-    let s : AreTableEntries es = rw (c.self.view_is, c.run.view_is) c.requires.table_entries in
-    let l = (kept_facts c.self.invariant.0).length in
-    let m = (kept_facts c.run.invariant.0).length in
-    let m2 = (kept_facts c.run.invariant.0).both in
-    let h = rw (← c.self.view_is) at c.requires.keep.1 in
-    let p = c.requires.keep.0 in
-    let a = length-append (take c.args.keep (entries_in_blocks c.self.inside.first (blocks_shown c.self.inside.blocks.items))) (entries_in_blocks c.run.inside.first (blocks_shown c.run.inside.blocks.items)) in
-    let b = length-take-le c.args.keep (entries_in_blocks c.self.inside.first (blocks_shown c.self.inside.blocks.items)) (omega arith) in
-    let f = sound_fits (start_of es) es s (sound_rising es s) (omega arith) in
-    omega arith
+overflow_add-self-2 c = let f = (fits (goal.at.overflow_add-self-2 c).In_ok-put_few_blocks).1 in omega arith
 
 put : (c : goal.After-run-2-1) → IsKeptAs c.self.inside.first (c.args.keep + c.run.inside.len)
     (joined_blocks (first_of_last (c.spot_of-nth.result.1 + 1) (take (c.spot_of-nth.result.0 + 1) (blocks_shown c.self.inside.blocks.items)))
@@ -79,7 +39,7 @@ put c =
     kept_join_few c.self.invariant.0 c.run.invariant.0 c.args.keep (c.spot_of-nth.result.0 + 1) (c.spot_of-nth.result.1 + 1) c.requires.keep.0
     (let l = (kept_facts c.self.invariant.0).length in let h = rw (← c.self.view_is) at c.requires.keep.1 in omega arith)
     (front_of c.self.inside.first c.args.keep c.spot_of-nth.result.0 c.spot_of-nth.result.1 (blocks_shown c.self.inside.blocks.items)
-    c.self.invariant.0.distinct c.requires.keep.0 (spot_at c.self.inside.first _ c.spot_of-nth.ensures (c.args.keep - 1) refl))
+    c.self.invariant.0.distinct c.requires.keep.0 c.spot_of-nth.ensures)
     (let m = (kept_facts c.run.invariant.0).length in let h = rw (← c.run.view_is) at c.requires.run in omega arith)
     s
 

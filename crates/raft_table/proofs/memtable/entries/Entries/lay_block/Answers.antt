@@ -1,8 +1,4 @@
-use Rattle.std.proofs.Common.{◌≡◌, ◌++◌, length, take, arith, sym, ap, subst, ◌∙◌}
-use Rattle.std.proofs.lemmas.List.{take_all}
-use Rattle.std.proofs.lemmas.Result.{on_ok_weaker}
-use Rattle.raft_base.specs.Runs.{entries_of_block}
-use Rattle.raft_table.specs.TableEntries.{AreTableEntries}
+use Rattle.raft_table.proofs.Common.{◌≡◌, ◌++◌, length, take, arith, sym, ap, subst, ◌∙◌, take_all, on_ok_weaker, entries_of_block, AreTableEntries}
 use Rattle.raft_table.proofs.BlockCuts.{kept_facts}
 use Rattle.raft_table.proofs.BlockLemmas.{length-spread}
 use Rattle.raft_table.proofs.SoundLemmas.{sound_behind}

@@ -1,11 +1,4 @@
-use Rattle.std.proofs.Common.{ℕ, ◌≡◌, ◌+◌, ◌-◌, ◌<◌, ◌≤◌, List, ◌++◌, length, take, get_or, arith, sym, ap, subst, ◌∙◌, Some}
-use Rattle.std.proofs.lemmas.List.{take_all}
-use Rattle.std.proofs.lemmas.Result.{on_ok_weaker}
-use Rattle.raft_base.specs.declared.pipe_log.FileBlockHandle.{FileBlockHandle}
-use Rattle.raft_base.specs.declared.entry_index.EntryIndex.{EntryIndex}
-use Rattle.raft_base.specs.Runs.{entries_of_block}
-use Rattle.raft_table.specs.BlockWords.{spans_of}
-use Rattle.raft_table.specs.TableEntries.{AreTableEntries}
+use Rattle.raft_table.proofs.Common.{ℕ, ◌≡◌, ◌+◌, ◌-◌, ◌<◌, ◌≤◌, List, ◌++◌, length, take, get_or, arith, sym, ap, subst, ◌∙◌, Some, take_all, on_ok_weaker, FileBlockHandle, EntryIndex, entries_of_block, spans_of, AreTableEntries}
 use Rattle.raft_table.proofs.SoundLemmas.{sound_behind}
 use Rattle.raft_table.proofs.RunGroups.{group_of}
 use Rattle.raft_table.proofs.memtable.entries.Entries.lay_entries.Goals as goal

@@ -1,21 +1,12 @@
-use Rattle.std.proofs.Common.{arith, refl}
-use Rattle.raft_table.proofs.BlockCuts.{within_of, spot_at, kept_facts}
+use Rattle.std.proofs.Common.{arith}
+use Rattle.raft_table.proofs.BlockCuts.{shown_len, within_of, part_of}
 use Rattle.raft_table.proofs.memtable.entries.Entries.movable.Goals as goal
 
-pub overflow_add-index : goal.overflow_add-index
-overflow_add-index c = let f = kept_facts c.self.invariant.0 in let l = f.length in let h = rw (← c.self.view_is) at c.requires.within in let b = f.bounded (omega arith) in omega arith
-
 pub spot_of-spot-requires-clause-within : goal.spot_of-spot-requires-clause-within
-spot_of-spot-requires-clause-within c = within_of c.self.invariant.0 c.args.at refl (let l = (kept_facts c.self.invariant.0).length in let h = rw (← c.self.view_is) at c.requires.within in let o = c.requires.order in omega arith)
+spot_of-spot-requires-clause-within c = within_of c.self.invariant.0 c.args.at (let l = shown_len c.self.invariant.0 c.self.view_is in let h = c.requires.within in let o = c.requires.order in omega arith)
 
-pub movable_from-requires-clause-spot : goal.movable_from-requires-clause-spot
-movable_from-requires-clause-spot c = spot_at c.self.inside.first _ c.spot_of-spot.ensures c.args.at refl
-
-pub movable_from-requires-clause-distinct : goal.movable_from-requires-clause-distinct
-movable_from-requires-clause-distinct c = c.self.invariant.0.distinct
-
-pub movable_from-requires-clause-within : goal.movable_from-requires-clause-within
-movable_from-requires-clause-within c = let l = (kept_facts c.self.invariant.0).length in let n = c.self.invariant.0.len in let h = rw (← c.self.view_is) at c.requires.within in omega arith
+pub movable_from-requires : goal.movable_from-requires
+movable_from-requires c = part_of c.self.invariant.0 c.spot_of-spot.ensures c.requires.order (let l = shown_len c.self.invariant.0 c.self.view_is in let h = c.requires.within in omega arith)
 
 pub returns : goal.returns
 returns c = rw (← c.self.view_is) (c.movable_from.ensures c.self.inside.first)

@@ -1,43 +1,31 @@
-use Rattle.std.proofs.Common.{◌≡◌, ◌+◌, ◌++◌, take, drop, arith, sym, ap, subst, ◌∙◌}
-use Rattle.std.proofs.lemmas.List.{length-take-le}
-use Rattle.raft_base.specs.declared.pipe_log.LogQueue.TheVariants.{Append}
-use Rattle.raft_table.specs.TableEntries.{AreTableEntries}
+use Rattle.raft_table.proofs.Common.{◌≡◌, ◌+◌, ◌++◌, take, drop, arith, sym, ap, subst, ◌∙◌, length-take-le, AreTableEntries, Append}
 use Rattle.raft_table.proofs.PlaceLemmas.{each_queue}
-use Rattle.raft_table.proofs.MovesLemmas.{moves}
 use Rattle.raft_table.proofs.memtable.entries.Entries.move_places.Goals as goal
+use Rattle.raft_table.proofs.memtable.entries.Entries.move_places.Goals.{After-movable-moved}
+use Rattle.raft_table.proofs.RewriteLemmas.{Moves, moves}
+
+moved : (c : After-movable-moved) → Moves c.args.gate c.args.at c.movable-moved.result c.args.self.now c.args.places.now
+moved c = moves c.args.gate c.args.at c.movable-moved.result c.args.self.now c.args.places.now c.holds_one_run.ensures c.requires.within c.requires.rising c.requires.placed c.requires.well_placed c.movable-moved.ensures
 
 pub slice_bounds-set_places-end : goal.slice_bounds-set_places-end
 slice_bounds-set_places-end c = sym (length-take-le c.movable-moved.result c.args.places.now
-    (moves c.args.gate c.args.at c.movable-moved.result c.args.self.now c.args.places.now c.holds_one_run.ensures c.requires.within c.requires.rising
-    c.requires.placed c.requires.well_placed c.movable-moved.ensures).within)
-
-pub set_places-requires-clause-within : goal.set_places-requires-clause-within
-set_places-requires-clause-within c =
-    let n = (length-take-le c.movable-moved.result c.args.places.now
-    (moves c.args.gate c.args.at c.movable-moved.result c.args.self.now c.args.places.now c.holds_one_run.ensures c.requires.within c.requires.rising
-    c.requires.placed c.requires.well_placed c.movable-moved.ensures).within) in
-    let w = (moves c.args.gate c.args.at c.movable-moved.result c.args.self.now c.args.places.now c.holds_one_run.ensures c.requires.within
-    c.requires.rising c.requires.placed c.requires.well_placed c.movable-moved.ensures).within in omega (arith, c.requires.within)
+    (moved (goal.at.slice_bounds-set_places-end c).After-movable-moved).within)
 
 pub set_places-requires-clause-table_entries : goal.set_places-requires-clause-table_entries
 set_places-requires-clause-table_entries
     c = subst (λ k. AreTableEntries
     (take c.args.at c.args.self.now ++ take c.movable-moved.result c.args.places.now ++ drop (c.args.at + k) c.args.self.now))
     (sym (length-take-le c.movable-moved.result c.args.places.now
-    (moves c.args.gate c.args.at c.movable-moved.result c.args.self.now c.args.places.now c.holds_one_run.ensures c.requires.within c.requires.rising
-    c.requires.placed c.requires.well_placed c.movable-moved.ensures).within))
-    (moves c.args.gate c.args.at c.movable-moved.result c.args.self.now c.args.places.now c.holds_one_run.ensures c.requires.within c.requires.rising
-    c.requires.placed c.requires.well_placed c.movable-moved.ensures).table_entries
+    (moved (goal.at.set_places-requires-clause-table_entries c).After-movable-moved).within))
+    (moved (goal.at.set_places-requires-clause-table_entries c).After-movable-moved).table_entries
 
 pub count_moved-requires-clause-moved : goal.count_moved-requires-clause-moved
 count_moved-requires-clause-moved c =
-    let w = (moves c.args.gate c.args.at c.movable-moved.result c.args.self.now c.args.places.now c.holds_one_run.ensures c.requires.within
-    c.requires.rising c.requires.placed c.requires.well_placed c.movable-moved.ensures).within in omega (arith, c.requires.written)
+    let w = (moved (goal.at.count_moved-requires-clause-moved c).After-movable-moved).within in omega (arith, c.requires.written)
 
 pub count_moved-requires-clause-appended : goal.count_moved-requires-clause-appended
 count_moved-requires-clause-appended c =
-    let a = (moves c.args.gate c.args.at c.movable-moved.result c.args.self.now c.args.places.now c.holds_one_run.ensures c.requires.within
-    c.requires.rising c.requires.placed c.requires.well_placed c.movable-moved.ensures).appended in omega (arith, c.requires.counted Append)
+    let a = (moved (goal.at.count_moved-requires-clause-appended c).After-movable-moved).appended in omega (arith, c.requires.counted Append)
 
 new : (c : goal.After-count_moved) → c.set_places.new.self ≡ take c.args.at c.args.self.now ++ take c.movable-moved.result c.args.places.now ++ drop (c.args.at + c.movable-moved.result) c.args.self.now
 new c = c.in_ok-set_places.ensures.ok
@@ -51,7 +39,7 @@ returns-clause-ok c = rw (← c.movable-moved.ensures) (new c, c.count_moved.ens
 
 pub returns-clause-recounted : goal.returns-clause-recounted
 returns-clause-recounted c =
-    let f = (moves c.args.gate c.args.at c.movable-moved.result c.args.self.now c.args.places.now c.holds_one_run.ensures c.requires.within c.requires.rising c.requires.placed c.requires.well_placed c.movable-moved.ensures) in
+    let f = (moved (goal.at.returns-clause-recounted c).After-movable-moved) in
     let a = f.appended in
     let r = f.rewritten in
     rw (new c)

@@ -1,5 +1,4 @@
-use Rattle.std.proofs.Common.{inl, [], refl, ap}
-use Rattle.raft_table.specs.Blocks.{blocks_shown}
+use Rattle.raft_table.proofs.Common.{inl, [], refl, ap, blocks_shown}
 use Rattle.raft_table.proofs.BlockCuts.{kept_with, kept_nil}
 use Rattle.raft_table.proofs.memtable.entries.Entries.new.Goals as goal
 

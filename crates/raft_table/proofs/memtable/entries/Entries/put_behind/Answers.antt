@@ -1,5 +1,4 @@
 use Rattle.raft_base.specs.declared.pipe_log.LogQueue.TheVariants.{Append, Rewrite}
-use Rattle.raft_table.proofs.GoneLemmas.{same_exchange}
 use Rattle.raft_table.proofs.PlaceLemmas.{each_placed}
 use Rattle.raft_table.proofs.KeptUnderLemmas.{few_behind, full_behind, recounted_behind}
 use Rattle.raft_table.proofs.memtable.entries.Entries.put_behind.Goals as goal
@@ -27,7 +26,3 @@ returns-clause-recounted c =
     recounted_behind c.args.queue c.args.stats.now c.exchange.new.stats c.args.keep c.args.self.now c.args.run.now c.put_run.new.self _ _ _
     c.exchange.ensures.live c.count_behind-rewritten.ensures.rewritten c.count_behind-rewritten.ensures.appended c.len-added.ensures
     (each_placed c.args.queue c.args.run.now c.requires.queue) c.in_ok-put_run.ensures.ok.0
-
-pub returns-clause-counts : goal.returns-clause-counts
-returns-clause-counts c =
-    same_exchange c.args.queue c.args.stats.now c.exchange.new.stats _ _ _ _ _ _ c.exchange.ensures.counts c.len-added.ensures c.count_behind-rewritten.ensures.rewritten c.count_behind-rewritten.ensures.appended

@@ -1,14 +1,10 @@
-use Rattle.std.proofs.Common.{ℕ, ◌≡◌, ◌+◌, ◌-◌, inl, inr, min, List, [], ◌∷◌, ◌++◌, length, take, drop, arith, refl, sym, ap, subst, ◌∙◌}
-use Rattle.std.proofs.lemmas.List.{length-map}
-use Rattle.std.proofs.lemmas.Bool.{cases_lt}
-use Rattle.raft_table.specs.Blocks.{BlockSpans, block_spans, blocks_shown, entries_in_blocks}
-use Rattle.raft_table.specs.BlockWords.{without_first_spans, first_of_last, joined_blocks, seam}
-use Rattle.raft_table.specs.TableEntries.{AreTableEntries}
+use Rattle.raft_table.proofs.Common.{ℕ, ◌≡◌, ◌+◌, ◌-◌, inl, inr, min, List, [], ◌∷◌, ◌++◌, length, take, drop, arith, refl, sym, ap, subst, ◌∙◌, length-map, cases_lt, BlockSpans, block_spans, blocks_shown}
+use Rattle.raft_table.proofs.Common.{entries_in_blocks, without_first_spans, first_of_last, joined_blocks, seam, AreTableEntries, IsAt, ◌<◌}
 use Rattle.raft_table.proofs.BlockCuts.{kept_bounded, kept_with, found, index_of, kept_length, kept_facts}
 use Rattle.raft_table.proofs.BlockQueues.{block_at, block_within, spot_inside}
-use Rattle.raft_table.proofs.BlockKept.{IsKeptAs}
-use Rattle.raft_table.proofs.BetweenLemmas.{joined_some, pushed_length, between_fits, put_between, cut_order}
+use Rattle.raft_table.proofs.BlockKept.{IsKeptAs, joined_some, pushed_length, between_fits, put_between, cut_order}
 use Rattle.raft_table.proofs.memtable.entries.Entries.put_between.Goals as goal
+use Rattle.raft_table.proofs.memtable.entries.Entries.put_between.Goals.{After-find-nth, After-spot_behind-spot}
 
 pub keep_starts-requires-clause-bounded : goal.keep_starts-requires-clause-bounded
 keep_starts-requires-clause-bounded c l = kept_bounded c.self.invariant.0 (let n = length-map c.self.inside.blocks.items block_spans in omega arith)
@@ -17,76 +13,68 @@ pub keep_starts-requires-2-clause-bounded : goal.keep_starts-requires-2-clause-b
 keep_starts-requires-2-clause-bounded c l = kept_bounded c.run.invariant.0 (let n = length-map c.run.inside.blocks.items block_spans in omega arith)
 
 pub overflow_add-end : goal.overflow_add-end
-overflow_add-end c = let f = (between_fits c.self.invariant.0 c.run.invariant.0 c.args.at (rw (← c.run.view_is) at c.requires.run) (rw (← c.self.view_is, ← c.run.view_is) at c.requires.behind)) in let a = f.1 in let b = f.2 in omega arith
+overflow_add-end c = let f = (between_fits c.self.invariant.0 c.run.invariant.0 c.args.at c.self.view_is c.run.view_is c.requires.run c.requires.behind) in let a = f.1 in let b = f.2 in omega arith
 
 pub overflow_add-moved : goal.overflow_add-moved
-overflow_add-moved c = let f = (between_fits c.self.invariant.0 c.run.invariant.0 c.args.at (rw (← c.run.view_is) at c.requires.run)
-    (rw (← c.self.view_is, ← c.run.view_is) at c.requires.behind)) in let a = f.1 in let b = f.2 in let d = f.3 in omega arith
+overflow_add-moved c = let f = (between_fits c.self.invariant.0 c.run.invariant.0 c.args.at c.self.view_is c.run.view_is c.requires.run c.requires.behind) in let a = f.1 in let b = f.2 in let d = f.3 in omega arith
 
 pub overflow_add-rewritten : goal.overflow_add-rewritten
-overflow_add-rewritten c = let f = (between_fits c.self.invariant.0 c.run.invariant.0 c.args.at (rw (← c.run.view_is) at c.requires.run)
-    (rw (← c.self.view_is, ← c.run.view_is) at c.requires.behind)) in let a = f.1 in let b = f.2 in let d = f.3 in let e = f.4 in omega arith
+overflow_add-rewritten c = let f = (between_fits c.self.invariant.0 c.run.invariant.0 c.args.at c.self.view_is c.run.view_is c.requires.run c.requires.behind) in let a = f.1 in let b = f.2 in let d = f.3 in let e = f.4 in omega arith
 
 pub overflow_add-index : goal.overflow_add-index
-overflow_add-index c = let f = (between_fits c.self.invariant.0 c.run.invariant.0 c.args.at (rw (← c.run.view_is) at c.requires.run) (rw (← c.self.view_is, ← c.run.view_is) at c.requires.behind)) in let a = f.1 in let b = f.2 in omega arith
+overflow_add-index c = let f = (between_fits c.self.invariant.0 c.run.invariant.0 c.args.at c.self.view_is c.run.view_is c.requires.run c.requires.behind) in let a = f.1 in let b = f.2 in omega arith
 
 pub find-nth-requires : goal.find-nth-requires
 find-nth-requires c = index_of (kept_with c.self.invariant.0 c.in_ok-keep_starts.ensures.ok) (c.args.at + c.run.inside.len) refl
-    (between_fits c.self.invariant.0 c.run.invariant.0 c.args.at (rw (← c.run.view_is) at c.requires.run)
-    (rw (← c.self.view_is, ← c.run.view_is) at c.requires.behind)).1
+    (between_fits c.self.invariant.0 c.run.invariant.0 c.args.at c.self.view_is c.run.view_is c.requires.run c.requires.behind).1
+
+there : (c : After-find-nth) → IsAt (c.args.at + c.run.inside.len) (blocks_shown c.self.inside.blocks.items) c.find-nth.result.0 c.find-nth.result.1
+there c =
+    found (kept_with c.self.invariant.0 c.in_ok-keep_starts.ensures.ok) c.find-nth.ensures (c.args.at + c.run.inside.len) refl
+    (between_fits c.self.invariant.0 c.run.invariant.0 c.args.at c.self.view_is c.run.view_is c.requires.run c.requires.behind).1
 
 pub index-block-requires : goal.index-block-requires
 index-block-requires c = let w = block_within c.self.inside.blocks.items
-    (found (kept_with c.self.invariant.0 c.in_ok-keep_starts.ensures.ok) c.find-nth.ensures (c.args.at + c.run.inside.len) refl
-    (between_fits c.self.invariant.0 c.run.invariant.0 c.args.at (rw (← c.run.view_is) at c.requires.run)
-    (rw (← c.self.view_is, ← c.run.view_is) at c.requires.behind)).1) in omega (arith, c.self.inside.blocks.ok)
+    (there (goal.at.index-block-requires c).After-find-nth) in omega (arith, c.self.inside.blocks.ok)
 
 pub spans_behind-requires : goal.spans_behind-requires
 spans_behind-requires c = let b = block_at c.self.inside.blocks.items c.index-block.result.now
-    (found (kept_with c.self.invariant.0 c.in_ok-keep_starts.ensures.ok) c.find-nth.ensures (c.args.at + c.run.inside.len) refl
-    (between_fits c.self.invariant.0 c.run.invariant.0 c.args.at (rw (← c.run.view_is) at c.requires.run)
-    (rw (← c.self.view_is, ← c.run.view_is) at c.requires.behind)).1) c.index-block.ensures in let w = b.inside in omega arith
+    (there (goal.at.spans_behind-requires c).After-find-nth) c.index-block.ensures in let w = b.inside in omega arith
 
 pub spot_behind-spot-requires-clause-bounded : goal.spot_behind-spot-requires-clause-bounded
 spot_behind-spot-requires-clause-bounded c =
-    let f = (between_fits c.self.invariant.0 c.run.invariant.0 c.args.at (rw (← c.run.view_is) at c.requires.run)
-    (rw (← c.self.view_is, ← c.run.view_is) at c.requires.behind)) in let a = f.1 in let b = f.2 in omega arith
+    let f = (between_fits c.self.invariant.0 c.run.invariant.0 c.args.at c.self.view_is c.run.view_is c.requires.run c.requires.behind) in let a = f.1 in let b = f.2 in omega arith
 
 pub spot_behind-spot-requires-clause-within : goal.spot_behind-spot-requires-clause-within
 spot_behind-spot-requires-clause-within c l = index_of (kept_with c.self.invariant.0 c.in_ok-keep_starts.ensures.ok) (c.args.at - 1) refl
-    (let f = (between_fits c.self.invariant.0 c.run.invariant.0 c.args.at (rw (← c.run.view_is) at c.requires.run)
-    (rw (← c.self.view_is, ← c.run.view_is) at c.requires.behind)) in let a = f.1 in omega arith)
+    (let f = (between_fits c.self.invariant.0 c.run.invariant.0 c.args.at c.self.view_is c.run.view_is c.requires.run c.requires.behind) in let a = f.1 in omega arith)
 
 pub overflow_add-nth : goal.overflow_add-nth
 overflow_add-nth c = let w = block_within c.self.inside.blocks.items
-    (found (kept_with c.self.invariant.0 c.in_ok-keep_starts.ensures.ok) c.find-nth.ensures (c.args.at + c.run.inside.len) refl
-    (between_fits c.self.invariant.0 c.run.invariant.0 c.args.at (rw (← c.run.view_is) at c.requires.run)
-    (rw (← c.self.view_is, ← c.run.view_is) at c.requires.behind)).1) in omega (arith, c.self.inside.blocks.ok)
+    (there (goal.at.overflow_add-nth c).After-find-nth) in omega (arith, c.self.inside.blocks.ok)
+
+spot : (c : After-spot_behind-spot) → 0 < c.args.at → IsAt (c.args.at - 1) (blocks_shown c.self.inside.blocks.items) (c.spot_behind-spot.result.0 - 1) (c.spot_behind-spot.result.1 - 1)
+    × (0 < c.spot_behind-spot.result.0) × (0 < c.spot_behind-spot.result.1)
+spot c l =
+    let f = (between_fits c.self.invariant.0 c.run.invariant.0 c.args.at c.self.view_is c.run.view_is c.requires.run c.requires.behind).1 in
+    c.spot_behind-spot.ensures.some (blocks_shown c.self.inside.blocks.items) l c.in_ok-keep_starts.ensures.ok (let n = c.self.invariant.0.len in omega arith)
 
 pub put_blocks-requires-clause-order : goal.put_blocks-requires-clause-order
 put_blocks-requires-clause-order c =
     cut_order c.args.at (c.args.at + c.run.inside.len) c.spot_behind-spot.result.0 c.spot_behind-spot.result.1 c.find-nth.result.0 c.find-nth.result.1
     (blocks_shown c.self.inside.blocks.items) c.spot_behind-spot.ensures.none
-    (λ l. c.spot_behind-spot.ensures.some (blocks_shown c.self.inside.blocks.items) l c.in_ok-keep_starts.ensures.ok
-    (let f = (between_fits c.self.invariant.0 c.run.invariant.0 c.args.at (rw (← c.run.view_is) at c.requires.run)
-    (rw (← c.self.view_is, ← c.run.view_is) at c.requires.behind)) in let g = f.1 in let n = c.self.invariant.0.len in omega arith))
-    (found (kept_with c.self.invariant.0 c.in_ok-keep_starts.ensures.ok) c.find-nth.ensures (c.args.at + c.run.inside.len) refl
-    (between_fits c.self.invariant.0 c.run.invariant.0 c.args.at (rw (← c.run.view_is) at c.requires.run)
-    (rw (← c.self.view_is, ← c.run.view_is) at c.requires.behind)).1) (omega arith)
+    (spot (goal.at.put_blocks-requires-clause-order c).After-spot_behind-spot)
+    (there (goal.at.put_blocks-requires-clause-order c).After-find-nth) (omega arith)
 
 pub put_blocks-requires-clause-within : goal.put_blocks-requires-clause-within
 put_blocks-requires-clause-within c =
     let w = block_within c.self.inside.blocks.items
-    (found (kept_with c.self.invariant.0 c.in_ok-keep_starts.ensures.ok) c.find-nth.ensures (c.args.at + c.run.inside.len) refl
-    (between_fits c.self.invariant.0 c.run.invariant.0 c.args.at (rw (← c.run.view_is) at c.requires.run)
-    (rw (← c.self.view_is, ← c.run.view_is) at c.requires.behind)).1) in omega arith
+    (there (goal.at.put_blocks-requires-clause-within c).After-find-nth) in omega arith
 
 pub put_blocks-requires-clause-kept : goal.put_blocks-requires-clause-kept
 put_blocks-requires-clause-kept c d p =
     elim (cases_lt 0 c.args.at) [
-      | inl l ↦ let u = c.spot_behind-spot.ensures.some (blocks_shown c.self.inside.blocks.items) l c.in_ok-keep_starts.ensures.ok
-          (let f = (between_fits c.self.invariant.0 c.run.invariant.0 c.args.at (rw (← c.run.view_is) at c.requires.run)
-          (rw (← c.self.view_is, ← c.run.view_is) at c.requires.behind)) in let g = f.1 in let n = c.self.invariant.0.len in omega arith) in
+      | inl l ↦ let u = spot (goal.at.put_blocks-requires-clause-kept c).After-spot_behind-spot l in
           let w = spot_inside c.self.inside.blocks.items u.0 d in let v = u.2 in omega arith
       | inr l ↦ let z = (c.spot_behind-spot.ensures.none (omega arith)).0 in absurd (omega arith)
     ]
@@ -122,8 +110,7 @@ put c =
     let fs = entries_in_blocks c.run.inside.first (blocks_shown c.run.inside.blocks.items) in
     let b = block_at c.self.inside.blocks.items c.index-block.result.now
     (found (kept_with c.self.invariant.0 c.in_ok-keep_starts.ensures.ok) c.find-nth.ensures (c.args.at + c.run.inside.len) refl
-    (between_fits c.self.invariant.0 c.run.invariant.0 c.args.at (rw (← c.run.view_is) at c.requires.run)
-    (rw (← c.self.view_is, ← c.run.view_is) at c.requires.behind)).1) c.index-block.ensures in
+    (between_fits c.self.invariant.0 c.run.invariant.0 c.args.at c.self.view_is c.run.view_is c.requires.run c.requires.behind).1) c.index-block.ensures in
     let s : AreTableEntries (take c.args.at es ++ fs ++ drop (c.args.at + length fs) es) = rw (c.self.view_is, c.run.view_is) c.requires.table_entries in
     put_between (kept_with c.self.invariant.0 c.in_ok-keep_starts.ensures.ok) (kept_with c.run.invariant.0 c.in_ok-keep_starts-2.ensures.ok) c.args.at
     c.spot_behind-spot.result.0 c.spot_behind-spot.result.1 c.find-nth.result.0 c.find-nth.result.1
@@ -131,13 +118,10 @@ put c =
     (record { handle = c.index-block.result.now.handle; spans = c.in_ok-spans.spans.items })
     c.spot_behind-spot.ensures.none
     (λ l. c.spot_behind-spot.ensures.some (blocks_shown c.self.inside.blocks.items) l c.in_ok-keep_starts.ensures.ok
-    (let f = (between_fits c.self.invariant.0 c.run.invariant.0 c.args.at (rw (← c.run.view_is) at c.requires.run)
-    (rw (← c.self.view_is, ← c.run.view_is) at c.requires.behind)) in let g = f.1 in let n = c.self.invariant.0.len in omega arith))
+    (let f = (between_fits c.self.invariant.0 c.run.invariant.0 c.args.at c.self.view_is c.run.view_is c.requires.run c.requires.behind) in let g = f.1 in let n = c.self.invariant.0.len in omega arith))
     (found (kept_with c.self.invariant.0 c.in_ok-keep_starts.ensures.ok) c.find-nth.ensures (c.args.at + c.run.inside.len) refl
-    (between_fits c.self.invariant.0 c.run.invariant.0 c.args.at (rw (← c.run.view_is) at c.requires.run)
-    (rw (← c.self.view_is, ← c.run.view_is) at c.requires.behind)).1)
-    (between_fits c.self.invariant.0 c.run.invariant.0 c.args.at (rw (← c.run.view_is) at c.requires.run)
-    (rw (← c.self.view_is, ← c.run.view_is) at c.requires.behind)).0 refl b.same
+    (between_fits c.self.invariant.0 c.run.invariant.0 c.args.at c.self.view_is c.run.view_is c.requires.run c.requires.behind).1)
+    (between_fits c.self.invariant.0 c.run.invariant.0 c.args.at c.self.view_is c.run.view_is c.requires.run c.requires.behind).0 refl b.same
     (ap (λ (ss : List (ℕ × ℕ)). without_first_spans 0 (record { handle = c.index-block.result.now.handle; spans = ss })) c.in_ok-spans.ensures.ok)
     (subst (λ k. AreTableEntries (take c.args.at es ++ fs ++ drop (c.args.at + k) es)) (kept_facts c.run.invariant.0).length s)
 

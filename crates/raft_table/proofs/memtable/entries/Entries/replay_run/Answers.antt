@@ -1,17 +1,8 @@
-use Rattle.std.proofs.Common.{◌≡◌, ◌<◌, length, Some, sym, ap, ◌∙◌}
-use Rattle.raft_table.specs.TableEntries.{start_of}
+use Rattle.raft_table.proofs.Common.{◌≡◌, ◌<◌, length, start_of, on_ok_weaker}
 use Rattle.raft_table.proofs.SoundLemmas.{start_of_front}
-use Rattle.raft_table.proofs.GoneLemmas.{on_ok}
 use Rattle.raft_table.proofs.KeptUnderLemmas.{IsReplay, is_replay, sound_under, counts_under}
 use Rattle.raft_table.proofs.StartLemmas.{may_join}
 use Rattle.raft_table.proofs.memtable.entries.Entries.replay_run.Goals as goal
-
-pub put_run_behind-requires-clause-keep : goal.put_run_behind-requires-clause-keep
-put_run_behind-requires-clause-keep c =
-    let run = c.args.run.now in
-    let l : 0 < length run = c.in-Some.ensures.item.3.0 in
-    let s : start_of run ≡ c.in-Some.first.now.index = start_of_front run c.in-Some.first.now l c.in-Some.ensures.item.1 in
-    (is_replay c.args.queue c.args.self.now run c.in-Some-kept_under.keep c.kept_under.ensures.table_entries l (rw s c.in-Some-kept_under.ensures.kept)).within
 
 pub put_run_behind-requires-clause-table_entries : goal.put_run_behind-requires-clause-table_entries
 put_run_behind-requires-clause-table_entries c =
@@ -28,13 +19,7 @@ replay c =
     let s : start_of run ≡ c.in-Some.first.now.index = start_of_front run c.in-Some.first.now l c.in-Some.ensures.item.1 in
     is_replay c.args.queue c.args.self.now run c.in-Some-kept_under.keep c.kept_under.ensures.table_entries l (rw s c.in-Some-kept_under.ensures.kept)
 
-pub returns-clause-ok : goal.returns-clause-ok
-returns-clause-ok c = on_ok c.put_run_behind.result (λ w. (replay c).after ∙ ap (λ es. Some es) (sym w)) c.put_run_behind.ensures.ok
-
-pub returns-clause-fault : goal.returns-clause-fault
-returns-clause-fault c = rw (replay c).after c.put_run_behind.ensures.fault
-
 pub returns-clause-counts : goal.returns-clause-counts
 returns-clause-counts c =
     let l : 0 < length c.args.run.now = c.in-Some.ensures.item.3.0 in
-    on_ok c.put_run_behind.result (λ w. counts_under c.args.queue c.args.queue c.args.self.now c.args.run.now c.in-Some-kept_under.keep c.args.stats.now c.put_run_behind.new.stats l (replay c) w) c.put_run_behind.ensures.counts
+    on_ok_weaker c.put_run_behind.result (λ w. counts_under c.args.queue c.args.queue c.args.self.now c.args.run.now c.in-Some-kept_under.keep c.args.stats.now c.put_run_behind.new.stats l (replay c) w) c.put_run_behind.ensures.counts

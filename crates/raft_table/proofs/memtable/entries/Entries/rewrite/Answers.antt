@@ -1,30 +1,23 @@
-use Rattle.std.proofs.Common.{ℕ, ◌⊎◌, inl, inr, arith, sym, subst, ◌≡◌, ◌+◌, ◌≤◌, ◌^◌, length, ap, ◌∙◌, Some, None, List, [], Option}
-use Rattle.std.proofs.lemmas.Result.{on_ok_weaker, IfErr-weaker}
-use Rattle.raft_base.specs.declared.errors.Error.{Error}
+use Rattle.raft_table.proofs.Common.{ℕ, ◌⊎◌, inl, inr, arith, sym, subst, ◌≡◌, ◌+◌, ◌≤◌, ◌^◌, length, ap, ◌∙◌, Some, None, List, [], Option, on_ok_weaker, IfErr-weaker, Error, EntryIndex, Counts, live, IsCorruption}
+use Rattle.raft_table.proofs.Common.{end_bounded, start_of, entries_after_rewrite, with_rewritten, IsRewriteFault, MovesPlacesAlone, Rewrite}
 use Rattle.raft_base.specs.declared.errors.Error.TheVariants as errors
-use Rattle.raft_base.specs.declared.pipe_log.LogQueue.TheVariants.{Rewrite}
-use Rattle.raft_base.specs.declared.entry_index.EntryIndex.{EntryIndex}
-use Rattle.raft_table.specs.Counts.{Counts, live}
-use Rattle.raft_base.specs.Corruption.{IsCorruption}
-use Rattle.raft_base.proofs.ConsecutiveLemmas.{end_bounded}
-use Rattle.raft_table.specs.TableEntries.{start_of}
-use Rattle.raft_table.specs.Rewriting.{entries_after_rewrite, with_rewritten, IsRewriteFault, MovesPlacesAlone}
 use Rattle.raft_table.proofs.SoundLemmas.{start_of_front, no_first}
 use Rattle.raft_table.proofs.RewriteLemmas.{RewritesAt, rewrites_at, rewritten_none, rewritten_apart, recounted_apart, recounted_is, run_end}
 use Rattle.raft_table.proofs.AloneLemmas.{none_moved, moved_alone}
 use Rattle.raft_table.proofs.memtable.entries.Entries.rewrite.Goals as goal
+use Rattle.raft_table.proofs.memtable.entries.Entries.rewrite.Goals.{In-Some, In-Some-overlap, In_default-overlap}
 
 pub returns-in_default-clause-ok : goal.returns-in_default-clause-ok
 returns-in_default-clause-ok c =
     let e : c.args.run.now ≡ [] = no_first c.args.run.now c.in_default.ensures.value in
     rw e (rewritten_none c.args.gate c.args.self.now)
 
-start_known : (c : goal.At-field_known-1-known-fits) → start_of c.args.run.now ≡ c.in-Some.head.now.index
+start_known : (c : In-Some) → start_of c.args.run.now ≡ c.in-Some.head.now.index
 start_known c = start_of_front c.args.run.now c.in-Some.head.now c.in-Some.ensures.item.3.0 c.in-Some.ensures.item.1
 
 pub overlap-requires : goal.overlap-requires
 overlap-requires c =
-    let s = start_known c in
+    let s = start_known (goal.at.overlap-requires c).In-Some in
     let e = run_end Rewrite c.args.run.now c.requires.run c.in-Some.ensures.item.3.0 in
     let b = end_bounded c.args.run.now c.requires.run.consecutive.bounded in
     omega arith
@@ -34,69 +27,56 @@ full_is : (n : ℕ) (counts : Counts) (gate : Option ℕ) (run es after : List E
     2 ^ 64 ≤ live Rewrite counts + n → IsRewriteFault n counts (entries_after_rewrite gate run es) errors.Full
 full_is n counts gate run es after e h = rw e h
 
-start_apart : (c : goal.After-count_unmoved) → start_of c.args.run.now ≡ c.in-Some.head.now.index
-start_apart c = start_of_front c.args.run.now c.in-Some.head.now c.in-Some.ensures.item.3.0 c.in-Some.ensures.item.1
-
-apart : (c : goal.After-count_unmoved) → entries_after_rewrite c.args.gate c.args.run.now c.args.self.now ≡ Some c.args.self.now
-apart c = rewritten_apart c.args.gate Rewrite c.args.run.now c.args.self.now c.overlap.ensures.table_entries c.requires.run c.in-Some.ensures.item.3.0 (rw (start_apart c) c.in_default-overlap.ensures.meets)
+apart : (c : In_default-overlap) → entries_after_rewrite c.args.gate c.args.run.now c.args.self.now ≡ Some c.args.self.now
+apart c =
+    rewritten_apart c.args.gate Rewrite c.args.run.now c.args.self.now c.overlap.ensures.table_entries c.requires.run c.in-Some.ensures.item.3.0
+    (rw (start_of_front c.args.run.now c.in-Some.head.now c.in-Some.ensures.item.3.0 c.in-Some.ensures.item.1) c.in_default-overlap.ensures.meets)
 
 pub returns-in_default-overlap-clause-ok : goal.returns-in_default-overlap-clause-ok
-returns-in_default-overlap-clause-ok c = on_ok_weaker c.count_unmoved.result (λ h. apart c) c.count_unmoved.ensures.ok
+returns-in_default-overlap-clause-ok c = on_ok_weaker c.add_unmoved.result (λ h. apart (goal.at.returns-in_default-overlap-clause-ok c).In_default-overlap) c.add_unmoved.ensures.ok
 
 pub returns-in_default-overlap-clause-counts : goal.returns-in_default-overlap-clause-counts
 returns-in_default-overlap-clause-counts c =
-    on_ok_weaker c.count_unmoved.result
-    (λ h. h ∙ sym (recounted_apart c.args.gate Rewrite c.args.run.now c.args.self.now c.args.stats.now c.overlap.ensures.table_entries c.requires.run c.in-Some.ensures.item.3.0 (rw (start_apart c) c.in_default-overlap.ensures.meets)))
-    c.count_unmoved.ensures.ok
+    on_ok_weaker c.add_unmoved.result
+    (λ h. h ∙ sym (recounted_apart c.args.gate Rewrite c.args.run.now c.args.self.now c.args.stats.now c.overlap.ensures.table_entries c.requires.run c.in-Some.ensures.item.3.0
+    (rw (start_of_front c.args.run.now c.in-Some.head.now c.in-Some.ensures.item.3.0 c.in-Some.ensures.item.1) c.in_default-overlap.ensures.meets)))
+    c.add_unmoved.ensures.ok
 
 pub returns-in_default-overlap-clause-fault : goal.returns-in_default-overlap-clause-fault
 returns-in_default-overlap-clause-fault c =
-    IfErr-weaker c.count_unmoved.result (λ e. (e ≡ errors.Full) × (2 ^ 64 ≤ live Rewrite c.args.stats.now + length c.args.run.now))
+    IfErr-weaker c.add_unmoved.result (λ e. (e ≡ errors.Full) × (2 ^ 64 ≤ live Rewrite c.args.stats.now + length c.args.run.now))
     (IsRewriteFault (length c.args.run.now) c.args.stats.now (entries_after_rewrite c.args.gate c.args.run.now c.args.self.now))
-    (λ e h. rw h.0 (full_is (length c.args.run.now) c.args.stats.now c.args.gate c.args.run.now c.args.self.now c.args.self.now (apart c) h.1)) c.count_unmoved.ensures.full
+    (λ e h. rw h.0 (full_is (length c.args.run.now) c.args.stats.now c.args.gate c.args.run.now c.args.self.now c.args.self.now (apart (goal.at.returns-in_default-overlap-clause-fault c).In_default-overlap) h.1)) c.add_unmoved.ensures.full
 
 corruption_is : (n : ℕ) (counts : Counts) (text : List ℕ) (e : Error) → IsCorruption text e → IsRewriteFault n counts None e
 corruption_is n counts text (errors.Corruption t) h = tt
 corruption_is n counts text errors.Memory h = tt
 corruption_is n counts text _ h = absurd h
 
-start_refused : (c : goal.After-corruption) → start_of c.args.run.now ≡ c.in-Some.head.now.index
-start_refused c = start_of_front c.args.run.now c.in-Some.head.now c.in-Some.ensures.item.3.0 c.in-Some.ensures.item.1
-
-at_refused : (c : goal.After-corruption) → RewritesAt c.args.gate c.args.run.now c.args.self.now c.in-Some-overlap.overlap.at c.in-Some-overlap.overlap.skipped c.in-Some-overlap.overlap.count
-at_refused c = rewrites_at c.args.gate c.args.run.now c.args.self.now c.in-Some-overlap.overlap c.overlap.ensures.table_entries c.requires.run c.in-Some.ensures.item.3.0 (rw (start_refused c) c.in-Some-overlap.ensures.meets)
+rewrites : (c : In-Some-overlap) → RewritesAt c.args.gate c.args.run.now c.args.self.now c.in-Some-overlap.overlap.at c.in-Some-overlap.overlap.skipped c.in-Some-overlap.overlap.count
+rewrites c =
+    rewrites_at c.args.gate c.args.run.now c.args.self.now c.in-Some-overlap.overlap c.overlap.ensures.table_entries c.requires.run c.in-Some.ensures.item.3.0
+    (rw (start_of_front c.args.run.now c.in-Some.head.now c.in-Some.ensures.item.3.0 c.in-Some.ensures.item.1) c.in-Some-overlap.ensures.meets)
 
 pub returns-then-is_misplaced-clause-fault : goal.returns-then-is_misplaced-clause-fault
 returns-then-is_misplaced-clause-fault c =
-    rw ((at_refused c).refused (sym c.if-is_misplaced.ensures))
+    rw ((rewrites (goal.at.returns-then-is_misplaced-clause-fault c).In-Some-overlap).refused (sym c.if-is_misplaced.ensures))
     (corruption_is (length c.args.run.now) c.args.stats.now _ c.corruption.result c.corruption.ensures)
 
-start_places : (c : goal.After-move_places-arg-2-1) → start_of c.args.run.now ≡ c.in-Some.head.now.index
-start_places c = start_of_front c.args.run.now c.in-Some.head.now c.in-Some.ensures.item.3.0 c.in-Some.ensures.item.1
-
-at_places : (c : goal.After-move_places-arg-2-1) → RewritesAt c.args.gate c.args.run.now c.args.self.now c.in-Some-overlap.overlap.at c.in-Some-overlap.overlap.skipped c.in-Some-overlap.overlap.count
-at_places c = rewrites_at c.args.gate c.args.run.now c.args.self.now c.in-Some-overlap.overlap c.overlap.ensures.table_entries c.requires.run c.in-Some.ensures.item.3.0 (rw (start_places c) c.in-Some-overlap.ensures.meets)
-
 pub move_places-requires-clause-rising : goal.move_places-requires-clause-rising
-move_places-requires-clause-rising c = (at_places c).rising
+move_places-requires-clause-rising c = (rewrites (goal.at.move_places-requires-clause-rising c).In-Some-overlap).rising
 
 pub move_places-requires-clause-placed : goal.move_places-requires-clause-placed
-move_places-requires-clause-placed c = (at_places c).placed
-
-start_moved : (c : goal.After-move_places) → start_of c.args.run.now ≡ c.in-Some.head.now.index
-start_moved c = start_of_front c.args.run.now c.in-Some.head.now c.in-Some.ensures.item.3.0 c.in-Some.ensures.item.1
-
-at_moved : (c : goal.After-move_places) → RewritesAt c.args.gate c.args.run.now c.args.self.now c.in-Some-overlap.overlap.at c.in-Some-overlap.overlap.skipped c.in-Some-overlap.overlap.count
-at_moved c = rewrites_at c.args.gate c.args.run.now c.args.self.now c.in-Some-overlap.overlap c.overlap.ensures.table_entries c.requires.run c.in-Some.ensures.item.3.0 (rw (start_moved c) c.in-Some-overlap.ensures.meets)
+move_places-requires-clause-placed c = (rewrites (goal.at.move_places-requires-clause-placed c).In-Some-overlap).placed
 
 pub returns-clause-ok : goal.returns-clause-ok
 returns-clause-ok c =
-    let f = at_moved c in
+    let f = rewrites (goal.at.returns-clause-ok c).In-Some-overlap in
     on_ok_weaker c.move_places.result (λ h. f.ok (sym c.if-is_misplaced.ensures) ∙ ap (λ es. Some es) (sym h.0)) c.move_places.ensures.ok
 
 pub returns-clause-counts : goal.returns-clause-counts
 returns-clause-counts c =
-    let f = at_moved c in
+    let f = rewrites (goal.at.returns-clause-counts c).In-Some-overlap in
     on_ok_weaker c.move_places.result (λ h. h.1 ∙ ap (λ m. with_rewritten c.args.gate (length c.args.run.now) m c.args.stats.now) (sym f.counts)
     ∙ sym (recounted_is c.args.gate c.args.run.now c.args.self.now c.args.stats.now c.in-Some.ensures.item.3.0)) c.move_places.ensures.ok
 
@@ -109,7 +89,7 @@ either_is n counts gate run es after e h (inr f) = rw f.0 (full_is n counts gate
 
 pub returns-clause-fault : goal.returns-clause-fault
 returns-clause-fault c =
-    let f = at_moved c in
+    let f = rewrites (goal.at.returns-clause-fault c).In-Some-overlap in
     IfErr-weaker c.move_places.result
     (λ e. (e ≡ errors.Memory) ⊎ ((e ≡ errors.Full) × (2 ^ 64 ≤ live Rewrite c.args.stats.now + length c.args.run.now)))
     (IsRewriteFault (length c.args.run.now) c.args.stats.now (entries_after_rewrite c.args.gate c.args.run.now c.args.self.now))
@@ -119,11 +99,12 @@ pub returns-in_default-clause-places_alone : goal.returns-in_default-clause-plac
 returns-in_default-clause-places_alone c = none_moved c.args.run.now c.args.self.now
 
 pub returns-in_default-overlap-clause-places_alone : goal.returns-in_default-overlap-clause-places_alone
-returns-in_default-overlap-clause-places_alone c = on_ok_weaker c.count_unmoved.result (λ h. none_moved c.args.run.now c.args.self.now) c.count_unmoved.ensures.ok
+returns-in_default-overlap-clause-places_alone c = on_ok_weaker c.add_unmoved.result (λ h. none_moved c.args.run.now c.args.self.now) c.add_unmoved.ensures.ok
 
 pub returns-clause-places_alone : goal.returns-clause-places_alone
 returns-clause-places_alone c =
     let met = c.in-Some-overlap.overlap in
     on_ok_weaker c.move_places.result
-    (λ h. subst (MovesPlacesAlone c.args.run.now c.args.self.now) (sym h.0) (moved_alone c.args.gate c.args.run.now c.args.self.now met.at met.skipped met.count c.overlap.ensures.table_entries (at_moved c)))
+    (λ h. subst (MovesPlacesAlone c.args.run.now c.args.self.now) (sym h.0)
+    (moved_alone c.args.gate c.args.run.now c.args.self.now met.at met.skipped met.count c.overlap.ensures.table_entries (rewrites (goal.at.returns-clause-places_alone c).In-Some-overlap)))
     c.move_places.ensures.ok

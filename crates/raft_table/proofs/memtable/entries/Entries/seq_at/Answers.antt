@@ -1,27 +1,18 @@
-use Rattle.std.proofs.Common.{arith, refl}
-use Rattle.raft_table.specs.Blocks.{block_spans, blocks_shown, entries_in_blocks}
-use Rattle.raft_table.proofs.BlockCuts.{within_of, spot_at, kept_facts}
-use Rattle.std.proofs.lemmas.Option.{slice_get_past}
+use Rattle.raft_table.proofs.Common.{arith, refl, block_spans, blocks_shown, entries_in_blocks, slice_get_past}
+use Rattle.raft_table.proofs.BlockCuts.{within_of, kept_facts}
 use Rattle.raft_table.proofs.BlockParts.{seq_at_spot}
-use Rattle.raft_table.proofs.BlockQueues.{block_at, block_within}
+use Rattle.raft_table.proofs.BlockQueues.{block_at}
 use Rattle.raft_table.proofs.memtable.entries.Entries.seq_at.Goals as goal
 
 pub returns-then-at-self : goal.returns-then-at-self
 returns-then-at-self c = let l = (kept_facts c.self.invariant.0).length in rw (← c.self.view_is, slice_get_past (entries_in_blocks c.self.inside.first (blocks_shown c.self.inside.blocks.items)) c.args.at (omega arith)) refl
 
-pub overflow_add-index : goal.overflow_add-index
-overflow_add-index c = let b = (kept_facts c.self.invariant.0).bounded (omega arith) in omega arith
-
 pub spot_of-nth-requires-clause-within : goal.spot_of-nth-requires-clause-within
-spot_of-nth-requires-clause-within c = within_of c.self.invariant.0 c.args.at refl (omega arith)
-
-pub index-requires : goal.index-requires
-index-requires c =
-    let w = block_within c.self.inside.blocks.items (spot_at c.self.inside.first _ c.spot_of-nth.ensures c.args.at refl) in omega (arith, c.self.inside.blocks.ok)
+spot_of-nth-requires-clause-within c = within_of c.self.invariant.0 c.args.at (omega arith)
 
 pub returns : goal.returns
 returns c =
-    let a = spot_at c.self.inside.first _ c.spot_of-nth.ensures c.args.at refl in
+    let a = c.spot_of-nth.ensures in
     let b = block_at c.self.inside.blocks.items c.index.result.now a c.index.ensures in
     rw (← c.self.view_is)
     (seq_at_spot c.self.inside.first c.args.at c.spot_of-nth.result.0 c.spot_of-nth.result.1 (blocks_shown c.self.inside.blocks.items) (block_spans c.index.result.now) a b.same)

@@ -1,11 +1,7 @@
-use Rattle.std.proofs.Common.{ℕ, ◌≡◌, ◌+◌, ◌≤◌, List, [], ◌++◌, length, take, drop, arith, sym, ap, subst, ◌∙◌}
-use Rattle.std.proofs.lemmas.List.{append-nil, drop_all}
-use Rattle.std.proofs.lemmas.Result.{on_ok_weaker}
-use Rattle.raft_table.specs.Blocks.{blocks_shown, entries_in_blocks}
-use Rattle.raft_table.specs.TableEntries.{AreTableEntries}
+use Rattle.raft_table.proofs.Common.{ℕ, ◌≡◌, ◌+◌, ◌≤◌, List, [], ◌++◌, length, take, drop, arith, sym, ap, subst, ◌∙◌, append-nil, drop_all, on_ok_weaker, blocks_shown, entries_in_blocks, AreTableEntries}
 use Rattle.raft_table.proofs.BlockCuts.{kept_facts}
-use Rattle.raft_table.proofs.MovesLemmas.{middle_sound}
 use Rattle.raft_table.proofs.memtable.entries.Entries.set_places.Goals as goal
+use Rattle.raft_table.proofs.RewriteLemmas.{middle_sound}
 
 pub overflow_add-at : goal.overflow_add-at
 overflow_add-at c = let l = (kept_facts c.self.invariant.0).length in let h = rw (← c.self.view_is) at c.requires.within in let r = c.self.ranges in omega (arith, c.self.ranges)

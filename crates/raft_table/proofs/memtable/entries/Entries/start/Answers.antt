@@ -1,5 +1,4 @@
-use Rattle.std.proofs.Common.{◌-◌, arith}
-use Rattle.raft_table.specs.Blocks.{blocks_shown, entries_in_blocks}
+use Rattle.raft_table.proofs.Common.{◌-◌, arith, blocks_shown, entries_in_blocks}
 use Rattle.raft_table.proofs.BlockCuts.{kept_facts}
 use Rattle.raft_table.proofs.StartLemmas.{start_none, start_in_front, start_behind, start_joins}
 use Rattle.raft_table.proofs.memtable.entries.Entries.start.Goals as goal

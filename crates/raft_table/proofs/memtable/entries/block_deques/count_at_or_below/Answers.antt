@@ -1,7 +1,4 @@
-use Rattle.std.proofs.Common.{ℕ, ◌≡◌, arith, true, false, leb, rules}
-use Rattle.std.specs.List.Sorted.{IsPartitionPoint}
-use Rattle.std.proofs.lemmas.Bool.{leb-true, leb-false}
-use Rattle.std.proofs.lemmas.List.Sorted.{IsPartitionPoint-from_clause, IsPartitionedBy-leb}
+use Rattle.raft_table.proofs.Common.{ℕ, ◌≡◌, arith, true, false, leb, rules, IsPartitionPoint, leb-true, leb-false, IsPartitionPoint-from_clause, IsPartitionedBy-leb}
 use Rattle.raft_table.proofs.memtable.entries.block_deques.count_at_or_below.Goals as goal
 
 point : (c : goal.After-partition_point) → IsPartitionPoint (λ (y : ℕ). leb y c.args.index ≡ true) (λ (y : ℕ). leb y c.args.index ≡ false) c.args.starts.now.items c.partition_point.result

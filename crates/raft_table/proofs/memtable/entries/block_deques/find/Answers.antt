@@ -1,7 +1,5 @@
-use Rattle.std.proofs.Common.{suc, ◌≡◌, ◌+◌, ◌<◌, ltb, true, get_or, arith, sym, ap, ◌∙◌}
-use Rattle.std.proofs.lemmas.List.{get_or_default}
-use Rattle.raft_table.proofs.BlockSearch.{at_start, index_some}
-use Rattle.std.proofs.lemmas.Bool.Decides.{nat_tests}
+use Rattle.raft_table.proofs.Common.{suc, ◌≡◌, ◌+◌, ◌<◌, ltb, true, get_or, arith, sym, ap, ◌∙◌, get_or_default, nat_tests}
+use Rattle.raft_table.proofs.BlockLemmas.{at_start, index_some}
 use Rattle.raft_table.proofs.memtable.entries.block_deques.find.Goals.{then-guess-last, else-guess-last}
 use Rattle.raft_table.proofs.memtable.entries.block_deques.find.Goals as goal
 

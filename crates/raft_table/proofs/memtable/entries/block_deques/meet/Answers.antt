@@ -1,15 +1,12 @@
-use Rattle.std.proofs.Common.{◌≡◌, ◌-◌, drop, set, arith, refl, ap, ◌∙◌}
-use Rattle.std.proofs.lemmas.Result.{err_from_is_err_and}
-use Rattle.raft_table.specs.Blocks.{blocks_shown}
+use Rattle.raft_table.proofs.Common.{◌≡◌, ◌-◌, drop, set, arith, refl, ap, ◌∙◌, err_from_is_err_and, blocks_shown, Block}
 use Rattle.raft_table.proofs.BlockQueues.{AreMet, met_same, met_other, set_same, rest_set, one_block}
-use Rattle.raft_table.specs.declared.memtable.block.Block.{Block}
 use Rattle.raft_table.proofs.memtable.entries.block_deques.meet.Goals as goal
 
 other : (c : goal.After-blocks-1) → AreMet c.args.spot.0 c.args.spot.1 (blocks_shown c.args.blocks.now.items)
-    (blocks_shown (set c.args.blocks.now.items (c.args.spot.0 - 1) c.shorten.new.block)) (blocks_shown c.args.more.now.items)
+    (blocks_shown (set c.args.blocks.now.items (c.args.spot.0 - 1) (record { handle = c.index_mut.result.now.handle; spans = c.truncate.new.self }))) (blocks_shown c.args.more.now.items)
     (blocks_shown c.args.more.now.items) 0
-other c = met_other c.args.spot.0 c.args.spot.1 c.args.blocks.now.items c.args.more.now.items c.index.result.now c.index_mut.result.now c.shorten.new.block c.index-2.result.now
-    (omega arith) c.requires.within c.requires.more c.index.ensures c.index-2.ensures c.if-not-is_same.ensures c.index_mut.ensures.value c.shorten.ensures.handle c.shorten.ensures.spans
+other c = met_other c.args.spot.0 c.args.spot.1 c.args.blocks.now.items c.args.more.now.items c.index.result.now c.index_mut.result.now (record { handle = c.index_mut.result.now.handle; spans = c.truncate.new.self }) c.index-2.result.now
+    (omega arith) c.requires.within c.requires.more c.index.ensures c.index-2.ensures c.if-not-is_same.ensures c.index_mut.ensures.value refl c.truncate.ensures.items
 
 pub returns-then-not-is_same-clause-front : goal.returns-then-not-is_same-clause-front
 returns-then-not-is_same-clause-front c = (other c).front

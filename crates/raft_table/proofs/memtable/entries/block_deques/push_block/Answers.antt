@@ -1,10 +1,5 @@
-use Rattle.std.proofs.Common.{◌≡◌, ◌-◌, ◌<◌, List, [], ◌∷◌, ◌++◌, length, take, set, arith, refl, ap, ◌∙◌}
-use Rattle.std.proofs.lemmas.List.{take_all}
-use Rattle.std.proofs.lemmas.Result.{on_ok_weaker, IfErr-weaker}
-use Rattle.raft_table.specs.Blocks.{block_spans, blocks_shown}
-use Rattle.raft_table.specs.BlockWords.{joined_blocks, seam}
+use Rattle.raft_table.proofs.Common.{◌≡◌, ◌-◌, ◌<◌, List, [], ◌∷◌, ◌++◌, length, take, set, arith, refl, ap, ◌∙◌, take_all, on_ok_weaker, IfErr-weaker, block_spans, blocks_shown, joined_blocks, seam, Block}
 use Rattle.raft_table.proofs.BlockQueues.{pushed_same, pushed_other, set_same, one_block}
-use Rattle.raft_table.specs.declared.memtable.block.Block.{Block}
 use Rattle.raft_table.proofs.memtable.entries.block_deques.push_block.Goals.{then-len-gt0+else-is_same, else-len-gt0}
 use Rattle.raft_table.proofs.memtable.entries.block_deques.push_block.Goals as goal
 

@@ -1,9 +1,5 @@
-use Rattle.std.proofs.Common.{◌≡◌, ◌+◌, ◌<◌, suc, get_or, [], ◌∷◌, ◌++◌, length, take, arith, sym, ap, ◌∙◌}
-use Rattle.std.proofs.lemmas.List.{length-map}
-use Rattle.raft_table.specs.Blocks.{BlockSpans, block_spans, blocks_shown}
-use Rattle.raft_table.specs.BlockWords.{count, starts_of}
-use Rattle.raft_table.proofs.BlockLemmas.{starts_more, count_take_more}
-use Rattle.raft_table.proofs.BlockSearch.{count_front}
+use Rattle.raft_table.proofs.Common.{◌≡◌, ◌+◌, ◌<◌, suc, get_or, [], ◌∷◌, ◌++◌, length, take, arith, sym, ap, ◌∙◌, length-map, BlockSpans, block_spans, blocks_shown, count, starts_of}
+use Rattle.raft_table.proofs.BlockLemmas.{starts_more, count_take_more, count_front}
 use Rattle.raft_table.proofs.BlockQueues.{shown_at}
 use Rattle.raft_table.proofs.memtable.entries.block_deques.push_starts.Goals as goal
 

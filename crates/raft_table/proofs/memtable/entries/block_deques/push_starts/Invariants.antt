@@ -1,7 +1,4 @@
-use Rattle.std.proofs.Common.{◌≡◌, ◌+◌, ◌≤◌, length, take}
-use Rattle.std.specs.VecDeque.{deque_len, deque_capacity}
-use Rattle.raft_table.specs.Blocks.{blocks_shown}
-use Rattle.raft_table.specs.BlockWords.{count, starts_of}
+use Rattle.raft_table.proofs.Common.{◌≡◌, ◌+◌, ◌≤◌, length, take, deque_len, deque_capacity, blocks_shown, count, starts_of}
 use Rattle.raft_table.proofs.memtable.entries.block_deques.push_starts.Given as goal
 
 abbrev pub invariant-loop-i : goal.invariant-loop-i

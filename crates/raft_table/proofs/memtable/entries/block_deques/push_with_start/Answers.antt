@@ -1,9 +1,5 @@
-use Rattle.std.proofs.Common.{ℕ, ◌≡◌, ◌+◌, ◌<◌, List, [], ◌∷◌, ◌++◌, length, drop, arith, sym, ap, ◌∙◌}
-use Rattle.std.proofs.lemmas.List.{length-map, append-nil}
-use Rattle.raft_table.specs.declared.memtable.block.Block.{Block}
-use Rattle.raft_table.specs.Blocks.{BlockSpans, block_spans, blocks_shown}
-use Rattle.raft_table.specs.BlockWords.{joined_blocks, seam}
-use Rattle.raft_table.proofs.BetweenLemmas.{pushed_count, none_left, one_left}
+use Rattle.raft_table.proofs.Common.{ℕ, ◌≡◌, ◌+◌, ◌<◌, List, [], ◌∷◌, ◌++◌, length, drop, arith, sym, ap, ◌∙◌, length-map, append-nil, Block, BlockSpans, block_spans, blocks_shown, joined_blocks, seam}
+use Rattle.raft_table.proofs.BlockKept.{pushed_count, none_left, one_left}
 use Rattle.raft_table.proofs.memtable.entries.block_deques.push_with_start.Goals as goal
 
 -- as many blocks more as first indexes

@@ -1,16 +1,6 @@
-use Rattle.std.proofs.Common.{◌++◌, take, drop, refl, ap, ◌∙◌}
-use Rattle.raft_table.specs.Blocks.{blocks_shown}
-use Rattle.raft_table.specs.BlockWords.{first_of_last, joined_blocks}
-use Rattle.raft_table.proofs.BlockQueues.{room_left, shown_three}
+use Rattle.raft_table.proofs.Common.{◌++◌, take, drop, ap, ◌∙◌, blocks_shown, first_of_last, joined_blocks}
+use Rattle.raft_table.proofs.BlockQueues.{shown_three}
 use Rattle.raft_table.proofs.memtable.entries.block_deques.put_blocks.Goals as goal
-
-pub splice-requires-clause-room : goal.splice-requires-clause-room
-splice-requires-clause-room c =
-    room_left _ _ _ _ _ _ _ _ c.in_ok-make_room.ensures.ok c.meet.ensures.room.0 c.meet.ensures.fewer.0 c.meet.ensures.room.1 c.meet.ensures.kept_room.0
-
-pub splice-requires-2-clause-room : goal.splice-requires-2-clause-room
-splice-requires-2-clause-room c =
-    room_left _ _ _ _ _ _ _ _ c.in_ok-make_room-2.ensures.ok refl c.meet.ensures.fewer.1 refl c.meet.ensures.kept_room.1
 
 pub returns-clause-blocks : goal.returns-clause-blocks
 returns-clause-blocks c =

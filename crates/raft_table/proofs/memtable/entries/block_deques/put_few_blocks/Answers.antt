@@ -1,7 +1,4 @@
-use Rattle.std.proofs.Common.{◌++◌, take, sym, ap, ◌∙◌}
-use Rattle.std.proofs.lemmas.List.{take-map, map-append}
-use Rattle.raft_table.specs.Blocks.{block_spans, blocks_shown}
-use Rattle.raft_table.specs.BlockWords.{first_of_last, joined_blocks}
+use Rattle.raft_table.proofs.Common.{◌++◌, take, sym, ap, ◌∙◌, take-map, map-append, block_spans, blocks_shown, first_of_last, joined_blocks}
 use Rattle.raft_table.proofs.memtable.entries.block_deques.put_few_blocks.Goals as goal
 
 pub returns-clause-ok : goal.returns-clause-ok

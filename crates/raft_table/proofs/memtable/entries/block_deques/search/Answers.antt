@@ -1,5 +1,5 @@
 use Rattle.std.proofs.Common.{suc, ◌≡◌, ◌-◌, ◌<◌, get_or, arith, sym, subst}
-use Rattle.raft_table.proofs.BlockSearch.{at_start, index_some, index_rises, found_some}
+use Rattle.raft_table.proofs.BlockLemmas.{at_start, index_some, index_rises, found_some}
 use Rattle.raft_table.proofs.memtable.entries.block_deques.search.Goals as goal
 
 pub overflow_sub-last : goal.overflow_sub-last

@@ -1,5 +1,4 @@
-use Rattle.std.proofs.Common.{◌≡◌, ◌-◌, ◌≤◌, length, take, drop}
-use Rattle.std.specs.VecDeque.{deque_len, deque_capacity}
+use Rattle.raft_table.proofs.Common.{◌≡◌, ◌-◌, ◌≤◌, length, take, drop, deque_len, deque_capacity}
 use Rattle.raft_table.proofs.memtable.entries.block_deques.spans_behind.Given as goal
 
 abbrev pub invariant-loop-i : goal.invariant-loop-i

@@ -1,9 +1,5 @@
-use Rattle.std.proofs.Common.{◌≡◌, ◌+◌, ◌-◌, ◌≤◌, ◌<◌, length, take, arith, ap, subst}
-use Rattle.std.proofs.lemmas.List.{length-map}
-use Rattle.raft_table.specs.declared.memtable.block.Block.{Block}
-use Rattle.raft_table.specs.Blocks.{block_spans, blocks_shown}
-use Rattle.raft_table.specs.BlockWords.{count}
-use Rattle.raft_table.proofs.BlockSearch.{walked_within, walked_found, walked_more}
+use Rattle.raft_table.proofs.Common.{◌≡◌, ◌+◌, ◌-◌, ◌≤◌, ◌<◌, length, take, arith, ap, subst, length-map, Block, block_spans, blocks_shown, count}
+use Rattle.raft_table.proofs.BlockLemmas.{walked_within, walked_more}
 use Rattle.raft_table.proofs.BlockQueues.{shown_at, one_block}
 use Rattle.raft_table.proofs.memtable.entries.block_deques.spot_among.Goals as goal
 
@@ -21,14 +17,3 @@ loop-rest-preserved c =
     let h : length b.spans.items ≤ c.loop-rest.rest = let t = c.loop-rest-test.true in omega (arith, c.index.result.now.spans.ok) in
     subst (λ z. count (take (k + 1) (blocks_shown bs)) + (c.loop-rest.rest - z) ≡ c.args.behind) w
     (walked_more k c.loop-rest.rest c.args.behind (blocks_shown bs) (block_spans b) c.loop-rest.invariant u (shown_at bs k b l c.index-in-loop-rest.ensures) h)
-
-pub returns : goal.returns
-returns c =
-    let bs = c.args.blocks.now.items in
-    let k = c.loop-rest.nth in
-    let b = c.index.result.now in
-    let n = length-map bs block_spans in
-    let u = walked_within k c.loop-rest.rest c.args.behind (blocks_shown bs) c.loop-rest.invariant c.requires in
-    let l : k < length bs = omega arith in
-    let h : c.loop-rest.rest < length b.spans.items = let t = c.loop-rest-test.false in omega (arith, b.spans.ok) in
-    walked_found k c.loop-rest.rest c.args.behind (blocks_shown bs) (block_spans b) c.loop-rest.invariant u (shown_at bs k b l c.index.ensures) h

@@ -1,6 +1,4 @@
-use Rattle.std.proofs.Common.{◌≡◌, ◌+◌, ◌-◌, length, take}
-use Rattle.raft_table.specs.Blocks.{blocks_shown}
-use Rattle.raft_table.specs.BlockWords.{count}
+use Rattle.raft_table.proofs.Common.{◌≡◌, ◌+◌, ◌-◌, length, take, blocks_shown, count}
 use Rattle.raft_table.proofs.memtable.entries.block_deques.spot_among.Given as goal
 
 -- the blocks that were walked have the entries that were counted off

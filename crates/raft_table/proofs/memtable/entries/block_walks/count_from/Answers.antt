@@ -1,9 +1,6 @@
-use Rattle.std.proofs.Common.{ℕ, suc, ◌≡◌, ◌+◌, ◌-◌, take, drop, arith}
-use Rattle.std.proofs.lemmas.List.{length-drop, length-take}
-use Rattle.raft_table.specs.Blocks.{block_spans, blocks_shown, entries_in_blocks}
-use Rattle.raft_table.proofs.BlockLemmas.{length-expanded}
+use Rattle.raft_table.proofs.Common.{ℕ, suc, ◌≡◌, ◌+◌, ◌-◌, take, drop, arith, length-drop, length-take, block_spans, blocks_shown, entries_in_blocks}
+use Rattle.raft_table.proofs.BlockLemmas.{length-expanded, entry_of}
 use Rattle.raft_table.proofs.BlockQueues.{block_at}
-use Rattle.raft_table.proofs.BlockSearch.{entry_of}
 use Rattle.raft_table.proofs.FetchLemmas.{limit_stops, limit_more}
 use Rattle.raft_table.proofs.WalkLemmas.{walk_len}
 use Rattle.raft_table.proofs.memtable.entries.block_walks.count_from.Goals as goal

@@ -1,7 +1,4 @@
-use Rattle.std.proofs.Common.{◌≡◌, ◌-◌, ◌*◌, ◌^◌, ◌≤◌, ◌<◌, false, ℕ, take, drop, Some}
-use Rattle.raft_table.specs.Blocks.{blocks_shown, entries_in_blocks}
-use Rattle.raft_table.specs.BlockWords.{IsAt}
-use Rattle.raft_table.specs.Fetches.{total_len, is_too_many}
+use Rattle.raft_table.proofs.Common.{◌≡◌, ◌-◌, ◌*◌, ◌^◌, ◌≤◌, ◌<◌, false, ℕ, take, drop, Some, blocks_shown, entries_in_blocks, IsAt, total_len, is_too_many}
 use Rattle.raft_table.proofs.memtable.entries.block_walks.count_from.Given as goal
 
 abbrev pub invariant-loop-i : goal.invariant-loop-i

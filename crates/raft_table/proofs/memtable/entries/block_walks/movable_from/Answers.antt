@@ -1,5 +1,4 @@
-use Rattle.std.proofs.Common.{arith, sym, ◌∙◌}
-use Rattle.raft_table.specs.Blocks.{block_spans, blocks_shown}
+use Rattle.raft_table.proofs.Common.{arith, sym, ◌∙◌, block_spans, blocks_shown}
 use Rattle.raft_table.proofs.BlockQueues.{block_at}
 use Rattle.raft_table.proofs.WalkLemmas.{IsStep, walk_step, walk_stops, walk_goes}
 use Rattle.raft_table.proofs.memtable.entries.block_walks.movable_from.Goals as goal

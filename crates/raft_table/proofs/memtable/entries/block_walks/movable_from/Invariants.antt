@@ -1,8 +1,4 @@
-use Rattle.std.proofs.Common.{◌≡◌, ◌+◌, ◌-◌, ◌≤◌, ◌<◌, ℕ, take, drop}
-use Rattle.std.specs.List.{prefix_len}
-use Rattle.raft_table.specs.Blocks.{blocks_shown, entries_in_blocks}
-use Rattle.raft_table.specs.BlockWords.{IsAt}
-use Rattle.raft_table.specs.Rewriting.{may_move}
+use Rattle.raft_table.proofs.Common.{◌≡◌, ◌+◌, ◌-◌, ◌≤◌, ◌<◌, ℕ, take, drop, prefix_len, blocks_shown, entries_in_blocks, IsAt, may_move}
 use Rattle.raft_table.proofs.memtable.entries.block_walks.movable_from.Given as goal
 
 abbrev pub invariant-loop-done : goal.invariant-loop-done

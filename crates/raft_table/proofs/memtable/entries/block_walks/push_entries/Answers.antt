@@ -1,7 +1,4 @@
-use Rattle.std.proofs.Common.{◌≡◌, ◌+◌, ◌-◌, length, map, take, drop, arith, ap, ◌∙◌}
-use Rattle.std.proofs.lemmas.List.{length-append, length-drop, length-map, length-take-le}
-use Rattle.raft_table.specs.Blocks.{blocks_shown, entries_in_blocks}
-use Rattle.raft_table.specs.BlockWords.{without_span}
+use Rattle.raft_table.proofs.Common.{◌≡◌, ◌+◌, ◌-◌, length, map, take, drop, arith, ap, ◌∙◌, length-append, length-drop, length-map, length-take-le, blocks_shown, entries_in_blocks, without_span}
 use Rattle.raft_table.proofs.BlockLemmas.{length-expanded}
 use Rattle.raft_table.proofs.memtable.entries.block_walks.push_entries.Goals as goal
 
@@ -9,7 +6,7 @@ pub set_spans-requires-clause-there : goal.set_spans-requires-clause-there
 set_spans-requires-clause-there c =
     let es = entries_in_blocks c.args.first (blocks_shown c.args.blocks.now.items) in
     let xs = drop c.args.start (take c.args.end es) in
-    let w = c.requires.within in
+    let w = c.requires.part.within in
     let t : length (take c.args.end es) ≡ c.args.end = length-take-le c.args.end es (rw (length-expanded c.args.first (blocks_shown c.args.blocks.now.items)) (omega arith)) in
     let l : length (map without_span xs) ≡ c.args.end - c.args.start = length-map xs without_span ∙ omega (arith, length-drop c.args.start (take c.args.end es)) in
     let n : length c.push_without_spans.new.vec.items ≡ length c.args.vec.now.items + length (map without_span xs) = ap length c.push_without_spans.ensures ∙ length-append c.args.vec.now.items (map without_span xs) in

@@ -1,8 +1,4 @@
-use Rattle.std.proofs.Common.{◌+◌, ◌++◌, map, take, drop, arith, sym, ap, ◌∙◌}
-use Rattle.std.proofs.lemmas.List.{append_assoc, map-append}
-use Rattle.raft_base.specs.Runs.{entries_of_block}
-use Rattle.raft_table.specs.Blocks.{block_spans, blocks_shown, entries_in_blocks}
-use Rattle.raft_table.specs.BlockWords.{without_span}
+use Rattle.raft_table.proofs.Common.{◌+◌, ◌++◌, map, take, drop, arith, sym, ap, ◌∙◌, append_assoc, map-append, entries_of_block, block_spans, blocks_shown, entries_in_blocks, without_span}
 use Rattle.raft_table.proofs.BlockQueues.{block_at}
 use Rattle.raft_table.proofs.WalkLemmas.{IsStep, walk_step, walk_more}
 use Rattle.raft_table.proofs.memtable.entries.block_walks.push_without_spans.Goals as goal
@@ -21,8 +17,8 @@ step : (c : goal.After-push_without_spans_of) → IsStep c.loop-done.done c.loop
 step c =
     let a = c.loop-done.invariant.2 c.loop-done-test.true in
     let b = block_at c.args.blocks.now.items c.index-block.result.now a c.index-block.ensures in
-    walk_step c.loop-done.done c.loop-done.nth c.loop-done.at c.min-count.result c.args.end c.len.result (blocks_shown c.args.blocks.now.items) (block_spans c.index-block.result.now) a c.requires.distinct b.same
-    (omega (arith, c.index-block.result.now.spans.ok)) c.min-count.ensures c.loop-done-test.true c.requires.within
+    walk_step c.loop-done.done c.loop-done.nth c.loop-done.at c.min-count.result c.args.end c.len.result (blocks_shown c.args.blocks.now.items) (block_spans c.index-block.result.now) a c.requires.part.distinct b.same
+    (omega (arith, c.index-block.result.now.spans.ok)) c.min-count.ensures c.loop-done-test.true c.requires.part.within
 
 pub loop-done-smaller : goal.loop-done-smaller
 loop-done-smaller c = let s = step c in let p = s.some in let t = c.loop-done-test.true in omega arith
@@ -36,7 +32,7 @@ loop-done-preserved c =
     let b = block_at c.args.blocks.now.items c.index-block.result.now a c.index-block.ensures in
     let bs = blocks_shown c.args.blocks.now.items in
     let low = c.loop-done.invariant.0 in
-    let w = c.requires.within in
+    let w = c.requires.part.within in
     let xs = drop c.args.start (take c.loop-done.done (entries_in_blocks c.args.first bs)) in
     let ys = entries_of_block (c.args.first + c.loop-done.done) c.index-block.result.now.handle (take c.min-count.result (drop c.loop-done.at c.index-block.result.now.spans.items)) in (
       omega arith,

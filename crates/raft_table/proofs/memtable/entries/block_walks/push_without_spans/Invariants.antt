@@ -1,7 +1,4 @@
-use Rattle.std.proofs.Common.{◌≡◌, ◌+◌, ◌-◌, ◌≤◌, ◌<◌, ◌++◌, map, take, drop}
-use Rattle.std.specs.Vec.{vec_len, vec_capacity}
-use Rattle.raft_table.specs.Blocks.{blocks_shown, entries_in_blocks}
-use Rattle.raft_table.specs.BlockWords.{without_span, IsAt}
+use Rattle.raft_table.proofs.Common.{◌≡◌, ◌+◌, ◌-◌, ◌≤◌, ◌<◌, ◌++◌, map, take, drop, vec_len, vec_capacity, blocks_shown, entries_in_blocks, without_span, IsAt}
 use Rattle.raft_table.proofs.memtable.entries.block_walks.push_without_spans.Given as goal
 
 abbrev pub invariant-loop-done : goal.invariant-loop-done

@@ -1,10 +1,6 @@
-use Rattle.std.proofs.Common.{◌≡◌, ◌+◌, ◌-◌, ◌++◌, length, map, take, drop, arith, ap, ◌∙◌, Some}
-use Rattle.std.proofs.lemmas.List.{length-drop, length-take-le}
-use Rattle.raft_base.specs.declared.entry_index.EntryIndex.{EntryIndex}
-use Rattle.raft_base.specs.Runs.{entries_of_block}
-use Rattle.raft_table.specs.BlockWords.{without_span}
-use Rattle.raft_table.proofs.SpanLemmas.{unset_more}
+use Rattle.raft_table.proofs.Common.{◌≡◌, ◌+◌, ◌-◌, ◌++◌, length, map, take, drop, arith, ap, ◌∙◌, Some, length-drop, length-take-le, EntryIndex, entries_of_block, without_span}
 use Rattle.raft_table.proofs.memtable.entries.block_walks.push_without_spans_of.Goals as goal
+use Rattle.raft_table.proofs.WalkLemmas.{unset_more}
 
 pub loop-index-preserved : goal.loop-index-preserved
 loop-index-preserved c =

@@ -1,7 +1,4 @@
-use Rattle.std.proofs.Common.{◌≡◌, ◌+◌, ◌-◌, ◌++◌, map, take, drop}
-use Rattle.std.specs.Vec.{vec_len, vec_capacity}
-use Rattle.raft_base.specs.Runs.{entries_of_block}
-use Rattle.raft_table.specs.BlockWords.{without_span}
+use Rattle.raft_table.proofs.Common.{◌≡◌, ◌+◌, ◌-◌, ◌++◌, map, take, drop, vec_len, vec_capacity, entries_of_block, without_span}
 use Rattle.raft_table.proofs.memtable.entries.block_walks.push_without_spans_of.Given as goal
 
 abbrev pub invariant-loop-index : goal.invariant-loop-index

@@ -1,12 +1,8 @@
-use Rattle.std.proofs.Common.{◌≡◌, ◌+◌, ◌-◌, ◌++◌, length, map, take, drop, arith, sym, ap, ◌∙◌}
-use Rattle.std.proofs.lemmas.List.{append_assoc, length-append, length-drop, length-take-le}
-use Rattle.raft_base.specs.Runs.{entries_of_block}
-use Rattle.raft_table.specs.Blocks.{block_spans, blocks_shown, entries_in_blocks}
-use Rattle.raft_table.specs.BlockWords.{without_span, with_spans}
+use Rattle.raft_table.proofs.Common.{◌≡◌, ◌+◌, ◌-◌, ◌++◌, length, map, take, drop, arith, sym, ap, ◌∙◌, append_assoc, length-append, length-drop, length-take-le, entries_of_block, block_spans, blocks_shown}
+use Rattle.raft_table.proofs.Common.{entries_in_blocks, without_span, with_spans}
 use Rattle.raft_table.proofs.BlockQueues.{block_at}
 use Rattle.raft_table.proofs.BlockLemmas.{length-expanded}
-use Rattle.raft_table.proofs.SpanLemmas.{part_set}
-use Rattle.raft_table.proofs.WalkLemmas.{IsStep, walk_step, walk_more, walk_part}
+use Rattle.raft_table.proofs.WalkLemmas.{IsStep, walk_step, walk_more, walk_part, part_set}
 use Rattle.raft_table.proofs.memtable.entries.block_walks.set_spans.Goals as goal
 
 pub overflow_sub-len : goal.overflow_sub-len
@@ -23,8 +19,8 @@ step : (c : goal.After-set_spans_of) → IsStep c.loop-done.done c.loop-done.nth
 step c =
     let a = c.loop-done.invariant.2 c.loop-done-test.true in
     let b = block_at c.args.blocks.now.items c.index-block.result.now a c.index-block.ensures in
-    walk_step c.loop-done.done c.loop-done.nth c.loop-done.at c.min-count.result c.args.end c.len.result (blocks_shown c.args.blocks.now.items) (block_spans c.index-block.result.now) a c.requires.distinct b.same
-    (omega (arith, c.index-block.result.now.spans.ok)) c.min-count.ensures c.loop-done-test.true c.requires.within
+    walk_step c.loop-done.done c.loop-done.nth c.loop-done.at c.min-count.result c.args.end c.len.result (blocks_shown c.args.blocks.now.items) (block_spans c.index-block.result.now) a c.requires.part.distinct b.same
+    (omega (arith, c.index-block.result.now.spans.ok)) c.min-count.ensures c.loop-done-test.true c.requires.part.within
 
 pub loop-done-smaller : goal.loop-done-smaller
 loop-done-smaller c = let s = step c in let p = s.some in let t = c.loop-done-test.true in omega arith
@@ -38,7 +34,7 @@ loop-done-preserved c =
     let b = block_at c.args.blocks.now.items c.index-block.result.now a c.index-block.ensures in
     let bs = blocks_shown c.args.blocks.now.items in
     let low = c.loop-done.invariant.0 in
-    let w = c.requires.within in
+    let w = c.requires.part.within in
     let n = c.min-count.result in
     let done = c.loop-done.done in (
       omega arith,

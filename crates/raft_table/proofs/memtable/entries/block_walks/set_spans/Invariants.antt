@@ -1,7 +1,4 @@
-use Rattle.std.proofs.Common.{◌≡◌, ℕ, ◌-◌, ◌≤◌, ◌<◌, List, ◌++◌, length, map, take, drop}
-use Rattle.raft_base.specs.declared.entry_index.EntryIndex.{EntryIndex}
-use Rattle.raft_table.specs.Blocks.{blocks_shown, entries_in_blocks}
-use Rattle.raft_table.specs.BlockWords.{without_span, IsAt}
+use Rattle.raft_table.proofs.Common.{◌≡◌, ℕ, ◌-◌, ◌≤◌, ◌<◌, List, ◌++◌, length, map, take, drop, EntryIndex, blocks_shown, entries_in_blocks, without_span, IsAt}
 use Rattle.raft_table.proofs.memtable.entries.block_walks.set_spans.Given as goal
 
 abbrev pub invariant-loop-done : goal.invariant-loop-done

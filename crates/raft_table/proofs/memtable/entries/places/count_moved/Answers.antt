@@ -1,12 +1,11 @@
-use Rattle.std.proofs.Common.{arith}
-use Rattle.raft_base.specs.declared.pipe_log.LogQueue.TheVariants.{Rewrite}
+use Rattle.raft_table.proofs.Common.{arith, Rewrite}
 use Rattle.raft_table.proofs.memtable.entries.places.count_moved.Goals as goal
 
 pub delete-requires-in-Some : goal.delete-requires-in-Some
-delete-requires-in-Some c = omega (arith, c.add_written.ensures.live Rewrite, c.delete.ensures.live Rewrite)
+delete-requires-in-Some c = omega (arith, c.add_fitting.ensures.live Rewrite, c.delete.ensures.live Rewrite)
 
 pub delete-requires-in-None : goal.delete-requires-in-None
-delete-requires-in-None c = omega (arith, c.add_written.ensures.live Rewrite)
+delete-requires-in-None c = omega (arith, c.add_fitting.ensures.live Rewrite)
 
 pub returns-in-Some-clause-rewritten : goal.returns-in-Some-clause-rewritten
-returns-in-Some-clause-rewritten c = rw c.in-Some.is (omega (arith, c.requires.moved, c.add_written.ensures.live Rewrite, c.delete.ensures.live Rewrite, c.delete-in-Some.ensures.live Rewrite))
+returns-in-Some-clause-rewritten c = rw c.in-Some.is (omega (arith, c.requires.moved, c.add_fitting.ensures.live Rewrite, c.delete.ensures.live Rewrite, c.delete-in-Some.ensures.live Rewrite))

@@ -1,5 +1,4 @@
-use Rattle.std.proofs.Common.{◌≡◌, ◌≤◌, ◌<◌, ℕ, slice_index_or, Some}
-use Rattle.raft_base.specs.declared.entry_index.EntryIndex.{EntryIndex}
+use Rattle.raft_table.proofs.Common.{◌≡◌, ◌≤◌, ◌<◌, ℕ, slice_index_or, Some, EntryIndex}
 use Rattle.raft_table.proofs.memtable.entries.put_runs.count_of.Given as goal
 
 abbrev pub invariant-loop-i : goal.invariant-loop-i

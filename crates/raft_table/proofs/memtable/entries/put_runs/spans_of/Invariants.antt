@@ -1,6 +1,4 @@
-use Rattle.std.proofs.Common.{◌≡◌, ◌≤◌, length, take}
-use Rattle.std.specs.Vec.{vec_len, vec_capacity}
-use Rattle.raft_table.specs.BlockWords.{spans_of}
+use Rattle.raft_table.proofs.Common.{◌≡◌, ◌≤◌, length, take, vec_len, vec_capacity, spans_of}
 use Rattle.raft_table.proofs.memtable.entries.put_runs.spans_of.Given as goal
 
 abbrev pub invariant-loop-entry : goal.invariant-loop-entry

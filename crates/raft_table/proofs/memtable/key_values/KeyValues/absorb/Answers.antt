@@ -1,5 +1,4 @@
-use Rattle.std.proofs.Common.{arith, sym, ap, ◌∙◌}
-use Rattle.raft_table.specs.KeyValues.{pairs_over, with_pairs, pair_count}
+use Rattle.raft_table.proofs.Common.{arith, sym, ap, ◌∙◌, pairs_over, with_pairs}
 use Rattle.raft_table.proofs.UnderLemmas.{whole_keys}
 use Rattle.raft_table.proofs.KeyValueReads.{pairs_over-empty, len-first, pair_count-first, one_more_put}
 use Rattle.raft_table.proofs.memtable.key_values.KeyValues.absorb.Goals as goal
@@ -20,6 +19,3 @@ returns-clause-ok c = sym (pairs_over-empty c.loop-key.rhs c.loop-key.self c.in_
 
 pub returns-then-is_empty-clause-ok : goal.returns-then-is_empty-clause-ok
 returns-then-is_empty-clause-ok c = c.swap.ensures.x_after ∙ sym (ap (pairs_over c.args.rhs.now) (c.is_empty.ensures.0 c.if-is_empty.true) ∙ whole_keys c.args.rhs.now)
-
-pub returns-then-is_empty-clause-bounded : goal.returns-then-is_empty-clause-bounded
-returns-then-is_empty-clause-bounded c = λ q. omega (arith, ap (pair_count q) c.swap.ensures.x_after)

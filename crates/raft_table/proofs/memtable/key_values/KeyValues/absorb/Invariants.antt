@@ -1,7 +1,5 @@
-use Rattle.std.proofs.Common.{◌≡◌, ◌+◌, ◌≤◌}
+use Rattle.raft_table.proofs.Common.{◌≡◌, ◌+◌, ◌≤◌, LogQueue, pairs_over, pair_count}
 use Rattle.std.specs.FinMap as finite
-use Rattle.raft_base.specs.declared.pipe_log.LogQueue.{LogQueue}
-use Rattle.raft_table.specs.KeyValues.{pairs_over, pair_count}
 use Rattle.raft_table.proofs.KeyValueReads.{IsFrontPut}
 use Rattle.raft_table.proofs.memtable.key_values.KeyValues.absorb.Given as goal
 

@@ -1,10 +1,6 @@
-use Rattle.std.proofs.Common.{◌≡◌, ◌+◌, ◌-◌, Some, arith, sym, ◌∙◌}
+use Rattle.raft_table.proofs.Common.{◌≡◌, ◌+◌, ◌-◌, Some, arith, sym, ◌∙◌, LogQueue, keys_shown, pair_count, file_weight, file_at, Rewrite}
 use Rattle.std.specs.FinMap as finite
-use Rattle.raft_base.specs.declared.pipe_log.LogQueue.{LogQueue}
-use Rattle.raft_base.specs.declared.pipe_log.LogQueue.TheVariants.{Rewrite}
 use Rattle.raft_table.specs.declared.memtable.key_values.KeyValues.TheInside.{Inside}
-use Rattle.raft_table.specs.KeyValueView.{keys_shown}
-use Rattle.raft_table.specs.KeyValues.{pair_count, file_weight, file_at}
 use Rattle.raft_table.proofs.KeyValuesShown.{shown-insert, sound-changed, rewritten-le-len, file-shown, counted-shown}
 use Rattle.raft_table.proofs.KeyValueCounts.{pair_count-insert}
 use Rattle.raft_table.proofs.memtable.key_values.KeyValues.insert.Goals as goal

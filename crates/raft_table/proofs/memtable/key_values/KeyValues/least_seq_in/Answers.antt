@@ -1,6 +1,4 @@
-use Rattle.std.proofs.Common.{filter, map, sym, ap, ◌∙◌}
-use Rattle.raft_table.specs.Queues.{is_same}
-use Rattle.raft_table.specs.KeyValues.{least}
+use Rattle.raft_table.proofs.Common.{filter, map, sym, ap, ◌∙◌, is_same, least}
 use Rattle.raft_table.proofs.KeyValueReads.{files-shown}
 use Rattle.raft_table.proofs.memtable.key_values.KeyValues.least_seq_in.Goals as goal
 

@@ -1,6 +1,4 @@
-use Rattle.std.proofs.Common.{◌≡◌, filter, map}
-use Rattle.raft_table.specs.Queues.{is_same}
-use Rattle.raft_table.specs.KeyValues.{seqs_in, lesser, least}
+use Rattle.raft_table.proofs.Common.{◌≡◌, filter, map, is_same, seqs_in, lesser, least}
 use Rattle.raft_table.proofs.memtable.key_values.KeyValues.least_seq_in.Given as goal
 
 abbrev pub invariant-loop-pair : goal.invariant-loop-pair

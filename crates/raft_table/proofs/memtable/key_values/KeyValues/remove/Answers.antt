@@ -1,9 +1,5 @@
-use Rattle.std.proofs.Common.{◌≡◌, ◌+◌, ◌-◌, Some, None, arith, sym, subst, ◌∙◌}
-use Rattle.raft_base.specs.declared.pipe_log.LogQueue.{LogQueue}
-use Rattle.raft_base.specs.declared.pipe_log.LogQueue.TheVariants.{Rewrite}
+use Rattle.raft_table.proofs.Common.{◌≡◌, ◌+◌, ◌-◌, Some, None, arith, sym, subst, ◌∙◌, LogQueue, keys_shown, pair_count, file_weight, file_at, Rewrite}
 use Rattle.raft_table.specs.declared.memtable.key_values.KeyValues.TheInside.{Inside}
-use Rattle.raft_table.specs.KeyValueView.{keys_shown}
-use Rattle.raft_table.specs.KeyValues.{pair_count, file_weight, file_at}
 use Rattle.std.specs.FinMap as finite
 use Rattle.raft_table.proofs.KeyValuesShown.{shown-remove, sound-changed, file-shown, counted-shown}
 use Rattle.raft_table.proofs.KeyValueCounts.{pair_count-remove}

@@ -1,7 +1,4 @@
-use Rattle.std.proofs.Common.{filter, map, reverse, refl, sym, ap, subst, ◌∙◌}
-use Rattle.std.specs.Option.{option_copied, option_map}
-use Rattle.std.specs.Fn.{CalledAtTwo}
-use Rattle.raft_table.specs.Scan.{VisitsUntilFalse, is_between}
+use Rattle.raft_table.proofs.Common.{filter, map, reverse, refl, sym, ap, subst, ◌∙◌, option_copied, option_map, CalledAtTwo, VisitsUntilFalse, is_between}
 use Rattle.raft_table.proofs.KeyValueReads.{Entry, bytes_of, scanned-backwards, scanned-shown}
 use Rattle.raft_table.proofs.memtable.key_values.KeyValues.scan.Goals as goal
 

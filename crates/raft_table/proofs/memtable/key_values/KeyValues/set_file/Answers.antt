@@ -1,13 +1,5 @@
-use Rattle.std.proofs.Common.{◌≡◌, ◌+◌, ◌-◌, Some, None, arith, sym, ap, subst, ◌∙◌, refl}
-use Rattle.raft_base.specs.declared.pipe_log.LogQueue.{LogQueue}
-use Rattle.raft_base.specs.declared.pipe_log.LogQueue.TheVariants.{Rewrite}
+use Rattle.raft_table.proofs.Common.{◌≡◌, ◌+◌, ◌-◌, Some, None, arith, sym, ap, subst, ◌∙◌, refl, LogQueue, keys_shown, pair_count, file_weight, file_at, with_moved, option_map, option_copied_mut, IsOrdered, lookup, Rewrite}
 use Rattle.raft_table.specs.declared.memtable.key_values.KeyValues.TheInside.{Inside}
-use Rattle.raft_table.specs.KeyValueView.{keys_shown}
-use Rattle.raft_table.specs.KeyValues.{pair_count, file_weight, file_at, with_moved}
-use Rattle.std.specs.Option.{option_map}
-use Rattle.std.specs.Option.{option_copied_mut}
-use Rattle.std.specs.BTreeMap.{IsOrdered}
-use Rattle.std.specs.Map.{lookup}
 use Rattle.raft_table.proofs.KeyValuesShown.{has, key_cmp, shown-set_file, shown-unmoved, sound-changed, rewritten-le-len, file-shown, counted-shown}
 use Rattle.raft_table.proofs.KeyValueCounts.{pair_count-with_moved}
 use Rattle.raft_table.proofs.memtable.key_values.KeyValues.set_file.Goals as goal

@@ -1,9 +1,6 @@
-use Rattle.std.proofs.Common.{◌≡◌, ◌∷◌, ◌-◌, arith, ap, ◌∙◌, refl, rules}
-use Rattle.raft_base.specs.declared.pipe_log.LogQueue.TheVariants.{Rewrite}
+use Rattle.raft_table.proofs.Common.{◌≡◌, ◌∷◌, ◌-◌, arith, ap, ◌∙◌, refl, rules, pair_count, keys_shown, stored_of, Rewrite}
 use Rattle.raft_table.specs.declared.memtable.key_values.KeyValues.TheInside.{Inside}
 use Rattle.std.specs.FinMap as finite
-use Rattle.raft_table.specs.KeyValues.{pair_count}
-use Rattle.raft_table.specs.KeyValueView.{keys_shown, stored_of}
 use Rattle.raft_table.proofs.KeyValuesShown.{len-shown, sound-changed}
 use Rattle.raft_table.proofs.KeyValueReads.{first-shown, none_left, pair_count-first}
 use Rattle.raft_table.proofs.memtable.key_values.KeyValues.take_first.Goals as goal

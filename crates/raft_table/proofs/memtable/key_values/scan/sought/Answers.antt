@@ -1,6 +1,4 @@
-use Rattle.std.proofs.Common.{◌&&◌, ap, ◌∙◌, true}
-use Rattle.std.specs.Ordering.{nat_cmp, is_le}
-use Rattle.std.specs.Cmp.Lexicographic.{slice_cmp}
+use Rattle.raft_table.proofs.Common.{◌&&◌, ap, ◌∙◌, true, nat_cmp, is_le, slice_cmp}
 use Rattle.raft_table.proofs.KeyValueReads.{Entry}
 use Rattle.raft_table.proofs.ScanLemmas.{filter-same, below-range}
 use Rattle.raft_table.proofs.memtable.key_values.scan.sought.Goals as goal

@@ -1,7 +1,4 @@
-use Rattle.std.proofs.Common.{sym, ap, ◌∙◌}
-use Rattle.std.specs.Option.{option_copied}
-use Rattle.std.specs.Fn.{CalledAtTwo}
-use Rattle.raft_table.specs.Scan.{is_between}
+use Rattle.raft_table.proofs.Common.{sym, ap, ◌∙◌, option_copied, CalledAtTwo, is_between}
 use Rattle.raft_table.proofs.KeyValueReads.{Entry, bytes_of}
 use Rattle.raft_table.proofs.ScanLemmas.{visit-stops, chosen-yes}
 use Rattle.raft_table.proofs.memtable.key_values.scan.visit.Goals as goal

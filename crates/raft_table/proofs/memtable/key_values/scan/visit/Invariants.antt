@@ -1,7 +1,4 @@
-use Rattle.std.proofs.Common.{filter, length, map}
-use Rattle.std.specs.Fn.{CalledAtTwo}
-use Rattle.std.specs.Option.{option_copied}
-use Rattle.raft_table.specs.Scan.{is_between, VisitsUntilFalse}
+use Rattle.raft_table.proofs.Common.{filter, length, map, CalledAtTwo, option_copied, is_between, VisitsUntilFalse}
 use Rattle.raft_table.proofs.memtable.key_values.scan.visit.Given as goal
 
 -- what visits the pairs that are left has visited all

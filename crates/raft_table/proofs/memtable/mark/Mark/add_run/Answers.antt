@@ -1,6 +1,8 @@
-use Rattle.std.proofs.Common.{◌∙◌}
+use Rattle.raft_table.proofs.Common.{ap, ◌∙◌, Mark, joined_at}
 use Rattle.raft_table.proofs.StepMarkLemmas.{run_added}
 use Rattle.raft_table.proofs.memtable.mark.Mark.add_run.Goals as goal
 
 pub returns : goal.returns
-returns c = c.join_bounds.ensures ∙ run_added c.args.queue c.args.end c.args.start c.args.self.now
+returns c =
+    c.join_bounds.ensures ∙ ap (λ (n : Mark). record (joined_at c.args.queue c.args.end c.args.self.now n) { deleted = c.args.self.now.deleted }) c.of_start.ensures
+    ∙ run_added c.args.queue c.args.end c.args.start c.args.self.now

@@ -1,9 +1,5 @@
-use Rattle.std.proofs.Common.{◌≡◌, ℕ, ◌<◌, true, false, nat_lt, Some, sym, ap, refl, ◌∙◌, arith}
-use Rattle.std.specs.Prelude.{MatchBool}
-use Rattle.std.proofs.lemmas.Bool.Decides.{nat_tests}
-use Rattle.raft_base.specs.declared.pipe_log.LogQueue.{LogQueue}
-use Rattle.raft_table.specs.Marks.{Mark}
-use Rattle.raft_table.specs.MarkJoins.{fresh, joined_at}
+use Rattle.raft_table.proofs.Common.{◌≡◌, ℕ, ◌<◌, true, false, Some, sym, ap, refl, ◌∙◌, arith, MatchBool, nat_tests, LogQueue, Mark, fresh, joined_at}
+use Rattle.std.proofs.Common.{nat_lt}
 use Rattle.raft_table.proofs.StepMarkLemmas.{run_covered}
 use Rattle.raft_table.proofs.memtable.mark.Mark.covers.Goals as goal
 

@@ -1,1 +1,0 @@
--- Places that move: what a rewriting leaves of a table's entries.

@@ -1,0 +1,5 @@
+use Rattle.raft_table.proofs.Common.{arith, Rewrite}
+use Rattle.raft_table.proofs.global_stats.GlobalStats.add_unmoved.Goals as goal
+
+pub delete-requires : goal.delete-requires
+delete-requires c = omega (arith, c.add_fitting.ensures.live Rewrite)

@@ -1,16 +1,9 @@
 -- Contexts that are exact for one history agree.
-use Rattle.std.proofs.Common.{◌≡◌, Option, Some, None, refl, sym, subst, ◌∙◌, List}
-use Rattle.std.specs.Cmp.{nat_cmp_total}
+use Rattle.raft_history.proofs.Common.{some_is, ◌≡◌, Option, Some, None, refl, sym, subst, ◌∙◌, List, nat_cmp_total, nat_cmp-IsAntisymmetric, LogQueue, Event, batches, FileRange, Suits, Context}
+use Rattle.raft_history.proofs.Common.{IsExactFor}
 use Rattle.std.specs.FinMap as finite
-use Rattle.std.specs.FinMap.{nat_cmp-IsAntisymmetric}
-use Rattle.raft_base.specs.declared.pipe_log.LogQueue.{LogQueue}
 use Rattle.raft_base.specs.declared.pipe_log.LogQueue.TheVariants.{Append}
-use Rattle.raft_history.specs.Batches.{Event, batches}
-use Rattle.raft_history.specs.Contexts.{FileRange, Suits, Context, IsExactFor}
 use Rattle.raft_history.proofs.ContextLaws.{exact_reading}
-
-some_is : {X : Type 0} {x y : X} → Some x ≡ Some y → x ≡ y
-some_is e = cc
 
 some_queue : (p : Option FileRange) → (q : LogQueue) × Suits q p
 some_queue None = (Append, tt)

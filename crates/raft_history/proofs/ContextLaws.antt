@@ -1,42 +1,12 @@
 -- Merges of contexts that stand for histories.
-use Rattle.std.proofs.Common.{◌≡◌, ◌⊎◌, ℕ, Bool, true, false, cond, List, [], ◌∷◌, ◌++◌, Option, Some, None, refl, sym, ap, subst, ◌∙◌, inl, inr}
-use Rattle.std.specs.Prelude.{is_some, option_map}
-use Rattle.std.specs.Option.{unwrap_or}
+use Rattle.raft_history.proofs.Common.{IsBounded, FileRange, files_of, Suits, joined_files, follows, Context, RegionStandsFor, AreExact, StandsIn, StandsFor, IsExactFor, AreMerged, AreRegionsRefused}
+use Rattle.raft_history.proofs.Common.{merged_with, no_both, some_is, ◌≡◌, ◌⊎◌, ℕ, true, false, List, [], ◌∷◌, ◌++◌, Option, Some, None, refl, sym, ap, subst, ◌∙◌, inl, inr, is_some, unwrap_or}
+use Rattle.raft_history.proofs.Common.{false≢true, LogQueue, fresh, after, Table, stands_alone, BatchSteps, Event, batches, EachApart, effects, steps_of, FilesFrom, Sound, cleaned_in, MarkedRegions}
+use Rattle.raft_history.proofs.Common.{region_in, groups_in, joined_groups}
 use Rattle.std.specs.FinMap as finite
-use Rattle.std.proofs.lemmas.Bool.{false≢true}
-use Rattle.raft_base.specs.declared.pipe_log.LogQueue.{LogQueue}
 use Rattle.raft_base.specs.declared.pipe_log.LogQueue.TheVariants.{Append, Rewrite}
-use Rattle.raft_table.specs.MarkJoins.{fresh}
-use Rattle.raft_table.specs.Steps.{after}
-use Rattle.raft_table.specs.Table.{Table}
-use Rattle.raft_table.proofs.MarkLaws.{stands_alone}
-use Rattle.raft_history.specs.Batches.{BatchSteps, Event, batches}
-use Rattle.raft_history.specs.Contexts.{
-  IsBounded,
-  FileRange,
-  files_of,
-  Suits,
-  joined_files,
-  follows,
-  Context,
-  RegionStandsFor,
-  AreExact,
-  StandsIn,
-  StandsFor,
-  IsExactFor,
-  AreMerged,
-  AreRegionsRefused,
-  merged_regions,
-  merged_with,
-  merged_context,
-}
-use Rattle.raft_history.specs.Effects.{EachApart, effects, steps_of}
-use Rattle.raft_history.specs.Histories.{FilesFrom, Sound, cleaned_in}
 use Rattle.raft_history.proofs.Words.{records_in_history, all_steps}
-use Rattle.raft_history.specs.MarkedRegions.{MarkedRegions, region_in}
-use Rattle.raft_history.specs.WaitingGroups.{groups_in, joined_groups}
 use Rattle.raft_history.proofs.EffectLemmas.{all_steps-none, effects_behind-none}
-use Rattle.raft_history.proofs.JoinLemmas.{merged_are, merged_refused}
 use Rattle.raft_history.proofs.MergeLaws.{Parts, regions_merged, regions_refused, rewrite_after, rewrite_refused}
 use Rattle.raft_history.proofs.MoreLemmas.{groups_in-append}
 use Rattle.raft_history.proofs.ReadLemmas.{holds_none}
@@ -44,9 +14,6 @@ use Rattle.raft_history.proofs.RecordLemmas.{merged_bounded}
 use Rattle.raft_history.proofs.SoundLemmas.{batches-append, in_files-append, status-append, files_follow, follow_files, files_of-append, cleaned-append, append_apart}
 use Rattle.raft_history.proofs.StretchOfHistory.{size-append}
 use Rattle.raft_history.proofs.WithoutMarkers.{named-steps}
-
-some_is : {X : Type 0} {x y : X} → Some x ≡ Some y → x ≡ y
-some_is e = cc
 
 -- ---- queues
 
@@ -58,13 +25,7 @@ both_none q p (Some x) (Some y) s t u = inr (sym s ∙ u)
 
 no_batch : (h : List Event) → files_of h ≡ None → h ≡ []
 no_batch [] e = refl
-no_batch (x ∷ h) e = absurd (no x e)
-  where
-    no' : {p : FileRange} → Some p ≡ None → ⊥
-    no' e = cc
-
-    no : (x : Event) → files_of (x ∷ h) ≡ None → ⊥
-    no x e = no' e
+no_batch (x ∷ h) e = absurd (no_both e refl)
 
 sound_queue : (q s : LogQueue) (h : List Event) → FilesFrom s 0 h → Suits q (files_of h) → (h ≡ []) ⊎ (s ≡ q)
 sound_queue q s [] f u = inl refl
@@ -201,25 +162,6 @@ regions_exact q c d h k rs m a b apart f is = record {
     by p (inl n) = (blank_stands q p c d h k rs m is n.0 n.1).1
     by p (inr same) = subst (λ p. AreExact p rs (batches (h ++ k))) same (regions_merged q c d h k rs (parts q c d h k m (a.regions q m.older_suits) (b.regions q m.newer_suits) apart) is)
 
-merged_some : (q : LogQueue) (c d e : Context) → merged_context q c d ≡ Some e → (follows c.files d.files ≡ true) × ((rs : MarkedRegions) × AreMerged q c d rs × (merged_with c d rs ≡ e))
-merged_some q c d e is = go (follows c.files d.files) (merged_regions q c d) refl refl is
-  where
-    go : (b : Bool) (o : Option MarkedRegions) → follows c.files d.files ≡ b → merged_regions q c d ≡ o →
-        cond b (option_map (merged_with c d) o) None ≡ Some e →
-        (follows c.files d.files ≡ true) × ((rs : MarkedRegions) × AreMerged q c d rs × (merged_with c d rs ≡ e))
-    go false o f r is = absurd cc
-    go true None f r is = absurd cc
-    go true (Some rs) f r is = (f, (rs, merged_are q c d rs r, some_is is))
-
-pub merged_stands : (q : LogQueue) (c d e : Context) (h k : List Event) → Merges q c d h k → merged_context q c d ≡ Some e → StandsFor e (h ++ k)
-merged_stands q c d e h k m is = let s = merged_some q c d e is in subst (λ e. StandsFor e (h ++ k)) s.1.2 (regions_stand q c d h k s.1.0 m s.0 s.1.1)
-
-pub merged_exact : (q : LogQueue) (c d e : Context) (h k : List Event) → Merges q c d h k → IsExactFor c h → IsExactFor d k → EachApart (effects (batches (h ++ k))) → merged_context q c d ≡ Some e → IsExactFor e (h ++ k)
-merged_exact q c d e h k m a b apart is = let s = merged_some q c d e is in subst (λ e. IsExactFor e (h ++ k)) s.1.2 (regions_exact q c d h k s.1.0 m a b apart s.0 s.1.1)
-
-no_both : {X : Type 0} {o : Option X} {x : X} → o ≡ None → o ≡ Some x → ⊥
-no_both a b = cc
-
 -- where the files are out of order, or a region refuses, no sound history has both
 in_order : (q : LogQueue) (c d : Context) (h k : List Event) → Merges q c d h k → Sound (h ++ k) → follows c.files d.files ≡ true
 in_order q c d h k m sound = ap (λ p. follows p d.files) m.older.files ∙ ap (follows (files_of h)) m.newer.files ∙ follow_files sound.queue h k sound.sound.files
@@ -252,19 +194,3 @@ regions_unsound q c d h k m refused sound = by_queue q m refused suits
 
 pub files_unsound : (q : LogQueue) (c d : Context) (h k : List Event) → Merges q c d h k → follows c.files d.files ≡ false → Sound (h ++ k) → ⊥
 files_unsound q c d h k m f sound = false≢true (sym f ∙ in_order q c d h k m sound)
-
-pub merge_refused : (q : LogQueue) (c d : Context) (h k : List Event) → Merges q c d h k → merged_context q c d ≡ None → Sound (h ++ k) → ⊥
-merge_refused q c d h k m is sound = go (follows c.files d.files) (merged_regions q c d) refl refl is
-  where
-    go : (b : Bool) (o : Option MarkedRegions) → follows c.files d.files ≡ b → merged_regions q c d ≡ o → cond b (option_map (merged_with c d) o) None ≡ None → ⊥
-    go false o f r is = files_unsound q c d h k m f sound
-    go true None f r is = regions_unsound q c d h k m (merged_refused q c d r) sound
-    go true (Some rs) f r is = cc
-
--- in the rewrite queue files alone refuse a merge
-pub rewrite_merges : (c d : Context) → follows c.files d.files ≡ true → merged_context Rewrite c d ≡ None → ⊥
-rewrite_merges c d f is = go (merged_regions Rewrite c d) refl (ap (λ b. cond b (option_map (merged_with c d) (merged_regions Rewrite c d)) None) (sym f) ∙ is)
-  where
-    go : (o : Option MarkedRegions) → merged_regions Rewrite c d ≡ o → option_map (merged_with c d) o ≡ None → ⊥
-    go None e is = rewrite_refused c d (merged_refused Rewrite c d e)
-    go (Some rs) e is = cc

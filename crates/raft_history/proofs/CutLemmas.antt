@@ -1,49 +1,17 @@
 -- The effects behind a cut: those of the newer batches alone, and the groups that become whole.
-use Rattle.std.proofs.Common.{◌≡◌, ◌≢◌, ℕ, ◌+◌, ◌<◌, ◌≤◌, ◌⊎◌, Bool, true, false, cond, ◌||◌, eqb, List, [], ◌∷◌, ◌++◌, length, Option, Some, None, refl, sym, ap, subst, ◌∙◌, inl, inr, append_assoc, arith}
+use Rattle.raft_history.proofs.Common.{IsMarkerOf, cases_Bool, front_behind, steps_or, ◌≡◌, ◌≢◌, ℕ, ◌+◌, ◌<◌, ◌≤◌, ◌⊎◌, Bool, true, false, cond, ◌||◌, eqb, List, [], ◌∷◌, ◌++◌, length, Option, Some}
+use Rattle.raft_history.proofs.Common.{None, refl, sym, ap, subst, ◌∙◌, inl, inr, append_assoc, arith, flat_map-append, eqb-true, eq-eqb, flat_map, filter_map, AllByRecursion, list_any, IsDistinct}
+use Rattle.raft_history.proofs.Common.{cons_option, AtomicGroupStatus, GroupMarker, BatchSteps, Effect, completed_by, effects_behind, whole_steps, region_steps_in, steps_by, first_in, EachApart}
+use Rattle.raft_history.proofs.Common.{Numbered, numbered_from, is_of, markers_of, open_stretch, steps_of_wholes, IsListed, ListsGroups, RegionStep, names, GroupFront, Open, Ended, Begun, led_by}
+use Rattle.raft_history.proofs.Common.{front_by, front_of, OpenStretch, stretch_of, group_of, WholeGroup, whole_of, whole_group, Step}
 use Rattle.std.proofs.lemmas.List.{append-nil}
-use Rattle.std.proofs.lemmas.List.Concat.{flat_map-append}
-use Rattle.std.proofs.lemmas.Bool.{eqb-true, eq-eqb}
-use Rattle.std.specs.Prelude.{flat_map, filter_map}
-use Rattle.std.specs.List.{AllByRecursion, list_any, IsDistinct, cons_option}
-use Rattle.raft_records.specs.declared.atomic_group.AtomicGroupStatus.{AtomicGroupStatus}
 use Rattle.raft_records.specs.declared.atomic_group.AtomicGroupStatus.TheVariants.{Begin, Middle, End}
-use Rattle.raft_history.specs.Batches.{GroupMarker, BatchSteps}
-use Rattle.raft_history.specs.Effects.{Effect, completed_by, effects_behind, whole_steps, region_steps_in, steps_by, first_in, EachApart, Numbered, numbered_from, is_of, markers_of, open_stretch}
 use Rattle.raft_history.proofs.Words.{region_steps_of, all_steps, are_middles}
-use Rattle.raft_history.specs.WaitingGroups.{steps_of_wholes, IsListed, ListsGroups}
-use Rattle.raft_history.specs.RegionSteps.{RegionStep, names}
-use Rattle.raft_history.specs.WaitingGroup.{GroupFront, Open, Ended, Begun, led_by, front_by, front_of, OpenStretch, stretch_of, group_of, WholeGroup, whole_of, whole_group}
-use Rattle.raft_history.proofs.EffectLemmas.{
-  each_weaker,
-  each-append,
-  each_left,
-  each_right,
-  numbered_from-append,
-  from_on,
-  up_to,
-  effects_behind-append,
-  effects_behind-one,
-  effects_behind-none,
-  all_steps-append,
-  all_steps-one,
-  all_steps-none,
-  steps_in-none,
-  all_steps-unnamed,
-  within,
-  apart_left,
-  apart_last,
-  unnamed_between,
-  by_push,
-  each_markers,
-  each_open,
-}
+use Rattle.raft_history.proofs.EffectLemmas.{each_weaker, each-append, each_left, each_right, numbered_from-append, from_on, up_to, effects_behind-append, effects_behind-one, effects_behind-none}
+use Rattle.raft_history.proofs.EffectLemmas.{all_steps-append, all_steps-one, all_steps-none, steps_in-none, all_steps-unnamed, within, apart_left, apart_last, unnamed_between, by_push}
+use Rattle.raft_history.proofs.EffectLemmas.{open_among}
+use Rattle.raft_history.proofs.StepListLemmas.{head_none, tail_none}
 use Rattle.raft_history.proofs.MarkerLemmas.{markers_of-append, open_stretch-append, middles_open_none, front_with, front_of-append, FitsFront, fits_front, with_more, whole_is}
-use Rattle.raft_table.specs.Steps.{Step}
-
--- the steps of a group that may be whole
-abbrev pub steps_or : ℕ → Option WholeGroup → List Step
-steps_or r None = []
-steps_or r (Some w) = whole_steps r w.steps w.first_seq w.last_seq
 
 -- what a group gives at the cut
 abbrev pub given : ℕ → List Numbered → List Numbered → ℕ → List Step
@@ -67,14 +35,6 @@ given_wholes r (g ∷ ids) olds news = rw (whole_is (markers_of g olds) (front_o
     go : (w : Option WholeGroup) → flat_map group_steps (wholes_at ids olds news) ≡ all_given r ids olds news → flat_map group_steps (cons_option w (wholes_at ids olds news)) ≡ steps_or r w ++ all_given r ids olds news
     go None ih = ih
     go (Some w) ih = ap (λ l. group_steps w ++ l) ih
-
-head_none : (xs ys : List Step) → xs ++ ys ≡ [] → xs ≡ []
-head_none [] ys e = refl
-head_none (x ∷ xs) ys e = cc
-
-tail_none : (xs ys : List Step) → xs ++ ys ≡ [] → ys ≡ []
-tail_none [] ys e = e
-tail_none (x ∷ xs) ys e = cc
 
 -- one key's part changes, and all others give nothing
 changed_one : (f h : ℕ → List Step) (k : ℕ) (ids : List ℕ) → IsDistinct eqb ids → list_any (λ g. eqb g k) ids ≡ true → ((g : ℕ) → eqb g k ≡ false → h g ≡ f g) → flat_map f ids ≡ [] → flat_map h ids ≡ h k
@@ -108,14 +68,6 @@ markers_other g ps p h = markers_of-append g ps (p ∷ []) ∙ ap (λ l. markers
 pub markers_more : (g : ℕ) (ps : List Numbered) (p : Numbered) → is_of g p.batch.marker ≡ true → markers_of g (ps ++ p ∷ []) ≡ markers_of g ps ++ p ∷ []
 markers_more g ps p h = markers_of-append g ps (p ∷ []) ∙ ap (λ l. markers_of g ps ++ l) (markers_one g p h)
 
--- a batch with its number, by its parts
-abbrev pub placed : ℕ → List RegionStep → Option GroupMarker → ℕ → Numbered
-placed n is m f = record { number = n; batch = record { steps = is; marker = m; seq = f } }
-
-front_of_one : (n : ℕ) (is : List RegionStep) (m : GroupMarker) (f : ℕ) → front_of (placed n is (Some m) f ∷ []) ≡ front_by m.status is f (Open [])
-unfolding front_of
-front_of_one n is m f = refl
-
 -- where the batches stand behind a cut, one more batch gives as much in both readings, or ends a group that the cut divides
 pub record Same (r : ℕ) (ids : List ℕ) (olds news : List Numbered) (p : Numbered) : Type 0 where
   pub steps : all_steps r (completed_by p.batch.marker (olds ++ news) p) ≡ all_steps r (completed_by p.batch.marker news p)
@@ -144,14 +96,6 @@ all_same r ids olds news more h = ap (λ (f : ℕ → List Step). flat_map f ids
 given_other : (r : ℕ) (olds news : List Numbered) (p : Numbered) (g : ℕ) → is_of g p.batch.marker ≡ false → given r olds (news ++ p ∷ []) g ≡ given r olds news g
 given_other r olds news p g h = ap (λ l. steps_or r (whole_of (stretch_of (open_stretch (markers_of g olds))) (front_of l))) (markers_other g news p h)
 
--- the part of the batch's own group, by what its marker makes of the front
-given_own : (r : ℕ) (olds news : List Numbered) (n : ℕ) (is : List RegionStep) (m : GroupMarker) (f g : ℕ) → eqb g m.group ≡ true →
-    given r olds (news ++ placed n is (Some m) f ∷ []) g ≡ steps_or r
-    (whole_of (stretch_of (open_stretch (markers_of g olds))) (front_with (front_of (markers_of g news)) (front_by m.status is f (Open []))))
-given_own r olds news n is m f g h = ap (λ l. steps_or r (whole_of (stretch_of (open_stretch (markers_of g olds))) l))
-    (ap front_of (markers_more g news (placed n is (Some m) f) h) ∙ front_of-append (markers_of g news) (placed n is (Some m) f ∷ [])
-    ∙ ap (front_with (front_of (markers_of g news))) (front_of_one n is m f))
-
 -- what isn't an End makes nothing whole
 whole_not_end : (s : Option OpenStretch) (f h : GroupFront) → ((x : OpenStretch) → whole_of (Some x) h ≡ None) →
     ((x : OpenStretch) (is : List RegionStep) → whole_of (Some x) (led_by is h) ≡ None) → whole_of s (front_with f h) ≡ whole_of s f
@@ -160,124 +104,111 @@ whole_not_end (Some x) (Open js) h none led = led x js
 whole_not_end (Some x) (Ended js k) h none led = refl
 whole_not_end (Some x) Begun h none led = refl
 
--- one group alone could change, and doesn't
-kept : (r : ℕ) (olds news : List Numbered) (n : ℕ) (is : List RegionStep) (m : GroupMarker) (f : ℕ) →
-    steps_or r (whole_of (stretch_of (open_stretch (markers_of m.group olds)))
-    (front_with (front_of (markers_of m.group news)) (front_by m.status is f (Open [])))) ≡ steps_or r
-    (whole_of (stretch_of (open_stretch (markers_of m.group olds))) (front_of (markers_of m.group news))) →
-    (g : ℕ) → given r olds (news ++ placed n is (Some m) f ∷ []) g ≡ given r olds news g
-kept r olds news n is m f same g = go (eqb g m.group) refl
-  where
-    go : (b : Bool) → eqb g m.group ≡ b → given r olds (news ++ placed n is (Some m) f ∷ []) g ≡ given r olds news g
-    go true h = given_own r olds news n is m f g h
-        ∙ subst (λ x. steps_or r (whole_of (stretch_of (open_stretch (markers_of x olds)))
-        (front_with (front_of (markers_of x news)) (front_by m.status is f (Open [])))) ≡ given r olds news x) (sym (eqb-true g m.group h)) same
-    go false h = given_other r olds news (placed n is (Some m) f) g h
-
 open_across : (g : ℕ) (olds news : List Numbered) (b : Bool) (o : List Numbered) → are_middles (markers_of g news) ≡ b →
     open_stretch (markers_of g olds) ≡ o → open_stretch (markers_of g (olds ++ news)) ≡ cond b (with_more o (markers_of g news))
     (open_stretch (markers_of g news))
 open_across g olds news b o h k = rw (markers_of-append g olds news, open_stretch-append (markers_of g olds) (markers_of g news), h, k) refl
 
+-- what the batch's own group gives with it, by what its marker makes of the front
+abbrev given_with : ℕ → List Numbered → List Numbered → Numbered → ℕ → AtomicGroupStatus → List Step
+given_with r olds news p k s = steps_or r (whole_of (stretch_of (open_stretch (markers_of k olds))) (front_with (front_of (markers_of k news)) (front_by s p.batch.steps p.batch.seq (Open []))))
+
+-- one batch more, with a group marker
+module _ (r : ℕ) (ids : List ℕ) (olds news : List Numbered) (p : Numbered) (k : ℕ) (s : AtomicGroupStatus) (m : IsMarkerOf k s p) where
+  front_own : front_of (p ∷ []) ≡ front_by s p.batch.steps p.batch.seq (Open [])
+  unfolding front_of
+  front_own = ap (λ o. front_behind o p.batch.steps p.batch.seq (Open [])) m
+
+  given_own : given r olds (news ++ p ∷ []) k ≡ given_with r olds news p k s
+  given_own = ap (λ l. steps_or r (whole_of (stretch_of (open_stretch (markers_of k olds))) l))
+      (ap front_of (markers_more k news p (ap (is_of k) m ∙ eq-eqb k k refl)) ∙ front_of-append (markers_of k news) (p ∷ []) ∙ ap (front_with (front_of (markers_of k news))) front_own)
+
+  -- one group alone could change, and doesn't
+  kept : given_with r olds news p k s ≡ given r olds news k → (g : ℕ) → given r olds (news ++ p ∷ []) g ≡ given r olds news g
+  kept same g = elim (cases_Bool (eqb g k)) [
+    | inl e ↦ subst (λ x. given r olds (news ++ p ∷ []) x ≡ given r olds news x) (sym (eqb-true g k e)) (given_own ∙ same)
+    | inr e ↦ given_other r olds news p g (ap (is_of g) m ∙ e)
+  ]
+
+  unchanged : all_steps r (completed_by p.batch.marker (olds ++ news) p) ≡ all_steps r (completed_by p.batch.marker news p) → given_with r olds news p k s ≡ given r olds news k → Grows r ids olds news p
+  unchanged steps same = inl record { steps = steps; given = all_same r ids olds news (news ++ p ∷ []) (kept same) }
+
 -- an End, where the newer batches have Middles of the group alone and the older ones leave its stretch open
-grows_whole : (r : ℕ) (ids : List ℕ) (olds news : List Numbered) (n : ℕ) (is : List RegionStep) (k f : ℕ) (js : List RegionStep) (q : Numbered) (qs : List Numbered) →
-    front_of (markers_of k news) ≡ Open js → FitsFront (Open js) (markers_of k news) → open_stretch (markers_of k olds) ≡ q ∷ qs → Grows r ids olds news (placed n is (Some record { group = k; status = End }) f)
-grows_whole r ids olds news n is k f js q qs e h o = go (names r (region_steps_in effect)) refl
+grows_whole : (r : ℕ) (ids : List ℕ) (olds news : List Numbered) (p : Numbered) (k : ℕ) → IsMarkerOf k End p → (js : List RegionStep) (q : Numbered) (qs : List Numbered) →
+    front_of (markers_of k news) ≡ Open js → FitsFront (Open js) (markers_of k news) → open_stretch (markers_of k olds) ≡ q ∷ qs → Grows r ids olds news p
+grows_whole r ids olds news p k m js q qs e h o = go (names r (region_steps_in effect)) refl
   where
-    p : Numbered
-    p = placed n is (Some record { group = k; status = End }) f
-
     effect : Effect
-    effect = record { earlier = q ∷ (qs ++ markers_of k news); last = placed n is (Some record { group = k; status = End }) f }
+    effect = record { earlier = q ∷ (qs ++ markers_of k news); last = p }
 
-    completes : completed_by (Some record { group = k; status = End }) (olds ++ news)
-        (placed n is (Some record { group = k; status = End }) f) ≡ record
-        { earlier = q ∷ (qs ++ markers_of k news); last = placed n is (Some record { group = k; status = End }) f } ∷ []
-    completes = rw (open_across k olds news true (q ∷ qs) h.0 o) refl
+    completes : completed_by p.batch.marker (olds ++ news) p ≡ effect ∷ []
+    completes = rw (m, open_across k olds news true (q ∷ qs) h.0 o) refl
 
-    alone : completed_by (Some record { group = k; status = End }) news (placed n is (Some record { group = k; status = End }) f) ≡ []
-    alone = rw (middles_open_none (markers_of k news) h.0) refl
+    alone : completed_by p.batch.marker news p ≡ []
+    alone = rw (m, middles_open_none (markers_of k news) h.0) refl
 
-    same_steps : region_steps_of (q ∷ qs) ++ (js ++ is) ≡ region_steps_of (q ∷ (qs ++ markers_of k news)) ++ is
-    same_steps = rw (h.1, ← append_assoc (region_steps_of (q ∷ qs)) (region_steps_of (markers_of k news)) is) (ap (λ l. l ++ is) (sym (flat_map-append (λ x. x.batch.steps) (q ∷ qs) (markers_of k news))))
+    same_steps : region_steps_of (q ∷ qs) ++ (js ++ p.batch.steps) ≡ region_steps_of (q ∷ (qs ++ markers_of k news)) ++ p.batch.steps
+    same_steps = rw (h.1, ← append_assoc (region_steps_of (q ∷ qs)) (region_steps_of (markers_of k news)) p.batch.steps) (ap (λ l. l ++ p.batch.steps) (sym (flat_map-append (λ x. x.batch.steps) (q ∷ qs) (markers_of k news))))
 
-    steps : steps_or r (whole_of (stretch_of (open_stretch (markers_of k olds))) (front_with (front_of (markers_of k news)) (Ended is f))) ≡ steps_by
-        r (q ∷ (qs ++ markers_of k news)) (placed n is (Some record { group = k; status = End }) f)
-    steps = rw (o, e) (ap (λ l. whole_steps r l q.batch.seq f) same_steps)
+    steps : given_with r olds news p k End ≡ steps_by r (q ∷ (qs ++ markers_of k news)) p
+    steps = rw (o, e) (ap (λ l. whole_steps r l q.batch.seq p.batch.seq) same_steps)
 
-    none : steps_or r (whole_of (stretch_of (open_stretch (markers_of k olds))) (front_of (markers_of k news))) ≡ []
+    none : given r olds news k ≡ []
     none = rw (o, e) refl
 
-    go : (b : Bool) → names r (region_steps_of (q ∷ (qs ++ markers_of k news)) ++ is) ≡ b → Grows r ids olds news (placed n is (Some record { group = k; status = End }) f)
+    go : (b : Bool) → names r (region_steps_in effect) ≡ b → Grows r ids olds news p
     go true named = inr record {
       group = record { group = k; status = End };
-      effect = record { earlier = q ∷ (qs ++ markers_of k news); last = placed n is (Some record { group = k; status = End }) f };
+      effect = effect;
       completes = completes;
       alone = alone;
       is_group = λ x. cc;
-      began = λ m below. (subst (AllByRecursion (λ x. x.number < m)) o (each_open (λ x. x.number < m) (markers_of k olds) (each_markers (λ x. x.number < m) k olds below))).0;
+      began = λ n below. (open_among (λ x. x.number < n) k olds q qs below o).0;
       ends = refl;
       named = named;
-      marker = refl;
-      others = λ g x. given_other r olds news (placed n is (Some record { group = k; status = End }) f) g x;
-      steps = given_own r olds news n is record { group = k; status = End } f k (eq-eqb k k refl) ∙ steps;
+      marker = m;
+      others = λ g x. given_other r olds news p g (ap (is_of g) m ∙ x);
+      steps = given_own r ids olds news p k End m ∙ steps;
     }
     go false named =
-        let unnamed : steps_by r (q ∷ (qs ++ markers_of k news)) (placed n is (Some record { group = k; status = End }) f) ≡ [] = steps_in-none r
-        record { earlier = q ∷ (qs ++ markers_of k news); last = placed n is (Some record { group = k; status = End }) f } named in
-        inl record {
-          steps = rw (completes, alone) (all_steps-one r record { earlier = q ∷ (qs ++ markers_of k news); last = placed n is (Some record { group = k; status = End }) f } ∙ unnamed ∙ sym (all_steps-none r));
-          given = all_same r ids olds news (news ++ placed n is (Some record { group = k; status = End }) f ∷ []) (kept r olds news n is record { group = k; status = End } f (steps ∙ unnamed ∙ sym none));
-        }
+        let unnamed : steps_by r (q ∷ (qs ++ markers_of k news)) p ≡ [] = steps_in-none r effect named in
+        unchanged r ids olds news p k End m (rw (completes, alone) (all_steps-one r effect ∙ unnamed ∙ sym (all_steps-none r))) (steps ∙ unnamed ∙ sym none)
 
 -- an End
-grows_end : (r : ℕ) (ids : List ℕ) (olds news : List Numbered) (n : ℕ) (is : List RegionStep) (k f : ℕ) → Grows r ids olds news (placed n is (Some record { group = k; status = End }) f)
-grows_end r ids olds news n is k f = go (front_of (markers_of k news)) refl (fits_front (markers_of k news))
+grows_end : (r : ℕ) (ids : List ℕ) (olds news : List Numbered) (p : Numbered) (k : ℕ) → IsMarkerOf k End p → Grows r ids olds news p
+grows_end r ids olds news p k m = go (front_of (markers_of k news)) refl (fits_front (markers_of k news))
   where
-    open_front : (js : List RegionStep) → front_of (markers_of k news) ≡ Open js → FitsFront (Open js) (markers_of k news) → Grows r ids olds news (placed n is (Some record { group = k; status = End }) f)
-    open_front js e h = at (open_stretch (markers_of k olds)) refl
-      where
-        at : (o : List Numbered) → open_stretch (markers_of k olds) ≡ o → Grows r ids olds news (placed n is (Some record { group = k; status = End }) f)
-        at [] o = inl record {
-          steps = rw (open_across k olds news true [] h.0 o, middles_open_none (markers_of k news) h.0) refl;
-          given = all_same r ids olds news (news ++ placed n is (Some record { group = k; status = End }) f ∷ []) (kept r olds news n is record { group = k; status = End } f (rw o refl));
-        }
-        at (q ∷ qs) o = grows_whole r ids olds news n is k f js q qs e h o
+    open_front : (js : List RegionStep) → front_of (markers_of k news) ≡ Open js → FitsFront (Open js) (markers_of k news) → (o : List Numbered) → open_stretch (markers_of k olds) ≡ o → Grows r ids olds news p
+    open_front js e h [] o = unchanged r ids olds news p k End m (rw (m, open_across k olds news true [] h.0 o, middles_open_none (markers_of k news) h.0) refl) (rw o refl)
+    open_front js e h (q ∷ qs) o = grows_whole r ids olds news p k m js q qs e h o
 
-    go : (t : GroupFront) → front_of (markers_of k news) ≡ t → FitsFront t (markers_of k news) → Grows r ids olds news (placed n is (Some record { group = k; status = End }) f)
-    go (Ended js l) e h = inl record {
-      steps = rw (open_across k olds news false (open_stretch (markers_of k olds)) h refl) refl;
-      given = all_same r ids olds news (news ++ placed n is (Some record { group = k; status = End }) f ∷ []) (kept r olds news n is record { group = k; status = End } f (rw e refl));
-    }
-    go Begun e h = inl record {
-      steps = rw (open_across k olds news false (open_stretch (markers_of k olds)) h refl) refl;
-      given = all_same r ids olds news (news ++ placed n is (Some record { group = k; status = End }) f ∷ []) (kept r olds news n is record { group = k; status = End } f (rw e refl));
-    }
-    go (Open js) e h = open_front js e h
+    closed_front : are_middles (markers_of k news) ≡ false → given_with r olds news p k End ≡ given r olds news k → Grows r ids olds news p
+    closed_front h = unchanged r ids olds news p k End m (rw (m, open_across k olds news false (open_stretch (markers_of k olds)) h refl) refl)
 
-pub grows : (r : ℕ) (ids : List ℕ) (olds news : List Numbered) (n : ℕ) (is : List RegionStep) (m : Option GroupMarker) (f : ℕ) → Grows r ids olds news (placed n is m f)
-grows r ids olds news n is None f = inl record { steps = refl; given = all_same r ids olds news (news ++ placed n is None f ∷ []) (λ g. given_other r olds news (placed n is None f) g refl) }
-grows r ids olds news n is (Some m) f = go m.group m.status
+    go : (t : GroupFront) → front_of (markers_of k news) ≡ t → FitsFront t (markers_of k news) → Grows r ids olds news p
+    go (Open js) e h = open_front js e h (open_stretch (markers_of k olds)) refl
+    go (Ended js l) e h = closed_front h (rw e refl)
+    go Begun e h = closed_front h (rw e refl)
+
+pub grows : (r : ℕ) (ids : List ℕ) (olds news : List Numbered) (p : Numbered) → Grows r ids olds news p
+grows r ids olds news p = go p.batch.marker refl
   where
-    go : (k : ℕ) (s : AtomicGroupStatus) → Grows r ids olds news (placed n is (Some record { group = k; status = s }) f)
-    go k Begin = inl record {
-      steps = refl;
-      given = all_same r ids olds news (news ++ placed n is (Some record { group = k; status = Begin }) f ∷ []) (kept r olds news n is record { group = k; status = Begin } f
-          (ap (steps_or r) (whole_not_end (stretch_of (open_stretch (markers_of k olds))) (front_of (markers_of k news)) Begun (λ x. refl) (λ x js. refl))));
-    }
-    go k Middle = inl record {
-      steps = refl;
-      given = all_same r ids olds news (news ++ placed n is (Some record { group = k; status = Middle }) f ∷ []) (kept r olds news n is record { group = k; status = Middle } f
-          (ap (steps_or r) (whole_not_end (stretch_of (open_stretch (markers_of k olds))) (front_of (markers_of k news)) (Open (is ++ [])) (λ x. refl) (λ x js. refl))));
-    }
-    go k End = grows_end r ids olds news n is k f
+    by : (k : ℕ) (s : AtomicGroupStatus) → IsMarkerOf k s p → Grows r ids olds news p
+    by k Begin m = unchanged r ids olds news p k Begin m (rw m refl) (ap (steps_or r) (whole_not_end (stretch_of (open_stretch (markers_of k olds))) (front_of (markers_of k news)) Begun (λ x. refl) (λ x js. refl)))
+    by k Middle m = unchanged r ids olds news p k Middle m (rw m refl)
+        (ap (steps_or r) (whole_not_end (stretch_of (open_stretch (markers_of k olds))) (front_of (markers_of k news)) (Open (p.batch.steps ++ [])) (λ x. refl) (λ x js. refl)))
+    by k End m = grows_end r ids olds news p k m
+
+    go : (m : Option GroupMarker) → p.batch.marker ≡ m → Grows r ids olds news p
+    go None e = inl record { steps = rw e refl; given = all_same r ids olds news (news ++ p ∷ []) (λ g. given_other r olds news p g (ap (is_of g) e)) }
+    go (Some m) e = by m.group m.status e
 
 -- one more batch behind a cut
 grow : (r n : ℕ) (ids : List ℕ) (olds news : List Numbered) (p : Numbered) → AllByRecursion (λ q. q.number < n) olds → AllByRecursion (λ q. n ≤ q.number) news → AllByRecursion (λ q. q.number < p.number) (olds ++ news) →
     IsDistinct eqb ids → IsListed ids p.batch.marker → EachApart (effects_behind olds news ++ completed_by p.batch.marker (olds ++ news) p) →
     all_steps r (effects_behind olds news) ≡ all_given r ids olds news ++ all_steps r (effects_behind [] news) →
     all_steps r (effects_behind olds news) ++ all_steps r (completed_by p.batch.marker (olds ++ news) p) ≡ all_given r ids olds (news ++ p ∷ []) ++ (all_steps r (effects_behind [] news) ++ all_steps r (completed_by p.batch.marker news p))
-grow r n ids olds news p below from to one listed apart ih = go (grows r ids olds news p.number p.batch.steps p.batch.marker p.batch.seq)
+grow r n ids olds news p below from to one listed apart ih = go (grows r ids olds news p)
   where
     go : Grows r ids olds news p → all_steps r (effects_behind olds news) ++ all_steps r (completed_by p.batch.marker (olds ++ news) p) ≡ all_given r
         ids olds (news ++ p ∷ []) ++ (all_steps r (effects_behind [] news) ++ all_steps r (completed_by p.batch.marker news p))

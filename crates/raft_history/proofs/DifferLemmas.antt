@@ -1,16 +1,10 @@
 -- The groups that become whole at one cut name different regions.
-use Rattle.std.proofs.Common.{◌≡◌, ◌≢◌, ℕ, ◌+◌, ◌<◌, ◌≤◌, ◌⊎◌, true, List, [], ◌∷◌, ◌++◌, length, Option, Some, None, refl, sym, ap, subst, ◌∙◌, inl, inr, append_assoc, arith}
-use Rattle.std.specs.List.{AllByRecursion}
-use Rattle.std.proofs.lemmas.List.Concat.{flat_map-append}
-use Rattle.std.proofs.lemmas.Bool.{eqb-true}
-use Rattle.raft_records.specs.declared.atomic_group.AtomicGroupStatus.{AtomicGroupStatus}
+use Rattle.raft_history.proofs.Common.{◌≡◌, ◌≢◌, ℕ, ◌+◌, ◌<◌, ◌≤◌, ◌⊎◌, true, List, [], ◌∷◌, ◌++◌, length, Option, Some, None, refl, sym, ap, subst, ◌∙◌, inl, inr, append_assoc, arith, AllByRecursion}
+use Rattle.raft_history.proofs.Common.{flat_map-append, eqb-true, AtomicGroupStatus, GroupMarker, BatchSteps, Effect, effects, region_steps_in, first_in, AreApart, EachApart, Numbered, numbered_from}
+use Rattle.raft_history.proofs.Common.{is_of, markers_of, open_stretch, RegionStep, names, IsIn, IsMarkerOf, GroupFront, Open, Ended, Begun, front_of, front_by, front_behind, led_by, stretch_of}
+use Rattle.raft_history.proofs.Common.{WholeGroup, whole_group, whole_of, group_in}
 use Rattle.raft_records.specs.declared.atomic_group.AtomicGroupStatus.TheVariants.{Begin, Middle, End}
-use Rattle.raft_history.specs.Batches.{GroupMarker, BatchSteps}
-use Rattle.raft_history.specs.Effects.{Effect, effects, region_steps_in, first_in, AreApart, EachApart, Numbered, numbered_from, is_of, markers_of, open_stretch}
 use Rattle.raft_history.proofs.Words.{region_steps_of}
-use Rattle.raft_history.specs.RegionSteps.{RegionStep, names}
-use Rattle.raft_history.specs.Stretches.{IsIn, IsMarkerOf}
-use Rattle.raft_history.specs.WaitingGroup.{GroupFront, Open, Ended, Begun, front_of, front_by, front_behind, led_by, stretch_of, WholeGroup, whole_group, whole_of, group_in}
 use Rattle.raft_history.proofs.EffectLemmas.{each-append, each_weaker, each_right, each_markers, numbered_from-append, from_on, up_to}
 use Rattle.raft_history.proofs.MarkerLemmas.{markers_of-append, whole_is}
 use Rattle.raft_history.proofs.ShiftLemmas.{group_of-placed}

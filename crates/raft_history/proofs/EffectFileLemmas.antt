@@ -1,47 +1,16 @@
 -- Where effects are apart, a region's steps stand in files that never go down.
-use Rattle.std.proofs.Common.{◌≡◌, ℕ, suc, zero, ◌+◌, ◌<◌, ◌≤◌, Bool, true, false, cond, ◌&&◌, List, [], ◌∷◌, ◌++◌, filter, map, Option, Some, None, refl, sym, ap, subst, ◌∙◌, inr, arith, append-nil, slice_index_or}
-use Rattle.std.proofs.Math.Nat.{lt_of_not-le}
-use Rattle.std.proofs.lemmas.List.Concat.{flat_map-append}
-use Rattle.std.specs.List.{AllByRecursion}
-use Rattle.raft_base.specs.declared.pipe_log.FileId.{FileId}
-use Rattle.raft_base.specs.declared.pipe_log.LogQueue.{LogQueue}
-use Rattle.raft_records.specs.declared.atomic_group.AtomicGroupStatus.{AtomicGroupStatus}
-use Rattle.raft_records.specs.declared.atomic_group.AtomicGroupStatus.TheVariants.{Begin, Middle, End}
-use Rattle.raft_records.specs.declared.command.Command.TheVariants as commands
-use Rattle.raft_records.specs.declared.key_value.OpType.{OpType}
-use Rattle.raft_records.specs.declared.key_value.OpType.TheVariants as operations
-use Rattle.raft_records.specs.Group.{is_reserved}
-use Rattle.raft_records.specs.Item.{Item, Content, entries, command, pair}
-use Rattle.raft_table.specs.Steps.{Step, Run, Compact, Truncate, Put, Del, AtomicGroup, Clean}
-use Rattle.raft_table.proofs.MarkEntries.{same_some}
-use Rattle.raft_history.specs.Batches.{Event, GroupMarker, BatchSteps, batches}
-use Rattle.raft_history.specs.Effects.{
-  Effect,
-  completed_as,
-  completed_by,
-  effects_behind,
-  effects,
-  whole_steps,
-  region_steps_in,
-  steps_by,
-  steps_of,
-  first_in,
-  AreApart,
-  EachApart,
-  has_status,
-  Numbered,
-  numbered_from,
-  markers_of,
-  open_stretch,
-}
-use Rattle.raft_history.specs.Histories.{IsInFile, AreInFile, FilesFrom, IsSoundIn, Apart}
-use Rattle.raft_history.specs.RegionSteps.{RegionStep, pair_step, content_step, names, steps_on, steps_of_items}
-use Rattle.raft_history.specs.Stretches.{RiseFrom}
-use Rattle.raft_history.proofs.Words.{AreInFiles, with_step, is_on, region_steps_of, all_steps, are_middles}
-use Rattle.raft_history.proofs.EffectLemmas.{each-append, each_weaker, steps_in-none}
+use Rattle.raft_history.proofs.Common.{cond_both, Effect, completed_by, effects_behind, effects, whole_steps, region_steps_in, steps_by, steps_of, first_in, AreApart, EachApart, has_status, Numbered}
+use Rattle.raft_history.proofs.Common.{numbered_from, markers_of, open_stretch, ◌≡◌, ℕ, suc, zero, ◌+◌, ◌<◌, ◌≤◌, Bool, true, false, cond, ◌&&◌, List, [], ◌∷◌, ◌++◌, refl, sym, ap, subst, ◌∙◌, inr}
+use Rattle.raft_history.proofs.Common.{arith, append-nil, slice_index_or, lt_of_not-le, flat_map-append, AllByRecursion, FileId, LogQueue, Item, Step, Run, AtomicGroup, Event, BatchSteps, batches}
+use Rattle.raft_history.proofs.Common.{AreInFile, FilesFrom, IsSoundIn, Apart, RegionStep, names, steps_on, steps_of_items, RiseFrom}
+use Rattle.std.proofs.Common.{filter, map}
+use Rattle.raft_records.specs.declared.atomic_group.AtomicGroupStatus.TheVariants.{Begin}
+use Rattle.raft_history.proofs.Words.{AreInFiles, is_on, region_steps_of, all_steps, are_middles}
+use Rattle.raft_history.proofs.EffectLemmas.{by_completed, each-append, each_weaker, steps_in-none}
 use Rattle.raft_history.proofs.FileOrderLemmas.{StepRises, StepsRise, run_here, steps_lower, rise-append}
+use Rattle.raft_history.proofs.FileStepLemmas.{IsStepInFile, steps_in_file}
 use Rattle.raft_history.proofs.StepListLemmas.{own-append}
-use Rattle.raft_history.proofs.StretchLemmas.{effects_are}
+use Rattle.raft_history.proofs.StretchLemmas.{effects_are, later_from}
 
 -- ---- the files of a history, by the numbers of its batches
 
@@ -79,33 +48,12 @@ record IsFiled (q : LogQueue) (seq_at : ℕ → ℕ) (p : Numbered) : Type 0 whe
   number : p.batch.seq ≡ seq_at p.number
   here : AreHere q p.batch.seq p.batch.steps
 
-content_here : (file : FileId) (content : Content) (s : Step) → IsInFile file content → content_step content ≡ Some s → StepRises file.queue file.seq file.seq s
-content_here file (entries es) s h e = subst (StepRises file.queue file.seq file.seq) (same_some (Run es) s e) (run_here file es h.1)
-content_here file (command commands.Clean) s h e = subst (StepRises file.queue file.seq file.seq) (same_some Clean s e) (omega arith)
-content_here file (command (commands.Compact index)) s h e = subst (StepRises file.queue file.seq file.seq) (same_some (Compact index) s e) (omega arith)
-content_here file (command (commands.Truncate index)) s h e = subst (StepRises file.queue file.seq file.seq) (same_some (Truncate index) s e) (omega arith)
-content_here file (pair p) s h e = go (is_reserved p.key) e
-  where
-    put : (value : Option (List ℕ)) (id : Option FileId) → pair_step operations.Put p.key value id ≡ Some s → StepRises file.queue file.seq file.seq s
-    put (Some value) (Some id) e = subst (StepRises file.queue file.seq file.seq) (same_some (Put p.key value id) s e) (omega arith)
-    put (Some value) None e = absurd cc
-    put None id e = absurd cc
-
-    of : (o : OpType) → pair_step o p.key p.value p.file_id ≡ Some s → StepRises file.queue file.seq file.seq s
-    of operations.Put e = put p.value p.file_id e
-    of operations.Del e = subst (StepRises file.queue file.seq file.seq) (same_some (Del p.key) s e) (omega arith)
-
-    go : (b : Bool) → cond b None (pair_step p.op_type p.key p.value p.file_id) ≡ Some s → StepRises file.queue file.seq file.seq s
-    go true e = absurd cc
-    go false e = of p.op_type e
+step_here : (file : FileId) (s : Step) → IsStepInFile file s → StepRises file.queue file.seq file.seq s
+step_here file (Run es) h = run_here file es h.1
+step_here file _ h = omega arith
 
 items_here : (file : FileId) (items : List Item) → AreInFile file items → AreHere file.queue file.seq (steps_of_items items)
-items_here file [] h = tt
-items_here file (item ∷ items) h = go (content_step item.content) (λ s e. content_here file item.content s h.0 e) (items_here file items h.1)
-  where
-    go : (o : Option Step) → ((s : Step) → o ≡ Some s → StepRises file.queue file.seq file.seq s) → AreHere file.queue file.seq (steps_of_items items) → AreHere file.queue file.seq (with_step item.raft_group_id o (steps_of_items items))
-    go None each rest = rest
-    go (Some s) each rest = (each s refl, rest)
+items_here file items h = each_weaker (λ s. IsStepInFile file s.step) (λ s. StepRises file.queue file.seq file.seq s.step) (λ s k. step_here file s.step k) (steps_of_items items) (steps_in_file file items h)
 
 all_filed : (q : LogQueue) (seq_at : ℕ → ℕ) (seq n : ℕ) (h : List Event) → ((i : ℕ) → seq_at (n + i) ≡ seq_of_batch seq h i) → FilesFrom q seq h → AreInFiles h → AllByRecursion (IsFiled q seq_at) (numbered_from n (batches h))
 unfolding seq_of_batch
@@ -137,26 +85,22 @@ row_push q seq_at n m k (o ∷ ps) p h l u f = (h.0, h.1, row_push q seq_at o.nu
 
 row_filter : (q : LogQueue) (seq_at : ℕ → ℕ) (t : Numbered → Bool) (n m : ℕ) (ps : List Numbered) → IsRow q seq_at n m ps → IsRow q seq_at n m (filter t ps)
 row_filter q seq_at t n m [] h = h
-row_filter q seq_at t n m (p ∷ ps) h = elim (t p) as (λ b. IsRow q seq_at n m (cond b (p ∷ filter t ps) (filter t ps))) [
-  | true ↦ (h.0, h.1, row_filter q seq_at t p.number m ps h.2)
-  | false ↦ row_lower q seq_at n p.number m (filter t ps) h.0 (row_filter q seq_at t p.number m ps h.2)
-]
+row_filter q seq_at t n m (p ∷ ps) h =
+    let rest : IsRow q seq_at p.number m (filter t ps) = row_filter q seq_at t p.number m ps h.2 in
+    cond_both (t p) (p ∷ filter t ps) (filter t ps) (IsRow q seq_at n m) (λ e. (h.0, h.1, rest)) (λ e. row_lower q seq_at n p.number m (filter t ps) h.0 rest)
 
 row_open : (q : LogQueue) (seq_at : ℕ → ℕ) (n m : ℕ) (ps : List Numbered) → IsRow q seq_at n m ps → IsRow q seq_at n m (open_stretch ps)
 unfolding open_stretch
 row_open q seq_at n m [] h = h
-row_open q seq_at n m (p ∷ ps) h = elim (has_status Begin p.batch.marker && are_middles ps) as (λ b. IsRow q seq_at n m (cond b (p ∷ ps) (open_stretch ps))) [
-  | true ↦ h
-  | false ↦ row_lower q seq_at n p.number m (open_stretch ps) h.0 (row_open q seq_at p.number m ps h.2)
-]
+row_open q seq_at n m (p ∷ ps) h = cond_both (has_status Begin p.batch.marker && are_middles ps) (p ∷ ps) (open_stretch ps) (IsRow q seq_at n m) (λ e. h)
+    (λ e. row_lower q seq_at n p.number m (open_stretch ps) h.0 (row_open q seq_at p.number m ps h.2))
 
 here_rises : (q : LogQueue) (seq r : ℕ) (steps : List RegionStep) → AreHere q seq steps → StepsRise q seq seq (steps_on r steps)
 unfolding steps_on
 here_rises q seq r [] h = omega arith
-here_rises q seq r (s ∷ steps) h = elim (is_on r s) as (λ b. StepsRise q seq seq (map (λ (s : RegionStep). s.step) (cond b (s ∷ filter (is_on r) steps) (filter (is_on r) steps)))) [
-  | true ↦ (seq, h.0, here_rises q seq r steps h.1)
-  | false ↦ here_rises q seq r steps h.1
-]
+here_rises q seq r (s ∷ steps) h =
+    let rest : StepsRise q seq seq (map (λ (s : RegionStep). s.step) (filter (is_on r) steps)) = here_rises q seq r steps h.1 in
+    cond_both (is_on r s) (s ∷ filter (is_on r) steps) (filter (is_on r) steps) (λ is. StepsRise q seq seq (map (λ (s : RegionStep). s.step) is)) (λ e. (seq, h.0, rest)) (λ e. rest)
 
 row_rises : (q : LogQueue) (seq_at : ℕ → ℕ) (r n m : ℕ) (ps : List Numbered) → NeverFalls seq_at → IsRow q seq_at n m ps → StepsRise q (seq_at n) (seq_at m) (steps_on r (region_steps_of ps))
 unfolding steps_on
@@ -197,20 +141,9 @@ effect_rises q seq_at r e up h = go e.earlier h
 
 completed_rows : (q : LogQueue) (seq_at : ℕ → ℕ) (n : ℕ) (olds : List Numbered) (p : Numbered) → IsRow q seq_at 0 n olds → n ≤ p.number → IsFiled q seq_at p → AllByRecursion (HasRow q seq_at) (completed_by p.batch.marker olds p)
 unfolding markers_of
-completed_rows q seq_at n olds p h l f = go p.batch.marker
-  where
-    end : (l : List Numbered) → IsRow q seq_at 0 n l → AllByRecursion (HasRow q seq_at) (completed_as End l p)
-    end [] h = tt
-    end (o ∷ os) h = ((omega arith, h.1, row_push q seq_at o.number n p.number os p h.2 l (omega arith) f), tt)
-
-    go : (m : Option GroupMarker) → AllByRecursion (HasRow q seq_at) (completed_by m olds p)
-    go None = ((omega arith, f, omega arith), tt)
-    go (Some m) = at m.status
-      where
-        at : (s : AtomicGroupStatus) → AllByRecursion (HasRow q seq_at) (completed_as s (open_stretch (markers_of m.group olds)) p)
-        at Begin = tt
-        at Middle = tt
-        at End = end (open_stretch (markers_of m.group olds)) (row_open q seq_at 0 n (markers_of m.group olds) (row_filter q seq_at _ 0 n olds h))
+completed_rows q seq_at n olds p h l f = by_completed (AllByRecursion (HasRow q seq_at)) olds p tt (λ e. ((omega arith, f, omega arith), tt)) (λ g o os m e.
+    let r : IsRow q seq_at 0 n (o ∷ os) = subst (IsRow q seq_at 0 n) e (row_open q seq_at 0 n (markers_of g olds) (row_filter q seq_at _ 0 n olds h)) in
+    ((omega arith, r.1, row_push q seq_at o.number n p.number os p r.2 l (omega arith) f), tt))
 
 all_rows : (q : LogQueue) (seq_at : ℕ → ℕ) (n : ℕ) (olds : List Numbered) (bs : List BatchSteps) → IsRow q seq_at 0 n olds →
     AllByRecursion (IsFiled q seq_at) (numbered_from n bs) → AllByRecursion (HasRow q seq_at) (effects_behind olds (numbered_from n bs))
@@ -240,10 +173,6 @@ begins_behind r e f apart low l a b = go f.earlier refl
         none_is : f.earlier ≡ [] → f.earlier ≡ q ∷ qs → ⊥
         none_is x y = cc
 
-rise_all : (n : ℕ) (es : List Effect) → RiseFrom n es → AllByRecursion (λ e. n ≤ e.last.number) es
-rise_all n [] h = tt
-rise_all n (e ∷ es) h = (h.0, each_weaker (λ f. suc e.last.number ≤ f.last.number) (λ f. n ≤ f.last.number) (λ f k. omega (arith, h.0, k)) es (rise_all (suc e.last.number) es h.1))
-
 all_follow : (seq_at : ℕ → ℕ) (r : ℕ) (e : Effect) (es : List Effect) → NeverFalls seq_at → first_in e ≤ e.last.number →
     AllByRecursion (AreApart e) es → AllByRecursion (λ f. suc e.last.number ≤ f.last.number) es → AllByRecursion (Follows seq_at r e) es
 all_follow seq_at r e [] up low a l = tt
@@ -258,7 +187,7 @@ all_follow seq_at r e (f ∷ es) up low a l = (λ x y. up e.last.number (first_i
 each_follows : (q : LogQueue) (seq_at : ℕ → ℕ) (r n : ℕ) (es : List Effect) → NeverFalls seq_at → RiseFrom n es → EachApart es → AllByRecursion (HasRow q seq_at) es → EachFollows seq_at r es
 each_follows q seq_at r n [] up rise apart rows = tt
 each_follows q seq_at r n (e ∷ es) up rise apart rows = (
-  all_follow seq_at r e es up (effect_order q seq_at e rows.0) apart.0 (rise_all (suc e.last.number) es rise.1),
+  all_follow seq_at r e es up (effect_order q seq_at e rows.0) apart.0 (later_from (suc e.last.number) es rise.1),
   each_follows q seq_at r (suc e.last.number) es up rise.1 apart.1 rows.1,
 )
 

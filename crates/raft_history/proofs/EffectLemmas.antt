@@ -1,14 +1,10 @@
 -- Words on effects: numbers, extents, names and steps.
-use Rattle.std.proofs.Common.{◌≡◌, ◌≢◌, ℕ, suc, ◌+◌, ◌<◌, ◌≤◌, Bool, true, false, cond, ◌&&◌, ◌||◌, List, [], ◌∷◌, ◌++◌, length, Option, Some, None, refl, sym, ap, subst, ◌∙◌, inr, append_assoc, arith}
+use Rattle.raft_history.proofs.Common.{IsMarkerOf, cond_both, false_from_ne_true, flat_map, or_parts, ◌≡◌, ◌≢◌, ℕ, suc, ◌+◌, ◌<◌, ◌≤◌, Bool, true, false, ◌&&◌, List, [], ◌∷◌, ◌++◌, length, Option}
+use Rattle.raft_history.proofs.Common.{Some, None, refl, sym, ap, subst, ◌∙◌, inr, append_assoc, arith, flat_map-append, filter, AllByRecursion, list_any, AtomicGroupStatus, GroupMarker, BatchSteps}
+use Rattle.raft_history.proofs.Common.{Effect, completed_as, completed_by, effects_behind, whole_steps, region_steps_in, steps_by, first_in, AreApart, EachApart, has_status, Numbered, numbered_from}
+use Rattle.raft_history.proofs.Common.{is_of, markers_of, open_stretch, RegionStep, names, steps_on}
 use Rattle.std.proofs.lemmas.List.{append-nil}
-use Rattle.std.proofs.lemmas.List.Concat.{flat_map-append}
-use Rattle.std.specs.Prelude.{filter, map}
-use Rattle.std.specs.List.{AllByRecursion, list_any}
-use Rattle.raft_records.specs.declared.atomic_group.AtomicGroupStatus.{AtomicGroupStatus}
 use Rattle.raft_records.specs.declared.atomic_group.AtomicGroupStatus.TheVariants.{Begin, Middle, End}
-use Rattle.raft_history.specs.Batches.{GroupMarker, BatchSteps}
-use Rattle.raft_history.specs.Effects.{Effect, completed_as, completed_by, effects_behind, whole_steps, region_steps_in, steps_by, first_in, AreApart, EachApart, has_status, Numbered, numbered_from, is_of, markers_of, open_stretch}
-use Rattle.raft_history.specs.RegionSteps.{RegionStep, names, steps_on}
 use Rattle.raft_history.proofs.Words.{steps_in, is_on, region_steps_of, all_steps, are_middles}
 
 -- what holds of each
@@ -30,11 +26,14 @@ each_weaker P Q f (x ∷ xs) h = (f x h.0, each_weaker P Q f xs h.1)
 
 pub each_filter : {X : Type 0} (P : X → Type 0) (t : X → Bool) (xs : List X) → AllByRecursion P xs → AllByRecursion P (filter t xs)
 each_filter P t [] h = tt
-each_filter {X} P t (x ∷ xs) h = go (t x) (each_filter P t xs h.1)
-  where
-    go : (b : Bool) → AllByRecursion P (filter t xs) → AllByRecursion P (cond b (x ∷ filter t xs) (filter t xs))
-    go true k = (h.0, k)
-    go false k = k
+each_filter {X} P t (x ∷ xs) h =
+    let rest = each_filter P t xs h.1 in
+    cond_both (t x) (x ∷ filter t xs) (filter t xs) (AllByRecursion P) (λ e. (h.0, rest)) (λ e. rest)
+
+-- what holds of each of some lists holds of them joined
+pub each_flat : {X Y : Type 0} (P : Y → Type 0) (f : X → List Y) (xs : List X) → AllByRecursion (λ x. AllByRecursion P (f x)) xs → AllByRecursion P (flat_map f xs)
+each_flat P f [] h = tt
+each_flat P f (x ∷ xs) h = each-append P (f x) (flat_map f xs) h.0 (each_flat P f xs h.1)
 
 pub each_markers : (P : Numbered → Type 0) (g : ℕ) (ps : List Numbered) → AllByRecursion P ps → AllByRecursion P (markers_of g ps)
 unfolding markers_of
@@ -43,11 +42,7 @@ each_markers P g ps h = each_filter P (λ p. is_of g p.batch.marker) ps h
 pub each_open : (P : Numbered → Type 0) (ps : List Numbered) → AllByRecursion P ps → AllByRecursion P (open_stretch ps)
 unfolding open_stretch
 each_open P [] h = tt
-each_open P (p ∷ ps) h = go (has_status Begin p.batch.marker && are_middles ps) (each_open P ps h.1)
-  where
-    go : (b : Bool) → AllByRecursion P (open_stretch ps) → AllByRecursion P (cond b (p ∷ ps) (open_stretch ps))
-    go true k = h
-    go false k = k
+each_open P (p ∷ ps) h = cond_both (has_status Begin p.batch.marker && are_middles ps) (p ∷ ps) (open_stretch ps) (AllByRecursion P) (λ e. h) (λ e. each_open P ps h.1)
 
 -- by one more at the end
 pub by_push : {X : Type 0} (P : List X → Type 0) → P [] → ((xs : List X) (x : X) → P xs → P (xs ++ x ∷ [])) → (xs : List X) → P xs
@@ -100,11 +95,7 @@ all_steps-none r = refl
 pub steps_on-none : (r : ℕ) (is : List RegionStep) → names r is ≡ false → steps_on r is ≡ []
 unfolding names steps_on
 steps_on-none r [] h = refl
-steps_on-none r (i ∷ is) h = go (is_on r i) h (steps_on-none r is)
-  where
-    go : (b : Bool) → (b || list_any (is_on r) is) ≡ false → (list_any (is_on r) is ≡ false → map (λ i. i.step) (filter (is_on r) is) ≡ []) → map (λ i. i.step) (cond b (i ∷ filter (is_on r) is) (filter (is_on r) is)) ≡ []
-    go true h ih = cc
-    go false h ih = ih h
+steps_on-none r (i ∷ is) h = let n = or_parts (is_on r i) (list_any (is_on r) is) h in rw n.0 (steps_on-none r is n.1)
 
 pub whole_steps-none : (r : ℕ) (is : List RegionStep) (first_seq last_seq : ℕ) → names r is ≡ false → whole_steps r is first_seq last_seq ≡ []
 unfolding whole_steps
@@ -121,6 +112,36 @@ pub all_steps-unnamed : (r : ℕ) (es : List Effect) → AllByRecursion (λ e. n
 all_steps-unnamed r [] h = refl
 all_steps-unnamed r (e ∷ es) h = rw (steps_in-none r e h.0) (all_steps-unnamed r es h.1)
 
+-- what a batch completes behind others: nothing, itself alone, or the open stretch of its group with it
+pub by_completed : (P : List Effect → Type 0) (olds : List Numbered) (p : Numbered) → P [] → (p.batch.marker ≡ None → P (record { earlier = []; last = p } ∷ []))
+    → ((g : ℕ) (q : Numbered) (qs : List Numbered) → IsMarkerOf g End p → open_stretch (markers_of g olds) ≡ q ∷ qs → P (record { earlier = q ∷ qs; last = p } ∷ []))
+    → P (completed_by p.batch.marker olds p)
+by_completed P olds p none alone ended = go p.batch.marker refl
+  where
+    end : (g : ℕ) → IsMarkerOf g End p → (l : List Numbered) → open_stretch (markers_of g olds) ≡ l → P (completed_as End l p)
+    end g m [] e = none
+    end g m (q ∷ qs) e = ended g q qs m e
+
+    by : (g : ℕ) (s : AtomicGroupStatus) → IsMarkerOf g s p → P (completed_as s (open_stretch (markers_of g olds)) p)
+    by g Begin m = none
+    by g Middle m = none
+    by g End m = end g m (open_stretch (markers_of g olds)) refl
+
+    go : (m : Option GroupMarker) → p.batch.marker ≡ m → P (completed_by m olds p)
+    go None e = alone e
+    go (Some m) e = by m.group m.status e
+
+-- the open stretch of a group is of the batches that it is read from
+pub open_among : (P : Numbered → Type 0) (g : ℕ) (olds : List Numbered) (q : Numbered) (qs : List Numbered) → AllByRecursion P olds → open_stretch (markers_of g olds) ≡ q ∷ qs → AllByRecursion P (q ∷ qs)
+open_among P g olds q qs h e = subst (AllByRecursion P) e (each_open P (markers_of g olds) (each_markers P g olds h))
+
+-- what holds of what each batch completes holds of all effects
+pub each_effect : (P : Effect → Type 0) (Q : Numbered → Type 0) → ((olds : List Numbered) (p : Numbered) → AllByRecursion Q olds → Q p → AllByRecursion P (completed_by p.batch.marker olds p))
+    → (olds ps : List Numbered) → AllByRecursion Q olds → AllByRecursion Q ps → AllByRecursion P (effects_behind olds ps)
+unfolding effects_behind
+each_effect P Q one olds [] h k = tt
+each_effect P Q one olds (p ∷ ps) h k = each-append P (completed_by p.batch.marker olds p) (effects_behind (olds ++ p ∷ []) ps) (one olds p h k.0) (each_effect P Q one (olds ++ p ∷ []) ps (each-append Q olds (p ∷ []) h (k.0, tt)) k.1)
+
 -- extents: where effects of the batches from n to below m begin and end
 pub record Within (n m : ℕ) (e : Effect) : Type 0 where
   pub first : first_in e < m
@@ -128,20 +149,8 @@ pub record Within (n m : ℕ) (e : Effect) : Type 0 where
   pub from : n ≤ e.last.number
 
 within_completed : (n m : ℕ) (olds : List Numbered) (p : Numbered) → AllByRecursion (λ q. q.number < m) olds → n ≤ p.number → p.number < m → AllByRecursion (Within n m) (completed_by p.batch.marker olds p)
-within_completed n m olds p below from to = go p.batch.marker
-  where
-    end : (l : List Numbered) → AllByRecursion (λ q. q.number < m) l → AllByRecursion (Within n m) (completed_as End l p)
-    end [] h = tt
-    end (q ∷ qs) h = (record { first = h.0; last = to; from = from }, tt)
-
-    go : (k : Option GroupMarker) → AllByRecursion (Within n m) (completed_by k olds p)
-    go None = (record { first = to; last = to; from = from }, tt)
-    go (Some k) = at k.status
-      where
-        at : (s : AtomicGroupStatus) → AllByRecursion (Within n m) (completed_as s (open_stretch (markers_of k.group olds)) p)
-        at Begin = tt
-        at Middle = tt
-        at End = end (open_stretch (markers_of k.group olds)) (each_open (λ q. q.number < m) (markers_of k.group olds) (each_markers (λ q. q.number < m) k.group olds below))
+within_completed n m olds p below from to = by_completed (AllByRecursion (Within n m)) olds p tt (λ e. (record { first = to; last = to; from = from }, tt))
+    (λ g q qs k e. (record { first = (open_among (λ q. q.number < m) g olds q qs below e).0; last = to; from = from }, tt))
 
 pub within : (n m : ℕ) (olds ps : List Numbered) → AllByRecursion (λ q. q.number < m) olds → AllByRecursion (λ q. n ≤ q.number) ps → AllByRecursion (λ q. q.number < m) ps → AllByRecursion (Within n m) (effects_behind olds ps)
 unfolding effects_behind
@@ -167,8 +176,4 @@ pub unnamed_between : (r n m : ℕ) (es : List Effect) (f : Effect) → AllByRec
     f.earlier ≢ [] → first_in f < n → f.last.number ≡ m → names r (region_steps_in f) ≡ true →
     AllByRecursion (λ e. names r (region_steps_in e) ≡ false) es
 unnamed_between r n m [] f w a group first last named = tt
-unnamed_between r n m (e ∷ es) f w a group first last named = (not_true _ (λ k. a.0 (omega (arith, w.0.first), omega (arith, w.0.from)) (inr group) r k named), unnamed_between r n m es f w.1 a.1 group first last named)
-  where
-    not_true : (b : Bool) → (b ≡ true → ⊥) → b ≡ false
-    not_true true h = absurd (h refl)
-    not_true false h = refl
+unnamed_between r n m (e ∷ es) f w a group first last named = (false_from_ne_true _ (λ k. a.0 (omega (arith, w.0.first), omega (arith, w.0.from)) (inr group) r k named), unnamed_between r n m es f w.1 a.1 group first last named)

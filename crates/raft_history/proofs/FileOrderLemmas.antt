@@ -1,19 +1,12 @@
 -- Steps whose entries stand in files that never go down keep the entries of a table in the order of their files.
-use Rattle.std.proofs.Common.{◌≡◌, ℕ, ◌≤◌, Bool, true, false, cond, List, [], ◌∷◌, ◌++◌, filter, Option, Some, None, refl, sym, ap, subst, ◌∙◌, arith}
-use Rattle.std.specs.Option.{option_map, option_map_or, option_and_then}
-use Rattle.raft_base.specs.declared.pipe_log.FileBlockHandle.{FileBlockHandle}
-use Rattle.raft_base.specs.declared.pipe_log.FileId.{FileId}
-use Rattle.raft_base.specs.declared.pipe_log.LogQueue.{LogQueue}
+use Rattle.raft_history.proofs.Common.{accepted_is, cond_both, some_is, option_and_then_some, ◌≡◌, ℕ, ◌≤◌, Bool, true, false, List, [], ◌∷◌, ◌++◌, Option, Some, None, refl, sym, ap, subst, arith}
+use Rattle.raft_history.proofs.Common.{option_map_or, FileBlockHandle, FileId, LogQueue, EntryIndex, IsPlaceInFile, is_same, entries_after_replay, leaves_hole, Step, Run, Compact, Truncate, Clean}
+use Rattle.raft_history.proofs.Common.{table_of, after_step, after, Table, below, from, is_placed_in, same_some}
+use Rattle.std.proofs.Common.{filter}
+use Rattle.std.specs.Option.{option_map}
 use Rattle.raft_base.specs.declared.pipe_log.LogQueue.TheVariants.{Append, Rewrite}
-use Rattle.raft_base.specs.declared.entry_index.EntryIndex.{EntryIndex}
-use Rattle.raft_records.specs.DecodedIn.{IsPlaceInFile}
-use Rattle.raft_table.specs.Queues.{is_same}
-use Rattle.raft_table.specs.Start.{entries_after_replay, leaves_hole}
-use Rattle.raft_table.specs.Steps.{Step, Run, Compact, Truncate, Put, Del, AtomicGroup, Clean, table_of, after_step, after}
-use Rattle.raft_table.specs.Table.{Table}
-use Rattle.raft_table.specs.TableEntries.{below, from, is_placed_in}
-use Rattle.raft_table.proofs.MarkEntries.{same_some}
 use Rattle.raft_history.proofs.Words.{ArePlacesInFile}
+use Rattle.raft_history.proofs.ReadRunLemmas.{is_in_queue}
 
 -- ---- entries in the order of their files
 
@@ -36,10 +29,9 @@ higher q low high b (e ∷ es) l h = (h.0, h.1, higher q (seq_of e.entries) high
 
 pub some_of : (q : LogQueue) (p : EntryIndex → Bool) (low high : ℕ) (es : List EntryIndex) → InOrder q low high es → InOrder q low high (filter p es)
 some_of q p low high [] h = h
-some_of q p low high (e ∷ es) h = elim (p e) as (λ b. InOrder q low high (cond b (e ∷ filter p es) (filter p es))) [
-  | true ↦ (h.0, h.1, some_of q p (seq_of e.entries) high es h.2)
-  | false ↦ lower q low (seq_of e.entries) high (filter p es) h.1 (some_of q p (seq_of e.entries) high es h.2)
-]
+some_of q p low high (e ∷ es) h =
+    let rest : InOrder q (seq_of e.entries) high (filter p es) = some_of q p (seq_of e.entries) high es h.2 in
+    cond_both (p e) (e ∷ filter p es) (filter p es) (InOrder q low high) (λ t. (h.0, h.1, rest)) (λ t. lower q low (seq_of e.entries) high (filter p es) h.1 rest)
 
 behind : (q : LogQueue) (low mid high : ℕ) (xs ys : List EntryIndex) → InOrder q low mid xs → InOrder q mid high ys → InOrder q low high (xs ++ ys)
 behind q low mid high [] ys h k = lower q low mid high ys h k
@@ -47,11 +39,7 @@ behind q low mid high (x ∷ xs) ys h k = (h.0, h.1, behind q (seq_of x.entries)
 
 place_here : (file : FileId) (o : Option FileBlockHandle) → IsPlaceInFile file o → (option_map_or (λ (place : FileBlockHandle). is_same place.id.queue file.queue) o false ≡ true) × (seq_of o ≡ file.seq)
 place_here file None h = absurd h
-place_here file (Some handle) h = (ap (λ (f : FileId). is_same f.queue file.queue) h ∙ same_self file.queue, ap (λ (f : FileId). f.seq) h)
-  where
-    same_self : (q : LogQueue) → is_same q q ≡ true
-    same_self Append = refl
-    same_self Rewrite = refl
+place_here file (Some handle) h = (is_in_queue file (Some handle) h, ap (λ (f : FileId). f.seq) h)
 
 pub run_here : (file : FileId) (es : List EntryIndex) → ArePlacesInFile file es → InOrder file.queue file.seq file.seq es
 unfolding is_placed_in
@@ -74,12 +62,7 @@ StepsRise q low high (s ∷ ss) = (mid : ℕ) × StepRises q low mid s × StepsR
 
 step_lower : (q : LogQueue) (a low high : ℕ) (s : Step) → a ≤ low → StepRises q low high s → StepRises q a high s
 step_lower q a low high (Run run) l h = lower q a low high run l h
-step_lower q a low high (Compact i) l h = omega (arith, l, h)
-step_lower q a low high (Truncate i) l h = omega (arith, l, h)
-step_lower q a low high (Put key value file) l h = omega (arith, l, h)
-step_lower q a low high (Del key) l h = omega (arith, l, h)
-step_lower q a low high (AtomicGroup first_seq last_seq) l h = omega (arith, l, h)
-step_lower q a low high Clean l h = omega (arith, l, h)
+step_lower q a low high _ l h = omega (arith, l, h)
 
 pub steps_lower : (q : LogQueue) (a low high : ℕ) (ss : List Step) → a ≤ low → StepsRise q low high ss → StepsRise q a high ss
 steps_lower q a low high [] l h = omega (arith, l, h)
@@ -98,16 +81,11 @@ changed_order q low high r v u e l h = subst (λ (u : Option Table). InOrder q 0
 run_order : (q : LogQueue) (low mid : ℕ) (es run a : List EntryIndex) → InOrder q 0 low es → InOrder q low mid run → entries_after_replay q es run ≡ Some a → InOrder q 0 mid a
 unfolding below
 run_order q low mid es [] a h k e = subst (InOrder q 0 mid) (same_some es a e) (higher q 0 low mid es k h)
-run_order Append low mid es (x ∷ run) a h k e = go (leaves_hole es x.index) e
-  where
-    go : (b : Bool) → cond b None (Some (below x.index es ++ x ∷ run)) ≡ Some a → InOrder Append 0 mid a
-    go true e = absurd cc
-    go false e = subst (InOrder Append 0 mid) (same_some (below x.index es ++ x ∷ run) a e) (behind Append 0 low mid (below x.index es) (x ∷ run) (some_of Append _ 0 low es h) k)
-run_order Rewrite low mid es (x ∷ run) a h k e = go (leaves_hole es x.index) e
-  where
-    go : (b : Bool) → Some (cond b (x ∷ run) (below x.index es ++ x ∷ run)) ≡ Some a → InOrder Rewrite 0 mid a
-    go true e = subst (InOrder Rewrite 0 mid) (same_some (x ∷ run) a e) (lower Rewrite 0 low mid (x ∷ run) (omega arith) k)
-    go false e = subst (InOrder Rewrite 0 mid) (same_some (below x.index es ++ x ∷ run) a e) (behind Rewrite 0 low mid (below x.index es) (x ∷ run) (some_of Rewrite _ 0 low es h) k)
+run_order Append low mid es (x ∷ run) a h k e =
+    subst (InOrder Append 0 mid) (accepted_is (leaves_hole es x.index) (below x.index es ++ x ∷ run) a e) (behind Append 0 low mid (below x.index es) (x ∷ run) (some_of Append _ 0 low es h) k)
+run_order Rewrite low mid es (x ∷ run) a h k e = subst (InOrder Rewrite 0 mid) (some_is e)
+    (cond_both (leaves_hole es x.index) (x ∷ run) (below x.index es ++ x ∷ run) (InOrder Rewrite 0 mid) (λ t. lower Rewrite 0 low mid (x ∷ run) (omega arith) k)
+    (λ t. behind Rewrite 0 low mid (below x.index es) (x ∷ run) (some_of Rewrite _ 0 low es h) k))
 
 step_order : (q : LogQueue) (low mid r : ℕ) (o u : Option Table) (s : Step) → StepRises q low mid s → InOrder q 0 low (table_of r o).entries → after_step q (table_of r o) s ≡ Some u → InOrder q 0 mid (table_of r u).entries
 unfolding from below
@@ -118,16 +96,10 @@ step_order q low mid r o u (Run run) k h e = go (entries_after_replay q (table_o
     go (Some a) p e = changed_order q mid mid r (Some (record (table_of r o) { entries = a })) u e (omega arith) (run_order q low mid (table_of r o).entries run a h k p)
 step_order q low mid r o u (Compact i) k h e = changed_order q low mid r _ u e k (some_of q _ 0 low (table_of r o).entries h)
 step_order q low mid r o u (Truncate i) k h e = changed_order q low mid r _ u e k (some_of q _ 0 low (table_of r o).entries h)
-step_order q low mid r o u (Put key value id) k h e = changed_order q low mid r _ u e k h
-step_order q low mid r o u (Del key) k h e = changed_order q low mid r _ u e k h
-step_order q low mid r o u (AtomicGroup first_seq last_seq) k h e = changed_order q low mid r _ u e k h
 step_order q low mid r o u Clean k h e = changed_order q low mid r None u e k (omega arith)
+step_order q low mid r o u _ k h e = changed_order q low mid r _ u e k h
 
 pub steps_order : (q : LogQueue) (low high r : ℕ) (o u : Option Table) (ss : List Step) → StepsRise q low high ss → InOrder q 0 low (table_of r o).entries → after q r o ss ≡ Some u → InOrder q 0 high (table_of r u).entries
 steps_order q low high r o u [] k h e = subst (λ (u : Option Table). InOrder q 0 high (table_of r u).entries) (same_some o u e) (higher q 0 low high (table_of r o).entries k h)
-steps_order q low high r o u (s ∷ ss) k h e = go (after_step q (table_of r o) s) refl e (λ v i e. steps_order q k.0 high r v u ss k.2 i e)
-  where
-    go : (x : Option (Option Table)) → after_step q (table_of r o) s ≡ x → option_and_then (λ v. after q r v ss) x ≡ Some u
-        → ((v : Option Table) → InOrder q 0 k.0 (table_of r v).entries → after q r v ss ≡ Some u → InOrder q 0 high (table_of r u).entries) → InOrder q 0 high (table_of r u).entries
-    go None p e rest = absurd cc
-    go (Some v) p e rest = rest v (step_order q low k.0 r o v s k.1 h p) e
+steps_order q low high r o u (s ∷ ss) k h e =
+    option_and_then_some (λ (v : Option Table). after q r v ss) (after_step q (table_of r o) s) u e (λ v is e. steps_order q k.0 high r v u ss k.2 (step_order q low k.0 r o v s k.1 h is) e)

@@ -1,19 +1,9 @@
 -- A merge of contexts, region after region, is that of the regions one by one.
-use Rattle.std.proofs.Common.{◌≡◌, ◌⊎◌, ◌↔◌, ℕ, Bool, true, false, cond, ◌||◌, Option, Some, None, refl, sym, ap, subst, ◌∙◌, inl, inr}
-use Rattle.std.specs.Prelude.{is_some, option_map}
-use Rattle.std.specs.Option.{unwrap_or}
-use Rattle.std.specs.Cmp.{nat_cmp_total}
+use Rattle.raft_history.proofs.Common.{some_is, ◌≡◌, ◌⊎◌, ◌↔◌, ℕ, Bool, true, false, cond, ◌||◌, Option, Some, None, refl, sym, ap, subst, ◌∙◌, inl, inr, is_some, option_map, unwrap_or, nat_cmp_total}
+use Rattle.raft_history.proofs.Common.{nat_cmp-IsAntisymmetric, LogQueue, Mark, fresh, follows, Context, AreMerged, AreRegionsRefused, merged_regions, merged_with, merged_context, MarkedRegions}
+use Rattle.raft_history.proofs.Common.{MarkedRegion, region_in, joined_marked}
 use Rattle.std.specs.FinMap as finite
-use Rattle.std.specs.FinMap.{nat_cmp-IsAntisymmetric}
-use Rattle.raft_base.specs.declared.pipe_log.LogQueue.{LogQueue}
-use Rattle.raft_table.specs.Marks.{Mark}
-use Rattle.raft_table.specs.MarkJoins.{fresh}
-use Rattle.raft_history.specs.Contexts.{follows, Context, AreMerged, AreRegionsRefused, merged_regions, merged_with, merged_context}
-use Rattle.raft_history.specs.MarkedRegions.{MarkedRegions, MarkedRegion, region_in, joined_marked}
 use Rattle.raft_history.proofs.JoinLemmas.{merged_are, merged_refused}
-
-some_is : {X : Type 0} {x y : X} → Some x ≡ Some y → x ≡ y
-some_is e = cc
 
 none_some : {X : Type 0} {x : X} → None ≡ Some x → ⊥
 none_some e = cc

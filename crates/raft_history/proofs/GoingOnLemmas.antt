@@ -1,19 +1,9 @@
 -- One batch more after a history of the append queue that was read; and two readings of one history.
-use Rattle.std.proofs.Common.{◌≡◌, ℕ, List, [], ◌∷◌, ◌++◌, Some, None, sym, ap, subst, ◌∙◌, arith, append-nil}
-use Rattle.std.specs.Cmp.{nat_cmp_total}
+use Rattle.raft_history.proofs.Common.{◌≡◌, ℕ, List, [], ◌∷◌, ◌++◌, Some, None, sym, ap, subst, ◌∙◌, arith, append-nil, nat_cmp_total, nat_cmp-IsAntisymmetric, option_and_then, LogQueue, Step, after}
+use Rattle.raft_history.proofs.Common.{same_some, after-append, Event, batches, steps_of, IsReadNext, IsSoundIn, IsOneReading, FilesFrom, HaveStatus, cleaned_in, Tables, steps_on, steps_of_items}
+use Rattle.raft_history.proofs.Common.{cleaned_by_steps}
 use Rattle.std.specs.FinMap as finite
-use Rattle.std.specs.FinMap.{nat_cmp-IsAntisymmetric}
-use Rattle.std.specs.Option.{option_and_then}
-use Rattle.raft_base.specs.declared.pipe_log.LogQueue.{LogQueue}
 use Rattle.raft_base.specs.declared.pipe_log.LogQueue.TheVariants.{Append}
-use Rattle.raft_table.specs.Steps.{Step, after}
-use Rattle.raft_table.proofs.MarkEntries.{same_some}
-use Rattle.raft_table.proofs.MarkLaws.{after-append}
-use Rattle.raft_history.specs.Batches.{Event, batches}
-use Rattle.raft_history.specs.Effects.{steps_of}
-use Rattle.raft_history.specs.GoingOn.{IsReadNext}
-use Rattle.raft_history.specs.Histories.{IsSoundIn, IsOneReading, FilesFrom, HaveStatus, cleaned_in}
-use Rattle.raft_history.specs.RegionSteps.{Tables, steps_on, steps_of_items, cleaned_by_steps}
 use Rattle.raft_history.proofs.ReadingLemmas.{reading_by_region}
 use Rattle.raft_history.proofs.SoundLemmas.{files-append, in_files-append, status-append, cleaned-append, without_marker}
 use Rattle.raft_history.proofs.StretchOfHistory.{plain-append}

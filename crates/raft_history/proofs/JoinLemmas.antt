@@ -1,27 +1,11 @@
 -- The regions of two neighbors, joined one after another.
-use Rattle.std.proofs.Common.{◌≡◌, ◌⊎◌, ℕ, Bool, true, false, cond, eqb, ◌||◌, List, [], ◌∷◌, Option, Some, None, refl, sym, ap, subst, ◌∙◌, inl, inr}
-use Rattle.std.specs.Prelude.{is_some, map}
-use Rattle.std.specs.List.{AllByRecursion, IsDistinct}
-use Rattle.std.specs.Option.{option_and_then}
-use Rattle.std.specs.Ordering.{nat_cmp}
+use Rattle.raft_history.proofs.Common.{no_both, option_and_then_some, or-false, then_none, some_is, ◌≡◌, ◌⊎◌, ℕ, Bool, true, false, cond, eqb, ◌||◌, List, [], ◌∷◌, Option, Some, None, refl, sym, ap}
+use Rattle.raft_history.proofs.Common.{subst, ◌∙◌, inl, inr, is_some, map, IsDistinct, nat_cmp, find, LogQueue, Mark, Context, AreMerged, AreRegionsRefused, merged_regions, MarkedRegions}
+use Rattle.raft_history.proofs.Common.{MarkedRegion, region_in, with_region, joined_region, joined_marked, joined_each, joined_regions, regions_after, region_steps_of_wholes, Tables, whole_groups}
 use Rattle.std.specs.FinMap as finite
-use Rattle.std.specs.FinMap.Entries.{find}
-use Rattle.raft_base.specs.declared.pipe_log.LogQueue.{LogQueue}
-use Rattle.raft_table.specs.Marks.{Mark}
-use Rattle.raft_history.specs.Contexts.{Context, AreMerged, AreRegionsRefused, merged_regions}
-use Rattle.raft_history.specs.MarkedRegions.{MarkedRegions, MarkedRegion, region_in, with_region, joined_region, joined_marked, joined_each, joined_regions, regions_after, region_steps_of_wholes}
-use Rattle.raft_history.specs.RegionSteps.{Tables}
-use Rattle.raft_history.specs.WaitingGroups.{whole_groups}
-use Rattle.raft_history.proofs.KnownLemmas.{tied, keys_distinct}
+use Rattle.raft_history.proofs.KnownLemmas.{find_none, keys_distinct, tied}
 use Rattle.raft_history.proofs.MapLemmas.{IsOther, by_region, held_own, held_other, marked_with}
 use Rattle.raft_history.proofs.StepListLemmas.{eqb_self}
-
-some_is : {X : Type 0} {x y : X} → Some x ≡ Some y → x ≡ y
-some_is e = cc
-
-find_none : (k : ℕ) (es : List (ℕ × Mark)) → AllByRecursion (λ y. eqb k y ≡ false) (map (λ (e : ℕ × Mark). e.0) es) → find nat_cmp k es ≡ None
-find_none k [] h = refl
-find_none k (e ∷ es) h = ap (λ b. cond b (Some e.1) (find nat_cmp k es)) (tied k e.0 ∙ h.0) ∙ find_none k es h.1
 
 find_own : (e : ℕ × Mark) (es : List (ℕ × Mark)) → find nat_cmp e.0 (e ∷ es) ≡ Some e.1
 find_own e es = ap (λ b. cond b (Some e.1) (find nat_cmp e.0 es)) (tied e.0 e.0 ∙ eqb_self e.0)
@@ -37,7 +21,8 @@ pub each_joined : (q : LogQueue) (newer : Tables) (rs new : MarkedRegions) (es :
     (region_in new r)
 unfolding IsDistinct
 each_joined q newer rs new [] one e r = ap (λ (n : MarkedRegions). Some (region_in n r)) (some_is e)
-each_joined q newer rs new (x ∷ es) one e r = go (joined_region q x.0 (region_in rs x.0) record { mark = x.1; table = finite.get newer x.0 }) refl e (λ y e. each_joined q newer (with_region rs x.0 y) new es one.1 e)
+each_joined q newer rs new (x ∷ es) one e r = option_and_then_some (λ (y : MarkedRegion). joined_each q newer (with_region rs x.0 y) es) (joined_region q x.0 (region_in rs x.0) record { mark = x.1; table = finite.get newer x.0 }) new e
+    (λ y is e. at y is (each_joined q newer (with_region rs x.0 y) new es one.1 e) (by_region r x.0))
   where
     at : (y : MarkedRegion) → joined_region q x.0 (region_in rs x.0) record { mark = x.1; table = finite.get newer x.0 } ≡ Some y →
         ((r : ℕ) → joined_marked q r (find nat_cmp r es) (finite.get newer r) (region_in (with_region rs x.0 y) r) ≡ Some (region_in new r)) →
@@ -48,72 +33,43 @@ each_joined q newer rs new (x ∷ es) one e r = go (joined_region q x.0 (region_
         (ap (λ o. joined_marked q x.0 o (finite.get newer x.0) (region_in rs x.0)) (find_own x es) ∙ is ∙ sym (ap (λ h. Some h) (held_own rs x.0 y))
         ∙ sym (ap (λ o. joined_marked q x.0 o (finite.get newer x.0) (region_in (with_region rs x.0 y) x.0)) (find_none x.0 es one.0)) ∙ ih x.0)
 
-    go : (o : Option MarkedRegion) → joined_region q x.0 (region_in rs x.0) record { mark = x.1; table = finite.get newer x.0 } ≡ o → option_and_then (λ y. joined_each q newer (with_region rs x.0 y) es) o ≡ Some new
-        → ((y : MarkedRegion) → joined_each q newer (with_region rs x.0 y) es ≡ Some new → (r : ℕ) → joined_marked q r (find nat_cmp r es) (finite.get newer r) (region_in (with_region rs x.0 y) r) ≡ Some (region_in new r))
-        → joined_marked q r (find nat_cmp r (x ∷ es)) (finite.get newer r) (region_in rs r) ≡ Some (region_in new r)
-    go None is e ih = absurd cc
-    go (Some y) is e ih = at y is (ih y e) (by_region r x.0)
-
 pub each_refused : (q : LogQueue) (newer : Tables) (rs : MarkedRegions) (es : List (ℕ × Mark)) → IsDistinct eqb (keys es) →
     joined_each q newer rs es ≡ None → (r : ℕ) × (joined_marked q r (find nat_cmp r es) (finite.get newer r) (region_in rs r) ≡ None)
 unfolding IsDistinct
 each_refused q newer rs [] one e = absurd cc
-each_refused q newer rs (x ∷ es) one e = go (joined_region q x.0 (region_in rs x.0) record { mark = x.1; table = finite.get newer x.0 }) refl e (λ y e. each_refused q newer (with_region rs x.0 y) es one.1 e)
+each_refused q newer rs (x ∷ es) one e = then_none (λ (y : MarkedRegion). joined_each q newer (with_region rs x.0 y) es) (joined_region q x.0 (region_in rs x.0) record { mark = x.1; table = finite.get newer x.0 }) e
+    (λ is. (x.0, ap (λ o. joined_marked q x.0 o (finite.get newer x.0) (region_in rs x.0)) (find_own x es) ∙ is))
+    (λ y is e. let p = each_refused q newer (with_region rs x.0 y) es one.1 e in (p.0, at p.0 y p.1 (by_region p.0 x.0)))
   where
     at : (r : ℕ) (y : MarkedRegion) → joined_marked q r (find nat_cmp r es) (finite.get newer r) (region_in (with_region rs x.0 y) r) ≡ None →
         (r ≡ x.0) ⊎ IsOther r x.0 → joined_marked q r (find nat_cmp r (x ∷ es)) (finite.get newer r) (region_in rs r) ≡ None
     at r y h (inr f) = ap (λ o. joined_marked q r o (finite.get newer r) (region_in rs r)) (find_other r x es f) ∙ ap (joined_marked q r (find nat_cmp r es) (finite.get newer r)) (sym (held_other rs x.0 r y f.1)) ∙ h
-    at r y h (inl p) = absurd (no_some (sym (ap (λ o. joined_marked q r o (finite.get newer r) (region_in (with_region rs x.0 y) r)) (ap (λ k. find nat_cmp k es) p ∙ find_none x.0 es one.0)) ∙ h))
-      where
-        no_some : {z : MarkedRegion} → Some z ≡ None → ⊥
-        no_some h = cc
-
-    go : (o : Option MarkedRegion) → joined_region q x.0 (region_in rs x.0) record { mark = x.1; table = finite.get newer x.0 } ≡ o → option_and_then (λ y. joined_each q newer (with_region rs x.0 y) es) o ≡ None
-        → ((y : MarkedRegion) → joined_each q newer (with_region rs x.0 y) es ≡ None → (r : ℕ) × (joined_marked q r (find nat_cmp r es) (finite.get newer r) (region_in (with_region rs x.0 y) r) ≡ None))
-        → (r : ℕ) × (joined_marked q r (find nat_cmp r (x ∷ es)) (finite.get newer r) (region_in rs r) ≡ None)
-    go None is e ih = (x.0, ap (λ o. joined_marked q x.0 o (finite.get newer x.0) (region_in rs x.0)) (find_own x es) ∙ is)
-    go (Some y) is e ih = let p = ih y e in (p.0, at p.0 y p.1 (by_region p.0 x.0))
+    at r y h (inl p) = absurd (no_both (sym (ap (λ o. joined_marked q r o (finite.get newer r) (region_in (with_region rs x.0 y) r)) (ap (λ k. find nat_cmp k es) p ∙ find_none x.0 es one.0)) ∙ h) refl)
 
 pub each_marked : (q : LogQueue) (newer : Tables) (rs new : MarkedRegions) (es : List (ℕ × Mark)) → joined_each q newer rs es ≡ Some new → (r : ℕ) →
     is_some (finite.get new.marks r) ≡ (is_some (finite.get rs.marks r) || is_some (find nat_cmp r es))
-each_marked q newer rs new [] e r = sym (ap (λ (n : MarkedRegions). is_some (finite.get n.marks r)) (some_is e)) ∙ none (is_some (finite.get rs.marks r))
-  where
-    none : (b : Bool) → b ≡ (b || false)
-    none true = refl
-    none false = refl
-each_marked q newer rs new (x ∷ es) e r = go (joined_region q x.0 (region_in rs x.0) record { mark = x.1; table = finite.get newer x.0 }) e (λ y e. each_marked q newer (with_region rs x.0 y) new es e r)
+each_marked q newer rs new [] e r = sym (ap (λ (n : MarkedRegions). is_some (finite.get n.marks r)) (some_is e)) ∙ sym (or-false (is_some (finite.get rs.marks r)))
+each_marked q newer rs new (x ∷ es) e r = option_and_then_some (λ (y : MarkedRegion). joined_each q newer (with_region rs x.0 y) es) (joined_region q x.0 (region_in rs x.0) record { mark = x.1; table = finite.get newer x.0 }) new e
+    (λ y is e. each_marked q newer (with_region rs x.0 y) new es e r ∙ ap (λ b. b || is_some (find nat_cmp r es)) (marked_with rs x.0 r y)
+    ∙ swap (eqb r x.0) (is_some (finite.get rs.marks r)) (find nat_cmp r es)
+    ∙ sym (ap (λ b. is_some (finite.get rs.marks r) || is_some (cond b (Some x.1) (find nat_cmp r es))) (tied r x.0)))
   where
     swap : (a b : Bool) (o : Option Mark) → ((a || b) || is_some o) ≡ (b || is_some (cond a (Some x.1) o))
     swap true true o = refl
     swap true false o = refl
     swap false b o = refl
 
-    go : (o : Option MarkedRegion) → option_and_then (λ y. joined_each q newer (with_region rs x.0 y) es) o ≡ Some new
-        → ((y : MarkedRegion) → joined_each q newer (with_region rs x.0 y) es ≡ Some new → is_some (finite.get new.marks r) ≡ (is_some (finite.get (with_region rs x.0 y).marks r) || is_some (find nat_cmp r es)))
-        → is_some (finite.get new.marks r) ≡ (is_some (finite.get rs.marks r) || is_some (find nat_cmp r (x ∷ es)))
-    go None e ih = absurd cc
-    go (Some y) e ih = ih y e ∙ ap (λ b. b || is_some (find nat_cmp r es)) (marked_with rs x.0 r y)
-        ∙ swap (eqb r x.0) (is_some (finite.get rs.marks r)) (find nat_cmp r es)
-        ∙ sym (ap (λ b. is_some (finite.get rs.marks r) || is_some (cond b (Some x.1) (find nat_cmp r es))) (tied r x.0))
-
 pub merged_are : (q : LogQueue) (c d : Context) (new : MarkedRegions) → merged_regions q c d ≡ Some new → AreMerged q c d new
-merged_are q c d new e = go (regions_after q c.regions (region_steps_of_wholes (whole_groups c.groups d.groups))) refl e
-  where
-    go : (o : Option MarkedRegions) → regions_after q c.regions (region_steps_of_wholes (whole_groups c.groups d.groups)) ≡ o → option_and_then (λ middle. joined_regions q middle d.regions) o ≡ Some new → AreMerged q c d new
-    go None is e = absurd cc
-    go (Some middle) is e = record {
-      middle = middle;
-      wholes = is;
-      regions = λ r. ap (λ o. joined_marked q r o (finite.get d.regions.tables r) (region_in middle r)) (finite.get-entries d.regions.marks r)
-          ∙ each_joined q d.regions.tables middle new (finite.entries d.regions.marks)
-          (keys_distinct (finite.entries d.regions.marks) (finite.entries_sorted d.regions.marks)) e r;
-      marked = λ r. each_marked q d.regions.tables middle new (finite.entries d.regions.marks) e r ∙ ap (λ o. is_some (finite.get middle.marks r) || is_some o) (sym (finite.get-entries d.regions.marks r));
-    }
+merged_are q c d new e = option_and_then_some (λ (middle : MarkedRegions). joined_regions q middle d.regions) (regions_after q c.regions (region_steps_of_wholes (whole_groups c.groups d.groups))) new e (λ middle is e. record {
+  middle = middle;
+  wholes = is;
+  regions = λ r. ap (λ o. joined_marked q r o (finite.get d.regions.tables r) (region_in middle r)) (finite.get-entries d.regions.marks r)
+      ∙ each_joined q d.regions.tables middle new (finite.entries d.regions.marks)
+      (keys_distinct (finite.entries d.regions.marks) (finite.entries_sorted d.regions.marks)) e r;
+  marked = λ r. each_marked q d.regions.tables middle new (finite.entries d.regions.marks) e r ∙ ap (λ o. is_some (finite.get middle.marks r) || is_some o) (sym (finite.get-entries d.regions.marks r));
+})
 
 pub merged_refused : (q : LogQueue) (c d : Context) → merged_regions q c d ≡ None → AreRegionsRefused q c d
-merged_refused q c d e = go (regions_after q c.regions (region_steps_of_wholes (whole_groups c.groups d.groups))) refl e
-  where
-    go : (o : Option MarkedRegions) → regions_after q c.regions (region_steps_of_wholes (whole_groups c.groups d.groups)) ≡ o → option_and_then (λ middle. joined_regions q middle d.regions) o ≡ None → AreRegionsRefused q c d
-    go None is e = inl is
-    go (Some middle) is e = let p = each_refused q d.regions.tables middle (finite.entries d.regions.marks) (keys_distinct (finite.entries d.regions.marks) (finite.entries_sorted d.regions.marks)) e in
-        inr (middle, is, (p.0, ap (λ o. joined_marked q p.0 o (finite.get d.regions.tables p.0) (region_in middle p.0)) (finite.get-entries d.regions.marks p.0) ∙ p.1))
+merged_refused q c d e = then_none (λ (middle : MarkedRegions). joined_regions q middle d.regions) (regions_after q c.regions (region_steps_of_wholes (whole_groups c.groups d.groups))) e (λ is. inl is) (λ middle is e.
+    let p = each_refused q d.regions.tables middle (finite.entries d.regions.marks) (keys_distinct (finite.entries d.regions.marks) (finite.entries_sorted d.regions.marks)) e in
+    inr (middle, is, (p.0, ap (λ o. joined_marked q p.0 o (finite.get d.regions.tables p.0) (region_in middle p.0)) (finite.get-entries d.regions.marks p.0) ∙ p.1)))

@@ -1,15 +1,10 @@
 -- Joined histories: their steps, that both are apart where they are apart together, and what is known of their groups.
-use Rattle.std.proofs.Common.{◌≡◌, ℕ, ◌+◌, ◌⊎◌, Bool, true, false, eqb, List, [], ◌∷◌, ◌++◌, length, Option, Some, None, refl, sym, ap, subst, ◌∙◌, inl, inr, append_assoc, arith}
-use Rattle.std.specs.Prelude.{filter_map}
+use Rattle.raft_history.proofs.Common.{◌≡◌, ℕ, ◌+◌, ◌⊎◌, Bool, true, false, eqb, List, [], ◌∷◌, ◌++◌, length, Option, Some, None, refl, sym, ap, subst, ◌∙◌, inl, inr, append_assoc, arith, filter_map}
+use Rattle.raft_history.proofs.Common.{AllByRecursion, IsDistinct, AtomicGroupStatus, GroupMarker, BatchSteps, Effect, completed_as, completed_by, effects_behind, effects, steps_of, AreApart}
+use Rattle.raft_history.proofs.Common.{EachApart, Numbered, numbered_from, markers_of, open_stretch, wholes, steps_of_wholes, ListsGroups, group_of, WholeGroup, whole_group, joined_group, group_in}
 use Rattle.std.proofs.lemmas.List.{append-nil}
-use Rattle.std.specs.List.{AllByRecursion, IsDistinct}
-use Rattle.raft_records.specs.declared.atomic_group.AtomicGroupStatus.{AtomicGroupStatus}
 use Rattle.raft_records.specs.declared.atomic_group.AtomicGroupStatus.TheVariants.{Begin, Middle, End}
-use Rattle.raft_history.specs.Batches.{GroupMarker, BatchSteps}
-use Rattle.raft_history.specs.Effects.{Effect, completed_as, completed_by, effects_behind, effects, steps_of, AreApart, EachApart, Numbered, numbered_from, markers_of, open_stretch}
 use Rattle.raft_history.proofs.Words.{all_steps, are_middles}
-use Rattle.raft_history.specs.WaitingGroups.{wholes, steps_of_wholes, ListsGroups}
-use Rattle.raft_history.specs.WaitingGroup.{group_of, WholeGroup, whole_group, joined_group, group_in}
 use Rattle.raft_history.proofs.CutLemmas.{given_wholes, behind_cut, wholes_at}
 use Rattle.raft_history.proofs.EffectLemmas.{each-append, each_left, each_right, numbered_from-append, up_to, effects_behind-append, all_steps-append, apart_left, apart_right}
 use Rattle.raft_history.proofs.MarkerLemmas.{markers_of-append, open_stretch-append, middles_open_none, group_of-append}

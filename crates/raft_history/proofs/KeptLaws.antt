@@ -1,54 +1,21 @@
 -- An exact context holds at most its history may hold.
-use Rattle.std.proofs.Common.{◌≡◌, ℕ, ◌≤◌, Bool, true, false, cond, eqb, ◌||◌, List, [], ◌∷◌, ◌++◌, length, Some, refl, sym, ap, subst, ◌∙◌, arith}
-use Rattle.std.specs.Prelude.{is_some, map}
-use Rattle.std.specs.List.{list_any}
-use Rattle.std.proofs.lemmas.Bool.{eqb-true}
-use Rattle.std.specs.Option.{unwrap_or}
-use Rattle.std.specs.Ordering.{nat_cmp}
-use Rattle.std.specs.Cmp.{nat_cmp_total}
+use Rattle.raft_history.proofs.Common.{cases_Bool, inl, inr, list_any-append, some_is, ◌≡◌, ℕ, ◌≤◌, true, eqb, ◌||◌, List, [], ◌∷◌, length, Some, refl, sym, ap, subst, ◌∙◌, arith, is_some, map}
+use Rattle.raft_history.proofs.Common.{list_any, eqb-true, unwrap_or, nat_cmp, nat_cmp_total, nat_cmp-IsAntisymmetric, find, LogQueue, KeySet, Mark, fresh, HoldsDeleted, deleted_of, Table}
+use Rattle.raft_history.proofs.Common.{deleted_count, BatchSteps, Event, batches, Context, Suits, AreExact, IsExactFor, Effect, effects, region_steps_in, is_named, steps_of, IsOneReading, named_by}
+use Rattle.raft_history.proofs.Common.{deleted_in, kept_of, kept_by, IsAtMost, MarkedRegions, total, RegionStep, names, Tables, waiting_steps}
 use Rattle.std.specs.FinMap as finite
-use Rattle.std.specs.FinMap.{nat_cmp-IsAntisymmetric}
-use Rattle.std.specs.FinMap.Entries.{find}
 use Rattle.std.specs.FinSet as finset
-use Rattle.raft_base.specs.declared.pipe_log.LogQueue.{LogQueue}
-use Rattle.raft_table.specs.KeySets.{KeySet}
-use Rattle.raft_table.specs.Marks.{Mark}
-use Rattle.raft_table.specs.MarkJoins.{fresh}
-use Rattle.raft_table.specs.Overlay.{HoldsDeleted, deleted_of}
-use Rattle.raft_table.specs.Table.{Table}
-use Rattle.raft_table.proofs.MarkExact.{deleted_count}
-use Rattle.raft_history.specs.Batches.{BatchSteps, Event, batches}
-use Rattle.raft_history.specs.Contexts.{Context, Suits, AreExact, IsExactFor}
-use Rattle.raft_history.specs.Effects.{Effect, effects, region_steps_in, is_named, steps_of}
-use Rattle.raft_history.specs.Histories.{IsOneReading}
-use Rattle.raft_history.specs.Kept.{named_by, deleted_in, kept_of, kept_by, IsAtMost}
-use Rattle.raft_history.specs.MarkedRegions.{MarkedRegions}
-use Rattle.raft_history.specs.Records.{total}
-use Rattle.raft_history.specs.RegionSteps.{RegionStep, names, Tables}
-use Rattle.raft_history.specs.WaitingGroups.{waiting_steps}
 use Rattle.raft_history.proofs.ContextLaws.{exact_reading}
 use Rattle.raft_history.proofs.KnownLemmas.{tied}
 use Rattle.raft_history.proofs.TotalLemmas.{total-ones, total-at_most}
 
-some_is : {X : Type 0} {x y : X} → Some x ≡ Some y → x ≡ y
-some_is e = cc
-
 -- the map of named regions
 find-named : {X : Type 0} (F : ℕ → X) (r : ℕ) (l : List ℕ) → list_any (λ x. eqb r x) l ≡ true → find nat_cmp r (map (λ r. (r, F r)) l) ≡ Some (F r)
 find-named F r [] h = cc
-find-named {X} F r (x ∷ l) h = go (eqb r x) refl h (find-named F r l)
-  where
-    go : (b : Bool) → eqb r x ≡ b → (b || list_any (λ x. eqb r x) l) ≡ true → (list_any (λ x. eqb r x) l ≡ true → find nat_cmp r (map (λ r. (r, F r)) l) ≡ Some (F r)) → find nat_cmp r ((x, F x) ∷ map (λ r. (r, F r)) l) ≡ Some (F r)
-    go true e h ih = ap (λ b. cond b (Some (F x)) (find nat_cmp r (map (λ r. (r, F r)) l))) (tied r x ∙ e) ∙ ap (λ x. Some (F x)) (sym (eqb-true r x e))
-    go false e h ih = ap (λ b. cond b (Some (F x)) (find nat_cmp r (map (λ r. (r, F r)) l))) (tied r x ∙ e) ∙ ih h
-
-any-append : (r : ℕ) (xs ys : List ℕ) → list_any (λ x. eqb r x) (xs ++ ys) ≡ (list_any (λ x. eqb r x) xs || list_any (λ x. eqb r x) ys)
-any-append r [] ys = refl
-any-append r (x ∷ xs) ys = go (eqb r x) (any-append r xs ys)
-  where
-    go : (b : Bool) → list_any (λ x. eqb r x) (xs ++ ys) ≡ (list_any (λ x. eqb r x) xs || list_any (λ x. eqb r x) ys) → (b || list_any (λ x. eqb r x) (xs ++ ys)) ≡ ((b || list_any (λ x. eqb r x) xs) || list_any (λ x. eqb r x) ys)
-    go true ih = refl
-    go false ih = ih
+find-named F r (x ∷ l) h = elim (cases_Bool (eqb r x)) [
+  | inl e ↦ rw (tied r x, e) (ap (λ x. Some (F x)) (sym (eqb-true r x e)))
+  | inr e ↦ rw (tied r x, e) (find-named F r l (rw e at h))
+]
 
 any-items : (r : ℕ) (is : List RegionStep) → list_any (λ x. eqb r x) (map (λ (i : RegionStep). i.region) is) ≡ names r is
 unfolding names
@@ -57,7 +24,7 @@ any-items r (i ∷ is) = ap (λ b. eqb r i.region || b) (any-items r is)
 
 any-named : (r : ℕ) (es : List Effect) → list_any (λ x. eqb r x) (named_by es) ≡ list_any (λ e. names r (region_steps_in e)) es
 any-named r [] = refl
-any-named r (e ∷ es) = any-append r (map (λ (i : RegionStep). i.region) (region_steps_in e)) (named_by es)
+any-named r (e ∷ es) = list_any-append (λ x. eqb r x) (map (λ (i : RegionStep). i.region) (region_steps_in e)) (named_by es)
     ∙ ap (λ b. b || list_any (λ x. eqb r x) (named_by es)) (any-items r (region_steps_in e))
     ∙ ap (λ b. names r (region_steps_in e) || b) (any-named r es)
 

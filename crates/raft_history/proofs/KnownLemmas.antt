@@ -1,23 +1,15 @@
 -- The map of groups: what it has at a group, of joined histories and of one more batch.
-use Rattle.std.proofs.Common.{◌≡◌, ℕ, suc, Bool, true, false, cond, ◌||◌, eqb, ltb, List, [], ◌∷◌, ◌++◌, Option, Some, None, refl, sym, ap, ◌∙◌, arith}
+use Rattle.raft_history.proofs.Common.{cond_some, ltb-true, ne_eqb, nil_from_length, ◌<◌, or_parts, or_right, ◌≡◌, ℕ, suc, Bool, true, false, cond, ◌||◌, eqb, ltb, List, [], ◌∷◌, ◌++◌, Option, Some}
+use Rattle.raft_history.proofs.Common.{None, refl, sym, ap, ◌∙◌, arith, eqb-true, eq-eqb, nat_tests, flat_map, map, is_some, AllByRecursion, list_any, IsDistinct, cons_option, unwrap_or, nat_cmp}
+use Rattle.raft_history.proofs.Common.{eq_by_cmp, is_lt, nat_cmp_total, unsigned_tied, find, below_all, GroupMarker, BatchSteps, steps_of, EachApart, effects, numbered_from, is_of, markers_of}
+use Rattle.raft_history.proofs.Common.{open_stretch, without_marker, front_of, WaitingGroup, whole_group, group_in, group_by, groups_in, known_of, whole_with, whole_groups, wholes, steps_of_wholes}
+use Rattle.raft_history.proofs.Common.{ListsGroups, IsListed, first_of_both, second_of_both}
 use lib.Dec.{T}
-use Rattle.std.proofs.lemmas.Bool.{eqb-true, eq-eqb}
-use Rattle.std.proofs.lemmas.Bool.Decides.{nat_tests}
 use Rattle.std.specs.declared.cmp.Ordering.TheVariants.{Less, Equal, Greater}
-use Rattle.std.specs.Prelude.{filter, flat_map, map, is_some}
-use Rattle.std.specs.List.{AllByRecursion, list_any, IsDistinct, cons_option}
-use Rattle.std.specs.Option.{unwrap_or}
-use Rattle.std.specs.Ordering.{nat_cmp, eq_by_cmp, is_lt}
-use Rattle.std.specs.Cmp.{nat_cmp_total, unsigned_tied}
 use Rattle.std.specs.FinMap as finite
-use Rattle.std.specs.FinMap.Entries.{find, below_all, is_sorted}
-use Rattle.raft_history.specs.Batches.{GroupMarker, BatchSteps}
-use Rattle.raft_history.specs.Effects.{steps_of, EachApart, effects, numbered_from, is_of, markers_of, open_stretch}
-use Rattle.raft_history.specs.WaitingGroup.{without_marker, front_of, WaitingGroup, whole_group, group_in}
-use Rattle.raft_history.specs.WaitingGroups.{group_by, groups_in, known_of, whole_with, whole_groups, wholes, steps_of_wholes, ListsGroups, IsListed}
+use Rattle.std.specs.FinMap.Entries.{is_sorted}
 use Rattle.raft_history.proofs.EffectLemmas.{each_weaker}
 use Rattle.raft_history.proofs.JoinedLemmas.{joined_steps}
-use Rattle.raft_table.proofs.Shown.{first_of_both, second_of_both}
 
 pub tied : (a b : ℕ) → eq_by_cmp nat_cmp a b ≡ eqb a b
 tied a b = unsigned_tied a b
@@ -46,14 +38,7 @@ get-groups_in g h = finite.get-from_entries nat_cmp_total (flat_map (λ b. group
 no_markers : (g n : ℕ) (h : List BatchSteps) → has_marker g h ≡ false → markers_of g (numbered_from n h) ≡ []
 unfolding markers_of
 no_markers g n [] e = refl
-no_markers g n (b ∷ bs) e = go (is_of g b.marker) e (no_markers g (suc n) bs)
-  where
-    go : (t : Bool) → (t || has_marker g bs) ≡ false →
-        (has_marker g bs ≡ false → filter (λ p. is_of g p.batch.marker) (numbered_from (suc n) bs) ≡ []) →
-        cond t (record { number = n; batch = b } ∷ filter (λ p. is_of g p.batch.marker) (numbered_from (suc n) bs))
-        (filter (λ p. is_of g p.batch.marker) (numbered_from (suc n) bs)) ≡ []
-    go true e ih = cc
-    go false e ih = ih e
+no_markers g n (b ∷ bs) e = let t = or_parts (is_of g b.marker) (has_marker g bs) e in rw t.0 (no_markers g (suc n) bs t.1)
 
 pub group_in-without_marker : (g : ℕ) (h : List BatchSteps) → has_marker g h ≡ false → group_in g h ≡ without_marker
 unfolding open_stretch front_of
@@ -66,18 +51,24 @@ known-groups_in g h = ap (λ o. unwrap_or o without_marker) (get-groups_in g h) 
     go true e = refl
     go false e = sym (group_in-without_marker g h e)
 
+pub entries-empty : {X : Type 0} → finite.entries (finite.empty {X = X} {R = nat_cmp}) ≡ []
+entries-empty {X} = nil_from_length (finite.entries (finite.empty {X = X} {R = nat_cmp})) (sym (finite.len-entries (finite.empty {X = X} {R = nat_cmp})) ∙ finite.len-empty nat_cmp X)
+
 -- entries in order
+below_is : (a b : ℕ) → T (is_lt (nat_cmp a b)) → a < b
+below_is a b t = go (ltb a b) refl (eqb a b) t
+  where
+    go : (l : Bool) → ltb a b ≡ l → (q : Bool) → T (is_lt (cond l Less (cond q Equal Greater))) → a < b
+    go true x q t = ltb-true a b x
+    go false x true t = absurd t
+    go false x false t = absurd t
+
 each_found : {X : Type 0} (es : List (ℕ × X)) → T (is_sorted nat_cmp es) → AllByRecursion (λ e. find nat_cmp e.0 es ≡ Some e.1) es
 each_found [] h = tt
 each_found {X} (e ∷ es) h = (rw (tied e.0 e.0, eq-eqb e.0 e.0 refl) refl, later es (first_of_both _ _ h) (each_found es (second_of_both _ _ h)))
   where
     apart : (a b : ℕ) → T (is_lt (nat_cmp a b)) → eqb b a ≡ false
-    apart a b t = go (ltb a b) refl (eqb a b) refl t
-      where
-        go : (l : Bool) → ltb a b ≡ l → (q : Bool) → eqb a b ≡ q → T (is_lt (cond l Less (cond q Equal Greater))) → eqb b a ≡ false
-        go true x q y t = grind (arith, nat_tests)
-        go false x true y t = absurd t
-        go false x false y t = absurd t
+    apart a b t = ne_eqb b a (λ e. omega (arith, below_is a b t, e))
 
     later : (fs : List (ℕ × X)) → T (below_all nat_cmp e.0 fs) → AllByRecursion (λ x. find nat_cmp x.0 es ≡ Some x.1) fs → AllByRecursion (λ x. find nat_cmp x.0 (e ∷ es) ≡ Some x.1) fs
     later [] b k = tt
@@ -85,18 +76,9 @@ each_found {X} (e ∷ es) h = (rw (tied e.0 e.0, eq-eqb e.0 e.0 refl) refl, late
 
 -- each entry has what is known of its group
 pub each_known : (h : List BatchSteps) → AllByRecursion (λ e. (has_marker e.0 h ≡ true) × (e.1 ≡ group_in e.0 h)) (finite.entries (groups_in h))
-each_known h = go (finite.entries (groups_in h))
-    (each_weaker (λ e. find nat_cmp e.0 (finite.entries (groups_in h)) ≡ Some e.1) (λ e. finite.get (groups_in h) e.0 ≡ Some e.1)
-    (λ e k. finite.get-entries (groups_in h) e.0 ∙ k) (finite.entries (groups_in h))
-    (each_found (finite.entries (groups_in h)) (finite.entries_sorted (groups_in h))))
-  where
-    is : (g : ℕ) (x : WaitingGroup) (t : Bool) → has_marker g h ≡ t → cond t (Some (group_in g h)) None ≡ Some x → (has_marker g h ≡ true) × (x ≡ group_in g h)
-    is g x true e k = (e, cc)
-    is g x false e k = cc
-
-    go : (es : List (ℕ × WaitingGroup)) → AllByRecursion (λ e. finite.get (groups_in h) e.0 ≡ Some e.1) es → AllByRecursion (λ e. (has_marker e.0 h ≡ true) × (e.1 ≡ group_in e.0 h)) es
-    go [] k = tt
-    go (e ∷ es) k = (is e.0 e.1 (has_marker e.0 h) refl (sym (get-groups_in e.0 h) ∙ k.0), go es k.1)
+each_known h = each_weaker (λ e. find nat_cmp e.0 (finite.entries (groups_in h)) ≡ Some e.1) (λ e. (has_marker e.0 h ≡ true) × (e.1 ≡ group_in e.0 h))
+    (λ e k. let c = cond_some (has_marker e.0 h) (group_in e.0 h) e.1 (sym (get-groups_in e.0 h) ∙ finite.get-entries (groups_in h) e.0 ∙ k) in (c.0, sym c.1))
+    (finite.entries (groups_in h)) (each_found (finite.entries (groups_in h)) (finite.entries_sorted (groups_in h)))
 
 -- the groups' ids are distinct, and they are those of all markers
 pub keys_distinct : {X : Type 0} (es : List (ℕ × X)) → T (is_sorted nat_cmp es) → IsDistinct eqb (map (λ e. e.0) es)
@@ -105,16 +87,16 @@ keys_distinct [] h = tt
 keys_distinct {X} (e ∷ es) h = (first es (first_of_both _ _ h), keys_distinct es (second_of_both _ _ h))
   where
     apart : (a b : ℕ) → T (is_lt (nat_cmp a b)) → eqb a b ≡ false
-    apart a b t = go (ltb a b) refl (eqb a b) refl t
-      where
-        go : (l : Bool) → ltb a b ≡ l → (q : Bool) → eqb a b ≡ q → T (is_lt (cond l Less (cond q Equal Greater))) → eqb a b ≡ false
-        go true x q y t = grind (arith, nat_tests)
-        go false x true y t = absurd t
-        go false x false y t = absurd t
+    apart a b t = ne_eqb a b (λ e. omega (arith, below_is a b t, e))
 
     first : (fs : List (ℕ × X)) → T (below_all nat_cmp e.0 fs) → AllByRecursion (λ y. eqb e.0 y ≡ false) (map (λ x. x.0) fs)
     first [] b = tt
     first (f ∷ fs) b = (apart e.0 f.0 (first_of_both _ _ b), first fs (second_of_both _ _ b))
+
+-- a key of no entry
+pub find_none : {X : Type 0} (k : ℕ) (es : List (ℕ × X)) → AllByRecursion (λ y. eqb k y ≡ false) (map (λ e. e.0) es) → find nat_cmp k es ≡ None
+find_none k [] h = refl
+find_none k (e ∷ es) h = rw (tied k e.0, h.0) (find_none k es h.1)
 
 lists_marked : (g : ℕ) (h : List BatchSteps) → has_marker g h ≡ true → list_any (λ x. eqb x g) (finite.keys (groups_in h)) ≡ true
 lists_marked g h e = ap (λ (t : ℕ → Bool). list_any t (finite.keys (groups_in h))) (λ j x. turn x j) ∙ sym (finite.contains_key-keys (groups_in h) g) ∙ ap is_some (get-groups_in g h) ∙ ap (λ b. is_some (cond b (Some (group_in g h)) None)) e
@@ -129,10 +111,6 @@ lists_groups : (h all : List BatchSteps) → ((g : ℕ) → has_marker g h ≡ t
 lists_groups [] all sub = tt
 lists_groups (b ∷ bs) all sub = (go b.marker (λ g e. sub g (rw e refl)), lists_groups bs all (λ g e. sub g (or_right (is_of g b.marker) (has_marker g bs) e)))
   where
-    or_right : (x y : Bool) → y ≡ true → (x || y) ≡ true
-    or_right true y e = refl
-    or_right false y e = e
-
     go : (m : Option GroupMarker) → ((g : ℕ) → is_of g m ≡ true → has_marker g all ≡ true) → IsListed (finite.keys (groups_in all)) m
     go None f = tt
     go (Some m) f = lists_marked m.group all (f m.group (eq-eqb m.group m.group refl))

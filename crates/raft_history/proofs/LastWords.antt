@@ -1,22 +1,13 @@
 -- The last word in one reading of the append queue.
-use Rattle.std.proofs.Common.{◌≡◌, ℕ, List, [], ◌∷◌, ◌++◌, refl, ap, ◌∙◌}
-use Rattle.std.specs.Prelude.{flat_map}
+use Rattle.raft_history.proofs.Common.{flat_map-map, batch_of, ◌≡◌, ℕ, List, ap, ◌∙◌, flat_map, entry_at, last_entry, last_pair, table_of, last_entry_stands, last_pair_stands, Event, BatchSteps}
+use Rattle.raft_history.proofs.Common.{batches, steps_of, IsSoundIn, IsOneReading, Tables, steps_on, steps_of_items}
 use Rattle.std.specs.FinMap as finite
 use Rattle.raft_base.specs.declared.pipe_log.LogQueue.TheVariants.{Append}
-use Rattle.raft_table.specs.TableEntries.{entry_at}
-use Rattle.raft_table.specs.LastWord.{last_entry, last_pair}
-use Rattle.raft_table.specs.Steps.{table_of}
-use Rattle.raft_table.proofs.LastWordLemmas.{last_entry_stands, last_pair_stands}
-use Rattle.raft_history.specs.Batches.{Event, BatchSteps, batches}
-use Rattle.raft_history.specs.Effects.{steps_of}
-use Rattle.raft_history.specs.Histories.{IsSoundIn, IsOneReading}
-use Rattle.raft_history.specs.RegionSteps.{Tables, steps_on, steps_of_items}
 use Rattle.raft_history.proofs.SoundLemmas.{steps_good, without_marker}
 use Rattle.raft_history.proofs.WithoutMarkers.{plain_steps}
 
 in_order : (r : ℕ) (h : List Event) → flat_map (λ (b : BatchSteps). steps_on r b.steps) (batches h) ≡ flat_map (λ (e : Event). steps_on r (steps_of_items e.items)) h
-in_order r [] = refl
-in_order r (e ∷ h) = ap (λ l. steps_on r (steps_of_items e.items) ++ l) (in_order r h)
+in_order r h = flat_map-map (λ (b : BatchSteps). steps_on r b.steps) batch_of h
 
 own_steps : (r : ℕ) (h : List Event) → IsSoundIn Append h → steps_of r (batches h) ≡ flat_map (λ (e : Event). steps_on r (steps_of_items e.items)) h
 own_steps r h s = plain_steps r (batches h) (without_marker 0 h s.files) ∙ in_order r h

@@ -1,30 +1,12 @@
 -- The least files of the tables of one reading, and of both queues: those of all records, since entries stand in the order of their files.
-use Rattle.std.proofs.Common.{◌≡◌, ℕ, ◌≤◌, Bool, true, false, cond, ◌||◌, List, [], ◌∷◌, ◌++◌, min, nat_le, Option, Some, None, refl, sym, ap, subst, ◌∙◌, append-nil, arith}
-use Rattle.std.specs.Option.{option_map_or}
-use Rattle.std.proofs.lemmas.List.Elements.{filter-append}
-use Rattle.std.specs.Prelude.{filter_map, is_some}
-use Rattle.std.specs.List.{AllByRecursion, slice_get, cons_option}
+use Rattle.raft_history.proofs.Common.{cond_both, ◌≡◌, ℕ, ◌≤◌, Bool, true, false, cond, ◌||◌, List, [], ◌∷◌, ◌++◌, min, Option, Some, None, refl, sym, ap, subst, ◌∙◌, append-nil, arith, option_map_or}
+use Rattle.raft_history.proofs.Common.{filter-append, filter_map, is_some, AllByRecursion, slice_get, cons_option, FileBlockHandle, LogQueue, EntryIndex, end_of, place_seq, entry_seq, lesser, least}
+use Rattle.raft_history.proofs.Common.{seqs_in, entries_within, least_seq, at_most_group_seq, has_clean, greatest_compaction, least_cut, is_unjoined, rewritten_within, overlay, kept_if}
+use Rattle.raft_history.proofs.Common.{overlaid_table, is_same, other, Step, table_of, Table, is_placed_in, placed_in, Event, batches, IsReadingOfBoth, steps_of, is_named, IsSoundIn, Apart}
+use Rattle.raft_history.proofs.Common.{IsOneReading, record_seqs, AreLeastFiles, IsAtOrBelow, HasNoneBelow, Tables}
+use Rattle.std.proofs.Common.{nat_le}
 use Rattle.std.specs.FinMap as finite
-use Rattle.raft_base.specs.declared.pipe_log.FileBlockHandle.{FileBlockHandle}
-use Rattle.raft_base.specs.declared.pipe_log.LogQueue.{LogQueue}
 use Rattle.raft_base.specs.declared.pipe_log.LogQueue.TheVariants.{Append, Rewrite}
-use Rattle.raft_base.specs.declared.entry_index.EntryIndex.{EntryIndex}
-use Rattle.raft_base.specs.Runs.{end_of}
-use Rattle.raft_table.specs.Fetches.{place_seq, entry_seq}
-use Rattle.raft_table.specs.KeyValues.{lesser, least, seqs_in}
-use Rattle.raft_table.specs.Marks.{entries_within}
-use Rattle.raft_table.specs.Least.{least_seq, at_most_group_seq}
-use Rattle.raft_table.specs.Overlay.{has_clean, greatest_compaction, least_cut, is_unjoined, rewritten_within, overlay, kept_if, overlaid_table}
-use Rattle.raft_table.specs.Queues.{is_same, other}
-use Rattle.raft_table.specs.Steps.{Step, table_of}
-use Rattle.raft_table.specs.Table.{Table}
-use Rattle.raft_table.specs.TableEntries.{is_placed_in, placed_in}
-use Rattle.raft_history.specs.Batches.{Event, batches}
-use Rattle.raft_history.specs.BothQueues.{IsReadingOfBoth}
-use Rattle.raft_history.specs.Effects.{steps_of, is_named}
-use Rattle.raft_history.specs.Histories.{IsSoundIn, Apart, IsOneReading}
-use Rattle.raft_history.specs.LeastFiles.{record_seqs, AreLeastFiles, IsAtOrBelow, HasNoneBelow}
-use Rattle.raft_history.specs.RegionSteps.{Tables}
 use Rattle.raft_history.proofs.EffectFileLemmas.{history_rises}
 use Rattle.raft_history.proofs.EffectLemmas.{each_weaker}
 use Rattle.raft_history.proofs.FileOrderLemmas.{seq_of, InOrder, lower, some_of, steps_order}
@@ -168,17 +150,13 @@ least_read q h tables cleaned s a one r =
 
 overlay_order : (ss : List Step) (low high : ℕ) (appended rewritten : Table) → InOrder Rewrite 0 low rewritten.entries → InOrder Append 0 high appended.entries → AreInOrder (overlay ss appended rewritten).entries
 unfolding entries_within
-overlay_order ss low high appended rewritten h k = go (has_clean ss)
+overlay_order ss low high appended rewritten h k =
+    cond_both (has_clean ss) appended.entries (rewritten_within (greatest_compaction ss) (least_cut ss) appended.entries rewritten.entries ++ appended.entries) AreInOrder (λ t. of_one Append high appended.entries k)
+    (λ t. of_two low high (rewritten_within (greatest_compaction ss) (least_cut ss) appended.entries rewritten.entries) appended.entries kept k)
   where
     kept : InOrder Rewrite 0 low (rewritten_within (greatest_compaction ss) (least_cut ss) appended.entries rewritten.entries)
-    kept = elim (is_unjoined (least_cut ss) (end_of rewritten.entries) appended.entries) as (λ b. InOrder Rewrite 0 low (cond b [] (entries_within (greatest_compaction ss) (least_cut ss) rewritten.entries))) [
-      | true ↦ omega arith
-      | false ↦ some_of Rewrite _ 0 low rewritten.entries h
-    ]
-
-    go : (b : Bool) → AreInOrder (cond b appended.entries (rewritten_within (greatest_compaction ss) (least_cut ss) appended.entries rewritten.entries ++ appended.entries))
-    go true = of_one Append high appended.entries k
-    go false = of_two low high (rewritten_within (greatest_compaction ss) (least_cut ss) appended.entries rewritten.entries) appended.entries kept k
+    kept = cond_both (is_unjoined (least_cut ss) (end_of rewritten.entries) appended.entries) [] (entries_within (greatest_compaction ss) (least_cut ss) rewritten.entries) (InOrder Rewrite 0 low) (λ t. omega arith)
+        (λ t. some_of Rewrite _ 0 low rewritten.entries h)
 
 kept_order : (b : Bool) (r : ℕ) (t : Table) → AreInOrder t.entries → AreInOrder (table_of r (kept_if b t)).entries
 kept_order true r t h = h

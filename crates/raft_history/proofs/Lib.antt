@@ -1,3 +1,4 @@
+mod Common
 pub mod AgreeLaws
 pub mod ContextLaws
 pub mod CutLemmas
@@ -6,6 +7,7 @@ pub mod EachStepLemmas
 pub mod EffectFileLemmas
 pub mod EffectLemmas
 pub mod FileOrderLemmas
+pub mod FileStepLemmas
 pub mod FoldLaws
 pub mod GoingOnLemmas
 pub mod IncompleteLemmas
@@ -21,6 +23,7 @@ pub mod MergeLaws
 pub mod MoreLemmas
 pub mod NamedLemmas
 pub mod NewLaws
+pub mod OptionLemmas
 pub mod PlacedItemLemmas
 pub mod QueueLemmas
 pub mod ReadItemLemmas

@@ -1,17 +1,9 @@
 -- Maps under numbers: one key written or taken away.
-use Rattle.std.proofs.Common.{◌≡◌, ◌⊎◌, ℕ, Bool, true, false, cond, eqb, ◌||◌, Option, Some, None, refl, ap, ◌∙◌, inl, inr}
-use Rattle.std.specs.Prelude.{is_some}
-use Rattle.std.specs.Option.{unwrap_or}
-use Rattle.std.specs.Ordering.{nat_cmp, eq_by_cmp}
-use Rattle.std.specs.Cmp.{nat_cmp_total}
+use Rattle.raft_history.proofs.Common.{◌≡◌, ◌⊎◌, ℕ, Bool, true, false, cond, eqb, ◌||◌, Option, Some, None, refl, ap, ◌∙◌, inl, inr, is_some, unwrap_or, nat_cmp, eq_by_cmp, nat_cmp_total, eqb-true}
+use Rattle.raft_history.proofs.Common.{Mark, fresh, Table, MarkedRegions, MarkedRegion, region_in, with_region, Tables, with_table}
 use Rattle.std.specs.FinMap as finite
-use Rattle.std.proofs.lemmas.Bool.{eqb-true, eq-eqb}
-use Rattle.raft_table.specs.Marks.{Mark}
-use Rattle.raft_table.specs.MarkJoins.{fresh}
-use Rattle.raft_table.specs.Table.{Table}
-use Rattle.raft_history.specs.MarkedRegions.{MarkedRegions, MarkedRegion, region_in, with_region}
-use Rattle.raft_history.specs.RegionSteps.{Tables, with_table}
 use Rattle.raft_history.proofs.KnownLemmas.{tied}
+pub use Rattle.raft_history.proofs.StepListLemmas.{eqb_self}
 
 abbrev pub IsOther : ℕ → ℕ → Type 0
 IsOther q r = (eqb q r ≡ false) × (eq_by_cmp nat_cmp q r ≡ false)
@@ -23,9 +15,6 @@ by_region q r = go (eqb q r) refl
     go : (b : Bool) → eqb q r ≡ b → (q ≡ r) ⊎ IsOther q r
     go true e = inl (eqb-true q r e)
     go false e = inr (e, tied q r ∙ e)
-
-pub eqb_self : (r : ℕ) → eqb r r ≡ true
-eqb_self r = eq-eqb r r refl
 
 module _ {X : Type 0} where
   pub get_own : (m : finite.FinMap nat_cmp X) (id : ℕ) (x : X) → finite.get (finite.insert m id x) id ≡ Some x

@@ -1,41 +1,30 @@
 -- The markers of a group, one more and joined.
-use Rattle.std.proofs.Common.{◌≡◌, ℕ, Bool, true, false, cond, ◌&&◌, List, [], ◌∷◌, ◌++◌, Option, Some, None, refl, sym, ap, ◌∙◌, append_assoc}
-use Rattle.std.proofs.lemmas.List.Concat.{flat_map-append}
-use Rattle.std.proofs.lemmas.List.Elements.{filter-append}
-use Rattle.raft_records.specs.declared.atomic_group.AtomicGroupStatus.{AtomicGroupStatus}
+use Rattle.raft_history.proofs.Common.{and_parts, list_all-append, ◌≡◌, ℕ, Bool, true, false, cond, ◌&&◌, List, [], ◌∷◌, ◌++◌, Option, Some, None, refl, sym, ap, ◌∙◌, append_assoc, flat_map-append}
+use Rattle.raft_history.proofs.Common.{filter-append, AtomicGroupStatus, GroupMarker, RegionStep, has_status, Numbered, is_of, markers_of, is_same_status, open_stretch, GroupFront, Open, Ended, Begun}
+use Rattle.raft_history.proofs.Common.{led_by, front_by, front_behind, front_of, stretch_of, WaitingGroup, group_at, group_of, carried_stretch, joined_group_by, joined_group, whole_of, whole_group_by}
 use Rattle.raft_records.specs.declared.atomic_group.AtomicGroupStatus.TheVariants.{Begin, Middle, End}
-use Rattle.raft_history.specs.Batches.{GroupMarker}
-use Rattle.raft_history.specs.RegionSteps.{RegionStep}
 use Rattle.raft_history.proofs.Words.{region_steps_of, are_middles}
-use Rattle.raft_history.specs.Effects.{has_status, Numbered, is_of, markers_of, is_same_status, open_stretch}
-use Rattle.raft_history.specs.WaitingGroup.{GroupFront, Open, Ended, Begun, led_by, front_by, front_behind, front_of, stretch_of, WaitingGroup, group_at, group_of, carried_stretch, joined_group_by, joined_group, whole_of, whole_group_by}
 
 pub markers_of-append : (g : ℕ) (ps qs : List Numbered) → markers_of g (ps ++ qs) ≡ markers_of g ps ++ markers_of g qs
 unfolding markers_of
 markers_of-append g ps qs = filter-append (λ p. is_of g p.batch.marker) ps qs
 
 pub are_middles-append : (ps qs : List Numbered) → are_middles (ps ++ qs) ≡ (are_middles ps && are_middles qs)
-are_middles-append [] qs = refl
-are_middles-append (p ∷ ps) qs = go (has_status Middle p.batch.marker) (are_middles-append ps qs)
-  where
-    go : (b : Bool) → are_middles (ps ++ qs) ≡ (are_middles ps && are_middles qs) → (b && are_middles (ps ++ qs)) ≡ ((b && are_middles ps) && are_middles qs)
-    go true ih = ih
-    go false ih = refl
+are_middles-append ps qs = list_all-append (λ (p : Numbered). has_status Middle p.batch.marker) ps qs
 
 -- where Middles alone stand, nothing is open
 pub middles_open_none : (ps : List Numbered) → are_middles ps ≡ true → open_stretch ps ≡ []
 unfolding open_stretch
 middles_open_none [] h = refl
-middles_open_none (p ∷ ps) h = go p.batch.marker h (middles_open_none ps)
+middles_open_none (p ∷ ps) h = let n = and_parts (has_status Middle p.batch.marker) (are_middles ps) h in rw (begins_none p.batch.marker n.0) (middles_open_none ps n.1)
   where
-    go : (m : Option GroupMarker) → (has_status Middle m && are_middles ps) ≡ true → (are_middles ps ≡ true → open_stretch ps ≡ []) → cond (has_status Begin m && are_middles ps) (p ∷ ps) (open_stretch ps) ≡ []
-    go None h ih = cc
-    go (Some m) h ih = at m.status h
-      where
-        at : (s : AtomicGroupStatus) → (is_same_status Middle s && are_middles ps) ≡ true → cond (is_same_status Begin s && are_middles ps) (p ∷ ps) (open_stretch ps) ≡ []
-        at Begin h = cc
-        at Middle h = ih h
-        at End h = cc
+    other : (s : AtomicGroupStatus) → is_same_status Middle s ≡ true → is_same_status Begin s ≡ false
+    other Middle e = refl
+    other _ e = cc
+
+    begins_none : (m : Option GroupMarker) → has_status Middle m ≡ true → has_status Begin m ≡ false
+    begins_none None e = refl
+    begins_none (Some m) e = other m.status e
 
 -- a stretch with the markers behind it
 abbrev pub with_more : List Numbered → List Numbered → List Numbered
@@ -114,8 +103,7 @@ fits_front (p ∷ ps) = go p.batch.marker refl (front_of ps) (fits_front ps)
         at : (s : AtomicGroupStatus) → has_status Middle p.batch.marker ≡ is_same_status Middle s → (f : GroupFront) → FitsFront f ps → FitsFront (front_by s p.batch.steps p.batch.seq f) (p ∷ ps)
         at Begin is f h = rw is refl
         at Middle is (Open js) h = (rw is h.0, ap (λ l. p.batch.steps ++ l) h.1)
-        at Middle is (Ended js k) h = rw is h
-        at Middle is Begun h = rw is h
+        at Middle is _ h = rw is h
         at End is f h = rw is refl
 
 stretch_with : (ps qs : List Numbered) → stretch_of (with_more ps qs) ≡ carried_stretch (stretch_of ps) (region_steps_of qs)
@@ -134,18 +122,10 @@ group_at-append ps qs = rw (front_of-append, open_stretch-append) (go (front_of 
         record { front = f; stretch = stretch_of (open_stretch ps) } record { front = g; stretch = stretch_of (open_stretch qs) }
     go (Open is) g true e h k = rw (middles_open_none ps h.0, middles_open_none qs e) refl
     go (Open is) g false e h k = refl
-    go (Ended is f) (Open js) true e h k = ap (λ s. record { front = Ended is f; stretch = s }) (stretch_with (open_stretch ps) qs ∙ ap (carried_stretch (stretch_of (open_stretch ps))) (sym k.1))
-    go (Ended is f) (Open js) false e h k = cc
-    go Begun (Open js) true e h k = ap (λ s. record { front = Begun; stretch = s }) (stretch_with (open_stretch ps) qs ∙ ap (carried_stretch (stretch_of (open_stretch ps))) (sym k.1))
-    go Begun (Open js) false e h k = cc
-    go (Ended is f) (Ended js l) true e h k = cc
-    go (Ended is f) (Ended js l) false e h k = refl
-    go (Ended is f) Begun true e h k = cc
-    go (Ended is f) Begun false e h k = refl
-    go Begun (Ended js l) true e h k = cc
-    go Begun (Ended js l) false e h k = refl
-    go Begun Begun true e h k = cc
-    go Begun Begun false e h k = refl
+    go f (Open js) true e h k = ap (λ s. record { front = f; stretch = s }) (stretch_with (open_stretch ps) qs ∙ ap (carried_stretch (stretch_of (open_stretch ps))) (sym k.1))
+    go f (Open js) false e h k = cc
+    go f g true e h k = cc
+    go f g false e h k = refl
 
 pub group_of-append : (g : ℕ) (ps qs : List Numbered) → group_of g (ps ++ qs) ≡ joined_group (group_of g ps) (group_of g qs)
 group_of-append g ps qs = rw markers_of-append (group_at-append (markers_of g ps) (markers_of g qs))
@@ -156,5 +136,4 @@ whole_is ps f = go (front_of ps) (fits_front ps)
   where
     go : (t : GroupFront) → FitsFront t ps → whole_group_by t (stretch_of (open_stretch ps)) f ≡ whole_of (stretch_of (open_stretch ps)) f
     go (Open is) h = rw (middles_open_none ps h.0) refl
-    go (Ended is k) h = refl
-    go Begun h = refl
+    go _ h = refl

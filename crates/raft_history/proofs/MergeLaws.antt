@@ -1,24 +1,13 @@
 -- Marked regions that are exact for two histories give, merged, regions that are exact for both; and one more batch.
-use Rattle.std.proofs.Common.{◌≡◌, ℕ, Bool, true, false, ◌||◌, List, [], ◌∷◌, ◌++◌, Option, Some, None, refl, sym, ap, subst, ◌∙◌, inl, inr, append_assoc, append-nil}
-use Rattle.std.specs.Prelude.{is_some, option_map}
-use Rattle.std.specs.List.{list_any}
-use Rattle.std.specs.Option.{unwrap_or, option_and_then}
+use Rattle.raft_history.proofs.Common.{map_none, or_assoc, no_both, some_is, ◌≡◌, ℕ, Bool, true, false, ◌||◌, List, [], ◌∷◌, ◌++◌, Option, Some, None, refl, sym, ap, subst, ◌∙◌, inl, inr}
+use Rattle.raft_history.proofs.Common.{append_assoc, append-nil, is_some, option_map, list_any, unwrap_or, option_and_then, LogQueue, Mark, there_if, table_over_older, is_there_over, joined_mark}
+use Rattle.raft_history.proofs.Common.{fresh, mark_of, Step, Run, AreSteps, table_of, after_step, after, Table, refused_join, GroupMarker, BatchSteps, Event, batch_of, batches, Context}
+use Rattle.raft_history.proofs.Common.{RegionStandsFor, AreExact, AreMerged, AreRegionsRefused, region_steps_or, completed_steps, EachApart, effects, steps_of, is_named, MarkedRegions, MarkedRegion}
+use Rattle.raft_history.proofs.Common.{region_in, with_region, regions_after, region_steps_of_wholes, joined_marked, RegionStep, names, steps_on, WholeGroup, whole_group, one_marker, WaitingGroups}
+use Rattle.raft_history.proofs.Common.{groups_in, known_of, whole_groups, steps_by_batch, steps_or, names_by_batch, steps_of_wholes}
 use Rattle.std.specs.FinMap as finite
-use Rattle.raft_base.specs.declared.pipe_log.LogQueue.{LogQueue}
 use Rattle.raft_base.specs.declared.pipe_log.LogQueue.TheVariants.{Rewrite}
-use Rattle.raft_table.specs.Marks.{Mark, there_if, table_over_older, is_there_over}
-use Rattle.raft_table.specs.MarkJoins.{joined_mark, fresh, mark_of}
-use Rattle.raft_table.specs.Steps.{Step, Run, Compact, Truncate, Put, Del, AtomicGroup, Clean, AreSteps, table_of, after_step, after}
-use Rattle.raft_table.specs.Table.{Table}
-use Rattle.raft_table.proofs.MarkLaws.{refused_join}
-use Rattle.raft_history.specs.Batches.{GroupMarker, BatchSteps, Event, batch_of, batches}
-use Rattle.raft_history.specs.Contexts.{Context, RegionStandsFor, AreExact, AreMerged, AreRegionsRefused, region_steps_or, completed_steps}
-use Rattle.raft_history.specs.Effects.{EachApart, effects, steps_of, is_named}
 use Rattle.raft_history.proofs.Words.{AreInFiles}
-use Rattle.raft_history.specs.MarkedRegions.{MarkedRegions, MarkedRegion, region_in, with_region, regions_after, region_steps_of_wholes, joined_marked}
-use Rattle.raft_history.specs.RegionSteps.{RegionStep, names, steps_on}
-use Rattle.raft_history.specs.WaitingGroup.{WholeGroup, whole_group, one_marker}
-use Rattle.raft_history.specs.WaitingGroups.{WaitingGroups, groups_in, known_of, whole_groups, steps_by_batch, steps_or, names_by_batch, steps_of_wholes}
 use Rattle.raft_history.proofs.KnownLemmas.{steps_across}
 use Rattle.raft_history.proofs.MoreLemmas.{steps-one}
 use Rattle.raft_history.proofs.NamedLemmas.{has_steps, has_steps-own, has_steps-wholes, named_across, named-one, by_batch}
@@ -26,9 +15,6 @@ use Rattle.raft_history.proofs.ReadLemmas.{own-whole_group, own-wholes, holds_jo
 use Rattle.raft_history.proofs.SoundLemmas.{steps_good, batches-append}
 use Rattle.raft_history.proofs.StepListLemmas.{steps-append, steps_left, steps_right, own_none}
 use Rattle.raft_history.proofs.WithoutMarkers.{named-steps}
-
-some_is : {X : Type 0} {x y : X} → Some x ≡ Some y → x ≡ y
-some_is e = cc
 
 holds_marked : (q : LogQueue) (r : ℕ) (x y : MarkedRegion) (o : Option Mark) (t : Option Table) (ss rs : List Step) → AreSteps ss → AreSteps rs →
     RegionStandsFor q r x ss → RegionStandsFor q r record { mark = unwrap_or o fresh; table = t } rs → (o ≡ None → rs ≡ []) →
@@ -39,21 +25,14 @@ holds_marked q r x y (Some m) t ss rs good good' h k none e = holds_joined q r x
 refused_marked : (q : LogQueue) (r : ℕ) (x : MarkedRegion) (o : Option Mark) (t : Option Table) (ss rs : List Step) → RegionStandsFor q r x ss →
     RegionStandsFor q r record { mark = unwrap_or o fresh; table = t } rs → joined_marked q r o t x ≡ None → after q r None (ss ++ rs) ≡ None
 refused_marked q r x None t ss rs h k e = absurd cc
-refused_marked q r x (Some m) t ss rs h k e = go (table_over_older q r m t x.table) refl e
-  where
-    go : (o : Option (Option Table)) → table_over_older q r m t x.table ≡ o → option_map {U = MarkedRegion} (λ t. record { mark = joined_mark q r x.mark x.table m; table = t }) o ≡ None → after q r None (ss ++ rs) ≡ None
-    go None is e = refused_join q r x.mark m x.table t ss rs h.stands k.stands is
-    go (Some w) is e = absurd cc
+refused_marked q r x (Some m) t ss rs h k e = refused_join q r x.mark m x.table t ss rs h.stands k.stands
+    (map_none {B = MarkedRegion} (λ t. record { mark = joined_mark q r x.mark x.table m; table = t }) (table_over_older q r m t x.table) e)
 
 unnamed : (q : LogQueue) (rs : MarkedRegions) (bs : List BatchSteps) → AreExact q rs bs → (r : ℕ) → finite.get rs.marks r ≡ None → steps_of r bs ≡ []
 unnamed q rs bs ex r e = (named-steps r bs).0 (sym (ex.marked r) ∙ ap is_some e)
 
 names_wholes : (r : ℕ) (ws : List WholeGroup) → names r (region_steps_of_wholes ws) ≡ list_any (λ w. names r w.steps) ws
 names_wholes r ws = sym (has_steps-own r (region_steps_of_wholes ws)) ∙ ap has_steps (own-wholes r ws) ∙ has_steps-wholes r ws
-
-or_assoc : (a b c : Bool) → ((a || b) || c) ≡ (a || (b || c))
-or_assoc true b c = refl
-or_assoc false b c = refl
 
 -- two contexts, by their regions and groups
 pub record Parts (q : LogQueue) (c d : Context) (h k : List Event) : Type 0 where
@@ -169,12 +148,7 @@ taken_refused q c h e is files files' ex m = let f = read_refused q c.regions (s
 rewrite_step : (r : ℕ) (o : Option Table) (s : Step) → (u : Option Table) × (after_step Rewrite (table_of r o) s ≡ Some u)
 rewrite_step r o (Run []) = (_, refl)
 rewrite_step r o (Run (e ∷ run)) = (_, refl)
-rewrite_step r o (Compact i) = (_, refl)
-rewrite_step r o (Truncate i) = (_, refl)
-rewrite_step r o (Put key value file) = (_, refl)
-rewrite_step r o (Del key) = (_, refl)
-rewrite_step r o (AtomicGroup first_seq last_seq) = (_, refl)
-rewrite_step r o Clean = (_, refl)
+rewrite_step r o _ = (_, refl)
 
 pub rewrite_after : (r : ℕ) (o : Option Table) (ss : List Step) → (u : Option Table) × (after Rewrite r o ss ≡ Some u)
 rewrite_after r o [] = (o, refl)
@@ -202,15 +176,8 @@ rewrite_applied r m t o e = there_some (is_there_over m t o) _ e
 
 rewrite_marked : (r : ℕ) (o : Option Mark) (t : Option Table) (x : MarkedRegion) → joined_marked Rewrite r o t x ≡ None → ⊥
 rewrite_marked r None t x e = cc
-rewrite_marked r (Some m) t x e = go (table_over_older Rewrite r m t x.table) refl e
-  where
-    go : (o : Option (Option Table)) → table_over_older Rewrite r m t x.table ≡ o → option_map {U = MarkedRegion} (λ t. record { mark = joined_mark Rewrite r x.mark x.table m; table = t }) o ≡ None → ⊥
-    go None is e = rewrite_applied r m t x.table is
-    go (Some w) is e = cc
+rewrite_marked r (Some m) t x e = rewrite_applied r m t x.table (map_none {B = MarkedRegion} (λ t. record { mark = joined_mark Rewrite r x.mark x.table m; table = t }) (table_over_older Rewrite r m t x.table) e)
 
 pub rewrite_refused : (c d : Context) → AreRegionsRefused Rewrite c d → ⊥
 rewrite_refused c d (inl e) = let f = rewrite_read c.regions (region_steps_of_wholes (whole_groups c.groups d.groups)) in no_both e f.1
-  where
-    no_both : {o : Option MarkedRegions} {n : MarkedRegions} → o ≡ None → o ≡ Some n → ⊥
-    no_both a b = cc
 rewrite_refused c d (inr f) = rewrite_marked f.2.0 (finite.get d.regions.marks f.2.0) (finite.get d.regions.tables f.2.0) (region_in f.0 f.2.0) f.2.1

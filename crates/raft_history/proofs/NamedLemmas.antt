@@ -1,17 +1,11 @@
 -- The regions that joined histories name.
-use Rattle.std.proofs.Common.{◌≡◌, ℕ, Bool, true, false, cond, ◌||◌, List, [], ◌∷◌, ◌++◌, Option, Some, None, refl, sym, ap, ◌∙◌}
-use Rattle.std.specs.Prelude.{flat_map}
-use Rattle.std.specs.List.{list_any}
-use Rattle.raft_history.specs.Batches.{BatchSteps, GroupMarker}
-use Rattle.raft_history.specs.Effects.{whole_steps, steps_of, EachApart, effects, is_named}
-use Rattle.raft_history.specs.RegionSteps.{RegionStep, names, steps_on}
-use Rattle.raft_history.specs.WaitingGroup.{WholeGroup, whole_group, one_marker}
-use Rattle.raft_history.specs.WaitingGroups.{WaitingGroups, groups_in, known_of, whole_groups, steps_or, steps_by_batch, names_by, names_by_batch, steps_of_wholes}
+use Rattle.raft_history.proofs.Common.{◌≡◌, ℕ, Bool, true, false, cond, ◌||◌, List, [], ◌∷◌, ◌++◌, Option, Some, None, refl, sym, ap, ◌∙◌, flat_map, list_any, BatchSteps, GroupMarker, whole_steps}
+use Rattle.raft_history.proofs.Common.{steps_of, EachApart, effects, is_named, RegionStep, names, steps_on, WholeGroup, whole_group, one_marker, WaitingGroups, groups_in, known_of, whole_groups}
+use Rattle.raft_history.proofs.Common.{steps_or, steps_by_batch, names_by, names_by_batch, steps_of_wholes, Step, AtomicGroup}
 use Rattle.raft_history.proofs.EffectLemmas.{steps_on-none}
 use Rattle.raft_history.proofs.KnownLemmas.{steps_across}
 use Rattle.raft_history.proofs.MoreLemmas.{steps-one}
 use Rattle.raft_history.proofs.WithoutMarkers.{named-steps, steps_on-some}
-use Rattle.raft_table.specs.Steps.{Step, AtomicGroup}
 
 abbrev pub has_steps : List Step → Bool
 has_steps [] = false
@@ -57,12 +51,9 @@ has_steps-wholes r (w ∷ ws) = has_steps-append (group_steps w) (flat_map group
 
 pub named_across : (r : ℕ) (h k : List BatchSteps) → EachApart (effects (h ++ k)) → is_named r (h ++ k) ≡ (is_named r h || (list_any (λ w. names r w.steps) (whole_groups (groups_in h) (groups_in k)) || is_named r k))
 named_across r h k apart =
+    let ws = whole_groups (groups_in h) (groups_in k) in
     sym (has_steps-of r (h ++ k)) ∙ ap has_steps (steps_across r h k apart)
-    ∙ has_steps-append (steps_of r h) (steps_of_wholes r (whole_groups (groups_in h) (groups_in k)) ++ steps_of r k)
-    ∙ ap (λ b. has_steps (steps_of r h) || b) (has_steps-append (steps_of_wholes r (whole_groups (groups_in h) (groups_in k))) (steps_of r k))
-    ∙ ap (λ b. b || (has_steps (steps_of_wholes r (whole_groups (groups_in h) (groups_in k))) || has_steps (steps_of r k))) (has_steps-of r h)
-    ∙ ap (λ b. is_named r h || (b || has_steps (steps_of r k))) (has_steps-wholes r (whole_groups (groups_in h) (groups_in k)))
-    ∙ ap (λ b. is_named r h || (list_any (λ w. names r w.steps) (whole_groups (groups_in h) (groups_in k)) || b)) (has_steps-of r k)
+    ∙ rw (has_steps-append (steps_of r h) (steps_of_wholes r ws ++ steps_of r k), has_steps-append (steps_of_wholes r ws) (steps_of r k), has_steps-of r h, has_steps-wholes r ws, has_steps-of r k) refl
 
 pub by_batch : (r : ℕ) (groups : WaitingGroups) (b : BatchSteps) (m : Option GroupMarker) → has_steps (steps_by_batch r groups b m) ≡ names_by_batch r groups b m
 by_batch r groups b None = has_steps-own r b.steps

@@ -1,18 +1,8 @@
 -- Items that a write has placed may stand in the file of their places.
-use Rattle.std.proofs.Common.{ℕ, suc, ◌-◌, ◌^◌, ◌<◌, List, [], ◌∷◌, map, Option, Some, None, refl}
-use Rattle.std.specs.List.{AllByRecursion}
-use Rattle.raft_base.specs.declared.compression_type.CompressionType.{CompressionType}
-use Rattle.raft_base.specs.declared.entry_index.EntryIndex.{EntryIndex}
-use Rattle.raft_base.specs.declared.pipe_log.FileBlockHandle.{FileBlockHandle}
-use Rattle.raft_base.specs.Runs.{RisesFrom, IsRun}
-use Rattle.raft_records.specs.declared.key_value.OpType.{OpType}
-use Rattle.raft_records.specs.declared.key_value.OpType.TheVariants as operations
-use Rattle.raft_records.specs.DecodedIn.{IsPlaceInFile}
-use Rattle.raft_records.specs.Grammar.{end_of_content}
-use Rattle.raft_records.specs.Item.{Item, Content, entries, command, pair}
-use Rattle.raft_records.specs.ItemBatch.{placed_content, placed_item, FitsBehind, FitTogether}
-use Rattle.raft_records.specs.Spelling.{IsWritableWith}
-use Rattle.raft_history.specs.Histories.{IsPairIn, IsInFile, AreInFile}
+use Rattle.raft_history.proofs.Common.{ℕ, suc, ◌-◌, ◌^◌, ◌<◌, List, [], ◌∷◌, Some, refl, AllByRecursion, CompressionType, EntryIndex, FileBlockHandle, RisesFrom, IsRun, IsPlaceInFile, end_of_content}
+use Rattle.raft_history.proofs.Common.{Item, Content, entries, command, pair, placed_content, placed_item, FitsBehind, FitTogether, IsInFile, AreInFile}
+use Rattle.std.proofs.Common.{map}
+use Rattle.raft_history.proofs.ReadItemLemmas.{pair_in}
 
 module _ (place : FileBlockHandle) (compression : CompressionType) where
   abbrev placed : EntryIndex → EntryIndex
@@ -34,15 +24,10 @@ module _ (place : FileBlockHandle) (compression : CompressionType) where
   each_placed [] = tt
   each_placed (e ∷ es) = (refl, each_placed es)
 
-  pair_in : (op : OpType) (value : Option (List ℕ)) → IsWritableWith op value → IsPairIn place.id op value (Some place.id)
-  pair_in operations.Put (Some value) h = refl
-  pair_in operations.Put None h = absurd h
-  pair_in operations.Del value h = tt
-
   content_in : (s : ℕ) (content : Content) → FitsBehind s content → IsInFile place.id (placed_content place compression content)
   content_in s (entries es) h = (record { run = runs es h.0.run; bounded = below_last es h.0.bounded }, each_placed es)
   content_in s (command c) h = tt
-  content_in s (pair p) h = λ kept. pair_in p.op_type p.value h
+  content_in s (pair p) h = λ kept. pair_in place.id p.op_type p.value h
 
   pub items_in : (s : ℕ) (items : List Item) → FitTogether s items → AreInFile place.id (map (placed_item place compression) items)
   items_in s [] h = tt

@@ -1,29 +1,15 @@
 -- What waits, and what becomes whole, is of the queue.
-use Rattle.std.proofs.Common.{◌≡◌, ℕ, suc, Bool, true, false, cond, List, [], ◌∷◌, ◌++◌, Option, Some, None, refl, sym, ap, subst}
-use Rattle.std.specs.List.{AllByRecursion, cons_option}
+use Rattle.raft_history.proofs.Common.{◌≡◌, ℕ, suc, List, [], ◌∷◌, ◌++◌, Option, Some, None, sym, subst, AllByRecursion, cons_option, FileId, LogQueue, AtomicGroup, AtomicGroupStatus, GroupMarker}
+use Rattle.raft_history.proofs.Common.{BatchSteps, Event, batches, AreInFile, FilesFrom, IsStepOfQueue, Numbered, numbered_from, markers_of, open_stretch, named_regions, on_each}
+use Rattle.raft_history.proofs.Common.{region_steps_of_whole, region_steps_of_wholes, RegionStep, steps_of_items, GroupFront, Open, Ended, Begun, led_by, front_by, front_behind, front_of, OpenStretch}
+use Rattle.raft_history.proofs.Common.{stretch_of, WaitingGroup, WholeGroup, whole_of, whole_group_by, whole_group, group_in, groups_in, known_of, whole_with, whole_groups, front_steps, stretch_steps}
+use Rattle.raft_history.proofs.Common.{Item}
 use Rattle.std.specs.FinMap as finite
-use Rattle.raft_base.specs.declared.pipe_log.FileId.{FileId}
-use Rattle.raft_base.specs.declared.pipe_log.LogQueue.{LogQueue}
-use Rattle.raft_table.specs.Steps.{Step, Run, Compact, Truncate, Put, Del, AtomicGroup, Clean}
-use Rattle.raft_records.specs.declared.atomic_group.AtomicGroupStatus.{AtomicGroupStatus}
 use Rattle.raft_records.specs.declared.atomic_group.AtomicGroupStatus.TheVariants.{Begin, Middle, End}
-use Rattle.raft_history.specs.Batches.{GroupMarker, BatchSteps, Event, batches}
-use Rattle.raft_history.proofs.Words.{AreInFiles, with_step, region_steps_of}
-use Rattle.raft_history.specs.Histories.{IsInFile, AreInFile, FilesFrom, IsPairIn, IsStepOfQueue}
-use Rattle.raft_history.specs.Effects.{Numbered, numbered_from, markers_of, open_stretch}
-use Rattle.raft_history.specs.MarkedRegions.{named_regions, on_each, region_steps_of_whole, region_steps_of_wholes}
-use Rattle.raft_history.specs.RegionSteps.{RegionStep, pair_step, content_step, steps_of_items}
-use Rattle.raft_history.specs.WaitingGroup.{GroupFront, Open, Ended, Begun, led_by, front_by, front_behind, front_of, OpenStretch, stretch_of, WaitingGroup, WholeGroup, whole_of, whole_group_by, whole_group, group_in}
-use Rattle.raft_history.specs.WaitingGroups.{groups_in, known_of, whole_with, whole_groups, front_steps, stretch_steps}
-use Rattle.raft_history.proofs.EffectLemmas.{each-append, each_markers, each_open, each_weaker}
+use Rattle.raft_history.proofs.Words.{AreInFiles, region_steps_of}
+use Rattle.raft_history.proofs.EffectLemmas.{each-append, each_flat, each_markers, each_open, each_weaker}
 use Rattle.raft_history.proofs.KnownLemmas.{known-groups_in, each_known}
-use Rattle.raft_history.proofs.ReadRunLemmas.{read_run}
-use Rattle.raft_records.specs.declared.command.Command.TheVariants as commands
-use Rattle.raft_records.specs.declared.key_value.OpType.{OpType}
-use Rattle.raft_records.specs.declared.key_value.OpType.TheVariants as operations
-use Rattle.raft_records.specs.Group.{is_reserved}
-use Rattle.raft_records.specs.Item.{Item, Content, entries, command, pair}
-use Rattle.raft_table.proofs.MarkEntries.{same_some}
+use Rattle.raft_history.proofs.FileStepLemmas.{IsStepInFile, is_of_queue, steps_in_file}
 
 abbrev Are : LogQueue → List RegionStep → Type 0
 Are q is = AllByRecursion (λ (i : RegionStep). IsStepOfQueue q i.step) is
@@ -35,8 +21,7 @@ abbrev IsOf : LogQueue → Numbered → Type 0
 IsOf q p = Are q p.batch.steps
 
 items_are : (q : LogQueue) (ps : List Numbered) → AllByRecursion (IsOf q) ps → Are q (region_steps_of ps)
-items_are q [] h = tt
-items_are q (p ∷ ps) h = are-append q p.batch.steps (region_steps_of ps) h.0 (items_are q ps h.1)
+items_are q ps h = each_flat (λ (i : RegionStep). IsStepOfQueue q i.step) (λ (p : Numbered). p.batch.steps) ps h
 
 abbrev pub Holds : LogQueue → WaitingGroup → Type 0
 Holds q g = Are q (front_steps g.front) × Are q (stretch_steps g.stretch)
@@ -80,49 +65,20 @@ whole_are q a b h k = go a.front a.stretch b.front h.1 k.0
   where
     of : (s : Option OpenStretch) (g : GroupFront) → Are q (stretch_steps s) → Are q (front_steps g) → OrAre q (whole_of s g)
     of None g a b = tt
-    of (Some s) (Open is) a b = tt
     of (Some s) (Ended is f) a b = are-append q s.steps is a b
-    of (Some s) Begun a b = tt
+    of (Some s) _ a b = tt
 
     go : (f : GroupFront) (s : Option OpenStretch) (g : GroupFront) → Are q (stretch_steps s) → Are q (front_steps g) → OrAre q (whole_group_by f s g)
     go (Open is) s g a b = tt
-    go (Ended is x) s g a b = of s g a b
-    go Begun s g a b = of s g a b
+    go _ s g a b = of s g a b
 
 spans_are : (q : LogQueue) (rs : List ℕ) (first_seq last_seq : ℕ) → Are q (on_each rs (AtomicGroup first_seq last_seq))
 spans_are q [] s e = tt
 spans_are q (r ∷ rs) s e = (tt, spans_are q rs s e)
 
-step_in_queue : (file : FileId) (content : Content) (s : Step) → IsInFile file content → content_step content ≡ Some s → IsStepOfQueue file.queue s
-step_in_queue file (entries es) s h e = subst (IsStepOfQueue file.queue) (same_some (Run es) s e) (read_run file es h)
-step_in_queue file (command commands.Clean) s h e = subst (IsStepOfQueue file.queue) (same_some Clean s e) tt
-step_in_queue file (command (commands.Compact index)) s h e = subst (IsStepOfQueue file.queue) (same_some (Compact index) s e) tt
-step_in_queue file (command (commands.Truncate index)) s h e = subst (IsStepOfQueue file.queue) (same_some (Truncate index) s e) tt
-step_in_queue file (pair p) s h e = go (is_reserved p.key) refl e
-  where
-    put : (value : Option (List ℕ)) (id : Option FileId) → IsPairIn file operations.Put value id → pair_step operations.Put p.key value id ≡ Some s → IsStepOfQueue file.queue s
-    put (Some value) (Some id) h e = subst (IsStepOfQueue file.queue) (same_some (Put p.key value id) s e) (ap (λ (f : FileId). f.queue) h)
-    put (Some value) None h e = absurd h
-    put None id h e = absurd h
-
-    of : (o : OpType) → IsPairIn file o p.value p.file_id → pair_step o p.key p.value p.file_id ≡ Some s → IsStepOfQueue file.queue s
-    of operations.Put h e = put p.value p.file_id h e
-    of operations.Del h e = subst (IsStepOfQueue file.queue) (same_some (Del p.key) s e) tt
-
-    go : (b : Bool) → is_reserved p.key ≡ b → cond b None (pair_step p.op_type p.key p.value p.file_id) ≡ Some s → IsStepOfQueue file.queue s
-    go true k e = absurd cc
-    go false k e = of p.op_type (h k) e
-
-items_in_file : (file : FileId) (items : List Item) → AreInFile file items → Are file.queue (steps_of_items items)
-items_in_file file [] h = tt
-items_in_file file (item ∷ items) h = go (content_step item.content) (λ s e. step_in_queue file item.content s h.0 e) (items_in_file file items h.1)
-  where
-    go : (o : Option Step) → ((s : Step) → o ≡ Some s → IsStepOfQueue file.queue s) → Are file.queue (steps_of_items items) → Are file.queue (with_step item.raft_group_id o (steps_of_items items))
-    go None each rest = rest
-    go (Some s) each rest = (each s refl, rest)
-
 pub items_in_queue : (q : LogQueue) (file : FileId) (items : List Item) → file.queue ≡ q → AreInFile file items → Are q (steps_of_items items)
-items_in_queue q file items e h = subst (λ q. Are q (steps_of_items items)) e (items_in_file file items h)
+items_in_queue q file items e h =
+    subst (λ q. Are q (steps_of_items items)) e (each_weaker (λ i. IsStepInFile file i.step) (λ i. IsStepOfQueue file.queue i.step) (λ i k. is_of_queue file i.step k) (steps_of_items items) (steps_in_file file items h))
 
 placed_are : (q : LogQueue) (n m : ℕ) (h : List Event) → FilesFrom q n h → AreInFiles h → AllByRecursion (IsOf q) (numbered_from m (batches h))
 placed_are q n m [] f a = tt

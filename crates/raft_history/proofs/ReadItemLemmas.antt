@@ -1,14 +1,9 @@
 -- Items that were read from a file are as histories ask it of a batch of that file.
-use Rattle.std.proofs.Common.{ℕ, List, [], ◌∷◌, Option, Some, None, refl, sym, subst}
-use Rattle.raft_base.specs.declared.pipe_log.FileId.{FileId}
-use Rattle.raft_records.specs.declared.key_value.OpType.{OpType}
+use Rattle.raft_history.proofs.Common.{ℕ, List, [], ◌∷◌, Option, Some, None, refl, sym, subst, FileId, OpType, Item, Content, entries, command, pair, IsDecodedIn, AreDecodedIn, IsWritableWith}
+use Rattle.raft_history.proofs.Common.{IsPairIn, IsInFile, AreInFile}
 use Rattle.raft_records.specs.declared.key_value.OpType.TheVariants.{Put, Del}
-use Rattle.raft_records.specs.Item.{Item, Content, entries, command, pair}
-use Rattle.raft_records.specs.DecodedIn.{IsDecodedIn, AreDecodedIn}
-use Rattle.raft_records.specs.Spelling.{IsWritableWith}
-use Rattle.raft_history.specs.Histories.{IsPairIn, IsInFile, AreInFile}
 
-pair_in : (file : FileId) (op : OpType) (value : Option (List ℕ)) → IsWritableWith op value → IsPairIn file op value (Some file)
+pub pair_in : (file : FileId) (op : OpType) (value : Option (List ℕ)) → IsWritableWith op value → IsPairIn file op value (Some file)
 pair_in file Put None w = absurd w
 pair_in file Put (Some v) w = refl
 pair_in file Del value w = tt

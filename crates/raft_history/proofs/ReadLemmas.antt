@@ -1,28 +1,13 @@
 -- Items that are read into the marks and tables of all regions.
-use Rattle.std.proofs.Common.{◌≡◌, ◌⊎◌, ℕ, Bool, true, false, cond, eqb, ◌||◌, List, [], ◌∷◌, ◌++◌, Option, Some, None, refl, sym, ap, subst, ◌∙◌, inl, inr, append_assoc, append-nil}
-use Rattle.std.specs.Prelude.{is_some, option_map}
-use Rattle.std.specs.Option.{option_and_then}
+use Rattle.raft_history.proofs.Common.{map_none, map_some, option_and_then_some, or-false, then_none, some_is, ◌≡◌, ◌⊎◌, ℕ, Bool, true, false, cond, eqb, ◌||◌, List, [], ◌∷◌, ◌++◌, Option, Some, None}
+use Rattle.raft_history.proofs.Common.{refl, sym, ap, subst, ◌∙◌, inl, inr, append_assoc, append-nil, is_some, option_map, option_and_then, LogQueue, table_over_older, joined_mark, end_at_reach}
+use Rattle.raft_history.proofs.Common.{fresh, mark_of, own_of, HoldsDeleted, IsExactMark, Step, AtomicGroup, IsStep, AreSteps, after_step, after, table_of, Table, after-append, stands_fresh}
+use Rattle.raft_history.proofs.Common.{stands_one, stands_join, refused_step, one_step, joined_parts, union_empty, holds_one, exact_one, holds_join, exact_join, RegionStandsFor, whole_steps}
+use Rattle.raft_history.proofs.Common.{steps_of_wholes, MarkedRegions, MarkedRegion, region_in, with_region, stepped_region, regions_after, named_regions, on_each, region_steps_of_whole}
+use Rattle.raft_history.proofs.Common.{region_steps_of_wholes, joined_region, RegionStep, names, steps_on, WholeGroup}
 use Rattle.std.specs.FinMap as finite
-use Rattle.raft_base.specs.declared.pipe_log.LogQueue.{LogQueue}
-use Rattle.raft_table.specs.Marks.{table_over_older}
-use Rattle.raft_table.specs.MarkJoins.{joined_mark, end_at_reach, fresh, mark_of, own_of}
-use Rattle.raft_table.specs.Overlay.{HoldsDeleted, IsExactMark}
-use Rattle.raft_table.specs.Steps.{Step, AtomicGroup, IsStep, AreSteps, after_step, after, table_of}
-use Rattle.raft_table.specs.Table.{Table}
-use Rattle.raft_table.proofs.MarkLaws.{after-append, stands_fresh, stands_one, stands_join, refused_step}
-use Rattle.raft_table.proofs.MarkTables.{one_step, joined_parts}
-use Rattle.raft_table.proofs.MarkExact.{union_empty, holds_one, exact_one, holds_join, exact_join}
-use Rattle.raft_history.specs.Contexts.{RegionStandsFor}
-use Rattle.raft_history.specs.Effects.{whole_steps}
-use Rattle.raft_history.specs.WaitingGroups.{steps_of_wholes}
-use Rattle.raft_history.specs.MarkedRegions.{MarkedRegions, MarkedRegion, region_in, with_region, stepped_region, regions_after, named_regions, on_each, region_steps_of_whole, region_steps_of_wholes, joined_region}
-use Rattle.raft_history.specs.RegionSteps.{RegionStep, names, steps_on}
-use Rattle.raft_history.specs.WaitingGroup.{WholeGroup}
 use Rattle.raft_history.proofs.MapLemmas.{IsOther, by_region, held_own, held_other, marked_with}
 use Rattle.raft_history.proofs.StepListLemmas.{eqb_self, names_cons, names_none, own-append, own_cons, own_first, own_head, own_none, own_nothing, own_other, steps-append, steps_left, steps_right}
-
-some_is : {X : Type 0} {x y : X} → Some x ≡ Some y → x ≡ y
-some_is e = cc
 
 -- ---- wholes
 
@@ -67,18 +52,15 @@ holds_none q r x m t = subst (λ x. RegionStandsFor q r x []) (sym (ap (λ m. re
     none = record { cleaned = refl; deleted = λ e d. sym (union_empty d); none_deleted = λ e. refl }
 
 pub holds_joined : (q : LogQueue) (r : ℕ) (x n y : MarkedRegion) (ss rs : List Step) → AreSteps ss → AreSteps rs → RegionStandsFor q r x ss → RegionStandsFor q r n rs → joined_region q r x n ≡ Some y → RegionStandsFor q r y (ss ++ rs)
-holds_joined q r x n y ss rs good good' h k e = go (table_over_older q r n.mark n.table x.table) refl e
-  where
-    go : (o : Option (Option Table)) → table_over_older q r n.mark n.table x.table ≡ o → option_map (λ t. record { mark = joined_mark q r x.mark x.table n.mark; table = t }) o ≡ Some y → RegionStandsFor q r y (ss ++ rs)
-    go None is e = absurd cc
-    go (Some w) is e = subst (λ y. RegionStandsFor q r y (ss ++ rs)) (some_is e) record {
+holds_joined q r x n y ss rs good good' h k e =
+    map_some {B = MarkedRegion} (λ t. record { mark = joined_mark q r x.mark x.table n.mark; table = t }) (table_over_older q r n.mark n.table x.table) y e (λ w is p. subst (λ y. RegionStandsFor q r y (ss ++ rs)) p record {
       stands = stands_join q r x.mark n.mark x.table n.table w ss rs good good' h.stands k.stands is;
       deleted = (let p = joined_parts q (end_at_reach n.mark (table_of r x.table)) x.mark n.mark (table_of r x.table).entries h.stands.fits in
           holds_join x.mark n.mark (joined_mark q r x.mark x.table n.mark) ss rs h.deleted k.deleted p.0 p.1);
       exact = λ a. subst (λ q. IsExactMark (joined_mark q r x.mark x.table n.mark) (ss ++ rs)) (sym a)
           (exact_join (end_at_reach n.mark (table_of r x.table)) x.mark n.mark (table_of r x.table).entries ss rs h.stands.fits (h.exact a)
           (k.exact a));
-    }
+    })
 
 pub holds_stepped : (q : LogQueue) (r : ℕ) (x y : MarkedRegion) (ss : List Step) (s : Step) → AreSteps ss → IsStep s → RegionStandsFor q r x ss → stepped_region q r x s ≡ Some y → RegionStandsFor q r y (ss ++ s ∷ [])
 holds_stepped q r x y ss s good good' h e =
@@ -117,17 +99,10 @@ pub read_holds : (q : LogQueue) (rs new : MarkedRegions) (is : List RegionStep) 
 read_holds q rs new [] ss good good' h e r = subst (λ l. RegionStandsFor q r (region_in new r) l)
     (sym (ap (λ l. ss r ++ l) (own_none r) ∙ append-nil (ss r)))
     (subst (λ (n : MarkedRegions). RegionStandsFor q r (region_in n r) (ss r)) (some_is e) (h r))
-read_holds q rs new (i ∷ is) ss good good' h e r = go (stepped_region q i.region (region_in rs i.region) i.step) refl e
-    (λ x k e. read_holds q (with_region rs i.region x) new is (λ r. ss r ++ steps_on r (i ∷ []))
-    (λ r. steps-append (ss r) _ (good r) (rest_good r i is (good' r)).0) (λ r. (rest_good r i is (good' r)).1) k e r)
-  where
-    go : (o : Option MarkedRegion) → stepped_region q i.region (region_in rs i.region) i.step ≡ o → option_and_then (λ x. regions_after q (with_region rs i.region x) is) o ≡ Some new
-        → ((x : MarkedRegion) → ((r : ℕ) → RegionStandsFor q r (region_in (with_region rs i.region x) r) (ss r ++ steps_on r (i ∷ []))) →
-        regions_after q (with_region rs i.region x) is ≡ Some new →
-        RegionStandsFor q r (region_in new r) ((ss r ++ steps_on r (i ∷ [])) ++ steps_on r is))
-        → RegionStandsFor q r (region_in new r) (ss r ++ steps_on r (i ∷ is))
-    go None k e ih = absurd cc
-    go (Some x) k e ih = subst (RegionStandsFor q r (region_in new r)) (own_split r (ss r) i is) (ih x (held_step q rs i x ss good (first_good i is good') h k) e)
+read_holds q rs new (i ∷ is) ss good good' h e r =
+    option_and_then_some (λ (x : MarkedRegion). regions_after q (with_region rs i.region x) is) (stepped_region q i.region (region_in rs i.region) i.step) new e
+    (λ x k e. subst (RegionStandsFor q r (region_in new r)) (own_split r (ss r) i is) (read_holds q (with_region rs i.region x) new is (λ r. ss r ++ steps_on r (i ∷ []))
+    (λ r. steps-append (ss r) _ (good r) (rest_good r i is (good' r)).0) (λ r. (rest_good r i is (good' r)).1) (held_step q rs i x ss good (first_good i is good') h k) e r))
 
 pub refused_more : (q : LogQueue) (r : ℕ) (ss rs : List Step) → after q r None ss ≡ None → after q r None (ss ++ rs) ≡ None
 refused_more q r ss rs e = after-append q r None ss rs ∙ ap (option_and_then (λ u. after q r u rs)) e
@@ -136,41 +111,30 @@ pub read_refused : (q : LogQueue) (rs : MarkedRegions) (is : List RegionStep) (s
     ((r : ℕ) → AreSteps (steps_on r is)) → ((r : ℕ) → RegionStandsFor q r (region_in rs r) (ss r)) → regions_after q rs is ≡ None →
     (r : ℕ) × (after q r None (ss r ++ steps_on r is) ≡ None)
 read_refused q rs [] ss good good' h e = absurd cc
-read_refused q rs (i ∷ is) ss good good' h e = go (after_step q (table_of i.region (region_in rs i.region).table) i.step) refl e
-    (λ x k e. read_refused q (with_region rs i.region x) is (λ r. ss r ++ steps_on r (i ∷ []))
-    (λ r. steps-append (ss r) _ (good r) (rest_good r i is (good' r)).0) (λ r. (rest_good r i is (good' r)).1) k e)
+read_refused q rs (i ∷ is) ss good good' h e =
+    then_none (λ (x : MarkedRegion). regions_after q (with_region rs i.region x) is) (stepped_region q i.region (region_in rs i.region) i.step) e
+    (λ k. (
+      i.region,
+      ap (after q i.region None) (sym (own_split i.region (ss i.region) i is) ∙ ap (λ l. (ss i.region ++ l) ++ steps_on i.region is) (own_first i))
+          ∙ refused_more q i.region (ss i.region ++ i.step ∷ []) (steps_on i.region is)
+          (refused_step q i.region (region_in rs i.region).mark (region_in rs i.region).table (ss i.region) i.step (h i.region).stands (map_none put (after_step q (table_of i.region (region_in rs i.region).table) i.step) k)),
+    ))
+    (λ x k e.
+    let p = read_refused q (with_region rs i.region x) is (λ r. ss r ++ steps_on r (i ∷ [])) (λ r. steps-append (ss r) _ (good r) (rest_good r i is (good' r)).0) (λ r. (rest_good r i is (good' r)).1)
+    (held_step q rs i x ss good (first_good i is good') h k) e in
+    (p.0, ap (after q p.0 None) (sym (own_split p.0 (ss p.0) i is)) ∙ p.1))
   where
     put : Option Table → MarkedRegion
     put t = record { mark = joined_mark q i.region (region_in rs i.region).mark (region_in rs i.region).table (mark_of i.step); table = t }
 
-    go : (o : Option (Option Table)) → after_step q (table_of i.region (region_in rs i.region).table) i.step ≡ o → option_and_then (λ x. regions_after q (with_region rs i.region x) is) (option_map put o) ≡ None
-        → ((x : MarkedRegion) → ((r : ℕ) → RegionStandsFor q r (region_in (with_region rs i.region x) r) (ss r ++ steps_on r (i ∷ []))) →
-        regions_after q (with_region rs i.region x) is ≡ None →
-        (r : ℕ) × (after q r None ((ss r ++ steps_on r (i ∷ [])) ++ steps_on r is) ≡ None))
-        → (r : ℕ) × (after q r None (ss r ++ steps_on r (i ∷ is)) ≡ None)
-    go None k e ih = (
-      i.region,
-      ap (after q i.region None) (sym (own_split i.region (ss i.region) i is) ∙ ap (λ l. (ss i.region ++ l) ++ steps_on i.region is) (own_first i))
-          ∙ refused_more q i.region (ss i.region ++ i.step ∷ []) (steps_on i.region is) (refused_step q i.region (region_in rs i.region).mark (region_in rs i.region).table (ss i.region) i.step (h i.region).stands k),
-    )
-    go (Some t) k e ih = let p = ih (put t) (held_step q rs i (put t) ss good (first_good i is good') h (ap (option_map put) k)) e in (p.0, ap (after q p.0 None) (sym (own_split p.0 (ss p.0) i is)) ∙ p.1)
-
 pub read_marked : (q : LogQueue) (rs new : MarkedRegions) (is : List RegionStep) → regions_after q rs is ≡ Some new → (r : ℕ) → is_some (finite.get new.marks r) ≡ (is_some (finite.get rs.marks r) || names r is)
-read_marked q rs new [] e r = sym (ap (λ (n : MarkedRegions). is_some (finite.get n.marks r)) (some_is e)) ∙ go (is_some (finite.get rs.marks r)) ∙ sym (ap (λ b. is_some (finite.get rs.marks r) || b) (names_none r))
-  where
-    go : (b : Bool) → b ≡ (b || false)
-    go true = refl
-    go false = refl
-read_marked q rs new (i ∷ is) e r = go (stepped_region q i.region (region_in rs i.region) i.step) e (λ x e. read_marked q (with_region rs i.region x) new is e r)
+read_marked q rs new [] e r = sym (ap (λ (n : MarkedRegions). is_some (finite.get n.marks r)) (some_is e)) ∙ sym (or-false (is_some (finite.get rs.marks r))) ∙ sym (ap (λ b. is_some (finite.get rs.marks r) || b) (names_none r))
+read_marked q rs new (i ∷ is) e r =
+    option_and_then_some (λ (x : MarkedRegion). regions_after q (with_region rs i.region x) is) (stepped_region q i.region (region_in rs i.region) i.step) new e
+    (λ x k e. read_marked q (with_region rs i.region x) new is e r ∙ ap (λ b. b || names r is) (marked_with rs i.region r x)
+    ∙ swap (eqb r i.region) (is_some (finite.get rs.marks r)) (names r is) ∙ sym (ap (λ b. is_some (finite.get rs.marks r) || b) (names_cons r i is)))
   where
     swap : (a b c : Bool) → ((a || b) || c) ≡ (b || (a || c))
     swap true true c = refl
     swap true false c = refl
     swap false b c = refl
-
-    go : (o : Option MarkedRegion) → option_and_then (λ x. regions_after q (with_region rs i.region x) is) o ≡ Some new →
-        ((x : MarkedRegion) → regions_after q (with_region rs i.region x) is ≡ Some new →
-        is_some (finite.get new.marks r) ≡ (is_some (finite.get (with_region rs i.region x).marks r) || names r is))
-        → is_some (finite.get new.marks r) ≡ (is_some (finite.get rs.marks r) || names r (i ∷ is))
-    go None e ih = absurd cc
-    go (Some x) e ih = ih x e ∙ ap (λ b. b || names r is) (marked_with rs i.region r x) ∙ swap (eqb r i.region) (is_some (finite.get rs.marks r)) (names r is) ∙ sym (ap (λ b. is_some (finite.get rs.marks r) || b) (names_cons r i is))

@@ -1,22 +1,13 @@
 -- Entries that were read from a file are a run of the file's queue.
-use Rattle.std.proofs.Common.{◌≡◌, true, false, List, [], ◌∷◌, Option, Some, None, refl, ap, ◌∙◌}
-use Rattle.std.specs.Option.{option_map_or}
-use Rattle.std.specs.List.{AllByRecursion}
-use Rattle.raft_base.specs.declared.pipe_log.FileBlockHandle.{FileBlockHandle}
-use Rattle.raft_base.specs.declared.pipe_log.FileId.{FileId}
-use Rattle.raft_base.specs.declared.pipe_log.LogQueue.{LogQueue}
+use Rattle.raft_history.proofs.Common.{◌≡◌, true, false, List, [], ◌∷◌, Option, Some, None, refl, ap, ◌∙◌, option_map_or, AllByRecursion, FileBlockHandle, FileId, LogQueue, EntryIndex, IsPlaceInFile}
+use Rattle.raft_history.proofs.Common.{IsDecodedIn, entries, is_same, IsRunIn, is_placed_in}
 use Rattle.raft_base.specs.declared.pipe_log.LogQueue.TheVariants.{Append, Rewrite}
-use Rattle.raft_base.specs.declared.entry_index.EntryIndex.{EntryIndex}
-use Rattle.raft_records.specs.DecodedIn.{IsPlaceInFile, IsDecodedIn}
-use Rattle.raft_records.specs.Item.{entries}
-use Rattle.raft_table.specs.Queues.{is_same}
-use Rattle.raft_table.specs.TableEntries.{IsRunIn, is_placed_in}
 
 same_queue : (q : LogQueue) → is_same q q ≡ true
 same_queue Append = refl
 same_queue Rewrite = refl
 
-is_in_queue : (file : FileId) (place : Option FileBlockHandle) → IsPlaceInFile file place → option_map_or (λ (place : FileBlockHandle). is_same place.id.queue file.queue) place false ≡ true
+pub is_in_queue : (file : FileId) (place : Option FileBlockHandle) → IsPlaceInFile file place → option_map_or (λ (place : FileBlockHandle). is_same place.id.queue file.queue) place false ≡ true
 is_in_queue file None h = absurd h
 is_in_queue file (Some handle) h = ap (λ (f : FileId). is_same f.queue file.queue) h ∙ same_queue file.queue
 

@@ -1,61 +1,36 @@
 -- Tables and waiting groups have no more records than the history names.
-use Rattle.std.proofs.Common.{◌≡◌, ℕ, ◌+◌, ◌-◌, ◌≤◌, Bool, true, false, cond, not, List, [], ◌∷◌, ◌++◌, length, filter, Option, Some, None, refl, sym, ap, ◌∙◌, arith, append-nil}
+use Rattle.raft_history.proofs.Common.{accepted_is, cond_both, map_some, option_and_then_some, subst, some_is, ◌≡◌, ℕ, ◌+◌, ◌-◌, ◌≤◌, Bool, true, false, cond, not, List, [], ◌∷◌, ◌++◌, length, Option}
+use Rattle.raft_history.proofs.Common.{Some, None, refl, sym, ap, ◌∙◌, arith, append-nil, Ordering, option_map, nat_lt, nat_le, nat_cmp, slice_cmp, nat_list_cmp_total, is_sorted}
+use Rattle.raft_history.proofs.Common.{slice_cmp-IsAntisymmetric, nat_cmp-IsAntisymmetric, where_key, is_sorted-where_key, find-where_key, length-append, LogQueue, EntryIndex, below, from, KeySet}
+use Rattle.raft_history.proofs.Common.{without, Keys, Stored, with_pairs, pairs_over, Mark, entries_within, older_entries, atomic_group_over, table_over, is_refused_over, is_missed, is_there_over}
+use Rattle.raft_history.proofs.Common.{there_if, table_over_older, joined_mark, mark_of, entries_after_replay, leaves_hole, Step, Run, Compact, Truncate, Put, Del, AtomicGroup, after_step, table_of}
+use Rattle.raft_history.proofs.Common.{Table, empty_table, AtomicGroupStatus, GroupMarker, Event, batch_of, Context, merged_with, completed_steps, region_steps_or, taken_with, IsBounded, AreMerged}
+use Rattle.raft_history.proofs.Common.{records_of, records_in, MarkedRegions, MarkedRegion, region_in, with_region, regions_after, named_regions, on_each, region_steps_of_whole}
+use Rattle.raft_history.proofs.Common.{region_steps_of_wholes, Marks, joined_marked, records_or, records_in_wholes, waiting_records, table_records, all_records, RegionStep, Tables, with_table}
+use Rattle.raft_history.proofs.Common.{steps_of_items, joined_group, WaitingGroup, WholeGroup, whole_group, one_marker, known_of, groups_after, whole_groups, held_steps}
+use Rattle.std.proofs.Common.{filter}
 use lib.Dec.{T}
-use Rattle.std.specs.declared.cmp.Ordering.{Ordering}
 use Rattle.std.specs.declared.cmp.Ordering.TheVariants.{Equal}
-use Rattle.std.specs.Prelude.{option_map, nat_lt, nat_le}
-use Rattle.std.specs.Option.{option_and_then}
-use Rattle.std.specs.Ordering.{nat_cmp}
-use Rattle.std.specs.Cmp.Lexicographic.{slice_cmp, nat_list_cmp_total}
 use Rattle.std.specs.FinMap as finite
-use Rattle.std.specs.FinMap.{is_sorted, slice_cmp-IsAntisymmetric, nat_cmp-IsAntisymmetric}
-use Rattle.std.specs.FinMap.Entries.{where_key, is_sorted-where_key, find-where_key}
 use Rattle.std.specs.FinSet as finset
-use Rattle.std.proofs.lemmas.List.{length-append}
-use Rattle.raft_base.specs.declared.pipe_log.LogQueue.{LogQueue}
 use Rattle.raft_base.specs.declared.pipe_log.LogQueue.TheVariants.{Append, Rewrite}
-use Rattle.raft_base.specs.declared.entry_index.EntryIndex.{EntryIndex}
-use Rattle.raft_table.specs.TableEntries.{below, from}
-use Rattle.raft_table.specs.KeySets.{KeySet, without}
-use Rattle.raft_table.specs.KeyValues.{Keys, Stored, with_pairs, pairs_over}
-use Rattle.raft_table.specs.Marks.{Mark, entries_within, older_entries, atomic_group_over, table_over, is_refused_over, is_missed, is_there_over, there_if, table_over_older}
-use Rattle.raft_table.specs.MarkJoins.{joined_mark, mark_of}
-use Rattle.raft_table.specs.Start.{entries_after_replay, leaves_hole}
-use Rattle.raft_table.specs.Steps.{Step, Run, Compact, Truncate, Put, Del, AtomicGroup, Clean, after_step, table_of}
-use Rattle.raft_table.specs.Table.{Table, empty_table}
-use Rattle.raft_records.specs.declared.atomic_group.AtomicGroupStatus.{AtomicGroupStatus}
 use Rattle.raft_records.specs.declared.atomic_group.AtomicGroupStatus.TheVariants.{Begin, Middle, End}
-use Rattle.raft_history.specs.Batches.{GroupMarker, Event, batch_of}
-use Rattle.raft_history.specs.Contexts.{Context, merged_with, completed_steps, region_steps_or, taken_with, IsBounded, AreMerged}
-use Rattle.raft_history.specs.Histories.{records_of, records_in}
-use Rattle.raft_history.specs.MarkedRegions.{MarkedRegions, MarkedRegion, region_in, with_region, regions_after, named_regions, on_each, region_steps_of_whole, region_steps_of_wholes, Marks, joined_marked}
-use Rattle.raft_history.specs.Records.{records_or, records_in_wholes, waiting_records, table_records, all_records}
-use Rattle.raft_history.specs.RegionSteps.{RegionStep, Tables, with_table, steps_of_items}
-use Rattle.raft_history.specs.WaitingGroup.{joined_group, WaitingGroup, WholeGroup, whole_group, one_marker}
-use Rattle.raft_history.specs.WaitingGroups.{known_of, groups_after, whole_groups, held_steps}
 use Rattle.raft_history.proofs.TotalLemmas.{found, total-insert, total-remove, total-both}
 use Rattle.raft_history.proofs.WaitingLemmas.{records-append, joined_weight, waiting_known, merged_waiting}
-
-some_is : {X : Type 0} {x y : X} → Some x ≡ Some y → x ≡ y
-some_is e = cc
 
 -- ---- lists and keys
 
 filtered : {X : Type 0} (p : X → Bool) (xs : List X) → length (filter p xs) ≤ length xs
 filtered p [] = omega arith
-filtered p (x ∷ xs) = go (p x) (filtered p xs)
-  where
-    go : (b : Bool) → length (filter p xs) ≤ length xs → length (cond b (x ∷ filter p xs) (filter p xs)) ≤ length (x ∷ xs)
-    go true h = omega (arith, h)
-    go false h = omega (arith, h)
+filtered p (x ∷ xs) =
+    let rest : length (filter p xs) ≤ length xs = filtered p xs in
+    cond_both (p x) (x ∷ filter p xs) (filter p xs) (λ l. length l ≤ length (x ∷ xs)) (λ t. omega (arith, rest)) (λ t. omega (arith, rest))
 
 where_shorter : {K X : Type 0} (R : K → K → Ordering) (p : K → Bool) (es : List (K × X)) → length (where_key R p es) ≤ length es
 where_shorter R p [] = omega arith
-where_shorter R p (e ∷ es) = go (p e.0) (where_shorter R p es)
-  where
-    go : (b : Bool) → length (where_key R p es) ≤ length es → length (cond b (e ∷ where_key R p es) (where_key R p es)) ≤ length (e ∷ es)
-    go true h = omega (arith, h)
-    go false h = omega (arith, h)
+where_shorter R p (e ∷ es) =
+    let rest : length (where_key R p es) ≤ length es = where_shorter R p es in
+    cond_both (p e.0) (e ∷ where_key R p es) (where_key R p es) (λ l. length l ≤ length (e ∷ es)) (λ t. omega (arith, rest)) (λ t. omega (arith, rest))
 
 len_without : (d : KeySet) (o : Keys) → finite.len (without d o) ≤ finite.len o
 unfolding without
@@ -124,16 +99,10 @@ part_shorter floor cut es = filtered _ es
 
 run_records : (q : LogQueue) (es run after : List EntryIndex) → entries_after_replay q es run ≡ Some after → length after ≤ length es + length run
 run_records q es [] after e = omega (arith, ap length (some_is e))
-run_records Append es (x ∷ run) after e = go (leaves_hole es x.index) e
-  where
-    go : (b : Bool) → cond b None (Some (below x.index es ++ x ∷ run)) ≡ Some after → length after ≤ length es + length (x ∷ run)
-    go true e = absurd cc
-    go false e = omega (arith, ap length (some_is e), length-append (below x.index es) (x ∷ run), below_shorter x.index es)
-run_records Rewrite es (x ∷ run) after e = go (leaves_hole es x.index) e
-  where
-    go : (b : Bool) → Some (cond b (x ∷ run) (below x.index es ++ x ∷ run)) ≡ Some after → length after ≤ length es + length (x ∷ run)
-    go true e = omega (arith, ap length (some_is e))
-    go false e = omega (arith, ap length (some_is e), length-append (below x.index es) (x ∷ run), below_shorter x.index es)
+run_records Append es (x ∷ run) after e =
+    omega (arith, ap length (accepted_is (leaves_hole es x.index) (below x.index es ++ x ∷ run) after e), length-append (below x.index es) (x ∷ run), below_shorter x.index es)
+run_records Rewrite es (x ∷ run) after e = subst (λ l. length l ≤ length es + length (x ∷ run)) (some_is e)
+    (cond_both (leaves_hole es x.index) (x ∷ run) (below x.index es ++ x ∷ run) (λ l. length l ≤ length es + length (x ∷ run)) (λ t. omega arith) (λ t. omega (arith, length-append (below x.index es) (x ∷ run), below_shorter x.index es)))
 
 there_records : (b : Bool) (o : Option Table) (w : Option Table) (n : ℕ) → there_if b o ≡ Some w → ((x : Table) → o ≡ Some x → table_records x ≤ n) → recs w ≤ n
 there_records b None w n e h = absurd cc
@@ -150,16 +119,11 @@ step_records q r o w (Compact i) e = omega (arith, ap recs (some_is e), from_sho
 step_records q r o w (Truncate i) e = omega (arith, ap recs (some_is e), below_shorter i (table_of r o).entries, of_table r o)
 step_records q r o w (Put key value file) e = omega (arith, ap recs (some_is e), len_insert (table_of r o).keys key (record { value = value; file = file }), of_table r o)
 step_records q r o w (Del key) e = omega (arith, ap recs (some_is e), len_remove (table_of r o).keys key, of_table r o)
-step_records q r o w (AtomicGroup first_seq last_seq) e = omega (arith, ap recs (some_is e), of_table r o)
-step_records q r o w Clean e = omega (arith, ap recs (some_is e))
+step_records q r o w _ e = omega (arith, ap recs (some_is e), of_table r o)
 
 older_shorter : (q : LogQueue) (m : Mark) (es : List EntryIndex) → length (older_entries q m es) ≤ length es
 older_shorter Append m es = part_shorter m.floor m.cut es
-older_shorter Rewrite m es = go (is_missed m es)
-  where
-    go : (b : Bool) → length (cond b [] (entries_within m.floor m.cut es)) ≤ length es
-    go true = omega arith
-    go false = part_shorter m.floor m.cut es
+older_shorter Rewrite m es = cond_both (is_missed m es) [] (entries_within m.floor m.cut es) (λ l. length l ≤ length es) (λ t. omega arith) (λ t. part_shorter m.floor m.cut es)
 
 over_records : (q : LogQueue) (m : Mark) (t o x : Table) → table_over q m t o ≡ Some x → table_records x ≤ table_records o + table_records t
 over_records q m t o x e = go (is_refused_over q m o.entries) m.cleaned refl e
@@ -195,17 +159,14 @@ with_records m r (Some t) = total-insert table_records m r t
 
 pub read_records : (q : LogQueue) (rs new : MarkedRegions) (is : List RegionStep) → regions_after q rs is ≡ Some new → all_records new.tables ≤ all_records rs.tables + records_in is
 read_records q rs new [] e = omega (arith, ap (λ (n : MarkedRegions). all_records n.tables) (some_is e))
-read_records q rs new (i ∷ is) e = go (after_step q (table_of i.region (finite.get rs.tables i.region)) i.step) refl e (λ x e. read_records q (with_region rs i.region x) new is e)
+read_records q rs new (i ∷ is) e =
+    option_and_then_some (λ (x : MarkedRegion). regions_after q (with_region rs i.region x) is) (option_map put (after_step q (table_of i.region (finite.get rs.tables i.region)) i.step)) new e
+    (λ x is' e. map_some put (after_step q (table_of i.region (finite.get rs.tables i.region)) i.step) x is' (λ t k p.
+    let rest : all_records new.tables ≤ all_records (with_table rs.tables i.region x.table) + records_in is = read_records q (with_region rs i.region x) new is e in
+    omega (arith, rest, with_records rs.tables i.region x.table, step_records q i.region (finite.get rs.tables i.region) t i.step k, ap (λ (x : MarkedRegion). recs x.table) p)))
   where
     put : Option Table → MarkedRegion
     put t = record { mark = joined_mark q i.region (region_in rs i.region).mark (region_in rs i.region).table (mark_of i.step); table = t }
-
-    go : (o : Option (Option Table)) → after_step q (table_of i.region (finite.get rs.tables i.region)) i.step ≡ o → option_and_then (λ x. regions_after q (with_region rs i.region x) is) (option_map put o) ≡ Some new
-        → ((x : MarkedRegion) → regions_after q (with_region rs i.region x) is ≡ Some new →
-        all_records new.tables ≤ all_records (with_table rs.tables i.region x.table) + records_in is) →
-        all_records new.tables ≤ all_records rs.tables + records_in (i ∷ is)
-    go None k e ih = absurd cc
-    go (Some t) k e ih = omega (arith, ih (put t) e, with_records rs.tables i.region t, step_records q i.region (finite.get rs.tables i.region) t i.step k)
 
 -- two neighbors, joined region by region
 joined_records : (q : LogQueue) (mid : MarkedRegions) (marks : Marks) (tables : Tables) (new : MarkedRegions) →
@@ -215,13 +176,9 @@ joined_records q mid marks tables new h = total-both table_records new.tables mi
   where
     at : (r : ℕ) (o : Option Mark) → joined_marked q r o (finite.get tables r) (region_in mid r) ≡ Some (region_in new r) → recs (finite.get new.tables r) ≤ recs (finite.get mid.tables r) + recs (finite.get tables r)
     at r None e = omega (arith, ap (λ (x : MarkedRegion). recs x.table) (some_is e))
-    at r (Some m) e = go (table_over_older q r m (finite.get tables r) (finite.get mid.tables r)) refl e
-      where
-        go : (o : Option (Option Table)) → table_over_older q r m (finite.get tables r) (finite.get mid.tables r) ≡ o →
-            option_map {U = MarkedRegion} (λ t. record { mark = joined_mark q r (region_in mid r).mark (finite.get mid.tables r) m; table = t })
-            o ≡ Some (region_in new r) → recs (finite.get new.tables r) ≤ recs (finite.get mid.tables r) + recs (finite.get tables r)
-        go None k e = absurd cc
-        go (Some w) k e = omega (arith, join_records q r m (finite.get tables r) (finite.get mid.tables r) w k, ap (λ (x : MarkedRegion). recs x.table) (some_is e))
+    at r (Some m) e = map_some {B = MarkedRegion} (λ t. record { mark = joined_mark q r (region_in mid r).mark (finite.get mid.tables r) m; table = t })
+        (table_over_older q r m (finite.get tables r) (finite.get mid.tables r)) (region_in new r) e
+        (λ w k p. omega (arith, join_records q r m (finite.get tables r) (finite.get mid.tables r) w k, ap (λ (x : MarkedRegion). recs x.table) p))
 
 spans-records : (rs : List ℕ) (first_seq last_seq : ℕ) → records_in (on_each rs (AtomicGroup first_seq last_seq)) ≡ 0
 spans-records [] s e = refl

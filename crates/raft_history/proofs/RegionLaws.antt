@@ -1,52 +1,26 @@
 -- That marks and tables of regions stand for some steps, kept by steps and joins; and overlays by exact marks.
-use Rattle.std.proofs.Common.{◌≡◌, ℕ, cond, ◌||◌, List, [], ◌∷◌, ◌++◌, Option, Some, None, refl, sym, ap, subst, ◌∙◌}
-use Rattle.std.specs.Prelude.{is_some}
-use Rattle.std.specs.List.{AllByRecursion}
-use Rattle.std.specs.Option.{unwrap_or}
-use Rattle.std.specs.Ordering.{nat_cmp}
+use Rattle.raft_history.proofs.Common.{some_is, ◌≡◌, ℕ, cond, ◌||◌, List, [], ◌++◌, Option, Some, None, refl, sym, ap, subst, ◌∙◌, is_some, AllByRecursion, unwrap_or, nat_cmp, FileId, LogQueue, Item}
+use Rattle.raft_history.proofs.Common.{Mark, fresh, has_clean, kept_if, overlay_under, overlaid_table, IsExactMark, Step, Run, IsStep, AreSteps, table_of, Table, overlay_exact, Event, BatchSteps}
+use Rattle.raft_history.proofs.Common.{batches, RegionStandsFor, AreExact, steps_of, is_named, AreInFile, IsStepOfQueue, StandForSteps, AreJoined, overlaid_region, MarkedRegions, MarkedRegion}
+use Rattle.raft_history.proofs.Common.{no_regions, region_in, regions_after, region_steps_of_whole, joined_marked, RegionStep, steps_on, steps_of_items, WholeGroup}
 use Rattle.std.specs.FinMap as finite
-use Rattle.raft_base.specs.declared.pipe_log.FileId.{FileId}
-use Rattle.raft_base.specs.declared.pipe_log.LogQueue.{LogQueue}
 use Rattle.raft_base.specs.declared.pipe_log.LogQueue.TheVariants.{Append}
-use Rattle.raft_records.specs.Item.{Item}
-use Rattle.raft_table.specs.Marks.{Mark}
-use Rattle.raft_table.specs.MarkJoins.{fresh}
-use Rattle.raft_table.specs.Overlay.{has_clean, kept_if, overlay_under, overlaid_table, IsExactMark}
-use Rattle.raft_table.specs.Steps.{Step, Run, Compact, Truncate, Put, Del, AtomicGroup, Clean, IsStep, AreSteps, table_of}
-use Rattle.raft_table.specs.Table.{Table}
-use Rattle.raft_table.proofs.OverlayLemmas.{overlay_exact}
-use Rattle.raft_history.specs.Batches.{Event, BatchSteps, batches}
-use Rattle.raft_history.specs.Contexts.{RegionStandsFor, AreExact}
-use Rattle.raft_history.specs.Effects.{steps_of, is_named}
 use Rattle.raft_history.proofs.Words.{AreInFiles}
-use Rattle.raft_history.specs.Histories.{AreInFile, IsStepOfQueue}
-use Rattle.raft_history.specs.Joins.{StandForSteps, AreJoined, overlaid_region}
-use Rattle.raft_history.specs.MarkedRegions.{MarkedRegions, MarkedRegion, no_regions, region_in, regions_after, region_steps_of_whole, joined_marked}
-use Rattle.raft_history.specs.RegionSteps.{RegionStep, steps_on, steps_of_items}
-use Rattle.raft_history.specs.WaitingGroup.{WholeGroup}
+use Rattle.raft_history.proofs.EffectLemmas.{each_weaker}
 use Rattle.raft_history.proofs.QueueLemmas.{items_in_queue, whole_in_queue}
 use Rattle.raft_history.proofs.ReadLemmas.{holds_none, holds_joined, read_holds}
 use Rattle.raft_history.proofs.SoundLemmas.{own_good, steps_good}
 use Rattle.raft_history.proofs.StepListLemmas.{steps-append}
-
-some_is : {X : Type 0} {x y : X} → Some x ≡ Some y → x ≡ y
-some_is e = cc
 
 abbrev AreOf : LogQueue → List RegionStep → Type 0
 AreOf q steps = AllByRecursion (λ (s : RegionStep). IsStepOfQueue q s.step) steps
 
 step_good : (q : LogQueue) (s : Step) → IsStepOfQueue q s → IsStep s
 step_good q (Run run) h = h.consecutive.run
-step_good q (Compact i) h = tt
-step_good q (Truncate i) h = tt
-step_good q (Put key value file) h = tt
-step_good q (Del key) h = tt
-step_good q (AtomicGroup first_seq last_seq) h = tt
-step_good q Clean h = tt
+step_good q _ h = tt
 
 are_good : (q : LogQueue) (steps : List RegionStep) → AreOf q steps → AllByRecursion (λ (s : RegionStep). IsStep s.step) steps
-are_good q [] h = tt
-are_good q (s ∷ steps) h = (step_good q s.step h.0, are_good q steps h.1)
+are_good q steps h = each_weaker (λ s. IsStepOfQueue q s.step) (λ s. IsStep s.step) (λ s k. step_good q s.step k) steps h
 
 pub stand_none : (q : LogQueue) → StandForSteps q no_regions
 stand_none q r = ([], tt, holds_none q r (region_in no_regions r) (ap (λ m. unwrap_or m fresh) (finite.get-empty nat_cmp r)) (finite.get-empty nat_cmp r))

@@ -1,22 +1,13 @@
 -- What both queues give together where the append queue had each rewritten record.
-use Rattle.std.proofs.Common.{◌≡◌, ℕ, Bool, true, false, cond, List, [], ◌∷◌, ◌++◌, Some, None, refl, sym, ap, subst, ◌∙◌}
-use Rattle.std.specs.List.{AllByRecursion}
+use Rattle.raft_history.proofs.Common.{some_is, ◌≡◌, ℕ, Bool, true, false, cond, List, [], ◌∷◌, ◌++◌, Some, None, refl, sym, ap, subst, ◌∙◌, AllByRecursion, EntryIndex, Stored, overlaid_table, Step}
+use Rattle.raft_history.proofs.Common.{Run, Put, table_of, after, entry_at, last_entry_stands, last_pair_stands, Event, BatchSteps, batches, IsReadingOfBoth, is_named, steps_of, IsSoundIn}
+use Rattle.raft_history.proofs.Common.{IsOneReading, RegionStep, Tables, steps_of_items, AreRewrittenFrom, HadEntry, HadTables, HaveSameRecords, IsStepHad}
 use Rattle.std.specs.FinMap as finite
-use Rattle.raft_base.specs.declared.entry_index.EntryIndex.{EntryIndex}
 use Rattle.raft_base.specs.declared.pipe_log.LogQueue.TheVariants.{Append, Rewrite}
-use Rattle.raft_table.specs.KeyValues.{Stored}
-use Rattle.raft_table.specs.Overlay.{overlaid_table}
-use Rattle.raft_table.specs.Steps.{Step, Run, Compact, Truncate, Put, Del, AtomicGroup, Clean, table_of, after}
-use Rattle.raft_table.specs.TableEntries.{entry_at}
-use Rattle.raft_table.proofs.LastWordLemmas.{last_entry_stands, last_pair_stands}
-use Rattle.raft_history.proofs.RewrittenLemmas.{HasSameRecords, Indexes, IsReached, IsSpoken, IsSpokenTable, IsStepWithin, any_front, entries_stay_within, entry_reached, overlay_same, pair_spoken, pairs_stay_within, unnamed_same}
-use Rattle.raft_history.specs.Batches.{Event, BatchSteps, batches}
-use Rattle.raft_history.specs.BothQueues.{IsReadingOfBoth}
-use Rattle.raft_history.specs.Effects.{is_named, steps_of}
-use Rattle.raft_history.specs.Histories.{IsSoundIn, IsOneReading}
-use Rattle.raft_history.specs.RegionSteps.{RegionStep, Tables, steps_of_items}
-use Rattle.raft_history.specs.RewrittenRecords.{AreRewrittenFrom, HadEntry, HadTables, HaveSameRecords, IsStepHad}
+use Rattle.raft_history.proofs.RewrittenLemmas.{HasSameRecords, Indexes, IsReached, IsSpoken, IsSpokenTable, IsStepWithin, any_front, entries_stay_within, entry_reached, overlay_same, pair_spoken}
+use Rattle.raft_history.proofs.RewrittenLemmas.{pairs_stay_within, unnamed_same}
 use Rattle.raft_history.proofs.EachStepLemmas.{each_step_of}
+use Rattle.raft_history.proofs.EffectLemmas.{each_weaker}
 use Rattle.raft_history.proofs.SoundLemmas.{steps_good}
 use Rattle.raft_history.proofs.StretchOfHistory.{plain-append, sound_in_front, sound_in_back}
 use Rattle.raft_history.proofs.WithoutMarkers.{named-steps}
@@ -46,17 +37,12 @@ module _ (append : List Event) (sound : IsSoundIn Append append) where
         subst (λ ss. IsSpoken ss key) (sym (parted r)) (any_front _ (steps_of r (batches had.front)) (steps_of r (batches had.back)) (pair_spoken key (steps_of r (batches had.front)) s (sym last ∙ there)))
 
   run_within : (r : ℕ) (run : List EntryIndex) → AllByRecursion (λ (e : EntryIndex). HadEntry append r e.index) run → Indexes (IsReached (steps r)) run
-  run_within r [] h = tt
-  run_within r (e ∷ run) h = (entry_had h.0.tables h.0.had r e.index h.0.entry h.0.there, run_within r run h.1)
+  run_within r run h = each_weaker (λ e. HadEntry append r e.index) (λ e. IsReached (steps r) e.index) (λ e k. entry_had k.tables k.had r e.index k.entry k.there) run h
 
   step_within : (r : ℕ) (s : Step) → IsStepHad append r s → IsStepWithin (IsReached (steps r)) (IsSpoken (steps r)) s
   step_within r (Run run) h = run_within r run h
   step_within r (Put key value file) h = key_had h.tables h.had r key h.stored h.there
-  step_within r (Compact i) h = tt
-  step_within r (Truncate i) h = tt
-  step_within r (Del key) h = tt
-  step_within r (AtomicGroup a b) h = tt
-  step_within r Clean h = tt
+  step_within r _ h = tt
 
   own_within : (r : ℕ) (s : RegionStep) → IsStepHad append s.region s.step → s.region ≡ r → IsStepWithin (IsReached (steps r)) (IsSpoken (steps r)) s.step
   own_within r s h e = step_within r s.step (subst (λ q. IsStepHad append q s.step) e h)
@@ -64,8 +50,7 @@ module _ (append : List Event) (sound : IsSoundIn Append append) where
   module _ (rewrite : List Event) (from : AreRewrittenFrom append rewrite) where
     items_within : (r : ℕ) (is : List RegionStep) → AllByRecursion (λ (s : RegionStep). IsStepHad append s.region s.step) is →
         AllByRecursion (λ (s : RegionStep). s.region ≡ r → IsStepWithin (IsReached (steps r)) (IsSpoken (steps r)) s.step) is
-    items_within r [] h = tt
-    items_within r (s ∷ is) h = (own_within r s h.0, items_within r is h.1)
+    items_within r is h = each_weaker (λ s. IsStepHad append s.region s.step) (λ s. s.region ≡ r → IsStepWithin (IsReached (steps r)) (IsSpoken (steps r)) s.step) (λ s k. own_within r s k) is h
 
     batches_within : (r : ℕ) (h : List Event) → AllByRecursion (λ (e : Event). AllByRecursion (λ (s : RegionStep). IsStepHad append s.region s.step) (steps_of_items e.items)) h
         → AllByRecursion (λ (b : BatchSteps). AllByRecursion (λ (s : RegionStep). s.region ≡ r → IsStepWithin (IsReached (steps r)) (IsSpoken (steps r)) s.step) b.steps) (batches h)
@@ -106,6 +91,3 @@ module _ (append : List Event) (sound : IsSoundIn Append append) where
         entries = λ r. (one r).entries ∙ ap (λ o. (table_of r o).entries) (alike r);
         keys = λ r. (one r).keys ∙ ap (λ o. (table_of r o).keys) (alike r);
       }
-    where
-      some_is : {X : Type 0} {x y : X} → Some x ≡ Some y → x ≡ y
-      some_is e = cc

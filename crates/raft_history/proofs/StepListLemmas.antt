@@ -1,9 +1,6 @@
 -- Lists of steps, and the steps on one region.
-use Rattle.std.proofs.Common.{◌≡◌, ℕ, Bool, true, false, cond, eqb, ◌||◌, List, [], ◌∷◌, ◌++◌, refl, ap, ◌∙◌}
-use Rattle.std.specs.Prelude.{map, filter}
-use Rattle.std.proofs.lemmas.Bool.{eq-eqb}
-use Rattle.raft_table.specs.Steps.{Step, AreSteps}
-use Rattle.raft_history.specs.RegionSteps.{RegionStep, names, steps_on}
+use Rattle.raft_history.proofs.Common.{filter-append, map-append, ◌≡◌, ℕ, true, false, cond, eqb, ◌||◌, List, [], ◌∷◌, ◌++◌, refl, ap, ◌∙◌, map, filter, eq-eqb, Step, AreSteps, RegionStep, names}
+use Rattle.raft_history.proofs.Common.{steps_on}
 use Rattle.raft_history.proofs.Words.{is_on}
 
 pub eqb_self : (r : ℕ) → eqb r r ≡ true
@@ -21,15 +18,17 @@ pub steps_right : (ss rs : List Step) → AreSteps (ss ++ rs) → AreSteps rs
 steps_right [] rs a = a
 steps_right (s ∷ ss) rs a = steps_right ss rs a.1
 
+pub head_none : (xs ys : List Step) → xs ++ ys ≡ [] → xs ≡ []
+head_none [] ys e = refl
+head_none (x ∷ xs) ys e = cc
+
+pub tail_none : (xs ys : List Step) → xs ++ ys ≡ [] → ys ≡ []
+tail_none [] ys e = e
+tail_none (x ∷ xs) ys e = cc
+
 pub own-append : (r : ℕ) (is js : List RegionStep) → steps_on r (is ++ js) ≡ steps_on r is ++ steps_on r js
 unfolding steps_on
-own-append r [] js = refl
-own-append r (i ∷ is) js = go (is_on r i) (own-append r is js)
-  where
-    go : (b : Bool) → map (λ i. i.step) (filter (is_on r) (is ++ js)) ≡ map (λ i. i.step) (filter (is_on r) is) ++ map (λ i. i.step) (filter (is_on r) js)
-        → map (λ i. i.step) (cond b (i ∷ filter (is_on r) (is ++ js)) (filter (is_on r) (is ++ js))) ≡ map (λ i. i.step) (cond b (i ∷ filter (is_on r) is) (filter (is_on r) is)) ++ map (λ i. i.step) (filter (is_on r) js)
-    go true ih = ap (λ l. i.step ∷ l) ih
-    go false ih = ih
+own-append r is js = ap (map (λ (i : RegionStep). i.step)) (filter-append (is_on r) is js) ∙ map-append (λ (i : RegionStep). i.step) (filter (is_on r) is) (filter (is_on r) js)
 
 pub own_none : (r : ℕ) → steps_on r [] ≡ []
 unfolding steps_on
@@ -37,11 +36,10 @@ own_none r = refl
 
 pub own_cons : (r : ℕ) (i : RegionStep) (is : List RegionStep) → steps_on r (i ∷ is) ≡ cond (eqb r i.region) (i.step ∷ steps_on r is) (steps_on r is)
 unfolding steps_on
-own_cons r i is = go (eqb r i.region)
-  where
-    go : (b : Bool) → map (λ i. i.step) (cond b (i ∷ filter (is_on r) is) (filter (is_on r) is)) ≡ cond b (i.step ∷ map (λ i. i.step) (filter (is_on r) is)) (map (λ i. i.step) (filter (is_on r) is))
-    go true = refl
-    go false = refl
+own_cons r i is = elim (eqb r i.region) as (λ b. map (λ i. i.step) (cond b (i ∷ filter (is_on r) is) (filter (is_on r) is)) ≡ cond b (i.step ∷ map (λ i. i.step) (filter (is_on r) is)) (map (λ i. i.step) (filter (is_on r) is))) [
+  | true ↦ refl
+  | false ↦ refl
+]
 
 pub own_head : (i : RegionStep) (is : List RegionStep) → steps_on i.region (i ∷ is) ≡ i.step ∷ steps_on i.region is
 own_head i is = own_cons i.region i is ∙ ap (λ b. cond b (i.step ∷ steps_on i.region is) (steps_on i.region is)) (eqb_self i.region)

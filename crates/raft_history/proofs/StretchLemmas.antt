@@ -1,15 +1,11 @@
 -- The effects are those of the group markers' own words.
-use Rattle.std.proofs.Common.{◌≡◌, ℕ, suc, ◌≤◌, Bool, true, false, cond, ◌&&◌, List, [], ◌∷◌, ◌++◌, Option, Some, None, refl, sym, ap, subst, ◌∙◌, inl, inr, append_assoc, arith}
-use Rattle.std.proofs.lemmas.Bool.{eqb-true, eq-eqb}
-use Rattle.std.specs.Prelude.{filter}
-use Rattle.std.specs.List.{AllByRecursion}
-use Rattle.raft_records.specs.declared.atomic_group.AtomicGroupStatus.{AtomicGroupStatus}
+use Rattle.raft_history.proofs.Common.{and_parts, cond_both, ◌≡◌, ℕ, suc, ◌≤◌, Bool, true, false, cond, ◌&&◌, List, [], ◌∷◌, ◌++◌, Option, Some, None, refl, sym, ap, subst, ◌∙◌, inl, inr}
+use Rattle.raft_history.proofs.Common.{append_assoc, arith, eqb-true, eq-eqb, filter, AllByRecursion, AtomicGroupStatus, GroupMarker, BatchSteps, Effect, completed_as, completed_by, effects_behind}
+use Rattle.raft_history.proofs.Common.{effects, has_status, Numbered, numbered_from, is_of, markers_of, is_same_status, open_stretch, IsIn, IsMarkerOf, IsStretch, IsAlone, IsEffect, RiseFrom}
+use Rattle.raft_history.proofs.Common.{AreEffects}
 use Rattle.raft_records.specs.declared.atomic_group.AtomicGroupStatus.TheVariants.{Begin, Middle, End}
-use Rattle.raft_history.specs.Batches.{GroupMarker, BatchSteps}
-use Rattle.raft_history.specs.Effects.{Effect, completed_as, completed_by, effects_behind, effects, has_status, Numbered, numbered_from, is_of, markers_of, is_same_status, open_stretch}
 use Rattle.raft_history.proofs.Words.{are_middles}
-use Rattle.raft_history.specs.Stretches.{IsIn, IsMarkerOf, IsStretch, IsAlone, IsEffect, RiseFrom, AreEffects}
-use Rattle.raft_history.proofs.EffectLemmas.{each-append, effects_behind-append}
+use Rattle.raft_history.proofs.EffectLemmas.{by_completed, each-append, each_weaker, effects_behind-append}
 use Rattle.raft_history.proofs.MarkerLemmas.{markers_of-append, open_stretch-append}
 
 -- what of markers of one group is a Begin and Middles
@@ -19,49 +15,36 @@ HasMarker g p = is_of g p.batch.marker ≡ true
 pub each_marked : (g : ℕ) (ps : List Numbered) → AllByRecursion (HasMarker g) (markers_of g ps)
 unfolding markers_of
 each_marked g [] = tt
-each_marked g (p ∷ ps) = go (is_of g p.batch.marker) refl (each_marked g ps)
-  where
-    go : (b : Bool) → is_of g p.batch.marker ≡ b → AllByRecursion (HasMarker g) (filter (λ p. is_of g p.batch.marker) ps) →
-        AllByRecursion (HasMarker g) (cond b (p ∷ filter (λ p. is_of g p.batch.marker) ps) (filter (λ p. is_of g p.batch.marker) ps))
-    go true e h = (e, h)
-    go false e h = h
+each_marked g (p ∷ ps) = cond_both (is_of g p.batch.marker) (p ∷ filter (λ p. is_of g p.batch.marker) ps) (filter (λ p. is_of g p.batch.marker) ps) (AllByRecursion (HasMarker g)) (λ e. (e, each_marked g ps)) (λ e. each_marked g ps)
 
 -- the marker of a batch, by the tests
-is_begin : (g : ℕ) (p : Numbered) → HasMarker g p → has_status Begin p.batch.marker ≡ true → IsMarkerOf g Begin p
-is_begin g p h b = go p.batch.marker h b
+is_marker : (g : ℕ) (s : AtomicGroupStatus) (p : Numbered) → HasMarker g p → has_status s p.batch.marker ≡ true → IsMarkerOf g s p
+is_marker g s p h b = go p.batch.marker h b
   where
-    go : (m : Option GroupMarker) → is_of g m ≡ true → has_status Begin m ≡ true → m ≡ Some record { group = g; status = Begin }
-    go None h b = cc
-    go (Some m) h b = at m.status b
-      where
-        at : (s : AtomicGroupStatus) → is_same_status Begin s ≡ true → ◌≡◌ {A = Option GroupMarker} (Some record { group = m.group; status = s }) (Some record { group = g; status = Begin })
-        at Begin b = ap (λ x. Some record { group = x; status = Begin }) (sym (eqb-true g m.group h))
-        at Middle b = cc
-        at End b = cc
+    same : (s t : AtomicGroupStatus) → is_same_status s t ≡ true → t ≡ s
+    same Begin Begin e = refl
+    same Middle Middle e = refl
+    same End End e = refl
+    same _ _ e = cc
 
-pub is_middle : (g : ℕ) (p : Numbered) → HasMarker g p → has_status Middle p.batch.marker ≡ true → IsMarkerOf g Middle p
-is_middle g p h b = go p.batch.marker h b
-  where
-    go : (m : Option GroupMarker) → is_of g m ≡ true → has_status Middle m ≡ true → m ≡ Some record { group = g; status = Middle }
+    go : (m : Option GroupMarker) → is_of g m ≡ true → has_status s m ≡ true → m ≡ Some record { group = g; status = s }
     go None h b = cc
-    go (Some m) h b = at m.status b
-      where
-        at : (s : AtomicGroupStatus) → is_same_status Middle s ≡ true → ◌≡◌ {A = Option GroupMarker} (Some record { group = m.group; status = s }) (Some record { group = g; status = Middle })
-        at Begin b = cc
-        at Middle b = ap (λ x. Some record { group = x; status = Middle }) (sym (eqb-true g m.group h))
-        at End b = cc
+    go (Some m) h b = subst (λ x. ◌≡◌ {A = Option GroupMarker} (Some m) (Some record { group = x; status = s })) (sym (eqb-true g m.group h))
+        (ap (λ (x : AtomicGroupStatus). Some record { group = m.group; status = x }) (same s m.status b))
 
 each_middle : (g : ℕ) (ps : List Numbered) → AllByRecursion (HasMarker g) ps → are_middles ps ≡ true → AllByRecursion (IsMarkerOf g Middle) ps
 each_middle g [] h e = tt
-each_middle g (p ∷ ps) h e = go (has_status Middle p.batch.marker) refl e (each_middle g ps h.1)
-  where
-    go : (b : Bool) → has_status Middle p.batch.marker ≡ b → (b && are_middles ps) ≡ true → (are_middles ps ≡ true → AllByRecursion (IsMarkerOf g Middle) ps) → IsMarkerOf g Middle p × AllByRecursion (IsMarkerOf g Middle) ps
-    go true x e ih = (is_middle g p h.0 x, ih e)
-    go false x e ih = cc
+each_middle g (p ∷ ps) h e = let n = and_parts (has_status Middle p.batch.marker) (are_middles ps) e in (is_marker g Middle p h.0 n.0, each_middle g ps h.1 n.1)
 
 middles_are : (g : ℕ) (ps : List Numbered) → AllByRecursion (IsMarkerOf g Middle) ps → are_middles ps ≡ true
 middles_are g [] h = refl
 middles_are g (p ∷ ps) h = rw h.0 (middles_are g ps h.1)
+
+same_head : (a b : Numbered) (xs ys : List Numbered) → a ∷ xs ≡ b ∷ ys → a ≡ b
+same_head a b xs ys e = cc
+
+same_tail : (a b : Numbered) (xs ys : List Numbered) → a ∷ xs ≡ b ∷ ys → xs ≡ ys
+same_tail a b xs ys e = cc
 
 -- what is open is a Begin and Middles at the end of the markers
 pub record IsOpen (g : ℕ) (ms : List Numbered) (q : Numbered) (qs : List Numbered) : Type 0 where
@@ -79,13 +62,12 @@ open_is g (m ∷ ms) q qs h e = go (has_status Begin m.batch.marker) refl (are_m
     rest o = record { before = m ∷ o.before; split = ap (λ l. m ∷ l) o.split; begin = o.begin; middles = o.middles }
 
     go : (b : Bool) → has_status Begin m.batch.marker ≡ b → (c : Bool) → are_middles ms ≡ c → cond (b && c) (m ∷ ms) (open_stretch ms) ≡ q ∷ qs → (open_stretch ms ≡ q ∷ qs → IsOpen g ms q qs) → IsOpen g (m ∷ ms) q qs
-    go true x true y e ih = record { before = []; split = e; begin = subst (IsMarkerOf g Begin) (head m q ms qs e) (is_begin g m h.0 x); middles = subst (AllByRecursion (IsMarkerOf g Middle)) (tail m q ms qs e) (each_middle g ms h.1 y) }
-      where
-        head : (a b : Numbered) (xs ys : List Numbered) → a ∷ xs ≡ b ∷ ys → a ≡ b
-        head a b xs ys e = cc
-
-        tail : (a b : Numbered) (xs ys : List Numbered) → a ∷ xs ≡ b ∷ ys → xs ≡ ys
-        tail a b xs ys e = cc
+    go true x true y e ih = record {
+      before = [];
+      split = e;
+      begin = subst (IsMarkerOf g Begin) (same_head m q ms qs e) (is_marker g Begin m h.0 x);
+      middles = subst (AllByRecursion (IsMarkerOf g Middle)) (same_tail m q ms qs e) (each_middle g ms h.1 y);
+    }
     go true x false y e ih = rest (ih e)
     go false x c y e ih = rest (ih e)
 
@@ -100,11 +82,10 @@ unfolding markers_of
 marks_at g before p behind h = markers_of-append g before (p ∷ behind) ∙ rw h refl
 
 only_completed : (h : List BatchSteps) (before : List Numbered) (p : Numbered) (behind : List Numbered) → numbered_from 0 h ≡ before ++ p ∷ behind → AllByRecursion (IsEffect h) (completed_by p.batch.marker before p)
-only_completed h before p behind is = go p.batch.marker refl
-  where
-    end : (g : ℕ) → IsMarkerOf g End p → HasMarker g p → (l : List Numbered) → open_stretch (markers_of g before) ≡ l → AllByRecursion (IsEffect h) (completed_as End l p)
-    end g m k [] e = tt
-    end g m k (q ∷ qs) e = (
+only_completed h before p behind is = by_completed (AllByRecursion (IsEffect h)) before p tt
+    (λ e. (inl record { stands = record { before = before; behind = behind; split = is }; without_marker = e; none = refl }, tt)) (λ g q qs m e.
+    let o : IsOpen g (markers_of g before) q qs = open_is g (markers_of g before) q qs (each_marked g before) e in
+    let k : HasMarker g p = ap (is_of g) m ∙ eq-eqb g g refl in (
       inr (
         g,
         record {
@@ -120,19 +101,7 @@ only_completed h before p behind is = go p.batch.marker refl
         },
       ),
       tt,
-    )
-      where
-        o : IsOpen g (markers_of g before) q qs
-        o = open_is g (markers_of g before) q qs (each_marked g before) e
-
-    go : (m : Option GroupMarker) → p.batch.marker ≡ m → AllByRecursion (IsEffect h) (completed_by m before p)
-    go None e = (inl record { stands = record { before = before; behind = behind; split = is }; without_marker = e; none = refl }, tt)
-    go (Some m) e = at m.status e
-      where
-        at : (s : AtomicGroupStatus) → ◌≡◌ {A = Option GroupMarker} p.batch.marker (Some record { group = m.group; status = s }) → AllByRecursion (IsEffect h) (completed_as s (open_stretch (markers_of m.group before)) p)
-        at Begin e = tt
-        at Middle e = tt
-        at End e = end m.group e (ap (is_of m.group) e ∙ eq-eqb m.group m.group refl) (open_stretch (markers_of m.group before)) refl
+    ))
 
 only_effects : (h : List BatchSteps) (before ps : List Numbered) → numbered_from 0 h ≡ before ++ ps → AllByRecursion (IsEffect h) (effects_behind before ps)
 unfolding effects_behind
@@ -156,17 +125,8 @@ parts_of t (p ∷ ps) xs y ys e = go (t p) refl e (parts_of t ps)
     later zs d k = record { before = p ∷ d.before; behind = d.behind; split = ap (λ l. p ∷ l) d.split; kept = rw k (ap (λ l. p ∷ l) d.kept) }
 
     front : (xs : List Numbered) → t p ≡ true → p ∷ filter t ps ≡ xs ++ y ∷ ys → ((zs : List Numbered) (z : Numbered) (rest : List Numbered) → filter t ps ≡ zs ++ z ∷ rest → Parts t ps zs z) → Parts t (p ∷ ps) xs y
-    front [] k e ih = record { before = []; behind = ps; split = ap (λ x. x ∷ ps) (head p y (filter t ps) ys e); kept = refl }
-      where
-        head : (a b : Numbered) (xs ys : List Numbered) → a ∷ xs ≡ b ∷ ys → a ≡ b
-        head a b xs ys e = cc
-    front (x ∷ xs) k e ih = subst (λ z. Parts t (p ∷ ps) (z ∷ xs) y) (head p x (filter t ps) (xs ++ y ∷ ys) e) (later xs (ih xs y ys (tail p x (filter t ps) (xs ++ y ∷ ys) e)) k)
-      where
-        head : (a b : Numbered) (xs ys : List Numbered) → a ∷ xs ≡ b ∷ ys → a ≡ b
-        head a b xs ys e = cc
-
-        tail : (a b : Numbered) (xs ys : List Numbered) → a ∷ xs ≡ b ∷ ys → xs ≡ ys
-        tail a b xs ys e = cc
+    front [] k e ih = record { before = []; behind = ps; split = ap (λ x. x ∷ ps) (same_head p y (filter t ps) ys e); kept = refl }
+    front (x ∷ xs) k e ih = subst (λ z. Parts t (p ∷ ps) (z ∷ xs) y) (same_head p x (filter t ps) (xs ++ y ∷ ys) e) (later xs (ih xs y ys (same_tail p x (filter t ps) (xs ++ y ∷ ys) e)) k)
 
     go : (b : Bool) → t p ≡ b → cond b (p ∷ filter t ps) (filter t ps) ≡ xs ++ y ∷ ys → ((zs : List Numbered) (z : Numbered) (rest : List Numbered) → filter t ps ≡ zs ++ z ∷ rest → Parts t ps zs z) → Parts t (p ∷ ps) xs y
     go true k e ih = front xs k e ih
@@ -205,25 +165,18 @@ rise_lower : (n m : ℕ) (es : List Effect) → n ≤ m → RiseFrom m es → Ri
 rise_lower n m [] k h = tt
 rise_lower n m (e ∷ es) k h = (omega (arith, h.0), h.1)
 
+pub later_from : (n : ℕ) (es : List Effect) → RiseFrom n es → AllByRecursion (λ e. n ≤ e.last.number) es
+later_from n [] h = tt
+later_from n (e ∷ es) h = (h.0, each_weaker (λ f. suc e.last.number ≤ f.last.number) (λ f. n ≤ f.last.number) (λ f k. omega (arith, h.0, k)) es (later_from (suc e.last.number) es h.1))
+
 rise_behind : (n : ℕ) (olds : List Numbered) (h : List BatchSteps) → RiseFrom n (effects_behind olds (numbered_from n h))
 unfolding effects_behind
 rise_behind n olds [] = tt
-rise_behind n olds (b ∷ bs) = go b.marker (rise_behind (suc n) (olds ++ record { number = n; batch = b } ∷ []) bs)
-  where
-    end : (l : List Numbered) (es : List Effect) → RiseFrom (suc n) es → RiseFrom n (completed_as End l record { number = n; batch = b } ++ es)
-    end [] es ih = rise_lower n (suc n) es (omega arith) ih
-    end (q ∷ qs) es ih = (omega arith, ih)
-
-    go : (m : Option GroupMarker) → RiseFrom (suc n) (effects_behind (olds ++ record { number = n; batch = b } ∷ []) (numbered_from (suc n) bs)) →
-        RiseFrom n (completed_by m olds record { number = n; batch = b } ++ effects_behind (olds ++ record { number = n; batch = b } ∷ [])
-        (numbered_from (suc n) bs))
-    go None ih = (omega arith, ih)
-    go (Some m) ih = at m.status
-      where
-        at : (s : AtomicGroupStatus) → RiseFrom n (completed_as s (open_stretch (markers_of m.group olds)) record { number = n; batch = b } ++ effects_behind (olds ++ record { number = n; batch = b } ∷ []) (numbered_from (suc n) bs))
-        at Begin = rise_lower n (suc n) (effects_behind (olds ++ record { number = n; batch = b } ∷ []) (numbered_from (suc n) bs)) (omega arith) ih
-        at Middle = rise_lower n (suc n) (effects_behind (olds ++ record { number = n; batch = b } ∷ []) (numbered_from (suc n) bs)) (omega arith) ih
-        at End = end (open_stretch (markers_of m.group olds)) (effects_behind (olds ++ record { number = n; batch = b } ∷ []) (numbered_from (suc n) bs)) ih
+rise_behind n olds (b ∷ bs) =
+    let p : Numbered = record { number = n; batch = b } in
+    let rises : RiseFrom (suc n) (effects_behind (olds ++ p ∷ []) (numbered_from (suc n) bs)) = rise_behind (suc n) (olds ++ p ∷ []) bs in
+    by_completed (λ es. RiseFrom n (es ++ effects_behind (olds ++ p ∷ []) (numbered_from (suc n) bs))) olds p
+    (rise_lower n (suc n) (effects_behind (olds ++ p ∷ []) (numbered_from (suc n) bs)) (omega arith) rises) (λ e. (omega arith, rises)) (λ g q qs m e. (omega arith, rises))
 
 pub effects_are : (h : List BatchSteps) → AreEffects h (effects h)
 effects_are h = record { only = only_effects h [] (numbered_from 0 h) refl; every = every; rise = rise_behind 0 [] h }

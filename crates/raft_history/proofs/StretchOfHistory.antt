@@ -1,20 +1,11 @@
 -- What holds of two histories, one behind the other, holds of each.
-use Rattle.std.proofs.Common.{◌≡◌, ℕ, ◌+◌, List, [], ◌∷◌, ◌++◌, Option, Some, None, refl, sym, ap, subst, ◌∙◌, arith, append-nil}
-use Rattle.std.specs.Prelude.{flat_map, length}
-use Rattle.std.specs.Option.{option_and_then}
-use Rattle.std.proofs.lemmas.List.Concat.{flat_map-append}
-use Rattle.raft_base.specs.declared.pipe_log.LogQueue.{LogQueue}
+use Rattle.raft_history.proofs.Common.{option_and_then_some, AreInFile, HaveStatus, ◌≡◌, ℕ, ◌+◌, List, [], ◌∷◌, ◌++◌, Option, Some, None, sym, ap, subst, ◌∙◌, arith, append-nil, flat_map}
+use Rattle.raft_history.proofs.Common.{flat_map-append, LogQueue, Step, after, Table, accepted_alone, steps_rewritten, after-append, Event, BatchSteps, batches, effects, effects_behind, steps_of}
+use Rattle.raft_history.proofs.Common.{EachApart, numbered_from, IsSmall, FilesFrom, last_from, IsSoundIn, Sound, Apart, AreOfQueue, IsOfQueue, records_in, steps_on, steps_of_items}
+use Rattle.std.specs.Prelude.{length}
 use Rattle.raft_base.specs.declared.pipe_log.LogQueue.TheVariants.{Append, Rewrite}
-use Rattle.raft_table.specs.Steps.{Step, after}
-use Rattle.raft_table.specs.Table.{Table}
-use Rattle.raft_table.proofs.LaterSteps.{accepted_alone, steps_rewritten}
-use Rattle.raft_table.proofs.MarkLaws.{after-append}
-use Rattle.raft_history.specs.Batches.{Event, BatchSteps, batches}
-use Rattle.raft_history.specs.Effects.{effects, effects_behind, steps_of, EachApart, numbered_from}
-use Rattle.raft_history.specs.Histories.{IsSmall, FilesFrom, last_from, IsSoundIn, Sound, Apart, AreOfQueue, IsOfQueue, records_in}
-use Rattle.raft_history.specs.RegionSteps.{steps_on, steps_of_items}
-use Rattle.raft_history.proofs.Words.{AreInFiles, AllHaveStatus, records_in_history, all_steps}
-use Rattle.raft_history.proofs.EffectLemmas.{all_steps-append}
+use Rattle.raft_history.proofs.Words.{AreInFiles, records_in_history, all_steps}
+use Rattle.raft_history.proofs.EffectLemmas.{all_steps-append, each_left, each_right}
 use Rattle.raft_history.proofs.JoinedLemmas.{effects-append}
 use Rattle.raft_history.proofs.SoundLemmas.{batches-append, files-back, steps_good, without_marker}
 use Rattle.raft_history.proofs.WithoutMarkers.{plain_steps}
@@ -76,29 +67,9 @@ files_lower : (q : LogQueue) (n : ℕ) (h : List Event) → FilesFrom q n h → 
 files_lower q n [] f = tt
 files_lower q n (e ∷ h) f = (f.0, omega arith, f.2)
 
-in_files_front : (h k : List Event) → AreInFiles (h ++ k) → AreInFiles h
-in_files_front [] k a = tt
-in_files_front (e ∷ h) k a = (a.0, in_files_front h k a.1)
-
-in_files_back : (h k : List Event) → AreInFiles (h ++ k) → AreInFiles k
-in_files_back [] k a = a
-in_files_back (e ∷ h) k a = in_files_back h k a.1
-
-status_front : (h k : List Event) → AllHaveStatus (h ++ k) → AllHaveStatus h
-status_front [] k a = tt
-status_front (e ∷ h) k a = (a.0, status_front h k a.1)
-
-status_back : (h k : List Event) → AllHaveStatus (h ++ k) → AllHaveStatus k
-status_back [] k a = a
-status_back (e ∷ h) k a = status_back h k a.1
-
 -- the first of two lists of steps, and what it leaves
 parted : (q : LogQueue) (r : ℕ) (ss rs : List Step) (t : Option Table) → after q r None (ss ++ rs) ≡ Some t → (u : Option Table) × (after q r None ss ≡ Some u) × (after q r u rs ≡ Some t)
-parted q r ss rs t is = go (after q r None ss) refl (sym (after-append q r None ss rs) ∙ is)
-  where
-    go : (o : Option (Option Table)) → after q r None ss ≡ o → option_and_then (λ u. after q r u rs) o ≡ Some t → (u : Option Table) × (after q r None ss ≡ Some u) × (after q r u rs ≡ Some t)
-    go None e k = absurd cc
-    go (Some u) e k = (u, e, k)
+parted q r ss rs t is = option_and_then_some (λ (u : Option Table). after q r u rs) (after q r None ss) t (sym (after-append q r None ss rs) ∙ is) (λ u e k. (u, e, k))
 
 steps_parted : (r : ℕ) (h k : List BatchSteps) → (rs : List Step) × (steps_of r (h ++ k) ≡ steps_of r h ++ rs)
 steps_parted r h k = (all_steps r (effects_behind (numbered_from 0 h) (numbered_from (length h) k)), ap (all_steps r) (effects-append h k) ∙ all_steps-append r (effects h) _)
@@ -123,16 +94,21 @@ accepted_back Append r h k t a b c i is =
 accepted_back Rewrite r h k t a b c i is = steps_rewritten r None (steps_of r (batches k))
 
 pub sound_in_front : (q : LogQueue) (h k : List Event) → IsSoundIn q (h ++ k) → IsSoundIn q h
-sound_in_front q h k s = record { files = files_front q 0 h k s.files; items = in_files_front h k s.items; markers = status_front h k s.markers; accepted = λ r. accepted_front q r h k (s.accepted r).0 (s.accepted r).1 }
+sound_in_front q h k s = record {
+  files = files_front q 0 h k s.files;
+  items = each_left (λ (e : Event). AreInFile e.file e.items) h k s.items;
+  markers = each_left (λ (e : Event). HaveStatus e.file.queue e.items) h k s.markers;
+  accepted = λ r. accepted_front q r h k (s.accepted r).0 (s.accepted r).1;
+}
 
 pub sound_in_back : (q : LogQueue) (h k : List Event) → IsSoundIn q (h ++ k) → IsSoundIn q k
 sound_in_back q h k s =
     let back = files_lower q (last_from 0 h) k (files-back q 0 h k s.files) in
     record {
       files = back;
-      items = in_files_back h k s.items;
-      markers = status_back h k s.markers;
-      accepted = λ r. accepted_back q r h k (s.accepted r).0 (files_front q 0 h k s.files) back s.files (in_files_back h k s.items) (s.accepted r).1;
+      items = each_right (λ (e : Event). AreInFile e.file e.items) h k s.items;
+      markers = each_right (λ (e : Event). HaveStatus e.file.queue e.items) h k s.markers;
+      accepted = λ r. accepted_back q r h k (s.accepted r).0 (files_front q 0 h k s.files) back s.files (each_right (λ (e : Event). AreInFile e.file e.items) h k s.items) (s.accepted r).1;
     }
 
 pub sound_front : (h k : List Event) → Sound (h ++ k) → Sound h

@@ -1,27 +1,17 @@
 -- A context with one more batch.
-use Rattle.std.proofs.Common.{◌≡◌, ℕ, ◌≤◌, true, List, [], ◌∷◌, ◌++◌, Option, Some, None, refl, sym, ap, subst, ◌∙◌, append-nil, arith}
-use Rattle.std.specs.Prelude.{option_map}
-use Rattle.raft_base.specs.declared.pipe_log.LogQueue.{LogQueue}
+use Rattle.raft_history.proofs.Common.{map_none, map_some, no_both, ◌≡◌, ℕ, ◌≤◌, true, List, [], ◌∷◌, ◌++◌, Option, Some, None, refl, sym, ap, subst, ◌∙◌, append-nil, arith, LogQueue, after, Table}
+use Rattle.raft_history.proofs.Common.{Event, batch_of, batches, IsBounded, FileRange, files_of, Suits, joined_files, follows, Context, AreExact, StandsIn, StandsFor, IsExactFor, completed_steps}
+use Rattle.raft_history.proofs.Common.{taken_with, taken_in, steps_of, HaveStatus, AreInFile, FilesFrom, Sound, cleaned_in, MarkedRegions, regions_after, WaitingGroups, groups_in, groups_after}
+use Rattle.raft_history.proofs.Common.{cleaned_by_steps, steps_of_items}
 use Rattle.raft_base.specs.declared.pipe_log.LogQueue.TheVariants.{Append, Rewrite}
-use Rattle.raft_table.specs.Steps.{after}
-use Rattle.raft_table.specs.Table.{Table}
-use Rattle.raft_history.specs.Batches.{Event, batch_of, batches}
-use Rattle.raft_history.specs.Contexts.{IsBounded, FileRange, files_of, Suits, joined_files, follows, Context, AreExact, StandsIn, StandsFor, IsExactFor, completed_steps, taken_with, taken_in}
-use Rattle.raft_history.specs.Effects.{steps_of}
 use Rattle.raft_history.proofs.Words.{AllHaveStatus, AreInFiles, records_in_history}
-use Rattle.raft_history.specs.Histories.{HaveStatus, AreInFile, FilesFrom, Sound, cleaned_in}
-use Rattle.raft_history.specs.MarkedRegions.{MarkedRegions, regions_after}
-use Rattle.raft_history.specs.WaitingGroups.{WaitingGroups, groups_in, groups_after}
+use Rattle.raft_history.proofs.EffectLemmas.{each_right}
 use Rattle.raft_history.proofs.ContextLaws.{exact_accepted}
 use Rattle.raft_history.proofs.MergeLaws.{regions_taken, taken_refused, rewrite_after, rewrite_read}
 use Rattle.raft_history.proofs.MoreLemmas.{groups_in-one}
 use Rattle.raft_history.proofs.RecordLemmas.{taken_bounded}
 use Rattle.raft_history.proofs.SoundLemmas.{batches-append, in_files-append, status-append, files_follow, follow_files, files_of-append, cleaned-append}
 use Rattle.raft_history.proofs.StretchOfHistory.{size-append, size-one}
-use Rattle.raft_history.specs.RegionSteps.{cleaned_by_steps, steps_of_items}
-
-some_is : {X : Type 0} {x y : X} → Some x ≡ Some y → x ≡ y
-some_is e = cc
 
 -- the batch may come next: its queue, its file, its items
 pub record IsNextEvent (c : Context) (e : Event) : Type 0 where
@@ -43,14 +33,7 @@ files c h e st n = files_follow e.file.queue h (e ∷ []) (st.stands e.file.queu
     zero_le n = omega arith
 
 pub taken_some : (c d : Context) (e : Event) → taken_in c e ≡ Some d → (rs : MarkedRegions) × (regions_after e.file.queue c.regions (completed_steps c.groups (batch_of e) (batch_of e).marker) ≡ Some rs) × (taken_with c e rs ≡ d)
-taken_some c d e is = go (regions_after e.file.queue c.regions (completed_steps c.groups (batch_of e) (batch_of e).marker)) refl is
-  where
-    go : (o : Option MarkedRegions) → regions_after e.file.queue c.regions (completed_steps c.groups (batch_of e) (batch_of e).marker) ≡ o →
-        option_map (taken_with c e) o ≡ Some d →
-        (rs : MarkedRegions) × (regions_after e.file.queue c.regions (completed_steps c.groups (batch_of e) (batch_of e).marker) ≡ Some rs) ×
-        (taken_with c e rs ≡ d)
-    go None r is = absurd cc
-    go (Some rs) r is = (rs, r, some_is is)
+taken_some c d e is = map_some (taken_with c e) (regions_after e.file.queue c.regions (completed_steps c.groups (batch_of e) (batch_of e).marker)) d is (λ rs r p. (rs, r, p))
 
 -- no other queue suits afterwards
 one_queue : (q p : LogQueue) (a : Option FileRange) (b : FileRange) → Suits q a → b.queue ≡ q → Suits p (joined_files a (Some b)) → q ≡ p
@@ -104,21 +87,13 @@ taken_exact c d h e n ex is = record {
     s : (rs : MarkedRegions) × (regions_after e.file.queue c.regions (completed_steps c.groups (batch_of e) (batch_of e).marker) ≡ Some rs) × (taken_with c e rs ≡ d)
     s = taken_some c d e is
 
-no_both : {X : Type 0} {o : Option X} {x : X} → o ≡ None → o ≡ Some x → ⊥
-no_both a b = cc
-
 sound_is : (s : LogQueue) (h : List Event) (e : Event) (n : ℕ) → FilesFrom s n (h ++ e ∷ []) → e.file.queue ≡ s
 sound_is s [] e n f = f.0
 sound_is s (x ∷ h) e n f = sound_is s h e x.file.seq f.2
 
 pub taken_none : (c : Context) (h : List Event) (e : Event) → IsNextEvent c e → StandsFor c h → taken_in c e ≡ None → Sound (h ++ e ∷ []) → ⊥
-taken_none c h e n st is sound = by e.file.queue (read_none (regions_after e.file.queue c.regions (completed_steps c.groups (batch_of e) (batch_of e).marker)) refl is) n.suits (sound_is sound.queue h e 0 sound.sound.files)
+taken_none c h e n st is sound = by e.file.queue (map_none (taken_with c e) (regions_after e.file.queue c.regions (completed_steps c.groups (batch_of e) (batch_of e).marker)) is) n.suits (sound_is sound.queue h e 0 sound.sound.files)
   where
-    read_none : (o : Option MarkedRegions) → regions_after e.file.queue c.regions (completed_steps c.groups (batch_of e) (batch_of e).marker) ≡ o →
-        option_map (taken_with c e) o ≡ None → regions_after e.file.queue c.regions (completed_steps c.groups (batch_of e) (batch_of e).marker) ≡ None
-    read_none None r is = r
-    read_none (Some rs) r is = absurd cc
-
     by : (q : LogQueue) → regions_after q c.regions (completed_steps c.groups (batch_of e) (batch_of e).marker) ≡ None → Suits q c.files → q ≡ sound.queue → ⊥
     by Rewrite r u p = no_both r (rewrite_read c.regions (completed_steps c.groups (batch_of e) (batch_of e).marker)).1
     by Append r u p = let f = taken_refused Append c h e st.groups (st.stands e.file.queue n.suits).sound.items (in_files c h e st n) ((st.stands Append u).append refl) r in
@@ -129,18 +104,10 @@ pub next_sound : (c : Context) (h : List Event) (e : Event) → StandsFor c h �
 next_sound c h e st sound = record {
   suits = subst (Suits e.file.queue) (sym st.files) (first h sound.sound.files);
   follows = ap (λ p. follows p (files_of (e ∷ []))) st.files ∙ follow_files sound.queue h (e ∷ []) sound.sound.files;
-  in_file = last h sound.sound.items;
-  status = last_status h sound.sound.markers;
+  in_file = (each_right (λ (e : Event). AreInFile e.file e.items) h (e ∷ []) sound.sound.items).0;
+  status = (each_right (λ (e : Event). HaveStatus e.file.queue e.items) h (e ∷ []) sound.sound.markers).0;
 }
   where
     first : (h : List Event) → FilesFrom sound.queue 0 (h ++ e ∷ []) → Suits e.file.queue (files_of h)
     first [] f = tt
     first (x ∷ h) f = f.0 ∙ sym (sound_is sound.queue (x ∷ h) e 0 f)
-
-    last : (h : List Event) → AreInFiles (h ++ e ∷ []) → AreInFile e.file e.items
-    last [] f = f.0
-    last (x ∷ h) f = last h f.1
-
-    last_status : (h : List Event) → AllHaveStatus (h ++ e ∷ []) → HaveStatus e.file.queue e.items
-    last_status [] f = f.0
-    last_status (x ∷ h) f = last_status h f.1

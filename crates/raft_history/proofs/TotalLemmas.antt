@@ -1,16 +1,12 @@
 -- Numbers of the values of a map, together.
-use Rattle.std.proofs.Common.{◌≡◌, ◌⊎◌, ℕ, ◌+◌, ◌≤◌, true, false, cond, not, List, [], ◌∷◌, length, Option, Some, None, refl, sym, ap, ◌∙◌, inl, inr, arith}
+use Rattle.raft_history.proofs.Common.{no_both, ◌≡◌, ◌⊎◌, ℕ, ◌+◌, ◌≤◌, true, false, cond, not, List, [], ◌∷◌, length, Option, Some, None, refl, sym, ap, ◌∙◌, inl, inr, arith, nat_cmp, eq_by_cmp}
+use Rattle.raft_history.proofs.Common.{is_eq, nat_cmp_total, put, is_sorted, nat_cmp-IsAntisymmetric, where_key, by_order, entries-remove, find-below, where_key-below, below_all-less, below_all-equal}
+use Rattle.raft_history.proofs.Common.{first_of_both, second_of_both, equal, total_of, total}
 use lib.Dec.{T}
 use Rattle.std.specs.declared.cmp.Ordering.TheVariants.{Less, Equal, Greater}
-use Rattle.std.specs.Ordering.{nat_cmp, eq_by_cmp, is_eq}
-use Rattle.std.specs.Cmp.{nat_cmp_total}
 use Rattle.std.specs.FinMap as finite
-use Rattle.std.specs.FinMap.{find, put, is_sorted, nat_cmp-IsAntisymmetric}
-use Rattle.std.specs.FinMap.Entries.{where_key, by_order}
-use Rattle.raft_table.proofs.KeyValueCounts.{entries-remove}
-use Rattle.raft_table.proofs.Shown.{find-below, where_key-below, below_all-less, below_all-equal, first_of_both, second_of_both, equal}
-use Rattle.raft_history.specs.Records.{total_of, total}
-use Rattle.raft_history.proofs.KnownLemmas.{tied}
+use Rattle.std.specs.FinMap.{find}
+use Rattle.raft_history.proofs.KnownLemmas.{entries-empty, tied}
 use Rattle.raft_history.proofs.MapLemmas.{IsOther, by_region, get_left}
 use Rattle.raft_history.proofs.StepListLemmas.{eqb_self}
 
@@ -47,11 +43,7 @@ module _ {X : Type 0} (f : X → ℕ) where
 
   pub total-none : total f finite.empty ≡ 0
   unfolding total
-  total-none = ap (total_of f) (no_length _ (sym (finite.len-entries {K = ℕ} {X = X} {R = nat_cmp} finite.empty) ∙ finite.len-empty nat_cmp X))
-    where
-      no_length : (es : List (ℕ × X)) → length es ≡ 0 → es ≡ []
-      no_length [] e = refl
-      no_length (x ∷ es) e = absurd (omega arith)
+  total-none = ap (total_of f) entries-empty
 
 ones : {X : Type 0} (es : List (ℕ × X)) → total_of (λ x. 1) es ≡ length es
 ones [] = refl
@@ -74,9 +66,6 @@ module _ {X Y : Type 0} (f : X → ℕ) (g : Y → ℕ) where
     where
       rest : (r : ℕ) → (r ≡ e.0) ⊎ IsOther r e.0 → IsMet (find nat_cmp r es) (finite.get (finite.remove n e.0) r)
       rest r (inl p) x k = absurd (no_both (ap (λ r. find nat_cmp r es) p ∙ find-below nat_cmp_total e.0 es (first_of_both _ _ s)) k)
-        where
-          no_both : {o : Option X} {x : X} → o ≡ None → o ≡ Some x → ⊥
-          no_both a b = cc
       rest r (inr o) x k = let y = h r x (ap (λ b. cond b (Some e.1) (find nat_cmp r es)) o.1 ∙ k) in (y.0, get_left n e.0 r o.1 ∙ y.1, y.2)
 
   pub total-at_most : (m : finite.FinMap nat_cmp X) (n : finite.FinMap nat_cmp Y) → ((r : ℕ) → IsMet (finite.get m r) (finite.get n r)) → total f m ≤ total g n

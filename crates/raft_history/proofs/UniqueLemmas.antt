@@ -1,25 +1,13 @@
 -- The effects of a history are the only list of its effects in order.
-use Rattle.std.proofs.Common.{◌≡◌, ℕ, suc, ◌≤◌, ◌⊎◌, List, [], ◌∷◌, refl, sym, ap, ◌∙◌, inl, inr, arith}
-use Rattle.std.specs.List.{AllByRecursion}
-use Rattle.raft_history.specs.Batches.{BatchSteps}
-use Rattle.raft_history.specs.Effects.{Effect, effects}
-use Rattle.raft_history.specs.Stretches.{IsIn, IsEffect, RiseFrom, AreEffects}
+use Rattle.raft_history.proofs.Common.{◌≡◌, ℕ, suc, ◌≤◌, ◌⊎◌, List, [], ◌∷◌, refl, sym, ap, ◌∙◌, inl, inr, arith, BatchSteps, Effect, effects, IsIn, IsEffect, RiseFrom, AreEffects}
 use Rattle.raft_history.proofs.DifferLemmas.{head_or_tail, in_none, each_in}
-use Rattle.raft_history.proofs.StretchLemmas.{effects_are}
+use Rattle.raft_history.proofs.StretchLemmas.{effects_are, later_from}
 
 in_first : (e : Effect) (es : List Effect) → IsIn e (e ∷ es)
 in_first e es = record { before = []; behind = es; split = refl }
 
 in_later : (e x : Effect) (es : List Effect) → IsIn e es → IsIn e (x ∷ es)
 in_later e x es i = record { before = x ∷ i.before; behind = i.behind; split = ap (λ l. x ∷ l) i.split }
-
-later_from : (n : ℕ) (es : List Effect) → RiseFrom n es → AllByRecursion (λ e. n ≤ e.last.number) es
-later_from n [] h = tt
-later_from n (e ∷ es) h = (h.0, lower es (later_from (suc e.last.number) es h.1))
-  where
-    lower : (fs : List Effect) → AllByRecursion (λ f. suc e.last.number ≤ f.last.number) fs → AllByRecursion (λ f. n ≤ f.last.number) fs
-    lower [] k = tt
-    lower (f ∷ fs) k = (omega (arith, k.0, h.0), lower fs k.1)
 
 -- what is in the one is in the other
 abbrev HasAll : List Effect → List Effect → Type 0

@@ -1,13 +1,10 @@
 -- Which regions are named, histories without markers, and that the groups of one cut name different regions.
-use Rattle.std.proofs.Common.{◌≡◌, ℕ, suc, Bool, true, false, cond, ◌↔◌, ◌||◌, List, [], ◌∷◌, ◌++◌, None, refl, sym, ap, subst, ◌∙◌, inl, inr}
-use Rattle.std.specs.Prelude.{filter, flat_map, map}
-use Rattle.std.specs.List.{AllByRecursion, list_any}
-use Rattle.raft_history.specs.Batches.{BatchSteps}
-use Rattle.raft_history.specs.Effects.{Effect, completed_by, effects_behind, effects, whole_steps, region_steps_in, steps_by, steps_of, AreApart, EachApart, is_named, Numbered, numbered_from}
-use Rattle.raft_history.specs.RegionSteps.{RegionStep, names, steps_on}
+use Rattle.raft_history.proofs.Common.{or_parts, ◌≡◌, ℕ, suc, Bool, true, false, cond, ◌↔◌, ◌||◌, List, [], ◌∷◌, ◌++◌, None, refl, sym, ap, subst, ◌∙◌, inl, inr, filter, flat_map, map, AllByRecursion}
+use Rattle.raft_history.proofs.Common.{list_any, BatchSteps, Effect, completed_by, effects_behind, effects, whole_steps, region_steps_in, steps_by, steps_of, AreApart, EachApart, is_named, Numbered}
+use Rattle.raft_history.proofs.Common.{numbered_from, RegionStep, names, steps_on}
 use Rattle.raft_history.proofs.Words.{is_on, region_steps_of, steps_in, all_steps}
 use Rattle.raft_history.proofs.EffectLemmas.{steps_in-none}
-use Rattle.raft_table.specs.Steps.{Step}
+use Rattle.raft_history.proofs.StepListLemmas.{head_none, tail_none}
 
 -- what is named has steps
 pub steps_on-some : (r : ℕ) (is : List RegionStep) → steps_on r is ≡ [] → names r is ≡ false
@@ -19,14 +16,6 @@ steps_on-some r (i ∷ is) h = go (is_on r i) h (steps_on-some r is)
     go true h ih = cc
     go false h ih = ih h
 
-head_none : (xs ys : List Step) → xs ++ ys ≡ [] → xs ≡ []
-head_none [] ys e = refl
-head_none (x ∷ xs) ys e = cc
-
-tail_none : (xs ys : List Step) → xs ++ ys ≡ [] → ys ≡ []
-tail_none [] ys e = e
-tail_none (x ∷ xs) ys e = cc
-
 steps_in-some : (r : ℕ) (e : Effect) → steps_by r e.earlier e.last ≡ [] → names r (region_steps_in e) ≡ false
 unfolding whole_steps
 steps_in-some r e h = go e.earlier h
@@ -37,13 +26,7 @@ steps_in-some r e h = go e.earlier h
 
 pub unnamed_steps : (r : ℕ) (es : List Effect) → list_any (λ e. names r (region_steps_in e)) es ≡ false → all_steps r es ≡ []
 unnamed_steps r [] h = refl
-unnamed_steps r (e ∷ es) h = go (names r (region_steps_in e)) refl h (unnamed_steps r es)
-  where
-    go : (b : Bool) → names r (region_steps_in e) ≡ b → (b || list_any (λ e. names r (region_steps_in e)) es) ≡ false →
-        (list_any (λ e. names r (region_steps_in e)) es ≡ false → flat_map (steps_in r) es ≡ []) →
-        steps_by r e.earlier e.last ++ flat_map (steps_in r) es ≡ []
-    go true k h ih = cc
-    go false k h ih = rw (steps_in-none r e k) (ih h)
+unnamed_steps r (e ∷ es) h = let n = or_parts (names r (region_steps_in e)) (list_any (λ e. names r (region_steps_in e)) es) h in rw (steps_in-none r e n.0) (unnamed_steps r es n.1)
 
 pub no_steps_unnamed : (r : ℕ) (es : List Effect) → all_steps r es ≡ [] → list_any (λ e. names r (region_steps_in e)) es ≡ false
 no_steps_unnamed r [] h = refl

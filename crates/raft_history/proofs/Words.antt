@@ -1,15 +1,8 @@
 -- Words of proofs for what definitions spell out.
-use Rattle.std.specs.Prelude.{ℕ, Bool, ◌==◌, List, flat_map, Option, option_map}
-use Rattle.std.specs.List.{AllByRecursion, cons_option, list_all}
-use Rattle.raft_base.specs.declared.pipe_log.FileId.{FileId}
-use Rattle.raft_base.specs.declared.entry_index.EntryIndex.{EntryIndex}
+use Rattle.raft_history.proofs.Common.{◌==◌, flat_map, option_map, AllByRecursion, cons_option, list_all, FileId, EntryIndex, IsPlaceInFile, Event, Numbered, has_status, Effect, steps_by, records_in}
+use Rattle.raft_history.proofs.Common.{AreInFile, HaveStatus, RegionStep, steps_of_items, Step}
+use Rattle.std.specs.Prelude.{ℕ, Bool, List, Option}
 use Rattle.raft_records.specs.declared.atomic_group.AtomicGroupStatus.TheVariants.{Middle}
-use Rattle.raft_records.specs.DecodedIn.{IsPlaceInFile}
-use Rattle.raft_history.specs.Batches.{Event}
-use Rattle.raft_history.specs.Effects.{Numbered, has_status, Effect, steps_by}
-use Rattle.raft_history.specs.Histories.{records_in, AreInFile, HaveStatus}
-use Rattle.raft_history.specs.RegionSteps.{RegionStep, steps_of_items}
-use Rattle.raft_table.specs.Steps.{Step}
 
 -- whether a step is on the region
 abbrev pub is_on : ℕ → RegionStep → Bool

@@ -30,7 +30,6 @@ impl RegionStep {
     }
 }
 
-/// Returns the step of a content.
 fn content_step(content: LogItemContent) -> Option<Step>
     ensures { option_map step_shown result ≡ content_step (content_of content) }
 {
@@ -41,7 +40,6 @@ fn content_step(content: LogItemContent) -> Option<Step>
     }
 }
 
-/// Returns the step of a command.
 fn command_step(command: Command) -> Step
     ensures { step_shown result ≡ command_step command }
 {
@@ -52,7 +50,6 @@ fn command_step(command: Command) -> Step
     }
 }
 
-/// Returns the step of a change of a key.
 fn pair_step(kv: KeyValue) -> Option<Step>
     ensures { option_map step_shown result ≡ content_step (pair (pair_of kv)) }
 {

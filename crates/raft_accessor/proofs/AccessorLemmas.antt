@@ -1,29 +1,15 @@
 -- Calls of one slot, seen as calls of the accessor.
-use Rattle.std.proofs.Common.{◌≡◌, ◌≢◌, ◌⊎◌, ◌<◌, ◌++◌, ℕ, List, [], ◌∷◌, Option, Some, None, Result, Ok, Err, refl, sym, ap, subst, ◌∙◌, slice_index_or, slice_set, append_assoc, append-nil, IsTrue}
+use Rattle.raft_accessor.proofs.Common.{◌≡◌, ◌⊎◌, ◌<◌, ◌++◌, ℕ, List, [], ◌∷◌, Option, Some, None, Result, Ok, Err, refl, sym, ap, subst, ◌∙◌, slice_index_or, slice_set, append_assoc, append-nil}
+use Rattle.raft_accessor.proofs.Common.{IsTrue, AllByRecursion, option_and_then, is_some, OnOk, OnErr, IfErr, Error, Item, LogQueue, Tables, with_table, cleaned_by_steps, Counts, live, Step, table_of}
+use Rattle.raft_accessor.proofs.Common.{after_step, IsUnmixed, counts_after_step, IsStepFault, Table, IsRecounted, Accessor, slot_of, table_in, live_in_all, IsTableChanged, IsWritten, together}
+use Rattle.raft_accessor.proofs.Common.{accessor_shown, IsAccessorKept, IsItemWritten, IsMergedAt, IsTableMerged, IsStepTaken, BecomesOutcome, Writing, queue_of, after_content, counts_after_content}
+use Rattle.raft_accessor.proofs.Common.{after_items, AreCountsAfterItems, listed_by, listed_by_items, IsFor, MixesQueues, NoneMixesQueues, IsWriteFault, AreWritten, AreItemsRefused, empty_table}
+use Rattle.raft_accessor.proofs.Common.{with_item}
+use Rattle.std.proofs.lemmas.Result.{on_ok_weaker, on_err_weaker}
 use Rattle.std.specs.FinMap as finite
-use Rattle.std.specs.List.{AllByRecursion}
-use Rattle.std.specs.Option.{option_and_then, is_some, OnSome}
-use Rattle.std.specs.Result.{OnOk, OnErr, IfOk, IfErr}
-use Rattle.raft_base.specs.declared.errors.Error.{Error}
 use Rattle.raft_base.specs.declared.errors.Error.TheVariants.{Memory}
-use Rattle.raft_records.specs.Item.{Item}
-use Rattle.raft_base.specs.declared.pipe_log.LogQueue.{LogQueue}
-use Rattle.raft_history.specs.RegionSteps.{Tables, with_table, cleaned_by_steps}
-use Rattle.raft_table.specs.Counts.{Counts, live}
-use Rattle.raft_table.specs.Steps.{Step, table_of, after_step}
-use Rattle.raft_table.specs.TakenSteps.{IsUnmixed, counts_after_step, IsStepFault}
-use Rattle.raft_table.specs.Table.{Table, IsRecounted}
 use Rattle.raft_accessor.specs.declared.accessor.MemTableAccessor.TheInside.{Inside}
-use Rattle.raft_accessor.specs.Accessor.{Accessor, slot_of, table_in, live_in_all}
-use Rattle.raft_accessor.specs.AccessorCalls.{IsTableChanged, IsWritten}
-use Rattle.raft_accessor.specs.Slots.{together}
-use Rattle.raft_accessor.specs.AccessorView.{accessor_shown, IsAccessorKept}
-use Rattle.raft_accessor.specs.ItemWrites.{IsItemWritten}
-use Rattle.raft_accessor.specs.Merges.{IsMergedAt, IsTableMerged}
-use Rattle.raft_accessor.specs.TableSteps.{IsStepTaken}
-use Rattle.raft_accessor.specs.Updates.{BecomesOutcome}
-use Rattle.raft_accessor.specs.Writes.{Writing, queue_of, after_content, counts_after_content, after_items, AreCountsAfterItems, listed_by, listed_by_items, IsFor, MixesQueues, NoneMixesQueues, IsWriteFault, AreWritten, AreItemsRefused}
-use Rattle.raft_accessor.proofs.MapLemmas.{with_own, with_same, some_is}
+use Rattle.raft_accessor.proofs.MapLemmas.{get_gone, with_own, with_same, some_is}
 use Rattle.raft_accessor.proofs.SlotLemmas.{get-shown, IsChanged, shown-changed, kept-changed}
 
 some_is_there : (t : Table) → IsTrue (is_some (Some t))
@@ -56,117 +42,108 @@ module _ (a b : Inside) (id i : ℕ) (d slot : Tables) (after : Counts) (kept : 
     pub now : finite.get (together b.slots.items) id ≡ finite.get slot id
     now = ap (λ m. finite.get m id) tables-are ∙ with_own r.tables id (finite.get slot id)
 
-    pub unchanged : slot ≡ d → together b.slots.items ≡ r.tables
-    unchanged e = tables-are ∙ ap (with_table r.tables id) (ap (λ m. finite.get m id) e ∙ sym was) ∙ with_same r.tables id
-
-    -- what is said of the table before and after
-    pub answers-in : {R : Type 0} (P : Table → Table → R → Type 0) (res : Result R Error) → IfOk res (P (table_in d id) (table_in slot id)) → IfOk res (P (table_in r.tables id) (table_in (together b.slots.items) id))
-    answers-in P res p = subst (λ t. IfOk res (P t (table_in (together b.slots.items) id))) (sym (ap (table_of id) was)) (subst (λ t. IfOk res (P (table_in d id) t)) (sym (ap (table_of id) now)) p)
-
-    -- what is said of the counts
-    pub counted-in : (f : Table → Counts → Counts) → after ≡ f (table_in d id) a.stats → b.stats ≡ f (table_in r.tables id) r.counts
-    counted-in f e = h.stats ∙ e ∙ ap (λ o. f (table_of id o) a.stats) (sym was) ∙ ap (λ (x : Accessor). f (table_in r.tables id) x.counts) is
-
-    -- and where a call is not refused
-    pub counted_ok-in : {R : Type 0} (f : Table → Counts → Counts) (res : Result R Error) → OnOk res (after ≡ f (table_in d id) a.stats) → OnOk res (b.stats ≡ f (table_in r.tables id) r.counts)
-    counted_ok-in f (Ok x) e = counted-in f e
-    counted_ok-in f (Err x) e = tt
-
-    pub counted_some-in : {R : Type 0} (f : Table → Counts → Counts) (res : Option R) → OnSome res (after ≡ f (table_in d id) a.stats) → OnSome res (b.stats ≡ f (table_in r.tables id) r.counts)
-    counted_some-in f (Some x) e = counted-in f e
-    counted_some-in f None e = tt
-
-    -- a change of a table
-    pub changed-in : {R : Type 0} (outcome : Table → Option Table) (IsFault : Table → Counts → Error → Type 0) (res : Result R Error) → BecomesOutcome (outcome (table_in d id)) (IsFault (table_in d id) a.stats) d id a.stats res slot after
-        → b.cleaned.items ≡ a.cleaned.items → IsTableChanged (outcome (table_in r.tables id)) (IsFault (table_in r.tables id) r.counts) id res r (accessor_shown b)
-    changed-in outcome IsFault res t l =
-        let old : table_in d id ≡ table_in r.tables id = sym (ap (table_of id) was) in
-        let new : table_in (together b.slots.items) id ≡ table_in slot id = ap (table_of id) now in
-        record {
-          ok = subst (λ t. OnOk res (outcome t ≡ Some (table_in (together b.slots.items) id))) old (subst (λ t. OnOk res (outcome (table_in d id) ≡ Some t)) (sym new) t.ok);
-          others = elim res as (λ res. OnOk res (finite.get slot id ≡ Some (table_in slot id)) → OnOk res (together b.slots.items ≡ finite.insert r.tables id (table_in (together b.slots.items) id))) [
-            | Ok x ↦ λ e. tables-are ∙ ap (with_table r.tables id) e ∙ ap (finite.insert r.tables id) (sym new)
-            | Err x ↦ λ e. tt
-          ] t.there;
-          err = elim res as (λ res. OnErr res (slot ≡ d) → OnErr res (together b.slots.items ≡ r.tables)) [ Ok x ↦ λ e. tt | Err x ↦ λ e. unchanged e ] t.err;
-          counts_err = elim res as (λ res. OnErr res (after ≡ a.stats) → OnErr res (b.stats ≡ r.counts)) [ Ok x ↦ λ e. tt | Err x ↦ λ e. h.stats ∙ e ∙ ap (λ (x : Accessor). x.counts) is ] t.counts_err;
-          fault = subst (λ c. IfErr res (λ e. (e ≡ Memory) ⊎ IsFault (table_in r.tables id) c e)) (ap (λ (x : Accessor). x.counts) is) (subst (λ u. IfErr res (λ e. (e ≡ Memory) ⊎ IsFault u a.stats e)) old t.fault);
-          cleaned = l ∙ ap (λ (x : Accessor). x.cleaned) is;
-        }
-
-    -- a step on a region's table
-    pub step-in : (q : LogQueue) (s : Step) (res : Result Unit Error) → IsStepTaken q id s d a.stats a.cleaned.items res slot after b.cleaned.items →
-        IsStepTaken q id s r.tables r.counts r.cleaned res (together b.slots.items) b.stats b.cleaned.items
-    step-in q s res t =
-        let old : table_in d id ≡ table_in r.tables id = sym (ap (table_of id) was) in
-        let list : a.cleaned.items ≡ r.cleaned = ap (λ (x : Accessor). x.cleaned) is in
-        let counts : a.stats ≡ r.counts = ap (λ (x : Accessor). x.counts) is in
-        record {
-          ok = subst (λ t. OnOk res (after_step q t s ≡ Some (finite.get (together b.slots.items) id))) old (subst (λ o. OnOk res (after_step q (table_in d id) s ≡ Some o)) (sym now) t.ok);
-          accepted = subst (λ t. OnOk res (IsUnmixed q t s)) old t.accepted;
-          counts_ok = counted_ok-in (λ t k. counts_after_step q t s k) res t.counts_ok;
-          cleaned = subst (λ l. OnOk res (b.cleaned.items ≡ l ++ cleaned_by_steps q (record { region = id; step = s } ∷ []))) list t.cleaned;
-          err = elim res as (λ res. OnErr res (slot ≡ d) → OnErr res (together b.slots.items ≡ r.tables)) [ Ok x ↦ λ e. tt | Err x ↦ λ e. unchanged e ] t.err;
-          counts_err = elim res as (λ res. OnErr res (after ≡ a.stats) → OnErr res (b.stats ≡ r.counts)) [ Ok x ↦ λ e. tt | Err x ↦ λ e. h.stats ∙ e ∙ counts ] t.counts_err;
-          cleaned_err = subst (λ l. OnErr res (b.cleaned.items ≡ l)) list t.cleaned_err;
-          fault = subst (λ c. IfErr res (λ e. (e ≡ Memory) ⊎ IsStepFault q (table_in r.tables id) c s e)) counts (subst (λ u. IfErr res (λ e. (e ≡ Memory) ⊎ IsStepFault q u a.stats s e)) old t.fault);
-          one = tables-are ∙ ap (with_table r.tables id) (sym now);
-          recounted = subst (λ c. IsRecounted (table_in r.tables id) (table_in (together b.slots.items) id) c b.stats) counts (subst (λ c. IsRecounted (table_in r.tables id) (table_in (together b.slots.items) id) a.stats c) (sym h.stats)
-              (subst (λ u. IsRecounted u (table_in (together b.slots.items) id) a.stats after) old (subst (λ u. IsRecounted (table_in d id) u a.stats after) (sym (ap (table_of id) now)) h.recounted)));
-        }
-
-    -- a merge of a table
-    pub merged-in : {R : Type 0} {IsFault : Error → Type 0} (merge : Table → Table → Option Table) (newer : Table) (res : Result R Error) → IsTableMerged (merge (table_in d id) newer) IsFault d id a.stats res slot after
-        → OnOk res (IsMergedAt merge id (finite.get r.tables id) (Some newer) (finite.get (together b.slots.items) id))
-    merged-in merge newer (Err x) t = tt
-    merged-in merge newer (Ok x) t = (
-      ap (λ o. merge (table_of id o) newer) was ∙ t.ok ∙ sym t.there ∙ sym now,
-      subst (λ o. IsTrue (is_some o)) (sym (now ∙ t.there)) (some_is_there (table_in slot id)),
-    )
-
-    -- or a refusal
-    pub refused-in : {R : Type 0} (IsFault : Counts → Table → Error → Type 0) (outcome : Option Table) (res : Result R Error) → IsTableMerged outcome (IsFault after (table_in d id)) d id a.stats res slot after
-        → IfErr res (λ e. (e ≡ Memory) ⊎ IsFault b.stats (table_in r.tables id) e)
-    refused-in IsFault outcome res t =
-        subst (λ k. IfErr res (λ e. (e ≡ Memory) ⊎ IsFault k (table_in r.tables id) e)) (sym h.stats) (subst (λ o. IfErr res (λ e. (e ≡ Memory) ⊎ IsFault after (table_of id o) e)) (sym was) t.fault)
-
-    -- which leaves the table
-    pub left-in : {R : Type 0} {IsFault : Error → Type 0} (outcome : Option Table) (res : Result R Error) → IsTableMerged outcome IsFault d id a.stats res slot after
-        → IfErr res (λ e. e ≢ Memory → table_in (together b.slots.items) id ≡ table_in r.tables id)
-    left-in outcome (Ok x) t = tt
-    left-in outcome (Err x) t = λ k. ap (table_of id) now ∙ t.err k ∙ sym (ap (table_of id) was)
-
     pub alone-in : together b.slots.items ≡ with_table r.tables id (finite.get (together b.slots.items) id)
     alone-in = tables-are ∙ ap (with_table r.tables id) (sym now)
 
--- an item written to its region's table
-module _ (a b : Inside) (item : Item) (i : ℕ) (d slot : Tables) (after : Counts) (kept : IsAccessorKept a) (h : InSlot a b item.raft_group_id i d slot after) (r : Accessor) (is : accessor_shown a ≡ r) where
-  here : finite.get r.tables item.raft_group_id ≡ finite.get d item.raft_group_id
-  here = get-shown a r item.raft_group_id i d kept is h.at h.bound h.lent
+-- ---- the same, with what contracts see of the accessor
 
-  pub written-in : (w : Writing) (res : Result Unit Error) → IsItemWritten w item d a.stats a.cleaned.items res slot after b.cleaned.items → IsWritten w item res r (accessor_shown b)
-  written-in w res t = record {
-    ok = elim res as (λ res. IsItemWritten w item d a.stats a.cleaned.items res slot after b.cleaned.items → OnOk res (AreWritten w (item ∷ []) r (accessor_shown b))) [
-      | Ok x ↦ λ t. record {
-        asked = (t.asked, tt);
-        accepted = (subst (λ o. MixesQueues w (table_of item.raft_group_id o) item.content → ⊥) (sym here) t.accepted, λ u e. tt);
-        tables = ap (option_and_then (λ o. Some (with_table r.tables item.raft_group_id o)))
-            (ap (λ o. after_content w item.raft_group_id o item.content) here ∙ t.ok)
-            ∙ ap Some (sym (tables-are a b item.raft_group_id i d slot after kept h r is));
-        cleaned = t.cleaned ∙ ap (λ l. l ++ listed_by w item) (ap (λ (x : Accessor). x.cleaned) is) ∙ ap (λ l. r.cleaned ++ l) (sym (append-nil (listed_by w item)));
-        counts = λ u e. counted-in a b item.raft_group_id i d slot after kept h r is (λ t k. counts_after_content w t item.content k) t.counts_ok;
-      }
-      | Err x ↦ λ t. tt
-    ] t;
-    err = elim res as (λ res. OnErr res (slot ≡ d) → OnErr res (together b.slots.items ≡ r.tables)) [
-      | Ok x ↦ λ e. tt
-      | Err x ↦ λ e. tables-are a b item.raft_group_id i d slot after kept h r is ∙ ap (with_table r.tables item.raft_group_id) (ap (λ m. finite.get m item.raft_group_id) e ∙ sym here) ∙ with_same r.tables item.raft_group_id
-    ] t.err;
-    counts_err = elim res as (λ res. OnErr res (after ≡ a.stats) → OnErr res (b.stats ≡ r.counts)) [ Ok x ↦ λ e. tt | Err x ↦ λ e. h.stats ∙ e ∙ ap (λ (x : Accessor). x.counts) is ] t.counts_err;
-    cleaned = elim res as (λ res. OnErr res (b.cleaned.items ≡ a.cleaned.items) → OnErr res (b.cleaned.items ≡ r.cleaned)) [ Ok x ↦ λ e. tt | Err x ↦ λ e. e ∙ ap (λ (x : Accessor). x.cleaned) is ] t.cleaned_err;
-    fault = subst (λ n. IfErr res (IsWriteFault w item.raft_group_id (finite.get r.tables item.raft_group_id) n item.content)) (kept.counted (queue_of w) ∙ ap (λ (x : Accessor). live_in_all (queue_of w) x.tables) is)
-        (subst (λ o. IfErr res (IsWriteFault w item.raft_group_id o (live (queue_of w) a.stats) item.content)) (sym here) t.fault);
+abbrev pub with_slot : Inside → ℕ → Tables → Counts → Inside
+with_slot a i slot counts = record a { slots = with_item a.slots i slot; stats = counts }
+
+pub record AtSlot (a b : Inside) (r : Accessor) (id i : ℕ) (d slot : Tables) : Type 0 where
+  pub kept : IsAccessorKept a
+  pub is : accessor_shown a ≡ r
+  pub call : InSlot a b id i d slot b.stats
+
+pub at-slot : {a b : Inside} {r : Accessor} {id i : ℕ} {d slot : Tables} → IsAccessorKept a → accessor_shown a ≡ r → i ≡ slot_of id → i < 128 → d ≡ slice_index_or a.slots.items i d →
+    b.slots.items ≡ slice_set a.slots.items i slot → slot ≡ with_table d id (finite.get slot id) → IsRecounted (table_in d id) (table_in slot id) a.stats b.stats → AtSlot a b r id i d slot
+at-slot kept is at bound lent slots one recounted = record { kept = kept; is = is; call = record { at = at; bound = bound; lent = lent; slots = slots; stats = refl; one = one; recounted = recounted } }
+
+-- a call that took the region's table away
+pub at-gone : {a b : Inside} {r : Accessor} {id i : ℕ} {d slot : Tables} → IsAccessorKept a → accessor_shown a ≡ r → i ≡ slot_of id → i < 128 → d ≡ slice_index_or a.slots.items i d →
+    b.slots.items ≡ slice_set a.slots.items i slot → slot ≡ finite.remove d id → IsRecounted (table_in d id) (empty_table id) a.stats b.stats → AtSlot a b r id i d slot
+at-gone {a} {b} {r} {id} {i} {d} {slot} kept is at bound lent slots gone recounted =
+    let none : finite.get slot id ≡ None = ap (λ m. finite.get m id) gone ∙ get_gone d id in
+    at-slot kept is at bound lent slots (gone ∙ ap (with_table d id) (sym none)) (subst (λ o. IsRecounted (table_in d id) (table_of id o) a.stats b.stats) (sym none) recounted)
+
+module _ {a b : Inside} {r : Accessor} {id i : ℕ} {d slot : Tables} (h : AtSlot a b r id i d slot) where
+  pub kept-at : IsAccessorKept b
+  kept-at = kept-in a b id i d slot b.stats h.kept h.call
+
+  pub tables-at : together b.slots.items ≡ with_table r.tables id (finite.get slot id)
+  tables-at = tables-are a b id i d slot b.stats h.kept h.call r h.is
+
+  pub alone-at : together b.slots.items ≡ with_table r.tables id (finite.get (together b.slots.items) id)
+  alone-at = alone-in a b id i d slot b.stats h.kept h.call r h.is
+
+  -- what is so of the region's table before and after, and of the counts before
+  pub moved-at : (P : Option Table → Option Table → Counts → Type 0) → P (finite.get d id) (finite.get slot id) a.stats → P (finite.get r.tables id) (finite.get (together b.slots.items) id) r.counts
+  moved-at P p =
+      subst (λ o. P o (finite.get (together b.slots.items) id) r.counts) (sym (was a b id i d slot b.stats h.kept h.call r h.is))
+      (subst (λ o. P (finite.get d id) o r.counts) (sym (now a b id i d slot b.stats h.kept h.call r h.is)) (subst (P (finite.get d id) (finite.get slot id)) (ap (λ (x : Accessor). x.counts) h.is) p))
+
+  pub unchanged-at : slot ≡ d → together b.slots.items ≡ r.tables
+  unchanged-at e = tables-at ∙ ap (with_table r.tables id) (ap (λ m. finite.get m id) e ∙ sym (was a b id i d slot b.stats h.kept h.call r h.is)) ∙ with_same r.tables id
+
+  -- a change of a table
+  pub changed-at : {R : Type 0} (outcome : Table → Option Table) (IsFault : Table → Counts → Error → Type 0) (res : Result R Error) → BecomesOutcome (outcome (table_in d id)) (IsFault (table_in d id) a.stats) d id a.stats res slot b.stats
+      → b.cleaned.items ≡ a.cleaned.items → IsTableChanged (outcome (table_in r.tables id)) (IsFault (table_in r.tables id) r.counts) id res r (accessor_shown b)
+  changed-at outcome IsFault res t l = record {
+    ok = moved-at (λ o p k. OnOk res (outcome (table_of id o) ≡ Some (table_of id p))) t.ok;
+    others = on_ok_weaker res (λ e. alone-at ∙ ap (with_table r.tables id) e) (moved-at (λ o p k. OnOk res (p ≡ Some (table_of id p))) t.there);
+    err = on_err_weaker res unchanged-at t.err;
+    counts_err = moved-at (λ o p k. OnErr res (b.stats ≡ k)) t.counts_err;
+    fault = moved-at (λ o p k. IfErr res (λ e. (e ≡ Memory) ⊎ IsFault (table_of id o) k e)) t.fault;
+    cleaned = l ∙ ap (λ (x : Accessor). x.cleaned) h.is;
   }
+
+  -- a step on a region's table
+  pub step-at : (q : LogQueue) (s : Step) (res : Result Unit Error) → IsStepTaken q id s d a.stats a.cleaned.items res slot b.stats b.cleaned.items →
+      IsStepTaken q id s r.tables r.counts r.cleaned res (together b.slots.items) b.stats b.cleaned.items
+  step-at q s res t =
+      let list : a.cleaned.items ≡ r.cleaned = ap (λ (x : Accessor). x.cleaned) h.is in
+      record {
+        ok = moved-at (λ o p k. OnOk res (after_step q (table_of id o) s ≡ Some p)) t.ok;
+        accepted = moved-at (λ o p k. OnOk res (IsUnmixed q (table_of id o) s)) t.accepted;
+        counts_ok = moved-at (λ o p k. OnOk res (b.stats ≡ counts_after_step q (table_of id o) s k)) t.counts_ok;
+        cleaned = subst (λ l. OnOk res (b.cleaned.items ≡ l ++ cleaned_by_steps q (record { region = id; step = s } ∷ []))) list t.cleaned;
+        err = on_err_weaker res unchanged-at t.err;
+        counts_err = moved-at (λ o p k. OnErr res (b.stats ≡ k)) t.counts_err;
+        cleaned_err = subst (λ l. OnErr res (b.cleaned.items ≡ l)) list t.cleaned_err;
+        fault = moved-at (λ o p k. IfErr res (λ e. (e ≡ Memory) ⊎ IsStepFault q (table_of id o) k s e)) t.fault;
+        one = alone-at;
+        recounted = moved-at (λ o p k. IsRecounted (table_of id o) (table_of id p) k b.stats) h.call.recounted;
+      }
+
+  -- a merge of a table
+  pub merged-at : {R : Type 0} {IsFault : Error → Type 0} (merge : Table → Table → Option Table) (newer : Table) (res : Result R Error) → IsTableMerged (merge (table_in d id) newer) IsFault d id a.stats res slot b.stats
+      → OnOk res (IsMergedAt merge id (finite.get r.tables id) (Some newer) (finite.get (together b.slots.items) id))
+  merged-at merge newer (Err x) t = tt
+  merged-at merge newer (Ok x) t = moved-at (λ o p k. IsMergedAt merge id o (Some newer) p) (t.ok ∙ sym t.there, subst (λ o. IsTrue (is_some o)) (sym t.there) (some_is_there (table_in slot id)))
+
+-- an item written to its region's table
+pub written-at : {a b : Inside} {r : Accessor} {i : ℕ} {d slot : Tables} (item : Item) → AtSlot a b r item.raft_group_id i d slot → (w : Writing) (res : Result Unit Error) →
+    IsItemWritten w item d a.stats a.cleaned.items res slot b.stats b.cleaned.items → IsWritten w item res r (accessor_shown b)
+written-at {a} {b} {r} {i} {d} {slot} item h w res t =
+    let id = item.raft_group_id in
+    let list : a.cleaned.items ≡ r.cleaned = ap (λ (x : Accessor). x.cleaned) h.is in
+    record {
+      ok = elim res as (λ res. IsItemWritten w item d a.stats a.cleaned.items res slot b.stats b.cleaned.items → OnOk res (AreWritten w (item ∷ []) r (accessor_shown b))) [
+        | Ok x ↦ λ t. record {
+          asked = (t.asked, tt);
+          accepted = (moved-at h (λ o p k. MixesQueues w (table_of id o) item.content → ⊥) t.accepted, λ u e. tt);
+          tables = ap (option_and_then (λ o. Some (with_table r.tables id o))) (moved-at h (λ o p k. after_content w id o item.content ≡ Some p) t.ok) ∙ ap Some (sym (alone-at h));
+          cleaned = t.cleaned ∙ ap (λ l. l ++ listed_by w item) list ∙ ap (λ l. r.cleaned ++ l) (sym (append-nil (listed_by w item)));
+          counts = λ u e. moved-at h (λ o p k. b.stats ≡ counts_after_content w (table_of id o) item.content k) t.counts_ok;
+        }
+        | Err x ↦ λ t. tt
+      ] t;
+      err = on_err_weaker res (unchanged-at h) t.err;
+      counts_err = moved-at h (λ o p k. OnErr res (b.stats ≡ k)) t.counts_err;
+      cleaned = subst (λ l. OnErr res (b.cleaned.items ≡ l)) list t.cleaned_err;
+      fault = subst (λ n. IfErr res (IsWriteFault w id (finite.get r.tables id) n item.content)) (h.kept.counted (queue_of w) ∙ ap (λ (x : Accessor). live_in_all (queue_of w) x.tables) h.is)
+          (moved-at h (λ o p k. IfErr res (IsWriteFault w id o (live (queue_of w) a.stats) item.content)) t.fault);
+    }
 
 -- ---- items in order
 

@@ -1,86 +1,23 @@
 -- New items that are tested one after another.
-use Rattle.std.proofs.Common.{
-  ◌≡◌,
-  ◌≢◌,
-  ◌⊎◌,
-  ℕ,
-  zero,
-  suc,
-  ◌+◌,
-  ◌<◌,
-  ◌≤◌,
-  length,
-  drop,
-  get_or,
-  Result,
-  Ok,
-  Err,
-  OnOk,
-  true,
-  false,
-  cond,
-  nat_eq,
-  List,
-  [],
-  ◌∷◌,
-  ◌++◌,
-  append_assoc,
-  map,
-  Option,
-  Some,
-  None,
-  refl,
-  sym,
-  ap,
-  subst,
-  ◌∙◌,
-  inl,
-  inr,
-  arith,
-}
-use Rattle.std.specs.List.{AllByRecursion}
-use Rattle.std.specs.Map.{lookup}
+use Rattle.raft_accessor.proofs.Common.{◌≡◌, ◌≢◌, ◌⊎◌, ℕ, ◌+◌, ◌<◌, ◌≤◌, length, drop, get_or, Result, Ok, Err, true, false, cond, nat_eq, List, [], ◌∷◌, ◌++◌, append_assoc, map, Option, Some, None}
+use Rattle.raft_accessor.proofs.Common.{refl, sym, ap, subst, ◌∙◌, inl, inr, AllByRecursion, lookup, option_map, option_and_then, false≢true, CompressionType, EntryIndex, Error, FileBlockHandle}
+use Rattle.raft_accessor.proofs.Common.{FileId, Command, OpType, is_reserved, Item, Content, Pair, entries, command, pair, placed_content, placed_item, Tables, with_table, table_of, Table, Accessor}
+use Rattle.raft_accessor.proofs.Common.{live_in_all, table_in, AreAccepted, AreAcceptedOncePlaced, AreRefusedOncePlaced, IsAppendCheckFault, AreBefore, AreChecked, AreKnown, HasValue, IsExtentOf}
+use Rattle.raft_accessor.proofs.Common.{IsKnown, IsNextFault, IsNextTaken, IsPairAccepted, TakesNext, TakesRun, commanded, Appending, after_content, after_items, after_pair, AreItemsRefused, IsFor}
+use Rattle.raft_accessor.proofs.Common.{IsPairOfQueue, IsWriteFault, queue_of, Extent, item_of}
+use Rattle.std.proofs.Common.{OnOk}
+use Rattle.std.proofs.Math.ListN.{drop_of_length-le}
+use Rattle.std.proofs.lemmas.List.{at_drop_more}
 use Rattle.std.specs.FinMap as finite
-use Rattle.std.specs.Option.{option_map, option_and_then}
-use Rattle.std.proofs.lemmas.Bool.{false≢true}
-use Rattle.raft_base.specs.declared.compression_type.CompressionType.{CompressionType}
-use Rattle.raft_base.specs.declared.entry_index.EntryIndex.{EntryIndex}
-use Rattle.raft_base.specs.declared.errors.Error.{Error}
+use Rattle.raft_records.specs.declared.log_item.LogItem.{LogItem}
 use Rattle.raft_base.specs.declared.errors.Error.TheVariants as errors
-use Rattle.raft_base.specs.declared.pipe_log.FileBlockHandle.{FileBlockHandle}
-use Rattle.raft_base.specs.declared.pipe_log.FileId.{FileId}
 use Rattle.raft_base.specs.declared.pipe_log.LogQueue.TheVariants.{Append}
-use Rattle.raft_records.specs.declared.command.Command.{Command}
 use Rattle.raft_records.specs.declared.command.Command.TheVariants as commands
-use Rattle.raft_records.specs.declared.key_value.OpType.{OpType}
 use Rattle.raft_records.specs.declared.key_value.OpType.TheVariants as operations
-use Rattle.raft_records.specs.Group.{is_reserved}
-use Rattle.raft_records.specs.Item.{Item, Content, Pair, entries, command, pair}
-use Rattle.raft_records.specs.ItemBatch.{placed_content, placed_item}
-use Rattle.raft_history.specs.RegionSteps.{Tables, with_table}
-use Rattle.raft_table.specs.Steps.{table_of}
-use Rattle.raft_table.specs.Table.{Table}
-use Rattle.raft_accessor.specs.Accessor.{Accessor, live_in_all, table_in}
-use Rattle.raft_accessor.specs.AppendChecks.{AreAccepted, AreAcceptedOncePlaced, AreRefusedOncePlaced, IsAppendCheckFault}
-use Rattle.raft_accessor.specs.Extents.{AreBefore, AreChecked, AreKnown, HasValue, IsExtentOf, IsKnown, IsNextFault, IsNextTaken, IsPairAccepted, IsPairCheckFault, IsRunCheckFault, TakesNext, TakesRun, commanded}
-use Rattle.raft_accessor.specs.Writes.{Appending, after_content, after_items, after_pair, AreItemsRefused, IsFor, IsPairOfQueue, IsWriteFault, queue_of}
-use Rattle.raft_accessor.specs.declared.append_check.Extent.{Extent}
 use Rattle.raft_accessor.proofs.MapLemmas.{by_id, self_same, not_same, with_own, with_other, none_some, some_is}
 
 abbrev Es : Type 0
 Es = List (ℕ × Extent)
-
--- ---- what is known of a region
-
-known_at : (extents : Es) (id : ℕ) (table : Option Table) (before now : Tables) (o : Option Extent) → AreBefore extents id table before now → lookup (nat_eq id) extents ≡ o → IsKnown o (table_of id table).entries (table_in now id).entries
-known_at extents id table before now o h e = subst (λ t. IsKnown o (table_of id t).entries (table_in now id).entries) h.own (subst (λ o. IsKnown o (table_in before id).entries (table_in now id).entries) e (h.known id))
-
-pub known_extent : (extents : Es) (id : ℕ) (table : Option Table) (before now : Tables) (x : Extent) → AreBefore extents id table before now → lookup (nat_eq id) extents ≡ Some x → IsExtentOf x (table_in now id).entries
-known_extent extents id table before now x h e = known_at extents id table before now (Some x) h e
-
-pub first_extent : (extents : Es) (id : ℕ) (table : Option Table) (before now : Tables) (x : Extent) → AreBefore extents id table before now →
-    lookup (nat_eq id) extents ≡ None → IsExtentOf x (table_of id table).entries → IsExtentOf x (table_in now id).entries
-first_extent extents id table before now x h e k = subst (IsExtentOf x) (sym (known_at extents id table before now None h e)) k
 
 -- one region's table is written: what is known of it is kept, and what is known of the others stays
 known_with : (old new : Es) (before now : Tables) (id : ℕ) (o : Option Extent) (t : Option Table) → AreKnown old before now →
@@ -108,15 +45,6 @@ run_next old new id table run x y was takes h = λ before now place compression 
       taken = ap (λ o. option_map Some (option_map {U = Table} (λ es. record (table_in now id) { entries = es }) o)) k.2;
       known = known_with old new before now id (Some y) (Some (record (table_in now id) { entries = k.1 })) at.known h k.3;
     }
-
-pub run_fault : (old : Es) (id : ℕ) (table : Option Table) (run : List EntryIndex) (x : Extent) (e : Error) →
-    ((before now : Tables) → AreBefore old id table before now → IsExtentOf x (table_in now id).entries) → IsRunCheckFault x run e →
-    IsNextFault old table (record { raft_group_id = id; content = entries run }) e
-run_fault old id table run x (errors.Corruption text) was fault = λ before now place compression
-    at asked. ap (λ o. option_map Some (option_map {U = Table} (λ es. record (table_in now id) { entries = es }) o))
-    (fault (table_in now id).entries place compression (was before now at) asked)
-run_fault old id table run x errors.Memory was fault = tt
-run_fault old id table run x e was fault = absurd fault
 
 abbrev command_table : ℕ → Option Table → Command → Option Table
 command_table id o commands.Clean = None
@@ -155,11 +83,6 @@ for_pair : (op : OpType) (file : FileId) → file.queue ≡ Append → IsPairOfQ
 for_pair operations.Put file q = q
 for_pair operations.Del file q = tt
 
-no_change : (id : ℕ) (o : Option Table) (op : OpType) (key : List ℕ) (value : Option (List ℕ)) (file : FileId) → (HasValue op value → ⊥) → after_pair (table_of id o) op key value (Some file) ≡ None
-no_change id o operations.Put key None file h = refl
-no_change id o operations.Put key (Some value) file h = absurd (h tt)
-no_change id o operations.Del key value file h = absurd (h tt)
-
 known_same : (extents : Es) (before now : Tables) (id : ℕ) (t : Option Table) → AreKnown extents before now → (table_of id t).entries ≡ (table_in now id).entries → AreKnown extents before (with_table now id t)
 known_same extents before now id t known e = λ r. elim (by_id r id) [
   | inl p ↦ subst (λ r. IsKnown (lookup (nat_eq r) extents) (table_in before r).entries (table_in (with_table now id t) r).entries) (sym p)
@@ -184,32 +107,15 @@ pair_next extents id table p accepted = λ before now place compression at queue
   }
 ] refl
 
-pub pair_fault : (extents : Es) (id : ℕ) (table : Option Table) (p : Pair) (e : Error) → IsPairCheckFault p e → IsNextFault extents table (record { raft_group_id = id; content = pair p }) e
-pair_fault extents id table p (errors.Corruption text) fault = λ before now place compression at asked.
-    ap (λ b. cond b (Some (finite.get now id)) (option_map Some (after_pair (table_in now id) p.op_type p.key p.value (Some place.id)))) fault.0
-    ∙ ap (option_map Some) (no_change id (finite.get now id) p.op_type p.key p.value place.id fault.1)
-pair_fault extents id table p errors.Memory fault = tt
-pair_fault extents id table p e fault = absurd fault
-
 pub pair_taken : (extents : Es) (id : ℕ) (table : Option Table) (p : Pair) (r : Result Unit Error) → OnOk r (IsPairAccepted p) → OnOk r (TakesNext extents table (record { raft_group_id = id; content = pair p }) extents)
 pair_taken extents id table p (Ok u) accepted = pair_next extents id table p accepted
 pair_taken extents id table p (Err e) accepted = tt
 
 -- ---- all items
 
--- the elements from an index on begin with the one there, and behind the last one there are none
-pub next_item : {X : Type 0} (xs : List X) (i : ℕ) (x : X) → i < length xs → x ≡ get_or xs i x → drop i xs ≡ x ∷ drop (i + 1) xs
-next_item [] i x low is = absurd (omega arith)
-next_item (y ∷ ys) zero x low is = ap (λ z. z ∷ ys) (sym is)
-next_item (y ∷ ys) (suc i) x low is =
-    let behind : suc i + 1 ≡ suc (i + 1) = omega arith in
-    rw behind (next_item ys i x (omega arith) is)
-
-pub none_left : {X : Type 0} (xs : List X) (i : ℕ) → length xs ≤ i → drop i xs ≡ []
-none_left [] zero past = refl
-none_left [] (suc i) past = refl
-none_left (x ∷ xs) zero past = absurd (omega arith)
-none_left (x ∷ xs) (suc i) past = none_left xs i (omega arith)
+-- the elements from an index on begin with the one there
+next_item : {X : Type 0} (xs : List X) (i : ℕ) (x : X) → i < length xs → x ≡ get_or xs i x → drop i xs ≡ x ∷ drop (i + 1) xs
+next_item xs i x low is = at_drop_more (λ l. l) xs i x low ∙ ap (λ y. y ∷ drop (i + 1) xs) (sym is)
 
 -- a test of some items, wherever they get their places
 abbrev pub IsCheck : Es → Tables → List Item → List Item → Type 0
@@ -222,7 +128,7 @@ check_begins extents m items none place compression queue = record {
   same = (λ a. a, λ a. a);
 }
 
-pub check_goes_on : (old new : Es) (m : Tables) (items left : List Item) (x : Item) → IsCheck old m items (x ∷ left) → TakesNext old (finite.get m x.raft_group_id) x new → IsCheck new m items left
+check_goes_on : (old new : Es) (m : Tables) (items left : List Item) (x : Item) → IsCheck old m items (x ∷ left) → TakesNext old (finite.get m x.raft_group_id) x new → IsCheck new m items left
 check_goes_on old new m items left x check takes place compression queue =
     let c = check place compression queue in
     let k = takes m c.now place compression (record { own = refl; known = c.known }) queue in
@@ -238,12 +144,12 @@ check_goes_on old new m items left x check takes place compression queue =
       );
     }
 
-pub check_ends : (extents : Es) (m : Tables) (items : List Item) → IsCheck extents m items [] → AreAcceptedOncePlaced m items
+check_ends : (extents : Es) (m : Tables) (items : List Item) → IsCheck extents m items [] → AreAcceptedOncePlaced m items
 check_ends extents m items check place compression queue =
     let c = check place compression queue in
     c.same.0 (record { asked = tt; after = c.now; taken = refl })
 
-pub check_fault : (extents : Es) (m : Tables) (items left : List Item) (x : Item) (e : Error) → IsCheck extents m items (x ∷ left) → IsNextFault extents (finite.get m x.raft_group_id) x e → IsAppendCheckFault m items e
+check_fault : (extents : Es) (m : Tables) (items left : List Item) (x : Item) (e : Error) → IsCheck extents m items (x ∷ left) → IsNextFault extents (finite.get m x.raft_group_id) x e → IsAppendCheckFault m items e
 check_fault extents m items left x (errors.Corruption text) check fault = λ place compression queue accepted.
     let c = check place compression queue in
     let a = c.same.1 accepted in
@@ -260,6 +166,22 @@ pub fault_refused : (m : Tables) (items : List Item) (e : Error) → IsAppendChe
 fault_refused m items (errors.Corruption text) fault other = fault
 fault_refused m items errors.Memory fault other = absurd (other refl)
 fault_refused m items e fault other = absurd fault
+
+-- ---- the item at an index
+
+module _ (old : Es) (m : Tables) (items : List LogItem) (i : ℕ) (check : IsCheck old m (map item_of items) (map item_of (drop i items))) where
+  module _ (x : LogItem) (t : Option Table) (low : i < length items) (is : x ≡ get_or items i x) (own : t ≡ finite.get m x.raft_group_id) where
+    here : IsCheck old m (map item_of items) (item_of x ∷ map item_of (drop (i + 1) items))
+    here = subst (IsCheck old m (map item_of items)) (ap (map item_of) (next_item items i x low is)) check
+
+    pub check_next : (new : Es) → TakesNext old t (item_of x) new → IsCheck new m (map item_of items) (map item_of (drop (i + 1) items))
+    check_next new takes = check_goes_on old new m (map item_of items) _ (item_of x) here (subst (λ t. TakesNext old t (item_of x) new) own takes)
+
+    pub check_refused : (e : Error) → IsNextFault old t (item_of x) e → IsAppendCheckFault m (map item_of items) e
+    check_refused e fault = check_fault old m (map item_of items) _ (item_of x) e here (subst (λ t. IsNextFault old t (item_of x) e) own fault)
+
+  pub check_done : length items ≤ i → AreAcceptedOncePlaced m (map item_of items)
+  check_done past = check_ends old m (map item_of items) (subst (λ l. IsCheck old m (map item_of items) (map item_of l)) (drop_of_length-le items {i = i} past) check)
 
 -- ---- items that are accepted
 

@@ -1,11 +1,7 @@
 -- Commands that clean regions, put behind a batch.
-use Rattle.std.proofs.Common.{◌≡◌, ◌≢◌, ℕ, List, [], ◌∷◌, ◌++◌, map, length, refl, ap, ◌∙◌, append-nil}
-use Rattle.raft_base.specs.declared.errors.Error.{Error}
+use Rattle.raft_accessor.proofs.Common.{◌≡◌, ◌≢◌, ℕ, List, [], ◌∷◌, ◌++◌, map, length, refl, ap, ◌∙◌, append-nil, Error, Item, command_item, raised_item, Batch, empty_batch, with_batch}
 use Rattle.raft_base.specs.declared.errors.Error.TheVariants as errors
 use Rattle.raft_records.specs.declared.command.Command.TheVariants.{Clean}
-use Rattle.raft_records.specs.Item.{Item, command_item}
-use Rattle.raft_records.specs.ItemBatch.{raised_item}
-use Rattle.raft_records.specs.LogBatch.{Batch, empty_batch, with_batch}
 
 abbrev pub cleans : List ℕ → List Item
 cleans ids = map (λ id. command_item id Clean) ids

@@ -1,24 +1,11 @@
 -- Where entries begin and end, and runs that get their places.
-use Rattle.std.proofs.Common.{◌≡◌, ℕ, zero, suc, ◌+◌, ◌-◌, ◌<◌, ◌≤◌, ◌^◌, max, min, true, false, ltb, List, [], ◌∷◌, ◌++◌, length, take, drop, get_or, Some, None, refl, sym, ap, subst, ◌∙◌, ◌⊎◌, inl, inr, arith}
-use Rattle.std.specs.List.{AllByRecursion}
-use Rattle.std.proofs.lemmas.List.{length-take, length-take-le, length-drop, length-append, nil_from_length}
-use Rattle.std.proofs.lemmas.Bool.Decides.{nat_tests}
-use Rattle.raft_base.specs.Corruption.{IsCorruption}
-use Rattle.raft_base.specs.declared.errors.Error.{Error}
+use Rattle.raft_accessor.proofs.Common.{◌≡◌, ℕ, zero, suc, ◌+◌, ◌-◌, ◌<◌, ◌≤◌, ◌^◌, max, min, true, false, ltb, List, [], ◌∷◌, ◌++◌, length, take, drop, get_or, Some, None, refl, sym, ap, subst, ◌∙◌}
+use Rattle.raft_accessor.proofs.Common.{◌⊎◌, inl, inr, arith, AllByRecursion, length-take, length-take-le, length-drop, length-append, nil_from_length, nat_tests, IsCorruption, Error, CompressionType}
+use Rattle.raft_accessor.proofs.Common.{EntryIndex, FileBlockHandle, LogQueue, RisesFrom, IsConsecutive, end_of, end_bounded, is_same, entries_after_append, leaves_hole, starts_in_front}
+use Rattle.raft_accessor.proofs.Common.{AreTableEntries, IsRunIn, below, from, is_placed_in, start_of, below_take, below_start, from_drop, from_start, end_of-run, RisesFrom-append, RisesFrom-take}
+use Rattle.raft_accessor.proofs.Common.{RisesFrom-drop, rises, IsExtentOf, IsRunCheckFault, placed_entries, TakesRun, Extent}
 use Rattle.raft_base.specs.declared.errors.Error.TheVariants as errors
-use Rattle.raft_base.specs.declared.compression_type.CompressionType.{CompressionType}
-use Rattle.raft_base.specs.declared.entry_index.EntryIndex.{EntryIndex}
-use Rattle.raft_base.specs.declared.pipe_log.FileBlockHandle.{FileBlockHandle}
-use Rattle.raft_base.specs.declared.pipe_log.LogQueue.{LogQueue}
 use Rattle.raft_base.specs.declared.pipe_log.LogQueue.TheVariants.{Append}
-use Rattle.raft_base.specs.Runs.{RisesFrom, IsConsecutive, end_of}
-use Rattle.raft_base.proofs.ConsecutiveLemmas.{end_bounded}
-use Rattle.raft_table.specs.Queues.{is_same}
-use Rattle.raft_table.specs.Start.{entries_after_append, leaves_hole, starts_in_front}
-use Rattle.raft_table.specs.TableEntries.{AreTableEntries, IsRunIn, below, from, is_placed_in, start_of}
-use Rattle.raft_table.proofs.RunLemmas.{below_take, below_start, from_drop, from_start, end_of-run, RisesFrom-append, RisesFrom-take, RisesFrom-drop, rises}
-use Rattle.raft_accessor.specs.Extents.{IsExtentOf, IsRunCheckFault, placed_entries, TakesRun}
-use Rattle.raft_accessor.specs.declared.append_check.Extent.{Extent}
 
 pub nat_cases : (a b : ℕ) → (a ≤ b) ⊎ (b < a)
 nat_cases a b = elim (ltb b a) as (λ t. ltb b a ≡ t → (a ≤ b) ⊎ (b < a)) [ true ↦ λ t. inr (grind (arith, nat_tests)) | false ↦ λ t. inl (grind (arith, nat_tests)) ] refl
@@ -72,10 +59,6 @@ unfolding end_of
 extent_end x [] h = sym (h.ends ∙ omega (arith, h.nothing refl))
 extent_end x (e ∷ es) h = end_of-run x.first (e ∷ es) h.rising (omega arith) ∙ sym h.ends
 
-pub extent_start : (x : Extent) (es : List EntryIndex) → IsExtentOf x es → start_of es ≡ x.first
-extent_start x [] h = sym (h.nothing refl)
-extent_start x (e ∷ es) h = h.rising.0
-
 pub extent_table : (x : Extent) (es : List EntryIndex) → AreTableEntries es → x.first ≡ start_of es → x.end ≡ end_of es → IsExtentOf x es
 unfolding end_of
 extent_table x [] h f e = record { rising = tt; ends = omega (arith, f, e); nothing = λ n. f }
@@ -85,14 +68,7 @@ extent_table x (y ∷ es) h f e = record {
   nothing = λ n. absurd (omega (arith, n));
 }
 
-pub extent_none : (x : Extent) → x.first ≡ 0 → x.end ≡ 0 → IsExtentOf x []
-extent_none x f e = record { rising = tt; ends = omega (arith, f, e); nothing = λ n. f }
-
 -- ---- cuts
-
--- nothing stays
-pub cut_none : (x : Extent) (es : List EntryIndex) → es ≡ [] → x.first ≡ 0 → x.end ≡ 0 → IsExtentOf x es
-cut_none x es e f g = subst (IsExtentOf x) (sym e) (extent_none x f g)
 
 pub compacted_none : (x : Extent) (i : ℕ) (es : List EntryIndex) → IsExtentOf x es → x.end ≤ i → from i es ≡ []
 compacted_none x i es h l =
@@ -184,14 +160,7 @@ run_taken x y e run es h rising front hole f0 f1 g =
       ],
     )
 
--- a run in front of the entries is refused, and so is one behind a hole
-pub front_refused : (x : Extent) (e : EntryIndex) (run es : List EntryIndex) → IsExtentOf x es → e.index < x.first → entries_after_append es (e ∷ run) ≡ None
-front_refused x e run [] h l = absurd (omega (arith, l, h.nothing refl))
-front_refused x e run (a ∷ es) h l =
-    let f : a.index ≡ x.first = h.rising.0 in
-    let t : ltb e.index a.index ≡ true = grind (arith, nat_tests) in
-    rw t refl
-
+-- a run behind a hole is refused
 pub hole_refused : (x : Extent) (e : EntryIndex) (run es : List EntryIndex) → IsExtentOf x es → x.first ≤ e.index → 0 < x.end → x.end < e.index → entries_after_append es (e ∷ run) ≡ None
 hole_refused x e run [] h f z l = absurd (omega (arith, z, h.ends, h.nothing refl))
 hole_refused x e run (a ∷ es) h f z l =

@@ -1,3 +1,4 @@
+mod Common
 mod AccessorLemmas
 mod AppendCheckLemmas
 pub mod CleanLemmas
@@ -8,7 +9,7 @@ mod MergeLemmas
 pub mod OrderLemmas
 pub mod RegionTablesLemmas
 pub mod SlotLemmas
-mod SlotTableLemmas
+pub mod SlotTableLemmas
 pub mod StepLemmas
 mod TableJoinLemmas
 mod TableOverlayLemmas

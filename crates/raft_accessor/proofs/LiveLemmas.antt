@@ -1,23 +1,10 @@
 -- The live counts of all tables, when one is written or taken away.
-use Rattle.std.proofs.Common.{◌≡◌, ℕ, ◌+◌, ◌-◌, ◌≤◌, true, false, cond, not, List, [], ◌∷◌, length, map, sum_by, Option, Some, None, refl, sym, ap, ◌∙◌, arith}
-use lib.Dec.{T}
-use Rattle.std.proofs.lemmas.List.Sums.{sum_by-cons}
-use Rattle.std.specs.declared.cmp.Ordering.TheVariants.{Less, Equal, Greater}
-use Rattle.std.specs.Ordering.{nat_cmp, eq_by_cmp, is_eq}
-use Rattle.std.specs.Cmp.{nat_cmp_total}
+use Rattle.raft_accessor.proofs.Common.{◌≡◌, ℕ, ◌+◌, ◌-◌, ◌≤◌, List, [], ◌∷◌, map, sum_by, Option, Some, None, refl, ap, ◌∙◌, arith, sum_by-cons, LogQueue, Counts, live_of_empty, table_of, Table}
+use Rattle.raft_accessor.proofs.Common.{empty_table, live_of, with_table_deleted, IsCounted, IsRecounted, Tables, with_table, table_in, live_in, live_in_all, AreCountsOf, found, total, total_of}
+use Rattle.raft_accessor.proofs.Common.{total-insert, total-none}
 use Rattle.std.specs.FinMap as finite
-use Rattle.std.specs.FinMap.{find, put, is_sorted, nat_cmp-IsAntisymmetric}
-use Rattle.std.specs.FinMap.Entries.{where_key, by_order}
-use Rattle.raft_base.specs.declared.pipe_log.LogQueue.{LogQueue}
+use Rattle.raft_history.proofs.TotalLemmas.{total-remove}
 use Rattle.raft_base.specs.declared.pipe_log.LogQueue.TheVariants.{Append, Rewrite}
-use Rattle.raft_table.specs.Counts.{Counts}
-use Rattle.raft_table.proofs.TableLemmas.{live_of_empty}
-use Rattle.raft_table.specs.Steps.{table_of}
-use Rattle.raft_table.specs.Table.{Table, empty_table, live_of, with_table_deleted, IsCounted, IsRecounted}
-use Rattle.raft_table.proofs.KeyValueCounts.{entries-remove}
-use Rattle.raft_table.proofs.Shown.{find-below, where_key-below, below_all-less, below_all-equal, first_of_both, second_of_both, equal}
-use Rattle.raft_history.specs.RegionSteps.{Tables, with_table}
-use Rattle.raft_accessor.specs.Accessor.{table_in, live_in, live_in_all, AreCountsOf}
 
 -- the live counts of some regions' tables together
 abbrev pub live_of_all : LogQueue → List (ℕ × Table) → ℕ
@@ -32,30 +19,23 @@ live-all q m = go (finite.entries m)
     go [] = refl
     go (e ∷ es) = sum_by-cons (live_of q) e.1 (map (λ (e : ℕ × Table). e.1) es) ∙ ap (λ n. live_of q e.1 + n) (go es)
 
-live-put : (q : LogQueue) (k : ℕ) (t : Table) (es : List (ℕ × Table)) → T (is_sorted nat_cmp es) → live_of_all q (put nat_cmp k t es) + live_in q (find nat_cmp k es) ≡ live_of_all q es + live_of q t
-live-put q k t [] h = omega arith
-live-put q k t (e ∷ es) h =
-    elim (nat_cmp k e.0) as (λ r. nat_cmp k e.0 ≡ r → live_of_all q (by_order r ((k, t) ∷ e ∷ es) ((e.0, t) ∷ es) (e ∷ put nat_cmp k t es)) + live_in
-    q (cond (is_eq r) (Some e.1) (find nat_cmp k es)) ≡ live_of_all q (e ∷ es) + live_of q t) [
-      | Less ↦ λ p. rw (find-below nat_cmp_total k es (below_all-less nat_cmp_total k e.0 es p (first_of_both _ _ h))) (omega arith)
-      | Equal ↦ λ p. omega arith
-      | Greater ↦ λ p. omega (arith, live-put q k t es (second_of_both _ _ h))
-    ] refl
+live-total : (q : LogQueue) (m : Tables) → live_in_all q m ≡ total (live_of q) m
+unfolding total
+live-total q m = live-all q m ∙ go (finite.entries m)
+  where
+    go : (es : List (ℕ × Table)) → live_of_all q es ≡ total_of (live_of q) es
+    go [] = refl
+    go (e ∷ es) = ap (λ n. live_of q e.1 + n) (go es)
 
-live-without : (q : LogQueue) (k : ℕ) (es : List (ℕ × Table)) → T (is_sorted nat_cmp es) → live_of_all q (where_key nat_cmp (λ x. not (eq_by_cmp nat_cmp k x)) es) + live_in q (find nat_cmp k es) ≡ live_of_all q es
-live-without q k [] h = refl
-live-without q k (e ∷ es) h =
-    let rest = where_key nat_cmp (λ x. not (eq_by_cmp nat_cmp k x)) es in
-    elim (is_eq (nat_cmp k e.0)) as (λ b. is_eq (nat_cmp k e.0) ≡ b → live_of_all q (cond (not b) (e ∷ rest) rest) + live_in q (cond b (Some e.1) (find nat_cmp k es)) ≡ live_of_all q (e ∷ es)) [
-      | true ↦ λ p. rw (where_key-below nat_cmp_total k es (below_all-equal nat_cmp_total k e.0 es (equal _ p) (first_of_both _ _ h))) (omega arith)
-      | false ↦ λ p. omega (arith, live-without q k es (second_of_both _ _ h))
-    ] refl
+live-found : (q : LogQueue) (o : Option Table) → found (live_of q) o ≡ live_in q o
+live-found q None = refl
+live-found q (Some t) = refl
 
 pub live-insert : (q : LogQueue) (m : Tables) (k : ℕ) (t : Table) → live_in_all q (finite.insert m k t) + live_in q (finite.get m k) ≡ live_in_all q m + live_of q t
-live-insert q m k t = rw (live-all q (finite.insert m k t), live-all q m, finite.entries-insert nat_cmp_total, finite.get-entries) (live-put q k t (finite.entries m) (finite.entries_sorted m))
+live-insert q m k t = omega (arith, total-insert (live_of q) m k t, live-total q (finite.insert m k t), live-total q m, live-found q (finite.get m k))
 
 pub live-remove : (q : LogQueue) (m : Tables) (k : ℕ) → live_in_all q (finite.remove m k) + live_in q (finite.get m k) ≡ live_in_all q m
-live-remove q m k = rw (live-all q (finite.remove m k), live-all q m, entries-remove nat_cmp_total nat_cmp-IsAntisymmetric, finite.get-entries) (live-without q k (finite.entries m) (finite.entries_sorted m))
+live-remove q m k = omega (arith, total-remove (live_of q) m k, live-total q (finite.remove m k), live-total q m, live-found q (finite.get m k))
 
 -- one region's table written, or taken away
 pub live-with : (q : LogQueue) (m : Tables) (k : ℕ) (t : Option Table) → live_in_all q (with_table m k t) + live_in q (finite.get m k) ≡ live_in_all q m + live_in q t
@@ -75,11 +55,7 @@ pub counted-with : (m : Tables) (old new : Counts) (k : ℕ) (t : Option Table) 
 counted-with m old new k t h r = λ q. omega (arith, h q, r q, live-with q m k t, live-table_of q k (finite.get m k), live-table_of q k t)
 
 pub live-none : (q : LogQueue) → live_in_all q finite.empty ≡ 0
-live-none q = live-all q finite.empty ∙ ap (live_of_all q) (no_length _ (sym (finite.len-entries {K = ℕ} {X = Table} {R = nat_cmp} finite.empty) ∙ finite.len-empty nat_cmp Table))
-  where
-    no_length : (es : List (ℕ × Table)) → length es ≡ 0 → es ≡ []
-    no_length [] e = refl
-    no_length (x ∷ es) e = absurd (omega arith)
+live-none q = live-total q finite.empty ∙ total-none (live_of q)
 
 pub table_live-le : (q : LogQueue) (m : Tables) (k : ℕ) → live_of q (table_in m k) ≤ live_in_all q m
 table_live-le q m k = omega (arith, live-table_of q k (finite.get m k), live-remove q m k)

@@ -1,16 +1,10 @@
 -- Maps under numbers: one key written or taken away.
-use Rattle.std.proofs.Common.{◌≡◌, ◌⊎◌, ℕ, ◌==◌, Bool, true, false, cond, Option, Some, None, refl, sym, ap, subst, ◌∙◌, inl, inr}
+use Rattle.raft_accessor.proofs.Common.{◌≡◌, ◌⊎◌, ℕ, ◌==◌, true, false, cond, Some, None, refl, sym, ap, subst, ◌∙◌, inl, inr, nat_cmp, is_eq, eq_by_cmp, nat_cmp_total, nat_cmp_is}
+use Rattle.raft_accessor.proofs.Common.{nat_cmp-IsAntisymmetric, equal, Table, Tables, with_table, false≢true, eqb-true, [], nil_from_length}
 use Rattle.std.specs.declared.cmp.Ordering.TheVariants.{Equal}
-use Rattle.std.specs.Ordering.{nat_cmp, is_eq, eq_by_cmp}
-use Rattle.std.specs.Cmp.{nat_cmp_total, nat_cmp_is}
+use Rattle.std.proofs.lemmas.Bool.{eq-eqb}
 use Rattle.std.specs.FinMap as finite
-use Rattle.std.specs.FinMap.{nat_cmp-IsAntisymmetric}
-use Rattle.raft_table.proofs.Shown.{equal}
-use Rattle.raft_table.specs.Table.{Table}
-use Rattle.raft_history.specs.RegionSteps.{Tables, with_table}
-use Rattle.std.proofs.Math.Dec.{eqb_refl}
-use lib.Dec.{T}
-use Rattle.std.proofs.lemmas.Bool.{false≢true, eqb-true}
+pub use Rattle.raft_history.proofs.MapLemmas.{get_left, get_other, with_other, with_own}
 
 pub eq_self : (n : ℕ) → eq_by_cmp nat_cmp n n ≡ true
 eq_self n = ap is_eq (sym (nat_cmp_is n n Equal refl))
@@ -32,14 +26,8 @@ module _ {X : Type 0} where
   pub get_own : (m : finite.FinMap nat_cmp X) (id : ℕ) (x : X) → finite.get (finite.insert m id x) id ≡ Some x
   get_own m id x = finite.get-insert nat_cmp_total m id x id ∙ ap (λ b. cond b (Some x) (finite.get m id)) (eq_self id)
 
-  pub get_other : (m : finite.FinMap nat_cmp X) (id q : ℕ) (x : X) → eq_by_cmp nat_cmp q id ≡ false → finite.get (finite.insert m id x) q ≡ finite.get m q
-  get_other m id q x f = finite.get-insert nat_cmp_total m id x q ∙ ap (λ b. cond b (Some x) (finite.get m q)) f
-
   pub get_gone : (m : finite.FinMap nat_cmp X) (id : ℕ) → finite.get (finite.remove m id) id ≡ None
   get_gone m id = finite.get-remove nat_cmp_total m id id ∙ ap (λ b. cond b None (finite.get m id)) (eq_self id)
-
-  pub get_left : (m : finite.FinMap nat_cmp X) (id q : ℕ) → eq_by_cmp nat_cmp q id ≡ false → finite.get (finite.remove m id) q ≡ finite.get m q
-  get_left m id q f = finite.get-remove nat_cmp_total m id q ∙ ap (λ b. cond b None (finite.get m q)) f
 
   -- what is there already written again
   pub insert_same : (m : finite.FinMap nat_cmp X) (id : ℕ) (x : X) → finite.get m id ≡ Some x → finite.insert m id x ≡ m
@@ -60,30 +48,18 @@ module _ {X : Type 0} where
         | inr f ↦ get_left _ id q f ∙ get_other m id q x f
       ])
 
+  pub entries-empty : (m : finite.FinMap nat_cmp X) → m ≡ finite.empty → finite.entries m ≡ []
+  entries-empty m e = ap finite.entries e ∙ nil_from_length _ (sym (finite.len-entries {K = ℕ} {X = X} {R = nat_cmp} finite.empty) ∙ finite.len-empty nat_cmp X)
+
 -- ---- tests of numbers
 
 pub not_same : (a b : ℕ) → eq_by_cmp nat_cmp b a ≡ false → (a == b) ≡ false
 not_same a b f = elim (a == b) as (λ t. (a == b) ≡ t → t ≡ false) [ true ↦ λ e. absurd (false≢true (sym f ∙ ap (eq_by_cmp nat_cmp b) (eqb-true a b e) ∙ eq_self b)) | false ↦ λ e. refl ] refl
 
-T_true : (b : Bool) → T b → b ≡ true
-T_true true h = refl
-T_true false h = absurd h
-
-eqb_self : (a : ℕ) → (a == a) ≡ true
-eqb_self a = T_true _ (eqb_refl a)
-
 pub self_same : (a : ℕ) → (a == a) ≡ true
-self_same a = elim (a == a) as (λ t. (a == a) ≡ t → t ≡ true) [ true ↦ λ e. refl | false ↦ λ e. absurd (false≢true (sym e ∙ eqb_self a)) ] refl
+self_same a = eq-eqb a a refl
 
 -- ---- a table written, or taken away
-
-pub with_own : (m : Tables) (id : ℕ) (t : Option Table) → finite.get (with_table m id t) id ≡ t
-with_own m id None = get_gone m id
-with_own m id (Some t) = get_own m id t
-
-pub with_other : (m : Tables) (id q : ℕ) (t : Option Table) → eq_by_cmp nat_cmp q id ≡ false → finite.get (with_table m id t) q ≡ finite.get m q
-with_other m id q None f = get_left m id q f
-with_other m id q (Some t) f = get_other m id q t f
 
 pub with_same : (m : Tables) (id : ℕ) → with_table m id (finite.get m id) ≡ m
 with_same m id = same _ _ (λ q. elim (by_id q id) [ inl p ↦ subst (λ q. finite.get (with_table m id (finite.get m id)) q ≡ finite.get m q) (sym p) (with_own m id (finite.get m id)) | inr f ↦ with_other m id q (finite.get m id) f ])

@@ -1,28 +1,16 @@
 -- Tables merged into those of all regions, one after another.
-use Rattle.std.proofs.Common.{◌≡◌, ◌≢◌, ◌⊎◌, ℕ, suc, nat_eq, IsTrue, List, [], ◌∷◌, ◌++◌, length, cond, Option, Some, None, Result, Ok, Err, refl, sym, ap, subst, ◌∙◌, inl, inr, arith}
-use Rattle.std.specs.Ordering.{nat_cmp}
-use Rattle.std.specs.Cmp.{nat_cmp_total}
-use Rattle.std.specs.Option.{is_some, option_or}
+use Rattle.raft_accessor.proofs.Common.{◌≡◌, ◌≢◌, ◌⊎◌, ℕ, nat_eq, IsTrue, List, [], ◌∷◌, ◌++◌, cond, Option, Some, None, Result, Ok, Err, refl, sym, ap, subst, ◌∙◌, inl, inr, nat_cmp, nat_cmp_total}
+use Rattle.raft_accessor.proofs.Common.{is_some, option_or, find, OnOk, IfErr, Error, LogQueue, Tables, with_table, Counts, IsTableMergeFault, table_of, Table, IsRecounted, table_in, slot_entries}
+use Rattle.raft_accessor.proofs.Common.{together, AreSlots, IsMergedAt, AreTablesMerged, IsLeftAt, AreTablesLeft, AreOthersLeft, IsMergeRefusal, MayAlter, IsAltered, TableCall, TableCalls, lookup}
+use Rattle.raft_accessor.proofs.Common.{keys_of, IsDistinct, append-nil, append_assoc, Accessor, with_neighbor, IsFaultBeside}
 use Rattle.std.specs.FinMap as finite
-use Rattle.std.specs.FinMap.{find}
-use Rattle.std.specs.Result.{OnOk, IfErr}
-use Rattle.raft_base.specs.declared.errors.Error.{Error}
+use Rattle.raft_accessor.specs.Merges.{AreMerged}
+use Rattle.raft_accessor.specs.declared.neighbor.Neighbor.{Neighbor}
 use Rattle.raft_base.specs.declared.errors.Error.TheVariants.{Memory}
-use Rattle.raft_base.specs.declared.pipe_log.LogQueue.{LogQueue}
-use Rattle.raft_history.specs.RegionSteps.{Tables, with_table}
-use Rattle.raft_table.specs.Counts.{Counts}
-use Rattle.raft_table.specs.Merge.{IsTableMergeFault}
-use Rattle.raft_table.specs.Steps.{table_of}
-use Rattle.raft_table.specs.Table.{Table, IsRecounted}
-use Rattle.raft_accessor.specs.Accessor.{slot_of, table_in}
-use Rattle.raft_accessor.specs.Slots.{slot_entries, together, AreSlots}
-use Rattle.raft_accessor.specs.Merges.{IsMergedAt, AreTablesMerged, IsLeftAt, AreTablesLeft, AreOthersLeft, IsMergeRefusal, MayAlter, IsAltered}
-use Rattle.raft_accessor.specs.Updates.{TableCall, TableCalls}
 use Rattle.raft_accessor.proofs.MapLemmas.{none_some, by_id, eq_self, get_own, one_written, one_same, with_other}
-use Rattle.std.specs.Map.{lookup}
-use Rattle.raft_accessor.proofs.OrderLemmas.{Once}
+use Rattle.raft_accessor.proofs.OrderLemmas.{Once, once-distinct, once-slots}
 use Rattle.raft_accessor.proofs.RegionTablesLemmas.{found}
-use Rattle.raft_accessor.proofs.SlotLemmas.{find-both, find-later, same_slot}
+use Rattle.raft_accessor.proofs.SlotLemmas.{find-both}
 
 -- ---- one table
 
@@ -52,6 +40,39 @@ module _ {F R : Type 0} (g : TableCall F R) (f : F) (m : Tables) (id : ℕ) (cou
 
 -- ---- tables in order
 
+-- no region has an entry of both
+abbrev pub AreApart : List (ℕ × Table) → List (ℕ × Table) → Type 0
+AreApart xs ys = (q : ℕ) → find nat_cmp q xs ≢ None → find nat_cmp q ys ≡ None
+
+first-none : (o p : Option Table) → option_or o p ≡ None → o ≡ None
+first-none None p e = refl
+first-none (Some t) p e = e
+
+second-none : (o p : Option Table) → option_or o p ≡ None → p ≡ None
+second-none None p e = e
+second-none (Some t) p e = absurd (none_some (sym e))
+
+once-apart : (xs ys : List (ℕ × Table)) → Once (xs ++ ys) → AreApart xs ys
+once-apart [] ys once q f = absurd (f refl)
+once-apart (x ∷ xs) ys once q f = elim (by_id q x.0) [
+  | inl p ↦ ap (λ q. find nat_cmp q ys) p ∙ second-none (find nat_cmp x.0 xs) (find nat_cmp x.0 ys) (sym (find-both x.0 xs ys) ∙ once.0)
+  | inr n ↦ once-apart xs ys once.1 q (λ none. f (ap (λ b. cond b (Some x.1) (find nat_cmp q xs)) n ∙ none))
+]
+
+-- what is found behind others is not found in them
+not-before : (xs ys : List (ℕ × Table)) (q : ℕ) (t : Table) → AreApart xs ys → find nat_cmp q ys ≡ Some t → find nat_cmp q xs ≡ None
+not-before xs ys q t apart there = elim (find nat_cmp q xs) as (λ o. find nat_cmp q xs ≡ o → o ≡ None) [
+  | None ↦ λ e. refl
+  | Some u ↦ λ e. absurd (none_some (sym (apart q (λ none. none_some (sym none ∙ e))) ∙ there))
+] refl
+
+found-behind : (xs ys : List (ℕ × Table)) (q : ℕ) (t : Table) → AreApart xs ys → find nat_cmp q ys ≡ Some t → find nat_cmp q (xs ++ ys) ≡ Some t
+found-behind xs ys q t apart there = find-both q xs ys ∙ ap (λ o. option_or o (find nat_cmp q ys)) (not-before xs ys q t apart there) ∙ there
+
+slots-append : (xs ys : List Tables) → slot_entries (xs ++ ys) ≡ slot_entries xs ++ slot_entries ys
+slots-append [] ys = refl
+slots-append (x ∷ xs) ys = ap (λ l. finite.entries x ++ l) (slots-append xs ys) ∙ sym (append_assoc (finite.entries x) (slot_entries xs) (slot_entries ys))
+
 -- some entry's table is refused beside the older one of its region
 abbrev pub Refuses : (Table → Table → Error → Type 0) → Tables → List (ℕ × Table) → Error → Type 0
 Refuses IsFault m es e = (id : ℕ) × (t : Table) × (find nat_cmp id es ≡ Some t) × IsFault (table_in m id) t e
@@ -66,21 +87,13 @@ abbrev pub HasEntry : Option ℕ → List (ℕ × Table) → Type 0
 HasEntry None es = Unit {0}
 HasEntry (Some at) es = find nat_cmp at es ≢ None
 
-or_some : (o p : Option Table) → p ≢ None → option_or o p ≢ None
-or_some None p f = f
-or_some (Some t) p f = λ none. none_some (sym none)
-
 entry-behind : (gone : Option ℕ) (xs ys : List (ℕ × Table)) → HasEntry gone ys → HasEntry gone (xs ++ ys)
 entry-behind None xs ys h = tt
-entry-behind (Some at) xs ys h = λ none. or_some (find nat_cmp at xs) (find nat_cmp at ys) h (sym (find-both at xs ys) ∙ none)
-
-some_or : (o p : Option Table) → o ≢ None → option_or o p ≢ None
-some_or None p f = absurd (f refl)
-some_or (Some t) p f = λ none. none_some (sym none)
+entry-behind (Some at) xs ys h = λ none. h (second-none (find nat_cmp at xs) (find nat_cmp at ys) (sym (find-both at xs ys) ∙ none))
 
 entry-in-front : (gone : Option ℕ) (xs ys : List (ℕ × Table)) → HasEntry gone xs → HasEntry gone (xs ++ ys)
 entry-in-front None xs ys h = tt
-entry-in-front (Some at) xs ys h = λ none. some_or (find nat_cmp at xs) (find nat_cmp at ys) h (sym (find-both at xs ys) ∙ none)
+entry-in-front (Some at) xs ys h = λ none. h (first-none (find nat_cmp at xs) (find nat_cmp at ys) (sym (find-both at xs ys) ∙ none))
 
 first-found : (rest es : List (ℕ × Table)) (id : ℕ) (t : Table) → rest ≡ (id, t) ∷ es → find nat_cmp id rest ≡ Some t
 first-found rest es id t is = ap (λ l. find nat_cmp id l) is ∙ ap (λ b. cond b (Some t) (find nat_cmp id es)) (eq_self id)
@@ -96,43 +109,37 @@ module _ (merge : Table → Table → Option Table) where
       let e : z ≡ y = subst (λ p. IsMergedAt merge id y p z) (apart (λ e. none_some (sym e))) h in
       (g.0 ∙ sym e, subst (λ y. IsTrue (is_some y)) (sym e) g.1)
 
-  pub joins-append : (m n z : Tables) (xs ys : List (ℕ × Table)) → ((q : ℕ) → find nat_cmp q xs ≢ None → find nat_cmp q ys ≡ None) → Joins m xs n → Joins n ys z → Joins m (xs ++ ys) z
-  joins-append m n z xs ys apart g h = λ q.
-      subst (λ o. IsMergedAt merge q (finite.get m q) o (finite.get z q)) (sym (find-both q xs ys)) (both q (finite.get m q) (finite.get n q) (finite.get z q) (find nat_cmp q xs) (find nat_cmp q ys) (apart q) (g q) (h q))
+  joins-append : (m n z : Tables) (xs ys rest : List (ℕ × Table)) → AreApart xs (ys ++ rest) → Joins m xs n → Joins n ys z → Joins m (xs ++ ys) z
+  joins-append m n z xs ys rest apart g h = λ q.
+      subst (λ o. IsMergedAt merge q (finite.get m q) o (finite.get z q)) (sym (find-both q xs ys)) (both q (finite.get m q) (finite.get n q) (finite.get z q) (find nat_cmp q xs) (find nat_cmp q ys)
+      (λ f. first-none (find nat_cmp q ys) (find nat_cmp q rest) (sym (find-both q ys rest) ∙ apart q f)) (g q) (h q))
 
   -- one entry
-  pub joins-one : (m n : Tables) (id : ℕ) (t : Table) → IsMergedAt merge id (finite.get m id) (Some t) (finite.get n id) → n ≡ with_table m id (finite.get n id) → Joins m ((id, t) ∷ []) n
+  joins-one : (m n : Tables) (id : ℕ) (t : Table) → IsMergedAt merge id (finite.get m id) (Some t) (finite.get n id) → n ≡ with_table m id (finite.get n id) → Joins m ((id, t) ∷ []) n
   joins-one m n id t here e = λ q. elim (by_id q id) [
     | inl p ↦ subst (λ q. IsMergedAt merge q (finite.get m q) (find nat_cmp q ((id, t) ∷ [])) (finite.get n q)) (sym p) (subst (λ b. IsMergedAt merge id (finite.get m id) (cond b (Some t) None) (finite.get n id)) (sym (eq_self id)) here)
     | inr f ↦ subst (λ b. IsMergedAt merge q (finite.get m q) (cond b (Some t) None) (finite.get n q)) (sym f) (ap (λ r. finite.get r q) e ∙ with_other m id q (finite.get n id) f)
   ]
 
-  apart_one : (id : ℕ) (t : Table) (es : List (ℕ × Table)) → Once ((id, t) ∷ es) → (q : ℕ) → find nat_cmp q ((id, t) ∷ []) ≢ None → find nat_cmp q es ≡ None
-  apart_one id t es once q ne = elim (by_id q id) [
-    | inl p ↦ ap (λ q. find nat_cmp q es) p ∙ once.0
-    | inr f ↦ absurd (ne (ap (λ b. cond b (Some t) None) f))
-  ]
+  -- one entry more is merged
+  pub more-merged : (m n z : Tables) (all done rest es : List (ℕ × Table)) (id : ℕ) (t : Table) → rest ≡ (id, t) ∷ es → done ++ rest ≡ all → AreApart done rest → Joins m done n →
+      IsMergedAt merge id (finite.get n id) (Some t) (finite.get z id) → z ≡ with_table n id (finite.get z id) → (more : List (ℕ × Table)) × (more ++ es ≡ all) × Joins m more z
+  more-merged m n z all done rest es id t is split apart g here one = (
+    done ++ (id, t) ∷ [],
+    append_assoc done ((id, t) ∷ []) es ∙ ap (λ l. done ++ l) (sym is) ∙ split,
+    joins-append m n z done ((id, t) ∷ []) es (subst (AreApart done) is apart) g (joins-one n z id t here one),
+  )
 
-  -- an entry in front of others
-  pub joins-step : (m n z : Tables) (rest es : List (ℕ × Table)) (id : ℕ) (t : Table) → rest ≡ (id, t) ∷ es → Once rest →
-      IsMergedAt merge id (finite.get m id) (Some t) (finite.get n id) → n ≡ with_table m id (finite.get n id) → Joins n es z → Joins m rest z
-  joins-step m n z rest es id t is once here e h = subst (λ l. Joins m l z) (sym is) (joins-append m n z ((id, t) ∷ []) es (apart_one id t es (subst Once is once)) (joins-one m n id t here e) h)
-
-  apart_slot : (k : ℕ) (s : Tables) (ms : List Tables) → AreSlots k (s ∷ ms) → (q : ℕ) → find nat_cmp q (finite.entries s) ≢ None → find nat_cmp q (slot_entries ms) ≡ None
-  apart_slot k s ms h q ne = elim (same_slot (slot_of q) k) [
-    | inl e ↦ find-later (suc k) ms q h.1 (omega (arith, e))
-    | inr f ↦ absurd (ne (sym (finite.get-entries s q) ∙ h.0 q f))
-  ]
-
-  -- a slot in front of others
-  pub slots-step : (m n z : Tables) (rest ms : List Tables) (k : ℕ) (s : Tables) → rest ≡ s ∷ ms → AreSlots k rest → AreTablesMerged merge m s n → Joins n (slot_entries ms) z → Joins m (slot_entries rest) z
-  slots-step m n z rest ms k s is slots here h =
-      subst (λ l. Joins m (slot_entries l) z) (sym is)
-      (joins-append m n z (finite.entries s) (slot_entries ms) (apart_slot k s ms (subst (AreSlots k) is slots)) (λ q. subst (λ o. IsMergedAt merge q (finite.get m q) o (finite.get n q)) (finite.get-entries s q) (here q)) h)
-
-  -- no entries
-  pub joins-none : (m : Tables) (es : List (ℕ × Table)) → es ≡ [] → Joins m es m
-  joins-none m es e = λ q. subst (λ l. IsMergedAt merge q (finite.get m q) (find nat_cmp q l) (finite.get m q)) (sym e) refl
+  -- one slot more
+  pub more-slots : (m n z : Tables) (all done rest ms : List Tables) (s : Tables) → rest ≡ s ∷ ms → done ++ rest ≡ all → AreApart (slot_entries done) (slot_entries rest) →
+      Joins m (slot_entries done) n → AreTablesMerged merge n s z → (more : List Tables) × (more ++ ms ≡ all) × Joins m (slot_entries more) z
+  more-slots m n z all done rest ms s is split apart g here = (
+    done ++ s ∷ [],
+    append_assoc done (s ∷ []) ms ∙ ap (λ l. done ++ l) (sym is) ∙ split,
+    subst (λ es. Joins m es z) (sym (slots-append done (s ∷ []) ∙ ap (λ l. slot_entries done ++ l) (append-nil (finite.entries s))))
+        (joins-append m n z (slot_entries done) (finite.entries s) (slot_entries ms) (subst (λ l. AreApart (slot_entries done) (slot_entries l)) is apart) g
+        (λ q. subst (λ o. IsMergedAt merge q (finite.get n q) o (finite.get z q)) (finite.get-entries s q) (here q))),
+  )
 
   -- ---- what a refusal leaves
 
@@ -154,7 +161,7 @@ module _ (merge : Table → Table → Option Table) where
       let e : z ≡ y = subst (λ p. IsLeftAt merge id y p z) (apart (λ e. none_some (sym e))) h in
       inl (g.0 ∙ sym e, subst (λ y. IsTrue (is_some y)) (sym e) g.1)
 
-  leaves-append : (gone : Option ℕ) (m n z : Tables) (xs ys : List (ℕ × Table)) → ((q : ℕ) → find nat_cmp q xs ≢ None → find nat_cmp q ys ≡ None) → Joins m xs n → Leaves gone n ys z → Leaves gone m (xs ++ ys) z
+  pub leaves-append : (gone : Option ℕ) (m n z : Tables) (xs ys : List (ℕ × Table)) → AreApart xs ys → Joins m xs n → Leaves gone n ys z → Leaves gone m (xs ++ ys) z
   leaves-append gone m n z xs ys apart g h = (
     entry-behind gone xs ys h.0,
     λ q other.
@@ -182,12 +189,6 @@ module _ (merge : Table → Table → Option Table) where
     ],
   )
 
-  -- or one behind it is refused
-  pub leaves-step : (gone : Option ℕ) (m n z : Tables) (rest es : List (ℕ × Table)) (id : ℕ) (t : Table) → rest ≡ (id, t) ∷ es → Once rest →
-      IsMergedAt merge id (finite.get m id) (Some t) (finite.get n id) → n ≡ with_table m id (finite.get n id) → Leaves gone n es z →
-      Leaves gone m rest z
-  leaves-step gone m n z rest es id t is once here e h = subst (λ l. Leaves gone m l z) (sym is) (leaves-append gone m n z ((id, t) ∷ []) es (apart_one id t es (subst Once is once)) (joins-one m n id t here e) h)
-
   -- the same of the slots of a map: one in front
   leaves-slot : (gone : Option ℕ) (m n : Tables) (rest ms : List Tables) (s : Tables) → rest ≡ s ∷ ms → HasEntry gone (finite.entries s) →
       ((q : ℕ) → IsOther gone q → IsLeftAt merge q (finite.get m q) (finite.get s q) (finite.get n q)) → Leaves gone m (slot_entries rest) n
@@ -204,44 +205,6 @@ module _ (merge : Table → Table → Option Table) where
   pub others-slot : (m n : Tables) (rest ms : List Tables) (s : Tables) → rest ≡ s ∷ ms → (h : AreOthersLeft merge m s n) → Leaves (Some h.at) m (slot_entries rest) n
   others-slot m n rest ms s is h = leaves-slot (Some h.at) m n rest ms s is (λ none. h.there (finite.get-entries s h.at ∙ none)) h.others
 
-  -- or one behind it
-  pub leaves-slots : (gone : Option ℕ) (m n z : Tables) (rest ms : List Tables) (k : ℕ) (s : Tables) → rest ≡ s ∷ ms → AreSlots k rest → AreTablesMerged merge m s n → Leaves gone n (slot_entries ms) z → Leaves gone m (slot_entries rest) z
-  leaves-slots gone m n z rest ms k s is slots here h =
-      subst (λ l. Leaves gone m (slot_entries l) z) (sym is)
-      (leaves-append gone m n z (finite.entries s) (slot_entries ms) (apart_slot k s ms (subst (AreSlots k) is slots)) (λ q. subst (λ o. IsMergedAt merge q (finite.get m q) o (finite.get n q)) (finite.get-entries s q) (here q)) h)
-
-  -- the entries of a map
-  entries-are : (s : Tables) (es : List (ℕ × Table)) → finite.from_entries {R = nat_cmp} es ≡ s → (q : ℕ) → find nat_cmp q es ≡ finite.get s q
-  entries-are s es e q = sym (finite.get-from_entries nat_cmp_total es q) ∙ ap (λ r. finite.get r q) e
-
-  pub left-of : (m n s : Tables) (es : List (ℕ × Table)) → finite.from_entries {R = nat_cmp} es ≡ s → Leaves None m es n → AreTablesLeft merge m s n
-  left-of m n s es e h = λ q. subst (λ o. IsLeftAt merge q (finite.get m q) o (finite.get n q)) (entries-are s es e q) (h.1 q tt)
-
-  pub others-of : (at : ℕ) (m n s : Tables) (es : List (ℕ × Table)) → finite.from_entries {R = nat_cmp} es ≡ s → Leaves (Some at) m es n → AreOthersLeft merge m s n
-  others-of at m n s es e h = record {
-    at = at;
-    there = λ none. h.0 (entries-are s es e at ∙ none);
-    others = λ q other. subst (λ o. IsLeftAt merge q (finite.get m q) o (finite.get n q)) (entries-are s es e q) (h.1 q other);
-  }
-
-  -- an entry that is refused behind others of another slot
-  pub refuses-slots : (IsFault : Table → Table → Error → Type 0) (m n : Tables) (rest ms : List Tables) (k : ℕ) (s : Tables) (e : Error) →
-      rest ≡ s ∷ ms → AreSlots k rest → AreTablesMerged merge m s n → Refuses IsFault n (slot_entries ms) e → Refuses IsFault m (slot_entries rest) e
-  refuses-slots IsFault m n rest ms k s e is slots here h = subst (λ l. Refuses IsFault m (slot_entries l) e) (sym is) (by (find nat_cmp h.0 (finite.entries s)) refl)
-    where
-      by : (o : Option Table) → find nat_cmp h.0 (finite.entries s) ≡ o → Refuses IsFault m (slot_entries (s ∷ ms)) e
-      by (Some t) there = absurd (none_some (sym (apart_slot k s ms (subst (AreSlots k) is slots) h.0 (λ none. none_some (sym none ∙ there))) ∙ h.2))
-      by None there = (
-        h.0,
-        h.1,
-        find-both h.0 (finite.entries s) (slot_entries ms) ∙ ap (λ o. option_or o (find nat_cmp h.0 (slot_entries ms))) there ∙ h.2,
-        subst (λ o. IsFault (table_of h.0 o) h.1 e) (subst (λ o. IsMergedAt merge h.0 (finite.get m h.0) o (finite.get n h.0)) (finite.get-entries s h.0 ∙ there) (here h.0)) h.3,
-      )
-
-  -- the entries of a map
-  pub merged-of : (m n s : Tables) (es : List (ℕ × Table)) → finite.from_entries {R = nat_cmp} es ≡ s → Joins m es n → AreTablesMerged merge m s n
-  merged-of m n s es e h = λ q. subst (λ o. IsMergedAt merge q (finite.get m q) o (finite.get n q)) (sym (finite.get-from_entries nat_cmp_total es q) ∙ ap (λ r. finite.get r q) e) (h q)
-
 -- ---- refusals
 
 -- want of memory is a fault of every merge
@@ -257,19 +220,7 @@ refused-with rule counts older newer (Err e) f = with_memory rule counts older n
 module _ (IsFault : Table → Table → Error → Type 0) (m : Tables) where
   -- the first of some entries is refused
   pub refuses-first : (rest es : List (ℕ × Table)) (id : ℕ) (t : Table) (e : Error) → rest ≡ (id, t) ∷ es → IsFault (table_in m id) t e → Refuses IsFault m rest e
-  refuses-first rest es id t e is f = (id, t, ap (λ l. find nat_cmp id l) is ∙ ap (λ b. cond b (Some t) (find nat_cmp id es)) (eq_self id), f)
-
-  -- or one behind it
-  pub refuses-step : (n : Tables) (rest es : List (ℕ × Table)) (id : ℕ) (t : Table) (e : Error) → rest ≡ (id, t) ∷ es → Once rest → n ≡ with_table m id (finite.get n id) → Refuses IsFault n es e → Refuses IsFault m rest e
-  refuses-step n rest es id t e is once one h = elim (by_id h.0 id) [
-    | inl p ↦ absurd (none_some (sym (subst Once is once).0 ∙ ap (λ q. find nat_cmp q es) (sym p) ∙ h.2))
-    | inr f ↦ (
-      h.0,
-      h.1,
-      ap (λ l. find nat_cmp h.0 l) is ∙ ap (λ b. cond b (Some t) (find nat_cmp h.0 es)) f ∙ h.2,
-      subst (λ o. IsFault (table_of h.0 o) h.1 e) (ap (λ r. finite.get r h.0) one ∙ with_other m id h.0 (finite.get n id) f) h.3,
-    )
-  ]
+  refuses-first rest es id t e is f = (id, t, first-found rest es id t is, f)
 
   -- one of the first slot
   pub refuses-slot : (rest ms : List Tables) (s : Tables) (e : Error) → rest ≡ s ∷ ms → IsMergeRefusal IsFault m s e → Refuses IsFault m (slot_entries rest) e
@@ -280,37 +231,63 @@ module _ (IsFault : Table → Table → Error → Type 0) (m : Tables) where
     f.fault,
   )
 
-  -- one of the entries of a map
-  pub refusal-of : (s : Tables) (es : List (ℕ × Table)) (e : Error) → finite.from_entries {R = nat_cmp} es ≡ s → Refuses IsFault m es e → IsMergeRefusal IsFault m s e
-  refusal-of s es e is h = record { id = h.0; table = h.1; there = ap (λ r. finite.get r h.0) (sym is) ∙ finite.get-from_entries nat_cmp_total es h.0 ∙ h.2; fault = h.3 }
+-- ---- some entries are merged, and the next one is refused, or there is none
 
--- ---- the entries that are left
+module _ (kind : Neighbor) (old new : Accessor) (m newer : Tables) (done rest : List (ℕ × Table)) (apart : AreApart done rest) (joined : Joins (with_neighbor kind) old.tables done m)
+    (all : finite.from_entries {R = nat_cmp} (done ++ rest) ≡ newer) where
+  there : (q : ℕ) → find nat_cmp q (done ++ rest) ≡ finite.get newer q
+  there q = sym (finite.get-from_entries nat_cmp_total (done ++ rest) q) ∙ ap (λ r. finite.get r q) all
 
-pub once-tail : (rest es : List (ℕ × Table)) (e : ℕ × Table) → rest ≡ e ∷ es → Once rest → Once es
-once-tail rest es e is h = (subst Once is h).1
+  left : (gone : Option ℕ) → Leaves (with_neighbor kind) gone m rest new.tables → (q : ℕ) → IsOther gone q → IsLeftAt (with_neighbor kind) q (finite.get old.tables q) (finite.get newer q) (finite.get new.tables q)
+  left gone h q other = subst (λ o. IsLeftAt (with_neighbor kind) q (finite.get old.tables q) o (finite.get new.tables q)) (there q) ((leaves-append (with_neighbor kind) gone old.tables m new.tables done rest apart joined h).1 q other)
 
--- each table is its region's own
-abbrev pub AreOwn : List (ℕ × Table) → Type 0
-AreOwn es = (q : ℕ) (t : Table) → find nat_cmp q es ≡ Some t → t.region_id ≡ q
+  pub merge-refused : (e : Error) (at : ℕ) → Refuses (IsFaultBeside kind new.counts) m rest e → (e ≢ Memory → Leaves (with_neighbor kind) None m rest new.tables) →
+      Leaves (with_neighbor kind) (Some at) m rest new.tables → new.cleaned ≡ old.cleaned → AreMerged kind old newer (Err e) new
+  merge-refused e at refused stays others cleaned =
+      let gone = not-before done rest refused.0 refused.1 apart refused.2 in
+      record {
+        ok = tt;
+        fault = record {
+          id = refused.0;
+          table = refused.1;
+          there = sym (there refused.0) ∙ found-behind done rest refused.0 refused.1 apart refused.2;
+          fault = subst (λ o. IsFaultBeside kind new.counts (table_of refused.0 o) refused.1 e)
+              (subst (λ o. IsMergedAt (with_neighbor kind) refused.0 (finite.get old.tables refused.0) o (finite.get m refused.0)) gone (joined refused.0)) refused.3;
+        };
+        err = λ k q. left None (stays k) q tt;
+        others = record {
+          at = at;
+          there = λ none. (leaves-append (with_neighbor kind) (Some at) old.tables m new.tables done rest apart joined others).0 (there at ∙ none);
+          others = left (Some at) others;
+        };
+        cleaned = cleaned;
+      }
 
-pub own-head : (rest es : List (ℕ × Table)) (e : ℕ × Table) → rest ≡ e ∷ es → AreOwn rest → e.1.region_id ≡ e.0
-own-head rest es e is h = (subst AreOwn is h) e.0 e.1 (ap (λ b. cond b (Some e.1) (find nat_cmp e.0 es)) (eq_self e.0))
+pub all-merged : (kind : Neighbor) (old new : Accessor) (newer : Tables) (done : List (ℕ × Table)) → Joins (with_neighbor kind) old.tables done new.tables → finite.from_entries {R = nat_cmp} done ≡ newer →
+    new.cleaned ≡ old.cleaned → AreMerged kind old newer (Ok tt) new
+all-merged kind old new newer done joined all cleaned = record {
+  ok = λ q. subst (λ o. IsMergedAt (with_neighbor kind) q (finite.get old.tables q) o (finite.get new.tables q)) (sym (finite.get-from_entries nat_cmp_total done q) ∙ ap (λ r. finite.get r q) all) (joined q);
+  fault = tt;
+  err = tt;
+  others = tt;
+  cleaned = cleaned;
+}
 
-pub own-tail : (rest es : List (ℕ × Table)) (e : ℕ × Table) → rest ≡ e ∷ es → Once rest → AreOwn rest → AreOwn es
-own-tail rest es e is once h = λ q t f. elim (by_id q e.0) [
-  | inl p ↦ absurd (none_some (sym (subst Once is once).0 ∙ ap (λ q. find nat_cmp q es) (sym p) ∙ f))
-  | inr n ↦ (subst AreOwn is h) q t (ap (λ b. cond b (Some e.1) (find nat_cmp q es)) n ∙ f)
-]
+-- ---- the entries of a hash map, and of all slots
 
--- so are those of a map that keeps each table under its region
-pub own-entries : (es : List (ℕ × Table)) → ((q : ℕ) (t : Table) → lookup (nat_eq q) es ≡ Some t → t.region_id ≡ q) → AreOwn es
-own-entries es h = λ q t e. h q t (sym (found q es) ∙ e)
+pub items-apart : (done rest items : List (ℕ × Table)) → done ++ rest ≡ items → IsDistinct nat_eq (keys_of items) → AreApart done rest
+items-apart done rest items split once = once-apart done rest (subst Once (sym split) (once-distinct items once))
+
+-- the next table is its region's own
+pub own-next : (done rest es items : List (ℕ × Table)) (id : ℕ) (t : Table) → done ++ rest ≡ items → rest ≡ (id, t) ∷ es → IsDistinct nat_eq (keys_of items) →
+    ((q : ℕ) (t : Table) → lookup (nat_eq q) items ≡ Some t → t.region_id ≡ q) → t.region_id ≡ id
+own-next done rest es items id t split is once own =
+    own id t (sym (found id items) ∙ ap (find nat_cmp id) (sym split) ∙ found-behind done rest id t (items-apart done rest items split once) (first-found rest es id t is))
+
+pub slots-apart : (done rest all : List Tables) → done ++ rest ≡ all → AreSlots 0 all → AreApart (slot_entries done) (slot_entries rest)
+slots-apart done rest all split are = once-apart (slot_entries done) (slot_entries rest) (subst Once (ap slot_entries (sym split) ∙ slots-append done rest) (once-slots 0 all are))
 
 -- the entries of all slots are those of the one map
-pub slots-are : (ms : List Tables) (m : Tables) → together ms ≡ m → finite.from_entries {R = nat_cmp} (slot_entries ms) ≡ m
+pub slots-are : (done rest all : List Tables) (m : Tables) → done ++ rest ≡ all → together all ≡ m → finite.from_entries {R = nat_cmp} (slot_entries done ++ slot_entries rest) ≡ m
 unfolding together
-slots-are ms m e = e
-
-pub no_slots : (ms : List Tables) → length ms ≡ 0 → slot_entries ms ≡ []
-no_slots [] e = refl
-no_slots (m ∷ ms) e = absurd (omega (arith, e))
+slots-are done rest all m split e = ap (λ es. finite.from_entries es) (sym (slots-append done rest) ∙ ap slot_entries split) ∙ e

@@ -1,23 +1,15 @@
 -- The values of all slots, in no set order.
-use Rattle.std.proofs.Common.{◌≡◌, ◌≢◌, ◌<◌, ◌+◌, ℕ, suc, zero, true, false, cond, nat_eq, List, [], ◌∷◌, ◌++◌, length, drop, map, Some, None, IsPermutation, refl, sym, ap, subst, ◌∙◌, arith, inl, inr, slice_index_or, append_assoc}
+use Rattle.raft_accessor.proofs.Common.{◌≡◌, ◌≢◌, ◌<◌, ◌+◌, ℕ, suc, true, false, cond, nat_eq, List, [], ◌∷◌, ◌++◌, length, drop, map, Some, None, IsPermutation, refl, sym, ap, subst, ◌∙◌, arith, inl}
+use Rattle.raft_accessor.proofs.Common.{inr, slice_index_or, append_assoc, nat_cmp, is_eq, nat_cmp_total, AllByRecursion, IsDistinct, option_or, find, put, is_sorted, by_order, keys_of, map-append}
+use Rattle.raft_accessor.proofs.Common.{IsPermutation-refl, IsPermutation-trans, IsPermutation-cons, IsPermutation-append_comm, IsPermutation-append_left, IsPermutation-append_right, IsPermutation-map}
+use Rattle.raft_accessor.proofs.Common.{find-below, first_of_both, second_of_both, slot_of, slot_entries, together, AreSlots, ◌≤◌, append-nil}
 use lib.Dec.{T}
 use Rattle.std.specs.declared.cmp.Ordering.TheVariants.{Less, Equal, Greater}
-use Rattle.std.specs.Ordering.{nat_cmp, is_eq}
-use Rattle.std.specs.Cmp.{nat_cmp_total}
-use Rattle.std.specs.List.{AllByRecursion, IsDistinct}
+use Rattle.std.proofs.lemmas.List.{at_drop_more}
 use Rattle.std.specs.FinMap as finite
-use Rattle.std.specs.Option.{option_or}
-use Rattle.std.specs.FinMap.{find, put, is_sorted}
-use Rattle.std.specs.FinMap.Entries.{by_order}
-use Rattle.std.specs.Map.{keys_of}
-use Rattle.std.proofs.lemmas.List.{map-append}
-use Rattle.std.proofs.lemmas.List.Sorted.{IsPermutation-refl, IsPermutation-trans, IsPermutation-cons, IsPermutation-append_comm, IsPermutation-append_left, IsPermutation-append_right, IsPermutation-map}
-use Rattle.raft_table.proofs.Shown.{find-below, first_of_both, second_of_both}
-use Rattle.raft_accessor.specs.Accessor.{slot_of}
-use Rattle.raft_accessor.specs.Slots.{slot_entries, together, AreSlots}
-use Rattle.raft_accessor.proofs.MapLemmas.{none_some, eq_self}
+use Rattle.raft_accessor.proofs.MapLemmas.{none_some, eq_self, entries-empty}
 use Rattle.raft_accessor.proofs.RegionTablesLemmas.{same_test}
-use Rattle.raft_accessor.proofs.SlotLemmas.{Map, find-both, find-later, same_slot}
+use Rattle.raft_accessor.proofs.SlotLemmas.{Map, find-both, find-later, same_slot, drop-none}
 
 module _ {V : Type 0} where
   -- no key stands twice
@@ -39,11 +31,7 @@ module _ {V : Type 0} where
 
   -- the map of some entries has these entries
   pub entries-permuted : (es : List (ℕ × V)) → Once es → IsPermutation es (finite.entries (finite.from_entries {R = nat_cmp} es))
-  entries-permuted [] h = subst (λ l. IsPermutation [] l) (sym (none_left _ (sym (finite.len-entries {K = ℕ} {X = V} {R = nat_cmp} finite.empty) ∙ finite.len-empty nat_cmp V))) (IsPermutation-refl [])
-    where
-      none_left : (es : List (ℕ × V)) → length es ≡ 0 → es ≡ []
-      none_left [] e = refl
-      none_left (x ∷ es) e = absurd (omega (arith, e))
+  entries-permuted [] h = subst (λ l. IsPermutation [] l) (sym (entries-empty finite.empty refl)) (IsPermutation-refl [])
   entries-permuted (e ∷ es) h =
       let m : Map V = finite.from_entries {R = nat_cmp} es in
       let none : find nat_cmp e.0 (finite.entries m) ≡ None = sym (finite.get-entries m e.0) ∙ finite.get-from_entries nat_cmp_total es e.0 ∙ h.0 in
@@ -52,7 +40,7 @@ module _ {V : Type 0} where
 
   -- ---- what no key stands twice in
 
-  not-there : (k : ℕ) (es : List (ℕ × V)) → AllByRecursion (λ y. nat_eq k y ≡ false) (keys_of es) → find nat_cmp k es ≡ None
+  pub not-there : (k : ℕ) (es : List (ℕ × V)) → AllByRecursion (λ y. nat_eq k y ≡ false) (keys_of es) → find nat_cmp k es ≡ None
   not-there k [] h = refl
   not-there k (e ∷ es) h = ap (λ b. cond b (Some e.1) (find nat_cmp k es)) (same_test k e.0 ∙ h.0) ∙ not-there k es h.1
 
@@ -78,7 +66,7 @@ module _ {V : Type 0} where
     once-both xs ys g.1 h (λ k f. apart k (λ e. f (behind k x xs e))),
   )
 
-  once-slots : (k : ℕ) (ms : List (Map V)) → AreSlots k ms → Once (slot_entries ms)
+  pub once-slots : (k : ℕ) (ms : List (Map V)) → AreSlots k ms → Once (slot_entries ms)
   once-slots k [] s = tt
   once-slots k (m ∷ ms) s =
       once-both (finite.entries m) (slot_entries ms) (once-sorted (finite.entries m) (finite.entries_sorted m)) (once-slots (suc k) ms s.1) (λ q f. elim (same_slot (slot_of q) k) [
@@ -87,9 +75,12 @@ module _ {V : Type 0} where
       ])
 
   -- the values of all slots, one slot behind the other, are those of the one map
-  pub together-permuted : (ms : List (Map V)) → AreSlots 0 ms → IsPermutation (map (λ e. e.1) (slot_entries ms)) (finite.values (together ms))
+  pub together-permuted-from : (k : ℕ) (ms : List (Map V)) → AreSlots k ms → IsPermutation (map (λ e. e.1) (slot_entries ms)) (finite.values (together ms))
   unfolding together
-  together-permuted ms s = IsPermutation-map (λ e. e.1) (slot_entries ms) (finite.entries (finite.from_entries {R = nat_cmp} (slot_entries ms))) (entries-permuted (slot_entries ms) (once-slots 0 ms s))
+  together-permuted-from k ms s = IsPermutation-map (λ e. e.1) (slot_entries ms) (finite.entries (finite.from_entries {R = nat_cmp} (slot_entries ms))) (entries-permuted (slot_entries ms) (once-slots k ms s))
+
+  pub together-permuted : (ms : List (Map V)) → AreSlots 0 ms → IsPermutation (map (λ e. e.1) (slot_entries ms)) (finite.values (together ms))
+  together-permuted ms s = together-permuted-from 0 ms s
 
   -- ---- the values of a hash map
 
@@ -98,17 +89,17 @@ module _ {V : Type 0} where
 
   -- ---- slot by slot
 
-  drop-at : (ms : List (Map V)) (i k : ℕ) (d : Map V) → k ≡ i + 1 → i < length ms → map (λ e. e.1) (slot_entries (drop i ms)) ≡ finite.values (slice_index_or ms i d) ++ map (λ e. e.1) (slot_entries (drop k ms))
-  drop-at [] i k d e lt = absurd (omega (arith, lt))
-  drop-at (m ∷ ms) i zero d e lt = absurd (omega (arith, e))
-  drop-at (m ∷ ms) zero (suc k) d e lt = map-append (λ (e : ℕ × V). e.1) (finite.entries m) (slot_entries ms) ∙ ap (λ j. finite.values m ++ map (λ e. e.1) (slot_entries (drop j ms))) (back k (omega (arith, e)))
-    where
-      back : (k : ℕ) → k ≡ 0 → 0 ≡ k
-      back k e = sym e
-  drop-at (m ∷ ms) (suc i) (suc k) d e lt = drop-at ms i k d (omega (arith, e)) (omega (arith, lt))
-
   pub drop-step : (ms : List (Map V)) (i k : ℕ) (d : Map V) → k ≡ i + 1 → i < length ms → d ≡ slice_index_or ms i d → map (λ e. e.1) (slot_entries (drop i ms)) ≡ finite.values d ++ map (λ e. e.1) (slot_entries (drop k ms))
-  drop-step ms i k d e lt is = drop-at ms i k d e lt ∙ ap (λ m. finite.values m ++ map (λ e. e.1) (slot_entries (drop k ms))) (sym is)
+  drop-step ms i k d e lt is = subst (λ k. map (λ e. e.1) (slot_entries (drop i ms)) ≡ finite.values d ++ map (λ e. e.1) (slot_entries (drop k ms))) (sym e)
+      (at_drop_more (λ (l : List (Map V)). map (λ (e : ℕ × V). e.1) (slot_entries l)) ms i d lt
+      ∙ map-append (λ (e : ℕ × V). e.1) (finite.entries (slice_index_or ms i d)) (slot_entries (drop (i + 1) ms)) ∙ ap (λ m. finite.values m ++ map (λ e. e.1) (slot_entries (drop (i + 1) ms))) (sym is))
+
+  -- the values of all slots were met
+  pub all-met : (ms : List (Map V)) (i : ℕ) (met : List V) (m : Map V) → AreSlots 0 ms → together ms ≡ m → length ms ≤ i → IsPermutation (met ++ map (λ e. e.1)
+      (slot_entries (drop i ms))) (map (λ e. e.1) (slot_entries ms)) → IsPermutation met (finite.values m)
+  all-met ms i met m are is past h =
+      subst (λ m. IsPermutation met (finite.values m)) is (IsPermutation-trans met (map (λ e. e.1) (slot_entries ms)) (finite.values (together ms))
+      (subst (λ l. IsPermutation l (map (λ e. e.1) (slot_entries ms))) (ap (λ es. met ++ map (λ e. e.1) es) (drop-none ms i past) ∙ append-nil met) h) (together-permuted ms are))
 
   -- the values of one slot more
   pub pushed : (old new ts vs rest rest' all : List V) → new ≡ old ++ ts → IsPermutation ts vs → rest ≡ vs ++ rest' → IsPermutation (old ++ rest) all → IsPermutation (new ++ rest') all

@@ -1,29 +1,17 @@
 -- The fields of `RegionTables` against what contracts see of them.
-use Rattle.std.proofs.Common.{◌≡◌, ℕ, true, false, cond, nat_eq, List, [], ◌∷◌, length, Option, Some, None, refl, sym, ap, subst, ◌∙◌, inl, inr, arith, MutBor}
-use Rattle.std.specs.Ordering.{nat_cmp, is_eq, eq_by_cmp}
-use Rattle.std.specs.Cmp.{nat_cmp_total}
-use Rattle.std.specs.Map.{lookup}
-use Rattle.std.specs.Option.{option_copied_mut}
-use Rattle.raft_table.specs.Steps.{table_of}
+use Rattle.raft_accessor.proofs.Common.{◌≡◌, ℕ, true, false, cond, nat_eq, List, [], ◌∷◌, length, Option, Some, None, refl, sym, ap, subst, ◌∙◌, inl, inr, MutBor, nat_cmp, is_eq, nat_cmp_total, lookup}
+use Rattle.raft_accessor.proofs.Common.{option_copied_mut, table_of, find, eqb-true, Table, tables_shown, AreTablesKept, Tables, with_table, table_in, nil_from_length, IfSome}
+use Rattle.std.specs.Cmp.{unsigned_tied}
 use Rattle.std.specs.FinMap as finite
-use Rattle.std.specs.FinMap.{find}
-use Rattle.std.proofs.lemmas.Bool.{false≢true, eqb-true}
-use Rattle.raft_table.specs.Table.{Table}
 use Rattle.raft_accessor.specs.declared.region_tables.RegionTables.TheInside.{Inside}
-use Rattle.raft_accessor.specs.RegionTablesView.{tables_shown, AreTablesKept}
-use Rattle.raft_history.specs.RegionSteps.{Tables, with_table}
-use Rattle.raft_accessor.specs.Accessor.{table_in}
-use Rattle.raft_accessor.proofs.MapLemmas.{same, by_id, eq_self, not_same, self_same, with_own, with_other}
+use Rattle.raft_accessor.proofs.MapLemmas.{none_some, same, by_id, not_same, self_same, with_own, with_other}
 
 abbrev Es : Type 0
 Es = List (ℕ × Table)
 
 -- the two tests of numbers are one
 pub same_test : (q k : ℕ) → is_eq (nat_cmp q k) ≡ nat_eq q k
-same_test q k = elim (by_id q k) [ inl p ↦ subst (λ k. is_eq (nat_cmp q k) ≡ nat_eq q k) p (eq_self q ∙ sym (self_same q)) | inr f ↦ f ∙ sym (other q k f) ]
-  where
-    other : (q k : ℕ) → eq_by_cmp nat_cmp q k ≡ false → nat_eq q k ≡ false
-    other q k f = elim (nat_eq q k) as (λ b. nat_eq q k ≡ b → b ≡ false) [ true ↦ λ e. absurd (false≢true (sym f ∙ ap (λ k. eq_by_cmp nat_cmp q k) (sym (eqb-true q k e)) ∙ eq_self q)) | false ↦ λ e. refl ] refl
+same_test q k = unsigned_tied q k
 
 pub found : (q : ℕ) (es : Es) → find nat_cmp q es ≡ lookup (nat_eq q) es
 found q [] = refl
@@ -72,20 +60,18 @@ absent a m k o is v e = get-shown a m k is ∙ sym v ∙ ap option_copied_mut e
 pub region-in : (a : Inside) (m : Tables) (k : ℕ) → AreTablesKept a → tables_shown a ≡ m → (table_in m k).region_id ≡ k
 region-in a m k kept is = elim (finite.get m k) as (λ o. finite.get m k ≡ o → (table_of k o).region_id ≡ k) [ None ↦ λ e. refl | Some t ↦ λ e. kept k t (sym (get-shown a m k is) ∙ e) ] refl
 
+-- what a look-up found has that region
+pub own-of : (a : Inside) (k : ℕ) → AreTablesKept a → (o : Option Table) → o ≡ lookup (nat_eq k) a.tables.entries → IfSome o (λ t. t.region_id ≡ k)
+own-of a k kept None e = tt
+own-of a k kept (Some t) e = kept k t (sym e)
+
 nothing : (es : Es) → ((q : ℕ) → lookup (nat_eq q) es ≡ None) → es ≡ []
 nothing [] h = refl
 nothing (e ∷ es) h = absurd (none_some (sym (h e.0) ∙ ap (λ b. cond b (Some e.1) (lookup (nat_eq e.0) es)) (self_same e.0)))
-  where
-    none_some : {X : Type 0} {x : X} → None ≡ Some x → ⊥
-    none_some e = cc
-
-no_length : (es : Es) → length es ≡ 0 → es ≡ []
-no_length [] e = refl
-no_length (x ∷ es) e = absurd (omega (arith, e))
 
 -- no tables are shown exactly where there are none
 pub empty-if : (a : Inside) (m : Tables) → tables_shown a ≡ m → length a.tables.entries ≡ 0 → m ≡ finite.empty
-empty-if a m is l = same _ _ (λ q. get-shown a m q is ∙ ap (lookup (nat_eq q)) (no_length _ l) ∙ sym (finite.get-empty nat_cmp q))
+empty-if a m is l = same _ _ (λ q. get-shown a m q is ∙ ap (lookup (nat_eq q)) (nil_from_length _ l) ∙ sym (finite.get-empty nat_cmp q))
 
 pub if-empty : (a : Inside) (m : Tables) → tables_shown a ≡ m → m ≡ finite.empty → length a.tables.entries ≡ 0
 if-empty a m is e = ap length (nothing a.tables.entries (λ q. sym (get-shown a m q is) ∙ ap (λ n. finite.get n q) e ∙ finite.get-empty nat_cmp q))

@@ -1,22 +1,14 @@
 -- Tables in slots against the one map of them.
-use Rattle.std.proofs.Common.{◌≡◌, ◌≢◌, ◌<◌, ◌≤◌, ◌+◌, ◌⊎◌, ℕ, suc, zero, true, false, cond, List, [], ◌∷◌, ◌++◌, length, drop, replicate, slice_index_or, slice_set, Option, Some, None, refl, sym, ap, subst, ◌∙◌, arith, inl, inr}
-use Rattle.std.specs.Ordering.{nat_cmp, is_eq, eq_by_cmp}
-use Rattle.std.specs.Option.{option_or}
-use Rattle.std.specs.Cmp.{nat_cmp_total}
+use Rattle.raft_accessor.proofs.Common.{◌≡◌, ◌≢◌, ◌<◌, ◌≤◌, ◌+◌, ◌⊎◌, ℕ, suc, zero, true, false, cond, List, [], ◌∷◌, ◌++◌, length, drop, replicate, slice_index_or, slice_set, Option, Some, None, refl}
+use Rattle.raft_accessor.proofs.Common.{sym, ap, subst, ◌∙◌, arith, inl, inr, nat_cmp, is_eq, eq_by_cmp, option_or, nat_cmp_total, find, cases_lt, table_of, Table, IsCounted, IsRecounted, Tables}
+use Rattle.raft_accessor.proofs.Common.{with_table, Accessor, slot_of, table_in, AreCountsOf, live_in_all, slot_entries, together, IsSlot, AreSlots, accessor_shown, IsAccessorKept, live}
+use Rattle.std.proofs.Math.ListN.{drop_of_length-le}
+use Rattle.std.proofs.lemmas.List.{length-set as set-length, at_drop_more}
 use Rattle.std.specs.FinMap as finite
-use Rattle.std.specs.FinMap.{find}
-use Rattle.std.proofs.lemmas.Bool.{cases_lt}
-use Rattle.raft_table.specs.Steps.{table_of}
-use Rattle.raft_table.specs.Table.{Table, IsCounted, IsRecounted}
 use Rattle.raft_accessor.specs.declared.accessor.MemTableAccessor.TheInside.{Inside}
-use Rattle.raft_history.specs.RegionSteps.{Tables, with_table}
-use Rattle.raft_accessor.specs.Accessor.{Accessor, slot_of, table_in, AreCountsOf, live_in_all}
-use Rattle.raft_accessor.specs.Slots.{slot_entries, together, IsSlot, AreSlots}
-use Rattle.raft_accessor.specs.AccessorView.{accessor_shown, IsAccessorKept}
 use Rattle.raft_accessor.proofs.LiveLemmas.{counted-with, table-counted, live-none}
 use Rattle.raft_base.specs.declared.pipe_log.LogQueue.TheVariants.{Append, Rewrite}
-use Rattle.raft_table.specs.Counts.{live}
-use Rattle.raft_accessor.proofs.MapLemmas.{same, by_id, with_own, with_other}
+use Rattle.raft_accessor.proofs.MapLemmas.{same, by_id, with_own, with_other, entries-empty}
 
 abbrev pub Map : Type 0 → Type 0
 Map V = finite.FinMap nat_cmp V
@@ -85,10 +77,7 @@ module _ {V : Type 0} where
   at-set (n ∷ ms) (suc i) m d lt = at-set ms i m d (omega (arith, lt))
 
   pub length-set : (ms : List (Map V)) (i : ℕ) (m : Map V) → length (slice_set ms i m) ≡ length ms
-  length-set [] zero m = refl
-  length-set [] (suc i) m = refl
-  length-set (n ∷ ms) zero m = refl
-  length-set (n ∷ ms) (suc i) m = omega (arith, length-set ms i m)
+  length-set ms i m = set-length ms i m
 
   -- the values of the other regions stay
   abbrev pub IsChangedAt : ℕ → Map V → Map V → Type 0
@@ -170,28 +159,12 @@ module _ {V : Type 0} where
 
   -- ---- the entries of all slots
 
-  no_length : (es : List (ℕ × V)) → length es ≡ 0 → es ≡ []
-  no_length [] e = refl
-  no_length (x ∷ es) e = absurd (omega (arith, e))
-
-  entries-empty : (m : Map V) → m ≡ finite.empty → finite.entries m ≡ []
-  entries-empty m e = ap finite.entries e ∙ no_length _ (sym (finite.len-entries {K = ℕ} {X = V} {R = nat_cmp} finite.empty) ∙ finite.len-empty nat_cmp V)
-
   -- an empty slot more
-  pub drop-entries : (ms : List (Map V)) (i k : ℕ) (d : Map V) → k ≡ i + 1 → i < length ms → slice_index_or ms i d ≡ finite.empty → slot_entries (drop i ms) ≡ slot_entries (drop k ms)
-  drop-entries [] i k d e lt h = absurd (omega (arith, lt))
-  drop-entries (m ∷ ms) i zero d e lt h = absurd (omega (arith, e))
-  drop-entries (m ∷ ms) zero (suc k) d e lt h = ap (λ es. es ++ slot_entries ms) (entries-empty m h) ∙ ap (λ j. slot_entries (drop j ms)) (none k (omega (arith, e)))
-    where
-      none : (k : ℕ) → k ≡ 0 → 0 ≡ k
-      none k e = sym e
-  drop-entries (m ∷ ms) (suc i) (suc k) d e lt h = drop-entries ms i k d (omega (arith, e)) (omega (arith, lt)) h
+  pub drop-entries : (ms : List (Map V)) (i : ℕ) (d : Map V) → i < length ms → slice_index_or ms i d ≡ finite.empty → slot_entries (drop i ms) ≡ slot_entries (drop (i + 1) ms)
+  drop-entries ms i d lt e = at_drop_more slot_entries ms i d lt ∙ ap (λ es. es ++ slot_entries (drop (i + 1) ms)) (entries-empty _ e)
 
   pub drop-none : (ms : List (Map V)) (i : ℕ) → length ms ≤ i → slot_entries (drop i ms) ≡ []
-  drop-none [] zero le = refl
-  drop-none [] (suc i) le = refl
-  drop-none (m ∷ ms) zero le = absurd (omega (arith, le))
-  drop-none (m ∷ ms) (suc i) le = drop-none ms i (omega (arith, le))
+  drop-none ms i le = ap slot_entries (drop_of_length-le ms {i = i} le)
 
   -- without entries there are no tables
   pub together-empty : (ms : List (Map V)) → slot_entries ms ≡ [] → together ms ≡ finite.empty
@@ -226,6 +199,9 @@ get-shown a r id i d kept is e lt lent =
 pub slot-counted : (a : Inside) (id i : ℕ) (d : Tables) → IsAccessorKept a → i ≡ slot_of id → i < 128 → d ≡ slice_index_or a.slots.items i d → IsCounted (table_in d id) a.stats
 slot-counted a id i d kept e lt lent =
     subst (λ t. IsCounted t a.stats) (ap (table_of id) (get-shown a (accessor_shown a) id i d kept refl e lt lent)) (table-counted (together a.slots.items) a.stats id kept.counted)
+
+pub slot-counts : {a : Inside} {i : ℕ} {d : Tables} (id : ℕ) → IsAccessorKept a → i ≡ slot_of id → i < 128 → d ≡ slice_index_or a.slots.items i d → IsCounted (table_in d id) a.stats
+slot-counts {a} {i} {d} id kept e lt lent = slot-counted a id i d kept e lt lent
 
 -- one region's table in its slot changed, and the counts with it
 pub record IsChanged (a b : Inside) (id i : ℕ) (d : Tables) (t : Option Table) : Type 0 where

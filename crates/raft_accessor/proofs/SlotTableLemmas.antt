@@ -1,23 +1,13 @@
 -- The tables of one slot taken out, and the counts after that.
-use Rattle.std.proofs.Common.{◌≡◌, ◌<◌, ◌≤◌, ◌+◌, ◌-◌, ℕ, suc, zero, nat_eq, List, [], ◌∷◌, length, map, slice_index_or, slice_set, sym, ap, subst, ◌∙◌, arith, inl, inr}
-use Rattle.std.specs.Ordering.{nat_cmp}
+use Rattle.raft_accessor.proofs.Common.{◌≡◌, ◌<◌, ◌≤◌, ◌+◌, ◌-◌, ℕ, suc, zero, nat_eq, List, [], ◌∷◌, length, map, slice_index_or, slice_set, sym, ap, subst, ◌∙◌, arith, inl, inr, nat_cmp, IsDistinct}
+use Rattle.raft_accessor.proofs.Common.{keys_of, map-append, LogQueue, Tables, Counts, live, Table, live_of, Accessor, slot_of, live_in_all, accessor_shown, IsAccessorKept, slot_entries, together}
+use Rattle.raft_accessor.proofs.Common.{IsSlot, AreSlots, IsSlotTaken, with_all_deleted}
 use Rattle.std.specs.FinMap as finite
-use Rattle.std.specs.List.{IsDistinct}
-use Rattle.std.specs.Map.{keys_of}
-use Rattle.std.proofs.lemmas.List.{map-append}
-use Rattle.raft_base.specs.declared.pipe_log.LogQueue.{LogQueue}
 use Rattle.raft_base.specs.declared.pipe_log.LogQueue.TheVariants.{Append, Rewrite}
-use Rattle.raft_history.specs.RegionSteps.{Tables}
-use Rattle.raft_table.specs.Counts.{Counts, live}
-use Rattle.raft_table.specs.Table.{Table, live_of}
 use Rattle.raft_accessor.specs.declared.accessor.MemTableAccessor.TheInside.{Inside}
-use Rattle.raft_accessor.specs.Accessor.{Accessor, slot_of, live_in_all}
-use Rattle.raft_accessor.specs.AccessorView.{accessor_shown, IsAccessorKept}
-use Rattle.raft_accessor.specs.Slots.{slot_entries, together, IsSlot, AreSlots}
-use Rattle.raft_accessor.specs.SlotTables.{IsSlotTaken, with_all_deleted}
 use Rattle.raft_accessor.proofs.LiveLemmas.{live-none}
 use Rattle.raft_accessor.proofs.MapLemmas.{none_some}
-use Rattle.raft_accessor.proofs.OrderLemmas.{together-permuted, values-permuted}
+use Rattle.raft_accessor.proofs.OrderLemmas.{together-permuted, together-permuted-from, values-permuted}
 use Rattle.raft_accessor.proofs.SlotLemmas.{same_slot, get-together, other-slot, own-at, set-at, at-set, length-set}
 use Rattle.raft_accessor.proofs.TotalSums.{added, added-append, added-permuted, live-added}
 
@@ -47,6 +37,14 @@ live-slots q ms s = live-added q (together ms) ∙ sym (added-permuted (live_of 
 
 first : (f : Table → ℕ) (m : Tables) (ms : List Tables) → added f (tables_of (m ∷ ms)) ≡ added f (finite.values m) + added f (tables_of ms)
 first f m ms = ap (added f) (map-append (λ (e : ℕ × Table). e.1) (finite.entries m) (slot_entries ms)) ∙ added-append f (finite.values m) (tables_of ms)
+
+-- of slots from k on
+live-from : (q : LogQueue) (k : ℕ) (ms : List Tables) → AreSlots k ms → live_in_all q (together ms) ≡ added (live_of q) (tables_of ms)
+live-from q k ms s = live-added q (together ms) ∙ sym (added-permuted (live_of q) (tables_of ms) (finite.values (together ms)) (together-permuted-from k ms s))
+
+-- one slot in front of others
+pub live-front : (q : LogQueue) (k : ℕ) (m : Tables) (ms : List Tables) → AreSlots k (m ∷ ms) → live_in_all q (together (m ∷ ms)) ≡ live_in_all q m + live_in_all q (together ms)
+live-front q k m ms s = omega (arith, live-from q k (m ∷ ms) s, live-from q (suc k) ms s.1, first (live_of q) m ms, live-added q m)
 
 -- other tables in one slot
 set-added : (f : Table → ℕ) (ms : List Tables) (i : ℕ) (m d : Tables) → i < length ms → added f (tables_of (slice_set ms i m)) + added f (finite.values (slice_index_or ms i d)) ≡ added f (tables_of ms) + added f (finite.values m)

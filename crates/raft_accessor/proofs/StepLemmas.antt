@@ -1,30 +1,16 @@
 -- Items that are read again, written by their steps.
-use Rattle.std.proofs.Common.{◌≡◌, ◌≢◌, ◌⊎◌, ℕ, Bool, true, false, MatchBool, cond, List, [], ◌∷◌, ◌++◌, append-nil, Option, Some, None, Result, Ok, Err, refl, sym, ap, subst, ◌∙◌, inl, inr, arith}
+use Rattle.raft_accessor.proofs.Common.{◌≡◌, ◌≢◌, ◌⊎◌, ℕ, Bool, true, false, MatchBool, cond, List, [], ◌∷◌, ◌++◌, append-nil, Option, Some, None, Result, Ok, Err, refl, sym, ap, subst, ◌∙◌, inl, inr}
+use Rattle.raft_accessor.proofs.Common.{arith, option_map, OnOk, IfErr, false≢true, Error, FileId, LogQueue, OpType, is_reserved, Item, Content, Pair, entries, command, pair, item_step, RegionStep}
+use Rattle.raft_accessor.proofs.Common.{Tables, with_table, content_step, command_step, pair_step, cleaned_by_steps, Counts, live, with_added, file_at, Step, Run, Put, Del, Clean, table_of, after_step}
+use Rattle.raft_accessor.proofs.Common.{Table, empty_table, with_pair, with_pair_deleted, with_table_deleted, IsRecounted, IsTablePutFault, IsUnmixed, counts_after_step, IsStepFault, table_in}
+use Rattle.raft_accessor.proofs.Common.{IsItemWritten, IsReplayed, IsPairReplayed, IsStepTaken, Replaying, after_content, counts_after_content, counts_after_change, listed_by, IsFor, MixesQueues}
+use Rattle.raft_accessor.proofs.Common.{IsWriteFault}
+use Rattle.std.proofs.lemmas.Result.{on_ok_weaker}
 use Rattle.std.specs.FinMap as finite
-use Rattle.std.specs.Option.{option_map}
-use Rattle.std.specs.Result.{OnOk, IfErr}
-use Rattle.std.proofs.lemmas.Bool.{false≢true}
-use Rattle.raft_base.specs.declared.errors.Error.{Error}
 use Rattle.raft_base.specs.declared.errors.Error.TheVariants as errors
-use Rattle.raft_base.specs.declared.pipe_log.FileId.{FileId}
-use Rattle.raft_base.specs.declared.pipe_log.LogQueue.{LogQueue}
 use Rattle.raft_base.specs.declared.pipe_log.LogQueue.TheVariants.{Append, Rewrite}
 use Rattle.raft_records.specs.declared.command.Command.TheVariants as commands
-use Rattle.raft_records.specs.declared.key_value.OpType.{OpType}
 use Rattle.raft_records.specs.declared.key_value.OpType.TheVariants as operations
-use Rattle.raft_records.specs.Group.{is_reserved}
-use Rattle.raft_records.specs.Item.{Item, Content, Pair, entries, command, pair}
-use Rattle.raft_history.specs.RegionStepShown.{item_step}
-use Rattle.raft_history.specs.RegionSteps.{RegionStep, Tables, with_table, content_step, command_step, pair_step, cleaned_by_steps}
-use Rattle.raft_table.specs.Counts.{Counts, live, with_added}
-use Rattle.raft_table.specs.KeyValues.{file_at}
-use Rattle.raft_table.specs.Steps.{Step, Run, Put, Del, Clean, table_of, after_step}
-use Rattle.raft_table.specs.Table.{Table, empty_table, with_pair, with_pair_deleted, with_table_deleted, IsRecounted, IsTablePutFault}
-use Rattle.raft_table.specs.TakenSteps.{IsUnmixed, counts_after_step, IsStepFault}
-use Rattle.raft_accessor.specs.Accessor.{table_in}
-use Rattle.raft_accessor.specs.ItemWrites.{IsItemWritten, IsReplayed, IsPairReplayed}
-use Rattle.raft_accessor.specs.TableSteps.{IsStepTaken}
-use Rattle.raft_accessor.specs.Writes.{Replaying, after_content, counts_after_content, counts_after_change, listed_by, IsFor, MixesQueues, IsWriteFault}
 use Rattle.raft_accessor.proofs.MapLemmas.{get_gone, get_own, insert_same, none_some, one_same, some_is}
 use Rattle.raft_accessor.proofs.WriteLemmas.{replay_fault, skipped_by, none_listed, reserved_step, reserved_counts, change_step}
 
@@ -109,13 +95,10 @@ by_step q item s old counts list r new after listed h e k =
     let d = does_step q id item.content s h e in
     record {
       asked = elim r as (λ r. OnOk r (IsFor (Replaying q) item.content)) [ Ok a ↦ d.asked | Err x ↦ tt ];
-      accepted = elim r as (λ r. OnOk r (IsUnmixed q (table_of id o) s) → OnOk r (MixesQueues (Replaying q) (table_of id o) item.content → ⊥)) [ Ok a ↦ λ u. d.alone (table_of id o) u | Err x ↦ λ u. tt ] k.accepted;
-      ok = elim r as (λ r. OnOk r (after_step q (table_of id o) s ≡ Some (finite.get new id)) → OnOk r (after_content (Replaying q) id o item.content ≡ Some (finite.get new id))) [ Ok a ↦ λ u. d.after o ∙ u | Err x ↦ λ u. tt ] k.ok;
-      counts_ok = elim r as (λ r. OnOk r (after ≡ counts_after_step q (table_of id o) s counts) →
-          OnOk r (after ≡ counts_after_content (Replaying q) (table_of id o) item.content counts))
-          [ Ok a ↦ λ u. u ∙ sym (d.counted (table_of id o) counts) | Err x ↦ λ u. tt ] k.counts_ok;
-      cleaned = elim r as (λ r. OnOk r (listed ≡ list ++ cleaned_by_steps q (record { region = id; step = s } ∷ [])) →
-          OnOk r (listed ≡ list ++ listed_by (Replaying q) item)) [ Ok a ↦ λ u. u ∙ ap (λ l. list ++ l) (sym d.listed) | Err x ↦ λ u. tt ] k.cleaned;
+      accepted = on_ok_weaker r (d.alone (table_of id o)) k.accepted;
+      ok = on_ok_weaker r (λ u. d.after o ∙ u) k.ok;
+      counts_ok = on_ok_weaker r (λ u. u ∙ sym (d.counted (table_of id o) counts)) k.counts_ok;
+      cleaned = on_ok_weaker r (λ u. u ∙ ap (λ l. list ++ l) (sym d.listed)) k.cleaned;
       err = k.err;
       counts_err = k.counts_err;
       cleaned_err = k.cleaned_err;

@@ -1,30 +1,22 @@
 -- A newer table of one region, or its absence, over the older one.
-use Rattle.std.proofs.Common.{◌≡◌, ◌≤◌, ◌+◌, ◌^◌, ◌⊎◌, ℕ, Bool, true, false, cond, ◌||◌, Option, Some, None, Result, Ok, Err, refl, sym, ap, subst, ◌∙◌, inl, inr, arith}
+use Rattle.raft_accessor.proofs.Common.{◌≡◌, ◌≤◌, ◌+◌, ◌^◌, ◌⊎◌, ℕ, Bool, true, false, cond, ◌||◌, Option, Some, None, Result, Ok, Err, refl, sym, ap, subst, ◌∙◌, inl, inr, arith, OnOk, IfOk, IfErr}
+use Rattle.raft_accessor.proofs.Common.{Error, LogQueue, end_of, Tables, with_table, Counts, live, end_at_reach, IsFaultUnder, IsMarkFault, IsRunOver, Mark, entries_within, is_refused_over, table_over}
+use Rattle.raft_accessor.proofs.Common.{there_if, table_over_older, table_of, Table, empty_table, live_of, with_table_deleted, IsRecounted, applied_none, own_alone, applied_own, live_of_empty}
+use Rattle.raft_accessor.proofs.Common.{table_in, live_in, false≢true, IsPut, IsTableJoined}
 use Rattle.std.specs.FinMap as finite
-use Rattle.std.specs.Result.{OnOk, IfOk, IfErr}
-use Rattle.raft_base.specs.declared.errors.Error.{Error}
 use Rattle.raft_base.specs.declared.errors.Error.TheVariants as errors
-use Rattle.raft_base.specs.declared.pipe_log.LogQueue.{LogQueue}
-use Rattle.raft_base.specs.Runs.{end_of}
-use Rattle.raft_history.specs.RegionSteps.{Tables, with_table}
-use Rattle.raft_table.specs.Counts.{Counts, live}
-use Rattle.raft_table.specs.MarkJoins.{end_at_reach}
-use Rattle.raft_table.specs.MarkedJoins.{IsFaultUnder, IsMarkFault, IsRunOver}
-use Rattle.raft_table.specs.Marks.{Mark, entries_within, is_refused_over, table_over, there_if, table_over_older}
-use Rattle.raft_table.specs.Steps.{table_of}
-use Rattle.raft_table.specs.Table.{Table, empty_table, live_of, with_table_deleted, IsRecounted}
-use Rattle.raft_table.proofs.MarkTables.{applied_none, own_alone}
-use Rattle.raft_table.proofs.RegionLemmas.{applied_own}
-use Rattle.raft_table.proofs.TableLemmas.{live_of_empty}
-use Rattle.raft_accessor.specs.Accessor.{table_in, live_in}
-use Rattle.std.proofs.lemmas.Bool.{false≢true}
 use Rattle.raft_accessor.proofs.LiveLemmas.{none_deleted}
 use Rattle.raft_accessor.proofs.MapLemmas.{get_own, get_gone, none_some, one_written, with_same}
-use Rattle.raft_accessor.specs.TableJoins.{IsPut, IsTableJoined}
+use Rattle.raft_base.specs.Runs.{IsRun}
+use Rattle.raft_table.specs.TableEntries.{start_of}
+use Rattle.raft_accessor.specs.TableJoins.{AreEndsMet}
 
-pub put_joined : (queue : LogQueue) (m : Mark) (newer : Table) (old : Tables) (id : ℕ) (counts : Counts) (r : Result ℕ Error) (new : Tables) (after : Counts) → IsPut queue m newer counts r (table_in old id) (table_in new id)
+pub ends_met : (m : Mark) (old : Table) (start end : ℕ) → start ≡ start_of old.entries → end ≡ end_at_reach m old → IsRun old.entries → AreEndsMet m old (start, end)
+ends_met m old start end from to run = subst (λ (s : ℕ). AreEndsMet m old (s, end)) (sym from) (subst (λ (e : ℕ). AreEndsMet m old (start_of old.entries, e)) (sym to) record { ends = refl; run = run })
+
+pub put_joined : (queue : LogQueue) (m : Mark) (newer : Table) (old : Tables) (id : ℕ) (counts : Counts) (r : Result (ℕ × ℕ) Error) (new : Tables) (after : Counts) → IsPut queue m newer counts r (table_in old id) (table_in new id)
     → OnOk r (finite.get new id ≡ Some (table_in new id)) → new ≡ with_table old id (finite.get new id) → IsRecounted (table_in old id) (table_in new id) counts after → IsTableJoined queue m (Some newer) old id counts r new after
-put_joined queue m newer old id counts (Ok end) new after p there one recounted = record {
+put_joined queue m newer old id counts (Ok ends) new after p there one recounted = record {
   ok = λ run. applied_own queue id m newer (table_in new id) (finite.get old id) (p.ok run) ∙ ap Some (sym there);
   answer = p.answer;
   fault = λ run. tt;
@@ -36,14 +28,14 @@ put_joined queue m newer old id counts (Ok end) new after p there one recounted 
 put_joined queue m newer old id counts (Err e) new after p there one recounted = record { ok = λ run. tt; answer = tt; fault = p.fault; few = tt; one = one; deleted = λ c n. tt; recounted = recounted }
 
 -- the same told of a call
-pub put_by : (queue : LogQueue) (m : Mark) (newer : Table) (old : Tables) (id : ℕ) (counts : Counts) (r : Result ℕ Error) (new : Tables)
+pub put_by : (queue : LogQueue) (m : Mark) (newer : Table) (old : Tables) (id : ℕ) (counts : Counts) (r : Result (ℕ × ℕ) Error) (new : Tables)
     (after : Counts) (t n : Table) (k : Counts) → t ≡ table_in old id → n ≡ table_in new id → k ≡ counts → IsPut queue m newer k r t n
     → OnOk r (finite.get new id ≡ Some (table_in new id)) → new ≡ with_table old id (finite.get new id) → IsRecounted (table_in old id) (table_in new id) counts after → IsTableJoined queue m (Some newer) old id counts r new after
 put_by queue m newer old id counts r new after t n k e f g p =
     put_joined queue m newer old id counts r new after (subst (λ t. IsPut queue m newer counts r t (table_in new id)) e (subst (λ n. IsPut queue m newer counts r t n) f (subst (λ k. IsPut queue m newer k r t n) g p)))
 
 -- .. at a table that was there
-pub put_there : (queue : LogQueue) (m : Mark) (newer : Table) (old : Tables) (id : ℕ) (counts : Counts) (r : Result ℕ Error) (new : Tables)
+pub put_there : (queue : LogQueue) (m : Mark) (newer : Table) (old : Tables) (id : ℕ) (counts : Counts) (r : Result (ℕ × ℕ) Error) (new : Tables)
     (after : Counts) (t own n : Table) → finite.get old id ≡ Some t → own ≡ newer → new ≡ finite.insert old id n → IsPut queue m own counts r t n →
     IsRecounted t n counts after
     → IsTableJoined queue m (Some newer) old id counts r new after
@@ -56,7 +48,7 @@ put_there queue m newer old id counts r new after t own n was own_is put p recou
     (subst (λ t. IsRecounted t (table_in new id) counts after) before (subst (λ n. IsRecounted t n counts after) now recounted))
 
 -- there was no memory for a table
-pub not_joined : (queue : LogQueue) (m : Mark) (newer : Option Table) (old : Tables) (id : ℕ) (counts : Counts) (r : Result ℕ Error) (new : Tables)
+pub not_joined : (queue : LogQueue) (m : Mark) (newer : Option Table) (old : Tables) (id : ℕ) (counts : Counts) (r : Result (ℕ × ℕ) Error) (new : Tables)
     (after : Counts) → r ≡ Err errors.Memory → new ≡ with_table old id (finite.get new id) →
     IsRecounted (table_in old id) (table_in new id) counts after
     → IsTableJoined queue m newer old id counts r new after
@@ -65,20 +57,20 @@ not_joined queue m newer old id counts r new after e one recounted = subst (λ r
 
 -- ---- a newer table whose region has no older one
 
-nothing_at_reach : (m : Mark) (id : ℕ) → 0 ≡ end_at_reach m (empty_table id)
+nothing_met : (m : Mark) (id : ℕ) (old : Tables) → finite.get old id ≡ None → AreEndsMet m (table_in old id) (0, 0)
 unfolding entries_within end_of
-nothing_at_reach m id = refl
+nothing_met m id old none = subst (λ o. AreEndsMet m (table_of id o) (0, 0)) (sym none) record { ends = refl; run = tt }
 
 pub first_joined : (queue : LogQueue) (m : Mark) (newer : Table) (old : Tables) (id : ℕ) (counts : Counts) (new : Tables) (after : Counts) →
     finite.get old id ≡ None → newer.region_id ≡ id → new ≡ finite.insert old id newer → IsRecounted (table_in old id) (table_in new id) counts after
-    → IsTableJoined queue m (Some newer) old id counts (Ok 0) new after
+    → IsTableJoined queue m (Some newer) old id counts (Ok (0, 0)) new after
 first_joined queue m newer old id counts new after none own put recounted =
     let there : finite.get new id ≡ Some newer = ap (λ n. finite.get n id) put ∙ get_own old id newer in
     let now : table_in new id ≡ newer = ap (table_of id) there in
-    put_joined queue m newer old id counts (Ok 0) new after
+    put_joined queue m newer old id counts (Ok (0, 0)) new after
     (record {
       ok = λ run. ap (λ o. table_over queue m newer (table_of id o)) none ∙ own_alone queue id m newer own ∙ ap Some (sym now);
-      answer = nothing_at_reach m id ∙ ap (λ o. end_at_reach m (table_of id o)) (sym none);
+      answer = nothing_met m id old none;
       fault = λ run. tt;
       few = λ q. omega (arith, ap (live_of q) now);
     }) (there ∙ ap Some (sym now)) (one_written old new id newer put) recounted
@@ -106,10 +98,10 @@ there_now : (old : Tables) (id : ℕ) (t : Table) → finite.get old id ≡ Some
 there_now old id t e = ap (table_of id) e
 
 -- nor is there an older one
-pub nothing_joined : (queue : LogQueue) (m : Mark) (old : Tables) (id : ℕ) (counts : Counts) → finite.get old id ≡ None → IsTableJoined queue m None old id counts (Ok 0) old counts
+pub nothing_joined : (queue : LogQueue) (m : Mark) (old : Tables) (id : ℕ) (counts : Counts) → finite.get old id ≡ None → IsTableJoined queue m None old id counts (Ok (0, 0)) old counts
 nothing_joined queue m old id counts e = record {
   ok = λ run. subst (λ o. table_over_older queue id m None o ≡ Some o) (sym e) (applied_none queue id m None refl);
-  answer = nothing_at_reach m id ∙ ap (λ o. end_at_reach m (table_of id o)) (sym e);
+  answer = nothing_met m id old e;
   fault = λ run. tt;
   few = λ q. omega arith;
   one = sym (with_same old id);
@@ -118,7 +110,7 @@ nothing_joined queue m old id counts e = record {
 }
 
 -- an empty newer table says the same, where the region was not cleaned
-pub empty_joined : (queue : LogQueue) (m : Mark) (old : Tables) (id : ℕ) (counts : Counts) (t : Table) (r : Result ℕ Error) (new : Tables)
+pub empty_joined : (queue : LogQueue) (m : Mark) (old : Tables) (id : ℕ) (counts : Counts) (t : Table) (r : Result (ℕ × ℕ) Error) (new : Tables)
     (after : Counts) → finite.get old id ≡ Some t → m.cleaned ≡ false → IsTableJoined queue m (Some (empty_table id)) old id counts r new after →
     IsTableJoined queue m None old id counts r new after
 empty_joined queue m old id counts t r new after e live p = record {
@@ -143,14 +135,14 @@ empty_joined queue m old id counts t r new after e live p = record {
     same = subst (λ o. table_over_older queue id m None o ≡ table_over_older queue id m (Some (empty_table id)) o) (sym e) (ap (λ b. there_if b (table_over queue m (empty_table id) t)) (there m.cleaned live))
 
 -- the older one goes
-pub cleaned_joined : (queue : LogQueue) (m : Mark) (old : Tables) (id : ℕ) (counts : Counts) (t : Table) (end : ℕ) (new : Tables) (after : Counts) →
-    finite.get old id ≡ Some t → m.cleaned ≡ true → is_refused_over queue m t.entries ≡ false → end ≡ end_at_reach m t → new ≡ finite.remove old id
-    → after ≡ with_table_deleted (table_in old id) counts → IsRecounted (table_in old id) (empty_table id) counts after → IsTableJoined queue m None old id counts (Ok end) new after
-cleaned_joined queue m old id counts t end new after e cleaned accepted answer gone deleted recounted =
+pub cleaned_joined : (queue : LogQueue) (m : Mark) (old : Tables) (id : ℕ) (counts : Counts) (t : Table) (ends : ℕ × ℕ) (new : Tables) (after : Counts) →
+    finite.get old id ≡ Some t → m.cleaned ≡ true → is_refused_over queue m t.entries ≡ false → AreEndsMet m t ends → new ≡ finite.remove old id
+    → after ≡ with_table_deleted (table_in old id) counts → IsRecounted (table_in old id) (empty_table id) counts after → IsTableJoined queue m None old id counts (Ok ends) new after
+cleaned_joined queue m old id counts t ends new after e cleaned accepted answer gone deleted recounted =
     let none : finite.get new id ≡ None = ap (λ n. finite.get n id) gone ∙ get_gone old id in
     record {
       ok = λ run. subst (λ o. table_over_older queue id m None o ≡ Some (finite.get new id)) (sym e) (rw (accepted, cleaned) (ap Some (sym none)));
-      answer = answer ∙ ap (end_at_reach m) (sym (there_now old id t e));
+      answer = subst (λ x. AreEndsMet m x ends) (sym (there_now old id t e)) answer;
       fault = λ run. tt;
       few = λ q. omega (arith, ap (λ o. live_of q (table_of id o)) none, live_of_empty q id);
       one = gone ∙ ap (with_table old id) (sym none);
@@ -170,14 +162,14 @@ mark_refused queue m old id counts t x e f = record { ok = λ run. tt; answer = 
 
 -- the same, where the region has these tables elsewhere
 pub joined_elsewhere : (queue : LogQueue) (m : Mark) (newer : Option Table) (old older : Tables) (id : ℕ) (counts before : Counts)
-    (r : Result ℕ Error) (new next : Tables) (after : Counts) → finite.get older id ≡ finite.get old id → before ≡ counts →
+    (r : Result (ℕ × ℕ) Error) (new next : Tables) (after : Counts) → finite.get older id ≡ finite.get old id → before ≡ counts →
     finite.get next id ≡ finite.get new id → next ≡ with_table older id (finite.get next id)
     → IsTableJoined queue m newer old id counts r new after → IsTableJoined queue m newer older id before r next after
 joined_elsewhere queue m newer old older id counts before r new next after e k f one p = record {
   ok = λ run. subst (λ o. OnOk r (table_over_older queue id m newer o ≡ Some (finite.get next id))) (sym e)
       (subst (λ n. OnOk r (table_over_older queue id m newer (finite.get old id) ≡ Some n)) (sym f)
       (p.ok (subst (λ o. IsRunOver queue m (table_of id newer) (table_of id o)) e run)));
-  answer = subst (λ o. IfOk r (λ end. end ≡ end_at_reach m (table_of id o))) (sym e) p.answer;
+  answer = subst (λ o. IfOk r (AreEndsMet m (table_of id o))) (sym e) p.answer;
   fault = λ run. subst (λ c. IfErr r (IsFaultUnder queue c m (table_of id newer) (table_in older id))) (sym k)
       (subst (λ o. IfErr r (IsFaultUnder queue counts m (table_of id newer) (table_of id o))) (sym e)
       (p.fault (subst (λ o. IsRunOver queue m (table_of id newer) (table_of id o)) e run)));

@@ -1,22 +1,9 @@
 -- An appended table of one region, or its absence, over the rewritten one.
-use Rattle.std.proofs.Common.{◌≡◌, ◌≤◌, ◌+◌, ℕ, Bool, true, false, cond, ◌||◌, Option, Some, None, Result, Ok, Err, refl, sym, ap, subst, ◌∙◌, arith}
+use Rattle.raft_accessor.proofs.Common.{◌≡◌, ◌≤◌, ◌+◌, ℕ, Bool, true, false, cond, ◌||◌, Option, Some, None, Result, Ok, Err, refl, sym, ap, subst, ◌∙◌, arith, is_some, option_map, OnOk, Error}
+use Rattle.raft_accessor.proofs.Common.{LogQueue, overlaid_region, Tables, with_table, Counts, Mark, kept_if, overlay_under, table_of, Table, empty_table, live_of, with_table_deleted, IsRecounted}
+use Rattle.raft_accessor.proofs.Common.{live_of_empty, false≢true, table_in, live_in, IsPutOver, IsTableOverlaid}
 use Rattle.std.specs.FinMap as finite
-use Rattle.std.specs.Option.{is_some, option_map}
-use Rattle.std.specs.Result.{OnOk, IfErr}
-use Rattle.raft_base.specs.declared.errors.Error.{Error}
 use Rattle.raft_base.specs.declared.errors.Error.TheVariants as errors
-use Rattle.raft_base.specs.declared.pipe_log.LogQueue.{LogQueue}
-use Rattle.raft_history.specs.Joins.{overlaid_region}
-use Rattle.raft_history.specs.RegionSteps.{Tables, with_table}
-use Rattle.raft_table.specs.Counts.{Counts}
-use Rattle.raft_table.specs.Marks.{Mark}
-use Rattle.raft_table.specs.Overlay.{kept_if, overlay_under, IsOverlayFault}
-use Rattle.raft_table.specs.Steps.{table_of}
-use Rattle.raft_table.specs.Table.{Table, empty_table, live_of, with_table_deleted, IsRecounted}
-use Rattle.raft_table.proofs.TableLemmas.{live_of_empty}
-use Rattle.std.proofs.lemmas.Bool.{false≢true}
-use Rattle.raft_accessor.specs.Accessor.{table_in, live_in}
-use Rattle.raft_accessor.specs.TableOverlays.{IsRunOverlaid, IsPutOver, IsTableOverlaid}
 use Rattle.raft_accessor.proofs.LiveLemmas.{none_deleted}
 use Rattle.raft_accessor.proofs.MapLemmas.{get_gone, none_some, with_same}
 
@@ -118,22 +105,3 @@ empty_put m old id counts t r new after e live p = record {
 
     same : overlaid_region id (Some m) None (finite.get old id) ≡ overlaid_region id (Some m) (Some (empty_table id)) (finite.get old id)
     same = subst (λ o. overlaid_region id (Some m) None o ≡ overlaid_region id (Some m) (Some (empty_table id)) o) (sym e) (ap (λ b. kept_if b (overlay_under m (empty_table id) t)) (there m.cleaned live))
-
--- the same, where the region has these tables elsewhere
-pub overlaid_elsewhere : (m : Mark) (appended : Option Table) (old older : Tables) (id : ℕ) (counts before : Counts) (r : Result Unit Error)
-    (new next : Tables) (after : Counts) → finite.get older id ≡ finite.get old id → before ≡ counts → finite.get next id ≡ finite.get new id →
-    next ≡ with_table older id (finite.get next id)
-    → IsTableOverlaid m appended old id counts r new after → IsTableOverlaid m appended older id before r next after
-overlaid_elsewhere m appended old older id counts before r new next after e k f one p = record {
-  ok = λ run. subst (λ o. OnOk r (finite.get next id ≡ overlaid_region id (Some m) appended o)) (sym e)
-      (subst (λ n. OnOk r (n ≡ overlaid_region id (Some m) appended (finite.get old id))) (sym f)
-      (p.ok (subst (λ o. IsRunOverlaid m (table_of id appended) (table_of id o)) e run)));
-  fault = subst (λ c. IfErr r (IsOverlayFault c (table_of id appended))) (sym k) p.fault;
-  few = subst (λ o. OnOk r ((q : LogQueue) → live_of q (table_in next id) ≤ live_of q (table_of id o) + live_in q appended)) (sym e)
-      (subst (λ n. OnOk r ((q : LogQueue) → live_of q (table_of id n) ≤ live_of q (table_in old id) + live_in q appended)) (sym f) p.few);
-  one = one;
-  deleted = λ c n. subst (λ x. OnOk r (after ≡ with_table_deleted (table_in older id) x)) (sym k) (subst (λ o. OnOk r (after ≡ with_table_deleted (table_of id o) counts)) (sym e) (p.deleted c n));
-  recounted = subst (λ c. IsRecounted (table_in older id) (table_in next id) c after) (sym k)
-      (subst (λ o. IsRecounted (table_of id o) (table_in next id) counts after) (sym e)
-      (subst (λ n. IsRecounted (table_in old id) (table_of id n) counts after) (sym f) p.recounted));
-}

@@ -1,20 +1,11 @@
 -- Numbers of the values of a map, added in any order.
-use Rattle.std.proofs.Common.{◌≡◌, ◌+◌, ℕ, cond, false, nat_eq, List, [], ◌∷◌, ◌++◌, length, map, Some, None, IsPermutation, refl, sym, ap, ◌∙◌, arith}
-use Rattle.std.specs.Ordering.{nat_cmp}
-use Rattle.std.specs.Cmp.{nat_cmp_total}
-use Rattle.std.specs.List.{AllByRecursion, IsDistinct, sum_by}
-use Rattle.std.specs.Map.{keys_of}
+use Rattle.raft_accessor.proofs.Common.{◌≡◌, ◌+◌, ℕ, nat_eq, List, [], ◌∷◌, ◌++◌, length, map, IsPermutation, refl, sym, ap, ◌∙◌, arith, nat_cmp, nat_cmp_total, IsDistinct, keys_of, sum_by-cons}
+use Rattle.raft_accessor.proofs.Common.{sum_by-IsPermutation, total_of, total, found, total-insert, total-none, total-ones, LogQueue, live_of, Tables, live_in_all, ◌<◌, ◌≤◌, drop, slice_index_or}
+use Rattle.raft_accessor.proofs.Common.{Table, slot_entries, together, AreSlots}
+use Rattle.std.specs.List.{sum_by}
 use Rattle.std.specs.FinMap as finite
-use Rattle.std.specs.FinMap.{find}
-use Rattle.std.proofs.lemmas.List.Sums.{sum_by-cons}
-use Rattle.std.proofs.lemmas.List.Sorted.{sum_by-IsPermutation}
-use Rattle.raft_history.specs.Records.{total_of, total}
-use Rattle.raft_history.proofs.TotalLemmas.{found, total-insert, total-none, total-ones}
-use Rattle.raft_base.specs.declared.pipe_log.LogQueue.{LogQueue}
-use Rattle.raft_table.specs.Table.{live_of}
-use Rattle.raft_history.specs.RegionSteps.{Tables}
-use Rattle.raft_accessor.specs.Accessor.{live_in_all}
-use Rattle.raft_accessor.proofs.RegionTablesLemmas.{same_test}
+use Rattle.raft_accessor.proofs.OrderLemmas.{not-there, together-permuted, drop-step}
+use Rattle.raft_accessor.proofs.SlotLemmas.{drop-none}
 
 module _ {X : Type 0} (f : X → ℕ) where
   -- the numbers of some values, together
@@ -22,15 +13,15 @@ module _ {X : Type 0} (f : X → ℕ) where
   added [] = 0
   added (x ∷ xs) = f x + added xs
 
-  not_there : (k : ℕ) (es : List (ℕ × X)) → AllByRecursion (λ y. nat_eq k y ≡ false) (keys_of es) → find nat_cmp k es ≡ None
-  not_there k [] h = refl
-  not_there k (e ∷ es) h = ap (λ b. cond b (Some e.1) (find nat_cmp k es)) (same_test k e.0 ∙ h.0) ∙ not_there k es h.1
-
   pub total-from : (es : List (ℕ × X)) → IsDistinct nat_eq (keys_of es) → total f (finite.from_entries {R = nat_cmp} es) ≡ added (map (λ e. e.1) es)
   unfolding IsDistinct
   total-from [] once = total-none f
   total-from (e ∷ es) once =
-      omega (arith, total-insert f (finite.from_entries {R = nat_cmp} es) e.0 e.1, ap (found f) (finite.get-from_entries nat_cmp_total es e.0 ∙ not_there e.0 es once.0), total-from es once.1)
+      omega (arith, total-insert f (finite.from_entries {R = nat_cmp} es) e.0 e.1, ap (found f) (finite.get-from_entries nat_cmp_total es e.0 ∙ not-there e.0 es once.0), total-from es once.1)
+
+  -- the values that a walk of a hash map meets
+  pub walked-total : (es : List (ℕ × X)) (m : finite.FinMap nat_cmp X) (xs : List X) → IsDistinct nat_eq (keys_of es) → finite.from_entries es ≡ m → xs ≡ map (λ e. e.1) es → added xs ≡ total f m
+  walked-total es m xs once is all = ap added all ∙ sym (total-from es once) ∙ ap (total f) is
 
   added-entries : (es : List (ℕ × X)) → total_of f es ≡ added (map (λ e. e.1) es)
   added-entries [] = refl
@@ -68,3 +59,26 @@ len-from {X} es once = sym (total-ones (finite.from_entries {R = nat_cmp} es)) �
 pub live-added : (q : LogQueue) (m : Tables) → live_in_all q m ≡ added (live_of q) (finite.values m)
 unfolding live_in_all
 live-added q m = added-sum (live_of q) (finite.values m)
+
+-- ---- slots
+
+-- the tables of some slots
+abbrev pub tables_of : List Tables → List Table
+tables_of slots = map (λ e. e.1) (slot_entries slots)
+
+pub slots-all : (f : Table → ℕ) (ms : List Tables) → AreSlots 0 ms → added f (tables_of ms) ≡ total f (together ms)
+slots-all f ms are = added-permuted f (tables_of ms) (finite.values (together ms)) (together-permuted ms are) ∙ sym (total-values f (together ms))
+
+pub slots-live : (q : LogQueue) (ms : List Tables) → AreSlots 0 ms → added (live_of q) (tables_of ms) ≡ live_in_all q (together ms)
+slots-live q ms are = added-permuted (live_of q) (tables_of ms) (finite.values (together ms)) (together-permuted ms are) ∙ sym (live-added q (together ms))
+
+pub slots-left : (f : Table → ℕ) (ms : List Tables) (i : ℕ) → length ms ≤ i → added f (tables_of (drop i ms)) ≡ 0
+slots-left f ms i past = ap (λ es. added f (map (λ (e : ℕ × Table). e.1) es)) (drop-none ms i past)
+
+-- one slot less is left
+module _ (ms : List Tables) (i : ℕ) (d : Tables) (low : i < length ms) (is : d ≡ slice_index_or ms i d) where
+  pub slot-less : (f : Table → ℕ) → added f (tables_of (drop i ms)) ≡ total f d + added f (tables_of (drop (i + 1) ms))
+  slot-less f = omega (arith, ap (added f) (drop-step ms i (i + 1) d refl low is), added-append f (finite.values d) (tables_of (drop (i + 1) ms)), total-values f d)
+
+  pub slot-less-live : (q : LogQueue) → added (live_of q) (tables_of (drop i ms)) ≡ live_in_all q d + added (live_of q) (tables_of (drop (i + 1) ms))
+  slot-less-live q = omega (arith, ap (added (live_of q)) (drop-step ms i (i + 1) d refl low is), added-append (live_of q) (finite.values d) (tables_of (drop (i + 1) ms)), live-added q d)

@@ -1,48 +1,33 @@
 -- A region's table changed by a call, or made and changed.
-use Rattle.std.proofs.Common.{◌≡◌, ℕ, Option, Some, Result, Ok, Err, refl, sym, ap, subst, ◌∙◌, inl, inr}
+use Rattle.raft_accessor.proofs.Common.{◌≡◌, ℕ, Option, Some, Result, Ok, Err, refl, sym, ap, subst, ◌∙◌, inl, inr, OnOk, OnErr, Error, Counts, table_of, Table, IsRecounted, Tables, table_in, MutBor}
+use Rattle.raft_accessor.proofs.Common.{TableCall, TableCalls, MayChange, IsUpdated, BecomesOutcome, IsRunTried, None, List, EntryIndex, LogQueue, other, after_replay, live_of, counts_with_run}
+use Rattle.raft_accessor.proofs.Common.{start_of, end_of, ◌⊎◌, ◌≤◌, ◌+◌, ◌^◌, arith, live, IsInserted}
 use Rattle.std.specs.FinMap as finite
-use Rattle.std.specs.Result.{OnOk, OnErr}
-use Rattle.raft_base.specs.declared.errors.Error.{Error}
-use Rattle.raft_base.specs.declared.errors.Error.TheVariants.{Memory}
-use Rattle.raft_table.specs.Counts.{Counts}
-use Rattle.raft_table.specs.Steps.{table_of}
-use Rattle.raft_table.specs.Table.{Table, IsRecounted}
-use Rattle.raft_history.specs.RegionSteps.{Tables}
-use Rattle.raft_accessor.specs.Accessor.{table_in}
-use Rattle.raft_accessor.specs.Updates.{TableCall, TableCalls, MayChange, IsUpdated, BecomesOutcome}
+use Rattle.raft_base.specs.declared.errors.Error.TheVariants.{Full, Memory}
 use Rattle.raft_accessor.proofs.MapLemmas.{get_own, insert_same, one_written, one_same}
 
 module _ {F R : Type 0} (g : TableCall F R) (f : F) (m : Tables) (id : ℕ) (counts : Counts) where
-  -- the table was there
-  pub updated : (u : Table) (r : Result R Error) (new : Table) (after : Counts) (n : Tables) → finite.get m id ≡ Some u →
+  -- a call as it was made
+  pub calls-so : {r : Result R Error} {old : Table} (table : MutBor Table) (stats : MutBor Counts) (left : MutBor Table) (left_stats : MutBor Counts) → table.now ≡ old →
+      stats.now ≡ counts → g.post f (table, (stats, tt)) (r, (left, (left_stats, tt)))
+      → TableCalls g f old counts r left.now left_stats.now
+  calls-so table stats left left_stats e k met = record { table = table; stats = stats; shows = (e, k); left = left; left_stats = left_stats; met = met; leaves = (refl, refl) }
+
+  -- the table was there, or it was made and the call did not refuse
+  pub updated : (r : Result R Error) (new : Table) (after : Counts) (n : Tables) → ((x : Error) → r ≡ Err x → finite.get m id ≡ Some (table_in m id)) →
       MayChange g f (table_in m id) counts → TableCalls g f (table_in m id) counts r new after → n ≡ finite.insert m id new →
       IsUpdated g f m id counts r n after
-  updated u r new after n is may ch e =
+  updated r new after n there may ch e =
       let now : table_in n id ≡ new = ap (λ x. table_in x id) e ∙ ap (table_of id) (get_own m id new) in
       let here : TableCalls g f (table_in m id) counts r (table_in n id) after = subst (λ x. TableCalls g f (table_in m id) counts r x after) (sym now) ch in
       record {
         changed = inl here;
         ok = elim r as (λ r. OnOk r (n ≡ finite.insert m id (table_in n id))) [ Ok a ↦ e ∙ ap (finite.insert m id) (sym now) | Err x ↦ tt ];
         there = elim r as (λ r. OnOk r (finite.get n id ≡ Some (table_in n id))) [ Ok a ↦ ap (λ x. finite.get x id) e ∙ get_own m id new ∙ ap Some (sym now) | Err x ↦ tt ];
-        err = elim r as (λ r. OnErr r (new ≡ table_in m id) → OnErr r (n ≡ m)) [ Ok a ↦ λ k. tt | Err x ↦ λ k. e ∙ insert_same m id new (is ∙ ap Some (sym (k ∙ ap (table_of id) is))) ] (may.kept r new after ch);
+        err = elim r as (λ s. r ≡ s → OnErr s (new ≡ table_in m id) → OnErr s (n ≡ m)) [ Ok a ↦ λ is k. tt | Err x ↦ λ is k. e ∙ insert_same m id new (there x is ∙ ap Some (sym k)) ] refl (may.kept r new after ch);
         counts_err = may.kept_counts r new after ch;
         one = one_written m n id new e;
         recounted = may.counted r (table_in n id) after here;
-      }
-
-  -- the table was made
-  pub made : (a : R) (new : Table) (after : Counts) (n : Tables) → MayChange g f (table_in m id) counts → TableCalls g f (table_in m id) counts (Ok a) new after → n ≡ finite.insert m id new → IsUpdated g f m id counts (Ok a) n after
-  made a new after n may ch e =
-      let now : table_in n id ≡ new = ap (λ x. table_in x id) e ∙ ap (table_of id) (get_own m id new) in
-      let here : TableCalls g f (table_in m id) counts (Ok a) (table_in n id) after = subst (λ x. TableCalls g f (table_in m id) counts (Ok a) x after) (sym now) ch in
-      record {
-        changed = inl here;
-        ok = e ∙ ap (finite.insert m id) (sym now);
-        there = ap (λ x. finite.get x id) e ∙ get_own m id new ∙ ap Some (sym now);
-        err = tt;
-        counts_err = tt;
-        one = one_written m n id new e;
-        recounted = may.counted (Ok a) (table_in n id) after here;
       }
 
   -- the table that would have been made was refused
@@ -76,7 +61,7 @@ module _ {F R : Type 0} (g : TableCall F R) (f : F) (m : Tables) (id : ℕ) (cou
       }
 
 -- a table becomes the outcome of a change
-pub taken : {R : Type 0} (m n : Tables) (id : ℕ) (u new : Table) (outcome : Table → Option Table) (IsFault : Error → Type 0) (counts after : Counts)
+taken : {R : Type 0} (m n : Tables) (id : ℕ) (u new : Table) (outcome : Table → Option Table) (IsFault : Error → Type 0) (counts after : Counts)
     (a : R) → table_in m id ≡ u → outcome u ≡ Some new → IsRecounted u new counts after → n ≡ finite.insert m id new →
     BecomesOutcome (outcome (table_in m id)) IsFault m id counts (Ok a) n after
 taken m n id u new outcome IsFault counts after a was o r e =
@@ -91,14 +76,8 @@ taken m n id u new outcome IsFault counts after a was o r e =
       recounted = subst (λ t. IsRecounted t (table_in n id) counts after) (sym was) (subst (λ t. IsRecounted u t counts after) (sym now) r);
     }
 
--- .. one that was there
-pub taken_there : {R : Type 0} (m n : Tables) (id : ℕ) (u new : Table) (outcome : Table → Option Table) (IsFault : Error → Type 0)
-    (counts after : Counts) (a : R) → finite.get m id ≡ Some u → outcome u ≡ Some new → IsRecounted u new counts after → n ≡ finite.insert m id new →
-    BecomesOutcome (outcome (table_in m id)) IsFault m id counts (Ok a) n after
-taken_there m n id u new outcome IsFault counts after a is o r e = taken m n id u new outcome IsFault counts after a (ap (table_of id) is) o r e
-
 -- a change that is not made, as for want of memory
-pub not_taken : {R : Type 0} (m n : Tables) (id : ℕ) (outcome : Option Table) (IsFault : Error → Type 0) (counts after : Counts) → n ≡ m → after ≡ counts → BecomesOutcome {R = R} outcome IsFault m id counts (Err Memory) n after
+not_taken : {R : Type 0} (m n : Tables) (id : ℕ) (outcome : Option Table) (IsFault : Error → Type 0) (counts after : Counts) → n ≡ m → after ≡ counts → BecomesOutcome {R = R} outcome IsFault m id counts (Err Memory) n after
 not_taken m n id outcome IsFault counts after e k =
     let now : table_in n id ≡ table_in m id = ap (λ y. table_in y id) e in
     record {
@@ -110,3 +89,32 @@ not_taken m n id outcome IsFault counts after e k =
       one = one_same m n id e;
       recounted = subst (λ c. IsRecounted (table_in m id) (table_in n id) counts c) (sym k) (subst (λ t. IsRecounted (table_in m id) t counts counts) (sym now) (λ q. refl));
     }
+
+-- a run that is read again was put
+pub run_put : (q : LogQueue) (id : ℕ) (run : List EntryIndex) (m n : Tables) (u new : Table) (counts after : Counts) (ends : ℕ × ℕ) → table_in m id ≡ u → ends ≡ (start_of u.entries, end_of u.entries)
+    → (after_replay q u run ≡ Some new) × (live_of (other q) u ≡ 0) × (after ≡ counts_with_run q u.entries run counts) → IsRecounted u new counts after → n ≡ finite.insert m id new → IsRunTried q id run m counts (Some ends) n after
+run_put q id run m n u new counts after ends was e done r is = record {
+  outcome = taken m n id u new (λ t. after_replay q t run) (λ e. ⊥) counts after ends was done.0 r is;
+  accepted = ap (live_of (other q)) was ∙ done.1;
+  counts_ok = done.2 ∙ ap (λ (t : Table). counts_with_run q t.entries run counts) (sym was);
+  ends = e ∙ ap (λ (t : Table). (start_of t.entries, end_of t.entries)) (sym was);
+}
+
+-- or not
+pub not_put : (q : LogQueue) (id : ℕ) (run : List EntryIndex) (m n : Tables) (counts after : Counts) → n ≡ m → after ≡ counts → IsRunTried q id run m counts None n after
+not_put q id run m n counts after e k = record { outcome = not_taken m n id _ (λ e. ⊥) counts after e k; accepted = tt; counts_ok = tt; ends = tt }
+
+-- a table that is not put
+pub not_inserted : (id : ℕ) (table : Table) (m n : Tables) (counts after : Counts) (x : Error) → n ≡ m → after ≡ counts → (x ≡ Memory) ⊎ ((x ≡ Full) × ((q : LogQueue) × (2 ^ 64 ≤ live q counts + live_of q table)))
+    → IsInserted id table m counts (Err x) n after
+not_inserted id table m n counts after x e k fault = record {
+  ok = tt;
+  replaced = tt;
+  own = tt;
+  counts = tt;
+  err = e;
+  counts_err = k;
+  fault = fault;
+  one = one_same m n id e;
+  recounted = λ q. omega (arith, ap (live q) k, ap (λ r. live_of q (table_in r id)) e);
+}

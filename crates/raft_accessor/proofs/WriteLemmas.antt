@@ -1,47 +1,12 @@
 -- One item written to its region's table.
-use Rattle.std.proofs.Common.{◌≡◌, ◌⊎◌, ℕ, true, false, cond, List, [], ◌++◌, append-nil, Option, Some, None, Result, Ok, Err, refl, sym, ap, subst, ◌∙◌, inl, inr}
+use Rattle.raft_accessor.proofs.Common.{◌≡◌, ◌⊎◌, ℕ, true, false, cond, List, [], ◌++◌, append-nil, Option, Some, None, Result, Ok, Err, refl, sym, ap, subst, ◌∙◌, inl, inr, option_map, is_some}
+use Rattle.raft_accessor.proofs.Common.{Global, Vec, OnOk, OnErr, IfErr, false≢true, Error, LogQueue, EntryIndex, is_reserved, Item, Content, Pair, entries, pair, Tables, Counts, live, file_at}
+use Rattle.raft_accessor.proofs.Common.{entries_after_append, entries_after_replay, IsTableRunFault, table_of, Table, append_full, replay_full, table_in, IsItemWritten, IsCorruption, IsReplayFault}
+use Rattle.raft_accessor.proofs.Common.{BecomesOutcome, Writing, Appending, Replaying, queue_of, after_content, counts_after_content, counts_after_change, after_rewrite_put, with_change, lists}
+use Rattle.raft_accessor.proofs.Common.{listed_by, cleaned_by_content, IsFor, MixesQueues, IsWriteFault}
 use Rattle.std.specs.FinMap as finite
-use Rattle.std.specs.Option.{option_map, is_some}
-use Rattle.std.specs.declared.alloc.Global.{Global}
-use Rattle.std.specs.declared.vec.Vec.{Vec}
-use Rattle.std.specs.Result.{OnOk, OnErr, IfErr}
-use Rattle.std.proofs.lemmas.Bool.{false≢true}
-use Rattle.raft_base.specs.declared.errors.Error.{Error}
 use Rattle.raft_base.specs.declared.errors.Error.TheVariants as errors
-use Rattle.raft_base.specs.declared.pipe_log.LogQueue.{LogQueue}
 use Rattle.raft_base.specs.declared.pipe_log.LogQueue.TheVariants.{Append}
-use Rattle.raft_base.specs.declared.entry_index.EntryIndex.{EntryIndex}
-use Rattle.raft_records.specs.Group.{is_reserved}
-use Rattle.raft_records.specs.Item.{Item, Content, Pair, entries, pair}
-use Rattle.raft_history.specs.RegionSteps.{Tables}
-use Rattle.raft_table.specs.Counts.{Counts, live}
-use Rattle.raft_table.specs.KeyValues.{file_at}
-use Rattle.raft_table.specs.Start.{entries_after_append, entries_after_replay, IsTableRunFault}
-use Rattle.raft_table.specs.Steps.{table_of}
-use Rattle.raft_table.specs.Table.{Table}
-use Rattle.raft_table.proofs.RunCounts.{append_full, replay_full}
-use Rattle.raft_accessor.specs.Accessor.{table_in}
-use Rattle.raft_accessor.specs.ItemWrites.{IsItemWritten}
-use Rattle.raft_base.specs.Corruption.{IsCorruption}
-use Rattle.raft_table.specs.TakenSteps.{IsReplayFault}
-use Rattle.raft_accessor.specs.Updates.{BecomesOutcome}
-use Rattle.raft_accessor.specs.Writes.{
-  Writing,
-  Appending,
-  Replaying,
-  queue_of,
-  after_content,
-  counts_after_content,
-  counts_after_change,
-  after_rewrite_put,
-  with_change,
-  lists,
-  listed_by,
-  cleaned_by_content,
-  IsFor,
-  MixesQueues,
-  IsWriteFault,
-}
 use Rattle.raft_accessor.proofs.MapLemmas.{one_same}
 
 -- new items meet no records of the other queue

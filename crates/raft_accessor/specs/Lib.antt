@@ -15,3 +15,4 @@ pub mod TableSteps
 pub mod Updates
 pub mod Walks
 pub mod Writes
+pub mod WritingShown

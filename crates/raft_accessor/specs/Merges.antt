@@ -2,7 +2,7 @@
 use Rattle.std.specs.Prelude.{◌≡◌, ◌≢◌, ◌⊎◌, ℕ, Option, Some, None, IsTrue, Result, IfErr, is_some}
 use Rattle.std.specs.Borrow.{MutBor}
 use Rattle.std.specs.FinMap as finite
-use Rattle.std.specs.Result.{OnOk}
+use Rattle.std.specs.Result.{OnOk, OnErr}
 use Rattle.raft_base.specs.declared.errors.Error.{Error}
 use Rattle.raft_base.specs.declared.errors.Error.TheVariants.{Memory}
 use Rattle.raft_base.specs.declared.pipe_log.LogQueue.{LogQueue}
@@ -11,7 +11,7 @@ use Rattle.raft_table.specs.Counts.{Counts}
 use Rattle.raft_table.specs.Merge.{after_newer, joint_queue, after_appended, append_rule, IsTableMergeFault}
 use Rattle.raft_table.specs.Steps.{table_of}
 use Rattle.raft_table.specs.Table.{Table, IsRecounted}
-use Rattle.raft_accessor.specs.Accessor.{table_in}
+use Rattle.raft_accessor.specs.Accessor.{Accessor, table_in}
 use Rattle.raft_accessor.specs.Updates.{TableCall, TableCalls, IsChangedBy}
 use Rattle.raft_accessor.specs.declared.neighbor.Neighbor.{Neighbor}
 use Rattle.raft_accessor.specs.declared.neighbor.Neighbor.TheVariants.{Newer, Appended}
@@ -76,6 +76,22 @@ pub record IsMergeRefusal (IsFault : Table → Table → Error → Type 0) (olde
   pub table : Table
   pub there : finite.get newer id ≡ Some table
   pub fault : IsFault (table_in older id) table e
+
+-- a table is merged into that of its region among those of an accessor, or refused; no other is changed
+pub record IsMergedIn (kind : Neighbor) (id : ℕ) (newer : Table) (old : Accessor) (r : Result Unit Error) (new : Accessor) : Type 0 where
+  pub ok : OnOk r (IsMergedAt (with_neighbor kind) id (finite.get old.tables id) (Some newer) (finite.get new.tables id))
+  pub fault : IfErr r (IsFaultBeside kind new.counts (table_in old.tables id) newer)
+  pub err : IfErr r (λ e. e ≢ Memory → table_in new.tables id ≡ table_in old.tables id)
+  pub others : new.tables ≡ with_table old.tables id (finite.get new.tables id)
+  pub cleaned : new.cleaned ≡ old.cleaned
+
+-- tables are merged into those of an accessor, or one of them is refused
+pub record AreMerged (kind : Neighbor) (old : Accessor) (newer : Tables) (r : Result Unit Error) (new : Accessor) : Type 0 where
+  pub ok : OnOk r (AreTablesMerged (with_neighbor kind) old.tables newer new.tables)
+  pub fault : IfErr r (IsMergeRefusal (IsFaultBeside kind new.counts) old.tables newer)
+  pub err : IfErr r (λ e. e ≢ Memory → AreTablesLeft (with_neighbor kind) old.tables newer new.tables)
+  pub others : OnErr r (AreOthersLeft (with_neighbor kind) old.tables newer new.tables)
+  pub cleaned : new.cleaned ≡ old.cleaned
 
 -- ---- one table
 

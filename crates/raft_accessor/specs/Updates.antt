@@ -1,13 +1,14 @@
 -- Changes of one table by a call that is handed in.
-use Rattle.std.specs.Prelude.{◌≡◌, ◌⊎◌, ℕ, Option, Some, Result, Err, IfErr}
+use Rattle.std.specs.Prelude.{◌≡◌, ◌⊎◌, ◌≤◌, ◌+◌, ◌^◌, ℕ, Option, Some, Result, Err, IfOk, IfErr, IfSome}
 use Rattle.std.specs.FinMap as finite
 use Rattle.std.specs.Fn.{Once}
 use Rattle.std.specs.Borrow.{MutBor}
 use Rattle.std.specs.Result.{OnOk, OnErr}
 use Rattle.raft_base.specs.declared.errors.Error.{Error}
-use Rattle.raft_base.specs.declared.errors.Error.TheVariants.{Memory}
-use Rattle.raft_table.specs.Counts.{Counts}
-use Rattle.raft_table.specs.Table.{Table, IsRecounted}
+use Rattle.raft_base.specs.declared.errors.Error.TheVariants.{Full, Memory}
+use Rattle.raft_base.specs.declared.pipe_log.LogQueue.{LogQueue}
+use Rattle.raft_table.specs.Counts.{Counts, live}
+use Rattle.raft_table.specs.Table.{Table, live_of, with_table_added, with_table_deleted, IsRecounted}
 use Rattle.raft_history.specs.RegionSteps.{Tables, with_table}
 use Rattle.raft_accessor.specs.Accessor.{table_in}
 
@@ -56,3 +57,15 @@ pub record BecomesOutcome {R : Type 0} (outcome : Option Table) (IsFault : Error
   pub fault : IfErr r (λ e. (e ≡ Memory) ⊎ IsFault e)
   pub one : new ≡ with_table old id (finite.get new id)
   pub recounted : IsRecounted (table_in old id) (table_in new id) counts after
+
+-- a table is put under its region's id and counted, and the one that stood there is handed back and no longer counted; or nothing is changed, as there is no memory, or no room in the counts beside the one that stood there
+pub record IsInserted (id : ℕ) (table : Table) (old : Tables) (before : Counts) (r : Result (Option Table) Error) (new : Tables) (after : Counts) : Type 0 where
+  pub ok : OnOk r (new ≡ finite.insert old id table)
+  pub replaced : IfOk r (λ t. t ≡ finite.get old id)
+  pub own : IfOk r (λ t. IfSome t (λ (u : Table). u.region_id ≡ id))
+  pub counts : OnOk r (after ≡ with_table_deleted (table_in old id) (with_table_added table before))
+  pub err : OnErr r (new ≡ old)
+  pub counts_err : OnErr r (after ≡ before)
+  pub fault : IfErr r (λ e. (e ≡ Memory) ⊎ ((e ≡ Full) × ((q : LogQueue) × (2 ^ 64 ≤ live q before + live_of q table))))
+  pub one : new ≡ with_table old id (finite.get new id)
+  pub recounted : IsRecounted (table_in old id) (table_in new id) before after

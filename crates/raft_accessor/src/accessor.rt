@@ -1,30 +1,28 @@
 //! The tables of all regions.
 
-ghost use Rattle.std.specs.Prelude.{◌≡◌, ◌≢◌, ◌≤◌, ◌<◌, ◌^◌, ◌+◌, ◌⊎◌, ◌↔◌, List, [], ◌∷◌, ◌++◌, map, replicate, IsPermutation, IsTrue, OnOk, OnErr, IfOk, IfErr, IfSome, Some, None, option_map, is_some, if◌then◌else◌};
+ghost use Rattle.std.specs.Prelude.{◌≡◌, ◌≢◌, ◌≤◌, ◌<◌, ◌^◌, ◌+◌, ◌⊎◌, ◌↔◌, List, [], ◌∷◌, ◌++◌, map, replicate, IsPermutation, IsTrue, OnOk, OnErr, IfOk, IfErr, IfSome, Some, None, option_map, is_some, length, if◌then◌else◌};
 ghost use Rattle.std.specs.FinMap as finite;
 ghost use Rattle.std.specs.List.{FoldsTo};
 ghost use Rattle.raft_base.specs.declared.pipe_log.LogQueue.{LogQueue};
-ghost use Rattle.raft_history.specs.RegionSteps.{with_table};
+ghost use Rattle.raft_history.specs.Records.{total};
 ghost use Rattle.raft_table.specs.Change.{after_change, AreCountsAfter, IsAllowed, IsAnswer, IsChangeFault};
 ghost use Rattle.raft_table.specs.Table.{Table, with_table_added, with_table_deleted, live_of};
 ghost use Rattle.raft_accessor.specs.Accessor.{slot_of, table_in, live_in_all, AreCountsOf};
 ghost use Rattle.raft_accessor.specs.AccessorCalls.{IsTableChanged, IsTableMade, lent_as};
-ghost use Rattle.raft_accessor.specs.Merges.{with_newer, with_appended, with_neighbor, IsMergedAt, AreTablesMerged, AreTablesLeft, AreOthersLeft, IsNewerFault, IsAppendedFault, IsFaultBeside, IsMergeRefusal};
+ghost use Rattle.raft_accessor.specs.Merges.{with_newer, with_appended, AreTablesMerged, AreTablesLeft, AreOthersLeft, AreMerged, IsMergedIn, IsNewerFault, IsAppendedFault, IsMergeRefusal};
 ghost use Rattle.raft_accessor.specs.Walks.{Collects, Makes};
 
 mod cleaned;
 mod join;
-mod overlay;
 mod region_steps;
 mod take_slot;
-mod totals;
 mod writes;
 
 use crate::boxed_table::{BoxedTable, unboxed};
 use crate::neighbor::Neighbor;
 use crate::region_tables::RegionTables;
 pub use cleaned::clean_logs;
-use raft_base::{AllocResult, Error, FileSeq, Result, hash_u64};
+use raft_base::{AllocResult, Error, FileSeq, LogQueue, Result, hash_u64};
 use raft_table::{GlobalStats, MemTable, TableChange};
 use std::alloc::{AllocError, Global};
 use std::marker::Model;
@@ -40,7 +38,6 @@ pub fn slot_of(id: u64) -> usize
     (hash_u64(id) % 128) as usize
 }
 
-/// Says want of memory as the crate does.
 fn lent<'a>(table: AllocResult<&'a MemTable>) -> Result<&'a MemTable>
     ensures { result ≡ lent_as table.entry }
 {
@@ -135,8 +132,7 @@ impl MemTableAccessor {
         lent(self.lend(id))
     }
 
-    /// Lends the table of a region, an empty one that is made where there is none. All tables stay where
-    /// there is no memory for it.
+    /// Does what `get_or_insert` does, with an error that owns no memory: only so does the check prove `ends`.
     fn lend(&mut self, id: u64) -> AllocResult<&MemTable>
         ensures* ends { sem 𝓛 (follows_so the_row the_row self.entry.ghost_name none (λ _ _. ⊤)
             (λ new. IsTableMade id result self.old new)) }
@@ -146,7 +142,6 @@ impl MemTableAccessor {
         Ok(self.made(id))
     }
 
-    /// Makes an empty table for a region that has none. All tables stay where there is no memory for it.
     fn make_table(&mut self, id: u64) -> AllocResult<()>
         ensures { IsTableMade id result self.old self.new }
     {
@@ -156,7 +151,6 @@ impl MemTableAccessor {
         }
     }
 
-    /// Returns the table of a region that has one.
     fn made(&self, id: u64) -> &MemTable
         requires { IsTrue (is_some (finite.get self.now.tables id)) }
         ensures { result.now ≡ table_in self.now.tables id }
@@ -167,11 +161,6 @@ impl MemTableAccessor {
         }
     }
 
-    /// Makes an empty table for a region that has none.
-    ///
-    /// # Errors
-    ///
-    /// `Memory`. The accessor is then as it was.
     fn make(&mut self, id: u64) -> Result<()>
         ensures changed { IsTableChanged (Some (table_in self.old.tables id)) (λ e. ⊥) id result
             self.old self.new }
@@ -347,11 +336,10 @@ impl MemTableAccessor {
             (finite.values self.now.tables)) }
         ensures memory { IfErr result (λ e. e ≡ Error.Memory) }
     {
-        let mut tables = Vec::new(*self.cleaned.allocator());
-        for slot in &self.slots {
-            slot.push_tables(&mut tables)?;
-        }
-        Ok(tables)
+        let all = |_: &MemTable| -> bool
+            ensures { IsTrue result }
+        { true };
+        self.collect(all)
     }
 
     /// Returns the tables for which `f` returns true; it is called at each table once, in no set
@@ -374,6 +362,21 @@ impl MemTableAccessor {
         Ok(kept)
     }
 
+    /// Returns how many entries all tables have together, and how many keys with a value, which are
+    /// the other records.
+    pub fn totals(&self) -> (u128, u128)
+        ensures entries { result.0 ≡ total (λ (t : Table). length t.entries) self.now.tables }
+        ensures keys { result.1 ≡ total (λ (t : Table). finite.len t.keys) self.now.tables }
+    {
+        let records = self.stats.live_entries(LogQueue::Append) as u128
+            + self.stats.live_entries(LogQueue::Rewrite) as u128;
+        let mut entries = 0;
+        for slot in &self.slots {
+            entries += slot.entries_count();
+        }
+        (entries, records - entries)
+    }
+
     /// Takes a region's table away in its box, and its records off the counts.
     #[doc(hidden)]
     pub fn take(&mut self, id: u64) -> Option<BoxedTable>
@@ -387,17 +390,8 @@ impl MemTableAccessor {
         self.slots[slot_of(id)].take(id, &mut self.stats)
     }
 
-    /// Merges the tables of such a neighbor, slot by slot.
     fn merge_neighbors(&mut self, kind: Neighbor, rhs: MemTableAccessor) -> Result<()>
-        ensures ok { OnOk result (AreTablesMerged (with_neighbor kind) self.old.tables rhs.tables
-            self.new.tables) }
-        ensures fault { IfErr result (IsMergeRefusal (IsFaultBeside kind self.new.counts)
-            self.old.tables rhs.tables) }
-        ensures err { IfErr result (λ e. e ≢ Error.Memory
-            → AreTablesLeft (with_neighbor kind) self.old.tables rhs.tables self.new.tables) }
-        ensures others { OnErr result (AreOthersLeft (with_neighbor kind) self.old.tables
-            rhs.tables self.new.tables) }
-        ensures cleaned { self.new.cleaned ≡ self.old.cleaned }
+        ensures { AreMerged kind self.old rhs.tables result self.new }
     {
         for slot in rhs.slots {
             self.merge_slot(kind, slot)?;
@@ -405,17 +399,8 @@ impl MemTableAccessor {
         Ok(())
     }
 
-    /// Merges the tables of one slot of such a neighbor.
     fn merge_slot(&mut self, kind: Neighbor, newer: RegionTables) -> Result<()>
-        ensures ok { OnOk result (AreTablesMerged (with_neighbor kind) self.old.tables newer
-            self.new.tables) }
-        ensures fault { IfErr result (IsMergeRefusal (IsFaultBeside kind self.new.counts)
-            self.old.tables newer) }
-        ensures err { IfErr result (λ e. e ≢ Error.Memory
-            → AreTablesLeft (with_neighbor kind) self.old.tables newer self.new.tables) }
-        ensures others { OnErr result (AreOthersLeft (with_neighbor kind) self.old.tables newer
-            self.new.tables) }
-        ensures cleaned { self.new.cleaned ≡ self.old.cleaned }
+        ensures { AreMerged kind self.old newer result self.new }
     {
         for (id, table) in newer.into_entries() {
             self.merge_table(kind, id, table)?;
@@ -423,28 +408,14 @@ impl MemTableAccessor {
         Ok(())
     }
 
-    /// Merges a table of such a neighbor into the table of its region.
     fn merge_table(&mut self, kind: Neighbor, id: u64, newer: BoxedTable) -> Result<()>
         requires { newer.region_id ≡ id }
-        ensures ok { OnOk result (IsMergedAt (with_neighbor kind) id
-            (finite.get self.old.tables id) (Some newer) (finite.get self.new.tables id)) }
-        ensures fault { IfErr result (IsFaultBeside kind self.new.counts
-            (table_in self.old.tables id) newer) }
-        ensures err { IfErr result
-            (λ e. e ≢ Error.Memory → table_in self.new.tables id ≡ table_in self.old.tables id) }
-        ensures others { self.new.tables ≡ with_table self.old.tables id
-            (finite.get self.new.tables id) }
-        ensures cleaned { self.new.cleaned ≡ self.old.cleaned }
+        ensures { IsMergedIn kind id newer self.old result self.new }
     {
         self.slots[slot_of(id)].merge_neighbor(kind, id, newer, &mut self.stats)
     }
 }
 
-/// Makes 128 slots without tables.
-///
-/// # Errors
-///
-/// `Memory`.
 fn empty_slots(alloc: Global) -> Result<Vec<RegionTables>>
     ensures ok { IfOk result (λ slots. slots.items ≡ replicate 128 finite.empty) }
     ensures memory { IfErr result (λ e. e ≡ Error.Memory) }

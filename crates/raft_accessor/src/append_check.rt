@@ -23,14 +23,12 @@ pub(crate) struct Extent {
 }
 
 impl Extent {
-    /// Makes one without entries.
     fn of_none() -> Extent
         ensures { IsExtentOf result [] }
     {
         Extent { first: 0, end: 0 }
     }
 
-    /// Returns where the entries of a table begin and end.
     fn of_table(table: Option<&MemTable>) -> Extent
         ensures { (id : ℕ) → IsExtentOf result
             (table_of id (option_map (λ t. t.now) table.entry)).entries }
@@ -48,7 +46,6 @@ impl Extent {
         }
     }
 
-    /// Returns it without the entries below an index.
     fn compacted(self, index: u64) -> Extent
         ensures { (es : List EntryIndex) → IsExtentOf self es → IsExtentOf result (from index es) }
     {
@@ -61,7 +58,6 @@ impl Extent {
         }
     }
 
-    /// Returns it without the entries from an index on.
     fn truncated(self, index: u64) -> Extent
         ensures { (es : List EntryIndex) → IsExtentOf self es → IsExtentOf result (below index es) }
     {
@@ -74,7 +70,6 @@ impl Extent {
         }
     }
 
-    /// Returns it after a command.
     fn commanded(self, command: &Command) -> Extent
         ensures { (es : List EntryIndex) → IsExtentOf self es
             → IsExtentOf result (commanded command.now es) }
@@ -86,12 +81,6 @@ impl Extent {
         }
     }
 
-    /// Returns it with a new run of a region.
-    ///
-    /// # Errors
-    ///
-    /// `Corruption` where it isn't a run or the start rule of [`MemTable::append`] refuses it; `Memory` for the
-    /// text.
     fn with_run(self, alloc: Global, id: u64, run: &[EntryIndex]) -> Result<Extent>
         ensures ok { IfOk result (TakesRun self run.now) }
         ensures fault { IfErr result (IsRunCheckFault self run.now) }
@@ -131,7 +120,6 @@ pub(crate) struct AppendCheck {
 }
 
 impl AppendCheck {
-    /// Makes the test that stands before all items.
     pub(crate) fn new(alloc: Global) -> AppendCheck
         ensures { result.extents.entries ≡ [] }
     {
@@ -142,10 +130,6 @@ impl AppendCheck {
     }
 
     /// Takes in the next item, whose region had this table in front of all items.
-    ///
-    /// # Errors
-    ///
-    /// `Corruption` where the item would be refused; `Memory`.
     pub(crate) fn take(&mut self, item: &LogItem, table: Option<&MemTable>) -> Result<()>
         ensures ok { OnOk result (TakesNext self.old.extents.entries
             (option_map (λ t. t.now) table.entry) (item_of item.now) self.new.extents.entries) }
@@ -168,7 +152,6 @@ impl AppendCheck {
         }
     }
 
-    /// Returns where the entries of a region begin and end.
     fn extent(&self, id: u64, table: Option<&MemTable>) -> Extent
         ensures { (before now : Tables)
             → AreBefore self.now.extents.entries id (option_map (λ t. t.now) table.entry) before now
@@ -181,11 +164,6 @@ impl AppendCheck {
     }
 }
 
-/// Tests whether a change of a key would be accepted.
-///
-/// # Errors
-///
-/// `Corruption` for a `Put` without a value, unless its key is reserved; `Memory` for the text.
 fn check_pair(alloc: Global, id: u64, kv: &KeyValue) -> Result<()>
     ensures ok { OnOk result (IsPairAccepted (pair_of kv.now)) }
     ensures fault { IfErr result (IsPairCheckFault (pair_of kv.now)) }

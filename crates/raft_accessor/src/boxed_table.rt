@@ -26,11 +26,6 @@ impl Model for BoxedTable {
 }
 
 impl BoxedTable {
-    /// Puts a table into a place of its own.
-    ///
-    /// # Errors
-    ///
-    /// `AllocError`.
     pub(crate) fn new(alloc: Global, table: MemTable) -> AllocResult<BoxedTable>
         ensures { IfOk result (λ boxed. boxed ≡ table) }
     {
@@ -38,11 +33,6 @@ impl BoxedTable {
         Ok(BoxedTable { boxed })
     }
 
-    /// Makes the table of a region, without records.
-    ///
-    /// # Errors
-    ///
-    /// `AllocError`.
     pub(crate) fn empty(alloc: Global, id: u64) -> AllocResult<BoxedTable>
         ensures { IfOk result (λ boxed. boxed ≡ empty_table id) }
     {
@@ -50,13 +40,13 @@ impl BoxedTable {
     }
 
     /// Returns the table.
-    pub(crate) fn get(&self) -> &MemTable
+    #[doc(hidden)]
+    pub fn get(&self) -> &MemTable
         ensures { result.now ≡ self.now }
     {
         &self.boxed
     }
 
-    /// Takes the table out of its place.
     pub(crate) fn into_table(self) -> MemTable
         ensures { result ≡ self }
     {
@@ -64,7 +54,6 @@ impl BoxedTable {
     }
 }
 
-/// Takes a table out of its place, if there is one.
 pub(crate) fn unboxed(table: Option<BoxedTable>) -> Option<MemTable>
     ensures { result ≡ table }
 {

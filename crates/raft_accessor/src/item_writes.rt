@@ -8,6 +8,7 @@ ghost use Rattle.raft_accessor.specs.Accessor.{table_in};
 ghost use Rattle.raft_accessor.specs.AppendChecks.{AreAcceptedOncePlaced, AreRefusedOncePlaced, IsAppendCheckFault};
 ghost use Rattle.raft_accessor.specs.ItemWrites.{IsItemWritten, IsReplayed, pair_change};
 ghost use Rattle.raft_accessor.specs.Writes.{Appending, Replaying, Rewriting, IsWriteFault};
+ghost use Rattle.raft_accessor.specs.WritingShown.{writing_shown};
 
 use crate::append_check::AppendCheck;
 use crate::region_tables::RegionTables;
@@ -15,6 +16,18 @@ use raft_base::{EntryIndex, Error, FileSeq, LogQueue, Result};
 use raft_history::RegionStep;
 use raft_records::{Command, KeyValue, LogItem, LogItemContent, OpType, is_reserved};
 use raft_table::{GlobalStats, MemTable, is_run};
+
+/// How items are written.
+#[doc(hidden)]
+#[derive(Clone, Copy)]
+pub enum Writing {
+    /// As new ones of the append queue.
+    Appending,
+    /// As read again from a queue.
+    Replaying(LogQueue),
+    /// By a rewriting with this gate to the file of this number.
+    Rewriting(Option<FileSeq>, FileSeq),
+}
 
 impl RegionTables {
     /// Tests whether [`append_item`](RegionTables::append_item) would accept these items, one after another, once
@@ -29,11 +42,31 @@ impl RegionTables {
             → AreRefusedOncePlaced self.now (map item_of items.now)) }
         ensures fault { IfErr result (IsAppendCheckFault self.now (map item_of items.now)) }
     {
-        let mut check = AppendCheck::new(self.allocator());
+        let mut check = AppendCheck::new(self.alloc);
         for item in items {
             check.take(item, self.get(item.raft_group_id))?;
         }
         Ok(())
+    }
+
+    /// Writes an item to its region's table by the call for items that are written so.
+    #[inline(always)]
+    pub fn write_item(
+        &mut self,
+        how: Writing,
+        item: LogItem,
+        stats: &mut GlobalStats,
+        cleaned: &mut Vec<u64>,
+    ) -> Result<()>
+        requires { IsCounted (table_in self.old item.raft_group_id) stats.old }
+        ensures { IsItemWritten (writing_shown how) (item_of item)
+            self.old stats.old cleaned.old.items result self.new stats.new cleaned.new.items }
+    {
+        match how {
+            Writing::Appending => self.append_item(item, stats, cleaned),
+            Writing::Replaying(queue) => self.replay_item(queue, item, stats, cleaned),
+            Writing::Rewriting(gate, seq) => self.rewrite_item(item, gate, seq, stats),
+        }
     }
 
     /// Writes a new item of the append queue to its region's table, and lists the region where the
@@ -134,7 +167,6 @@ impl RegionTables {
         }
     }
 
-    /// Puts new entries of the append queue.
     fn append_entries(
         &mut self,
         id: u64,
@@ -148,14 +180,13 @@ impl RegionTables {
     {
         if !is_run(&run, LogQueue::Append) {
             return Err(Error::corruption(
-                self.allocator(),
+                self.alloc,
                 "indexes don't rise by one, or a place is not in the append queue",
             ));
         }
         self.append_run(id, run, stats)
     }
 
-    /// Gives entries their rewritten places.
     fn rewrite_entries(
         &mut self,
         id: u64,
@@ -171,14 +202,13 @@ impl RegionTables {
     {
         if !is_run(&run, LogQueue::Rewrite) {
             return Err(Error::corruption(
-                self.allocator(),
+                self.alloc,
                 "indexes don't rise by one, or a place is not in the rewrite queue",
             ));
         }
         self.rewrite_run(id, run, gate, stats)
     }
 
-    /// Refuses a compaction and a truncation, which no rewriting makes. A `Clean` changes nothing.
     fn rewrite_command(&self, id: u64, command: Command) -> Result<()>
         ensures { (gate : Option ℕ) (seq : ℕ) (counts : Counts) (list : List ℕ)
             → IsItemWritten (Rewriting gate seq) (command_item id command)
@@ -187,16 +217,14 @@ impl RegionTables {
         match command {
             Command::Clean => Ok(()),
             Command::Compact { index: _ } => {
-                Err(Error::corruption(self.allocator(), "a compaction is rewritten"))
+                Err(Error::corruption(self.alloc, "a compaction is rewritten"))
             }
             Command::Truncate { index: _ } => {
-                Err(Error::corruption(self.allocator(), "a truncation is rewritten"))
+                Err(Error::corruption(self.alloc, "a truncation is rewritten"))
             }
         }
     }
 
-    /// Refuses an item that is not as a replay of `queue` asks for it: entries that are no run of `queue`, and
-    /// a put without a value, or without a file of `queue`. A change of the reserved key passes.
     fn check_replayed(&self, queue: LogQueue, item: &LogItem) -> Result<()>
         ensures ok { OnOk result (IsReplayed queue (content_of item.now.content)) }
         ensures fault { (id : ℕ) (o : Option Table) (live : ℕ) → IfErr result
@@ -208,7 +236,7 @@ impl RegionTables {
                     return Ok(());
                 }
                 Err(Error::corruption(
-                    self.allocator(),
+                    self.alloc,
                     "indexes don't rise by one, or a place is in the other queue",
                 ))
             }
@@ -217,7 +245,6 @@ impl RegionTables {
         }
     }
 
-    /// Refuses a put without a value, or without a file of `queue`, unless its key is reserved.
     fn check_replayed_pair(&self, queue: LogQueue, kv: &KeyValue) -> Result<()>
         ensures ok { OnOk result (IsReplayed queue (pair (pair_of kv.now))) }
         ensures fault { (id : ℕ) (o : Option Table) (live : ℕ) → IfErr result
@@ -229,21 +256,20 @@ impl RegionTables {
         match (kv.op_type, &kv.value, kv.file_id) {
             (OpType::Del, _, _) => Ok(()),
             (OpType::Put, None, _) => {
-                Err(Error::corruption(self.allocator(), "a key is put without value"))
+                Err(Error::corruption(self.alloc, "a key is put without value"))
             }
             (OpType::Put, Some(_), None) => {
-                Err(Error::corruption(self.allocator(), "a key is put without file"))
+                Err(Error::corruption(self.alloc, "a key is put without file"))
             }
             (OpType::Put, Some(_), Some(file)) => {
                 if file.queue == queue {
                     return Ok(());
                 }
-                Err(Error::corruption(self.allocator(), "a key is put in the other queue"))
+                Err(Error::corruption(self.alloc, "a key is put in the other queue"))
             }
         }
     }
 
-    /// Gives a key its rewritten file, unless it is reserved.
     fn rewrite_pair(
         &mut self,
         id: u64,
@@ -263,14 +289,11 @@ impl RegionTables {
         match kv.op_type {
             OpType::Put => {
                 if kv.value.is_none() {
-                    return Err(Error::corruption(
-                        self.allocator(),
-                        "a key is rewritten without value",
-                    ));
+                    return Err(Error::corruption(self.alloc, "a key is rewritten without value"));
                 }
                 self.rewrite_key(id, kv.key, gate, seq, stats)
             }
-            OpType::Del => Err(Error::corruption(self.allocator(), "a deletion is rewritten")),
+            OpType::Del => Err(Error::corruption(self.alloc, "a deletion is rewritten")),
         }
     }
 }

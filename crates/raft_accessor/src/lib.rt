@@ -11,4 +11,6 @@ pub mod region_tables;
 pub use accessor::{MemTableAccessor, slot_of};
 #[doc(hidden)]
 pub use boxed_table::BoxedTable;
+#[doc(hidden)]
+pub use item_writes::Writing;
 pub use region_tables::RegionTables;

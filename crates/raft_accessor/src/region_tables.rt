@@ -1,22 +1,20 @@
 //! The tables of some regions.
 
-ghost use Rattle.std.specs.Prelude.{◌≡◌, ◌≢◌, ◌≤◌, ◌+◌, ◌↔◌, ℕ, nat_eq, List, ◌++◌, map, length, IsPermutation, IsTrue, OnOk, OnSome, IfOk, IfErr, IfSome, Some, None, ok_or, option_map};
+ghost use Rattle.std.specs.Prelude.{◌≡◌, ◌≢◌, ◌≤◌, ◌+◌, ◌↔◌, ℕ, nat_eq, List, map, length, IsPermutation, IsTrue, OnOk, IfOk, IfErr, IfSome, Some, None, option_map};
 ghost use Rattle.std.specs.FinMap as finite;
 ghost use Rattle.std.specs.List.{IsDistinct, FoldsTo};
 ghost use Rattle.std.specs.Map.{keys_of, lookup};
 ghost use Rattle.raft_base.specs.declared.pipe_log.LogQueue.{LogQueue};
 ghost use Rattle.raft_base.specs.declared.pipe_log.LogQueue.TheVariants.{Append, Rewrite};
-ghost use Rattle.raft_base.specs.Runs.{end_of};
 ghost use Rattle.raft_history.specs.Records.{total};
 ghost use Rattle.raft_history.specs.RegionSteps.{Tables};
 ghost use Rattle.raft_table.specs.Change.{after_change, AreCountsAfter, IsAllowed, IsAnswer, IsChangeFault};
-ghost use Rattle.raft_table.specs.Queues.{other};
 ghost use Rattle.raft_table.specs.RunShown.{run_shown};
-ghost use Rattle.raft_table.specs.Start.{counts_with_run};
-ghost use Rattle.raft_table.specs.Table.{Table, after_replay, live_of, IsCounted, IsRecounted};
-ghost use Rattle.raft_table.specs.TableEntries.{IsRunIn, start_of};
+ghost use Rattle.raft_table.specs.Table.{Table, IsCounted, IsRecounted};
+ghost use Rattle.raft_table.specs.TableEntries.{IsRunIn};
 ghost use Rattle.raft_accessor.specs.Accessor.{table_in, live_in_all};
 ghost use Rattle.raft_accessor.specs.Merges.{with_neighbor, IsFaultBeside, MayAlter, IsAltered, IsTableMerged};
+ghost use Rattle.raft_accessor.specs.TableSteps.{IsRunTried};
 ghost use Rattle.raft_accessor.specs.Updates.{MayChange, IsUpdated, BecomesOutcome};
 ghost use Rattle.raft_accessor.specs.Walks.{Collects, KeepsId, Makes};
 
@@ -40,7 +38,7 @@ use std::marker::Model;
 #[derive(Drop)]
 pub struct RegionTables {
     tables: HashMap<u64, BoxedTable>,
-    alloc: Global,
+    pub(crate) alloc: Global,
 }
 
 impl Model for RegionTables {
@@ -71,11 +69,6 @@ impl RegionTables {
         }
     }
 
-    /// Returns the allocator that the tables were made with.
-    pub(crate) fn allocator(&self) -> Global {
-        self.alloc
-    }
-
     /// Tests whether there are no tables.
     pub fn is_empty(&self) -> bool
         ensures { IsTrue result ↔ (self.now ≡ finite.empty) }
@@ -94,23 +87,7 @@ impl RegionTables {
         }
     }
 
-    /// Pushes all tables, in no set order.
-    pub(crate) fn push_tables<'a>(&'a self, tables: &mut Vec<&'a MemTable>) -> Result<()>
-        ensures ok { OnOk result ((ts : List Table) × IsPermutation ts (finite.values self.now)
-            × (map (λ t. t.now) tables.new.items ≡ map (λ t. t.now) tables.old.items ++ ts)) }
-        ensures memory { IfErr result (λ e. e ≡ Error.Memory) }
-    {
-        for table in self.tables.values() {
-            tables.push(table.get())?;
-        }
-        Ok(())
-    }
-
-    /// Pushes the tables at which `f` returns true, in no set order.
-    ///
-    /// # Errors
-    ///
-    /// `Memory`. Some tables may then be pushed.
+    /// Pushes the tables at which `f` returns true, in no set order; some of them on `Err`.
     pub(crate) fn push_kept<'a, F: FnMut(&MemTable) -> bool>(
         &'a self,
         f: &mut F,
@@ -132,7 +109,6 @@ impl RegionTables {
         Ok(())
     }
 
-    /// Returns how many entries all tables have together. The other records are key values.
     pub(crate) fn entries_count(&self) -> u128
         ensures entries { result ≡ total (λ (t : Table). length t.entries) self.now }
         ensures others { result + total (λ (t : Table). finite.len t.keys) self.now
@@ -160,11 +136,7 @@ impl RegionTables {
         answer
     }
 
-    /// Pushes the ids of the tables at which `wanted` returns true, in no set order.
-    ///
-    /// # Errors
-    ///
-    /// `Memory`. Some ids may then be pushed.
+    /// Pushes the ids of the tables at which `wanted` returns true, in no set order; some of them on `Memory`.
     pub fn push_ids<F: FnMut(&MemTable) -> bool>(
         &self,
         wanted: &mut F,
@@ -192,11 +164,7 @@ impl RegionTables {
         let _ = &self.tables;
     }
 
-    /// Makes an empty table for a region that has none.
-    ///
-    /// # Errors
-    ///
-    /// `Memory`. The tables are then as they were.
+    /// Makes an empty table for a region that has none. All tables stay on `Memory`, the only error.
     pub fn make(&mut self, id: u64, stats: &mut GlobalStats) -> Result<()>
         requires { IsCounted (table_in self.old id) stats.old }
         ensures outcome { BecomesOutcome (Some (table_in self.old id)) (λ e. ⊥) self.old id
@@ -243,16 +211,8 @@ impl RegionTables {
     ) -> Option<(u64, u64)>
         requires run { IsRunIn queue (run_shown run.now) }
         requires counted { IsCounted (table_in self.old id) stats.old }
-        ensures outcome { BecomesOutcome
-            (after_replay queue (table_in self.old id) (run_shown run.now))
-            (λ e. ⊥) self.old id stats.old (ok_or result Error.Memory) self.new stats.new }
-        ensures accepted { OnSome result (live_of (other queue) (table_in self.old id) ≡ 0) }
-        ensures counts { OnSome result (stats.new
-            ≡ counts_with_run queue (table_in self.old id).entries (run_shown run.now) stats.old) }
-        ensures ends { IfSome result (λ ends. ends ≡ (
-          start_of (table_in self.old id).entries,
-          end_of (table_in self.old id).entries,
-        )) }
+        ensures { IsRunTried queue id (run_shown run.now) self.old stats.old result self.new
+            stats.new }
     {
         let Some(table) = self.tables.get_mut(&id) else {
             return self.try_replay_first(queue, id, run, stats);
@@ -264,7 +224,6 @@ impl RegionTables {
         Some(ends)
     }
 
-    /// Does what [`RegionTables::try_replay`] does where the region has no table.
     #[inline(never)]
     fn try_replay_first(
         &mut self,
@@ -275,16 +234,8 @@ impl RegionTables {
     ) -> Option<(u64, u64)>
         requires first { finite.get self.old id ≡ None }
         requires run { IsRunIn queue (run_shown run.now) }
-        ensures outcome { BecomesOutcome
-            (after_replay queue (table_in self.old id) (run_shown run.now))
-            (λ e. ⊥) self.old id stats.old (ok_or result Error.Memory) self.new stats.new }
-        ensures accepted { OnSome result (live_of (other queue) (table_in self.old id) ≡ 0) }
-        ensures counts { OnSome result (stats.new
-            ≡ counts_with_run queue (table_in self.old id).entries (run_shown run.now) stats.old) }
-        ensures ends { IfSome result (λ ends. ends ≡ (
-          start_of (table_in self.old id).entries,
-          end_of (table_in self.old id).entries,
-        )) }
+        ensures { IsRunTried queue id (run_shown run.now) self.old stats.old result self.new
+            stats.new }
     {
         if self.tables.reserve(1).is_err() {
             return None;
@@ -301,11 +252,8 @@ impl RegionTables {
         }
     }
 
-    /// Sets the files of a region's atomic group; its table is made where there is none.
-    ///
-    /// # Errors
-    ///
-    /// `Memory`. The tables are then as they were.
+    /// Sets the files of a region's atomic group; its table is made where there is none. All tables stay on
+    /// `Memory`, the only error.
     pub fn apply_rewrite_atomic_group(
         &mut self,
         id: u64,
@@ -331,7 +279,7 @@ impl RegionTables {
     }
 
     /// Returns the tables, each with its region, in no set order.
-    pub(crate) fn into_entries(self) -> IntoIter<u64, BoxedTable>
+    pub fn into_entries(self) -> IntoIter<u64, BoxedTable>
         ensures entries { finite.from_entries result ≡ self }
         ensures once { IsDistinct nat_eq (keys_of result) }
         ensures own { (id : ℕ) (t : Table) → lookup (nat_eq id) result ≡ Some t → t.region_id ≡ id }
@@ -339,12 +287,6 @@ impl RegionTables {
         self.tables.into_iter()
     }
 
-    /// Merges a table of such a neighbor into the table of its region, which is made where there is none.
-    ///
-    /// # Errors
-    ///
-    /// Those of [`MemTable::merge_newer_neighbor`] or [`MemTable::merge_append_table`]. The counts then agree
-    /// with the tables.
     pub(crate) fn merge_neighbor(
         &mut self,
         kind: Neighbor,
@@ -420,7 +362,6 @@ impl RegionTables {
     }
 }
 
-/// Merges such a neighbor into a table.
 fn merge(
     kind: Neighbor,
     table: &mut MemTable,

@@ -1,27 +1,11 @@
 -- Batches that are tested before they are taken in.
-use Rattle.std.proofs.Common.{◌≡◌, true, false, ◌<◌, ◌≤◌, ◌+◌, ℕ, suc, zero, List, [], ◌∷◌, drop, length, map, get_or, Option, Some, None, refl, sym, ap, ◌∙◌, arith}
-use Rattle.std.specs.Prelude.{Bool, IsTrue, MatchBool}
-use Rattle.std.specs.List.{AllByRecursion, AllWithin, HoldsAt}
-use Rattle.std.proofs.lemmas.List.Elements.{All-from_recursion, recursion_from_All}
-use Rattle.std.specs.Option.{option_and_then, option_map, option_or}
-use Rattle.raft_base.specs.declared.pipe_log.FileBlockHandle.{FileBlockHandle}
-use Rattle.raft_base.specs.declared.pipe_log.FileId.{FileId}
+use Rattle.raft_contexts.proofs.Common.{◌≡◌, true, false, ◌<◌, ◌≤◌, ◌+◌, ℕ, List, [], ◌∷◌, drop, length, map, get_or, Option, Some, None, refl, sym, ap, ◌∙◌, arith, IsTrue, AllByRecursion, AllWithin, HoldsAt, All-from_recursion}
+use Rattle.raft_contexts.proofs.Common.{recursion_from_All, option_and_then, option_map, option_or, FileBlockHandle, FileId, EntryIndex, no_entry, IsConsecutive, AtomicGroupStatus, status_byte, status_of, first_marker, marker_byte}
+use Rattle.raft_contexts.proofs.Common.{IsGroupMarkerRead, Item, item_of, content_of, LogItem, IsPlaceInFile, content_shown, items_shown, ReadItem, one_byte, marker_is, IsInFile, AreInFile, HaveStatus, ArePlacesInFile}
+use Rattle.raft_contexts.proofs.Common.{HaveNoMarker, drop_of_length-le, Bool, MatchBool}
+use Rattle.std.proofs.Common.{add-one, drop-cons}
 use Rattle.raft_base.specs.declared.pipe_log.LogQueue.TheVariants.{Rewrite}
-use Rattle.raft_base.specs.declared.entry_index.EntryIndex.{EntryIndex}
-use Rattle.raft_base.specs.NoEntry.{no_entry}
-use Rattle.raft_base.specs.Runs.{IsConsecutive}
-use Rattle.raft_records.specs.declared.atomic_group.AtomicGroupStatus.{AtomicGroupStatus}
 use Rattle.raft_records.specs.declared.atomic_group.AtomicGroupStatus.TheVariants.{Begin, Middle, End}
-use Rattle.raft_records.specs.Group.{status_byte, status_of, first_marker, marker_byte, IsGroupMarkerRead}
-use Rattle.raft_records.specs.Item.{Item, item_of, content_of}
-use Rattle.raft_records.specs.declared.log_item.LogItem.{LogItem}
-use Rattle.raft_records.specs.DecodedIn.{IsPlaceInFile}
-use Rattle.raft_records.specs.ReadBatch.{content_shown, items_shown}
-use Rattle.raft_records.specs.declared.read_batch.ReadItem.{ReadItem}
-use Rattle.raft_records.proofs.GroupLemmas.{one_byte, marker_is}
-use Rattle.raft_history.specs.Histories.{IsInFile, AreInFile, HaveStatus}
-use Rattle.raft_history.proofs.Words.{ArePlacesInFile}
-use Rattle.raft_contexts.specs.BatchChecks.{HaveNoMarker}
 
 or_or : (m n o : Option (ℕ × AtomicGroupStatus)) → option_or (option_or m n) o ≡ option_or m (option_or n o)
 or_or None n o = refl
@@ -43,26 +27,15 @@ read_status item (Some read) h = λ byte m. let same : status_byte read.1 ≡ by
     few End = omega arith
 
 -- the elements from an index on begin with the one there
-pub next_item : {X : Type 0} (xs : List X) (i : ℕ) (x : X) → i < length xs → x ≡ get_or xs i x → drop i xs ≡ x ∷ drop (i + 1) xs
-next_item [] i x low is = absurd (omega arith)
-next_item (y ∷ ys) zero x low is = ap (λ z. z ∷ ys) (sym is)
-next_item (y ∷ ys) (suc i) x low is =
-    let behind : suc i + 1 ≡ suc (i + 1) = omega arith in
-    rw behind (next_item ys i x (omega arith) is)
-
 pub next_at : {X : Type 0} (xs : List X) (i : ℕ) (d : X) → i < length xs → drop i xs ≡ get_or xs i d ∷ drop (i + 1) xs
-next_at [] i d low = absurd (omega arith)
-next_at (y ∷ ys) zero d low = refl
-next_at (y ∷ ys) (suc i) d low =
-    let behind : suc i + 1 ≡ suc (i + 1) = omega arith in
-    rw behind (next_at ys i d (omega arith))
+next_at xs i d low = rw add-one (drop-cons xs i d low)
+
+pub next_item : {X : Type 0} (xs : List X) (i : ℕ) (x : X) → i < length xs → x ≡ get_or xs i x → drop i xs ≡ x ∷ drop (i + 1) xs
+next_item xs i x low is = next_at xs i x low ∙ ap (λ z. z ∷ drop (i + 1) xs) (sym is)
 
 -- behind the last one there are none
 pub none_left : {X : Type 0} (xs : List X) (i : ℕ) → length xs ≤ i → drop i xs ≡ []
-none_left [] zero past = refl
-none_left [] (suc i) past = refl
-none_left (x ∷ xs) zero past = absurd (omega arith)
-none_left (x ∷ xs) (suc i) past = none_left xs i (omega arith)
+none_left xs i past = drop_of_length-le xs past
 
 -- what is known of items whose first are tested, beside the marker so far
 abbrev pub IsTested : List Item → List Item → Option (ℕ × AtomicGroupStatus) → Type 0

@@ -1,37 +1,22 @@
 -- The files of a group, set for each region that it names: the order doesn't matter, nor whether a region comes twice.
-use Rattle.std.proofs.Common.{◌≡◌, ℕ, ◌≤◌, Bool, true, false, cond, eqb, ◌||◌, List, [], ◌∷◌, ◌++◌, Option, Some, None, Result, Ok, Err, refl, sym, ap, subst, ◌∙◌, inl, inr, arith}
-use Rattle.std.specs.List.{list_any}
+use Rattle.raft_contexts.proofs.Common.{◌≡◌, ℕ, ◌≤◌, Bool, true, false, cond, eqb, ◌||◌, List, [], ◌∷◌, ◌++◌, Option, Some, None, Result, Ok, refl, sym, ap, subst, ◌∙◌, inl, inr, arith, list_any, OnOk, IfErr, option_and_then}
+use Rattle.raft_contexts.proofs.Common.{unwrap_or, Error, LogQueue, Counts, joined_mark, end_at_reach, fresh, mark_of, AtomicGroup, table_of, Table, joined_fresh, eqb-true, records_in, Marks, MarkedRegions, MarkedRegion, region_in}
+use Rattle.raft_contexts.proofs.Common.{with_region, regions_after, named_regions, on_each, region_steps_of_whole, WholeGroup, RegionStep, Tables, names, with_table, by_region, eqb_self, names_none, names_cons, regions_in}
+use Rattle.raft_contexts.proofs.Common.{AreStepsOfQueue, IsStepsFault, one_step, AreStepsTaken, live_in_all, counts_after_step, AreCountsAfterSteps, MarkedTables, same, get_own, get_other, nat_cmp}
+use Rattle.std.proofs.lemmas.Result.{on_ok_weaker, IfErr-weaker}
 use Rattle.std.specs.FinMap as finite
-use Rattle.std.specs.Result.{OnOk, IfErr}
-use Rattle.std.specs.Option.{option_and_then, unwrap_or}
-use Rattle.raft_base.specs.declared.errors.Error.{Error}
 use Rattle.raft_base.specs.declared.errors.Error.TheVariants as errors
-use Rattle.raft_base.specs.declared.pipe_log.LogQueue.{LogQueue}
 use Rattle.raft_base.specs.declared.pipe_log.LogQueue.TheVariants.{Append, Rewrite}
-use Rattle.raft_table.specs.Counts.{Counts}
-use Rattle.raft_table.specs.MarkJoins.{joined_mark, end_at_reach, fresh, mark_of}
-use Rattle.raft_table.specs.Steps.{AtomicGroup, table_of}
-use Rattle.raft_table.specs.Table.{Table}
-use Rattle.raft_table.proofs.MarkExact.{joined_fresh}
-use Rattle.std.proofs.lemmas.Bool.{eqb-true}
-use Rattle.raft_history.specs.Histories.{records_in}
-use Rattle.raft_history.specs.MarkedRegions.{Marks, MarkedRegions, MarkedRegion, region_in, with_region, regions_after, named_regions, on_each, region_steps_of_whole}
-use Rattle.raft_history.specs.WaitingGroup.{WholeGroup}
-use Rattle.raft_history.specs.RegionSteps.{RegionStep, Tables, names, with_table}
-use Rattle.raft_history.proofs.MapLemmas.{IsOther, by_region, eqb_self}
-use Rattle.raft_history.proofs.StepListLemmas.{names_none, names_cons}
-use Rattle.raft_contexts.specs.MarkedTables.{regions_in, AreStepsOfQueue, IsStepsFault, one_step, AreStepsTaken}
-use Rattle.raft_accessor.specs.Accessor.{live_in_all}
-use Rattle.raft_contexts.specs.StepCounts.{counts_after_step, AreCountsAfterSteps}
-use Rattle.raft_contexts.specs.declared.marked_tables.MarkedTables.{MarkedTables}
-use Rattle.raft_accessor.proofs.MapLemmas.{same, get_own, get_other, none_some}
 use Rattle.raft_contexts.proofs.TakenLemmas.{after-append, records-append, taken_more, other_in}
 
 abbrev pub has : ℕ → List ℕ → Bool
 has r ids = list_any (λ id. eqb r id) ids
 
+abbrev filed_as : ℕ → ℕ → ℕ → Option Table → Table
+filed_as first_seq last_seq r o = record (table_of r o) { atomic_group = Some (first_seq, last_seq) }
+
 abbrev filed_table : ℕ → ℕ → ℕ → Option Table → Option Table
-filed_table first_seq last_seq r o = Some (record (table_of r o) { atomic_group = Some (first_seq, last_seq) })
+filed_table first_seq last_seq r o = Some (filed_as first_seq last_seq r o)
 
 -- what becomes of each region
 record AreFiled (first_seq last_seq : ℕ) (ids : List ℕ) (rs new : MarkedRegions) : Type 0 where
@@ -42,46 +27,20 @@ either : {X : Type 0} (b : Bool) (x : X) → cond b x x ≡ x
 either true x = refl
 either false x = refl
 
+-- a map with a key set to what F makes of it, where F makes the same of that again
+set_more : {X : Type 0} (F : ℕ → Option X → X) (m : finite.FinMap nat_cmp X) (id : ℕ) (x : X) (ids : List ℕ) (r : ℕ) → F id (Some x) ≡ x → x ≡ F id (finite.get m id)
+    → cond (has r ids) (Some (F r (finite.get (finite.insert m id x) r))) (finite.get (finite.insert m id x) r) ≡ cond (has r (id ∷ ids)) (Some (F r (finite.get m r))) (finite.get m r)
+set_more F m id x ids r again is = elim (by_region r id) [
+  | inl same ↦ rw (same, get_own m id x, eqb_self id, again) (either (has id ids) (Some x) ∙ ap Some is)
+  | inr f ↦ rw (get_other m id r x f.1, f.0) refl
+]
+
 module _ (q : LogQueue) (first_seq last_seq : ℕ) where
   abbrev filed_region : MarkedRegions → ℕ → MarkedRegion
   filed_region rs id = record { mark = joined_mark q id (region_in rs id).mark (region_in rs id).table (mark_of (AtomicGroup first_seq last_seq)); table = filed_table first_seq last_seq id (finite.get rs.tables id) }
 
   filed_mark : (rs : MarkedRegions) (id : ℕ) → (filed_region rs id).mark ≡ unwrap_or (finite.get rs.marks id) fresh
   filed_mark rs id = joined_fresh q (end_at_reach fresh (table_of id (finite.get rs.tables id))) (unwrap_or (finite.get rs.marks id) fresh)
-
-  own_table : (rs : MarkedRegions) (id : ℕ) (ids : List ℕ)
-      → cond (has id ids) (filed_table first_seq last_seq id (finite.get (with_region rs id (filed_region rs id)).tables id))
-      (finite.get (with_region rs id (filed_region rs id)).tables id) ≡ cond (has id (id ∷ ids))
-      (filed_table first_seq last_seq id (finite.get rs.tables id)) (finite.get rs.tables id)
-  own_table rs id ids =
-      ap (λ o. cond (has id ids) (filed_table first_seq last_seq id o) o)
-      (get_own rs.tables id (record (table_of id (finite.get rs.tables id)) { atomic_group = Some (first_seq, last_seq) }))
-      ∙ either (has id ids) (filed_table first_seq last_seq id (finite.get rs.tables id))
-      ∙ sym (ap (λ b. cond (b || has id ids) (filed_table first_seq last_seq id (finite.get rs.tables id)) (finite.get rs.tables id)) (eqb_self id))
-
-  other_table : (rs : MarkedRegions) (id : ℕ) (ids : List ℕ) (r : ℕ) → IsOther r id
-      → cond (has r ids) (filed_table first_seq last_seq r (finite.get (with_region rs id (filed_region rs id)).tables r))
-      (finite.get (with_region rs id (filed_region rs id)).tables r) ≡ cond (has r (id ∷ ids))
-      (filed_table first_seq last_seq r (finite.get rs.tables r)) (finite.get rs.tables r)
-  other_table rs id ids r f =
-      ap (λ o. cond (has r ids) (filed_table first_seq last_seq r o) o) (get_other rs.tables id r (record (table_of id (finite.get rs.tables id)) { atomic_group = Some (first_seq, last_seq) }) f.1)
-      ∙ sym (ap (λ b. cond (b || has r ids) (filed_table first_seq last_seq r (finite.get rs.tables r)) (finite.get rs.tables r)) f.0)
-
-  own_mark : (rs : MarkedRegions) (id : ℕ) (ids : List ℕ)
-      → cond (has id ids) (Some (unwrap_or (finite.get (with_region rs id (filed_region rs id)).marks id) fresh))
-      (finite.get (with_region rs id (filed_region rs id)).marks id) ≡ cond (has id (id ∷ ids)) (Some (unwrap_or (finite.get rs.marks id) fresh))
-      (finite.get rs.marks id)
-  own_mark rs id ids =
-      ap (λ o. cond (has id ids) (Some (unwrap_or o fresh)) o) (get_own rs.marks id (filed_region rs id).mark) ∙ either (has id ids) (Some (filed_region rs id).mark) ∙ ap Some (filed_mark rs id)
-      ∙ sym (ap (λ b. cond (b || has id ids) (Some (unwrap_or (finite.get rs.marks id) fresh)) (finite.get rs.marks id)) (eqb_self id))
-
-  other_mark : (rs : MarkedRegions) (id : ℕ) (ids : List ℕ) (r : ℕ) → IsOther r id
-      → cond (has r ids) (Some (unwrap_or (finite.get (with_region rs id (filed_region rs id)).marks r) fresh))
-      (finite.get (with_region rs id (filed_region rs id)).marks r) ≡ cond (has r (id ∷ ids)) (Some (unwrap_or (finite.get rs.marks r) fresh))
-      (finite.get rs.marks r)
-  other_mark rs id ids r f =
-      ap (λ o. cond (has r ids) (Some (unwrap_or o fresh)) o) (get_other rs.marks id r (filed_region rs id).mark f.1)
-      ∙ sym (ap (λ b. cond (b || has r ids) (Some (unwrap_or (finite.get rs.marks r) fresh)) (finite.get rs.marks r)) f.0)
 
   filed : (ids : List ℕ) (rs : MarkedRegions) → (new : MarkedRegions) × (regions_after q rs (on_each ids (AtomicGroup first_seq last_seq)) ≡ Some new) × AreFiled first_seq last_seq ids rs new
   filed [] rs = (rs, refl, record { tables = λ r. refl; marks = λ r. refl })
@@ -90,18 +49,8 @@ module _ (q : LogQueue) (first_seq last_seq : ℕ) where
         ih.0,
         ih.1,
         record {
-          tables = λ r. ih.2.tables r ∙ elim (by_region r id) [
-            | inl p ↦ subst (λ r. cond (has r ids) (filed_table first_seq last_seq r (finite.get (with_region rs id (filed_region rs id)).tables r))
-                (finite.get (with_region rs id (filed_region rs id)).tables r) ≡ cond (has r (id ∷ ids))
-                (filed_table first_seq last_seq r (finite.get rs.tables r)) (finite.get rs.tables r)) (sym p) (own_table rs id ids)
-            | inr f ↦ other_table rs id ids r f
-          ];
-          marks = λ r. ih.2.marks r ∙ elim (by_region r id) [
-            | inl p ↦ subst (λ r. cond (has r ids) (Some (unwrap_or (finite.get (with_region rs id (filed_region rs id)).marks r) fresh))
-                (finite.get (with_region rs id (filed_region rs id)).marks r) ≡ cond (has r (id ∷ ids))
-                (Some (unwrap_or (finite.get rs.marks r) fresh)) (finite.get rs.marks r)) (sym p) (own_mark rs id ids)
-            | inr f ↦ other_mark rs id ids r f
-          ];
+          tables = λ r. ih.2.tables r ∙ set_more (filed_as first_seq last_seq) rs.tables id (filed_as first_seq last_seq id (finite.get rs.tables id)) ids r refl refl;
+          marks = λ r. ih.2.marks r ∙ set_more (λ r o. unwrap_or o fresh) rs.marks id (filed_region rs id).mark ids r refl (filed_mark rs id);
         },
       )
 
@@ -116,9 +65,6 @@ module _ (q : LogQueue) (first_seq last_seq : ℕ) where
       let tables : x.0.tables ≡ y.0.tables = same _ _ (λ r. x.2.tables r ∙ ap (λ b. cond b (filed_table first_seq last_seq r (finite.get rs.tables r)) (finite.get rs.tables r)) (h r) ∙ sym (y.2.tables r)) in
       let marks : x.0.marks ≡ y.0.marks = same _ _ (λ r. x.2.marks r ∙ ap (λ b. cond b (Some (unwrap_or (finite.get rs.marks r) fresh)) (finite.get rs.marks r)) (h r) ∙ sym (y.2.marks r)) in
       x.1 ∙ ap Some (ap (λ t. made t x.0.marks) tables ∙ ap (made y.0.tables) marks) ∙ sym y.1
-
-  pub files_accepted : (ids : List ℕ) (rs : MarkedRegions) → regions_after q rs (on_each ids (AtomicGroup first_seq last_seq)) ≡ None → ⊥
-  files_accepted ids rs e = none_some (sym e ∙ (filed ids rs).1)
 
   pub behind_files : (steps : List RegionStep) (xs ys : List ℕ) (rs : MarkedRegions) → ((r : ℕ) → has r xs ≡ has r ys) →
       regions_after q rs (steps ++ on_each xs (AtomicGroup first_seq last_seq)) ≡ regions_after q rs
@@ -194,18 +140,10 @@ counts_behind q first_seq last_seq (s ∷ steps) xs ys tables k n h = λ t u.
 -- what is told of the group, by what was taken in
 module _ (w : WholeGroup) (ids : List ℕ) (a b : MarkedTables) (r : Result Unit Error) (h : (n : ℕ) → has n ids ≡ names n w.steps) (t : AreStepsTaken Rewrite (w.steps ++ on_each ids (AtomicGroup w.first_seq w.last_seq)) r a b) where
   pub whole_ok : OnOk r (regions_after Rewrite (regions_in a) (region_steps_of_whole w) ≡ Some (regions_in b))
-  whole_ok = elim r as (λ r. OnOk r
-      (regions_after Rewrite (regions_in a) (w.steps ++ on_each ids (AtomicGroup w.first_seq w.last_seq)) ≡ Some (regions_in b)) →
-      OnOk r (regions_after Rewrite (regions_in a) (region_steps_of_whole w) ≡ Some (regions_in b)))
-      [ Ok u ↦ λ e. sym (whole_same Rewrite w ids (regions_in a) h) ∙ e | Err x ↦ λ e. tt ] t.ok
+  whole_ok = on_ok_weaker r (λ e. sym (whole_same Rewrite w ids (regions_in a) h) ∙ e) t.ok
 
   pub whole_counts : OnOk r (AreCountsAfterSteps Rewrite a.accessor.tables (region_steps_of_whole w) a.accessor.counts b.accessor.counts)
-  whole_counts = elim r as (λ r. OnOk r
-      (AreCountsAfterSteps Rewrite a.accessor.tables (w.steps ++ on_each ids (AtomicGroup w.first_seq w.last_seq)) a.accessor.counts
-      b.accessor.counts) → OnOk r (AreCountsAfterSteps Rewrite a.accessor.tables (region_steps_of_whole w) a.accessor.counts b.accessor.counts)) [
-        | Ok u ↦ λ k. counts_behind Rewrite w.first_seq w.last_seq w.steps ids (named_regions w.steps) a.accessor.tables a.accessor.counts b.accessor.counts k
-        | Err x ↦ λ k. tt
-      ] t.counts
+  whole_counts = on_ok_weaker r (counts_behind Rewrite w.first_seq w.last_seq w.steps ids (named_regions w.steps) a.accessor.tables a.accessor.counts b.accessor.counts) t.counts
 
   same_fault : (e : Error) → IsStepsFault Rewrite (regions_in a) (w.steps ++ on_each ids (AtomicGroup w.first_seq w.last_seq)) e → IsStepsFault Rewrite (regions_in a) (region_steps_of_whole w) e
   same_fault (errors.Corruption text) f = sym (whole_same Rewrite w ids (regions_in a) h) ∙ f
@@ -215,8 +153,7 @@ module _ (w : WholeGroup) (ids : List ℕ) (a b : MarkedTables) (r : Result Unit
   same_fault _ f = absurd f
 
   pub whole_fault : IfErr r (IsStepsFault Rewrite (regions_in a) (region_steps_of_whole w))
-  whole_fault = elim r as (λ r. IfErr r (IsStepsFault Rewrite (regions_in a) (w.steps ++ on_each ids (AtomicGroup w.first_seq w.last_seq))) →
-      IfErr r (IsStepsFault Rewrite (regions_in a) (region_steps_of_whole w))) [ Ok u ↦ λ f. tt | Err x ↦ λ f. same_fault x f ] t.fault
+  whole_fault = IfErr-weaker r _ _ same_fault t.fault
 
   pub whole_other : AreStepsOfQueue Rewrite w.steps → OnOk r (live_in_all Append b.accessor.tables ≤ live_in_all Append a.accessor.tables)
   whole_other good = other_in Rewrite (w.steps ++ on_each ids (AtomicGroup w.first_seq w.last_seq)) a b r (whole_of_queue Rewrite w ids good) t.ok

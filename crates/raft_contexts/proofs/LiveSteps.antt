@@ -1,49 +1,18 @@
 -- How many records are live after steps on all regions.
-use Rattle.std.proofs.Common.{◌≡◌, ℕ, ◌+◌, ◌≤◌, Bool, true, false, cond, List, [], ◌∷◌, length, filter, Option, Some, None, refl, ap, arith}
+use Rattle.raft_contexts.proofs.Common.{◌≡◌, ℕ, ◌+◌, ◌≤◌, true, false, cond, List, [], ◌∷◌, length, Option, Some, None, refl, ap, arith, option_map, option_and_then, FileId, LogQueue, EntryIndex, entry_count, from}
+use Rattle.raft_contexts.proofs.Common.{file_weight, joined_mark, mark_of, count_in, is_same, entries_after_replay, Step, Run, Compact, Truncate, Put, Del, AtomicGroup, Clean, table_of, after_step, Table, pair_count-insert}
+use Rattle.raft_contexts.proofs.Common.{pair_count-remove, pair_count-le-len, entries_in_one, each_placed, entry_count-le, replayed-in, records_of, records_in, IsStepOfQueue, MarkedRegions, MarkedRegion, region_in, with_region}
+use Rattle.raft_contexts.proofs.Common.{regions_after, total_of, total, table_records, all_records, RegionStep, Tables, with_table, live_in, live_in_all, AreStepsOfQueue, live_of_all, live-all, live-with, live-table_of, some_is}
+use Rattle.raft_contexts.proofs.Common.{subst}
 use Rattle.std.specs.FinMap as finite
-use Rattle.std.specs.Option.{option_map, option_and_then}
-use Rattle.raft_base.specs.declared.pipe_log.FileId.{FileId}
-use Rattle.raft_base.specs.declared.pipe_log.LogQueue.{LogQueue}
-use Rattle.raft_base.specs.declared.entry_index.EntryIndex.{EntryIndex}
-use Rattle.raft_table.specs.TableEntries.{entry_count, below, from, placed_in}
-use Rattle.raft_table.specs.KeyValues.{file_weight}
-use Rattle.raft_table.specs.MarkJoins.{joined_mark, mark_of}
-use Rattle.raft_table.specs.Queues.{count_in, is_same}
-use Rattle.raft_table.specs.Start.{entries_after_replay}
-use Rattle.raft_table.specs.Steps.{Step, Run, Compact, Truncate, Put, Del, AtomicGroup, Clean, table_of, after_step}
-use Rattle.raft_table.specs.Table.{Table}
-use Rattle.raft_table.proofs.KeyValueCounts.{pair_count-insert, pair_count-remove, pair_count-le-len}
-use Rattle.raft_table.proofs.PlaceLemmas.{entries_in_one, each_placed}
-use Rattle.raft_table.proofs.RunCounts.{entry_count-le, replayed-in}
-use Rattle.raft_table.proofs.RunLemmas.{below-placed_in, from-placed_in}
-use Rattle.raft_history.specs.Histories.{records_of, records_in, IsStepOfQueue}
-use Rattle.raft_history.specs.MarkedRegions.{MarkedRegions, MarkedRegion, region_in, with_region, regions_after}
-use Rattle.raft_history.specs.Records.{total_of, total, table_records, all_records}
-use Rattle.raft_history.specs.RegionSteps.{RegionStep, Tables, with_table}
-use Rattle.raft_accessor.specs.Accessor.{live_in, live_in_all}
-use Rattle.raft_contexts.specs.MarkedTables.{AreStepsOfQueue}
-use Rattle.raft_accessor.proofs.LiveLemmas.{live_of_all, live-all, live-with, live-table_of}
-use Rattle.raft_accessor.proofs.MapLemmas.{some_is}
+use Rattle.raft_table.proofs.CutLemmas.{within-fewer}
+use Rattle.raft_table.proofs.MarkWords.{within-from}
+use Rattle.raft_table.proofs.RunCounts.{entry_count-below}
 
 -- ---- one step
 
-filter-le : {X : Type 0} (p : X → Bool) (xs : List X) → length (filter p xs) ≤ length xs
-filter-le p [] = omega arith
-filter-le p (x ∷ xs) = elim (p x) as (λ b. length (cond b (x ∷ filter p xs) (filter p xs)) ≤ length (x ∷ xs)) [ true ↦ omega (arith, filter-le p xs) | false ↦ omega (arith, filter-le p xs) ]
-
-shorter-from : (i : ℕ) (es : List EntryIndex) → length (from i es) ≤ length es
-unfolding from
-shorter-from i es = filter-le _ es
-
 entries-from : (q : LogQueue) (i : ℕ) (es : List EntryIndex) → entry_count q (from i es) ≤ entry_count q es
-entries-from q i es = omega (arith, ap length (from-placed_in i q es), shorter-from i (placed_in q es))
-
-shorter-below : (i : ℕ) (es : List EntryIndex) → length (below i es) ≤ length es
-unfolding below
-shorter-below i es = filter-le _ es
-
-entries-below : (q : LogQueue) (i : ℕ) (es : List EntryIndex) → entry_count q (below i es) ≤ entry_count q es
-entries-below q i es = omega (arith, ap length (below-placed_in i q es), shorter-below i (placed_in q es))
+entries-from q i es = subst (λ (l : List EntryIndex). entry_count q l ≤ entry_count q es) (within-from i es) (within-fewer q i None es)
 
 weight-put : (q queue : LogQueue) (file : FileId) → file.queue ≡ queue → file_weight q (Some file) ≡ count_in q queue 1
 weight-put q queue file e = ap (λ x. count_in q x 1) e
@@ -58,7 +27,7 @@ step_live queue q id o u (Run run) e h = go (entries_after_replay queue (table_o
     go None p e = absurd cc
     go (Some a) p e = omega (arith, ap (live_in q) (some_is e), replayed-in queue q (table_of id o).entries run a p, entries_in_one q queue run (each_placed queue run h.placed), live-table_of q id o)
 step_live queue q id o u (Compact i) e h = omega (arith, ap (live_in q) (some_is e), entries-from q i (table_of id o).entries, live-table_of q id o)
-step_live queue q id o u (Truncate i) e h = omega (arith, ap (live_in q) (some_is e), entries-below q i (table_of id o).entries, live-table_of q id o)
+step_live queue q id o u (Truncate i) e h = omega (arith, ap (live_in q) (some_is e), entry_count-below q i (table_of id o).entries, live-table_of q id o)
 step_live queue q id o u (Put key value file) e h = omega (arith, ap (live_in q) (some_is e), pair_count-insert q (table_of id o).keys key value file, weight-put q queue file h, live-table_of q id o)
 step_live queue q id o u (Del key) e h = omega (arith, ap (live_in q) (some_is e), pair_count-remove q (table_of id o).keys key, live-table_of q id o)
 step_live queue q id o u (AtomicGroup first_seq last_seq) e h = omega (arith, ap (live_in q) (some_is e), live-table_of q id o)

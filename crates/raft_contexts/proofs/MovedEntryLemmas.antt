@@ -1,55 +1,18 @@
 -- Tables whose places were rewritten.
-use Rattle.std.proofs.Common.{
-  ◌≡◌,
-  ℕ,
-  zero,
-  suc,
-  ◌+◌,
-  ◌-◌,
-  ◌<◌,
-  ◌≤◌,
-  max,
-  Bool,
-  true,
-  false,
-  ◌||◌,
-  if◌then◌else◌,
-  cond,
-  List,
-  [],
-  ◌∷◌,
-  ◌++◌,
-  length,
-  take,
-  drop,
-  filter,
-  Some,
-  None,
-  inl,
-  inr,
-  refl,
-  sym,
-  ap,
-  subst,
-  ◌∙◌,
-  arith,
-  append_assoc,
-  length-drop,
-}
-use Rattle.std.proofs.lemmas.List.{length-take-le, take-append-drop, drop-drop}
-use Rattle.std.specs.List.{AllByRecursion}
-use Rattle.std.specs.Prelude.{nat_lt, nat_le}
-use Rattle.raft_base.specs.declared.entry_index.EntryIndex.{EntryIndex}
+use Rattle.raft_contexts.proofs.Common.{◌≡◌, ℕ, zero, suc, ◌+◌, ◌-◌, ◌≤◌, ◌<◌, Bool, true, false, if◌then◌else◌, cond, List, [], ◌∷◌, ◌++◌, length, take, drop, filter, Some, inl, inr, refl, sym, ap, subst, ◌∙◌, arith}
+use Rattle.raft_contexts.proofs.Common.{append_assoc, length-drop, length-take-le, drop-drop, some_is, AllByRecursion, nat_lt, nat_le, EntryIndex, RisesFrom, IsRun, end_of, IsRunIn, is_placed_in, below, from, overlap, with_places}
+use Rattle.raft_contexts.proofs.Common.{moved_count, may_move, rewritten_from, entries_after_rewrite, leaves_hole, entries_after_append, entries_after_replay, AreMovedEntries}
+use Rattle.std.proofs.Common.{max, Option, None}
+use Rattle.std.proofs.lemmas.List.{length-take}
+use Rattle.std.proofs.lemmas.List.Sums.{prefix_len-le-length}
 use Rattle.raft_base.specs.declared.pipe_log.LogQueue.TheVariants.{Append, Rewrite}
-use Rattle.raft_base.specs.Runs.{RisesFrom, end_of}
-use Rattle.raft_table.specs.Rewriting.{overlap, with_places}
-use Rattle.raft_table.specs.Start.{starts_in_front, leaves_hole, entries_after_append, entries_after_replay}
-use Rattle.raft_table.specs.TableEntries.{start_of, below, from, is_placed_in}
-use Rattle.raft_contexts.specs.MovedPlaces.{AreMovedEntries}
-use Rattle.raft_contexts.proofs.RunCutLemmas.{below_take, from_drop, rises_drop, rises_take, end_rises}
-
-none_some : {A : Type 0} {x : A} → None ≡ Some x → ⊥
-none_some e = cc
+use Rattle.raft_table.specs.Marks.{misses}
+use Rattle.raft_table.specs.TableEntries.{start_of}
+use Rattle.raft_table.proofs.MarkEntries.{accepted}
+use Rattle.raft_table.proofs.RunLemmas.{below_take, from_drop, hole_end, rises, end_of-run, RisesFrom-take, RisesFrom-drop}
+use Rattle.raft_table.proofs.RewriteLemmas.{below_is, from_is}
+use Rattle.raft_contexts.specs.MovedPlaces.{IsMovedEntry}
+use Rattle.raft_contexts.proofs.AppendedLemmas.{run_replays}
 
 -- ---- lists of entries
 
@@ -57,58 +20,36 @@ pub moved_self : (es : List EntryIndex) → AreMovedEntries es es
 moved_self [] = tt
 moved_self (e ∷ es) = ((refl, inl refl), moved_self es)
 
-pub moved-append : (ks es ls fs : List EntryIndex) → AreMovedEntries ks es → AreMovedEntries ls fs → AreMovedEntries (ks ++ ls) (es ++ fs)
-moved-append [] [] ls fs h k = k
-moved-append [] (e ∷ es) ls fs h k = absurd h
-moved-append (l ∷ ks) [] ls fs h k = absurd h
-moved-append (l ∷ ks) (e ∷ es) ls fs h k = (h.0, moved-append ks es ls fs h.1 k)
+-- what holds of no entries, and of one more on both sides
+by_entries : (P : List EntryIndex → List EntryIndex → Type 0) → P [] [] → ((k e : EntryIndex) (ks es : List EntryIndex) → IsMovedEntry k e → P ks es → P (k ∷ ks) (e ∷ es))
+    → (ks es : List EntryIndex) → AreMovedEntries ks es → P ks es
+by_entries P none more [] [] h = none
+by_entries P none more [] (e ∷ es) h = absurd h
+by_entries P none more (k ∷ ks) [] h = absurd h
+by_entries P none more (k ∷ ks) (e ∷ es) h = more k e ks es h.0 (by_entries P none more ks es h.1)
 
-pub moved_take : (n : ℕ) (ks es : List EntryIndex) → AreMovedEntries ks es → AreMovedEntries (take n ks) (take n es)
-moved_take zero ks es h = tt
-moved_take (suc n) [] [] h = tt
-moved_take (suc n) [] (e ∷ es) h = absurd h
-moved_take (suc n) (k ∷ ks) [] h = absurd h
-moved_take (suc n) (k ∷ ks) (e ∷ es) h = (h.0, moved_take n ks es h.1)
+moved_front : (run ks es : List EntryIndex) → AreMovedEntries ks es → AreMovedEntries (ks ++ run) (es ++ run)
+moved_front run = by_entries (λ ks es. AreMovedEntries (ks ++ run) (es ++ run)) (moved_self run) (λ k e ks es m rest. (m, rest))
 
-pub moved_drop : (n : ℕ) (ks es : List EntryIndex) → AreMovedEntries ks es → AreMovedEntries (drop n ks) (drop n es)
-moved_drop zero ks es h = h
-moved_drop (suc n) [] [] h = tt
-moved_drop (suc n) [] (e ∷ es) h = absurd h
-moved_drop (suc n) (k ∷ ks) [] h = absurd h
-moved_drop (suc n) (k ∷ ks) (e ∷ es) h = moved_drop n ks es h.1
+moved_rises : (ks es : List EntryIndex) → AreMovedEntries ks es → (s : ℕ) → RisesFrom s es → RisesFrom s ks
+moved_rises = by_entries (λ ks es. (s : ℕ) → RisesFrom s es → RisesFrom s ks) (λ s r. tt) (λ k e ks es m rest s r. (m.0 ∙ r.0, rest (suc s) r.1))
 
-pub moved_rises : (s : ℕ) (ks es : List EntryIndex) → AreMovedEntries ks es → RisesFrom s es → RisesFrom s ks
-moved_rises s [] [] h r = tt
-moved_rises s [] (e ∷ es) h r = tt
-moved_rises s (k ∷ ks) [] h r = absurd h
-moved_rises s (k ∷ ks) (e ∷ es) h r = (h.0.0 ∙ r.0, moved_rises (suc s) ks es h.1 r.1)
-
-pub moved_length : (ks es : List EntryIndex) → AreMovedEntries ks es → length ks ≡ length es
-moved_length [] [] h = refl
-moved_length [] (e ∷ es) h = absurd h
-moved_length (k ∷ ks) [] h = absurd h
-moved_length (k ∷ ks) (e ∷ es) h = let n = moved_length ks es h.1 in omega (arith, n)
+moved_length : (ks es : List EntryIndex) → AreMovedEntries ks es → length ks ≡ length es
+moved_length = by_entries (λ ks es. length ks ≡ length es) refl (λ k e ks es m n. omega (arith, n))
 
 moved_end : (ks es : List EntryIndex) → AreMovedEntries ks es → end_of ks ≡ end_of es
 unfolding end_of
-moved_end [] [] h = refl
-moved_end [] (e ∷ es) h = absurd h
-moved_end (k ∷ ks) [] h = absurd h
-moved_end (k ∷ ks) (e ∷ es) h = ap (λ (n : ℕ). max (suc n) (end_of ks)) h.0.0 ∙ ap (max (suc e.index)) (moved_end ks es h.1)
+moved_end = by_entries (λ ks es. end_of ks ≡ end_of es) refl (λ k e ks es m n. ap (λ (i : ℕ). max (suc i) (end_of ks)) m.0 ∙ ap (max (suc e.index)) n)
 
 -- a test of indexes lets the same entries through
 moved_filter : (p : ℕ → Bool) (ks es : List EntryIndex) → AreMovedEntries ks es → AreMovedEntries (filter (λ e. p e.index) ks) (filter (λ e. p e.index) es)
-moved_filter p [] [] h = tt
-moved_filter p [] (e ∷ es) h = absurd h
-moved_filter p (k ∷ ks) [] h = absurd h
-moved_filter p (k ∷ ks) (e ∷ es) h = subst (λ (b : Bool). AreMovedEntries (cond b (k ∷ filter (λ e. p e.index) ks) (filter (λ e. p e.index) ks))
-    (filter (λ e. p e.index) (e ∷ es))) (sym (ap p h.0.0)) (go (p e.index) (moved_filter p ks es h.1))
+moved_filter p = by_entries (λ ks es. AreMovedEntries (filter (λ e. p e.index) ks) (filter (λ e. p e.index) es)) tt
+    (λ k e ks es m rest. subst (λ (b : Bool). AreMovedEntries (cond b (k ∷ filter (λ e. p e.index) ks) (filter (λ e. p e.index) ks)) (filter (λ e. p e.index) (e ∷ es))) (sym (ap p m.0))
+    (go k e (filter (λ e. p e.index) ks) (filter (λ e. p e.index) es) m rest (p e.index)))
   where
-    go : (b : Bool) → AreMovedEntries (filter (λ e. p e.index) ks) (filter (λ e. p e.index) es) →
-        AreMovedEntries (cond b (k ∷ filter (λ e. p e.index) ks) (filter (λ e. p e.index) ks))
-        (cond b (e ∷ filter (λ e. p e.index) es) (filter (λ e. p e.index) es))
-    go true rest = (h.0, rest)
-    go false rest = rest
+    go : (k e : EntryIndex) (ks es : List EntryIndex) → IsMovedEntry k e → AreMovedEntries ks es → (b : Bool) → AreMovedEntries (cond b (k ∷ ks) ks) (cond b (e ∷ es) es)
+    go k e ks es m rest true = (m, rest)
+    go k e ks es m rest false = rest
 
 pub moved_below : (i : ℕ) (ks es : List EntryIndex) → AreMovedEntries ks es → AreMovedEntries (below i ks) (below i es)
 unfolding below
@@ -118,36 +59,37 @@ pub moved_from : (i : ℕ) (ks es : List EntryIndex) → AreMovedEntries ks es �
 unfolding from
 moved_from i ks es h = moved_filter (λ n. nat_le i n) ks es h
 
-moved_hole : (ks es : List EntryIndex) (i : ℕ) → AreMovedEntries ks es → leaves_hole ks i ≡ leaves_hole es i
-moved_hole [] [] i h = refl
-moved_hole [] (e ∷ es) i h = absurd h
-moved_hole (k ∷ ks) [] i h = absurd h
-moved_hole (k ∷ ks) (e ∷ es) i h = ap (λ n. nat_lt n i) (moved_end (k ∷ ks) (e ∷ es) h)
-
 -- ---- a new run
 
 pub moved_run : (ks es run new : List EntryIndex) → AreMovedEntries ks es → entries_after_append ks run ≡ Some new
     → (after : List EntryIndex) × (entries_after_replay Append es run ≡ Some after) × AreMovedEntries new after
-moved_run ks es [] new h a = (es, refl, subst (λ (l : List EntryIndex). AreMovedEntries l es) (same ks new a) h)
-  where
-    same : (x y : List EntryIndex) → Some x ≡ Some y → x ≡ y
-    same x y e = cc
-moved_run ks es (e ∷ run) new h a = go (starts_in_front ks e.index) (leaves_hole ks e.index) refl a
-  where
-    same : (x y : List EntryIndex) → Some x ≡ Some y → x ≡ y
-    same x y e = cc
-
-    go : (b c : Bool) → leaves_hole ks e.index ≡ c → (if b || c then None else Some (below e.index ks ++ e ∷ run)) ≡ Some new
-        → (after : List EntryIndex) × ((if leaves_hole es e.index then None else Some (below e.index es ++ e ∷ run)) ≡ Some after) × AreMovedEntries new after
-    go true c is k = absurd (none_some k)
-    go false true is k = absurd (none_some k)
-    go false false is k = (
+moved_run ks es [] new h a = (es, refl, subst (λ (l : List EntryIndex). AreMovedEntries l es) (some_is a) h)
+moved_run ks es (e ∷ run) new h a =
+    let k = accepted (leaves_hole ks e.index) (below e.index ks ++ e ∷ run) new (run_replays ks (e ∷ run) new a) in
+    let hole = hole_end es e.index ∙ sym (ap (misses (Some e.index)) (moved_end ks es h)) ∙ sym (hole_end ks e.index) ∙ k.0 in (
       below e.index es ++ e ∷ run,
-      ap (λ (b : Bool). if b then None else Some (below e.index es ++ e ∷ run)) (sym (moved_hole ks es e.index h) ∙ is),
-      subst (λ (l : List EntryIndex). AreMovedEntries l (below e.index es ++ e ∷ run)) (same _ _ k) (moved-append (below e.index ks) (below e.index es) (e ∷ run) (e ∷ run) (moved_below e.index ks es h) (moved_self (e ∷ run))),
+      ap (λ (b : Bool). if b then None else Some (below e.index es ++ e ∷ run)) hole,
+      subst (λ (l : List EntryIndex). AreMovedEntries l (below e.index es ++ e ∷ run)) k.1 (moved_front (e ∷ run) (below e.index ks) (below e.index es) (moved_below e.index ks es h)),
     )
 
 -- ---- a rewriting
+
+-- rewritten entries in the place of as many in front
+in_front : (s : ℕ) (mid ks es : List EntryIndex) → AreMovedEntries ks es → RisesFrom s es → RisesFrom s mid → length mid ≤ length es
+    → AllByRecursion (λ (e : EntryIndex). is_placed_in Rewrite e ≡ true) mid → AreMovedEntries (mid ++ drop (length mid) ks) es
+in_front s [] ks es h r m l placed = h
+in_front s (x ∷ mid) ks [] h r m l placed = absurd (omega (arith, l))
+in_front s (x ∷ mid) [] (e ∷ es) h r m l placed = absurd h
+in_front s (x ∷ mid) (k ∷ ks) (e ∷ es) h r m l placed = ((m.0 ∙ sym r.0, inr placed.0), in_front (suc s) mid ks es h.1 r.1 m.1 (omega (arith, l)) placed.1)
+
+-- or behind d entries
+in_middle : (d s : ℕ) (mid ks es : List EntryIndex) → AreMovedEntries ks es → RisesFrom s es → RisesFrom (s + d) mid → d + length mid ≤ length es
+    → AllByRecursion (λ (e : EntryIndex). is_placed_in Rewrite e ≡ true) mid → AreMovedEntries (take d ks ++ (mid ++ drop (length mid) (drop d ks))) es
+in_middle zero s mid ks es h r m l placed = in_front s mid ks es h r (subst (λ (n : ℕ). RisesFrom n mid) (let e : s + 0 ≡ s = omega arith in e) m) (omega (arith, l)) placed
+in_middle (suc d) s mid ks [] h r m l placed = absurd (omega (arith, l))
+in_middle (suc d) s mid [] (e ∷ es) h r m l placed = absurd h
+in_middle (suc d) s mid (k ∷ ks) (e ∷ es) h r m l placed =
+    (h.0, in_middle d (suc s) mid ks es h.1 r.1 (subst (λ (n : ℕ). RisesFrom n mid) (let e : s + suc d ≡ suc s + d = omega arith in e) m) (omega (arith, l)) placed)
 
 each_take : (P : EntryIndex → Type 0) (n : ℕ) (es : List EntryIndex) → AllByRecursion P es → AllByRecursion P (take n es)
 each_take P zero es h = tt
@@ -159,86 +101,50 @@ each_drop P zero es h = h
 each_drop P (suc n) [] h = tt
 each_drop P (suc n) (e ∷ es) h = each_drop P n es h.1
 
--- rewritten entries of the same indexes
-moved_places : (s : ℕ) (ks es : List EntryIndex) → RisesFrom s ks → RisesFrom s es → length ks ≡ length es
-    → AllByRecursion (λ (e : EntryIndex). is_placed_in Rewrite e ≡ true) ks → AreMovedEntries ks es
-moved_places s [] [] h k n placed = tt
-moved_places s [] (e ∷ es) h k n placed = absurd (omega (arith, n))
-moved_places s (l ∷ ks) [] h k n placed = absurd (omega (arith, n))
-moved_places s (l ∷ ks) (e ∷ es) h k n placed = ((h.0 ∙ sym k.0, inr placed.0), moved_places (suc s) ks es h.1 k.1 (omega (arith, n)) placed.1)
+run_end : (run : List EntryIndex) → IsRun run → end_of run ≡ start_of run + length run
+unfolding end_of
+run_end [] h = refl
+run_end (e ∷ run) h = end_of-run e.index (e ∷ run) (refl, h) (omega arith)
 
--- the entries that a run meets, cut from a run
-overlap_is : (a s : ℕ) (run ks : List EntryIndex) → RisesFrom s ks → start_of run ≡ a → overlap run ks ≡ drop (a - s) (take (end_of run - s) ks)
-overlap_is a s run ks h start =
-    ap (λ (n : ℕ). from n (below (end_of run) ks)) start
-    ∙ ap (from a) (below_take (end_of run) s ks h)
-    ∙ from_drop a s (take (end_of run - s) ks) (rises_take (end_of run - s) s ks h)
+-- entries at the places of a run of the rewrite queue
+pub entries_rewritten : (gate : Option ℕ) (run ks es new : List EntryIndex) → AreMovedEntries ks es → IsRun es → IsRunIn Rewrite run → entries_after_rewrite gate run ks ≡ Some new → AreMovedEntries new es
+entries_rewritten gate run ks es new h own asked e = go (overlap run ks) refl e
+  where
+    moves : (m : EntryIndex) (met : List EntryIndex) → overlap run ks ≡ m ∷ met → AreMovedEntries (with_places run m.index (moved_count gate run ks) ks) es
+    moves m met is =
+        let s = start_of es in
+        let a = start_of run in
+        let n = moved_count gate run ks in
+        let i = m.index in
+        let d = i - s in
+        let front = take (end_of run - s) ks in
+        let kept : RisesFrom s ks = moved_rises ks es h s (rises es own) in
+        let runs : RisesFrom a run = rises run asked.consecutive.run in
+        let cut : overlap run ks ≡ drop (a - s) front = ap (from a) (below_is (end_of run) s ks kept) ∙ from_is a s front (RisesFrom-take (end_of run - s) s ks kept) in
+        let met_is : drop (a - s) front ≡ m ∷ met = sym cut ∙ is in
+        let met_length : length front - (a - s) ≡ length (m ∷ met) = sym (length-drop (a - s) front) ∙ ap length met_is in
+        let wide = length-take (end_of run - s) ks in
+        let ends = run_end run asked.consecutive.run in
+        let some : 0 < length (m ∷ met) = omega arith in
+        let first : RisesFrom (s + (a - s)) (m ∷ met) = subst (RisesFrom (s + (a - s))) met_is (RisesFrom-drop (a - s) s front (RisesFrom-take (end_of run - s) s ks kept) (omega (arith, met_length, some))) in
+        let at : i ≡ s + (a - s) = first.0 in
+        let few : n ≤ length (m ∷ met) = subst (λ (l : List EntryIndex). n ≤ length l) is (prefix_len-le-length (may_move gate) (overlap run ks)) in
+        let fits : n ≤ length run - (i - a) = omega (arith, few, met_length, wide, ends, at) in
+        let places : from i run ≡ drop (i - a) run = from_is i a run runs in
+        let mid = take n (drop (i - a) run) in
+        let size : length mid ≡ n = length-take-le n (drop (i - a) run) (omega (arith, fits, length-drop (i - a) run)) in
+        let inside : d + length mid ≤ length es = omega (arith, size, few, met_length, wide, at, moved_length ks es h) in
+        let there : a + (i - a) ≡ s + d = omega (arith, at) in
+        let rising : RisesFrom (s + d) mid = RisesFrom-take n (s + d) (drop (i - a) run)
+        (subst (λ (k : ℕ). RisesFrom k (drop (i - a) run)) there (RisesFrom-drop (i - a) a run runs (omega (arith, fits, few, met_length, wide, ends, at, some)))) in
+        let placed = each_take (λ (e : EntryIndex). is_placed_in Rewrite e ≡ true) n (drop (i - a) run) (each_drop (λ (e : EntryIndex). is_placed_in Rewrite e ≡ true) (i - a) run asked.placed) in
+        let older : below i ks ≡ take d ks = below_take i d s ks (omega (arith, at)) kept in
+        let newer : from (i + n) ks ≡ drop (length mid) (drop d ks) = from_drop (i + n) (d + n) s ks (omega (arith, at)) kept ∙ sym (drop-drop n d ks) ∙ ap (λ (k : ℕ). drop k (drop d ks)) (sym size) in
+        subst (λ (l : List EntryIndex). AreMovedEntries l es)
+        (sym (append_assoc (below i ks) (take n (from i run)) (from (i + n) ks) ∙ ap (λ (l : List EntryIndex). l ++ (take n (from i run) ++ from (i + n) ks)) older
+        ∙ ap (λ (l : List EntryIndex). take d ks ++ (take n l ++ from (i + n) ks)) places ∙ ap (λ (l : List EntryIndex). take d ks ++ (mid ++ l)) newer))
+        (in_middle d s mid ks es h (rises es own) rising inside placed)
 
-module _ (s a : ℕ) (ks es run : List EntryIndex) (moved : AreMovedEntries ks es) (rises : RisesFrom s es)
-    (run_from : RisesFrom a run) (some : 0 < length run) (placed : AllByRecursion (λ (e : EntryIndex). is_placed_in Rewrite e ≡ true) run) (n : ℕ)
-    (few : n ≤ length (drop (a - s) (take (end_of run - s) ks))) (d i : ℕ) (where_is : d ≡ a - s) (at : i ≡ s + d) where
-  kept_rises : RisesFrom s ks
-  kept_rises = moved_rises s ks es moved rises
-
-  run_end : end_of run ≡ a + length run
-  run_end = end_rises a run run_from some
-
-  room : (m : ℕ) (xs : List EntryIndex) → length (take m xs) ≤ length xs
-  room zero xs = omega arith
-  room (suc m) [] = omega arith
-  room (suc m) (x ∷ xs) = let h = room m xs in omega (arith, h)
-
-  room_too : (m : ℕ) (xs : List EntryIndex) → length (take m xs) ≤ m
-  room_too zero xs = omega arith
-  room_too (suc m) [] = omega arith
-  room_too (suc m) (x ∷ xs) = let h = room_too m xs in omega (arith, h)
-
-  -- there are as many entries from there on, of the table and of the run
-  fits : n ≤ length es - d
-  fits =
-      let l = length-drop (a - s) (take (end_of run - s) ks) in
-      let r = room (end_of run - s) ks in
-      let e = moved_length ks es moved in
-      omega (arith, few, l, r, e, where_is)
-
-  fits_run : n ≤ length run - (i - a)
-  fits_run =
-      let l = length-drop (a - s) (take (end_of run - s) ks) in
-      let r = room_too (end_of run - s) ks in
-      omega (arith, few, l, r, run_end, where_is, at)
-
-  taken : List EntryIndex
-  taken = take n (drop (i - a) run)
-
-  len_of : (m : ℕ) (xs : List EntryIndex) → n ≤ length xs - m → length (take n (drop m xs)) ≡ n
-  len_of m xs h = length-take-le n (drop m xs) (let l = length-drop m xs in omega (arith, l, h))
-
-  middle : AreMovedEntries (take n (drop (i - a) run)) (take n (drop d es))
-  middle =
-      moved_places i (take n (drop (i - a) run)) (take n (drop d es))
-      (rises_take n i (drop (i - a) run) (subst (λ (k : ℕ). RisesFrom k (drop (i - a) run)) (let e : a + (i - a) ≡ i = omega (arith, where_is, at) in e) (rises_drop (i - a) a run run_from)))
-      (rises_take n i (drop d es) (subst (λ (k : ℕ). RisesFrom k (drop d es)) (sym at) (rises_drop d s es rises)))
-      (len_of (i - a) run fits_run ∙ sym (len_of d es fits))
-      (each_take (λ (e : EntryIndex). is_placed_in Rewrite e ≡ true) n (drop (i - a) run) (each_drop (λ (e : EntryIndex). is_placed_in Rewrite e ≡ true) (i - a) run placed))
-
-  -- the entries cut at both ends of what moves
-  parts : take d es ++ take n (drop d es) ++ drop (d + n) es ≡ es
-  parts =
-      append_assoc (take d es) (take n (drop d es)) (drop (d + n) es)
-      ∙ ap (λ (l : List EntryIndex). take d es ++ (take n (drop d es) ++ l)) (sym (drop-drop n d es))
-      ∙ ap (λ (l : List EntryIndex). take d es ++ l) (take-append-drop n (drop d es))
-      ∙ take-append-drop d es
-
-  pub moved_with_places : AreMovedEntries (with_places run i n ks) es
-  moved_with_places =
-      let front = below_take i s ks kept_rises ∙ ap (λ (k : ℕ). take k ks) (let e : i - s ≡ d = omega (arith, at) in e) in
-      let new = from_drop i a run run_from in
-      let back = from_drop (i + n) s ks kept_rises ∙ ap (λ (k : ℕ). drop k ks) (let e : i + n - s ≡ d + n = omega (arith, at) in e) in
-      let whole = moved-append (take d ks ++ take n (drop (i - a) run)) (take d es ++ take n (drop d es)) (drop (d + n) ks) (drop (d + n) es)
-      (moved-append (take d ks) (take d es) (take n (drop (i - a) run)) (take n (drop d es)) (moved_take d ks es moved) middle)
-      (moved_drop (d + n) ks es moved) in
-      subst (λ (l : List EntryIndex). AreMovedEntries l es)
-      (sym (ap (λ (l : List EntryIndex). l ++ take n (from i run) ++ from (i + n) ks) front
-      ∙ ap (λ (l : List EntryIndex). take d ks ++ take n l ++ from (i + n) ks) new
-      ∙ ap (λ (l : List EntryIndex). take d ks ++ take n (drop (i - a) run) ++ l) back))
-      (subst (λ (l : List EntryIndex). AreMovedEntries (take d ks ++ take n (drop (i - a) run) ++ drop (d + n) ks) l) parts whole)
+    go : (met : List EntryIndex) → overlap run ks ≡ met → rewritten_from gate run ks met ≡ Some new → AreMovedEntries new es
+    go [] is k = subst (λ (l : List EntryIndex). AreMovedEntries l es) (some_is k) h
+    go (m ∷ met) is k = subst (λ (l : List EntryIndex). AreMovedEntries l es) (accepted _ (with_places run m.index (moved_count gate run ks) ks) new k).1 (moves m met is)

@@ -1,34 +1,12 @@
 -- What was read of the append queue, taken in over what was read of the rewrite queue, and what both queues give.
-use Rattle.std.proofs.Common.{◌≡◌, ◌+◌, ℕ, List, [], ◌∷◌, length, refl, sym, ap, subst, ◌∙◌, inl, inr, arith}
-use Rattle.std.specs.Prelude.{flat_map}
-use Rattle.std.specs.Ordering.{nat_cmp}
+use Rattle.raft_contexts.proofs.Common.{◌≡◌, ◌+◌, ℕ, List, [], ◌∷◌, length, refl, sym, ap, subst, ◌∙◌, inl, inr, arith, flat_map, nat_cmp, Error, Event, batches, IsReadingOfBoth, Context, IsExactFor, cleaned_in, AreOverlaid}
+use Rattle.raft_contexts.proofs.Common.{kept_of, all_records, total, Tables, WaitingGroup, held_steps, waiting_steps, exact_reading, overlay_by_steps, total-none, Counts, Mark, kept_shown, Kept, AreOfBothQueues, IsOverlaidWith}
+use Rattle.raft_contexts.proofs.Common.{IsOfBothExactly, IsMergeAppendFault, RecoverContext, reading_on, HasReadExactly, ContextStage, AreTooMany, nil_from_length}
 use Rattle.std.specs.FinMap as finite
 use Rattle.std.specs.FinSet as finset
-use Rattle.raft_base.specs.declared.errors.Error.{Error}
 use Rattle.raft_base.specs.declared.errors.Error.TheVariants as errors
 use Rattle.raft_base.specs.declared.pipe_log.LogQueue.TheVariants.{Append, Rewrite}
-use Rattle.raft_history.specs.Batches.{Event, batches}
-use Rattle.raft_history.specs.BothQueues.{IsReadingOfBoth}
-use Rattle.raft_history.specs.Contexts.{Context, IsExactFor}
-use Rattle.raft_history.specs.Histories.{cleaned_in}
-use Rattle.raft_history.specs.Joins.{AreOverlaid}
 use Rattle.raft_history.specs.Kept as numbers
-use Rattle.raft_history.specs.Kept.{kept_of}
-use Rattle.raft_history.specs.Records.{all_records, total}
-use Rattle.raft_history.specs.RegionSteps.{Tables}
-use Rattle.raft_history.specs.WaitingGroup.{WaitingGroup}
-use Rattle.raft_history.specs.WaitingGroups.{held_steps, waiting_steps}
-use Rattle.raft_history.proofs.ContextLaws.{exact_reading}
-use Rattle.raft_history.proofs.RegionLaws.{overlay_by_steps}
-use Rattle.raft_history.proofs.TotalLemmas.{total-none}
-use Rattle.raft_table.specs.Counts.{Counts}
-use Rattle.raft_table.specs.Marks.{Mark}
-use Rattle.raft_contexts.specs.KeptShown.{kept_shown}
-use Rattle.raft_contexts.specs.declared.kept.Kept.{Kept}
-use Rattle.raft_contexts.specs.OverlaidContext.{AreOfBothQueues, IsOverlaidWith, IsOfBothExactly, IsMergeAppendFault}
-use Rattle.raft_contexts.specs.RecoverContext.{RecoverContext, reading_on, HasReadExactly}
-use Rattle.raft_contexts.specs.declared.context_stage.ContextStage.{ContextStage}
-use Rattle.raft_contexts.specs.RegionOverlays.{AreTooMany}
 
 -- ---- why it is refused
 
@@ -73,11 +51,7 @@ of_both c d new h g m a b = record {
 -- ---- what is kept
 
 nothing_in : {X : Type 0} → finite.entries (finite.empty {K = ℕ} {X = X} {R = nat_cmp}) ≡ []
-nothing_in {X} = no_length (finite.entries (finite.empty {K = ℕ} {X = X} {R = nat_cmp})) (sym (finite.len-entries _) ∙ finite.len-empty nat_cmp X)
-  where
-    no_length : (es : List (ℕ × X)) → length es ≡ 0 → es ≡ []
-    no_length [] e = refl
-    no_length (x ∷ es) e = absurd (omega (arith, e))
+nothing_in {X} = nil_from_length (finite.entries (finite.empty {K = ℕ} {X = X} {R = nat_cmp})) (sym (finite.len-entries _) ∙ finite.len-empty nat_cmp X)
 
 pub nothing_kept : (c : RecoverContext) (h g : List Event) (k : Kept) → kept_shown k ≡ kept_of c.context → IsOfBothExactly c h g → (k.marks ≡ 0) × (k.deleted_keys ≡ 0) × (k.waiting_items ≡ 0)
 nothing_kept c h g k e b = (

@@ -1,79 +1,35 @@
 -- What was read, with one more batch or with a newer neighbor.
-use Rattle.std.proofs.Common.{◌≡◌, ◌≢◌, ℕ, ◌+◌, ◌≤◌, ◌^◌, true, false, List, [], ◌∷◌, ◌++◌, Option, Some, None, Result, Ok, Err, refl, sym, ap, subst, ◌∙◌, inl, inr, arith, append-nil}
-use Rattle.std.specs.Ordering.{nat_cmp}
-use Rattle.std.specs.Prelude.{is_some, option_map}
-use Rattle.std.specs.List.{AllByRecursion}
-use Rattle.std.specs.Option.{unwrap_or}
-use Rattle.std.specs.Result.{OnOk}
-use Rattle.std.specs.Cmp.{nat_cmp_total}
+use Rattle.raft_contexts.proofs.Common.{◌≡◌, ◌≢◌, ℕ, ◌+◌, ◌≤◌, true, false, List, [], ◌∷◌, ◌++◌, Option, Some, None, Ok, Err, refl, sym, ap, subst, ◌∙◌, inl, inr, arith, append-nil, nat_cmp, AllByRecursion, unwrap_or}
+use Rattle.raft_contexts.proofs.Common.{nat_cmp_total, nat_cmp-IsAntisymmetric, Error, LogQueue, Item, AtomicGroupStatus, fresh, other, after, Event, GroupMarker, batch_of, batches, marker_in, Context, FileRange, Suits}
+use Rattle.raft_contexts.proofs.Common.{files_of, follows, joined_files, AreExact, StandsFor, AreMerged, merged_with, completed_steps, region_steps_or, taken_in, AreInFile, HaveStatus, IsSoundIn, IsStepOfQueue, records_in}
+use Rattle.raft_contexts.proofs.Common.{StandForSteps, AreJoined, MarkedRegions, region_in, regions_after, region_steps_of_whole, region_steps_of_wholes, all_records, waiting_records, records_or, RegionStep, steps_of_items}
+use Rattle.raft_contexts.proofs.Common.{cleaned_by_steps, WholeGroup, without_marker, joined_group, whole_group, one_marker, WaitingGroups, known_of, groups_in, groups_after, whole_groups, joined_groups, exact_reading, no_steps}
+use Rattle.raft_contexts.proofs.Common.{regions_stand, each-append, items_in_queue, whole_in_queue, holds_none, read_records, whole_group-records, wholes-records, one_weight, stand_after, stand_joined, files-back, files_follow}
+use Rattle.raft_contexts.proofs.Common.{IsNextEvent, taken_stands, total-insert, named-steps, joined_weight, waiting_known, merged_waiting, weight, live_in_all, some_is, none_some, marker_found, AreStepsOfQueue, IsStepsFault}
+use Rattle.raft_contexts.proofs.Common.{AreAlone, AreOfSteps, IsOfHistory, CanTakeEffect, CanTakeEffectIfAny, reading_on, MayFollow, records_held, IsBatchFault, AreNeighbors, IsNeighborFault, AreCountsAfterSteps, IsJoinFault}
+use Rattle.raft_contexts.proofs.Common.{live-none, regions_in, context_in, ranges_shown, MarkedTables, is_some, option_map}
 use Rattle.std.specs.FinMap as finite
-use Rattle.std.specs.FinMap.{nat_cmp-IsAntisymmetric}
-use Rattle.raft_base.specs.declared.errors.Error.{Error}
 use Rattle.raft_base.specs.declared.errors.Error.TheVariants as errors
-use Rattle.raft_base.specs.declared.pipe_log.LogQueue.{LogQueue}
 use Rattle.raft_base.specs.declared.pipe_log.LogQueue.TheVariants.{Append, Rewrite}
-use Rattle.raft_records.specs.Item.{Item}
-use Rattle.raft_records.specs.declared.atomic_group.AtomicGroupStatus.{AtomicGroupStatus}
-use Rattle.raft_table.specs.Counts.{Counts}
-use Rattle.raft_table.specs.MarkJoins.{fresh}
-use Rattle.raft_table.specs.Queues.{other}
-use Rattle.raft_table.specs.Steps.{after}
-use Rattle.raft_history.specs.Batches.{Event, GroupMarker, batch_of, batches, marker_in}
-use Rattle.raft_history.specs.Contexts.{Context, FileRange, Suits, files_of, follows, joined_files, AreExact, StandsFor, AreMerged, merged_with, completed_steps, region_steps_or, taken_in}
-use Rattle.raft_history.specs.Histories.{AreInFile, HaveStatus, IsSoundIn, IsStepOfQueue, records_in}
-use Rattle.raft_history.specs.Joins.{StandForSteps, AreJoined}
-use Rattle.raft_history.specs.MarkedRegions.{MarkedRegions, region_in, regions_after, region_steps_of_whole, region_steps_of_wholes}
-use Rattle.raft_history.specs.Records.{all_records, waiting_records, records_or}
-use Rattle.raft_history.specs.RegionSteps.{RegionStep, steps_of_items, cleaned_by_steps}
-use Rattle.raft_history.specs.WaitingGroup.{WholeGroup, without_marker, joined_group, whole_group, one_marker}
-use Rattle.raft_history.specs.WaitingGroups.{WaitingGroups, known_of, groups_in, groups_after, whole_groups, joined_groups}
-use Rattle.raft_history.proofs.ContextLaws.{exact_reading, no_steps, regions_stand}
-use Rattle.raft_history.proofs.EffectLemmas.{each-append}
-use Rattle.raft_history.proofs.QueueLemmas.{items_in_queue, whole_in_queue}
-use Rattle.raft_history.proofs.ReadLemmas.{holds_none}
-use Rattle.raft_history.proofs.RecordLemmas.{read_records, whole_group-records, wholes-records, one_weight}
-use Rattle.raft_history.proofs.RegionLaws.{stand_after, stand_joined}
-use Rattle.raft_history.proofs.SoundLemmas.{files-back, files_follow}
-use Rattle.raft_history.proofs.TakenLaws.{IsNextEvent, taken_some, taken_stands}
-use Rattle.raft_history.proofs.TotalLemmas.{total-insert}
-use Rattle.raft_history.proofs.WithoutMarkers.{named-steps}
-use Rattle.raft_history.proofs.WaitingLemmas.{joined_weight, waiting_known, merged_waiting, weight}
-use Rattle.raft_accessor.specs.Accessor.{live_in_all}
-use Rattle.raft_contexts.specs.BatchChecks.{marker_found}
-use Rattle.raft_contexts.specs.MarkedTables.{AreStepsOfQueue, IsStepsFault}
-use Rattle.raft_contexts.specs.ReadStates.{AreAlone, AreOfSteps, IsOfHistory, CanTakeEffect, CanTakeEffectIfAny}
-use Rattle.raft_contexts.specs.RecoverContext.{reading_on, MayFollow, records_held, IsBatchFault, AreNeighbors, IsNeighborFault, IsBatchCounted}
-use Rattle.raft_contexts.specs.StepCounts.{AreCountsAfterSteps}
-use Rattle.raft_contexts.specs.RegionJoins.{IsJoinFault}
-use Rattle.raft_accessor.proofs.LiveLemmas.{live-none}
+use Rattle.raft_history.specs.Contexts.{taken_with}
+use Rattle.raft_contexts.specs.ReadStates.{IsTakenIn, AreWholesTaken}
+use Rattle.raft_contexts.specs.declared.read_state.ReadState.{ReadState}
 use Rattle.raft_contexts.proofs.LiveSteps.{live-le-all}
 use Rattle.raft_contexts.proofs.WholeFiles.{batch_takes, wholes_take, no_wholes}
-
-some_is : {X : Type 0} {x y : X} → Some x ≡ Some y → x ≡ y
-some_is e = cc
 
 pub next_of : (c : Context) (e : Event) → MayFollow c e → IsNextEvent c e
 next_of c e m = record { suits = m.queue; follows = m.files; in_file = m.items; status = m.markers }
 
-pub on_any : {X A : Type 0} (r : Result X Error) → A → OnOk r A
-on_any (Ok x) a = a
-on_any (Err x) a = tt
-
 -- a batch that was tested may come next
-pub may_follow : {X : Type 0} (c : Context) (e : Event) (r : Result X Error) → Suits e.file.queue c.files →
-    follows c.files (files_of (e ∷ [])) ≡ true → OnOk r (AreInFile e.file e.items) → OnOk r (HaveStatus e.file.queue e.items) → OnOk r (MayFollow c e)
-may_follow c e (Ok x) suits files items markers = record { queue = suits; files = files; items = items; markers = markers }
-may_follow c e (Err x) suits files items markers = tt
+pub may_follow : (c : Context) (e : Event) → Suits e.file.queue c.files → follows c.files (files_of (e ∷ [])) ≡ true → AreInFile e.file e.items → HaveStatus e.file.queue e.items → MayFollow c e
+may_follow c e suits files items markers = record { queue = suits; files = files; items = items; markers = markers }
 
 -- ---- no record of the other queue
 
 -- without files there are no tables
 untabled : (c : Context) (h : List Event) → StandsFor c h → c.files ≡ None → (r : ℕ) → finite.get c.regions.tables r ≡ None
 untabled c [] st none r = sym (some_is (ap (after Append r None) (sym (no_steps r)) ∙ exact_reading Append c.regions [] ((st.stands Append (subst (Suits Append) (sym none) tt)).append refl) r))
-untabled c (e ∷ h) st none r = absurd (no (sym st.files ∙ none))
-  where
-    no : {p : FileRange} → Some p ≡ None → ⊥
-    no e = cc
+untabled c (e ∷ h) st none r = absurd (none_some (sym none ∙ st.files))
 
 pub alone_of : (q : LogQueue) (c : Context) → IsOfHistory c → Suits q c.files → live_in_all (other q) c.regions.tables ≡ 0
 alone_of q c r u = go c.files refl u r.alone
@@ -86,10 +42,7 @@ alone_of q c r u = go c.files refl u r.alone
 
 -- without files every region is as no step leaves it
 blank : (q : LogQueue) (c : Context) (h : List Event) → StandsFor c h → c.files ≡ None → StandForSteps q c.regions
-blank q c (e ∷ h) st none = λ r. absurd (no (sym st.files ∙ none))
-  where
-    no : {p : FileRange} → Some p ≡ None → ⊥
-    no e = cc
+blank q c (e ∷ h) st none = λ r. absurd (none_some (sym none ∙ st.files))
 blank q c [] st none = λ r. ([], tt, holds_none q r (region_in c.regions r) (ap (λ m. unwrap_or m fresh) (is_none _ (exact.marked r ∙ (named-steps r []).1 (no_steps r)))) (untabled c [] st none r))
   where
     exact : AreExact Append c.regions []
@@ -108,12 +61,9 @@ steps_of_read q c r u = go c.files refl u r.steps
 
 -- ---- records
 
-known_weight : (groups : WaitingGroups) (g : ℕ) → weight (known_of groups g) ≤ waiting_records groups
-known_weight groups g = omega (arith, total-insert weight groups g without_marker, waiting_known groups g)
-
 -- what a batch makes whole waited before, or is its own
 pub whole_records : (groups : WaitingGroups) (g : ℕ) (s : AtomicGroupStatus) (is : List RegionStep) (f : ℕ) → records_or (whole_group (known_of groups g) (one_marker s is f)) ≤ waiting_records groups + records_in is
-whole_records groups g s is f = omega (arith, joined_weight (known_of groups g) (one_marker s is f), known_weight groups g, one_weight s is f)
+whole_records groups g s is f = omega (arith, joined_weight (known_of groups g) (one_marker s is f), total-insert weight groups g without_marker, waiting_known groups g, one_weight s is f)
 
 -- ---- one more batch
 
@@ -121,88 +71,13 @@ found_none : (q : LogQueue) (items : List Item) → marker_found q items ≡ Non
 found_none Append items e = refl
 found_none Rewrite items e = ap (option_map {U = GroupMarker} (λ m. record { group = m.0; status = m.1 })) e
 
-pub found_some : (q : LogQueue) (items : List Item) (id : ℕ) (s : AtomicGroupStatus) → marker_found q items ≡ Some (id, s) → (q ≡ Rewrite) × (marker_in q items ≡ Some (record { group = id; status = s }))
+found_some : (q : LogQueue) (items : List Item) (id : ℕ) (s : AtomicGroupStatus) → marker_found q items ≡ Some (id, s) → (q ≡ Rewrite) × (marker_in q items ≡ Some (record { group = id; status = s }))
 found_some Append items id s e = absurd cc
 found_some Rewrite items id s e = (refl, ap (option_map {U = GroupMarker} (λ m. record { group = m.0; status = m.1 })) e)
 
--- a context with one more batch, by its marker
-abbrev taken_by : Context → Event → Option GroupMarker → Option Context
-taken_by c e m = option_map {U = Context}
-    (λ rs. record {
-      regions = rs;
-      groups = groups_after c.groups (batch_of e) m;
-      cleaned = c.cleaned ++ cleaned_by_steps e.file.queue
-          (batch_of e).steps;
-      files = joined_files c.files (files_of (e ∷ []));
-    })
-    (regions_after e.file.queue c.regions (completed_steps c.groups (batch_of e) m))
-
--- files that are there
-abbrev pub some_range : FileRange → Option FileRange
-some_range f = Some f
-
-abbrev some_context : Context → Option Context
-some_context c = Some c
-
 by_fields : (d : Context) (groups : WaitingGroups) (cleaned : List ℕ) (files : Option FileRange) → d.groups ≡ groups → d.cleaned ≡ cleaned → d.files ≡ files
-    → some_context (record { regions = d.regions; groups = groups; cleaned = cleaned; files = files }) ≡ Some d
-by_fields d groups cleaned files g l f =
-    ap (λ groups. some_context (record { regions = d.regions; groups = groups; cleaned = cleaned; files = files })) (sym g)
-    ∙ ap (λ cleaned. some_context (record { regions = d.regions; groups = d.groups; cleaned = cleaned; files = files })) (sym l)
-    ∙ ap (λ files. some_context (record { regions = d.regions; groups = d.groups; cleaned = d.cleaned; files = files })) (sym f)
-
-some_by : (c d : Context) (e : Event) (m : Option GroupMarker) →
-    regions_after e.file.queue c.regions (completed_steps c.groups (batch_of e) m) ≡ Some d.regions →
-    taken_by c e m ≡ Some (record {
-      regions = d.regions;
-      groups = groups_after c.groups (batch_of e) m;
-      cleaned = c.cleaned ++ cleaned_by_steps e.file.queue (batch_of e).steps;
-      files = joined_files c.files (files_of (e ∷ []));
-    })
-some_by c d e m regions = ap (option_map {U = Context}
-    (λ rs. record {
-      regions = rs;
-      groups = groups_after c.groups (batch_of e) m;
-      cleaned = c.cleaned ++ cleaned_by_steps e.file.queue
-          (batch_of e).steps;
-      files = joined_files c.files (files_of (e ∷ []));
-    })) regions
-
-none_by : (c : Context) (e : Event) (m : Option GroupMarker) → regions_after e.file.queue c.regions (completed_steps c.groups (batch_of e) m) ≡ None → taken_by c e m ≡ None
-none_by c e m none = ap (option_map {U = Context}
-    (λ rs. record {
-      regions = rs;
-      groups = groups_after c.groups (batch_of e) m;
-      cleaned = c.cleaned ++ cleaned_by_steps e.file.queue
-          (batch_of e).steps;
-      files = joined_files c.files (files_of (e ∷ []));
-    })) none
-
--- a batch without a marker
-pub lone_taken : (c d : Context) (e : Event) → marker_found e.file.queue e.items ≡ None
-    → regions_after e.file.queue c.regions (steps_of_items e.items) ≡ Some d.regions → d.groups ≡ c.groups
-    → d.cleaned ≡ c.cleaned ++ cleaned_by_steps e.file.queue (batch_of e).steps → d.files ≡ joined_files c.files (files_of (e ∷ [])) → taken_in c e ≡ Some d
-lone_taken c d e m regions groups cleaned files = ap (taken_by c e) (found_none e.file.queue e.items m) ∙ some_by c d e None regions ∙ by_fields d c.groups _ _ groups cleaned files
-
-pub lone_refused : (c : Context) (e : Event) → marker_found e.file.queue e.items ≡ None → regions_after e.file.queue c.regions (steps_of_items e.items) ≡ None → taken_in c e ≡ None
-lone_refused c e m none = ap (taken_by c e) (found_none e.file.queue e.items m) ∙ none_by c e None none
-
--- a batch with a marker
-pub group_taken : (c d : Context) (e : Event) (id : ℕ) (s : AtomicGroupStatus) → marker_found e.file.queue e.items ≡ Some (id, s)
-    → regions_after Rewrite c.regions (region_steps_or (whole_group (known_of c.groups id) (one_marker s (steps_of_items e.items) e.file.seq))) ≡ Some d.regions
-    → d.groups ≡ finite.insert c.groups id (joined_group (known_of c.groups id) (one_marker s (steps_of_items e.items) e.file.seq))
-    → d.cleaned ≡ c.cleaned → d.files ≡ joined_files c.files (files_of (e ∷ [])) → taken_in c e ≡ Some d
-group_taken c d e id s m regions groups cleaned files =
-    let f = found_some e.file.queue e.items id s m in
-    ap (taken_by c e) f.1
-    ∙ some_by c d e (Some (record { group = id; status = s })) (ap (λ q. regions_after q c.regions (region_steps_or (whole_group (known_of c.groups id) (one_marker s (steps_of_items e.items) e.file.seq)))) f.0 ∙ regions)
-    ∙ by_fields d _ _ _ groups (cleaned ∙ sym (append-nil c.cleaned) ∙ ap (λ q. c.cleaned ++ cleaned_by_steps q (batch_of e).steps) (sym f.0)) files
-
-pub group_refused : (c : Context) (e : Event) (id : ℕ) (s : AtomicGroupStatus) → marker_found e.file.queue e.items ≡ Some (id, s)
-    → regions_after Rewrite c.regions (region_steps_or (whole_group (known_of c.groups id) (one_marker s (steps_of_items e.items) e.file.seq))) ≡ None → taken_in c e ≡ None
-group_refused c e id s m none =
-    let f = found_some e.file.queue e.items id s m in
-    ap (taken_by c e) f.1 ∙ none_by c e (Some (record { group = id; status = s })) (ap (λ q. regions_after q c.regions (region_steps_or (whole_group (known_of c.groups id) (one_marker s (steps_of_items e.items) e.file.seq)))) f.0 ∙ none)
+    → d ≡ record { regions = d.regions; groups = groups; cleaned = cleaned; files = files }
+by_fields d groups cleaned files g l f = rw (← g, ← l, ← f) refl
 
 or_records : (w : Option WholeGroup) → records_in (region_steps_or w) ≤ records_or w
 or_records None = omega arith
@@ -216,44 +91,39 @@ completed_records c e = go (batch_of e).marker
     go None = omega arith
     go (Some m) = omega (arith, or_records (whole_group (known_of c.groups m.group) (one_marker m.status (steps_of_items e.items) e.file.seq)), whole_records c.groups m.group m.status (steps_of_items e.items) e.file.seq)
 
+-- the steps that take effect with a batch, in its queue
+pub record IsEffect (c : Context) (e : Event) (q : LogQueue) (steps : List RegionStep) : Type 0 where
+  pub queue : e.file.queue ≡ q
+  pub completed : completed_steps c.groups (batch_of e) (batch_of e).marker ≡ steps
+
+pub lone_effect : (c : Context) (e : Event) → marker_found e.file.queue e.items ≡ None → IsEffect c e e.file.queue (steps_of_items e.items)
+lone_effect c e m = record { queue = refl; completed = ap (completed_steps c.groups (batch_of e)) (found_none e.file.queue e.items m) }
+
+pub group_effect : (c : Context) (e : Event) (id : ℕ) (s : AtomicGroupStatus) (is : List RegionStep) (w : Option WholeGroup) → marker_found e.file.queue e.items ≡ Some (id, s)
+    → is ≡ steps_of_items e.items → w ≡ whole_group (known_of c.groups id) (one_marker s is e.file.seq) → IsEffect c e Rewrite (region_steps_or w)
+group_effect c e id s is w m items whole =
+    let f = found_some e.file.queue e.items id s m in
+    record { queue = f.0; completed = ap (completed_steps c.groups (batch_of e)) f.1 ∙ ap (λ x. region_steps_or (whole_group (known_of c.groups id) (one_marker s x e.file.seq))) (sym items) ∙ ap region_steps_or (sym whole) }
+
 -- why a batch is refused that may come next
-pub lone_fault : (c : Context) (e : Event) → IsOfHistory c → MayFollow c e → marker_found e.file.queue e.items ≡ None → (x : Error) → IsStepsFault e.file.queue c.regions (steps_of_items e.items) x → IsBatchFault (reading_on c) e x
-lone_fault c e r n m (errors.Corruption text) f = inr (lone_refused c e m f)
-lone_fault c e r n m (errors.InvalidArgument text) f = absurd (omega (arith, f, alone_of e.file.queue c r n.queue))
-lone_fault c e r n m errors.Full f = (n, subst (λ m. 2 ^ 64 ≤ live_in_all e.file.queue c.regions.tables + records_in (completed_steps c.groups (batch_of e) m)) (sym (found_none e.file.queue e.items m)) f)
-lone_fault c e r n m errors.Memory f = tt
-lone_fault c e r n m _ f = absurd f
+pub effect_fault : (c : Context) (e : Event) (q : LogQueue) (steps : List RegionStep) → IsEffect c e q steps → IsOfHistory c → MayFollow c e → (x : Error) → IsStepsFault q c.regions steps x → IsBatchFault (reading_on c) e x
+effect_fault c e q steps is r n x f = go x (subst (λ q. IsStepsFault q c.regions (completed_steps c.groups (batch_of e) (batch_of e).marker) x) (sym is.queue) (subst (λ l. IsStepsFault q c.regions l x) (sym is.completed) f))
+  where
+    go : (x : Error) → IsStepsFault e.file.queue c.regions (completed_steps c.groups (batch_of e) (batch_of e).marker) x → IsBatchFault (reading_on c) e x
+    go (errors.Corruption text) f = inr (ap (option_map (taken_with c e)) f)
+    go (errors.InvalidArgument text) f = absurd (omega (arith, f, alone_of e.file.queue c r n.queue))
+    go errors.Full f = (n, f)
+    go errors.Memory f = tt
+    go _ f = absurd f
 
-pub group_fault : (c : Context) (e : Event) (id : ℕ) (s : AtomicGroupStatus) → IsOfHistory c → MayFollow c e → marker_found e.file.queue e.items ≡ Some (id, s) → (x : Error)
-    → IsStepsFault Rewrite c.regions (region_steps_or (whole_group (known_of c.groups id) (one_marker s (steps_of_items e.items) e.file.seq))) x → IsBatchFault (reading_on c) e x
-group_fault c e id s r n m (errors.Corruption text) f = inr (group_refused c e id s m f)
-group_fault c e id s r n m (errors.InvalidArgument text) f = absurd (omega (arith, f, alone_of Rewrite c r (subst (λ q. Suits q c.files) (found_some e.file.queue e.items id s m).0 n.queue)))
-group_fault c e id s r n m errors.Full f =
-    let found = found_some e.file.queue e.items id s m in (
-      n,
-      subst (λ m. 2 ^ 64 ≤ live_in_all e.file.queue c.regions.tables + records_in (completed_steps c.groups (batch_of e) m)) (sym found.1)
-          (subst (λ q. 2 ^ 64 ≤ live_in_all q c.regions.tables + records_in
-          (completed_steps c.groups (batch_of e) (Some (record { group = id; status = s })))) (sym found.0) f),
-    )
-group_fault c e id s r n m errors.Memory f = tt
-group_fault c e id s r n m _ f = absurd f
-
--- what is counted of a batch
-pub lone_counted : (c : Context) (e : Event) (k l : Counts) → marker_found e.file.queue e.items ≡ None → AreCountsAfterSteps e.file.queue c.regions.tables (steps_of_items e.items) k l → IsBatchCounted e c k l
-lone_counted c e k l m h = subst (λ m. AreCountsAfterSteps e.file.queue c.regions.tables (completed_steps c.groups (batch_of e) m) k l) (sym (found_none e.file.queue e.items m)) h
-
-pub group_counted : (c : Context) (e : Event) (id : ℕ) (s : AtomicGroupStatus) (k l : Counts) → marker_found e.file.queue e.items ≡ Some (id, s)
-    → AreCountsAfterSteps Rewrite c.regions.tables (region_steps_or (whole_group (known_of c.groups id) (one_marker s (steps_of_items e.items) e.file.seq))) k l → IsBatchCounted e c k l
-group_counted c e id s k l m h =
-    let found = found_some e.file.queue e.items id s m in
-    subst (λ m. AreCountsAfterSteps e.file.queue c.regions.tables (completed_steps c.groups (batch_of e) m) k l) (sym found.1)
-    (subst (λ q. AreCountsAfterSteps q c.regions.tables (completed_steps c.groups (batch_of e) (Some (record { group = id; status = s }))) k l)
-    (sym found.0) h)
+pub refused : (e : Event) (x : Error) (old new : ReadState) → IsBatchFault (reading_on (context_in old)) e x → IsTakenIn e (Err x) old new
+refused e x old new f = record { next = tt; taken = tt; counts = tt; history = tt; fault = f }
 
 -- what a batch with a marker makes whole may be taken in
-pub group_takes : (c : Context) (e : Event) (id : ℕ) (s : AtomicGroupStatus) → IsOfHistory c → MayFollow c e → marker_found e.file.queue e.items ≡ Some (id, s)
-    → CanTakeEffectIfAny (whole_group (known_of c.groups id) (one_marker s (steps_of_items e.items) e.file.seq))
-group_takes c e id s r n m = batch_takes c r.history e (record { group = id; status = s }) r.stands (next_of c e n) (found_some e.file.queue e.items id s m).0
+pub group_takes : (c : Context) (e : Event) (id : ℕ) (s : AtomicGroupStatus) (is : List RegionStep) (w : Option WholeGroup) → IsOfHistory c → MayFollow c e → marker_found e.file.queue e.items ≡ Some (id, s)
+    → is ≡ steps_of_items e.items → w ≡ whole_group (known_of c.groups id) (one_marker s is e.file.seq) → CanTakeEffectIfAny w
+group_takes c e id s is w r n m items whole = subst CanTakeEffectIfAny (sym (whole ∙ ap (λ x. whole_group (known_of c.groups id) (one_marker s x e.file.seq)) items))
+    (batch_takes c r.history e (record { group = id; status = s }) r.stands (next_of c e n) (found_some e.file.queue e.items id s m).0)
 
 -- the steps that take effect with a batch are of its queue
 completed_in_queue : (c : Context) (e : Event) → IsOfHistory c → MayFollow c e → AreStepsOfQueue e.file.queue (completed_steps c.groups (batch_of e) (batch_of e).marker)
@@ -273,30 +143,74 @@ completed_in_queue c e r n = go (batch_of e).marker refl
         subst (λ q. AreStepsOfQueue q (region_steps_or (whole_group (known_of c.groups m.group) (one_marker m.status (steps_of_items e.items) e.file.seq)))) (sym queue)
         (of (whole_group (known_of c.groups m.group) (one_marker m.status (steps_of_items e.items) e.file.seq)) (batch_takes c r.history e m r.stands (next_of c e n) queue))
 
-steps_more : (c d : Context) (e : Event) → IsOfHistory c → MayFollow c e → taken_in c e ≡ Some d → StandForSteps e.file.queue d.regions
-steps_more c d e r n t = let s = taken_some c d e t in
-    subst (λ (d : Context). StandForSteps e.file.queue d.regions) s.2
-    (stand_after e.file.queue c.regions s.0 (completed_steps c.groups (batch_of e) (batch_of e).marker) (completed_in_queue c e r n) (steps_of_read e.file.queue c r n.queue) s.1)
+-- files of one queue behind files of that queue are of it
+joined_suit : (q : LogQueue) (P : Option FileRange → Type 0) → P None → ((f : FileRange) → f.queue ≡ q → P (Some f)) → (f g : Option FileRange) → Suits q f → Suits q g → P (joined_files f g)
+joined_suit q P none some None None u v = none
+joined_suit q P none some None (Some g) u v = some g v
+joined_suit q P none some (Some f) None u v = some f u
+joined_suit q P none some (Some f) (Some g) u v = some (record { queue = f.queue; first_seq = f.first_seq; last_seq = g.last_seq }) u
 
--- with one more batch it was read from one history more
-pub read_more : (c d : Context) (e : Event) → IsOfHistory c → MayFollow c e → taken_in c e ≡ Some d → live_in_all (other e.file.queue) d.regions.tables ≤ live_in_all (other e.file.queue) c.regions.tables → IsOfHistory d
-read_more c d e r n t few = record {
-  history = r.history ++ e ∷ [];
-  stands = taken_stands c d r.history e (next_of c e n) r.stands t;
-  alone = go c.files n.queue d.files (sym (ap (λ (d : Context). d.files) (taken_some c d e t).2));
-  steps = steps c.files n.queue d.files (sym (ap (λ (d : Context). d.files) (taken_some c d e t).2));
+read_from : (q : LogQueue) (c : Context) (h : List Event) (f g : Option FileRange) → StandsFor c h → c.files ≡ joined_files f g → Suits q f → Suits q g
+    → live_in_all (other q) c.regions.tables ≡ 0 → StandForSteps q c.regions → IsOfHistory c
+read_from q c h f g stands files u v alone steps = record {
+  history = h;
+  stands = stands;
+  alone = subst (λ x. AreAlone x c.regions.tables) (sym files) (joined_suit q (λ x. AreAlone x c.regions.tables) tt (λ r k. subst (λ q. live_in_all (other q) c.regions.tables ≡ 0) (sym k) alone) f g u v);
+  steps = subst (λ x. AreOfSteps x c.regions) (sym files) (joined_suit q (λ x. AreOfSteps x c.regions) tt (λ r k. subst (λ q. StandForSteps q c.regions) (sym k) steps) f g u v);
+}
+
+-- what takes effect with a batch was taken in
+pub effect_taken : (old new : ReadState) (e : Event) (q : LogQueue) (steps : List RegionStep) → IsEffect (context_in old) e q steps → IsOfHistory (context_in old) → MayFollow (context_in old) e
+    → regions_after q (regions_in old.regions) steps ≡ Some (regions_in new.regions)
+    → AreCountsAfterSteps q old.regions.accessor.tables steps old.regions.accessor.counts new.regions.accessor.counts
+    → live_in_all (other q) new.regions.accessor.tables ≤ live_in_all (other q) old.regions.accessor.tables → context_in new ≡ taken_with (context_in old) e (regions_in new.regions) → IsTakenIn e (Ok tt) old new
+effect_taken old new e q steps is r n after counts few to = record {
+  next = n;
+  taken = taken;
+  counts = subst (λ q. AreCountsAfterSteps q c.regions.tables (completed_steps c.groups (batch_of e) (batch_of e).marker) old.regions.accessor.counts new.regions.accessor.counts) (sym is.queue)
+      (subst (λ l. AreCountsAfterSteps q c.regions.tables l old.regions.accessor.counts new.regions.accessor.counts) (sym is.completed) counts);
+  history = read_from e.file.queue (context_in new) (r.history ++ e ∷ []) c.files (files_of (e ∷ [])) (taken_stands c (context_in new) r.history e (next_of c e n) r.stands taken)
+      (ap (λ (d : Context). d.files) to) n.queue refl (omega (arith, fewer, alone_of e.file.queue c r n.queue))
+      (stand_after e.file.queue c.regions (regions_in new.regions) (completed_steps c.groups (batch_of e) (batch_of e).marker) (completed_in_queue c e r n) (steps_of_read e.file.queue c r n.queue) own);
+  fault = tt;
 }
   where
-    own : live_in_all (other e.file.queue) d.regions.tables ≡ 0
-    own = omega (arith, few, alone_of e.file.queue c r n.queue)
+    c : Context
+    c = context_in old
 
-    go : (f : Option FileRange) → Suits e.file.queue f → (g : Option FileRange) → g ≡ joined_files f (files_of (e ∷ [])) → AreAlone g d.regions.tables
-    go None u g is = subst (λ g. AreAlone g d.regions.tables) (sym is) own
-    go (Some f) u g is = subst (λ g. AreAlone g d.regions.tables) (sym is) (subst (λ q. live_in_all (other q) d.regions.tables ≡ 0) (sym u) own)
+    own : regions_after e.file.queue c.regions (completed_steps c.groups (batch_of e) (batch_of e).marker) ≡ Some (regions_in new.regions)
+    own = ap (regions_after e.file.queue c.regions) is.completed ∙ ap (λ q. regions_after q c.regions steps) is.queue ∙ after
 
-    steps : (f : Option FileRange) → Suits e.file.queue f → (g : Option FileRange) → g ≡ joined_files f (files_of (e ∷ [])) → AreOfSteps g d.regions
-    steps None u g is = subst (λ g. AreOfSteps g d.regions) (sym is) (steps_more c d e r n t)
-    steps (Some f) u g is = subst (λ g. AreOfSteps g d.regions) (sym is) (subst (λ q. StandForSteps q d.regions) (sym u) (steps_more c d e r n t))
+    taken : taken_in c e ≡ Some (context_in new)
+    taken = ap (option_map (taken_with c e)) own ∙ ap Some (sym to)
+
+    fewer : live_in_all (other e.file.queue) new.regions.accessor.tables ≤ live_in_all (other e.file.queue) old.regions.accessor.tables
+    fewer = subst (λ q. live_in_all (other q) new.regions.accessor.tables ≤ live_in_all (other q) old.regions.accessor.tables) (sym is.queue) few
+
+-- a batch without a marker
+pub lone_taken : (old new : ReadState) (e : Event) → IsOfHistory (context_in old) → MayFollow (context_in old) e → marker_found e.file.queue e.items ≡ None
+    → regions_after e.file.queue (regions_in old.regions) (steps_of_items e.items) ≡ Some (regions_in new.regions)
+    → AreCountsAfterSteps e.file.queue old.regions.accessor.tables (steps_of_items e.items) old.regions.accessor.counts new.regions.accessor.counts
+    → live_in_all (other e.file.queue) new.regions.accessor.tables ≤ live_in_all (other e.file.queue) old.regions.accessor.tables
+    → new.regions.accessor.cleaned ≡ old.regions.accessor.cleaned ++ cleaned_by_steps e.file.queue (steps_of_items e.items)
+    → new.groups ≡ old.groups → ranges_shown new.files ≡ joined_files (ranges_shown old.files) (files_of (e ∷ [])) → IsTakenIn e (Ok tt) old new
+lone_taken old new e r n m after counts few cleaned groups files = effect_taken old new e e.file.queue (steps_of_items e.items) (lone_effect (context_in old) e m) r n after counts few
+    (by_fields (context_in new) _ _ _ (groups ∙ sym (ap (groups_after old.groups (batch_of e)) (found_none e.file.queue e.items m))) cleaned files)
+
+-- a batch with a marker
+pub group_taken : (old new : ReadState) (e : Event) (id : ℕ) (s : AtomicGroupStatus) (is : List RegionStep) (w : Option WholeGroup) → IsOfHistory (context_in old) → MayFollow (context_in old) e
+    → marker_found e.file.queue e.items ≡ Some (id, s) → is ≡ steps_of_items e.items → w ≡ whole_group (known_of old.groups id) (one_marker s is e.file.seq)
+    → regions_after Rewrite (regions_in old.regions) (region_steps_or w) ≡ Some (regions_in new.regions)
+    → AreCountsAfterSteps Rewrite old.regions.accessor.tables (region_steps_or w) old.regions.accessor.counts new.regions.accessor.counts
+    → live_in_all Append new.regions.accessor.tables ≤ live_in_all Append old.regions.accessor.tables → new.regions.accessor.cleaned ≡ old.regions.accessor.cleaned
+    → new.groups ≡ finite.insert old.groups id (joined_group (known_of old.groups id) (one_marker s is e.file.seq))
+    → ranges_shown new.files ≡ joined_files (ranges_shown old.files) (files_of (e ∷ [])) → IsTakenIn e (Ok tt) old new
+group_taken old new e id s is w r n m items whole after counts few cleaned groups files =
+    let f = found_some e.file.queue e.items id s m in
+    effect_taken old new e Rewrite (region_steps_or w) (group_effect (context_in old) e id s is w m items whole) r n after counts few
+    (by_fields (context_in new) _ _ _
+    (groups ∙ ap (λ x. finite.insert old.groups id (joined_group (known_of old.groups id) (one_marker s x e.file.seq))) items ∙ sym (ap (groups_after old.groups (batch_of e)) f.1))
+    (cleaned ∙ sym (append-nil old.regions.accessor.cleaned) ∙ ap (λ q. old.regions.accessor.cleaned ++ cleaned_by_steps q (batch_of e).steps) (sym f.0)) files)
 
 -- ---- two neighbors
 
@@ -337,6 +251,16 @@ pub record IsMiddle (q : LogQueue) (c d : Context) (middle : MarkedRegions) : Ty
   pub neighbors : AreNeighbors q c d
   pub taken : regions_after Rewrite c.regions (region_steps_of_wholes (both_wholes c d)) ≡ Some middle
   pub few : live_in_all Append middle.tables ≤ live_in_all Append c.regions.tables
+
+pub middle_of : (q : LogQueue) (s : ReadState) (d : Context) (ws : List WholeGroup) (new : MarkedTables) → IsOfHistory (context_in s) → IsOfHistory d → AreNeighbors q (context_in s) d
+    → ws ≡ both_wholes (context_in s) d → AreWholesTaken (region_steps_of_wholes ws) (Ok tt) s.regions new → IsMiddle q (context_in s) d (regions_in new)
+middle_of q s d ws new r t n is taken = record {
+  older = r;
+  newer = t;
+  neighbors = n;
+  taken = subst (λ ws. regions_after Rewrite (regions_in s.regions) (region_steps_of_wholes ws) ≡ Some (regions_in new)) is taken.taken;
+  few = taken.other;
+}
 
 pub middle_alone : (q : LogQueue) (c d : Context) (middle : MarkedRegions) → IsMiddle q c d middle → live_in_all (other q) middle.tables ≡ 0
 middle_alone Rewrite c d middle m = omega (arith, m.few, alone_of Rewrite c m.older m.neighbors.older)
@@ -381,13 +305,10 @@ join_merged q c d middle new m h = let j = h (middle_steps q c d middle m) (step
 -- both were read from both histories, one behind the other
 pub join_read : (q : LogQueue) (c d new : Context) (middle : MarkedRegions) → IsMiddle q c d middle → (StandForSteps q middle → StandForSteps q d.regions → AreJoined q middle d.regions new.regions)
     → new ≡ merged_with c d new.regions → live_in_all (other q) new.regions.tables ≡ 0 → IsOfHistory new
-join_read q c d new middle m h is alone = record {
-  history = m.older.history ++ m.newer.history;
-  stands = subst (λ x. StandsFor x (m.older.history ++ m.newer.history)) (sym is) (regions_stand q c d m.older.history m.newer.history new.regions
-      (record { older_suits = m.neighbors.older; newer_suits = m.neighbors.newer; older = m.older.stands; newer = m.newer.stands }) m.neighbors.files (join_merged q c d middle new.regions m h));
-  alone = of_files (λ f. AreAlone f new.regions.tables) tt (λ f u. subst (λ q. live_in_all (other q) new.regions.tables ≡ 0) (sym u) alone);
-  steps = of_files (λ f. AreOfSteps f new.regions) tt (λ f u. subst (λ q. StandForSteps q new.regions) (sym u) (stand_joined q middle d.regions new.regions steps own (h steps own)));
-}
+join_read q c d new middle m h is alone = read_from q new (m.older.history ++ m.newer.history) c.files d.files
+    (subst (λ x. StandsFor x (m.older.history ++ m.newer.history)) (sym is) (regions_stand q c d m.older.history m.newer.history new.regions
+    (record { older_suits = m.neighbors.older; newer_suits = m.neighbors.newer; older = m.older.stands; newer = m.newer.stands }) m.neighbors.files (join_merged q c d middle new.regions m h)))
+    (ap (λ (x : Context). x.files) is) m.neighbors.older m.neighbors.newer alone (stand_joined q middle d.regions new.regions steps own (h steps own))
   where
     steps : StandForSteps q middle
     steps = middle_steps q c d middle m
@@ -395,14 +316,5 @@ join_read q c d new middle m h is alone = record {
     own : StandForSteps q d.regions
     own = steps_of_read q d m.newer m.neighbors.newer
 
-    by : (P : Option FileRange → Type 0) → P None → ((f : FileRange) → f.queue ≡ q → P (Some f)) → (f g : Option FileRange) → Suits q f → Suits q g → P (joined_files f g)
-    by P none some None None u v = none
-    by P none some None (Some g) u v = some g v
-    by P none some (Some f) None u v = some f u
-    by P none some (Some f) (Some g) u v = some (record { queue = f.queue; first_seq = f.first_seq; last_seq = g.last_seq }) u
-
-    of_files : (P : Option FileRange → Type 0) → P None → ((f : FileRange) → f.queue ≡ q → P (Some f)) → P new.files
-    of_files P none some = subst P (sym (ap (λ (x : Context). x.files) is)) (by P none some c.files d.files m.neighbors.older m.neighbors.newer)
-
 pub merged_by : (c d new : Context) → new.groups ≡ joined_groups c.groups d.groups → new.cleaned ≡ c.cleaned ++ d.cleaned → new.files ≡ joined_files c.files d.files → new ≡ merged_with c d new.regions
-merged_by c d new groups cleaned files = some_is (sym (by_fields new (joined_groups c.groups d.groups) (c.cleaned ++ d.cleaned) (joined_files c.files d.files) groups cleaned files))
+merged_by c d new groups cleaned files = by_fields new (joined_groups c.groups d.groups) (c.cleaned ++ d.cleaned) (joined_files c.files d.files) groups cleaned files

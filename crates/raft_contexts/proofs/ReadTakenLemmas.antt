@@ -1,40 +1,25 @@
 -- Items as they were read, taken in one after another.
-use Rattle.std.proofs.Common.{◌≡◌, Bool, true, false, cond, MatchBool, ◌==◌, ℕ, ◌≤◌, ◌<◌, List, [], ◌∷◌, ◌++◌, length, take, drop, Option, Some, None, Result, Ok, Err, refl, sym, ap, subst, ◌∙◌, arith}
+use Rattle.raft_contexts.proofs.Common.{◌≡◌, Bool, true, false, cond, MatchBool, ◌==◌, ℕ, ◌≤◌, ◌<◌, List, [], ◌∷◌, ◌++◌, length, take, drop, Some, Result, Ok, Err, refl, sym, ap, subst}
+use Rattle.raft_contexts.proofs.Common.{◌∙◌, arith, length-drop, Error, FileBlockHandle, FileId, LogQueue, EntryIndex, end_of, entries_of_block, IsDecodedIn, AreDecodedIn, spans_taken}
+use Rattle.raft_contexts.proofs.Common.{spans_of, content_shown, item_shown, items_shown, ReadItem, Counts, joined_mark, mark_of, Run, Put}
+use Rattle.raft_contexts.proofs.Common.{start_of, run_stays, StandForSteps, RegionStep, Tables, steps_of_items, stand_after, Accessor, table_in}
+use Rattle.raft_contexts.proofs.Common.{IsStepTaken, regions_in, one_step, AreStepsOfQueue, AreStepsTaken, first_index, mark_in, MarkedTables}
 use Rattle.std.specs.FinMap as finite
-use Rattle.std.specs.Option.{unwrap_or}
-use Rattle.std.proofs.lemmas.List.{length-drop}
-use Rattle.raft_base.specs.declared.errors.Error.{Error}
 use Rattle.raft_base.specs.declared.errors.Error.TheVariants as errors
-use Rattle.raft_base.specs.declared.pipe_log.FileBlockHandle.{FileBlockHandle}
-use Rattle.raft_base.specs.declared.pipe_log.FileId.{FileId}
-use Rattle.raft_base.specs.declared.pipe_log.LogQueue.{LogQueue}
-use Rattle.raft_base.specs.declared.entry_index.EntryIndex.{EntryIndex}
-use Rattle.raft_base.specs.Runs.{end_of, entries_of_block}
-use Rattle.raft_records.specs.DecodedIn.{IsDecodedIn, AreDecodedIn}
-use Rattle.raft_records.specs.ReadBatch.{spans_taken, spans_of, content_shown, item_shown, items_shown}
 use Rattle.raft_records.specs.declared.read_batch.ReadContent.TheVariants as contents
-use Rattle.raft_records.specs.declared.read_batch.ReadItem.{ReadItem}
-use Rattle.raft_table.specs.Counts.{Counts}
-use Rattle.raft_table.specs.MarkFits.{Fits}
-use Rattle.raft_table.specs.MarkJoins.{fresh, joined_at, joined_mark, end_at_reach, mark_of}
-use Rattle.raft_table.specs.Marks.{Mark}
-use Rattle.raft_table.specs.Steps.{Run, Put, table_of}
-use Rattle.raft_table.specs.TableEntries.{start_of}
-use Rattle.raft_table.proofs.FromCutLemmas.{run_stays, none_of_fresh}
-use Rattle.raft_table.proofs.MarkExact.{joined_fresh}
-use Rattle.raft_table.proofs.MarkWords.{end_of-nil}
-use Rattle.raft_history.specs.Joins.{StandForSteps}
-use Rattle.raft_history.specs.MarkedRegions.{MarkedRegions}
-use Rattle.raft_history.specs.RegionSteps.{RegionStep, Tables, steps_of_items}
-use Rattle.raft_history.proofs.RegionLaws.{stand_after}
-use Rattle.raft_accessor.specs.Accessor.{Accessor, table_in}
-use Rattle.raft_accessor.specs.TableSteps.{IsStepTaken}
-use Rattle.raft_accessor.proofs.MapLemmas.{insert_same}
-use Rattle.raft_contexts.specs.MarkedTables.{regions_in, one_step, AreStepsOfQueue, AreStepsTaken, first_index}
-use Rattle.raft_contexts.specs.RegionMarks.{mark_in}
-use Rattle.raft_contexts.specs.declared.marked_tables.MarkedTables.{MarkedTables}
 use Rattle.raft_contexts.proofs.TakenLemmas.{run_mark, step_taken, taken_none, each_more, each_refused, rest_of_queue, of_queue_front}
 use Rattle.raft_contexts.proofs.WaitingItemLemmas.{items-append}
+use Rattle.std.proofs.lemmas.Bool.{false≢true}
+use Rattle.raft_table.specs.Steps.{Step}
+use Rattle.raft_table.specs.Start.{entries_after_replay}
+use Rattle.raft_history.specs.Histories.{IsStepOfQueue}
+use Rattle.raft_history.specs.MarkedRegions.{Marks}
+use Rattle.raft_accessor.specs.Accessor.{AreCountsOf}
+use Rattle.raft_accessor.proofs.MapLemmas.{get_own, one_written}
+use Rattle.raft_contexts.specs.ImpliedMarks.{all_marks}
+use Rattle.raft_contexts.specs.MarkedTables.{is_put}
+use Rattle.raft_contexts.proofs.ImpliedMarkLemmas.{replayed_within, unmarked_all, put_all}
+use Rattle.raft_contexts.proofs.TakenLemmas.{by_accessor}
 
 -- an item that stands in where there is none
 abbrev pub no_read_item : ReadItem
@@ -45,44 +30,33 @@ pub first_of_spans : (first : ℕ) (place : FileBlockHandle) (spans : List (ℕ 
 first_of_spans first place [] h = absurd cc
 first_of_spans first place (s ∷ ss) h = refl
 
--- a region with entries has a region mark
-marked : (q : LogQueue) (id : ℕ) (rs : MarkedRegions) → StandForSteps q rs → ((table_of id (finite.get rs.tables id)).entries ≡ [] → ⊥) → finite.get rs.marks id ≡ Some (mark_in rs.marks id)
-marked q id rs h some = go (finite.get rs.marks id) refl
-  where
-    es : List EntryIndex
-    es = (table_of id (finite.get rs.tables id)).entries
-
-    go : (o : Option Mark) → finite.get rs.marks id ≡ o → finite.get rs.marks id ≡ Some (mark_in rs.marks id)
-    go None e = absurd (some (none_of_fresh q es (subst (λ (o : Option Mark). Fits q (unwrap_or o fresh) es) e (h id).2.stands.fits)))
-    go (Some m) e = e ∙ ap (λ (o : Option Mark). Some (unwrap_or o fresh)) (sym e)
-
 -- a run that begins among the entries of its region, or right behind them, leaves the region marks as they are
-pub run_unmarked : (q : LogQueue) (id : ℕ) (rs : MarkedRegions) (run : List EntryIndex) (start : ℕ) (own : ℕ × ℕ) → StandForSteps q rs →
-    first_index run ≡ Some start →
-    own ≡ (start_of (table_of id (finite.get rs.tables id)).entries, end_of (table_of id (finite.get rs.tables id)).entries) → 0 < own.1 →
-    own.0 ≤ start → start ≤ own.1
-    → rs.marks ≡ finite.insert rs.marks id (joined_mark q id (mark_in rs.marks id) (finite.get rs.tables id) (mark_of (Run run)))
-run_unmarked q id rs run start own h first is some low high = sym (ap (finite.insert rs.marks id) (sym met ∙ stays)
-    ∙ insert_same rs.marks id (mark_in rs.marks id) (marked q id rs h (λ none. omega (arith, filled, ap end_of none, end_of-nil))))
+pub run_unmarked : (q : LogQueue) (id : ℕ) (tables next : Tables) (kept : Marks) (run after : List EntryIndex) (first : ℕ) (ends : ℕ × ℕ) → StandForSteps q (record { tables = tables; marks = all_marks tables kept }) →
+    first_index run ≡ Some first → entries_after_replay q (table_in tables id).entries run ≡ Some after → (table_in next id).entries ≡ after → next ≡ finite.insert tables id (table_in next id) →
+    ends ≡ (start_of (table_in tables id).entries, end_of (table_in tables id).entries) → 0 < ends.1 → ends.0 ≤ first → first ≤ ends.1
+    → all_marks next kept ≡ finite.insert (all_marks tables kept) id (joined_mark q id (mark_in (all_marks tables kept) id) (finite.get tables id) (mark_of (Run run)))
+run_unmarked q id tables next kept run after first ends h first_is is now one at some low high =
+    unmarked_all id tables next kept (table_in next id) (one_written tables next id (table_in next id) one) (ap (λ t. finite.get t id) one ∙ get_own tables id (table_in next id))
+    (ap (λ (l : List EntryIndex). mark_of (Run l)) now ∙ replayed_within q es run after first (h id).2.stands.own_table.run first_is is filled from to)
+    ∙ ap (finite.insert all id) (sym stays)
   where
     es : List EntryIndex
-    es = (table_of id (finite.get rs.tables id)).entries
+    es = (table_in tables id).entries
+
+    all : Marks
+    all = all_marks tables kept
 
     filled : 0 < end_of es
-    filled = omega (arith, ap (λ (p : ℕ × ℕ). p.1) is, some)
+    filled = omega (arith, ap (λ (p : ℕ × ℕ). p.1) at, some)
 
-    stays : joined_at q (end_of es) (mark_in rs.marks id) (record fresh { reach = Some start; cut = Some start }) ≡ mark_in rs.marks id
-    stays = run_stays q (mark_in rs.marks id) es start (h id).2.stands.fits filled (omega (arith, ap (λ (p : ℕ × ℕ). p.0) is, low)) (omega (arith, ap (λ (p : ℕ × ℕ). p.1) is, high))
+    from : start_of es ≤ first
+    from = omega (arith, ap (λ (p : ℕ × ℕ). p.0) at, low)
 
-    met : joined_at q (end_of es) (mark_in rs.marks id) (record fresh { reach = Some start; cut = Some start }) ≡ joined_mark q id (mark_in rs.marks id) (finite.get rs.tables id) (mark_of (Run run))
-    met = run_mark q id run start (end_of es) (finite.get rs.tables id) (mark_in rs.marks id) first refl
+    to : first ≤ end_of es
+    to = omega (arith, ap (λ (p : ℕ × ℕ). p.1) at, high)
 
--- a pair that is put where there are entries leaves the region marks as they are
-pub put_unmarked : (q : LogQueue) (id : ℕ) (rs : MarkedRegions) (key value : List ℕ) (file : FileId) → StandForSteps q rs → ((table_of id (finite.get rs.tables id)).entries ≡ [] → ⊥)
-    → rs.marks ≡ finite.insert rs.marks id (joined_mark q id (mark_in rs.marks id) (finite.get rs.tables id) (mark_of (Put key value file)))
-put_unmarked q id rs key value file h
-    some = sym (ap (finite.insert rs.marks id) (joined_fresh q (end_at_reach fresh (table_of id (finite.get rs.tables id))) (mark_in rs.marks id))
-    ∙ insert_same rs.marks id (mark_in rs.marks id) (marked q id rs h some))
+    stays : joined_mark q id (mark_in all id) (finite.get tables id) (mark_of (Run run)) ≡ mark_in all id
+    stays = sym (run_mark q id run first (end_of es) (finite.get tables id) (mark_in all id) first_is refl) ∙ run_stays q (mark_in all id) es first (h id).2.stands.fits filled from to
 
 abbrev with_all : Tables → List ℕ → Counts → Accessor
 with_all tables cleaned counts = record { tables = tables; cleaned = cleaned; counts = counts }
@@ -94,22 +68,29 @@ abbrev beside : MarkedTables → Accessor → MarkedTables
 beside a mid = record { accessor = mid; marks = a.marks }
 
 -- a pair that is tried is put, or all is as it was
-pub put_taken : (q : LogQueue) (id : ℕ) (key value : List ℕ) (file : FileId) (a : MarkedTables) (mid : Accessor) (taken : Bool) → StandForSteps q (regions_in a) → (taken ≡ true → (table_in a.accessor.tables id).entries ≡ [] → ⊥)
+pub put_taken : (q : LogQueue) (id : ℕ) (key value : List ℕ) (file : FileId) (a : MarkedTables) (mid : Accessor) (taken : Bool)
     → IsStepTaken q id (Put key value file) a.accessor.tables a.accessor.counts a.accessor.cleaned (cond taken (Ok tt) (Err errors.Memory)) mid.tables mid.counts mid.cleaned
     → MatchBool taken (AreStepsTaken q (one_step id (Put key value file)) (Ok tt) a (beside a mid)) (beside a mid ≡ a)
-put_taken q id key value file a mid true h some k =
-    step_taken q id (Put key value file) a (beside a mid) (Ok tt) (finite.get mid.tables id) k.ok k.one k.cleaned k.counts_ok (put_unmarked q id (regions_in a) key value file h (some refl)) tt
-put_taken q id key value file a mid false h some k = ap (beside a) (same_accessor mid a.accessor k.err k.counts_err k.cleaned_err)
+put_taken q id key value file a mid true k =
+    step_taken q id (Put key value file) a (beside a mid) (Ok tt) (finite.get mid.tables id) k.ok k.one k.cleaned k.counts_ok (put_all q id a.accessor.tables mid.tables a.marks key value file k.ok k.one) tt
+put_taken q id key value file a mid false k = ap (beside a) (same_accessor mid a.accessor k.err k.counts_err k.cleaned_err)
+
+-- a put that the accessor takes or refuses
+pub by_put : (q : LogQueue) (id : ℕ) (key value : List ℕ) (file : FileId) (a : MarkedTables) (mid : Accessor) (r : Result Unit Error) → IsStepOfQueue q (Put key value file) → AreCountsOf a.accessor.tables a.accessor.counts →
+    IsStepTaken q id (Put key value file) a.accessor.tables a.accessor.counts a.accessor.cleaned r mid.tables mid.counts mid.cleaned → AreStepsTaken q (one_step id (Put key value file)) r a (beside a mid)
+by_put q id key value file a mid (Ok u) h counted k = by_accessor q id (Put key value file) a (beside a mid) (Ok u) h counted (put_all q id a.accessor.tables mid.tables a.marks key value file k.ok k.one) k
+by_put q id key value file a mid (Err x) h counted k = by_accessor q id (Put key value file) a (beside a mid) (Err x) h counted tt k
+
+pub by_put_step : (q : LogQueue) (id : ℕ) (s : Step) (a : MarkedTables) (mid : Accessor) (r : Result Unit Error) → true ≡ is_put s → IsStepOfQueue q s → AreCountsOf a.accessor.tables a.accessor.counts →
+    IsStepTaken q id s a.accessor.tables a.accessor.counts a.accessor.cleaned r mid.tables mid.counts mid.cleaned → AreStepsTaken q (one_step id s) r a (beside a mid)
+by_put_step q id (Put key value file) a mid r e h counted k = by_put q id key value file a mid r h counted k
+by_put_step q id _ a mid r e h counted k = absurd (false≢true (sym e))
 
 -- an item that is no run which its table takes, and is tried as a pair then
 module _ (q : LogQueue) (steps : List RegionStep) (a b c : MarkedTables) (run put : Bool) (no : run ≡ false)
-    (tried : MatchBool run (AreStepsTaken q steps (Ok tt) a b) (b ≡ a)) (stands : StandForSteps q (regions_in a))
-    (puts : StandForSteps q (regions_in b) → MatchBool put (AreStepsTaken q steps (Ok tt) b c) (c ≡ b)) where
+    (tried : MatchBool run (AreStepsTaken q steps (Ok tt) a b) (b ≡ a)) (known : MatchBool put (AreStepsTaken q steps (Ok tt) b c) (c ≡ b)) where
   still : b ≡ a
   still = rw no at tried
-
-  known : MatchBool put (AreStepsTaken q steps (Ok tt) b c) (c ≡ b)
-  known = puts (subst (λ x. StandForSteps q (regions_in x)) (sym still) stands)
 
   pub put_then : put ≡ true → AreStepsTaken q steps (Ok tt) a c
   put_then e = subst (λ x. AreStepsTaken q steps (Ok tt) x c) still (rw e at known)

@@ -1,21 +1,11 @@
 -- Items that are read again, as the steps of a history.
-use Rattle.std.proofs.Common.{◌≡◌, ℕ, true, false, if◌then◌else◌, List, [], ◌∷◌, ◌++◌, Option, Some, None, option_map, refl, sym, ap, subst, ◌∙◌}
-use Rattle.std.specs.Option.{option_and_then}
+use Rattle.raft_contexts.proofs.Common.{◌≡◌, ℕ, true, false, if◌then◌else◌, List, [], ◌∷◌, ◌++◌, Option, Some, None, refl, sym, ap, subst, ◌∙◌, option_and_then, FileId, LogQueue, OpType, is_reserved, Item, Content, entries}
+use Rattle.raft_contexts.proofs.Common.{command, pair, Tables, RegionStep, with_table, content_step, pair_step, steps_of_items, tables_after, cleaned_by_steps, with_step, table_of, after_replay, Replaying, after_content}
+use Rattle.raft_contexts.proofs.Common.{after_items, after_pair, with_change, listed_by, listed_by_items, none_some, with_same, option_map}
 use Rattle.std.specs.FinMap as finite
-use Rattle.raft_base.specs.declared.pipe_log.FileId.{FileId}
-use Rattle.raft_base.specs.declared.pipe_log.LogQueue.{LogQueue}
 use Rattle.raft_base.specs.declared.pipe_log.LogQueue.TheVariants.{Append}
 use Rattle.raft_records.specs.declared.command.Command.TheVariants as commands
-use Rattle.raft_records.specs.declared.key_value.OpType.{OpType}
 use Rattle.raft_records.specs.declared.key_value.OpType.TheVariants as operations
-use Rattle.raft_records.specs.Group.{is_reserved}
-use Rattle.raft_records.specs.Item.{Item, Content, entries, command, pair}
-use Rattle.raft_history.specs.RegionSteps.{Tables, RegionStep, with_table, content_step, pair_step, steps_of_items, tables_after, cleaned_by_steps}
-use Rattle.raft_history.proofs.Words.{with_step}
-use Rattle.raft_table.specs.Steps.{table_of}
-use Rattle.raft_table.specs.Table.{after_replay}
-use Rattle.raft_accessor.specs.Writes.{Replaying, after_content, after_items, after_pair, with_change, listed_by, listed_by_items}
-use Rattle.raft_accessor.proofs.MapLemmas.{none_some, with_same}
 
 module _ (q : LogQueue) (m n : Tables) (id : ℕ) (rest : List RegionStep) (later : Tables → Option Tables) (h : (k : Tables) → later k ≡ Some n → tables_after q k rest ≡ Some n) where
   pair-read : (op : OpType) (key : List ℕ) (value : Option (List ℕ)) (file : Option FileId) →

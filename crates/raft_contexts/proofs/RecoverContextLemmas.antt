@@ -1,38 +1,21 @@
 -- Recovery contexts and the histories that they stand for.
-use Rattle.std.proofs.Common.{◌≡◌, ◌≢◌, ℕ, List, [], ◌∷◌, ◌++◌, Result, Ok, Err, refl, sym, ap, subst, ◌∙◌, inl, inr, arith}
-use Rattle.std.specs.Prelude.{IfErr, OnOk}
-use Rattle.raft_base.specs.declared.errors.Error.{Error}
+use Rattle.raft_contexts.proofs.Common.{◌≡◌, ◌≢◌, ℕ, List, [], ◌∷◌, ◌++◌, Result, refl, sym, ap, subst, ◌∙◌, inl, inr, arith, Error, LogQueue, Counts, false≢true, Event, batches, Context, new_context, Suits, files_of}
+use Rattle.raft_contexts.proofs.Common.{follows, StandsFor, IsExactFor, IsSmall, Sound, Apart, IsOfQueue, IsOneReading, Merges, exact_reading, regions_stand, regions_exact, regions_unsound, new_exact, follow_files, size-append}
+use Rattle.raft_contexts.proofs.Common.{size-one, of_front, of_back, IsNextEvent, taken_stands, taken_exact, taken_none, next_sound, kept_of, kept_by, IsAtMost, Tables, kept_at_most, IsOfHistory, RecoverContext, HasRead}
+use Rattle.raft_contexts.proofs.Common.{HasReadExactly, MayFollow, IsBatchTaken, reading_on, IsBatchFault, AreNeighbors, IsMergedWith, IsNeighborFault, ContextStage, IfErr, OnOk}
+use Rattle.std.proofs.lemmas.Result.{on_ok_weaker, IfErr-weaker}
 use Rattle.raft_base.specs.declared.errors.Error.TheVariants as errors
-use Rattle.raft_base.specs.declared.pipe_log.LogQueue.{LogQueue}
-use Rattle.raft_table.specs.Counts.{Counts}
-use Rattle.std.proofs.lemmas.Bool.{false≢true}
-use Rattle.raft_history.specs.Batches.{Event, batches}
-use Rattle.raft_history.specs.Contexts.{Context, new_context, Suits, files_of, follows, StandsFor, IsExactFor}
-use Rattle.raft_history.specs.Histories.{IsSmall, Sound, Apart, IsOfQueue, IsOneReading}
-use Rattle.raft_history.proofs.ContextLaws.{Merges, exact_reading, regions_stand, regions_exact, regions_unsound}
-use Rattle.raft_history.proofs.NewLaws.{new_exact}
-use Rattle.raft_history.proofs.SoundLemmas.{follow_files}
-use Rattle.raft_history.proofs.StretchOfHistory.{size-append, size-one, of_front, of_back}
-use Rattle.raft_history.proofs.TakenLaws.{IsNextEvent, taken_stands, taken_exact, taken_none, next_sound}
-use Rattle.raft_history.specs.Kept.{kept_of, kept_by, IsAtMost}
-use Rattle.raft_history.specs.RegionSteps.{Tables}
-use Rattle.raft_history.proofs.KeptLaws.{kept_at_most}
-use Rattle.raft_contexts.specs.ReadStates.{IsOfHistory}
 use Rattle.raft_contexts.proofs.LiveSteps.{live-le-all}
-use Rattle.raft_contexts.proofs.ReadStateLemmas.{completed_records}
-use Rattle.raft_contexts.specs.RecoverContext.{RecoverContext, HasRead, HasReadExactly, MayFollow, IsBatchTaken, reading_on, IsBatchFault, AreNeighbors, IsMergedWith, IsNeighborFault}
-use Rattle.raft_contexts.specs.declared.context_stage.ContextStage.{ContextStage}
+use Rattle.raft_contexts.proofs.ReadStateLemmas.{completed_records, next_of}
 use Rattle.raft_contexts.specs.declared.context_stage.ContextStage.TheVariants.{Reading}
 
 -- ---- results
 
 pub on_ok : {X E P Q : Type 0} (r : Result X E) → (P → Q) → OnOk r P → OnOk r Q
-on_ok (Ok x) f p = f p
-on_ok (Err e) f p = p
+on_ok r f p = on_ok_weaker r f p
 
 pub on_err : {X E : Type 0} {P Q : E → Type 0} (r : Result X E) → ((e : E) → P e → Q e) → IfErr r P → IfErr r Q
-on_err (Ok x) f p = p
-on_err (Err e) f p = f e p
+on_err r f p = IfErr-weaker r _ _ f p
 
 -- ---- a new context
 
@@ -43,9 +26,6 @@ pub new_reads_as : (c : Context) (k : Counts) → c ≡ new_context → HasReadE
 new_reads_as c k e = record { stage = refl; exact = subst (λ c. IsExactFor c []) (sym e) new_exact }
 
 -- ---- one more batch
-
-next_of : (c : Context) (e : Event) → MayFollow c e → IsNextEvent c e
-next_of c e m = record { suits = m.queue; follows = m.files; in_file = m.items; status = m.markers }
 
 may_of : (c : Context) (e : Event) → IsNextEvent c e → MayFollow c e
 may_of c e n = record { queue = n.suits; files = n.follows; items = n.in_file; markers = n.status }

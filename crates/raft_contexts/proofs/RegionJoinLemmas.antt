@@ -1,39 +1,15 @@
 -- The marks and tables of a newer neighbor joined one after another.
-use Rattle.std.proofs.Common.{◌≡◌, ◌≤◌, ◌+◌, ◌^◌, ℕ, true, false, cond, ◌||◌, nat_eq, List, [], ◌∷◌, Option, Some, None, Result, Ok, Err, refl, sym, ap, subst, ◌∙◌, inl, inr, arith}
-use Rattle.std.specs.Ordering.{nat_cmp, eq_by_cmp}
-use Rattle.std.specs.Cmp.{nat_cmp_total}
-use Rattle.std.specs.List.{AllByRecursion, IsDistinct}
-use Rattle.std.specs.Map.{keys_of}
-use Rattle.std.specs.Option.{is_some, option_and_then, option_map, unwrap_or}
+use Rattle.raft_contexts.proofs.Common.{◌≡◌, ◌≤◌, ◌+◌, ◌^◌, ℕ, true, false, cond, ◌||◌, nat_eq, List, [], ◌∷◌, Option, Some, None, Result, Ok, Err, refl, sym, ap, subst, ◌∙◌, inl, inr, arith, nat_cmp}
+use Rattle.raft_contexts.proofs.Common.{eq_by_cmp, nat_cmp_total, AllByRecursion, IsDistinct, keys_of, is_some, option_and_then, option_map, unwrap_or, OnOk, find, Error, LogQueue, Counts}
+use Rattle.raft_contexts.proofs.Common.{IsFaultUnder, IsRunOver, Mark, table_over_older, fresh, joined_mark, joined_at, end_at_reach, other, table_of, Table, live_of, pair_count-le-len, stands_run}
+use Rattle.raft_contexts.proofs.Common.{entry_count-le, live_of_empty, StandForSteps, AreJoined, IsJoinRefused, Marks, MarkedRegions, region_in, with_region, joined_region, joined_marked, joined_each}
+use Rattle.raft_contexts.proofs.Common.{total_of, total, table_records, all_records, Tables, with_table, each_joined, each_refused, each_marked, table_in, live_in, live_in_all, AreCountsOf, mark_in}
+use Rattle.raft_contexts.proofs.Common.{AreRunsOver, AreOthersKept, IsSlotFault, live_of_all, live-all, live-remove, live-with, live-table_of, none_some, by_id, eq_self, self_same, get_own, get_left}
+use Rattle.raft_contexts.proofs.Common.{with_other, same_test, false≢true}
 use Rattle.std.specs.FinMap as finite
-use Rattle.std.specs.Result.{OnOk}
-use Rattle.std.specs.FinMap.{find}
-use Rattle.raft_base.specs.declared.errors.Error.{Error}
 use Rattle.raft_base.specs.declared.errors.Error.TheVariants as errors
-use Rattle.raft_base.specs.declared.pipe_log.LogQueue.{LogQueue}
-use Rattle.raft_table.specs.Counts.{Counts}
-use Rattle.raft_table.specs.MarkedJoins.{IsFaultUnder, IsRunOver}
-use Rattle.raft_table.specs.Marks.{Mark, table_over_older}
-use Rattle.raft_table.specs.MarkJoins.{fresh, joined_mark, joined_at, end_at_reach}
-use Rattle.raft_table.specs.Queues.{other}
-use Rattle.raft_table.specs.Steps.{table_of}
-use Rattle.raft_table.specs.Table.{Table, live_of}
-use Rattle.raft_table.proofs.KeyValueCounts.{pair_count-le-len}
-use Rattle.raft_table.proofs.RegionLemmas.{stands_run}
-use Rattle.raft_table.proofs.RunCounts.{entry_count-le}
-use Rattle.raft_table.proofs.TableLemmas.{live_of_empty}
-use Rattle.raft_history.specs.Joins.{StandForSteps, AreJoined, IsJoinRefused}
-use Rattle.raft_history.specs.MarkedRegions.{Marks, MarkedRegions, region_in, with_region, joined_region, joined_marked, joined_each}
-use Rattle.raft_history.specs.Records.{total_of, total, table_records, all_records}
-use Rattle.raft_history.specs.RegionSteps.{Tables, with_table}
-use Rattle.raft_history.proofs.JoinLemmas.{each_joined, each_refused, each_marked}
-use Rattle.raft_accessor.specs.Accessor.{table_in, live_in, live_in_all, AreCountsOf}
-use Rattle.raft_contexts.specs.RegionMarks.{mark_in}
-use Rattle.raft_contexts.specs.RegionJoins.{AreRunsOver, AreOthersKept, IsSlotFault}
-use Rattle.raft_accessor.proofs.LiveLemmas.{live_of_all, live-all, live-remove, live-with, live-table_of}
-use Rattle.raft_accessor.proofs.MapLemmas.{none_some, by_id, eq_self, self_same, get_own, get_left, with_other}
-use Rattle.raft_accessor.proofs.RegionTablesLemmas.{same_test}
-use Rattle.std.proofs.lemmas.Bool.{false≢true}
+use Rattle.raft_contexts.specs.RegionJoins.{AreTablesLeft}
+use Rattle.raft_accessor.proofs.MapLemmas.{get_gone}
 
 -- ---- how many records are live
 
@@ -98,8 +74,27 @@ others_on newer left all id m es h r none = elim (eq_by_cmp nat_cmp r id) as (λ
     ] refl (h r none).0
 
 -- as said of the map of all
-pub others_kept : (newer left : Tables) (marks : Marks) (all es : List (ℕ × Mark)) → finite.from_entries {R = nat_cmp} all ≡ marks → AreOthersLeft newer left all es → AreOthersKept marks newer left
+others_kept : (newer left : Tables) (marks : Marks) (all es : List (ℕ × Mark)) → finite.from_entries {R = nat_cmp} all ≡ marks → AreOthersLeft newer left all es → AreOthersKept marks newer left
 others_kept newer left marks all es is h r none = (h r (sym (finite.get-from_entries nat_cmp_total all r) ∙ ap (λ x. finite.get x r) is ∙ none)).1
+
+-- the tables of regions that were taken out are gone
+abbrev pub AreGone : Tables → List (ℕ × Mark) → List (ℕ × Mark) → Type 0
+AreGone left all es = (r : ℕ) (m : Mark) → find nat_cmp r all ≡ Some m → find nat_cmp r es ≡ None → finite.get left r ≡ None
+
+pub gone_none : (left : Tables) (all : List (ℕ × Mark)) → AreGone left all all
+gone_none left all r m e f = absurd (none_some (sym f ∙ e))
+
+pub gone_on : (left : Tables) (all : List (ℕ × Mark)) (id : ℕ) (m : Mark) (es : List (ℕ × Mark)) → AreGone left all ((id, m) ∷ es) → AreGone (finite.remove left id) all es
+gone_on left all id m es h r n e f = elim (by_id r id) [
+  | inl p ↦ subst (λ r. finite.get (finite.remove left id) r ≡ None) (sym p) (get_gone left id)
+  | inr g ↦ get_left left id r g ∙ h r n e (ap (λ b. cond b (Some m) (find nat_cmp r es)) g ∙ f)
+]
+
+pub tables_left : (newer left : Tables) (marks : Marks) (all es : List (ℕ × Mark)) → finite.from_entries {R = nat_cmp} all ≡ marks → AreGone left all es → AreOthersLeft newer left all es → es ≡ [] → AreTablesLeft marks newer left
+tables_left newer left marks all es is g h none = record {
+  gone = λ r m e. g r m (sym (finite.get-from_entries nat_cmp_total all r) ∙ ap (λ x. finite.get x r) is ∙ e) (ap (find nat_cmp r) none);
+  others = others_kept newer left marks all es is h;
+}
 
 -- some marks are joined, with their tables out of the newer ones, and some are left
 pub record AreJoining (queue : LogQueue) (newer : Tables) (first : MarkedRegions) (all : List (ℕ × Mark)) (now : MarkedRegions) (left : Tables) (es : List (ℕ × Mark)) : Type 0 where
@@ -108,13 +103,14 @@ pub record AreJoining (queue : LogQueue) (newer : Tables) (first : MarkedRegions
   pub alone_left : live_in_all (other queue) left ≡ 0
   pub held : AllByRecursion (λ (e : ℕ × Mark). finite.get left e.0 ≡ finite.get newer e.0) es
   pub others : AreOthersLeft newer left all es
+  pub gone : AreGone left all es
   pub few : (q : LogQueue) → live_in_all q now.tables + live_in_all q left ≤ live_in_all q first.tables + live_in_all q newer
   pub runs : AreRunsOf queue newer first.tables all → AreRunsOf queue newer now.tables es
   pub each : AreRunsOf queue newer first.tables all → joined_each queue newer first all ≡ joined_each queue newer now es
 
 pub joining_none : (queue : LogQueue) (newer : Tables) (first : MarkedRegions) (all : List (ℕ × Mark)) → IsDistinct nat_eq (keys_of all) →
     live_in_all (other queue) first.tables ≡ 0 → live_in_all (other queue) newer ≡ 0 → AreJoining queue newer first all first newer all
-joining_none queue newer first all once a b = record { once = once; alone = a; alone_left = b; held = same all; others = λ r none. (none, refl); few = λ q. omega arith; runs = λ r. r; each = λ r. refl }
+joining_none queue newer first all once a b = record { once = once; alone = a; alone_left = b; held = same all; others = λ r none. (none, refl); gone = gone_none newer all; few = λ q. omega arith; runs = λ r. r; each = λ r. refl }
   where
     same : (es : List (ℕ × Mark)) → AllByRecursion (λ (e : ℕ × Mark). finite.get newer e.0 ≡ finite.get newer e.0) es
     same [] = tt
@@ -167,7 +163,7 @@ module _ (queue : LogQueue) (newer : Tables) (first : MarkedRegions) (all : List
   pub joining_step : (next : MarkedRegions) (after : Tables) →
       (IsRunOver queue m (table_of id (finite.get left id)) (table_in now.tables id) →
       joined_region queue id (region_in now id) record { mark = m; table = finite.get left id } ≡ Some (region_in next id))
-      → next ≡ with_region now id (region_in next id) →
+      → (IsRunOver queue m (table_of id (finite.get left id)) (table_in now.tables id) → next ≡ with_region now id (region_in next id)) →
       ((q : LogQueue) → live_in_all q next.tables ≤ live_in_all q now.tables + live_in q (finite.get left id)) → after ≡ finite.remove left id →
       AreJoining queue newer first all next after es
   unfolding IsDistinct
@@ -177,9 +173,10 @@ module _ (queue : LogQueue) (newer : Tables) (first : MarkedRegions) (all : List
     alone_left = omega (arith, there.alone_left, live-remove (other queue) left id);
     held = held_on newer left id es there.once.0 there.held.1;
     others = others_on newer left all id m es there.others;
+    gone = gone_on left all id m es there.gone;
     few = λ q. omega (arith, there.few q, more q, live-remove q left id);
-    runs = λ r. subst (λ (n : MarkedRegions). AreRunsOf queue newer n.tables es) (sym one) (runs_on queue newer now.tables id (region_in next id).table es there.once.0 (there.runs r).1);
-    each = λ r. each_here r ∙ ap (option_and_then (λ x. joined_each queue newer (with_region now id x) es)) (ok (run_here r)) ∙ ap (λ (n : MarkedRegions). joined_each queue newer n es) (sym one);
+    runs = λ r. subst (λ (n : MarkedRegions). AreRunsOf queue newer n.tables es) (sym (one (run_here r))) (runs_on queue newer now.tables id (region_in next id).table es there.once.0 (there.runs r).1);
+    each = λ r. each_here r ∙ ap (option_and_then (λ x. joined_each queue newer (with_region now id x) es)) (ok (run_here r)) ∙ ap (λ (n : MarkedRegions). joined_each queue newer n es) (sym (one (run_here r)));
   }
 
   -- one is refused
@@ -207,9 +204,11 @@ module _ (queue : LogQueue) (newer : Tables) (first : MarkedRegions) (all : List
     alone_taken = ap (live_in (other queue)) taken ∙ taken_alone
 
     pub taken_step : (next : MarkedRegions) (after : Tables) → (IsRunOver queue m (table_of id t) (table_in now.tables id) → joined_region queue id (region_in now id) record { mark = m; table = t } ≡ Some (region_in next id))
-        → next ≡ with_region now id (region_in next id) → ((q : LogQueue) → live_in_all q next.tables ≤ live_in_all q now.tables + live_in q t) → after ≡ finite.remove left id → AreJoining queue newer first all next after es
+        → (IsRunOver queue m (table_of id t) (table_in now.tables id) → next ≡ with_region now id (region_in next id)) → ((q : LogQueue) → live_in_all q next.tables ≤ live_in_all q now.tables + live_in q t) →
+        after ≡ finite.remove left id → AreJoining queue newer first all next after es
     taken_step next after ok one more gone =
-        joining_step next after (subst (λ (t : Option Table). IsRunOver queue m (table_of id t) (table_in now.tables id) → joined_region queue id (region_in now id) record { mark = m; table = t } ≡ Some (region_in next id)) taken ok) one
+        joining_step next after (subst (λ (t : Option Table). IsRunOver queue m (table_of id t) (table_in now.tables id) → joined_region queue id (region_in now id) record { mark = m; table = t } ≡ Some (region_in next id)) taken ok)
+        (subst (λ (t : Option Table). IsRunOver queue m (table_of id t) (table_in now.tables id) → next ≡ with_region now id (region_in next id)) taken one)
         (λ q. subst (λ (t : Option Table). live_in_all q next.tables ≤ live_in_all q now.tables + live_in q t) taken (more q)) gone
 
     pub taken_fault : (counts : Counts) (e : Error) → AreCountsOf now.tables counts → AreRunsOf queue newer first.tables all →

@@ -1,25 +1,12 @@
 -- The slots of `RegionMarks` against the one map of them.
-use Rattle.std.proofs.Common.{◌≡◌, ◌≢◌, ◌<◌, ◌≤◌, ◌+◌, ◌⊎◌, ℕ, List, [], ◌∷◌, length, map, drop, replicate, slice_index_or, slice_set, Option, Result, Ok, Err, refl, sym, ap, subst, ◌∙◌, arith, inl, inr}
-use Rattle.std.specs.Ordering.{nat_cmp, eq_by_cmp}
-use Rattle.std.specs.Option.{unwrap_or}
-use Rattle.std.specs.Result.{OnOk, OnErr}
+use Rattle.raft_contexts.proofs.Common.{◌≡◌, ◌≢◌, ◌<◌, ◌≤◌, ◌+◌, ◌⊎◌, ℕ, List, [], ◌∷◌, length, map, drop, replicate, slice_index_or, slice_set, Option, Result, Ok, Err, refl, sym, ap, subst, ◌∙◌}
+use Rattle.raft_contexts.proofs.Common.{arith, inl, inr, nat_cmp, eq_by_cmp, unwrap_or, OnOk, OnErr, AllocError, false≢true, set-get_or, Marks, fresh, Mark, slot_of, total, slot_entries, together}
+use Rattle.raft_contexts.proofs.Common.{AreSlots, eq_self, get_own, get_other, IsChangedAt, get-together, together-at, slots-at, length-set, together-none, together-empty, slots-none, drop-none}
+use Rattle.raft_contexts.proofs.Common.{together-permuted, drop-step, added, added-append, added-permuted, total-values, mark_in, with_slots, marks_shown, AreMarksKept}
 use Rattle.std.specs.FinMap as finite
-use Rattle.std.specs.declared.alloc.AllocError.{AllocError}
-use Rattle.std.proofs.lemmas.Bool.{false≢true}
-use Rattle.std.proofs.lemmas.List.{set-get_or}
-use Rattle.raft_history.specs.MarkedRegions.{Marks}
-use Rattle.raft_table.specs.MarkJoins.{fresh}
-use Rattle.raft_table.specs.Marks.{Mark}
-use Rattle.raft_accessor.specs.Accessor.{slot_of}
-use Rattle.raft_history.specs.Records.{total}
-use Rattle.raft_accessor.specs.Slots.{slot_entries, together, AreSlots}
-use Rattle.raft_accessor.proofs.MapLemmas.{eq_self, get_own, get_other}
-use Rattle.raft_accessor.proofs.SlotLemmas.{IsChangedAt, get-together, together-at, slots-at, length-set, together-none, together-empty, slots-none, drop-none}
-use Rattle.raft_accessor.proofs.OrderLemmas.{together-permuted, drop-step}
-use Rattle.raft_accessor.proofs.TotalSums.{added, added-append, added-permuted, total-values}
 use Rattle.raft_contexts.specs.declared.region_marks.RegionMarks.TheInside.{Inside}
-use Rattle.raft_contexts.specs.RegionMarks.{mark_in, with_slots}
-use Rattle.raft_contexts.specs.RegionMarksView.{marks_shown, AreMarksKept}
+use Rattle.std.proofs.Common.{◌==◌, true, false, None}
+use Rattle.std.proofs.lemmas.Bool.{eqb-true}
 
 -- ---- slots are made where there are none
 
@@ -38,6 +25,18 @@ all_slots (m ∷ ms) (inr e) = e
 
 pub kept-same : (a b : Inside) → AreMarksKept a → b.slots.items ≡ a.slots.items → AreMarksKept b
 kept-same a b k e = record { slots = subst (AreSlots 0) (sym e) k.slots; all = subst (λ ms. (length ms ≡ 0) ⊎ (length ms ≡ 128)) (sym e) k.all }
+
+-- without slots there is no region mark
+pub none_without : (a : Inside) (m : Marks) (id n : ℕ) → marks_shown a ≡ m → (n ≡ 0 → length a.slots.items ≡ 0) → true ≡ (n == 0) → finite.get m id ≡ None
+none_without a m id n is none e = ap (λ x. finite.get x id) (sym is ∙ go a.slots.items (none (eqb-true n 0 (sym e)))) ∙ finite.get-empty nat_cmp id
+  where
+    go : (ms : List Marks) → length ms ≡ 0 → together ms ≡ finite.empty
+    go [] h = together-empty [] refl
+    go (x ∷ ms) h = absurd (omega (arith, h))
+
+pub full : (ms : List Marks) (n : ℕ) → (length ms ≡ 0) ⊎ (length ms ≡ 128) → (length ms ≡ 0 → n ≡ 0) → false ≡ (n == 0) → length ms ≡ 128
+full ms n (inr h) none e = h
+full ms n (inl h) none e = absurd (false≢true (e ∙ ap (λ k. k == 0) (none h)))
 
 -- ---- a call of one slot
 

@@ -1,33 +1,13 @@
 -- The tables of the append queue put over the rewritten ones, one region after another.
-use Rattle.std.proofs.Common.{◌≡◌, ◌≤◌, ◌+◌, ℕ, false, cond, nat_eq, List, [], ◌∷◌, Option, Some, refl, sym, ap, subst, ◌∙◌, inl, inr, arith}
-use Rattle.std.specs.Ordering.{nat_cmp}
-use Rattle.std.specs.Cmp.{nat_cmp_total}
-use Rattle.std.specs.List.{AllByRecursion, IsDistinct}
-use Rattle.std.specs.Map.{keys_of}
-use Rattle.std.specs.Option.{unwrap_or}
+use Rattle.raft_contexts.proofs.Common.{◌≡◌, ◌≤◌, ◌+◌, ℕ, false, cond, nat_eq, List, [], ◌∷◌, Option, Some, refl, sym, ap, subst, ◌∙◌, inl, inr, arith, nat_cmp, nat_cmp_total, AllByRecursion}
+use Rattle.raft_contexts.proofs.Common.{IsDistinct, keys_of, unwrap_or, find, Error, LogQueue, Counts, Mark, Stands, fresh, IsOverlayFault, table_of, Table, live_of, overlay_run, StandForSteps}
+use Rattle.raft_contexts.proofs.Common.{overlaid_region, AreOverlaid, Marks, MarkedRegions, Tables, with_table, table_in, live_in, live_in_all, AreCountsOf, IsRunOverlaid, AreRunsOverlaid, AreTooMany}
+use Rattle.raft_contexts.proofs.Common.{live-remove, live-with, live-table_of, by_id, eq_self, with_other}
 use Rattle.std.specs.FinMap as finite
-use Rattle.std.specs.FinMap.{find}
-use Rattle.raft_base.specs.declared.errors.Error.{Error}
 use Rattle.raft_base.specs.declared.errors.Error.TheVariants as errors
-use Rattle.raft_base.specs.declared.pipe_log.LogQueue.{LogQueue}
 use Rattle.raft_base.specs.declared.pipe_log.LogQueue.TheVariants.{Append, Rewrite}
-use Rattle.raft_table.specs.Counts.{Counts}
-use Rattle.raft_table.specs.Marks.{Mark}
-use Rattle.raft_table.specs.Stands.{Stands}
-use Rattle.raft_table.specs.MarkJoins.{fresh}
-use Rattle.raft_table.specs.Overlay.{IsOverlayFault}
-use Rattle.raft_table.specs.Steps.{table_of}
-use Rattle.raft_table.specs.Table.{Table, live_of}
-use Rattle.raft_table.proofs.OverlayLemmas.{overlay_run}
-use Rattle.raft_history.specs.Joins.{StandForSteps, overlaid_region, AreOverlaid}
-use Rattle.raft_history.specs.MarkedRegions.{Marks, MarkedRegions}
-use Rattle.raft_history.specs.RegionSteps.{Tables, with_table}
-use Rattle.raft_accessor.specs.Accessor.{table_in, live_in, live_in_all, AreCountsOf}
-use Rattle.raft_accessor.specs.TableOverlays.{IsRunOverlaid}
-use Rattle.raft_contexts.specs.RegionOverlays.{AreRunsOverlaid, AreTooMany}
-use Rattle.raft_accessor.proofs.LiveLemmas.{live-remove, live-with, live-table_of}
-use Rattle.raft_accessor.proofs.MapLemmas.{by_id, eq_self, with_other}
 use Rattle.raft_contexts.proofs.RegionJoinLemmas.{AreOthersLeft, others_on, each_found, other_key, not_there, held_on}
+use Rattle.raft_contexts.proofs.RegionJoinLemmas.{AreGone, gone_none, gone_on}
 
 -- ---- runs
 
@@ -81,12 +61,13 @@ pub record AreOverlaying (appended first : Tables) (all : List (ℕ × Mark)) (n
   pub own_left : live_in_all Rewrite left ≡ 0
   pub held : AllByRecursion (λ (e : ℕ × Mark). finite.get left e.0 ≡ finite.get appended e.0) es
   pub others : AreOthersLeft appended left all es
+  pub gone : AreGone left all es
   pub few : (q : LogQueue) → live_in_all q now + live_in_all q left ≤ live_in_all q first + live_in_all q appended
   pub runs : AreRunsUnder appended first all → AreRunsUnder appended now es
   pub each : AreRunsUnder appended first all → (z : Tables) → Overlays appended now es z → Overlays appended first all z
 
 pub overlaying_none : (appended first : Tables) (all : List (ℕ × Mark)) → IsDistinct nat_eq (keys_of all) → live_in_all Rewrite appended ≡ 0 → AreOverlaying appended first all first appended all
-overlaying_none appended first all once own = record { once = once; own_left = own; held = same all; others = λ r none. (none, refl); few = λ q. omega arith; runs = λ r. r; each = λ r z h. h }
+overlaying_none appended first all once own = record { once = once; own_left = own; held = same all; others = λ r none. (none, refl); gone = gone_none appended all; few = λ q. omega arith; runs = λ r. r; each = λ r z h. h }
   where
     same : (es : List (ℕ × Mark)) → AllByRecursion (λ (e : ℕ × Mark). finite.get appended e.0 ≡ finite.get appended e.0) es
     same [] = tt
@@ -119,6 +100,7 @@ module _ (appended first : Tables) (all : List (ℕ × Mark)) (now left : Tables
     own_left = omega (arith, at.own_left, live_taken Rewrite);
     held = held_on appended left id es there.once.0 there.held.1;
     others = others_on appended left all id m es there.others;
+    gone = gone_on left all id m es there.gone;
     few = λ q. omega (arith, at.few q, few q, live_taken q, ap (live_in_all q) one, live-with q now id (finite.get next id), live-table_of q id (finite.get next id), live-table_of q id (finite.get now id));
     runs = λ r. subst (λ n. AreRunsUnder appended n es) (sym one) (runs_left appended now id (finite.get next id) es there.once.0 (there.runs r).1);
     each = λ r z h. there.each r z (overlays_step appended now next id m es there.once.0 (ok (run_here r) ∙ ap (λ o. overlaid_region id (Some m) o (finite.get now id)) own) one z h);

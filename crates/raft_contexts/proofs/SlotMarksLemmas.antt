@@ -1,23 +1,9 @@
 -- The fields of `SlotMarks` against what contracts see of them, and a mark changed by a call.
-use Rattle.std.proofs.Common.{◌≡◌, ◌≢◌, ℕ, cond, nat_eq, List, [], ◌∷◌, Option, Some, None, Result, Ok, Err, refl, sym, ap, subst, ◌∙◌, inl, inr, MutBor}
-use Rattle.std.specs.Ordering.{nat_cmp}
-use Rattle.std.specs.Cmp.{nat_cmp_total}
-use Rattle.std.specs.Map.{lookup}
-use Rattle.std.specs.Option.{option_copied_mut, unwrap_or}
-use Rattle.std.specs.Result.{OnOk, OnErr}
+use Rattle.raft_contexts.proofs.Common.{◌≡◌, ◌≢◌, ℕ, cond, nat_eq, List, [], ◌∷◌, Option, Some, None, Result, Ok, Err, refl, sym, ap, subst, ◌∙◌, inl, inr, MutBor, nat_cmp, nat_cmp_total, lookup}
+use Rattle.raft_contexts.proofs.Common.{option_copied_mut, unwrap_or, OnOk, OnErr, find, AllocError, Marks, LogQueue, fresh, joined_at, run_added, Mark, mark_in, MarkChange, ChangesMark, IsOneUpdated}
+use Rattle.raft_contexts.proofs.Common.{IsMarkUpdated, slot_shown, same, by_id, not_same, self_same, get_own, get_other, insert_same, same_test}
 use Rattle.std.specs.FinMap as finite
-use Rattle.std.specs.FinMap.{find}
-use Rattle.std.specs.declared.alloc.AllocError.{AllocError}
-use Rattle.raft_history.specs.MarkedRegions.{Marks}
-use Rattle.raft_base.specs.declared.pipe_log.LogQueue.{LogQueue}
-use Rattle.raft_table.specs.MarkJoins.{fresh, joined_at}
-use Rattle.raft_table.proofs.StepMarkLemmas.{run_added}
-use Rattle.raft_table.specs.Marks.{Mark}
 use Rattle.raft_contexts.specs.declared.region_marks.slot.SlotMarks.TheInside.{Inside}
-use Rattle.raft_contexts.specs.RegionMarks.{mark_in, MarkChange, ChangesMark, IsOneUpdated, IsMarkUpdated}
-use Rattle.raft_contexts.specs.SlotMarksView.{slot_shown}
-use Rattle.raft_accessor.proofs.MapLemmas.{same, by_id, not_same, self_same, get_own, get_other, insert_same}
-use Rattle.raft_accessor.proofs.RegionTablesLemmas.{same_test}
 
 found : (q : ℕ) (es : List (ℕ × Mark)) → find nat_cmp q es ≡ lookup (nat_eq q) es
 found q [] = refl

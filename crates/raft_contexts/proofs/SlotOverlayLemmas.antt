@@ -1,26 +1,12 @@
 -- The tables of the append queue put over the rewritten ones slot by slot.
-use Rattle.std.proofs.Common.{◌≡◌, ◌≤◌, ◌+◌, ℕ, List, ◌∷◌, length, Option, None, sym, ap, subst, ◌∙◌, inl, inr, arith}
+use Rattle.raft_contexts.proofs.Common.{◌≡◌, ◌≤◌, ◌+◌, ℕ, List, ◌∷◌, length, Option, None, sym, ap, subst, ◌∙◌, inl, inr, arith, Error, LogQueue, Mark, table_of, Table, overlaid_region, AreOverlaid}
+use Rattle.raft_contexts.proofs.Common.{Marks, Tables, table_in, live_in_all, together, AreSlots, IsRunOverlaid, AreOthersKept, AreRunsOverlaid, AreTooMany, none_some, front-or}
 use Rattle.std.specs.FinMap as finite
-use Rattle.raft_base.specs.declared.errors.Error.{Error}
 use Rattle.raft_base.specs.declared.errors.Error.TheVariants as errors
-use Rattle.raft_base.specs.declared.pipe_log.LogQueue.{LogQueue}
 use Rattle.raft_base.specs.declared.pipe_log.LogQueue.TheVariants.{Rewrite}
-use Rattle.raft_table.specs.Marks.{Mark}
-use Rattle.raft_table.specs.Steps.{table_of}
-use Rattle.raft_table.specs.Table.{Table}
-use Rattle.raft_history.specs.Joins.{overlaid_region, AreOverlaid}
-use Rattle.raft_history.specs.MarkedRegions.{Marks}
-use Rattle.raft_history.specs.Records.{all_records}
-use Rattle.raft_history.specs.RegionSteps.{Tables}
-use Rattle.raft_accessor.specs.Accessor.{table_in, live_in_all}
-use Rattle.raft_accessor.specs.Slots.{together, AreSlots}
-use Rattle.raft_accessor.specs.TableOverlays.{IsRunOverlaid}
-use Rattle.raft_contexts.specs.RegionJoins.{AreOthersKept}
-use Rattle.raft_contexts.specs.RegionOverlays.{AreRunsOverlaid, AreTooMany}
-use Rattle.raft_accessor.proofs.MapLemmas.{none_some}
-use Rattle.raft_accessor.proofs.SlotLemmas.{front-or}
-use Rattle.raft_contexts.proofs.RegionJoinLemmas.{live-le-records}
 use Rattle.raft_contexts.proofs.SlotJoinLemmas.{none_in}
+use Rattle.raft_contexts.specs.RegionJoins.{AreTablesLeft}
+use Rattle.raft_contexts.proofs.SlotJoinLemmas.{AreSlotsLeft, slots_left_none, slots_left_step}
 
 -- ---- one slot in front of others
 
@@ -54,11 +40,13 @@ module _ (k : ℕ) (m : Marks) (ms : List Marks) (s : AreSlots k (m ∷ ms)) (le
 pub record AreSlotsOverlaying (appended first : Tables) (marks : Marks) (now left : Tables) (ms : List Marks) : Type 0 where
   pub own_left : live_in_all Rewrite left ≡ 0
   pub few : (q : LogQueue) → live_in_all q now + live_in_all q left ≤ live_in_all q first + live_in_all q appended
+  pub rest_left : AreSlotsLeft appended left marks (together ms)
   pub runs : AreRunsOverlaid marks appended first → AreRunsOverlaid (together ms) left now
   pub overlaid : AreRunsOverlaid marks appended first → (z : Tables) → AreOverlaid record { tables = left; marks = together ms } now z → AreOverlaid record { tables = appended; marks = marks } first z
 
 pub no_slots_overlaid : (appended first : Tables) (marks : Marks) (ms : List Marks) → together ms ≡ marks → live_in_all Rewrite appended ≡ 0 → AreSlotsOverlaying appended first marks first appended ms
-no_slots_overlaid appended first marks ms is own = subst (λ x. AreSlotsOverlaying appended first x first appended ms) is record { own_left = own; few = λ q. omega arith; runs = λ r. r; overlaid = λ r z h. h }
+no_slots_overlaid appended first marks ms is own = subst (λ x. AreSlotsOverlaying appended first x first appended ms) is record
+    { own_left = own; few = λ q. omega arith; rest_left = slots_left_none appended (together ms); runs = λ r. r; overlaid = λ r z h. h }
 
 module _ (appended first : Tables) (marks : Marks) (now left : Tables) (rest : List Marks) (k : ℕ) (m : Marks) (ms : List Marks) (is : rest ≡ m ∷ ms) (s : AreSlots k rest) (at : AreSlotsOverlaying appended first marks now left rest) where
   there : AreSlotsOverlaying appended first marks now left (m ∷ ms)
@@ -68,20 +56,21 @@ module _ (appended first : Tables) (marks : Marks) (now left : Tables) (rest : L
   split = subst (AreSlots k) is s
 
   -- one slot more is overlaid; of the other queue nothing is live among the tables that are left, as before
-  pub slots_overlaying_step : (next after : Tables) → (AreRunsOverlaid m left now → AreOverlaid record { tables = left; marks = m } now next) → AreOthersKept m left after → live_in_all Rewrite after ≡ 0
+  pub slots_overlaying_step : (next after : Tables) → (AreRunsOverlaid m left now → AreOverlaid record { tables = left; marks = m } now next) → AreTablesLeft m left after → live_in_all Rewrite after ≡ 0
       → ((q : LogQueue) → live_in_all q next + live_in_all q after ≤ live_in_all q now + live_in_all q left) → AreSlotsOverlaying appended first marks next after ms
   slots_overlaying_step next after ok kept own few =
       let o : AreRunsOverlaid marks appended first → AreOverlaid record { tables = left; marks = m } now next = λ r. ok (runs_here k m ms split left now (there.runs r)) in
       record {
         own_left = own;
         few = λ q. omega (arith, few q, there.few q);
-        runs = λ r. runs_next k m ms split left now next after kept (o r) (there.runs r);
-        overlaid = λ r z h. there.overlaid r z (overlaid_next k m ms split left now next after kept (o r) z h);
+        rest_left = slots_left_step appended left after marks k m ms split there.rest_left kept;
+        runs = λ r. runs_next k m ms split left now next after kept.others (o r) (there.runs r);
+        overlaid = λ r z h. there.overlaid r z (overlaid_next k m ms split left now next after kept.others (o r) z h);
       }
 
   -- one slot is refused
-  pub slots_overlaying_fault : (q : LogQueue) (e : Error) → AreTooMany (live_in_all q now + live_in_all q left) e → AreTooMany (all_records first + all_records appended) e
-  slots_overlaying_fault q errors.Full f = omega (arith, f, at.few q, live-le-records q first, live-le-records q appended)
+  pub slots_overlaying_fault : (q : LogQueue) (e : Error) → AreTooMany (live_in_all q now + live_in_all q left) e → AreTooMany (live_in_all q first + live_in_all q appended) e
+  slots_overlaying_fault q errors.Full f = omega (arith, f, at.few q)
   slots_overlaying_fault q errors.Memory f = tt
   slots_overlaying_fault q _ f = absurd f
 

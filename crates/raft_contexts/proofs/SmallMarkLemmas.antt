@@ -1,8 +1,5 @@
 -- A region mark changed by a call, as a slot keeps it.
-use Rattle.std.proofs.Common.{Result, Ok, Err}
-use Rattle.std.specs.declared.alloc.AllocError.{AllocError}
-use Rattle.raft_table.specs.Marks.{Mark}
-use Rattle.raft_contexts.specs.RegionMarks.{MarkChange, ChangesMark, IsOneUpdated}
+use Rattle.raft_contexts.proofs.Common.{Result, Ok, Err, AllocError, Mark, MarkChange, ChangesMark, IsOneUpdated}
 
 -- the call changed it in place
 pub one_changed : {F : Type 0} (g : MarkChange F) (f : F) (old : Mark) (r : Result (Unit {0}) AllocError) (new : Mark) → ChangesMark g f old r new → IsOneUpdated g f old r new

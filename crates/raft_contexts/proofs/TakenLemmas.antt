@@ -1,42 +1,17 @@
 -- Steps taken into the marks and tables of all regions, one after another.
-use Rattle.std.proofs.Common.{◌≡◌, ℕ, ◌+◌, ◌≤◌, ◌<◌, get_or, List, [], ◌∷◌, ◌++◌, length, Bool, true, false, MatchBool, append-nil, append_assoc, Option, Some, None, Result, Ok, Err, refl, sym, ap, subst, ◌∙◌, inl, inr, arith}
+use Rattle.raft_contexts.proofs.Common.{◌≡◌, ℕ, ◌+◌, ◌≤◌, ◌<◌, get_or, List, [], ◌∷◌, ◌++◌, length, Bool, true, false, MatchBool, append-nil, append_assoc, Option, Some, None, Result, Ok, Err, refl}
+use Rattle.raft_contexts.proofs.Common.{sym, ap, subst, ◌∙◌, inl, inr, arith, option_map, option_and_then, OnOk, IfErr, flat_map-append, Error, FileId, LogQueue, EntryIndex, end_of, entries, Counts}
+use Rattle.raft_contexts.proofs.Common.{live, IsRunIn, file_at, joined_mark, joined_at, fresh, mark_of, Mark, other, count_in, Step, Run, Put, table_of, after_step, Table, after_replay}
+use Rattle.raft_contexts.proofs.Common.{IsTablePutFault, within-whole, count_in_own, IsStepOfQueue, records_in, Marks, MarkedRegions, MarkedRegion, region_in, with_region, stepped_region}
+use Rattle.raft_contexts.proofs.Common.{regions_after, RegionStep, Tables, with_table, cleaned_by, cleaned_by_steps, Accessor, table_in, live_in_all, AreCountsOf, regions_in, AreStepsOfQueue}
+use Rattle.raft_contexts.proofs.Common.{IsStepsFault, one_step, first_index, AreStepsTaken, mark_in, counts_after_step, AreCountsAfterSteps, IsStepFault, IsStepTaken, Replaying, IsWriteFault}
+use Rattle.raft_contexts.proofs.Common.{MarkedTables, table_live-le, some_is, none_some, replay_fault}
 use Rattle.std.specs.FinMap as finite
-use Rattle.std.specs.Option.{option_map, option_and_then}
-use Rattle.std.specs.Result.{OnOk, IfErr}
-use Rattle.std.proofs.lemmas.Grind.{flat_map-append}
-use Rattle.raft_base.specs.declared.errors.Error.{Error}
 use Rattle.raft_base.specs.declared.errors.Error.TheVariants as errors
-use Rattle.raft_base.specs.declared.pipe_log.FileId.{FileId}
-use Rattle.raft_base.specs.declared.pipe_log.LogQueue.{LogQueue}
 use Rattle.raft_base.specs.declared.pipe_log.LogQueue.TheVariants.{Append, Rewrite}
-use Rattle.raft_base.specs.declared.entry_index.EntryIndex.{EntryIndex}
-use Rattle.raft_base.specs.Runs.{end_of}
-use Rattle.raft_records.specs.Item.{entries}
-use Rattle.raft_table.specs.Counts.{Counts, live}
-use Rattle.raft_table.specs.TableEntries.{IsRunIn}
-use Rattle.raft_table.specs.KeyValues.{file_at}
-use Rattle.raft_table.specs.MarkJoins.{joined_mark, joined_at, fresh, mark_of}
-use Rattle.raft_table.specs.Marks.{Mark}
-use Rattle.raft_table.specs.Queues.{other, count_in}
-use Rattle.raft_table.specs.Steps.{Step, Run, Put, table_of, after_step}
-use Rattle.raft_table.specs.Table.{Table, after_replay, IsTablePutFault}
-use Rattle.raft_table.proofs.MarkWords.{within-whole}
-use Rattle.raft_table.proofs.TableLemmas.{count_in_own}
-use Rattle.raft_history.specs.Histories.{IsStepOfQueue, records_in}
-use Rattle.raft_history.specs.MarkedRegions.{Marks, MarkedRegions, MarkedRegion, region_in, with_region, stepped_region, regions_after}
-use Rattle.raft_history.specs.RegionSteps.{RegionStep, Tables, with_table, cleaned_by, cleaned_by_steps}
-use Rattle.raft_accessor.specs.Accessor.{Accessor, table_in, live_in_all, AreCountsOf}
-use Rattle.raft_contexts.specs.MarkedTables.{regions_in, AreStepsOfQueue, IsStepsFault, one_step, first_index, AreStepsTaken}
-use Rattle.raft_contexts.specs.RegionMarks.{mark_in}
-use Rattle.raft_contexts.specs.StepCounts.{counts_after_step, AreCountsAfterSteps}
-use Rattle.raft_table.specs.TakenSteps.{IsStepFault}
-use Rattle.raft_accessor.specs.TableSteps.{IsStepTaken}
-use Rattle.raft_accessor.specs.Writes.{Replaying, IsWriteFault}
-use Rattle.raft_contexts.specs.declared.marked_tables.MarkedTables.{MarkedTables}
-use Rattle.raft_accessor.proofs.LiveLemmas.{table_live-le}
-use Rattle.raft_accessor.proofs.MapLemmas.{some_is, none_some}
 use Rattle.raft_contexts.proofs.LiveSteps.{steps_live}
-use Rattle.raft_accessor.proofs.WriteLemmas.{replay_fault}
+use Rattle.raft_table.specs.TableEntries.{start_of}
+use Rattle.raft_contexts.specs.ImpliedMarks.{all_marks}
 
 -- ---- steps behind steps
 
@@ -130,16 +105,17 @@ module _ (q : LogQueue) (id : ℕ) (s : Step) (a b : MarkedTables) where
   made tables marks = record { tables = tables; marks = marks }
 
   abbrev put : Option Table → MarkedRegion
-  put t = record { mark = joined_mark q id (mark_in a.marks id) (finite.get a.accessor.tables id) (mark_of s); table = t }
+  put t = record { mark = joined_mark q id (mark_in (regions_in a).marks id) (finite.get a.accessor.tables id) (mark_of s); table = t }
 
   -- by what the marks answer
   pub step_taken : (r : Result Unit Error) (t : Option Table) → after_step q (table_of id (finite.get a.accessor.tables id)) s ≡ Some t → b.accessor.tables ≡ with_table a.accessor.tables id t
       → b.accessor.cleaned ≡ a.accessor.cleaned ++ cleaned_by_steps q (one_step id s) →
       b.accessor.counts ≡ counts_after_step q (table_of id (finite.get a.accessor.tables id)) s a.accessor.counts →
-      OnOk r (b.marks ≡ finite.insert a.marks id (joined_mark q id (mark_in a.marks id) (finite.get a.accessor.tables id) (mark_of s))) →
+      OnOk r ((regions_in b).marks ≡ finite.insert (regions_in a).marks id (joined_mark q id (mark_in (regions_in a).marks id) (finite.get a.accessor.tables id) (mark_of s))) →
       IfErr r (λ e. e ≡ errors.Memory) → AreStepsTaken q (one_step id s) r a b
   step_taken (Ok u) t e k l c m n = record {
-    ok = ap (λ o. option_and_then (λ x. regions_after q (with_region (regions_in a) id x) []) (option_map put o)) e ∙ ap Some (ap (λ ts. made ts (finite.insert a.marks id (put t).mark)) (sym k) ∙ ap (made b.accessor.tables) (sym m));
+    ok = ap (λ o. option_and_then (λ x. regions_after q (with_region (regions_in a) id x) []) (option_map put o)) e
+        ∙ ap Some (ap (λ ts. made ts (finite.insert (regions_in a).marks id (put t).mark)) (sym k) ∙ ap (made b.accessor.tables) (sym m));
     cleaned = l;
     counts = λ t u. c;
     fault = tt;
@@ -161,8 +137,8 @@ module _ (q : LogQueue) (id : ℕ) (s : Step) (a : MarkedTables) (mid : Accessor
   pub changed_taken : (r : Result Unit Error) (outcome : Option Table) → after_step q (table_of id (finite.get a.accessor.tables id)) s ≡ option_map
       (λ t. Some t) outcome → outcome ≡ Some (table_in mid.tables id) → mid.tables ≡ finite.insert a.accessor.tables id (table_in mid.tables id)
       → mid.cleaned ≡ a.accessor.cleaned → mid.counts ≡ counts_after_step q (table_of id (finite.get a.accessor.tables id)) s a.accessor.counts →
-      cleaned_by id s ≡ [] → OnOk r (marks ≡ finite.insert a.marks id
-      (joined_mark q id (mark_in a.marks id) (finite.get a.accessor.tables id) (mark_of s))) → IfErr r (λ e. e ≡ errors.Memory) →
+      cleaned_by id s ≡ [] → OnOk r (all_marks mid.tables marks ≡ finite.insert (regions_in a).marks id
+      (joined_mark q id (mark_in (regions_in a).marks id) (finite.get a.accessor.tables id) (mark_of s))) → IfErr r (λ e. e ≡ errors.Memory) →
       AreStepsTaken q (one_step id s) r a (record { accessor = mid; marks = marks })
   changed_taken r outcome e k t l c n m f =
       step_taken q id s a (record { accessor = mid; marks = marks }) r (Some (table_in mid.tables id)) (e ∙ ap (option_map (λ t. Some t)) k) t
@@ -201,10 +177,17 @@ fault_by q id _ a b e h counted f = absurd f
 -- a step that the accessor takes or refuses, behind its region mark
 pub by_accessor : (q : LogQueue) (id : ℕ) (s : Step) (a b : MarkedTables) (r : Result Unit Error) → IsStepOfQueue q s →
     AreCountsOf a.accessor.tables a.accessor.counts →
-    b.marks ≡ finite.insert a.marks id (joined_mark q id (mark_in a.marks id) (finite.get a.accessor.tables id) (mark_of s))
+    OnOk r ((regions_in b).marks ≡ finite.insert (regions_in a).marks id (joined_mark q id (mark_in (regions_in a).marks id) (finite.get a.accessor.tables id) (mark_of s)))
     → IsStepTaken q id s a.accessor.tables a.accessor.counts a.accessor.cleaned r b.accessor.tables b.accessor.counts b.accessor.cleaned → AreStepsTaken q (one_step id s) r a b
 by_accessor q id s a b (Ok u) h counted m k = step_taken q id s a b (Ok u) (finite.get b.accessor.tables id) k.ok k.one k.cleaned k.counts_ok m tt
 by_accessor q id s a b (Err x) h counted m k = elim k.fault [ inl is ↦ taken_memory q (one_step id s) a b x is | inr f ↦ step_refused q id s a b x (fault_by q id s a b x h counted f) ]
+
+-- the same, where the region mark is kept whatever the accessor answers
+pub by_kept : (q : LogQueue) (id : ℕ) (s : Step) (a b : MarkedTables) (r : Result Unit Error) → IsStepOfQueue q s → AreCountsOf a.accessor.tables a.accessor.counts →
+    (regions_in b).marks ≡ finite.insert (regions_in a).marks id (joined_mark q id (mark_in (regions_in a).marks id) (finite.get a.accessor.tables id) (mark_of s))
+    → IsStepTaken q id s a.accessor.tables a.accessor.counts a.accessor.cleaned r b.accessor.tables b.accessor.counts b.accessor.cleaned → AreStepsTaken q (one_step id s) r a b
+by_kept q id s a b (Ok u) h counted m k = by_accessor q id s a b (Ok u) h counted m k
+by_kept q id s a b (Err x) h counted m k = by_accessor q id s a b (Err x) h counted tt k
 
 -- ---- marks of one step
 
@@ -213,9 +196,9 @@ pub end_met : (q : LogQueue) (id : ℕ) (m : Mark) (own : Option Table) (run : L
 end_met q id m own [] end e = ap (λ x. joined_at q x m fresh) (e ∙ ap end_of (sym (within-whole (table_of id own).entries)))
 end_met q id m own (x ∷ run) end e = ap (λ y. joined_at q y m (mark_of (Run (x ∷ run)))) (e ∙ ap end_of (sym (within-whole (table_of id own).entries)))
 
-pub no_end : (id : ℕ) (o : Option Table) → None ≡ o → 0 ≡ end_of (table_of id o).entries
+pub no_ends : (id : ℕ) (o : Option Table) → None ≡ o → ◌≡◌ {A = ℕ × ℕ} (0, 0) (start_of (table_of id o).entries, end_of (table_of id o).entries)
 unfolding end_of
-no_end id o e = ap (λ o. end_of (table_of id o).entries) e
+no_ends id o e = ap (λ o. (start_of (table_of id o).entries, end_of (table_of id o).entries)) e
 
 pub run_mark : (q : LogQueue) (id : ℕ) (run : List EntryIndex) (start end : ℕ) (o : Option Table) (m : Mark) → first_index run ≡ Some start →
     end ≡ end_of (table_of id o).entries → joined_at q end m (record fresh { reach = Some start; cut = Some start }) ≡ joined_mark q id m o
@@ -224,13 +207,6 @@ run_mark q id [] start end o m e k = absurd (none_some e)
 run_mark q id (x ∷ run) start end o m e k =
     ap (λ i. joined_at q end m (record fresh { reach = Some i; cut = Some i })) (sym (some_is e))
     ∙ ap (λ y. joined_at q y m (record fresh { reach = Some x.index; cut = Some x.index })) (k ∙ ap end_of (sym (within-whole (table_of id o).entries)))
-
-pub run_marked : (q : LogQueue) (id : ℕ) (run : List EntryIndex) (start end : ℕ) (o : Option Table) (old new : Marks) (r : Result Unit Error) →
-    first_index run ≡ Some start → end ≡ end_of (table_of id o).entries →
-    OnOk r (new ≡ finite.insert old id (joined_at q end (mark_in old id) (record fresh { reach = Some start; cut = Some start })))
-    → OnOk r (new ≡ finite.insert old id (joined_mark q id (mark_in old id) o (mark_of (Run run))))
-run_marked q id run start end o old new (Ok u) e k h = h ∙ ap (finite.insert old id) (run_mark q id run start end o (mark_in old id) e k)
-run_marked q id run start end o old new (Err x) e k h = tt
 
 pub first_of : (run : List EntryIndex) (x : EntryIndex) → 0 < length run → x ≡ get_or run 0 x → first_index run ≡ Some x.index
 first_of [] x l e = absurd (omega (arith, l))

@@ -1,22 +1,18 @@
 -- One group after another is joined.
-use Rattle.std.proofs.Common.{◌≡◌, ℕ, Bool, true, false, eqb, ltb, ◌<◌, List, [], ◌∷◌, ◌++◌, map, Option, Some, None, refl, sym, ap, subst, ◌∙◌, append_assoc, arith}
-use Rattle.std.specs.Prelude.{option_to_list}
-use Rattle.std.proofs.lemmas.Bool.{false≢true, ltb-true, ltb-false}
-use Rattle.std.specs.List.{AllByRecursion, cons_option, IsDistinct}
-use Rattle.std.specs.Cmp.{nat_cmp_total}
+use Rattle.raft_contexts.proofs.Common.{◌≡◌, ℕ, true, false, eqb, ◌<◌, List, [], ◌∷◌, ◌++◌, map, Option, Some, None, refl, sym, ap, subst, ◌∙◌, append_assoc, arith, option_to_list, zero, suc, false≢true, AllByRecursion}
+use Rattle.raft_contexts.proofs.Common.{cons_option, IsDistinct, nat_cmp_total, nat_tests, AtomicGroupStatus, RegionStep, BatchSteps, batch_with_marker, EachApart, effects, steps_of, WaitingGroup, joined_group, WholeGroup}
+use Rattle.raft_contexts.proofs.Common.{whole_group, one_marker, WaitingGroups, groups_in, steps_or, known_of, joined_groups, whole_with, whole_groups, steps_of_wholes, keys_distinct, tied, steps_across, groups_in-append}
+use Rattle.raft_contexts.proofs.Common.{groups_in-one, steps-one}
 use Rattle.std.specs.FinMap as finite
-use Rattle.std.proofs.lemmas.Bool.Decides.{nat_tests}
-use Rattle.raft_records.specs.declared.atomic_group.AtomicGroupStatus.{AtomicGroupStatus}
-use Rattle.raft_history.specs.RegionSteps.{RegionStep}
-use Rattle.raft_history.specs.Batches.{BatchSteps, batch_with_marker}
-use Rattle.raft_history.specs.Effects.{EachApart, effects, steps_of}
-use Rattle.raft_history.specs.WaitingGroup.{WaitingGroup, joined_group, WholeGroup, whole_group, one_marker}
-use Rattle.raft_history.specs.WaitingGroups.{WaitingGroups, groups_in, steps_or, known_of, joined_groups, whole_with, whole_groups, steps_of_wholes}
-use Rattle.raft_history.proofs.KnownLemmas.{keys_distinct, tied, steps_across}
-use Rattle.raft_history.proofs.MoreLemmas.{groups_in-append, groups_in-one, steps-one}
 
 pub joined-step : (m n a b : WaitingGroups) (id : ℕ) (g : WaitingGroup) → finite.entries a ≡ (id, g) ∷ finite.entries b → n ≡ finite.insert m id (joined_group (known_of m id) g) → joined_groups n b ≡ joined_groups m a
 joined-step m n a b id g e k = rw (e, k) refl
+
+pub joined-none : (m n : WaitingGroups) → finite.entries n ≡ [] → joined_groups m n ≡ m
+joined-none m n e = rw e refl
+
+pub wholes-none : (m n : WaitingGroups) → finite.entries n ≡ [] → whole_groups m n ≡ []
+wholes-none m n e = rw e refl
 
 whole-others : (m : WaitingGroups) (id : ℕ) (v : WaitingGroup) (es : List (ℕ × WaitingGroup)) → AllByRecursion (λ y. eqb id y ≡ false) (map (λ e. e.0) es) → whole_with (finite.insert m id v) es ≡ whole_with m es
 whole-others m id v [] h = refl
@@ -45,11 +41,8 @@ pub len-first : (a b : WaitingGroups) (p : ℕ × WaitingGroup) → finite.entri
 len-first a b p e = rw (finite.len-entries a, finite.len-entries b, e) (omega arith)
 
 pub none_left : (n : ℕ) → (false ≡ true → 0 < n) × (0 < n → false ≡ true) → n ≡ 0
-none_left n h = go (ltb 0 n) refl
-  where
-    go : (b : Bool) → ltb 0 n ≡ b → n ≡ 0
-    go true e = absurd (false≢true (h.1 (ltb-true 0 n e)))
-    go false e = omega (arith, ltb-false 0 n e)
+none_left zero h = refl
+none_left (suc n) h = absurd (false≢true (h.1 (omega arith)))
 
 -- one more batch with a marker, and a newer history, behind a history
 pub stands-one : (m n : WaitingGroups) (h : List BatchSteps) (is : List RegionStep) (g : ℕ) (s : AtomicGroupStatus) (f : ℕ) (x : WaitingGroup) →

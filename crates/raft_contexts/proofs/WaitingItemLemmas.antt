@@ -1,16 +1,7 @@
 -- Steps of items, one after another.
-use Rattle.std.proofs.Common.{◌≡◌, ℕ, Bool, true, false, eqb, ◌||◌, List, [], ◌∷◌, ◌++◌, map, Option, Some, None, refl, sym, ap, ◌∙◌}
-use Rattle.std.specs.Option.{option_map}
-use Rattle.std.specs.List.{list_any}
-use Rattle.raft_records.specs.declared.log_item.LogItem.{LogItem}
-use Rattle.raft_records.specs.Item.{Item, item_of, content_of}
-use Rattle.raft_table.specs.Steps.{Step}
+use Rattle.raft_contexts.proofs.Common.{◌≡◌, ℕ, Bool, eqb, ◌||◌, List, [], ◌∷◌, ◌++◌, map, Option, Some, None, refl, sym, ap, ◌∙◌, option_map, list_any, LogItem, Item, item_of, content_of, Step, region_step_shown, item_step}
+use Rattle.raft_contexts.proofs.Common.{RegionStep, content_step, steps_of_items, names, with_step, names_none, names_cons, none_some, some_is}
 use Rattle.raft_history.specs.declared.region_step.RegionStep as code
-use Rattle.raft_history.specs.RegionStepShown.{region_step_shown, item_step}
-use Rattle.raft_history.specs.RegionSteps.{RegionStep, content_step, steps_of_items, names}
-use Rattle.raft_history.proofs.Words.{with_step}
-use Rattle.raft_history.proofs.StepListLemmas.{names_none, names_cons}
-use Rattle.raft_accessor.proofs.MapLemmas.{none_some, some_is}
 
 pub items-append : (xs ys : List Item) → steps_of_items (xs ++ ys) ≡ steps_of_items xs ++ steps_of_items ys
 items-append [] ys = refl
@@ -48,7 +39,3 @@ are_on r steps = list_any (λ (s : code.RegionStep). eqb r s.region) steps
 pub steps_named : (r : ℕ) (steps : List code.RegionStep) → are_on r steps ≡ names r (map region_step_shown steps)
 steps_named r [] = sym (names_none r)
 steps_named r (s ∷ steps) = ap (λ b. eqb r s.region || b) (steps_named r steps) ∙ sym (names_cons r (region_step_shown s) (map region_step_shown steps))
-
-pub or_none : (x : Bool) → (x || false) ≡ x
-or_none true = refl
-or_none false = refl

@@ -1,24 +1,13 @@
 -- The entries of the map of groups, as contracts see them.
-use Rattle.std.proofs.Common.{◌≡◌, ℕ, Bool, true, false, cond, not, eqb, arith, List, [], ◌∷◌, ◌++◌, length, map, Option, Some, None, refl, sym, ap, subst, ◌∙◌}
+use Rattle.raft_contexts.proofs.Common.{◌≡◌, ℕ, Bool, true, false, cond, not, eqb, arith, List, [], ◌∷◌, ◌++◌, length, map, Option, Some, None, refl, sym, ap, subst, ◌∙◌, nil_from_length, length-map}
+use Rattle.raft_contexts.proofs.Common.{flat_map, nat_cmp, eq_by_cmp, is_eq, option_map, unwrap_or, IsStrictlySortedBy, insert_entry, is_at, keys_of, values_of, lookup, remove_entry, nat_cmp_total}
+use Rattle.raft_contexts.proofs.Common.{unsigned_tied, alike_right, nat_tests, nat_cmp-IsAntisymmetric, same_map, find-where_key, without_marker, joined_group, WaitingGroups, known_of, held_steps}
+use Rattle.raft_contexts.proofs.Common.{waiting_steps, shown, is_sorted-shown, find-shown, shown-insert_entry, shown-remove_entry, group_shown}
 use lib.Dec.{T}
-use Rattle.std.proofs.lemmas.List.{nil_from_length, length-map}
-use Rattle.std.specs.Prelude.{flat_map}
-use Rattle.std.specs.Ordering.{nat_cmp, eq_by_cmp, is_eq}
-use Rattle.std.specs.Option.{option_map, unwrap_or}
-use Rattle.std.specs.List.Sorted.{IsStrictlySortedBy}
-use Rattle.std.specs.BTreeMap.{insert_entry, is_at}
-use Rattle.std.specs.Map.{keys_of, values_of, lookup, remove_entry}
-use Rattle.std.specs.Cmp.{nat_cmp_total, unsigned_tied, alike_right}
-use Rattle.std.proofs.lemmas.Bool.Decides.{nat_tests}
 use Rattle.std.specs.FinMap as finite
-use Rattle.std.specs.FinMap.{nat_cmp-IsAntisymmetric, same_map}
-use Rattle.std.specs.FinMap.Entries.{find, find-where_key}
+use Rattle.std.specs.FinMap.Entries.{find}
 use Rattle.raft_history.specs.WaitingGroup as groups
-use Rattle.raft_history.specs.WaitingGroup.{without_marker, joined_group}
-use Rattle.raft_history.specs.WaitingGroups.{WaitingGroups, known_of, held_steps, waiting_steps}
-use Rattle.raft_table.proofs.Shown.{shown, is_sorted-shown, find-shown, shown-insert_entry, shown-remove_entry}
 use Rattle.raft_contexts.specs.declared.waiting_group.WaitingGroup.{WaitingGroup}
-use Rattle.raft_contexts.specs.WaitingShown.{group_shown}
 
 abbrev pub own : ℕ → ℕ
 own x = x

@@ -1,28 +1,13 @@
 -- Groups that become whole: their steps are of the queue, and their files in order.
-use Rattle.std.proofs.Common.{◌≡◌, ℕ, suc, ◌≤◌, List, [], ◌∷◌, ◌++◌, Option, Some, None, refl, sym, ap, subst, ◌∙◌, arith}
-use Rattle.std.specs.Prelude.{flat_map, length}
-use Rattle.std.specs.Ordering.{nat_cmp}
-use Rattle.std.specs.List.{AllByRecursion, cons_option}
+use Rattle.raft_contexts.proofs.Common.{◌≡◌, ℕ, suc, ◌≤◌, List, [], ◌∷◌, ◌++◌, Option, Some, None, refl, sym, ap, subst, ◌∙◌, arith, flat_map, nat_cmp, AllByRecursion, cons_option, LogQueue, AtomicGroupStatus, GroupMarker}
+use Rattle.raft_contexts.proofs.Common.{BatchSteps, Event, batches, Context, Suits, StandsFor, StandsIn, files_of, follows, AreInFiles, FilesFrom, last_from, IsStepOfQueue, Numbered, numbered_from, markers_of, open_stretch}
+use Rattle.raft_contexts.proofs.Common.{RegionStep, steps_of_items, GroupFront, Open, Ended, Begun, led_by, front_by, front_behind, front_of, OpenStretch, stretch_of, WaitingGroup, WholeGroup, whole_of, whole_group_by, whole_group}
+use Rattle.raft_contexts.proofs.Common.{one_marker, group_in, WaitingGroups, groups_in, known_of, whole_with, whole_groups, front_steps, stretch_steps, group_by, each-append, each_weaker, each_markers, each_open, known-groups_in}
+use Rattle.raft_contexts.proofs.Common.{each_known, Holds, items_in_queue, known_holds, files-back, files_follow, IsNextEvent, AreStepsOfQueue, CanTakeEffect, CanTakeEffectIfAny, nil_from_length}
 use Rattle.std.specs.FinMap as finite
-use Rattle.raft_base.specs.declared.pipe_log.LogQueue.{LogQueue}
 use Rattle.raft_base.specs.declared.pipe_log.LogQueue.TheVariants.{Append, Rewrite}
-use Rattle.raft_records.specs.declared.atomic_group.AtomicGroupStatus.{AtomicGroupStatus}
 use Rattle.raft_records.specs.declared.atomic_group.AtomicGroupStatus.TheVariants.{Begin, Middle, End}
-use Rattle.raft_history.specs.Batches.{GroupMarker, BatchSteps, Event, batches}
-use Rattle.raft_history.specs.Contexts.{Context, Suits, StandsFor, StandsIn, files_of, follows}
-use Rattle.raft_history.proofs.Words.{AreInFiles}
-use Rattle.raft_history.specs.Histories.{FilesFrom, last_from, IsStepOfQueue}
-use Rattle.raft_history.specs.Effects.{Numbered, numbered_from, markers_of, open_stretch}
-use Rattle.raft_history.specs.RegionSteps.{RegionStep, steps_of_items}
-use Rattle.raft_history.specs.WaitingGroup.{GroupFront, Open, Ended, Begun, led_by, front_by, front_behind, front_of, OpenStretch, stretch_of, WaitingGroup, WholeGroup, whole_of, whole_group_by, whole_group, one_marker, group_in}
-use Rattle.raft_history.specs.WaitingGroups.{WaitingGroups, groups_in, known_of, whole_with, whole_groups, front_steps, stretch_steps, group_by}
-use Rattle.raft_history.proofs.EffectLemmas.{each-append, each_weaker, each_markers, each_open}
-use Rattle.raft_history.proofs.KnownLemmas.{known-groups_in, each_known}
-use Rattle.raft_history.proofs.QueueLemmas.{Holds, items_in_queue, known_holds}
-use Rattle.raft_history.proofs.SoundLemmas.{files-back, files_follow, without_marker}
-use Rattle.raft_history.proofs.TakenLaws.{IsNextEvent}
-use Rattle.raft_contexts.specs.MarkedTables.{AreStepsOfQueue}
-use Rattle.raft_contexts.specs.ReadStates.{CanTakeEffect, CanTakeEffectIfAny}
+use Rattle.raft_history.proofs.SoundLemmas.{without_marker}
 
 -- ---- files
 
@@ -160,12 +145,8 @@ no_wholes older k f = ap (whole_with older) (none (batches k) (without_marker 0 
     flat all [] u = refl
     flat all (b ∷ bs) u = ap (λ m. group_by all m ++ flat_map (λ (b : BatchSteps). group_by all b.marker) bs) u.0 ∙ flat all bs u.1
 
-    empty : (es : List (ℕ × WaitingGroup)) → length es ≡ 0 → es ≡ []
-    empty [] e = refl
-    empty (x ∷ es) e = absurd (omega (arith, e))
-
     is_empty : (bs : List BatchSteps) → AllByRecursion (λ (b : BatchSteps). b.marker ≡ None) bs → groups_in bs ≡ finite.empty
     is_empty bs u = ap (λ es. finite.from_entries es) (flat bs bs u)
 
     none : (bs : List BatchSteps) → AllByRecursion (λ (b : BatchSteps). b.marker ≡ None) bs → finite.entries (groups_in bs) ≡ []
-    none bs u = ap finite.entries (is_empty bs u) ∙ empty (finite.entries finite.empty) (sym (finite.len-entries {K = ℕ} {X = WaitingGroup} {R = nat_cmp} finite.empty) ∙ finite.len-empty nat_cmp WaitingGroup)
+    none bs u = ap finite.entries (is_empty bs u) ∙ nil_from_length (finite.entries finite.empty) (sym (finite.len-entries {K = ℕ} {X = WaitingGroup} {R = nat_cmp} finite.empty) ∙ finite.len-empty nat_cmp WaitingGroup)

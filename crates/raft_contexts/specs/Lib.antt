@@ -3,6 +3,7 @@ pub mod WaitingGroupsView
 pub mod WaitingItemsView
 pub mod WaitingShown
 pub mod StepCounts
+pub mod ImpliedMarks
 pub mod MarkedTables
 pub mod MovedPlaces
 pub mod ReadItems

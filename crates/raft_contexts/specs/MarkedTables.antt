@@ -1,5 +1,5 @@
 -- The tables of all regions beside their region marks, with steps taken in.
-use Rattle.std.specs.Prelude.{◌≡◌, ℕ, ◌+◌, ◌<◌, ◌≤◌, ◌^◌, List, [], ◌∷◌, ◌++◌, Option, Some, None, Result, IfErr}
+use Rattle.std.specs.Prelude.{◌≡◌, ℕ, ◌+◌, ◌<◌, ◌≤◌, ◌^◌, Bool, true, false, List, [], ◌∷◌, ◌++◌, Option, Some, None, Result, IfErr}
 use Rattle.std.specs.List.{AllByRecursion}
 use Rattle.std.specs.Result.{OnOk}
 use Rattle.raft_base.specs.declared.errors.Error.{Error}
@@ -10,18 +10,24 @@ use Rattle.raft_history.specs.Histories.{IsStepOfQueue, records_in}
 use Rattle.raft_history.specs.MarkedRegions.{MarkedRegions, regions_after}
 use Rattle.raft_history.specs.RegionSteps.{RegionStep, cleaned_by_steps}
 use Rattle.raft_table.specs.Queues.{other}
-use Rattle.raft_table.specs.Steps.{Step}
+use Rattle.raft_table.specs.Steps.{Step, Put}
 use Rattle.raft_accessor.specs.Accessor.{live_in_all}
+use Rattle.raft_contexts.specs.ImpliedMarks.{all_marks}
 use Rattle.raft_contexts.specs.StepCounts.{AreCountsAfterSteps}
 use Rattle.raft_contexts.specs.declared.marked_tables.MarkedTables.{MarkedTables}
 
--- the region marks and the tables, without the counts
+-- the tables, and the region marks that are kept or implied, without the counts
 abbrev pub regions_in : MarkedTables → MarkedRegions
-regions_in m = record { tables = m.accessor.tables; marks = m.marks }
+regions_in m = record { tables = m.accessor.tables; marks = all_marks m.accessor.tables m.marks }
 
 -- each step is such as replays into tables of this queue ask for
 abbrev pub AreStepsOfQueue : LogQueue → List RegionStep → Type 0
 AreStepsOfQueue queue steps = AllByRecursion (λ (s : RegionStep). IsStepOfQueue queue s.step) steps
+
+-- whether a step puts a key
+abbrev pub is_put : Step → Bool
+is_put (Put key value file) = true
+is_put _ = false
 
 -- one step on a region
 abbrev pub one_step : ℕ → Step → List RegionStep

@@ -20,6 +20,11 @@ AreRunsOver queue marks newer older = (r : ℕ) (m : Mark) → finite.get marks 
 abbrev pub AreOthersKept : Marks → Tables → Tables → Type 0
 AreOthersKept marks old new = (r : ℕ) → finite.get marks r ≡ None → finite.get new r ≡ finite.get old r
 
+-- the tables of regions with one of these region marks are gone, and the others are as they were
+pub record AreTablesLeft (marks : Marks) (old new : Tables) : Type 0 where
+  pub gone : (r : ℕ) (m : Mark) → finite.get marks r ≡ Some m → finite.get new r ≡ None
+  pub others : AreOthersKept marks old new
+
 -- why the regions of a slot are not joined: some region's join is refused, more would be live in a queue than can be counted, or want of memory
 abbrev pub IsSlotFault : LogQueue → MarkedRegions → MarkedRegions → Error → Type 0
 IsSlotFault queue older newer (errors.Corruption text) = IsJoinRefused queue older newer

@@ -1,18 +1,32 @@
 -- The region marks of regions, and changes of one of them.
-use Rattle.std.specs.Prelude.{◌≡◌, ◌≢◌, ℕ, List, [], ◌∷◌, replicate, Result}
+use Rattle.std.specs.Prelude.{◌≡◌, ◌≢◌, ◌⊎◌, ℕ, ◌<◌, ◌≤◌, true, false, List, [], ◌∷◌, replicate, Some, is_some, Result}
 use Rattle.std.specs.declared.alloc.AllocError.{AllocError}
 use Rattle.std.specs.Borrow.{MutBor}
 use Rattle.std.specs.FinMap as finite
 use Rattle.std.specs.Fn.{Once}
 use Rattle.std.specs.Option.{unwrap_or}
 use Rattle.std.specs.Result.{OnOk, OnErr}
+use Rattle.raft_base.specs.declared.pipe_log.LogQueue.{LogQueue}
 use Rattle.raft_history.specs.MarkedRegions.{Marks}
-use Rattle.raft_table.specs.MarkJoins.{fresh}
+use Rattle.raft_table.specs.MarkJoins.{fresh, joined_at}
 use Rattle.raft_table.specs.Marks.{Mark}
 
 -- the region mark of a region, or that of no step where it has none
 abbrev pub mark_in : Marks → ℕ → Mark
 mark_in marks id = unwrap_or (finite.get marks id) fresh
+
+-- the region mark of a run that starts here
+abbrev pub run_at : ℕ → Mark
+run_at start = record fresh { reach = Some start; cut = Some start }
+
+-- a run leaves a region mark that is implied as one: its region had no entries (they end at 0), or it begins among them or right behind them
+abbrev pub IsImpliedStill : ℕ → ℕ → ℕ → Type 0
+IsImpliedStill start end first = (end ≡ 0) ⊎ ((0 < end) × (start ≤ first) × (first ≤ end))
+
+-- kept region marks after a run from `first` on of a region whose entries went from `start` to `end`: the run is joined to the one that is kept; where none is, nothing is kept if it is implied still, else what is joined to that of one run from `start` on
+pub record IsRunKept (queue : LogQueue) (id start end first : ℕ) (old new : Marks) : Type 0 where
+  pub by : ((is_some (finite.get old id) ≡ true) × (new ≡ finite.insert old id (joined_at queue end (mark_in old id) (run_at first))))
+      ⊎ ((is_some (finite.get old id) ≡ false) × (((new ≡ old) × IsImpliedStill start end first) ⊎ ((0 < end) × (new ≡ finite.insert old id (joined_at queue end (run_at start) (run_at first))))))
 
 -- these slots, or 128 empty ones where there are none
 abbrev pub with_slots : List Marks → List Marks

@@ -5,7 +5,7 @@ ghost use Rattle.raft_base.specs.declared.pipe_log.FileBlockHandle.{FileBlockHan
 ghost use Rattle.raft_base.specs.declared.pipe_log.LogQueue.TheVariants.{Append, Rewrite};
 ghost use Rattle.raft_records.specs.Faults.{IsAnyCorruption};
 ghost use Rattle.raft_records.specs.Group.{first_marker, marker_byte};
-ghost use Rattle.raft_records.specs.Item.{item_of, content_of, entries as entries_of, pair, pair_of};
+ghost use Rattle.raft_records.specs.Item.{item_of, content_of, entries as entries_of};
 ghost use Rattle.raft_records.specs.DecodedIn.{IsPlaceInFile};
 ghost use Rattle.raft_records.specs.ReadBatch.{content_shown, items_shown};
 ghost use Rattle.raft_history.specs.Histories.{IsInFile, AreInFile, HaveStatus};
@@ -13,8 +13,8 @@ ghost use Rattle.raft_contexts.specs.BatchChecks.{marker_found, HaveNoMarker};
 
 use raft_base::{EntryIndex, Error, FileId, LogQueue, Result, is_consecutive};
 use raft_records::{
-    AtomicGroupStatus, KeyValue, LogItem, LogItemBatch, LogItemContent, OpType, ReadBatch,
-    ReadContent, ReadItem, is_reserved,
+    AtomicGroupStatus, LogItem, LogItemBatch, LogItemContent, OpType, ReadBatch, ReadContent,
+    ReadItem, is_reserved,
 };
 use std::alloc::Global;
 
@@ -64,7 +64,6 @@ pub(crate) fn is_lone_read(batch: &ReadBatch<'_>, file: FileId) -> bool
     }
 }
 
-/// Tests whether no item can be a group marker. `false` says nothing of them.
 fn have_no_marker(items: &[ReadItem<'_>]) -> bool
     ensures { IsTrue result → (place : FileBlockHandle) (spans : List (ℕ × ℕ))
         → HaveNoMarker (items_shown place items.now spans) }
@@ -95,10 +94,6 @@ fn knows_file(batch: &LogItemBatch, file: FileId) -> bool
 }
 
 /// Returns the first group marker among items of the rewrite queue, if they have one.
-///
-/// # Errors
-///
-/// `Corruption` where the status of one is unknown, `Memory` for the refusal's text.
 fn group_marker(alloc: Global, items: &[LogItem]) -> Result<Option<(u64, AtomicGroupStatus)>>
     ensures markers { OnOk result (HaveStatus Rewrite (map item_of items.now)) }
     ensures marker { IfOk result (λ marker. marker ≡ first_marker (map item_of items.now)) }
@@ -114,7 +109,6 @@ fn group_marker(alloc: Global, items: &[LogItem]) -> Result<Option<(u64, AtomicG
     Ok(marker)
 }
 
-/// Tests whether all items may stand in a batch of the file.
 fn are_in_file(items: &[LogItem], file: FileId) -> bool
     ensures { MatchBool result (AreInFile file (map item_of items.now))
         (AreInFile file (map item_of items.now) → ⊥) }
@@ -122,7 +116,6 @@ fn are_in_file(items: &[LogItem], file: FileId) -> bool
     items.iter().all(|item| is_in_file(item, file))
 }
 
-/// Tests whether an item may stand in a batch of the file.
 fn is_in_file(item: &LogItem, file: FileId) -> bool
     ensures { MatchBool result (IsInFile file (content_of item.now.content))
         (IsInFile file (content_of item.now.content) → ⊥) }
@@ -130,28 +123,15 @@ fn is_in_file(item: &LogItem, file: FileId) -> bool
     match &item.content {
         LogItemContent::EntryIndexes(entries) => is_run_in_file(&entries.0, file),
         LogItemContent::Command(_) => true,
-        LogItemContent::Kv(kv) => is_pair_in(kv, file),
-    }
-}
-
-/// Tests whether a change of a key may stand in a batch of the file.
-fn is_pair_in(kv: &KeyValue, file: FileId) -> bool
-    ensures { MatchBool result (IsInFile file (pair (pair_of kv.now)))
-        (IsInFile file (pair (pair_of kv.now)) → ⊥) }
-{
-    if is_reserved(kv.key.as_slice()) {
-        return true;
-    }
-    match kv.op_type {
-        OpType::Put => match (&kv.value, kv.file_id) {
-            (Some(_), Some(id)) => id == file,
-            _ => false,
+        LogItemContent::Kv(kv) if is_reserved(kv.key.as_slice()) => true,
+        LogItemContent::Kv(kv) => match (kv.op_type, &kv.value, kv.file_id) {
+            (OpType::Put, Some(_), Some(id)) => id == file,
+            (OpType::Put, _, _) => false,
+            (OpType::Del, _, _) => true,
         },
-        OpType::Del => true,
     }
 }
 
-/// Tests whether entries are consecutive, and all their places are in the file.
 fn is_run_in_file(entries: &[EntryIndex], file: FileId) -> bool
     ensures { MatchBool result (IsInFile file (entries_of entries.now))
         (IsInFile file (entries_of entries.now) → ⊥) }
@@ -159,7 +139,6 @@ fn is_run_in_file(entries: &[EntryIndex], file: FileId) -> bool
     is_consecutive(entries) && entries.iter().all(|entry| is_place_in_file(entry, file))
 }
 
-/// Tests whether an entry's place is in the file.
 fn is_place_in_file(entry: &EntryIndex, file: FileId) -> bool
     ensures { MatchBool result (IsPlaceInFile file entry.now.entries)
         (IsPlaceInFile file entry.now.entries → ⊥) }

@@ -15,7 +15,6 @@ pub(crate) struct FileRange {
 }
 
 impl FileRange {
-    /// Returns the files of one batch.
     pub(crate) fn of(file: FileId) -> FileRange
         ensures { range_shown result
             ≡ record { queue = file.queue; first_seq = file.seq; last_seq = file.seq } }
@@ -48,7 +47,6 @@ impl FileRange {
         }
     }
 
-    /// Returns the files of two neighbors.
     pub(crate) fn joined(older: Option<FileRange>, newer: Option<FileRange>) -> Option<FileRange>
         ensures { ranges_shown result ≡ joined_files (ranges_shown older) (ranges_shown newer) }
     {

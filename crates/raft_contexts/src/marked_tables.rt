@@ -1,13 +1,15 @@
 //! The tables of all regions beside their region marks.
 
-ghost use Rattle.std.specs.Prelude.{◌≡◌, ◌≤◌, ◌++◌, [], ◌∷◌, map, Ok, OnOk, IfOk, IfErr, MatchBool, Some};
+ghost use Rattle.std.specs.Prelude.{◌≡◌, ◌≤◌, ◌<◌, ◌^◌, ◌++◌, [], ◌∷◌, map, Ok, OnOk, IfOk, IfErr, MatchBool, Some};
 ghost use Rattle.std.specs.FinMap as finite;
-ghost use Rattle.raft_base.specs.Runs.{end_of};
+ghost use Rattle.std.specs.FinSet as finset;
+ghost use Rattle.raft_base.specs.Runs.{IsRun, end_of};
 ghost use Rattle.raft_base.specs.declared.pipe_log.LogQueue.{LogQueue};
 ghost use Rattle.raft_base.specs.declared.pipe_log.LogQueue.TheVariants.{Append, Rewrite};
 ghost use Rattle.raft_records.specs.Item.{item_of};
 ghost use Rattle.raft_history.specs.Histories.{AreInFile, IsStepOfQueue};
 ghost use Rattle.raft_history.specs.MarkedRegions.{no_regions, regions_after, on_each, region_steps_of_whole};
+ghost use Rattle.raft_history.specs.Records.{total};
 ghost use Rattle.raft_history.specs.RegionStepShown.{region_step_shown};
 ghost use Rattle.raft_history.specs.RegionSteps.{steps_of_items, cleaned_by_steps};
 ghost use Rattle.raft_table.specs.MarkJoins.{joined_at, joined_mark, mark_of};
@@ -15,8 +17,9 @@ ghost use Rattle.raft_table.specs.Marks.{Mark};
 ghost use Rattle.raft_table.specs.Queues.{other};
 ghost use Rattle.raft_table.specs.StepShown.{step_shown};
 ghost use Rattle.raft_table.specs.Steps.{AtomicGroup};
+ghost use Rattle.raft_table.specs.TableEntries.{start_of};
 ghost use Rattle.raft_accessor.specs.Accessor.{live_in_all, table_in};
-ghost use Rattle.raft_contexts.specs.MarkedTables.{regions_in, AreStepsOfQueue, IsStepsFault, one_step, AreStepsTaken};
+ghost use Rattle.raft_contexts.specs.MarkedTables.{regions_in, is_put, AreStepsOfQueue, IsStepsFault, one_step, AreStepsTaken};
 ghost use Rattle.raft_contexts.specs.StepCounts.{no_counts, AreCountsAfterSteps};
 ghost use Rattle.raft_contexts.specs.WaitingShown.{whole_shown};
 
@@ -33,7 +36,8 @@ use raft_records::{LogItem, LogItemBatch, LogItemContent};
 use raft_table::Step;
 use std::alloc::Global;
 
-/// The tables of all regions, and the region mark of each region that a step named.
+/// The tables of all regions, and the region marks that these don't imply. A region whose mark isn't kept has the one
+/// that its table implies, if it has a table: that of one run of all its entries.
 #[derive(Drop)]
 pub(crate) struct MarkedTables {
     pub(crate) accessor: MemTableAccessor,
@@ -116,6 +120,21 @@ impl MarkedTables {
         self.take_seqs(&regions, first_seq, last_seq)
     }
 
+    /// Returns how many regions have a region mark: those with a table, and those without one whose region mark is kept.
+    pub(crate) fn marks_count(&self) -> u128
+        ensures value { result ≡ finite.len (regions_in self.now).marks }
+        ensures few { result < 2 ^ 73 }
+    {
+        self.accessor.tables_count() + self.marks.count_absent(&self.accessor) as u128
+    }
+
+    /// Returns how many deleted keys all region marks hold together.
+    pub(crate) fn deleted_keys(&self) -> u128
+        ensures { result ≡ total (λ (m : Mark). finset.len m.deleted) (regions_in self.now).marks }
+    {
+        self.marks.deleted_keys()
+    }
+
     /// Takes in items, in order.
     fn take_each(&mut self, queue: LogQueue, items: Vec<LogItem>) -> Result<()>
         requires { AreStepsOfQueue queue (steps_of_items (map item_of items.items)) }
@@ -149,10 +168,11 @@ impl MarkedTables {
         let Some(first) = entries.0.first() else {
             return Ok(false);
         };
+        let (start, _) = self.ends_of(id);
         let Some(end) = self.accessor.try_replay_run(queue, id, &entries.0) else {
             return Ok(false);
         };
-        self.marks.add_run(id, queue, end, first.index)?;
+        self.marks.mark_run(queue, id, start, end, first.index)?;
         Ok(true)
     }
 
@@ -194,12 +214,17 @@ impl MarkedTables {
         Ok(())
     }
 
-    /// Takes in a step: into the region mark, and then into the table.
+    /// Takes in a step: into the region mark, which is kept from now on, and then into the table. A put leaves the
+    /// region mark as it is.
     fn take_step(&mut self, queue: LogQueue, id: u64, step: Step) -> Result<()>
         requires { IsStepOfQueue queue (step_shown step) }
         ensures { AreStepsTaken queue (one_step id (step_shown step)) result self.old self.new }
     {
+        if is_put(&step) {
+            return self.accessor.take_step(queue, id, step);
+        }
         let end = self.end_before(id, &step);
+        self.marks.keep(id, &self.accessor)?;
         self.marks.add_step(id, queue, end, &step)?;
         self.accessor.take_step(queue, id, step)
     }
@@ -212,18 +237,35 @@ impl MarkedTables {
             (mark_of (step_shown step.now)) }
     {
         match step {
-            Step::Run(_) => self.end_of(id),
+            Step::Run(_) => self.ends_of(id).1,
             _ => 0,
         }
     }
 
-    /// Returns the greatest index of a region plus one, or 0.
-    fn end_of(&self, id: u64) -> u64
-        ensures { result ≡ end_of (table_in self.now.accessor.tables id).entries }
+    /// Returns the first index of a region, and the greatest one plus one; both are 0 without entries.
+    fn ends_of(&self, id: u64) -> (u64, u64)
+        ensures ends { result ≡ (
+          start_of (table_in self.now.accessor.tables id).entries,
+          end_of (table_in self.now.accessor.tables id).entries,
+        ) }
+        ensures run { IsRun (table_in self.now.accessor.tables id).entries }
     {
         match self.accessor.get(id) {
-            Some(table) => table.end(),
-            None => 0,
+            Some(table) => {
+                table.holds_one_run();
+                table.ends()
+            }
+            None => (0, 0),
         }
+    }
+}
+
+/// Tests whether a step puts a key.
+fn is_put(step: &Step) -> bool
+    ensures { result ≡ is_put (step_shown step.now) }
+{
+    match step {
+        Step::Put { .. } => true,
+        _ => false,
     }
 }

@@ -1,20 +1,18 @@
 //! What was read of a queue's batches.
 
-ghost use Rattle.std.specs.Prelude.{◌≡◌, ◌≢◌, ◌+◌, ◌≤◌, true, List, [], ◌∷◌, OnOk, OnErr, IfOk, IfErr, Some, None, map};
+ghost use Rattle.std.specs.Prelude.{◌≡◌, ◌≢◌, true, List, [], ◌∷◌, OnOk, OnErr, IfOk, IfErr, Some, None, map};
 ghost use Rattle.std.specs.List.{AllByRecursion};
 ghost use Rattle.std.specs.Option.{option_map};
-ghost use Rattle.raft_base.specs.declared.pipe_log.LogQueue.TheVariants.{Append, Rewrite};
+ghost use Rattle.raft_base.specs.declared.pipe_log.LogQueue.TheVariants.{Rewrite};
 ghost use Rattle.raft_records.specs.Item.{Item};
-ghost use Rattle.raft_history.specs.Contexts.{new_context, Suits, files_of, follows, taken_in, merged_with, AreMerged, region_steps_or};
+ghost use Rattle.raft_history.specs.Contexts.{new_context, Suits, files_of, follows, merged_with, AreMerged, region_steps_or};
 ghost use Rattle.raft_history.specs.Kept.{kept_of};
-ghost use Rattle.raft_history.specs.MarkedRegions.{regions_after, region_steps_of_wholes};
+ghost use Rattle.raft_history.specs.MarkedRegions.{region_steps_of_wholes};
 ghost use Rattle.raft_history.specs.ReplayMachine.{event};
-ghost use Rattle.raft_accessor.specs.Accessor.{live_in_all};
 ghost use Rattle.raft_contexts.specs.BatchChecks.{marker_found};
 ghost use Rattle.raft_contexts.specs.KeptShown.{kept_shown};
-ghost use Rattle.raft_contexts.specs.MarkedTables.{regions_in, IsStepsFault};
-ghost use Rattle.raft_contexts.specs.ReadStates.{context_in, IsOfHistory, CanTakeEffect, CanTakeEffectIfAny};
-ghost use Rattle.raft_contexts.specs.RecoverContext.{reading_on, MayFollow, IsBatchCounted, IsBatchFault, AreNeighbors, IsNeighborFault};
+ghost use Rattle.raft_contexts.specs.ReadStates.{context_in, shown_with, IsOfHistory, IsTakenIn, AreWholesTaken, CanTakeEffect, CanTakeEffectIfAny};
+ghost use Rattle.raft_contexts.specs.RecoverContext.{reading_on, MayFollow, IsBatchFault, AreNeighbors, IsNeighborFault};
 ghost use Rattle.raft_contexts.specs.StepCounts.{no_counts, AreCountsAfterSteps};
 ghost use Rattle.raft_contexts.specs.WaitingShown.{whole_shown};
 
@@ -42,10 +40,6 @@ pub(crate) struct ReadState {
 
 impl ReadState {
     /// Makes the state in which nothing was read.
-    ///
-    /// # Errors
-    ///
-    /// `Memory`.
     pub(crate) fn new(alloc: Global) -> Result<ReadState>
         ensures ok { IfOk result (λ state. context_in state ≡ new_context) }
         ensures counts { IfOk result (λ state. state.regions.accessor.counts ≡ no_counts) }
@@ -62,16 +56,10 @@ impl ReadState {
     /// Takes in one more batch, that was written to this file.
     pub(crate) fn replay(&mut self, batch: LogItemBatch, file: FileId) -> Result<()>
         requires { IsOfHistory (context_in self.old) }
-        ensures next { OnOk result (MayFollow (context_in self.old) (event batch file)) }
-        ensures taken { OnOk result (taken_in (context_in self.old) (event batch file)
-            ≡ Some (context_in self.new)) }
-        ensures counts { OnOk result (IsBatchCounted (event batch file) (context_in self.old)
-            self.old.regions.accessor.counts self.new.regions.accessor.counts) }
-        ensures history { OnOk result (IsOfHistory (context_in self.new)) }
-        ensures fault { IfErr result (IsBatchFault (reading_on (context_in self.old))
-            (event batch file)) }
+        ensures { IsTakenIn (event batch file) result self.old self.new }
     {
-        match self.check(&batch, file)? {
+        self.check_file(file)?;
+        match check_batch(self.alloc, &batch, file)? {
             None => self.take_lone_batch(batch, file),
             Some((id, status)) => self.take_group_batch(id, status, batch, file),
         }
@@ -80,35 +68,18 @@ impl ReadState {
     /// Does what [`ReadState::replay`] does, with a batch as it was read.
     pub(crate) fn replay_read(&mut self, batch: &ReadBatch<'_>, file: FileId) -> Result<()>
         requires { IsOfHistory (context_in self.old) }
-        ensures next { OnOk result (MayFollow (context_in self.old) (event batch.now file)) }
-        ensures taken { OnOk result (taken_in (context_in self.old) (event batch.now file)
-            ≡ Some (context_in self.new)) }
-        ensures counts { OnOk result (IsBatchCounted (event batch.now file) (context_in self.old)
-            self.old.regions.accessor.counts self.new.regions.accessor.counts) }
-        ensures history { OnOk result (IsOfHistory (context_in self.new)) }
-        ensures fault { IfErr result (IsBatchFault (reading_on (context_in self.old))
-            (event batch.now file)) }
+        ensures { IsTakenIn (event batch.now file) result self.old self.new }
     {
         if !is_lone_read(batch, file) {
             let batch = batch.to_batch(self.alloc)?;
             return self.replay(batch, file);
         }
         self.check_file(file)?;
-        self.take_lone_read(batch, file)
+        self.regions.take_read(self.alloc, file, batch)?;
+        self.files = FileRange::joined(self.files, Some(FileRange::of(file)));
+        Ok(())
     }
 
-    /// Returns the group marker of a batch that may come next, if it has one.
-    fn check(&self, batch: &LogItemBatch, file: FileId) -> Result<Option<(u64, AtomicGroupStatus)>>
-        ensures next { OnOk result (MayFollow (context_in self.now) (event batch.now file)) }
-        ensures marker { IfOk result (λ marker. marker ≡ marker_found file.queue batch.now) }
-        ensures fault { IfErr result (IsBatchFault (reading_on (context_in self.now))
-            (event batch.now file)) }
-    {
-        self.check_file(file)?;
-        check_batch(self.alloc, batch, file)
-    }
-
-    /// Tests whether a batch of this file may come next.
     fn check_file(&self, file: FileId) -> Result<()>
         ensures queue { OnOk result (Suits file.queue (context_in self.now).files) }
         ensures files { OnOk result ((items : List Item)
@@ -130,33 +101,9 @@ impl ReadState {
         requires history { IsOfHistory (context_in self.old) }
         requires next { MayFollow (context_in self.old) (event batch file) }
         requires without_marker { marker_found file.queue batch ≡ None }
-        ensures taken { OnOk result (taken_in (context_in self.old) (event batch file)
-            ≡ Some (context_in self.new)) }
-        ensures counts { OnOk result (IsBatchCounted (event batch file) (context_in self.old)
-            self.old.regions.accessor.counts self.new.regions.accessor.counts) }
-        ensures history { OnOk result (IsOfHistory (context_in self.new)) }
-        ensures fault { IfErr result (IsBatchFault (reading_on (context_in self.old))
-            (event batch file)) }
+        ensures { IsTakenIn (event batch file) result self.old self.new }
     {
         self.regions.take_items(file, batch)?;
-        self.files = FileRange::joined(self.files, Some(FileRange::of(file)));
-        Ok(())
-    }
-
-    /// Does what [`ReadState::take_lone_batch`] does, with a batch as it was read.
-    fn take_lone_read(&mut self, batch: &ReadBatch<'_>, file: FileId) -> Result<()>
-        requires history { IsOfHistory (context_in self.old) }
-        requires next { MayFollow (context_in self.old) (event batch.now file) }
-        requires without_marker { marker_found file.queue batch.now ≡ None }
-        ensures taken { OnOk result (taken_in (context_in self.old) (event batch.now file)
-            ≡ Some (context_in self.new)) }
-        ensures counts { OnOk result (IsBatchCounted (event batch.now file) (context_in self.old)
-            self.old.regions.accessor.counts self.new.regions.accessor.counts) }
-        ensures history { OnOk result (IsOfHistory (context_in self.new)) }
-        ensures fault { IfErr result (IsBatchFault (reading_on (context_in self.old))
-            (event batch.now file)) }
-    {
-        self.regions.take_read(self.alloc, file, batch)?;
         self.files = FileRange::joined(self.files, Some(FileRange::of(file)));
         Ok(())
     }
@@ -172,13 +119,7 @@ impl ReadState {
         requires history { IsOfHistory (context_in self.old) }
         requires next { MayFollow (context_in self.old) (event batch file) }
         requires with_marker { marker_found file.queue batch ≡ Some (id, status) }
-        ensures taken { OnOk result (taken_in (context_in self.old) (event batch file)
-            ≡ Some (context_in self.new)) }
-        ensures counts { OnOk result (IsBatchCounted (event batch file) (context_in self.old)
-            self.old.regions.accessor.counts self.new.regions.accessor.counts) }
-        ensures history { OnOk result (IsOfHistory (context_in self.new)) }
-        ensures fault { IfErr result (IsBatchFault (reading_on (context_in self.old))
-            (event batch file)) }
+        ensures { IsTakenIn (event batch file) result self.old self.new }
     {
         let items = WaitingItems::of_items(batch.into_items())?;
         let whole = self.groups.take_in(id, status, items, file.seq)?;
@@ -202,26 +143,46 @@ impl ReadState {
             (reading_on (context_in newer))) }
     {
         self.check_neighbor(&newer, queue)?;
-        self.join(newer, queue)
+        let ReadState {
+            regions,
+            groups,
+            files,
+            ..
+        } = newer;
+        let wholes = self.groups.join(groups)?;
+        take_wholes(&mut self.regions, wholes)?;
+        self.regions.join(queue, regions)?;
+        self.files = FileRange::joined(self.files, files);
+        Ok(())
     }
 
-    /// Counts what it holds.
     pub(crate) fn kept(&self) -> Kept
         ensures { kept_shown result ≡ kept_of (context_in self.now) }
     {
-        let MarkedTables { accessor, marks } = &self.regions;
+        let accessor = &self.regions.accessor;
         let (entries, keys) = accessor.totals();
         Kept {
             entries,
             keys,
-            marks: marks.len() as u128 + self.groups.len() as u128,
-            deleted_keys: marks.deleted_keys(),
+            marks: self.regions.marks_count() + self.groups.len() as u128,
+            deleted_keys: self.regions.deleted_keys(),
             cleaned: accessor.cleaned_regions().len() as u128,
             waiting_items: self.groups.waiting_items(),
         }
     }
 
-    /// Tests whether what was read of newer batches may be taken in.
+    /// Counts what it holds, of region marks the kept ones alone.
+    pub(crate) fn kept_overlaid(&self) -> Kept
+        ensures { kept_shown result ≡ kept_of (shown_with self.now.regions.marks self.now) }
+    {
+        let marks = &self.regions.marks;
+        Kept {
+            marks: marks.len() as u128 + self.groups.len() as u128,
+            deleted_keys: marks.deleted_keys(),
+            ..self.kept()
+        }
+    }
+
     fn check_neighbor(&self, newer: &ReadState, queue: LogQueue) -> Result<()>
         ensures ok { OnOk result (AreNeighbors queue (context_in self.now)
             (context_in newer.now)) }
@@ -239,48 +200,16 @@ impl ReadState {
         }
         Ok(())
     }
-
-    /// Takes in a neighbor.
-    fn join(&mut self, newer: ReadState, queue: LogQueue) -> Result<()>
-        requires older { IsOfHistory (context_in self.old) }
-        requires newer { IsOfHistory (context_in newer) }
-        requires neighbors { AreNeighbors queue (context_in self.old) (context_in newer) }
-        ensures regions { OnOk result (AreMerged queue (context_in self.old) (context_in newer)
-            (context_in self.new).regions) }
-        ensures merged { OnOk result (context_in self.new
-            ≡ merged_with (context_in self.old) (context_in newer) (context_in self.new).regions) }
-        ensures history { OnOk result (IsOfHistory (context_in self.new)) }
-        ensures fault { IfErr result (IsNeighborFault queue (reading_on (context_in self.old))
-            (reading_on (context_in newer))) }
-    {
-        let ReadState {
-            regions,
-            groups,
-            files,
-            ..
-        } = newer;
-        let wholes = self.groups.join(groups)?;
-        take_wholes(&mut self.regions, wholes)?;
-        self.regions.join(queue, regions)?;
-        self.files = FileRange::joined(self.files, files);
-        Ok(())
-    }
 }
 
 /// Takes in a group that is whole, if there is one.
 fn take_whole(regions: &mut MarkedTables, whole: Option<WholeGroup>) -> Result<()>
     requires { CanTakeEffectIfAny (option_map whole_shown whole) }
-    ensures taken { OnOk result (regions_after Rewrite (regions_in regions.old)
-        (region_steps_or (option_map whole_shown whole))
-        ≡ Some (regions_in regions.new)) }
-    ensures cleaned { OnOk result (regions.new.accessor.cleaned ≡ regions.old.accessor.cleaned) }
+    ensures wholes { AreWholesTaken (region_steps_or (option_map whole_shown whole)) result
+        regions.old regions.new }
     ensures counts { OnOk result (AreCountsAfterSteps Rewrite regions.old.accessor.tables
         (region_steps_or (option_map whole_shown whole)) regions.old.accessor.counts
         regions.new.accessor.counts) }
-    ensures fault { IfErr result (IsStepsFault Rewrite (regions_in regions.old)
-        (region_steps_or (option_map whole_shown whole))) }
-    ensures other { OnOk result (live_in_all Append regions.new.accessor.tables
-        ≤ live_in_all Append regions.old.accessor.tables) }
 {
     match whole {
         Some(whole) => regions.take_group(whole),
@@ -291,14 +220,8 @@ fn take_whole(regions: &mut MarkedTables, whole: Option<WholeGroup>) -> Result<(
 /// Takes in groups that are whole, one after another.
 fn take_wholes(regions: &mut MarkedTables, wholes: Vec<WholeGroup>) -> Result<()>
     requires { AllByRecursion CanTakeEffect (map whole_shown wholes.items) }
-    ensures taken { OnOk result (regions_after Rewrite (regions_in regions.old)
-        (region_steps_of_wholes (map whole_shown wholes.items))
-        ≡ Some (regions_in regions.new)) }
-    ensures cleaned { OnOk result (regions.new.accessor.cleaned ≡ regions.old.accessor.cleaned) }
-    ensures fault { IfErr result (IsStepsFault Rewrite (regions_in regions.old)
-        (region_steps_of_wholes (map whole_shown wholes.items))) }
-    ensures other { OnOk result (live_in_all Append regions.new.accessor.tables
-        ≤ live_in_all Append regions.old.accessor.tables) }
+    ensures wholes { AreWholesTaken (region_steps_of_wholes (map whole_shown wholes.items)) result
+        regions.old regions.new }
     ensures none { OnErr result (map whole_shown wholes.items ≢ []) }
 {
     for whole in wholes {

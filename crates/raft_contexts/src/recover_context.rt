@@ -202,10 +202,11 @@ impl MemTableRecoverContext {
         ensures accepted { OnOk result (self.now.stage ≢ Failed) }
         ensures failed { IfErr result (λ e. (e ≡ Error.Failed) × (self.now.stage ≡ Failed)) }
     {
-        if self.stage == ContextStage::Failed {
-            return Err(Error::Failed);
+        match self.stage {
+            ContextStage::Reading => Ok(self.state.kept()),
+            ContextStage::Overlaid => Ok(self.state.kept_overlaid()),
+            ContextStage::Failed => Err(Error::Failed),
         }
-        Ok(self.state.kept())
     }
 
     /// Returns the tables of all regions, with their counts and the regions that were cleaned.
@@ -250,7 +251,10 @@ impl ReplayMachine for MemTableRecoverContext {
     }
 
     fn replay_read(&mut self, batch: &ReadBatch<'_>, file_id: FileId) -> Result<()> {
-        self.replay_read(batch, file_id)
+        self.stage.begin()?;
+        self.state.replay_read(batch, file_id)?;
+        self.stage = ContextStage::Reading;
+        Ok(())
     }
 
     fn merge(&mut self, rhs: MemTableRecoverContext, queue: LogQueue) -> Result<()> {

@@ -1,21 +1,23 @@
 //! The region marks of some regions.
 
-ghost use Rattle.std.specs.Prelude.{◌≡◌, ◌≤◌, ◌<◌, length, replicate, IfOk, OnOk, OnErr, Some};
+ghost use Rattle.std.specs.Prelude.{◌≡◌, ◌≤◌, ◌<◌, length, replicate, IfOk, OnOk, OnErr, Some, is_some};
 ghost use Rattle.std.specs.FinMap as finite;
 ghost use Rattle.std.specs.FinSet as finset;
+ghost use Rattle.std.specs.Map.{keys_of};
 ghost use Rattle.raft_history.specs.Records.{total};
 ghost use Rattle.raft_table.specs.Marks.{Mark};
 ghost use Rattle.raft_table.specs.MarkJoins.{fresh, mark_of, joined_at};
 ghost use Rattle.raft_table.specs.StepShown.{step_shown};
 ghost use Rattle.raft_accessor.specs.Slots.{together, AreSlots};
-ghost use Rattle.raft_contexts.specs.RegionMarks.{mark_in, with_slots};
+ghost use Rattle.raft_contexts.specs.ImpliedMarks.{count_absent, implied_mark, all_marks};
+ghost use Rattle.raft_contexts.specs.RegionMarks.{mark_in, run_at, with_slots, IsRunKept};
 
 mod slot;
 mod small_mark;
 
-use raft_accessor::slot_of;
+use raft_accessor::{MemTableAccessor, slot_of};
 use raft_base::{AllocResult, LogQueue};
-use raft_table::{Mark, Step};
+use raft_table::{Mark, MemTable, Step};
 pub(crate) use slot::SlotMarks;
 pub(crate) use small_mark::SmallMark;
 use std::alloc::Global;
@@ -80,6 +82,17 @@ impl RegionMarks {
         count
     }
 
+    /// Returns how many region marks are those of regions without a table.
+    pub(crate) fn count_absent(&self, tables: &MemTableAccessor) -> u64
+        ensures { result ≡ count_absent tables.now.tables (keys_of (finite.entries self.now)) }
+    {
+        let mut count = 0;
+        for slot in &self.slots {
+            count += slot.count_absent(tables);
+        }
+        count
+    }
+
     /// Joins the region mark of a run that starts at `start` to the region mark of a region, where the region's
     /// own entries end at `end`.
     ///
@@ -131,6 +144,89 @@ impl RegionMarks {
     {
         make_slots(&mut self.slots, self.alloc)?;
         self.slots[slot_of(id)].join(id, queue, end_at_reach, newer)
+    }
+
+    /// Tests whether the region mark of a region is kept here.
+    fn has(&self, id: u64) -> bool
+        ensures { result ≡ is_some (finite.get self.now id) }
+    {
+        if self.slots.is_empty() {
+            return false;
+        }
+        self.slots[slot_of(id)].has(id)
+    }
+
+    /// Keeps the region mark of a run that starts at `start`.
+    ///
+    /// # Errors
+    ///
+    /// `AllocError`. The region marks are then as they were.
+    fn put_run(&mut self, id: u64, start: u64) -> AllocResult<()>
+        ensures ok { OnOk result (self.new ≡ finite.insert self.old id (run_at start)) }
+        ensures err { OnErr result (self.new ≡ self.old) }
+    {
+        make_slots(&mut self.slots, self.alloc)?;
+        self.slots[slot_of(id)].put_run(id, start)
+    }
+
+    /// Keeps the region mark of a region, if its table has implied it so far.
+    ///
+    /// # Errors
+    ///
+    /// `AllocError`.
+    pub(crate) fn keep(&mut self, id: u64, tables: &MemTableAccessor) -> AllocResult<()>
+        ensures same { all_marks tables.now.tables self.new ≡ all_marks tables.now.tables self.old }
+        ensures kept { OnOk result (mark_in self.new id ≡ mark_in (all_marks tables.now.tables self.old) id) }
+    {
+        if self.has(id) {
+            return Ok(());
+        }
+        let Some(table) = tables.get(id) else {
+            return Ok(());
+        };
+        match table.first_index() {
+            Some(start) => self.put_run(id, start),
+            None => Ok(()),
+        }
+    }
+
+    /// Joins the region mark of a run from `first` on to that of its region, whose entries went from `start` to `end`
+    /// in front of the run, where the table doesn't imply it still.
+    ///
+    /// # Errors
+    ///
+    /// `AllocError`.
+    pub(crate) fn mark_run(
+        &mut self,
+        queue: LogQueue,
+        id: u64,
+        start: u64,
+        end: u64,
+        first: u64,
+    ) -> AllocResult<()>
+        ensures { OnOk result (IsRunKept queue id start end first self.old self.new) }
+    {
+        if self.has(id) {
+            return self.add_run(id, queue, end, first);
+        }
+        if end == 0 {
+            return Ok(());
+        }
+        if start <= first && first <= end {
+            return Ok(());
+        }
+        self.put_run(id, start)?;
+        self.add_run(id, queue, end, first)
+    }
+
+    /// Returns the region mark that a table implies.
+    pub(crate) fn implied_by(&self, table: &MemTable) -> Mark
+        ensures { result ≡ implied_mark table.now }
+    {
+        match table.first_index() {
+            Some(first) => Mark::of_run(self.alloc, first),
+            None => Mark::new(self.alloc),
+        }
     }
 
     /// Makes room in a slot, up to `count` region marks.

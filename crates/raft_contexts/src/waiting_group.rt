@@ -93,23 +93,15 @@ impl WaitingGroup {
     pub fn one_marker(status: AtomicGroupStatus, items: WaitingItems, seq: FileSeq) -> WaitingGroup
         ensures { group_shown result ≡ one_marker status items seq }
     {
-        match status {
-            AtomicGroupStatus::Begin => WaitingGroup {
-                front: GroupFront::Begun,
-                stretch: Some(OpenStretch {
-                    first_seq: seq,
-                    items,
-                }),
-            },
-            AtomicGroupStatus::Middle => WaitingGroup {
-                front: GroupFront::Open(items),
-                stretch: None,
-            },
-            AtomicGroupStatus::End => WaitingGroup {
-                front: GroupFront::Ended(items, seq),
-                stretch: None,
-            },
-        }
+        let (front, stretch) = match status {
+            AtomicGroupStatus::Begin => {
+                let first_seq = seq;
+                (GroupFront::Begun, Some(OpenStretch { first_seq, items }))
+            }
+            AtomicGroupStatus::Middle => (GroupFront::Open(items), None),
+            AtomicGroupStatus::End => (GroupFront::Ended(items, seq), None),
+        };
+        WaitingGroup { front, stretch }
     }
 
     /// Returns how many items wait.
@@ -136,22 +128,14 @@ impl WaitingGroup {
         ensures whole { IfOk result (λ r. option_map whole_shown r.1
             ≡ whole_group (group_shown self) (group_shown newer)) }
     {
-        let WaitingGroup {
-            front: older_front,
-            stretch: older_stretch,
-        } = self;
-        let WaitingGroup {
-            front: newer_front,
-            stretch: newer_stretch,
-        } = newer;
-        let (front, stretch, whole) = match (older_front, newer_front) {
-            (GroupFront::Open(items), front) => (front.led_by(items)?, newer_stretch, None),
-            (front, GroupFront::Open(items)) => (front, going_on(older_stretch, items)?, None),
+        let (front, stretch, whole) = match (self.front, newer.front) {
+            (GroupFront::Open(items), front) => (front.led_by(items)?, newer.stretch, None),
+            (front, GroupFront::Open(items)) => (front, going_on(self.stretch, items)?, None),
             (front, GroupFront::Ended(items, last_seq)) => {
-                let whole = ended(older_stretch, items, last_seq)?;
-                (front, newer_stretch, whole)
+                let whole = ended(self.stretch, items, last_seq)?;
+                (front, newer.stretch, whole)
             }
-            (front, GroupFront::Begun) => (front, newer_stretch, None),
+            (front, GroupFront::Begun) => (front, newer.stretch, None),
         };
         Ok((WaitingGroup { front, stretch }, whole))
     }
@@ -161,13 +145,11 @@ impl WaitingGroup {
 fn going_on(stretch: Option<OpenStretch>, items: WaitingItems) -> AllocResult<Option<OpenStretch>>
     ensures { IfOk result (λ r. stretch_shown r ≡ carried_stretch (stretch_shown stretch) items) }
 {
-    match stretch {
-        Some(mut open) => {
-            open.items.append(items)?;
-            Ok(Some(open))
-        }
-        None => Ok(None),
-    }
+    let Some(mut open) = stretch else {
+        return Ok(None);
+    };
+    open.items.append(items)?;
+    Ok(Some(open))
 }
 
 /// Returns the group that an `End` makes whole, if a stretch is open.
@@ -179,17 +161,13 @@ fn ended(
     ensures { IfOk result (λ r. option_map whole_shown r ≡ whole_of (stretch_shown stretch)
         (Ended items last_seq)) }
 {
-    match stretch {
-        Some(open) => {
-            let mut all = open.items;
-            all.append(items)?;
-            let whole = WholeGroup {
-                items: all,
-                first_seq: open.first_seq,
-                last_seq,
-            };
-            Ok(Some(whole))
-        }
-        None => Ok(None),
-    }
+    let Some(mut open) = stretch else {
+        return Ok(None);
+    };
+    open.items.append(items)?;
+    Ok(Some(WholeGroup {
+        items: open.items,
+        first_seq: open.first_seq,
+        last_seq,
+    }))
 }

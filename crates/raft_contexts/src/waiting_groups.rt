@@ -115,14 +115,6 @@ impl WaitingGroups {
             → IfOk result (λ w. steps_of r (h ++ k)
             ≡ steps_of r h ++ (steps_of_wholes r (map whole_shown w.items) ++ steps_of r k)) }
     {
-        self.join_each(newer)
-    }
-
-    /// Joins one group of the newer history after another.
-    fn join_each(&mut self, newer: WaitingGroups) -> AllocResult<Vec<WholeGroup>>
-        ensures known { OnOk result (self.new ≡ joined_groups self.old newer) }
-        ensures wholes { IfOk result (λ w. map whole_shown w.items ≡ whole_groups self.old newer) }
-    {
         let mut rest = newer;
         let mut wholes = Vec::new(self.alloc);
         while let Some((id, group)) = rest.take_first() {

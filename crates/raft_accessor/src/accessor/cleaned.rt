@@ -9,6 +9,7 @@ use crate::accessor::MemTableAccessor;
 use raft_base::{Error, Result};
 use raft_records::{Command, LogBatch};
 use std::alloc::Global;
+use std::mem;
 
 impl MemTableAccessor {
     /// Returns the regions that were cleaned, in order.
@@ -40,7 +41,16 @@ impl MemTableAccessor {
         Ok(logs)
     }
 
-    /// Lists a region as cleaned.
+    /// Lists the cleaned regions of another accessor in the place of the own ones.
+    #[doc(hidden)]
+    pub fn take_cleaned(&mut self, appended: &mut MemTableAccessor)
+        ensures tables { self.new.tables ≡ self.old.tables }
+        ensures cleaned { self.new.cleaned ≡ appended.old.cleaned }
+        ensures left { appended.new.tables ≡ appended.old.tables }
+    {
+        mem::swap(&mut self.cleaned, &mut appended.cleaned);
+    }
+
     pub(super) fn list(&mut self, id: u64) -> Result<()>
         ensures ok { OnOk result (self.new ≡ record self.old
             { cleaned = self.old.cleaned ++ id ∷ [] }) }

@@ -13,7 +13,7 @@ use raft_table::Mark;
 
 impl MemTableAccessor {
     /// Puts a newer neighbor's table of a region, or its absence, over the older one, as the newer region mark
-    /// says. Returns the end of the older entries that the region mark's first run meets.
+    /// says. Returns where the older entries begin, and the end of those that the region mark's first run meets.
     ///
     /// # Errors
     ///
@@ -25,7 +25,7 @@ impl MemTableAccessor {
         id: u64,
         newer: Option<BoxedTable>,
         mark: &Mark,
-    ) -> Result<u64>
+    ) -> Result<(u64, u64)>
         requires region { IfSome newer (λ t. t.region_id ≡ id) }
         requires own { live_in (other queue) newer ≡ 0 }
         requires older { queue ≡ Rewrite → live_in_all Append self.old.tables ≡ 0 }
@@ -60,6 +60,7 @@ impl MemTableAccessor {
         ensures ok { OnOk result (self.new.cleaned ≡ self.old.cleaned ++ rhs.old.cleaned) }
         ensures tables { self.new.tables ≡ self.old.tables }
         ensures counts { self.new.counts ≡ self.old.counts }
+        ensures left { rhs.new.tables ≡ rhs.old.tables }
         ensures err { OnErr result ((self.new.cleaned ≡ self.old.cleaned) × (rhs.new ≡ rhs.old)) }
         ensures memory { IfErr result (λ e. e ≡ Error.Memory) }
     {

@@ -3,22 +3,24 @@
 ghost use Rattle.std.specs.Prelude.{◌≡◌, ◌≢◌, [], true, Ok, Err, OnSome, IfSome, ok_or, if◌then◌else◌};
 ghost use Rattle.raft_base.specs.declared.errors.Error.TheVariants.{Memory};
 ghost use Rattle.raft_base.specs.declared.pipe_log.LogQueue.{LogQueue};
+ghost use Rattle.raft_base.specs.declared.pipe_log.LogQueue.TheVariants.{Rewrite};
 ghost use Rattle.raft_base.specs.Runs.{end_of, entries_of_block};
 ghost use Rattle.raft_table.specs.Queues.{other};
-ghost use Rattle.raft_table.specs.RunShown.{run_shown};
 ghost use Rattle.raft_table.specs.Start.{counts_with_run};
 ghost use Rattle.raft_table.specs.StepShown.{step_shown};
 ghost use Rattle.raft_table.specs.Steps.{Put};
 ghost use Rattle.raft_table.specs.Table.{after_replay, live_of};
 ghost use Rattle.raft_table.specs.TableEntries.{IsRunIn, start_of};
 ghost use Rattle.raft_table.specs.TakenSteps.{IsStepOfQueue};
-ghost use Rattle.raft_accessor.specs.Accessor.{table_in, AreCountsOf};
+ghost use Rattle.raft_accessor.specs.Accessor.{table_in, live_in, AreCountsOf};
 ghost use Rattle.raft_accessor.specs.AccessorCalls.{IsTableChanged};
+ghost use Rattle.raft_accessor.specs.TableOverlays.{IsTableOverlaid};
 ghost use Rattle.raft_accessor.specs.TableSteps.{IsStepTaken};
 
 use crate::accessor::{MemTableAccessor, slot_of};
+use crate::boxed_table::BoxedTable;
 use raft_base::{EntryIndex, FileBlockHandle, FileId, LogQueue, Result};
-use raft_table::{Run, Step};
+use raft_table::{Mark, Run, Step};
 
 impl MemTableAccessor {
     /// Does a step of `queue` that is read again on its region's table, which is made where there is none, and
@@ -51,36 +53,13 @@ impl MemTableAccessor {
             ≡ counts_with_run queue (table_in self.old.tables id).entries run.now self.old.counts) }
         ensures end { IfSome result (λ end. end ≡ end_of (table_in self.old.tables id).entries) }
     {
-        let (_, end) = self.try_replay(queue, id, &Run::Entries(run))?;
+        let run = Run::Entries(run);
+        let (_, end) = self.slots[slot_of(id)].try_replay(queue, id, &run, &mut self.stats)?;
         Some(end)
     }
 
-    /// Does what [`MemTableAccessor::try_replay_run`] does with the entries of the block at `place`, from
-    /// the index `first` on.
-    pub fn try_replay_spans(
-        &mut self,
-        queue: LogQueue,
-        id: u64,
-        first: u64,
-        place: FileBlockHandle,
-        spans: &[(u32, u32)],
-    ) -> Option<u64>
-        requires run { IsRunIn queue (entries_of_block first place spans.now) }
-        ensures changed { IsTableChanged (after_replay queue (table_in self.old.tables id)
-            (entries_of_block first place spans.now)) (λ e. ⊥) id (ok_or result Memory) self.old
-            self.new }
-        ensures accepted { OnSome result (live_of (other queue) (table_in self.old.tables id) ≡ 0) }
-        ensures counts { OnSome result (self.new.counts
-            ≡ counts_with_run queue (table_in self.old.tables id).entries
-            (entries_of_block first place spans.now) self.old.counts) }
-        ensures end { IfSome result (λ end. end ≡ end_of (table_in self.old.tables id).entries) }
-    {
-        let (_, end) = self.try_replay_block(queue, id, first, place, spans)?;
-        Some(end)
-    }
-
-    /// Does what [`MemTableAccessor::try_replay_spans`] does, and returns where the entries of the table
-    /// began as well, in front of where they ended.
+    /// Does what [`MemTableAccessor::try_replay_run`] does with the entries of the block at `place`, from the
+    /// index `first` on, and returns where the entries of the table began as well, in front of where they ended.
     #[doc(hidden)]
     #[inline(always)]
     pub fn try_replay_block(
@@ -105,35 +84,12 @@ impl MemTableAccessor {
               end_of (table_in self.old.tables id).entries,
             )) }
     {
-        self.try_replay(
-            queue,
-            id,
-            &Run::Block {
-                first,
-                handle: place,
-                spans,
-            },
-        )
-    }
-
-    /// Does what [`MemTableAccessor::try_replay_block`] does with any run.
-    #[inline(always)]
-    fn try_replay(&mut self, queue: LogQueue, id: u64, run: &Run<'_>) -> Option<(u64, u64)>
-        requires run { IsRunIn queue (run_shown run.now) }
-        ensures changed { IsTableChanged
-            (after_replay queue (table_in self.old.tables id) (run_shown run.now))
-            (λ e. ⊥) id (ok_or result Memory) self.old self.new }
-        ensures accepted { OnSome result (live_of (other queue) (table_in self.old.tables id) ≡ 0) }
-        ensures counts { OnSome result (self.new.counts
-            ≡ counts_with_run queue (table_in self.old.tables id).entries (run_shown run.now)
-            self.old.counts) }
-        ensures ends { IfSome result
-            (λ ends. ends ≡ (
-              start_of (table_in self.old.tables id).entries,
-              end_of (table_in self.old.tables id).entries,
-            )) }
-    {
-        self.slots[slot_of(id)].try_replay(queue, id, run, &mut self.stats)
+        let run = Run::Block {
+            first,
+            handle: place,
+            spans,
+        };
+        self.slots[slot_of(id)].try_replay(queue, id, &run, &mut self.stats)
     }
 
     /// Does what [`MemTableAccessor::take_step`] does with the put of a key and its value, which are copied,
@@ -148,5 +104,28 @@ impl MemTableAccessor {
         ensures entries { result ≡ true → (table_in self.old.tables id).entries ≢ [] }
     {
         self.slots[slot_of(id)].try_put(id, key, value, file, &mut self.stats)
+    }
+
+    /// Puts an appended table of a region, or its absence, over the rewritten one, as the region mark of the
+    /// append queue says.
+    ///
+    /// # Errors
+    ///
+    /// Those of [`MemTable::overlay`].
+    #[doc(hidden)]
+    pub fn overlay_table(
+        &mut self,
+        id: u64,
+        appended: Option<BoxedTable>,
+        mark: &Mark,
+    ) -> Result<()>
+        requires region { IfSome appended (λ t. t.region_id ≡ id) }
+        requires own { live_in Rewrite appended ≡ 0 }
+        ensures overlaid { IsTableOverlaid mark.now appended self.old.tables id self.old.counts
+            result self.new.tables self.new.counts }
+        ensures exact_counts { AreCountsOf self.old.tables self.old.counts }
+        ensures cleaned { self.new.cleaned ≡ self.old.cleaned }
+    {
+        self.slots[slot_of(id)].overlay_table(id, appended, mark, &mut self.stats)
     }
 }

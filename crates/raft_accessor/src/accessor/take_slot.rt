@@ -1,7 +1,9 @@
-//! The tables of one slot, taken out of those of all regions.
+//! The tables of one slot, or of each, taken out of those of all regions.
 
-ghost use Rattle.std.specs.Prelude.{◌≡◌, ◌<◌};
+ghost use Rattle.std.specs.Prelude.{◌≡◌, ◌<◌, ◌^◌, length};
+ghost use Rattle.std.specs.FinMap as finite;
 ghost use Rattle.raft_accessor.specs.SlotTables.{IsSlotTaken, counts_of, with_all_deleted};
+ghost use Rattle.raft_accessor.specs.Slots.{together, AreSlots};
 
 use crate::accessor::MemTableAccessor;
 use crate::region_tables::RegionTables;
@@ -22,5 +24,28 @@ impl MemTableAccessor {
         let tables = mem::replace(&mut self.slots[number], none);
         let counts = tables.take_counts(&mut self.stats);
         (tables, counts)
+    }
+
+    /// Returns the tables of all slots, in order.
+    #[doc(hidden)]
+    pub fn into_slots(self) -> Vec<RegionTables>
+        ensures tables { together result.items ≡ self.tables }
+        ensures slots { AreSlots 0 result.items }
+        ensures all { length result.items ≡ 128 }
+    {
+        self.slots
+    }
+
+    /// Returns how many regions have a table.
+    #[doc(hidden)]
+    pub fn tables_count(&self) -> u128
+        ensures value { result ≡ finite.len self.now.tables }
+        ensures few { result < 2 ^ 72 }
+    {
+        let mut count = 0;
+        for slot in &self.slots {
+            count += slot.len() as u128;
+        }
+        count
     }
 }

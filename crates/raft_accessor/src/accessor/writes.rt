@@ -11,9 +11,11 @@ ghost use Rattle.raft_accessor.specs.Accessor.{Accessor};
 ghost use Rattle.raft_accessor.specs.AccessorCalls.{IsWritten};
 ghost use Rattle.raft_accessor.specs.AppendChecks.{AreAccepted, AreAcceptedOncePlaced, AreRefusedOncePlaced, IsAppendCheckFault};
 ghost use Rattle.raft_accessor.specs.Writes.{Appending, Replaying, Rewriting, AreWritten, AreItemsRefused};
+ghost use Rattle.raft_accessor.specs.WritingShown.{writing_shown};
 
 use crate::accessor::{MemTableAccessor, slot_of};
 use crate::append_check::AppendCheck;
+use crate::item_writes::Writing;
 use raft_base::{Error, FileSeq, LogQueue, Result};
 use raft_records::LogItem;
 
@@ -54,10 +56,7 @@ impl MemTableAccessor {
             × (u : I.IntoIter) × I.into_iter_gives items it × Yields I.IntoIter.next_gives it xs u
             × AreItemsRefused Appending (map item_of xs) self.old self.new e) }
     {
-        for item in items {
-            self.append_item(item)?;
-        }
-        Ok(())
+        self.write_items(Writing::Appending, items)
     }
 
     /// Writes items of the append queue that are read again to the tables, in order.
@@ -76,10 +75,7 @@ impl MemTableAccessor {
             × (u : I.IntoIter) × I.into_iter_gives items it × Yields I.IntoIter.next_gives it xs u
             × AreItemsRefused (Replaying Append) (map item_of xs) self.old self.new e) }
     {
-        for item in items {
-            self.replay_item(LogQueue::Append, item)?;
-        }
-        Ok(())
+        self.write_items(Writing::Replaying(LogQueue::Append), items)
     }
 
     /// Writes items of the rewrite queue that are read again to the tables, in order.
@@ -98,10 +94,7 @@ impl MemTableAccessor {
             × (u : I.IntoIter) × I.into_iter_gives items it × Yields I.IntoIter.next_gives it xs u
             × AreItemsRefused (Replaying Rewrite) (map item_of xs) self.old self.new e) }
     {
-        for item in items {
-            self.replay_item(LogQueue::Rewrite, item)?;
-        }
-        Ok(())
+        self.write_items(Writing::Replaying(LogQueue::Rewrite), items)
     }
 
     /// Writes items that were rewritten to the file of number `new_file` of the rewrite queue to the
@@ -127,34 +120,32 @@ impl MemTableAccessor {
             × (u : I.IntoIter) × I.into_iter_gives items it × Yields I.IntoIter.next_gives it xs u
             × AreItemsRefused (Rewriting watermark new_file) (map item_of xs) self.old self.new e) }
     {
+        self.write_items(Writing::Rewriting(watermark, new_file), items)
+    }
+
+    #[inline(always)]
+    fn write_items<I: IntoIterator<Item = LogItem>>(&mut self, how: Writing, items: I) -> Result<()>
+        requires { (it : I.IntoIter) → I.into_iter_gives items it
+            → I.IntoIter.can_next it × IsFinite (I.IntoIter.remaining it) }
+        ensures ok { OnOk result ((it : I.IntoIter) × (xs : List LogItem)
+            × I.into_iter_gives items it × Drains I.IntoIter.next_gives it xs
+            × AreWritten (writing_shown how) (map item_of xs) self.old self.new) }
+        ensures refused { IfErr result (λ e. (it : I.IntoIter) × (xs : List LogItem)
+            × (u : I.IntoIter) × I.into_iter_gives items it × Yields I.IntoIter.next_gives it xs u
+            × AreItemsRefused (writing_shown how) (map item_of xs) self.old self.new e) }
+    {
         for item in items {
-            self.rewrite_item(item, watermark, new_file)?;
+            self.write_item(how, item)?;
         }
         Ok(())
     }
 
-    /// Writes a new item of the append queue.
-    fn append_item(&mut self, item: LogItem) -> Result<()>
-        ensures { IsWritten Appending (item_of item) result self.old self.new }
+    #[inline(always)]
+    fn write_item(&mut self, how: Writing, item: LogItem) -> Result<()>
+        ensures { IsWritten (writing_shown how) (item_of item) result self.old self.new }
     {
         let id = item.raft_group_id;
-        self.slots[slot_of(id)].append_item(item, &mut self.stats, &mut self.cleaned)
-    }
-
-    /// Writes an item that is read again.
-    fn replay_item(&mut self, queue: LogQueue, item: LogItem) -> Result<()>
-        ensures { IsWritten (Replaying queue) (item_of item) result self.old self.new }
-    {
-        let id = item.raft_group_id;
-        self.slots[slot_of(id)].replay_item(queue, item, &mut self.stats, &mut self.cleaned)
-    }
-
-    /// Writes a rewritten item.
-    fn rewrite_item(&mut self, item: LogItem, gate: Option<FileSeq>, seq: FileSeq) -> Result<()>
-        ensures { IsWritten (Rewriting gate seq) (item_of item) result self.old self.new }
-    {
-        let id = item.raft_group_id;
-        self.slots[slot_of(id)].rewrite_item(item, gate, seq, &mut self.stats)
+        self.slots[slot_of(id)].write_item(how, item, &mut self.stats, &mut self.cleaned)
     }
 }
 

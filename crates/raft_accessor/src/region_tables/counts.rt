@@ -26,7 +26,6 @@ impl RegionTables {
         )
     }
 
-    /// Takes the records of all tables off some counts.
     fn delete_all(&self, stats: &mut GlobalStats)
         requires { (q : LogQueue) → live_in_all q self.now ≤ live q stats.old }
         ensures { stats.new ≡ with_all_deleted self.now stats.old }
@@ -37,7 +36,6 @@ impl RegionTables {
     }
 }
 
-/// Makes counts of so many live records.
 fn new_counts(append: usize, rewrite: usize) -> GlobalStats
     ensures { result ≡ record { append = append; written = rewrite; deleted = 0 } }
 {

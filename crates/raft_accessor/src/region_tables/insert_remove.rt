@@ -1,27 +1,22 @@
 //! Tables put under their regions, and taken away.
 
-ghost use Rattle.std.specs.Prelude.{◌≡◌, ◌≤◌, ◌^◌, ◌+◌, ◌⊎◌, OnOk, OnErr, IfOk, IfErr, IfSome};
+ghost use Rattle.std.specs.Prelude.{◌≡◌, ◌≤◌, ◌+◌, IfSome};
 ghost use Rattle.std.specs.FinMap as finite;
 ghost use Rattle.raft_base.specs.declared.pipe_log.LogQueue.{LogQueue};
-ghost use Rattle.raft_history.specs.RegionSteps.{with_table};
 ghost use Rattle.raft_table.specs.Counts.{live};
 ghost use Rattle.raft_table.specs.Steps.{table_of};
-ghost use Rattle.raft_table.specs.Table.{empty_table, live_of, with_table_added, with_table_deleted, IsCounted, IsRecounted};
+ghost use Rattle.raft_table.specs.Table.{empty_table, live_of, with_table_deleted, IsCounted, IsRecounted};
 ghost use Rattle.raft_accessor.specs.Accessor.{table_in};
+ghost use Rattle.raft_accessor.specs.Updates.{IsInserted};
 
 use crate::boxed_table::{BoxedTable, unboxed};
 use crate::region_tables::RegionTables;
-use raft_base::{Error, LogQueue, Result};
+use raft_base::Result;
 use raft_table::{GlobalStats, MemTable};
 
 impl RegionTables {
-    /// Puts a table under its region's id and counts its records. The table that stood there is
-    /// taken off the counts and handed back.
-    ///
-    /// # Errors
-    ///
-    /// `Full` where more than 2^64 - 1 records would be live in a queue beside the table that is
-    /// replaced, and `Memory`. The tables and the counts are then as they were.
+    /// Puts a table under its region's id, and hands back the one that stood there, with the errors of
+    /// [`MemTableAccessor::insert`](crate::MemTableAccessor::insert).
     pub fn insert(
         &mut self,
         id: u64,
@@ -30,29 +25,13 @@ impl RegionTables {
     ) -> Result<Option<MemTable>>
         requires region { table.region_id ≡ id }
         requires counted { IsCounted (table_in self.old id) stats.old }
-        ensures ok { OnOk result (self.new ≡ finite.insert self.old id table) }
-        ensures replaced { IfOk result (λ t. t ≡ finite.get self.old id) }
-        ensures own { IfOk result (λ t. IfSome t (λ t. t.region_id ≡ id)) }
-        ensures counts { OnOk result (stats.new
-            ≡ with_table_deleted (table_in self.old id) (with_table_added table stats.old)) }
-        ensures err { OnErr result (self.new ≡ self.old) }
-        ensures counts_err { OnErr result (stats.new ≡ stats.old) }
-        ensures fault { IfErr result (λ e. (e ≡ Error.Memory)
-            ⊎ ((e ≡ Error.Full)
-            × ((q : LogQueue) × (2 ^ 64 ≤ live q stats.old + live_of q table)))) }
-        ensures one { self.new ≡ with_table self.old id (finite.get self.new id) }
-        ensures recounted { IsRecounted (table_in self.old id) (table_in self.new id) stats.old
-            stats.new }
+        ensures { IsInserted id table self.old stats.old result self.new stats.new }
     {
         let table = BoxedTable::new(self.alloc, table)?;
         Ok(unboxed(self.put(id, table, stats)?))
     }
 
     /// Does what [`RegionTables::insert`] does with a table in its box, and hands out the box that stood there.
-    ///
-    /// # Errors
-    ///
-    /// Those of [`RegionTables::insert`]. Tables and counts are then as they were.
     pub(crate) fn put(
         &mut self,
         id: u64,
@@ -61,19 +40,7 @@ impl RegionTables {
     ) -> Result<Option<BoxedTable>>
         requires region { table.region_id ≡ id }
         requires counted { IsCounted (table_in self.old id) stats.old }
-        ensures ok { OnOk result (self.new ≡ finite.insert self.old id table) }
-        ensures replaced { IfOk result (λ t. t ≡ finite.get self.old id) }
-        ensures own { IfOk result (λ t. IfSome t (λ t. t.region_id ≡ id)) }
-        ensures counts { OnOk result (stats.new
-            ≡ with_table_deleted (table_in self.old id) (with_table_added table stats.old)) }
-        ensures err { OnErr result (self.new ≡ self.old) }
-        ensures counts_err { OnErr result (stats.new ≡ stats.old) }
-        ensures fault { IfErr result (λ e. (e ≡ Error.Memory)
-            ⊎ ((e ≡ Error.Full)
-            × ((q : LogQueue) × (2 ^ 64 ≤ live q stats.old + live_of q table)))) }
-        ensures one { self.new ≡ with_table self.old id (finite.get self.new id) }
-        ensures recounted { IsRecounted (table_in self.old id) (table_in self.new id) stats.old
-            stats.new }
+        ensures { IsInserted id table self.old stats.old result self.new stats.new }
     {
         self.tables.reserve(1)?;
         stats.add_table(table.get())?;
@@ -115,7 +82,6 @@ impl RegionTables {
     }
 }
 
-/// Takes the records of a table that may have stood there off the counts.
 fn delete_replaced(id: u64, table: &Option<BoxedTable>, stats: &mut GlobalStats)
     requires { (q : LogQueue) → live_of q (table_of id table.now) ≤ live q stats.old }
     ensures counts { stats.new ≡ with_table_deleted (table_of id table.now) stats.old }

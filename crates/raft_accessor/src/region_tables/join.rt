@@ -1,21 +1,24 @@
 //! Tables of some regions joined with those of newer neighbors, each under its region mark.
 
 ghost use Rattle.std.specs.Prelude.{◌≡◌, IfSome, Some, None};
+ghost use Rattle.std.specs.FinMap as finite;
 ghost use Rattle.raft_base.specs.declared.pipe_log.LogQueue.{LogQueue};
 ghost use Rattle.raft_base.specs.declared.pipe_log.LogQueue.TheVariants.{Append, Rewrite};
 ghost use Rattle.raft_table.specs.Queues.{other};
-ghost use Rattle.raft_table.specs.Table.{live_of, IsCounted};
+ghost use Rattle.raft_base.specs.Runs.{IsRun};
+ghost use Rattle.raft_table.specs.Table.{live_of, IsCounted, IsRecounted};
+ghost use Rattle.raft_table.specs.TableEntries.{start_of};
 ghost use Rattle.raft_accessor.specs.Accessor.{table_in, live_in};
-ghost use Rattle.raft_accessor.specs.TableJoins.{IsTableJoined};
+ghost use Rattle.raft_accessor.specs.TableJoins.{IsPut, IsTableJoined};
 
 use crate::boxed_table::BoxedTable;
 use crate::region_tables::RegionTables;
 use raft_base::{AllocResult, LogQueue, Result};
-use raft_table::{GlobalStats, Mark};
+use raft_table::{GlobalStats, Mark, MemTable};
 
 impl RegionTables {
     /// Puts a newer neighbor's table of a region, or its absence, over the older one, as the newer region mark
-    /// says. Returns the end of the older entries that the region mark's first run meets.
+    /// says. Returns where the older entries begin, and the end of those that the region mark's first run meets.
     ///
     /// # Errors
     ///
@@ -27,7 +30,7 @@ impl RegionTables {
         newer: Option<BoxedTable>,
         mark: &Mark,
         stats: &mut GlobalStats,
-    ) -> Result<u64>
+    ) -> Result<(u64, u64)>
         requires region { IfSome newer (λ t. t.region_id ≡ id) }
         requires own { live_in (other queue) newer ≡ 0 }
         requires older { queue ≡ Rewrite → live_of Append (table_in self.old id) ≡ 0 }
@@ -39,6 +42,13 @@ impl RegionTables {
             Some(newer) => self.put_newer(queue, id, newer, mark, stats),
             None => self.drop_under(queue, id, mark, stats),
         }
+    }
+
+    /// Returns how many tables there are.
+    pub fn len(&self) -> usize
+        ensures { result ≡ finite.len self.now }
+    {
+        self.tables.len()
     }
 
     /// Makes room, up to `count` tables.
@@ -60,7 +70,7 @@ impl RegionTables {
         newer: BoxedTable,
         mark: &Mark,
         stats: &mut GlobalStats,
-    ) -> Result<u64>
+    ) -> Result<(u64, u64)>
         requires region { newer.region_id ≡ id }
         requires own { live_of (other queue) newer ≡ 0 }
         requires older { queue ≡ Rewrite → live_of Append (table_in self.old id) ≡ 0 }
@@ -69,11 +79,10 @@ impl RegionTables {
             stats.new }
     {
         if let Some(table) = self.tables.get_mut(&id) {
-            let mut newer = newer;
-            return table.boxed.join_under(queue, &mut newer.boxed, mark, stats);
+            return put_over(&mut table.boxed, queue, newer, mark, stats);
         }
         self.put(id, newer, stats)?;
-        Ok(0)
+        Ok((0, 0))
     }
 
     /// Drops of a region's table what a newer region mark drops whose region has no table.
@@ -83,22 +92,53 @@ impl RegionTables {
         id: u64,
         mark: &Mark,
         stats: &mut GlobalStats,
-    ) -> Result<u64>
+    ) -> Result<(u64, u64)>
         requires older { queue ≡ Rewrite → live_of Append (table_in self.old id) ≡ 0 }
         requires counted { IsCounted (table_in self.old id) stats.old }
         ensures { IsTableJoined queue mark.now None self.old id stats.old result self.new
             stats.new }
     {
         let Some(table) = self.get(id) else {
-            return Ok(0);
+            return Ok((0, 0));
         };
         if !mark.is_cleaned() {
             let empty = BoxedTable::empty(self.alloc, id)?;
             return self.put_newer(queue, id, empty, mark, stats);
         }
+        let start = start_of(table);
         let end = table.end_at_reach(mark);
         table.check_newer_mark(queue, mark, end)?;
         self.remove(id, stats);
-        Ok(end)
+        Ok((start, end))
     }
+}
+
+/// Puts a newer table over that of its region.
+fn put_over(
+    older: &mut MemTable,
+    queue: LogQueue,
+    mut newer: BoxedTable,
+    mark: &Mark,
+    stats: &mut GlobalStats,
+) -> Result<(u64, u64)>
+    requires region { older.old.region_id ≡ newer.region_id }
+    requires own { live_of (other queue) newer ≡ 0 }
+    requires older { queue ≡ Rewrite → live_of Append older.old ≡ 0 }
+    requires counted { IsCounted older.old stats.old }
+    ensures put { IsPut queue mark.now newer stats.old result older.old older.new }
+    ensures region_id { older.new.region_id ≡ older.old.region_id }
+    ensures recounted { IsRecounted older.old older.new stats.old stats.new }
+{
+    let start = start_of(older);
+    let end = older.join_under(queue, &mut newer.boxed, mark, stats)?;
+    Ok((start, end))
+}
+
+/// Returns the first index of a table, 0 without entries.
+fn start_of(table: &MemTable) -> u64
+    ensures start { result ≡ start_of table.now.entries }
+    ensures run { IsRun table.now.entries }
+{
+    table.holds_one_run();
+    table.ends().0
 }

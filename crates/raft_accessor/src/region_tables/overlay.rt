@@ -12,12 +12,6 @@ use raft_base::Result;
 use raft_table::{GlobalStats, Mark, MemTable};
 
 impl RegionTables {
-    /// Puts an appended table of a region, or its absence, over the rewritten one, as the region mark of the
-    /// append queue says.
-    ///
-    /// # Errors
-    ///
-    /// Those of [`MemTable::overlay`]. The counts then agree with the tables.
     pub(crate) fn overlay_table(
         &mut self,
         id: u64,
@@ -37,7 +31,6 @@ impl RegionTables {
         }
     }
 
-    /// Puts an appended table over that of its region, which is made where there is none.
     fn put_appended(
         &mut self,
         id: u64,
@@ -62,11 +55,14 @@ impl RegionTables {
                     table.new }
                 ensures region { table.new.region_id ≡ table.old.region_id }
                 ensures recounted { IsRecounted table.old table.new stats.old stats.new }
-            { overlay(table, appended, mark, stats) },
+            {
+                let mut appended = appended;
+                table.overlay(&mut appended, mark, stats)
+            },
         )
     }
 
-    /// Drops of a region's table what the region mark of the append queue drops, where that has no table of it.
+    /// Does what `overlay_table` does where the append queue has no table of the region.
     fn drop_rewritten(&mut self, id: u64, mark: &Mark, stats: &mut GlobalStats) -> Result<()>
         requires counted { IsCounted (table_in self.old id) stats.old }
         ensures { IsTableOverlaid mark.now None self.old id stats.old result self.new stats.new }
@@ -80,21 +76,4 @@ impl RegionTables {
         }
         self.put_appended(id, MemTable::new(self.alloc, id), mark, stats)
     }
-}
-
-/// Puts an appended table over a rewritten one.
-fn overlay(
-    table: &mut MemTable,
-    mut appended: MemTable,
-    mark: &Mark,
-    stats: &mut GlobalStats,
-) -> Result<()>
-    requires region { table.old.region_id ≡ appended.region_id }
-    requires own { live_of Rewrite appended ≡ 0 }
-    requires counted { IsCounted table.old stats.old }
-    ensures put { IsPutOver mark.now appended stats.old result table.old table.new }
-    ensures region { table.new.region_id ≡ table.old.region_id }
-    ensures recounted { IsRecounted table.old table.new stats.old stats.new }
-{
-    table.overlay(&mut appended, mark, stats)
 }

@@ -12,7 +12,7 @@ ghost use Rattle.raft_table.specs.StepShown.{step_shown};
 ghost use Rattle.raft_table.specs.Steps.{Clean, Put};
 ghost use Rattle.raft_table.specs.Table.{after_append, after_rewrite, after_rewrite_key, with_rewritten_key, leaves_append, IsKeyRewriteFault, IsCounted};
 ghost use Rattle.raft_table.specs.TableEntries.{IsRunIn};
-ghost use Rattle.raft_table.specs.TakenSteps.{IsStepOfQueue, LeavesTable};
+ghost use Rattle.raft_table.specs.TakenSteps.{IsStepOfQueue};
 ghost use Rattle.raft_accessor.specs.Accessor.{table_in};
 ghost use Rattle.raft_accessor.specs.TableSteps.{IsStepTaken};
 ghost use Rattle.raft_accessor.specs.Updates.{BecomesOutcome};
@@ -22,7 +22,6 @@ use raft_base::{EntryIndex, FileId, FileSeq, LogQueue, Result};
 use raft_table::{GlobalStats, MemTable, Step};
 
 impl RegionTables {
-    /// Puts a new run of the append queue.
     pub(crate) fn append_run(
         &mut self,
         id: u64,
@@ -45,12 +44,6 @@ impl RegionTables {
         )
     }
 
-    /// Does a step of `queue` that is read again on its region's table, and lists the region where the step
-    /// cleans it in the append queue.
-    ///
-    /// # Errors
-    ///
-    /// Those of [`MemTable::take_step`], and `Memory`. Tables, counts and list are then as they were.
     pub(crate) fn take_step(
         &mut self,
         queue: LogQueue,
@@ -67,23 +60,6 @@ impl RegionTables {
         if step.is_clean() {
             return self.clean(queue, id, stats, cleaned);
         }
-        self.take_change(queue, id, step, stats)
-    }
-
-    /// Does a step that leaves a table, which is made where there is none.
-    fn take_change(
-        &mut self,
-        queue: LogQueue,
-        id: u64,
-        step: Step,
-        stats: &mut GlobalStats,
-    ) -> Result<()>
-        requires of_queue { IsStepOfQueue queue (step_shown step) }
-        requires stays { LeavesTable (step_shown step) }
-        requires counted { IsCounted (table_in self.old id) stats.old }
-        ensures { (list : List ℕ) → IsStepTaken queue id (step_shown step)
-            self.old stats.old list result self.new stats.new list }
-    {
         self.update(
             id,
             stats,
@@ -93,9 +69,6 @@ impl RegionTables {
         )
     }
 
-    /// Does what [`RegionTables::take_step`] does with the put of a key and its value, which are copied, where
-    /// the region has entries, and returns whether it did. Where it did not, tables and counts are as they
-    /// were.
     pub(crate) fn try_put(
         &mut self,
         id: u64,
@@ -116,7 +89,6 @@ impl RegionTables {
         table.boxed.try_put(key, value, file, stats)
     }
 
-    /// Takes a region's table away, and lists the region in the append queue.
     fn clean(
         &mut self,
         queue: LogQueue,
@@ -141,7 +113,6 @@ impl RegionTables {
         }
     }
 
-    /// Rewrites places.
     pub(crate) fn rewrite_run(
         &mut self,
         id: u64,
@@ -165,7 +136,6 @@ impl RegionTables {
         )
     }
 
-    /// Rewrites a key.
     pub(crate) fn rewrite_key(
         &mut self,
         id: u64,

@@ -8,13 +8,15 @@ ghost use Rattle.raft_history.specs.MarkedRegions.{region_in, with_region, joine
 ghost use Rattle.raft_table.specs.MarkedJoins.{IsFaultUnder, IsRunOver};
 ghost use Rattle.raft_table.specs.Queues.{other};
 ghost use Rattle.raft_table.specs.Steps.{table_of};
+ghost use Rattle.raft_table.specs.Table.{live_of};
 ghost use Rattle.raft_accessor.specs.Accessor.{table_in, live_in, live_in_all, AreCountsOf};
+ghost use Rattle.raft_contexts.specs.ImpliedMarks.{implied_mark, implied_marks};
 ghost use Rattle.raft_contexts.specs.MarkedTables.{regions_in};
-ghost use Rattle.raft_contexts.specs.RegionJoins.{AreRunsOver, AreOthersKept, IsSlotFault, IsJoinFault};
+ghost use Rattle.raft_contexts.specs.RegionJoins.{AreRunsOver, AreTablesLeft, IsSlotFault, IsJoinFault};
 
 use crate::marked_tables::MarkedTables;
 use crate::region_marks::{RegionMarks, SlotMarks, SmallMark};
-use raft_accessor::{BoxedTable, MemTableAccessor};
+use raft_accessor::{BoxedTable, MemTableAccessor, RegionTables};
 use raft_base::{AllocResult, LogQueue, Result};
 
 impl MarkedTables {
@@ -44,10 +46,11 @@ impl MarkedTables {
             marks,
         } = newer;
         self.join_regions(queue, marks, &mut accessor)?;
-        self.accessor.append_cleaned(&mut accessor)
+        self.accessor.append_cleaned(&mut accessor)?;
+        self.join_rest(queue, accessor)
     }
 
-    /// Joins the regions that newer region marks name, with their tables.
+    /// Joins the regions whose newer region mark is kept, and takes their tables out.
     fn join_regions(
         &mut self,
         queue: LogQueue,
@@ -60,9 +63,12 @@ impl MarkedTables {
             → OnOk result (AreJoined queue (regions_in self.old)
             (record { tables = tables.old.tables; marks = marks }) (regions_in self.new)) }
         ensures fault { AreRunsOver queue marks tables.old.tables self.old.accessor.tables
-            → IfErr result (IsJoinFault queue (regions_in self.old)
+            → IfErr result (IsSlotFault queue (regions_in self.old)
             (record { tables = tables.old.tables; marks = marks })) }
-        ensures other { OnOk result (live_in_all (other queue) self.new.accessor.tables ≡ 0) }
+        ensures left { OnOk result (AreTablesLeft marks tables.old.tables tables.new.tables) }
+        ensures few { OnOk result ((q : LogQueue)
+            → live_in_all q self.new.accessor.tables + live_in_all q tables.new.tables
+            ≤ live_in_all q self.old.accessor.tables + live_in_all q tables.old.tables) }
         ensures cleaned { (self.new.accessor.cleaned ≡ self.old.accessor.cleaned)
             × (tables.new.cleaned ≡ tables.old.cleaned) }
     {
@@ -84,7 +90,7 @@ impl MarkedTables {
         self.accessor.make_room(slot, count)
     }
 
-    /// Joins the regions that the newer region marks of a slot name, with their tables.
+    /// Joins the regions of a slot whose newer region mark is kept, and takes their tables out.
     fn join_slot(
         &mut self,
         queue: LogQueue,
@@ -99,7 +105,7 @@ impl MarkedTables {
         ensures fault { AreRunsOver queue marks tables.old.tables self.old.accessor.tables
             → IfErr result (IsSlotFault queue (regions_in self.old)
             (record { tables = tables.old.tables; marks = marks })) }
-        ensures others { OnOk result (AreOthersKept marks tables.old.tables tables.new.tables) }
+        ensures left { OnOk result (AreTablesLeft marks tables.old.tables tables.new.tables) }
         ensures few { OnOk result ((q : LogQueue)
             → live_in_all q self.new.accessor.tables + live_in_all q tables.new.tables
             ≤ live_in_all q self.old.accessor.tables + live_in_all q tables.old.tables) }
@@ -140,12 +146,91 @@ impl MarkedTables {
             ≤ live_in_all q self.old.accessor.tables + live_in q newer) }
         ensures cleaned { self.new.accessor.cleaned ≡ self.old.accessor.cleaned }
     {
+        self.accessor.counts_are_exact();
+        self.marks.keep(id, &self.accessor)?;
         let start = mark.run_alone();
         let mark = mark.into_mark();
-        let end = self.accessor.join_table(queue, id, newer, &mark)?;
+        let ends = self.accessor.join_table(queue, id, newer, &mark)?;
         if let Some(start) = start {
-            return Ok(self.marks.add_run(id, queue, end, start)?);
+            return Ok(self.marks.add_run(id, queue, ends.1, start)?);
         }
-        Ok(self.marks.join(id, queue, end, mark)?)
+        Ok(self.marks.join(id, queue, ends.1, mark)?)
+    }
+
+    /// Joins the newer tables that are left, each under the region mark that it implies.
+    fn join_rest(&mut self, queue: LogQueue, tables: MemTableAccessor) -> Result<()>
+        requires older { live_in_all (other queue) self.old.accessor.tables ≡ 0 }
+        requires newer { live_in_all (other queue) tables.tables ≡ 0 }
+        ensures ok { AreRunsOver queue (implied_marks tables.tables) tables.tables
+            self.old.accessor.tables
+            → OnOk result (AreJoined queue (regions_in self.old)
+            (record { tables = tables.tables; marks = implied_marks tables.tables })
+            (regions_in self.new)) }
+        ensures fault { AreRunsOver queue (implied_marks tables.tables) tables.tables
+            self.old.accessor.tables
+            → IfErr result (IsSlotFault queue (regions_in self.old)
+            (record { tables = tables.tables; marks = implied_marks tables.tables })) }
+        ensures other { OnOk result (live_in_all (other queue) self.new.accessor.tables ≡ 0) }
+        ensures cleaned { self.new.accessor.cleaned ≡ self.old.accessor.cleaned }
+    {
+        let mut number = 0;
+        for slot in tables.into_slots() {
+            self.accessor.make_room(number, slot.len())?;
+            self.join_tables(queue, slot)?;
+            number += 1;
+        }
+        Ok(())
+    }
+
+    /// Joins the newer tables of a slot, each under the region mark that it implies.
+    fn join_tables(&mut self, queue: LogQueue, tables: RegionTables) -> Result<()>
+        requires older { live_in_all (other queue) self.old.accessor.tables ≡ 0 }
+        requires newer { live_in_all (other queue) tables ≡ 0 }
+        ensures ok { AreRunsOver queue (implied_marks tables) tables self.old.accessor.tables
+            → OnOk result (AreJoined queue (regions_in self.old)
+            (record { tables = tables; marks = implied_marks tables }) (regions_in self.new)) }
+        ensures fault { AreRunsOver queue (implied_marks tables) tables self.old.accessor.tables
+            → IfErr result (IsSlotFault queue (regions_in self.old)
+            (record { tables = tables; marks = implied_marks tables })) }
+        ensures few { OnOk result ((q : LogQueue) → live_in_all q self.new.accessor.tables
+            ≤ live_in_all q self.old.accessor.tables + live_in_all q tables) }
+        ensures cleaned { self.new.accessor.cleaned ≡ self.old.accessor.cleaned }
+    {
+        tables.tables_are_own();
+        for (id, table) in tables.into_entries() {
+            self.join_implied(queue, id, table)?;
+        }
+        Ok(())
+    }
+
+    /// Joins a region with a newer table, under the region mark that it implies.
+    fn join_implied(&mut self, queue: LogQueue, id: u64, newer: BoxedTable) -> Result<()>
+        requires region { newer.region_id ≡ id }
+        requires own { live_of (other queue) newer ≡ 0 }
+        requires older { queue ≡ Rewrite → live_in_all Append self.old.accessor.tables ≡ 0 }
+        ensures ok { IsRunOver queue (implied_mark newer) newer (table_in self.old.accessor.tables id)
+            → OnOk result (joined_region queue id (region_in (regions_in self.old) id)
+            (record { mark = implied_mark newer; table = Some newer })
+            ≡ Some (region_in (regions_in self.new) id)) }
+        ensures others { IsRunOver queue (implied_mark newer) newer
+            (table_in self.old.accessor.tables id) → OnOk result (regions_in self.new
+            ≡ with_region (regions_in self.old) id (region_in (regions_in self.new) id)) }
+        ensures fault { IsRunOver queue (implied_mark newer) newer
+            (table_in self.old.accessor.tables id)
+            → IfErr result (IsFaultUnder queue self.old.accessor.counts (implied_mark newer) newer
+            (table_in self.old.accessor.tables id)) }
+        ensures exact_counts { AreCountsOf self.old.accessor.tables self.old.accessor.counts }
+        ensures few { OnOk result ((q : LogQueue) → live_in_all q self.new.accessor.tables
+            ≤ live_in_all q self.old.accessor.tables + live_of q newer) }
+        ensures cleaned { self.new.accessor.cleaned ≡ self.old.accessor.cleaned }
+    {
+        let table = newer.get();
+        let first = table.first_index();
+        let mark = self.marks.implied_by(table);
+        let ends = self.accessor.join_table(queue, id, Some(newer), &mark)?;
+        match first {
+            Some(first) => Ok(self.marks.mark_run(queue, id, ends.0, ends.1, first)?),
+            None => Ok(()),
+        }
     }
 }

@@ -6,13 +6,14 @@ ghost use Rattle.raft_base.specs.declared.pipe_log.LogQueue.TheVariants.{Append,
 ghost use Rattle.raft_history.specs.Joins.{StandForSteps, AreOverlaid};
 ghost use Rattle.raft_history.specs.Records.{all_records};
 ghost use Rattle.raft_accessor.specs.Accessor.{live_in_all};
+ghost use Rattle.raft_contexts.specs.ImpliedMarks.{implied_marks};
 ghost use Rattle.raft_contexts.specs.MarkedTables.{regions_in};
-ghost use Rattle.raft_contexts.specs.RegionJoins.{AreOthersKept};
+ghost use Rattle.raft_contexts.specs.RegionJoins.{AreTablesLeft};
 ghost use Rattle.raft_contexts.specs.RegionOverlays.{AreRunsOverlaid, AreTooMany};
 
 use crate::marked_tables::MarkedTables;
 use crate::region_marks::{RegionMarks, SlotMarks};
-use raft_accessor::MemTableAccessor;
+use raft_accessor::{MemTableAccessor, RegionTables};
 use raft_base::Result;
 
 impl MarkedTables {
@@ -37,19 +38,25 @@ impl MarkedTables {
             marks,
         } = appended;
         self.overlay_regions(marks, &mut accessor)?;
-        self.accessor.take_cleaned(accessor);
-        Ok(())
+        self.accessor.take_cleaned(&mut accessor);
+        self.overlay_rest(accessor)
     }
 
-    /// Puts the tables of the regions that region marks of the append queue name over the rewritten ones.
+    /// Puts the regions of the append queue whose region mark is kept over the rewritten ones, and takes their tables out.
     fn overlay_regions(&mut self, marks: RegionMarks, appended: &mut MemTableAccessor) -> Result<()>
         requires own { live_in_all Rewrite appended.old.tables ≡ 0 }
         ensures ok { AreRunsOverlaid marks appended.old.tables self.old.accessor.tables
             → OnOk result (AreOverlaid (record { tables = appended.old.tables; marks = marks })
             self.old.accessor.tables self.new.accessor.tables) }
+        ensures own_left { OnOk result (live_in_all Rewrite appended.new.tables ≡ 0) }
+        ensures left { OnOk result (AreTablesLeft marks appended.old.tables appended.new.tables) }
+        ensures few { OnOk result ((q : LogQueue)
+            → live_in_all q self.new.accessor.tables + live_in_all q appended.new.tables
+            ≤ live_in_all q self.old.accessor.tables + live_in_all q appended.old.tables) }
         ensures cleaned { appended.new.cleaned ≡ appended.old.cleaned }
-        ensures fault { IfErr result
-            (AreTooMany (all_records self.old.accessor.tables + all_records appended.old.tables)) }
+        ensures fault { IfErr result (λ e. (q : LogQueue)
+            × AreTooMany (live_in_all q self.old.accessor.tables
+            + live_in_all q appended.old.tables) e) }
     {
         for slot in marks.into_slots() {
             self.overlay_slot(slot, appended)?;
@@ -57,15 +64,14 @@ impl MarkedTables {
         Ok(())
     }
 
-    /// Puts the tables of the regions that region marks of a slot of the append queue name over the rewritten
-    /// ones.
+    /// Does what [`MarkedTables::overlay_regions`] does with the regions of a slot.
     fn overlay_slot(&mut self, marks: SlotMarks, appended: &mut MemTableAccessor) -> Result<()>
         requires own { live_in_all Rewrite appended.old.tables ≡ 0 }
         ensures ok { AreRunsOverlaid marks appended.old.tables self.old.accessor.tables
             → OnOk result (AreOverlaid (record { tables = appended.old.tables; marks = marks })
             self.old.accessor.tables self.new.accessor.tables) }
         ensures own_left { OnOk result (live_in_all Rewrite appended.new.tables ≡ 0) }
-        ensures others { OnOk result (AreOthersKept marks appended.old.tables appended.new.tables) }
+        ensures left { OnOk result (AreTablesLeft marks appended.old.tables appended.new.tables) }
         ensures few { OnOk result ((q : LogQueue)
             → live_in_all q self.new.accessor.tables + live_in_all q appended.new.tables
             ≤ live_in_all q self.old.accessor.tables + live_in_all q appended.old.tables) }
@@ -78,6 +84,46 @@ impl MarkedTables {
             let table = appended.take(id);
             let mark = mark.into_mark();
             self.accessor.overlay_table(id, table, &mark)?;
+        }
+        Ok(())
+    }
+
+    /// Puts tables of the append queue over the rewritten ones, each under the region mark that it implies.
+    fn overlay_rest(&mut self, appended: MemTableAccessor) -> Result<()>
+        requires own { live_in_all Rewrite appended.tables ≡ 0 }
+        ensures ok { AreRunsOverlaid (implied_marks appended.tables) appended.tables
+            self.old.accessor.tables
+            → OnOk result (AreOverlaid
+            (record { tables = appended.tables; marks = implied_marks appended.tables })
+            self.old.accessor.tables self.new.accessor.tables) }
+        ensures cleaned { self.new.accessor.cleaned ≡ self.old.accessor.cleaned }
+        ensures fault { IfErr result (λ e. (q : LogQueue)
+            × AreTooMany (live_in_all q self.old.accessor.tables
+            + live_in_all q appended.tables) e) }
+    {
+        for slot in appended.into_slots() {
+            self.overlay_tables(slot)?;
+        }
+        Ok(())
+    }
+
+    /// Does what [`MarkedTables::overlay_rest`] does with the tables of a slot.
+    fn overlay_tables(&mut self, appended: RegionTables) -> Result<()>
+        requires own { live_in_all Rewrite appended ≡ 0 }
+        ensures ok { AreRunsOverlaid (implied_marks appended) appended self.old.accessor.tables
+            → OnOk result (AreOverlaid
+            (record { tables = appended; marks = implied_marks appended })
+            self.old.accessor.tables self.new.accessor.tables) }
+        ensures few { OnOk result ((q : LogQueue) → live_in_all q self.new.accessor.tables
+            ≤ live_in_all q self.old.accessor.tables + live_in_all q appended) }
+        ensures cleaned { self.new.accessor.cleaned ≡ self.old.accessor.cleaned }
+        ensures fault { IfErr result (λ e. (q : LogQueue)
+            × AreTooMany (live_in_all q self.old.accessor.tables + live_in_all q appended) e) }
+    {
+        appended.tables_are_own();
+        for (id, table) in appended.into_entries() {
+            let mark = self.marks.implied_by(table.get());
+            self.accessor.overlay_table(id, Some(table), &mark)?;
         }
         Ok(())
     }

@@ -1,17 +1,15 @@
 //! Batches as they were read, taken into the tables and region marks.
 
-ghost use Rattle.std.specs.Prelude.{◌≡◌, ◌≤◌, ℕ, List, ◌++◌, [], ◌∷◌, length, Ok, OnOk, IfOk, IfErr, MatchBool, Some};
+ghost use Rattle.std.specs.Prelude.{◌≡◌, ◌≤◌, ℕ, List, [], ◌∷◌, Ok, OnOk, IfOk, MatchBool};
 ghost use Rattle.raft_base.specs.declared.pipe_log.LogQueue.{LogQueue};
-ghost use Rattle.raft_records.specs.DecodedIn.{IsDecodedIn, AreDecodedIn};
-ghost use Rattle.raft_records.specs.ReadBatch.{content_shown, item_shown, items_shown, spans_of};
+ghost use Rattle.raft_records.specs.DecodedIn.{IsDecodedIn};
+ghost use Rattle.raft_records.specs.ReadBatch.{content_shown, item_shown};
 ghost use Rattle.raft_history.specs.Histories.{AreInFile};
 ghost use Rattle.raft_history.specs.Joins.{StandForSteps};
-ghost use Rattle.raft_history.specs.MarkedRegions.{regions_after};
-ghost use Rattle.raft_history.specs.RegionSteps.{steps_of_items, cleaned_by_steps};
+ghost use Rattle.raft_history.specs.RegionSteps.{steps_of_items};
 ghost use Rattle.raft_table.specs.Queues.{other};
 ghost use Rattle.raft_accessor.specs.Accessor.{live_in_all};
-ghost use Rattle.raft_contexts.specs.MarkedTables.{regions_in, AreStepsOfQueue, IsStepsFault, AreStepsTaken};
-ghost use Rattle.raft_contexts.specs.StepCounts.{AreCountsAfterSteps};
+ghost use Rattle.raft_contexts.specs.MarkedTables.{regions_in, AreStepsOfQueue, AreStepsTaken};
 
 use crate::marked_tables::MarkedTables;
 use raft_base::{AllocResult, FileBlockHandle, FileId, LogQueue, Result};
@@ -32,45 +30,17 @@ impl MarkedTables {
     ) -> Result<()>
         requires in_file { AreInFile file batch.now }
         requires stands { StandForSteps file.queue (regions_in self.old) }
-        ensures ok { OnOk result
-            (regions_after file.queue (regions_in self.old) (steps_of_items batch.now)
-            ≡ Some (regions_in self.new)) }
-        ensures cleaned { OnOk result (self.new.accessor.cleaned
-            ≡ self.old.accessor.cleaned
-            ++ cleaned_by_steps file.queue (steps_of_items batch.now)) }
-        ensures counts { OnOk result (AreCountsAfterSteps file.queue self.old.accessor.tables
-            (steps_of_items batch.now) self.old.accessor.counts self.new.accessor.counts) }
-        ensures fault { IfErr result (IsStepsFault file.queue (regions_in self.old)
-            (steps_of_items batch.now)) }
+        ensures taken { AreStepsTaken file.queue (steps_of_items batch.now) result self.old self.new }
         ensures other { OnOk result
             (live_in_all (other file.queue) self.new.accessor.tables
             ≤ live_in_all (other file.queue) self.old.accessor.tables) }
     {
         let (place, items, spans) = batch.parts();
-        self.take_read_items(alloc, file.queue, place, items, spans)
-    }
-
-    /// Takes in items as they were read, in order. Each takes its spans from the front of those that are left.
-    fn take_read_items(
-        &mut self,
-        alloc: Global,
-        queue: LogQueue,
-        place: FileBlockHandle,
-        items: &[ReadItem<'_>],
-        spans: &[(u32, u32)],
-    ) -> Result<()>
-        requires spans { spans_of items.now ≡ length spans.now }
-        requires steps { AreStepsOfQueue queue
-            (steps_of_items (items_shown place items.now spans.now)) }
-        requires decoded { AreDecodedIn place.id (items_shown place items.now spans.now) }
-        requires stands { StandForSteps queue (regions_in self.old) }
-        ensures { AreStepsTaken queue (steps_of_items (items_shown place items.now spans.now))
-            result self.old self.new }
-    {
         let mut rest = spans;
         for item in items {
+            // each item takes its spans from the front of those that are left
             let (own, behind) = rest.split_at(item.span_count());
-            self.take_read_item(alloc, queue, place, item, own)?;
+            self.take_read_item(alloc, file.queue, place, item, own)?;
             rest = behind;
         }
         Ok(())
@@ -141,15 +111,14 @@ impl MarkedTables {
         if 0 < end && start <= first && first <= end {
             return Ok(true);
         }
-        self.marks.add_run(id, queue, end, first)?;
+        self.marks.mark_run(queue, id, start, end, first)?;
         Ok(true)
     }
 
-    /// Takes in an item that puts a key, as it was read, where its region has entries, and so a region mark,
-    /// which the put leaves as it is. Returns whether it did. Where it did not, nothing has changed.
+    /// Takes in an item that puts a key, as it was read, where its region has entries. The region mark stays as it is.
+    /// Returns whether it did. Where it did not, nothing has changed.
     fn try_put(&mut self, place: FileBlockHandle, item: &ReadItem<'_>) -> bool
-        ensures { (queue : LogQueue) (spans : List (ℕ × ℕ))
-            → StandForSteps queue (regions_in self.old) → MatchBool result
+        ensures { (queue : LogQueue) (spans : List (ℕ × ℕ)) → MatchBool result
             (AreStepsTaken queue (steps_of_items (item_shown place item.now spans ∷ []))
             (Ok tt) self.old self.new)
             (self.new ≡ self.old) }

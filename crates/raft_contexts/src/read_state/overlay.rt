@@ -3,7 +3,7 @@
 ghost use Rattle.std.specs.Prelude.{◌≡◌, OnOk, IfErr};
 ghost use Rattle.raft_history.specs.Joins.{AreOverlaid};
 ghost use Rattle.raft_contexts.specs.OverlaidContext.{AreOfBothQueues, overlaid_with, IsMergeAppendFault};
-ghost use Rattle.raft_contexts.specs.ReadStates.{context_in, IsOfHistory};
+ghost use Rattle.raft_contexts.specs.ReadStates.{context_in, shown_with, IsOfHistory};
 ghost use Rattle.raft_contexts.specs.RecoverContext.{reading_on};
 
 use crate::file_range::FileRange;
@@ -21,7 +21,7 @@ impl ReadState {
         ensures queues { OnOk result (AreOfBothQueues (context_in self.old) (context_in append)) }
         ensures tables { OnOk result (AreOverlaid (context_in append).regions
             (context_in self.old).regions.tables (context_in self.new).regions.tables) }
-        ensures overlaid { OnOk result (context_in self.new
+        ensures overlaid { OnOk result (shown_with self.new.regions.marks self.new
             ≡ overlaid_with (context_in self.old) (context_in append)
             (context_in self.new).regions.tables) }
         ensures fault { IfErr result (IsMergeAppendFault (reading_on (context_in self.old))
@@ -53,7 +53,7 @@ impl ReadState {
         requires queues { AreOfBothQueues (context_in self.old) (context_in append) }
         ensures tables { OnOk result (AreOverlaid (context_in append).regions
             (context_in self.old).regions.tables (context_in self.new).regions.tables) }
-        ensures overlaid { OnOk result (context_in self.new
+        ensures overlaid { OnOk result (shown_with self.new.regions.marks self.new
             ≡ overlaid_with (context_in self.old) (context_in append)
             (context_in self.new).regions.tables) }
         ensures fault { IfErr result (IsMergeAppendFault (reading_on (context_in self.old))

@@ -1,6 +1,6 @@
 //! The region marks of one slot.
 
-ghost use Rattle.std.specs.Prelude.{◌≡◌, ◌≢◌, ◌<◌, ◌^◌, ℕ, nat_eq, OnOk, OnErr, Some};
+ghost use Rattle.std.specs.Prelude.{◌≡◌, ◌≢◌, ◌<◌, ◌^◌, ℕ, nat_eq, OnOk, OnErr, Some, is_some};
 ghost use Rattle.std.specs.FinMap as finite;
 ghost use Rattle.std.specs.FinSet as finset;
 ghost use Rattle.std.specs.List.{IsDistinct};
@@ -9,9 +9,11 @@ ghost use Rattle.raft_history.specs.Records.{total};
 ghost use Rattle.raft_table.specs.Marks.{Mark};
 ghost use Rattle.raft_table.specs.MarkJoins.{fresh, mark_of, joined_at};
 ghost use Rattle.raft_table.specs.StepShown.{step_shown};
-ghost use Rattle.raft_contexts.specs.RegionMarks.{mark_in, MayChangeMark, IsMarkUpdated};
+ghost use Rattle.raft_contexts.specs.ImpliedMarks.{absent_in, count_absent};
+ghost use Rattle.raft_contexts.specs.RegionMarks.{mark_in, run_at, MayChangeMark, IsMarkUpdated};
 
 use crate::region_marks::small_mark::SmallMark;
+use raft_accessor::MemTableAccessor;
 use raft_base::{AllocResult, LogQueue};
 use raft_table::{Mark, Step};
 use std::alloc::{AllocError, Global};
@@ -66,6 +68,25 @@ impl SlotMarks {
         self.marks.len()
     }
 
+    /// Tests whether a region has a region mark.
+    pub(crate) fn has(&self, id: u64) -> bool
+        ensures { result ≡ is_some (finite.get self.now id) }
+    {
+        self.marks.contains_key(&id)
+    }
+
+    /// Puts in the region mark of a run that starts at `start`.
+    ///
+    /// # Errors
+    ///
+    /// `AllocError`. The region marks are then as they were.
+    pub(crate) fn put_run(&mut self, id: u64, start: u64) -> AllocResult<()>
+        ensures ok { OnOk result (self.new ≡ finite.insert self.old id (run_at start)) }
+        ensures err { OnErr result (self.new ≡ self.old) }
+    {
+        self.put(id, SmallMark::of_run(self.alloc, start))
+    }
+
     /// Returns how many deleted keys all region marks hold together.
     pub(crate) fn deleted_keys(&self) -> u128
         ensures value { result ≡ total (λ (m : Mark). finset.len m.deleted) self.now }
@@ -74,6 +95,18 @@ impl SlotMarks {
         let mut count = 0;
         for mark in self.marks.values() {
             count += mark.deleted_keys() as u128;
+        }
+        count
+    }
+
+    /// Returns how many region marks are those of regions without a table.
+    pub(crate) fn count_absent(&self, tables: &MemTableAccessor) -> u64
+        ensures value { result ≡ count_absent tables.now.tables (keys_of (finite.entries self.now)) }
+        ensures few { result < 2 ^ 57 }
+    {
+        let mut count = 0;
+        for id in self.marks.keys() {
+            count += absent(tables, *id);
         }
         count
     }
@@ -197,5 +230,15 @@ impl SlotMarks {
             Ok(_) => Ok(()),
             Err(_) => Err(AllocError),
         }
+    }
+}
+
+/// Returns 1 for a region without a table, 0 for another.
+fn absent(tables: &MemTableAccessor, id: u64) -> u64
+    ensures { result ≡ absent_in tables.now.tables id }
+{
+    match tables.get(id) {
+        Some(_) => 0,
+        None => 1,
     }
 }

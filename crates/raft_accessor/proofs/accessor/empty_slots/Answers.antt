@@ -1,5 +1,4 @@
-use Rattle.std.proofs.Common.{[], ◌∷◌, ◌++◌, replicate, ap, ◌∙◌}
-use Rattle.std.proofs.lemmas.List.{replicate_more}
+use Rattle.raft_accessor.proofs.Common.{[], ◌∷◌, ◌++◌, replicate, ap, ◌∙◌, replicate_more}
 use Rattle.std.specs.FinMap as finite
 use Rattle.raft_accessor.proofs.accessor.empty_slots.Goals as goal
 

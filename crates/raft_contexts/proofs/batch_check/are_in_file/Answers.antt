@@ -1,9 +1,5 @@
-use Rattle.std.proofs.Common.{rules}
+use Rattle.raft_contexts.proofs.Common.{rules, YieldsList-from_slice, cases_from_all, content_of, LogItem, IsInFile}
 use borrow.Author.Tests.{tests}
-use Rattle.std.proofs.lemmas.Iterator.{YieldsList-from_slice, cases_from_all}
-use Rattle.raft_records.specs.Item.{content_of}
-use Rattle.raft_records.specs.declared.log_item.LogItem.{LogItem}
-use Rattle.raft_history.specs.Histories.{IsInFile}
 use Rattle.raft_contexts.proofs.BatchCheckLemmas.{all_in_file}
 use Rattle.raft_contexts.proofs.batch_check.are_in_file.Goals as goal
 

@@ -1,7 +1,4 @@
-use Rattle.std.proofs.Common.{◌+◌, ap, subst, sym, ◌∙◌, map, drop}
-use Rattle.std.specs.Option.{option_or}
-use Rattle.raft_records.specs.Group.{first_marker}
-use Rattle.raft_records.specs.Item.{item_of}
+use Rattle.raft_contexts.proofs.Common.{◌+◌, ap, subst, sym, ◌∙◌, map, drop, option_or, first_marker, item_of}
 use Rattle.raft_contexts.proofs.BatchCheckLemmas.{IsTested, next_item, none_left, one_more, or_none}
 use Rattle.raft_contexts.proofs.batch_check.group_marker.Goals as goal
 

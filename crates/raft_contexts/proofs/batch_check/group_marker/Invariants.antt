@@ -1,5 +1,4 @@
-use Rattle.std.proofs.Common.{drop, map}
-use Rattle.raft_records.specs.Item.{item_of}
+use Rattle.raft_contexts.proofs.Common.{drop, map, item_of}
 use Rattle.raft_contexts.proofs.BatchCheckLemmas.{IsTested}
 use Rattle.raft_contexts.proofs.batch_check.group_marker.Given as goal
 

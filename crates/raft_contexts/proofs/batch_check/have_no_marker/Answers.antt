@@ -1,7 +1,5 @@
-use Rattle.std.proofs.Common.{rules}
+use Rattle.raft_contexts.proofs.Common.{rules, YieldsList-from_slice, cases_from_all, ReadItem}
 use borrow.Author.Tests.{tests}
-use Rattle.std.proofs.lemmas.Iterator.{YieldsList-from_slice, cases_from_all}
-use Rattle.raft_records.specs.declared.read_batch.ReadItem.{ReadItem}
 use Rattle.raft_contexts.proofs.BatchCheckLemmas.{IsNoMarker, none_marks}
 use Rattle.raft_contexts.proofs.batch_check.have_no_marker.Goals as goal
 

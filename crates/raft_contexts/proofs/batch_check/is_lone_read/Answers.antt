@@ -1,10 +1,5 @@
-use Rattle.std.proofs.Common.{rules, ◌≡◌, None, subst}
-use Rattle.raft_base.specs.declared.pipe_log.FileId.{FileId}
+use Rattle.raft_contexts.proofs.Common.{rules, ◌≡◌, None, subst, FileId, AreDecodedIn, first_marker, HaveStatus, items_in_file}
 use Rattle.raft_base.specs.declared.pipe_log.LogQueue.TheVariants.{Rewrite}
-use Rattle.raft_records.specs.DecodedIn.{AreDecodedIn}
-use Rattle.raft_records.specs.Group.{first_marker}
-use Rattle.raft_history.specs.Histories.{HaveStatus}
-use Rattle.raft_history.proofs.ReadItemLemmas.{items_in_file}
 use Rattle.raft_contexts.proofs.BatchCheckLemmas.{first_of_none, status_of_none}
 use Rattle.raft_contexts.proofs.batch_check.is_lone_read.Goals as goal
 

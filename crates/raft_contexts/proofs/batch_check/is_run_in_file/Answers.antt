@@ -1,8 +1,5 @@
-use Rattle.std.proofs.Common.{rules}
+use Rattle.raft_contexts.proofs.Common.{rules, YieldsList-from_slice, cases_from_all, EntryIndex, IsPlaceInFile}
 use borrow.Author.Tests.{tests}
-use Rattle.std.proofs.lemmas.Iterator.{YieldsList-from_slice, cases_from_all}
-use Rattle.raft_base.specs.declared.entry_index.EntryIndex.{EntryIndex}
-use Rattle.raft_records.specs.DecodedIn.{IsPlaceInFile}
 use Rattle.raft_contexts.proofs.BatchCheckLemmas.{in_file_if_placed}
 use Rattle.raft_contexts.proofs.batch_check.is_run_in_file.Goals as goal
 

@@ -1,7 +1,4 @@
-use Rattle.std.proofs.Common.{rules, ◌≡◌, subst}
-use Rattle.raft_base.specs.declared.pipe_log.FileId.{FileId}
-use Rattle.raft_records.specs.DecodedIn.{AreDecodedIn}
-use Rattle.raft_history.proofs.ReadItemLemmas.{items_in_file}
+use Rattle.raft_contexts.proofs.Common.{rules, ◌≡◌, subst, FileId, AreDecodedIn, items_in_file}
 use Rattle.raft_contexts.proofs.batch_check.knows_file.Goals as goal
 
 pub returns-in-Some : goal.returns-in-Some

@@ -1,13 +1,15 @@
-use Rattle.std.proofs.Common.{map, sym, ap, subst, ◌∙◌, arith}
-use Rattle.std.proofs.lemmas.Result.{err_from_is_err_and}
-use Rattle.std.specs.List.{AllByRecursion}
+use Rattle.raft_contexts.proofs.Common.{◌≡◌, List, [], ◌∷◌, Some, option_and_then, MarkedRegions, WholeGroup, map, sym, ap, subst, ◌∙◌, arith, err_from_is_err_and, AllByRecursion}
+use Rattle.raft_contexts.proofs.Common.{regions_after, region_steps_of_wholes, regions_in, IsStepsFault, CanTakeEffect, region_steps_of_whole, whole_in_queue, whole_shown}
 use Rattle.raft_base.specs.declared.pipe_log.LogQueue.TheVariants.{Rewrite}
-use Rattle.raft_history.specs.MarkedRegions.{regions_after, region_steps_of_wholes}
-use Rattle.raft_contexts.specs.MarkedTables.{regions_in, IsStepsFault}
-use Rattle.raft_contexts.specs.ReadStates.{CanTakeEffect}
-use Rattle.raft_contexts.specs.WaitingShown.{whole_shown}
-use Rattle.raft_contexts.proofs.TakenWholes.{no_cons, more_taken, more_fault, first_fault}
+use Rattle.raft_contexts.proofs.TakenLemmas.{after-append, fault-behind, fault-front}
 use Rattle.raft_contexts.proofs.read_state.take_wholes.Goals as goal
+
+no_cons : {X : Type 0} {x : X} {xs : List X} → x ∷ xs ≡ [] → ⊥
+no_cons e = cc
+
+more_taken : (rs new : MarkedRegions) (w : WholeGroup) (ws : List WholeGroup) → regions_after Rewrite rs (region_steps_of_whole w) ≡ Some new
+    → regions_after Rewrite rs (region_steps_of_wholes (w ∷ ws)) ≡ regions_after Rewrite new (region_steps_of_wholes ws)
+more_taken rs new w ws e = after-append Rewrite rs (region_steps_of_whole w) (region_steps_of_wholes ws) ∙ ap (option_and_then (λ n. regions_after Rewrite n (region_steps_of_wholes ws))) e
 
 pub loop-whole-preserved : goal.loop-whole-preserved
 loop-whole-preserved c =
@@ -21,16 +23,22 @@ loop-whole-preserved c =
       c.in_ok-take_group.ensures.cleaned ∙ at.2,
       omega (arith, c.in_ok-take_group.ensures.other, at.3),
       λ e f. at.4 e (subst (λ ws. IsStepsFault Rewrite (regions_in c.loop-whole.regions) (region_steps_of_wholes ws) e) (sym next)
-          (more_fault (regions_in c.loop-whole.regions) (regions_in c.take_group.new.self) (whole_shown c.in-Some.whole) rest e (subst (AllByRecursion CanTakeEffect) next at.0).0.steps c.in_ok-take_group.ensures.ok f)),
+          (fault-behind Rewrite (regions_in c.loop-whole.regions) (regions_in c.take_group.new.self) (region_steps_of_whole (whole_shown c.in-Some.whole)) (region_steps_of_wholes rest) e
+          (whole_in_queue Rewrite (whole_shown c.in-Some.whole) (subst (AllByRecursion CanTakeEffect) next at.0).0.steps) c.in_ok-take_group.ensures.ok f)),
       λ none. absurd (no_cons (sym next ∙ at.5 none)),
     )
 
-pub returns-in_err-take_group-clause-fault : goal.returns-in_err-take_group-clause-fault
-returns-in_err-take_group-clause-fault c =
+pub returns-in_err-take_group-clause-wholes : goal.returns-in_err-take_group-clause-wholes
+returns-in_err-take_group-clause-wholes c =
     let next = ap (map whole_shown) c.in-Some.ensures.steps.0 in
     let p = err_from_is_err_and c.from_residual.result c.from_residual.ensures.1 in
-    rw (p.1, p.2) (c.loop-whole.invariant.4 _ (subst (λ ws. IsStepsFault Rewrite (regions_in c.loop-whole.regions) (region_steps_of_wholes ws) c.in_err-take_group.field-0.0) (sym next)
-    (first_fault (regions_in c.loop-whole.regions) (whole_shown c.in-Some.whole) (map whole_shown c.next.new.self.rest.items) _ c.in_err-take_group.ensures.fault)))
+    rw (p.1, p.2) record {
+      taken = tt;
+      cleaned = tt;
+      fault = c.loop-whole.invariant.4 _ (subst (λ ws. IsStepsFault Rewrite (regions_in c.loop-whole.regions) (region_steps_of_wholes ws) c.in_err-take_group.field-0.0) (sym next)
+          (fault-front Rewrite (regions_in c.loop-whole.regions) (region_steps_of_whole (whole_shown c.in-Some.whole)) (region_steps_of_wholes (map whole_shown c.next.new.self.rest.items)) _ c.in_err-take_group.ensures.fault));
+      other = tt;
+    }
 
 pub returns-in_err-take_group-clause-none : goal.returns-in_err-take_group-clause-none
 returns-in_err-take_group-clause-none c =

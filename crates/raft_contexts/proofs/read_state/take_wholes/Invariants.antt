@@ -1,12 +1,5 @@
-use Rattle.std.proofs.Common.{◌≡◌, ◌≤◌, [], map}
-use Rattle.std.specs.List.{AllByRecursion}
-use Rattle.raft_base.specs.declared.errors.Error.{Error}
+use Rattle.raft_contexts.proofs.Common.{◌≡◌, ◌≤◌, [], map, AllByRecursion, Error, regions_after, region_steps_of_wholes, live_in_all, regions_in, IsStepsFault, CanTakeEffect, whole_shown}
 use Rattle.raft_base.specs.declared.pipe_log.LogQueue.TheVariants.{Append, Rewrite}
-use Rattle.raft_history.specs.MarkedRegions.{regions_after, region_steps_of_wholes}
-use Rattle.raft_accessor.specs.Accessor.{live_in_all}
-use Rattle.raft_contexts.specs.MarkedTables.{regions_in, IsStepsFault}
-use Rattle.raft_contexts.specs.ReadStates.{CanTakeEffect}
-use Rattle.raft_contexts.specs.WaitingShown.{whole_shown}
 use Rattle.raft_contexts.proofs.read_state.take_wholes.Given as goal
 
 -- behind the groups that were taken in, those that are left give what all give

@@ -1,37 +1,20 @@
-use Rattle.std.proofs.Common.{Some, refl}
-use Rattle.std.specs.Vec.{with_item}
-use Rattle.raft_accessor.specs.declared.accessor.MemTableAccessor.TheInside.{Inside}
-use Rattle.raft_accessor.proofs.AccessorLemmas.{InSlot, kept-in, changed-in, counted-in}
-use Rattle.raft_accessor.proofs.SlotLemmas.{slot-counted}
+use Rattle.raft_accessor.proofs.Common.{◌≡◌, Some, refl}
+use Rattle.raft_accessor.proofs.AccessorLemmas.{AtSlot, at-slot, changed-at, kept-at, moved-at, with_slot}
+use Rattle.raft_accessor.proofs.SlotLemmas.{slot-counts}
 use Rattle.raft_accessor.proofs.accessor.MemTableAccessor.apply_rewrite_atomic_group.Goals as goal
 
 pub apply_rewrite_atomic_group-requires-clause-counted : goal.apply_rewrite_atomic_group-requires-clause-counted
-apply_rewrite_atomic_group-requires-clause-counted c = slot-counted c.self.inside c.args.id c.slot_of.result c.index_mut.result.now c.self.invariant c.slot_of.ensures.value c.slot_of.ensures.bound c.index_mut.ensures.value
+apply_rewrite_atomic_group-requires-clause-counted c = slot-counts c.args.id c.self.invariant c.slot_of.ensures.value c.slot_of.ensures.bound c.index_mut.ensures.value
 
-abbrev after : goal.After-self-1 → Inside
-after c = record c.self.inside { slots = with_item c.self.inside.slots c.slot_of.result c.apply_rewrite_atomic_group.new.self; stats = c.apply_rewrite_atomic_group.new.stats }
-
-slotted : (c : goal.After-self-1) → InSlot c.self.inside (after c) c.args.id c.slot_of.result c.index_mut.result.now c.apply_rewrite_atomic_group.new.self c.apply_rewrite_atomic_group.new.stats
-slotted c = record {
-  at = c.slot_of.ensures.value;
-  bound = c.slot_of.ensures.bound;
-  lent = c.index_mut.ensures.value;
-  slots = refl;
-  stats = refl;
-  one = c.apply_rewrite_atomic_group.ensures.outcome.one;
-  recounted = c.apply_rewrite_atomic_group.ensures.outcome.recounted;
-}
+slotted : (c : goal.After-self-1) → AtSlot c.self.inside (with_slot c.self.inside c.slot_of.result c.apply_rewrite_atomic_group.new.self
+    c.apply_rewrite_atomic_group.new.stats) c.args.self.now c.args.id c.slot_of.result c.index_mut.result.now c.apply_rewrite_atomic_group.new.self
+slotted c = at-slot c.self.invariant c.self.view_is c.slot_of.ensures.value c.slot_of.ensures.bound c.index_mut.ensures.value refl c.apply_rewrite_atomic_group.ensures.outcome.one c.apply_rewrite_atomic_group.ensures.outcome.recounted
 
 pub invariant_of-self : goal.invariant_of-self
-invariant_of-self c = kept-in c.self.inside (after c) c.args.id c.slot_of.result c.index_mut.result.now c.apply_rewrite_atomic_group.new.self c.apply_rewrite_atomic_group.new.stats c.self.invariant (slotted c)
+invariant_of-self c = kept-at (slotted c)
 
 pub returns-clause-changed : goal.returns-clause-changed
-returns-clause-changed c = changed-in c.self.inside (after c) c.args.id c.slot_of.result c.index_mut.result.now c.apply_rewrite_atomic_group.new.self
-    c.apply_rewrite_atomic_group.new.stats c.self.invariant (slotted c) c.args.self.now c.self.view_is
-    (λ t. Some (record t { atomic_group = Some (c.args.start, c.args.end) })) (λ t k e. ⊥) c.apply_rewrite_atomic_group.result
-    c.apply_rewrite_atomic_group.ensures.outcome refl
+returns-clause-changed c = changed-at (slotted c) (λ t. Some (record t { atomic_group = Some (c.args.start, c.args.end) })) (λ t k e. ⊥) c.apply_rewrite_atomic_group.result c.apply_rewrite_atomic_group.ensures.outcome refl
 
 pub returns-clause-counts : goal.returns-clause-counts
-returns-clause-counts c = counted-in c.self.inside (after c) c.args.id c.slot_of.result c.index_mut.result.now c.apply_rewrite_atomic_group.new.self
-    c.apply_rewrite_atomic_group.new.stats c.self.invariant (slotted c) c.args.self.now c.self.view_is
-    (λ t k. k) c.apply_rewrite_atomic_group.ensures.counts
+returns-clause-counts c = moved-at (slotted c) (λ o p k. c.apply_rewrite_atomic_group.new.stats ≡ k) c.apply_rewrite_atomic_group.ensures.counts

@@ -1,5 +1,4 @@
-use Rattle.std.proofs.Common.{map, drop}
-use Rattle.raft_records.specs.Item.{item_of}
+use Rattle.raft_accessor.proofs.Common.{map, drop, item_of}
 use Rattle.raft_accessor.proofs.AppendCheckLemmas.{IsCheck}
 use Rattle.raft_accessor.proofs.accessor.MemTableAccessor.check_append_writes.Given as goal
 

@@ -1,11 +1,5 @@
-use Rattle.std.proofs.Common.{◌++◌, [], map, IsPermutation, refl, sym, ap, subst, ◌∙◌, append-nil, arith}
-use Rattle.std.specs.FinMap as finite
-use Rattle.std.proofs.lemmas.List.Sorted.{IsPermutation-trans}
-use Rattle.raft_accessor.specs.Accessor.{Accessor}
-use Rattle.raft_accessor.specs.Slots.{slot_entries, together, AreSlots}
-use Rattle.raft_accessor.specs.Walks.{Collects}
-use Rattle.raft_accessor.proofs.OrderLemmas.{together-permuted, drop-step, pushed}
-use Rattle.raft_accessor.proofs.SlotLemmas.{drop-none}
+use Rattle.raft_accessor.proofs.Common.{◌≤◌, length, ◌++◌, [], map, refl, sym, ap, subst, ◌∙◌, arith, Accessor, together, AreSlots, Collects}
+use Rattle.raft_accessor.proofs.OrderLemmas.{all-met, drop-step, pushed}
 use Rattle.raft_accessor.proofs.WalkLemmas.{folds-append}
 use Rattle.raft_accessor.proofs.accessor.MemTableAccessor.collect.Goals as goal
 
@@ -22,12 +16,10 @@ loop-slot-preserved g c =
 pub returns-clause-ok : goal.returns-clause-ok
 returns-clause-ok g c =
     let w = c.loop-slot.invariant in
-    let none = drop-none c.deref-slot-items.result.now c.loop-slot.slot-index (omega (arith, c.loop-slot-test.false)) in (
+    let slots = c.deref-slot-items.ensures.value in
+    let past : length c.deref-slot-items.result.now ≤ c.loop-slot.slot-index = omega (arith, c.loop-slot-test.false) in (
       w.1,
       c.loop-slot.f,
-      subst (λ m. IsPermutation w.1 (finite.values m)) (ap together c.deref-slot-items.ensures.value ∙ ap (λ (x : Accessor). x.tables) c.self.view_is)
-          (IsPermutation-trans w.1 (map (λ e. e.1) (slot_entries c.deref-slot-items.result.now)) (finite.values (together c.deref-slot-items.result.now))
-          (subst (λ l. IsPermutation l (map (λ e. e.1) (slot_entries c.deref-slot-items.result.now))) (ap (λ es. w.1 ++ map (λ e. e.1) es) none ∙ append-nil w.1) w.3)
-          (together-permuted c.deref-slot-items.result.now (subst (AreSlots 0) (sym c.deref-slot-items.ensures.value) c.self.invariant.slots))),
+      all-met c.deref-slot-items.result.now c.loop-slot.slot-index w.1 c.args.self.now.tables (subst (AreSlots 0) (sym slots) c.self.invariant.slots) (ap together slots ∙ ap (λ (x : Accessor). x.tables) c.self.view_is) past w.3,
       w.2,
     )

@@ -1,8 +1,4 @@
-use Rattle.std.proofs.Common.{◌++◌, List, drop, map, IsPermutation}
-use Rattle.std.specs.List.{FoldsTo}
-use Rattle.raft_table.specs.Table.{Table}
-use Rattle.raft_accessor.specs.Slots.{slot_entries}
-use Rattle.raft_accessor.specs.Walks.{Makes}
+use Rattle.raft_accessor.proofs.Common.{◌++◌, List, drop, map, IsPermutation, FoldsTo, Table, slot_entries, Makes}
 use Rattle.raft_accessor.proofs.accessor.MemTableAccessor.fold.Given as goal
 
 abbrev pub invariant-loop-slot : goal.invariant-loop-slot

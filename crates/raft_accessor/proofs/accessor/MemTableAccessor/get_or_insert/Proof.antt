@@ -1,7 +1,6 @@
 -- `get_or_insert` says of what `lend` lent that want of memory is the crate's error. Assumes `Logic`.
-use Rattle.std.proofs.Common.{◌≡◌, ℕ, [], ◌∷◌, refl, sym, subst}
-use Rattle.std.specs.Prelude.{⊤, IfOk, IfErr, Result, Ok, Err}
-use Rattle.std.proofs.raw_atomic.Walks.{proved, leaves}
+use Rattle.raft_accessor.proofs.Common.{◌≡◌, ℕ, [], ◌∷◌, refl, sym, subst, ⊤, proved, leaves, Accessor, table_in, IsTableMade, lent_as, the_row}
+use Rattle.std.specs.Prelude.{IfOk, IfErr, Result, Ok, Err}
 use mathlib.Core.Option.{none}
 use seplogic.Ra.Ura.{Ura}
 use base.Logic.{id⊢, ent, emp, ex_i, ex_e}
@@ -38,9 +37,6 @@ use Rattle.raft_base.specs.contracts.errors.Error as error
 use Rattle.raft_base.specs.declared.errors.Error.TheVariants.{Memory}
 use Rattle.raft_table.proofs.memtable.MemTable.TheLaws as table_laws
 use Rattle.raft_table.specs.contracts.memtable.MemTable as table
-use Rattle.raft_accessor.specs.Accessor.{Accessor, table_in}
-use Rattle.raft_accessor.specs.AccessorCalls.{IsTableMade, lent_as}
-use Rattle.raft_accessor.specs.contracts.accessor.MemTableAccessor.{the_row}
 use Rattle.raft_accessor.specs.contracts.accessor.MemTableAccessor.get_or_insert as f
 use Rattle.raft_accessor.specs.contracts.accessor.MemTableAccessor.lend as g
 use Rattle.raft_accessor.specs.contracts.accessor.lent as h

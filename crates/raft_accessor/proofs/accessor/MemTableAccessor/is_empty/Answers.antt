@@ -1,7 +1,4 @@
-use Rattle.std.proofs.Common.{refl, sym, ap, subst, ◌∙◌, arith}
-use Rattle.std.proofs.lemmas.Bool.{false≢true}
-use Rattle.raft_accessor.specs.Accessor.{Accessor}
-use Rattle.raft_accessor.specs.Slots.{together, AreSlots}
+use Rattle.raft_accessor.proofs.Common.{refl, sym, ap, subst, ◌∙◌, arith, false≢true, Accessor, together, AreSlots}
 use Rattle.raft_accessor.proofs.SlotLemmas.{drop-entries, drop-none, together-empty, slot-empty}
 use Rattle.raft_accessor.proofs.accessor.MemTableAccessor.is_empty.Goals as goal
 
@@ -9,7 +6,7 @@ pub loop-slot-init : goal.loop-slot-init
 loop-slot-init c = refl
 
 pub loop-slot-preserved : goal.loop-slot-preserved
-loop-slot-preserved c = c.loop-slot.invariant ∙ drop-entries c.deref-slot-items.result.now c.loop-slot.slot-index _ c.slot-item.result refl
+loop-slot-preserved c = c.loop-slot.invariant ∙ drop-entries c.deref-slot-items.result.now c.loop-slot.slot-index c.slot-item.result
     (omega (arith, c.loop-slot-test.true)) (sym c.slot-item.is ∙ c.is_empty.ensures.0 c.if-not-is_empty.false)
 
 pub returns-then-not-is_empty : goal.returns-then-not-is_empty

@@ -1,5 +1,4 @@
-use Rattle.std.proofs.Common.{◌≡◌, drop}
-use Rattle.raft_accessor.specs.Slots.{slot_entries}
+use Rattle.raft_accessor.proofs.Common.{◌≡◌, drop, slot_entries}
 use Rattle.raft_accessor.proofs.accessor.MemTableAccessor.is_empty.Given as goal
 
 abbrev pub invariant-loop-slot : goal.invariant-loop-slot

@@ -1,8 +1,5 @@
-use Rattle.std.proofs.Common.{IsTrue, refl, sym, ap, subst, ◌∙◌}
+use Rattle.raft_accessor.proofs.Common.{IsTrue, refl, sym, ap, subst, ◌∙◌, is_some, table_of, table_in}
 use Rattle.std.specs.FinMap as finite
-use Rattle.std.specs.Option.{is_some}
-use Rattle.raft_table.specs.Steps.{table_of}
-use Rattle.raft_accessor.specs.Accessor.{table_in}
 use Rattle.raft_accessor.proofs.MapLemmas.{get_own}
 use Rattle.raft_accessor.proofs.accessor.MemTableAccessor.lend.Goals as goal
 

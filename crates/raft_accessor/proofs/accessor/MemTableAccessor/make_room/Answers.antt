@@ -1,8 +1,4 @@
-use Rattle.std.proofs.Common.{◌≡◌, sym, ap, subst, ◌∙◌, slice_set, length}
-use Rattle.std.specs.Vec.{with_item}
-use Rattle.std.proofs.lemmas.List.{set-get_or}
-use Rattle.raft_accessor.specs.Accessor.{AreCountsOf}
-use Rattle.raft_accessor.specs.Slots.{together, AreSlots}
+use Rattle.raft_accessor.proofs.Common.{◌≡◌, sym, ap, subst, ◌∙◌, slice_set, length, with_item, set-get_or, AreCountsOf, together, AreSlots}
 use Rattle.raft_accessor.specs.declared.accessor.MemTableAccessor.TheInside.{Inside}
 use Rattle.raft_accessor.proofs.accessor.MemTableAccessor.make_room.Goals as goal
 

@@ -1,7 +1,4 @@
-use Rattle.std.proofs.Common.{slice_set, sym, ap, subst, ◌∙◌}
-use Rattle.std.specs.Vec.{with_item}
-use Rattle.raft_accessor.specs.Slots.{together}
-use Rattle.raft_accessor.specs.SlotTables.{IsSlotTaken, with_all_deleted}
+use Rattle.raft_accessor.proofs.Common.{slice_set, sym, ap, subst, ◌∙◌, with_item, together, IsSlotTaken, with_all_deleted}
 use Rattle.raft_accessor.specs.declared.accessor.MemTableAccessor.TheInside.{Inside}
 use Rattle.raft_accessor.proofs.SlotTableLemmas.{IsEmptied, slot-counted-all, shown-emptied, kept-emptied}
 use Rattle.raft_accessor.proofs.accessor.MemTableAccessor.take_slot.Goals as goal

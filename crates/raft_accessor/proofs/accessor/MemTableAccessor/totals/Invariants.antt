@@ -1,15 +1,8 @@
-use Rattle.std.proofs.Common.{◌≡◌, ◌≤◌, ◌+◌, List, length, map, drop}
+use Rattle.raft_accessor.proofs.Common.{◌≡◌, ◌≤◌, ◌+◌, length, drop, Table, live_of}
 use Rattle.std.specs.FinMap as finite
 use Rattle.raft_base.specs.declared.pipe_log.LogQueue.TheVariants.{Append, Rewrite}
-use Rattle.raft_table.specs.Table.{Table, live_of}
-use Rattle.raft_history.specs.RegionSteps.{Tables}
-use Rattle.raft_accessor.specs.Slots.{slot_entries}
-use Rattle.raft_accessor.proofs.TotalSums.{added}
+use Rattle.raft_accessor.proofs.TotalSums.{added, tables_of}
 use Rattle.raft_accessor.proofs.accessor.MemTableAccessor.totals.Given as goal
-
--- the tables of some slots
-abbrev pub tables_of : List Tables → List Table
-tables_of slots = map (λ e. e.1) (slot_entries slots)
 
 abbrev pub invariant-loop-slot : goal.invariant-loop-slot
 invariant-loop-slot l =

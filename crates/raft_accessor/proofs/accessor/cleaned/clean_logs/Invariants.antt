@@ -1,6 +1,4 @@
-use Rattle.std.proofs.Common.{◌≡◌, ◌++◌, [], map, drop}
-use Rattle.raft_records.specs.Item.{command_item}
-use Rattle.raft_records.specs.LogBatch.{is_open}
+use Rattle.raft_accessor.proofs.Common.{◌≡◌, ◌++◌, [], map, drop, command_item, is_open}
 use Rattle.raft_records.specs.declared.command.Command.TheVariants.{Clean}
 use Rattle.raft_accessor.proofs.accessor.cleaned.clean_logs.Given as goal
 

@@ -1,7 +1,4 @@
-use Rattle.std.proofs.Common.{subst}
-use Rattle.std.specs.Option.{option_map}
-use Rattle.raft_records.specs.Item.{pair_of}
-use Rattle.raft_accessor.specs.Extents.{TakesRun}
+use Rattle.raft_accessor.proofs.Common.{subst, option_map, pair_of, TakesRun}
 use Rattle.raft_accessor.proofs.AppendCheckLemmas.{command_next, pair_taken, run_next}
 use Rattle.raft_accessor.proofs.append_check.AppendCheck.take.Goals as goal
 

@@ -1,5 +1,4 @@
-use Rattle.std.proofs.Common.{refl, sym, subst}
-use Rattle.raft_accessor.specs.Extents.{IsExtentOf}
+use Rattle.raft_accessor.proofs.Common.{refl, sym, subst, IsExtentOf}
 use Rattle.raft_accessor.proofs.ExtentLemmas.{compacted_none, compacted_some}
 use Rattle.raft_accessor.proofs.append_check.Extent.compacted.Goals as goal
 

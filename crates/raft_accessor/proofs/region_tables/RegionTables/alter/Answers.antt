@@ -1,17 +1,10 @@
-use Rattle.std.specs.Map.{lookup}
-use Rattle.std.proofs.Common.{nat_eq, ◌≡◌, Some, None, refl, sym, ap, ◌∙◌}
+use Rattle.raft_accessor.proofs.Common.{lookup, nat_eq, ◌≡◌, Some, None, refl, sym, ap, ◌∙◌, err_from_is_err_and, is_some, option_copied_mut, table_of, Table, table_in, MayAlter, TableCalls}
 use Rattle.std.specs.FinMap as finite
-use Rattle.std.proofs.lemmas.Result.{err_from_is_err_and}
-use Rattle.std.specs.Option.{is_some, option_copied_mut}
-use Rattle.raft_table.specs.Steps.{table_of}
-use Rattle.raft_table.specs.Table.{Table}
-use Rattle.raft_accessor.specs.Accessor.{table_in}
-use Rattle.raft_accessor.specs.Merges.{MayAlter}
-use Rattle.raft_accessor.specs.Updates.{TableCalls}
 use Rattle.raft_accessor.specs.declared.region_tables.RegionTables.TheInside.{Inside}
 use Rattle.raft_accessor.proofs.MapLemmas.{some_is}
 use Rattle.raft_accessor.proofs.MergeLemmas.{altered, not_altered}
 use Rattle.raft_accessor.proofs.RegionTablesLemmas.{kept-with, kept-same, shown-with, shown-same, lent, absent, region-in}
+use Rattle.raft_accessor.proofs.UpdateLemmas.{calls-so}
 use Rattle.raft_accessor.proofs.region_tables.RegionTables.alter.Given as given
 use Rattle.raft_accessor.proofs.region_tables.RegionTables.alter.Goals as goal
 
@@ -29,7 +22,7 @@ was : (g : given.Over) (c : goal.After-self-in-Some-1 g) → finite.get c.args.s
 was g c = lent c.self.inside c.args.self.now c.args.id _ _ _ c.self.view_is c.get_mut.ensures.value c.in-Some.is (c.deref_mut.ensures.value ∙ c.table.view_is)
 
 gave : (g : given.Over) (c : goal.After-self-in-Some-1 g) → TableCalls g.F.FnOnce c.args.change (table_in c.args.self.now c.args.id) c.args.stats.now c.change.result c.change.new.arg2 c.change.new.arg3
-gave g c = record { table = c.deref_mut.result; stats = _; shows = (sym (ap (table_of c.args.id) (was g c)), refl); left = _; left_stats = _; met = c.change.ensures; leaves = (refl, refl) }
+gave g c = calls-so g.F.FnOnce c.args.change c.args.self.now c.args.id c.args.stats.now _ _ _ _ (sym (ap (table_of c.args.id) (was g c))) refl c.change.ensures
 
 abbrev after : (g : given.Over) → goal.After-self-in-Some-1 g → Inside
 after g c = record c.self.inside { tables = c.get_mut.follows.lender c.change.new.arg2 }
@@ -70,15 +63,7 @@ change-answer-requires g c = (c.requires.may (region-in c.self.inside c.args.sel
 made-by : (g : given.Over) (c : goal.Joined-this g) → TableCalls g.F.FnOnce c.args.change (table_in c.args.self.now c.args.id) c.args.stats.now c.change-answer.result c.change-answer.new.arg2 c.change-answer.new.arg3
 made-by g c =
     let none : finite.get c.args.self.now c.args.id ≡ None = absent c.self.inside c.args.self.now c.args.id _ c.self.view_is c.get_mut.ensures.value c.in_default.is in
-    record {
-      table = _;
-      stats = _;
-      shows = (c.deref_mut-2.ensures.value ∙ c.table-2.view_is ∙ c.in_ok-table.ensures ∙ sym (ap (table_of c.args.id) none), refl);
-      left = _;
-      left_stats = _;
-      met = c.change-answer.ensures;
-      leaves = (refl, refl);
-    }
+    calls-so g.F.FnOnce c.args.change c.args.self.now c.args.id c.args.stats.now _ _ _ _ (c.deref_mut-2.ensures.value ∙ c.table-2.view_is ∙ c.in_ok-table.ensures ∙ sym (ap (table_of c.args.id) none)) refl c.change-answer.ensures
 
 abbrev reserved : (g : given.Over) → goal.Joined-this g → Inside
 reserved g c = record c.self.inside { tables = c.reserve.new.self }

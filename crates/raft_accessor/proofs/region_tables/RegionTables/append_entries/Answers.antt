@@ -1,11 +1,6 @@
-use Rattle.std.proofs.Common.{refl, subst, inl}
+use Rattle.raft_accessor.proofs.Common.{refl, subst, inl, entries, entries_item, IsRunIn, after_append, table_in, Appending}
 use Rattle.std.specs.FinMap as finite
 use Rattle.raft_base.specs.declared.pipe_log.LogQueue.TheVariants.{Append}
-use Rattle.raft_records.specs.Item.{entries, entries_item}
-use Rattle.raft_table.specs.TableEntries.{IsRunIn}
-use Rattle.raft_table.specs.Table.{after_append}
-use Rattle.raft_accessor.specs.Accessor.{table_in}
-use Rattle.raft_accessor.specs.Writes.{Appending}
 use Rattle.raft_accessor.proofs.WriteLemmas.{written_by, refused_by, no_outcome, append_fault, none_listed, none_met}
 use Rattle.raft_accessor.proofs.region_tables.RegionTables.append_entries.Goals as goal
 

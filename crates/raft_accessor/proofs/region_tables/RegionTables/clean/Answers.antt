@@ -1,7 +1,5 @@
-use Rattle.std.proofs.Common.{sym, append-nil}
-use Rattle.std.proofs.lemmas.Result.{err_from_is_err_and}
+use Rattle.raft_accessor.proofs.Common.{sym, append-nil, err_from_is_err_and, Clean}
 use Rattle.raft_base.specs.declared.pipe_log.LogQueue.TheVariants.{Append, Rewrite}
-use Rattle.raft_table.specs.Steps.{Clean}
 use Rattle.raft_accessor.proofs.StepLemmas.{clean_taken, not_listed}
 use Rattle.raft_accessor.proofs.region_tables.RegionTables.clean.Goals as goal
 

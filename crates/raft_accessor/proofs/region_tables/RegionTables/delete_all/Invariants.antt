@@ -1,8 +1,5 @@
-use Rattle.std.proofs.Common.{◌≡◌, ◌≤◌, ◌+◌}
-use Rattle.raft_base.specs.declared.pipe_log.LogQueue.{LogQueue}
+use Rattle.raft_accessor.proofs.Common.{◌≡◌, ◌≤◌, ◌+◌, LogQueue, live, live_of}
 use Rattle.raft_base.specs.declared.pipe_log.LogQueue.TheVariants.{Append, Rewrite}
-use Rattle.raft_table.specs.Counts.{live}
-use Rattle.raft_table.specs.Table.{live_of}
 use Rattle.raft_accessor.proofs.TotalSums.{added}
 use Rattle.raft_accessor.proofs.region_tables.RegionTables.delete_all.Given as goal
 

@@ -1,8 +1,5 @@
-use Rattle.std.proofs.Common.{Some, not, sym, ap, subst, ◌∙◌}
+use Rattle.raft_accessor.proofs.Common.{Some, not, sym, ap, subst, ◌∙◌, Table, live_of, live_of_empty, IsTableOverlaid}
 use Rattle.raft_base.specs.declared.pipe_log.LogQueue.TheVariants.{Rewrite}
-use Rattle.raft_table.specs.Table.{Table, live_of}
-use Rattle.raft_table.proofs.TableLemmas.{live_of_empty}
-use Rattle.raft_accessor.specs.TableOverlays.{IsTableOverlaid}
 use Rattle.raft_accessor.proofs.TableOverlayLemmas.{cleaned_dropped, nothing_dropped, empty_put, absent, present}
 use Rattle.raft_accessor.proofs.region_tables.RegionTables.drop_rewritten.Goals as goal
 

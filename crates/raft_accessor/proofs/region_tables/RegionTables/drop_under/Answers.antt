@@ -1,11 +1,6 @@
-use Rattle.std.proofs.Common.{Some, refl, sym, ap, subst, ◌∙◌}
+use Rattle.raft_accessor.proofs.Common.{Some, refl, sym, ap, subst, ◌∙◌, err_from_is_err_and, other, Table, live_of, live_of_empty, IsTableJoined}
 use Rattle.std.specs.Prelude.{option_map}
-use Rattle.std.proofs.lemmas.Result.{err_from_is_err_and}
-use Rattle.raft_table.specs.Queues.{other}
-use Rattle.raft_table.specs.Table.{Table, live_of}
-use Rattle.raft_table.proofs.TableLemmas.{live_of_empty}
-use Rattle.raft_accessor.specs.TableJoins.{IsTableJoined}
-use Rattle.raft_accessor.proofs.TableJoinLemmas.{nothing_joined, empty_joined, cleaned_joined, mark_refused, not_joined}
+use Rattle.raft_accessor.proofs.TableJoinLemmas.{ends_met, nothing_joined, empty_joined, cleaned_joined, mark_refused, not_joined}
 use Rattle.raft_accessor.proofs.MapLemmas.{with_same}
 use Rattle.raft_accessor.proofs.region_tables.RegionTables.drop_under.Goals as goal
 
@@ -33,6 +28,7 @@ returns-in_err-check_newer_mark c =
 
 pub returns : goal.returns
 returns c =
-    cleaned_joined c.args.queue c.args.mark.now c.args.self.now c.args.id c.args.stats.now c.in-Some.table.now c.end_at_reach-end.result c.remove.new.self c.remove.new.stats
+    cleaned_joined c.args.queue c.args.mark.now c.args.self.now c.args.id c.args.stats.now c.in-Some.table.now (c.start_of-start.result, c.end_at_reach-end.result) c.remove.new.self c.remove.new.stats
     (sym c.get.ensures.value ∙ ap (option_map (λ t. t.now)) c.in-Some.is) (sym c.is_cleaned.ensures ∙ c.if-not-is_cleaned.false)
-    c.in_ok-check_newer_mark.ensures.ok c.end_at_reach-end.ensures c.remove.ensures.after c.remove.ensures.counts c.remove.ensures.recounted
+    c.in_ok-check_newer_mark.ensures.ok (ends_met c.args.mark.now c.in-Some.table.now c.start_of-start.result c.end_at_reach-end.result c.start_of-start.ensures.start
+    c.end_at_reach-end.ensures c.start_of-start.ensures.run) c.remove.ensures.after c.remove.ensures.counts c.remove.ensures.recounted

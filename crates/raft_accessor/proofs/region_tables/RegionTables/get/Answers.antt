@@ -1,5 +1,4 @@
-use Rattle.std.proofs.Common.{Some, sym, ap, ◌∙◌}
-use Rattle.std.specs.Option.{option_copied}
+use Rattle.raft_accessor.proofs.Common.{Some, sym, ap, ◌∙◌, option_copied}
 use Rattle.raft_accessor.proofs.RegionTablesLemmas.{get-shown}
 use Rattle.raft_accessor.proofs.region_tables.RegionTables.get.Goals as goal
 

@@ -1,5 +1,4 @@
-use Rattle.std.specs.List.{FoldsTo}
-use Rattle.raft_accessor.specs.Walks.{KeepsId}
+use Rattle.raft_accessor.proofs.Common.{FoldsTo, KeepsId}
 use Rattle.raft_accessor.proofs.region_tables.RegionTables.push_ids.Given as goal
 
 abbrev pub invariant-loop-table : goal.invariant-loop-table

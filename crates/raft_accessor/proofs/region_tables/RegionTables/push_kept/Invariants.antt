@@ -1,6 +1,4 @@
-use Rattle.std.proofs.Common.{map}
-use Rattle.std.specs.List.{FoldsTo}
-use Rattle.raft_accessor.specs.Walks.{Collects}
+use Rattle.raft_accessor.proofs.Common.{map, FoldsTo, Collects}
 use Rattle.raft_accessor.proofs.region_tables.RegionTables.push_kept.Given as goal
 
 abbrev pub invariant-loop-table : goal.invariant-loop-table

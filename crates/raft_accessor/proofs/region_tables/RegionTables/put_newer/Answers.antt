@@ -1,13 +1,7 @@
-use Rattle.std.specs.Map.{lookup}
-use Rattle.std.proofs.Common.{nat_eq, ◌≡◌, Some, None, Ok, Err, sym, ap, subst, ◌∙◌}
+use Rattle.raft_accessor.proofs.Common.{lookup, nat_eq, ◌≡◌, Some, None, Ok, Err, refl, sym, ap, subst, ◌∙◌, err_from_is_err_and, is_some, option_copied_mut, table_of, IsCounted, live_of, IsTableJoined}
+use Rattle.raft_accessor.proofs.Common.{tables_shown}
 use Rattle.std.specs.FinMap as finite
-use Rattle.std.proofs.lemmas.Result.{err_from_is_err_and}
-use Rattle.std.specs.Option.{is_some, option_copied_mut}
 use Rattle.raft_base.specs.declared.pipe_log.LogQueue.TheVariants.{Append}
-use Rattle.raft_table.specs.Steps.{table_of}
-use Rattle.raft_table.specs.Table.{IsCounted, live_of}
-use Rattle.raft_accessor.specs.TableJoins.{IsTableJoined}
-use Rattle.raft_accessor.specs.RegionTablesView.{tables_shown}
 use Rattle.raft_accessor.specs.declared.region_tables.RegionTables.TheInside.{Inside}
 use Rattle.raft_accessor.proofs.RegionTablesLemmas.{shown-with, shown-same, lent, absent}
 use Rattle.raft_accessor.proofs.TableJoinLemmas.{put_there, first_joined, first_refused}
@@ -15,30 +9,24 @@ use Rattle.raft_accessor.proofs.region_tables.RegionTables.put_newer.Goals as go
 
 -- ---- the region has a table
 
-pub join_under-requires-clause-older : goal.join_under-requires-clause-older
-join_under-requires-clause-older c = λ e.
+pub put_over-requires-clause-older : goal.put_over-requires-clause-older
+put_over-requires-clause-older c = λ e.
     sym (ap (λ o. live_of Append (table_of c.args.id o)) (lent c.self.inside c.args.self.now c.args.id _ _ _ c.self.view_is c.get_mut.ensures.value c.in-Some.is (c.deref_mut.ensures.value ∙ c.table.view_is))) ∙ c.requires.older e
 
-pub join_under-requires-clause-counted : goal.join_under-requires-clause-counted
-join_under-requires-clause-counted c = subst (λ t. IsCounted t c.args.stats.now)
+pub put_over-requires-clause-counted : goal.put_over-requires-clause-counted
+put_over-requires-clause-counted c = subst (λ t. IsCounted t c.args.stats.now)
     (ap (table_of c.args.id) (lent c.self.inside c.args.self.now c.args.id _ _ _ c.self.view_is c.get_mut.ensures.value c.in-Some.is
     (c.deref_mut.ensures.value ∙ c.table.view_is))) c.requires.counted
 
 pub returns-in-Some : goal.returns-in-Some
 returns-in-Some c =
-    let after : Inside = record c.self.inside { tables = c.get_mut.follows.lender c.join_under.new.self } in
+    let after : Inside = record c.self.inside { tables = c.get_mut.follows.lender c.put_over.new.older } in
     let was : finite.get c.args.self.now c.args.id ≡ Some c.deref_mut.result.now = lent c.self.inside c.args.self.now c.args.id _ _ _ c.self.view_is c.get_mut.ensures.value c.in-Some.is (c.deref_mut.ensures.value ∙ c.table.view_is) in
-    let shown : tables_shown after ≡ finite.insert c.args.self.now c.args.id c.join_under.new.self = shown-with c.self.inside after c.args.self.now
-    c.args.id (Some c.join_under.new.self) c.self.view_is
-    ((c.get_mut.follows.holds c.join_under.new.self).3 (ap is_some (sym c.get_mut.ensures.value ∙ ap option_copied_mut c.in-Some.is))).0 in
-    put_there c.args.queue c.args.mark.now c.args.newer c.args.self.now c.args.id c.args.stats.now c.join_under.result _ c.join_under.new.stats
-    c.deref_mut.result.now c.deref_mut-in-Some.result.now c.join_under.new.self was (c.deref_mut-in-Some.ensures.value ∙ c.newer.view_is) shown
-    (record {
-      ok = c.join_under.ensures.ok;
-      answer = c.join_under.ensures.end;
-      fault = c.join_under.ensures.fault;
-      few = c.join_under.ensures.few;
-    }) c.join_under.ensures.recounted
+    let shown : tables_shown after ≡ finite.insert c.args.self.now c.args.id c.put_over.new.older = shown-with c.self.inside after c.args.self.now
+    c.args.id (Some c.put_over.new.older) c.self.view_is
+    ((c.get_mut.follows.holds c.put_over.new.older).3 (ap is_some (sym c.get_mut.ensures.value ∙ ap option_copied_mut c.in-Some.is))).0 in
+    put_there c.args.queue c.args.mark.now c.args.newer c.args.self.now c.args.id c.args.stats.now c.put_over.result _ c.put_over.new.stats
+    c.deref_mut.result.now c.args.newer c.put_over.new.older was refl shown c.put_over.ensures.put c.put_over.ensures.recounted
 
 -- ---- it has none
 
@@ -55,5 +43,5 @@ returns c =
     let left : Inside = record c.self.inside { tables = c.get_mut.follows.lender-at-none } in
     let same : tables_shown left ≡ c.args.self.now = shown-same c.self.inside left c.args.self.now c.self.view_is (λ q. ap (λ m. lookup (nat_eq q) m.entries) c.get_mut.follows.holds-at-none) in
     let none : finite.get (tables_shown left) c.args.id ≡ None = ap (λ m. finite.get m c.args.id) same ∙ absent c.self.inside c.args.self.now c.args.id _ c.self.view_is c.get_mut.ensures.value c.in_default.is in
-    subst (λ m. IsTableJoined c.args.queue c.args.mark.now (Some c.args.newer) m c.args.id c.args.stats.now (Ok 0) c.put.new.self c.put.new.stats) same
+    subst (λ m. IsTableJoined c.args.queue c.args.mark.now (Some c.args.newer) m c.args.id c.args.stats.now (Ok (0, 0)) c.put.new.self c.put.new.stats) same
     (first_joined c.args.queue c.args.mark.now c.args.newer (tables_shown left) c.args.id c.args.stats.now c.put.new.self c.put.new.stats none c.requires.region c.in_ok-put.ensures.ok c.put.ensures.recounted)

@@ -1,13 +1,5 @@
-use Rattle.std.proofs.Common.{sym, ap, subst, ◌∙◌}
+use Rattle.raft_accessor.proofs.Common.{sym, ap, subst, ◌∙◌, option_map, err_from_is_err_and, item_of, content_of, live, step_shown, region_step_shown, IsStepTaken, Replaying}
 use Rattle.std.specs.FinMap as finite
-use Rattle.std.specs.Option.{option_map}
-use Rattle.std.proofs.lemmas.Result.{err_from_is_err_and}
-use Rattle.raft_records.specs.Item.{item_of, content_of}
-use Rattle.raft_table.specs.Counts.{live}
-use Rattle.raft_table.specs.StepShown.{step_shown}
-use Rattle.raft_history.specs.RegionStepShown.{region_step_shown}
-use Rattle.raft_accessor.specs.TableSteps.{IsStepTaken}
-use Rattle.raft_accessor.specs.Writes.{Replaying}
 use Rattle.raft_accessor.proofs.StepLemmas.{by_step, without_step, step_is, no_step_is}
 use Rattle.raft_accessor.proofs.WriteLemmas.{refused_by}
 use Rattle.raft_accessor.proofs.region_tables.RegionTables.replay_item.Goals as goal

@@ -1,9 +1,6 @@
-use Rattle.std.proofs.Common.{subst, inl}
+use Rattle.raft_accessor.proofs.Common.{subst, inl, entries, entries_item, IsRunIn, Rewriting}
 use Rattle.std.specs.FinMap as finite
 use Rattle.raft_base.specs.declared.pipe_log.LogQueue.TheVariants.{Rewrite}
-use Rattle.raft_records.specs.Item.{entries, entries_item}
-use Rattle.raft_table.specs.TableEntries.{IsRunIn}
-use Rattle.raft_accessor.specs.Writes.{Rewriting}
 use Rattle.raft_accessor.proofs.WriteLemmas.{refused_by, no_outcome}
 use Rattle.raft_accessor.proofs.region_tables.RegionTables.rewrite_entries.Goals as goal
 

@@ -1,11 +1,5 @@
-use Rattle.std.proofs.Common.{◌≡◌, true, Some, None, refl, sym, ap, ◌∙◌, inr}
+use Rattle.raft_accessor.proofs.Common.{◌≡◌, true, Some, None, refl, sym, ap, ◌∙◌, inr, option_map, is_reserved, pair, pair_of, table_in, pair_change, Rewriting, with_change}
 use Rattle.std.specs.FinMap as finite
-use Rattle.std.specs.Option.{option_map}
-use Rattle.raft_records.specs.Group.{is_reserved}
-use Rattle.raft_records.specs.Item.{pair, pair_of}
-use Rattle.raft_accessor.specs.Accessor.{table_in}
-use Rattle.raft_accessor.specs.ItemWrites.{pair_change}
-use Rattle.raft_accessor.specs.Writes.{Rewriting, with_change}
 use Rattle.raft_accessor.proofs.WriteLemmas.{refused_by, skipped_by, no_outcome, reserved_step, reserved_counts, change_step, no_value}
 use Rattle.raft_accessor.proofs.region_tables.RegionTables.rewrite_pair.Goals as goal
 

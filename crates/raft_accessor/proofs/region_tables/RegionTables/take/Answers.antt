@@ -1,7 +1,4 @@
-use Rattle.std.proofs.Common.{None, sym, ap, ◌∙◌, arith}
-use Rattle.raft_table.specs.Steps.{table_of}
-use Rattle.raft_table.specs.Table.{live_of, with_table_deleted}
-use Rattle.raft_table.proofs.TableLemmas.{live_of_empty}
+use Rattle.raft_accessor.proofs.Common.{None, sym, ap, ◌∙◌, arith, table_of, live_of, with_table_deleted, live_of_empty}
 use Rattle.raft_accessor.proofs.RegionTablesLemmas.{get-shown, shown-with}
 use Rattle.raft_accessor.proofs.region_tables.RegionTables.take.Goals as goal
 

@@ -1,12 +1,6 @@
-use Rattle.std.specs.Map.{lookup}
-use Rattle.std.proofs.Common.{nat_eq, ◌≡◌, Some, Err, sym, ap, subst, ◌∙◌}
+use Rattle.raft_accessor.proofs.Common.{lookup, nat_eq, ◌≡◌, Some, Err, sym, ap, subst, ◌∙◌, is_some, option_copied_mut, Put, table_of, IsCounted, tables_shown, IsStepTaken}
 use Rattle.std.specs.FinMap as finite
-use Rattle.std.specs.Option.{is_some, option_copied_mut}
 use Rattle.raft_base.specs.declared.errors.Error.TheVariants.{Memory}
-use Rattle.raft_table.specs.Steps.{Put, table_of}
-use Rattle.raft_table.specs.Table.{IsCounted}
-use Rattle.raft_accessor.specs.RegionTablesView.{tables_shown}
-use Rattle.raft_accessor.specs.TableSteps.{IsStepTaken}
 use Rattle.raft_accessor.specs.declared.region_tables.RegionTables.TheInside.{Inside}
 use Rattle.raft_accessor.proofs.RegionTablesLemmas.{shown-with, shown-same, lent}
 use Rattle.raft_accessor.proofs.StepLemmas.{not_listed, put_tried}

@@ -1,16 +1,9 @@
-use Rattle.std.specs.Map.{lookup}
-use Rattle.std.proofs.Common.{nat_eq, ◌≡◌, Ok, Some, None, refl, sym, ap, subst, ◌∙◌}
+use Rattle.raft_accessor.proofs.Common.{lookup, nat_eq, ◌≡◌, Ok, Some, None, refl, sym, ap, subst, ◌∙◌, err_from_is_err_and, is_some, option_copied_mut, table_of, Table, table_in, TableCalls}
 use Rattle.std.specs.FinMap as finite
-use Rattle.std.proofs.lemmas.Result.{err_from_is_err_and}
-use Rattle.std.specs.Option.{is_some, option_copied_mut}
-use Rattle.raft_table.specs.Steps.{table_of}
-use Rattle.raft_table.specs.Table.{Table}
-use Rattle.raft_accessor.specs.Accessor.{table_in}
-use Rattle.raft_accessor.specs.Updates.{TableCalls}
 use Rattle.raft_accessor.specs.declared.region_tables.RegionTables.TheInside.{Inside}
 use Rattle.raft_accessor.proofs.MapLemmas.{some_is}
 use Rattle.raft_accessor.proofs.RegionTablesLemmas.{kept-with, kept-same, shown-with, shown-same, lent, absent, region-in}
-use Rattle.raft_accessor.proofs.UpdateLemmas.{updated, made, refused, no_memory}
+use Rattle.raft_accessor.proofs.UpdateLemmas.{calls-so, updated, refused, no_memory}
 use Rattle.raft_accessor.proofs.region_tables.RegionTables.update.Given as given
 use Rattle.raft_accessor.proofs.region_tables.RegionTables.update.Goals as goal
 
@@ -23,7 +16,7 @@ was : (g : given.Over) (c : goal.After-self-in-Some-1 g) → finite.get c.args.s
 was g c = lent c.self.inside c.args.self.now c.args.id _ _ _ c.self.view_is c.get_mut.ensures.value c.in-Some.is (c.deref_mut.ensures.value ∙ c.table.view_is)
 
 gave : (g : given.Over) (c : goal.After-self-in-Some-1 g) → TableCalls g.F.FnOnce c.args.change (table_in c.args.self.now c.args.id) c.args.stats.now c.change.result c.change.new.arg2 c.change.new.arg3
-gave g c = record { table = c.deref_mut.result; stats = _; shows = (sym (ap (table_of c.args.id) (was g c)), refl); left = _; left_stats = _; met = c.change.ensures; leaves = (refl, refl) }
+gave g c = calls-so g.F.FnOnce c.args.change c.args.self.now c.args.id c.args.stats.now _ _ _ _ (sym (ap (table_of c.args.id) (was g c))) refl c.change.ensures
 
 abbrev after : (g : given.Over) → goal.After-self-in-Some-1 g → Inside
 after g c = record c.self.inside { tables = c.get_mut.follows.lender c.change.new.arg2 }
@@ -37,7 +30,7 @@ invariant_of-self g c =
 
 pub returns-in-Some : goal.returns-in-Some
 returns-in-Some g c =
-    updated g.F.FnOnce c.args.change c.args.self.now c.args.id c.args.stats.now c.deref_mut.result.now c.change.result c.change.new.arg2 c.change.new.arg3 _ (was g c) c.requires.may (gave g c)
+    updated g.F.FnOnce c.args.change c.args.self.now c.args.id c.args.stats.now c.change.result c.change.new.arg2 c.change.new.arg3 _ (λ x e. was g c ∙ ap Some (sym (ap (table_of c.args.id) (was g c)))) c.requires.may (gave g c)
     (shown-with c.self.inside (after g c) c.args.self.now c.args.id (Some c.change.new.arg2) c.self.view_is ((c.get_mut.follows.holds c.change.new.arg2).3 (ap is_some (sym c.get_mut.ensures.value ∙ ap option_copied_mut c.in-Some.is))).0)
 
 -- ---- the table is made
@@ -64,16 +57,8 @@ pub returns-in_err-answer : goal.returns-in_err-answer
 returns-in_err-answer g c =
     let p = err_from_is_err_and c.from_residual-in_err-answer.result c.from_residual-in_err-answer.ensures.1 in
     let none : finite.get c.args.self.now c.args.id ≡ None = absent c.self.inside c.args.self.now c.args.id _ c.self.view_is c.get_mut.ensures.value c.in_default.is in
-    let gave : TableCalls g.F.FnOnce c.args.change (table_in c.args.self.now c.args.id) c.args.stats.now c.change-2.result c.change-2.new.arg2
-    c.change-2.new.arg3 = record {
-      table = _;
-      stats = _;
-      shows = (c.deref_mut-2.ensures.value ∙ c.table-2.view_is ∙ c.in_ok-table.ensures ∙ sym (ap (table_of c.args.id) none), refl);
-      left = _;
-      left_stats = _;
-      met = c.change-2.ensures;
-      leaves = (refl, refl);
-    } in
+    let gave : TableCalls g.F.FnOnce c.args.change (table_in c.args.self.now c.args.id) c.args.stats.now c.change-2.result c.change-2.new.arg2 c.change-2.new.arg3 =
+    calls-so g.F.FnOnce c.args.change c.args.self.now c.args.id c.args.stats.now _ _ _ _ (c.deref_mut-2.ensures.value ∙ c.table-2.view_is ∙ c.in_ok-table.ensures ∙ sym (ap (table_of c.args.id) none)) refl c.change-2.ensures in
     rw (p.1, p.2) (refused g.F.FnOnce c.args.change c.args.self.now c.args.id c.args.stats.now _ c.change-2.new.arg2 c.change-2.new.arg3 _
     c.requires.may (subst (λ r. TableCalls g.F.FnOnce c.args.change (table_in c.args.self.now c.args.id) c.args.stats.now r c.change-2.new.arg2
     c.change-2.new.arg3) c.in_err-answer.was gave)
@@ -83,7 +68,7 @@ made-by : (g : given.Over) (c : goal.Joined-this g) → TableCalls g.F.FnOnce c.
 made-by g c =
     let none : finite.get c.args.self.now c.args.id ≡ None = absent c.self.inside c.args.self.now c.args.id _ c.self.view_is c.get_mut.ensures.value c.in_default.is in
     subst (λ r. TableCalls g.F.FnOnce c.args.change (table_in c.args.self.now c.args.id) c.args.stats.now r c.change-2.new.arg2 c.change-2.new.arg3) c.in_ok-answer.was
-    (record { table = _; stats = _; shows = (c.deref_mut-2.ensures.value ∙ c.table-2.view_is ∙ c.in_ok-table.ensures ∙ sym (ap (table_of c.args.id) none), refl); left = _; left_stats = _; met = c.change-2.ensures; leaves = (refl, refl) })
+    (calls-so g.F.FnOnce c.args.change c.args.self.now c.args.id c.args.stats.now _ _ _ _ (c.deref_mut-2.ensures.value ∙ c.table-2.view_is ∙ c.in_ok-table.ensures ∙ sym (ap (table_of c.args.id) none)) refl c.change-2.ensures)
 
 abbrev reserved : (g : given.Over) → goal.Joined-this g → Inside
 reserved g c = record c.self.inside { tables = c.reserve.new.self }
@@ -100,7 +85,7 @@ invariant_of-self-2 g c =
 
 pub returns : goal.returns
 returns g c =
-    made g.F.FnOnce c.args.change c.args.self.now c.args.id c.args.stats.now c.in_ok-answer.answer c.change-2.new.arg2 c.change-2.new.arg3 _ c.requires.may (made-by g c)
+    updated g.F.FnOnce c.args.change c.args.self.now c.args.id c.args.stats.now (Ok c.in_ok-answer.answer) c.change-2.new.arg2 c.change-2.new.arg3 _ (λ x e. cc) c.requires.may (made-by g c)
     (shown-with (reserved g c) (with_made g c) c.args.self.now c.args.id (Some c.change-2.new.arg2)
     (shown-same c.self.inside (reserved g c) c.args.self.now c.self.view_is
     (λ q. c.reserve.ensures.entries.2 q ∙ ap (λ m. lookup (nat_eq q) m.entries) c.get_mut.follows.holds-at-none)) c.in-Ok.ensures.updates.0)

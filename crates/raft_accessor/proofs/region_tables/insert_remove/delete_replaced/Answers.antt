@@ -1,7 +1,4 @@
-use Rattle.std.proofs.Common.{sym, ap, ◌∙◌, arith}
-use Rattle.raft_table.specs.Steps.{table_of}
-use Rattle.raft_table.specs.Table.{with_table_deleted}
-use Rattle.raft_table.proofs.TableLemmas.{live_of_empty}
+use Rattle.raft_accessor.proofs.Common.{sym, ap, ◌∙◌, arith, table_of, with_table_deleted, live_of_empty}
 use Rattle.raft_accessor.proofs.LiveLemmas.{none_deleted}
 use Rattle.raft_accessor.proofs.region_tables.insert_remove.delete_replaced.Goals as goal
 

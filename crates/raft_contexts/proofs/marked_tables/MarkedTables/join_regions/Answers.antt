@@ -1,11 +1,6 @@
-use Rattle.std.proofs.Common.{◌≡◌, length, refl, sym, ap, subst, ◌∙◌, arith}
-use Rattle.std.proofs.lemmas.Result.{err_from_is_err_and}
-use Rattle.raft_table.specs.Queues.{other}
-use Rattle.raft_accessor.specs.Accessor.{live_in_all}
-use Rattle.raft_accessor.specs.Slots.{together, AreSlots}
-use Rattle.raft_contexts.specs.MarkedTables.{regions_in}
-use Rattle.raft_contexts.specs.declared.marked_tables.MarkedTables.{MarkedTables}
+use Rattle.raft_contexts.proofs.Common.{◌≡◌, length, refl, sym, ap, subst, ◌∙◌, arith, err_from_is_err_and, other, live_in_all, together, AreSlots, regions_in, MarkedTables}
 use Rattle.raft_contexts.proofs.SlotJoinLemmas.{AreSlotsJoining, no_slots_joined, slots_joining_step, slots_joining_fault, all_slots_joined}
+use Rattle.raft_contexts.proofs.SlotJoinLemmas.{all_slots_left}
 use Rattle.raft_contexts.proofs.marked_tables.MarkedTables.join_regions.Goals as goal
 
 pub loop-slot-init : goal.loop-slot-init
@@ -34,7 +29,7 @@ loop-slot-preserved c =
       slots_joining_step c.args.queue c.args.tables.now.tables (regions_in c.args.self.now) c.args.marks (regions_in c.make_room.new.self) c.loop-slot.tables.tables _ _ _ _ is at.1
           (subst (λ (x : MarkedTables). AreSlotsJoining c.args.queue c.args.tables.now.tables (regions_in c.args.self.now) c.args.marks
           (regions_in x) c.loop-slot.tables.tables c.loop-slot.slot-iterator.rest.items) (sym c.make_room.ensures) at.0)
-          (regions_in c.join_slot.new.self) c.join_slot.new.tables.tables c.in_ok-join_slot.ensures.ok c.in_ok-join_slot.ensures.others c.in_ok-join_slot.ensures.few,
+          (regions_in c.join_slot.new.self) c.join_slot.new.tables.tables c.in_ok-join_slot.ensures.ok c.in_ok-join_slot.ensures.left c.in_ok-join_slot.ensures.few,
       subst (λ n. AreSlots n c.next.new.self.rest.items) (omega arith) (subst (AreSlots c.loop-slot.number) is at.1).1,
       omega (arith, ap length is, at.2),
       c.join_slot.ensures.cleaned.0 ∙ ap (λ (x : MarkedTables). x.accessor.cleaned) c.make_room.ensures ∙ at.3,
@@ -54,3 +49,9 @@ pub returns-clause-ok : goal.returns-clause-ok
 returns-clause-ok c =
     λ runs. all_slots_joined c.args.queue c.args.tables.now.tables (regions_in c.args.self.now) c.args.marks (regions_in c.loop-slot.self)
     c.loop-slot.tables.tables _ c.loop-slot.invariant.0 (omega (arith, c.in-None.ensures.steps.0, c.loop-slot.slot-iterator.rest.ok.0)) runs
+
+pub returns-clause-left : goal.returns-clause-left
+returns-clause-left c = all_slots_left c.args.tables.now.tables c.loop-slot.tables.tables c.args.marks _ c.loop-slot.invariant.0.rest_left (omega (arith, c.in-None.ensures.steps.0, c.loop-slot.slot-iterator.rest.ok.0))
+
+pub returns-clause-few : goal.returns-clause-few
+returns-clause-few c = c.loop-slot.invariant.0.few

@@ -1,6 +1,4 @@
-use Rattle.std.proofs.Common.{◌≡◌, ◌≤◌, ◌+◌, length}
-use Rattle.raft_accessor.specs.Slots.{AreSlots}
-use Rattle.raft_contexts.specs.MarkedTables.{regions_in}
+use Rattle.raft_contexts.proofs.Common.{◌≡◌, ◌≤◌, ◌+◌, length, AreSlots, regions_in}
 use Rattle.raft_contexts.proofs.SlotJoinLemmas.{AreSlotsJoining}
 use Rattle.raft_contexts.proofs.marked_tables.MarkedTables.join_regions.Given as goal
 

@@ -1,10 +1,7 @@
-use Rattle.std.proofs.Common.{refl, sym, ap, subst, ◌∙◌, nat_eq}
+use Rattle.raft_contexts.proofs.Common.{refl, sym, ap, subst, ◌∙◌, nat_eq, IsDistinct, keys_of, err_from_is_err_and, regions_in}
 use Rattle.std.specs.FinMap as finite
-use Rattle.std.specs.List.{IsDistinct}
-use Rattle.std.specs.Map.{keys_of}
-use Rattle.std.proofs.lemmas.Result.{err_from_is_err_and}
-use Rattle.raft_contexts.specs.MarkedTables.{regions_in}
-use Rattle.raft_contexts.proofs.RegionJoinLemmas.{joining_none, alone_taken, taken_step, taken_fault, joined_all, others_kept, fault_some, runs_of}
+use Rattle.raft_contexts.proofs.RegionJoinLemmas.{joining_none, alone_taken, taken_step, taken_fault, joined_all, fault_some, runs_of}
+use Rattle.raft_contexts.proofs.RegionJoinLemmas.{tables_left}
 use Rattle.raft_contexts.proofs.marked_tables.MarkedTables.join_slot.Goals as goal
 
 pub loop-id-init : goal.loop-id-init
@@ -25,7 +22,7 @@ pub loop-id-preserved : goal.loop-id-preserved
 loop-id-preserved c = (
   taken_step c.args.queue c.args.tables.now.tables (regions_in c.args.self.now) _ (regions_in c.loop-id.self) c.loop-id.tables.tables _ _ c.in-Some.id
       c.in-Some.mark c.in-Some.ensures.steps c.loop-id.invariant.0 c.take-table.result c.take-table.ensures.removed
-      (regions_in c.join_region.new.self) c.take-table.new.self.tables c.in_ok-join_region.ensures.ok c.in_ok-join_region.ensures.others c.in_ok-join_region.ensures.few c.take-table.ensures.tables,
+      (regions_in c.join_region.new.self) c.take-table.new.self.tables c.in_ok-join_region.ensures.ok (λ _. c.in_ok-join_region.ensures.others) c.in_ok-join_region.ensures.few c.take-table.ensures.tables,
   c.join_region.ensures.cleaned ∙ c.loop-id.invariant.1,
   c.take-table.ensures.cleaned ∙ c.loop-id.invariant.2,
 )
@@ -46,10 +43,10 @@ returns-clause-ok c = λ runs.
     let once = subst (λ es. IsDistinct nat_eq (keys_of es)) (sym c.into_iter-id-iterator.ensures.into_iter_gives) c.into_entries-id-items.ensures.once in
     joined_all c.args.queue c.args.tables.now.tables (regions_in c.args.self.now) (regions_in c.loop-id.self) c.loop-id.tables.tables c.args.marks _ _ is once c.loop-id.invariant.0 c.in-None.ensures.steps.0 runs
 
-pub returns-clause-others : goal.returns-clause-others
-returns-clause-others c = others_kept c.args.tables.now.tables c.loop-id.tables.tables c.args.marks _ _
+pub returns-clause-left : goal.returns-clause-left
+returns-clause-left c = tables_left c.args.tables.now.tables c.loop-id.tables.tables c.args.marks _ _
     (ap (λ es. finite.from_entries es) c.into_iter-id-iterator.ensures.into_iter_gives ∙ c.into_entries-id-items.ensures.entries)
-    c.loop-id.invariant.0.others
+    c.loop-id.invariant.0.gone c.loop-id.invariant.0.others c.in-None.ensures.steps.0
 
 pub returns-clause-few : goal.returns-clause-few
 returns-clause-few c = c.loop-id.invariant.0.few

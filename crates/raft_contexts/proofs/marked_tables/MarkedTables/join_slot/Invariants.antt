@@ -1,5 +1,4 @@
-use Rattle.std.proofs.Common.{◌≡◌}
-use Rattle.raft_contexts.specs.MarkedTables.{regions_in}
+use Rattle.raft_contexts.proofs.Common.{◌≡◌, regions_in}
 use Rattle.raft_contexts.proofs.RegionJoinLemmas.{AreJoining}
 use Rattle.raft_contexts.proofs.marked_tables.MarkedTables.join_slot.Given as goal
 

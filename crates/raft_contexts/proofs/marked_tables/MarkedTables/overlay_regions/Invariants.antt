@@ -1,5 +1,4 @@
-use Rattle.std.proofs.Common.{◌≡◌, ℕ}
-use Rattle.raft_accessor.specs.Slots.{AreSlots}
+use Rattle.raft_contexts.proofs.Common.{◌≡◌, ℕ, AreSlots}
 use Rattle.raft_contexts.proofs.SlotOverlayLemmas.{AreSlotsOverlaying}
 use Rattle.raft_contexts.proofs.marked_tables.MarkedTables.overlay_regions.Given as goal
 

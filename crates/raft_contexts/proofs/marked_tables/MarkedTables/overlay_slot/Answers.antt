@@ -1,10 +1,7 @@
-use Rattle.std.proofs.Common.{refl, sym, ap, subst, ◌∙◌, nat_eq}
+use Rattle.raft_contexts.proofs.Common.{refl, sym, ap, subst, ◌∙◌, nat_eq, IsDistinct, keys_of, err_from_is_err_and}
 use Rattle.std.specs.FinMap as finite
-use Rattle.std.specs.List.{IsDistinct}
-use Rattle.std.specs.Map.{keys_of}
-use Rattle.std.proofs.lemmas.Result.{err_from_is_err_and}
-use Rattle.raft_contexts.proofs.RegionJoinLemmas.{others_kept}
 use Rattle.raft_contexts.proofs.RegionOverlayLemmas.{overlaying_none, own_taken, overlaying_step, overlaying_refused, overlaid_all}
+use Rattle.raft_contexts.proofs.RegionJoinLemmas.{tables_left}
 use Rattle.raft_contexts.proofs.marked_tables.MarkedTables.overlay_slot.Goals as goal
 
 pub loop-id-init : goal.loop-id-init
@@ -46,10 +43,10 @@ returns-clause-ok c = λ runs.
 pub returns-clause-own_left : goal.returns-clause-own_left
 returns-clause-own_left c = c.loop-id.invariant.0.own_left
 
-pub returns-clause-others : goal.returns-clause-others
-returns-clause-others c = others_kept c.args.appended.now.tables c.loop-id.appended.tables c.args.marks _ _
+pub returns-clause-left : goal.returns-clause-left
+returns-clause-left c = tables_left c.args.appended.now.tables c.loop-id.appended.tables c.args.marks _ _
     (ap (λ es. finite.from_entries es) c.into_iter-id-iterator.ensures.into_iter_gives ∙ c.into_entries-id-items.ensures.entries)
-    c.loop-id.invariant.0.others
+    c.loop-id.invariant.0.gone c.loop-id.invariant.0.others c.in-None.ensures.steps.0
 
 pub returns-clause-few : goal.returns-clause-few
 returns-clause-few c = c.loop-id.invariant.0.few

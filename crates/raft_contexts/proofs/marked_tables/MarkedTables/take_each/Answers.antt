@@ -1,8 +1,4 @@
-use Rattle.std.proofs.Common.{[], ◌∷◌, length, Ok, Err, map, refl, ap, subst, arith}
-use Rattle.std.proofs.lemmas.Result.{err_from_is_err_and}
-use Rattle.raft_records.specs.Item.{item_of}
-use Rattle.raft_history.specs.RegionSteps.{steps_of_items}
-use Rattle.raft_contexts.specs.MarkedTables.{AreStepsTaken}
+use Rattle.raft_contexts.proofs.Common.{[], ◌∷◌, length, Ok, Err, map, refl, ap, subst, arith, err_from_is_err_and, item_of, steps_of_items, AreStepsTaken}
 use Rattle.raft_contexts.proofs.TakenLemmas.{rest_of_queue, each_more, each_refused, no_items, tried, not_tried}
 use Rattle.raft_contexts.proofs.WaitingItemLemmas.{split_items}
 use Rattle.raft_contexts.proofs.marked_tables.MarkedTables.take_each.Goals as goal

@@ -1,11 +1,5 @@
-use Rattle.std.proofs.Common.{◌++◌, Err, Ok, List, ℕ, subst}
-use Rattle.std.proofs.lemmas.Result.{err_from_is_err_and}
+use Rattle.raft_contexts.proofs.Common.{◌++◌, Err, Ok, List, ℕ, subst, err_from_is_err_and, AtomicGroup, on_each, RegionStep, AreStepsTaken, whole_shown}
 use Rattle.raft_base.specs.declared.pipe_log.LogQueue.TheVariants.{Rewrite}
-use Rattle.raft_table.specs.Steps.{AtomicGroup}
-use Rattle.raft_history.specs.MarkedRegions.{on_each}
-use Rattle.raft_history.specs.RegionSteps.{RegionStep}
-use Rattle.raft_contexts.specs.MarkedTables.{AreStepsTaken}
-use Rattle.raft_contexts.specs.WaitingShown.{whole_shown}
 use Rattle.raft_contexts.proofs.GroupFiles.{whole_ok, whole_counts, whole_fault, whole_other}
 use Rattle.raft_contexts.proofs.TakenLemmas.{taken_more, taken_refused}
 use Rattle.raft_contexts.proofs.marked_tables.MarkedTables.take_group.Goals as goal

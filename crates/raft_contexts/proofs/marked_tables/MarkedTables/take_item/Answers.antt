@@ -1,7 +1,4 @@
-use Rattle.std.proofs.Common.{Ok, sym, ap, subst, ◌∙◌}
-use Rattle.std.specs.Option.{option_map}
-use Rattle.raft_history.specs.RegionStepShown.{region_step_shown}
-use Rattle.raft_contexts.specs.MarkedTables.{AreStepsOfQueue, AreStepsTaken}
+use Rattle.raft_contexts.proofs.Common.{Ok, sym, ap, subst, ◌∙◌, option_map, region_step_shown, AreStepsOfQueue, AreStepsTaken}
 use Rattle.raft_contexts.proofs.TakenLemmas.{taken_none}
 use Rattle.raft_contexts.proofs.WaitingItemLemmas.{step_of, no_step_of}
 use Rattle.raft_contexts.proofs.marked_tables.MarkedTables.take_item.Goals as goal

@@ -1,7 +1,4 @@
-use Rattle.std.proofs.Common.{refl, sym, subst}
-use Rattle.raft_history.proofs.QueueLemmas.{items_in_queue}
-use Rattle.raft_history.specs.RegionSteps.{steps_of_items}
-use Rattle.raft_contexts.specs.MarkedTables.{AreStepsOfQueue, AreStepsTaken}
+use Rattle.raft_contexts.proofs.Common.{refl, sym, subst, items_in_queue, steps_of_items, AreStepsOfQueue, AreStepsTaken}
 use Rattle.raft_contexts.proofs.TakenLemmas.{other_in}
 use Rattle.raft_contexts.proofs.marked_tables.MarkedTables.take_items.Goals as goal
 

@@ -1,11 +1,5 @@
-use Rattle.std.proofs.Common.{◌≡◌, [], ◌∷◌, ◌+◌, slice_index_or, drop, Ok, Err, sym, subst}
-use Rattle.std.proofs.lemmas.List.{at_drop_more}
-use Rattle.std.proofs.lemmas.Result.{err_from_is_err_and}
-use Rattle.std.proofs.Math.ListN.{drop_of_length-le}
+use Rattle.raft_contexts.proofs.Common.{◌≡◌, [], ◌∷◌, ◌+◌, slice_index_or, drop, Ok, Err, sym, subst, at_drop_more, err_from_is_err_and, drop_of_length-le, on_each, AtomicGroup, AreStepsTaken}
 use Rattle.raft_base.specs.declared.pipe_log.LogQueue.TheVariants.{Rewrite}
-use Rattle.raft_history.specs.MarkedRegions.{on_each}
-use Rattle.raft_table.specs.Steps.{AtomicGroup}
-use Rattle.raft_contexts.specs.MarkedTables.{AreStepsTaken}
 use Rattle.raft_contexts.proofs.GroupFiles.{file_more}
 use Rattle.raft_contexts.proofs.TakenLemmas.{taken_none, taken_refused}
 use Rattle.raft_contexts.proofs.marked_tables.MarkedTables.take_seqs.Goals as goal

@@ -1,10 +1,5 @@
-use Rattle.std.proofs.Common.{drop, Result}
-use Rattle.raft_base.specs.declared.errors.Error.{Error}
+use Rattle.raft_contexts.proofs.Common.{drop, Result, Error, on_each, AtomicGroup, AreStepsTaken, MarkedTables}
 use Rattle.raft_base.specs.declared.pipe_log.LogQueue.TheVariants.{Rewrite}
-use Rattle.raft_history.specs.MarkedRegions.{on_each}
-use Rattle.raft_table.specs.Steps.{AtomicGroup}
-use Rattle.raft_contexts.specs.MarkedTables.{AreStepsTaken}
-use Rattle.raft_contexts.specs.declared.marked_tables.MarkedTables.{MarkedTables}
 use Rattle.raft_contexts.proofs.marked_tables.MarkedTables.take_seqs.Given as goal
 
 abbrev pub invariant-loop-id : goal.invariant-loop-id

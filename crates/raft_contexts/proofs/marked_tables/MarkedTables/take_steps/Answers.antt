@@ -1,7 +1,4 @@
-use Rattle.std.proofs.Common.{[], ◌∷◌, length, Ok, Err, map, refl, ap, subst, arith}
-use Rattle.std.proofs.lemmas.Result.{err_from_is_err_and}
-use Rattle.raft_history.specs.RegionStepShown.{region_step_shown}
-use Rattle.raft_contexts.specs.MarkedTables.{AreStepsTaken}
+use Rattle.raft_contexts.proofs.Common.{[], ◌∷◌, length, Ok, Err, map, refl, ap, subst, arith, err_from_is_err_and, region_step_shown, AreStepsTaken}
 use Rattle.raft_contexts.proofs.TakenLemmas.{rest_of_queue, each_more, each_refused, no_items}
 use Rattle.raft_contexts.proofs.marked_tables.MarkedTables.take_steps.Goals as goal
 

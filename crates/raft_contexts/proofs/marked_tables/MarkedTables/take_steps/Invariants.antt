@@ -1,9 +1,4 @@
-use Rattle.std.proofs.Common.{◌≡◌, length, map, Result}
-use Rattle.std.specs.Vec.Iter.{into_iter_items, into_iter_len}
-use Rattle.raft_base.specs.declared.errors.Error.{Error}
-use Rattle.raft_history.specs.RegionStepShown.{region_step_shown}
-use Rattle.raft_contexts.specs.MarkedTables.{AreStepsOfQueue, AreStepsTaken}
-use Rattle.raft_contexts.specs.declared.marked_tables.MarkedTables.{MarkedTables}
+use Rattle.raft_contexts.proofs.Common.{◌≡◌, length, map, Result, into_iter_items, into_iter_len, Error, region_step_shown, AreStepsOfQueue, AreStepsTaken, MarkedTables}
 use Rattle.raft_contexts.proofs.marked_tables.MarkedTables.take_steps.Given as goal
 
 abbrev pub invariant-loop-step : goal.invariant-loop-step

@@ -1,25 +1,31 @@
-use Rattle.std.proofs.Common.{refl}
-use Rattle.std.proofs.lemmas.Result.{err_from_is_err_and}
-use Rattle.raft_contexts.proofs.ReadStateLemmas.{on_any}
+use Rattle.raft_contexts.proofs.Common.{Some, refl, ap, ◌∙◌, err_from_is_err_and, FileRange, joined_files, steps_of_items, event, ranges_shown, context_in}
+use Rattle.raft_contexts.proofs.ReadStateLemmas.{may_follow, steps_of_read, lone_effect, effect_fault, refused, lone_taken}
 use Rattle.raft_contexts.proofs.read_state.ReadState.replay_read.Goals as goal
 
-pub returns-in_err-check_file-clause-fault : goal.returns-in_err-check_file-clause-fault
-returns-in_err-check_file-clause-fault c =
+pub returns-in_err-check_file : goal.returns-in_err-check_file
+returns-in_err-check_file c =
     let p = err_from_is_err_and c.from_residual-in_err-check_file.result c.from_residual-in_err-check_file.ensures.1 in
-    rw (p.1, p.2) (c.in_err-check_file.ensures.fault c.args.batch.now)
+    rw (p.1, p.2) (refused (event c.args.batch.now c.args.file) _ _ _ (c.in_err-check_file.ensures.fault c.args.batch.now))
 
-pub take_lone_read-requires-clause-next : goal.take_lone_read-requires-clause-next
-take_lone_read-requires-clause-next c = record {
-  queue = c.in_ok-check_file.ensures.queue;
-  files = c.in_ok-check_file.ensures.files c.args.batch.now;
-  items = c.if-not-is_lone_read.ensures.items refl;
-  markers = c.if-not-is_lone_read.ensures.markers refl;
-}
+pub take_read-requires-clause-in_file : goal.take_read-requires-clause-in_file
+take_read-requires-clause-in_file c = c.if-not-is_lone_read.ensures.items refl
 
-pub returns-clause-next : goal.returns-clause-next
-returns-clause-next c = on_any c.take_lone_read.result record {
-  queue = c.in_ok-check_file.ensures.queue;
-  files = c.in_ok-check_file.ensures.files c.args.batch.now;
-  items = c.if-not-is_lone_read.ensures.items refl;
-  markers = c.if-not-is_lone_read.ensures.markers refl;
-}
+pub take_read-requires-clause-stands : goal.take_read-requires-clause-stands
+take_read-requires-clause-stands c = steps_of_read c.args.file.queue (context_in c.args.self.now) c.requires c.in_ok-check_file.ensures.queue
+
+pub returns-in_err-take_read : goal.returns-in_err-take_read
+returns-in_err-take_read c =
+    let p = err_from_is_err_and c.from_residual-in_err-take_read.result c.from_residual-in_err-take_read.ensures.1 in
+    let e = event c.args.batch.now c.args.file in
+    let old = context_in c.args.self.now in
+    let next = may_follow (context_in c.args.self.now) (event c.args.batch.now c.args.file) c.in_ok-check_file.ensures.queue (c.in_ok-check_file.ensures.files c.args.batch.now)
+    (c.if-not-is_lone_read.ensures.items refl) (c.if-not-is_lone_read.ensures.markers refl) in
+    rw (p.1, p.2) (refused e _ _ _ (effect_fault old e c.args.file.queue (steps_of_items c.args.batch.now) (lone_effect old e (c.if-not-is_lone_read.ensures.marker refl)) c.requires next _ c.in_err-take_read.ensures.taken.fault))
+
+pub returns : goal.returns
+returns c =
+    let next = may_follow (context_in c.args.self.now) (event c.args.batch.now c.args.file) c.in_ok-check_file.ensures.queue (c.in_ok-check_file.ensures.files c.args.batch.now)
+    (c.if-not-is_lone_read.ensures.items refl) (c.if-not-is_lone_read.ensures.markers refl) in
+    lone_taken c.args.self.now _ (event c.args.batch.now c.args.file) c.requires next (c.if-not-is_lone_read.ensures.marker refl)
+    c.in_ok-take_read.ensures.taken.ok c.in_ok-take_read.ensures.taken.counts c.in_ok-take_read.ensures.other c.in_ok-take_read.ensures.taken.cleaned refl
+    (c.joined-self.ensures ∙ ap (λ (f : FileRange). joined_files (ranges_shown c.args.self.now.files) (Some f)) c.of.ensures)

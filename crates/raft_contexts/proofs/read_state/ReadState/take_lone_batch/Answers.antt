@@ -1,23 +1,15 @@
-use Rattle.std.proofs.Common.{refl, ap, ◌∙◌}
-use Rattle.std.proofs.lemmas.Result.{err_from_is_err_and}
-use Rattle.raft_history.specs.Contexts.{joined_files}
-use Rattle.raft_history.specs.ReplayMachine.{event}
-use Rattle.raft_contexts.specs.FileRanges.{ranges_shown}
-use Rattle.raft_contexts.specs.ReadStates.{context_in}
-use Rattle.raft_contexts.proofs.ReadStateLemmas.{some_range, read_more, lone_taken, lone_counted, lone_fault}
+use Rattle.raft_contexts.proofs.Common.{Some, refl, ap, ◌∙◌, err_from_is_err_and, FileRange, joined_files, steps_of_items, event, ranges_shown, context_in}
+use Rattle.raft_contexts.proofs.ReadStateLemmas.{lone_effect, effect_fault, refused, lone_taken}
 use Rattle.raft_contexts.proofs.read_state.ReadState.take_lone_batch.Goals as goal
 
-pub returns-in_err-take_items-clause-fault : goal.returns-in_err-take_items-clause-fault
-returns-in_err-take_items-clause-fault c =
+pub returns-in_err-take_items : goal.returns-in_err-take_items
+returns-in_err-take_items c =
     let p = err_from_is_err_and c.from_residual.result c.from_residual.ensures.1 in
-    rw (p.1, p.2) (lone_fault (context_in c.args.self.now) (event c.args.batch c.args.file) c.requires.history c.requires.next c.requires.without_marker _ c.in_err-take_items.ensures.fault)
+    let e = event c.args.batch c.args.file in
+    let old = context_in c.args.self.now in
+    rw (p.1, p.2) (refused e _ _ _ (effect_fault old e c.args.file.queue (steps_of_items c.args.batch) (lone_effect old e c.requires.without_marker) c.requires.history c.requires.next _ c.in_err-take_items.ensures.fault))
 
-pub returns-clause-counts : goal.returns-clause-counts
-returns-clause-counts c = lone_counted (context_in c.args.self.now) (event c.args.batch c.args.file) _ _ c.requires.without_marker c.in_ok-take_items.ensures.counts
-
-pub returns-clause-history : goal.returns-clause-history
-returns-clause-history c =
-    read_more (context_in c.args.self.now) _ (event c.args.batch c.args.file) c.requires.history c.requires.next
-    (lone_taken (context_in c.args.self.now) _ (event c.args.batch c.args.file) c.requires.without_marker c.in_ok-take_items.ensures.ok refl c.in_ok-take_items.ensures.cleaned
-    (c.joined-self.ensures ∙ ap (λ f. joined_files (ranges_shown c.args.self.now.files) (some_range f)) c.of.ensures))
-    c.in_ok-take_items.ensures.other
+pub returns : goal.returns
+returns c = lone_taken c.args.self.now _ (event c.args.batch c.args.file) c.requires.history c.requires.next c.requires.without_marker
+    c.in_ok-take_items.ensures.ok c.in_ok-take_items.ensures.counts c.in_ok-take_items.ensures.other c.in_ok-take_items.ensures.cleaned refl
+    (c.joined-self.ensures ∙ ap (λ (f : FileRange). joined_files (ranges_shown c.args.self.now.files) (Some f)) c.of.ensures)

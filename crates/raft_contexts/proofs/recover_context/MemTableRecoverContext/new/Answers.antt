@@ -1,5 +1,4 @@
-use Rattle.std.proofs.Common.{sym, subst}
-use Rattle.raft_contexts.specs.ReadStates.{IsOfHistory}
+use Rattle.raft_contexts.proofs.Common.{sym, subst, IsOfHistory}
 use Rattle.raft_contexts.proofs.RecoverContextLemmas.{new_read, new_reads_as}
 use Rattle.raft_contexts.proofs.recover_context.MemTableRecoverContext.new.Goals as goal
 

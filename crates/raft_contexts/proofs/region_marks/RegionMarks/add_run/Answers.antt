@@ -1,6 +1,4 @@
-use Rattle.std.proofs.Common.{Some, length, refl, ap, arith}
-use Rattle.std.specs.Vec.{with_item}
-use Rattle.raft_table.specs.MarkJoins.{fresh, joined_at}
+use Rattle.raft_contexts.proofs.Common.{Some, length, refl, ap, arith, with_item, fresh, joined_at}
 use Rattle.raft_contexts.specs.declared.region_marks.RegionMarks.TheInside.{Inside}
 use Rattle.raft_contexts.proofs.RegionMarksLemmas.{InSlot, all_slots, kept-same, kept-in, ok-in, err-in, one_put}
 use Rattle.raft_contexts.proofs.region_marks.RegionMarks.add_run.Goals as goal

@@ -1,7 +1,4 @@
-use Rattle.std.proofs.Common.{length, refl, ap, arith}
-use Rattle.std.specs.Vec.{with_item}
-use Rattle.raft_table.specs.MarkJoins.{mark_of, joined_at}
-use Rattle.raft_table.specs.StepShown.{step_shown}
+use Rattle.raft_contexts.proofs.Common.{length, refl, ap, arith, with_item, mark_of, joined_at, step_shown}
 use Rattle.raft_contexts.specs.declared.region_marks.RegionMarks.TheInside.{Inside}
 use Rattle.raft_contexts.proofs.RegionMarksLemmas.{InSlot, all_slots, kept-same, kept-in, ok-in, err-in, one_put}
 use Rattle.raft_contexts.proofs.region_marks.RegionMarks.add_step.Goals as goal

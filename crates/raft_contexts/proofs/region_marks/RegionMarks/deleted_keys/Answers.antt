@@ -1,6 +1,5 @@
-use Rattle.std.proofs.Common.{refl, arith}
+use Rattle.raft_contexts.proofs.Common.{refl, arith, Mark}
 use Rattle.std.specs.FinSet as finset
-use Rattle.raft_table.specs.Marks.{Mark}
 use Rattle.raft_contexts.proofs.RegionMarksLemmas.{few_slots, counted_more, counted_all}
 use Rattle.raft_contexts.proofs.region_marks.RegionMarks.deleted_keys.Goals as goal
 

@@ -1,6 +1,4 @@
-use Rattle.std.proofs.Common.{length, refl, ap, arith}
-use Rattle.std.specs.Vec.{with_item}
-use Rattle.raft_table.specs.MarkJoins.{joined_at}
+use Rattle.raft_contexts.proofs.Common.{length, refl, ap, arith, with_item, joined_at}
 use Rattle.raft_contexts.proofs.RegionMarksLemmas.{all_slots, kept-same, kept-in, ok-in, one_joined}
 use Rattle.raft_contexts.proofs.region_marks.RegionMarks.join.Goals as goal
 

@@ -1,6 +1,4 @@
-use Rattle.std.proofs.Common.{refl, sym, ◌∙◌, arith}
-use Rattle.raft_table.specs.Marks.{Mark}
-use Rattle.raft_history.proofs.TotalLemmas.{total-ones}
+use Rattle.raft_contexts.proofs.Common.{refl, sym, ◌∙◌, arith, Mark, total-ones}
 use Rattle.raft_contexts.proofs.RegionMarksLemmas.{few_slots, counted_more, counted_all}
 use Rattle.raft_contexts.proofs.region_marks.RegionMarks.len.Goals as goal
 

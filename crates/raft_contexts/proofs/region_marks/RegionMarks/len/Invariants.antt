@@ -1,7 +1,4 @@
-use Rattle.std.proofs.Common.{◌≡◌, ◌≤◌, ◌+◌, ◌*◌, ◌^◌, length, map, drop}
-use Rattle.raft_table.specs.Marks.{Mark}
-use Rattle.raft_accessor.specs.Slots.{slot_entries}
-use Rattle.raft_accessor.proofs.TotalSums.{added}
+use Rattle.raft_contexts.proofs.Common.{◌≡◌, ◌≤◌, ◌+◌, ◌*◌, ◌^◌, length, map, drop, Mark, slot_entries, added}
 use Rattle.raft_contexts.proofs.region_marks.RegionMarks.len.Given as goal
 
 abbrev pub invariant-loop-slot : goal.invariant-loop-slot

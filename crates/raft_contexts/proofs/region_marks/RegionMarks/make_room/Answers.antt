@@ -1,5 +1,4 @@
-use Rattle.std.proofs.Common.{refl}
-use Rattle.std.specs.Vec.{with_item}
+use Rattle.raft_contexts.proofs.Common.{refl, with_item}
 use Rattle.raft_contexts.specs.declared.region_marks.RegionMarks.TheInside.{Inside}
 use Rattle.raft_contexts.proofs.RegionMarksLemmas.{InSlot, kept-same, kept-room, same-in}
 use Rattle.raft_contexts.proofs.region_marks.RegionMarks.make_room.Goals as goal

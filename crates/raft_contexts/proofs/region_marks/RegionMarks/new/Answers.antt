@@ -1,6 +1,4 @@
-use Rattle.std.proofs.Common.{ap}
-use Rattle.raft_accessor.specs.Slots.{slot_entries}
-use Rattle.raft_accessor.proofs.SlotLemmas.{together-empty}
+use Rattle.raft_contexts.proofs.Common.{ap, slot_entries, together-empty}
 use Rattle.raft_contexts.proofs.region_marks.RegionMarks.new.Goals as goal
 
 pub returns : goal.returns

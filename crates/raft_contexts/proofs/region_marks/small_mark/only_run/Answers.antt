@@ -1,7 +1,5 @@
-use Rattle.std.proofs.Common.{◌≡◌, Some}
+use Rattle.raft_contexts.proofs.Common.{◌≡◌, Some, Mark, fresh}
 use Rattle.std.specs.FinSet as finset
-use Rattle.raft_table.specs.Marks.{Mark}
-use Rattle.raft_table.specs.MarkJoins.{fresh}
 use Rattle.raft_contexts.proofs.region_marks.small_mark.only_run.Goals as goal
 
 pub returns-in-None-None-eq0 : goal.returns-in-None-None-eq0

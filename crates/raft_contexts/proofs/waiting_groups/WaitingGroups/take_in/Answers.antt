@@ -1,6 +1,4 @@
-use Rattle.std.proofs.lemmas.Result.{on_ok_weaker, IfOk-weaker}
-use Rattle.std.specs.Option.{option_map}
-use Rattle.raft_contexts.specs.WaitingShown.{group_shown, whole_shown}
+use Rattle.raft_contexts.proofs.Common.{on_ok_weaker, IfOk-weaker, option_map, group_shown, whole_shown}
 use Rattle.raft_contexts.proofs.WaitingGroupLemmas.{stands-one, steps-with_marker}
 use Rattle.raft_contexts.proofs.waiting_groups.WaitingGroups.take_in.Goals as goal
 

@@ -1,8 +1,4 @@
-use Rattle.std.proofs.Common.{◌≡◌, length, sym, ap, ◌∙◌, arith}
-use Rattle.std.specs.Prelude.{flat_map}
-use Rattle.raft_history.specs.WaitingGroups.{held_steps}
-use Rattle.raft_contexts.specs.WaitingShown.{group_shown}
-use Rattle.std.specs.BTreeMap.{values}
+use Rattle.raft_contexts.proofs.Common.{◌≡◌, length, sym, ap, ◌∙◌, arith, flat_map, held_steps, group_shown, values}
 use Rattle.raft_contexts.proofs.WaitingSeen.{waiting-seen}
 use Rattle.raft_contexts.proofs.waiting_groups.WaitingGroups.waiting_items.Goals as goal
 

@@ -1,7 +1,4 @@
-use Rattle.std.proofs.Common.{◌≡◌, ◌+◌, ◌*◌, ◌<◌, ◌^◌, length}
-use Rattle.std.specs.Prelude.{flat_map}
-use Rattle.raft_history.specs.WaitingGroups.{held_steps, waiting_steps}
-use Rattle.raft_contexts.specs.WaitingShown.{group_shown}
+use Rattle.raft_contexts.proofs.Common.{◌≡◌, ◌+◌, ◌*◌, ◌<◌, ◌^◌, length, flat_map, held_steps, waiting_steps, group_shown}
 use Rattle.raft_contexts.proofs.waiting_groups.WaitingGroups.waiting_items.Given as goal
 
 abbrev pub invariant-loop-group : goal.invariant-loop-group

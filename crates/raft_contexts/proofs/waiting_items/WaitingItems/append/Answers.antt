@@ -1,7 +1,4 @@
-use Rattle.std.proofs.Common.{◌++◌, List, map, ap, ◌∙◌}
-use Rattle.std.proofs.lemmas.List.{map-append}
-use Rattle.raft_history.specs.RegionStepShown.{region_step_shown}
-use Rattle.raft_history.specs.RegionSteps.{RegionStep}
+use Rattle.raft_contexts.proofs.Common.{◌++◌, List, map, ap, ◌∙◌, map-append, region_step_shown, RegionStep}
 use Rattle.raft_contexts.proofs.waiting_items.WaitingItems.append.Goals as goal
 
 pub returns : goal.returns

@@ -1,8 +1,4 @@
-use Rattle.std.proofs.Common.{◌≡◌, ◌++◌, length, map}
-use Rattle.std.specs.Vec.Iter.{into_iter_items, into_iter_len}
-use Rattle.raft_records.specs.Item.{item_of}
-use Rattle.raft_history.specs.RegionStepShown.{region_step_shown}
-use Rattle.raft_history.specs.RegionSteps.{steps_of_items}
+use Rattle.raft_contexts.proofs.Common.{◌≡◌, ◌++◌, length, map, into_iter_items, into_iter_len, item_of, region_step_shown, steps_of_items}
 use Rattle.raft_contexts.proofs.waiting_items.WaitingItems.of_items.Given as goal
 
 abbrev pub invariant-loop-item : goal.invariant-loop-item

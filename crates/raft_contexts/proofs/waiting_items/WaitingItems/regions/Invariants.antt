@@ -1,5 +1,4 @@
-use Rattle.std.proofs.Common.{◌≡◌, ℕ, ◌==◌, ◌||◌, drop}
-use Rattle.std.specs.List.{list_any}
+use Rattle.raft_contexts.proofs.Common.{◌≡◌, ℕ, ◌==◌, ◌||◌, drop, list_any}
 use Rattle.raft_contexts.proofs.WaitingItemLemmas.{are_on}
 use Rattle.raft_contexts.proofs.waiting_items.WaitingItems.regions.Given as goal
 

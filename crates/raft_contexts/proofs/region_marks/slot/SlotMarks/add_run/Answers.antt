@@ -1,13 +1,6 @@
-use Rattle.std.proofs.Common.{nat_eq, ◌≡◌, Some, None, sym, ap, subst, ◌∙◌}
-use Rattle.std.proofs.lemmas.Result.{on_ok_weaker, on_err_weaker}
-use Rattle.std.specs.Result.{OnOk, OnErr}
-use Rattle.std.specs.Map.{lookup}
+use Rattle.raft_contexts.proofs.Common.{nat_eq, ◌≡◌, Some, None, sym, ap, subst, ◌∙◌, on_ok_weaker, on_err_weaker, OnOk, OnErr, lookup, is_some, option_copied_mut, Mark, fresh, joined_at, mark_in}
+use Rattle.raft_contexts.proofs.Common.{slot_shown}
 use Rattle.std.specs.FinMap as finite
-use Rattle.std.specs.Option.{is_some, option_copied_mut}
-use Rattle.raft_table.specs.Marks.{Mark}
-use Rattle.raft_table.specs.MarkJoins.{fresh, joined_at}
-use Rattle.raft_contexts.specs.RegionMarks.{mark_in}
-use Rattle.raft_contexts.specs.SlotMarksView.{slot_shown}
 use Rattle.raft_contexts.specs.declared.region_marks.slot.SlotMarks.TheInside.{Inside}
 use Rattle.raft_contexts.proofs.SlotMarksLemmas.{shown-with, shown-same, there, absent, put_back, mark_of_some, mark_of_none, first_run}
 use Rattle.raft_contexts.proofs.region_marks.slot.SlotMarks.add_run.Goals as goal

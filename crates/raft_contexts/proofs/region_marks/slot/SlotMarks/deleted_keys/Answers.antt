@@ -1,9 +1,5 @@
-use Rattle.std.proofs.Common.{◌≡◌, ℕ, length, map, ap, ◌∙◌, arith}
+use Rattle.raft_contexts.proofs.Common.{◌≡◌, ℕ, length, map, ap, ◌∙◌, arith, length-map, total, Mark, added, total-from}
 use Rattle.std.specs.FinSet as finset
-use Rattle.std.proofs.lemmas.List.{length-map}
-use Rattle.raft_history.specs.Records.{total}
-use Rattle.raft_table.specs.Marks.{Mark}
-use Rattle.raft_accessor.proofs.TotalSums.{added, total-from}
 use Rattle.raft_contexts.proofs.region_marks.slot.SlotMarks.deleted_keys.Goals as goal
 
 pub returns-clause-value : goal.returns-clause-value

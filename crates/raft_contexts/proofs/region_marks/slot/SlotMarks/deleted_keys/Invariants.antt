@@ -1,7 +1,5 @@
-use Rattle.std.proofs.Common.{◌≡◌, ◌≤◌, ◌+◌, ◌*◌, ◌^◌, length}
+use Rattle.raft_contexts.proofs.Common.{◌≡◌, ◌≤◌, ◌+◌, ◌*◌, ◌^◌, length, Mark, added}
 use Rattle.std.specs.FinSet as finset
-use Rattle.raft_table.specs.Marks.{Mark}
-use Rattle.raft_accessor.proofs.TotalSums.{added}
 use Rattle.raft_contexts.proofs.region_marks.slot.SlotMarks.deleted_keys.Given as goal
 
 abbrev pub invariant-loop-mark : goal.invariant-loop-mark

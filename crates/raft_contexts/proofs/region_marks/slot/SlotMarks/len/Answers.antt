@@ -1,6 +1,5 @@
-use Rattle.std.proofs.Common.{sym, ap, ◌∙◌}
+use Rattle.raft_contexts.proofs.Common.{sym, ap, ◌∙◌, len-from}
 use Rattle.std.specs.FinMap as finite
-use Rattle.raft_accessor.proofs.TotalSums.{len-from}
 use Rattle.raft_contexts.proofs.region_marks.slot.SlotMarks.len.Goals as goal
 
 pub returns-clause-value : goal.returns-clause-value

@@ -1,11 +1,5 @@
-use Rattle.std.specs.Map.{lookup}
-use Rattle.std.proofs.Common.{nat_eq, ◌≡◌, Ok, sym, ap, subst, ◌∙◌}
+use Rattle.raft_contexts.proofs.Common.{lookup, nat_eq, ◌≡◌, Ok, sym, ap, subst, ◌∙◌, err_from_is_err_and, OnOk, OnErr, is_some, option_copied_mut, MayChangeMark, ChangesMark, slot_shown}
 use Rattle.std.specs.FinMap as finite
-use Rattle.std.proofs.lemmas.Result.{err_from_is_err_and}
-use Rattle.std.specs.Result.{OnOk, OnErr}
-use Rattle.std.specs.Option.{is_some, option_copied_mut}
-use Rattle.raft_contexts.specs.RegionMarks.{MayChangeMark, ChangesMark}
-use Rattle.raft_contexts.specs.SlotMarksView.{slot_shown}
 use Rattle.raft_contexts.specs.declared.region_marks.slot.SlotMarks.TheInside.{Inside}
 use Rattle.raft_contexts.proofs.SlotMarksLemmas.{shown-with, shown-same, there, absent, mark_of_some, mark_of_none, updated, made, refused}
 use Rattle.raft_contexts.proofs.region_marks.slot.SlotMarks.update.Goals as goal

@@ -1,6 +1,4 @@
-use Rattle.std.proofs.Common.{Ok, refl, sym}
-use Rattle.std.proofs.lemmas.Result.{IfOk-weaker}
-use Rattle.raft_contexts.specs.RegionMarks.{ChangesMark}
+use Rattle.raft_contexts.proofs.Common.{Ok, refl, sym, IfOk-weaker, ChangesMark}
 use Rattle.raft_contexts.proofs.region_marks.small_mark.SmallMark.changed.Goals as goal
 
 pub returns : goal.returns

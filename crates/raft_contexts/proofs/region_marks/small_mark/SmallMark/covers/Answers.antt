@@ -1,7 +1,4 @@
-use Rattle.std.proofs.Common.{sym, ap, ◌∙◌}
-use Rattle.raft_table.specs.Marks.{Mark}
-use Rattle.raft_table.proofs.StepMarkLemmas.{run_covered}
-use Rattle.raft_contexts.specs.SmallMarkView.{form_shown}
+use Rattle.raft_contexts.proofs.Common.{sym, ap, ◌∙◌, Mark, run_covered, form_shown}
 use Rattle.raft_contexts.proofs.region_marks.small_mark.SmallMark.covers.Goals as goal
 
 pub returns-in-Run : goal.returns-in-Run

@@ -1,7 +1,5 @@
-use Rattle.std.proofs.Common.{sym, ap, ◌∙◌}
+use Rattle.raft_contexts.proofs.Common.{sym, ap, ◌∙◌, Mark, form_shown}
 use Rattle.std.specs.FinSet as finset
-use Rattle.raft_table.specs.Marks.{Mark}
-use Rattle.raft_contexts.specs.SmallMarkView.{form_shown}
 use Rattle.raft_contexts.proofs.region_marks.small_mark.SmallMark.deleted_keys.Goals as goal
 
 pub returns-in-Run : goal.returns-in-Run

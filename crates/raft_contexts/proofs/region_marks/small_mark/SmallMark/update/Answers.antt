@@ -1,5 +1,4 @@
-use Rattle.std.proofs.Common.{refl, sym, ap, ◌∙◌}
-use Rattle.raft_contexts.specs.SmallMarkView.{form_shown}
+use Rattle.raft_contexts.proofs.Common.{refl, sym, ap, ◌∙◌, form_shown}
 use Rattle.raft_contexts.proofs.SmallMarkLemmas.{one_changed}
 use Rattle.raft_contexts.proofs.region_marks.small_mark.SmallMark.update.Goals as goal
 

@@ -1,8 +1,0 @@
-use Rattle.std.proofs.Common.{map}
-use Rattle.raft_base.specs.declared.pipe_log.LogQueue.TheVariants.{Append}
-use Rattle.raft_records.specs.Item.{item_of}
-use Rattle.raft_accessor.specs.Writes.{Replaying, AreWritten}
-use Rattle.raft_accessor.proofs.accessor.MemTableAccessor.replay_append_writes.Given as goal
-
-abbrev pub invariant-loop-item : goal.invariant-loop-item
-invariant-loop-item g l = AreWritten (Replaying Append) (map item_of l.yielded) l.fn.self l.self

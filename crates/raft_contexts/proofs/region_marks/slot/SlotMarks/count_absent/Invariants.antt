@@ -1,0 +1,8 @@
+use Rattle.std.proofs.Common.{◌≡◌, ◌≤◌, ◌+◌, length}
+use Rattle.raft_contexts.specs.ImpliedMarks.{count_absent}
+use Rattle.raft_contexts.proofs.region_marks.slot.SlotMarks.count_absent.Given as goal
+
+abbrev pub invariant-loop-id : goal.invariant-loop-id
+invariant-loop-id l =
+    (l.count + count_absent l.tables.tables l.id-iterator ≡ count_absent l.tables.tables l.initial.id-iterator)
+    × (l.count + length l.id-iterator ≤ length l.initial.id-iterator)

@@ -1,14 +1,5 @@
 -- Files hold no more records than they have bytes.
-use Rattle.std.proofs.Common.{◌≡◌, ◌<◌, ◌≤◌, ◌^◌, List, [], ◌∷◌, ap, ◌∙◌, arith}
-use Rattle.raft_base.specs.declared.pipe_log.LogQueue.{LogQueue}
-use Rattle.raft_base.specs.declared.pipe_log.Version.{Version}
-use Rattle.raft_history.specs.Batches.{Event}
-use Rattle.raft_history.specs.Histories.{IsSmall}
-use Rattle.raft_history.proofs.StretchOfHistory.{size-append}
-use Rattle.raft_history.proofs.Words.{records_in_history}
-use Rattle.raft_replay.proofs.FewRecordLemmas.{part_few}
-use Rattle.raft_recover.specs.Files.{FilesHold, bytes_of_files, whole_file}
-use Rattle.raft_recover.specs.Requests.{NumberedBytes}
+use Rattle.raft_recover.proofs.Common.{◌≡◌, ◌<◌, ◌≤◌, ◌^◌, List, [], ◌∷◌, ap, ◌∙◌, arith, LogQueue, Version, Event, IsSmall, size-append, records_in_history, part_few, FilesHold, bytes_of_files, whole_file, NumberedBytes}
 
 module _ (queue : LogQueue) (version : Version) where
   files_few : (files : List NumberedBytes) (h : List Event) → FilesHold queue version files h → records_in_history h ≤ bytes_of_files files

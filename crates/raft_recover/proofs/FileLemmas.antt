@@ -1,17 +1,6 @@
 -- Files as segments of one part.
-use Rattle.std.proofs.Common.{◌≡◌, ℕ, List, [], ◌∷◌, ◌++◌, Vec, length, map, get_or, drop, refl, sym, ap, ◌∙◌, subst, arith, append_assoc, append-nil}
-use Rattle.std.specs.Global.{Global}
-use Rattle.std.proofs.lemmas.List.{map-append}
-use Rattle.std.specs.List.{AllByRecursion}
-use Rattle.std.proofs.lemmas.List.Elements.{All-from_recursion}
-use Rattle.raft_base.specs.declared.pipe_log.LogQueue.{LogQueue}
-use Rattle.raft_base.specs.declared.pipe_log.Version.{Version}
-use Rattle.raft_records.specs.FilePart.{Part}
-use Rattle.raft_history.specs.Batches.{Event}
-use Rattle.raft_replay.specs.Segments.{SegmentsHold, SegmentsAreOf}
-use Rattle.raft_replay.proofs.Words.{PartsHold, PartsAreOf}
-use Rattle.raft_replay.proofs.CutPartLemmas.{uncut}
-use Rattle.raft_recover.specs.Files.{whole_file, segment_shown, AreWholeFiles, FilesHold, file_shown}
+use Rattle.raft_recover.proofs.Common.{◌≡◌, ℕ, List, [], ◌∷◌, ◌++◌, Vec, length, map, get_or, drop, refl, sym, ap, ◌∙◌, subst, arith, append_assoc, append-nil, Global, map-append, AllByRecursion, All-from_recursion, LogQueue, Version, Part}
+use Rattle.raft_recover.proofs.Common.{Event, SegmentsHold, SegmentsAreOf, PartsHold, PartsAreOf, uncut, whole_file, segment_shown, AreWholeFiles, FilesHold, file_shown}
 
 module _ (queue : LogQueue) (version : Version) where
   abbrev pub whole : ℕ × Vec ℕ Global → Part

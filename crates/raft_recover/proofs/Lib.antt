@@ -1,3 +1,4 @@
+mod Common
 pub mod FewFileLemmas
 pub mod FileLemmas
 pub mod OrderLemmas

@@ -1,38 +1,12 @@
 -- What a context that has replayed all segments gives, and files as segments.
-use Rattle.std.proofs.Common.{◌≡◌, ◌≢◌, ◌⊎◌, ◌↔◌, ◌<◌, ◌^◌, inl, inr, ℕ, true, false, ltb, List, [], ◌∷◌, Option, Result, Ok, Err, IfOk, IfErr, OnOk, Vec, refl, sym, subst, ◌∙◌, arith}
+use Rattle.raft_recover.proofs.Common.{◌≡◌, ◌≢◌, ◌⊎◌, ◌↔◌, ◌<◌, ◌^◌, inl, inr, ℕ, true, false, ltb, List, [], ◌∷◌, Option, Result, Ok, Err, IfOk, IfErr, OnOk, Vec, refl, sym, subst, ◌∙◌, arith, nat_tests, Global, Error, LogQueue, Version}
+use Rattle.raft_recover.proofs.Common.{Part, IsIoError, Event, Suits, files_of, IsReadingOfBoth, Apart, IsSmall, IsSoundIn, IsOneReading, IsOfQueue, records_in, Tables, steps_of_items, AreRewrittenFrom, HaveSameRecords, both_same}
+use Rattle.raft_recover.proofs.Common.{append_apart, Accessor, AreCountsOf, IsOfBothExactly, RecoverContext, HasRead, HasReadExactly, ContextStage, IsReplayed, SegmentsHold, CannotBeRead, SegmentsAreOf, bytes_of_segments, small_segments}
+use Rattle.raft_recover.proofs.Common.{segments_read_of_queue, segments_unique, FilesHold, FilesCannotBeRead, IsPrintFailure, PrintsRecovered, AreBothRecovered, IsRecovered, NumberedBytes, PrintsTables, PrintsFrontOfTables}
 use Rattle.std.specs.Prelude.{flat_map}
-use Rattle.std.proofs.lemmas.Bool.Decides.{nat_tests}
-use Rattle.std.specs.Global.{Global}
-use Rattle.raft_base.specs.declared.errors.Error.{Error}
 use Rattle.raft_base.specs.declared.errors.Error.TheVariants as errors
-use Rattle.raft_base.specs.declared.pipe_log.LogQueue.{LogQueue}
 use Rattle.raft_base.specs.declared.pipe_log.LogQueue.TheVariants.{Append, Rewrite}
-use Rattle.raft_base.specs.declared.pipe_log.Version.{Version}
-use Rattle.raft_records.specs.FilePart.{Part}
-use Rattle.raft_records.specs.Lines.{IsIoError}
-use Rattle.raft_history.specs.Batches.{Event}
-use Rattle.raft_history.specs.Contexts.{Suits, files_of}
-use Rattle.raft_history.specs.BothQueues.{IsReadingOfBoth}
-use Rattle.raft_history.specs.Histories.{Apart, IsSmall, IsSoundIn, IsOneReading, IsOfQueue, records_in}
-use Rattle.raft_history.specs.RegionSteps.{Tables, steps_of_items}
-use Rattle.raft_history.specs.RewrittenRecords.{AreRewrittenFrom, HaveSameRecords}
-use Rattle.raft_history.proofs.RewrittenHistories.{both_same}
-use Rattle.raft_history.proofs.SoundLemmas.{append_apart}
-use Rattle.raft_accessor.specs.Accessor.{Accessor, AreCountsOf}
-use Rattle.raft_contexts.specs.OverlaidContext.{IsOfBothExactly}
-use Rattle.raft_contexts.specs.RecoverContext.{RecoverContext, HasRead, HasReadExactly}
-use Rattle.raft_contexts.specs.declared.context_stage.ContextStage.{ContextStage}
 use Rattle.raft_contexts.specs.declared.context_stage.ContextStage.TheVariants as stages
-use Rattle.raft_replay.specs.Replays.{IsReplayed}
-use Rattle.raft_replay.specs.Segments.{SegmentsHold, CannotBeRead, SegmentsAreOf}
-use Rattle.raft_replay.specs.WrittenParts.{bytes_of_segments}
-use Rattle.raft_replay.proofs.FewRecordLemmas.{small_segments}
-use Rattle.raft_replay.proofs.MachineOrderLemmas.{segments_read_of_queue}
-use Rattle.raft_replay.proofs.SegmentLemmas.{segments_unique}
-use Rattle.raft_recover.specs.Files.{FilesHold, FilesCannotBeRead, IsPrintFailure, PrintsRecovered}
-use Rattle.raft_recover.specs.Recovery.{AreBothRecovered, IsRecovered}
-use Rattle.raft_recover.specs.Requests.{NumberedBytes}
-use Rattle.raft_recover.specs.TableLines.{PrintsTables, PrintsFrontOfTables}
 
 -- ---- the context of all segments
 

@@ -1,60 +1,34 @@
 -- What words ask for.
-use Rattle.std.proofs.Common.{
-  ◌≡◌,
-  ◌≢◌,
-  ℕ,
-  zero,
-  suc,
-  ◌+◌,
-  ◌-◌,
-  ◌<◌,
-  ◌≤◌,
-  List,
-  [],
-  ◌∷◌,
-  ◌++◌,
-  length,
-  get_or,
-  take,
-  drop,
-  map,
-  codes,
-  Bool,
-  true,
-  false,
-  not,
-  Bor,
-  Option,
-  None,
-  Some,
-  IfNone,
-  MatchOption,
-  arith,
-  refl,
-  subst,
-  ap,
-  sym,
-  ◌∙◌,
-  append_assoc,
-}
-use Rattle.std.proofs.lemmas.List.{take_all, append-nil, map_push, map_more}
-use Rattle.std.specs.Char.{digit_value}
-use Rattle.std.specs.Str.Parse.{AllDigits}
-use Rattle.std.proofs.lemmas.Str.Pattern.{IsSplitOnceResult, split_after}
-use Rattle.std.specs.Str.{bytes_eq}
-use Rattle.std.proofs.lemmas.Slice.Eq.{bytes_eq-Decides}
-use Rattle.std.specs.List.{AllByRecursion}
-use Rattle.raft_base.specs.declared.pipe_log.LogFileContext.{LogFileContext}
-use Rattle.raft_recover.specs.Requests.{NamesContext, NamesPath, IsPathWord, AsksBatch, NumberedPath, ArePathsNamed}
+use Rattle.raft_recover.proofs.Common.{◌≡◌, ◌≢◌, ℕ, zero, suc, ◌+◌, ◌-◌, ◌<◌, ◌≤◌, List, [], ◌∷◌, ◌++◌, length, get_or, take, drop, map, codes, Bool, true, false, not, Bor, Option, None, Some, IfNone, MatchOption, arith, refl, subst, ap}
+use Rattle.raft_recover.proofs.Common.{sym, ◌∙◌, append_assoc, append-nil, drop_more, drop_all, length-drop, left_from, take_all, map_push, map_more, digit_value, AllDigits, IsSplitOnceResult, split_after, bytes_eq, bytes_eq-Decides}
+use Rattle.raft_recover.proofs.Common.{AllByRecursion, LogFileContext, NamesContext, NamesPath, IsPathWord, AsksBatch, NumberedPath, ArePathsNamed}
+
+-- what is left behind so many items is all of it
+rest_all : {X : Type 0} (k : ℕ) (xs : List X) → drop k xs ≡ take (length xs - k) (drop k xs)
+rest_all k xs = sym (take_all (length xs - k) (drop k xs) (omega (arith, length-drop k xs)))
+
+-- a list of one or more is its first item and the rest
+pub one_and_more : {X : Type 0} (xs : List X) (a : X) → 1 ≤ length xs → a ≡ get_or xs 0 a → xs ≡ a ∷ take (length xs - 1) (drop 1 xs)
+one_and_more {X} xs a low p = left_from xs 0 a (omega (arith, low)) p ∙ ap (λ (l : List X). a ∷ l) (rest_all 1 xs)
+
+-- a list of two or more is its first two items and the rest
+pub two_and_more : {X : Type 0} (xs : List X) (a b : X) → 2 ≤ length xs → a ≡ get_or xs 0 a → b ≡ get_or xs 1 b → xs ≡ a ∷ b ∷ take (length xs - 2) (drop 2 xs)
+two_and_more {X} xs a b low p q =
+    left_from xs 0 a (omega (arith, low)) p ∙ ap (λ (l : List X). a ∷ l) (left_from xs 1 b (omega (arith, low)) q ∙ ap (λ (l : List X). b ∷ l) (rest_all 2 xs))
+
+-- a list of four or more is its first four items and the rest
+pub four_and_more : {X : Type 0} (xs : List X) (a b c d : X) → 4 ≤ length xs → a ≡ get_or xs 0 a → b ≡ get_or xs 1 b → c ≡ get_or xs 2 c → d ≡ get_or xs 3 d → xs ≡ a ∷ b ∷ c ∷ d ∷ take (length xs - 4) (drop 4 xs)
+four_and_more {X} xs a b c d low p q r s =
+    left_from xs 0 a (omega (arith, low)) p
+    ∙ ap (λ (l : List X). a ∷ l) (left_from xs 1 b (omega (arith, low)) q)
+    ∙ ap (λ (l : List X). a ∷ b ∷ l) (left_from xs 2 c (omega (arith, low)) r)
+    ∙ ap (λ (l : List X). a ∷ b ∷ c ∷ l) (left_from xs 3 d (omega (arith, low)) s ∙ ap (λ (l : List X). d ∷ l) (rest_all 4 xs))
 
 -- a list of four is its items
 pub four_items : {X : Type 0} (xs : List X) (a b c d : X) → 4 ≤ length xs → length xs < 5 → a ≡ get_or xs 0 a → b ≡ get_or xs 1 b → c ≡ get_or xs 2 c → d ≡ get_or xs 3 d → xs ≡ a ∷ b ∷ c ∷ d ∷ []
-four_items [] a b c d low high p q r s = absurd (omega arith)
-four_items (w ∷ []) a b c d low high p q r s = absurd (omega arith)
-four_items (w ∷ x ∷ []) a b c d low high p q r s = absurd (omega arith)
-four_items (w ∷ x ∷ y ∷ []) a b c d low high p q r s = absurd (omega arith)
-four_items (w ∷ x ∷ y ∷ z ∷ []) a b c d low high p q r s = cc
-four_items (w ∷ x ∷ y ∷ z ∷ v ∷ xs) a b c d low high p q r s = absurd (omega arith)
+four_items xs a b c d low high p q r s =
+    let none : length xs - 4 ≡ 0 = omega (arith, high) in
+    four_and_more xs a b c d low p q r s ∙ ap (λ n. a ∷ b ∷ c ∷ d ∷ take n (drop 4 xs)) none
 
 -- `batch` and words that name a file ask for its batch
 pub asks_batch : (words : List (List ℕ)) (command queue seq version : List ℕ) (context : LogFileContext) →
@@ -99,18 +73,6 @@ no_equals (d ∷ ds) h (suc i) low = no_equals ds h.1 i (omega arith)
 pub path_parts : (word : List ℕ) (r : Option (Bor (List ℕ) × Bor (List ℕ))) → IsSplitOnceResult 61 word r → (p : IsPathWord word) → MatchOption r ⊥ (λ x. (x.0.now ≡ p.named.digits) × (x.1.now ≡ p.path))
 path_parts word r h p = split_after 61 word p.named.digits p.path r h (omega arith) p.named.form (no_equals p.named.digits p.named.number.digits.1)
 
--- a list of four or more is its first four items and the rest
-pub four_and_more : {X : Type 0} (xs : List X) (a b c d : X) → 4 ≤ length xs → a ≡ get_or xs 0 a → b ≡ get_or xs 1 b → c ≡ get_or xs 2 c → d ≡ get_or xs 3 d → xs ≡ a ∷ b ∷ c ∷ d ∷ take (length xs - 4) (drop 4 xs)
-four_and_more [] a b c d low p q r s = absurd (omega arith)
-four_and_more (w ∷ []) a b c d low p q r s = absurd (omega arith)
-four_and_more (w ∷ x ∷ []) a b c d low p q r s = absurd (omega arith)
-four_and_more (w ∷ x ∷ y ∷ []) a b c d low p q r s = absurd (omega arith)
-four_and_more (w ∷ x ∷ y ∷ z ∷ vs) a b c d low p q r s =
-    let left : length (w ∷ x ∷ y ∷ z ∷ vs) - 4 ≡ length vs = omega arith in
-    let rest : take (length (w ∷ x ∷ y ∷ z ∷ vs) - 4) vs ≡ vs = ap (λ n. take n vs) left ∙ take_all (length vs) vs (omega arith) in
-    let same : w ∷ x ∷ y ∷ z ∷ vs ≡ a ∷ b ∷ c ∷ d ∷ vs = cc in
-    same ∙ ap (λ rest. a ∷ b ∷ c ∷ d ∷ rest) (sym rest)
-
 -- the texts of four words and of those behind them
 pub four_texts : {X : Type 0} (f : X → List ℕ) (ws rest : List X) (a b c d : X) (ta tb tc td : List ℕ) → ws ≡ a ∷ b ∷ c ∷ d ∷ rest → ta ≡ f a → tb ≡ f b → tc ≡ f c → td ≡ f d → map f ws ≡ ta ∷ tb ∷ tc ∷ td ∷ map f rest
 four_texts f ws rest a b c d ta tb tc td split p q r s = rw (p, q, r, s) (ap (map f) split)
@@ -141,21 +103,6 @@ each_names [] files all = tt
 each_names (w ∷ ws) [] all = absurd all
 each_names (w ∷ ws) (f ∷ fs) all = (record { seq = f.0; path = f.1; named = all.0 }, each_names ws fs all.1)
 
--- an item, and those behind it
-pub next_at : {X : Type 0} (xs : List X) (i : ℕ) (d : X) → i < length xs → drop i xs ≡ get_or xs i d ∷ drop (i + 1) xs
-next_at [] i d low = absurd (omega arith)
-next_at (y ∷ ys) zero d low = refl
-next_at (y ∷ ys) (suc i) d low =
-    let behind : suc i + 1 ≡ suc (i + 1) = omega arith in
-    rw behind (next_at ys i d (omega arith))
-
--- nothing stands behind the last item
-pub none_left : {X : Type 0} (xs : List X) (i : ℕ) → length xs ≤ i → drop i xs ≡ []
-none_left [] zero past = refl
-none_left [] (suc i) past = refl
-none_left (x ∷ xs) zero past = absurd (omega arith)
-none_left (x ∷ xs) (suc i) past = none_left xs i (omega arith)
-
 -- so many items and the next one are so many and one more
 pub front_more : {X Y : Type 0} (f : X → Y) (xs : List X) (i : ℕ) (x : X) → i < length xs → x ≡ get_or xs i x → map f (take (i + 1) xs) ≡ map f (take i xs) ++ f x ∷ []
 front_more f xs i x low is = map_more f xs i x low ∙ ap (λ y. map f (take i xs) ++ f y ∷ []) (sym is)
@@ -165,13 +112,13 @@ pub number_more : {X Y : Type 0} (f : X → ℕ) (g : Y → ℕ) (xs : List X) (
     f x ≡ g (get_or ys i d) → map f xs ++ map g (drop i ys) ≡ map g ys → map f (xs ++ x ∷ []) ++ map g (drop (i + 1) ys) ≡ map g ys
 number_more f g xs x ys i d low same before =
     let y = get_or ys i d in
-    let left : map g (drop i ys) ≡ g y ∷ map g (drop (i + 1) ys) = ap (map g) (next_at ys i d low) in
+    let left : map g (drop i ys) ≡ g y ∷ map g (drop (i + 1) ys) = ap (map g) (drop_more ys i d low) in
     ap (λ l. l ++ map g (drop (i + 1) ys)) (map_push f xs x ∙ ap (λ n. map f xs ++ n ∷ []) same)
     ∙ append_assoc (map f xs) (g y ∷ []) (map g (drop (i + 1) ys)) ∙ ap (λ l. map f xs ++ l) (sym left) ∙ before
 
 -- all numbers stand where no file is left
 pub numbers_all : {X Y : Type 0} (f : X → ℕ) (g : Y → ℕ) (xs : List X) (ys : List Y) (i : ℕ) → length ys ≤ i → map f xs ++ map g (drop i ys) ≡ map g ys → map f xs ≡ map g ys
-numbers_all f g xs ys i past before = sym (ap (λ l. map f xs ++ map g l) (none_left ys i past) ∙ append-nil (map f xs)) ∙ before
+numbers_all f g xs ys i past before = sym (ap (λ l. map f xs ++ map g l) (drop_all i ys past) ∙ append-nil (map f xs)) ∙ before
 
 -- a map over a map
 pub map_of_map : {X Y Z : Type 0} (f : Y → Z) (g : X → Y) (xs : List X) → map f (map g xs) ≡ map (λ x. f (g x)) xs

@@ -1,37 +1,16 @@
 -- What a scan has found so far, and how it goes on.
-use Rattle.std.proofs.Common.{◌≡◌, ℕ, ◌+◌, ◌<◌, ◌≤◌, Bool, true, false, ◌&&◌, List, [], ◌∷◌, ◌++◌, length, drop, Option, Some, None, MatchOption, refl, sym, ap, ◌∙◌, subst, append_assoc, append-nil, arith}
-use Rattle.std.proofs.lemmas.List.{length-drop}
-use Rattle.raft_records.specs.FilePart.{Part, IsBatchAt, HasHeader}
-use Rattle.raft_records.specs.Item.{Item}
-use Rattle.raft_records.proofs.FrameLemmas.{header_one}
-use Rattle.raft_records.proofs.FramedAt.{IsFramedAt, framed_at}
-use Rattle.raft_records.proofs.PartLemmas.{batch_inside}
-use Rattle.raft_base.specs.declared.compression_type.CompressionType.{CompressionType}
-use Rattle.raft_replay.proofs.CutPartLemmas.{header_ends}
-use Rattle.raft_recover.specs.Scans.{block_place, IsBlockState, IsBatchFound, IsFound, EndsWithin, next_after, is_undamaged, are_undamaged, finding_line, end_line, IsScannedFrom, IsScanned}
-use Rattle.raft_recover.specs.declared.scan.BlockState.{BlockState}
-use Rattle.raft_recover.specs.declared.scan.Finding.{Finding}
+use Rattle.raft_recover.proofs.Common.{◌≡◌, ℕ, ◌+◌, ◌<◌, ◌≤◌, Bool, true, false, ◌&&◌, List, [], ◌∷◌, ◌++◌, length, drop, Option, Some, None, MatchOption, refl, sym, ap, ◌∙◌, subst, append_assoc, append-nil, arith, length-drop, Part}
+use Rattle.raft_recover.proofs.Common.{IsBatchAt, HasHeader, Item, batch_inside, header_ends, block_place, IsBlockState, IsBatchFound, IsFound, EndsWithin, next_after, is_undamaged, are_undamaged, finding_line, end_line, IsScannedFrom}
+use Rattle.raft_recover.proofs.Common.{IsScanned, IsHeaderLength, IfSome, IfNone, BlockState, Finding}
 use Rattle.raft_recover.specs.declared.scan.Finding.TheVariants.{Batch, Damage}
 
 -- ---- what was found
 
--- a batch has a header
-pub batch_header : (part : Part) (at : ℕ) (items : List Item) (next : ℕ) (b : IsBatchAt part at items next) → HasHeader (drop at part.bytes) (framed_at b).offset (length (framed_at b).bytes)
-batch_header part at items next b = let f : IsFramedAt part at items next = framed_at b in record {
-  compression = f.frame.compression;
-  rest = drop 16 f.bytes ++ drop next part.bytes;
-  header = record {
-    front = f.frame.header.front;
-    spells = f.frame.header.spells;
-    split = f.stands ∙ ap (λ (t : List ℕ). t ++ drop next part.bytes) f.frame.header.split ∙ append_assoc f.frame.header.front (drop 16 f.bytes) (drop next part.bytes);
-  };
-}
-
--- one header stands in front
-pub one_header : (bytes : List ℕ) (offset len offset' len' : ℕ) → HasHeader bytes offset len → HasHeader bytes offset' len' → len ≡ len'
-one_header bytes offset len offset' len' h k =
-    let same = (header_one h.header.front k.header.front h.rest k.rest (offset, h.compression, len) (offset', k.compression, len') h.header.spells k.header.spells (sym h.header.split ∙ k.header.split)).1 in
-    ap (λ (t : ℕ × CompressionType × ℕ). t.2) same
+-- the length that a header says, if there is one and so many bytes are there
+pub header_length : (bytes : List ℕ) (found : Option ℕ) → IfSome found (λ len. (offset : ℕ) × HasHeader bytes offset len) → IfSome found (λ len. len ≤ length bytes)
+    → IfNone found ((offset len : ℕ) → HasHeader bytes offset len → length bytes < len) → IsHeaderLength bytes found
+header_length bytes None header whole none = none
+header_length bytes (Some len) header whole none = (header.0, header.1, whole)
 
 -- the header of a batch lies behind 16 bytes, and its items within the part
 pub header_room : (part : Part) (at items_at len : ℕ) (items : List Item) (next : ℕ) → HasHeader (drop at part.bytes) items_at len → IsBatchAt part at items next

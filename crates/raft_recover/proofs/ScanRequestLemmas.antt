@@ -1,39 +1,13 @@
 -- What the words of a scan ask for, and scans of files one behind the other.
-use Rattle.std.proofs.Common.{◌≡◌, ℕ, ◌-◌, ◌≤◌, Bool, true, false, ◌&&◌, List, [], ◌∷◌, ◌++◌, Vec, length, get_or, take, drop, map, codes, arith, refl, sym, ap, ◌∙◌, subst, append_assoc, append-nil}
-use Rattle.std.proofs.lemmas.List.{take_all}
-use Rattle.std.specs.Str.{bytes_eq}
-use Rattle.std.proofs.lemmas.Slice.Eq.{bytes_eq-Decides}
-use Rattle.std.specs.Global.{Global}
-use Rattle.raft_base.specs.declared.pipe_log.LogQueue.{LogQueue}
+use Rattle.raft_recover.proofs.Common.{◌≡◌, ℕ, ◌-◌, Bool, true, false, ◌&&◌, List, [], ◌∷◌, ◌++◌, Vec, length, map, codes, arith, refl, sym, ap, ◌∙◌, subst, append_assoc, append-nil, bytes_eq, bytes_eq-Decides, Global, LogQueue, Version}
+use Rattle.raft_recover.proofs.Common.{get_or, whole_file, NumberedBytes, AskedScan, NamesFiles, AsksScan, flag_words, AreScanned, IsScanned}
+use Rattle.raft_recover.specs.Requests.{queue_word}
+use Rattle.raft_recover.specs.ScanRequests.{AsksNoScan}
 use Rattle.raft_base.specs.declared.pipe_log.LogQueue.TheVariants.{Append, Rewrite}
-use Rattle.raft_base.specs.declared.pipe_log.Version.{Version}
 use Rattle.raft_recover.specs.AskedRequests.{file_shown}
-use Rattle.raft_recover.specs.Files.{whole_file}
-use Rattle.raft_recover.specs.Requests.{NumberedBytes, queue_word}
-use Rattle.raft_recover.specs.ScanRequests.{AskedScan, NamesFiles, AsksScan, AsksNoScan, flag_words, AreScanned}
-use Rattle.raft_recover.specs.Scans.{IsScanned}
 use Rattle.raft_recover.proofs.ScanLemmas.{and_assoc, and_true}
 
 -- ---- words
-
--- a list of two or more is its first two items and the rest
-pub two_and_more : {X : Type 0} (xs : List X) (a b : X) → 2 ≤ length xs → a ≡ get_or xs 0 a → b ≡ get_or xs 1 b → xs ≡ a ∷ b ∷ take (length xs - 2) (drop 2 xs)
-two_and_more [] a b low p q = absurd (omega arith)
-two_and_more (w ∷ []) a b low p q = absurd (omega arith)
-two_and_more (w ∷ x ∷ vs) a b low p q =
-    let left : length (w ∷ x ∷ vs) - 2 ≡ length vs = omega arith in
-    let rest : take (length (w ∷ x ∷ vs) - 2) vs ≡ vs = ap (λ n. take n vs) left ∙ take_all (length vs) vs (omega arith) in
-    let same : w ∷ x ∷ vs ≡ a ∷ b ∷ vs = cc in
-    same ∙ ap (λ rest. a ∷ b ∷ rest) (sym rest)
-
--- a list of one or more is its first item and the rest
-pub one_and_more : {X : Type 0} (xs : List X) (a : X) → 1 ≤ length xs → a ≡ get_or xs 0 a → xs ≡ a ∷ take (length xs - 1) (drop 1 xs)
-one_and_more [] a low p = absurd (omega arith)
-one_and_more (w ∷ vs) a low p =
-    let left : length (w ∷ vs) - 1 ≡ length vs = omega arith in
-    let rest : take (length (w ∷ vs) - 1) vs ≡ vs = ap (λ n. take n vs) left ∙ take_all (length vs) vs (omega arith) in
-    let same : w ∷ vs ≡ a ∷ vs = cc in
-    same ∙ ap (λ rest. a ∷ rest) (sym rest)
 
 -- the texts of two words and of those behind them
 pub two_texts : {X : Type 0} (f : X → List ℕ) (ws rest : List X) (a b : X) (ta tb : List ℕ) → ws ≡ a ∷ b ∷ rest → ta ≡ f a → tb ≡ f b → map f ws ≡ ta ∷ tb ∷ map f rest

@@ -1,23 +1,34 @@
--- Segments as shares: what is the same of parts, read in order, and the contexts that replay them.
-use Rattle.std.specs.Prelude.{◌≡◌, ◌≢◌, ◌↔◌, List, All, Vec, Result, Ok, Err}
+-- Segments as shares: the parts that others are cut into, and the contexts that replay them.
+use Rattle.std.specs.Prelude.{◌≡◌, ◌≢◌, ◌<◌, List, [], ◌∷◌, ◌++◌, length, All, Vec, Result, MatchResult}
 use Rattle.std.specs.Global.{Global}
 use Rattle.raft_base.specs.declared.errors.Error.{Error}
 use Rattle.raft_base.specs.declared.errors.Error.TheVariants as errors
-use Rattle.raft_base.specs.declared.pipe_log.LogQueue.{LogQueue}
 use Rattle.raft_records.specs.FilePart.{Part}
-use Rattle.raft_history.specs.Batches.{Event}
+use Rattle.raft_history.specs.Histories.{Sound}
 use Rattle.raft_contexts.specs.RecoverContext.{RecoverContext, HasRead, HasReadExactly}
+use Rattle.raft_replay.specs.Cuts.{ArePartsOf}
 use Rattle.raft_replay.specs.Replays.{IsReplayed}
-use Rattle.raft_replay.specs.Segments.{CannotBeRead, HoldsFrom, EachHolds}
+use Rattle.raft_replay.specs.Segments.{AreCutFrom, parts_within}
+use Rattle.raft_replay.specs.Stops.{IsNothing, StopsAmong}
 
--- the same is read of these parts and of those, and they are of the same queues
-pub record AreAlike (these those : List Part) : Type 0 where
-  pub same : (h : List Event)
-      → EachHolds (λ part. HoldsFrom part 0) these h ↔ EachHolds (λ part. HoldsFrom part 0) those h
-  pub of_queue : (queue : LogQueue)
-      → All (λ part. part.id.queue ≡ queue) these ↔ All (λ part. part.id.queue ≡ queue) those
+-- a part is cut into these, one or more: they are of its file, have its bytes, and the same is read of them
+pub record IsCutInto (part : Part) (cut : List Part) : Type 0 where
+  pub same : AreCutFrom part cut
+  pub bytes : ArePartsOf part cut
+  pub file : All (λ p. p.id ≡ part.id) cut
+  pub some : 0 < length cut
 
--- a context of all segments; or a refusal, which, but for want of memory, comes only where they can't be read
-abbrev pub IsReplayedOrRefused : List (Vec Part Global) → Result RecoverContext Error → Type 0
-IsReplayedOrRefused segments (Ok context) = IsReplayed HasRead HasReadExactly segments context
-IsReplayedOrRefused segments (Err e) = e ≢ errors.Memory → CannotBeRead segments
+-- each of these parts, in order, is cut into the next of those
+abbrev pub AreDivided : List Part → List Part → Type 0
+AreDivided [] those = those ≡ []
+AreDivided (part ∷ parts) those =
+    (cut : List Part) × (rest : List Part) × (those ≡ cut ++ rest) × IsCutInto part cut × AreDivided parts rest
+
+-- where the reading of segments, from nothing on, stopped
+abbrev pub StopsWithin : List (Vec Part Global) → Error → Type 0
+StopsWithin segments e = e ≢ errors.Memory → StopsAmong IsNothing Sound (parts_within segments) e
+
+-- a context of all segments; or a refusal, which, but for want of memory, is that of the first batch in order that is refused
+abbrev pub IsReplayedOrStopped : List (Vec Part Global) → Result RecoverContext Error → Type 0
+IsReplayedOrStopped segments result =
+    MatchResult result (λ context. IsReplayed HasRead HasReadExactly segments context) (λ e. StopsWithin segments e)

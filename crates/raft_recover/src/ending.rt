@@ -28,7 +28,6 @@ pub(crate) struct Program {
 }
 
 impl Program {
-    /// Hints at the words that are understood, and returns the status to end with.
     pub(crate) fn misused<E: Write>(&self, err: &mut E) -> u8
         ensures { result ≡ 2 }
     {
@@ -36,7 +35,6 @@ impl Program {
         Status::Misused as u8
     }
 
-    /// Prints the word of a refusal, and returns the status to end with.
     pub(crate) fn refused<E: Write>(&self, error: &Error, err: &mut E) -> u8
         ensures { result ≡ 1 }
     {
@@ -46,8 +44,6 @@ impl Program {
         Status::Refused as u8
     }
 
-    /// Says why the words of a command line aren't there, and returns the status to end with: 1 for want of
-    /// memory, which is refused as any other, and 2 for a word that isn't UTF-8, with a hint at the words.
     pub(crate) fn without_words<E: Write>(&self, error: &io::Error, err: &mut E) -> u8
         ensures memory { error_kind error.now ≡ ErrorKind.OutOfMemory → result ≡ 1 }
         ensures misused { error_kind error.now ≢ ErrorKind.OutOfMemory → result ≡ 2 }
@@ -59,7 +55,6 @@ impl Program {
     }
 }
 
-/// Returns the word for a refusal.
 pub(crate) fn refusal(error: &Error) -> &'static str
     ensures { result.now ≡ refusal_word error.now }
 {

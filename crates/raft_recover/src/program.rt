@@ -17,8 +17,9 @@ use std::rt::{Env, Files};
 use std::thread::Threads;
 use std::{env, io};
 
-/// What is printed where the words ask for nothing that `raftlog` does.
-const USAGE: &str = "\
+const RAFTLOG: Program = Program {
+    name: "raftlog",
+    usage: "\
 usage: raftlog batch <queue> <seq> <version>
        raftlog recover <queue> <version> <workers> <seq>=<path>..
 
@@ -30,11 +31,7 @@ recover prints the tables that log files give
 <version>  1 or 2: the format version of the files
 <workers>  1 to 256: how many threads read the files at most
 <path>     where a file is
-";
-
-const RAFTLOG: Program = Program {
-    name: "raftlog",
-    usage: USAGE,
+",
 };
 
 /// Does what the words of a command line ask for, and returns the status to end with: 0 where it is

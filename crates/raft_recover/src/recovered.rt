@@ -88,7 +88,6 @@ fn append_table(table: &MemTable, text: &mut String) -> AllocResult<()>
     text.push('\n')
 }
 
-/// Appends the first index of a table and the one past the last, `-` where it has no entries.
 fn append_range(table: &MemTable, text: &mut String) -> AllocResult<()>
     ensures { OnOk result (string_bytes text.new ≡ string_bytes text.old ++ range_text
         table.now.entries) }
@@ -101,7 +100,6 @@ fn append_range(table: &MemTable, text: &mut String) -> AllocResult<()>
     write!(text, "{first}..{end}")
 }
 
-/// Appends the number of a file, `-` where there is none.
 fn append_seq(seq: Option<FileSeq>, text: &mut String) -> AllocResult<()>
     ensures { OnOk result (string_bytes text.new ≡ string_bytes text.old ++ seq_text seq) }
 {

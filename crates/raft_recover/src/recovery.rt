@@ -16,7 +16,7 @@ ghost use Rattle.raft_replay.specs.Stops.{IsNothing, StopsAmong};
 ghost use Rattle.raft_replay.specs.WrittenParts.{bytes_of_segments};
 ghost use Rattle.raft_recover.specs.Files.{FilesCannotBeRead, IsPrintFailure, PrintsRecovered, file_shown};
 ghost use Rattle.raft_recover.specs.Recovery.{AreBothRecovered, IsRecovered, MayReplayBoth};
-ghost use Rattle.raft_recover.specs.Shares.{IsReplayedOrRefused};
+ghost use Rattle.raft_recover.specs.Shares.{IsReplayedOrStopped};
 
 use crate::files::file_segments;
 use crate::recovered::print_recovered;
@@ -134,8 +134,6 @@ fn both_replayed<R: Threads + Sync>(
         (λ both. IsReplayed HasRead HasReadExactly rewrite.entry.now both.0) }
     ensures appended { IfOk result
         (λ both. IsReplayed HasRead HasReadExactly append.entry.now both.1) }
-    ensures refused { IfErr result (λ e. e ≢ Error.Memory
-        → CannotBeRead rewrite.entry.now ⊎ CannotBeRead append.entry.now) }
     ensures place { IfErr result (λ e. e ≢ Error.Memory
         → StopsAmong IsNothing Sound (parts_within rewrite.entry.now) e
         ⊎ StopsAmong IsNothing Sound (parts_within append.entry.now) e) }
@@ -149,15 +147,11 @@ fn both_replayed<R: Threads + Sync>(
     let appenders = workers - rewriters;
     let read_rewrite = || -> Result<MemTableRecoverContext>
         requires { IsSync R.row × MayReplay Rewrite rewriters rewrite.now }
-        ensures { IsReplayedOrRefused rewrite.entry.now result
-            × IfErr result (λ e. e ≢ Error.Memory
-            → StopsAmong IsNothing Sound (parts_within rewrite.entry.now) e) }
+        ensures { IsReplayedOrStopped rewrite.entry.now result }
     { replayed(rt, alloc, rewrite, LogQueue::Rewrite, rewriters) };
     let read_append = || -> Result<MemTableRecoverContext>
         requires { IsSync R.row × MayReplay Append appenders append.now }
-        ensures { IsReplayedOrRefused append.entry.now result
-            × IfErr result (λ e. e ≢ Error.Memory
-            → StopsAmong IsNothing Sound (parts_within append.entry.now) e) }
+        ensures { IsReplayedOrStopped append.entry.now result }
     { replayed(rt, alloc, append, LogQueue::Append, appenders) };
     let (rewritten, appended) = join(rt, read_rewrite, read_append);
     let both = rewritten?;
@@ -176,7 +170,6 @@ pub fn part_of_workers(workers: usize, first: usize, second: usize) -> usize
     (first / each).clamp(1, workers - 1)
 }
 
-/// Returns the context of a queue's segments, divided as [`recover`] says.
 fn replayed<R: Threads + Sync>(
     rt: &R,
     alloc: Global,
@@ -185,10 +178,7 @@ fn replayed<R: Threads + Sync>(
     workers: usize,
 ) -> Result<MemTableRecoverContext>
     requires { MayReplay queue workers segments.now }
-    ensures ok { IfOk result (IsReplayed HasRead HasReadExactly segments.entry.now) }
-    ensures refused { IfErr result (λ e. e ≢ Error.Memory → CannotBeRead segments.entry.now) }
-    ensures place { IfErr result (λ e. e ≢ Error.Memory
-        → StopsAmong IsNothing Sound (parts_within segments.entry.now) e) }
+    ensures { IsReplayedOrStopped segments.entry.now result }
 {
     let shares = equal_shares(alloc, segments, workers, LEAST_SHARE)?;
     replayed_as(rt, alloc, segments, shares.as_slice(), queue, workers)
@@ -207,10 +197,7 @@ fn replayed_as<R: Threads + Sync>(
 ) -> Result<MemTableRecoverContext>
     requires same { (h : List Event) → SegmentsHold segments.now h ↔ SegmentsHold shares.now h }
     requires accepted { MayReplay queue workers shares.now }
-    ensures ok { IfOk result (IsReplayed HasRead HasReadExactly segments.entry.now) }
-    ensures refused { IfErr result (λ e. e ≢ Error.Memory → CannotBeRead segments.entry.now) }
-    ensures place { IfErr result (λ e. e ≢ Error.Memory
-        → StopsAmong IsNothing Sound (parts_within segments.entry.now) e) }
+    ensures { IsReplayedOrStopped segments.entry.now result }
 {
     let factory = MemTableRecoverContextFactory::new();
     match replay_accepted(rt, alloc, &factory, shares, queue, workers, &OpenGate) {
@@ -220,12 +207,8 @@ fn replayed_as<R: Threads + Sync>(
     }
 }
 
-/// Replays segments one after another, on the caller's thread.
 fn replayed_in_turn(alloc: Global, segments: &[Segment]) -> Result<MemTableRecoverContext>
-    ensures ok { IfOk result (IsReplayed HasRead HasReadExactly segments.entry.now) }
-    ensures refused { IfErr result (λ e. e ≢ Error.Memory → CannotBeRead segments.entry.now) }
-    ensures place { IfErr result (λ e. e ≢ Error.Memory
-        → StopsAmong IsNothing Sound (parts_within segments.entry.now) e) }
+    ensures { IsReplayedOrStopped segments.entry.now result }
 {
     let mut context = MemTableRecoverContext::new(alloc)?;
     for segment in segments {

@@ -114,11 +114,6 @@ fn recovery_request<'a>(alloc: Global, words: &'a [String]) -> Result<Option<Rec
     }))
 }
 
-/// Returns the number and the path of the file that each word names, if each names one.
-///
-/// # Errors
-///
-/// `Memory`, and only where each names one.
 pub(crate) fn paths_named<'a>(
     alloc: Global,
     words: &'a [String],
@@ -156,9 +151,7 @@ fn with_path<'a>(
     Ok(paths)
 }
 
-/// Returns the number and the path of a file, on both sides of a word's first `=`.
-#[doc(hidden)]
-pub fn path_named(word: &str) -> Option<(FileSeq, &str)>
+fn path_named(word: &str) -> Option<(FileSeq, &str)>
     ensures named { IfSome result (λ file. NamesPath word.now file.0 file.1.now) }
     ensures refused { IfNone result (IsPathWord word.now → ⊥) }
 {
@@ -187,7 +180,6 @@ pub fn read_files<R: Files + AllocGlobal>(
     Ok(files)
 }
 
-/// Returns the queue that a word names.
 pub(crate) fn queue_named(word: &str) -> Option<LogQueue>
     ensures named { IfSome result (λ queue. word.now ≡ queue_word queue) }
     ensures refused { IfNone result ((queue : LogQueue) → word.now ≡ queue_word queue → ⊥) }
@@ -199,7 +191,6 @@ pub(crate) fn queue_named(word: &str) -> Option<LogQueue>
     }
 }
 
-/// Returns the version that a word names.
 pub(crate) fn version_named(word: &str) -> Option<Version>
     ensures named { IfSome result (λ version. word.now ≡ version_word version) }
     ensures refused { IfNone result ((version : Version) → word.now ≡ version_word version → ⊥) }

@@ -1,15 +1,16 @@
 //! Scans of damaged files, batch by batch.
 
-ghost use Rattle.std.specs.Prelude.{◌≡◌, ◌+◌, ◌-◌, ◌^◌, ◌<◌, ◌≤◌, ◌++◌, ◌&&◌, ◌≢◌, ℕ, List, length, drop, IfOk, IfErr, IfSome, IfNone, OnOk, string_bytes};
+ghost use Rattle.std.specs.Prelude.{◌≡◌, ◌+◌, ◌-◌, ◌^◌, ◌<◌, ◌≤◌, ◌++◌, ◌&&◌, ◌≢◌, ℕ, List, length, drop, IfOk, IfErr, OnOk, string_bytes};
+ghost use Rattle.raft_records.specs.FilePart.{IsBatchAt, IsNextFault};
 ghost use Rattle.raft_base.specs.Reading.{HasNoFront};
 ghost use Rattle.raft_base.specs.Signature.{signature_in};
-ghost use Rattle.raft_records.specs.FilePart.{HasHeader, IsBatchAt, IsNextFault};
 ghost use Rattle.raft_records.specs.LogBatch.{IsReadable};
 ghost use Rattle.raft_recover.specs.Requests.{queue_word};
-ghost use Rattle.raft_recover.specs.Scans.{IsBlockState, block_place, IsHeaderLength, IsFound, EndsWithin, next_after, is_undamaged, place_words, block_word, reason_text, finding_line, end_line, IsScanned};
+ghost use Rattle.raft_recover.specs.Scans.{IsBlockState, block_place, IsFound, EndsWithin, next_after, is_undamaged, place_words, block_word, reason_text, finding_line, end_line, IsScanned};
 
 use raft_base::{AllocResult, Error, FileBlockHandle, LogQueue, Result};
-use raft_records::{FilePart, LogBatch, LogItemBatch, entries_block_in, next_batch};
+use raft_records::{FilePart, LogItemBatch, entries_block_in, next_batch};
+use raft_replay::cutting::{batch_length, header_in};
 use std::alloc::Global;
 
 /// How many bytes a header has.
@@ -43,7 +44,6 @@ pub enum Finding {
 }
 
 impl Finding {
-    /// Tests whether it is a batch whose entry block can be read, if it has one.
     fn is_undamaged(&self) -> bool
         ensures { result ≡ is_undamaged self.now }
     {
@@ -56,7 +56,6 @@ impl Finding {
         }
     }
 
-    /// Returns where a scan goes on that found this at a byte, if it does.
     fn next_after(&self, at: usize, past_damage: bool) -> Option<usize>
         requires { EndsWithin (2 ^ 64 - 1) at self.now }
         ensures { result ≡ next_after past_damage at self.now }
@@ -108,7 +107,6 @@ pub fn append_scan(
     Ok(undamaged)
 }
 
-/// Tests whether both hold.
 pub(crate) fn both(first: bool, second: bool) -> bool
     ensures { result ≡ first && second }
 {
@@ -137,7 +135,8 @@ fn batch_found(
     requires { IsBatchAt part.now at batch.now next }
     ensures { IsFound part.now at result }
 {
-    let Some((items_at, len)) = header_at(alloc, part, at) else {
+    let (_, left) = part.bytes().split_at(at);
+    let Some((items_at, len)) = header_in(alloc, left) else {
         unreachable!()
     };
     Finding::Batch {
@@ -159,44 +158,14 @@ fn damage_found(alloc: Global, part: &FilePart, at: usize, reason: Error) -> Res
 {
     match reason {
         Error::Memory => Err(Error::Memory),
-        reason => Ok(Finding::Damage {
-            reason,
-            len: trusted_length(alloc, part, at),
-        }),
+        reason => {
+            let (_, left) = part.bytes().split_at(at);
+            let len = batch_length(alloc, left);
+            Ok(Finding::Damage { reason, len })
+        }
     }
 }
 
-/// Returns where the items of the batch begin whose header stands at a byte of a part, and how long
-/// it is.
-fn header_at(alloc: Global, part: &FilePart, at: usize) -> Option<(usize, usize)>
-    requires { at ≤ length part.now.bytes }
-    ensures some { IfSome result (λ header. HasHeader (drop at part.now.bytes) header.0 header.1) }
-    ensures none { IfNone result
-        ((items_at len : ℕ) → HasHeader (drop at part.now.bytes) items_at len → ⊥) }
-{
-    let (_, mut rest) = part.bytes().split_at(at);
-    if let Ok((items_at, _, len)) = LogBatch::decode_header(alloc, &mut rest) {
-        return Some((items_at, len));
-    }
-    None
-}
-
-/// Returns the length that the header at a byte of a part says, if the part has so many bytes from
-/// there on.
-fn trusted_length(alloc: Global, part: &FilePart, at: usize) -> Option<usize>
-    requires { at ≤ length part.now.bytes }
-    ensures { IsHeaderLength (drop at part.now.bytes) result }
-{
-    let (_, len) = header_at(alloc, part, at)?;
-    if len <= part.bytes().len() - at {
-        Some(len)
-    } else {
-        None
-    }
-}
-
-/// Returns whether the batch at a byte of a part, whose items begin so many bytes further on, has an entry block that
-/// ends in its checksum.
 fn block_state(part: &FilePart, at: usize, items_at: usize) -> BlockState
     requires header { 16 ≤ items_at }
     requires inside { at + items_at ≤ length part.now.bytes }

@@ -20,12 +20,9 @@ use std::rt::Files;
 /// The word in front by which a scan goes on past a batch that can't be read.
 const PAST_DAMAGE: &str = "--past-damage";
 
-/// What is printed where the words ask for no scan.
-const USAGE: &str = "usage: raft_scan [--past-damage] <queue> <version> <seq>=<path>..\n";
-
 const SCAN: Program = Program {
     name: "raft_scan",
-    usage: USAGE,
+    usage: "usage: raft_scan [--past-damage] <queue> <version> <seq>=<path>..\n",
 };
 
 /// What the words say that ask for a scan of files of a queue.
@@ -95,11 +92,6 @@ fn scan_request<'a>(alloc: Global, words: &'a [String]) -> Result<Option<ScanWor
     files_request(alloc, false, words)
 }
 
-/// Returns the scan of the files that the words name, after what may stand in front.
-///
-/// # Errors
-///
-/// `Memory`, and only where they name files.
 fn files_request<'a>(
     alloc: Global,
     past_damage: bool,
@@ -133,7 +125,6 @@ fn files_request<'a>(
     }))
 }
 
-/// Reads files and prints what scans of them find. Returns whether all can be read.
 fn print_scan<S: Files + AllocGlobal, W: Write>(
     rt: &S,
     scan: ScanWords<'_>,
@@ -160,13 +151,8 @@ fn print_scan<S: Files + AllocGlobal, W: Write>(
     Ok(undamaged)
 }
 
-/// Appends what scans of files of a queue find, one after the other, and returns whether all can be read.
-///
-/// # Errors
-///
-/// `Memory`. Some lines may then be appended.
-#[doc(hidden)]
-pub fn append_scans(
+/// Appends what scans of files find, one after the other, and returns whether all can be read.
+fn append_scans(
     alloc: Global,
     queue: LogQueue,
     version: Version,

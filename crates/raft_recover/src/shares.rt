@@ -6,7 +6,7 @@ ghost use Rattle.raft_history.specs.Batches.{Event};
 ghost use Rattle.raft_records.specs.FilePart.{Part};
 ghost use Rattle.raft_replay.specs.Cuts.{AreCutInTurn};
 ghost use Rattle.raft_replay.specs.Segments.{SegmentsHold, SegmentsAreOf, parts_within};
-ghost use Rattle.raft_recover.specs.Shares.{AreAlike};
+ghost use Rattle.raft_recover.specs.Shares.{AreDivided};
 
 use raft_base::{Error, Result};
 use raft_records::FilePart;
@@ -56,12 +56,9 @@ pub(crate) fn bytes_of(segments: &[Segment]) -> usize {
     bytes
 }
 
-/// Gathers the parts of all segments, those that are long for a share cut.
 fn short_parts(alloc: Global, segments: &[Segment], share: usize) -> Result<Vec<FilePart>>
     requires { 0 < share }
-    ensures alike { IfOk result (λ parts. AreAlike (parts_within segments.entry.now) parts.items) }
-    ensures cut { IfOk result (λ parts. AreCutInTurn (parts_within segments.entry.now)
-        parts.items) }
+    ensures cut { IfOk result (λ parts. AreDivided (parts_within segments.entry.now) parts.items) }
     ensures memory { IfErr result (λ e. e ≡ Error.Memory) }
 {
     let mut parts = Vec::new(alloc);
@@ -71,7 +68,6 @@ fn short_parts(alloc: Global, segments: &[Segment], share: usize) -> Result<Vec<
     Ok(parts)
 }
 
-/// Appends the parts of a segment, those that are long for a share cut.
 fn append_short(
     alloc: Global,
     segment: &Segment,
@@ -79,9 +75,8 @@ fn append_short(
     parts: &mut Vec<FilePart>,
 ) -> Result<()>
     requires { 0 < share }
-    ensures alike { OnOk result (AreAlike (parts.old.items ++ segment.now.items) parts.new.items) }
-    ensures cut { (these : List Part) → AreCutInTurn these parts.old.items
-        → OnOk result (AreCutInTurn (these ++ segment.now.items) parts.new.items) }
+    ensures cut { (these : List Part) → AreDivided these parts.old.items
+        → OnOk result (AreDivided (these ++ segment.now.items) parts.new.items) }
     ensures memory { IfErr result (λ e. e ≡ Error.Memory) }
 {
     for part in segment {

@@ -1,22 +1,8 @@
 -- What pieces cover: one more segment, all that a seat drew, and all pieces in order.
-use Rattle.std.proofs.Common.{◌≡◌, ℕ, ◌+◌, ◌<◌, ◌≤◌, inl, inr, max, cond, List, [], ◌∷◌, ◌++◌, None, Vec, length, get_or, take, drop, sym, ap, ◌∙◌, subst, arith, append_assoc, take-append-drop, drop-drop, get_or-drop, length-drop, ◌==◌}
-use Rattle.std.specs.Global.{Global}
-use Rattle.std.proofs.lemmas.Bool.Decides.{nat_tests}
-use Rattle.std.proofs.lemmas.List.{take_more, drop_more}
-use Rattle.raft_records.specs.FilePart.{Part}
-use Rattle.raft_history.specs.Batches.{Event}
-use Rattle.raft_history.specs.Histories.{IsSmall, Sound}
-use Rattle.raft_history.proofs.StretchOfHistory.{small_front, small_back, sound_front, sound_back}
-use Rattle.raft_replay.specs.declared.piece.Piece.{Piece}
-use Rattle.raft_replay.specs.Covers.{IsPiece, covers, cover_count}
-use Rattle.raft_tickets.specs.Draws.{Draw, AreBelow, HasEnded}
-use Rattle.raft_replay.specs.Replays.{HasReplayed, CannotFollow}
-use Rattle.raft_replay.specs.Segments.{SegmentsHold, CannotBeRead}
+use Rattle.raft_replay.proofs.Common.{◌≡◌, ℕ, ◌+◌, ◌<◌, ◌≤◌, inl, inr, max, cond, List, [], ◌∷◌, ◌++◌, None, Vec, length, get_or, take, drop, sym, ap, ◌∙◌, subst, arith, take-append-drop, drop-drop, get_or-drop, length-drop, ◌==◌, Global}
+use Rattle.raft_replay.proofs.Common.{nat_tests, take_more, drop_more, Part, Event, small_front, Piece, IsPiece, covers, cover_count, Draw, AreBelow, HasEnded, HasReplayed, CannotFollow, CannotBeRead, occurrences, weigh-append}
 use Rattle.raft_replay.proofs.Words.{PartsHold}
-use Rattle.raft_tickets.specs.Weights.{occurrences}
-use Rattle.raft_replay.proofs.MachineOrderLemmas.{each_join, each_cut, each_single}
-use Rattle.raft_replay.proofs.SegmentLemmas.{segments_unique}
-use Rattle.raft_tickets.proofs.WeightLemmas.{weigh-append}
+use Rattle.raft_replay.proofs.MachineOrderLemmas.{each_more, unread_behind, unread_after}
 
 -- ---- what one piece covers
 
@@ -54,10 +40,7 @@ module _ {M : Type 0} (stands_for stands_exactly : M → List Event → Type 0) 
     piece_more n more = record {
       inside = omega arith;
       history = piece.history ++ more.history;
-      held =
-          subst (λ (l : List (Vec Part Global)). SegmentsHold l (piece.history ++ more.history)) (sym one_longer)
-          (each_join SegmentReads (take count (drop from segments)) (segment ∷ []) piece.history more.history piece.held
-          (each_single SegmentReads segment more.history more.held));
+      held = each_more SegmentReads (take count (drop from segments)) (take (count + 1) (drop from segments)) segment piece.history more.history one_longer piece.held more.held;
       exact = λ small. more.exact piece.history small (piece.exact (small_front piece.history more.history small));
     }
 
@@ -70,23 +53,11 @@ module _ {M : Type 0} (stands_for stands_exactly : M → List Event → Type 0) 
         (sym (take-append-drop count (drop from segments)) ∙ ap (λ (l : List (Vec Part Global)). take count (drop from segments) ++ l) (drop-drop count from segments ∙ rest))
 
     pub piece_refused : CannotFollow (PartsHold segment.items) (stands_for m) → CannotBeRead segments
-    piece_refused cannot = record {
-      unsound = λ h held small sound.
-          let front = each_cut SegmentReads (take from segments) (take count (drop from segments) ++ segment ∷ drop (from + count + 1) segments) h
-          (subst (λ (l : List (Vec Part Global)). SegmentsHold l h) around held) in
-          let few = small_back front.first front.rest (subst IsSmall front.split small) in
-          let good = sound_back front.first front.rest (subst Sound front.split sound) in
-          let mid = each_cut SegmentReads (take count (drop from segments)) (segment ∷ drop (from + count + 1) segments) front.rest front.rest_held in
-          let same = segments_unique (take count (drop from segments)) mid.first piece.history mid.first_held piece.held in
-          let next = mid.rest_held in
-          let whole : front.rest ≡ piece.history ++ next.first ++ next.rest =
-          mid.split ∙ ap (λ (t : List Event). t ++ mid.rest) same ∙ ap (λ (t : List Event). piece.history ++ t) next.split
-          ∙ sym (append_assoc piece.history next.first next.rest) in
-          let less = small_front (piece.history ++ next.first) next.rest (subst IsSmall whole few) in
-          cannot.unsound piece.history next.first next.first_held less
-          (exact_stands m piece.history (piece.exact (small_front piece.history next.first less)))
-          (sound_front (piece.history ++ next.first) next.rest (subst Sound whole good));
-    }
+    piece_refused cannot =
+        subst CannotBeRead (sym around)
+        (unread_after (take from segments) (take count (drop from segments) ++ segment ∷ drop (from + count + 1) segments)
+        (unread_behind (take count (drop from segments)) (drop (from + count + 1) segments) segment [] piece.history (stands_for m) piece.held
+        (λ small. exact_stands m piece.history (piece.exact small)) cannot))
 
 -- ---- what a seat draws
 

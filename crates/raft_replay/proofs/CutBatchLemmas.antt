@@ -1,14 +1,8 @@
 -- A part that is cut where a batch ends.
-use Rattle.std.proofs.Common.{◌≡◌, ℕ, ◌≤◌, List, [], ◌∷◌, ◌++◌, length, drop, refl, sym, ap, ◌∙◌, subst, arith}
-use Rattle.std.proofs.lemmas.List.{length-take-le, take-append-drop}
-use Rattle.raft_records.specs.FilePart.{Part, IsBatchAt}
-use Rattle.raft_records.specs.Item.{Item}
-use Rattle.raft_history.specs.Batches.{Event}
-use Rattle.raft_replay.specs.Cuts.{bytes_before, rest_of, BatchesMeet}
-use Rattle.raft_replay.specs.Segments.{HoldsFrom, AreCutFrom}
-use Rattle.raft_replay.specs.WrittenParts.{with_bytes}
+use Rattle.raft_replay.proofs.Common.{◌≡◌, ℕ, ◌≤◌, List, [], ◌∷◌, ◌++◌, length, drop, refl, sym, ap, ◌∙◌, subst, arith, length-take-le, Part, IsBatchAt, Item, Event, bytes_before, rest_of, BatchesMeet, HoldsFrom, AreCutFrom, with_bytes}
+use Rattle.raft_replay.proofs.Common.{batch_inside}
+use Rattle.std.proofs.lemmas.List.{take-append-drop}
 use Rattle.raft_replay.proofs.CutPartLemmas.{cut_in_two}
-use Rattle.raft_records.proofs.PartLemmas.{batch_inside}
 use Rattle.raft_replay.proofs.SegmentLemmas.{batch_unique}
 use Rattle.raft_replay.proofs.WrittenPartLemmas.{longer_stands}
 

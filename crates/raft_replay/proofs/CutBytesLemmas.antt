@@ -1,10 +1,7 @@
 -- Which bytes the parts have that one is cut into.
-use Rattle.std.proofs.Common.{◌≡◌, ℕ, ◌+◌, ◌≤◌, List, [], ◌∷◌, ◌++◌, length, take, drop, refl, sym, ap, ◌∙◌, subst, arith, append_assoc, append-nil, length-append}
-use Rattle.std.proofs.lemmas.List.{length-take-le, take-append-drop}
-use Rattle.raft_base.specs.declared.pipe_log.FileId.{FileId}
-use Rattle.raft_base.specs.declared.pipe_log.Version.{Version}
-use Rattle.raft_records.specs.FilePart.{Part}
-use Rattle.raft_replay.specs.Cuts.{bytes_before, rest_of, joined_bytes, StandInTurn, ArePartsOf, AreCutInTurn}
+use Rattle.raft_replay.proofs.Common.{◌≡◌, ℕ, ◌+◌, ◌≤◌, List, [], ◌∷◌, ◌++◌, length, take, drop, refl, sym, ap, ◌∙◌, subst, arith, append_assoc, append-nil, length-append, length-take-le, FileId, Version, Part, bytes_before, rest_of}
+use Rattle.raft_replay.proofs.Common.{joined_bytes, StandInTurn, ArePartsOf, AreCutInTurn}
+use Rattle.std.proofs.lemmas.List.{take-append-drop}
 
 -- ---- parts behind others
 

@@ -1,21 +1,10 @@
 -- What is read of a part that is cut between two batches.
-use Rattle.std.proofs.Common.{◌≡◌, ◌↔◌, ℕ, ◌+◌, ◌-◌, ◌<◌, ◌≤◌, List, [], ◌∷◌, ◌++◌, length, map, take, drop, refl, sym, ap, ◌∙◌, subst, arith, append_assoc, append-nil}
-use Rattle.std.proofs.lemmas.List.{drop-take, drop-drop, take-take, length-take-le, length-drop, take-append-drop, drop-append-le}
-use Rattle.std.proofs.Math.Seq.{take-append-add}
-use Rattle.raft_base.specs.declared.pipe_log.FileBlockHandle.{FileBlockHandle}
-use Rattle.raft_base.specs.declared.compression_type.CompressionType.{CompressionType}
-use Rattle.raft_records.specs.FilePart.{Part, IsBatchAt, HasHeader}
-use Rattle.raft_records.proofs.FramedAt.{IsFramedAt, framed_at}
-use Rattle.raft_records.proofs.Names.{place_between}
-use Rattle.raft_records.specs.Item.{Item}
-use Rattle.raft_records.specs.ItemBatch.{placed_item}
-use Rattle.raft_records.proofs.FrameLemmas.{header_one}
-use Rattle.raft_history.specs.Batches.{Event}
-use Rattle.raft_replay.specs.Cuts.{bytes_before, rest_of, BatchesMeet}
-use Rattle.raft_replay.specs.Segments.{AreHeldInTurn, HoldsFrom, AreCutFrom}
+use Rattle.raft_replay.proofs.Common.{◌≡◌, ◌↔◌, ℕ, ◌+◌, ◌-◌, ◌<◌, ◌≤◌, List, [], ◌∷◌, ◌++◌, length, map, take, drop, refl, sym, ap, ◌∙◌, subst, arith, append_assoc, append-nil, drop-take, take-take, length-take-le, drop-append-le}
+use Rattle.raft_replay.proofs.Common.{take-append-add, FileBlockHandle, CompressionType, Part, IsBatchAt, HasHeader, IsFramedAt, framed_at, place_between, Item, placed_item, header_one, Event, bytes_before, rest_of, BatchesMeet}
+use Rattle.raft_replay.proofs.Common.{AreHeldInTurn, HoldsFrom, AreCutFrom, batch_inside}
+use Rattle.std.proofs.lemmas.List.{drop-drop, length-drop, take-append-drop}
 use Rattle.raft_replay.proofs.Words.{PartHolds, PartsHold}
 use Rattle.raft_replay.proofs.MachineOrderLemmas.{each_join, each_cut, each_single}
-use Rattle.raft_records.proofs.PartLemmas.{batch_inside}
 
 -- ---- one batch
 
@@ -109,17 +98,30 @@ of_rest part at j k items b = record {
   places = b.places ∙ ap (λ (p : FileBlockHandle). map (placed_item p b.laid_out.compression) b.read) (place_from part at j (length b.between));
 }
 
+-- one header stands in front
+pub one_header : (bytes : List ℕ) (offset len offset' len' : ℕ) → HasHeader bytes offset len → HasHeader bytes offset' len' → len ≡ len'
+one_header bytes offset len offset' len' h k =
+    let same = (header_one h.header.front k.header.front h.rest k.rest (offset, h.compression, len) (offset', k.compression, len') h.header.spells k.header.spells (sym h.header.split ∙ k.header.split)).1 in
+    ap (λ (t : ℕ × CompressionType × ℕ). t.2) same
+
+-- the header of a batch that stands at a byte
+pub batch_header : (part : Part) (at : ℕ) (items : List Item) (next : ℕ) (b : IsBatchAt part at items next) → HasHeader (drop at part.bytes) (framed_at b).offset (length (framed_at b).bytes)
+batch_header part at items next b = let f : IsFramedAt part at items next = framed_at b in record {
+  compression = f.frame.compression;
+  rest = drop 16 f.bytes ++ drop next part.bytes;
+  header = record {
+    front = f.frame.header.front;
+    spells = f.frame.header.spells;
+    split = f.stands ∙ ap (λ (t : List ℕ). t ++ drop next part.bytes) f.frame.header.split ∙ append_assoc f.frame.header.front (drop 16 f.bytes) (drop next part.bytes);
+  };
+}
+
 -- the batch that begins at a byte is as long as the header there says
 pub header_ends : (part : Part) (i next offset len : ℕ) (items : List Item) → HasHeader (drop i part.bytes) offset len → IsBatchAt part i items next → next ≡ i + len
 header_ends part i next offset len items h b =
-    let g : IsFramedAt part i items next = framed_at b in
-    let f = g.frame.header in
-    let split = sym h.header.split ∙ g.stands ∙ ap (λ (t : List ℕ). t ++ drop next part.bytes) f.split ∙ append_assoc f.front (drop 16 g.bytes) (drop next part.bytes) in
-    let same = (header_one h.header.front f.front h.rest (drop 16 g.bytes ++ drop next part.bytes) (offset, h.compression, len)
-    (g.offset, g.frame.compression, length g.bytes) h.header.spells f.spells split).1 in
-    let long : len ≡ length g.bytes = ap (λ (t : ℕ × CompressionType × ℕ). t.2) same in
-    let ends = g.ends in
-    omega (arith, long)
+    let long : len ≡ length (framed_at b).bytes = one_header (drop i part.bytes) offset len _ _ h (batch_header part i items next b) in
+    let ends = (framed_at b).ends in
+    omega (arith, long, ends)
 
 -- ---- what is read before a byte and from there on
 

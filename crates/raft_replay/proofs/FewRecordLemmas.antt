@@ -1,34 +1,10 @@
 -- A batch names no more records than it has bytes.
-use Rattle.std.proofs.Common.{◌≡◌, ℕ, ◌+◌, ◌-◌, ◌<◌, ◌≤◌, ◌^◌, Bool, true, false, if◌then◌else◌, List, [], ◌∷◌, ◌++◌, Vec, length, map, drop, Option, Some, None, option_map, refl, ap, ◌∙◌, arith, length-append, length-drop}
-use Rattle.std.proofs.lemmas.List.{length-map}
-use Rattle.std.specs.Global.{Global}
-use Rattle.std.specs.List.{cons_option}
-use Rattle.std.specs.Prelude.{flat_map}
-use Rattle.raft_codec.specs.Reading.{IsSequence}
-use Rattle.raft_base.specs.Signature.{signature_in}
-use Rattle.raft_codec.specs.Varint.{IsVarint}
-use Rattle.raft_base.specs.declared.compression_type.CompressionType.{CompressionType}
-use Rattle.raft_base.specs.declared.entry_index.EntryIndex.{EntryIndex}
-use Rattle.raft_base.specs.declared.pipe_log.FileBlockHandle.{FileBlockHandle}
-use Rattle.raft_base.specs.declared.pipe_log.FileId.{FileId}
+use Rattle.raft_replay.proofs.Common.{◌≡◌, ℕ, ◌+◌, ◌-◌, ◌<◌, ◌≤◌, ◌^◌, Bool, true, false, if◌then◌else◌, List, [], ◌∷◌, ◌++◌, Vec, length, map, drop, Option, Some, None, option_map, refl, ap, ◌∙◌, arith, length-append, length-drop}
+use Rattle.raft_replay.proofs.Common.{length-map, Global, cons_option, flat_map, IsSequence, signature_in, IsVarint, CompressionType, EntryIndex, FileBlockHandle, FileId, OpType, Part, IsBatchAt, IsFramedAt, framed_at, IsTail}
+use Rattle.raft_replay.proofs.Common.{AreIndexAndTails, IsContent, IsItem, tail_of, end_of_content, is_reserved, Item, Content, entries, command, pair, placed_item, placed_content, checksum_bytes, Event, IsSmall, records_in, RegionStep}
+use Rattle.raft_replay.proofs.Common.{content_step, pair_step, steps_of_items, Step, size-append, records-append, records_in_history, HoldsFrom, SegmentsHold, bytes_of_parts, bytes_of_segments}
 use Rattle.raft_records.specs.declared.command.Command.TheVariants as commands
-use Rattle.raft_records.specs.declared.key_value.OpType.{OpType}
 use Rattle.raft_records.specs.declared.key_value.OpType.TheVariants as operations
-use Rattle.raft_records.specs.FilePart.{Part, IsBatchAt}
-use Rattle.raft_records.proofs.FramedAt.{IsFramedAt, framed_at}
-use Rattle.raft_records.specs.Grammar.{IsTail, AreIndexAndTails, IsContent, IsItem, tail_of, end_of_content}
-use Rattle.raft_records.specs.Group.{is_reserved}
-use Rattle.raft_records.specs.Item.{Item, Content, entries, command, pair}
-use Rattle.raft_records.specs.ItemBatch.{placed_item, placed_content, checksum_bytes}
-use Rattle.raft_history.specs.Batches.{Event}
-use Rattle.raft_history.specs.Histories.{IsSmall, records_in}
-use Rattle.raft_history.specs.RegionSteps.{RegionStep, content_step, pair_step, steps_of_items}
-use Rattle.raft_table.specs.Steps.{Step}
-use Rattle.raft_history.proofs.StretchOfHistory.{size-append}
-use Rattle.raft_history.proofs.WaitingLemmas.{records-append}
-use Rattle.raft_history.proofs.Words.{records_in_history}
-use Rattle.raft_replay.specs.Segments.{HoldsFrom, SegmentsHold}
-use Rattle.raft_replay.specs.WrittenParts.{bytes_of_parts, bytes_of_segments}
 use Rattle.raft_replay.proofs.Words.{PartsHold}
 
 -- how many entries and key values a content names

@@ -1,3 +1,4 @@
+mod Common
 pub mod CoverLemmas
 pub mod CutBatchLemmas
 pub mod CutBytesLemmas
@@ -6,7 +7,7 @@ pub mod FewRecordLemmas
 pub mod MachineOrderLemmas
 pub mod LiningLemmas
 pub mod MergeLemmas
-pub mod MidwayLemmas
+pub mod ReplayedLemmas
 pub mod SegmentLemmas
 pub mod StopLemmas
 pub mod WalkLemmas

@@ -1,23 +1,8 @@
 -- Pieces that tile the segments, sorted by their first ones, stand in line.
-use Rattle.std.proofs.Common.{◌≡◌, ℕ, suc, ◌+◌, ◌<◌, ◌≤◌, ◌⊎◌, inl, inr, List, [], ◌∷◌, ◌++◌, All, Vec, map, length, take, drop, sym, refl, ap, ◌∙◌, subst, arith, take-append-drop, drop-drop, IsPermutation}
-use Rattle.std.specs.Global.{Global}
-use Rattle.std.specs.List.{AllByRecursion}
-use Rattle.std.specs.List.Sorted.{IsNonDecreasingBy}
-use Rattle.std.proofs.lemmas.Bool.{cases_lt}
-use Rattle.std.proofs.lemmas.List.{drop_all}
-use Rattle.std.proofs.lemmas.List.Elements.{recursion_from_All}
-use Rattle.std.proofs.lemmas.List.Recursion.{is_sum_by}
-use Rattle.std.proofs.lemmas.List.Sorted.{sum_by-IsPermutation, All-permutation}
-use Rattle.raft_records.specs.FilePart.{Part}
-use Rattle.raft_history.specs.Batches.{Event}
-use Rattle.raft_history.proofs.StretchOfHistory.{small_front, small_back}
-use Rattle.raft_replay.specs.declared.piece.Piece.{Piece}
-use Rattle.raft_replay.specs.Covers.{IsPieceOf, covers, cover_count, CoverOnce}
-use Rattle.raft_replay.specs.MachineOrder.{AreInOrder}
-use Rattle.raft_replay.specs.PieceMerges.{histories_in_turn}
-use Rattle.raft_replay.specs.Segments.{SegmentsHold}
+use Rattle.raft_replay.proofs.Common.{◌≡◌, ℕ, suc, ◌+◌, ◌<◌, ◌≤◌, ◌⊎◌, inl, inr, List, [], ◌∷◌, ◌++◌, All, Vec, map, length, take, drop, sym, refl, ap, ◌∙◌, subst, arith, take-append-drop, drop-drop, IsPermutation, Global, AllByRecursion}
+use Rattle.raft_replay.proofs.Common.{IsNonDecreasingBy, cases_lt, drop_all, recursion_from_All, is_sum_by, sum_by-IsPermutation, All-permutation, Part, Event, small_front, small_back, Piece, IsPieceOf, covers, cover_count, CoverOnce}
+use Rattle.raft_replay.proofs.Common.{AreInOrder, histories_in_turn, SegmentsHold, weigh}
 use Rattle.raft_replay.proofs.Words.{PartsHold}
-use Rattle.raft_tickets.specs.Weights.{weigh}
 use Rattle.raft_replay.proofs.CoverLemmas.{covers_inside, covers_below, covers_behind, covers_none}
 use Rattle.raft_replay.proofs.MachineOrderLemmas.{each_join}
 

@@ -1,23 +1,11 @@
 -- Machines in the order of what they have replayed: one goes on, another begins, all are merged, one is refused.
-use Rattle.std.proofs.Common.{◌≡◌, ◌≢◌, ℕ, zero, suc, ◌+◌, ◌<◌, ◌≤◌, min, IsTrue, nat_eq, List, [], ◌∷◌, ◌++◌, Bool, true, false, cond, Result, Ok, Err, IfOk, IfErr, Vec, sym, refl, ap, ◌∙◌, subst, arith, append_assoc, append-nil, add-one}
+use Rattle.raft_replay.proofs.Common.{◌≡◌, ◌≢◌, ℕ, zero, suc, ◌+◌, ◌<◌, ◌≤◌, min, IsTrue, nat_eq, List, [], ◌∷◌, ◌++◌, Bool, true, false, cond, Result, Ok, Err, IfOk, IfErr, Vec, sym, refl, ap, ◌∙◌, subst, arith, append_assoc, append-nil}
+use Rattle.raft_replay.proofs.Common.{add-one, Decides-eqb, Global, AllByRecursion, recursion_from_All, Error, LogQueue, Part, Event, IsSmall, Sound, AreOfQueue, IsOfQueue, small_front, small_back, sound_front, sound_back, of_both}
+use Rattle.raft_replay.proofs.Common.{histories_in_turn, StandForEach, IsMerged, CannotMerge, Merges, HasReplayed, CannotFollow, IsReplayed, AreHeldInTurn, HoldsFrom, EachHolds, SegmentsHold, CannotBeRead, SegmentsAreOf, switches}
+use Rattle.raft_replay.proofs.Common.{count_below, pieces_in, AreInOrder, IsUnderway}
 use mir.Val.{bool_byte}
-use Rattle.std.proofs.lemmas.Bool.Decides.{Decides-eqb}
-use Rattle.std.specs.Global.{Global}
-use Rattle.std.specs.List.{AllByRecursion}
-use Rattle.std.proofs.lemmas.List.Elements.{recursion_from_All}
-use Rattle.raft_base.specs.declared.errors.Error.{Error}
 use Rattle.raft_base.specs.declared.errors.Error.TheVariants.{Memory}
-use Rattle.raft_base.specs.declared.pipe_log.LogQueue.{LogQueue}
-use Rattle.raft_records.specs.FilePart.{Part}
-use Rattle.raft_history.specs.Batches.{Event}
-use Rattle.raft_history.specs.Histories.{IsSmall, Sound, AreOfQueue, IsOfQueue}
-use Rattle.raft_history.proofs.StretchOfHistory.{small_front, small_back, sound_front, sound_back, of_both}
-use Rattle.raft_replay.specs.PieceMerges.{histories_in_turn, StandForEach, IsMerged, CannotMerge, Merges}
-use Rattle.raft_replay.specs.Replays.{HasReplayed, CannotFollow, IsReplayed}
-use Rattle.raft_replay.specs.Segments.{AreHeldInTurn, HoldsFrom, EachHolds, SegmentsHold, CannotBeRead, SegmentsAreOf}
 use Rattle.raft_replay.proofs.Words.{PartHolds, PartsHold, PartsAreOf}
-use Rattle.raft_replay.specs.Schedules.{switches, count_below, pieces_in}
-use Rattle.raft_replay.specs.MachineOrder.{AreInOrder, IsUnderway}
 use Rattle.raft_replay.proofs.MergeLemmas.{joined-append, each-append}
 use Rattle.raft_replay.proofs.SegmentLemmas.{segments_unique}
 
@@ -50,6 +38,10 @@ module _ {A : Type 0} (Holds : A → List Event → Type 0) where
   pub each_single : (x : A) (h : List Event) → Holds x h → EachHolds Holds (x ∷ []) h
   each_single x h held = record { first = h; rest = []; first_held = held; rest_held = refl; split = sym (append-nil h) }
 
+  -- one behind others
+  pub each_more : (xs more : List A) (x : A) (g h : List Event) → more ≡ xs ++ x ∷ [] → EachHolds Holds xs g → Holds x h → EachHolds Holds more (g ++ h)
+  each_more xs more x g h is held one = subst (λ (l : List A). EachHolds Holds l (g ++ h)) (sym is) (each_join xs (x ∷ []) g h held (each_single x h one))
+
 abbrev SegmentReads : Vec Part Global → List Event → Type 0
 SegmentReads segment h = PartsHold segment.items h
 
@@ -75,6 +67,33 @@ segments_read_of_queue queue segments all =
     each_of SegmentReads (λ segment. PartsAreOf queue segment.items) queue (λ segment is h held. parts_of queue segment.items is h held) segments
     (recursion_from_All _ segments all)
 
+-- ---- what can't be read
+
+-- what can't follow the last of some histories can't be read behind them
+pub unread_behind : (fronts rest : List (Vec Part Global)) (segment : Vec Part Global) (before last : List Event) (Stood : List Event → Type 0) → SegmentsHold fronts (before ++ last)
+    → (IsSmall (before ++ last) → Stood last) → CannotFollow (PartsHold segment.items) Stood → CannotBeRead (fronts ++ segment ∷ rest)
+unread_behind fronts rest segment before last Stood read stood cannot = record {
+  unsound = λ h held small sound.
+      let cut = each_cut SegmentReads fronts (segment ∷ rest) h held in
+      let same = segments_unique fronts cut.first (before ++ last) cut.first_held read in
+      let next = cut.rest_held in
+      let whole : h ≡ before ++ last ++ next.first ++ next.rest =
+      cut.split ∙ (λ i. same i ++ next.split i) ∙ sym (append_assoc (before ++ last) next.first next.rest) in
+      let few = small_front (before ++ last ++ next.first) next.rest (subst IsSmall whole small) in
+      let good = sound_front (before ++ last ++ next.first) next.rest (subst Sound whole sound) in
+      let two = append_assoc before last next.first in
+      cannot.unsound last next.first next.first_held (small_back before (last ++ next.first) (subst IsSmall two few)) (stood (small_front (before ++ last) next.first few))
+      (sound_back before (last ++ next.first) (subst Sound two good));
+}
+
+-- segments behind which others can't be read can't be read with them
+pub unread_after : (fronts rest : List (Vec Part Global)) → CannotBeRead rest → CannotBeRead (fronts ++ rest)
+unread_after fronts rest cannot = record {
+  unsound = λ h held small sound.
+      let cut = each_cut SegmentReads fronts rest h held in
+      cannot.unsound cut.rest cut.rest_held (small_back cut.first cut.rest (subst IsSmall cut.split small)) (sound_back cut.first cut.rest (subst Sound cut.split sound));
+}
+
 -- ---- machines in line
 
 module _ {M : Type 0} (stands_for stands_exactly : M → List Event → Type 0) (exact_stands : (m : M) (h : List Event) → stands_exactly m h → stands_for m h) where
@@ -99,8 +118,7 @@ module _ {M : Type 0} (stands_for stands_exactly : M → List Event → Type 0) 
           last = underway.last ++ more.history;
           held =
               subst (SegmentsHold (segments ++ segment ∷ [])) two
-              (each_join SegmentReads segments (segment ∷ []) (histories_in_turn underway.histories ++ underway.last) more.history underway.held
-              (each_single SegmentReads segment more.history more.held));
+              (each_more SegmentReads segments (segments ++ segment ∷ []) segment (histories_in_turn underway.histories ++ underway.last) more.history refl underway.held more.held);
           stand = λ small. underway.stand (small_front (histories_in_turn underway.histories ++ underway.last) more.history (subst IsSmall (sym two) small));
           exact = λ small.
               let before = small_front (histories_in_turn underway.histories ++ underway.last) more.history (subst IsSmall (sym two) small) in
@@ -133,21 +151,9 @@ module _ {M : Type 0} (stands_for stands_exactly : M → List Event → Type 0) 
     -- what can't follow it can't be read behind its segments
     pub stopped : (all rest : List (Vec Part Global)) (segment : Vec Part Global) → all ≡ segments ++ segment ∷ rest
         → CannotFollow (PartsHold segment.items) (stands_for m) → CannotBeRead all
-    stopped all rest segment is cannot = record {
-      unsound = λ h held small sound.
-          let cut = each_cut SegmentReads segments (segment ∷ rest) h (subst (λ (l : List (Vec Part Global)). SegmentsHold l h) is held) in
-          let same = segments_unique segments cut.first (histories_in_turn underway.histories ++ underway.last) cut.first_held underway.held in
-          let next = cut.rest_held in
-          let whole : h ≡ histories_in_turn underway.histories ++ underway.last ++ next.first ++ next.rest =
-          cut.split ∙ ap (λ (t : List Event). t ++ cut.rest) same ∙ ap (λ (t : List Event). histories_in_turn underway.histories ++ underway.last ++ t) next.split
-          ∙ sym (append_assoc (histories_in_turn underway.histories ++ underway.last) next.first next.rest) in
-          let few = small_front (histories_in_turn underway.histories ++ underway.last ++ next.first) next.rest (subst IsSmall whole small) in
-          let good = sound_front (histories_in_turn underway.histories ++ underway.last ++ next.first) next.rest (subst Sound whole sound) in
-          let two = append_assoc (histories_in_turn underway.histories) underway.last next.first in
-          let stands = exact_stands m underway.last (underway.exact (small_front (histories_in_turn underway.histories ++ underway.last) next.first few)) in
-          cannot.unsound underway.last next.first next.first_held (small_back (histories_in_turn underway.histories) (underway.last ++ next.first) (subst IsSmall two few)) stands
-          (sound_back (histories_in_turn underway.histories) (underway.last ++ next.first) (subst Sound two good));
-    }
+    stopped all rest segment is cannot =
+        subst CannotBeRead (sym is)
+        (unread_behind segments rest segment (histories_in_turn underway.histories) underway.last (stands_for m) underway.held (λ small. exact_stands m underway.last (underway.exact small)) cannot)
 
   module _ (segments : List (Vec Part Global)) (ms : List M) (line : AreInOrder stands_exactly segments ms) (queue : LogQueue) (of : SegmentsAreOf queue segments) where
     -- all of them merged
@@ -177,11 +183,6 @@ module _ {M : Type 0} (stands_for stands_exactly : M → List Event → Type 0) 
         → IfErr r (λ e. e ≢ Memory → ¬ (Own e) → CannotBeRead segments)
     merged_err Own (Ok m) merged = tt
     merged_err Own (Err e) cannot = λ not_memory not_own. unmerged (cannot not_memory)
-
--- what holds of the value of an Ok gives what follows from it
-pub if_ok : {T E : Type 0} {P Q : T → Type 0} (r : Result T E) → ((t : T) → P t → Q t) → IfOk r P → IfOk r Q
-if_ok (Ok t) step p = step t p
-if_ok (Err e) step p = tt
 
 module _ {M : Type 0} (stands_for stands_exactly : M → List Event → Type 0) (exact_stands : (m : M) (h : List Event) → stands_exactly m h → stands_for m h) where
   -- no machine in line, and one that has replayed nothing

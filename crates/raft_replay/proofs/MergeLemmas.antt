@@ -1,13 +1,7 @@
 -- Pieces that are merged one with another.
-use Rattle.std.proofs.Common.{◌≡◌, ◌<◌, List, [], ◌∷◌, ◌++◌, sym, refl, ap, ◌∙◌, subst, arith, append_assoc, append-nil}
-use Rattle.raft_base.specs.declared.pipe_log.LogQueue.{LogQueue}
-use Rattle.raft_history.specs.Batches.{Event}
-use Rattle.raft_history.specs.Histories.{IsSmall, Sound, Apart, IsOfQueue}
-use Rattle.raft_history.proofs.StretchOfHistory.{small_front, small_back, sound_front, sound_back, apart_front, apart_back, of_front, of_back}
-use Rattle.raft_replay.specs.declared.plan.Plan.{Plan}
+use Rattle.raft_replay.proofs.Common.{◌≡◌, ◌<◌, List, [], ◌∷◌, ◌++◌, sym, refl, ap, ◌∙◌, subst, arith, append_assoc, append-nil, LogQueue, Event, IsSmall, Sound, Apart, IsOfQueue, small_front, small_back, sound_front, sound_back}
+use Rattle.raft_replay.proofs.Common.{apart_front, apart_back, of_front, of_back, Plan, leaves, histories_in_turn, StandForEach, IsMerged, CannotMerge}
 use Rattle.raft_replay.specs.declared.plan.Plan.TheVariants.{One, Join'}
-use Rattle.raft_replay.specs.Plans.{leaves}
-use Rattle.raft_replay.specs.PieceMerges.{histories_in_turn, StandForEach, IsMerged, CannotMerge}
 
 pub leaves_positive : (p : Plan) → 0 < leaves p
 leaves_positive One = omega arith

@@ -1,42 +1,12 @@
--- What was read in front of the place where a replay stopped.
-use Rattle.std.proofs.Common.{◌≡◌, ◌≢◌, inl, inr, ℕ, ◌+◌, ◌<◌, List, [], ◌∷◌, ◌++◌, length, take, drop, refl, sym, ap, ◌∙◌, subst, append_assoc, append-nil, arith, Option, Some, None}
-use Rattle.std.proofs.lemmas.List.{map-append, take-append-drop}
-use Rattle.raft_base.specs.declared.errors.Error.{Error}
+-- Where a replay stopped, what was read in front of that place, and that nothing more can be read.
+use Rattle.raft_replay.proofs.Common.{◌≡◌, ◌≢◌, inl, inr, ◌⊎◌, ℕ, ◌+◌, ◌<◌, List, [], ◌∷◌, ◌++◌, length, refl, sym, ap, ◌∙◌, subst, append_assoc, arith, Option, Some, None, map-append, Error, LogQueue, FileId, IsCorruption, Part}
+use Rattle.raft_replay.proofs.Common.{IsBatchAt, StandBetween, Item, batch_inside, Event, Context, FileRange, Suits, StandsFor, IsSmall, Sound, event, small_front, sound_front, HasReplayed, CannotFollow, HoldsFrom, CannotFollowAt}
+use Rattle.raft_replay.proofs.Common.{IsStoodFor, place_text, IsPlaced, history_in, GoneOn, IsUnreadableAt, HasFaultAt, StopsIn, StopsByFault, StopsAmong}
 use Rattle.raft_base.specs.declared.errors.Error.TheVariants as errors
-use Rattle.raft_base.specs.declared.pipe_log.LogQueue.{LogQueue}
 use Rattle.raft_base.specs.declared.pipe_log.LogQueue.TheVariants.{Append}
-use Rattle.raft_base.specs.declared.pipe_log.FileId.{FileId}
-use Rattle.raft_base.specs.Corruption.{IsCorruption}
-use Rattle.raft_records.specs.FilePart.{Part, IsBatchAt, StandBetween}
-use Rattle.raft_records.specs.Item.{Item}
-use Rattle.raft_records.proofs.PartLemmas.{batch_inside}
-use Rattle.raft_history.specs.Batches.{Event}
-use Rattle.raft_history.specs.Contexts.{Context, FileRange, Suits, StandsFor}
-use Rattle.raft_history.specs.Histories.{IsSmall, Sound}
-use Rattle.raft_history.specs.ReplayMachine.{event}
-use Rattle.raft_history.proofs.StretchOfHistory.{small_front}
-use Rattle.raft_replay.specs.Stops.{place_text, IsPlaced, history_in, GoneOn, IsUnreadableAt, HasFaultAt, StopsIn, StopsByFault, StopsAmong}
 use Rattle.raft_replay.proofs.Words.{PartHolds, PartsHold}
-use Rattle.raft_replay.proofs.MachineOrderLemmas.{each_join, each_single}
-use Rattle.raft_replay.proofs.SegmentLemmas.{batch_none}
-
--- a history was read and replayed: a machine that stood for one before it stands for both
-pub record AreRead (IsRead Stood Stands : List Event → Type 0) : Type 0 where
-  pub history : List Event
-  pub held : IsRead history
-  pub stands : (h : List Event) → IsSmall (h ++ history) → Stood h → Stands (h ++ history)
-
--- one history more
-pub read_more : {IsRead IsReadNow Stood Stands StandsNow : List Event → Type 0} (read : AreRead IsRead Stood Stands) (next : List Event) → IsReadNow (read.history ++ next)
-    → ((h : List Event) → IsSmall (h ++ next) → Stands h → StandsNow (h ++ next)) → AreRead IsReadNow Stood StandsNow
-read_more {StandsNow = StandsNow} read next held stands = record {
-  history = read.history ++ next;
-  held = held;
-  stands = λ h small stood.
-      let two : h ++ read.history ++ next ≡ h ++ (read.history ++ next) = append_assoc h read.history next in
-      let few : IsSmall (h ++ read.history ++ next) = subst IsSmall (sym two) small in
-      subst StandsNow two (stands (h ++ read.history) few (read.stands h (small_front (h ++ read.history) next few) stood));
-}
+use Rattle.raft_replay.proofs.MachineOrderLemmas.{each_cut}
+use Rattle.raft_replay.proofs.SegmentLemmas.{batch_none, batch_unique, parts_unique, same_event}
 
 -- ---- its place
 
@@ -51,14 +21,6 @@ is_placed id offset reason e is = tt
 abbrev pub IsFront : Part → ℕ → List Event → Type 0
 IsFront part at h = (batches : List (List Item)) × StandBetween part 0 at batches × (h ≡ history_in part batches)
 
--- nothing was read yet
-pub no_front : {Stood : List Event → Type 0} (part : Part) → AreRead (IsFront part 0) Stood Stood
-no_front {Stood} part = record {
-  history = [];
-  held = ([], refl, refl);
-  stands = λ h small stood. subst Stood (sym (append-nil h)) stood;
-}
-
 stand_longer : (part : Part) (from at next : ℕ) (batches : List (List Item)) (items : List Item) → StandBetween part from at batches → IsBatchAt part at items next → StandBetween part from next (batches ++ items ∷ [])
 stand_longer part from at next [] items stand b = (next, subst (λ (n : ℕ). IsBatchAt part n items next) (sym stand) b, refl)
 stand_longer part from at next (first ∷ batches) items stand b = (stand.0, stand.1, stand_longer part stand.0 at next batches items stand.2 b)
@@ -71,49 +33,83 @@ longer_front part at next items h front b = (
   ap (λ (t : List Event). t ++ event items part.id ∷ []) front.2 ∙ sym (map-append (λ (i : List Item). event i part.id) front.0 (items ∷ [])),
 )
 
-module _ (part : Part) (at : ℕ) (Stood Stands IsTaken : List Event → Type 0) (read : AreRead (IsFront part at) Stood Stands)
-    (is_taken : (h : List Event) → Stands h → IsTaken h) (e : Error) (placed : IsPlaced part.id (part.offset + at) e) where
-  front_taken : (h : List Event) → IsSmall (h ++ history_in part read.held.0) → Stood h → IsTaken (h ++ history_in part read.held.0)
-  front_taken h small stood =
-      let same : h ++ read.history ≡ h ++ history_in part read.held.0 = ap (λ (t : List Event). h ++ t) read.held.2 in
-      subst IsTaken same (is_taken (h ++ read.history) (read.stands h (subst IsSmall (sym same) small) stood))
+-- up to the end of the part they are all that is read
+pub front_held : (part : Part) (from at : ℕ) (batches : List (List Item)) → StandBetween part from at batches → at ≡ length part.bytes → HoldsFrom part from (history_in part batches)
+front_held part from at [] stand ends = stand ∙ ends
+front_held part from at (items ∷ batches) stand ends = (refl, (stand.0, stand.1, front_held part stand.0 at batches stand.2 ends))
 
-  pub stopped_unreadable : at < length part.bytes → (e ≢ errors.Memory → IsUnreadableAt part at) → HasFaultAt part at e → StopsByFault Stood IsTaken part e
-  stopped_unreadable inside none fault = record {
-    stops = record {
-      at = at;
-      front = read.held.0;
-      readable = read.held.1;
-      taken = front_taken;
-      before_end = inside;
-      reason = λ not_memory. inl (none not_memory);
-      placed = placed;
-    };
-    fault = λ unread. fault;
+-- what is read of a part begins with the batches in front of a byte
+front_cut : (part : Part) (from at : ℕ) (batches : List (List Item)) (g : List Event) → StandBetween part from at batches → HoldsFrom part from g
+    → (rest : List Event) × HoldsFrom part at rest × (g ≡ history_in part batches ++ rest)
+front_cut part from at [] g stand held = (g, subst (λ (n : ℕ). HoldsFrom part n g) stand held, refl)
+front_cut part from at (items ∷ batches) [] stand ends = let inside = batch_inside part from items stand.0 stand.1 in absurd (omega (arith, ends, inside.0, inside.1))
+front_cut part from at (items ∷ batches) (e ∷ g) stand held =
+    let one = batch_unique part from e.items items held.1.0 stand.0 held.1.1 stand.1 in
+    let rest = front_cut part stand.0 at batches g stand.2 (subst (λ (n : ℕ). HoldsFrom part n g) one.1 held.1.2) in
+    let first = same_event e (event items part.id) one.0 held.0 in
+    (rest.0, rest.1, λ i. first i ∷ rest.2 i)
+
+module _ {M : Type 0} (stands_for stands_exactly : M → List Event → Type 0) (part : Part) (at : ℕ) (old new : M) (read : HasReplayed (IsFront part at) stands_for stands_exactly old new)
+    (e : Error) (placed : IsPlaced part.id (part.offset + at) e) where
+  stopped : at < length part.bytes → (e ≢ errors.Memory → IsUnreadableAt part at ⊎ CannotFollowAt (GoneOn (stands_for old) (history_in part read.held.0)) part at)
+      → StopsIn (stands_for old) (IsStoodFor stands_for) part e
+  stopped inside reason = record {
+    at = at;
+    front = read.held.0;
+    readable = read.held.1;
+    taken = λ h small stood.
+        let same = ap (λ (t : List Event). h ++ t) read.held.2 in
+        subst (IsStoodFor stands_for) same (new, read.stands h (subst IsSmall (sym same) small) stood);
+    before_end = inside;
+    reason = reason;
+    placed = placed;
   }
+
+  pub stopped_unreadable : at < length part.bytes → (e ≢ errors.Memory → IsUnreadableAt part at) → HasFaultAt part at e → StopsByFault (stands_for old) (IsStoodFor stands_for) part e
+  unfolding stopped
+  stopped_unreadable inside none fault = record { stops = stopped inside (λ not_memory. inl (none not_memory)); fault = λ unread. fault }
 
   pub stopped_refused : (items : List Item) (next : ℕ) → IsBatchAt part at items next
-      → (e ≢ errors.Memory → (h : List Event) → IsSmall (h ++ event items part.id ∷ []) → Stands h → ¬ (Sound (h ++ event items part.id ∷ []))) → StopsByFault Stood IsTaken part e
+      → (e ≢ errors.Memory → (h : List Event) → IsSmall (h ++ event items part.id ∷ []) → stands_for new h → ¬ (Sound (h ++ event items part.id ∷ [])))
+      → StopsByFault (stands_for old) (IsStoodFor stands_for) part e
+  unfolding stopped
   stopped_refused items next b refused = record {
-    stops = record {
-      at = at;
-      front = read.held.0;
-      readable = read.held.1;
-      taken = front_taken;
-      before_end = let inside = batch_inside part at items next b in omega (arith, inside.0, inside.1);
-      reason = λ not_memory. inr (record {
-        items = items;
-        next = next;
-        stands = b;
-        unsound = λ h small before sound.
-            let same : h ≡ before.0 ++ read.history = before.2 ∙ ap (λ (t : List Event). before.0 ++ t) (sym read.held.2) in
-            let stands = read.stands before.0 (subst IsSmall same (small_front h (event items part.id ∷ []) small)) before.1 in
-            refused not_memory h small (subst Stands (sym same) stands) sound;
-      });
-      placed = placed;
-    };
+    stops =
+        stopped (let inside = batch_inside part at items next b in omega (arith, inside.0, inside.1))
+        (λ not_memory. inr (record {
+          items = items;
+          next = next;
+          stands = b;
+          unsound = λ h small before sound.
+              let same : h ≡ before.0 ++ read.history = before.2 ∙ ap (λ (t : List Event). before.0 ++ t) (sym read.held.2) in
+              let stands = read.stands before.0 (subst IsSmall same (small_front h (event items part.id ∷ []) small)) before.1 in
+              refused not_memory h small (subst (stands_for new) (sym same) stands) sound;
+        }));
     fault = λ unread. absurd (batch_none part at items next unread b);
   }
+
+-- a part in which the reading stopped can't follow
+pub part_refused : (Stood IsTaken : List Event → Type 0) (part : Part) (e : Error) → StopsIn Stood IsTaken part e → e ≢ errors.Memory → CannotFollow (PartHolds part) Stood
+part_refused Stood IsTaken part e stops not_memory = record {
+  unsound = λ h g held small stood sound.
+      let cut = front_cut part 0 stops.at stops.front g stops.readable held in
+      let whole = ap (λ (t : List Event). h ++ t) cut.2 in
+      unread h stood cut.0 cut.1 (subst IsSmall whole small) (subst Sound whole sound) (stops.reason not_memory);
+}
+  where
+    front : List Event
+    front = history_in part stops.front
+
+    unread : (h : List Event) → Stood h → (rest : List Event) → HoldsFrom part stops.at rest → IsSmall (h ++ (front ++ rest)) → Sound (h ++ (front ++ rest))
+        → IsUnreadableAt part stops.at ⊎ CannotFollowAt (GoneOn Stood front) part stops.at → ⊥
+    unread h stood [] ends small sound reason = omega (arith, ends, stops.before_end)
+    unread h stood (d ∷ rest) held small sound (inl none) = batch_none part stops.at d.items held.1.0 none held.1.1
+    unread h stood (d ∷ rest) held small sound (inr cannot) =
+        let one = history_in part (cannot.items ∷ []) in
+        let same = same_event d (event cannot.items part.id) (batch_unique part stops.at d.items cannot.items held.1.0 cannot.next held.1.1 cannot.stands).0 held.0 in
+        let whole : h ++ (front ++ d ∷ rest) ≡ h ++ front ++ one ++ rest =
+        sym (append_assoc h front (d ∷ rest)) ∙ ap (λ (x : Event). h ++ front ++ x ∷ rest) same ∙ sym (append_assoc (h ++ front) one rest) in
+        cannot.unsound (h ++ front) (small_front (h ++ front ++ one) rest (subst IsSmall whole small)) (h, stood, refl) (sound_front (h ++ front ++ one) rest (subst Sound whole sound))
 
 -- ---- in one of several parts
 
@@ -146,32 +142,34 @@ pub fault_after : (Stood New IsTaken IsKnown : List Event → Type 0) (part : Pa
 unfolding stops_after
 fault_after Stood New IsTaken IsKnown part e stood known found = record { stops = stops_after Stood New IsTaken IsKnown part e stood known found.stops; fault = found.fault }
 
--- the parts before an index were read, and the reading stopped in the next one
-pub stopped_among : (Stood Stands IsTaken : List Event → Type 0) (parts : List Part) (i : ℕ) (part : Part) (e : Error) → AreRead (PartsHold (take i parts)) Stood Stands
-    → drop i parts ≡ part ∷ drop (i + 1) parts → StopsByFault Stands IsTaken part e → StopsAmong Stood IsTaken parts e
-stopped_among Stood Stands IsTaken parts i part e read here stops = record {
-  before = take i parts;
+-- the parts in front were read, and the reading stopped in the next one
+pub stopped_among : {M : Type 0} (stands_for stands_exactly : M → List Event → Type 0) (old mid : M) (IsTaken : List Event → Type 0) (parts before after : List Part) (part : Part) (e : Error)
+    → HasReplayed (PartsHold before) stands_for stands_exactly old mid → parts ≡ before ++ part ∷ after → StopsByFault (stands_for mid) IsTaken part e → StopsAmong (stands_for old) IsTaken parts e
+stopped_among stands_for stands_exactly old mid IsTaken parts before after part e read is stops = record {
+  before = before;
   part = part;
-  after = drop (i + 1) parts;
-  split = sym (take-append-drop i parts) ∙ ap (λ (l : List Part). take i parts ++ l) here;
+  after = after;
+  split = is;
   history = read.history;
   held = read.held;
-  stops = stops_after Stands (GoneOn Stood read.history) IsTaken IsTaken part e
-      (λ h small gone. subst Stands (sym gone.2) (read.stands gone.0 (subst IsSmall gone.2 small) gone.1)) (λ h taken. taken) stops.stops;
+  stops = stops_after (stands_for mid) (GoneOn (stands_for old) read.history) IsTaken IsTaken part e
+      (λ h small gone. subst (stands_for mid) (sym gone.2) (read.stands gone.0 (subst IsSmall gone.2 small) gone.1)) (λ h taken. taken) stops.stops;
 }
 
--- no part was read yet
-pub no_parts : {Stood : List Event → Type 0} (parts : List Part) → AreRead (PartsHold (take 0 parts)) Stood Stood
-no_parts {Stood} parts = record {
-  history = [];
-  held = refl;
-  stands = λ h small stood. subst Stood (sym (append-nil h)) stood;
+-- parts among which the reading stopped can't follow
+pub parts_refused : (Stood IsTaken : List Event → Type 0) (parts : List Part) (e : Error) → StopsAmong Stood IsTaken parts e → e ≢ errors.Memory → CannotFollow (PartsHold parts) Stood
+parts_refused Stood IsTaken parts e stops not_memory = record {
+  unsound = λ h g held small stood sound.
+      let cut = each_cut PartHolds stops.before (stops.part ∷ stops.after) g (subst (λ (l : List Part). PartsHold l g) stops.split held) in
+      let here = cut.rest_held in
+      let front = parts_unique stops.before cut.first stops.history cut.first_held stops.held in
+      let whole : h ++ g ≡ h ++ stops.history ++ here.first ++ here.rest =
+      ap (λ (t : List Event). h ++ t) (cut.split ∙ (λ i. front i ++ here.split i))
+      ∙ sym (append_assoc h stops.history (here.first ++ here.rest)) ∙ sym (append_assoc (h ++ stops.history) here.first here.rest) in
+      (part_refused (GoneOn Stood stops.history) IsTaken stops.part e stops.stops not_memory).unsound (h ++ stops.history) here.first here.first_held
+      (small_front (h ++ stops.history ++ here.first) here.rest (subst IsSmall whole small)) (h, stood, refl)
+      (sound_front (h ++ stops.history ++ here.first) here.rest (subst Sound whole sound));
 }
-
--- one part more was read
-pub parts_longer : (before more : List Part) (part : Part) (g h : List Event) → more ≡ before ++ part ∷ [] → PartsHold before g → PartHolds part h → PartsHold more (g ++ h)
-parts_longer before more part g h is held one =
-    subst (λ (l : List Part). PartsHold l (g ++ h)) (sym is) (each_join PartHolds before (part ∷ []) g h held (each_single PartHolds part h one))
 
 -- ---- of a context
 

@@ -1,9 +1,6 @@
 -- Words of proofs for what definitions spell out.
 use Rattle.std.specs.Prelude.{◌≡◌, List, All}
-use Rattle.raft_base.specs.declared.pipe_log.LogQueue.{LogQueue}
-use Rattle.raft_records.specs.FilePart.{Part}
-use Rattle.raft_history.specs.Batches.{Event}
-use Rattle.raft_replay.specs.Segments.{HoldsFrom, EachHolds}
+use Rattle.raft_replay.proofs.Common.{LogQueue, Part, Event, HoldsFrom, EachHolds}
 
 -- the batches of a part
 abbrev pub PartHolds : Part → List Event → Type 0

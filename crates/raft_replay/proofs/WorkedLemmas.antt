@@ -1,22 +1,9 @@
 -- Workers that are back: one more of them, one that was refused, and all.
-use Rattle.std.proofs.Common.{◌≡◌, ◌≢◌, ℕ, ◌^◌, ◌<◌, inl, inr, List, [], ◌∷◌, ◌++◌, All, Vec, Result, Ok, Err, IfOk, length, get_or, refl, ap, ◌∙◌, subst, arith, length-append}
-use Rattle.std.specs.Global.{Global}
-use Rattle.std.proofs.lemmas.Bool.Decides.{nat_tests}
-use Rattle.std.proofs.lemmas.List.{get_or_at}
-use Rattle.std.proofs.lemmas.List.Elements.{All-push, All-append, recursion_from_All}
-use Rattle.raft_base.specs.declared.errors.Error.{Error}
+use Rattle.raft_replay.proofs.Common.{◌≡◌, ◌≢◌, ℕ, ◌^◌, ◌<◌, inl, inr, List, [], ◌∷◌, ◌++◌, All, Vec, Result, Ok, Err, IfOk, length, get_or, refl, ap, ◌∙◌, subst, arith, length-append, Global, nat_tests, get_or_at, All-push, All-append}
+use Rattle.raft_replay.proofs.Common.{recursion_from_All, Error, Part, Event, Piece, Worked, IsPieceOf, covers, IsDone, AreDone, Gives, Tickets, TicketSeat, IsSeatOf, HasEnded, once_below, IsOpenRefusal, CannotBeRead, weigh, occurrences}
+use Rattle.raft_replay.proofs.Common.{IsBack, IsWork, HasRefusal, weigh-append}
 use Rattle.raft_base.specs.declared.errors.Error.TheVariants.{Memory}
 use Rattle.raft_base.specs.declared.errors.Error.TheVariants as errors
-use Rattle.raft_records.specs.FilePart.{Part}
-use Rattle.raft_history.specs.Batches.{Event}
-use Rattle.raft_replay.specs.declared.piece.Piece.{Piece}
-use Rattle.raft_replay.specs.declared.workers.Worked.{Worked}
-use Rattle.raft_replay.specs.Covers.{IsPieceOf, covers, IsDone, AreDone, Gives}
-use Rattle.raft_tickets.specs.Draws.{Tickets, TicketSeat, IsSeatOf, HasEnded, once_below, IsOpenRefusal}
-use Rattle.raft_replay.specs.Segments.{CannotBeRead}
-use Rattle.raft_tickets.specs.Weights.{weigh, occurrences}
-use Rattle.raft_replay.specs.WorkedWords.{IsBack, HasRefusal}
-use Rattle.raft_tickets.proofs.WeightLemmas.{weigh-append}
 
 -- what is true of all is true of one
 pub all_at : {X : Type 0} (P : X → Type 0) (xs front : List X) (x : X) (rest : List X) → All P xs → xs ≡ front ++ x ∷ rest → P x
@@ -46,15 +33,15 @@ module _ {M : Type 0} (stands_exactly : M → List Event → Type 0) where
 
   -- what workers give back
   pub are_back : (Own : Error → Type 0) (segments : List (Vec Part Global)) (tickets : Tickets) (worked : List (Worked M))
-      → All (λ w. IsSeatOf tickets w.seat × Gives stands_exactly Own segments w.seat.drawn w.pieces) worked → All (IsBack stands_exactly segments tickets) worked
+      → All (IsWork stands_exactly Own segments tickets) worked → All (IsBack stands_exactly segments tickets) worked
   are_back Own segments tickets worked all k d small =
       let one = all k d small in (one.0, gives_back Own segments (get_or worked k d).seat.drawn (get_or worked k d).pieces one.1)
 
   pub worker_refused : (Own : Error → Type 0) (segments : List (Vec Part Global)) (tickets : Tickets) (worked : List (Worked M)) (e : Error)
-      → All (λ w. IsSeatOf tickets w.seat × Gives stands_exactly Own segments w.seat.drawn w.pieces) worked → HasRefusal worked e
+      → All (IsWork stands_exactly Own segments tickets) worked → HasRefusal worked e
       → e ≢ Memory → ¬ (Own e) → CannotBeRead segments
   worker_refused Own segments tickets worked e all refused =
-      let one = all_at (λ (w : Worked M). IsSeatOf tickets w.seat × Gives stands_exactly Own segments w.seat.drawn w.pieces) worked refused.front refused.one refused.rest all refused.split in
+      let one = all_at (IsWork stands_exactly Own segments tickets) worked refused.front refused.one refused.rest all refused.split in
       let at : Gives stands_exactly Own segments refused.one.seat.drawn (Err e) =
       subst (λ (r : Result (Vec (Piece M) Global) Error). Gives stands_exactly Own segments refused.one.seat.drawn r) refused.refusal one.1 in at
 
@@ -88,13 +75,4 @@ open_refused total seats (errors.InvalidArgument text) (inl none_of) not_memory 
 open_refused total seats (errors.InvalidArgument text) (inr (inl many)) not_memory some_seats few_seats few = omega arith
 open_refused total seats (errors.InvalidArgument text) (inr (inr many)) not_memory some_seats few_seats few = omega arith
 open_refused total seats errors.Memory refused not_memory some_seats few_seats few = not_memory refl
-open_refused total seats (errors.Corruption text) refused not_memory some_seats few_seats few = refused
-open_refused total seats (errors.Io e) refused not_memory some_seats few_seats few = refused
-open_refused total seats (errors.Codec e) refused not_memory some_seats few_seats few = refused
-open_refused total seats (errors.Message e) refused not_memory some_seats few_seats few = refused
-open_refused total seats (errors.TryAgain text) refused not_memory some_seats few_seats few = refused
-open_refused total seats errors.EntryCompacted refused not_memory some_seats few_seats few = refused
-open_refused total seats errors.EntryNotFound refused not_memory some_seats few_seats few = refused
-open_refused total seats errors.Full refused not_memory some_seats few_seats few = refused
-open_refused total seats (errors.Other text) refused not_memory some_seats few_seats few = refused
-open_refused total seats errors.Failed refused not_memory some_seats few_seats few = refused
+open_refused total seats e refused not_memory some_seats few_seats few = refused

@@ -1,16 +1,6 @@
 -- Parts that get more bytes, and the batches in them.
-use Rattle.std.proofs.Common.{◌≡◌, ℕ, ◌+◌, List, [], ◌∷◌, ◌++◌, length, drop, refl, sym, ap, ◌∙◌, subst, arith, append_assoc, append-nil, length-append}
-use Rattle.std.proofs.lemmas.List.{drop_at, drop-append-le}
-use Rattle.raft_records.specs.FilePart.{Part, IsBatchAt}
-use Rattle.raft_records.specs.Item.{Item}
-use Rattle.raft_records.specs.LogBatch.{encoded_length, log_batch_bytes}
-use Rattle.raft_records.proofs.FrameLemmas.{log_batch_length}
-use Rattle.raft_records.proofs.Names.{part_signature}
-use Rattle.raft_records.proofs.PartLemmas.{written_stands}
-use Rattle.raft_history.specs.Batches.{Event}
-use Rattle.raft_replay.specs.Segments.{HoldsFrom}
-use Rattle.raft_replay.specs.WrittenParts.{with_bytes, written_event, WrittenBatchIsHeld}
-use Rattle.raft_records.proofs.PartLemmas.{batch_inside}
+use Rattle.raft_replay.proofs.Common.{◌≡◌, ℕ, ◌+◌, List, [], ◌∷◌, ◌++◌, length, drop, refl, sym, ap, ◌∙◌, subst, arith, append_assoc, append-nil, length-append, drop_at, drop-append-le, Part, IsBatchAt, Item, encoded_length}
+use Rattle.raft_replay.proofs.Common.{log_batch_bytes, log_batch_length, part_signature, written_stands, Event, HoldsFrom, with_bytes, written_event, WrittenBatchIsHeld, batch_inside}
 
 -- a batch stands in the longer part too
 pub longer_stands : (part : Part) (more : List ℕ) (at next : ℕ) (items : List Item) → IsBatchAt part at items next → IsBatchAt (with_bytes part more) at items next

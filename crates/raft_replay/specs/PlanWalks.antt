@@ -8,27 +8,30 @@ use Rattle.raft_replay.specs.declared.plan.Plan.TheVariants.{One, Join'}
 use Rattle.raft_replay.specs.Plans.{leaves}
 use Rattle.raft_replay.specs.PieceMerges.{IsMerged}
 
-module _ {M : Type 0} (stands_for stands_exactly : M → List Event → Type 0) (all : List M) where
-  -- what waits, the next first, makes all the pieces of those in hand and of the rest, in order: a machine has the pieces in front of them, a plan the next of the rest
-  abbrev pub Completes : List (Waiting M) → List M → List M → Type 0
-  Completes [] hand rest = (hand ≡ all) × (rest ≡ [])
-  Completes (Merged older ∷ waiting) hand rest = (front : List M) × IsMerged stands_for stands_exactly front older × Completes waiting (front ++ hand) rest
-  Completes (Unmerged plan ∷ waiting) hand rest =
-      (next : List M) × ((left : List M) × (rest ≡ next ++ left) × (leaves plan.now ≡ length next) × Completes waiting (hand ++ next) left)
+module _ {M : Type 0} (stands_for stands_exactly : M → List Event → Type 0) where
+  -- what waits, the next first: machines that are merged of the pieces in front, one after another, and plans of so many pieces that are left
+  abbrev pub AreWaiting : List (Waiting M) → List M → ℕ → Type 0
+  AreWaiting [] front left = (front ≡ []) × (left ≡ 0)
+  AreWaiting (Merged older ∷ waiting) front left =
+      (before : List M) × (hand : List M) × (front ≡ before ++ hand) × IsMerged stands_for stands_exactly hand older × AreWaiting waiting before left
+  AreWaiting (Unmerged plan ∷ waiting) front left = (more : ℕ) × (left ≡ leaves plan.now + more) × AreWaiting waiting front more
 
-  -- the next pieces of the rest are a plan's, and what waits completes them
-  pub record ArePlansNext (plan : Plan) (waiting : List (Waiting M)) (rest : List M) : Type 0 where
-    pub hand : List M
-    pub left : List M
-    pub split : rest ≡ hand ++ left
-    pub pieces : leaves plan ≡ length hand
-    pub completes : Completes waiting hand left
+  module _ (all : List M) where
+    -- the next pieces of the rest are a plan's, and what waits has those in front and those behind
+    pub record ArePlansNext (plan : Plan) (waiting : List (Waiting M)) (rest : List M) : Type 0 where
+      pub front : List M
+      pub more : ℕ
+      pub split : all ≡ front ++ rest
+      pub pieces : length rest ≡ leaves plan + more
+      pub waits : AreWaiting waiting front more
 
-  -- a machine is merged of pieces that what waits completes
-  pub record IsReached (waiting : List (Waiting M)) (rest : List M) (machine : M) : Type 0 where
-    pub hand : List M
-    pub merged : IsMerged stands_for stands_exactly hand machine
-    pub completes : Completes waiting hand rest
+    -- a machine is merged of the pieces in hand, and what waits has those in front and the rest
+    pub record IsReached (waiting : List (Waiting M)) (rest : List M) (machine : M) : Type 0 where
+      pub front : List M
+      pub hand : List M
+      pub split : all ≡ front ++ (hand ++ rest)
+      pub merged : IsMerged stands_for stands_exactly hand machine
+      pub waits : AreWaiting waiting front (length rest)
 
 -- one for what is merged, and two for each piece that a plan has to merge
 abbrev pub cost : {M : Type 0} → Waiting M → ℕ

@@ -1,6 +1,6 @@
 //! Parts of files, cut between batches, so that several workers read one file.
 
-ghost use Rattle.std.specs.Prelude.{◌≡◌, ◌<◌, ◌≤◌, ℕ, List, [], ◌∷◌, All, IfOk, IfErr, IfSome, length};
+ghost use Rattle.std.specs.Prelude.{◌≡◌, ◌<◌, ◌≤◌, ℕ, List, [], ◌∷◌, All, IfOk, IfErr, IfSome, IfNone, length};
 ghost use Rattle.raft_records.specs.FilePart.{HasHeader, Part};
 ghost use Rattle.raft_history.specs.Batches.{Event};
 ghost use Rattle.raft_replay.specs.Cuts.{ArePartsOf, BatchesMeet, bytes_before, rest_of};
@@ -56,14 +56,30 @@ fn batch_end(alloc: Global, part: &FilePart, least: usize) -> Option<usize>
     if at < bytes.len() { Some(at) } else { None }
 }
 
-fn batch_length(alloc: Global, bytes: &[u8]) -> Option<usize>
+/// Returns the length that the header in front of bytes says, if there is one and so many bytes are there.
+#[doc(hidden)]
+pub fn batch_length(alloc: Global, bytes: &[u8]) -> Option<usize>
     ensures header { IfSome result (λ len. (offset : ℕ) × HasHeader bytes.now offset len) }
     ensures some { IfSome result (λ len. 0 < len) }
     ensures whole { IfSome result (λ len. len ≤ length bytes.now) }
+    ensures none { IfNone result
+        ((offset len : ℕ) → HasHeader bytes.now offset len → length bytes.now < len) }
+{
+    let (_, len) = header_in(alloc, bytes)?;
+    if len <= bytes.len() { Some(len) } else { None }
+}
+
+/// Returns where the items of the batch begin whose header stands in front of bytes, and how long it is.
+#[doc(hidden)]
+pub fn header_in(alloc: Global, bytes: &[u8]) -> Option<(usize, usize)>
+    ensures some { IfSome result (λ header. HasHeader bytes.now header.0 header.1) }
+    ensures none { IfNone result ((offset len : ℕ) → HasHeader bytes.now offset len → ⊥) }
 {
     let mut rest = bytes;
-    let (_, _, len) = LogBatch::decode_header(alloc, &mut rest).ok()?;
-    if len <= bytes.len() { Some(len) } else { None }
+    if let Ok((offset, _, len)) = LogBatch::decode_header(alloc, &mut rest) {
+        return Some((offset, len));
+    }
+    None
 }
 
 /// States that a part may be cut wherever a batch ends: if its bytes before an offset are batches that can be read,

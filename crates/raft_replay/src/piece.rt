@@ -1,6 +1,6 @@
 //! Pieces of a queue that workers make.
 
-ghost use Rattle.std.specs.Prelude.{◌≡◌, ◌≢◌, ℕ, ◌+◌, ◌<◌, ◌≤◌, List, [], length, All, IfOk, IfErr, Vec, map};
+ghost use Rattle.std.specs.Prelude.{◌≡◌, ◌≢◌, ℕ, ◌+◌, ◌<◌, ◌≤◌, List, [], length, All, IfOk, IfErr, Vec};
 ghost use Rattle.std.specs.Global.{Global};
 ghost use Rattle.raft_records.specs.FilePart.{Part};
 ghost use Rattle.raft_replay.specs.MachineOrder.{AreInOrder};
@@ -68,28 +68,19 @@ impl<M: ReplayMachine> Piece<M> {
         })
     }
 
-    /// Returns the piece with one segment more.
-    pub(crate) fn with_next(self, segments: &[Segment]) -> Result<Piece<M>>
+    pub(crate) fn with_next(mut self, segments: &[Segment]) -> Result<Piece<M>>
         requires inside { self.from + self.count < length segments.now }
         requires piece { IsPieceOf M.stands_exactly segments.now self }
         ensures next { IfOk result (λ p. (p.from ≡ self.from) × (p.count ≡ self.count + 1)) }
         ensures piece { IfOk result (IsPieceOf M.stands_exactly segments.entry.now) }
         ensures refused { IfErr result (λ e. e ≢ Error.Memory → CannotBeRead segments.entry.now) }
     {
-        let Piece {
-            from,
-            count,
-            mut machine,
-        } = self;
-        replay_segment(&mut *machine, &segments[from + count])?;
-        Ok(Piece {
-            from,
-            count: count + 1,
-            machine,
-        })
+        let next = self.from + self.count;
+        replay_segment(&mut *self.machine, &segments[next])?;
+        self.count += 1;
+        Ok(self)
     }
 
-    /// Returns the machines of pieces, in the order of what they have replayed.
     pub(crate) fn line_up(alloc: Global, mut pieces: Vec<Piece<M>>) -> Result<Vec<M>>
         ensures ok { (segments : List (Vec Part Global))
             → All (IsPieceOf M.stands_exactly segments) pieces.items
@@ -98,13 +89,6 @@ impl<M: ReplayMachine> Piece<M> {
         ensures fault { IfErr result (λ e. e ≡ Error.Memory) }
     {
         pieces.sort_by_key(|piece| piece.from)?;
-        Piece::machines(alloc, pieces)
-    }
-
-    fn machines(alloc: Global, pieces: Vec<Piece<M>>) -> Result<Vec<M>>
-        ensures ok { IfOk result (λ v. v.items ≡ map (λ p. p.machine.value) pieces.items) }
-        ensures fault { IfErr result (λ e. e ≡ Error.Memory) }
-    {
         let mut machines = Vec::with_capacity(alloc, pieces.len())?;
         for Piece { machine, .. } in pieces {
             machines.push(Box::into_inner(machine))?;

@@ -1,24 +1,6 @@
 //! Pieces of a queue, merged by a plan.
 
-ghost use Rattle.std.specs.Prelude.{
-  ◌≡◌,
-  ◌≢◌,
-  ◌+◌,
-  ◌*◌,
-  ◌<◌,
-  ◌≤◌,
-  ◌↔◌,
-  IsTrue,
-  List,
-  ◌∷◌,
-  ◌++◌,
-  length,
-  reverse,
-  IfOk,
-  IfErr,
-  OnOk,
-  vec_len,
-};
+ghost use Rattle.std.specs.Prelude.{◌≡◌, ◌≢◌, ◌+◌, ◌*◌, ◌<◌, ◌≤◌, List, ◌∷◌, ◌++◌, length, reverse, IfOk, IfErr, OnOk, vec_len};
 ghost use Rattle.std.specs.Thread.{IsSync};
 ghost use denote.Param.Send.{IsSend};
 ghost use Rattle.raft_base.specs.Errors.{IsInvalidArgument};
@@ -57,19 +39,13 @@ pub fn merge_pieces<M: ReplayMachine, R: Threads + Sync>(
     ensures fault { leaves plan.entry.now ≢ length pieces.items
         → IfErr result (λ e. e ≢ Error.Memory → IsInvalidArgument e) }
 {
-    if !fits(&pieces, plan) {
+    if plan.leaves() != pieces.len() {
         return Err(Error::invalid_argument(
             *pieces.allocator(),
             "the plan merges another number of pieces",
         ));
     }
     merge_at_once(rt, pieces, plan, queue, MAX_LEVELS)
-}
-
-fn fits<M: ReplayMachine>(pieces: &Vec<M>, plan: &Plan) -> bool
-    ensures { IsTrue result ↔ (leaves plan.now ≡ vec_len pieces.now) }
-{
-    plan.leaves() == pieces.len()
 }
 
 /// What waits while a plan is walked.
@@ -93,8 +69,11 @@ pub(crate) fn merge_in_turn<M: ReplayMachine>(
 {
     pieces.reverse();
     let mut waiting = Vec::new(*pieces.allocator());
-    let oldest = oldest_of(plan, &mut waiting, &mut pieces)?;
-    merge_waiting(oldest, waiting, pieces, queue)
+    let mut merged = oldest_of(plan, &mut waiting, &mut pieces)?;
+    while let Some(next) = waiting.pop() {
+        merged = merge_next(next, merged, &mut waiting, &mut pieces, queue)?;
+    }
+    Ok(merged)
 }
 
 /// Takes the oldest piece of a plan; the plans after it wait. Of the pieces that are left the oldest stands
@@ -121,24 +100,6 @@ fn oldest_of<'a, M: ReplayMachine>(
         unreachable!()
     };
     Ok(piece)
-}
-
-fn merge_waiting<M: ReplayMachine>(
-    mut merged: M,
-    mut waiting: Vec<Waiting<'_, M>>,
-    mut pieces: Vec<M>,
-    queue: LogQueue,
-) -> Result<M>
-    requires { (all : List M) × IsReached M.stands_for M.stands_exactly all (reverse waiting.items)
-        (reverse pieces.items) merged }
-    ensures { (all : List M) → IsReached M.stands_for M.stands_exactly all
-        (reverse waiting.entry.items) (reverse pieces.items)
-        merged → Merges M.stands_for M.stands_exactly queue all result }
-{
-    while let Some(next) = waiting.pop() {
-        merged = merge_next(next, merged, &mut waiting, &mut pieces, queue)?;
-    }
-    Ok(merged)
 }
 
 /// Merges a machine with what waits next, if that is merged; else it waits itself, for the oldest piece of what is not.
@@ -200,18 +161,14 @@ pub(crate) fn merge_at_once<M: ReplayMachine, R: Threads + Sync>(
                 requires { IsSync R.row × IsSend M.row × (leaves right.now ≡ vec_len rest) }
                 ensures { Merges M.stands_for M.stands_exactly queue rest.items result }
             { merge_at_once(rt, rest, right, queue, below) };
-            let (older, newer) = both(rt, is_join(left) && is_join(right), front, back);
+            let joins = matches!(left, Plan::Join(_, _)) && matches!(right, Plan::Join(_, _));
+            let (older, newer) = both(rt, joins, front, back);
             merge_both(older, newer, queue)
         }
         _ => merge_in_turn(pieces, plan, queue),
     }
 }
 
-fn is_join(plan: &Plan) -> bool {
-    matches!(plan, Plan::Join(_, _))
-}
-
-/// Makes both calls, at once or one after the other, and returns what they return.
 fn both<R: Threads, F: FnOnce() -> A + Send, G: FnOnce() -> B, A: Send, B>(
     rt: &R,
     at_once: bool,

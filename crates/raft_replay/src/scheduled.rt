@@ -121,7 +121,6 @@ fn fits_pieces(plan: &Plan, segments: usize, draws: &[usize]) -> bool
     segments == 0 || plan.leaves() == piece_count(segments, draws)
 }
 
-/// Tests whether every part of every segment is of the queue.
 pub(crate) fn segments_are_of(segments: &[Segment], queue: LogQueue) -> bool
     ensures { IsTrue result ↔ SegmentsAreOf queue segments.now }
 {
@@ -158,8 +157,6 @@ fn replay_in_order<M: ReplayMachine, F: Factory<M>>(
     Ok(current)
 }
 
-/// Returns the machine that goes on: the current one, or a new one where another worker draws; the
-/// current one is then the last of those in line.
 fn next_machine<M: ReplayMachine, F: Factory<M>>(
     alloc: Global,
     factory: &F,

@@ -41,27 +41,16 @@ pub fn replay_segment<M: ReplayMachine>(machine: &mut M, segment: &Segment) -> R
         segment.entry.now.items) }
 {
     for part in segment {
-        replay_part(machine, part)?;
+        let file = LogFileContext::new(part.id(), part.version());
+        replay_bytes(
+            machine,
+            part.allocator(),
+            &file,
+            part.offset(),
+            part.bytes(),
+        )?;
     }
     Ok(())
-}
-
-fn replay_part<M: ReplayMachine>(machine: &mut M, part: &FilePart) -> Result<()>
-    ensures ok { OnOk result (HasReplayed (HoldsFrom part.now 0) M.stands_for M.stands_exactly
-        machine.old machine.new) }
-    ensures refused { IfErr result
-        (λ e. e ≢ Error.Memory → CannotFollow (HoldsFrom part.now 0) (M.stands_for machine.old)) }
-    ensures place { IfErr result (StopsByFault (M.stands_for machine.old)
-        (IsStoodFor M.stands_for) part.now) }
-{
-    let file = LogFileContext::new(part.id(), part.version());
-    replay_bytes(
-        machine,
-        part.allocator(),
-        &file,
-        part.offset(),
-        part.bytes(),
-    )
 }
 
 /// Replays the batches of bytes that are lent: those of the file from `offset` on.
@@ -122,7 +111,6 @@ fn placed(alloc: Global, error: Error, id: FileId, offset: u64) -> Error
     }
 }
 
-/// Returns a `Corruption` with the file and the offset in it in front of its reason.
 fn corruption_placed(alloc: Global, reason: String, id: FileId, offset: u64) -> Error
     ensures { IsCorruption (place_text id offset ++ string_bytes reason) result }
 {
@@ -133,7 +121,6 @@ fn corruption_placed(alloc: Global, reason: String, id: FileId, offset: u64) -> 
     }
 }
 
-/// Returns an io error of the same kind, with the file and the offset in it in front of its text.
 fn io_placed(alloc: Global, error: io::Error, id: FileId, offset: u64) -> AllocResult<io::Error>
     ensures kind { IfOk result (λ e. error_kind e ≡ error_kind error) }
 {

@@ -6,7 +6,7 @@ ghost use Rattle.raft_records.specs.FilePart.{Part};
 ghost use Rattle.raft_base.specs.Errors.{IsInvalidArgument};
 ghost use Rattle.raft_replay.specs.Covers.{IsPieceOf, CoverOnce, AreDone, Gives};
 ghost use Rattle.raft_tickets.specs.Draws.{Tickets, IsSeatOf, IsNewSeatOf};
-ghost use Rattle.raft_replay.specs.WorkedWords.{IsBack, HasRefusal};
+ghost use Rattle.raft_replay.specs.WorkedWords.{IsBack, IsWork, HasRefusal};
 ghost use Rattle.raft_replay.specs.Segments.{CannotBeRead, MayReplay, SegmentsAreOf};
 ghost use Rattle.raft_replay.specs.Replays.{IsReplayed};
 
@@ -108,26 +108,15 @@ pub fn check_arguments(
     ensures err { OnErr result (¬ (MayReplay queue workers segments.entry.now)) }
     ensures fault { IfErr result (λ e. e ≢ Error.Memory → IsInvalidArgument e) }
 {
-    match argument_fault(segments, queue, workers) {
-        None => Ok(()),
-        Some(fault) => Err(Error::invalid_argument(alloc, fault)),
-    }
-}
-
-fn argument_fault(segments: &[Segment], queue: LogQueue, workers: usize) -> Option<&'static str>
-    ensures none { IfNone result (MayReplay queue workers segments.entry.now) }
-    ensures some { OnSome result (¬ (MayReplay queue workers segments.entry.now)) }
-{
     if let Some(fault) = workers_fault(segments, queue, workers) {
-        return Some(fault);
+        return Err(Error::invalid_argument(alloc, fault));
     }
     if segments.len() >= SEGMENT_LIMIT {
-        return Some("2^62 segments or more");
+        return Err(Error::invalid_argument(alloc, "2^62 segments or more"));
     }
-    None
+    Ok(())
 }
 
-/// Returns why so many workers can't replay segments of this queue, however many there are.
 pub(crate) fn workers_fault(
     segments: &[Segment],
     queue: LogQueue,
@@ -147,8 +136,6 @@ pub(crate) fn workers_fault(
     None
 }
 
-/// Returns the pieces that the workers make: each segment is in one of them. No more workers are started than
-/// there are segments.
 fn drawn_pieces<M: ReplayMachine, F: Factory<M>, G: Gate, R: Threads + Sync>(
     rt: &R,
     alloc: Global,
@@ -196,7 +183,6 @@ fn gather<M: ReplayMachine>(
     Ok((seats, pieces))
 }
 
-/// What a worker gives back.
 #[derive(Drop)]
 struct Worked<M: ReplayMachine> {
     seat: TicketSeat,
@@ -215,21 +201,16 @@ fn run_workers<M: ReplayMachine, F: Factory<M>, G: Gate, R: Threads + Sync>(
     requires factory { (m : M) → F.gives factory.now m → M.stands_exactly m [] }
     requires seats { All (IsNewSeatOf tickets.now) seats.items }
     requires total { tickets.now.total ≡ length segments.now }
-    ensures given { IfOk result
-        (λ v. All
-        (λ w. IsSeatOf tickets.entry.now w.seat
-        × Gives M.stands_exactly (F.may_refuse factory.entry.now) segments.entry.now w.seat.drawn
-        w.pieces)
-        v.items) }
+    ensures given { IfOk result (λ v. All (IsWork M.stands_exactly
+        (F.may_refuse factory.entry.now) segments.entry.now tickets.entry.now) v.items) }
     ensures count { IfOk result (λ v. vec_len v ≡ vec_len seats) }
     ensures fault { IfErr result (λ e. e ≡ Error.Memory) }
 {
     let one = |mut seat: TicketSeat| -> Worked<M>
         requires { IsNewSeatOf tickets.now seat × (tickets.now.total ≡ length segments.now)
             × ((m : M) → F.gives factory.now m → M.stands_exactly m []) }
-        ensures { IsSeatOf tickets.entry.now result.seat
-            × Gives M.stands_exactly (F.may_refuse factory.entry.now) segments.entry.now
-            result.seat.drawn result.pieces }
+        ensures { IsWork M.stands_exactly (F.may_refuse factory.entry.now) segments.entry.now
+            tickets.entry.now result }
     {
         let pieces = replay_drawn(alloc, factory, segments, tickets, gate, &mut seat);
         Worked { seat, pieces }

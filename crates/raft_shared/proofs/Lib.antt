@@ -1,3 +1,4 @@
+mod Common
 mod MoveLemmas
 mod ShareLemmas
 mod SharedLemmas

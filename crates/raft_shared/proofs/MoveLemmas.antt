@@ -1,21 +1,8 @@
 -- A slot's tables moved to an accessor, one after the other.
-use Rattle.std.proofs.Common.{◌≡◌, ◌≢◌, ◌⊎◌, ℕ, Bool, true, false, cond, List, [], ◌∷◌, ◌++◌, map, Option, Some, None, IsPermutation, refl, sym, ap, subst, ◌∙◌, inl, inr, append_assoc, append-nil}
-use Rattle.std.specs.Ordering.{nat_cmp, is_eq, eq_by_cmp}
+use Rattle.raft_shared.proofs.Common.{◌≡◌, ◌≢◌, ◌⊎◌, ℕ, Bool, true, false, cond, List, [], ◌∷◌, ◌++◌, map, Option, Some, None, IsPermutation, refl, sym, ap, subst, ◌∙◌, inl, inr, append_assoc}
+use Rattle.raft_shared.proofs.Common.{append-nil, nat_cmp, is_eq, eq_by_cmp, find, AllByRecursion, FoldsTo, option_or, if◌then◌else◌, Bor, Mut, CalledAt, All-from_recursion, recursion_from_All}
+use Rattle.raft_shared.proofs.Common.{All-permutation, Tables, Table, slot_of, KeepsId, by_id, get_own, get_other, get_gone, get_left, some_is, none_some, Slot, HoldsOwnTables, AreSlotTablesAdded}
 use Rattle.std.specs.FinMap as finite
-use Rattle.std.specs.FinMap.{find}
-use Rattle.std.specs.List.{AllByRecursion, FoldsTo}
-use Rattle.std.specs.Option.{option_or}
-use Rattle.std.specs.Prelude.{if◌then◌else◌}
-use Rattle.std.specs.Borrow.{Bor}
-use Rattle.std.specs.Fn.{Mut, CalledAt}
-use Rattle.std.proofs.lemmas.List.Elements.{All-from_recursion, recursion_from_All}
-use Rattle.std.proofs.lemmas.List.Sorted.{All-permutation}
-use Rattle.raft_history.specs.RegionSteps.{Tables}
-use Rattle.raft_table.specs.Table.{Table}
-use Rattle.raft_accessor.specs.Accessor.{slot_of}
-use Rattle.raft_accessor.specs.Walks.{KeepsId}
-use Rattle.raft_accessor.proofs.MapLemmas.{by_id, get_own, get_other, get_gone, get_left, some_is, none_some}
-use Rattle.raft_shared.specs.Slot.{Slot, HoldsOwnTables, AreSlotTablesAdded}
 
 -- a number is one of these
 abbrev pub IsAmong : ℕ → List ℕ → Type 0

@@ -1,13 +1,8 @@
 -- An accessor's tables and cleaned regions shared out to slots.
-use Rattle.std.proofs.Common.{◌≡◌, ◌≢◌, ◌<◌, ◌≤◌, ◌+◌, ◌==◌, ℕ, suc, zero, true, false, cond, List, [], ◌∷◌, ◌++◌, length, slice_index_or, slice_set, append-nil, refl, sym, ap, subst, ◌∙◌, arith}
+use Rattle.raft_shared.proofs.Common.{◌≡◌, ◌≢◌, ◌<◌, ◌≤◌, ◌+◌, ◌==◌, ℕ, suc, zero, true, false, cond, List, [], ◌∷◌, ◌++◌, length, slice_index_or, slice_set, append-nil, refl, sym, ap, subst, ◌∙◌}
+use Rattle.raft_shared.proofs.Common.{arith, filter, eqb-true, filter-append, Tables, Accessor, slot_of, self_same, Slot, HasShare, HaveShares, AreTablesTaken}
+use Rattle.std.proofs.lemmas.List.{length-set}
 use Rattle.std.specs.FinMap as finite
-use Rattle.std.specs.List.{filter}
-use Rattle.std.proofs.lemmas.Bool.{eqb-true}
-use Rattle.std.proofs.lemmas.List.Elements.{filter-append}
-use Rattle.raft_history.specs.RegionSteps.{Tables}
-use Rattle.raft_accessor.specs.Accessor.{Accessor, slot_of}
-use Rattle.raft_accessor.proofs.MapLemmas.{self_same}
-use Rattle.raft_shared.specs.Slot.{Slot, HasShare, HaveShares, AreTablesTaken}
 
 -- the slot that an index finds has its share
 pub share-at : (m : Tables) (ids : List ℕ) (k : ℕ) (ss : List Slot) (i : ℕ) (d : Slot) → HaveShares m ids k ss → i < length ss → HasShare m ids (k + i) (slice_index_or ss i d)
@@ -76,7 +71,4 @@ shares-listed m ids id k (x ∷ ss) (suc i) d s h lt e lent is =
     (share-kept m ids id k x h.0 (λ f. omega (arith, e, f)), shares-listed m ids id (suc k) ss i d s h.1 (omega (arith, lt)) (omega (arith, e)) lent is)
 
 pub length-listed : (ss : List Slot) (i : ℕ) (s : Slot) → length (slice_set ss i s) ≡ length ss
-length-listed [] zero s = refl
-length-listed [] (suc i) s = refl
-length-listed (x ∷ ss) zero s = refl
-length-listed (x ∷ ss) (suc i) s = omega (arith, length-listed ss i s)
+length-listed ss i s = length-set ss i s

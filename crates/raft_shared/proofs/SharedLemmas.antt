@@ -1,23 +1,12 @@
 -- Calls of tables that threads share.
-use Rattle.std.proofs.Common.{◌≡◌, ℕ, List, [], ◌∷◌, ◌++◌, map, Option, Some, None, Result, Ok, Err, IfOk, IfErr, inl, inr, refl, sym, ap, subst, ◌∙◌}
+use Rattle.raft_shared.proofs.Common.{◌≡◌, ℕ, List, [], ◌∷◌, ◌++◌, map, Option, Some, None, Result, Ok, Err, inl, inr, refl, sym, ap, subst, ◌∙◌, AllByRecursion, option_and_then, OnOk, Bor, Once}
+use Rattle.raft_shared.proofs.Common.{map-append, Error, Item, command_item, Batch, TableChange, after_change, IsAllowed, IsAnswer, IsChangeFault, Table, Accessor, live_in_all, IsWritten}
+use Rattle.raft_shared.proofs.Common.{IsChangeAnswer, IsChangeRefusal, IsNumberOf, IsRefusalOf, HasCleans, MayBeWritten, IsSharedItemFault, Writing, queue_of, IsFor, after_content, AreWritten}
+use Rattle.raft_shared.proofs.Common.{none_some}
+use Rattle.std.proofs.Common.{IfOk, IfErr}
 use Rattle.std.specs.FinMap as finite
-use Rattle.std.specs.List.{AllByRecursion}
-use Rattle.std.specs.Option.{option_and_then}
-use Rattle.std.specs.Result.{OnOk}
-use Rattle.std.specs.Borrow.{Bor}
-use Rattle.std.specs.Fn.{Once}
-use Rattle.std.proofs.lemmas.List.{append_assoc, append-nil, map-append}
-use Rattle.raft_base.specs.declared.errors.Error.{Error}
-use Rattle.raft_records.specs.Item.{Item, command_item}
-use Rattle.raft_records.specs.LogBatch.{Batch}
+use Rattle.std.proofs.lemmas.List.{append_assoc, append-nil}
 use Rattle.raft_records.specs.declared.command.Command.TheVariants.{Clean}
-use Rattle.raft_table.specs.declared.memtable.change.TableChange.{TableChange}
-use Rattle.raft_table.specs.Change.{after_change, IsAllowed, IsAnswer, IsChangeFault}
-use Rattle.raft_table.specs.Table.{Table}
-use Rattle.raft_accessor.specs.Accessor.{Accessor, live_in_all}
-use Rattle.raft_accessor.specs.AccessorCalls.{IsWritten}
-use Rattle.raft_shared.specs.SharedCalls.{IsChangeAnswer, IsChangeRefusal, IsNumberOf, IsRefusalOf, HasCleans, MayBeWritten, IsSharedItemFault}
-use Rattle.raft_accessor.specs.Writes.{Writing, queue_of, IsFor, after_content, AreWritten}
 
 abbrev cleans : List ℕ → List Item
 cleans ids = map (λ id. command_item id Clean) ids
@@ -50,9 +39,6 @@ refusal_of g f change id (Err e) gives (inr h) = inr (h.0, h.1, h.3, subst (λ b
 with_outcome : {X : Type 0} (w : Writing) (item : Item) (before : Option Table) (o : Option (Option Table)) (f : Option Table → Option X) (x : X) →
     IsFor w item.content → after_content w item.raft_group_id before item.content ≡ o → option_and_then f o ≡ Some x → MayBeWritten w item
 with_outcome w item before None f x asked is e = absurd (none_some e)
-  where
-    none_some : {X : Type 0} {x : X} → None ≡ Some x → ⊥
-    none_some e = cc
 with_outcome w item before (Some after) f x asked is e = record { asked = asked; before = before; after = after; outcome = is }
 
 pub one_written_so : {R E : Type 0} (w : Writing) (item : Item) (r : Result R E) (a b : Accessor) → OnOk r (AreWritten w (item ∷ []) a b) → OnOk r (MayBeWritten w item)

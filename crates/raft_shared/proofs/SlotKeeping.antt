@@ -1,29 +1,14 @@
 -- What a slot keeps, when one of its regions is changed, and its calls seen as an accessor's.
-use Rattle.std.proofs.Common.{◌≡◌, ◌<◌, ℕ, true, false, List, [], ◌∷◌, ◌++◌, Option, Some, None, Result, Ok, Err, sym, ap, subst, ◌∙◌, inl, inr, append-nil}
+use Rattle.raft_shared.proofs.Common.{◌≡◌, ◌<◌, ℕ, true, false, List, [], ◌∷◌, ◌++◌, Option, Some, None, Result, Ok, Err, refl, sym, ap, subst, ◌∙◌, inl, inr, append-nil, AllByRecursion}
+use Rattle.raft_shared.proofs.Common.{option_and_then, if◌then◌else◌, OnOk, OnErr, IfErr, Error, Command, Item, Content, entries, command, pair, Tables, with_table, live, Table, empty_table}
+use Rattle.raft_shared.proofs.Common.{IsRecounted, slot_of, table_in, live_in_all, AreCountsOf, IsTableChanged, IsWritten, IsItemWritten, slot_shown, AreOf, IsSlotKept, BecomesOutcome, Writing}
+use Rattle.raft_shared.proofs.Common.{queue_of, lists, cleaned_by_command, cleaned_by_content, listed_by, IsWriteFault, AreWritten, nat_cmp, table_of, counted-with, live-none, by_id, get_gone}
+use Rattle.raft_shared.proofs.Common.{with_other, Slot, Counts, none_some}
+use Rattle.std.proofs.lemmas.Result.{on_ok_weaker}
 use Rattle.std.specs.FinMap as finite
-use Rattle.std.specs.List.{AllByRecursion}
-use Rattle.std.specs.Option.{option_and_then}
-use Rattle.std.specs.Prelude.{if◌then◌else◌}
-use Rattle.std.specs.Result.{OnOk, OnErr, IfErr}
-use Rattle.raft_base.specs.declared.errors.Error.{Error}
-use Rattle.raft_records.specs.declared.command.Command.{Command}
 use Rattle.raft_records.specs.declared.command.Command.TheVariants as commands
-use Rattle.raft_records.specs.Item.{Item, Content, entries, command, pair}
-use Rattle.raft_history.specs.RegionSteps.{Tables, with_table}
-use Rattle.raft_table.specs.Counts.{live}
-use Rattle.raft_table.specs.Table.{Table, empty_table, IsRecounted}
 use Rattle.raft_shared.specs.declared.slot.Slot.TheInside.{Inside}
-use Rattle.raft_accessor.specs.Accessor.{slot_of, table_in, live_in_all, AreCountsOf}
-use Rattle.raft_accessor.specs.AccessorCalls.{IsTableChanged, IsWritten}
-use Rattle.raft_accessor.specs.ItemWrites.{IsItemWritten}
-use Rattle.raft_shared.specs.SlotView.{slot_shown, AreOf, IsSlotKept}
-use Rattle.raft_accessor.specs.Updates.{BecomesOutcome}
-use Rattle.raft_accessor.specs.Writes.{Writing, queue_of, lists, cleaned_by_command, cleaned_by_content, listed_by, IsWriteFault, AreWritten}
-use Rattle.std.specs.Ordering.{nat_cmp}
 use Rattle.raft_base.specs.declared.pipe_log.LogQueue.TheVariants.{Append, Rewrite}
-use Rattle.raft_table.specs.Steps.{table_of}
-use Rattle.raft_accessor.proofs.LiveLemmas.{counted-with, live-none}
-use Rattle.raft_accessor.proofs.MapLemmas.{by_id, get_gone, with_other}
 
 of-with : (number : ℕ) (m : Tables) (id : ℕ) (t : Option Table) → AreOf number m → slot_of id ≡ number → AreOf number (with_table m id t)
 of-with number m id t own e = λ q u g. elim (by_id q id) [
@@ -40,6 +25,11 @@ kept-with a b id kept e n one recounted l = record {
   counted = subst (λ m. AreCountsOf m b.stats) (sym one) (counted-with a.tables a.stats b.stats id (finite.get b.tables id) kept.counted recounted);
   cleaned = subst (λ k. AllByRecursion (λ id. slot_of id ≡ k) b.cleaned.items) (sym n) l;
 }
+
+-- .. and the list stays
+pub kept-by : {a : Inside} {s : Slot} {m : Tables} (k : Counts) (id : ℕ) → IsSlotKept a → slot_shown a ≡ s → slot_of id ≡ s.number → m ≡ with_table a.tables id (finite.get m id)
+    → IsRecounted (table_in a.tables id) (table_in m id) a.stats k → IsSlotKept (record a { tables = m; stats = k })
+kept-by {a} {s} {m} k id kept is e one recounted = kept-with a (record a { tables = m; stats = k }) id kept (e ∙ sym (ap (λ (s : Slot). s.number) is)) refl one recounted kept.cleaned
 
 -- ---- lists of cleaned regions
 
@@ -72,18 +62,15 @@ all-after P w item r old new p h = elim r as (λ r. OnOk r (new ≡ old ++ liste
 -- ---- calls
 
 -- a change of a table
-pub slot-changed : {R : Type 0} (outcome : Option Table) (IsFault : Error → Type 0) (a b : Inside) (id : ℕ) (r : Result R Error) → BecomesOutcome outcome IsFault a.tables id a.stats r b.tables b.stats
-    → b.cleaned.items ≡ a.cleaned.items → IsTableChanged outcome IsFault id r (slot_shown a).content (slot_shown b).content
-slot-changed outcome IsFault a b id r t l = record {
+pub slot-changed : {R : Type 0} {outcome : Option Table} {IsFault : Error → Type 0} {m : Tables} {k : Counts} {id : ℕ} {r : Result R Error} (a : Inside) → BecomesOutcome outcome IsFault a.tables id a.stats r m k
+    → IsTableChanged outcome IsFault id r (slot_shown a).content (record (slot_shown a).content { tables = m; counts = k })
+slot-changed {id = id} {r = r} a t = record {
   ok = t.ok;
-  others = elim r as (λ r. OnOk r (finite.get b.tables id ≡ Some (table_in b.tables id)) → OnOk r (b.tables ≡ finite.insert a.tables id (table_in b.tables id))) [
-    | Ok x ↦ λ e. t.one ∙ ap (with_table a.tables id) e
-    | Err x ↦ λ e. tt
-  ] t.there;
+  others = on_ok_weaker r (λ e. t.one ∙ ap (with_table a.tables id) e) t.there;
   err = t.err;
   counts_err = t.counts_err;
   fault = t.fault;
-  cleaned = l;
+  cleaned = refl;
 }
 
 -- an item written to its region's table
@@ -116,9 +103,6 @@ kept-none a lt e z l = record {
   counted = λ q. elim q as (λ q. live q a.stats ≡ live_in_all q a.tables) [ Append ↦ rw (z, e) (sym (live-none Append)) | Rewrite ↦ rw (z, e) (sym (live-none Rewrite)) ];
   cleaned = subst (AllByRecursion (λ id. slot_of id ≡ a.number)) (sym l) tt;
 }
-  where
-    none_some : {X : Type 0} {x : X} → None ≡ Some x → ⊥
-    none_some e = cc
 
 pub kept-taken : (a b : Inside) (id : ℕ) → IsSlotKept a → slot_of id ≡ a.number → b.number ≡ a.number → b.tables ≡ finite.remove a.tables id →
     IsRecounted (table_in a.tables id) (empty_table id) a.stats b.stats → b.cleaned.items ≡ a.cleaned.items → IsSlotKept b

@@ -16,9 +16,10 @@ ghost use Rattle.raft_shared.specs.Slot.{IsSlotTable, HaveShares, AreSlotTablesA
 ghost use Rattle.raft_accessor.specs.Walks.{KeepsId, Makes};
 ghost use Rattle.raft_shared.specs.SharedCalls.{IsChangeAnswer, IsChangeRefusal, IsLockFault, IsNumberOf, IsRefusalOf, HasCleans, MayBeWritten, IsSharedItemFault, IsLastRefused};
 ghost use Rattle.raft_accessor.specs.Writes.{Appending, Rewriting};
+ghost use Rattle.raft_accessor.specs.WritingShown.{writing_shown};
 
 use crate::slot::Slot;
-use raft_accessor::{MemTableAccessor, slot_of};
+use raft_accessor::{MemTableAccessor, Writing, slot_of};
 use raft_base::{Error, FileSeq, LogQueue, Result};
 use raft_records::{LogBatch, LogItem};
 use raft_table::{MemTable, TableChange};
@@ -238,10 +239,7 @@ impl SharedAccessor {
             × (u : I.IntoIter) × I.into_iter_gives items it × Yields I.IntoIter.next_gives it xs u
             × IsLastRefused Appending (map item_of xs) e) }
     {
-        for item in items {
-            self.append_item(rt, item)?;
-        }
-        Ok(())
+        self.write_items(rt, Writing::Appending, items)
     }
 
     /// Writes items that were rewritten to the file of number `new_file` of the rewrite queue to the
@@ -268,10 +266,7 @@ impl SharedAccessor {
             × (u : I.IntoIter) × I.into_iter_gives items it × Yields I.IntoIter.next_gives it xs u
             × IsLastRefused (Rewriting watermark new_file) (map item_of xs) e) }
     {
-        for item in items {
-            self.rewrite_item(rt, item, watermark, new_file)?;
-        }
-        Ok(())
+        self.write_items(rt, Writing::Rewriting(watermark, new_file), items)
     }
 
     /// Moves the cleaned regions of all slots into an open batch as a `Clean` for each.
@@ -357,11 +352,6 @@ impl SharedAccessor {
         live
     }
 
-    /// Locks the slot of a region for writing.
-    ///
-    /// # Errors
-    ///
-    /// `Failed` where the slot has another number, which never happens.
     fn lock<R: Wait>(&self, rt: &R, id: u64) -> Result<RwLockWriteGuard<'_, Slot>>
         ensures number { IfOk result (λ slot. (write_guard_value slot).number ≡ slot_of id) }
         ensures fault { IfErr result (λ e. e ≡ Error.Failed) }
@@ -374,35 +364,37 @@ impl SharedAccessor {
         Ok(slot)
     }
 
-    /// Writes a new item of the append queue.
-    fn append_item<R: Wait>(&self, rt: &R, item: LogItem) -> Result<()>
-        ensures ok { OnOk result (MayBeWritten Appending (item_of item)) }
-        ensures fault { IfErr result (IsSharedItemFault Appending (item_of item)) }
-    {
-        self.lock(rt, item.raft_group_id)?.apply_append_write(item)
-    }
-
-    /// Writes a rewritten item.
-    fn rewrite_item<R: Wait>(
+    #[inline(always)]
+    fn write_items<I: IntoIterator<Item = LogItem>, R: Wait>(
         &self,
         rt: &R,
-        item: LogItem,
-        gate: Option<FileSeq>,
-        seq: FileSeq,
+        how: Writing,
+        items: I,
     ) -> Result<()>
-        ensures ok { OnOk result (MayBeWritten (Rewriting gate seq) (item_of item)) }
-        ensures fault { IfErr result (IsSharedItemFault (Rewriting gate seq) (item_of item)) }
+        requires { (it : I.IntoIter) → I.into_iter_gives items it
+            → I.IntoIter.can_next it × IsFinite (I.IntoIter.remaining it) }
+        ensures ok { OnOk result ((it : I.IntoIter) × (xs : List LogItem)
+            × I.into_iter_gives items it × Drains I.IntoIter.next_gives it xs
+            × AllByRecursion (MayBeWritten (writing_shown how)) (map item_of xs)) }
+        ensures refused { IfErr result (λ e. (it : I.IntoIter) × (xs : List LogItem)
+            × (u : I.IntoIter) × I.into_iter_gives items it × Yields I.IntoIter.next_gives it xs u
+            × IsLastRefused (writing_shown how) (map item_of xs) e) }
     {
-        self.lock(rt, item.raft_group_id)?
-            .apply_rewrite_write(item, gate, seq)
+        for item in items {
+            self.write_item(rt, how, item)?;
+        }
+        Ok(())
+    }
+
+    #[inline(always)]
+    fn write_item<R: Wait>(&self, rt: &R, how: Writing, item: LogItem) -> Result<()>
+        ensures ok { OnOk result (MayBeWritten (writing_shown how) (item_of item)) }
+        ensures fault { IfErr result (IsSharedItemFault (writing_shown how) (item_of item)) }
+    {
+        self.lock(rt, item.raft_group_id)?.write_item(how, item)
     }
 }
 
-/// Shares out the tables and the cleaned regions of an accessor: 128 slots, each with those of its regions.
-///
-/// # Errors
-///
-/// `Memory`.
 fn share_out(alloc: Global, core: MemTableAccessor) -> Result<Vec<Slot>>
     ensures shares { IfOk result (λ slots. HaveShares core.tables core.cleaned 0 slots.items) }
     ensures all { IfOk result (λ slots. length slots.items ≡ 128) }
@@ -418,10 +410,6 @@ fn share_out(alloc: Global, core: MemTableAccessor) -> Result<Vec<Slot>>
 }
 
 /// Takes the tables out of an accessor into 128 slots that list no cleaned region.
-///
-/// # Errors
-///
-/// `Memory`. Tables are then lost.
 fn share_tables(alloc: Global, core: &mut MemTableAccessor) -> Result<Vec<Slot>>
     ensures shares { IfOk result (λ slots. HaveShares core.old.tables [] 0 slots.items) }
     ensures all { IfOk result (λ slots. length slots.items ≡ 128) }
@@ -437,11 +425,6 @@ fn share_tables(alloc: Global, core: &mut MemTableAccessor) -> Result<Vec<Slot>>
     Ok(slots)
 }
 
-/// Moves the tables of a slot, and the regions of it that were cleaned, after those of an accessor.
-///
-/// # Errors
-///
-/// Those of [`SharedAccessor::into_core`].
 fn move_slot(slot: &mut Slot, alloc: Global, core: &mut MemTableAccessor) -> Result<()>
     ensures tables { OnOk result
         (AreSlotTablesAdded slot.old core.old.tables core.new.tables) }
@@ -478,7 +461,6 @@ fn list_cleaned(number: usize, ids: &[u64], core: &mut MemTableAccessor) -> Resu
     Ok(())
 }
 
-/// Moves a table of a slot, if there is one, to an accessor.
 fn move_table(slot: &mut Slot, id: u64, core: &mut MemTableAccessor) -> Result<()>
     ensures moved { OnOk result ((t : Table) → finite.get slot.old.content.tables id ≡ Some t
         → core.new.tables ≡ finite.insert core.old.tables id t) }
@@ -499,7 +481,6 @@ fn move_table(slot: &mut Slot, id: u64, core: &mut MemTableAccessor) -> Result<(
     Ok(())
 }
 
-/// Returns what `f` returns at a region's table, if there is one.
 fn answer_of<X: Drop, F: FnOnce(&MemTable) -> X>(slot: &Slot, id: u64, f: F) -> Option<X>
 where
     F: Drop,
@@ -512,7 +493,6 @@ where
     Some(f(table))
 }
 
-/// Does to a region's table the change that `f` returns for it, or for an empty one in its place.
 fn change_by<F: FnOnce(&MemTable) -> TableChange>(
     slot: &mut Slot,
     alloc: Global,
@@ -530,7 +510,6 @@ where
     slot.change(id, change)
 }
 
-/// Returns what `f` returns at a region's table, or at an empty one in its place.
 fn answer_at<F: FnOnce(&MemTable) -> TableChange>(
     slot: &Slot,
     alloc: Global,

@@ -15,9 +15,10 @@ ghost use Rattle.raft_accessor.specs.AppendChecks.{AreAcceptedOncePlaced, AreRef
 ghost use Rattle.raft_shared.specs.Slot.{IsSlotTable, HoldsOwnTables, AreTablesTaken};
 ghost use Rattle.raft_accessor.specs.Walks.{KeepsId, Makes};
 ghost use Rattle.raft_accessor.specs.Writes.{Appending, Rewriting};
+ghost use Rattle.raft_accessor.specs.WritingShown.{writing_shown};
 
 use raft_accessor::accessor::clean_logs;
-use raft_accessor::{MemTableAccessor, RegionTables};
+use raft_accessor::{MemTableAccessor, RegionTables, Writing};
 use raft_base::{Error, FileSeq, LogQueue, Result};
 use raft_records::{LogBatch, LogItem};
 use raft_table::{GlobalStats, MemTable, TableChange};
@@ -296,8 +297,7 @@ impl Slot {
             self.new.content }
         ensures number { self.new.number ≡ self.old.number }
     {
-        self.tables
-            .append_item(item, &mut self.stats, &mut self.cleaned)
+        self.write_item(Writing::Appending, item)
     }
 
     /// Writes an item that was rewritten to the file of number `new_file` of the rewrite queue to its
@@ -318,8 +318,18 @@ impl Slot {
             self.new.content }
         ensures number { self.new.number ≡ self.old.number }
     {
+        self.write_item(Writing::Rewriting(watermark, new_file), item)
+    }
+
+    #[inline(always)]
+    pub(crate) fn write_item(&mut self, how: Writing, item: LogItem) -> Result<()>
+        requires { slot_of item.raft_group_id ≡ self.old.number }
+        ensures written { IsWritten (writing_shown how) (item_of item) result self.old.content
+            self.new.content }
+        ensures number { self.new.number ≡ self.old.number }
+    {
         self.tables
-            .rewrite_item(item, watermark, new_file, &mut self.stats)
+            .write_item(how, item, &mut self.stats, &mut self.cleaned)
     }
 
     /// Moves the cleaned regions into an open batch as a `Clean` for each, in order. The list is then
@@ -349,7 +359,6 @@ impl Slot {
         Ok(())
     }
 
-    /// Lists a region as cleaned. Its table stays.
     pub(crate) fn list(&mut self, id: u64) -> Result<()>
         requires { slot_of id ≡ self.old.number }
         ensures ok { OnOk result (self.new ≡ record self.old {
@@ -362,7 +371,6 @@ impl Slot {
         Ok(())
     }
 
-    /// Takes a region's table away, and its records off the counts.
     fn take(&mut self, id: u64) -> Option<MemTable>
         requires { slot_of id ≡ self.old.number }
         ensures tables { self.new.content.tables ≡ finite.remove self.old.content.tables id }
@@ -377,7 +385,6 @@ impl Slot {
     }
 }
 
-/// Adds a `Clean` for each region to an open batch, in order. On `Err` the batch is as it was.
 fn move_cleans(alloc: Global, ids: &[u64], logs: &mut LogBatch) -> Result<()>
     requires { logs.old.stage ≡ is_open }
     ensures ok { OnOk result (logs.new

@@ -1,7 +1,4 @@
-use Rattle.std.proofs.Common.{◌≡◌, ℕ, List, Vec, ap, ◌∙◌, subst, arith}
-use Rattle.std.specs.Global.{Global}
-use Rattle.raft_base.specs.declared.pipe_log.FileId.{FileId}
-use Rattle.raft_recover.specs.Files.{whole_file, file_shown}
+use Rattle.raft_recover.proofs.Common.{◌≡◌, ℕ, List, Vec, ap, ◌∙◌, subst, arith, Global, FileId, whole_file, file_shown}
 use Rattle.raft_recover.proofs.FileLemmas.{AreBegun, AreWhole, file_one_more, files_read, segments_read, segments_are_of, as_many, all_begun, whole_shown}
 use Rattle.raft_recover.proofs.files.file_segments.Goals as goal
 

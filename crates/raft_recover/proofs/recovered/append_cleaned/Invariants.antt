@@ -1,6 +1,4 @@
-use Rattle.std.proofs.Common.{◌≡◌, ◌++◌, codes, string_bytes, drop}
-use Rattle.std.specs.List.{flat_map}
-use Rattle.raft_recover.specs.TableLines.{region_text, cleaned_text}
+use Rattle.raft_recover.proofs.Common.{◌≡◌, ◌++◌, codes, string_bytes, drop, flat_map, region_text, cleaned_text}
 use Rattle.raft_recover.proofs.recovered.append_cleaned.Given as goal
 
 -- the text so far and the regions that are left make up the whole

@@ -1,5 +1,4 @@
-use Rattle.std.proofs.Common.{arith}
-use Rattle.raft_base.proofs.ConsecutiveLemmas.{end_bounded}
+use Rattle.raft_recover.proofs.Common.{arith, end_bounded}
 use Rattle.raft_recover.proofs.recovered.append_range.Goals as goal
 
 pub overflow_add-end : goal.overflow_add-end

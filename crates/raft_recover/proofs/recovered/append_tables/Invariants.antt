@@ -1,6 +1,4 @@
-use Rattle.std.proofs.Common.{◌≡◌, ◌++◌, map, string_bytes, drop}
-use Rattle.std.specs.List.{flat_map}
-use Rattle.raft_recover.specs.TableLines.{table_line}
+use Rattle.raft_recover.proofs.Common.{◌≡◌, ◌++◌, map, string_bytes, drop, flat_map, table_line}
 use Rattle.raft_recover.proofs.recovered.append_tables.Given as goal
 
 -- the lines so far and those of the tables that are left make up the whole

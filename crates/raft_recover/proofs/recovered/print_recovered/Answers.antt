@@ -1,7 +1,4 @@
-use Rattle.std.proofs.Common.{string_bytes, subst}
-use Rattle.std.proofs.lemmas.Result.{IfErr-weaker}
-use Rattle.raft_records.specs.Lines.{AppendsFront, IsIoError}
-use Rattle.raft_records.proofs.PrintLemmas.{on_both}
+use Rattle.raft_recover.proofs.Common.{string_bytes, subst, IfErr-weaker, AppendsFront, IsIoError, on_both}
 use Rattle.raft_recover.proofs.recovered.print_recovered.Goals as goal
 
 pub returns-clause-silent : goal.returns-clause-silent

@@ -1,5 +1,4 @@
-use Rattle.std.proofs.Common.{map}
-use Rattle.std.proofs.lemmas.List.Sorted.{IsPermutation-map, IsPermutation-sym, IsPermutation-trans}
+use Rattle.raft_recover.proofs.Common.{map, IsPermutation-map, IsPermutation-sym, IsPermutation-trans}
 use Rattle.raft_recover.proofs.OrderLemmas.{images_rise, three_parts}
 use Rattle.raft_recover.proofs.recovered.recovered_text.Goals as goal
 

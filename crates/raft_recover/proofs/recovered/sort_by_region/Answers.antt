@@ -1,5 +1,4 @@
-use Rattle.std.proofs.Common.{rules}
-use Rattle.std.proofs.lemmas.List.Sorted.{IsNonDecreasingBy-from_sort_by_key}
+use Rattle.raft_recover.proofs.Common.{rules, IsNonDecreasingBy-from_sort_by_key}
 use Rattle.raft_recover.proofs.recovered.sort_by_region.Goals as goal
 
 pub returns-clause-rises : goal.returns-clause-rises

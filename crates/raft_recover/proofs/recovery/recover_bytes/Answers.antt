@@ -1,6 +1,4 @@
-use Rattle.std.proofs.Common.{map, inl, arith}
-use Rattle.std.proofs.lemmas.Result.{err_from_is_err_and}
-use Rattle.raft_recover.specs.Files.{file_shown}
+use Rattle.raft_recover.proofs.Common.{map, inl, arith, err_from_is_err_and, file_shown}
 use Rattle.raft_recover.proofs.RecoveryLemmas.{files_refused, tables_printed, tables_found, print_failed}
 use Rattle.raft_recover.proofs.recovery.recover_bytes.Goals as goal
 

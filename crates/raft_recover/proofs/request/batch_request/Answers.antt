@@ -1,5 +1,4 @@
-use Rattle.std.proofs.Common.{◌≡◌, ◌∷◌, [], map, string_bytes, ap}
-use Rattle.std.proofs.lemmas.Option.{IfSome_then}
+use Rattle.raft_recover.proofs.Common.{◌≡◌, ◌∷◌, [], map, string_bytes, ap, IfSome_then}
 use Rattle.raft_recover.proofs.RequestLemmas.{four_items, none_then, same_text, asks_batch, asks_no_batch}
 use Rattle.raft_recover.proofs.request.batch_request.Goals as goal
 

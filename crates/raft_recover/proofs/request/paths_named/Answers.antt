@@ -1,8 +1,5 @@
-use Rattle.std.proofs.Common.{IfOk, map, string_bytes, take, sym, subst, ◌∙◌, ap, drop, ◌+◌, ◌∷◌}
-use Rattle.std.specs.List.{AllByRecursion}
-use Rattle.raft_recover.specs.Requests.{NamesPath, IsPathWord, ArePathsNamed}
-use Rattle.raft_recover.specs.AskedRequests.{path_shown}
-use Rattle.raft_recover.proofs.RequestLemmas.{next_at, front_more}
+use Rattle.raft_recover.proofs.Common.{left_from, IfOk, map, string_bytes, take, sym, subst, AllByRecursion, NamesPath, IsPathWord, ArePathsNamed, path_shown}
+use Rattle.raft_recover.proofs.RequestLemmas.{front_more}
 use Rattle.raft_recover.proofs.request.paths_named.Goals as goal
 
 pub loop-word-preserved : goal.loop-word-preserved
@@ -10,7 +7,7 @@ loop-word-preserved c =
     let words = c.args.words.now in
     let i = c.loop-word.word-index in
     let word = c.word-item.result in
-    let next = next_at words i word c.loop-word-test.true ∙ ap (λ w. w ∷ drop (i + 1) words) (sym c.word-item.is) in
+    let next = left_from words i word c.loop-word-test.true c.word-item.is in
     let named = subst (λ w. NamesPath w c.in-Some.path.0 c.in-Some.path.1.now) c.as_str.ensures.value c.in-Some.ensures.named in
     let more = c.with_path-paths.ensures.named (map string_bytes (take i words)) (string_bytes word) c.loop-word.invariant.0 named in (
       subst (λ ws. IfOk c.with_path-paths.result (λ paths. ArePathsNamed ws (map path_shown paths.items))) (sym (front_more string_bytes words i word c.loop-word-test.true c.word-item.is)) more,

@@ -1,8 +1,5 @@
-use Rattle.std.proofs.Common.{◌≡◌, IfOk, IfErr, map, string_bytes, take, drop}
-use Rattle.std.specs.List.{AllByRecursion}
+use Rattle.raft_recover.proofs.Common.{◌≡◌, IfOk, IfErr, map, string_bytes, take, drop, AllByRecursion, IsPathWord, ArePathsNamed, path_shown}
 use Rattle.raft_base.specs.declared.errors.Error.TheVariants.{Memory}
-use Rattle.raft_recover.specs.Requests.{IsPathWord, ArePathsNamed}
-use Rattle.raft_recover.specs.AskedRequests.{path_shown}
 use Rattle.raft_recover.proofs.request.paths_named.Given as goal
 
 -- the paths so far are those of the words in front, if there was memory for them; all words name files exactly if those that are left do

@@ -1,6 +1,4 @@
-use Rattle.std.proofs.Common.{◌≡◌, ◌++◌, ◌+◌, map, drop, refl, sym, subst, ◌∙◌}
-use Rattle.raft_recover.specs.AskedRequests.{path_shown}
-use Rattle.raft_recover.specs.Files.{file_shown}
+use Rattle.raft_recover.proofs.Common.{◌≡◌, ◌++◌, ◌+◌, map, drop, refl, sym, subst, ◌∙◌, path_shown, file_shown}
 use Rattle.raft_recover.proofs.RequestLemmas.{number_more, numbers_all, map_of_map}
 use Rattle.raft_recover.proofs.request.read_files.Goals as goal
 

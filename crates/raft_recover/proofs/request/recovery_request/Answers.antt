@@ -1,6 +1,4 @@
-use Rattle.std.proofs.Common.{◌≡◌, ◌∷◌, List, ℕ, map, string_bytes, length, ◌-◌, take, drop, subst}
-use Rattle.std.proofs.lemmas.Result.{err_from_is_err_and}
-use Rattle.raft_recover.specs.Requests.{ArePathsNamed, AsksRecovery}
+use Rattle.raft_recover.proofs.Common.{◌≡◌, ◌∷◌, List, ℕ, map, string_bytes, length, ◌-◌, take, drop, subst, err_from_is_err_and, ArePathsNamed, AsksRecovery}
 use Rattle.raft_recover.proofs.RequestLemmas.{four_and_more, four_texts, same_text, same_rest, recover_first, files_of_words, each_names}
 use Rattle.raft_recover.proofs.request.recovery_request.Goals.{In-Some-number_named}
 use Rattle.raft_recover.proofs.request.recovery_request.Goals.at as at

@@ -1,7 +1,4 @@
-use Rattle.std.proofs.Common.{◌∷◌, [], ◌++◌, map, ap, sym, subst, ◌∙◌}
-use Rattle.std.proofs.lemmas.List.{map_push}
-use Rattle.raft_recover.specs.Requests.{ArePathsNamed}
-use Rattle.raft_recover.specs.AskedRequests.{path_shown}
+use Rattle.raft_recover.proofs.Common.{◌∷◌, [], ◌++◌, map, ap, sym, subst, ◌∙◌, map_push, ArePathsNamed, path_shown}
 use Rattle.raft_recover.proofs.RequestLemmas.{named_more}
 use Rattle.raft_recover.proofs.request.with_path.Goals as goal
 

@@ -1,4 +1,4 @@
-use Rattle.std.proofs.Common.{arith}
+use Rattle.raft_recover.proofs.Common.{arith}
 use Rattle.raft_recover.proofs.scan.found_at.Goals as goal
 
 pub batch_found-requires : goal.batch_found-requires

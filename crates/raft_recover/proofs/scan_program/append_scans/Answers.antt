@@ -1,10 +1,5 @@
-use Rattle.std.proofs.Common.{◌≡◌, ℕ, List, Vec, Bool, true, ◌&&◌, map, string_bytes, sym, ap, ◌∙◌, subst, arith}
-use Rattle.std.specs.Global.{Global}
-use Rattle.raft_base.specs.declared.pipe_log.FileId.{FileId}
-use Rattle.raft_records.specs.FilePart.{Part}
-use Rattle.raft_recover.specs.Files.{whole_file}
+use Rattle.raft_recover.proofs.Common.{◌≡◌, ℕ, List, Vec, Bool, true, ◌&&◌, map, string_bytes, sym, ap, ◌∙◌, subst, arith, Global, FileId, Part, whole_file, IsScanned}
 use Rattle.raft_recover.specs.AskedRequests.{file_shown}
-use Rattle.raft_recover.specs.Scans.{IsScanned}
 use Rattle.raft_recover.proofs.ScanRequestLemmas.{AreBegun, none_scanned, file_scanned, all_files_scanned}
 use Rattle.raft_recover.proofs.scan_program.append_scans.Goals.{In_ok-undamaged}
 use Rattle.raft_recover.proofs.scan_program.append_scans.Goals.at as at

@@ -1,9 +1,6 @@
-use Rattle.std.proofs.Common.{◌≡◌, ◌∷◌, List, ℕ, map, string_bytes, length, ◌-◌, take, drop, subst, refl}
-use Rattle.std.proofs.lemmas.Result.{err_from_is_err_and}
-use Rattle.raft_recover.specs.Requests.{ArePathsNamed}
-use Rattle.raft_recover.specs.ScanRequests.{AskedScan, NamesFiles}
-use Rattle.raft_recover.proofs.RequestLemmas.{files_of_words, each_names}
-use Rattle.raft_recover.proofs.ScanRequestLemmas.{two_and_more, two_texts, same_behind_two}
+use Rattle.raft_recover.proofs.Common.{◌≡◌, ◌∷◌, List, ℕ, map, string_bytes, length, ◌-◌, take, drop, subst, refl, err_from_is_err_and, ArePathsNamed, AskedScan, NamesFiles}
+use Rattle.raft_recover.proofs.RequestLemmas.{two_and_more, files_of_words, each_names}
+use Rattle.raft_recover.proofs.ScanRequestLemmas.{two_texts, same_behind_two}
 use Rattle.raft_recover.proofs.scan_program.files_request.Goals.{In-Some-version_named}
 use Rattle.raft_recover.proofs.scan_program.files_request.Goals.at as at
 use Rattle.raft_recover.proofs.scan_program.files_request.Goals as goal

@@ -1,9 +1,5 @@
-use Rattle.std.proofs.Common.{◌++◌, ℕ, List, map, ap, ◌∙◌, subst, inr}
-use Rattle.std.proofs.lemmas.Result.{err_from_is_err_and}
-use Rattle.std.specs.Io.KnownBytes.{Appends}
-use Rattle.raft_records.specs.Lines.{AppendsFront}
+use Rattle.raft_recover.proofs.Common.{◌++◌, ℕ, List, map, ap, ◌∙◌, subst, inr, err_from_is_err_and, Appends, AppendsFront, scan_asked}
 use Rattle.raft_recover.specs.AskedRequests.{file_shown}
-use Rattle.raft_recover.specs.ScanWords.{scan_asked}
 use Rattle.raft_recover.proofs.scan_program.print_scan.Goals as goal
 
 pub returns-clause-done : goal.returns-clause-done

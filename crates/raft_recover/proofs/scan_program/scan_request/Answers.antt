@@ -1,9 +1,6 @@
-use Rattle.std.proofs.Common.{◌≡◌, ◌∷◌, ℕ, List, [], string_bytes, get_or, ap, sym, ◌∙◌}
-use Rattle.std.proofs.lemmas.Result.{IfOk-weaker, IfErr-weaker}
-use Rattle.std.proofs.lemmas.Option.{IfSome_then}
-use Rattle.raft_recover.specs.ScanWords.{scan_asked}
-use Rattle.raft_recover.proofs.RequestLemmas.{none_then}
-use Rattle.raft_recover.proofs.ScanRequestLemmas.{one_and_more, one_text, is_text, no_text, asks_past, asks_plain, asks_none_past, asks_none_plain}
+use Rattle.raft_recover.proofs.Common.{◌≡◌, ◌∷◌, ℕ, List, [], string_bytes, get_or, ap, sym, ◌∙◌, IfOk-weaker, IfErr-weaker, IfSome_then, scan_asked}
+use Rattle.raft_recover.proofs.RequestLemmas.{one_and_more, none_then}
+use Rattle.raft_recover.proofs.ScanRequestLemmas.{one_text, is_text, no_text, asks_past, asks_plain, asks_none_past, asks_none_plain}
 use Rattle.raft_recover.proofs.scan_program.scan_request.Goals as goal
 
 -- the words in front of others

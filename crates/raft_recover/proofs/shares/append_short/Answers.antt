@@ -1,35 +1,22 @@
-use Rattle.std.proofs.Common.{◌++◌, ◌+◌, List, length, drop, take, ap, subst, arith}
-use Rattle.std.proofs.lemmas.List.{drop_all}
-use Rattle.raft_records.specs.FilePart.{Part}
-use Rattle.raft_recover.specs.Shares.{AreAlike}
-use Rattle.raft_recover.proofs.ShareLemmas.{item_here, item_taken, all_taken, alike_all, cut_one_more, part_cut_more}
+use Rattle.raft_recover.proofs.Common.{append-nil, ◌++◌, ◌+◌, ◌<◌, ◌∷◌, [], List, length, take, sym, ap, ◌∙◌, append_assoc, subst, arith, take_all, Part, AreDivided, IsCutInto, item_taken}
+use Rattle.raft_recover.proofs.ShareLemmas.{divided_more}
 use Rattle.raft_recover.proofs.shares.append_short.Goals as goal
 
-pub loop-part-preserved : goal.loop-part-preserved
-loop-part-preserved c =
-    let part = c.part-item.result in
-    let parts = c.loop-part.parts.items in
-    let whole = c.args.parts.now.items ++ c.args.segment.now.items in
-    let left = drop (c.loop-part.part-index + 1) c.args.segment.now.items in
-    let here = item_here c.deref-part-items.ensures.value (let t = c.loop-part-test.true in omega arith) c.part-item.is in
-    let before = subst (λ (l : List Part). AreAlike whole (parts ++ l)) here c.loop-part.invariant.alike in
-    let cut = c.in_ok-cut_part.ensures in
-    let taken = item_taken c.deref-part-items.ensures.value (let t = c.loop-part-test.true in omega arith) c.part-item.is in
-    record {
-      alike = cut_one_more whole parts left c.in_ok-cut_part.field-0.items c.append.new.self.items part c.in_ok-clone.field-0 before c.in_ok-clone.ensures.ok
-          cut.same cut.file cut.some c.in_ok-append.ensures.items;
-      cut = λ these begun.
-          part_cut_more these (take c.loop-part.part-index c.args.segment.now.items) (take (c.loop-part.part-index + 1) c.args.segment.now.items) parts
-          c.in_ok-cut_part.field-0.items c.append.new.self.items part c.in_ok-clone.field-0 (c.loop-part.invariant.cut these begun) c.in_ok-clone.ensures.ok
-          cut.bytes taken c.in_ok-append.ensures.items;
-    }
+pub loop-part-init : goal.loop-part-init
+loop-part-init c = λ these begun. subst (λ (l : List Part). AreDivided l c.args.parts.now.items) (sym (append-nil these)) begun
 
-pub returns-clause-alike : goal.returns-clause-alike
-returns-clause-alike c =
-    let none = drop_all c.loop-part.part-index c.args.segment.now.items (let e = ap length c.deref-part-items.ensures.value in let t = c.loop-part-test.false in omega arith) in
-    alike_all (c.args.parts.now.items ++ c.args.segment.now.items) c.loop-part.parts.items (drop c.loop-part.part-index c.args.segment.now.items) none c.loop-part.invariant.alike
+pub loop-part-preserved : goal.loop-part-preserved
+loop-part-preserved c = λ these begun.
+    let part = c.part-item.result in
+    let cut = c.in_ok-cut_part.ensures in
+    let inside : c.loop-part.part-index < length c.deref-part-items.result.now = let t = c.loop-part-test.true in omega arith in
+    let taken = item_taken c.deref-part-items.ensures.value inside c.part-item.is in
+    let one : IsCutInto c.in_ok-clone.field-0 c.in_ok-cut_part.field-0.items = record { same = cut.same; bytes = cut.bytes; file = cut.file; some = cut.some } in
+    divided_more (these ++ take c.loop-part.part-index c.args.segment.now.items) _ c.loop-part.parts.items c.append.new.self.items c.in_ok-cut_part.field-0.items part
+    (c.loop-part.invariant these begun) (subst (λ (p : Part). IsCutInto p c.in_ok-cut_part.field-0.items) c.in_ok-clone.ensures.ok one)
+    (ap (λ (l : List Part). these ++ l) taken ∙ sym (append_assoc these (take c.loop-part.part-index c.args.segment.now.items) (part ∷ []))) c.in_ok-append.ensures.items
 
 pub returns-clause-cut : goal.returns-clause-cut
 returns-clause-cut c = λ these begun.
-    all_taken c.loop-part.part-index c.args.segment.now.items these c.loop-part.parts.items (let e = ap length c.deref-part-items.ensures.value in let t = c.loop-part-test.false in omega arith)
-    (c.loop-part.invariant.cut these begun)
+    let all = take_all c.loop-part.part-index c.args.segment.now.items (let e = ap length c.deref-part-items.ensures.value in let t = c.loop-part-test.false in omega arith) in
+    subst (λ (l : List Part). AreDivided (these ++ l) c.loop-part.parts.items) all (c.loop-part.invariant these begun)

@@ -1,12 +1,6 @@
-use Rattle.std.proofs.Common.{◌++◌, List, drop, take}
-use Rattle.raft_records.specs.FilePart.{Part}
-use Rattle.raft_replay.specs.Cuts.{AreCutInTurn}
-use Rattle.raft_recover.specs.Shares.{AreAlike}
+use Rattle.raft_recover.proofs.Common.{◌++◌, List, take, Part, AreDivided}
 use Rattle.raft_recover.proofs.shares.append_short.Given as goal
 
--- the parts so far and those of the segment that are left are read as the whole is; those so far are cut from the front of the whole
+-- what the parts were so far, they and those of the segment in front are divided into the parts now
 abbrev pub invariant-loop-part : goal.invariant-loop-part
-invariant-loop-part l = record {
-  alike : AreAlike (l.fn.parts.items ++ l.fn.segment.items) (l.parts.items ++ drop l.part-index l.fn.segment.items);
-  cut : (these : List Part) → AreCutInTurn these l.fn.parts.items → AreCutInTurn (these ++ take l.part-index l.fn.segment.items) l.parts.items;
-}
+invariant-loop-part l = (these : List Part) → AreDivided these l.fn.parts.items → AreDivided (these ++ take l.part-index l.fn.segment.items) l.parts.items

@@ -1,6 +1,4 @@
-use Rattle.std.proofs.Common.{Vec, ap, ◌∙◌}
-use Rattle.std.specs.Global.{Global}
-use Rattle.raft_records.specs.FilePart.{Part}
+use Rattle.raft_recover.proofs.Common.{Vec, ap, ◌∙◌, Global, Part}
 use Rattle.raft_recover.proofs.ShareLemmas.{share_ended}
 use Rattle.raft_recover.proofs.shares.end_share.Goals as goal
 

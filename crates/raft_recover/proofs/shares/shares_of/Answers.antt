@@ -1,5 +1,4 @@
-use Rattle.std.proofs.Common.{◌≡◌, List, subst, arith}
-use Rattle.raft_records.specs.FilePart.{Part}
+use Rattle.raft_recover.proofs.Common.{◌≡◌, List, subst, arith, Part}
 use Rattle.raft_recover.proofs.ShareLemmas.{AreShared, no_shares, more_shared, all_shared}
 use Rattle.raft_recover.proofs.shares.shares_of.Goals as goal
 

@@ -1,5 +1,4 @@
-use Rattle.std.proofs.Common.{◌≡◌, ◌+◌, ◌≤◌, ℕ, List, length, drop, ap, ◌∙◌, subst, arith, length-drop}
-use Rattle.raft_records.specs.FilePart.{HasHeader}
+use Rattle.raft_replay.proofs.Common.{◌≡◌, ◌+◌, ◌≤◌, ℕ, List, length, drop, ap, ◌∙◌, subst, arith, length-drop, HasHeader}
 use Rattle.raft_replay.proofs.CutPartLemmas.{meet_first, meet_next}
 use Rattle.raft_replay.proofs.cutting.batch_end.Goals as goal
 

@@ -1,5 +1,4 @@
-use Rattle.std.proofs.Common.{◌-◌, ◌≤◌, length}
-use Rattle.raft_replay.specs.Cuts.{BatchesMeet}
+use Rattle.raft_replay.proofs.Common.{◌-◌, ◌≤◌, length, BatchesMeet}
 use Rattle.raft_replay.proofs.cutting.batch_end.Given as goal
 
 abbrev pub invariant-loop-at : goal.invariant-loop-at

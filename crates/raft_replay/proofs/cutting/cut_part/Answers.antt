@@ -1,7 +1,5 @@
-use Rattle.std.proofs.Common.{◌≡◌, [], ◌∷◌, length, sym, ap, ◌∙◌, subst, arith, length-append}
+use Rattle.raft_replay.proofs.Common.{◌≡◌, [], ◌∷◌, length, sym, ap, ◌∙◌, subst, arith, length-append, All-append, All-from_recursion, Part}
 use Rattle.std.specs.List.{All}
-use Rattle.std.proofs.lemmas.List.Elements.{All-append, All-from_recursion}
-use Rattle.raft_records.specs.FilePart.{Part}
 use Rattle.raft_replay.proofs.CutBytesLemmas.{parts_more}
 use Rattle.raft_replay.proofs.CutPartLemmas.{cut_again}
 use Rattle.raft_replay.proofs.cutting.cut_part.Goals as goal

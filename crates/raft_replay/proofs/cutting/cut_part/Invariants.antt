@@ -1,6 +1,4 @@
-use Rattle.std.proofs.Common.{◌≡◌, ◌<◌, ◌-◌, ◌++◌, [], ◌∷◌, All, length}
-use Rattle.raft_replay.specs.Cuts.{ArePartsOf}
-use Rattle.raft_replay.specs.Segments.{AreCutFrom}
+use Rattle.raft_replay.proofs.Common.{◌≡◌, ◌<◌, ◌-◌, ◌++◌, [], ◌∷◌, All, length, ArePartsOf, AreCutFrom}
 use Rattle.raft_replay.proofs.cutting.cut_part.Given as goal
 
 abbrev pub invariant-loop-alloc : goal.invariant-loop-alloc

@@ -1,5 +1,4 @@
-use Rattle.std.proofs.Common.{◌+◌, ◌*◌}
-use Rattle.raft_replay.specs.Plans.{leaves}
+use Rattle.raft_replay.proofs.Common.{◌+◌, ◌*◌, leaves}
 use Rattle.raft_replay.proofs.pieces.+fn-merge_at_once-back+fn-merge_at_once-front+merge_at_once.Given as goal
 
 abbrev pub decreases-back : goal.decreases-back

@@ -1,12 +1,6 @@
-use Rattle.std.proofs.Common.{◌≡◌, ◌+◌, ◌*◌, List, [], ◌∷◌, ◌++◌, reverse, sym, subst, arith, ap}
-use Rattle.std.proofs.lemmas.Result.{err_from_is_err_and}
-use Rattle.raft_replay.specs.declared.pieces.Waiting.{Waiting}
+use Rattle.raft_replay.proofs.Common.{on_ok_weaker, ◌≡◌, ◌*◌, List, ◌∷◌, reverse, sym, subst, arith, ap, err_from_is_err_and, Waiting, leaves, ArePlansNext, IsReached, cost, one_fewer}
 use Rattle.raft_replay.specs.declared.pieces.Waiting.TheVariants.{Merged}
-use Rattle.raft_replay.specs.Plans.{leaves}
-use Rattle.raft_replay.specs.PlanWalks.{ArePlansNext, IsReached, cost}
-use Rattle.raft_tickets.specs.Weights.{weigh}
-use Rattle.raft_tickets.proofs.WeightLemmas.{weigh-append}
-use Rattle.raft_replay.proofs.WalkLemmas.{last_first, waits, enough, joined, unjoined, on_ok}
+use Rattle.raft_replay.proofs.WalkLemmas.{last_first, waits, enough, joined, unjoined}
 use Rattle.raft_replay.proofs.pieces.merge_next.Goals as goal
 
 pub oldest_of-requires : goal.oldest_of-requires
@@ -46,9 +40,6 @@ returns-in_ok-push-in-Unmerged-clause-ok g c = λ all reached.
 
 pub returns-in_ok-push-in-Unmerged-clause-cost : goal.returns-in_ok-push-in-Unmerged-clause-cost
 returns-in_ok-push-in-Unmerged-clause-cost g c =
-    let pushed = ap (weigh (cost {M = g.row.M.Denot})) c.in_ok-push-in-Unmerged.ensures.items in
-    let sum : weigh (cost {M = g.row.M.Denot}) (c.args.waiting.now.items ++ Merged c.args.merged ∷ [])
-    ≡ weigh (cost {M = g.row.M.Denot}) c.args.waiting.now.items + 1 =
-    weigh-append (cost {M = g.row.M.Denot}) c.args.waiting.now.items (Merged c.args.merged ∷ []) in
+    let sum = one_fewer (cost {M = g.row.M.Denot}) c.push.new.self.items c.args.waiting.now.items (Merged c.args.merged) c.in_ok-push-in-Unmerged.ensures.items in
     let next : cost c.args.next ≡ 2 * leaves c.in-Unmerged.plan.now = ap (cost {M = g.row.M.Denot}) c.in-Unmerged.is in
-    on_ok c.oldest_of.result (λ spent. omega (arith, spent, pushed, sum, next)) c.oldest_of.ensures.cost
+    on_ok_weaker c.oldest_of.result (λ spent. omega (arith, spent, sum, next)) c.oldest_of.ensures.cost

@@ -1,11 +1,5 @@
-use Rattle.std.proofs.Common.{◌≡◌, ◌+◌, ◌*◌, List, [], ◌∷◌, ◌++◌, reverse, sym, ap, subst, arith}
-use Rattle.raft_replay.specs.declared.plan.Plan.{Plan}
-use Rattle.raft_replay.specs.declared.pieces.Waiting.{Waiting}
+use Rattle.raft_replay.proofs.Common.{◌≡◌, ◌+◌, List, reverse, sym, ap, subst, arith, Plan, Waiting, leaves, ArePlansNext, cost, one_fewer}
 use Rattle.raft_replay.specs.declared.pieces.Waiting.TheVariants.{Unmerged}
-use Rattle.raft_replay.specs.Plans.{leaves}
-use Rattle.raft_replay.specs.PlanWalks.{ArePlansNext, cost}
-use Rattle.raft_tickets.specs.Weights.{weigh}
-use Rattle.raft_tickets.proofs.WeightLemmas.{weigh-append}
 use Rattle.raft_replay.proofs.WalkLemmas.{last_first, turned, taken}
 use Rattle.raft_replay.proofs.pieces.oldest_of.Goals as goal
 
@@ -24,11 +18,8 @@ loop-plan-preserved g c =
           (turned g.M.ReplayMachine.stands_for g.M.ReplayMachine.stands_exactly all c.loop-plan.plan.now c.deref-plan.result.now c.deref.result
           (reverse c.loop-plan.waiting.items) (reverse c.args.pieces.now.items) (omega (arith, whole, first, second)) (before.next all begun));
       spent =
-          let pushed = ap (weigh (cost {M = g.row.M.Denot})) items in
-          let sum : weigh (cost {M = g.row.M.Denot}) (c.loop-plan.waiting.items ++ Unmerged c.deref.result ∷ [])
-          ≡ weigh (cost {M = g.row.M.Denot}) c.loop-plan.waiting.items + (2 * leaves c.deref.result.now + 0) =
-          weigh-append (cost {M = g.row.M.Denot}) c.loop-plan.waiting.items (Unmerged c.deref.result ∷ []) in
-          omega (arith, before.spent, whole, first, second, pushed, sum);
+          let sum = one_fewer (cost {M = g.row.M.Denot}) c.push.new.self.items c.loop-plan.waiting.items (Unmerged c.deref.result) items in
+          omega (arith, before.spent, whole, first, second, sum);
     }
 
 pub returns-clause-ok : goal.returns-clause-ok

@@ -1,7 +1,4 @@
-use Rattle.std.proofs.Common.{◌≡◌, ◌+◌, ◌*◌, ◌≤◌, List, reverse, vec_len}
-use Rattle.raft_replay.specs.Plans.{leaves}
-use Rattle.raft_replay.specs.PlanWalks.{ArePlansNext, cost}
-use Rattle.raft_tickets.specs.Weights.{weigh}
+use Rattle.raft_replay.proofs.Common.{◌≡◌, ◌+◌, ◌*◌, ◌≤◌, List, reverse, vec_len, leaves, ArePlansNext, cost, weigh}
 use Rattle.raft_replay.proofs.pieces.oldest_of.Given as goal
 
 abbrev pub invariant-loop-plan : goal.invariant-loop-plan

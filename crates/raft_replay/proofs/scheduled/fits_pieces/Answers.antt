@@ -1,6 +1,4 @@
-use Rattle.std.proofs.Common.{arith}
-use Rattle.raft_replay.specs.Plans.{leaves}
-use Rattle.raft_replay.specs.Schedules.{pieces_in}
+use Rattle.raft_replay.proofs.Common.{arith, leaves, pieces_in}
 use Rattle.raft_replay.proofs.MachineOrderLemmas.{pieces_few, fits_is}
 use Rattle.raft_replay.proofs.scheduled.fits_pieces.Goals as goal
 

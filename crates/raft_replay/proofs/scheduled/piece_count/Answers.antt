@@ -1,5 +1,4 @@
-use Rattle.std.proofs.Common.{◌≡◌, ℕ, ◌+◌, cond, sym, ap, ◌∙◌, arith}
-use Rattle.raft_replay.specs.Schedules.{switches, count_below}
+use Rattle.raft_replay.proofs.Common.{◌≡◌, ℕ, ◌+◌, cond, sym, ap, ◌∙◌, arith, switches, count_below}
 use Rattle.raft_replay.proofs.MachineOrderLemmas.{count_more, pieces_some, one_at_most, one_more_is}
 use Rattle.raft_replay.proofs.scheduled.piece_count.Goals as goal
 

@@ -1,5 +1,4 @@
-use Rattle.std.proofs.Common.{◌≡◌, ◌+◌, ◌≤◌}
-use Rattle.raft_replay.specs.Schedules.{switches, count_below}
+use Rattle.raft_replay.proofs.Common.{◌≡◌, ◌+◌, ◌≤◌, switches, count_below}
 use Rattle.raft_replay.proofs.scheduled.piece_count.Given as goal
 
 abbrev pub invariant-loop-n : goal.invariant-loop-n

@@ -1,10 +1,4 @@
-use Rattle.std.proofs.Common.{◌≡◌, ◌+◌, cond, List, [], ◌∷◌, ◌++◌, Vec, vec_len, take, drop, sym, ap, ◌∙◌, subst, arith, take-append-drop}
-use Rattle.std.specs.Global.{Global}
-use Rattle.std.proofs.lemmas.List.{take_more}
-use Rattle.std.proofs.lemmas.Result.{err_from_is_err_and}
-use Rattle.raft_records.specs.FilePart.{Part}
-use Rattle.raft_replay.specs.MachineOrder.{IsUnderway}
-use Rattle.raft_replay.specs.Schedules.{switches}
+use Rattle.raft_replay.proofs.Common.{◌≡◌, ◌+◌, cond, List, [], ◌∷◌, ◌++◌, Vec, vec_len, take, drop, sym, ap, ◌∙◌, subst, arith, take-append-drop, Global, take_more, err_from_is_err_and, Part, IsUnderway, switches}
 use Rattle.raft_replay.proofs.MachineOrderLemmas.{gone_on, stopped, count_more, one_same}
 use Rattle.raft_replay.proofs.SegmentLemmas.{left_from}
 use Rattle.raft_replay.proofs.scheduled.replay_in_order.Goals as goal

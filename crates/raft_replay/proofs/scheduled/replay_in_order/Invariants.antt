@@ -1,6 +1,4 @@
-use Rattle.std.proofs.Common.{◌≡◌, take, vec_len}
-use Rattle.raft_replay.specs.MachineOrder.{IsUnderway}
-use Rattle.raft_replay.specs.Schedules.{switches, count_below}
+use Rattle.raft_replay.proofs.Common.{◌≡◌, take, vec_len, IsUnderway, switches, count_below}
 use Rattle.raft_replay.proofs.scheduled.replay_in_order.Given as goal
 
 abbrev pub invariant-loop-n : goal.invariant-loop-n

@@ -1,5 +1,4 @@
-use Rattle.std.proofs.Common.{List, sym, subst}
-use Rattle.raft_replay.specs.MachineOrder.{AreInOrder}
+use Rattle.raft_replay.proofs.Common.{List, sym, subst, AreInOrder}
 use Rattle.raft_replay.proofs.MachineOrderLemmas.{finished, merged_ok, merged_err}
 use Rattle.raft_replay.proofs.scheduled.replay_scheduled.Goals as goal
 

@@ -1,5 +1,4 @@
-use Rattle.std.proofs.Common.{◌≡◌, ℕ, List, ◌++◌, codes, decimal, string_bytes, ap, ◌∙◌, append_assoc}
-use Rattle.raft_replay.specs.Stops.{queue_text}
+use Rattle.raft_replay.proofs.Common.{◌≡◌, ℕ, List, ◌++◌, codes, decimal, string_bytes, ap, ◌∙◌, append_assoc, queue_text}
 use Rattle.raft_replay.proofs.segment.corruption_placed.Goals as goal
 
 -- a reason behind a place

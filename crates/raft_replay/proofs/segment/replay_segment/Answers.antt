@@ -1,60 +1,43 @@
-use Rattle.std.proofs.Common.{◌≡◌, ℕ, ◌+◌, ◌<◌, List, [], ◌∷◌, ◌++◌, length, get_or, drop, take, ap, sym, ◌∙◌, subst, arith}
-use Rattle.std.proofs.lemmas.List.{take_more}
-use Rattle.std.proofs.lemmas.Result.{err_from_is_err_and}
-use Rattle.raft_records.specs.FilePart.{Part}
-use Rattle.raft_replay.specs.Stops.{IsStoodFor}
-use Rattle.raft_replay.proofs.Words.{PartHolds}
-use Rattle.raft_replay.proofs.MidwayLemmas.{begins, advance, refused, replayed}
-use Rattle.raft_replay.proofs.SegmentLemmas.{part_unique, cut_at, cut_refused, nothing_left, left_from}
-use Rattle.raft_replay.proofs.StopLemmas.{no_parts, parts_longer, read_more, stopped_among}
+use Rattle.raft_replay.proofs.Common.{◌≡◌, ◌<◌, refl, length, ap, ◌∙◌, subst, arith, IfErr-weaker, err_from_is_err_and, take_all, LogFileContext, Part, part_of, HasReplayed, IsStoodFor, StopsByFault}
+use Rattle.raft_replay.proofs.Words.{PartHolds, PartsHold}
+use Rattle.raft_replay.proofs.MachineOrderLemmas.{each_more}
+use Rattle.raft_replay.proofs.ReplayedLemmas.{none_replayed, replayed_more, replayed_as}
+use Rattle.raft_replay.proofs.SegmentLemmas.{item_taken, item_between}
+use Rattle.raft_replay.proofs.StopLemmas.{stopped_among, parts_refused}
 use Rattle.raft_replay.proofs.segment.replay_segment.Goals as goal
 
--- the part that is read is the first of those that are left
-item_here : {xs ys : List Part} {i : ℕ} {x : Part} → xs ≡ ys → i < length xs → x ≡ get_or xs i x → drop i ys ≡ x ∷ drop (i + 1) ys
-item_here {xs} {ys} {i} {x} same inside is = subst (λ (l : List Part). drop i l ≡ x ∷ drop (i + 1) l) same (left_from xs i x inside is)
-
--- and with it those before it are one more
-item_taken : {xs ys : List Part} {i : ℕ} {x : Part} → xs ≡ ys → i < length xs → x ≡ get_or xs i x → take (i + 1) ys ≡ take i ys ++ x ∷ []
-item_taken {xs} {ys} {i} {x} same inside is =
-    subst (λ (l : List Part). take (i + 1) l ≡ take i l ++ x ∷ []) same (take_more xs i x inside ∙ ap (λ (y : Part). take i xs ++ y ∷ []) (sym is))
+-- the bytes that are lent are those of the part
+same : (file context : LogFileContext) (part : Part) (offset : _) (bytes : _) → file ≡ context → context.id ≡ part.id → context.version ≡ part.version → offset ≡ part.offset → bytes ≡ part.bytes → part_of file offset bytes ≡ part
+same file context part offset bytes is id version at held =
+    ap (λ (f : LogFileContext). part_of f offset bytes) is ∙ (λ i. record { id = id i; version = version i; offset = at i; bytes = held i })
 
 pub loop-part-init : goal.loop-part-init
-loop-part-init g c = record { read = no_parts c.args.segment.now.items; midway = begins }
-
-pub returns-in_err-replay_part-clause-refused : goal.returns-in_err-replay_part-clause-refused
-returns-in_err-replay_part-clause-refused g c =
-    let p = err_from_is_err_and c.from_residual.result c.from_residual.ensures.1 in
-    rw (p.1, p.2)
-    (λ not_memory. refused c.loop-part.invariant.midway
-    (cut_refused PartHolds _ (drop (c.loop-part.part-index + 1) c.args.segment.now.items) c.part-item.result _
-    (item_here c.deref-part-items.ensures.value (let t = c.loop-part-test.true in omega arith) c.part-item.is)
-    (c.in_err-replay_part.ensures.refused not_memory)))
-
-pub returns-in_err-replay_part-clause-place : goal.returns-in_err-replay_part-clause-place
-returns-in_err-replay_part-clause-place g c =
-    let p = err_from_is_err_and c.from_residual.result c.from_residual.ensures.1 in
-    rw (p.1, p.2)
-    (stopped_among (g.M.ReplayMachine.stands_for c.args.machine.now) (g.M.ReplayMachine.stands_for c.loop-part.machine)
-    (IsStoodFor g.M.ReplayMachine.stands_for) c.args.segment.now.items c.loop-part.part-index c.part-item.result _ c.loop-part.invariant.read
-    (item_here c.deref-part-items.ensures.value (let t = c.loop-part-test.true in omega arith) c.part-item.is) c.in_err-replay_part.ensures.place)
+loop-part-init g c = none_replayed g.M.ReplayMachine.stands_for g.M.ReplayMachine.stands_exactly _ c.args.machine.now refl
 
 pub loop-part-preserved : goal.loop-part-preserved
 loop-part-preserved g c =
-    let done = c.in_ok-replay_part.ensures.ok in
+    let read = same _ _ c.part-item.result _ _ c.new-file.ensures c.id.ensures c.version.ensures c.offset.ensures.value c.bytes.ensures in
+    let done = subst (λ (p : Part). HasReplayed (PartHolds p) g.M.ReplayMachine.stands_for g.M.ReplayMachine.stands_exactly c.loop-part.machine c.replay_bytes.new.machine) read c.in_ok-replay_bytes.ensures.ok in
     let inside : c.loop-part.part-index < length c.deref-part-items.result.now = let t = c.loop-part-test.true in omega arith in
-    record {
-      read =
-          read_more c.loop-part.invariant.read done.history
-          (parts_longer (take c.loop-part.part-index c.args.segment.now.items) (take (c.loop-part.part-index + 1) c.args.segment.now.items) c.part-item.result c.loop-part.invariant.read.history done.history
-          (item_taken c.deref-part-items.ensures.value inside c.part-item.is) c.loop-part.invariant.read.held done.held)
-          done.stands;
-      midway =
-          advance c.loop-part.invariant.midway done.history
-          (cut_at PartHolds _ _ c.part-item.result done.history (item_here c.deref-part-items.ensures.value (let t = c.loop-part-test.true in omega arith) c.part-item.is) (part_unique c.part-item.result 0) done.held)
-          done.stands done.exact;
-    }
+    replayed_more g.M.ReplayMachine.stands_for g.M.ReplayMachine.stands_exactly _ _ _ c.args.machine.now c.loop-part.machine c.replay_bytes.new.machine c.loop-part.invariant done
+    (each_more PartHolds _ _ c.part-item.result _ _ (item_taken c.deref-part-items.ensures.value inside c.part-item.is) c.loop-part.invariant.held done.held)
 
 pub returns-clause-ok : goal.returns-clause-ok
 returns-clause-ok g c =
-    replayed g.M.ReplayMachine.stands_for g.M.ReplayMachine.stands_exactly c.args.machine.now c.loop-part.machine c.loop-part.invariant.midway
-    (nothing_left PartHolds c.loop-part.part-index c.args.segment.now.items (let e = ap length c.deref-part-items.ensures.value in let t = c.loop-part-test.false in omega arith))
+    let all = take_all c.loop-part.part-index c.args.segment.now.items (let e = ap length c.deref-part-items.ensures.value in let t = c.loop-part-test.false in omega arith) in
+    replayed_as g.M.ReplayMachine.stands_for g.M.ReplayMachine.stands_exactly _ _ c.args.machine.now c.loop-part.machine (λ h. subst (λ l. PartsHold l h) all) c.loop-part.invariant
+
+pub returns-in_err-replay_bytes-clause-place : goal.returns-in_err-replay_bytes-clause-place
+returns-in_err-replay_bytes-clause-place g c =
+    let p = err_from_is_err_and c.from_residual.result c.from_residual.ensures.1 in
+    let e = c.in_err-replay_bytes.field-0.0 in
+    let read = same _ _ c.part-item.result _ _ c.new-file.ensures c.id.ensures c.version.ensures c.offset.ensures.value c.bytes.ensures in
+    let stops = subst (λ (p : Part). StopsByFault (g.M.ReplayMachine.stands_for c.loop-part.machine) (IsStoodFor g.M.ReplayMachine.stands_for) p e) read c.in_err-replay_bytes.ensures.place in
+    rw (p.1, p.2)
+    (stopped_among g.M.ReplayMachine.stands_for g.M.ReplayMachine.stands_exactly c.args.machine.now c.loop-part.machine (IsStoodFor g.M.ReplayMachine.stands_for) c.args.segment.now.items _ _ c.part-item.result e
+    c.loop-part.invariant (item_between c.deref-part-items.ensures.value (let t = c.loop-part-test.true in omega arith) c.part-item.is) stops)
+
+pub returns-in_err-replay_bytes-clause-refused : goal.returns-in_err-replay_bytes-clause-refused
+returns-in_err-replay_bytes-clause-refused g c =
+    IfErr-weaker c.from_residual.result _ _ (λ e. parts_refused (g.M.ReplayMachine.stands_for c.args.machine.now) (IsStoodFor g.M.ReplayMachine.stands_for) c.args.segment.now.items e)
+    (returns-in_err-replay_bytes-clause-place g c)

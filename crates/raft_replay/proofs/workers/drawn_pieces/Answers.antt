@@ -1,5 +1,4 @@
-use Rattle.std.proofs.Common.{length, sym, ◌∙◌, arith}
-use Rattle.std.proofs.lemmas.Result.{err_from_is_err_and}
+use Rattle.raft_replay.proofs.Common.{length, sym, ◌∙◌, arith, err_from_is_err_and}
 use Rattle.raft_replay.proofs.WorkedLemmas.{are_back, worker_refused, all_drawn, open_refused}
 use Rattle.raft_replay.proofs.workers.drawn_pieces.Goals as goal
 

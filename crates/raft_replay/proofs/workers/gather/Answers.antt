@@ -1,6 +1,4 @@
-use Rattle.std.proofs.Common.{List, [], ◌∷◌, ◌++◌, length, ap, sym, ◌∙◌, append_assoc, arith}
-use Rattle.raft_replay.specs.declared.workers.Worked.{Worked}
-use Rattle.raft_replay.specs.WorkedWords.{IsBack}
+use Rattle.raft_replay.proofs.Common.{List, [], ◌∷◌, ◌++◌, length, ap, sym, ◌∙◌, append_assoc, arith, Worked, IsBack}
 use Rattle.raft_replay.proofs.WorkedLemmas.{all_at, done_more}
 use Rattle.raft_replay.proofs.workers.gather.Goals as goal
 

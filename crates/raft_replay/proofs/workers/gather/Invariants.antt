@@ -1,10 +1,4 @@
-use Rattle.std.proofs.Common.{◌≡◌, ◌+◌, List, ◌++◌, All, Vec, length, vec_len}
-use Rattle.std.specs.Global.{Global}
-use Rattle.raft_records.specs.FilePart.{Part}
-use Rattle.raft_replay.specs.declared.workers.Worked.{Worked}
-use Rattle.raft_replay.specs.Covers.{AreDone}
-use Rattle.raft_tickets.specs.Draws.{Tickets}
-use Rattle.raft_replay.specs.WorkedWords.{IsBack}
+use Rattle.raft_replay.proofs.Common.{◌≡◌, ◌+◌, List, ◌++◌, All, Vec, length, vec_len, Global, Part, Worked, AreDone, Tickets, IsBack}
 use Rattle.raft_replay.proofs.workers.gather.Given as goal
 
 abbrev pub invariant-loop-seat : goal.invariant-loop-seat

@@ -1,9 +1,5 @@
-use Rattle.std.proofs.Common.{◌≡◌, List, [], vec_len, sym, ◌∙◌, subst, arith}
-use Rattle.std.proofs.lemmas.Bool.Decides.{Decides-eqb}
-use Rattle.std.proofs.lemmas.List.{nil_from_length}
-use Rattle.std.proofs.lemmas.Result.{err_from_is_err_and}
-use Rattle.raft_replay.specs.MachineOrder.{AreInOrder}
-use Rattle.raft_replay.proofs.MachineOrderLemmas.{if_ok, merged_ok, merged_err, replayed_none}
+use Rattle.raft_replay.proofs.Common.{IfOk-weaker, ◌≡◌, List, [], vec_len, sym, ◌∙◌, subst, arith, Decides-eqb, nil_from_length, err_from_is_err_and, AreInOrder}
+use Rattle.raft_replay.proofs.MachineOrderLemmas.{merged_ok, merged_err, replayed_none}
 use Rattle.raft_replay.proofs.workers.replay_accepted.Goals as goal
 
 pub returns-in_err-pieces-clause-refused : goal.returns-in_err-pieces-clause-refused
@@ -18,7 +14,7 @@ returns-then-is_empty-clause-ok g c =
     let empty : c.in_ok-machines.machines.items ≡ [] =
     let none = (Decides-eqb (vec_len c.in_ok-machines.machines) 0).0 (sym c.is_empty.ensures ∙ c.if-is_empty.true) in
     let held = c.in_ok-machines.machines.ok.0 in nil_from_length c.in_ok-machines.machines.items (omega arith) in
-    if_ok c.new_target.result
+    IfOk-weaker c.new_target.result _ _
     (λ m given. replayed_none g.M.ReplayMachine.stands_for g.M.ReplayMachine.stands_exactly laws.exact_stands c.args.segments.now m
     (subst (λ (l : List g.row.M.Denot). AreInOrder g.M.ReplayMachine.stands_exactly c.args.segments.now l) empty line)
     (c.requires.factory m given))

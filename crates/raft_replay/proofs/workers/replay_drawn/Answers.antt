@@ -1,11 +1,5 @@
-use Rattle.std.proofs.Common.{◌≡◌, ℕ, ◌<◌, List, [], ◌∷◌, ◌++◌, length, sym, ap, ◌∙◌, subst, arith}
-use Rattle.std.proofs.lemmas.List.Elements.{All-push}
-use Rattle.std.proofs.lemmas.Result.{err_from_is_err_and}
-use Rattle.raft_replay.specs.declared.piece.Piece.{Piece}
-use Rattle.raft_replay.specs.Covers.{IsPieceOf}
-use Rattle.raft_tickets.specs.Draws.{AreBelow, HasEnded}
+use Rattle.raft_replay.proofs.Common.{◌≡◌, ℕ, ◌<◌, List, [], ◌∷◌, ◌++◌, length, sym, ap, ◌∙◌, subst, arith, All-push, err_from_is_err_and, Piece, IsPieceOf, AreBelow, HasEnded, below_more}
 use Rattle.raft_replay.proofs.CoverLemmas.{bound, bound_below, bound_more, none_left, cover_step}
-use Rattle.raft_tickets.proofs.DrawingLemmas.{below_more}
 use Rattle.raft_replay.proofs.workers.replay_drawn.Goals as goal
 
 pub returns-in_err-piece-clause-given : goal.returns-in_err-piece-clause-given

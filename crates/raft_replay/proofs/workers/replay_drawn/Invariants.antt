@@ -1,7 +1,4 @@
-use Rattle.std.proofs.Common.{◌≡◌, ℕ, ◌-◌, ◌<◌, All, length}
-use Rattle.raft_replay.specs.Covers.{IsPieceOf, cover_count}
-use Rattle.raft_tickets.specs.Draws.{AreBelow, IsSeatOf}
-use Rattle.raft_tickets.specs.Weights.{occurrences}
+use Rattle.raft_replay.proofs.Common.{◌≡◌, ℕ, ◌-◌, ◌<◌, All, length, IsPieceOf, cover_count, AreBelow, IsSeatOf, occurrences}
 use Rattle.raft_replay.proofs.CoverLemmas.{bound}
 use Rattle.raft_replay.proofs.workers.replay_drawn.Given as goal
 

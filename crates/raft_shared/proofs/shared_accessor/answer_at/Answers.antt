@@ -1,5 +1,4 @@
-use Rattle.std.proofs.Common.{ap, ◌∙◌}
-use Rattle.raft_table.specs.Steps.{table_of}
+use Rattle.raft_shared.proofs.Common.{ap, ◌∙◌, table_of}
 use Rattle.raft_shared.proofs.shared_accessor.answer_at.Goals as goal
 
 pub returns-in-Some-clause-gave : goal.returns-in-Some-clause-gave

@@ -1,5 +1,4 @@
-use Rattle.std.proofs.Common.{refl, sym, subst}
-use Rattle.raft_shared.specs.Slot.{IsSlotTable}
+use Rattle.raft_shared.proofs.Common.{refl, sym, subst, IsSlotTable}
 use Rattle.raft_shared.proofs.shared_accessor.answer_of.Goals as goal
 
 pub returns : goal.returns

@@ -1,9 +1,5 @@
-use Rattle.std.proofs.Common.{◌≡◌, ◌⊎◌, Some, Ok, Err, inl, inr}
-use Rattle.std.specs.Result.{OnOk, IfOk, IfErr}
-use Rattle.raft_base.specs.declared.errors.Error.TheVariants as errors
-use Rattle.raft_table.specs.Change.{after_change, IsAllowed, IsAnswer, IsChangeFault}
-use Rattle.raft_accessor.specs.Accessor.{table_in}
-use Rattle.raft_shared.specs.SharedCalls.{IsChangeAnswer, IsChangeRefusal}
+use Rattle.raft_shared.proofs.Common.{◌≡◌, Some, Ok, Err, inl, inr, OnOk, IfOk, after_change, IsAllowed, IsAnswer, table_in, IsChangeAnswer}
+use Rattle.std.proofs.lemmas.Result.{IfErr-weaker}
 use Rattle.raft_shared.proofs.shared_accessor.change_by.Goals as goal
 
 pub returns-clause-number : goal.returns-clause-number
@@ -20,11 +16,7 @@ returns-clause-number g c =
 pub returns-clause-fault : goal.returns-clause-fault
 returns-clause-fault g c =
     let old = table_in c.args.slot.now.content.tables c.args.id in
-    let counts = c.args.slot.now.content.counts in
-    elim c.change.result as (λ r. IfErr r (λ e. (e ≡ errors.Memory) ⊎ IsChangeFault old counts c.answer_at-change.result e) → IfErr r (IsChangeRefusal g.F.FnOnce c.args.f c.args.id)) [
-      | Ok n ↦ λ f. tt
-      | Err e ↦ λ f. elim f [
-        | inl m ↦ inl (inl m)
-        | inr h ↦ inr (old, counts, c.answer_at-change.result, c.answer_at-change.ensures.allowed, c.answer_at-change.ensures.gave, h)
-      ]
-    ] c.change.ensures.changed.fault
+    IfErr-weaker c.change.result _ _ (λ e f. elim f [
+      | inl m ↦ inl (inl m)
+      | inr h ↦ inr (old, c.args.slot.now.content.counts, c.answer_at-change.result, c.answer_at-change.ensures.allowed, c.answer_at-change.ensures.gave, h)
+    ]) c.change.ensures.changed.fault

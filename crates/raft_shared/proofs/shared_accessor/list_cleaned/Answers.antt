@@ -1,7 +1,4 @@
-use Rattle.std.proofs.Common.{◌≡◌, ◌∷◌, [], ◌++◌, ◌+◌, drop, slice_index_or, append_assoc, refl, sym, ap, subst, ◌∙◌}
-use Rattle.std.specs.List.{AllByRecursion}
-use Rattle.std.proofs.lemmas.List.{at_drop_more}
-use Rattle.raft_accessor.specs.Accessor.{slot_of}
+use Rattle.raft_shared.proofs.Common.{◌≡◌, ◌∷◌, [], ◌++◌, ◌+◌, drop, slice_index_or, append_assoc, refl, sym, ap, subst, ◌∙◌, AllByRecursion, at_drop_more, slot_of}
 use Rattle.raft_shared.proofs.MoveLemmas.{none-removed, other-removed}
 use Rattle.raft_shared.proofs.shared_accessor.list_cleaned.Goals as goal
 

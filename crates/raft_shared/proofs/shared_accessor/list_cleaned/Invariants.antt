@@ -1,7 +1,5 @@
-use Rattle.std.proofs.Common.{◌≡◌, ◌≢◌, ℕ, ◌++◌, drop, None}
+use Rattle.raft_shared.proofs.Common.{◌≡◌, ◌≢◌, ℕ, ◌++◌, drop, None, AllByRecursion, slot_of}
 use Rattle.std.specs.FinMap as finite
-use Rattle.std.specs.List.{AllByRecursion}
-use Rattle.raft_accessor.specs.Accessor.{slot_of}
 use Rattle.raft_shared.proofs.shared_accessor.list_cleaned.Given as goal
 
 -- the regions that are listed and those that are left make up the whole, and the latter are of the slot

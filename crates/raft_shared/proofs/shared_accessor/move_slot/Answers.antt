@@ -1,7 +1,4 @@
-use Rattle.std.proofs.Common.{◌≡◌, ℕ, ◌∷◌, [], ◌++◌, ◌+◌, drop, map, slice_index_or, refl, sym, ap, subst, ◌∙◌, arith}
-use Rattle.std.proofs.lemmas.List.{at_drop_more}
-use Rattle.std.proofs.Math.ListN.{drop_of_length-le}
-use Rattle.raft_table.specs.Table.{Table}
+use Rattle.raft_shared.proofs.Common.{◌≡◌, ℕ, ◌∷◌, [], ◌++◌, ◌+◌, drop, map, slice_index_or, refl, sym, ap, subst, ◌∙◌, arith, at_drop_more, drop_of_length-le, Table}
 use Rattle.raft_shared.proofs.MoveLemmas.{HasOnly, kept-all, only-ids, either-moved, only-moved, added-all}
 use Rattle.raft_shared.proofs.shared_accessor.move_slot.Goals as goal
 

@@ -1,7 +1,4 @@
-use Rattle.std.proofs.Common.{◌≡◌, ◌∷◌, [], ◌++◌, ◌+◌, drop, slice_index_or, append_assoc, append-nil, sym, ap, subst, ◌∙◌, arith}
-use Rattle.std.proofs.lemmas.List.{at_drop_more}
-use Rattle.std.proofs.Math.ListN.{drop_of_length-le}
-use Rattle.raft_shared.specs.Slot.{Slot, HaveShares}
+use Rattle.raft_shared.proofs.Common.{◌≡◌, ◌∷◌, [], ◌++◌, ◌+◌, drop, slice_index_or, append_assoc, append-nil, sym, ap, subst, ◌∙◌, arith, at_drop_more, drop_of_length-le, Slot, HaveShares}
 use Rattle.raft_shared.proofs.ShareLemmas.{share-at, shares-listed, length-listed}
 use Rattle.raft_shared.proofs.shared_accessor.share_out.Goals as goal
 

@@ -1,5 +1,4 @@
-use Rattle.std.proofs.Common.{◌≡◌, ℕ, List, ◌++◌, drop, length}
-use Rattle.raft_shared.specs.Slot.{HaveShares}
+use Rattle.raft_shared.proofs.Common.{◌≡◌, ℕ, List, ◌++◌, drop, length, HaveShares}
 use Rattle.raft_shared.proofs.shared_accessor.share_out.Given as goal
 
 -- the regions that are listed and those that are left make up the whole

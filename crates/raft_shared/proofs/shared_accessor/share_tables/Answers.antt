@@ -1,6 +1,4 @@
-use Rattle.std.proofs.Common.{◌∷◌, [], length, sym, ap, subst, ◌∙◌, arith}
-use Rattle.std.proofs.lemmas.List.{length-append}
-use Rattle.raft_shared.specs.Slot.{HasShare, HaveShares}
+use Rattle.raft_shared.proofs.Common.{◌∷◌, [], length, sym, ap, subst, ◌∙◌, arith, length-append, HasShare, HaveShares}
 use Rattle.raft_shared.proofs.ShareLemmas.{shares-more, share-taken, left-taken}
 use Rattle.raft_shared.proofs.shared_accessor.share_tables.Goals as goal
 

@@ -1,5 +1,4 @@
-use Rattle.std.proofs.Common.{◌≡◌, [], length}
-use Rattle.raft_shared.specs.Slot.{HaveShares}
+use Rattle.raft_shared.proofs.Common.{◌≡◌, [], length, HaveShares}
 use Rattle.raft_shared.proofs.ShareLemmas.{AreLeft}
 use Rattle.raft_shared.proofs.shared_accessor.share_tables.Given as goal
 

@@ -1,7 +1,4 @@
-use Rattle.std.proofs.Common.{sym}
-use Rattle.raft_replay.specs.declared.piece.Piece.{Piece}
-use Rattle.raft_replay.specs.Covers.{covers}
-use Rattle.raft_tickets.proofs.DrawingLemmas.{one_fewer}
+use Rattle.raft_replay.proofs.Common.{sym, Piece, covers, one_fewer}
 use Rattle.raft_replay.proofs.piece.Piece.at.Goals as goal
 
 pub returns-then-number-last-clause-covered : goal.returns-then-number-last-clause-covered

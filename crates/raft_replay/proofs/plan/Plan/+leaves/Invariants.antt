@@ -1,8 +1,4 @@
-use Rattle.std.proofs.Common.{◌≡◌, ℕ, ◌+◌, ◌-◌, ◌^◌, min}
-use Rattle.std.specs.Borrow.{Bor}
-use Rattle.raft_replay.specs.declared.plan.Plan.{Plan}
-use Rattle.raft_replay.specs.Plans.{leaves}
-use Rattle.raft_tickets.specs.Weights.{weigh}
+use Rattle.raft_replay.proofs.Common.{◌≡◌, ℕ, ◌+◌, ◌-◌, ◌^◌, min, Bor, Plan, leaves, weigh}
 use Rattle.raft_replay.proofs.WalkLemmas.{nodes}
 use Rattle.raft_replay.proofs.plan.Plan.+leaves.Given as goal
 

@@ -1,6 +1,4 @@
-use Rattle.std.proofs.Common.{◌++◌}
-use Rattle.raft_accessor.specs.Walks.{Makes}
-use Rattle.raft_accessor.proofs.WalkLemmas.{folds-append}
+use Rattle.raft_shared.proofs.Common.{◌++◌, Makes, folds-append}
 use Rattle.raft_shared.proofs.shared_accessor.SharedAccessor.fold.Goals as goal
 
 pub loop-slot-preserved : goal.loop-slot-preserved

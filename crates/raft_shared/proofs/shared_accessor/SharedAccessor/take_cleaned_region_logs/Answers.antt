@@ -1,6 +1,4 @@
-use Rattle.std.proofs.Common.{subst, sym, ap, ◌∙◌}
-use Rattle.raft_records.specs.LogBatch.{Batch}
-use Rattle.raft_shared.specs.SharedCalls.{HasCleans}
+use Rattle.raft_shared.proofs.Common.{subst, sym, ap, ◌∙◌, Batch, HasCleans}
 use Rattle.raft_shared.proofs.SharedLemmas.{no_cleans, more_cleans}
 use Rattle.raft_shared.proofs.shared_accessor.SharedAccessor.take_cleaned_region_logs.Goals as goal
 

@@ -1,6 +1,4 @@
-use Rattle.std.proofs.Common.{◌≡◌}
-use Rattle.raft_records.specs.LogBatch.{is_open}
-use Rattle.raft_shared.specs.SharedCalls.{HasCleans}
+use Rattle.raft_shared.proofs.Common.{◌≡◌, is_open, HasCleans}
 use Rattle.raft_shared.proofs.shared_accessor.SharedAccessor.take_cleaned_region_logs.Given as goal
 
 abbrev pub invariant-loop-slot : goal.invariant-loop-slot

@@ -1,25 +1,14 @@
-use Rattle.std.proofs.Common.{◌≡◌, ◌⊎◌, ◌+◌, ◌≤◌, ◌^◌, Ok, Err, Some, None, IfSome, refl, sym, ap, subst, ◌∙◌, inl, inr}
+use Rattle.raft_shared.proofs.Common.{◌≡◌, ◌+◌, ◌≤◌, ◌^◌, Ok, Err, Some, None, IfSome, sym, subst, inl, inr, IfOk, live_of, IsSlotTable, table-counted}
+use Rattle.std.proofs.lemmas.Result.{IfErr-weaker}
 use Rattle.std.specs.FinMap as finite
-use Rattle.std.specs.Result.{IfOk, IfErr}
-use Rattle.raft_base.specs.declared.errors.Error.TheVariants as errors
-use Rattle.raft_base.specs.declared.pipe_log.LogQueue.{LogQueue}
-use Rattle.raft_table.specs.Counts.{live}
-use Rattle.raft_table.specs.Table.{live_of}
-use Rattle.raft_accessor.specs.Accessor.{live_in_all}
-use Rattle.raft_shared.specs.Slot.{Slot, IsSlotTable}
-use Rattle.raft_shared.specs.declared.slot.Slot.TheInside.{Inside}
-use Rattle.raft_accessor.proofs.LiveLemmas.{table-counted}
-use Rattle.raft_shared.proofs.SlotKeeping.{kept-with}
+use Rattle.raft_shared.proofs.SlotKeeping.{kept-by}
 use Rattle.raft_shared.proofs.slot.Slot.insert.Goals as goal
 
 pub insert-requires-clause-counted : goal.insert-requires-clause-counted
 insert-requires-clause-counted c = table-counted c.self.inside.tables c.self.inside.stats c.args.id c.self.invariant.counted
 
-abbrev after : goal.After-insert → Inside
-after c = record c.self.inside { tables = c.insert.new.self; stats = c.insert.new.stats }
-
 pub invariant_of-self : goal.invariant_of-self
-invariant_of-self c = kept-with c.self.inside (after c) c.args.id c.self.invariant (c.requires.slot ∙ sym (ap (λ (s : Slot). s.number) c.self.view_is)) refl c.insert.ensures.one c.insert.ensures.recounted c.self.invariant.cleaned
+invariant_of-self c = kept-by c.insert.new.stats c.args.id c.self.invariant c.self.view_is c.requires.slot c.insert.ensures.one c.insert.ensures.recounted
 
 pub returns-clause-own : goal.returns-clause-own
 returns-clause-own c =
@@ -32,14 +21,7 @@ returns-clause-own c =
 
 pub returns-clause-fault : goal.returns-clause-fault
 returns-clause-fault c =
-    rw (← c.self.view_is) (elim c.insert.result
-    as (λ r. IfErr r (λ e. (e ≡ errors.Memory) ⊎
-    ((e ≡ errors.Full) × ((q : LogQueue) × (2 ^ 64 ≤ live q c.self.inside.stats + live_of q c.args.table)))) →
-    IfErr r (λ e. (e ≡ errors.Memory) ⊎
-    ((e ≡ errors.Full) × ((q : LogQueue) × (2 ^ 64 ≤ live_in_all q c.self.inside.tables + live_of q c.args.table))))) [
-      | Ok n ↦ λ f. tt
-      | Err x ↦ λ f. elim f [
-        | inl m ↦ inl m
-        | inr g ↦ inr (g.0, (g.1.0, subst (λ n. 2 ^ 64 ≤ n + live_of g.1.0 c.args.table) (c.self.invariant.counted g.1.0) g.1.1))
-      ]
-    ] c.insert.ensures.fault)
+    rw (← c.self.view_is) (IfErr-weaker c.insert.result _ _ (λ e f. elim f [
+      | inl m ↦ inl m
+      | inr g ↦ inr (g.0, (g.1.0, subst (λ n. 2 ^ 64 ≤ n + live_of g.1.0 c.args.table) (c.self.invariant.counted g.1.0) g.1.1))
+    ]) c.insert.ensures.fault)

@@ -1,7 +1,5 @@
-use Rattle.std.proofs.Common.{◌≡◌, Some, None, IfSome, sym}
+use Rattle.raft_shared.proofs.Common.{◌≡◌, Some, None, IfSome, sym, option_map, IsSlotTable}
 use Rattle.std.specs.FinMap as finite
-use Rattle.std.specs.Option.{option_map}
-use Rattle.raft_shared.specs.Slot.{IsSlotTable}
 use Rattle.raft_shared.proofs.slot.Slot.table.Goals as goal
 
 pub returns-clause-allowed : goal.returns-clause-allowed

@@ -1,7 +1,5 @@
-use Rattle.std.proofs.Common.{◌≡◌, Some, None, IfSome, refl, sym, ap, ◌∙◌}
+use Rattle.raft_shared.proofs.Common.{◌≡◌, Some, None, IfSome, refl, sym, ap, ◌∙◌, Slot, IsSlotTable, table-counted}
 use Rattle.std.specs.FinMap as finite
-use Rattle.raft_shared.specs.Slot.{Slot, IsSlotTable}
-use Rattle.raft_accessor.proofs.LiveLemmas.{table-counted}
 use Rattle.raft_shared.proofs.SlotKeeping.{kept-taken}
 use Rattle.raft_shared.proofs.slot.Slot.take.Goals as goal
 

@@ -1,9 +1,0 @@
-use Rattle.std.proofs.Common.{map}
-use Rattle.std.specs.List.{AllByRecursion}
-use Rattle.raft_records.specs.Item.{item_of}
-use Rattle.raft_shared.specs.SharedCalls.{MayBeWritten}
-use Rattle.raft_accessor.specs.Writes.{Appending}
-use Rattle.raft_shared.proofs.shared_accessor.SharedAccessor.apply_append_writes.Given as goal
-
-abbrev pub invariant-loop-item : goal.invariant-loop-item
-invariant-loop-item g l = AllByRecursion (MayBeWritten Appending) (map item_of l.yielded)

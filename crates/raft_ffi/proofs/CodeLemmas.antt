@@ -1,18 +1,11 @@
 -- The code of a refusal.
-use Rattle.std.proofs.Common.{◌≡◌, ◌≢◌, ◌∙◌, ap, sym, subst, ℕ, Result, Ok, Err, OnErr, OnOk, IfErr, Option, Some, None}
-use Rattle.raft_base.specs.declared.errors.Error.{Error}
+use Rattle.raft_ffi.proofs.Common.{◌≡◌, ◌≢◌, ◌∙◌, sym, subst, ℕ, Result, Ok, Err, OnErr, OnOk, IfErr, Option, Some, None, Error, AllHold, BothHold, Holds, IsCodeForBoth, IsCodeOf, code_of}
 use Rattle.raft_base.specs.declared.errors.Error.TheVariants as errors
-use Rattle.raft_ffi.specs.Calls.{AllHold, BothHold, Holds, IsCodeForBoth, IsCodeOf, code_of}
 
 -- a call that was refused for this reason has the code of an error that has it
 pub refusal : {R : Type 0} (r : Result R Error) (code : ℕ) (P : Error → Type 0) → OnOk r (code ≡ 0) → IfErr r (λ e. code ≡ code_of e) → IfErr r P → code ≢ 0 → IsCodeOf P code
 refusal (Ok x) code P zero is fault some = absurd (some zero)
 refusal (Err e) code P zero is fault some = (e, fault, is)
-
--- a call that was refused since it doesn't serve any more has that error's code
-pub failing : {R : Type 0} (r : Result R Error) (code : ℕ) → OnOk r (code ≡ 0) → IfErr r (λ e. code ≡ code_of e) → IfErr r (λ e. e ≡ errors.Failed) → code ≢ 0 → code ≡ 12
-failing (Ok x) code zero is failed some = absurd (some zero)
-failing (Err e) code zero is failed some = is ∙ ap code_of failed
 
 -- a call that was refused for what two handles hold has the code of an error that has this reason
 pub refused_both : {R V W : Type 0} (P : V → W → Error → Type 0) (r : Result R Error) (code : ℕ) {one : Option V} {other : Option W} {v u : V} {w x : W} → one ≡ Some v → other ≡ Some w → u ≡ v → x ≡ w

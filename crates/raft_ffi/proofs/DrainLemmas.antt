@@ -1,18 +1,7 @@
 -- The items that a loop takes of a batch that was drained.
-use Rattle.std.proofs.Common.{◌≡◌, List, [], ◌∷◌, ◌++◌, length, map, Result, Ok, Err, OnOk, IfErr, refl, sym, ap, ◌∙◌, subst}
-use Rattle.std.proofs.lemmas.Iterator.{items_from_drains}
-use Rattle.std.proofs.lemmas.Iterator.Adapters.{YieldsList-from_vec}
-use Rattle.std.proofs.lemmas.List.{map-id, length-map}
-use Rattle.std.specs.Global.{Global}
-use Rattle.std.specs.Iterator.{Yields, Drains}
-use Rattle.std.specs.Vec.Iter.{into_iter_items, into_iter_len, into_iter_steps}
-use Rattle.std.specs.declared.vec.IntoIter.{IntoIter}
-use Rattle.raft_base.specs.declared.errors.Error.{Error}
-use Rattle.raft_records.specs.declared.log_item.LogItem.{LogItem}
-use Rattle.raft_records.specs.Item.{Item, item_of}
-use Rattle.raft_accessor.specs.Accessor.{Accessor}
-use Rattle.raft_accessor.specs.Writes.{Writing, AreWritten, AreItemsRefused}
-use Rattle.raft_ffi.specs.Changes.{IsStoppedAt}
+use Rattle.raft_ffi.proofs.Common.{◌≡◌, List, [], ◌∷◌, ◌++◌, length, map, Result, Ok, Err, OnOk, IfErr, refl, sym, ap, ◌∙◌, subst, items_from_drains, YieldsList-from_vec, map-append, map-id, length-map}
+use Rattle.raft_ffi.proofs.Common.{Global, Yields, Drains, into_iter_items, into_iter_len, into_iter_steps, IntoIter, Error, LogItem, Item, item_of, Accessor, Writing, AreWritten, AreItemsRefused}
+use Rattle.raft_ffi.proofs.Common.{IsStoppedAt}
 
 -- all items, in order
 pub drained : {X Z : Type 0} (s : IntoIter X Z) (xs : List X) → into_iter_len s ≡ length (into_iter_items s) → Drains into_iter_steps s xs → xs ≡ into_iter_items s
@@ -32,10 +21,6 @@ pub parted : {X Z : Type 0} (s u : IntoIter X Z) (xs : List X) → Yields into_i
 parted s u [] y = ap into_iter_items y
 parted s u (x ∷ xs) y = y.1.0 ∙ ap (λ l. x ∷ l) (parted y.0 u xs y.2)
 
-map_append : {X Y : Type 0} (f : X → Y) (xs ys : List X) → map f (xs ++ ys) ≡ map f xs ++ map f ys
-map_append f [] ys = refl
-map_append f (x ∷ xs) ys = ap (λ l. f x ∷ l) (map_append f xs ys)
-
 -- a loop that stopped has taken the items up to the refused one
 pub stopped_so : {R : Type 0} (r : Result R Error) (w : Writing) (s : IntoIter LogItem Global) (items : List Item) (old new : Accessor) → map item_of (into_iter_items s) ≡ items
     → IfErr r (λ e. (it : IntoIter LogItem Global) × (xs : List LogItem) × (u : IntoIter LogItem Global) × (it ≡ s) × Yields into_iter_steps it xs u × AreItemsRefused w (map item_of xs) old new e)
@@ -46,6 +31,6 @@ stopped_so (Err x) w s items old new e p =
     record {
       taken = map item_of p.1;
       left = map item_of (into_iter_items p.2);
-      split = sym e ∙ ap (map item_of) (parted s p.2 p.1 yields) ∙ map_append item_of p.1 (into_iter_items p.2);
+      split = sym e ∙ ap (map item_of) (parted s p.2 p.1 yields) ∙ map-append item_of p.1 (into_iter_items p.2);
       refused = p.5;
     }

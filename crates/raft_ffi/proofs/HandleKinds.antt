@@ -1,4 +1,4 @@
--- The types of handles, by what they hold.
+-- The types of handles, by what they hold, and the proofs of the calls of each.
 use mathlib.Core.Path.{refl}
 use Rattle.raft_records.specs.contracts.log_batch.LogBatch as HeldBatch
 use Rattle.raft_records.proofs.log_batch.LogBatch.TheLaws as held_batch
@@ -19,6 +19,9 @@ use Rattle.raft_ffi.specs.contracts.found_files.FoundFiles as HeldFound
 use Rattle.raft_ffi.proofs.found_files.FoundFiles.TheLaws as held_found
 use Rattle.raft_ffi.specs.contracts.handles.Found as Found
 use Rattle.raft_ffi.proofs.HandleSteps.{Handle}
+pub use Rattle.raft_ffi.proofs.MoveSteps.{empty, of_parts, into_parts}
+pub use Rattle.raft_ffi.proofs.SendSteps.{send}
+pub use denote.Param.Send.{IsSend}
 
 abbrev pub batch : Handle
 batch = record { of = HeldBatch.the_row; laws = held_batch.the_row_laws; owner = Batch.the_type; shown = λ d. (d.at, (d.alloc, d.value)); make = λ p a o. record { at = p; alloc = a; value = o }; made = λ p a o. refl }

@@ -1,25 +1,10 @@
 -- The handles of a type, whatever it is that they may hold.
 use Rattle.std.specs.Prelude.{Option}
-use Rattle.std.specs.Global.{Global}
+use Rattle.raft_ffi.proofs.Common.{Global, ghosts, dict, Bx, handle_owned}
 use Rattle.std.specs.contracts.alloc.Global as Heap
-use Rattle.std.specs.contracts.impls.GlobalAllocator.TheImpl.{ghosts, dict}
 use Rattle.std.proofs.alloc.Global.TheLaws as heap
-use Rattle.std.proofs.BoxSteps.Form.{Bx}
-use Rattle.raft_ffi.specs.Handles.{handle_owned}
-use mathlib.Core.Path.{◌≡◌, sym}
-use mathlib.Core.List.{List, [], ◌∷◌}
-use mir.Syntax.{Ty, impl, tnil, tcons, dnil, ty_ptr, ty_struct}
-use mir.Val.{Val}
-use base.Fml.{Fml, fsep}
-use denote.Exit.{under, hidden}
-use denote.RattleType.{RattleType, Denots}
-use denote.RawPtr.{Ptr}
-use denote.Param.{layout}
-use denote.Param.Laws.{Laws}
-use denote.Struct.Field.{Field, RawPtr-field, rows}
-use denote.Struct.Values.{intos}
-use denote.Struct.Struct.{Struct, exits_of}
-use denote.Struct.Owning.{Owning, shape}
+use Rattle.raft_ffi.proofs.Walks.{◌≡◌, sym, List, [], ◌∷◌, Ty, impl, tnil, tcons, dnil, ty_ptr, ty_struct, Val, Fml, fsep, under, hidden, RattleType, Denots, Ptr, layout, Laws, Field}
+use Rattle.raft_ffi.proofs.Walks.{RawPtr-field, rows, intos, Struct, exits_of, Owning, shape}
 use denote.Struct.Owning as owning
 
 -- a type whose values are one machine value each

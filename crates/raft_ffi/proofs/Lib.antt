@@ -1,12 +1,11 @@
+mod Common
+mod Walks
 pub mod HandleSteps
 pub mod HandleKinds
 pub mod MoveSteps
 pub mod SendSteps
-pub mod RoomLemmas
 pub mod DrainLemmas
 pub mod CodeLemmas
-pub mod ExactLemmas
 pub mod StringLemmas
 pub mod OrderLemmas
-pub mod OpenLemmas
 pub mod PairLemmas

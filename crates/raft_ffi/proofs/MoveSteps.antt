@@ -1,44 +1,14 @@
 -- The calls that make handles and take them apart, whatever these may hold: each moves two fields, and what they own goes with them.
-use Rattle.std.specs.Prelude.{Option, Some, None, IsTrue, is_some}
+use Rattle.raft_ffi.proofs.Common.{IsTrue, is_some, ghosts, handle_tells, Bx, D, B, word, box_typed, box_out, box_in, and_tt}
+use Rattle.std.specs.Prelude.{Option, Some, None}
 use Rattle.std.specs.contracts.alloc.Global as Heap
-use Rattle.std.specs.contracts.impls.GlobalAllocator.TheImpl.{ghosts}
-use Rattle.std.proofs.alloc.Calls.{handle_tells}
-use Rattle.std.proofs.BoxSteps.Form.{Bx, D, B, word, box_typed}
-use Rattle.std.proofs.BoxSteps.Steps.{box_out, box_in}
-use Rattle.std.proofs.ResultValues.{and_tt}
-use lib.Dec.{lit<}
-use mathlib.Core.Bool.{true≢false}
-use mathlib.Core.Path.{◌≡◌, refl, sym, subst}
-use mathlib.Core.List.{List, [], ◌∷◌, ◌++◌}
-use seplogic.Ra.Ura.{Ura}
-use mir.Syntax.{Fn, Ty, Body, Local, Callee, tnil, tcons, ty_ptr, ty_struct, w64, local, value_local, place, field, copy, int, assign, aggregate, rv_opd, seq, return}
-use mir.Val.{Val, vint, vstruct, of_list}
-use base.Logic.{ent, emp, id⊢}
-use base.Fml.{Fml, ftrue, fsep}
-use prog.Model.{Model}
-use prog.Wp.{WpFn, Tables, Closed}
-use types.Logic.{Logic}
-use sound.WpLaws.{WpFn-mono}
-use types.Kit.{Item, ‵, raw, ◌⊛◌, ◌$◌, ◌∵◌, !, qed, by, move, drop, use1, join, split, fsplit, fjoin, suffices, done, feq_i, fpack, rewrite}
-use types.Part.{agg, whole, sub}
-use types.Run.{stop, fld, lit, no_more, and_then, of_opd, returns, enter}
-use types.ByLocal.{alloc_all, pass_all, free_all, look_at, get, get_in, sets}
-use contract.Monad.{fact}
-use contract.Running.{Running, tables, tables_of}
-use denote.Exit.{yes}
-use denote.RattleType.{RattleType, Valss}
-use denote.RawPtr.{RawPtr, null_ptr, ptr_val}
-use denote.Param.{layout}
-use denote.Signature.{Slot, plain}
-use denote.Steps.{heard, nothing}
-use denote.Struct.Struct.{within}
-use denote.Struct.Owning.{shape}
-use denote.Triple.Clauses.{Ended, Clauses, closing}
-use denote.Triple.Spec.{triple_of}
-use denote.Triple.Statement.{Triple}
-use denote.Triple.Table.{entered}
-use denote.Triple.Walked.{says, Silent, Stays, stay_dropped, walk_of, ends_at, Goes-dropped, walk_Meets}
-use Rattle.raft_ffi.specs.contracts.parts.Parts as Parts
+use Rattle.raft_ffi.proofs.Walks.{lit<, true≢false, ◌≡◌, refl, sym, subst, List, [], ◌∷◌, ◌++◌, Ura, Fn, Ty, Body, Local, Callee, tnil, tcons, ty_ptr, ty_struct, w64, local, value_local, place}
+use Rattle.raft_ffi.proofs.Walks.{field, copy, int, assign, aggregate, rv_opd, seq, return, Val, vint, vstruct, of_list, ent, emp, id⊢, Fml, ftrue, fsep, Model, WpFn, Tables, Closed, Logic}
+use Rattle.raft_ffi.proofs.Walks.{WpFn-mono, Item, ‵, raw, ◌⊛◌, ◌$◌, ◌∵◌, !, qed, by, move, drop, use1, join, split, fsplit, fjoin, suffices, done, feq_i, fpack, rewrite, agg, whole, sub, stop}
+use Rattle.raft_ffi.proofs.Walks.{fld, lit, no_more, and_then, of_opd, returns, enter, alloc_all, pass_all, free_all, look_at, get, get_in, sets, fact, Running, tables, tables_of, yes}
+use Rattle.raft_ffi.proofs.Walks.{RattleType, Valss, RawPtr, null_ptr, ptr_val, layout, Slot, plain, heard, nothing, within, shape, Ended, Clauses, closing, triple_of, Triple, entered, says}
+use Rattle.raft_ffi.proofs.Walks.{Silent, Stays, stay_dropped, walk_of, ends_at, Goes-dropped, walk_Meets}
+use Rattle.raft_ffi.specs.contracts.handles.Parts as Parts
 use Rattle.raft_ffi.proofs.HandleSteps.{Handle, D as Values, held, value, made_value, box, type, row, ty, fields_at, Own, own_made}
 
 -- a call with these locals and this body, by which a value becomes one of another type

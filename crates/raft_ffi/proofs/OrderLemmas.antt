@@ -1,8 +1,5 @@
 -- Orders as numbers and bytes.
-use Rattle.std.proofs.Common.{◌≡◌, ℕ, ◌≤◌, List, ◌++◌, length, take, drop, refl, ap, ◌∙◌}
-use Rattle.std.proofs.lemmas.List.{take_all, take_at}
-use Rattle.raft_files.specs.Asks.{Put}
-use Rattle.raft_ffi.specs.Rooms.{IsCopied}
+use Rattle.raft_ffi.proofs.Common.{◌≡◌, ℕ, ◌≤◌, List, ◌++◌, length, take, drop, refl, ap, ◌∙◌, take_all, take_at, Put, IsCopied}
 
 -- where there is room for all bytes that are put, the first ones are these
 pub put_says : (put room new : List ℕ) (n : ℕ) → IsCopied put room new n → length put ≤ length room → Put (take n new) ≡ Put put

@@ -1,21 +1,9 @@
 -- Pairs of keys and values that are kept by a test, or put in the order of their keys.
 use denote.Param.Members.{Mut}
 use denote.Ref.{Bor}
-use Rattle.std.proofs.Common.{◌≡◌, ◌<◌, ◌+◌, arith, ℕ, Bool, true, false, cond, List, [], ◌∷◌, filter, map, length, refl, ap, ◌∙◌, subst, Option, Result, Ok, Err, OnOk}
-use Rattle.std.proofs.lemmas.Cmp.{nat_list_cmp_total}
-use Rattle.std.proofs.lemmas.Fn.{always_returns_same}
-use Rattle.std.proofs.lemmas.List.{get_or-map, length-map}
-use Rattle.std.proofs.lemmas.List.Sorted.{ranks_by}
-use Rattle.std.specs.Cmp.{IsStrictWeakOrder}
-use Rattle.std.specs.Cmp.Lexicographic.{slice_cmp}
-use Rattle.std.specs.declared.cmp.Ordering.{Ordering}
-use Rattle.std.specs.Fn.{Called, ComparesAs}
-use Rattle.std.specs.List.Sorted.{IsSortedBy}
-use Rattle.std.specs.Ordering.{is_lt, nat_cmp}
-use Rattle.std.specs.Prelude.{slice_index_or}
-use Rattle.raft_base.specs.declared.errors.Error.{Error}
-use Rattle.raft_table.specs.KeyValues.{Keys}
-use Rattle.raft_ffi.specs.Pairs.{AreInKeyOrder, ArePairsIn, AreScanned, AreScannedIn}
+use Rattle.raft_ffi.proofs.Common.{◌≡◌, ◌<◌, ◌+◌, arith, ℕ, Bool, true, false, cond, List, [], ◌∷◌, filter, map, length, refl, ap, ◌∙◌, subst, Option, Result, Ok, Err, OnOk, nat_list_cmp_total}
+use Rattle.raft_ffi.proofs.Common.{always_returns_same, get_or-map, length-map, ranks_by, IsStrictWeakOrder, slice_cmp, Ordering, Called, ComparesAs, IsSortedBy, is_lt, nat_cmp, slice_index_or}
+use Rattle.raft_ffi.proofs.Common.{Error, Keys, AreInKeyOrder, ArePairsIn, AreScanned, AreScannedIn}
 
 -- a test of what elements are shown as
 pub kept_shown : {E P : Type 0} (show : E → P) (t : P → Bool) (es : List E) → map show (filter (λ e. t (show e)) es) ≡ filter t (map show es)

@@ -1,19 +1,11 @@
 -- A handle may go to another thread, as what it holds may.
 use mir.Raw.{raw}
-use base.Fraction.{full_share}
-use base.Shift.{Keyless}
-use denote.RattleType.{RattleType}
-use denote.Exit.{Exit, unchanged, leaves, hidden, under}
-use denote.Memory.{lone}
-use denote.RawPtr.{Ptr, block_ptr, null_ptr, lies_at}
-use denote.Struct.Struct.{exits_of}
-use denote.Struct.Owning.{shape, fields, to}
-use denote.Param.Send.{IsSend, AllSend, Quiet, part_keyless, owning_send, struct_send, sendable}
+use Rattle.raft_ffi.proofs.Walks.{full_share, Keyless, RattleType, Exit, unchanged, leaves, hidden, under, lone, Ptr, block_ptr, null_ptr, lies_at, exits_of, shape, fields, to, IsSend, AllSend}
+use Rattle.raft_ffi.proofs.Walks.{Quiet, part_keyless, owning_send, struct_send, sendable}
 use Rattle.std.specs.Prelude.{Option, Some, None}
-use Rattle.std.specs.Global.{Global}
+use Rattle.raft_ffi.proofs.Common.{Global, handle_owned}
 use Rattle.std.proofs.Crossing as heap
 use Rattle.std.proofs.alloc.Global.TheSendSync as global
-use Rattle.raft_ffi.specs.Handles.{handle_owned}
 use Rattle.raft_ffi.proofs.HandleSteps.{Handle, held, value, type, row}
 
 quiet : {D X : Type 0} (to : D → X) (e : Exit X) → Quiet e → Quiet (hidden (under to e))

@@ -1,11 +1,6 @@
 -- Entries of consecutive indexes, and strings cut from bytes.
-use Rattle.std.proofs.Common.{◌≡◌, ◌≢◌, ℕ, ◌+◌, ◌-◌, ◌^◌, ◌<◌, suc, List, [], ◌∷◌, ◌++◌, length, drop, Result, Ok, Err, OnOk, refl, sym, ap, ◌∙◌, arith}
-use Rattle.std.specs.List.{AllByRecursion}
-use Rattle.std.proofs.lemmas.List.{at_drop_more, append_assoc}
-use Rattle.raft_base.specs.declared.entry_index.EntryIndex.{EntryIndex}
-use Rattle.raft_base.specs.Runs.{RisesFrom, IsRun, IsConsecutive}
-use Rattle.raft_records.specs.Entries.{entry_with_index}
-use Rattle.raft_ffi.specs.Strings.{entries_from, strings_of}
+use Rattle.raft_ffi.proofs.Common.{◌≡◌, ◌≢◌, ℕ, ◌+◌, ◌-◌, ◌^◌, ◌<◌, suc, List, [], ◌∷◌, ◌++◌, length, drop, Result, Ok, Err, OnOk, refl, sym, ap, ◌∙◌, arith, AllByRecursion, at_drop_more}
+use Rattle.raft_ffi.proofs.Common.{append_assoc, EntryIndex, RisesFrom, IsRun, IsConsecutive, entry_with_index, entries_from, strings_of}
 
 rises : (first : ℕ) (lens : List ℕ) → RisesFrom first (entries_from first lens)
 rises first [] = tt

@@ -1,5 +1,5 @@
 -- What the calls of this library say.
-use Rattle.std.specs.Prelude.{◌≡◌, ℕ, Option, Some, None, Bool, true, false}
+use Rattle.std.specs.Prelude.{◌≡◌, ◌≢◌, ℕ, Option, Some, None, Bool, true, false}
 use Rattle.raft_base.specs.declared.errors.Error.{Error}
 use Rattle.raft_base.specs.declared.errors.Error.TheVariants as errors
 use Rattle.raft_base.specs.declared.pipe_log.LogQueue.{LogQueue}
@@ -79,3 +79,38 @@ AllHold P _ _ _ = ⊥
 abbrev pub next_shown : {V : Type 0} → Option V → ℕ → Option (V × ℕ)
 next_shown None next = None
 next_shown (Some v) next = Some (v, next)
+
+-- what a handle holds is so, and stays
+pub record IsRead {V : Type 0} (P : V → Type 0) (old new : Option V) : Type 0 where
+  pub found : Holds P old
+  pub same : new ≡ old
+
+-- what a handle holds is so where the number is 0; else there was no memory to read it, which has the number 11. It stays
+pub record IsReadIfMemory {V : Type 0} (code : ℕ) (P : V → Type 0) (old new : Option V) : Type 0 where
+  pub ok : code ≡ 0 → Holds P old
+  pub memory : code ≢ 0 → code ≡ 11
+  pub same : new ≡ old
+
+-- what a handle holds is so where the number is 0; else the number is that of an error for which it is refused. It stays
+pub record IsReadOrRefused {V : Type 0} (code : ℕ) (P : V → Type 0) (IsFault : V → Error → Type 0) (old new : Option V) : Type 0 where
+  pub ok : code ≡ 0 → Holds P old
+  pub fault : code ≢ 0 → IsCodeFor IsFault old code
+  pub same : new ≡ old
+
+-- a handle holds this where the number is 0; else nothing, for want of memory, which has the number 11
+pub record IsMadeIfMemory {V : Type 0} (code : ℕ) (v : V) (new : Option V) : Type 0 where
+  pub ok : code ≡ 0 → new ≡ Some v
+  pub err : code ≢ 0 → new ≡ None
+  pub memory : code ≢ 0 → code ≡ 11
+
+-- what a handle holds has changed so where the number is 0; else it stays, for want of memory, which has the number 11
+pub record IsChangedIfMemory {V : Type 0} (code : ℕ) (P : V → V → Type 0) (old new : Option V) : Type 0 where
+  pub ok : code ≡ 0 → BothHold P old new
+  pub err : code ≢ 0 → new ≡ old
+  pub memory : code ≢ 0 → code ≡ 11
+
+-- what a handle holds has changed so where the number is 0; else it stays, and the number is that of an error for which it is refused
+pub record IsChangedOrRefused {V : Type 0} (code : ℕ) (P : V → V → Type 0) (IsFault : V → Error → Type 0) (old new : Option V) : Type 0 where
+  pub ok : code ≡ 0 → BothHold P old new
+  pub err : code ≢ 0 → new ≡ old
+  pub fault : code ≢ 0 → IsCodeFor IsFault old code

@@ -1,5 +1,5 @@
 -- How the calls of a running engine change tables.
-use Rattle.std.specs.Prelude.{◌≡◌, ◌⊎◌, ℕ, ◌+◌, List, ◌++◌, [], ◌∷◌, length, Bool, Option, Some, if◌then◌else◌}
+use Rattle.std.specs.Prelude.{◌≡◌, ◌≢◌, ◌⊎◌, Result, OnOk, OnErr, IfErr, ℕ, ◌+◌, List, ◌++◌, [], ◌∷◌, length, Bool, Option, Some, if◌then◌else◌}
 use Rattle.std.specs.FinMap as finite
 use Rattle.raft_base.specs.declared.entry_index.EntryIndex.{EntryIndex}
 use Rattle.raft_base.specs.declared.errors.Error.{Error}
@@ -8,15 +8,16 @@ use Rattle.raft_base.specs.declared.pipe_log.FileId.{FileId}
 use Rattle.raft_base.specs.declared.pipe_log.LogQueue.TheVariants.{Append, Rewrite}
 use Rattle.raft_records.specs.Item.{Item}
 use Rattle.raft_accessor.specs.Accessor.{Accessor, table_in, AreCountsOf}
-use Rattle.raft_accessor.specs.Merges.{AreTablesMerged}
-use Rattle.raft_accessor.specs.Writes.{Writing, AreItemsRefused}
+use Rattle.raft_accessor.specs.Merges.{AreOthersLeft, AreTablesLeft, AreTablesMerged, IsMergeRefusal}
+use Rattle.raft_accessor.specs.Writes.{AreItemsRefused, AreWritten, Writing}
 use Rattle.raft_table.specs.Change.{IsListFault}
+use Rattle.raft_table.specs.Counts.{Counts}
 use Rattle.raft_table.specs.KeyValues.{file_at}
 use Rattle.raft_table.specs.Rewriting.{entries_after_rewrite, IsRewriteFault}
 use Rattle.raft_table.specs.Start.{entries_after_append, IsTableRunFault}
 use Rattle.raft_table.specs.Table.{Table, after_append, after_rewrite, after_rewrite_key, with_pair, IsTablePutFault, IsKeyRewriteFault}
 use Rattle.raft_table.specs.TableEntries.{below, from}
-use Rattle.raft_ffi.specs.Calls.{IsCodeOf}
+use Rattle.raft_ffi.specs.Calls.{AllHold, BothHold, IsCodeOf}
 
 -- a region's table becomes the outcome of a change, and all others stay; the live counts are those of the tables
 pub record IsChangedTo (outcome : Option Table) (region : ℕ) (old new : Accessor) : Type 0 where
@@ -112,3 +113,22 @@ AreSomeWritten w code items old new = IsCodeOf (IsStoppedAt w items old new) cod
 -- all of it, but for the list of cleaned regions, which is empty
 abbrev pub without_cleaned : Accessor → Accessor
 without_cleaned a = record a { cleaned = [] }
+
+-- the newer tables are merged into the others where the number is 0; else the number is that of an error of the merge, and regions are merged or left. The cleaned regions stay
+pub record AreMergedOrLeft (merge : Table → Table → Option Table) (IsFault : Counts → Table → Table → Error → Type 0) (code : ℕ) (newer old new : Option Accessor) : Type 0 where
+  pub ok : code ≡ 0 → AllHold (AreMerged merge) newer old new
+  pub err : code ≢ 0 → code ≢ 11 → AllHold (λ n o a. AreTablesLeft merge o.tables n.tables a.tables) newer old new
+  pub others : code ≢ 0 → AllHold (λ n o a. AreOthersLeft merge o.tables n.tables a.tables) newer old new
+  pub cleaned : BothHold (λ o a. a.cleaned ≡ o.cleaned) old new
+  pub fault : code ≢ 0 → AllHold (λ n o a. IsCodeOf (IsMergeRefusal (IsFault a.counts) o.tables n.tables) code) newer old new
+
+-- all items are written where the number is 0; else the first ones up to one that is refused, and it is the number of that reason
+pub record AreAllOrSomeWritten (w : Writing) (code : ℕ) (items : Option (List Item)) (old new : Option Accessor) : Type 0 where
+  pub ok : code ≡ 0 → AllHold (AreWritten w) items old new
+  pub refused : code ≢ 0 → AllHold (AreSomeWritten w code) items old new
+
+-- tables changed so where the answer is `Ok`; else they are as they were, and it has this fault
+pub record IsChangeOr {R : Type 0} (answer : Result R Error) (P : Accessor → Accessor → Type 0) (IsFault : Accessor → Error → Type 0) (old new : Accessor) : Type 0 where
+  pub ok : OnOk answer (P old new)
+  pub err : OnErr answer (new ≡ old)
+  pub fault : IfErr answer (IsFault old)

@@ -7,7 +7,7 @@ use Rattle.raft_records.specs.declared.command.Command.TheVariants as commands
 use Rattle.raft_records.specs.declared.key_value.OpType.{OpType}
 use Rattle.raft_records.specs.declared.key_value.OpType.TheVariants as operations
 use Rattle.raft_records.specs.Item.{Item, Content, entries, command, pair}
-use Rattle.raft_ffi.specs.declared.item_calls.ItemHead.{ItemHead}
+use Rattle.raft_ffi.specs.declared.item_list.ItemHead.{ItemHead}
 
 -- the number of a command
 abbrev pub command_kind : Command → ℕ

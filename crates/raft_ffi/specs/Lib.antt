@@ -19,3 +19,4 @@ pub mod FoundFiles
 pub mod FoundFilesView
 pub mod Engines
 pub mod Taking
+pub mod Words

@@ -1,23 +1,15 @@
 //! Calls of batches that are written: items are added to one, its bytes are made, and signed for a file.
 
 ghost use Rattle.std.specs.Prelude.{◌≡◌, ◌≢◌, ℕ, ◌+◌, ◌-◌, ◌^◌, ◌<◌, ◌≤◌, [], IsTrue, IfErr, OnOk, OnErr, Option, Some, None, is_some, length, map, IfOk};
-ghost use Rattle.std.specs.List.{concat};
-ghost use Rattle.raft_base.specs.Signature.{signature_of};
-ghost use Rattle.raft_records.specs.Group.{reserved_key, IsKeyRefusal};
-ghost use Rattle.raft_records.specs.Item.{bare, command_item, pair_item};
-ghost use Rattle.raft_records.specs.LogBatch.{is_open, encoded, sealed, stage_number, IsSealedStage, empty_batch, with_batch, with_entries_added, encoded_length, approximate_length, log_batch_bytes, with_item, IsLogBatch};
-ghost use Rattle.raft_records.specs.Sizes.{HaveSmallNumbers};
+ghost use Rattle.raft_ffi.specs.Words.{AllHold, BothHold, HasStrings, HasText, HaveSmallNumbers, Holds, IsChangedIfMemory, IsCodeOf, IsCopied, IsKeyRefusal, IsLogBatch, IsMadeIfMemory, IsRead};
+ghost use Rattle.raft_ffi.specs.Words.{IsSealedStage, approximate_length, at_stage, bare, command_item, concat, empty_batch, encoded, encoded_length, entries_from, file_of, is_open, log_batch_bytes};
+ghost use Rattle.raft_ffi.specs.Words.{pair_item, place_at, reserved_key, sealed, signature_of, stage_number, strings_of, with_batch, with_entries_added, with_item, written_to};
 ghost use Rattle.raft_records.specs.declared.command.Command.TheVariants.{Clean, Compact, Truncate};
 ghost use Rattle.raft_records.specs.declared.key_value.OpType.TheVariants.{Put, Del};
-ghost use Rattle.raft_ffi.specs.Batches.{at_stage, place_at, written_to};
-ghost use Rattle.raft_ffi.specs.Calls.{file_of, AllHold, BothHold, Holds, IsCodeOf};
-ghost use Rattle.raft_ffi.specs.Rooms.{IsCopied, HasText};
-ghost use Rattle.raft_ffi.specs.Strings.{entries_from, strings_of, HasStrings};
 
-use crate::handles::{Batch, Handle, Items};
+use crate::handles::{Batch, Handle, Items, with};
 use crate::item_list::items_of;
-use crate::rooms::copy_front;
-use crate::status::{File, Status, answered, answered_with, memory_code, queue};
+use crate::status::{File, Status, answered, answered_with, copy_front, memory_code, queue};
 use raft_base::{CompressionType, EntryIndex, Error, FileBlockHandle, FileId, Result};
 use raft_records::{Command, LogBatch};
 use std::alloc::Global;
@@ -26,9 +18,7 @@ use std::alloc::Global;
 #[unsafe(no_mangle)]
 pub extern "C" fn raft_ffi_batch_new(alloc: Global, batch: &mut Batch) -> u32
     requires empty { batch.old.value ≡ None }
-    ensures ok { result ≡ 0 → batch.new.value ≡ Some empty_batch }
-    ensures err { result ≢ 0 → batch.new.value ≡ None }
-    ensures fault { result ≢ 0 → result ≡ 11 }
+    ensures made { IsMadeIfMemory result empty_batch batch.new.value }
 {
     memory_code(&batch.put_new(alloc, LogBatch::default(alloc)))
 }
@@ -37,18 +27,12 @@ pub extern "C" fn raft_ffi_batch_new(alloc: Global, batch: &mut Batch) -> u32
 #[unsafe(no_mangle)]
 pub extern "C" fn raft_ffi_batch_stage(alloc: Global, batch: &mut Batch) -> u32
     requires held { IsTrue (is_some batch.old.value) }
-    ensures same { batch.new.value ≡ batch.old.value }
-    ensures stage { Holds (λ b. result ≡ stage_number b.stage) batch.old.value }
+    ensures stage { IsRead (λ b. result ≡ stage_number b.stage) batch.old.value batch.new.value }
 {
-    let held = batch.take(alloc);
-    let (is_open, is_sealed) = (held.is_open(), held.is_sealed());
-    batch.put(held);
-    if is_open {
-        0
-    } else if is_sealed {
-        2
-    } else {
-        1
+    match with!(held in batch, alloc; (held.is_open(), held.is_sealed())) {
+        (true, _) => 0,
+        (false, false) => 1,
+        (false, true) => 2,
     }
 }
 
@@ -61,10 +45,7 @@ pub extern "C" fn raft_ffi_batch_size(alloc: Global, batch: &mut Batch) -> usize
     ensures covers { Holds (λ b. HaveSmallNumbers b.items → encoded_length b.items b.entry_bytes < 2 ^ 56 →
         encoded_length b.items b.entry_bytes ≤ result) batch.old.value }
 {
-    let held = batch.take(alloc);
-    let size = held.approximate_size();
-    batch.put(held);
-    size
+    with!(held in batch, alloc; held.approximate_size())
 }
 
 /// Adds entries of a region to an open batch: their indexes rise by one from `first` on, and the bytes are those of one after
@@ -93,9 +74,8 @@ pub extern "C" fn raft_ffi_batch_add_entries(
         old.entry_bytes + length (concat (strings_of lens.now bytes.now)))) batch.old.value }
     ensures text { HasText result text.old text.new }
 {
-    let mut held = batch.take(alloc);
-    let answer = add_entries(alloc, &mut *held, region, first, lens, bytes);
-    batch.put(held);
+    let answer =
+        with!(held in batch, alloc; add_entries(alloc, &mut *held, region, first, lens, bytes));
     answered(alloc, &answer, text)
 }
 
@@ -132,14 +112,10 @@ fn add_entries(
 pub extern "C" fn raft_ffi_batch_clean(alloc: Global, batch: &mut Batch, region: u64) -> u32
     requires held { IsTrue (is_some batch.old.value) }
     requires open { Holds (λ b. b.stage ≡ is_open) batch.old.value }
-    ensures ok { result ≡ 0 → BothHold (λ old new. new ≡ with_item old (command_item region Clean)) batch.old.value
+    ensures changed { IsChangedIfMemory result (λ old new. new ≡ with_item old (command_item region Clean)) batch.old.value
         batch.new.value }
-    ensures err { result ≢ 0 → batch.new.value ≡ batch.old.value }
-    ensures fault { result ≢ 0 → result ≡ 11 }
 {
-    let mut held = batch.take(alloc);
-    let answer = held.add_command(region, Command::Clean);
-    batch.put(held);
+    let answer = with!(held in batch, alloc; held.add_command(region, Command::Clean));
     memory_code(&answer)
 }
 
@@ -153,14 +129,10 @@ pub extern "C" fn raft_ffi_batch_compact(
 ) -> u32
     requires held { IsTrue (is_some batch.old.value) }
     requires open { Holds (λ b. b.stage ≡ is_open) batch.old.value }
-    ensures ok { result ≡ 0 → BothHold (λ old new. new ≡ with_item old (command_item region (Compact index)))
+    ensures changed { IsChangedIfMemory result (λ old new. new ≡ with_item old (command_item region (Compact index)))
         batch.old.value batch.new.value }
-    ensures err { result ≢ 0 → batch.new.value ≡ batch.old.value }
-    ensures fault { result ≢ 0 → result ≡ 11 }
 {
-    let mut held = batch.take(alloc);
-    let answer = held.add_command(region, Command::Compact { index });
-    batch.put(held);
+    let answer = with!(held in batch, alloc; held.add_command(region, Command::Compact { index }));
     memory_code(&answer)
 }
 
@@ -174,14 +146,10 @@ pub extern "C" fn raft_ffi_batch_truncate(
 ) -> u32
     requires held { IsTrue (is_some batch.old.value) }
     requires open { Holds (λ b. b.stage ≡ is_open) batch.old.value }
-    ensures ok { result ≡ 0 → BothHold (λ old new. new ≡ with_item old (command_item region (Truncate index)))
+    ensures changed { IsChangedIfMemory result (λ old new. new ≡ with_item old (command_item region (Truncate index)))
         batch.old.value batch.new.value }
-    ensures err { result ≢ 0 → batch.new.value ≡ batch.old.value }
-    ensures fault { result ≢ 0 → result ≡ 11 }
 {
-    let mut held = batch.take(alloc);
-    let answer = held.add_command(region, Command::Truncate { index });
-    batch.put(held);
+    let answer = with!(held in batch, alloc; held.add_command(region, Command::Truncate { index }));
     memory_code(&answer)
 }
 
@@ -197,15 +165,14 @@ pub extern "C" fn raft_ffi_batch_put(
 ) -> Status
     requires held { IsTrue (is_some batch.old.value) }
     requires open { Holds (λ b. b.stage ≡ is_open) batch.old.value }
-    ensures ok { result.code ≡ 0 → BothHold (λ old new. new ≡ with_item old (pair_item region Put key.now (Some value.now))) batch.old.value batch.new.value }
+    ensures ok { result.code ≡ 0 → BothHold (λ old new. new ≡ with_item old (pair_item region Put key.now (Some value.now)))
+        batch.old.value batch.new.value }
     ensures accepted { result.code ≡ 0 → key.now ≢ reserved_key }
     ensures err { result.code ≢ 0 → batch.new.value ≡ batch.old.value }
     ensures fault { result.code ≢ 0 → IsCodeOf (IsKeyRefusal key.now) result.code }
     ensures text { HasText result text.old text.new }
 {
-    let mut held = batch.take(alloc);
-    let answer = put(alloc, &mut *held, region, key, value);
-    batch.put(held);
+    let answer = with!(held in batch, alloc; put(alloc, &mut *held, region, key, value));
     answered(alloc, &answer, text)
 }
 
@@ -231,13 +198,10 @@ pub extern "C" fn raft_ffi_batch_delete(
 ) -> u32
     requires held { IsTrue (is_some batch.old.value) }
     requires open { Holds (λ b. b.stage ≡ is_open) batch.old.value }
-    ensures ok { result ≡ 0 → BothHold (λ old new. new ≡ with_item old (pair_item region Del key.now None)) batch.old.value batch.new.value }
-    ensures err { result ≢ 0 → batch.new.value ≡ batch.old.value }
-    ensures fault { result ≢ 0 → result ≡ 11 }
+    ensures changed { IsChangedIfMemory result (λ old new. new ≡ with_item old (pair_item region Del key.now None)) batch.old.value
+        batch.new.value }
 {
-    let mut held = batch.take(alloc);
-    let answer = delete(alloc, &mut *held, region, key);
-    batch.put(held);
+    let answer = with!(held in batch, alloc; delete(alloc, &mut *held, region, key));
     memory_code(&answer)
 }
 
@@ -275,11 +239,7 @@ pub extern "C" fn raft_ffi_batch_merge(
         old.entry_bytes + length rhs.entry_bytes)) batch.old.value more.old.value }
     ensures text { HasText result text.old text.new }
 {
-    let mut held = batch.take(alloc);
-    let mut rest = more.take(alloc);
-    let answer = held.merge(&mut *rest);
-    batch.put(held);
-    more.put(rest);
+    let answer = with!(held in batch, alloc; with!(rest in more, alloc; held.merge(&mut *rest)));
     answered(alloc, &answer, text)
 }
 
@@ -303,9 +263,7 @@ pub extern "C" fn raft_ffi_batch_finish(
         × (2 ^ 56 ≤ encoded_length old.items old.entry_bytes)) batch.old.value }
     ensures text { HasText result text.old text.new }
 {
-    let mut held = batch.take(alloc);
-    let answer = held.finish_populate();
-    batch.put(held);
+    let answer = with!(held in batch, alloc; held.finish_populate());
     answered_with(alloc, answer, len, text)
 }
 
@@ -317,9 +275,7 @@ pub extern "C" fn raft_ffi_batch_sign(alloc: Global, batch: &mut Batch, file: Fi
     ensures { BothHold (λ old new. new ≡ at_stage (sealed (signature_of (file_of file))) old) batch.old.value
         batch.new.value }
 {
-    let mut held = batch.take(alloc);
-    held.prepare_write(&file.context());
-    batch.put(held);
+    with!(held in batch, alloc; held.prepare_write(&file.context()));
 }
 
 /// Copies the bytes of a signed batch as far as there is room, and returns how many they are: none without items.
@@ -333,10 +289,7 @@ pub extern "C" fn raft_ffi_batch_bytes(alloc: Global, batch: &mut Batch, bytes: 
     ensures read_again { Holds (λ b. (signature : Option ℕ) → b.stage ≡ sealed signature → b.items ≢ [] → IsLogBatch
         (log_batch_bytes signature b.items b.entry_bytes) signature (map bare b.items) b.entry_bytes) batch.old.value }
 {
-    let held = batch.take(alloc);
-    let len = copy_front(held.encoded_bytes(), bytes);
-    batch.put(held);
-    len
+    with!(held in batch, alloc; copy_front(held.encoded_bytes(), bytes))
 }
 
 /// Gives each entry and each key value of a signed batch its place: the batch was written to a file, from `offset` on.
@@ -357,13 +310,12 @@ pub extern "C" fn raft_ffi_batch_written(
     ensures bytes { BothHold (λ old new. (signature : Option ℕ) → log_batch_bytes signature new.items new.entry_bytes ≡
         log_batch_bytes signature old.items old.entry_bytes) batch.old.value batch.new.value }
 {
-    let mut held = batch.take(alloc);
-    held.finish_write(FileBlockHandle {
+    let place = FileBlockHandle {
         id: FileId::new(queue(is_rewrite), seq),
         offset,
         len,
-    });
-    batch.put(held);
+    };
+    with!(held in batch, alloc; held.finish_write(place));
 }
 
 /// Takes the items out of a batch, at whatever stage. The batch is gone then.
@@ -375,7 +327,7 @@ pub extern "C" fn raft_ffi_batch_into_items(alloc: Global, batch: Batch, items: 
     ensures err { result ≢ 0 → items.new.value ≡ None }
     ensures fault { result ≢ 0 → result ≡ 11 }
 {
-    match items_of(alloc, Box::into_inner(batch.into_box())) {
+    match items_of(alloc, batch.into_held()) {
         Ok(found) => memory_code(&items.put_new(alloc, found)),
         Err(_) => 11,
     }
@@ -389,7 +341,6 @@ pub extern "C" fn raft_ffi_batch_drop(batch: Batch)
     drop(batch.into_box());
 }
 
-/// Makes as many entries as there are lengths, the indexes of which rise by one from the first on.
 fn consecutive(alloc: Global, first: u64, lens: &[usize]) -> Result<Vec<EntryIndex>>
     requires { first + length lens.now < 2 ^ 64 }
     ensures ok { IfOk result (λ v. v.items ≡ entries_from first lens.now) }
@@ -408,7 +359,6 @@ fn consecutive(alloc: Global, first: u64, lens: &[usize]) -> Result<Vec<EntryInd
     Ok(found)
 }
 
-/// Cuts bytes into strings of these lengths, in turn.
 fn strings(alloc: Global, lens: &[usize], bytes: &[u8]) -> Result<Vec<Vec<u8>>>
     requires { HasStrings lens.now bytes.now }
     ensures ok { IfOk result (λ v. map (λ s. s.items) v.items ≡ strings_of lens.now bytes.now) }

@@ -1,16 +1,8 @@
 //! Calls that read bytes alone.
 
 ghost use Rattle.std.specs.Prelude.{◌≡◌, ◌≢◌, ◌+◌, ◌^◌, ◌<◌, ℕ, List, length, drop, take, IfOk, OnOk, OnErr, IfErr};
-ghost use Rattle.raft_codec.specs.Reading.{HasNoFront};
-ghost use Rattle.raft_checksum.specs.Checksum.{crc32_of};
-ghost use Rattle.raft_base.specs.Signature.{signature_of};
-ghost use Rattle.raft_records.specs.FilePart.{AreBatchesUpTo, IsNextFault, part_of};
-ghost use Rattle.byteorder.specs.Endian.{little_bytes};
-ghost use Rattle.raft_records.specs.Faults.{IsAnyCorruption};
-ghost use Rattle.raft_records.specs.Header.{IsEntryBlockOf, IsHeader};
-ghost use Rattle.raft_ffi.specs.Calls.{file_of, IsCodeOf};
-ghost use Rattle.raft_ffi.specs.Lengths.{HasLength};
-ghost use Rattle.raft_ffi.specs.Rooms.{HasText};
+ghost use Rattle.raft_ffi.specs.Words.{AreBatchesUpTo, HasLength, HasNoFront, HasText, IsAnyCorruption, IsCodeOf, IsEntryBlockOf, IsHeader, IsNextFault, crc32_of, file_of, little_bytes, part_of};
+ghost use Rattle.raft_ffi.specs.Words.{signature_of};
 
 use crate::status::{File, Status, answered, answered_with};
 use raft_base::{Error, LogFileContext, Result, crc32};

@@ -1,18 +1,13 @@
 //! Calls that change the table of a region.
 
-ghost use Rattle.std.specs.Prelude.{◌≡◌, ◌≢◌, IsTrue, is_some, map, OnOk, OnErr, IfOk, IfErr};
+ghost use Rattle.std.specs.Prelude.{◌≡◌, IsTrue, is_some, map, OnOk, OnErr, IfOk, IfErr};
 ghost use Rattle.raft_base.specs.declared.pipe_log.LogQueue.TheVariants.{Append, Rewrite};
-ghost use Rattle.raft_table.specs.TableEntries.{IsRunIn};
-ghost use Rattle.raft_ffi.specs.Calls.{BothHold, IsCodeFor, id_of};
-ghost use Rattle.raft_ffi.specs.Changes.{AreAppended, AreDropped, AreRewritten, AreUnappended, AreUnrewritten, IsCompacted, IsDeleted, IsKeyRewritten, IsKeyUnrewritten, IsPut, IsTruncated, IsUnput, IsChangedTo, IsMemoryOr};
-ghost use Rattle.raft_ffi.specs.EntryData.{entry_of};
-ghost use Rattle.raft_ffi.specs.Rooms.{HasText};
-ghost use Rattle.raft_ffi.specs.Summaries.{number_in};
-ghost use Rattle.raft_accessor.specs.Accessor.{table_in};
-ghost use Rattle.raft_table.specs.Change.{after_change, IsAllowed, IsAnswer, IsChangeFault};
+ghost use Rattle.raft_ffi.specs.Words.{AreAppended, AreDropped, AreRewritten, AreUnappended, AreUnrewritten, BothHold, HasText, IsAllowed, IsAnswer, IsChangeFault, IsChangedIfMemory};
+ghost use Rattle.raft_ffi.specs.Words.{IsChangedOrRefused, IsChangedTo, IsCompacted, IsDeleted, IsKeyRewritten, IsKeyUnrewritten, IsMemoryOr, IsPut, IsRunIn, IsTruncated, IsUnput, after_change};
+ghost use Rattle.raft_ffi.specs.Words.{entry_of, id_of, number_in, table_in, IsChangeOr};
 
 use crate::entries::{Entry, entry_indexes};
-use crate::handles::{Handle, Tables};
+use crate::handles::{Handle, Tables, with};
 use crate::status::{Maybe, Status, answered, answered_with, queue};
 use raft_accessor::MemTableAccessor;
 use raft_base::{Error, FileId, Result};
@@ -30,17 +25,12 @@ pub extern "C" fn raft_ffi_tables_append(
     text: &mut [u8],
 ) -> Status
     requires held { IsTrue (is_some tables.old.value) }
-    ensures ok { result.code ≡ 0 → BothHold (AreAppended (map entry_of entries.now) region)
-        tables.old.value tables.new.value }
+    ensures changed { IsChangedOrRefused result.code (AreAppended (map entry_of entries.now) region) (AreUnappended (map entry_of
+        entries.now) region) tables.old.value tables.new.value }
     ensures accepted { result.code ≡ 0 → IsRunIn Append (map entry_of entries.now) }
-    ensures err { result.code ≢ 0 → tables.new.value ≡ tables.old.value }
-    ensures fault { result.code ≢ 0
-        → IsCodeFor (AreUnappended (map entry_of entries.now) region) tables.old.value result.code }
     ensures text { HasText result text.old text.new }
 {
-    let mut held = tables.take(alloc);
-    let answer = append(alloc, &mut *held, region, entries);
-    tables.put(held);
+    let answer = with!(held in tables, alloc; append(alloc, &mut *held, region, entries));
     answered(alloc, &answer, text)
 }
 
@@ -55,15 +45,12 @@ pub extern "C" fn raft_ffi_tables_compact(
     text: &mut [u8],
 ) -> Status
     requires held { IsTrue (is_some tables.old.value) }
-    ensures ok { result.code ≡ 0 → BothHold (IsCompacted index region) tables.old.value tables.new.value }
+    ensures changed { IsChangedIfMemory result.code (IsCompacted index region) tables.old.value tables.new.value }
     ensures dropped { result.code ≡ 0 → BothHold (AreDropped dropped.new region) tables.old.value tables.new.value }
-    ensures err { result.code ≢ 0 → tables.new.value ≡ tables.old.value }
-    ensures memory { result.code ≢ 0 → result.code ≡ 11 }
     ensures text { HasText result text.old text.new }
 {
-    let mut held = tables.take(alloc);
-    let answer = change_table(&mut *held, region, TableChange::Compact { index });
-    tables.put(held);
+    let answer =
+        with!(held in tables, alloc; change_table(&mut *held, region, TableChange::Compact { index }));
     answered_with(alloc, answer, dropped, text)
 }
 
@@ -78,15 +65,12 @@ pub extern "C" fn raft_ffi_tables_truncate(
     text: &mut [u8],
 ) -> Status
     requires held { IsTrue (is_some tables.old.value) }
-    ensures ok { result.code ≡ 0 → BothHold (IsTruncated index region) tables.old.value tables.new.value }
+    ensures changed { IsChangedIfMemory result.code (IsTruncated index region) tables.old.value tables.new.value }
     ensures dropped { result.code ≡ 0 → BothHold (AreDropped dropped.new region) tables.old.value tables.new.value }
-    ensures err { result.code ≢ 0 → tables.new.value ≡ tables.old.value }
-    ensures memory { result.code ≢ 0 → result.code ≡ 11 }
     ensures text { HasText result text.old text.new }
 {
-    let mut held = tables.take(alloc);
-    let answer = change_table(&mut *held, region, TableChange::Truncate { index });
-    tables.put(held);
+    let answer =
+        with!(held in tables, alloc; change_table(&mut *held, region, TableChange::Truncate { index }));
     answered_with(alloc, answer, dropped, text)
 }
 
@@ -103,17 +87,12 @@ pub extern "C" fn raft_ffi_tables_put(
     text: &mut [u8],
 ) -> Status
     requires held { IsTrue (is_some tables.old.value) }
-    ensures ok { result.code ≡ 0 → BothHold
-        (IsPut key.now value.now (id_of is_rewrite seq) region) tables.old.value tables.new.value }
-    ensures err { result.code ≢ 0 → tables.new.value ≡ tables.old.value }
-    ensures fault { result.code ≢ 0 → IsCodeFor
-        (IsUnput key.now (id_of is_rewrite seq) region) tables.old.value result.code }
+    ensures changed { IsChangedOrRefused result.code (IsPut key.now value.now (id_of is_rewrite seq) region) (IsUnput key.now (id_of
+        is_rewrite seq) region) tables.old.value tables.new.value }
     ensures text { HasText result text.old text.new }
 {
     let file = FileId::new(queue(is_rewrite), seq);
-    let mut held = tables.take(alloc);
-    let answer = put(alloc, &mut *held, region, key, value, file);
-    tables.put(held);
+    let answer = with!(held in tables, alloc; put(alloc, &mut *held, region, key, value, file));
     answered(alloc, &answer, text)
 }
 
@@ -127,14 +106,10 @@ pub extern "C" fn raft_ffi_tables_delete(
     text: &mut [u8],
 ) -> Status
     requires held { IsTrue (is_some tables.old.value) }
-    ensures ok { result.code ≡ 0 → BothHold (IsDeleted key.now region) tables.old.value tables.new.value }
-    ensures err { result.code ≢ 0 → tables.new.value ≡ tables.old.value }
-    ensures memory { result.code ≢ 0 → result.code ≡ 11 }
+    ensures changed { IsChangedIfMemory result.code (IsDeleted key.now region) tables.old.value tables.new.value }
     ensures text { HasText result text.old text.new }
 {
-    let mut held = tables.take(alloc);
-    let answer = delete(alloc, &mut *held, region, key);
-    tables.put(held);
+    let answer = with!(held in tables, alloc; delete(alloc, &mut *held, region, key));
     answered(alloc, &answer, text)
 }
 
@@ -150,17 +125,13 @@ pub extern "C" fn raft_ffi_tables_rewrite(
     text: &mut [u8],
 ) -> Status
     requires held { IsTrue (is_some tables.old.value) }
-    ensures ok { result.code ≡ 0 → BothHold
-        (AreRewritten (number_in gate) (map entry_of entries.now) region) tables.old.value tables.new.value }
+    ensures changed { IsChangedOrRefused result.code (AreRewritten (number_in gate) (map entry_of entries.now) region)
+        (AreUnrewritten (number_in gate) (map entry_of entries.now) region) tables.old.value tables.new.value }
     ensures accepted { result.code ≡ 0 → IsRunIn Rewrite (map entry_of entries.now) }
-    ensures err { result.code ≢ 0 → tables.new.value ≡ tables.old.value }
-    ensures fault { result.code ≢ 0 → IsCodeFor
-        (AreUnrewritten (number_in gate) (map entry_of entries.now) region) tables.old.value result.code }
     ensures text { HasText result text.old text.new }
 {
-    let mut held = tables.take(alloc);
-    let answer = rewrite(alloc, &mut *held, region, entries, gate.number());
-    tables.put(held);
+    let answer =
+        with!(held in tables, alloc; rewrite(alloc, &mut *held, region, entries, gate.number()));
     answered(alloc, &answer, text)
 }
 
@@ -177,16 +148,12 @@ pub extern "C" fn raft_ffi_tables_rewrite_key(
     text: &mut [u8],
 ) -> Status
     requires held { IsTrue (is_some tables.old.value) }
-    ensures ok { result.code ≡ 0 → BothHold
-        (IsKeyRewritten (number_in gate) seq key.now region) tables.old.value tables.new.value }
-    ensures err { result.code ≢ 0 → tables.new.value ≡ tables.old.value }
-    ensures fault { result.code ≢ 0 → IsCodeFor
-        (IsKeyUnrewritten (number_in gate) seq key.now region) tables.old.value result.code }
+    ensures changed { IsChangedOrRefused result.code (IsKeyRewritten (number_in gate) seq key.now region) (IsKeyUnrewritten
+        (number_in gate) seq key.now region) tables.old.value tables.new.value }
     ensures text { HasText result text.old text.new }
 {
-    let mut held = tables.take(alloc);
-    let answer = rewrite_key(alloc, &mut *held, region, key, gate.number(), seq);
-    tables.put(held);
+    let answer =
+        with!(held in tables, alloc; rewrite_key(alloc, &mut *held, region, key, gate.number(), seq));
     answered(alloc, &answer, text)
 }
 
@@ -211,15 +178,13 @@ fn append(
     tables: &mut MemTableAccessor,
     region: u64,
     entries: &[Entry],
-) -> Result<()>
-    ensures ok { OnOk result (AreAppended (map entry_of entries.now) region tables.old tables.new) }
+) -> Result<u64>
+    ensures changed { IsChangeOr result (AreAppended (map entry_of entries.now) region)
+        (AreUnappended (map entry_of entries.now) region) tables.old tables.new }
     ensures accepted { OnOk result (IsRunIn Append (map entry_of entries.now)) }
-    ensures err { OnErr result (tables.new ≡ tables.old) }
-    ensures fault { IfErr result (AreUnappended (map entry_of entries.now) region tables.old) }
 {
     let run = entry_indexes(alloc, entries)?;
-    change_table(tables, region, TableChange::Append(run))?;
-    Ok(())
+    change_table(tables, region, TableChange::Append(run))
 }
 
 fn put(
@@ -229,10 +194,9 @@ fn put(
     key: &[u8],
     value: &[u8],
     file_id: FileId,
-) -> Result<()>
-    ensures ok { OnOk result (IsPut key.now value.now file_id region tables.old tables.new) }
-    ensures err { OnErr result (tables.new ≡ tables.old) }
-    ensures fault { IfErr result (IsUnput key.now file_id region tables.old) }
+) -> Result<u64>
+    ensures changed { IsChangeOr result (IsPut key.now value.now file_id region)
+        (IsUnput key.now file_id region) tables.old tables.new }
 {
     let key = Vec::from_slice(alloc, key)?;
     let value = Vec::from_slice(alloc, value)?;
@@ -241,18 +205,16 @@ fn put(
         value,
         file_id,
     };
-    change_table(tables, region, put)?;
-    Ok(())
+    change_table(tables, region, put)
 }
 
-fn delete(alloc: Global, tables: &mut MemTableAccessor, region: u64, key: &[u8]) -> Result<()>
+fn delete(alloc: Global, tables: &mut MemTableAccessor, region: u64, key: &[u8]) -> Result<u64>
     ensures ok { OnOk result (IsDeleted key.now region tables.old tables.new) }
     ensures err { OnErr result (tables.new ≡ tables.old) }
     ensures memory { IfErr result (λ e. e ≡ Error.Memory) }
 {
     let key = Vec::from_slice(alloc, key)?;
-    change_table(tables, region, TableChange::Delete { key })?;
-    Ok(())
+    change_table(tables, region, TableChange::Delete { key })
 }
 
 fn rewrite(
@@ -261,16 +223,14 @@ fn rewrite(
     region: u64,
     entries: &[Entry],
     gate: Option<u64>,
-) -> Result<()>
-    ensures ok { OnOk result (AreRewritten gate (map entry_of entries.now) region tables.old tables.new) }
+) -> Result<u64>
+    ensures changed { IsChangeOr result (AreRewritten gate (map entry_of entries.now) region)
+        (AreUnrewritten gate (map entry_of entries.now) region) tables.old tables.new }
     ensures accepted { OnOk result (IsRunIn Rewrite (map entry_of entries.now)) }
-    ensures err { OnErr result (tables.new ≡ tables.old) }
-    ensures fault { IfErr result (AreUnrewritten gate (map entry_of entries.now) region tables.old) }
 {
     let run = entry_indexes(alloc, entries)?;
     let moved = TableChange::Rewrite { entries: run, gate };
-    change_table(tables, region, moved)?;
-    Ok(())
+    change_table(tables, region, moved)
 }
 
 fn rewrite_key(
@@ -280,12 +240,10 @@ fn rewrite_key(
     key: &[u8],
     gate: Option<u64>,
     seq: u64,
-) -> Result<()>
-    ensures ok { OnOk result (IsKeyRewritten gate seq key.now region tables.old tables.new) }
-    ensures err { OnErr result (tables.new ≡ tables.old) }
-    ensures fault { IfErr result (IsKeyUnrewritten gate seq key.now region tables.old) }
+) -> Result<u64>
+    ensures changed { IsChangeOr result (IsKeyRewritten gate seq key.now region)
+        (IsKeyUnrewritten gate seq key.now region) tables.old tables.new }
 {
     let key = Vec::from_slice(alloc, key)?;
-    change_table(tables, region, TableChange::RewriteKey { key, gate, seq })?;
-    Ok(())
+    change_table(tables, region, TableChange::RewriteKey { key, gate, seq })
 }

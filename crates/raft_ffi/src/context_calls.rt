@@ -1,27 +1,16 @@
 //! Calls of contexts, which rebuild the tables from log files.
 
-ghost use Rattle.std.specs.Prelude.{◌≡◌, ◌≢◌, ◌⊎◌, ◌+◌, ◌^◌, ◌<◌, [], IsTrue, IfOk, IfErr, OnOk, Some, None, is_some, length};
-ghost use Rattle.raft_history.specs.Histories.{Sound};
-ghost use Rattle.raft_history.specs.Kept.{kept_of};
-ghost use Rattle.raft_contexts.specs.KeptShown.{kept_shown};
-ghost use Rattle.raft_contexts.specs.OverlaidContext.{IsOverlaidWith, IsMergeAppendFault};
-ghost use Rattle.raft_contexts.specs.RecoverContext.{blank_context, HasRead, HasReadExactly, IsMergedWith, IsNeighborFault};
+ghost use Rattle.std.specs.Prelude.{◌≡◌, ◌≢◌, ◌⊎◌, ◌+◌, ◌^◌, ◌<◌, [], IsTrue, IfOk, IfErr, OnOk, None, is_some, length};
+ghost use Rattle.raft_ffi.specs.Words.{AllHold, AreKept, AreOfTwoQueues, AreTablesOf, AreUnsound, BothHold, CannotFollow, HasBothRead, HasRead, HasReadExactly, HasReplayed, HasTablesRead, HasText};
+ghost use Rattle.raft_ffi.specs.Words.{Holds, HoldsFrom, IsCodeFor, IsCodeForBoth, IsMadeIfMemory, IsMemoryOr, IsMergeAppendFault, IsMergedWith, IsNeighborFault, IsOfFailed, IsOverlaidExactly};
+ghost use Rattle.raft_ffi.specs.Words.{IsOverlaidWith, IsRefusedFor, Sound, StandsForBoth, StandsForBothExactly, StopsByFault, blank_context, capped, file_of, kept_of, part_of, queue_of};
 ghost use Rattle.raft_contexts.specs.declared.context_stage.ContextStage.TheVariants.{Failed, Reading};
-ghost use Rattle.raft_records.specs.FilePart.{part_of};
-ghost use Rattle.raft_replay.specs.Replays.{HasReplayed, CannotFollow};
-ghost use Rattle.raft_replay.specs.Segments.{HoldsFrom};
-ghost use Rattle.raft_replay.specs.Stops.{StopsByFault};
-ghost use Rattle.raft_ffi.specs.Calls.{AllHold, BothHold, Holds, IsCodeFor, IsCodeForBoth, file_of, queue_of};
-ghost use Rattle.raft_ffi.specs.Changes.{IsMemoryOr};
-ghost use Rattle.raft_ffi.specs.Contexts.{AreOfTwoQueues, AreTablesOf, AreUnsound, HasBothRead, HasTablesRead, IsOfFailed, IsOverlaidExactly, StandsForBoth, StandsForBothExactly};
-ghost use Rattle.raft_ffi.specs.KeptNumbers.{capped, AreKept};
-ghost use Rattle.raft_ffi.specs.Rooms.{HasText, IsRefusedFor};
 
-use crate::handles::{Context, Handle, Tables};
+use crate::handles::{Context, Handle, Tables, with};
 use crate::status::{File, Status, answered, memory_code, queue};
 use raft_accessor::MemTableAccessor;
 use raft_base::{Error, LogFileContext, LogQueue, Result};
-use raft_contexts::{Kept, MemTableRecoverContext};
+use raft_contexts::MemTableRecoverContext;
 use raft_replay::replay_bytes;
 use std::alloc::Global;
 
@@ -42,10 +31,8 @@ pub struct KeptNumbers {
 #[unsafe(no_mangle)]
 pub extern "C" fn raft_ffi_context_new(alloc: Global, context: &mut Context) -> u32
     requires empty { context.old.value ≡ None }
-    ensures ok { result ≡ 0 → context.new.value ≡ Some blank_context }
+    ensures made { IsMadeIfMemory result blank_context context.new.value }
     ensures exact { result ≡ 0 → Holds (λ c. HasReadExactly c []) context.new.value }
-    ensures err { result ≢ 0 → context.new.value ≡ None }
-    ensures fault { result ≢ 0 → result ≡ 11 }
 {
     match MemTableRecoverContext::new(alloc) {
         Ok(held) => memory_code(&context.put_new(alloc, held)),
@@ -137,7 +124,7 @@ pub extern "C" fn raft_ffi_context_merge(
     ensures text { HasText result text.old text.new }
 {
     let mut held = context.take(alloc);
-    let newer = Box::into_inner(newer.into_box());
+    let newer = newer.into_held();
     let answer = merge(&mut *held, newer, queue(is_rewrite));
     match &answer {
         Ok(()) => context.put(held),
@@ -183,7 +170,7 @@ pub extern "C" fn raft_ffi_context_overlay(
     ensures text { HasText result text.old text.new }
 {
     let mut held = context.take(alloc);
-    let appended = Box::into_inner(append.into_box());
+    let appended = append.into_held();
     let answer = overlay(&mut *held, appended);
     match &answer {
         Ok(()) => context.put(held),
@@ -217,9 +204,7 @@ pub extern "C" fn raft_ffi_context_kept(
     ensures fault { result.code ≢ 0 → IsCodeFor IsOfFailed context.old.value result.code }
     ensures text { HasText result text.old text.new }
 {
-    let held = context.take(alloc);
-    let answer = count_kept(&*held, kept);
-    context.put(held);
+    let answer = with!(held in context, alloc; count_kept(&*held, kept));
     answered(alloc, &answer, text)
 }
 
@@ -228,21 +213,16 @@ fn count_kept(context: &MemTableRecoverContext, kept: &mut KeptNumbers) -> Resul
     ensures accepted { OnOk result (context.now.stage ≢ Failed) }
     ensures fault { IfErr result (IsOfFailed context.now) }
 {
-    *kept = kept_numbers(context.kept()?);
+    let shown = context.kept()?;
+    *kept = KeptNumbers {
+        entries: capped(shown.entries),
+        keys: capped(shown.keys),
+        marks: capped(shown.marks),
+        deleted_keys: capped(shown.deleted_keys),
+        cleaned: capped(shown.cleaned),
+        waiting_items: capped(shown.waiting_items),
+    };
     Ok(())
-}
-
-fn kept_numbers(kept: Kept) -> KeptNumbers
-    ensures { AreKept (kept_shown kept) result }
-{
-    KeptNumbers {
-        entries: capped(kept.entries),
-        keys: capped(kept.keys),
-        marks: capped(kept.marks),
-        deleted_keys: capped(kept.deleted_keys),
-        cleaned: capped(kept.cleaned),
-        waiting_items: capped(kept.waiting_items),
-    }
 }
 
 fn capped(number: u128) -> u64
@@ -269,7 +249,7 @@ pub extern "C" fn raft_ffi_context_finish(
     ensures fault { result.code ≢ 0 → IsCodeFor (λ c. IsMemoryOr (IsOfFailed c)) context.value result.code }
     ensures text { HasText result text.old text.new }
 {
-    let answer = match finished(alloc, Box::into_inner(context.into_box())) {
+    let answer = match finished(alloc, context.into_held()) {
         Ok(held) => {
             tables.put(held);
             Ok(())

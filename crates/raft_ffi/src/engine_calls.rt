@@ -1,20 +1,12 @@
 //! Calls of an engine whose files the caller keeps: what changes it leaves orders behind, which the caller carries out in turn.
 
 ghost use Rattle.std.specs.Prelude.{◌≡◌, ◌≢◌, true, false, Some, None, IsTrue, is_some, IfErr, OnErr, OnOk};
-ghost use Rattle.raft_accessor.specs.AppendChecks.{AreAcceptedOncePlaced};
-ghost use Rattle.raft_engine.specs.Opened.{IsOpened};
-ghost use Rattle.raft_engine.specs.Purged.{ArePurged, IsUnpurged};
-ghost use Rattle.raft_engine.specs.PurgedRewrites.{AreRewritesPurged, AreRewritesUnpurged};
-ghost use Rattle.raft_engine.specs.ReadContexts.{HaveReadFound};
-ghost use Rattle.raft_engine.specs.Unopened.{AreBothAccepted};
-ghost use Rattle.raft_engine.specs.WrittenBatch.{IsRotated, IsUnrotated};
-ghost use Rattle.raft_records.specs.LogBatch.{empty_batch, is_open};
-ghost use Rattle.raft_ffi.specs.Calls.{AllHold, BothHold, Holds, IsCodeForBoth, version_of};
-ghost use Rattle.raft_ffi.specs.Engines.{HaveReadBoth, IsStopped, IsSynced, IsUnopenedAs, IsUnwrittenAs, IsWrittenOrNone};
-ghost use Rattle.raft_ffi.specs.Rooms.{HasText};
+ghost use Rattle.raft_ffi.specs.Words.{AllHold, AreAcceptedOncePlaced, AreBothAccepted, ArePurged, AreRewritesPurged, AreRewritesUnpurged, BothHold, HasText, HaveReadBoth, HaveReadFound, Holds};
+ghost use Rattle.raft_ffi.specs.Words.{IsCodeForBoth, IsOpened, IsRead, IsRotated, IsStopped, IsSynced, IsUnopenedAs, IsUnpurged, IsUnrotated, IsUnwrittenAs, IsWrittenOrNone, empty_batch, is_open};
+ghost use Rattle.raft_ffi.specs.Words.{version_of};
 
 use crate::found_files::FoundFiles;
-use crate::handles::{Batch, Context, Engine, Found, Handle};
+use crate::handles::{Batch, Context, Engine, Found, Handle, with};
 use crate::held_engine::HeldEngine;
 use crate::status::{Status, answered, answered_with, version};
 use raft_base::{Result, Version};
@@ -45,9 +37,9 @@ pub extern "C" fn raft_ffi_engine_open(
         (IsUnopenedAs (version_of is_signed) f) appended.value rewritten.value result.code) found.value }
     ensures text { HasText result text.old text.new }
 {
-    let files = Box::into_inner(found.into_box());
-    let rewritten = Box::into_inner(rewritten.into_box());
-    let appended = Box::into_inner(appended.into_box());
+    let files = found.into_held();
+    let rewritten = rewritten.into_held();
+    let appended = appended.into_held();
     let answer = open_into(
         engine,
         alloc,
@@ -87,13 +79,9 @@ fn open_into(
 #[unsafe(no_mangle)]
 pub extern "C" fn raft_ffi_engine_is_intact(alloc: Global, engine: &mut Engine) -> bool
     requires held { IsTrue (is_some engine.old.value) }
-    ensures same { engine.new.value ≡ engine.old.value }
-    ensures intact { Holds (λ e. e.intact ≡ result) engine.old.value }
+    ensures intact { IsRead (λ e. e.intact ≡ result) engine.old.value engine.new.value }
 {
-    let held = engine.take(alloc);
-    let is_intact = held.engine.is_intact();
-    engine.put(held);
-    is_intact
+    with!(held in engine, alloc; held.engine.is_intact())
 }
 
 /// Writes an open batch, which is empty then. With `sync` a sync is ordered behind it.
@@ -117,11 +105,8 @@ pub extern "C" fn raft_ffi_engine_write(
         old new) engine.old.value engine.new.value }
     ensures text { HasText result text.old text.new }
 {
-    let mut held = engine.take(alloc);
-    let mut written = batch.take(alloc);
-    let answer = held.write(&mut *written, sync);
-    batch.put(written);
-    engine.put(held);
+    let answer =
+        with!(held in engine, alloc; with!(written in batch, alloc; held.engine.write(&mut *written, sync)));
     answered(alloc, &answer, text)
 }
 
@@ -139,9 +124,7 @@ pub extern "C" fn raft_ffi_engine_sync(
     ensures fault { result.code ≢ 0 → Holds (λ e. e.intact ≡ false → result.code ≡ 12) engine.old.value }
     ensures text { HasText result text.old text.new }
 {
-    let mut held = engine.take(alloc);
-    let answer = held.engine.sync();
-    engine.put(held);
+    let answer = with!(held in engine, alloc; held.engine.sync());
     answered(alloc, &answer, text)
 }
 
@@ -158,9 +141,7 @@ pub extern "C" fn raft_ffi_engine_rotate(
     ensures err { result.code ≢ 0 → IsCodeForBoth IsUnrotated engine.old.value engine.new.value result.code }
     ensures text { HasText result text.old text.new }
 {
-    let mut held = engine.take(alloc);
-    let answer = held.engine.rotate();
-    engine.put(held);
+    let answer = with!(held in engine, alloc; held.engine.rotate());
     answered(alloc, &answer, text)
 }
 
@@ -178,9 +159,7 @@ pub extern "C" fn raft_ffi_engine_purge_expired_files(
     ensures err { result.code ≢ 0 → IsCodeForBoth IsUnpurged engine.old.value engine.new.value result.code }
     ensures text { HasText result text.old text.new }
 {
-    let mut held = engine.take(alloc);
-    let answer = held.engine.purge_expired_files();
-    engine.put(held);
+    let answer = with!(held in engine, alloc; held.engine.purge_expired_files());
     answered_with(alloc, answer, count, text)
 }
 
@@ -198,9 +177,7 @@ pub extern "C" fn raft_ffi_engine_purge_rewrite_files(
     ensures err { result.code ≢ 0 → IsCodeForBoth AreRewritesUnpurged engine.old.value engine.new.value result.code }
     ensures text { HasText result text.old text.new }
 {
-    let mut held = engine.take(alloc);
-    let answer = held.engine.purge_rewrite_files();
-    engine.put(held);
+    let answer = with!(held in engine, alloc; held.engine.purge_rewrite_files());
     answered_with(alloc, answer, count, text)
 }
 

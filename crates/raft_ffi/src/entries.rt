@@ -1,8 +1,7 @@
 //! Entries as plain data.
 
 ghost use Rattle.std.specs.Prelude.{◌≡◌, map, IfOk, IfErr};
-ghost use Rattle.raft_ffi.specs.EntryData.{entry_of};
-ghost use Rattle.raft_ffi.specs.Rooms.{AreEntriesIn};
+ghost use Rattle.raft_ffi.specs.Words.{AreEntriesIn, entry_of};
 
 use crate::status::{is_rewrite, queue};
 use raft_base::{CompressionType, EntryIndex, Error, FileBlockHandle, FileId, Result};

@@ -1,8 +1,11 @@
-//! Files that are found when an engine is opened.
+//! Files that are found when an engine is opened, and their calls.
 
-ghost use Rattle.std.specs.Prelude.{◌≡◌, IfErr, OnErr, OnOk};
+ghost use Rattle.std.specs.Prelude.{◌≡◌, IfErr, OnErr, OnOk, None, IsTrue, is_some};
 ghost use Rattle.raft_ffi.specs.FoundFiles.{no_files, with_file};
+ghost use Rattle.raft_ffi.specs.Calls.{queue_of, IsMadeIfMemory, IsChangedIfMemory};
 
+use crate::handles::{Found, Handle, with};
+use crate::status::{memory_code, queue};
 use raft_base::{Error, FileSeq, LogQueue, Result};
 use std::alloc::Global;
 use std::marker::Model;
@@ -54,4 +57,38 @@ impl FoundFiles {
         }
         Ok(())
     }
+}
+
+/// Makes found files, of which there are none yet.
+#[unsafe(no_mangle)]
+pub extern "C" fn raft_ffi_found_new(alloc: Global, found: &mut Found) -> u32
+    requires empty { found.old.value ≡ None }
+    ensures made { IsMadeIfMemory result no_files found.new.value }
+{
+    memory_code(&found.put_new(alloc, FoundFiles::new(alloc)))
+}
+
+/// Adds a file of a queue behind the others, with a copy of its bytes.
+#[unsafe(no_mangle)]
+pub extern "C" fn raft_ffi_found_add(
+    alloc: Global,
+    found: &mut Found,
+    is_rewrite: bool,
+    seq: u64,
+    bytes: &[u8],
+) -> u32
+    requires held { IsTrue (is_some found.old.value) }
+    ensures changed { IsChangedIfMemory result (λ old new. new ≡ with_file (queue_of is_rewrite) (seq, bytes.now) old)
+        found.old.value found.new.value }
+{
+    let answer = with!(held in found, alloc; held.add(alloc, queue(is_rewrite), seq, bytes));
+    memory_code(&answer)
+}
+
+/// Frees the files.
+#[unsafe(no_mangle)]
+pub extern "C" fn raft_ffi_found_drop(found: Found)
+    requires held { IsTrue (is_some found.value) }
+{
+    drop(found.into_box());
 }

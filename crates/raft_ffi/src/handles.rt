@@ -18,18 +18,61 @@ ghost use Rattle.raft_ffi.specs.Handles.{handle_owned};
 ghost use Rattle.raft_ffi.specs.contracts.found_files.FoundFiles.{the_row as found_row};
 ghost use Rattle.raft_ffi.specs.contracts.held_engine.HeldEngine.{the_row as engine_row};
 ghost use Rattle.raft_ffi.specs.contracts.item_list.ItemList.{the_row as items_row};
+ghost use Rattle.std.specs.Box.Ownership.{box_owns};
 
 use crate::found_files::FoundFiles;
 use crate::held_engine::HeldEngine;
 use crate::item_list::ItemList;
-use crate::parts::Parts;
 use raft_accessor::MemTableAccessor;
 use raft_base::{Error, Result};
 use raft_contexts::MemTableRecoverContext;
 use raft_records::LogBatch;
-use std::alloc::Global;
+use std::alloc::{Allocator, Global};
 use std::marker::Model;
 use std::{mem, ptr};
+
+/// A box as its pointer and its allocator.
+pub struct Parts<T, A: Allocator> {
+    pub(crate) ptr: *mut T,
+    pub(crate) alloc: A,
+    pub ghost value: { T },
+}
+
+impl<T, A: Allocator> Model for Parts<T, A> {
+    ghost also_owns = { λ p. box_owns (A.dealloc_token p.alloc) T.row p.ptr p.value };
+}
+
+impl<T, A: Allocator> Parts<T, A> {
+    /// Takes a box apart.
+    pub fn of(b: Box<T, A>) -> Parts<T, A>
+    where
+        T: Drop,
+        ensures { result.value ≡ b.value }
+    {
+        let (ptr, alloc) = Box::into_raw_with_allocator(b);
+        Parts { ptr, alloc }
+    }
+
+    /// Makes the box again.
+    pub fn into_box(self) -> Box<T, A>
+        ensures { result.value ≡ self.value }
+    {
+        let Parts { ptr, alloc } = self;
+        unsafe { Box::from_raw(alloc, ptr) }
+    }
+}
+
+/// Does something with what a handle holds, which is taken out and put back.
+macro_rules! with {
+    ($held:ident in $handle:ident, $alloc:ident; $body:expr) => {{
+        let mut $held = $handle.take($alloc);
+        let answer = $body;
+        $handle.put($held);
+        answer
+    }};
+}
+
+pub(crate) use with;
 
 /// A type of handles: each holds a value on the heap, or nothing. C keeps it as a pointer, null where it holds nothing.
 pub(crate) trait Handle: Sized + Drop {
@@ -54,6 +97,13 @@ pub(crate) trait Handle: Sized + Drop {
         ensures { value self ≡ Some result.value }
     {
         self.into_parts().into_box()
+    }
+
+    final fn into_held(self) -> Self::Held
+        requires { IsTrue (is_some (value self)) }
+        ensures { value self ≡ Some result }
+    {
+        Box::into_inner(self.into_box())
     }
 
     final fn take(&mut self, alloc: Global) -> Box<Self::Held>

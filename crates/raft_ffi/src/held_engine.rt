@@ -1,19 +1,14 @@
 //! An engine whose files the caller keeps.
 
 ghost use Rattle.std.specs.Prelude.{◌≡◌, true, IfErr, OnOk};
-ghost use Rattle.raft_accessor.specs.AppendChecks.{AreAcceptedOncePlaced};
 ghost use Rattle.raft_engine.specs.Moved.{IsRewritten, IsUnrewritten};
 ghost use Rattle.raft_engine.specs.MovedAgain.{AreMovedAgain, AreUnmovedAgain};
-ghost use Rattle.raft_engine.specs.WrittenBatch.{IsUnwritten};
-ghost use Rattle.raft_records.specs.LogBatch.{empty_batch, is_open};
-ghost use Rattle.raft_ffi.specs.Engines.{IsWrittenOrNone, Lasts};
 ghost use Rattle.raft_ffi.specs.Taking.{IsTaking};
 
 use crate::order_calls::{Taking, take_within};
 use raft_base::{Error, FileId, FileSeq, Result};
 use raft_engine::Engine;
 use raft_orders::HandedFiles;
-use raft_records::LogBatch;
 use std::marker::Model;
 
 /// An engine whose files the caller keeps.
@@ -40,23 +35,6 @@ impl HeldEngine {
         ensures { result ≡ engine }
     {
         HeldEngine { engine }
-    }
-
-    pub(crate) fn nothing_synced_is_lost(&self)
-        ensures { Lasts self.now }
-    {
-        self.engine.nothing_synced_is_lost();
-    }
-
-    pub(crate) fn write(&mut self, batch: &mut LogBatch, sync: bool) -> Result<()>
-        requires { batch.old.stage ≡ is_open }
-        ensures ok { OnOk result (IsWrittenOrNone sync batch.old self.old self.new) }
-        ensures emptied { OnOk result (batch.new ≡ empty_batch) }
-        ensures accepted { OnOk result (self.old.intact ≡ true) }
-        ensures tested { OnOk result (AreAcceptedOncePlaced self.old.accessor.tables batch.old.items) }
-        ensures err { IfErr result (IsUnwritten sync batch.old batch.new self.old self.new) }
-    {
-        self.engine.write(batch, sync)
     }
 
     pub(crate) fn take_order(&mut self, room: usize) -> Taking

@@ -1,11 +1,20 @@
-//! Items in a row.
+//! Items in a row: those of a batch that is read, and their calls.
 
-ghost use Rattle.std.specs.Prelude.{◌≡◌, map, length, IfOk, IfErr};
+ghost use Rattle.std.specs.Prelude.{◌≡◌, map, length, IfOk, IfErr, ◌≢◌, ◌+◌, ◌^◌, ◌<◌, ◌≤◌, IsTrue, OnOk, OnErr, None, is_some, drop, slice_get, option_map};
 ghost use Rattle.std.specs.Vec.Iter.{into_iter_items, into_iter_len};
-ghost use Rattle.raft_records.specs.Item.{item_of};
+ghost use Rattle.raft_records.specs.Item.{item_of, content_of};
+ghost use Rattle.raft_base.specs.Signature.{signature_of};
+ghost use Rattle.raft_records.specs.FilePart.{IsNext, IsNextFault, part_of};
+ghost use Rattle.raft_ffi.specs.Calls.{file_of, IsCodeOf, next_shown, IsFound, IsRead};
+ghost use Rattle.raft_ffi.specs.Changes.{IsMemoryOr};
+ghost use Rattle.raft_ffi.specs.ItemLists.{IsHeadOf, kind_of, number_of, entries_at, key_at, value_at};
+ghost use Rattle.raft_ffi.specs.Rooms.{AreEntriesIn, IsCopied, HasText};
 
-use raft_base::{Error, Result};
-use raft_records::{LogBatch, LogItem};
+use crate::entries::{Entry, copy_entries};
+use crate::handles::{Handle, Items, with};
+use crate::status::{File, Status, answered, copy_found};
+use raft_base::{EntryIndex, Error, LogFileContext, Result};
+use raft_records::{Command, LogBatch, LogItem, LogItemContent, OpType, next_in};
 use std::alloc::Global;
 use std::marker::Model;
 use std::vec;
@@ -58,4 +67,221 @@ pub(crate) fn items_of(alloc: Global, mut batch: LogBatch) -> Result<ItemList>
         items.push(item)?;
     }
     Ok(ItemList::of(items))
+}
+
+/// What an item says, without its lists.
+#[repr(C)]
+#[derive(Clone, Copy)]
+pub struct ItemHead {
+    pub region: u64,
+    /// How many entries there are, or the index of a command.
+    pub number: u64,
+    /// 0: entries, 1: clean, 2: compact, 3: truncate, 4: put, 5: delete.
+    pub kind: u32,
+}
+
+/// Reads the items of the log batch that stands at `at` in the bytes, and says where the next batch begins; nothing at
+/// the end.
+#[unsafe(no_mangle)]
+pub extern "C" fn raft_ffi_items_next(
+    alloc: Global,
+    items: &mut Items,
+    file: File,
+    offset: u64,
+    bytes: &[u8],
+    at: usize,
+    next: &mut usize,
+    text: &mut [u8],
+) -> Status
+    requires empty { items.old.value ≡ None }
+    requires inside { at ≤ length bytes.now }
+    requires ends { offset + length bytes.now < 2 ^ 64 }
+    ensures ok { result.code ≡ 0 → IsNext (part_of (file_of file) offset bytes.now) at
+        (next_shown items.new.value next.new) }
+    ensures err { result.code ≢ 0 → items.new.value ≡ None }
+    ensures fault { result.code ≢ 0 → IsCodeOf
+        (IsMemoryOr (IsNextFault (signature_of (file_of file)) (drop at bytes.now))) result.code }
+    ensures text { HasText result text.old text.new }
+{
+    let answer = put_next(alloc, items, &file.context(), offset, bytes, at, next);
+    answered(alloc, &answer, text)
+}
+
+fn put_next(
+    alloc: Global,
+    items: &mut Items,
+    file: &LogFileContext,
+    offset: u64,
+    bytes: &[u8],
+    at: usize,
+    next: &mut usize,
+) -> Result<()>
+    requires empty { items.old.value ≡ None }
+    requires inside { at ≤ length bytes.now }
+    requires ends { offset + length bytes.now < 2 ^ 64 }
+    ensures ok { OnOk result (IsNext (part_of file.now offset bytes.now) at (next_shown items.new.value next.new)) }
+    ensures err { OnErr result (items.new.value ≡ None) }
+    ensures fault { IfErr result (IsMemoryOr (IsNextFault (signature_of file.now) (drop at bytes.now))) }
+{
+    if let Some((batch, behind)) = next_in(alloc, file, offset, bytes, at)? {
+        items.put_new(alloc, ItemList::of(batch.into_items()))?;
+        *next = behind;
+    }
+    Ok(())
+}
+
+/// Returns how many items there are.
+#[unsafe(no_mangle)]
+pub extern "C" fn raft_ffi_items_len(alloc: Global, items: &mut Items) -> usize
+    requires held { IsTrue (is_some items.old.value) }
+    ensures len { IsRead (λ xs. result ≡ length xs) items.old.value items.new.value }
+{
+    with!(held in items, alloc; held.as_slice().len())
+}
+
+/// Finds what an item says, if there is one.
+#[unsafe(no_mangle)]
+pub extern "C" fn raft_ffi_items_head(
+    alloc: Global,
+    items: &mut Items,
+    i: usize,
+    head: &mut ItemHead,
+) -> bool
+    requires held { IsTrue (is_some items.old.value) }
+    ensures found { IsRead (λ xs. IsFound (λ item. IsHeadOf item head.new) (slice_get xs i) result) items.old.value items.new.value }
+{
+    with!(held in items, alloc; find_head(&*held, i, head))
+}
+
+/// Lists the entries of an item, if it has some, as far as there is room, and says how many they are.
+#[unsafe(no_mangle)]
+pub extern "C" fn raft_ffi_items_entries(
+    alloc: Global,
+    items: &mut Items,
+    i: usize,
+    entries: &mut [Entry],
+    count: &mut usize,
+) -> bool
+    requires held { IsTrue (is_some items.old.value) }
+    ensures found { IsRead (λ xs. IsFound (λ es. AreEntriesIn es entries.old entries.new count.new) (entries_at xs i) result)
+        items.old.value items.new.value }
+{
+    with!(held in items, alloc; find_entries(&*held, i, entries, count))
+}
+
+/// Finds the key of an item, if it changes one: as much of it as there is room for, and how long it is.
+#[unsafe(no_mangle)]
+pub extern "C" fn raft_ffi_items_key(
+    alloc: Global,
+    items: &mut Items,
+    i: usize,
+    key: &mut [u8],
+    len: &mut usize,
+) -> bool
+    requires held { IsTrue (is_some items.old.value) }
+    ensures found { IsRead (λ xs. IsFound (λ bytes. IsCopied bytes key.old key.new len.new) (key_at xs i) result) items.old.value
+        items.new.value }
+{
+    with!(held in items, alloc; copy_found(key_of(&*held, i), key, len))
+}
+
+/// Finds the value of an item, if it puts one: as much of it as there is room for, and how long it is.
+#[unsafe(no_mangle)]
+pub extern "C" fn raft_ffi_items_value(
+    alloc: Global,
+    items: &mut Items,
+    i: usize,
+    value: &mut [u8],
+    len: &mut usize,
+) -> bool
+    requires held { IsTrue (is_some items.old.value) }
+    ensures found { IsRead (λ xs. IsFound (λ bytes. IsCopied bytes value.old value.new len.new) (value_at xs i) result)
+        items.old.value items.new.value }
+{
+    with!(held in items, alloc; copy_found(value_of(&*held, i), value, len))
+}
+
+/// Frees the items.
+#[unsafe(no_mangle)]
+pub extern "C" fn raft_ffi_items_drop(items: Items)
+    requires held { IsTrue (is_some items.value) }
+{
+    drop(items.into_box());
+}
+
+fn item_at(items: &ItemList, i: usize) -> Option<&LogItem>
+    ensures { option_map (λ item. item_of item.now) result ≡ slice_get items.now i }
+{
+    items.as_slice().get(i)
+}
+
+fn find_head(items: &ItemList, i: usize, head: &mut ItemHead) -> bool
+    ensures { IsFound (λ item. IsHeadOf item head.new) (slice_get items.now i) result }
+{
+    let Some(item) = item_at(items, i) else {
+        return false;
+    };
+    let (kind, number) = said_by(&item.content);
+    *head = ItemHead {
+        region: item.raft_group_id,
+        number,
+        kind,
+    };
+    true
+}
+
+fn said_by(content: &LogItemContent) -> (u32, u64)
+    ensures kind { result.0 ≡ kind_of (content_of content.now) }
+    ensures number { result.1 ≡ number_of (content_of content.now) }
+{
+    match content {
+        LogItemContent::EntryIndexes(entries) => (0, entries.0.len() as u64),
+        LogItemContent::Command(Command::Clean) => (1, 0),
+        LogItemContent::Command(Command::Compact { index }) => (2, *index),
+        LogItemContent::Command(Command::Truncate { index }) => (3, *index),
+        LogItemContent::Kv(kv) => match kv.op_type {
+            OpType::Put => (4, 0),
+            OpType::Del => (5, 0),
+        },
+    }
+}
+
+fn find_entries(items: &ItemList, i: usize, room: &mut [Entry], count: &mut usize) -> bool
+    ensures { IsFound (λ es. AreEntriesIn es room.old room.new count.new) (entries_at items.now i) result }
+{
+    let Some(entries) = entries_of(items, i) else {
+        return false;
+    };
+    *count = copy_entries(entries, room);
+    true
+}
+
+fn entries_of(items: &ItemList, i: usize) -> Option<&[EntryIndex]>
+    ensures { option_map (λ es. es.now) result ≡ entries_at items.now i }
+{
+    match &item_at(items, i)?.content {
+        LogItemContent::EntryIndexes(entries) => Some(entries.0.as_slice()),
+        LogItemContent::Command(_) | LogItemContent::Kv(_) => None,
+    }
+}
+
+fn key_of(items: &ItemList, i: usize) -> Option<&[u8]>
+    ensures { option_map (λ key. key.now) result ≡ key_at items.now i }
+{
+    match &item_at(items, i)?.content {
+        LogItemContent::Kv(kv) => Some(kv.key.as_slice()),
+        LogItemContent::EntryIndexes(_) | LogItemContent::Command(_) => None,
+    }
+}
+
+fn value_of(items: &ItemList, i: usize) -> Option<&[u8]>
+    ensures { option_map (λ value. value.now) result ≡ value_at items.now i }
+{
+    match &item_at(items, i)?.content {
+        LogItemContent::Kv(kv) => match &kv.value {
+            Some(value) => Some(value.as_slice()),
+            None => None,
+        },
+        LogItemContent::EntryIndexes(_) | LogItemContent::Command(_) => None,
+    }
 }

@@ -1,14 +1,10 @@
 //! Calls that move records of an engine to the rewrite queue, and that lend it the blocks which it reads for that.
 
-ghost use Rattle.std.specs.Prelude.{◌≡◌, ◌≢◌, true, IsTrue, is_some, List, IfErr, OnOk};
-ghost use Rattle.raft_engine.specs.Moved.{IsRewritten, IsUnrewritten};
-ghost use Rattle.raft_engine.specs.MovedAgain.{AreMovedAgain, AreUnmovedAgain};
-ghost use Rattle.raft_ffi.specs.Calls.{BothHold, Holds, IsCodeForBoth};
-ghost use Rattle.raft_ffi.specs.Rooms.{HasText, IsCopied};
+ghost use Rattle.std.specs.Prelude.{◌≡◌, ◌≢◌, true, IsTrue, is_some, List, IfErr};
+ghost use Rattle.raft_ffi.specs.Words.{AreMovedAgain, AreUnmovedAgain, BothHold, HasText, Holds, IsCodeForBoth, IsCopied, IsRewritten, IsUnrewritten};
 
-use crate::handles::{Engine, Handle};
-use crate::rooms::copy_front;
-use crate::status::{Maybe, Status, answered, is_rewrite, memory_code, queue};
+use crate::handles::{Engine, Handle, with};
+use crate::status::{Maybe, Status, answered, copy_front, is_rewrite, memory_code, queue};
 use raft_accessor::MemTableAccessor;
 use raft_base::{EntryIndex, Error, FileBlockHandle, FileId, FileSeq, Result};
 use raft_engine::rewriting::entries_to_move;
@@ -42,9 +38,7 @@ pub extern "C" fn raft_ffi_engine_rewrite(
     ensures err { result.code ≢ 0 → IsCodeForBoth (IsUnrewritten gate) engine.old.value engine.new.value result.code }
     ensures text { HasText result text.old text.new }
 {
-    let mut held = engine.take(alloc);
-    let answer = held.rewrite(gate);
-    engine.put(held);
+    let answer = with!(held in engine, alloc; held.rewrite(gate));
     answered(alloc, &answer, text)
 }
 
@@ -62,9 +56,7 @@ pub extern "C" fn raft_ffi_engine_rewrite_again(
     ensures err { result.code ≢ 0 → IsCodeForBoth AreUnmovedAgain engine.old.value engine.new.value result.code }
     ensures text { HasText result text.old text.new }
 {
-    let mut held = engine.take(alloc);
-    let answer = held.rewrite_again();
-    engine.put(held);
+    let answer = with!(held in engine, alloc; held.rewrite_again());
     answered(alloc, &answer, text)
 }
 
@@ -85,33 +77,16 @@ pub extern "C" fn raft_ffi_engine_moving_blocks(
     ensures ok { result ≡ 0 → (found : List Place) × IsCopied found places.old places.new count.new }
     ensures fault { result ≢ 0 → result ≡ 11 }
 {
-    let held = engine.take(alloc);
-    let answer = find_blocks(
-        alloc,
-        held.engine.accessor(),
-        gate.number(),
-        max_size,
-        places,
-        count,
-    );
-    engine.put(held);
-    memory_code(&answer)
-}
-
-fn find_blocks(
-    alloc: Global,
-    accessor: &MemTableAccessor,
-    gate: Option<FileSeq>,
-    max_size: usize,
-    places: &mut [Place],
-    count: &mut usize,
-) -> Result<()>
-    ensures ok { OnOk result ((found : List Place) × IsCopied found places.old places.new count.new) }
-    ensures memory { IfErr result (λ e. e ≡ Error.Memory) }
-{
-    let found = blocks_to_move(alloc, accessor, gate, max_size)?;
-    *count = copy_front(found.as_slice(), places);
-    Ok(())
+    let gate = gate.number();
+    let found =
+        with!(held in engine, alloc; blocks_to_move(alloc, held.engine.accessor(), gate, max_size));
+    match found {
+        Ok(found) => {
+            *count = copy_front(found.as_slice(), places);
+            0
+        }
+        Err(_) => 11,
+    }
 }
 
 /// Lends the bytes that stand at a place, as many as the block has, until the next call that moves records. They are copied.
@@ -128,9 +103,8 @@ pub extern "C" fn raft_ffi_engine_lend(
     ensures same { engine.new.value ≡ engine.old.value }
     ensures fault { result ≢ 0 → result ≡ 11 }
 {
-    let mut held = engine.take(alloc);
-    let answer = held.lend(FileId::new(queue(is_rewrite), seq), offset, bytes);
-    engine.put(held);
+    let answer =
+        with!(held in engine, alloc; held.lend(FileId::new(queue(is_rewrite), seq), offset, bytes));
     memory_code(&answer)
 }
 

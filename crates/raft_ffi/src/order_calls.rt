@@ -1,14 +1,10 @@
 //! Calls that hand out what is to be done to an engine's files.
 
 ghost use Rattle.std.specs.Prelude.{◌≡◌, ◌<◌, ◌≤◌, true, false, Some, None, IsTrue, is_some, length, take};
-ghost use Rattle.raft_orders.specs.Orders.{act_of, ask_of, length_put, next_to_do};
-ghost use Rattle.raft_ffi.specs.Calls.{Holds};
-ghost use Rattle.raft_ffi.specs.Engines.{Lasts, act_of_kind, ask_in};
-ghost use Rattle.raft_ffi.specs.Taking.{IsWaiting, IsTaking};
+ghost use Rattle.raft_ffi.specs.Words.{Holds, IsTaking, IsWaiting, Lasts, act_of, act_of_kind, ask_in, ask_of, length_put, next_to_do};
 
-use crate::handles::{Engine, Handle};
-use crate::rooms::copy_front;
-use crate::status::is_rewrite;
+use crate::handles::{Engine, Handle, with};
+use crate::status::{copy_front, is_rewrite};
 use raft_orders::{HandedFiles, NumberedOrder, Task};
 use std::alloc::Global;
 
@@ -50,10 +46,10 @@ pub extern "C" fn raft_ffi_engine_take_order(
     ensures untaken { result ≡ false → is_taken.new ≡ false }
     ensures lasts { Holds Lasts engine.old.value }
 {
-    let mut held = engine.take(alloc);
-    held.nothing_synced_is_lost();
-    let taking = held.take_order(bytes.len());
-    engine.put(held);
+    let taking = with!(held in engine, alloc; {
+        held.engine.nothing_synced_is_lost();
+        held.take_order(bytes.len())
+    });
     *is_taken = false;
     match taking {
         Taking::Taken(taken) => {
@@ -73,7 +69,6 @@ pub extern "C" fn raft_ffi_engine_take_order(
     }
 }
 
-/// Returns what an order says, and copies its bytes.
 fn head(taken: &NumberedOrder, bytes: &mut [u8]) -> OrderHead
     requires { length_put taken.now.order.task ≤ length bytes.old }
     ensures number { result.at ≡ taken.now.number }
@@ -89,7 +84,6 @@ fn head(taken: &NumberedOrder, bytes: &mut [u8]) -> OrderHead
     }
 }
 
-/// Returns the kind of a task, its number, and how many bytes it puts, which are copied.
 #[tactic(auto, using(crate::proofs::OrderLemmas::put_says))]
 fn act(task: &Task, bytes: &mut [u8]) -> (u32, u64, usize)
     requires { length_put task.now ≤ length bytes.old }

@@ -1,19 +1,12 @@
 //! Calls that list the keys of a region with their values.
 
-ghost use Rattle.std.specs.Prelude.{◌≡◌, ◌≢◌, IsTrue, Some, None, is_some, ℕ, List, filter, OnOk, IfOk, IfErr};
+ghost use Rattle.std.specs.Prelude.{◌≡◌, IsTrue, Some, None, is_some, ℕ, List, filter, OnOk, IfOk, IfErr};
 ghost use Rattle.raft_base.specs.declared.pipe_log.LogQueue.TheVariants.{Append, Rewrite};
-ghost use Rattle.raft_accessor.specs.Accessor.{table_in};
-ghost use Rattle.raft_table.specs.KeyValues.{pairs_up_to, pairs_shown};
-ghost use Rattle.raft_ffi.specs.Calls.{Holds};
-ghost use Rattle.raft_ffi.specs.Pairs.{ArePairsIn, AreScannedIn, bound_in, AreInKeyOrder, AreScanned, bytes_of, lengths_of, pairs_of_both};
-ghost use Rattle.std.specs.List.Sorted.{IsPermutation};
-ghost use Rattle.std.specs.Option.{option_copied};
-ghost use Rattle.raft_table.specs.Scan.{is_below, is_between};
-ghost use Rattle.raft_engine.specs.Rewriting.{moving_pairs};
+ghost use Rattle.raft_ffi.specs.Words.{AreInKeyOrder, ArePairsIn, AreScanned, AreScannedIn, IsPermutation, IsReadIfMemory, bound_in, is_below, is_between, moving_pairs, option_copied, pairs_of_both};
+ghost use Rattle.raft_ffi.specs.Words.{pairs_shown, pairs_up_to, table_in};
 
-use crate::handles::{Engine, Handle, Tables};
-use crate::rooms::copy_front;
-use crate::status::memory_code;
+use crate::handles::{Engine, Handle, Tables, with};
+use crate::status::{copy_front, memory_code};
 use raft_accessor::MemTableAccessor;
 use raft_base::{Error, Result};
 use raft_engine::rewriting::pairs_to_move;
@@ -34,14 +27,11 @@ pub extern "C" fn raft_ffi_tables_pairs_before(
     len: &mut usize,
 ) -> u32
     requires held { IsTrue (is_some tables.old.value) }
-    ensures same { tables.new.value ≡ tables.old.value }
-    ensures ok { result ≡ 0 → Holds (λ a. ArePairsIn (pairs_up_to Append (Some gate) (table_in a.tables region).keys)
-        lens.old lens.new count.new bytes.old bytes.new len.new) tables.old.value }
-    ensures fault { result ≢ 0 → result ≡ 11 }
+    ensures found { IsReadIfMemory result (λ a. ArePairsIn (pairs_up_to Append (Some gate) (table_in a.tables region).keys) lens.old
+        lens.new count.new bytes.old bytes.new len.new) tables.old.value tables.new.value }
 {
-    let held = tables.take(alloc);
-    let answer = find_moving_pairs(alloc, &*held, region, Some(gate), lens, count, bytes, len);
-    tables.put(held);
+    let answer = with!(held in tables, alloc;
+            find_moving_pairs(alloc, &*held, region, Some(gate), lens, count, bytes, len));
     memory_code(&answer)
 }
 
@@ -57,14 +47,11 @@ pub extern "C" fn raft_ffi_tables_rewritten_pairs(
     len: &mut usize,
 ) -> u32
     requires held { IsTrue (is_some tables.old.value) }
-    ensures same { tables.new.value ≡ tables.old.value }
-    ensures ok { result ≡ 0 → Holds (λ a. ArePairsIn (pairs_up_to Rewrite None (table_in a.tables region).keys) lens.old
-        lens.new count.new bytes.old bytes.new len.new) tables.old.value }
-    ensures fault { result ≢ 0 → result ≡ 11 }
+    ensures found { IsReadIfMemory result (λ a. ArePairsIn (pairs_up_to Rewrite None (table_in a.tables region).keys) lens.old
+        lens.new count.new bytes.old bytes.new len.new) tables.old.value tables.new.value }
 {
-    let held = tables.take(alloc);
-    let answer = find_moving_pairs(alloc, &*held, region, None, lens, count, bytes, len);
-    tables.put(held);
+    let answer =
+        with!(held in tables, alloc; find_moving_pairs(alloc, &*held, region, None, lens, count, bytes, len));
     memory_code(&answer)
 }
 
@@ -84,15 +71,12 @@ pub extern "C" fn raft_ffi_tables_scan(
     len: &mut usize,
 ) -> u32
     requires held { IsTrue (is_some tables.old.value) }
-    ensures same { tables.new.value ≡ tables.old.value }
-    ensures ok { result ≡ 0 → Holds (λ a. AreScannedIn start.now (bound_in is_bounded end.now)
-        (table_in a.tables region).keys lens.old lens.new count.new bytes.old bytes.new len.new) tables.old.value }
-    ensures fault { result ≢ 0 → result ≡ 11 }
+    ensures found { IsReadIfMemory result (λ a. AreScannedIn start.now (bound_in is_bounded end.now) (table_in a.tables region).keys
+        lens.old lens.new count.new bytes.old bytes.new len.new) tables.old.value tables.new.value }
 {
-    let held = tables.take(alloc);
     let end = bound(is_bounded, end);
-    let answer = scan_in(alloc, &*held, region, start, end, lens, count, bytes, len);
-    tables.put(held);
+    let answer =
+        with!(held in tables, alloc; scan_in(alloc, &*held, region, start, end, lens, count, bytes, len));
     memory_code(&answer)
 }
 
@@ -112,16 +96,12 @@ pub extern "C" fn raft_ffi_engine_scan(
     len: &mut usize,
 ) -> u32
     requires held { IsTrue (is_some engine.old.value) }
-    ensures same { engine.new.value ≡ engine.old.value }
-    ensures ok { result ≡ 0 → Holds (λ e. AreScannedIn start.now (bound_in is_bounded end.now)
-        (table_in e.accessor.tables region).keys lens.old lens.new count.new bytes.old bytes.new len.new) engine.old.value }
-    ensures fault { result ≢ 0 → result ≡ 11 }
+    ensures found { IsReadIfMemory result (λ e. AreScannedIn start.now (bound_in is_bounded end.now) (table_in e.accessor.tables
+        region).keys lens.old lens.new count.new bytes.old bytes.new len.new) engine.old.value engine.new.value }
 {
-    let held = engine.take(alloc);
-    let accessor = held.engine.accessor();
     let end = bound(is_bounded, end);
-    let answer = scan_in(alloc, accessor, region, start, end, lens, count, bytes, len);
-    engine.put(held);
+    let answer = with!(held in engine, alloc;
+            scan_in(alloc, held.engine.accessor(), region, start, end, lens, count, bytes, len));
     memory_code(&answer)
 }
 
@@ -255,33 +235,15 @@ fn copy_pairs(
         bytes.old bytes.new len.new) }
     ensures memory { IfErr result (λ e. e ≡ Error.Memory) }
 {
-    let all_lens = lengths(alloc, pairs)?;
-    let all_bytes = concatenated(alloc, pairs)?;
+    let mut all_lens = Vec::new(alloc);
+    let mut all_bytes = Vec::new(alloc);
+    for pair in pairs {
+        all_lens.push(pair.0.len())?;
+        all_lens.push(pair.1.len())?;
+        all_bytes.extend_from_slice(pair.0.as_slice())?;
+        all_bytes.extend_from_slice(pair.1.as_slice())?;
+    }
     *count = copy_front(all_lens.as_slice(), lens);
     *len = copy_front(all_bytes.as_slice(), bytes);
     Ok(())
-}
-
-fn lengths(alloc: Global, pairs: &[(Vec<u8>, Vec<u8>)]) -> Result<Vec<usize>>
-    ensures ok { IfOk result (λ v. v.items ≡ lengths_of (pairs_shown pairs.now)) }
-    ensures memory { IfErr result (λ e. e ≡ Error.Memory) }
-{
-    let mut found = Vec::new(alloc);
-    for pair in pairs {
-        found.push(pair.0.len())?;
-        found.push(pair.1.len())?;
-    }
-    Ok(found)
-}
-
-fn concatenated(alloc: Global, pairs: &[(Vec<u8>, Vec<u8>)]) -> Result<Vec<u8>>
-    ensures ok { IfOk result (λ v. v.items ≡ bytes_of (pairs_shown pairs.now)) }
-    ensures memory { IfErr result (λ e. e ≡ Error.Memory) }
-{
-    let mut found = Vec::new(alloc);
-    for pair in pairs {
-        found.extend_from_slice(pair.0.as_slice())?;
-        found.extend_from_slice(pair.1.as_slice())?;
-    }
-    Ok(found)
 }

@@ -1,11 +1,8 @@
 //! What calls take and return, in numbers.
 
-ghost use Rattle.std.specs.Prelude.{◌≡◌, OnOk, OnErr, IfOk, IfErr};
-ghost use Rattle.raft_ffi.specs.Calls.{code_of, file_of, queue_of, version_of};
-ghost use Rattle.raft_ffi.specs.Rooms.{IsTextIn, IsTextOf, HasText};
-ghost use Rattle.raft_ffi.specs.Summaries.{number_in};
+ghost use Rattle.std.specs.Prelude.{◌≡◌, OnOk, OnErr, IfOk, IfErr, option_map};
+ghost use Rattle.raft_ffi.specs.Words.{HasText, IsCopied, IsFound, IsTextIn, IsTextOf, code_of, file_of, number_in, queue_of, version_of};
 
-use crate::rooms::copy_front;
 use raft_base::{Error, FileId, LogFileContext, LogQueue, Result, Version};
 use std::alloc::Global;
 
@@ -124,14 +121,14 @@ pub(crate) fn memory_code(answer: &Result<()>) -> u32
 }
 
 /// Says how a call ended, and writes the text of its error as far as there is room.
-pub(crate) fn answered(alloc: Global, answer: &Result<()>, text: &mut [u8]) -> Status
+pub(crate) fn answered<T>(alloc: Global, answer: &Result<T>, text: &mut [u8]) -> Status
     ensures ok { OnOk answer.now (result.code ≡ 0) }
     ensures err { IfErr answer.now (λ e. result.code ≡ code_of e) }
     ensures text { HasText result text.old text.new }
     ensures told { IfErr answer.now (λ e. IsTextOf e text.old text.new result.text_len) }
 {
     match answer {
-        Ok(()) => Status {
+        Ok(_) => Status {
             code: 0,
             text_len: 0,
         },
@@ -159,7 +156,7 @@ pub(crate) fn answered_with<T: Copy>(
             *found = value;
             answered(alloc, &Ok(()), text)
         }
-        Err(e) => answered(alloc, &Err(e), text),
+        Err(e) => answered::<()>(alloc, &Err(e), text),
     }
 }
 
@@ -175,4 +172,25 @@ fn write_text(alloc: Global, e: &Error, text: &mut [u8]) -> usize
         Ok(words) => copy_front(words.as_bytes(), text),
         Err(_) => 0,
     }
+}
+
+/// Copies what was found as far as there is room, and returns how much it is.
+pub(crate) fn copy_front<T: Copy>(found: &[T], room: &mut [T]) -> usize
+    ensures { IsCopied found.now room.old room.new result }
+{
+    let count = found.len().min(room.len());
+    let (front, _) = found.split_at(count);
+    let (to, _) = room.split_at_mut(count);
+    to.copy_from_slice(front);
+    found.len()
+}
+
+pub(crate) fn copy_found(found: Option<&[u8]>, room: &mut [u8], len: &mut usize) -> bool
+    ensures { IsFound (λ bytes. IsCopied bytes room.old room.new len.new) (option_map (λ v. v.now) found.entry) result }
+{
+    let Some(found) = found else {
+        return false;
+    };
+    *len = copy_front(found, room);
+    true
 }

@@ -1,22 +1,17 @@
 //! Calls that read tables: those of all regions, and those of an engine.
 
-ghost use Rattle.std.specs.Prelude.{◌≡◌, ◌≢◌, IsTrue, is_some, ◌+◌, [], true, false};
+ghost use Rattle.std.specs.Prelude.{◌≡◌, ◌≢◌, IsTrue, is_some, ◌+◌, [], true, false, OnOk, IfOk, IfErr, option_map};
 ghost use Rattle.raft_base.specs.declared.pipe_log.LogQueue.TheVariants.{Rewrite};
-ghost use Rattle.raft_accessor.specs.Accessor.{table_in};
-ghost use Rattle.raft_table.specs.Counts.{live};
-ghost use Rattle.raft_table.specs.Fetches.{IsFetchFault, range_answer, appended_before};
-ghost use Rattle.raft_table.specs.TableEntries.{placed_in, start_of};
-ghost use Rattle.raft_ffi.specs.Calls.{Holds, IsCodeFor, queue_of, IsFound};
-ghost use Rattle.raft_ffi.specs.Reads.{AreRegionsIn, IsEntryIn, IsFetched, IsSummaryIn, IsValueIn};
-ghost use Rattle.raft_ffi.specs.Rooms.{AreEntriesIn, IsCopied, HasText};
-ghost use Rattle.raft_ffi.specs.Summaries.{number_in};
-ghost use Rattle.raft_base.specs.Runs.{end_of};
+ghost use Rattle.raft_ffi.specs.Words.{AreEntriesIn, AreRegionsIn, HasText, Holds, IsCopied, IsEntryIn, IsFetchFault, IsFetched, IsFound, IsRead, IsReadIfMemory, IsReadOrRefused, IsSummaryIn};
+ghost use Rattle.raft_ffi.specs.Words.{IsValueIn, appended_before, end_of, entry_at, live, moving_entries, number_in, placed_in, queue_of, range_answer, start_of, table_in, value_in};
 
-use crate::entries::Entry;
-use crate::handles::{Engine, Handle, Tables};
-use crate::reads::{entries_in, entry_in, find_moving, find_regions, summary_in, value_in};
-use crate::rooms::copy_front;
-use crate::status::{Maybe, Status, answered, memory_code, queue};
+use crate::entries::{Entry, copy_entries, plain};
+use crate::handles::{Engine, Handle, Tables, with};
+use crate::status::{Maybe, Status, answered, copy_found, copy_front, memory_code, queue};
+use raft_accessor::MemTableAccessor;
+use raft_base::{EntryIndex, Error, LogQueue, Result};
+use raft_engine::rewriting::{entries_to_move, regions_of};
+use raft_table::MemTable;
 use std::alloc::Global;
 
 /// What a table has.
@@ -41,13 +36,9 @@ pub extern "C" fn raft_ffi_tables_live(
     is_rewrite: bool,
 ) -> usize
     requires held { IsTrue (is_some tables.old.value) }
-    ensures same { tables.new.value ≡ tables.old.value }
-    ensures live { Holds (λ a. result ≡ live (queue_of is_rewrite) a.counts) tables.old.value }
+    ensures live { IsRead (λ a. result ≡ live (queue_of is_rewrite) a.counts) tables.old.value tables.new.value }
 {
-    let held = tables.take(alloc);
-    let count = held.stats().live_entries(queue(is_rewrite));
-    tables.put(held);
-    count
+    with!(held in tables, alloc; held.stats().live_entries(queue(is_rewrite)))
 }
 
 /// Says what a region's table has, if there is one.
@@ -59,13 +50,9 @@ pub extern "C" fn raft_ffi_tables_summary(
     summary: &mut Summary,
 ) -> bool
     requires held { IsTrue (is_some tables.old.value) }
-    ensures same { tables.new.value ≡ tables.old.value }
-    ensures found { Holds (IsSummaryIn region result summary.new) tables.old.value }
+    ensures found { IsRead (IsSummaryIn region result summary.new) tables.old.value tables.new.value }
 {
-    let held = tables.take(alloc);
-    let found = summary_in(&*held, region, summary);
-    tables.put(held);
-    found
+    with!(held in tables, alloc; summary_in(&*held, region, summary))
 }
 
 /// Lists the regions that have a table, in rising order, as far as there is room, and says how many they are.
@@ -77,13 +64,10 @@ pub extern "C" fn raft_ffi_tables_regions(
     count: &mut usize,
 ) -> u32
     requires held { IsTrue (is_some tables.old.value) }
-    ensures same { tables.new.value ≡ tables.old.value }
-    ensures ok { result ≡ 0 → Holds (λ a. AreRegionsIn a.tables regions.old regions.new count.new) tables.old.value }
-    ensures fault { result ≢ 0 → result ≡ 11 }
+    ensures found { IsReadIfMemory result (λ a. AreRegionsIn a.tables regions.old regions.new count.new) tables.old.value
+        tables.new.value }
 {
-    let held = tables.take(alloc);
-    let answer = find_regions(alloc, &*held, regions, count);
-    tables.put(held);
+    let answer = with!(held in tables, alloc; find_regions(&*held, regions, count));
     memory_code(&answer)
 }
 
@@ -95,13 +79,9 @@ pub extern "C" fn raft_ffi_tables_cleaned(
     regions: &mut [u64],
 ) -> usize
     requires held { IsTrue (is_some tables.old.value) }
-    ensures same { tables.new.value ≡ tables.old.value }
-    ensures found { Holds (λ a. IsCopied a.cleaned regions.old regions.new result) tables.old.value }
+    ensures found { IsRead (λ a. IsCopied a.cleaned regions.old regions.new result) tables.old.value tables.new.value }
 {
-    let held = tables.take(alloc);
-    let count = copy_front(held.cleaned_regions(), regions);
-    tables.put(held);
-    count
+    with!(held in tables, alloc; copy_front(held.cleaned_regions(), regions))
 }
 
 /// Finds an entry of a region, if there is one.
@@ -114,13 +94,9 @@ pub extern "C" fn raft_ffi_tables_entry(
     entry: &mut Entry,
 ) -> bool
     requires held { IsTrue (is_some tables.old.value) }
-    ensures same { tables.new.value ≡ tables.old.value }
-    ensures found { Holds (IsEntryIn region index result entry.new) tables.old.value }
+    ensures found { IsRead (IsEntryIn region index result entry.new) tables.old.value tables.new.value }
 {
-    let held = tables.take(alloc);
-    let found = entry_in(&*held, region, index, entry);
-    tables.put(held);
-    found
+    with!(held in tables, alloc; entry_in(&*held, region, index, entry))
 }
 
 /// Lists the entries of a region from `begin` on and below `end`, as far as there is room, and says how many they are.
@@ -139,25 +115,14 @@ pub extern "C" fn raft_ffi_tables_entries(
     text: &mut [u8],
 ) -> Status
     requires held { IsTrue (is_some tables.old.value) }
-    ensures same { tables.new.value ≡ tables.old.value }
-    ensures ok { result.code ≡ 0 → Holds (λ a. IsFetched (number_in max_size) begin end
-        (table_in a.tables region).entries entries.old entries.new count.new) tables.old.value }
-    ensures fault { result.code ≢ 0 → IsCodeFor (λ a. IsFetchFault (range_answer begin end (table_in a.tables
-        region).entries)) tables.old.value result.code }
+    ensures found { IsReadOrRefused result.code
+        (λ a. IsFetched (number_in max_size) begin end (table_in a.tables region).entries entries.old entries.new count.new)
+        (λ a. IsFetchFault (range_answer begin end (table_in a.tables region).entries)) tables.old.value tables.new.value }
     ensures text { HasText result text.old text.new }
 {
-    let held = tables.take(alloc);
     let range = (begin, end);
-    let answer = entries_in(
-        alloc,
-        &*held,
-        region,
-        range,
-        max_size.size(),
-        entries,
-        count,
-    );
-    tables.put(held);
+    let answer =
+        with!(held in tables, alloc; entries_in(alloc, &*held, region, range, max_size.size(), entries, count));
     answered(alloc, &answer, text)
 }
 
@@ -173,14 +138,11 @@ pub extern "C" fn raft_ffi_tables_entries_before(
     count: &mut usize,
 ) -> u32
     requires held { IsTrue (is_some tables.old.value) }
-    ensures same { tables.new.value ≡ tables.old.value }
-    ensures ok { result ≡ 0 → Holds (λ a. AreEntriesIn (appended_before gate (table_in a.tables region).entries)
-        entries.old entries.new count.new) tables.old.value }
-    ensures fault { result ≢ 0 → result ≡ 11 }
+    ensures found { IsReadIfMemory result (λ a. AreEntriesIn (appended_before gate (table_in a.tables region).entries) entries.old
+        entries.new count.new) tables.old.value tables.new.value }
 {
-    let held = tables.take(alloc);
-    let answer = find_moving(alloc, &*held, region, Some(gate), entries, count);
-    tables.put(held);
+    let answer =
+        with!(held in tables, alloc; find_moving(alloc, &*held, region, Some(gate), entries, count));
     memory_code(&answer)
 }
 
@@ -194,14 +156,11 @@ pub extern "C" fn raft_ffi_tables_rewritten_entries(
     count: &mut usize,
 ) -> u32
     requires held { IsTrue (is_some tables.old.value) }
-    ensures same { tables.new.value ≡ tables.old.value }
-    ensures ok { result ≡ 0 → Holds (λ a. AreEntriesIn (placed_in Rewrite (table_in a.tables region).entries)
-        entries.old entries.new count.new) tables.old.value }
-    ensures fault { result ≢ 0 → result ≡ 11 }
+    ensures found { IsReadIfMemory result (λ a. AreEntriesIn (placed_in Rewrite (table_in a.tables region).entries) entries.old
+        entries.new count.new) tables.old.value tables.new.value }
 {
-    let held = tables.take(alloc);
-    let answer = find_moving(alloc, &*held, region, None, entries, count);
-    tables.put(held);
+    let answer =
+        with!(held in tables, alloc; find_moving(alloc, &*held, region, None, entries, count));
     memory_code(&answer)
 }
 
@@ -216,13 +175,9 @@ pub extern "C" fn raft_ffi_tables_value(
     len: &mut usize,
 ) -> bool
     requires held { IsTrue (is_some tables.old.value) }
-    ensures same { tables.new.value ≡ tables.old.value }
-    ensures found { Holds (IsValueIn region key.now result value.old value.new len.new) tables.old.value }
+    ensures found { IsRead (IsValueIn region key.now result value.old value.new len.new) tables.old.value tables.new.value }
 {
-    let held = tables.take(alloc);
-    let found = value_in(&*held, region, key, value, len);
-    tables.put(held);
-    found
+    with!(held in tables, alloc; copy_found(value_of(&*held, region, key), value, len))
 }
 
 /// Frees the tables.
@@ -241,17 +196,9 @@ pub extern "C" fn raft_ffi_engine_live(
     is_rewrite: bool,
 ) -> usize
     requires held { IsTrue (is_some engine.old.value) }
-    ensures same { engine.new.value ≡ engine.old.value }
-    ensures live { Holds (λ e. result ≡ live (queue_of is_rewrite) e.accessor.counts) engine.old.value }
+    ensures live { IsRead (λ e. result ≡ live (queue_of is_rewrite) e.accessor.counts) engine.old.value engine.new.value }
 {
-    let held = engine.take(alloc);
-    let count = held
-        .engine
-        .accessor()
-        .stats()
-        .live_entries(queue(is_rewrite));
-    engine.put(held);
-    count
+    with!(held in engine, alloc; held.engine.accessor().stats().live_entries(queue(is_rewrite)))
 }
 
 /// Says what a region's table has, if there is one.
@@ -263,13 +210,9 @@ pub extern "C" fn raft_ffi_engine_summary(
     summary: &mut Summary,
 ) -> bool
     requires held { IsTrue (is_some engine.old.value) }
-    ensures same { engine.new.value ≡ engine.old.value }
-    ensures found { Holds (λ e. IsSummaryIn region result summary.new e.accessor) engine.old.value }
+    ensures found { IsRead (λ e. IsSummaryIn region result summary.new e.accessor) engine.old.value engine.new.value }
 {
-    let held = engine.take(alloc);
-    let found = summary_in(held.engine.accessor(), region, summary);
-    engine.put(held);
-    found
+    with!(held in engine, alloc; summary_in(held.engine.accessor(), region, summary))
 }
 
 /// Lists the regions that have a table, in rising order, as far as there is room, and says how many they are.
@@ -281,14 +224,10 @@ pub extern "C" fn raft_ffi_engine_regions(
     count: &mut usize,
 ) -> u32
     requires held { IsTrue (is_some engine.old.value) }
-    ensures same { engine.new.value ≡ engine.old.value }
-    ensures ok { result ≡ 0 → Holds
-        (λ e. AreRegionsIn e.accessor.tables regions.old regions.new count.new) engine.old.value }
-    ensures fault { result ≢ 0 → result ≡ 11 }
+    ensures found { IsReadIfMemory result (λ e. AreRegionsIn e.accessor.tables regions.old regions.new count.new) engine.old.value
+        engine.new.value }
 {
-    let held = engine.take(alloc);
-    let answer = find_regions(alloc, held.engine.accessor(), regions, count);
-    engine.put(held);
+    let answer = with!(held in engine, alloc; find_regions(held.engine.accessor(), regions, count));
     memory_code(&answer)
 }
 
@@ -302,18 +241,12 @@ pub extern "C" fn raft_ffi_engine_entry(
     entry: &mut Entry,
 ) -> bool
     requires held { IsTrue (is_some engine.old.value) }
-    ensures same { engine.new.value ≡ engine.old.value }
-    ensures found { Holds (λ e. IsEntryIn region index result entry.new e.accessor) engine.old.value }
+    ensures found { IsRead (λ e. IsEntryIn region index result entry.new e.accessor) engine.old.value engine.new.value }
 {
-    let held = engine.take(alloc);
-    let found = entry_in(held.engine.accessor(), region, index, entry);
-    engine.put(held);
-    found
+    with!(held in engine, alloc; entry_in(held.engine.accessor(), region, index, entry))
 }
 
-/// Lists the entries of a region from `begin` on and below `end`, as far as there is room, and says how many they are.
-/// With a maximal size it stops before the first one with which the total of lengths passes that size and exceeds the
-/// entry's own length. A region without a table has no entries.
+/// Lists the entries of a region from `begin` on and below `end`, as [`raft_ffi_tables_entries`] does.
 #[unsafe(no_mangle)]
 pub extern "C" fn raft_ffi_engine_entries(
     alloc: Global,
@@ -327,26 +260,14 @@ pub extern "C" fn raft_ffi_engine_entries(
     text: &mut [u8],
 ) -> Status
     requires held { IsTrue (is_some engine.old.value) }
-    ensures same { engine.new.value ≡ engine.old.value }
-    ensures ok { result.code ≡ 0 → Holds (λ e. IsFetched (number_in max_size) begin end
-        (table_in e.accessor.tables region).entries entries.old entries.new count.new) engine.old.value }
-    ensures fault { result.code ≢ 0 → IsCodeFor (λ e. IsFetchFault (range_answer begin end (table_in e.accessor.tables region).entries))
-        engine.old.value result.code }
+    ensures found { IsReadOrRefused result.code
+        (λ e. IsFetched (number_in max_size) begin end (table_in e.accessor.tables region).entries entries.old entries.new count.new)
+        (λ e. IsFetchFault (range_answer begin end (table_in e.accessor.tables region).entries)) engine.old.value engine.new.value }
     ensures text { HasText result text.old text.new }
 {
-    let held = engine.take(alloc);
     let range = (begin, end);
-    let accessor = held.engine.accessor();
-    let answer = entries_in(
-        alloc,
-        accessor,
-        region,
-        range,
-        max_size.size(),
-        entries,
-        count,
-    );
-    engine.put(held);
+    let answer = with!(held in engine, alloc;
+            entries_in(alloc, held.engine.accessor(), region, range, max_size.size(), entries, count));
     answered(alloc, &answer, text)
 }
 
@@ -361,13 +282,10 @@ pub extern "C" fn raft_ffi_engine_value(
     len: &mut usize,
 ) -> bool
     requires held { IsTrue (is_some engine.old.value) }
-    ensures same { engine.new.value ≡ engine.old.value }
-    ensures found { Holds (λ e. IsValueIn region key.now result value.old value.new len.new e.accessor) engine.old.value }
+    ensures found { IsRead (λ e. IsValueIn region key.now result value.old value.new len.new e.accessor) engine.old.value
+        engine.new.value }
 {
-    let held = engine.take(alloc);
-    let found = value_in(held.engine.accessor(), region, key, value, len);
-    engine.put(held);
-    found
+    with!(held in engine, alloc; copy_found(value_of(held.engine.accessor(), region, key), value, len))
 }
 
 /// Finds the least index of a region's entries, if it has any.
@@ -384,9 +302,7 @@ pub extern "C" fn raft_ffi_engine_first_index(
         × (index.new ≡ start_of (table_in e.accessor.tables region).entries)) engine.old.value }
     ensures none { result ≡ false → Holds (λ e. (table_in e.accessor.tables region).entries ≡ []) engine.old.value }
 {
-    let held = engine.take(alloc);
-    let found = held.engine.first_index(region);
-    engine.put(held);
+    let found = with!(held in engine, alloc; held.engine.first_index(region));
     found_number(found, index)
 }
 
@@ -403,9 +319,7 @@ pub extern "C" fn raft_ffi_engine_last_index(
     ensures some { result ≡ true → Holds (λ e. index.new + 1 ≡ end_of (table_in e.accessor.tables region).entries) engine.old.value }
     ensures none { result ≡ false → Holds (λ e. (table_in e.accessor.tables region).entries ≡ []) engine.old.value }
 {
-    let held = engine.take(alloc);
-    let found = held.engine.last_index(region);
-    engine.put(held);
+    let found = with!(held in engine, alloc; held.engine.last_index(region));
     found_number(found, index)
 }
 
@@ -417,4 +331,110 @@ fn found_number(found: Option<u64>, number: &mut u64) -> bool
     };
     *number = found;
     true
+}
+
+fn summary_in(accessor: &MemTableAccessor, region: u64, summary: &mut Summary) -> bool
+    ensures { IsSummaryIn region result summary.new accessor.now }
+{
+    let Some(table) = accessor.get(region) else {
+        return false;
+    };
+    *summary = Summary {
+        entries: table.entries_count(),
+        keys: table.key_count(),
+        first: Maybe::of(table.first_index()),
+        append_seq: Maybe::of(table.min_file_seq(LogQueue::Append)),
+        rewrite_seq: Maybe::of(table.min_file_seq(LogQueue::Rewrite)),
+    };
+    true
+}
+
+fn entry_in(accessor: &MemTableAccessor, region: u64, index: u64, entry: &mut Entry) -> bool
+    ensures { IsEntryIn region index result entry.new accessor.now }
+{
+    let Some(found) = entry_at(accessor, region, index) else {
+        return false;
+    };
+    *entry = plain(&found);
+    true
+}
+
+fn entry_at(accessor: &MemTableAccessor, region: u64, index: u64) -> Option<EntryIndex>
+    ensures { result ≡ entry_at index (table_in accessor.now.tables region).entries }
+{
+    accessor.get(region)?.get_entry(index)
+}
+
+fn value_of<'a>(accessor: &'a MemTableAccessor, region: u64, key: &[u8]) -> Option<&'a [u8]>
+    ensures { option_map (λ v. v.now) result ≡ value_in accessor.now.tables region key.now }
+{
+    accessor.get(region)?.get(key)
+}
+
+fn find_regions(accessor: &MemTableAccessor, room: &mut [u64], count: &mut usize) -> Result<()>
+    ensures ok { OnOk result (AreRegionsIn accessor.now.tables room.old room.new count.new) }
+    ensures memory { IfErr result (λ e. e ≡ Error.Memory) }
+{
+    let mut regions = regions_of(accessor)?;
+    regions.sort_unstable();
+    *count = copy_front(regions.as_slice(), room);
+    Ok(())
+}
+
+fn entries_in(
+    alloc: Global,
+    accessor: &MemTableAccessor,
+    region: u64,
+    range: (u64, u64),
+    max_size: Option<usize>,
+    entries: &mut [Entry],
+    count: &mut usize,
+) -> Result<()>
+    ensures ok { OnOk result (IsFetched max_size range.0 range.1
+        (table_in accessor.now.tables region).entries entries.old entries.new count.new) }
+    ensures fault { IfErr result (IsFetchFault
+        (range_answer range.0 range.1 (table_in accessor.now.tables region).entries)) }
+{
+    let (begin, end) = range;
+    let mut found = Vec::new(alloc);
+    match accessor.get(region) {
+        Some(table) => table.fetch_entries_to(begin, end, max_size, &mut found)?,
+        None => {
+            MemTable::new(alloc, region).fetch_entries_to(begin, end, max_size, &mut found)?;
+        }
+    }
+    *count = copy_entries(&found, entries);
+    Ok(())
+}
+
+fn find_moving(
+    alloc: Global,
+    accessor: &MemTableAccessor,
+    region: u64,
+    gate: Option<u64>,
+    entries: &mut [Entry],
+    count: &mut usize,
+) -> Result<()>
+    ensures ok { OnOk result (AreEntriesIn (moving_entries gate
+        (table_in accessor.now.tables region).entries) entries.old entries.new count.new) }
+    ensures memory { IfErr result (λ e. e ≡ Error.Memory) }
+{
+    let found = moving_in(alloc, accessor, region, gate)?;
+    *count = copy_entries(&found, entries);
+    Ok(())
+}
+
+fn moving_in(
+    alloc: Global,
+    accessor: &MemTableAccessor,
+    region: u64,
+    gate: Option<u64>,
+) -> Result<Vec<EntryIndex>>
+    ensures ok { IfOk result (λ v. v.items ≡ moving_entries gate (table_in accessor.now.tables region).entries) }
+    ensures memory { IfErr result (λ e. e ≡ Error.Memory) }
+{
+    match accessor.get(region) {
+        Some(table) => entries_to_move(alloc, table, gate),
+        None => Ok(Vec::new(alloc)),
+    }
 }

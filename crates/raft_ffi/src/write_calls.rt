@@ -1,31 +1,26 @@
-//! Calls that make tables, change those of several regions, and test and hand out batches for them.
+//! Calls that make tables, change those of several regions, and test and hand out batches for them; also of tables that are divided into
+//! slots, each of which has the tables of the regions whose slot has its number.
 
-ghost use Rattle.std.specs.Prelude.{◌≡◌, ◌≢◌, ◌≤◌, IsTrue, IfErr, OnOk, OnErr, Some, None, is_some};
+ghost use Rattle.std.specs.Prelude.{◌≡◌, ◌≢◌, ◌≤◌, IsTrue, IfErr, OnOk, OnErr, Some, None, is_some, ◌<◌, false, map, IfOk, IfSome};
+ghost use Rattle.raft_ffi.specs.Words.{AcceptsOncePlaced, AcceptsShareOncePlaced, AllHold, Appending, AreAllOrSomeWritten, AreMergedOrLeft, AreRefusedOncePlaced, AreWritten, BothHold, HasText, Holds};
+ghost use Rattle.raft_ffi.specs.Words.{IsAppendCheckFault, IsAppendedFault, IsChangedIfMemory, IsCodeForBoth, IsCodeOf, IsGroupSet, IsMadeIfMemory, IsMoveFault, IsMoved, IsNewerFault, IsRemoved};
+ghost use Rattle.raft_ffi.specs.Words.{IsShareRefused, IsStoppedAt, Rewriting, cleans_of, item_of, no_tables, number_in, share_of, slot_of, with_appended, with_newer, without_cleaned};
 ghost use Rattle.std.specs.FinMap as finite;
-ghost use Rattle.raft_accessor.specs.Merges.{with_newer, with_appended, AreTablesLeft, AreOthersLeft, IsNewerFault, IsAppendedFault, IsMergeRefusal};
-ghost use Rattle.raft_accessor.specs.Writes.{Appending, Rewriting, AreWritten};
-ghost use Rattle.raft_ffi.specs.Calls.{AllHold, BothHold, Holds, IsCodeOf, IsCodeForBoth};
-ghost use Rattle.raft_ffi.specs.Changes.{AreMerged, AreSomeWritten, IsGroupSet, IsRemoved, IsStoppedAt, no_tables, without_cleaned};
-ghost use Rattle.raft_ffi.specs.Rooms.{HasText};
-ghost use Rattle.raft_ffi.specs.Summaries.{number_in};
-ghost use Rattle.raft_accessor.specs.AppendChecks.{AreRefusedOncePlaced, IsAppendCheckFault};
-ghost use Rattle.raft_ffi.specs.Batches.{cleans_of, AcceptsOncePlaced};
 
-use crate::handles::{Batch, Handle, Items, Tables};
+use crate::handles::{Batch, Handle, Items, Tables, with};
 use crate::item_list::ItemList;
 use crate::status::{Maybe, Status, answered, memory_code};
-use raft_accessor::MemTableAccessor;
+use raft_accessor::{MemTableAccessor, slot_of};
 use raft_base::{Error, Result};
-use raft_records::LogBatch;
+use raft_records::{LogBatch, LogItem};
+use raft_table::MemTable;
 use std::alloc::Global;
 
 /// Makes no tables.
 #[unsafe(no_mangle)]
 pub extern "C" fn raft_ffi_tables_new(alloc: Global, tables: &mut Tables) -> u32
     requires empty { tables.old.value ≡ None }
-    ensures ok { result ≡ 0 → tables.new.value ≡ Some no_tables }
-    ensures err { result ≢ 0 → tables.new.value ≡ None }
-    ensures fault { result ≢ 0 → result ≡ 11 }
+    ensures made { IsMadeIfMemory result no_tables tables.new.value }
 {
     match MemTableAccessor::new(alloc) {
         Ok(held) => memory_code(&tables.put_new(alloc, held)),
@@ -44,30 +39,14 @@ pub extern "C" fn raft_ffi_tables_atomic_group(
 ) -> u32
     requires held { IsTrue (is_some tables.old.value) }
     requires range { start ≤ end }
-    ensures ok { result ≡ 0 → BothHold (IsGroupSet start end region) tables.old.value tables.new.value }
-    ensures err { result ≢ 0 → tables.new.value ≡ tables.old.value }
-    ensures fault { result ≢ 0 → result ≡ 11 }
+    ensures changed { IsChangedIfMemory result (IsGroupSet start end region) tables.old.value tables.new.value }
 {
-    let mut held = tables.take(alloc);
-    let answer = set_atomic_group(&mut *held, region, start, end);
-    tables.put(held);
+    let answer = with!(held in tables, alloc; {
+        let answer = held.apply_rewrite_atomic_group(region, start, end);
+        held.counts_are_exact();
+        answer
+    });
     memory_code(&answer)
-}
-
-fn set_atomic_group(
-    accessor: &mut MemTableAccessor,
-    region: u64,
-    start: u64,
-    end: u64,
-) -> Result<()>
-    requires { start ≤ end }
-    ensures ok { OnOk result (IsGroupSet start end region accessor.old accessor.new) }
-    ensures err { OnErr result (accessor.new ≡ accessor.old) }
-    ensures memory { IfErr result (λ e. e ≡ Error.Memory) }
-{
-    let answer = accessor.apply_rewrite_atomic_group(region, start, end);
-    accessor.counts_are_exact();
-    answer
 }
 
 /// Takes a region's table away, and lists the region as cleaned where that is asked for, also where it has no table.
@@ -85,26 +64,18 @@ pub extern "C" fn raft_ffi_tables_remove(
     ensures err { result ≢ 0 → tables.new.value ≡ tables.old.value }
     ensures fault { result ≢ 0 → (result ≡ 11) × IsTrue is_listed }
 {
-    let mut held = tables.take(alloc);
-    let answer = remove(&mut *held, region, is_listed, found);
-    tables.put(held);
-    memory_code(&answer)
-}
-
-fn remove(
-    accessor: &mut MemTableAccessor,
-    region: u64,
-    is_listed: bool,
-    found: &mut bool,
-) -> Result<()>
-    ensures ok { OnOk result (IsRemoved region is_listed accessor.old accessor.new) }
-    ensures found { OnOk result (found.new ≡ is_some (finite.get accessor.old.tables region)) }
-    ensures err { OnErr result (accessor.new ≡ accessor.old) }
-    ensures fault { IfErr result (λ e. (e ≡ Error.Memory) × IsTrue is_listed) }
-{
-    *found = accessor.remove(region, is_listed)?.is_some();
-    accessor.counts_are_exact();
-    Ok(())
+    let answer = with!(held in tables, alloc; {
+        let answer = held.remove(region, is_listed);
+        held.counts_are_exact();
+        answer
+    });
+    match answer {
+        Ok(table) => {
+            *found = table.is_some();
+            0
+        }
+        Err(_) => 11,
+    }
 }
 
 /// Merges the tables of a newer neighbor, each into the table of its region. Those are gone then.
@@ -117,21 +88,14 @@ pub extern "C" fn raft_ffi_tables_merge_newer(
 ) -> Status
     requires held { IsTrue (is_some tables.old.value) }
     requires newer { IsTrue (is_some newer.value) }
-    ensures ok { result.code ≡ 0 → AllHold (AreMerged with_newer) newer.value tables.old.value tables.new.value }
-    ensures err { result.code ≢ 0 → result.code ≢ 11 → AllHold (λ rhs old new. AreTablesLeft with_newer old.tables
-        rhs.tables new.tables) newer.value tables.old.value tables.new.value }
-    ensures others { result.code ≢ 0 → AllHold (λ rhs old new. AreOthersLeft with_newer old.tables rhs.tables
-        new.tables) newer.value tables.old.value tables.new.value }
-    ensures cleaned { BothHold (λ old new. new.cleaned ≡ old.cleaned) tables.old.value tables.new.value }
-    ensures fault { result.code ≢ 0 → AllHold (λ rhs old new. IsCodeOf (IsMergeRefusal (IsNewerFault new.counts)
-        old.tables rhs.tables) result.code) newer.value tables.old.value tables.new.value }
+    ensures merged { AreMergedOrLeft with_newer IsNewerFault result.code newer.value tables.old.value tables.new.value }
     ensures text { HasText result text.old text.new }
 {
-    let mut held = tables.take(alloc);
-    let newer = Box::into_inner(newer.into_box());
-    let answer = held.merge_newer_neighbor(newer);
-    held.counts_are_exact();
-    tables.put(held);
+    let answer = with!(held in tables, alloc; {
+        let answer = held.merge_newer_neighbor(newer.into_held());
+        held.counts_are_exact();
+        answer
+    });
     answered(alloc, &answer, text)
 }
 
@@ -145,21 +109,14 @@ pub extern "C" fn raft_ffi_tables_merge_append(
 ) -> Status
     requires held { IsTrue (is_some tables.old.value) }
     requires append { IsTrue (is_some append.value) }
-    ensures ok { result.code ≡ 0 → AllHold (AreMerged with_appended) append.value tables.old.value tables.new.value }
-    ensures err { result.code ≢ 0 → result.code ≢ 11 → AllHold (λ rhs old new. AreTablesLeft with_appended old.tables
-        rhs.tables new.tables) append.value tables.old.value tables.new.value }
-    ensures others { result.code ≢ 0 → AllHold (λ rhs old new. AreOthersLeft with_appended old.tables rhs.tables
-        new.tables) append.value tables.old.value tables.new.value }
-    ensures cleaned { BothHold (λ old new. new.cleaned ≡ old.cleaned) tables.old.value tables.new.value }
-    ensures fault { result.code ≢ 0 → AllHold (λ rhs old new. IsCodeOf (IsMergeRefusal (IsAppendedFault new.counts)
-        old.tables rhs.tables) result.code) append.value tables.old.value tables.new.value }
+    ensures merged { AreMergedOrLeft with_appended IsAppendedFault result.code append.value tables.old.value tables.new.value }
     ensures text { HasText result text.old text.new }
 {
-    let mut held = tables.take(alloc);
-    let appended = Box::into_inner(append.into_box());
-    let answer = held.merge_append_table(appended);
-    held.counts_are_exact();
-    tables.put(held);
+    let answer = with!(held in tables, alloc; {
+        let answer = held.merge_append_table(append.into_held());
+        held.counts_are_exact();
+        answer
+    });
     answered(alloc, &answer, text)
 }
 
@@ -174,15 +131,10 @@ pub extern "C" fn raft_ffi_tables_apply_append(
 ) -> Status
     requires held { IsTrue (is_some tables.old.value) }
     requires items { IsTrue (is_some items.value) }
-    ensures ok { result.code ≡ 0 → AllHold (AreWritten Appending) items.value tables.old.value tables.new.value }
-    ensures refused { result.code ≢ 0 → AllHold (AreSomeWritten Appending result.code) items.value
-        tables.old.value tables.new.value }
+    ensures written { AreAllOrSomeWritten Appending result.code items.value tables.old.value tables.new.value }
     ensures text { HasText result text.old text.new }
 {
-    let mut held = tables.take(alloc);
-    let items = Box::into_inner(items.into_box());
-    let answer = apply_append(&mut *held, items);
-    tables.put(held);
+    let answer = with!(held in tables, alloc; apply_append(&mut *held, items.into_held()));
     answered(alloc, &answer, text)
 }
 
@@ -206,16 +158,11 @@ pub extern "C" fn raft_ffi_tables_apply_rewrite(
 ) -> Status
     requires held { IsTrue (is_some tables.old.value) }
     requires items { IsTrue (is_some items.value) }
-    ensures ok { result.code ≡ 0 → AllHold (AreWritten (Rewriting (number_in gate) seq))
-        items.value tables.old.value tables.new.value }
-    ensures refused { result.code ≢ 0 → AllHold (AreSomeWritten (Rewriting (number_in gate) seq) result.code)
-        items.value tables.old.value tables.new.value }
+    ensures written { AreAllOrSomeWritten (Rewriting (number_in gate) seq) result.code items.value tables.old.value tables.new.value }
     ensures text { HasText result text.old text.new }
 {
-    let mut held = tables.take(alloc);
-    let items = Box::into_inner(items.into_box());
-    let answer = apply_rewrite(&mut *held, items, gate.number(), seq);
-    tables.put(held);
+    let answer =
+        with!(held in tables, alloc; apply_rewrite(&mut *held, items.into_held(), gate.number(), seq));
     answered(alloc, &answer, text)
 }
 
@@ -251,11 +198,8 @@ pub extern "C" fn raft_ffi_tables_check_append(
         (λ a b. IsAppendCheckFault a.tables b.items) tables.old.value batch.old.value result.code }
     ensures text { HasText result text.old text.new }
 {
-    let held = tables.take(alloc);
-    let logs = batch.take(alloc);
-    let answer = check_append(&*held, &*logs);
-    tables.put(held);
-    batch.put(logs);
+    let answer =
+        with!(held in tables, alloc; with!(logs in batch, alloc; check_append(&*held, &*logs)));
     answered(alloc, &answer, text)
 }
 
@@ -276,15 +220,11 @@ pub extern "C" fn raft_ffi_tables_cleaned_logs(
 ) -> u32
     requires held { IsTrue (is_some tables.old.value) }
     requires empty { batch.old.value ≡ None }
-    ensures ok { result ≡ 0 → BothHold (λ old new. new ≡ without_cleaned old) tables.old.value tables.new.value }
+    ensures changed { IsChangedIfMemory result (λ old new. new ≡ without_cleaned old) tables.old.value tables.new.value }
     ensures logs { result ≡ 0 → BothHold (λ old logs. logs ≡ cleans_of old.cleaned) tables.old.value batch.new.value }
-    ensures err { result ≢ 0 → tables.new.value ≡ tables.old.value }
     ensures batch_err { result ≢ 0 → batch.new.value ≡ None }
-    ensures fault { result ≢ 0 → result ≡ 11 }
 {
-    let mut held = tables.take(alloc);
-    let answer = cleaned_logs(alloc, &mut *held, batch);
-    tables.put(held);
+    let answer = with!(held in tables, alloc; cleaned_logs(alloc, &mut *held, batch));
     memory_code(&answer)
 }
 
@@ -301,4 +241,200 @@ fn cleaned_logs(alloc: Global, accessor: &mut MemTableAccessor, batch: &mut Batc
     *held = accessor.take_cleaned_region_logs()?;
     batch.put(held);
     Ok(())
+}
+
+/// Returns the number of the slot that holds a region's table, below 128.
+#[unsafe(no_mangle)]
+pub extern "C" fn raft_ffi_slot_of(region: u64) -> usize
+    ensures value { result ≡ slot_of region }
+    ensures bound { result < 128 }
+{
+    slot_of(region)
+}
+
+/// Moves the table of a region, if there is one, out of tables into others, where it stands in place of that region's one. The
+/// lists of cleaned regions stay. Where that is refused the region's table is gone, and the others are as they were.
+#[unsafe(no_mangle)]
+pub extern "C" fn raft_ffi_tables_move_table(
+    alloc: Global,
+    tables: &mut Tables,
+    to: &mut Tables,
+    region: u64,
+    text: &mut [u8],
+) -> Status
+    requires held { IsTrue (is_some tables.old.value) }
+    requires to { IsTrue (is_some to.old.value) }
+    ensures removed { BothHold (IsRemoved region false) tables.old.value tables.new.value }
+    ensures ok { result.code ≡ 0 → AllHold (IsMoved region) tables.old.value to.old.value to.new.value }
+    ensures err { result.code ≢ 0 → to.new.value ≡ to.old.value }
+    ensures fault { result.code ≢ 0 → IsCodeForBoth (IsMoveFault region) tables.old.value to.old.value result.code }
+    ensures text { HasText result text.old text.new }
+{
+    let answer =
+        with!(held in tables, alloc; with!(others in to, alloc; move_table(&mut *held, &mut *others, region)));
+    answered(alloc, &answer, text)
+}
+
+/// Tests whether tables would accept those items of a batch whose regions are of a slot, once it is written to the append queue,
+/// whatever their place. It changes nothing.
+#[unsafe(no_mangle)]
+pub extern "C" fn raft_ffi_slot_check_append(
+    alloc: Global,
+    tables: &mut Tables,
+    number: usize,
+    batch: &mut Batch,
+    text: &mut [u8],
+) -> Status
+    requires held { IsTrue (is_some tables.old.value) }
+    requires batch { IsTrue (is_some batch.old.value) }
+    ensures same { tables.new.value ≡ tables.old.value }
+    ensures same_batch { batch.new.value ≡ batch.old.value }
+    ensures ok { result.code ≡ 0 → BothHold (AcceptsShareOncePlaced number) tables.old.value batch.old.value }
+    ensures refused { result.code ≢ 0 → result.code ≢ 11 → BothHold (λ a b. AreRefusedOncePlaced a.tables (share_of
+        number b.items)) tables.old.value batch.old.value }
+    ensures fault { result.code ≢ 0 → IsCodeForBoth (λ a b. IsAppendCheckFault a.tables (share_of number b.items))
+        tables.old.value batch.old.value result.code }
+    ensures text { HasText result text.old text.new }
+{
+    let answer =
+        with!(held in tables, alloc; with!(logs in batch, alloc; check_share(alloc, &*held, number, &*logs)));
+    answered(alloc, &answer, text)
+}
+
+/// Writes those items of the append queue whose regions are of a slot to tables, in order. Where an item is refused those in front
+/// of it are written, and nothing else; without memory for copies of the items none.
+#[unsafe(no_mangle)]
+pub extern "C" fn raft_ffi_slot_apply_append(
+    alloc: Global,
+    tables: &mut Tables,
+    number: usize,
+    items: &mut Items,
+    text: &mut [u8],
+) -> Status
+    requires held { IsTrue (is_some tables.old.value) }
+    requires items { IsTrue (is_some items.old.value) }
+    ensures same { items.new.value ≡ items.old.value }
+    ensures ok { result.code ≡ 0 → AllHold (λ xs. AreWritten Appending (share_of number xs))
+        items.old.value tables.old.value tables.new.value }
+    ensures refused { result.code ≢ 0 → AllHold (λ xs old new. IsCodeOf (IsShareRefused Appending (share_of number xs)
+        old new) result.code) items.old.value tables.old.value tables.new.value }
+    ensures text { HasText result text.old text.new }
+{
+    let answer = with!(held in tables, alloc;
+            with!(list in items, alloc; apply_share(alloc, &mut *held, number, &*list)));
+    answered(alloc, &answer, text)
+}
+
+/// Writes those items whose regions are of a slot, and which were rewritten to the file of number `seq` of the rewrite queue, to
+/// tables, in order. Where an item is refused those in front of it are written, and nothing else; without memory for copies of
+/// the items none.
+#[unsafe(no_mangle)]
+pub extern "C" fn raft_ffi_slot_apply_rewrite(
+    alloc: Global,
+    tables: &mut Tables,
+    number: usize,
+    items: &mut Items,
+    gate: Maybe,
+    seq: u64,
+    text: &mut [u8],
+) -> Status
+    requires held { IsTrue (is_some tables.old.value) }
+    requires items { IsTrue (is_some items.old.value) }
+    ensures same { items.new.value ≡ items.old.value }
+    ensures ok { result.code ≡ 0 → AllHold (λ xs. AreWritten (Rewriting (number_in gate) seq) (share_of number xs))
+        items.old.value tables.old.value tables.new.value }
+    ensures refused { result.code ≢ 0 → AllHold (λ xs old new. IsCodeOf (IsShareRefused (Rewriting (number_in gate) seq)
+        (share_of number xs) old new) result.code) items.old.value tables.old.value tables.new.value }
+    ensures text { HasText result text.old text.new }
+{
+    let answer = with!(held in tables, alloc;
+            with!(list in items, alloc; rewrite_share(alloc, &mut *held, number, &*list, gate.number(), seq)));
+    answered(alloc, &answer, text)
+}
+
+fn move_table(from: &mut MemTableAccessor, to: &mut MemTableAccessor, region: u64) -> Result<()>
+    ensures removed { IsRemoved region false from.old from.new }
+    ensures ok { OnOk result (IsMoved region from.old to.old to.new) }
+    ensures err { OnErr result (to.new ≡ to.old) }
+    ensures fault { IfErr result (IsMoveFault region from.old to.old) }
+{
+    let table = take_table(from, region);
+    to.counts_are_exact();
+    let Some(table) = table else {
+        return Ok(());
+    };
+    to.insert(region, table)?;
+    to.counts_are_exact();
+    Ok(())
+}
+
+fn take_table(from: &mut MemTableAccessor, region: u64) -> Option<MemTable>
+    ensures removed { IsRemoved region false from.old from.new }
+    ensures table { result ≡ finite.get from.old.tables region }
+    ensures own { IfSome result (λ t. t.region_id ≡ region) }
+{
+    let _ = from.get(region);
+    let taken = from.remove(region, false);
+    from.counts_are_exact();
+    match taken {
+        Ok(table) => table,
+        Err(_) => unreachable!(),
+    }
+}
+
+fn check_share(
+    alloc: Global,
+    accessor: &MemTableAccessor,
+    number: usize,
+    batch: &LogBatch,
+) -> Result<()>
+    ensures ok { OnOk result (AcceptsShareOncePlaced number accessor.now batch.now) }
+    ensures refused { IfErr result (λ e. e ≢ Error.Memory
+        → AreRefusedOncePlaced accessor.now.tables (share_of number batch.now.items)) }
+    ensures fault { IfErr result (IsAppendCheckFault accessor.now.tables (share_of number batch.now.items)) }
+{
+    let share = share_of(alloc, number, batch.items())?;
+    accessor.check_append_writes(share.as_slice())
+}
+
+fn apply_share(
+    alloc: Global,
+    accessor: &mut MemTableAccessor,
+    number: usize,
+    items: &ItemList,
+) -> Result<()>
+    ensures ok { OnOk result (AreWritten Appending (share_of number items.now) accessor.old accessor.new) }
+    ensures refused { IfErr result (IsShareRefused Appending (share_of number items.now) accessor.old accessor.new) }
+{
+    let share = share_of(alloc, number, items.as_slice())?;
+    apply_append(accessor, ItemList::of(share))
+}
+
+fn rewrite_share(
+    alloc: Global,
+    accessor: &mut MemTableAccessor,
+    number: usize,
+    items: &ItemList,
+    gate: Option<u64>,
+    seq: u64,
+) -> Result<()>
+    ensures ok { OnOk result (AreWritten (Rewriting gate seq) (share_of number items.now) accessor.old accessor.new) }
+    ensures refused { IfErr result (IsShareRefused (Rewriting gate seq) (share_of number items.now) accessor.old
+        accessor.new) }
+{
+    let share = share_of(alloc, number, items.as_slice())?;
+    apply_rewrite(accessor, ItemList::of(share), gate, seq)
+}
+
+fn share_of(alloc: Global, number: usize, items: &[LogItem]) -> Result<Vec<LogItem>>
+    ensures ok { IfOk result (λ share. map item_of share.items ≡ share_of number (map item_of items.now)) }
+    ensures memory { IfErr result (λ e. e ≡ Error.Memory) }
+{
+    let mut share = Vec::new(alloc);
+    for item in items {
+        if slot_of(item.raft_group_id) == number {
+            share.push(item.clone()?)?;
+        }
+    }
+    Ok(share)
 }

@@ -1,6 +1,4 @@
-use Rattle.std.proofs.Common.{length, sym, ap, subst, ◌∙◌}
-use Rattle.std.proofs.lemmas.List.{length-map}
-use Rattle.raft_base.specs.Runs.{IsConsecutive}
+use Rattle.raft_ffi.proofs.Common.{length, sym, ap, subst, ◌∙◌, length-map, IsConsecutive}
 use Rattle.raft_ffi.proofs.StringLemmas.{as_many, consecutive, on_some}
 use Rattle.raft_ffi.proofs.batch_calls.add_entries.Goals as goal
 

@@ -1,5 +1,4 @@
-use Rattle.std.proofs.Common.{◌≡◌, ◌+◌, ◌++◌, drop}
-use Rattle.raft_ffi.specs.Strings.{entries_from}
+use Rattle.raft_ffi.proofs.Common.{◌≡◌, ◌+◌, ◌++◌, drop, entries_from}
 use Rattle.raft_ffi.proofs.batch_calls.consecutive.Given as goal
 
 -- the entries so far and those that are left make up the whole

@@ -1,5 +1,4 @@
-use Rattle.std.proofs.Common.{◌≡◌, ◌++◌, drop, map}
-use Rattle.raft_ffi.specs.Strings.{strings_of, HasStrings}
+use Rattle.raft_ffi.proofs.Common.{◌≡◌, ◌++◌, drop, map, strings_of, HasStrings}
 use Rattle.raft_ffi.proofs.batch_calls.strings.Given as goal
 
 -- there are bytes enough for the strings that are left, and those so far and these make up the whole

@@ -1,5 +1,4 @@
-use Rattle.raft_records.specs.FilePart.{part_of}
-use Rattle.raft_records.proofs.PartLemmas.{batch_inside, one_batch_more}
+use Rattle.raft_ffi.proofs.Common.{part_of, batch_inside, one_batch_more}
 use Rattle.raft_ffi.proofs.byte_calls.walk_front.Goals as goal
 
 pub loop-next-preserved-in-Ok-Some : goal.loop-next-preserved-in-Ok-Some

@@ -1,5 +1,4 @@
-use Rattle.std.proofs.Common.{◌-◌, ◌≤◌, length}
-use Rattle.raft_records.specs.FilePart.{AreBatchesUpTo, part_of}
+use Rattle.raft_ffi.proofs.Common.{◌-◌, ◌≤◌, length, AreBatchesUpTo, part_of}
 use Rattle.raft_ffi.proofs.byte_calls.walk_front.Given as goal
 
 abbrev pub invariant-loop-next : goal.invariant-loop-next

@@ -1,5 +1,4 @@
-use Rattle.std.proofs.Common.{sym, subst}
-use Rattle.raft_ffi.specs.Contexts.{AreTablesOf, HasBothRead, HasTablesRead}
+use Rattle.raft_ffi.proofs.Common.{sym, subst, AreTablesOf, HasBothRead, HasTablesRead}
 use Rattle.raft_ffi.proofs.context_calls.finished.Goals as goal
 
 pub returns-clause-ok : goal.returns-clause-ok

@@ -1,5 +1,4 @@
-use Rattle.raft_contexts.proofs.RecoverContextLemmas.{on_ok, on_err, merge_stands, merge_exact, merge_unsound}
-use Rattle.raft_ffi.specs.Contexts.{AreUnsound, StandsForBoth, StandsForBothExactly}
+use Rattle.raft_ffi.proofs.Common.{on_ok, on_err, merge_stands, merge_exact, merge_unsound, AreUnsound, StandsForBoth, StandsForBothExactly}
 use Rattle.raft_ffi.proofs.context_calls.merge.Goals as goal
 
 pub returns-clause-stands : goal.returns-clause-stands

@@ -1,8 +1,4 @@
-use Rattle.raft_history.specs.Histories.{Sound}
-use Rattle.raft_contexts.proofs.RecoverContextLemmas.{on_err}
-use Rattle.raft_contexts.specs.RecoverContext.{HasRead}
-use Rattle.raft_replay.specs.Stops.{IsStoodFor}
-use Rattle.raft_replay.proofs.StopLemmas.{stands_sound, fault_after}
+use Rattle.raft_ffi.proofs.Common.{Sound, on_err, HasRead, IsStoodFor, stands_sound, fault_after}
 use Rattle.raft_ffi.proofs.context_calls.replay.Goals as goal
 
 pub returns-clause-place : goal.returns-clause-place

@@ -1,11 +1,15 @@
-use Rattle.std.proofs.lemmas.Result.{err_from_is_err_and}
-use Rattle.std.proofs.Common.{sym, subst, ◌∙◌}
-use Rattle.raft_engine.specs.ReadContexts.{HaveReadFound}
-use Rattle.raft_ffi.specs.Engines.{IsUnopenedAs}
-use Rattle.raft_ffi.specs.FoundFiles.{FilesSeen}
-use Rattle.raft_ffi.specs.FoundFilesView.{files_seen}
-use Rattle.raft_ffi.proofs.OpenLemmas.{for_memory, for_reason}
+use Rattle.raft_ffi.proofs.Common.{◌≡◌, inl, List, refl, sym, subst, Error, Version, RecoverContext, Ask, AreUnmergedAs, found_asks, IsUnopened, IsUnordered, IsUnopenedAs, FilesSeen, err_from_is_err_and}
+use Rattle.raft_ffi.proofs.Common.{◌∙◌, HaveReadFound, files_seen}
+use Rattle.raft_base.specs.declared.errors.Error.TheVariants as errors
 use Rattle.raft_ffi.proofs.engine_calls.open_into.Goals as goal
+
+for_memory : (version : Version) (found : FilesSeen) (appended rewritten : RecoverContext) (e : Error) → e ≡ errors.Memory → IsUnopenedAs version found appended rewritten e
+for_memory version found appended rewritten e is = (found_asks found.append found.rewrite, inl (refl, λ other. absurd (other is)))
+
+for_reason : (version : Version) (found : FilesSeen) (appended rewritten : RecoverContext) (asks : List Ask) (u e : Error)
+    → IsUnopened (AreUnmergedAs version appended rewritten) (λ _ _. IsUnordered) version found.append found.rewrite asks u → e ≡ u
+    → IsUnopenedAs version found appended rewritten e
+for_reason version found appended rewritten asks u e why same = (asks, subst (IsUnopened (AreUnmergedAs version appended rewritten) (λ _ _. IsUnordered) version found.append found.rewrite asks) (sym same) why)
 
 pub open_over-requires-clause-read : goal.open_over-requires-clause-read
 open_over-requires-clause-read c =

@@ -1,5 +1,4 @@
-use Rattle.std.proofs.Common.{◌∙◌, refl}
-use Rattle.raft_engine.specs.Purged.{IsUnpurged}
+use Rattle.raft_ffi.proofs.Common.{◌∙◌, refl, IsUnpurged}
 use Rattle.raft_ffi.proofs.CodeLemmas.{refused_both}
 use Rattle.raft_ffi.proofs.engine_calls.raft_ffi_engine_purge_expired_files.Goals as goal
 

@@ -1,8 +1,4 @@
-use Rattle.std.proofs.Common.{IfErr, OnOk, subst}
-use Rattle.raft_accessor.specs.AppendChecks.{AreAcceptedOncePlaced}
-use Rattle.raft_records.specs.LogBatch.{Batch}
-use Rattle.raft_engine.specs.KeptEngine.{KeptEngine}
-use Rattle.raft_engine.specs.WrittenBatch.{IsUnwritten}
+use Rattle.raft_ffi.proofs.Common.{◌∙◌, IfErr, OnOk, subst, AreAcceptedOncePlaced, Batch, KeptEngine, IsUnwritten}
 use Rattle.raft_ffi.proofs.CodeLemmas.{passed, refusal}
 use Rattle.raft_ffi.proofs.engine_calls.raft_ffi_engine_write.Goals as goal
 
@@ -12,7 +8,7 @@ returns-clause-tested c = λ zero.
     let batch = c.take-written.result.value in
     let tested =
     subst (λ (b : Batch). OnOk c.write-answer.result (AreAcceptedOncePlaced old.accessor.tables b.items)) c.deref_mut-2.ensures.value
-    (subst (λ (o : KeptEngine). OnOk c.write-answer.result (AreAcceptedOncePlaced o.accessor.tables c.deref_mut-2.result.now.items)) c.deref_mut.ensures.value c.write-answer.ensures.tested) in
+    (subst (λ (o : KeptEngine). OnOk c.write-answer.result (AreAcceptedOncePlaced o.accessor.tables c.deref_mut-2.result.now.items)) (c.behind-held.view_is ∙ c.deref_mut.ensures.value) c.write-answer.ensures.tested) in
     rw (c.take-held.ensures.value, c.take-written.ensures.value)
     (passed c.write-answer.result c.answered.result.code (AreAcceptedOncePlaced old.accessor.tables batch.items) tested c.answered.ensures.err zero)
 
@@ -24,6 +20,6 @@ returns-clause-err c = λ some.
     let left = c.write-answer.new.batch in
     let fault =
     subst (λ (b : Batch). IfErr c.write-answer.result (IsUnwritten c.args.sync b left old new)) c.deref_mut-2.ensures.value
-    (subst (λ (o : KeptEngine). IfErr c.write-answer.result (IsUnwritten c.args.sync c.deref_mut-2.result.now left o new)) c.deref_mut.ensures.value c.write-answer.ensures.err) in
+    (subst (λ (o : KeptEngine). IfErr c.write-answer.result (IsUnwritten c.args.sync c.deref_mut-2.result.now left o new)) (c.behind-held.view_is ∙ c.deref_mut.ensures.value) c.write-answer.ensures.err) in
     rw (c.take-held.ensures.value, c.put-2.ensures, c.take-written.ensures.value, c.put.ensures)
     (refusal c.write-answer.result c.answered.result.code (IsUnwritten c.args.sync batch left old new) c.answered.ensures.ok c.answered.ensures.err fault some)

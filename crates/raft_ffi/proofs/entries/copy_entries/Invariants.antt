@@ -1,5 +1,4 @@
-use Rattle.std.proofs.Common.{◌≡◌, length, map, take, drop}
-use Rattle.raft_ffi.specs.EntryData.{entry_of}
+use Rattle.raft_ffi.proofs.Common.{◌≡◌, length, map, take, drop, entry_of}
 use Rattle.raft_ffi.proofs.entries.copy_entries.Given as goal
 
 -- the first entries are copied, those behind them are as they were, and there is as much room

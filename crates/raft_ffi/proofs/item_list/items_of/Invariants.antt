@@ -1,6 +1,4 @@
-use Rattle.std.proofs.Common.{◌≡◌, ◌++◌, length, map}
-use Rattle.std.specs.Vec.Iter.{into_iter_items, into_iter_len}
-use Rattle.raft_records.specs.Item.{item_of}
+use Rattle.raft_ffi.proofs.Common.{◌≡◌, ◌++◌, length, map, into_iter_items, into_iter_len, item_of}
 use Rattle.raft_ffi.proofs.item_list.items_of.Given as goal
 
 -- the items so far and those that are left make up the whole

@@ -1,5 +1,4 @@
-use Rattle.std.proofs.Common.{refl}
-use Rattle.raft_engine.specs.Moved.{IsUnrewritten}
+use Rattle.raft_ffi.proofs.Common.{refl, IsUnrewritten}
 use Rattle.raft_ffi.proofs.CodeLemmas.{refused_both}
 use Rattle.raft_ffi.proofs.moving_calls.raft_ffi_engine_rewrite.Goals as goal
 

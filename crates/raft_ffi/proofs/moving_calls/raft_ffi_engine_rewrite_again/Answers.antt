@@ -1,5 +1,4 @@
-use Rattle.std.proofs.Common.{refl}
-use Rattle.raft_engine.specs.MovedAgain.{AreUnmovedAgain}
+use Rattle.raft_ffi.proofs.Common.{refl, AreUnmovedAgain}
 use Rattle.raft_ffi.proofs.CodeLemmas.{refused_both}
 use Rattle.raft_ffi.proofs.moving_calls.raft_ffi_engine_rewrite_again.Goals as goal
 

@@ -1,9 +1,5 @@
-use Rattle.std.proofs.Common.{ℕ, List, rules, ap, ◌∙◌}
-use Rattle.std.proofs.lemmas.Fn.{filter_same}
-use Rattle.std.specs.Option.{option_copied}
+use Rattle.raft_ffi.proofs.Common.{ℕ, List, rules, ap, ◌∙◌, filter_same, option_copied, pairs_shown, is_between}
 use Rattle.std.specs.Prelude.{Some}
-use Rattle.raft_table.specs.KeyValues.{pairs_shown}
-use Rattle.raft_table.specs.Scan.{is_between}
 use Rattle.raft_ffi.proofs.PairLemmas.{kept_shown}
 use Rattle.raft_ffi.proofs.pair_calls.keep_between.Goals as goal
 

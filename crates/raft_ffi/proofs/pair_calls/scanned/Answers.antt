@@ -1,9 +1,5 @@
-use Rattle.std.proofs.Common.{ℕ, List, filter, subst, ap, ◌∙◌}
-use Rattle.std.specs.List.Sorted.{IsPermutation}
-use Rattle.std.specs.Option.{option_copied}
+use Rattle.raft_ffi.proofs.Common.{ℕ, List, filter, subst, ap, ◌∙◌, IsPermutation, option_copied, pairs_shown, is_between}
 use Rattle.std.specs.Prelude.{Some}
-use Rattle.raft_table.specs.KeyValues.{pairs_shown}
-use Rattle.raft_table.specs.Scan.{is_between}
 use Rattle.raft_ffi.proofs.pair_calls.scanned.Goals as goal
 
 pub returns-clause-ok : goal.returns-clause-ok

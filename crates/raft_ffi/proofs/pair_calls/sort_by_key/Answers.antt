@@ -1,5 +1,4 @@
-use Rattle.std.proofs.Common.{rules}
-use Rattle.std.proofs.lemmas.List.Sorted.{IsPermutation-map}
+use Rattle.raft_ffi.proofs.Common.{rules, IsPermutation-map}
 use Rattle.raft_ffi.proofs.PairLemmas.{ordered}
 use Rattle.raft_ffi.proofs.pair_calls.sort_by_key.Goals as goal
 

@@ -1,7 +1,4 @@
-use Rattle.std.proofs.Common.{List, OnOk, subst}
-use Rattle.raft_records.specs.Item.{Item}
-use Rattle.raft_accessor.specs.AppendChecks.{AreAcceptedOncePlaced}
-use Rattle.raft_ffi.specs.Batches.{AcceptsOncePlaced}
+use Rattle.raft_ffi.proofs.Common.{List, OnOk, subst, Item, AreAcceptedOncePlaced, AcceptsOncePlaced}
 use Rattle.raft_ffi.proofs.write_calls.check_append.Goals as goal
 
 pub returns-clause-ok : goal.returns-clause-ok

@@ -1,8 +1,6 @@
-use Rattle.raft_ffi.proofs.HandleKinds.{found}
-use Rattle.raft_ffi.proofs.MoveSteps as steps
-use Rattle.raft_ffi.specs.contracts.handles.FoundHandle.into_parts.Key.{name as #self}
+use Rattle.raft_ffi.proofs.HandleKinds as handles
 use Rattle.raft_ffi.proofs.handles.FoundHandle.into_parts.Statement as stated
 use Rattle.raft_ffi.proofs.handles.FoundHandle.into_parts.Code as code
 
 pub into_parts_spec : {M : Type 1} → stated.statement M
-into_parts_spec 𝓤 𝓛 𝓜 𝓡 wired = steps.into_parts found 𝓛 𝓜 𝓡 #self (code.unfolded 𝓤 𝓛.H 𝓜 𝓡 wired)
+into_parts_spec 𝓤 𝓛 𝓜 𝓡 wired = handles.into_parts handles.found 𝓛 𝓜 𝓡 _ (code.unfolded 𝓤 𝓛.H 𝓜 𝓡 wired)

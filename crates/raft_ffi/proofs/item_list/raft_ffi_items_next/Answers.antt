@@ -1,0 +1,8 @@
+use Rattle.raft_ffi.proofs.Common.{drop, signature_of, IsNextFault, file_of, IsMemoryOr}
+use Rattle.raft_ffi.proofs.CodeLemmas.{refusal}
+use Rattle.raft_ffi.proofs.item_list.raft_ffi_items_next.Goals as goal
+
+pub returns-clause-fault : goal.returns-clause-fault
+returns-clause-fault c =
+    let fault = rw (c.context.ensures) at c.put_next-answer.ensures.fault in
+    refusal c.put_next-answer.result _ (IsMemoryOr (IsNextFault (signature_of (file_of c.args.file)) (drop c.args.at c.args.bytes.now))) c.answered.ensures.ok c.answered.ensures.err fault

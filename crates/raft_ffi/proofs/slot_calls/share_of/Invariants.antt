@@ -1,9 +1,0 @@
-use Rattle.std.proofs.Common.{◌≡◌, ◌++◌, drop, map}
-use Rattle.raft_records.specs.Item.{item_of}
-use Rattle.raft_ffi.specs.Slots.{share_of}
-use Rattle.raft_ffi.proofs.slot_calls.share_of.Given as goal
-
--- the copies so far and those of the items that are left make up the share
-abbrev pub invariant-loop-item : goal.invariant-loop-item
-invariant-loop-item l =
-    map item_of l.share.items ++ share_of l.number (map item_of (drop l.item-index l.items)) ≡ share_of l.number (map item_of l.items)

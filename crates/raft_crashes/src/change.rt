@@ -3,11 +3,10 @@
 ghost use Rattle.std.specs.Prelude.{◌≡◌, OnOk};
 ghost use Rattle.raft_records.specs.LogBatch.{is_open};
 
-use crate::dice::Dice;
-use crate::proposal::{Proposal, Proposals};
 use crate::records::Records;
 use raft_base::{FileId, LogFileContext, LogQueue, Result, Version};
 use raft_records::{Command, LogBatch};
+use raft_samples::{Dice, Proposal, Proposals};
 use std::alloc::Global;
 
 /// A change of a region.
@@ -168,8 +167,8 @@ fn sound_batch(alloc: Global, version: Version) -> Result<Vec<u8>> {
 
 fn proposals_of(first: u64, texts: Vec<Vec<u8>>) -> Result<Vec<Proposal>> {
     let mut proposals = Vec::new(*texts.allocator());
-    for (index, bytes) in (first..).zip(texts) {
-        proposals.push(Proposal { index, bytes })?;
+    for (index, text) in (first..).zip(texts) {
+        proposals.push(Proposal { index, text })?;
     }
     Ok(proposals)
 }

@@ -1,9 +1,9 @@
 //! What a disk holds of the files of both queues, and what a stop of the machine may leave of them.
 
-use crate::dice::Dice;
 use crate::noted_files::{Act, Ask, LogFiles};
 use crate::queue_disk::{Left, QueueDisk};
 use raft_base::{LogQueue, Result};
+use raft_samples::Dice;
 use std::alloc::Global;
 
 /// How many bytes the header of a batch has.

@@ -4,7 +4,6 @@ ghost use Rattle.std.specs.Prelude.{◌≡◌, OnOk};
 ghost use Rattle.raft_records.specs.LogBatch.{is_open};
 
 use crate::change::{Change, Choice};
-use crate::dice::Dice;
 use crate::disk::{Disk, Stop};
 use crate::found::{Way, open, records_of};
 use crate::noted_files::NotedFiles;
@@ -14,6 +13,7 @@ use raft_base::{FileSeq, LogQueue, Result};
 use raft_engine::Engine;
 use raft_files::MemoryFiles;
 use raft_records::LogBatch;
+use raft_samples::Dice;
 use std::alloc::Global;
 use std::collections::BTreeMap;
 

@@ -8,13 +8,11 @@
 #![tactic(auto)]
 
 mod change;
-mod dice;
 mod disk;
 mod faults;
 mod found;
 mod history;
 mod noted_files;
-mod proposal;
 mod queue_disk;
 mod random;
 mod records;

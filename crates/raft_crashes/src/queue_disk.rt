@@ -1,8 +1,8 @@
 //! What a disk holds of the files of a queue, and what a stop of the machine may leave of them.
 
-use crate::dice::Dice;
 use crate::noted_files::{Act, LogFiles};
 use raft_base::Result;
+use raft_samples::Dice;
 use std::alloc::Global;
 
 /// The files of a queue. A stop leaves what was synced, and of what was asked since then a front: of the bytes that were put,

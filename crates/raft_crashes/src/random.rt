@@ -1,11 +1,11 @@
 //! Random histories.
 
 use crate::change::Choice;
-use crate::dice::Dice;
 use crate::found::Way;
 use crate::history::History;
 use crate::stops::{Host, Stops};
 use raft_base::{LogQueue, Result, Version};
+use raft_samples::Dice;
 
 /// How many steps a history has.
 const STEPS: u64 = 24;

@@ -1,10 +1,10 @@
 //! Stops of the machine that are tried: what is left is recovered, and opened.
 
-use crate::dice::Dice;
 use crate::disk::{Disk, Stop};
 use crate::found::{Way, open, records_of, recovered};
 use crate::records::text_of;
 use raft_base::{LogQueue, Result};
+use raft_samples::Dice;
 use std::alloc::Global;
 use std::thread::Threads;
 

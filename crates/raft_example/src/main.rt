@@ -6,14 +6,13 @@
 
 mod folder;
 mod folder_files;
-mod proposal;
 
 use folder::Disk;
 use folder_files::FolderFiles;
-use proposal::{Proposals, proposals_from};
 use raft_base::{Error, FileSeq, LogQueue, Result, Version};
 use raft_engine::Engine;
 use raft_records::{Command, LogBatch};
+use raft_samples::{Proposals, proposals_from};
 use std::thread::Threads;
 use std::{env, fs};
 

@@ -1,9 +1,9 @@
 //! What a store holds, apart from where it is.
 
-use crate::proposal::Proposal;
 use crate::store::{Host, Store};
 use raft_base::Result;
 use raft_memtable::MemTable;
+use raft_samples::Proposal;
 use std::alloc::Global;
 use std::collections::BTreeMap;
 

@@ -3,7 +3,6 @@
 
 mod change;
 mod crash;
-mod dice;
 mod disk;
 mod history;
 mod tail;

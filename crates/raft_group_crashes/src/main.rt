@@ -8,7 +8,6 @@ mod contents;
 mod crashes;
 mod folder_pipe;
 mod logs;
-mod proposal;
 mod store;
 
 use raft_base::{Error, Result};

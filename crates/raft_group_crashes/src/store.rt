@@ -7,13 +7,13 @@ mod rewriting;
 
 use crate::folder_pipe::{Disk, FileChange, FolderPipe};
 use crate::logs::{Logs, push_tombstones};
-use crate::proposal::Proposal;
 use raft_base::{
     CompressionType, EntryIndex, Error, FileBlockHandle, FileId, FileSeq, LogQueue, PipeLog, Result,
 };
 use raft_memtable::MemTableAccessor;
 use raft_records::{LogBatch, LogItem, entry_bytes};
 use raft_recover::recover_both;
+use raft_samples::Proposal;
 use std::alloc::Global;
 use std::thread::Threads;
 

@@ -4,10 +4,9 @@ ghost use Rattle.std.specs.Prelude.{◌≡◌, OnOk};
 ghost use Rattle.raft_records.specs.LogBatch.{is_open};
 
 use crate::contents::Records;
-use crate::crashes::dice::Dice;
-use crate::proposal::{Proposal, Proposals};
 use raft_base::Result;
 use raft_records::{Command, LogBatch};
+use raft_samples::{Dice, Proposal, Proposals};
 use std::alloc::Global;
 
 /// A change of a region.

@@ -1,11 +1,11 @@
 //! What a disk holds of a store's files, and what a crash leaves of them.
 
 use crate::crashes::crash::{CRASHED, Crashes};
-use crate::crashes::dice::Dice;
 use crate::crashes::tail::Tail;
 use crate::folder_pipe::{FileChange, path_in};
 use crate::store::Host;
 use raft_base::{FileId, FileSeq, LogQueue, Result};
+use raft_samples::Dice;
 use std::alloc::Global;
 use std::{fs, mem};
 

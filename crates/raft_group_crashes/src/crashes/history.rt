@@ -6,12 +6,12 @@ ghost use Rattle.raft_records.specs.LogBatch.{is_open};
 use crate::contents::{Contents, Records, contents_of, text_of};
 use crate::crashes::change::Change;
 use crate::crashes::crash::{CRASHED, Crashes, FILE_SIZE};
-use crate::crashes::dice::Dice;
 use crate::crashes::disk::DiskNotes;
 use crate::folder_pipe::{clear, path_in};
 use crate::store::{Host, Store};
 use raft_base::{Error, FileId, FileSeq, LogQueue, Result};
 use raft_records::LogBatch;
+use raft_samples::Dice;
 use std::collections::BTreeMap;
 use std::fs;
 

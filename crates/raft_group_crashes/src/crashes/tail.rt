@@ -1,7 +1,7 @@
 //! The last file of a queue, and what a failure of power leaves of it.
 
-use crate::crashes::dice::Dice;
 use raft_base::{FileId, Result};
+use raft_samples::Dice;
 use std::alloc::Global;
 
 /// The last file of a queue. Those before it were synced when it was begun.

@@ -5,10 +5,10 @@ ghost use Rattle.raft_records.specs.LogBatch.{is_open};
 
 use super::{Host, Store};
 use crate::folder_pipe::FileChange;
-use crate::proposal::Proposals;
 use raft_base::{EntryIndex, FileId, FileSeq, LogQueue, PipeLog, Result};
 use raft_memtable::MemTable;
 use raft_records::{AtomicGroupBuilder, LogBatch, LogItem, LogItemContent};
+use raft_samples::Proposals;
 use std::alloc::Global;
 
 /// How many entries a batch has at most that moves them. An engine goes by their bytes.

@@ -1,12 +1,29 @@
 //! What the entries of a region's log say: proposals to its replicas.
 
 use raft_base::{Message, MessageError, MessageExt, Result};
+use std::alloc::Global;
 
 /// A proposal, which is its text.
 #[derive(Clone, PartialEq, Drop)]
-pub(crate) struct Proposal {
-    pub(crate) index: u64,
-    pub(crate) text: Vec<u8>,
+pub struct Proposal {
+    /// Its index in the log.
+    pub index: u64,
+    /// What it says.
+    pub text: Vec<u8>,
+}
+
+/// Makes proposals of these texts, the first of them at an index.
+///
+/// # Errors
+///
+/// `Memory`.
+pub fn proposals_from(alloc: Global, first: u64, texts: &[&str]) -> Result<Vec<Proposal>> {
+    let mut proposals = Vec::new(alloc);
+    for (index, text) in (first..).zip(texts) {
+        let text = Vec::from_slice(alloc, text.as_bytes())?;
+        proposals.push(Proposal { index, text })?;
+    }
+    Ok(proposals)
 }
 
 impl Message for Proposal {
@@ -23,7 +40,7 @@ impl Message for Proposal {
 }
 
 /// The entries of a log of proposals.
-pub(crate) struct Proposals;
+pub struct Proposals;
 
 impl MessageExt for Proposals {
     type Entry = Proposal;

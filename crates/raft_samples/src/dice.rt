@@ -6,19 +6,20 @@ use raft_base::hash_u64;
 
 /// The numbers that follow from a seed.
 #[derive(Drop)]
-pub(crate) struct Dice {
+pub struct Dice {
     drawn: u64,
 }
 
 impl Dice {
-    pub(crate) fn new(seed: u64) -> Dice {
+    /// Makes those of a seed.
+    pub fn new(seed: u64) -> Dice {
         Dice {
             drawn: hash_u64(seed),
         }
     }
 
     /// Returns the next number, below `end`.
-    pub(crate) fn below(&mut self, end: u64) -> u64
+    pub fn below(&mut self, end: u64) -> u64
         requires { 0 < end }
         ensures { result < end }
     {
@@ -26,8 +27,8 @@ impl Dice {
         hash_u64(self.drawn) % end
     }
 
-    /// Returns true once in so many times.
-    pub(crate) fn hits(&mut self, times: u64) -> bool
+    /// Returns `true` once in so many times.
+    pub fn hits(&mut self, times: u64) -> bool
         requires { 0 < times }
     {
         self.below(times) == 0

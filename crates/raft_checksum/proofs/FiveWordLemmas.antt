@@ -1,6 +1,6 @@
 -- The remainder of a division by the multiple with terms at 145, 183, 211 and 300 bits, as five words.
-use Rattle.raft_checksum.proofs.Common.{◌≡◌, ℕ, zero, suc, ◌+◌, ◌*◌, ◌/◌, ◌%◌, ◌^◌, ◌<◌, List, [], ◌∷◌, refl, sym, ap, ◌∙◌, arith, mul_assoc, div-add-mod', mod-lt, pow-suc, div-div-eq-div-mul, pow-add}
-use Rattle.raft_checksum.proofs.Common.{pow_pos, shl-shr, crc_steps, number_of_words, StandFor}
+use Rattle.raft_checksum.proofs.Common.{◌≡◌, ℕ, zero, suc, ◌+◌, ◌*◌, ◌/◌, ◌%◌, ◌^◌, ◌<◌, List, [], ◌∷◌, refl, sym, ap, ◌∙◌, arith, mul_assoc, div-add-mod', mod-lt, pow-suc, div-div-eq-div-mul, pow-add, pow_pos, shl-shr, crc_steps}
+use Rattle.raft_checksum.proofs.Common.{number_of_words, StandFor}
 use lib.Bits.{bit_xor, xor_assoc, xor_comm, xor_zero_r, xor_lt, xor_shifted}
 use Rattle.raft_checksum.proofs.DivisionLemmas.{crc_step, xor_pairs}
 use Rattle.raft_checksum.proofs.MultipleLemmas.{multiplied, vanishes, put_off, shifts_left, divide_step}

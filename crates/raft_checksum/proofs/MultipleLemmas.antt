@@ -1,6 +1,5 @@
 -- A multiple of the polynomial that has five terms takes every register to zero.
-use Rattle.raft_checksum.proofs.Common.{◌≡◌, ℕ, zero, suc, ◌+◌, ◌*◌, ◌/◌, ◌%◌, ◌^◌, ◌<◌, refl, sym, ap, subst, ◌∙◌, arith, pow-suc, mul_assoc, mod-lt, div-add-mod', add-mul, mul_comm, zero-mul}
-use Rattle.raft_checksum.proofs.Common.{pow-add, shl_below, crc_steps}
+use Rattle.raft_checksum.proofs.Common.{◌≡◌, ℕ, zero, suc, ◌+◌, ◌*◌, ◌/◌, ◌%◌, ◌^◌, ◌<◌, refl, sym, ap, subst, ◌∙◌, arith, pow-suc, mul_assoc, mod-lt, div-add-mod', add-mul, mul_comm, zero-mul, pow-add, shl_below, crc_steps}
 use lib.Bits.{bit_xor, xor_assoc, xor_comm, xor_self, xor_zero_r, xor_shifted}
 use Rattle.raft_checksum.proofs.DivisionLemmas.{xor_pairs, steps_xor, steps_add, steps_shifted, steps_zero, steps_fit}
 
@@ -11,17 +10,12 @@ multiplied a b c d x = bit_xor (bit_xor (bit_xor (bit_xor (crc_steps a x) (crc_s
 multiplied_xor : (a b c d x y : ℕ) → multiplied a b c d (bit_xor x y) ≡ bit_xor (multiplied a b c d x) (multiplied a b c d y)
 unfolding multiplied
 multiplied_xor a b c d x y =
-    rw (
-      steps_xor a x y,
-      steps_xor b x y,
-      steps_xor c x y,
-      steps_xor d x y,
+    simp steps_xor (rw (
       xor_pairs (crc_steps a x) (crc_steps a y) (crc_steps b x) (crc_steps b y),
       xor_pairs (bit_xor (crc_steps a x) (crc_steps b x)) (bit_xor (crc_steps a y) (crc_steps b y)) (crc_steps c x) (crc_steps c y),
       xor_pairs (bit_xor (bit_xor (crc_steps a x) (crc_steps b x)) (crc_steps c x)) (bit_xor (bit_xor (crc_steps a y) (crc_steps b y)) (crc_steps c y)) (crc_steps d x) (crc_steps d y),
       xor_pairs (bit_xor (bit_xor (bit_xor (crc_steps a x) (crc_steps b x)) (crc_steps c x)) (crc_steps d x)) (bit_xor (bit_xor (bit_xor (crc_steps a y) (crc_steps b y)) (crc_steps c y)) (crc_steps d y)) x y,
-    )
-    refl
+    ) refl)
 
 commute : (m n x : ℕ) → crc_steps m (crc_steps n x) ≡ crc_steps n (crc_steps m x)
 commute m n x =
@@ -31,17 +25,7 @@ commute m n x =
 multiplied_steps : (a b c d n x : ℕ) → multiplied a b c d (crc_steps n x) ≡ crc_steps n (multiplied a b c d x)
 unfolding multiplied
 multiplied_steps a b c d n x =
-    rw (
-      commute a n x,
-      commute b n x,
-      commute c n x,
-      commute d n x,
-      steps_xor n (bit_xor (bit_xor (bit_xor (crc_steps a x) (crc_steps b x)) (crc_steps c x)) (crc_steps d x)) x,
-      steps_xor n (bit_xor (bit_xor (crc_steps a x) (crc_steps b x)) (crc_steps c x)) (crc_steps d x),
-      steps_xor n (bit_xor (crc_steps a x) (crc_steps b x)) (crc_steps c x),
-      steps_xor n (crc_steps a x) (crc_steps b x),
-    )
-    refl
+    rw (commute a n x, commute b n x, commute c n x, commute d n x) (simp steps_xor)
 
 module _ (a b c d : ℕ) (one : multiplied a b c d (2 ^ 31) ≡ 0) where
   at_zero : multiplied a b c d 0 ≡ 0
@@ -113,16 +97,7 @@ pub shifts_left : (t e1 n1 e2 n2 e3 n3 e4 n4 o : ℕ) → e1 + n1 ≡ t → e2 +
     → crc_steps t (bit_xor (bit_xor (bit_xor (o * 2 ^ e1) (o * 2 ^ e2)) (o * 2 ^ e3)) (o * 2 ^ e4))
     ≡ bit_xor (bit_xor (bit_xor (crc_steps n1 o) (crc_steps n2 o)) (crc_steps n3 o)) (crc_steps n4 o)
 shifts_left t e1 n1 e2 n2 e3 n3 e4 n4 o h1 h2 h3 h4 =
-    rw (
-      steps_xor t (bit_xor (bit_xor (o * 2 ^ e1) (o * 2 ^ e2)) (o * 2 ^ e3)) (o * 2 ^ e4),
-      steps_xor t (bit_xor (o * 2 ^ e1) (o * 2 ^ e2)) (o * 2 ^ e3),
-      steps_xor t (o * 2 ^ e1) (o * 2 ^ e2),
-      shift_left e1 n1 t o h1,
-      shift_left e2 n2 t o h2,
-      shift_left e3 n3 t o h3,
-      shift_left e4 n4 t o h4,
-    )
-    refl
+    simp steps_xor (rw (shift_left e1 n1 t o h1, shift_left e2 n2 t o h2, shift_left e3 n3 t o h3, shift_left e4 n4 t o h4) refl)
 
 -- y^145, y^183, y^211 and y^300, where y is a byte
 pub bytes_put_off : (o : ℕ) → o < 2 ^ 32

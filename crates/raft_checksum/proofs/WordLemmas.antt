@@ -1,7 +1,6 @@
 -- Bytes that join the register together, as one number.
-use Rattle.raft_checksum.proofs.Common.{◌≡◌, ℕ, zero, suc, ◌+◌, ◌*◌, ◌/◌, ◌%◌, ◌^◌, ◌<◌, ◌≤◌, List, [], ◌∷◌, get_or, length, take, drop, refl, sym, ap, ◌∙◌, arith, add-zero, pow-suc, div-one}
-use Rattle.raft_checksum.proofs.Common.{div-add-mod', mod-lt, div-div-eq-div-mul, byte_at, bytes_low_first, get_or-drop, at_drop_all, at_drop_more, little_from, little_from-cons, little_from-take}
-use Rattle.raft_checksum.proofs.Common.{crc_steps, register_after}
+use Rattle.raft_checksum.proofs.Common.{◌≡◌, ℕ, zero, suc, ◌+◌, ◌*◌, ◌/◌, ◌%◌, ◌^◌, ◌<◌, ◌≤◌, List, [], ◌∷◌, get_or, length, take, drop, refl, sym, ap, ◌∙◌, arith, add-zero, pow-suc, div-one, div-add-mod', mod-lt, div-div-eq-div-mul}
+use Rattle.raft_checksum.proofs.Common.{byte_at, bytes_low_first, get_or-drop, at_drop_all, at_drop_more, little_from, little_from-cons, little_from-take, crc_steps, register_after}
 use lib.Bits.{bit_and, bit_xor, and_mask, xor_assoc, xor_comm, xor_zero_r, xor_shifted, xor_shr, xor_mod}
 use Rattle.raft_checksum.proofs.DivisionLemmas.{steps_xor, steps_add, steps_shifted, steps_zero}
 

@@ -1,7 +1,7 @@
 //! CRC-32 of bytes.
 
 ghost use Rattle.std.specs.Prelude.{◌≡◌, ℕ, ◌+◌, ◌*◌, ◌^◌, ◌<◌, ◌≤◌, ◌++◌, Bool, List, bit_xor, length, slice_index};
-ghost use Rattle.raft_checksum.specs.Checksum.{crc_steps, register_after, crc32_of, number_of_bytes, product_of};
+ghost use Rattle.raft_checksum.specs.Common.{crc_steps, register_after, crc32_of, number_of_bytes, product_of};
 
 mod sparse;
 mod tables;
@@ -18,7 +18,6 @@ const MIDDLING: usize = 128;
 /// The length from which on a text is divided by chunks, before its last bytes are divided by words.
 const LONG: usize = 640;
 
-/// Returns what `byte` and then `zeros` zeros make of a register of zeros.
 #[inline(always)]
 fn byte_then_zeros(byte: u8, zeros: usize) -> u32
     requires { zeros < 16 }
@@ -27,7 +26,6 @@ fn byte_then_zeros(byte: u8, zeros: usize) -> u32
     TABLES[zeros][byte as usize]
 }
 
-/// Returns what the bytes of `word`, the lowest first, and then `zeros` zeros make of a register of zeros.
 #[inline(always)]
 fn word_then_zeros(word: u64, zeros: usize) -> u32
     requires { zeros ≤ 8 }
@@ -53,7 +51,6 @@ fn two_words(first: u64, second: u64) -> u32
     word_then_zeros(second, 0) ^ word_then_zeros(first, 8)
 }
 
-/// Returns the first eight bytes, as they join the register, and the bytes after them.
 #[inline(always)]
 fn first_eight_bytes(bytes: &[u8]) -> (u64, &[u8])
     requires { 8 ≤ length bytes.now }

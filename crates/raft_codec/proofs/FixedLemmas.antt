@@ -1,8 +1,8 @@
 -- On numbers in a fixed count of bytes.
-use Rattle.raft_codec.proofs.Common.{◌≡◌, ℕ, ◌^◌, ◌<◌, ℤ, pos, List, [], ◌∷◌, ◌++◌, length, get_or, refl, sym, ap, ◌∙◌, arith, ◌+ℤ◌, w16, w32, w64, FitsSigned, Width, byte_len, cast_unsigned}
-use Rattle.raft_codec.proofs.Common.{cast_signed, from_be_bytes, from_le_bytes, ints, to_z-of_z, be_bytes_2, be_bytes_4, be_bytes_8, le_bytes_2, le_bytes_4, le_bytes_8, Fits-of_z, big_number}
-use Rattle.raft_codec.proofs.Common.{little_number, big_bytes, little_bytes, big_number-reads_back, little_number-reads_back, length-bytes_high_first, length-bytes_low_first, Reads, HasOneFront}
-use Rattle.raft_codec.proofs.Common.{IsSpelledBy, IsReadAgain, IsBig, IsLittle, complement, sign_flipped, u64_desc_bytes, i64_bytes, i64_desc_bytes, signed_le_bytes}
+use Rattle.raft_codec.proofs.Common.{◌≡◌, ℕ, ◌^◌, ◌<◌, ℤ, pos, List, [], ◌++◌, length, get_or, refl, sym, ap, ◌∙◌, arith, ◌+ℤ◌, w16, w32, w64, FitsSigned, Width, byte_len, cast_unsigned, cast_signed, from_be_bytes, from_le_bytes, ints}
+use Rattle.raft_codec.proofs.Common.{to_z-of_z, be_bytes_2, be_bytes_4, be_bytes_8, le_bytes_2, le_bytes_4, le_bytes_8, Fits-of_z, big_number, little_number, big_bytes, little_bytes, big_number-reads_back, little_number-reads_back}
+use Rattle.raft_codec.proofs.Common.{length-bytes_high_first, length-bytes_low_first, Reads, HasOneFront, IsSpelledBy, IsReadAgain, IsBig, IsLittle, complement, sign_flipped, u64_desc_bytes, i64_bytes, i64_desc_bytes, signed_le_bytes, take}
+use Rattle.raft_codec.proofs.Common.{take-append_seam}
 use Rattle.raft_codec.proofs.FixedOrder.{sign_flipped-lt, sign_flipped-offset}
 use mir.Val.{bits}
 
@@ -38,15 +38,6 @@ reads_little_2 old front new n split len bytes fits value =
 
 -- ---- what is written is read again
 
-same_heads : (a b more rest : List ℕ) → length a ≡ length b → a ++ more ≡ b ++ rest → a ≡ b
-same_heads [] [] more rest n e = refl
-same_heads [] (y ∷ b) more rest n e = absurd (omega arith)
-same_heads (x ∷ a) [] more rest n e = absurd (omega arith)
-same_heads (x ∷ a) (y ∷ b) more rest n e =
-    let tail : a ≡ b = same_heads a b more rest (omega arith) cc in
-    let head : x ≡ y = cc in
-    cc
-
 -- spellings of one length, each of which stands for one value
 read_again : {X : Type 0} (InRange : X → Type 0) (bytes_of : X → List ℕ) (width : ℕ) → ((x : X) → length (bytes_of x) ≡ width) → ((x y : X) → InRange x → InRange y → bytes_of x ≡ bytes_of y → x ≡ y) → IsReadAgain width InRange bytes_of
 read_again {X} InRange bytes_of width lengths same =
@@ -55,7 +46,7 @@ read_again {X} InRange bytes_of width lengths same =
     one_front : HasOneFront (IsSpelledBy InRange bytes_of)
     one_front a b more rest x y p q e =
         let n : length a ≡ length b = ap length p.written ∙ lengths x ∙ sym (lengths y) ∙ sym (ap length q.written) in
-        let heads : a ≡ b = same_heads a b more rest n e in
+        let heads : a ≡ b = sym (take-append_seam a more) ∙ ap (take (length a)) e ∙ ap (λ (k : ℕ). take k (b ++ rest)) n ∙ take-append_seam b rest in
         (heads, same x y p.in_range q.in_range (sym p.written ∙ heads ∙ q.written))
 
 same_from_big : (n x y : ℕ) → x < 256 ^ n → y < 256 ^ n → big_bytes n x ≡ big_bytes n y → x ≡ y

@@ -1,7 +1,7 @@
 -- Numbers and their bytes order alike, and numbers that have the same bytes are the same.
-use Rattle.raft_codec.proofs.Common.{◌≡◌, ℕ, zero, suc, ◌+◌, ◌-◌, ◌*◌, ◌/◌, ◌%◌, ◌^◌, ◌<◌, ◌≤◌, ℤ, pos, negsuc, refl, sym, ap, ◌∙◌, arith, bit_xor, w64, Ordering, ◌+ℤ◌, FitsSigned, byte_at}
-use Rattle.raft_codec.proofs.Common.{xor_assoc, xor_comm, xor_self, xor_shifted, xor_zero_r, nat_cmp, int_cmp, ordering_then, nat_cmp_is, slice_cmp, nat_tests, ranked, ints, mod-mul, div-one}
-use Rattle.raft_codec.proofs.Common.{mod-eq_of_lt, mod-lt, mul-le-mul_right, one-le-pow, pow-succ', big_bytes, complement, sign_flipped}
+use Rattle.raft_codec.proofs.Common.{◌≡◌, ℕ, zero, suc, ◌+◌, ◌-◌, ◌*◌, ◌/◌, ◌%◌, ◌^◌, ◌<◌, ◌≤◌, ℤ, pos, negsuc, refl, sym, ap, ◌∙◌, arith, bit_xor, w64, Ordering, ◌+ℤ◌, FitsSigned, byte_at, xor_assoc, xor_comm, xor_self, xor_shifted}
+use Rattle.raft_codec.proofs.Common.{xor_zero_r, nat_cmp, int_cmp, ordering_then, nat_cmp_is, slice_cmp, nat_tests, ranked, ints, mod-mul, div-one, mod-eq_of_lt, mod-lt, mul-le-mul_right, one-le-pow, pow-succ', big_bytes, complement}
+use Rattle.raft_codec.proofs.Common.{sign_flipped}
 use Rattle.std.specs.declared.cmp.Ordering.TheVariants.{Less, Equal, Greater}
 
 -- ---- order

@@ -1,6 +1,5 @@
 -- What is read of spellings one behind the other, over any spelling and any state.
-use Rattle.raft_codec.proofs.Common.{◌≡◌, ℕ, zero, suc, ◌+◌, ◌<◌, List, [], ◌∷◌, ◌++◌, length, refl, sym, ap, ◌∙◌, subst, append_assoc, arith, inr, append-nil, Reads, HasNoFront, IsSequence}
-use Rattle.raft_codec.proofs.Common.{state_after, IsSequenceFault, HasOneFront}
+use Rattle.raft_codec.proofs.Common.{◌≡◌, ℕ, zero, suc, ◌+◌, ◌<◌, List, [], ◌∷◌, ◌++◌, length, refl, sym, ap, ◌∙◌, subst, append_assoc, arith, inr, append-nil, Reads, HasNoFront, IsSequence, state_after, IsSequenceFault, HasOneFront}
 use Rattle.raft_codec.proofs.ReadingLemmas.{second_at}
 
 -- the first of a sequence, and the others behind it

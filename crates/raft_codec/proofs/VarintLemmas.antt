@@ -1,8 +1,7 @@
 -- On spellings of numbers in base 128.
-use Rattle.raft_codec.proofs.Common.{◌≡◌, ℕ, zero, suc, ◌+◌, ◌*◌, ◌^◌, ◌%◌, ◌/◌, ◌<◌, ◌≤◌, List, [], ◌∷◌, ◌++◌, length, take, drop, set, get_or, refl, sym, ap, ◌∙◌, subst, arith, add-one, inl, inr}
-use Rattle.raft_codec.proofs.Common.{cases_lt, nat_tests, drop_more, get_or-take, get_or_past, length-append, length-drop, length-take, length-take-le, take-append-drop, take_all, take_more}
-use Rattle.raft_codec.proofs.Common.{take_more_set, pow-suc, pow-le-pow_right, mul-le-mul_left, pow-add, shl_whole, Reads, IsContinued, base_128, IsVarint, IsShortVarint, AllContinue, EndsEarly}
-use Rattle.raft_codec.proofs.Common.{IsTooLong, septets_of, varint}
+use Rattle.raft_codec.proofs.Common.{◌≡◌, ℕ, zero, suc, ◌+◌, ◌*◌, ◌^◌, ◌%◌, ◌/◌, ◌<◌, ◌≤◌, List, [], ◌∷◌, ◌++◌, length, take, drop, set, get_or, refl, sym, ap, ◌∙◌, subst, arith, add-one, inl, inr, cases_lt, nat_tests, drop_more}
+use Rattle.raft_codec.proofs.Common.{get_or-take, get_or_past, length-append, length-drop, length-take, length-take-le, take-append-drop, take_all, take_more, take_more_set, pow-suc, pow-le-pow_right, mul-le-mul_left, pow-add, shl_whole}
+use Rattle.raft_codec.proofs.Common.{Reads, IsContinued, base_128, IsVarint, IsShortVarint, AllContinue, EndsEarly, IsTooLong, septets_of, varint}
 use Rattle.std.proofs.lemmas.List.{append_assoc}
 
 -- ---- a septet at its place
@@ -195,28 +194,6 @@ varint_within m n lt some = septets_bound 9 m n lt some
 -- a number takes a byte at least
 pub varint_some : (bytes : List ℕ) (n : ℕ) → IsVarint bytes n → 0 < length bytes
 varint_some bytes n s = not_empty bytes s.continued
-
--- what is spelled is a u64
-pub varint_lt : (bytes : List ℕ) (n : ℕ) → IsVarint bytes n → n < 2 ^ 64
-varint_lt bytes n s =
-    let value : n ≡ base_128 bytes = s.value in
-    elim (cases_lt (length bytes) 10) [
-      | inl short ↦
-          let most : 128 ^ length bytes ≤ 128 ^ 9 = pow-le-pow_right {n = 128} (omega arith) {i = length bytes} {j = 9} (omega arith) in
-          omega (arith, value, base_128-lt bytes, most)
-      | inr long ↦
-          let ten : length bytes ≡ 10 = omega (arith, long, s.at_most_ten) in
-          let nine : length (take 9 bytes) ≡ 9 = length-take-le 9 bytes (omega arith) in
-          let last : get_or bytes 9 0 ≤ 1 = s.tenth in
-          let split : take 9 bytes ++ get_or bytes 9 0 ∷ [] ≡ bytes = sym (take_more bytes 9 0 (omega arith)) ∙ take_all 10 bytes (omega arith) in
-          let sum : base_128 (take 9 bytes ++ get_or bytes 9 0 ∷ []) ≡ base_128 (take 9 bytes) + get_or bytes 9 0 % 128 * 128 ^ length (take 9 bytes) = base_128-push (take 9 bytes) (get_or bytes 9 0) in
-          let power : 128 ^ length (take 9 bytes) ≡ 128 ^ 9 = ap (λ (k : ℕ). 128 ^ k) nine in
-          let whole : n ≡ base_128 (take 9 bytes) + get_or bytes 9 0 % 128 * 128 ^ 9 = value ∙ ap base_128 (sym split) ∙ sum ∙ ap (λ (x : ℕ). base_128 (take 9 bytes) + get_or bytes 9 0 % 128 * x) power in
-          let front : base_128 (take 9 bytes) < 128 ^ 9 = subst (λ (x : ℕ). base_128 (take 9 bytes) < x) power (base_128-lt (take 9 bytes)) in
-          let low : get_or bytes 9 0 % 128 ≤ 1 = omega (arith, last) in
-          let product : get_or bytes 9 0 % 128 * 128 ^ 9 ≤ 1 * 128 ^ 9 = omega (arith, low) in
-          omega (arith, whole, front, product)
-    ]
 
 -- ---- no spelling begins another
 

@@ -1,18 +1,13 @@
 -- On lists of items that a batch holds.
-use Rattle.raft_records.proofs.Common.{◌≡◌, ℕ, suc, ◌+◌, ◌-◌, ◌^◌, ◌<◌, List, [], ◌∷◌, ◌++◌, map, length, take, drop, set, get_or, Option, Some, None, refl, sym, ap, ◌∙◌, subst, append_assoc}
-use Rattle.raft_records.proofs.Common.{arith, inl, inr, bit_xor, xor_assoc, xor_self, xor_zero_l, xor_of_32, little_bytes, flat_map, crc32_of, FileBlockHandle, FileId, append_cancel_left}
-use Rattle.raft_records.proofs.Common.{length-append, length-map, map_over_more, Error, Reads, HasNoFront, HasOneFront, IsFollowedBy, IsSequence, state_after, IsVarint, varint, varint_one_front}
-use Rattle.raft_records.proofs.Common.{varint_some, reads_pair, no_first, no_second, pair_one_front, IsReadAgain-little_bytes, reads_more, stuck, sequence_one_front, fault_after, CompressionType}
-use Rattle.raft_records.proofs.Common.{EntryIndex, IsConsecutive, IsConsecutiveFrom, from_start, consecutive_from, started, OpType, Item, Content, entries, command, pair, IsInBytes, Tile, tail_of}
-use Rattle.raft_records.proofs.Common.{IsTail, AreIndexAndTails, IsPairOf, IsContent, IsItem, end_behind, IsWritableWith, tails_bytes, entries_bytes, item_bytes, FitsBehind, FitTogether, end_of_items}
-use Rattle.raft_records.proofs.Common.{placed_item, IsKeptBeside, AreItems, signed_crc, checksum_bytes, IsItemBatch, HasSeal, AreItemsFault, IsItemBatchFault, item_batch_bytes, IsInRange, IsMemory}
-use Rattle.raft_records.proofs.Common.{IsItemFault, item_size, items_size, at_most_usize}
-use Rattle.std.proofs.lemmas.List.{get_or-map, map-set}
-use Rattle.raft_records.specs.declared.key_value.OpType.TheVariants.{Put, Del}
-use Rattle.raft_records.proofs.Names.{behind_entry, behind_item, placed_entry}
+use Rattle.raft_records.proofs.Common.{◌≡◌, ℕ, suc, ◌+◌, ◌-◌, ◌^◌, ◌<◌, List, [], ◌∷◌, ◌++◌, map, length, take, drop, set, get_or, Option, Some, None, refl, sym, ap, ◌∙◌, subst, append_assoc, arith, inl, inr, bit_xor, xor_assoc, xor_self}
+use Rattle.raft_records.proofs.Common.{xor_zero_l, xor_of_32, little_bytes, flat_map, crc32_of, FileBlockHandle, FileId, append_cancel_left, length-append, length-map, map_over_more, Error, Reads, HasNoFront, HasOneFront, IsFollowedBy}
+use Rattle.raft_records.proofs.Common.{IsSequence, state_after, IsVarint, varint, varint_one_front, varint_some, reads_pair, no_first, no_second, pair_one_front, IsReadAgain-little_bytes, reads_more, stuck, sequence_one_front, fault_after}
+use Rattle.raft_records.proofs.Common.{CompressionType, EntryIndex, IsConsecutive, IsConsecutiveFrom, from_start, consecutive_from, started, OpType, Item, Content, entries, command, pair, IsInBytes, Tile, tail_of, IsTail, AreIndexAndTails}
+use Rattle.raft_records.proofs.Common.{IsPairOf, IsContent, IsItem, end_behind, IsWritableWith, tails_bytes, entries_bytes, item_bytes, FitsBehind, FitTogether, end_of_items, placed_item, IsKeptBeside, AreItems, signed_crc, checksum_bytes}
+use Rattle.raft_records.proofs.Common.{IsItemBatch, HasSeal, AreItemsFault, IsItemBatchFault, item_batch_bytes, IsInRange, IsMemory, IsItemFault, item_size, items_size, at_most_usize, get_or-map, map-set, Put, Del, behind_entry}
+use Rattle.raft_records.proofs.Common.{behind_item, placed_entry}
 use Rattle.raft_records.proofs.ContentLemmas.{item_one_front}
-use Rattle.raft_records.proofs.InBytesLemmas.{in_bytes_append, in_bytes_placed}
-use Rattle.raft_records.proofs.RangeLemmas.{range_append, range_placed}
+use Rattle.raft_records.proofs.RangeLemmas.{in_bytes_append, in_bytes_placed, range_append, range_placed}
 use Rattle.raft_records.proofs.SealLemmas.{four, content_is}
 
 -- ---- items behind others
@@ -105,13 +100,10 @@ writable_of Put (Some v) (Some f) key bytes p = absurd p
 writable_of Del (Some v) f key bytes p = absurd p
 writable_of Del None (Some f) key bytes p = absurd p
 
-content_fits : (s : ℕ) (bytes : List ℕ) (content : Content) → IsContent s bytes content → FitsBehind s content
+pub content_fits : (s : ℕ) (bytes : List ℕ) (content : Content) → IsContent s bytes content → FitsBehind s content
 content_fits s bytes (entries es) t = run_fits s (length es) t.2.second es t.2.second_spells
 content_fits s bytes (command c) t = tt
 content_fits s bytes (pair p) t = writable_of p.op_type p.value p.file_id p.key t.0 t.2
-
-pub item_fits : (s : ℕ) (bytes : List ℕ) (x : Item) → IsItem s bytes x → FitsBehind s x.content
-item_fits s bytes x p = content_fits s p.second x.content p.second_spells
 
 -- ---- items read one behind the other
 

@@ -1,10 +1,8 @@
 -- On the buffer of a log batch.
-use Rattle.raft_records.proofs.Common.{◌≡◌, ◌≢◌, ℕ, ◌+◌, ◌-◌, ◌*◌, ◌^◌, ◌<◌, ◌≤◌, List, [], ◌∷◌, ◌++◌, length, take, drop, Option, None, refl, sym, ap, ◌∙◌, subst, append_assoc, arith, length-append}
-use Rattle.raft_records.proofs.Common.{length-drop, length-take-le, take-append-drop, take_at, drop_at, take_all, big_bytes, crc32_of, IsReadAgain-big_bytes, CompressionType, compression_byte, Item}
-use Rattle.raft_records.proofs.Common.{checksum_bytes, item_batch_bytes, entry_bytes_of, IsEncoded, signed_crc, no_checksum, Stage, is_open, encoded, sealed, header_bytes, entry_block, item_offset}
-use Rattle.raft_records.proofs.Common.{unsealed_bytes, encoded_length, log_batch_bytes, entry_bytes_in, IsUnsealed, IsEncodedAs, IsHeldAt, IsHeld, Keeps}
-use Rattle.raft_base.specs.declared.compression_type.CompressionType.TheVariants as compressions
-use Rattle.raft_records.proofs.Names.{behind_item}
+use Rattle.raft_records.proofs.Common.{◌≡◌, ◌≢◌, ℕ, ◌+◌, ◌-◌, ◌*◌, ◌^◌, ◌<◌, ◌≤◌, List, [], ◌∷◌, ◌++◌, length, take, drop, Option, None, refl, sym, ap, ◌∙◌, subst, append_assoc, arith, length-append, length-drop, length-take-le}
+use Rattle.raft_records.proofs.Common.{take-append-drop, take_at, drop_at, take_all, big_bytes, crc32_of, IsReadAgain-big_bytes, CompressionType, compression_byte, Item, checksum_bytes, item_batch_bytes, entry_bytes_of, IsEncoded}
+use Rattle.raft_records.proofs.Common.{signed_crc, no_checksum, Stage, is_open, encoded, sealed, header_bytes, entry_block, item_offset, unsealed_bytes, encoded_length, log_batch_bytes, entry_bytes_in, IsUnsealed, IsEncodedAs, IsHeldAt}
+use Rattle.raft_records.proofs.Common.{IsHeld, Keeps, behind_item, uncompressed}
 use Rattle.raft_records.proofs.BatchLemmas.{end_push}
 use Rattle.raft_records.proofs.SealLemmas.{four}
 
@@ -26,23 +24,19 @@ block_begins (e ∷ es) = (checksum_bytes None (e ∷ es), refl)
 -- behind the header of a batch stand its entry bytes
 pub entries_behind : (len n : ℕ) (items : List Item) (es seal buf : List ℕ) → length es ≡ n → buf ≡ unsealed_bytes len items es ++ seal → take n (drop 16 buf) ≡ es
 entries_behind len n items es seal buf counted split =
-    let header = header_bytes (item_offset es) compressions.None len in
+    let header = header_bytes (item_offset es) uncompressed len in
     let begins = block_begins es in
     let whole : buf ≡ header ++ (es ++ (begins.0 ++ (item_batch_bytes items ++ seal))) =
     split ∙ append_assoc header (entry_block es ++ item_batch_bytes items) seal
     ∙ ap (λ (t : List ℕ). header ++ t) (append_assoc (entry_block es) (item_batch_bytes items) seal
     ∙ ap (λ (t : List ℕ). t ++ (item_batch_bytes items ++ seal)) begins.1 ∙ append_assoc es begins.0 (item_batch_bytes items ++ seal)) in
     ap (λ (t : List ℕ). take n (drop 16 t)) whole
-    ∙ ap (take n) (drop_at header (es ++ (begins.0 ++ (item_batch_bytes items ++ seal))) 16 (header_len (item_offset es) compressions.None len))
+    ∙ ap (take n) (drop_at header (es ++ (begins.0 ++ (item_batch_bytes items ++ seal))) 16 (header_len (item_offset es) uncompressed len))
     ∙ take_at es (begins.0 ++ (item_batch_bytes items ++ seal)) n counted
 
 -- while items may be added all bytes behind the header are entry bytes
 pub open_entries : (n : ℕ) (buf : List ℕ) → length buf - 16 ≡ n → take n (drop 16 buf) ≡ drop 16 buf
 open_entries n buf h = take_all n (drop 16 buf) (omega (arith, h, length-drop 16 buf))
-
--- the same entry bytes in another buffer, which holds those alone behind its header
-pub open_again : (n : ℕ) (old new : List ℕ) → length old - 16 ≡ n → drop 16 new ≡ drop 16 old → length new - 16 ≡ n
-open_again n old new h same = omega (arith, h, ap length same, length-drop 16 old, length-drop 16 new)
 
 -- the entry bytes that were there, and more behind them
 pub held_open : (items : List Item) (buf : List ℕ) → length buf - 16 ≡ entry_bytes_of items → entry_bytes_of items < 2 ^ 31 → IsHeld is_open items (entry_bytes_in items buf) buf
@@ -83,10 +77,10 @@ unsealed_parts : (items : List Item) (es buf : List ℕ) (offset : ℕ) → (u :
     (front : List ℕ) × (length front ≡ offset) × (buf ≡ front ++ (item_batch_bytes items ++ u.seal)) ×
     (unsealed_bytes (encoded_length items es) items es ≡ front ++ item_batch_bytes items)
 unsealed_parts items es buf offset u at =
-    let header = header_bytes (item_offset es) compressions.None (encoded_length items es) in
+    let header = header_bytes (item_offset es) uncompressed (encoded_length items es) in
     let front : unsealed_bytes (encoded_length items es) items es ≡ (header ++ entry_block es) ++ item_batch_bytes items = sym (append_assoc header (entry_block es) (item_batch_bytes items)) in (
       header ++ entry_block es,
-      omega (arith, at, length-append header (entry_block es), header_len (item_offset es) compressions.None (encoded_length items es)),
+      omega (arith, at, length-append header (entry_block es), header_len (item_offset es) uncompressed (encoded_length items es)),
       u.split ∙ ap (λ (t : List ℕ). t ++ u.seal) front ∙ append_assoc (header ++ entry_block es) (item_batch_bytes items) u.seal,
       front,
     )
@@ -149,18 +143,18 @@ length_is (x ∷ xs) old closed whole some room e f =
 
 pub encoded_unsealed : (items : List Item) (old closed whole new : List ℕ) (offset len : ℕ) → items ≢ [] → 16 ≤ length old →
     closed ≡ take 16 old ++ entry_block (drop 16 old) → whole ≡ closed ++ (item_batch_bytes items ++ no_checksum) → offset ≡ length closed →
-    len ≡ length whole → new ≡ header_bytes offset compressions.None len ++ drop 16 whole → IsUnsealed items (drop 16 old) new
+    len ≡ length whole → new ≡ header_bytes offset uncompressed len ++ drop 16 whole → IsUnsealed items (drop 16 old) new
 encoded_unsealed items old closed whole new offset len some room e f at size written =
     let es = drop 16 old in
     let says = length_is items old closed whole some room e f in
-    let header : header_bytes offset compressions.None len ≡ header_bytes (item_offset es) compressions.None
-    (encoded_length items es) = ap (λ (o : ℕ). header_bytes o compressions.None len) (at ∙ says.0)
-    ∙ ap (header_bytes (item_offset es) compressions.None) (size ∙ says.1) in
+    let header : header_bytes offset uncompressed len ≡ header_bytes (item_offset es) uncompressed
+    (encoded_length items es) = ap (λ (o : ℕ). header_bytes o uncompressed len) (at ∙ says.0)
+    ∙ ap (header_bytes (item_offset es) uncompressed) (size ∙ says.1) in
     let parts : whole ≡ take 16 old ++ (entry_block es ++ (item_batch_bytes items ++ no_checksum)) = f
     ∙ ap (λ (t : List ℕ). t ++ (item_batch_bytes items ++ no_checksum)) e
     ∙ append_assoc (take 16 old) (entry_block es) (item_batch_bytes items ++ no_checksum) in
     let behind : drop 16 whole ≡ entry_block es ++ (item_batch_bytes items ++ no_checksum) = ap (drop 16) parts ∙ drop_at (take 16 old) (entry_block es ++ (item_batch_bytes items ++ no_checksum)) 16 (length-take-le 16 old room) in
-    let front = header_bytes (item_offset es) compressions.None (encoded_length items es) in
+    let front = header_bytes (item_offset es) uncompressed (encoded_length items es) in
     record {
       seal = no_checksum;
       four = refl;
@@ -169,14 +163,6 @@ encoded_unsealed items old closed whole new offset len some room e f at size wri
           ∙ sym (append_assoc front (entry_block es ++ item_batch_bytes items) no_checksum);
     }
 
--- a prefix that a refused encoding left, cut back
-pub cut_to : (old new : List ℕ) (n : ℕ) → n ≡ length old → Keeps old new → take n new ≡ old
-cut_to old new n e k = ap (take n) k.split ∙ take_at old k.behind n (sym e)
-
 -- an item without entry bytes adds none
 pub item_same : (items : List Item) (x : Item) → ((s : ℕ) → behind_item s x ≡ s) → entry_bytes_of (items ++ x ∷ []) ≡ entry_bytes_of items
 item_same items x same = end_push 0 items x ∙ same (entry_bytes_of items)
-
--- the batch with one more item that has no entry bytes
-pub held_more : (items more : List Item) (buf : List ℕ) → entry_bytes_of more ≡ entry_bytes_of items → length buf - 16 ≡ entry_bytes_of items → entry_bytes_of items < 2 ^ 31 → IsHeld is_open more (entry_bytes_in more buf) buf
-held_more items more buf same h lt = held_open more buf (h ∙ sym same) (omega (arith, same, lt))

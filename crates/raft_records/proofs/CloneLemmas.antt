@@ -1,6 +1,6 @@
 -- On clones of items: a clone is seen as what it was made of.
-use Rattle.raft_records.proofs.Common.{◌≡◌, ℕ, List, [], ◌∷◌, map, Option, Some, None, Vec, Global, refl, ap, rules, AllZip, each_same, FileId, Command, KeyValue, OpType, LogItem, LogItemContent}
-use Rattle.raft_records.proofs.Common.{entries, command, pair, Pair, pair_of, content_of, item_of}
+use Rattle.raft_records.proofs.Common.{◌≡◌, ℕ, List, [], ◌∷◌, map, Option, Some, None, Vec, Global, refl, ap, rules, AllZip, each_same, FileId, Command, KeyValue, OpType, LogItem, LogItemContent, entries, command, pair, Pair, pair_of}
+use Rattle.raft_records.proofs.Common.{content_of, item_of, item_with}
 use Rattle.raft_records.specs.contracts.command.CommandClone.TheImpl.{is_clone-value as command_clones}
 use Rattle.raft_records.specs.contracts.entry_indexes.EntryIndexesClone.TheImpl.{is_clone-value as entries_clones}
 use Rattle.raft_records.specs.contracts.key_value.KeyValueClone.TheImpl.{is_clone-value as pair_clones}
@@ -8,7 +8,6 @@ use Rattle.raft_records.specs.contracts.log_item.LogItemContentClone.TheImpl.{is
 use Rattle.raft_records.specs.contracts.log_item.LogItemClone.TheImpl.{is_clone-value as item_clones}
 use Rattle.raft_records.specs.declared.entry_indexes.EntryIndexes.{EntryIndexes as Entries}
 use Rattle.raft_records.specs.declared.log_item.LogItemContent.TheVariants.{EntryIndexes, Command as Commands, Kv}
-use Rattle.raft_records.proofs.Names.{item_with}
 
 command_clone : (a b : Command) → command_clones.it a b → b ≡ a
 command_clone a b h = search rules

@@ -1,11 +1,9 @@
 -- On the bytes of items and their contents.
-use Rattle.raft_records.proofs.Common.{◌≡◌, ℕ, List, ◌∷◌, ◌++◌, refl, sym, ap, ◌∙◌, subst, arith, Reads, HasNoFront, HasOneFront, IsTagged, IsFollowedBy, IsVarint, varint_one_front, reads_as}
-use Rattle.raft_records.proofs.Common.{reads_tagged, reads_pair, no_first, no_second, pair_one_front, tagged_at, no_tagged, tagged_same, tagged_one_front, EntryIndex, Command, Pair, Content, entries}
-use Rattle.raft_records.proofs.Common.{command, pair, Item, IsCommand, IsKeyValue, IsEntries, IsContent, IsItem}
-use Rattle.raft_records.specs.declared.command.Command.TheVariants.{Clean, Compact, Truncate}
+use Rattle.raft_records.proofs.Common.{◌≡◌, ℕ, List, ◌∷◌, ◌++◌, refl, sym, ap, ◌∙◌, subst, arith, Reads, HasNoFront, HasOneFront, IsTagged, IsFollowedBy, IsVarint, varint_one_front, reads_as, reads_tagged, reads_pair, no_first, no_second}
+use Rattle.raft_records.proofs.Common.{pair_one_front, tagged_at, no_tagged, tagged_same, tagged_one_front, EntryIndex, Command, Pair, Content, entries, command, pair, Item, IsCommand, IsKeyValue, IsEntries, IsContent, IsItem, Clean}
+use Rattle.raft_records.proofs.Common.{Compact, Truncate, item_with}
 use Rattle.raft_records.proofs.ItemLemmas.{pair_one}
 use Rattle.raft_records.proofs.EntryLemmas.{entries_one_front}
-use Rattle.raft_records.proofs.Names.{item_with}
 
 -- ---- contents
 

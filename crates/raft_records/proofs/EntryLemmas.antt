@@ -1,26 +1,19 @@
 -- On the bytes of entries.
-use Rattle.raft_records.proofs.Common.{◌≡◌, ℕ, suc, ◌+◌, ◌-◌, ◌^◌, ◌<◌, ◌≤◌, ◌⊎◌, List, [], ◌∷◌, ◌++◌, length, None, refl, sym, ap, ◌∙◌, subst, arith, inl, inr, Reads, HasNoFront, HasOneFront}
-use Rattle.raft_records.proofs.Common.{IsFollowedBy, IsSequence, state_after, IsSequenceFault, IsVarint, Error, varint_one_front, reads_pair, no_first, no_second, pair_one_front, reads_more}
-use Rattle.raft_records.proofs.Common.{state_after-push, stuck, sequence_one_front, fault_after, EntryIndex, entry_between, tail_of, IsTail, AreTails, AreIndexAndTails, IsEntries, end_behind}
-use Rattle.raft_records.proofs.Common.{IsTailFault, IsTailsFault, IsEntriesFault}
-use Rattle.raft_base.specs.declared.compression_type.CompressionType.TheVariants as compressions
-use Rattle.raft_records.proofs.Names.{behind_entry}
+use Rattle.raft_records.proofs.Common.{◌≡◌, ℕ, suc, ◌+◌, ◌-◌, ◌^◌, ◌<◌, ◌≤◌, ◌⊎◌, List, [], ◌∷◌, ◌++◌, length, None, refl, sym, ap, ◌∙◌, subst, arith, inl, inr, Reads, HasNoFront, HasOneFront, IsFollowedBy, IsSequence, state_after}
+use Rattle.raft_records.proofs.Common.{IsSequenceFault, IsVarint, Error, varint_one_front, reads_pair, no_first, no_second, pair_one_front, reads_more, state_after-push, stuck, sequence_one_front, fault_after, EntryIndex, entry_between}
+use Rattle.raft_records.proofs.Common.{tail_of, IsTail, AreTails, AreIndexAndTails, IsEntries, end_behind, IsTailFault, IsTailsFault, IsEntriesFault, behind_entry, uncompressed}
 
 -- ---- one tail offset
 
-pub tail_read : (bytes rest : List ℕ) (index offset tail : ℕ) (e : EntryIndex) → index < 2 ^ 64 - 1 → offset ≤ tail → tail < 2 ^ 32 →
-    Reads IsVarint bytes rest tail →
-    e ≡ record { index = index; entries = None; compression_type = compressions.None; entry_offset = offset; entry_len = tail - offset } →
-    Reads (IsTail (index, offset)) bytes rest e
-tail_read bytes rest index offset tail e fits le lt r made =
-    let entry : EntryIndex = record { index = index; entries = None; compression_type = compressions.None; entry_offset = offset; entry_len = tail - offset } in
+pub tail_read : (bytes rest : List ℕ) (index offset tail : ℕ) → index < 2 ^ 64 - 1 → offset ≤ tail → tail < 2 ^ 32 → Reads IsVarint bytes rest tail →
+    Reads (IsTail (index, offset)) bytes rest (entry_between index offset tail)
+tail_read bytes rest index offset tail fits le lt r =
     let sum : offset + (tail - offset) ≡ tail = omega arith in
-    let whole : Reads (IsTail (index, offset)) bytes rest entry = record {
+    record {
       front = r.front;
       spells = record { tail = subst (λ (t : ℕ). IsVarint r.front t) (sym sum) r.spells; index = refl; offset = refl; index_fits = fits; tail_fits = omega arith; bare = refl };
       split = r.split;
-    } in
-    subst (λ (x : EntryIndex). Reads (IsTail (index, offset)) bytes rest x) (sym made) whole
+    }
 
 pub no_tail : (bytes mid : List ℕ) (index offset tail : ℕ) → Reads IsVarint bytes mid tail → (tail < offset) ⊎ (2 ^ 32 ≤ tail) → HasNoFront (IsTail (index, offset)) bytes
 no_tail bytes mid index offset tail r out front rest e t split =
@@ -31,7 +24,7 @@ no_tail bytes mid index offset tail r out front rest e t split =
     elim out [ inl lt ↦ absurd (omega arith) | inr le ↦ absurd (omega arith) ]
 
 abbrev entry_with : ℕ → ℕ → ℕ → EntryIndex
-entry_with index offset len = record { index = index; entries = None; compression_type = compressions.None; entry_offset = offset; entry_len = len }
+entry_with index offset len = record { index = index; entries = None; compression_type = uncompressed; entry_offset = offset; entry_len = len }
 
 pub tail_one_front : (next : ℕ × ℕ) → HasOneFront (IsTail next)
 tail_one_front next a b more rest x y s t e =
@@ -51,18 +44,13 @@ pub record AreReadSoFar (first s : ℕ) (bytes rest : List ℕ) (es : List Entry
   pub reads : Reads (IsSequence behind_entry IsTail (first, s)) bytes rest es
   pub state : state_after behind_entry (first, s) es ≡ (index, offset)
 
-tail_at : (first s : ℕ) (es : List EntryIndex) (index offset : ℕ) (bytes rest : List ℕ) (e : EntryIndex) →
-    state_after behind_entry (first, s) es ≡ (index, offset) → Reads (IsTail (index, offset)) bytes rest e →
-    Reads (IsTail (state_after behind_entry (first, s) es)) bytes rest e
-tail_at first s es index offset bytes rest e state r = subst (λ (p : ℕ × ℕ). Reads (IsTail p) bytes rest e) (sym state) r
-
 one_more_read : (first s : ℕ) (bytes mid rest : List ℕ) (es : List EntryIndex) (e : EntryIndex) (index offset : ℕ) →
     AreReadSoFar first s bytes mid es index offset → Reads (IsTail (index, offset)) mid rest e →
     AreReadSoFar first s bytes rest (es ++ e ∷ []) (index + 1) (offset + e.entry_len)
 one_more_read first s bytes mid rest es e index offset so r =
     let begins : e.entry_offset ≡ offset = r.spells.offset in
     record {
-      reads = reads_more behind_entry IsTail (first, s) es e so.reads (tail_at first s es index offset mid rest e so.state r);
+      reads = reads_more behind_entry IsTail (first, s) es e so.reads (subst (λ (p : ℕ × ℕ). Reads (IsTail p) mid rest e) (sym so.state) r);
       state = state_after-push behind_entry (first, s) es e ∙ ap (λ (p : ℕ × ℕ). behind_entry p e) so.state ∙ ap (λ (o : ℕ). (index + 1, o + e.entry_len)) begins;
     }
 
@@ -91,9 +79,6 @@ tail_fault {first} {s} {bytes} {mid} {es} {index} {offset} {count} {fault} more 
 pub end_is : (next : ℕ × ℕ) (es : List EntryIndex) → end_behind next.1 es ≡ (state_after behind_entry next es).1
 end_is next [] = refl
 end_is next (e ∷ es) = end_is (behind_entry next e) es
-
-pub end_read : (first s : ℕ) (bytes rest : List ℕ) (es : List EntryIndex) (index offset : ℕ) → AreReadSoFar first s bytes rest es index offset → offset ≡ end_behind s es
-end_read first s bytes rest es index offset so = sym (end_is (first, s) es ∙ ap (λ (p : ℕ × ℕ). p.1) so.state)
 
 tails_one_front : (n : ℕ) (next : ℕ × ℕ) → HasOneFront (AreTails n next)
 tails_one_front n next a b more rest xs ys p q e = sequence_one_front behind_entry IsTail tail_one_front next xs ys a b more rest (p.count ∙ sym q.count) p.tails q.tails e

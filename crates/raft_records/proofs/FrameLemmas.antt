@@ -1,10 +1,8 @@
 -- On log batches as they are read, part by part.
-use Rattle.raft_records.proofs.Common.{◌≡◌, ◌≢◌, ℕ, ◌+◌, ◌-◌, ◌*◌, ◌^◌, ◌<◌, ◌≤◌, List, [], ◌∷◌, ◌++◌, map, length, take, drop, Option, None, ◌↔◌, Some, inl, inr, refl, sym, ap, ◌∙◌, subst}
-use Rattle.raft_records.proofs.Common.{append_assoc, arith, flat_map, length-append, length-drop, length-take-le, append_cancel_left, take_at, drop_at, drop-drop, take-append-drop, big_bytes}
-use Rattle.raft_records.proofs.Common.{HasOneFront, crc32_of, varint, IsReadAgain-big_bytes, CompressionType, compression_byte, Item, Content, entries, command, pair, bare, AreInRange, content_bytes}
-use Rattle.raft_records.proofs.Common.{item_bytes, signed_crc, checksum_bytes, item_batch_bytes, IsItemBatch, IsBatchOf, header_bytes, entry_block, item_offset, unsealed_bytes, encoded_length}
-use Rattle.raft_records.proofs.Common.{log_batch_bytes, IsLaidOut, IsLogBatch, IsReadable, IsHeader, IsEntryBlockOf, IsFramed, IsFramedWith}
-use Rattle.raft_base.specs.declared.compression_type.CompressionType.TheVariants as compressions
+use Rattle.raft_records.proofs.Common.{◌≡◌, ◌≢◌, ℕ, ◌+◌, ◌-◌, ◌*◌, ◌^◌, ◌<◌, ◌≤◌, List, [], ◌∷◌, ◌++◌, map, length, take, drop, Option, None, ◌↔◌, Some, inl, inr, refl, sym, ap, ◌∙◌, subst, append_assoc, arith, flat_map, length-append}
+use Rattle.raft_records.proofs.Common.{length-drop, length-take-le, append_cancel_left, take_at, drop_at, drop-drop, take-append-drop, big_bytes, HasOneFront, crc32_of, varint, IsReadAgain-big_bytes, CompressionType, compression_byte, Item}
+use Rattle.raft_records.proofs.Common.{Content, entries, command, pair, bare, AreInRange, content_bytes, item_bytes, signed_crc, checksum_bytes, item_batch_bytes, IsItemBatch, IsBatchOf, header_bytes, entry_block, item_offset}
+use Rattle.raft_records.proofs.Common.{unsealed_bytes, encoded_length, log_batch_bytes, IsLaidOut, IsLogBatch, IsReadable, IsHeader, IsEntryBlockOf, IsFramed, IsFramedWith, uncompressed}
 use Rattle.raft_records.proofs.BufferLemmas.{header_len}
 use Rattle.raft_records.proofs.HeaderLemmas.{byte_of_type}
 use Rattle.raft_records.proofs.ItemLemmas.{same_length}
@@ -16,7 +14,7 @@ use Rattle.raft_records.proofs.WrittenLemmas.{batch_spelled}
 
 -- there is one type of compression
 pub same_compression : (c d : CompressionType) → c ≡ d
-same_compression compressions.None compressions.None = refl
+same_compression uncompressed uncompressed = refl
 
 big_one : (x y : ℕ) (more rest : List ℕ) → x < 2 ^ 64 → y < 2 ^ 64 → big_bytes 8 x ++ more ≡ big_bytes 8 y ++ rest → (x ≡ y) × (more ≡ rest)
 big_one x y more rest h k e =
@@ -195,7 +193,7 @@ pub log_batch_length : (signature : Option ℕ) (items : List Item) (es : List �
 log_batch_length signature [] es = refl
 log_batch_length signature (x ∷ xs) es =
     let items = x ∷ xs in
-    let head = header_bytes (item_offset es) compressions.None (encoded_length items es) in
+    let head = header_bytes (item_offset es) uncompressed (encoded_length items es) in
     let block = entry_block es in
     let batch = item_batch_bytes items in
     let seal = checksum_bytes signature batch in
@@ -204,7 +202,7 @@ log_batch_length signature (x ∷ xs) es =
       length-append (head ++ (block ++ batch)) seal,
       length-append head (block ++ batch),
       length-append block batch,
-      header_len (item_offset es) compressions.None (encoded_length items es),
+      header_len (item_offset es) uncompressed (encoded_length items es),
       four (signed_crc signature (crc32_of batch)),
     )
 
@@ -214,7 +212,7 @@ log_batch_spelled signature [] es b r some fits = absurd (some refl)
 log_batch_spelled signature (x ∷ xs) es b r some fits =
     let items = x ∷ xs in
     let len = encoded_length items es in
-    let head = header_bytes (item_offset es) compressions.None len in
+    let head = header_bytes (item_offset es) uncompressed len in
     let block = entry_block es in
     let batch = item_batch_bytes items in
     let seal = checksum_bytes signature batch in
@@ -226,15 +224,15 @@ log_batch_spelled signature (x ∷ xs) es b r some fits =
       length-append head (block ++ (batch ++ seal)),
       length-append block (batch ++ seal),
       length-append batch seal,
-      header_len (item_offset es) compressions.None len,
+      header_len (item_offset es) uncompressed len,
       four (signed_crc signature (crc32_of batch)),
     ) in
     let count : length items < 2 ^ 64 = omega (arith, batch_count_le items, fits) in
     record {
       behind = batch ++ seal;
       rest = [];
-      compression = compressions.None;
+      compression = uncompressed;
       item_batch = batch_spelled signature items b.tiled r count;
       fits = omega (arith, counted, fits);
-      split = parted ∙ ap (λ (n : ℕ). header_bytes (item_offset es) compressions.None n ++ (block ++ (batch ++ seal))) (sym counted);
+      split = parted ∙ ap (λ (n : ℕ). header_bytes (item_offset es) uncompressed n ++ (block ++ (batch ++ seal))) (sym counted);
     }

@@ -1,7 +1,6 @@
 -- A batch that stands in a part, section by section.
-use Rattle.raft_records.proofs.Common.{◌≡◌, ℕ, ◌+◌, ◌-◌, List, ◌++◌, map, length, take, drop, ap, ◌∙◌, arith, CompressionType, Part, IsBatchAt, IsFramed, Item, placed_item}
+use Rattle.raft_records.proofs.Common.{◌≡◌, ℕ, ◌+◌, ◌-◌, List, ◌++◌, map, length, take, drop, ap, ◌∙◌, arith, CompressionType, Part, IsBatchAt, IsFramed, Item, placed_item, part_signature, entries_place, place_between}
 use Rattle.raft_records.proofs.FrameLemmas.{framed, laid_out, same_compression}
-use Rattle.raft_records.proofs.Names.{part_signature, entries_place, place_between}
 
 -- a batch begins at this byte: its header gives the offset of its item batch
 pub record IsFramedAt (part : Part) (at : ℕ) (items : List Item) (next : ℕ) : Type 0 where

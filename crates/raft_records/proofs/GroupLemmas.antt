@@ -1,7 +1,7 @@
 -- On group markers.
-use Rattle.raft_records.proofs.Common.{◌≡◌, ◌↔◌, ℕ, ◌<◌, Bool, true, eqb, if◌then◌else◌, List, Option, Some, None, option_map, option_and_then, IsTrue, refl, sym, ap, subst, ◌∙◌, arith, Ordering}
-use Rattle.raft_records.proofs.Common.{is_eq, pointwise, is_eq-slice_cmp, nat_cmp-IsAntisymmetric, slice_cmp-IsAntisymmetric, Error, AtomicGroupStatus, Item, reserved_key, is_reserved, status_byte}
-use Rattle.raft_records.proofs.Common.{status_of, group_marker_item, marker_byte, marker_of, IsGroupMarkerRead, IsGroupMarkerFault}
+use Rattle.raft_records.proofs.Common.{◌≡◌, ◌↔◌, ℕ, ◌<◌, Bool, true, eqb, if◌then◌else◌, List, Option, Some, None, option_map, option_and_then, IsTrue, refl, sym, ap, subst, ◌∙◌, arith, Ordering, is_eq, pointwise, is_eq-slice_cmp}
+use Rattle.raft_records.proofs.Common.{nat_cmp-IsAntisymmetric, slice_cmp-IsAntisymmetric, Error, AtomicGroupStatus, Item, reserved_key, is_reserved, status_byte, status_of, group_marker_item, marker_byte, marker_of, IsGroupMarkerRead}
+use Rattle.raft_records.proofs.Common.{IsGroupMarkerFault}
 use lib.Dec.{T}
 use Rattle.std.specs.declared.cmp.Ordering.TheVariants.{Less, Equal, Greater}
 use Rattle.raft_records.specs.declared.atomic_group.AtomicGroupStatus.TheVariants.{Begin, Middle, End}

@@ -1,7 +1,7 @@
 -- On headers of log batches.
-use Rattle.raft_records.proofs.Common.{◌≡◌, ◌≢◌, ℕ, ◌+◌, ◌-◌, ◌*◌, ◌/◌, ◌%◌, ◌^◌, ◌<◌, ◌≤◌, List, [], ◌++◌, ◌⊎◌, length, take, drop, refl, sym, ap, ◌∙◌, append_assoc, arith, length-append}
-use Rattle.raft_records.proofs.Common.{length-drop, append_cancel_left, append-nil, take_at, drop_at, take_all, drop_all, drop-drop, big_bytes, Reads, HasNoFront, IsBig, IsReadAgain-big_bytes}
-use Rattle.raft_records.proofs.Common.{CompressionType, Error, compression_byte, IsCompressionFault, header_bytes, IsHeader, IsOffsetFault, IsHeaderNumbersFault}
+use Rattle.raft_records.proofs.Common.{◌≡◌, ◌≢◌, ℕ, ◌+◌, ◌-◌, ◌*◌, ◌/◌, ◌%◌, ◌^◌, ◌<◌, ◌≤◌, List, [], ◌++◌, ◌⊎◌, length, take, drop, refl, sym, ap, ◌∙◌, append_assoc, arith, length-append, length-drop, append_cancel_left, append-nil}
+use Rattle.raft_records.proofs.Common.{take_at, drop_at, take_all, drop_all, drop-drop, big_bytes, Reads, HasNoFront, IsBig, IsReadAgain-big_bytes, CompressionType, Error, compression_byte, IsCompressionFault, header_bytes, IsHeader}
+use Rattle.raft_records.proofs.Common.{IsOffsetFault, IsHeaderNumbersFault}
 use Rattle.raft_base.specs.declared.compression_type.CompressionType.TheVariants.{None}
 use Rattle.raft_records.proofs.BufferLemmas.{header_len}
 

@@ -1,10 +1,7 @@
 -- On the bytes of commands and key values.
-use Rattle.raft_records.proofs.Common.{◌≡◌, ℕ, ◌+◌, ◌<◌, ◌≤◌, List, [], ◌∷◌, ◌++◌, length, take, drop, Option, Some, None, refl, sym, ap, ◌∙◌, subst, arith, inl, inr, take-append-drop, length-take-le}
-use Rattle.raft_records.proofs.Common.{length-append, Reads, HasNoFront, HasOneFront, IsTagged, IsFollowedBy, IsVarint, varint_one_front, reads_as, reads_tagged, reads_pair, no_first, no_second}
-use Rattle.raft_records.proofs.Common.{second_at, pair_one_front, heads, tagged_at, no_tagged, tagged_same, tagged_one_front, Error, FileId, IsMemory, IsKeyValueFault, change_of, OpType, Pair}
-use Rattle.raft_records.proofs.Common.{IsCommand, IsByteString, IsKeyValue, IsPairOf}
-use Rattle.raft_records.specs.declared.command.Command.TheVariants.{Compact, Truncate}
-use Rattle.raft_records.specs.declared.key_value.OpType.TheVariants.{Put, Del}
+use Rattle.raft_records.proofs.Common.{◌≡◌, ℕ, ◌+◌, ◌<◌, ◌≤◌, List, ◌∷◌, ◌++◌, length, take, drop, Option, Some, None, refl, sym, ap, ◌∙◌, subst, arith, inl, inr, take-append-drop, length-take-le, length-append, Reads, HasNoFront}
+use Rattle.raft_records.proofs.Common.{HasOneFront, IsTagged, IsFollowedBy, IsVarint, varint_one_front, reads_as, reads_tagged, reads_pair, no_first, no_second, second_at, pair_one_front, tagged_at, no_tagged, tagged_same, tagged_one_front}
+use Rattle.raft_records.proofs.Common.{Error, FileId, IsMemory, IsKeyValueFault, change_of, OpType, Pair, IsCommand, IsByteString, IsKeyValue, IsPairOf, Compact, Truncate, Put, Del, take-append_seam}
 
 -- ---- commands
 
@@ -24,13 +21,7 @@ IsText n bytes text = (bytes ≡ text) × (length text ≡ n)
 
 -- two fronts of one list that are as long are one
 pub same_length : (a b more rest : List ℕ) → length a ≡ length b → a ++ more ≡ b ++ rest → a ≡ b
-same_length [] [] more rest len e = refl
-same_length [] (y ∷ b) more rest len e = absurd (omega arith)
-same_length (x ∷ a) [] more rest len e = absurd (omega arith)
-same_length (x ∷ a) (y ∷ b) more rest len e =
-    let h = heads x y (a ++ more) (b ++ rest) e in
-    let same = same_length a b more rest (omega arith) h.1 in
-    cc
+same_length a b more rest len e = sym (take-append_seam a more) ∙ ap (take (length a)) e ∙ ap (λ (k : ℕ). take k (b ++ rest)) len ∙ take-append_seam b rest
 
 pub text_read : (bytes mid : List ℕ) (n : ℕ) → n ≤ length mid → Reads IsVarint bytes mid n → Reads IsByteString bytes (drop n mid) (take n mid)
 text_read bytes mid n le r =

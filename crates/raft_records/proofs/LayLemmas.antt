@@ -1,12 +1,10 @@
 -- On entries whose bytes are laid or raised.
-use Rattle.raft_records.proofs.Common.{◌≡◌, ℕ, zero, suc, ◌+◌, ◌^◌, ◌<◌, ◌≤◌, List, [], ◌∷◌, ◌++◌, map, length, take, drop, set, get_or, Option, None, refl, sym, ap, ◌∙◌, subst, append_assoc, arith}
-use Rattle.raft_records.proofs.Common.{length-map, length-take-le, take_more, drop_more, get_or_at, set_at, EntryIndex, IsConsecutive, IsConsecutiveFrom, from_start, consecutive_from, started, Item}
-use Rattle.raft_records.proofs.Common.{Content, entries, command, pair, Tile, tail_of, end_behind, FitsBehind, FitTogether, end_of_items, entry_bytes_of, with_offsets_from, entry_lengths}
-use Rattle.raft_records.proofs.Common.{raised_entry, raised_content, raised_item, CanRaise, CanRaiseContent, IsKeptBeside, item_size, items_size, at_most_usize}
-use Rattle.raft_records.proofs.Names.{behind_item}
+use Rattle.raft_records.proofs.Common.{◌≡◌, ℕ, zero, suc, ◌+◌, ◌^◌, ◌<◌, ◌≤◌, List, [], ◌∷◌, ◌++◌, map, length, take, drop, set, get_or, Option, None, refl, sym, ap, ◌∙◌, subst, append_assoc, arith, length-map, length-take-le, take_more}
+use Rattle.raft_records.proofs.Common.{drop_more, get_or_at, set_at, EntryIndex, IsConsecutive, IsConsecutiveFrom, from_start, consecutive_from, started, Item, Content, entries, command, pair, Tile, tail_of, end_behind, FitsBehind}
+use Rattle.raft_records.proofs.Common.{FitTogether, end_of_items, entry_bytes_of, with_offsets_from, entry_lengths, raised_entry, raised_content, raised_item, CanRaise, CanRaiseContent, IsKeptBeside, item_size, items_size, at_most_usize}
+use Rattle.raft_records.proofs.Common.{behind_item}
 use Rattle.raft_records.proofs.BatchLemmas.{consecutive_mapped, end_append, fit_append, size_append}
-use Rattle.raft_records.proofs.InBytesLemmas.{in_bytes_append, in_bytes_raised}
-use Rattle.raft_records.proofs.RangeLemmas.{range_append, range_raised}
+use Rattle.raft_records.proofs.RangeLemmas.{in_bytes_append, in_bytes_raised, range_append, range_raised}
 
 -- ---- laid
 

@@ -1,11 +1,8 @@
 -- On approximate sizes: they cover the bytes.
-use Rattle.raft_records.proofs.Common.{◌≡◌, ℕ, ◌+◌, ◌*◌, ◌^◌, ◌<◌, ◌≤◌, List, [], ◌∷◌, ◌++◌, length, Option, Some, None, arith, flat_map, length-append, varint, varint_spells, varint_some}
-use Rattle.raft_records.proofs.Common.{varint_within, EntryIndex, OpType, Item, Content, entries, command, pair, Tile, tail_of, byte_string, value_bytes, tails_bytes, entries_bytes, content_bytes}
-use Rattle.raft_records.proofs.Common.{item_bytes, entries_size, value_length, content_size, item_size, items_size, item_batch_size, at_most_usize, AreSmallIndexes, HasSmallIndexes, HaveSmallNumbers}
-use Rattle.raft_records.proofs.Common.{FitsBehind, FitTogether, checksum_bytes, item_batch_bytes, item_offset, encoded_length}
-use Rattle.raft_records.specs.declared.command.Command.TheVariants.{Clean, Compact, Truncate}
-use Rattle.raft_records.specs.declared.key_value.OpType.TheVariants.{Put, Del}
-use Rattle.raft_records.proofs.Names.{behind_item}
+use Rattle.raft_records.proofs.Common.{◌≡◌, ℕ, ◌+◌, ◌*◌, ◌^◌, ◌<◌, ◌≤◌, List, [], ◌∷◌, ◌++◌, length, Option, Some, None, arith, flat_map, length-append, varint, varint_spells, varint_some, varint_within, EntryIndex, OpType, Item, Content}
+use Rattle.raft_records.proofs.Common.{entries, command, pair, Tile, tail_of, byte_string, value_bytes, tails_bytes, entries_bytes, content_bytes, item_bytes, entries_size, value_length, content_size, item_size, items_size, item_batch_size}
+use Rattle.raft_records.proofs.Common.{at_most_usize, AreSmallIndexes, HasSmallIndexes, HaveSmallNumbers, FitsBehind, FitTogether, checksum_bytes, item_batch_bytes, item_offset, encoded_length, Clean, Compact, Truncate, Put, Del}
+use Rattle.raft_records.proofs.Common.{behind_item}
 use Rattle.raft_records.proofs.BufferLemmas.{checksum_len}
 
 eight : (n : ℕ) → n < 2 ^ 56 → length (varint n) ≤ 8

@@ -1,13 +1,11 @@
 -- On the batches that stand in a part of a file.
-use Rattle.raft_records.proofs.Common.{◌≡◌, ◌≢◌, ℕ, ◌+◌, ◌-◌, ◌^◌, ◌<◌, ◌≤◌, List, [], ◌∷◌, ◌++◌, map, length, take, drop, Option, Some, None, refl, sym, ap, ◌∙◌, subst, append_assoc, arith, inr}
-use Rattle.raft_records.proofs.Common.{FileBlockHandle, Error, IsMemory, Part, IsBatchAt, IsNext, IsNextFault, StandBetween, AreBatchesUpTo, AreInRange, length-append, length-drop, length-take-le}
-use Rattle.raft_records.proofs.Common.{take-append-drop, take_at, drop_at, drop-take, drop-drop, take-add, Reads, HasNoFront, CompressionType, Item, bare, AreInBytes, IsItemBatch, IsItemBatchFault}
-use Rattle.raft_records.proofs.Common.{placed_item, IsBatchOf, IsReadable, entry_block, entry_place, item_offset, encoded_length, log_batch_bytes, IsHeader, IsFramed}
-use Rattle.raft_base.specs.declared.compression_type.CompressionType.TheVariants as compressions
-use Rattle.raft_records.proofs.Names.{part_signature, entries_place}
+use Rattle.raft_records.proofs.Common.{◌≡◌, ◌≢◌, ℕ, ◌+◌, ◌-◌, ◌^◌, ◌<◌, ◌≤◌, List, [], ◌∷◌, ◌++◌, map, length, take, drop, Option, Some, None, refl, sym, ap, ◌∙◌, subst, append_assoc, arith, inr, FileBlockHandle, Error, IsMemory, Part}
+use Rattle.raft_records.proofs.Common.{IsBatchAt, IsNext, IsNextFault, StandBetween, AreBatchesUpTo, AreInRange, length-append, length-drop, length-take-le, take-append-drop, take_at, drop_at, drop-take, drop-drop, take-add, Reads}
+use Rattle.raft_records.proofs.Common.{HasNoFront, CompressionType, Item, bare, AreInBytes, IsItemBatch, IsItemBatchFault, placed_item, IsBatchOf, IsReadable, entry_block, entry_place, item_offset, encoded_length, log_batch_bytes, IsHeader}
+use Rattle.raft_records.proofs.Common.{IsFramed, part_signature, entries_place, uncompressed}
 use Rattle.raft_records.proofs.BatchLemmas.{no_room_for_items, one_batch}
 use Rattle.raft_records.proofs.ItemLemmas.{same_length}
-use Rattle.raft_records.proofs.ReadPlaceLemmas.{items_read}
+use Rattle.raft_records.proofs.RangeLemmas.{items_read}
 use Rattle.raft_records.proofs.FramedAt.{IsFramedAt, framed_at, laid_at}
 use Rattle.raft_records.proofs.BufferLemmas.{header_len}
 use Rattle.raft_records.proofs.FrameLemmas.{header_one, readable, framed, same_compression, log_batch_spelled, log_batch_length}
@@ -131,7 +129,7 @@ encoded_some (x ∷ xs) es some = omega arith
 pub written_next : (part : Part) (at : ℕ) (handle : FileBlockHandle) (items : List Item) (es rest : List ℕ) (answer : Option (List Item × ℕ)) →
     IsBatchOf items es → AreInRange items → AreInBytes items → items ≢ [] → encoded_length items es < 2 ^ 56 → handle.id ≡ part.id →
     handle.offset ≡ part.offset + at → drop at part.bytes ≡ log_batch_bytes (part_signature part) items es ++ rest → IsNext part at answer →
-    answer ≡ Some (map (placed_item (entry_place handle es) compressions.None) items, at + encoded_length items es)
+    answer ≡ Some (map (placed_item (entry_place handle es) uncompressed) items, at + encoded_length items es)
 written_next part at handle items es rest None b r held some fits id offset stands n =
     absurd (omega (arith, n, ap length stands, length-drop at part.bytes, length-append (log_batch_bytes (part_signature part) items es) rest, log_batch_length (part_signature part) items es, encoded_some items es some))
 written_next part at handle items es rest (Some next) b r held some fits id offset stands there =
@@ -144,17 +142,17 @@ written_next part at handle items es rest (Some next) b r held some fits id offs
     let len : n.offset - 16 ≡ length (entry_block es) = omega (arith, one.1) in
     let begin : part.offset + at + 16 ≡ handle.offset + 16 = omega (arith, offset) in
     let moved_to : entries_place part at n.offset ≡ entry_place handle es = λ i. record { id = sym id i; offset = begin i; len = len i } in
-    let moved : map (placed_item (entries_place part at n.offset) n.frame.compression) n.read ≡ map (placed_item (entry_place handle es) compressions.None) (map bare items) =
+    let moved : map (placed_item (entries_place part at n.offset) n.frame.compression) n.read ≡ map (placed_item (entry_place handle es) uncompressed) (map bare items) =
     ap (λ p. map (placed_item p n.frame.compression) n.read) moved_to
-    ∙ ap (λ c. map (placed_item (entry_place handle es) c) n.read) (same_compression n.frame.compression compressions.None) ∙ ap (map (placed_item (entry_place handle es) compressions.None)) one.3 in
-    let items_are : next.0 ≡ map (placed_item (entry_place handle es) compressions.None) items = n.places ∙ moved ∙ items_read (entry_place handle es) compressions.None items held in
+    ∙ ap (λ c. map (placed_item (entry_place handle es) c) n.read) (same_compression n.frame.compression uncompressed) ∙ ap (map (placed_item (entry_place handle es) uncompressed)) one.3 in
+    let items_are : next.0 ≡ map (placed_item (entry_place handle es) uncompressed) items = n.places ∙ moved ∙ items_read (entry_place handle es) uncompressed items held in
     λ i. Some (items_are i, ends i)
 
 -- the batch stands there
 pub written_stands : (part : Part) (at : ℕ) (handle : FileBlockHandle) (items : List Item) (es rest : List ℕ) → IsBatchOf items es →
     AreInRange items → AreInBytes items → items ≢ [] → encoded_length items es < 2 ^ 56 → handle.id ≡ part.id → handle.offset ≡ part.offset + at →
     drop at part.bytes ≡ log_batch_bytes (part_signature part) items es ++ rest →
-    IsBatchAt part at (map (placed_item (entry_place handle es) compressions.None) items) (at + encoded_length items es)
+    IsBatchAt part at (map (placed_item (entry_place handle es) uncompressed) items) (at + encoded_length items es)
 written_stands part at handle items es rest b r held some fits id offset stands =
     let bytes = log_batch_bytes (part_signature part) items es in
     let long : length bytes ≡ encoded_length items es = log_batch_length (part_signature part) items es in
@@ -171,9 +169,9 @@ written_stands part at handle items es rest b r held some fits id offset stands 
       frame = frame;
       stands = stands ∙ ap (λ (t : List ℕ). bytes ++ t) (sym behind);
       ends = ap (λ (k : ℕ). at + k) (sym long);
-      places = sym (items_read (entry_place handle es) compressions.None items held)
-          ∙ ap (λ p. map (placed_item p compressions.None) (map bare items)) place
-          ∙ ap (λ c. map (placed_item (entries_place part at (item_offset es)) c) (map bare items)) (sym (same_compression frame.compression compressions.None));
+      places = sym (items_read (entry_place handle es) uncompressed items held)
+          ∙ ap (λ p. map (placed_item p uncompressed) (map bare items)) place
+          ∙ ap (λ c. map (placed_item (entries_place part at (item_offset es)) c) (map bare items)) (sym (same_compression frame.compression uncompressed));
     })
 
 pub written_accepted : (part : Part) (at : ℕ) (items : List Item) (es rest : List ℕ) → IsBatchOf items es → AreInRange items → items ≢ [] →

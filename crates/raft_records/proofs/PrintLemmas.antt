@@ -1,9 +1,8 @@
--- The text of a batch that was decoded: no line shows a place.
-use Rattle.raft_records.proofs.Common.{◌≡◌, ℕ, List, [], ◌∷◌, ◌++◌, length, map, Option, None, Some, IfSome, Result, Ok, Err, IfErr, OnErr, refl, ap, sym, subst, ◌∙◌, ◌+◌, length-map, flat_map}
-use Rattle.raft_records.proofs.Common.{FileBlockHandle, CompressionType, LogItem, Item, Content, entries, command, pair, item_of, IsDecoded, placed_item, placed_content}
-use Rattle.raft_records.proofs.Common.{IsTextOf, line_of, last_line, content_text}
+-- The text of a batch that was decoded (no line shows a place), and what a writer holds that takes it part by part.
+use Rattle.raft_records.proofs.Common.{◌≡◌, ℕ, List, [], ◌∷◌, ◌++◌, length, map, Option, None, Some, IfSome, Result, Ok, Err, IfErr, OnErr, refl, ap, sym, subst, ◌∙◌, ◌+◌, length-map, flat_map, FileBlockHandle, CompressionType, LogItem}
+use Rattle.raft_records.proofs.Common.{Item, Content, entries, command, pair, item_of, IsDecoded, placed_item, placed_content, IsTextOf, line_of, last_line, content_text, placed_entry, zero, suc, ◌-◌, codes, arith, append_assoc, slice_get}
+use Rattle.raft_records.proofs.Common.{decimal, EntryIndex, end_behind, tail_of, entries_text, take, drop, Appends, Appends-trans, take_rest, take-append-drop}
 use Rattle.raft_records.proofs.BatchLemmas.{end_placed}
-use Rattle.raft_records.proofs.Names.{placed_entry}
 
 content_placed : (handle : FileBlockHandle) (compression : CompressionType) (content : Content) → content_text (placed_content handle compression content) ≡ content_text content
 content_placed handle compression (entries []) = refl
@@ -37,3 +36,35 @@ of_input P (Some xs) empty read bytes known none same h =
 pub on_both : {T E : Type 0} {P S : E → Type 0} {Q : Type 0} (r : Result T E) → IfErr r P → OnErr r Q → ((e : E) → P e → Q → S e) → IfErr r S
 on_both (Ok t) p q follows = tt
 on_both (Err e) p q follows = follows e p q
+
+-- entries end where the last one does
+last_end : (s k : ℕ) (es : List EntryIndex) (last : EntryIndex) → suc k ≡ length es → Some last ≡ slice_get es k → end_behind s es ≡ tail_of last
+last_end s k [] last n h = cc
+last_end s zero (e ∷ []) last n h = let same : e ≡ last = cc in ap tail_of same
+last_end s zero (e ∷ f ∷ es) last n h = absurd (omega arith)
+last_end s (suc k) (e ∷ es) last n h = last_end (tail_of e) k es last (omega arith) h
+
+-- the text of entries that have a first and a last one
+pub text_by_ends : (es : List EntryIndex) (first last : EntryIndex) → Some first ≡ slice_get es 0 → Some last ≡ slice_get es (length es - 1) →
+    entries_text es ≡ codes "entries " ++ (decimal
+    (length es) ++ (codes " first " ++ (decimal first.index ++ (codes " tail " ++ decimal (tail_of last)))))
+text_by_ends [] first last f l = cc
+text_by_ends (e ∷ es) first last f l =
+    let same : e ≡ first = cc in
+    let before : length (e ∷ es) - 1 ≡ length es = omega arith in
+    let end = last_end 0 (length es) (e ∷ es) last refl (rw before at l) in
+    rw (← same, ← end) (simp append_assoc)
+
+-- bytes in two parts, of which the first was written
+pub record IsHalfWritten (old new : Option (List ℕ)) (all rest : List ℕ) : Type 0 where
+  pub done : List ℕ
+  pub split : all ≡ done ++ rest
+  pub written : Appends old new done
+
+-- one part more was written
+pub written_on : (old middle new : Option (List ℕ)) (all rest : List ℕ) (n : ℕ) → IsHalfWritten old middle all rest → Appends middle new (take n rest) → IsHalfWritten old new all (take (length rest - n) (drop n rest))
+written_on old middle new all rest n h more = subst (IsHalfWritten old new all) (sym (take_rest rest n)) (record {
+  done = h.done ++ take n rest;
+  split = h.split ∙ ap (λ xs. h.done ++ xs) (sym (take-append-drop n rest)) ∙ sym (append_assoc h.done (take n rest) (drop n rest));
+  written = Appends-trans old middle new h.done (take n rest) h.written more;
+})

@@ -1,38 +1,29 @@
 -- On batches as they are read.
-use Rattle.raft_records.proofs.Common.{◌≡◌, ℕ, suc, ◌+◌, ◌≤◌, ◌<◌, List, [], ◌∷◌, ◌++◌, map, length, take, drop, get_or, Some, refl, sym, ap, ◌∙◌, subst, arith, add-one, take-length, append-nil}
-use Rattle.raft_records.proofs.Common.{length-append, length-map, length_push, map-append, take-append-le, drop-append-le, length-drop, AllByRecursion, entries_of_block, EntryIndex}
-use Rattle.raft_records.proofs.Common.{FileBlockHandle, Reads, IsSequence, IsVarint, ReadContent, Command, ReadItem, AreDecodedIn, IsDecodedIn, IsPlaceInFile, AreTails, IsCommand, IsItem, IsKeyValue}
-use Rattle.raft_records.proofs.Common.{IsTail, Item, Pair, command, entries, pair, FitTogether, FitsBehind, end_of_items, placed_item, entry_between, content_shown, item_shown, items_shown, spans_of}
-use Rattle.raft_records.proofs.Common.{spans_taken, AreEntriesRead, AreHeldAs, AreTailsRead, IsChange, IsContentFault, IsContentRead, IsHeldAs, IsItemRead, IsMemory, IsTagged, IsContent, Reached}
-use Rattle.raft_records.proofs.Common.{change_of, content_made, reached, span_of, Content, Error, None, Option, inr}
-use Rattle.std.proofs.lemmas.List.{append_assoc}
+use Rattle.raft_records.proofs.Common.{◌≡◌, ℕ, suc, ◌+◌, ◌≤◌, ◌<◌, List, [], ◌∷◌, ◌++◌, map, length, take, drop, get_or, Some, refl, sym, ap, ◌∙◌, subst, arith, add-one, take-length, append-nil, length-append, length-map, length_push}
+use Rattle.raft_records.proofs.Common.{map-append, take-append-le, drop-append-le, length-drop, AllByRecursion, entries_of_block, EntryIndex, FileBlockHandle, Reads, IsSequence, IsVarint, ReadContent, Command, ReadItem, AreDecodedIn}
+use Rattle.raft_records.proofs.Common.{IsDecodedIn, IsPlaceInFile, IsCommand, IsItem, IsKeyValue, IsTail, Item, Pair, command, entries, pair, FitTogether, FitsBehind, end_of_items, placed_item, entry_between, content_shown, item_shown}
+use Rattle.raft_records.proofs.Common.{items_shown, spans_of, spans_taken, AreEntriesRead, AreHeldAs, AreTailsRead, IsChange, IsContentFault, IsContentRead, IsHeldAs, IsItemRead, IsMemory, IsTagged, IsContent, Reached, change_of}
+use Rattle.raft_records.proofs.Common.{content_made, reached, span_of, Content, Error, None, Option, inr, append_assoc, behind_entry, behind_item, placed_entry, uncompressed, map-id}
 use Rattle.raft_records.proofs.ItemLemmas.{no_room_for_pair}
-use Rattle.raft_base.specs.declared.compression_type.CompressionType.TheVariants as compressions
 use Rattle.raft_records.specs.declared.read_batch.ReadContent.TheVariants.{Run}
 use Rattle.raft_records.specs.declared.read_batch.ReadContent.TheVariants as contents
-use Rattle.raft_records.proofs.BatchLemmas.{behind_placed, end_push, fits_placed, item_fits, one_more_item}
+use Rattle.raft_records.proofs.BatchLemmas.{behind_placed, end_push, fits_placed, content_fits, one_more_item}
 use Rattle.raft_records.proofs.ContentLemmas.{command_content, entries_content, item_read, pair_content}
-use Rattle.raft_records.proofs.EntryLemmas.{AreReadSoFar, end_read, entries_read, one_more_tail, run_read}
-use Rattle.raft_records.proofs.Names.{behind_entry, behind_item, placed_entry}
+use Rattle.raft_records.proofs.EntryLemmas.{AreReadSoFar, end_is, entries_read, one_more_tail, run_read}
 
 -- ---- spans
 
 abbrev entry_at : FileBlockHandle → ℕ → EntryIndex → EntryIndex
-entry_at place i e = record { index = i; entries = Some place; compression_type = compressions.None; entry_offset = e.entry_offset; entry_len = e.entry_len }
+entry_at place i e = record { index = i; entries = Some place; compression_type = uncompressed; entry_offset = e.entry_offset; entry_len = e.entry_len }
 
-spans_shown : (place : FileBlockHandle) (next : ℕ × ℕ) (bytes : List ℕ) (es : List EntryIndex) → IsSequence behind_entry IsTail next bytes es → entries_of_block next.0 place (map span_of es) ≡ map (placed_entry place compressions.None) es
+spans_shown : (place : FileBlockHandle) (next : ℕ × ℕ) (bytes : List ℕ) (es : List EntryIndex) → IsSequence behind_entry IsTail next bytes es → entries_of_block next.0 place (map span_of es) ≡ map (placed_entry place uncompressed) es
 spans_shown place next bytes [] q = refl
 spans_shown place next bytes (e ∷ es) q =
-    let first : entry_at place next.0 e ≡ placed_entry place compressions.None e = ap (λ (i : ℕ). entry_at place i e) (sym q.first_spells.index) in
-    let rest : entries_of_block (suc next.0) place (map span_of es) ≡ map (placed_entry place compressions.None)
-    es = subst (λ (i : ℕ). entries_of_block i place (map span_of es) ≡ map (placed_entry place compressions.None) es) (add-one next.0)
+    let first : entry_at place next.0 e ≡ placed_entry place uncompressed e = ap (λ (i : ℕ). entry_at place i e) (sym q.first_spells.index) in
+    let rest : entries_of_block (suc next.0) place (map span_of es) ≡ map (placed_entry place uncompressed)
+    es = subst (λ (i : ℕ). entries_of_block i place (map span_of es) ≡ map (placed_entry place uncompressed) es) (add-one next.0)
     (spans_shown place (behind_entry next e) q.second es q.second_spells) in
     λ i. first i ∷ rest i
-
--- a run holds the entries whose tail offsets were read
-run_held : (count first s : ℕ) (bytes rest : List ℕ) (es : List EntryIndex) → Reads (AreTails count (first, s)) bytes rest es → IsHeldAs (Run first count) es (entries es)
-run_held count first s bytes rest es r =
-    record { taken = sym r.spells.count; made = refl; shown = λ place. ap entries (spans_shown place (first, s) r.front es r.spells.tails) }
 
 -- entries were read behind their count and the first index
 pub run_read_of : {X : Type 0} {kept_of : EntryIndex → X} {s count first : ℕ} {bytes mid tails rest : List ℕ} {end : ℕ} {old new : List X} → 0 < count →
@@ -44,7 +35,7 @@ run_read_of {s = s} {count = count} {first = first} {bytes = bytes} {mid = mid} 
       reads = entries_read s count bytes mid rest r.read counted (run_read s count first mid tails rest r.read some begins r.reads);
       ends = r.ends;
       added = r.added;
-      held = run_held count first s tails rest r.read r.reads;
+      held = record { taken = sym r.reads.spells.count; made = refl; shown = λ place. ap entries (spans_shown place (first, s) r.reads.front r.read r.reads.spells.tails) };
     }
 
 -- one byte below 128 is a number
@@ -80,16 +71,12 @@ pub pair_read : {X : Type 0} {kept_of : EntryIndex → X} {s : ℕ} {bytes behin
 pair_read {s = s} {bytes = bytes} {behind = behind} {rest = rest} {p = p} {kept = kept} split r held =
     record { read = pair p; own = []; reads = pair_content s bytes behind rest p split r; ends = refl; added = sym (append-nil kept); held = held }
 
-all_same : (es : List EntryIndex) → map (λ e. e) es ≡ es
-all_same [] = refl
-all_same (e ∷ es) = ap (λ (t : List EntryIndex). e ∷ t) (all_same es)
-
 -- all entries that were kept are those that were read
 pub entries_kept : {first count : ℕ} {old new : Reached EntryIndex} → (r : AreEntriesRead (λ e. e) first count old new) → old.kept ≡ [] → new.kept ≡ r.read
-entries_kept r none = r.added ∙ ap (λ (es : List EntryIndex). es ++ map (λ e. e) r.read) none ∙ all_same r.read
+entries_kept r none = r.added ∙ ap (λ (es : List EntryIndex). es ++ map (λ e. e) r.read) none ∙ map-id r.read
 
 pub content_is_made : {content : ReadContent} {old new : Reached EntryIndex} → (r : IsContentRead (λ e. e) content old new) → old.kept ≡ [] → content_made content new.kept ≡ r.read
-content_is_made {content} r none = ap (content_made content) (r.added ∙ ap (λ (es : List EntryIndex). es ++ map (λ e. e) r.own) none ∙ all_same r.own) ∙ r.held.made
+content_is_made {content} r none = ap (content_made content) (r.added ∙ ap (λ (es : List EntryIndex). es ++ map (λ e. e) r.own) none ∙ map-id r.own) ∙ r.held.made
 
 -- where a change of a key was read, there may be no memory for it
 no_room : {X : Type 0} (old new : Reached X) (e : Error) (key : List ℕ) (value : Option (List ℕ)) (read : Content) → Reads (IsContent old.end) old.bytes new.bytes read →
@@ -163,14 +150,14 @@ tails_read {first = first} {s = s} {bytes = bytes} {rest = rest} {index = index}
     record {
       read = so.read;
       reads = record { front = reads.front; spells = record { tails = reads.spells; count = so.counted ∙ all }; split = reads.split };
-      ends = end_read first s bytes rest so.read index offset so.so_far;
+      ends = sym (end_is (first, s) so.read ∙ ap (λ (p : ℕ × ℕ). p.1) so.so_far.state);
       added = so.added;
     }
 
 -- ---- items
 
 pub item_held : (place : FileBlockHandle) (item : ReadItem) (own : List EntryIndex) (x : Item) → item.region ≡ x.raft_group_id →
-    IsHeldAs item.content own x.content → item_shown place item (map span_of own) ≡ placed_item place compressions.None x
+    IsHeldAs item.content own x.content → item_shown place item (map span_of own) ≡ placed_item place uncompressed x
 item_held place item own x region h = λ i. record { raft_group_id = region i; content = h.shown place i }
 
 spans_push : (items : List ReadItem) (item : ReadItem) → spans_of (items ++ item ∷ []) ≡ spans_of items + spans_taken item.content
@@ -198,8 +185,8 @@ items_held_push items item spans own xs x h region k =
     record {
       taken = omega (arith, h.taken, k.taken, spans_push items item, length-append spans (map span_of own), length-map own span_of);
       shown = λ place. shown_push place items item spans (map span_of own) h.taken (k.taken ∙ sym (length-map own span_of)) ∙ ap (λ (ys : List Item). ys ++ item_shown place item (map span_of own) ∷ [])
-          (h.shown place) ∙ ap (λ (y : Item). map (placed_item place compressions.None) xs ++ y ∷ []) (item_held place item own x region k)
-          ∙ sym (map-append (placed_item place compressions.None) xs (x ∷ []));
+          (h.shown place) ∙ ap (λ (y : Item). map (placed_item place uncompressed) xs ++ y ∷ []) (item_held place item own x region k)
+          ∙ sym (map-append (placed_item place uncompressed) xs (x ∷ []));
     }
 
 -- the items that were read so far, and behind their entries comes this offset
@@ -225,13 +212,13 @@ one_more_held bytes mid rest items new_items spans new_spans offset end count so
       counted = omega (arith, length_push xs r.read, so.counted);
     }
 
-pub items_fit : (place : FileBlockHandle) (s : ℕ) (bytes : List ℕ) (xs : List Item) → IsSequence behind_item IsItem s bytes xs → FitTogether s (map (placed_item place compressions.None) xs)
+pub items_fit : (place : FileBlockHandle) (s : ℕ) (bytes : List ℕ) (xs : List Item) → IsSequence behind_item IsItem s bytes xs → FitTogether s (map (placed_item place uncompressed) xs)
 items_fit place s bytes [] q = tt
 items_fit place s bytes (x ∷ xs) q =
-    let put = placed_item place compressions.None in (
-      fits_placed place compressions.None s x.content (item_fits s q.first x q.first_spells),
+    let put = placed_item place uncompressed in (
+      fits_placed place uncompressed s x.content (content_fits s q.first_spells.second x.content q.first_spells.second_spells),
       subst (λ (t : ℕ). FitTogether t (map put xs))
-          (sym (behind_placed place compressions.None s x)) (items_fit place (behind_item s x) q.second xs q.second_spells),
+          (sym (behind_placed place uncompressed s x)) (items_fit place (behind_item s x) q.second xs q.second_spells),
     )
 
 -- ---- what the parts show

@@ -1,7 +1,6 @@
 -- On checksums behind bytes.
-use Rattle.raft_records.proofs.Common.{◌≡◌, ◌≢◌, ℕ, ◌^◌, ◌<◌, List, [], ◌++◌, length, take, drop, Option, Some, None, refl, sym, ap, ◌∙◌, arith, bit_xor, xor_assoc, xor_self, xor_zero_r}
-use Rattle.raft_records.proofs.Common.{take-append-drop, length-append, append_cancel_left, append-nil, nil_from_length, little_bytes, Reads, IsLittle, crc32_of, IsReadAgain-little_bytes, signed_crc}
-use Rattle.raft_records.proofs.Common.{checksum_bytes, HasSeal, Error, IsChecksumFault, IsCorruption, codes, decimal}
+use Rattle.raft_records.proofs.Common.{◌≡◌, ◌≢◌, ℕ, ◌^◌, ◌<◌, List, [], ◌++◌, length, take, drop, Option, Some, None, refl, sym, ap, ◌∙◌, arith, bit_xor, xor_assoc, xor_self, xor_zero_r, take-append-drop, length-append, append_cancel_left}
+use Rattle.raft_records.proofs.Common.{append-nil, nil_from_length, little_bytes, Reads, IsLittle, crc32_of, IsReadAgain-little_bytes, signed_crc, checksum_bytes, HasSeal, Error, IsChecksumFault, IsCorruption, codes, decimal}
 use Rattle.raft_records.proofs.ItemLemmas.{same_length}
 
 pub four : (n : ℕ) → length (little_bytes 4 n) ≡ 4

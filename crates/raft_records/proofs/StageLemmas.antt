@@ -1,13 +1,13 @@
--- On log batches in their buffers.
-use Rattle.raft_records.proofs.Common.{◌≡◌, ◌≢◌, ◌⊎◌, inl, inr, ℕ, ◌-◌, ◌^◌, ◌<◌, ◌≤◌, List, [], ◌∷◌, ◌++◌, length, take, drop, Option, Result, Ok, Err, OnOk, OnErr, refl, sym, ap, ◌∙◌, subst, arith}
-use Rattle.raft_records.proofs.Common.{length-append, length-drop, take_at, drop_all, take_all, append-nil, nil_from_length, crc32_of, BufState, stage_of, Item, checksum_bytes, item_batch_bytes}
-use Rattle.raft_records.proofs.Common.{entry_bytes_of, IsEncoded, signed_crc, no_checksum, Stage, Batch, is_open, encoded, sealed, header_bytes, entry_block, item_offset, unsealed_bytes}
-use Rattle.raft_records.proofs.Common.{encoded_length, log_batch_bytes, approximate_length, entry_bytes_in, IsUnsealed, IsHeldAt, IsShortAt, IsHeld, Keeps}
-use Rattle.raft_base.specs.declared.compression_type.CompressionType.TheVariants as compressions
-use Rattle.raft_records.specs.declared.log_batch.BufState.TheVariants as states
-use Rattle.raft_records.proofs.Names.{behind_item}
+-- On log batches in their buffers: one, one whose entries get their places, and two.
+use Rattle.raft_records.proofs.Common.{◌≡◌, ◌≢◌, ◌⊎◌, inl, inr, ℕ, ◌-◌, ◌^◌, ◌<◌, ◌≤◌, List, [], ◌∷◌, ◌++◌, length, take, drop, Option, Result, Ok, Err, OnOk, OnErr, refl, sym, ap, ◌∙◌, subst, arith, length-append, length-drop, take_at}
+use Rattle.raft_records.proofs.Common.{drop_all, take_all, append-nil, nil_from_length, crc32_of, BufState, stage_of, Item, checksum_bytes, item_batch_bytes, entry_bytes_of, IsEncoded, signed_crc, no_checksum, Stage, Batch, is_open}
+use Rattle.raft_records.proofs.Common.{encoded, sealed, header_bytes, entry_block, item_offset, unsealed_bytes, encoded_length, log_batch_bytes, approximate_length, entry_bytes_in, IsUnsealed, IsHeldAt, IsShortAt, IsHeld, Keeps}
+use Rattle.raft_records.proofs.Common.{behind_item, uncompressed, ◌+◌, map, FileBlockHandle, CompressionType, placed_item, IsSealedStage, entry_place, drop-append-le, raised_item, with_batch}
 use Rattle.raft_records.proofs.SealLemmas.{four}
-use Rattle.raft_records.proofs.BufferLemmas.{cut_to, header_len, open_entries, open_again, held_open, held_more, held_encoded, unsealed_entries, unsealed_at, held_sealed, sealed_entries, item_same, length_is, encoded_unsealed}
+use Rattle.raft_records.proofs.BufferLemmas.{header_len, open_entries, held_open, held_encoded, unsealed_entries, unsealed_at, held_sealed, sealed_entries, item_same, length_is, encoded_unsealed}
+use Rattle.raft_records.proofs.BatchLemmas.{batch_placed, end_of_placed}
+use Rattle.raft_records.proofs.LayLemmas.{merged_end}
+use Rattle.raft_records.specs.declared.log_batch.BufState.TheVariants as states
 
 abbrev pub batch_with : List Item → List ℕ → Stage → Batch
 batch_with items entry_bytes stage = record { items = items; entry_bytes = entry_bytes; stage = stage }
@@ -16,14 +16,14 @@ pub unsealed_len : {items : List Item} {es buf : List ℕ} → items ≢ [] → 
 unsealed_len {items = []} some u = absurd (some refl)
 unsealed_len {items = x ∷ xs} {es = es} {buf = buf} some u =
     let items = x ∷ xs in
-    let header = header_bytes (item_offset es) compressions.None (encoded_length items es) in
+    let header = header_bytes (item_offset es) uncompressed (encoded_length items es) in
     omega (
       arith,
       ap length u.split,
       length-append (unsealed_bytes (encoded_length items es) items es) u.seal,
       length-append header (entry_block es ++ item_batch_bytes items),
       length-append (entry_block es) (item_batch_bytes items),
-      header_len (item_offset es) compressions.None (encoded_length items es),
+      header_len (item_offset es) uncompressed (encoded_length items es),
       u.four,
     )
 
@@ -46,7 +46,7 @@ within h = omega (arith, h.whole, h.fits)
 
 pub reheld : {stage : Stage} {items : List Item} {old new : List ℕ} → stage ≡ is_open → IsHeld stage items (entry_bytes_in items old) old → drop 16 new ≡ drop 16 old → IsHeld stage items (entry_bytes_in items new) new
 reheld {stage} {items} {old} {new} e h same =
-    subst (λ (s : Stage). IsHeld s items (entry_bytes_in items new) new) (sym e) (held_open items new (open_again (entry_bytes_of items) old new (open_held e h) same) (within h))
+    subst (λ (s : Stage). IsHeld s items (entry_bytes_in items new) new) (sym e) (held_open items new (omega (arith, open_held e h, ap length same, length-drop 16 old, length-drop 16 new)) (within h))
 
 pub entries_are : {stage : Stage} {items : List Item} {buf : List ℕ} → stage ≡ is_open → IsHeld stage items (entry_bytes_in items buf) buf → entry_bytes_in items buf ≡ drop 16 buf
 entries_are {stage} {items} {buf} e h = open_entries (entry_bytes_of items) buf (open_held e h)
@@ -56,7 +56,7 @@ pub cut_held : {stage : Stage} {items kept : List Item} {old mid new cut : List 
     IsHeld stage items (entry_bytes_in items old) old → drop 16 mid ≡ drop 16 old → Keeps mid new → n ≡ length mid → cut ≡ take n new → kept ≡ items →
     IsHeld stage kept (entry_bytes_in kept cut) cut
 cut_held {stage} {items} {kept} {old} {mid} {new} {cut} {n} e h same keeps len is_cut is_kept =
-    let back : cut ≡ mid = is_cut ∙ cut_to mid new n len keeps in
+    let back : cut ≡ mid = is_cut ∙ ap (take n) keeps.split ∙ take_at mid keeps.behind n (sym len) in
     subst (λ (xs : List Item). IsHeld stage xs (entry_bytes_in xs cut) cut) (sym is_kept) (reheld e h (ap (drop 16) back ∙ same))
 
 -- the length of a batch, of its buffer with room for a header
@@ -86,7 +86,8 @@ pub item_held : {E : Type 0} {now : Batch} {stage : Stage} {items new : List Ite
     IsHeld stage new (entry_bytes_in new buf) buf
 item_held {E} {now} {stage} {items} {new} {buf} r x same view begun h ok err =
     let e = open_of view begun in
-    subst (λ (s : Stage). IsHeld s new (entry_bytes_in new buf) buf) (sym e) (held_more items new buf (item_kept r items new x same ok err) (open_held e h) (within h))
+    let kept = item_kept r items new x same ok err in
+    subst (λ (s : Stage). IsHeld s new (entry_bytes_in new buf) buf) (sym e) (held_open new buf (open_held e h ∙ sym kept) (omega (arith, kept, within h)))
 
 pub item_view : {E : Type 0} {now : Batch} {stage : Stage} {items : List Item} (new : List Item) (buf : List ℕ) (r : Result (Unit {0}) E) (x : Item) →
     ((s : ℕ) → behind_item s x ≡ s) → batch_with items (entry_bytes_in items buf) stage ≡ now → OnOk r (new ≡ items ++ x ∷ []) →
@@ -103,13 +104,13 @@ written_back n new old counted same = take_at new (drop (length new) old) n (sam
 
 pub encoded_whole : (items : List Item) (old closed whole slice new : List ℕ) (offset len n : ℕ) → items ≢ [] → 16 ≤ length old →
     closed ≡ take 16 old ++ entry_block (drop 16 old) → whole ≡ closed ++ (item_batch_bytes items ++ no_checksum) → offset ≡ length closed →
-    len ≡ length whole → slice ≡ whole → length whole ≡ n → new ≡ header_bytes offset compressions.None len ++ drop 16 slice →
+    len ≡ length whole → slice ≡ whole → length whole ≡ n → new ≡ header_bytes offset uncompressed len ++ drop 16 slice →
     IsUnsealed items (drop 16 old) (take n (new ++ drop (length new) whole))
 encoded_whole items old closed whole slice new offset len n some room e f at size is counted written =
     let says = length_is items old closed whole some room e f in
     let wide : 16 ≤ length whole = omega (arith, says.0, ap length f, length-append closed (item_batch_bytes items ++ no_checksum)) in
-    let placed : new ≡ header_bytes offset compressions.None len ++ drop 16 whole = written ∙ ap (λ (t : List ℕ). header_bytes offset compressions.None len ++ drop 16 t) is in
-    let same : length new ≡ length whole = omega (arith, wide, ap length placed, length-append (header_bytes offset compressions.None len) (drop 16 whole), header_len offset compressions.None len, length-drop 16 whole) in
+    let placed : new ≡ header_bytes offset uncompressed len ++ drop 16 whole = written ∙ ap (λ (t : List ℕ). header_bytes offset uncompressed len ++ drop 16 t) is in
+    let same : length new ≡ length whole = omega (arith, wide, ap length placed, length-append (header_bytes offset uncompressed len) (drop 16 whole), header_len offset uncompressed len, length-drop 16 whole) in
     subst (λ (t : List ℕ). IsUnsealed items (drop 16 old) t) (sym (written_back n new whole counted same)) (encoded_unsealed items old closed whole new offset len some room e f at size placed)
 
 -- ---- signing
@@ -213,3 +214,81 @@ encoded_short {now} {stage} {items} {es} {buf} view h ne = subst (λ (b : Batch)
         let some : (x ∷ xs) ≢ [] = λ e. absurd cc in
         let made = made_of view ne in
         omega (arith, few stage made k.short, unsealed_len some (unsealed_at stage (x ∷ xs) es buf made some k.held))
+
+-- places are not in the bytes
+pub log_bytes_placed : (handle : FileBlockHandle) (c : CompressionType) (signature : Option ℕ) (items : List Item) (es : List ℕ) → log_batch_bytes signature (map (placed_item handle c) items) es ≡ log_batch_bytes signature items es
+log_bytes_placed handle c signature [] es = refl
+log_bytes_placed handle c signature (x ∷ xs) es =
+    ap (λ (b : List ℕ). (header_bytes (item_offset es) uncompressed (item_offset es + length b + 4) ++ (entry_block es ++ b)) ++ checksum_bytes signature b) (batch_placed handle c (x ∷ xs))
+
+pub entries_placed : (handle : FileBlockHandle) (c : CompressionType) (items : List Item) (buf : List ℕ) → entry_bytes_in (map (placed_item handle c) items) buf ≡ entry_bytes_in items buf
+entries_placed handle c items buf = ap (λ (n : ℕ). take n (drop 16 buf)) (end_of_placed handle c 0 items)
+
+pub placed_held : (handle : FileBlockHandle) (c : CompressionType) (stage : Stage) (items : List Item) (buf : List ℕ) → IsSealedStage stage →
+    IsHeld stage items (entry_bytes_in items buf) buf →
+    IsHeld stage (map (placed_item handle c) items) (entry_bytes_in (map (placed_item handle c) items) buf) buf
+placed_held handle c is_open items buf s h = absurd s
+placed_held handle c encoded items buf s h = absurd s
+placed_held handle c (sealed signature) items buf s h =
+    let same = entries_placed handle c items buf in
+    record {
+      whole = ap length same ∙ h.whole ∙ sym (end_of_placed handle c 0 items);
+      fits = omega (arith, ap length same, h.fits);
+      short = h.short;
+      held = h.held ∙ sym (log_bytes_placed handle c signature items (entry_bytes_in items buf)) ∙ ap (log_batch_bytes signature (map (placed_item handle c) items)) (sym same);
+    }
+
+pub placed_view : (handle : FileBlockHandle) (c : CompressionType) (now : Batch) (stage : Stage) (items new : List Item) (buf : List ℕ) →
+    batch_with items (entry_bytes_in items buf) stage ≡ now → new ≡ map (placed_item handle c) items →
+    batch_with new (entry_bytes_in new buf) stage ≡ batch_with (map (placed_item handle c) now.items) now.entry_bytes now.stage
+placed_view handle c now stage items new buf view places =
+    ap (λ (xs : List Item). batch_with xs (entry_bytes_in xs buf) stage) places
+    ∙ ap (λ (t : List ℕ). batch_with (map (placed_item handle c) items) t stage) (entries_placed handle c items buf)
+    ∙ ap (λ (b : Batch). batch_with (map (placed_item handle c) b.items) b.entry_bytes b.stage) view
+
+-- where the entry block stands
+pub place_is : (handle : FileBlockHandle) (now : Batch) (stage : Stage) (items : List Item) (es : List ℕ) (size offset : ℕ) →
+    batch_with items es stage ≡ now → length es ≡ entry_bytes_of items → size ≡ entry_bytes_of items →
+    ((bytes : List ℕ) → length bytes ≡ size → offset ≡ item_offset bytes) →
+    record { id = handle.id; offset = handle.offset + 16; len = offset - 16 } ≡ entry_place handle now.entry_bytes
+place_is handle now stage items es size offset view whole counted behind =
+    let at : offset ≡ item_offset es = behind es (whole ∙ sym counted) in
+    let len : offset - 16 ≡ length (entry_block es) = omega (arith, at) in
+    ap (λ (n : ℕ). record { id = handle.id; offset = handle.offset + 16; len = n }) len ∙ ap (λ (b : Batch). entry_place handle b.entry_bytes) view
+
+-- ---- bytes behind a header
+
+pub appended : (old new others : List ℕ) → 16 < length old → new ≡ old ++ drop 16 others → drop 16 new ≡ drop 16 old ++ drop 16 others
+appended old new others lt e = ap (drop 16) e ∙ drop-append-le 16 old (drop 16 others) (omega arith)
+
+pub taken_over : (old new others : List ℕ) → length old ≤ 16 → new ≡ others → drop 16 new ≡ drop 16 old ++ drop 16 others
+taken_over old new others le e = ap (drop 16) e ∙ sym (ap (λ (t : List ℕ). t ++ drop 16 others) (drop_all 16 old le))
+
+-- ---- two batches
+
+-- the items and the entry bytes of both
+pub joined_held : {stage stage' : Stage} {own others items : List Item} {buf rest new : List ℕ} → stage ≡ is_open → stage' ≡ is_open →
+    IsHeld stage own (entry_bytes_in own buf) buf → IsHeld stage' others (entry_bytes_in others rest) rest →
+    entry_bytes_of own + entry_bytes_of others < 2 ^ 31 → items ≡ own ++ map (raised_item (entry_bytes_of own)) others →
+    drop 16 new ≡ drop 16 buf ++ drop 16 rest →
+    IsHeld stage items (entry_bytes_in items new) new × (entry_bytes_in items new ≡ entry_bytes_in own buf ++ entry_bytes_in others rest)
+joined_held {stage} {stage'} {own} {others} {items} {buf} {rest} {new} e e' h h' lt joins bytes =
+    let parts = length-append (drop 16 buf) (drop 16 rest) in
+    let ends = merged_end own others in
+    let len : length new - 16 ≡ entry_bytes_of items = omega (arith, open_held e h, open_held e' h', ap length bytes, parts, length-drop 16 buf, length-drop 16 rest, length-drop 16 new, ends, ap entry_bytes_of joins) in
+    let whole : drop 16 buf ++ drop 16 rest ≡ entry_bytes_in own buf ++ entry_bytes_in others rest = ap (λ (t : List ℕ). t ++ drop 16 rest)
+    (sym (entries_are e h)) ∙ ap (λ (t : List ℕ). entry_bytes_in own buf ++ t) (sym (entries_are e' h')) in (
+      subst (λ (s : Stage). IsHeld s items (entry_bytes_in items new) new) (sym e) (held_open items new len (omega (arith, ap entry_bytes_of joins, merged_end own others, lt))),
+      open_entries (entry_bytes_of items) new len ∙ bytes ∙ whole,
+    )
+
+-- their value
+pub joined_view : {now more : Batch} {stage stage' : Stage} {own others items : List Item} {es es' new : List ℕ} → batch_with own es stage ≡ now →
+    batch_with others es' stage' ≡ more → length es ≡ entry_bytes_of own → items ≡ own ++ map (raised_item (entry_bytes_of own)) others →
+    new ≡ es ++ es' → batch_with items new stage ≡ with_batch now more
+joined_view {now} {more} {stage} {stage'} {own} {others} {items} {es} {es'} {new} view view' whole joins bytes =
+    ap (λ (xs : List Item). batch_with xs new stage) joins
+    ∙ ap (λ (n : ℕ). batch_with (own ++ map (raised_item n) others) new stage) (sym whole)
+    ∙ ap (λ (t : List ℕ). batch_with (own ++ map (raised_item (length es)) others) t stage) bytes
+    ∙ ap (λ (b : Batch). with_batch b (batch_with others es' stage')) view
+    ∙ ap (with_batch now) view'

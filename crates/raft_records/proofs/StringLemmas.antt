@@ -1,9 +1,7 @@
 -- On entries with their bytes.
-use Rattle.raft_records.proofs.Common.{◌≡◌, ◌≢◌, true, ℕ, zero, suc, ◌+◌, ◌-◌, ◌^◌, ◌<◌, ◌≤◌, List, [], ◌∷◌, ◌++◌, map, length, take, drop, get_or, set, ◌↔◌, refl, sym, ap, ◌∙◌, subst, append_assoc}
-use Rattle.raft_records.proofs.Common.{arith, nat_eq, concat, eqb-true, length-append, length-drop, length-map, length-set, drop_more, drop-append-le, EntryIndex, no_entry, IsConsecutive}
-use Rattle.raft_records.proofs.Common.{IsConsecutiveFrom, from_first, from_start, consecutive_from, started, end_behind, Item, entries, entries_item, FitsBehind, entry_bytes_of, entry_lengths}
-use Rattle.raft_records.proofs.Common.{with_offsets_from, Stage, Batch, is_open, with_entries_added, entry_bytes_in, IsHeld, entry_with_index, with_lengths, Keeps}
-use Rattle.std.proofs.Common.{add-one}
+use Rattle.raft_records.proofs.Common.{◌≡◌, ◌≢◌, ℕ, zero, suc, ◌+◌, ◌-◌, ◌^◌, ◌<◌, ◌≤◌, List, [], ◌∷◌, ◌++◌, map, length, take, drop, get_or, set, ◌↔◌, refl, sym, ap, ◌∙◌, subst, append_assoc, arith, concat, length-append, length-drop}
+use Rattle.raft_records.proofs.Common.{length-map, length-set, drop_more, drop-append-le, EntryIndex, IsConsecutive, IsConsecutiveFrom, from_first, from_start, consecutive_from, started, end_behind, Item, entries, entries_item, FitsBehind}
+use Rattle.raft_records.proofs.Common.{entry_bytes_of, entry_lengths, with_offsets_from, Stage, Batch, is_open, with_entries_added, entry_bytes_in, IsHeld, entry_with_index, with_lengths, Keeps, add-one}
 use Rattle.raft_records.proofs.BatchLemmas.{end_push}
 use Rattle.raft_records.proofs.LayLemmas.{end_of_laid, laid_fits}
 use Rattle.raft_records.proofs.BufferLemmas.{open_entries, held_open}
@@ -152,10 +150,6 @@ abbrev pub laid_messages : {X : Type 0} → (X → ℕ) → (X → List ℕ) →
 laid_messages index_of bytes_of s xs =
     with_offsets_from s (with_lengths (map (λ x. entry_with_index (index_of x)) xs) (map bytes_of xs))
 
--- the entry of a message, whose bytes are so many from an offset on
-abbrev pub message_entry : ℕ → ℕ → ℕ → EntryIndex
-message_entry index offset len = record no_entry { index = index; entry_offset = offset; entry_len = len }
-
 -- the first i messages are written behind the bytes that were there, and what is left of them completes their entries
 pub record AreLaid {X : Type 0} (index_of : X → ℕ) (bytes_of : X → List ℕ) (xs : List X) (i : ℕ) (start buf : List ℕ) (now : List EntryIndex) : Type 0 where
   pub keeps : Keeps start buf
@@ -165,7 +159,7 @@ pub record AreLaid {X : Type 0} (index_of : X → ℕ) (bytes_of : X → List �
   pub small : 0 < i → length buf < 16 + 2 ^ 31
 
 -- entries that were laid behind those of a batch
-laid_is : {X : Type 0} (index_of : X → ℕ) (bytes_of : X → List ℕ) (xs : List X) (old : List ℕ) (found : List EntryIndex) (before : ℕ) →
+pub laid_is : {X : Type 0} (index_of : X → ℕ) (bytes_of : X → List ℕ) (xs : List X) (old : List ℕ) (found : List EntryIndex) (before : ℕ) →
     found ≡ laid_messages index_of bytes_of (length old - 16) xs → length old ≡ 16 + before → found ≡ laid_messages index_of bytes_of before xs
 laid_is index_of bytes_of xs old found before laid whole =
     let start : length old - 16 ≡ before = omega (arith, whole) in

@@ -1,12 +1,9 @@
 -- What is written is a spelling.
-use Rattle.raft_records.proofs.Common.{◌≡◌, ℕ, ◌+◌, ◌-◌, ◌^◌, ◌<◌, List, [], ◌∷◌, ◌++◌, map, length, Option, Some, None, refl, sym, ap, subst, arith, flat_map, append-nil, length-map, IsFollowedBy}
-use Rattle.raft_records.proofs.Common.{IsSequence, IsVarint, varint, varint_spells, EntryIndex, IsConsecutive, IsConsecutiveFrom, from_first, Command, OpType, Item, Content, entries, command, pair}
-use Rattle.raft_records.proofs.Common.{bare_entry, bare_content, bare, written_value, Tile, op_type_byte, IsCommand, IsByteString, IsPairOf, tail_of, IsTail, AreIndexAndTails, IsEntries, IsContent}
-use Rattle.raft_records.proofs.Common.{IsItem, end_behind, command_bytes, byte_string, value_bytes, pair_bytes, tails_bytes, run_bytes, entries_bytes, content_bytes, item_bytes, IsWritableWith}
-use Rattle.raft_records.proofs.Common.{FitsBehind, FitTogether, AreItems, IsItemBatch, item_batch_bytes, checksum_bytes, HasIndex, HasLength, IsContentInRange, IsInRange, AreInRange}
-use Rattle.raft_records.specs.declared.command.Command.TheVariants.{Clean, Compact, Truncate}
-use Rattle.raft_records.specs.declared.key_value.OpType.TheVariants.{Put, Del}
-use Rattle.raft_records.proofs.Names.{behind_entry, behind_item}
+use Rattle.raft_records.proofs.Common.{◌≡◌, ℕ, ◌+◌, ◌-◌, ◌^◌, ◌<◌, List, [], ◌∷◌, ◌++◌, map, length, Option, Some, None, refl, sym, ap, subst, arith, flat_map, append-nil, length-map, IsFollowedBy, IsSequence, IsVarint, varint}
+use Rattle.raft_records.proofs.Common.{varint_spells, EntryIndex, IsConsecutive, IsConsecutiveFrom, from_first, Command, OpType, Item, Content, entries, command, pair, bare_entry, bare_content, bare, written_value, Tile, op_type_byte}
+use Rattle.raft_records.proofs.Common.{IsCommand, IsByteString, IsPairOf, tail_of, IsTail, AreIndexAndTails, IsEntries, IsContent, IsItem, end_behind, command_bytes, byte_string, value_bytes, pair_bytes, tails_bytes, run_bytes}
+use Rattle.raft_records.proofs.Common.{entries_bytes, content_bytes, item_bytes, IsWritableWith, FitsBehind, FitTogether, AreItems, IsItemBatch, item_batch_bytes, checksum_bytes, HasIndex, HasLength, IsContentInRange, IsInRange, AreInRange}
+use Rattle.raft_records.proofs.Common.{Clean, Compact, Truncate, Put, Del, behind_entry, behind_item}
 
 pub command_spelled : (c : Command) → HasIndex c → IsCommand (command_bytes c) c
 command_spelled Clean h = refl

@@ -1,5 +1,6 @@
 pub mod ItemBatchModel
 pub mod Buffer
+pub mod Common
 pub mod DecodedIn
 pub mod Entries
 pub mod EntryBlock

@@ -1,12 +1,10 @@
 //! Atomic groups of log batches, which take effect together or not at all.
 
 ghost use Rattle.std.specs.Prelude.{◌≡◌, ℕ, Option, Some, None, IfErr, OnOk, OnErr, ◌↔◌, List, IsTrue, IfOk};
+ghost use Rattle.raft_records.specs.Common.{Begin, Middle, End, IsRunning, group_marker_item, status_byte, marker_byte, IsGroupMarkerRead, IsGroupMarkerFault, reserved_key, is_reserved, marker_of, Item, item_of, pair, pair_of, is_open};
+ghost use Rattle.raft_records.specs.Common.{with_item, IsStatusFault};
 ghost use Rattle.raft_base.specs.declared.errors.Error.{Error as Refusal};
 ghost use Rattle.raft_records.specs.declared.atomic_group.AtomicGroupStatus.{AtomicGroupStatus as Status};
-ghost use Rattle.raft_records.specs.declared.atomic_group.AtomicGroupStatus.TheVariants.{Begin, Middle, End};
-ghost use Rattle.raft_records.specs.Group.{IsRunning, group_marker_item, status_byte, marker_byte, IsGroupMarkerRead, IsGroupMarkerFault, reserved_key, is_reserved, marker_of};
-ghost use Rattle.raft_records.specs.Item.{Item, item_of, pair, pair_of};
-ghost use Rattle.raft_records.specs.LogBatch.{is_open, with_item};
 
 use crate::{KeyValue, LogBatch, LogItem, LogItemContent, OpType};
 use raft_base::{Error, Result};
@@ -28,8 +26,6 @@ pub enum AtomicGroupStatus {
 }
 
 impl AtomicGroupStatus {
-    ghost use Rattle.raft_records.specs.Group.{status_byte, IsStatusFault};
-
     /// Returns the group whose group marker an item is, and its status; nothing of an item that is no group
     /// marker.
     ///
@@ -43,13 +39,11 @@ impl AtomicGroupStatus {
         let LogItemContent::Kv(kv) = &item.content else {
             return Ok(None);
         };
-        match marker_byte(kv) {
-            Some(byte) => {
-                let status = AtomicGroupStatus::from_u8(alloc, byte)?;
-                Ok(Some((item.raft_group_id, status)))
-            }
-            None => Ok(None),
-        }
+        let Some(byte) = marker_byte(kv) else {
+            return Ok(None);
+        };
+        let status = AtomicGroupStatus::from_u8(alloc, byte)?;
+        Ok(Some((item.raft_group_id, status)))
     }
 
     fn from_u8(alloc: Global, byte: u8) -> Result<AtomicGroupStatus>
@@ -65,15 +59,10 @@ impl AtomicGroupStatus {
             )?)),
         }
     }
-
-    pub(crate) fn to_u8(self) -> u8
-        ensures { result ≡ status_byte self }
-    {
-        self as u8
-    }
 }
 
 /// Tests whether this key is kept for the group markers. Key values under it never reach a table.
+#[tactic(auto, using(crate::proofs::GroupLemmas::reserved_by))]
 pub fn is_reserved(key: &[u8]) -> bool
     ensures meaning { IsTrue result ↔ (key.now ≡ reserved_key) }
     ensures value { result ≡ is_reserved key.now }
@@ -190,7 +179,7 @@ impl AtomicGroupBuilder {
     {
         let alloc = log_batch.allocator();
         let key = Vec::from_slice(alloc, &ATOMIC_GROUP_KEY)?;
-        let value = Vec::from_slice(alloc, &[status.to_u8()])?;
+        let value = Vec::from_slice(alloc, &[status as u8])?;
         log_batch.put_unchecked(self.id, key, value)?;
         self.status = Some(status);
         Ok(())

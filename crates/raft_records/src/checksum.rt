@@ -1,8 +1,7 @@
 //! Checksums that follow their bytes.
 
 ghost use Rattle.std.specs.Prelude.{◌≡◌, List, ℕ, length, IfOk, IfErr};
-ghost use Rattle.byteorder.specs.Endian.{little_bytes};
-ghost use Rattle.raft_records.specs.ItemBatch.{signed_crc, HasSeal, IsSealFault};
+ghost use Rattle.raft_records.specs.Common.{little_bytes, signed_crc, HasSeal, IsSealFault};
 
 use raft_base::{Error, Result};
 use raft_checksum::crc32;
@@ -12,8 +11,8 @@ use std::alloc::Global;
 /// How many bytes a checksum takes.
 pub(crate) const LOG_BATCH_CHECKSUM_LEN: usize = 4;
 
-/// Returns what stands before the checksum at the end of `bytes`, which is that of all before it, xored with
-/// the signature if there is one. `Corruption` where it isn't, or where nothing stands before it.
+/// Returns what stands before the checksum at the end of `bytes`.
+#[tactic(auto, using(crate::proofs::SealLemmas::not_sealed, crate::proofs::SealLemmas::sealed_by, crate::proofs::SealLemmas::checksum_fault))]
 pub(crate) fn verify_checksum(alloc: Global, bytes: &[u8], signature: Option<u32>) -> Result<&[u8]>
     ensures ok { IfOk result (λ content. HasSeal signature bytes.now content.now) }
     ensures refused { IfErr result (λ e. (content : List ℕ) → HasSeal signature bytes.now content →
@@ -48,8 +47,7 @@ fn checksum_of(seal: &[u8]) -> u32
     }
 }
 
-/// Returns a checksum xored with the signature, if there is one: as it is written, or, of one that was written,
-/// as it was before.
+/// Signs a checksum, or takes the signature off one that was signed.
 pub(crate) fn sign(checksum: u32, signature: Option<u32>) -> u32
     ensures { result ≡ signed_crc signature checksum }
 {

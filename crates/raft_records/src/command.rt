@@ -1,17 +1,11 @@
 //! Commands on a region's log.
 
 ghost use Rattle.std.specs.Prelude.{◌≡◌, ◌∷◌, ◌++◌, IfOk, IfErr, OnOk, OnErr};
-ghost use Rattle.raft_codec.specs.Reading.{Reads, HasNoFront};
-ghost use Rattle.raft_codec.specs.Varint.{varint};
-ghost use Rattle.raft_records.specs.Grammar.{IsCommand};
-ghost use Rattle.raft_records.specs.Faults.{IsCommandFault};
-ghost use Rattle.raft_records.specs.Sizes.{command_size};
-ghost use Rattle.raft_records.specs.Spelling.{command_bytes};
+ghost use Rattle.raft_records.specs.Common.{Reads, HasNoFront, varint, IsCommand, IsCommandFault, command_size, command_bytes};
 
 use crate::number::append_number;
 use raft_base::{AllocResult, Error, Result};
-use raft_codec::codec;
-use raft_codec::codec::BytesSlice;
+use raft_codec::codec::{self, BytesSlice};
 use std::alloc::Global;
 
 const CMD_CLEAN: u8 = 1;

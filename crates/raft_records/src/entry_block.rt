@@ -1,8 +1,7 @@
 //! Entry blocks in parts of files, and the bytes of single entries.
 
 ghost use Rattle.std.specs.Prelude.{◌≡◌, ◌+◌, ◌-◌, ◌<◌, ◌≤◌, ℕ, List, length, take, drop, IfOk, IfErr, OnOk, OnErr, MatchOption};
-ghost use Rattle.raft_records.specs.Faults.{IsAnyCorruption};
-ghost use Rattle.raft_records.specs.EntryBlock.{IsPlaceIn, HasEntryBlock, IsBlockFault};
+ghost use Rattle.raft_records.specs.Common.{IsAnyCorruption, IsPlaceIn, HasEntryBlock, IsBlockFault};
 
 use crate::FilePart;
 use crate::header::lent_entry_block;
@@ -45,11 +44,7 @@ fn bytes_from(part: &FilePart, place: FileBlockHandle) -> Option<&[u8]>
         return None;
     }
     let (_, rest) = bytes.split_at(begin as usize);
-    if place.len > rest.len() {
-        None
-    } else {
-        Some(rest)
-    }
+    (place.len <= rest.len()).then_some(rest)
 }
 
 /// Returns the bytes of an entry in the entry bytes of its block, as [`entries_block_in`] lends them or

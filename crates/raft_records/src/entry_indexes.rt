@@ -1,22 +1,15 @@
 //! Where the entries of a region's log stand.
 
 ghost use Rattle.std.specs.Prelude.{◌≡◌, ◌≢◌, ◌↔◌, ◌-◌, ◌^◌, ◌<◌, ◌≤◌, ◌++◌, map, length, Some, IsTrue, IfOk, IfErr, IfSome, OnOk, OnErr, OnSome, ℕ};
-ghost use Rattle.raft_codec.specs.Reading.{Reads, HasNoFront};
-ghost use Rattle.raft_records.specs.Grammar.{IsEntries, IsTail, end_behind, tail_of};
-ghost use Rattle.raft_records.specs.Faults.{IsEntriesFault, IsTailFault, IsEntriesRefusal};
-ghost use Rattle.raft_records.specs.Entries.{RunOn, AreWritable, entry_between};
-ghost use Rattle.raft_codec.specs.Varint.{varint};
-ghost use Rattle.raft_records.specs.ItemBatch.{raised_entry, CanRaise};
-ghost use Rattle.raft_records.specs.Sizes.{entries_size, at_most_usize};
-ghost use Rattle.raft_records.specs.Spelling.{Keeps, tails_bytes, entries_bytes};
+ghost use Rattle.raft_records.specs.Common.{Reads, HasNoFront, IsEntries, IsTail, end_behind, tail_of, IsEntriesFault, IsTailFault, IsEntriesRefusal, RunOn, AreWritable, entry_between, varint, raised_entry, CanRaise, entries_size};
+ghost use Rattle.raft_records.specs.Common.{at_most_usize, Keeps, tails_bytes, entries_bytes};
 
 use crate::number::append_number;
 use crate::read_batch::items::read_entries;
 use raft_base::{
     AllocResult, CompressionType, EntryIndex, Error, FileBlockHandle, Result, is_consecutive,
 };
-use raft_codec::codec;
-use raft_codec::codec::BytesSlice;
+use raft_codec::codec::{self, BytesSlice};
 use std::alloc::Global;
 
 fn runs_on(entries: &[EntryIndex]) -> bool
@@ -115,7 +108,6 @@ impl EntryIndexes {
         Ok(())
     }
 
-    /// Appends the entries' bytes. On `Err` some bytes may follow those of the vector.
     pub(crate) fn write(&self, buf: &mut Vec<u8>) -> AllocResult<()>
         ensures ok { OnOk result (buf.new.items ≡ buf.old.items ++ entries_bytes self.now.0.items) }
         ensures err { OnErr result (Keeps buf.old.items buf.new.items) }
@@ -170,16 +162,15 @@ fn append_run(buf: &mut Vec<u8>, first: u64, entries: &[EntryIndex]) -> AllocRes
     Ok(())
 }
 
-/// Returns where an entry's bytes end, counted from the first entry byte of the batch.
 pub(crate) fn tail_offset(entry: &EntryIndex) -> u64
     ensures { result ≡ tail_of entry.now }
 {
     u64::from(entry.entry_offset) + u64::from(entry.entry_len)
 }
 
-/// Returns the tail offset of an entry whose bytes begin at `offset`, and what follows it, where it takes four
-/// bytes at most, as most do, and `bounded` tells that no index is 2^64 - 1. Else nothing is said.
+/// Returns nothing too where the offset takes more than four bytes, or an index may be 2^64 - 1: where not `bounded`.
 #[inline(always)]
+#[tactic(auto, using(crate::proofs::EntryLemmas::tail_read, raft_codec::proofs::VarintLemmas::short_below, raft_codec::proofs::VarintLemmas::short_is_read))]
 pub(crate) fn short_tail(bytes: &[u8], offset: u32, bounded: bool) -> Option<(u32, &[u8])>
     ensures read { IfSome result (λ read. (index : ℕ) → index < 2 ^ 64 - 1 →
         Reads (IsTail (index, offset)) bytes.now read.1.now (entry_between index offset read.0)) }
@@ -193,8 +184,8 @@ pub(crate) fn short_tail(bytes: &[u8], offset: u32, bounded: bool) -> Option<(u3
     }
 }
 
-/// Returns the tail offset of the entry `index`, whose bytes begin at `offset`, and what follows it.
 #[inline(never)]
+#[tactic(auto, using(crate::proofs::EntryLemmas::tail_read))]
 pub(crate) fn parse_tail(
     alloc: Global,
     bytes: &[u8],

@@ -1,11 +1,7 @@
 //! Parts of files, and the batches in them.
 
 ghost use Rattle.std.specs.Prelude.{◌≡◌, ◌≢◌, ◌+◌, ◌^◌, ◌<◌, ◌≤◌, length, take, drop, IfOk, IfErr, IfSome, OnOk, OnErr, MatchOption};
-ghost use Rattle.raft_codec.specs.Reading.{HasNoFront};
-ghost use Rattle.raft_base.specs.Signature.{signature_in, signature_of};
-ghost use Rattle.raft_records.specs.FilePart.{IsPartRefusal, part_of, IsNext, IsNextFault, AreBatchesUpTo};
-ghost use Rattle.raft_records.specs.DecodedIn.{AreDecodedIn};
-ghost use Rattle.raft_records.specs.LogBatch.{IsReadable};
+ghost use Rattle.raft_records.specs.Common.{HasNoFront, signature_in, signature_of, IsPartRefusal, part_of, IsNext, IsNextFault, AreBatchesUpTo, AreDecodedIn, IsReadable};
 
 use crate::{LogItemBatch, ReadBatch};
 use bytes::Bytes;
@@ -192,6 +188,7 @@ pub fn next_in(
 /// Returns how many bytes of the part, from its first on, are readable batches, one after the other, and why
 /// the batch there can't be read; no reason where that is the end of the part. So a torn tail of a file begins
 /// there. After the reason `Memory` more of the part may be readable.
+#[tactic(auto, using(crate::proofs::PartLemmas::batch_inside, crate::proofs::PartLemmas::one_batch_more))]
 pub fn readable_front(part: &FilePart) -> (usize, Option<Error>)
     ensures readable { AreBatchesUpTo part.now result.0 }
     ensures whole { MatchOption result.1 (result.0 ≡ length part.now.bytes)

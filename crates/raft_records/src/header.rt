@@ -1,15 +1,8 @@
 //! What stands around the items of a log batch: its header, and its entry block.
 
 ghost use Rattle.std.specs.Prelude.{◌≡◌, ◌≢◌, ℕ, ◌+◌, ◌≤◌, ◌<◌, ◌^◌, List, ◌++◌, [], length, take, drop, IfOk, IfErr, OnOk, OnErr};
-ghost use Rattle.raft_codec.specs.Reading.{Reads, HasNoFront};
-ghost use Rattle.raft_codec.specs.Fixed.{IsBig};
-ghost use Rattle.raft_base.specs.declared.compression_type.CompressionType.TheVariants as compressions;
-ghost use Rattle.raft_records.specs.Header.{IsHeader, IsHeaderFault, IsEntryBlockOf, IsLentBlockFault};
-ghost use Rattle.raft_records.specs.LogBatch.{header_bytes, entry_block, item_offset, encoded, encoded_length, log_batch_bytes};
-ghost use Rattle.raft_records.specs.Buffer.{IsUnsealed, IsHeld, entry_bytes_in};
-ghost use Rattle.raft_records.specs.ItemBatch.{IsEncoded, item_batch_bytes, checksum_bytes};
-ghost use Rattle.raft_base.specs.Signature.{signature_of};
-ghost use Rattle.raft_records.specs.Spelling.{Keeps};
+ghost use Rattle.raft_records.specs.Common.{Reads, HasNoFront, IsBig, IsHeader, IsHeaderFault, IsEntryBlockOf, IsLentBlockFault, header_bytes, entry_block, item_offset, encoded, encoded_length, log_batch_bytes, IsUnsealed, IsHeld};
+ghost use Rattle.raft_records.specs.Common.{entry_bytes_in, IsEncoded, item_batch_bytes, checksum_bytes, signature_of, Keeps, uncompressed};
 
 use crate::LogItemBatch;
 use crate::checksum::{LOG_BATCH_CHECKSUM_LEN, verify_checksum};
@@ -25,8 +18,7 @@ pub(crate) const LOG_BATCH_HEADER_LEN: usize = 16;
 /// The least length in bytes that a batch may not have.
 const LENGTH_LIMIT: u64 = 1 << 56;
 
-/// Returns the header in front of `bytes`, as the offset of the item batch, the compression type and the length
-/// of the batch, and what follows it. Success takes no memory.
+/// Returns the offset of the item batch, the compression type, the length of the batch, and what follows the header.
 #[tactic(auto, using(crate::proofs::HeaderLemmas::header_read, crate::proofs::HeaderLemmas::too_short_for_header))]
 pub(crate) fn parse_header(
     alloc: Global,
@@ -71,7 +63,7 @@ fn parse_u64(bytes: &[u8]) -> (u64, &[u8])
 fn write_header(buf: &mut [u8], offset: usize, len: usize)
     requires room { 16 ≤ length buf.old }
     requires fits { len < 2 ^ 56 }
-    ensures { buf.new ≡ header_bytes offset compressions.None len ++ drop 16 buf.old }
+    ensures { buf.new ≡ header_bytes offset uncompressed len ++ drop 16 buf.old }
 {
     let compression_type = CompressionType::None.to_u8();
     BigEndian::write_u64(buf, len as u64 * 256 + u64::from(compression_type));
@@ -114,8 +106,6 @@ pub(crate) fn offset_behind(entries_size: u32) -> usize
     }
 }
 
-/// Returns the entry bytes in the entry block of `len` bytes in front of `bytes`, as they stand there; one of
-/// length 0 holds none. Success takes no memory.
 pub(crate) fn lent_entry_block(alloc: Global, bytes: &[u8], len: usize) -> Result<&[u8]>
     ensures ok { IfOk result (λ entries. IsEntryBlockOf len bytes.now entries.now) }
     ensures refused { OnErr result ((entries : List ℕ) → IsEntryBlockOf len bytes.now entries → ⊥) }
@@ -133,8 +123,8 @@ pub(crate) fn lent_entry_block(alloc: Global, bytes: &[u8], len: usize) -> Resul
     verify_checksum(alloc, block, None)
 }
 
-/// Writes the bytes of a batch around the entry bytes that follow the header's sixteen. `Full` where they would
-/// be 2^56 or more. On `Err` some bytes may follow those of the buffer.
+/// Writes the bytes of a batch around the entry bytes that follow the header's sixteen.
+#[tactic(auto, using(crate::proofs::BufferLemmas::closed_keeps, crate::proofs::BufferLemmas::behind_keeps))]
 pub(crate) fn encode_behind(buf: &mut Vec<u8>, item_batch: &mut LogItemBatch) -> Result<()>
     requires room { 16 ≤ length buf.old.items }
     requires some { item_batch.old ≢ [] }

@@ -1,20 +1,12 @@
 //! Key values of a region.
 
-ghost use Rattle.std.specs.Prelude.{◌≡◌, ◌≢◌, ◌↔◌, ◌<◌, ◌^◌, ◌++◌, length, None, IsTrue, IfOk, IfErr, OnOk, OnErr};
-ghost use Rattle.std.specs.Option.{option_map};
-ghost use Rattle.raft_codec.specs.Reading.{Reads, HasNoFront};
-ghost use Rattle.raft_records.specs.Grammar.{IsByteString, IsKeyValue};
-ghost use Rattle.raft_records.specs.Item.{pair_of};
-ghost use Rattle.raft_records.specs.Faults.{IsByteStringFault, IsKeyValueFault, IsOpTypeFault, IsPairRefusal};
-ghost use Rattle.raft_records.specs.Range.{HasLength};
-ghost use Rattle.raft_records.specs.ReadWords.{change_of};
-ghost use Rattle.raft_records.specs.Sizes.{pair_size, at_most_usize};
-ghost use Rattle.raft_records.specs.Spelling.{Keeps, byte_string, pair_bytes, IsWritablePair};
+ghost use Rattle.std.specs.Prelude.{◌≡◌, ◌≢◌, ◌↔◌, ◌<◌, ◌++◌, length, None, IsTrue, IfOk, IfErr, OnOk, OnErr};
+ghost use Rattle.raft_records.specs.Common.{option_map, Reads, HasNoFront, IsByteString, IsKeyValue, pair_of, IsByteStringFault, IsKeyValueFault, IsOpTypeFault, IsPairRefusal, change_of, pair_size, at_most_usize, Keeps, byte_string};
+ghost use Rattle.raft_records.specs.Common.{pair_bytes, IsWritablePair, op_type_byte};
 
 use crate::number::append_number;
 use raft_base::{AllocResult, Error, FileId, Result};
-use raft_codec::codec;
-use raft_codec::codec::BytesSlice;
+use raft_codec::codec::{self, BytesSlice};
 use std::alloc::Global;
 
 /// What is done to a key.
@@ -27,8 +19,6 @@ pub enum OpType {
 }
 
 impl OpType {
-    ghost use Rattle.raft_records.specs.Grammar.{op_type_byte};
-
     /// Returns the op type that a byte stands for.
     ///
     /// # Errors
@@ -98,21 +88,8 @@ impl KeyValue {
             Some(value) => value.len(),
             None => 0,
         };
-        self.key
-            .len()
-            .saturating_add(value)
-            .saturating_add(1 + 8 + 8)
-    }
-
-    /// States that the lengths of key and value are below 2^64. This is a law: it computes nothing.
-    pub(crate) fn lengths_fit(&self)
-        ensures key { length self.now.key.items < 2 ^ 64 }
-        ensures value { HasLength (pair_of self.now).value }
-    {
-        let _key = self.key.len();
-        if let Some(value) = &self.value {
-            let _value = value.len();
-        }
+        let key = self.key.len();
+        key.saturating_add(value).saturating_add(1 + 8 + 8)
     }
 
     pub(crate) fn is_writable(&self) -> bool
@@ -165,6 +142,7 @@ impl KeyValue {
     /// `Codec` where the bytes end early or a number is malformed; `Corruption` for an unknown type of
     /// change, and where a key or a value is longer than what is left; `Memory`. The slice is then as
     /// it was.
+    #[tactic(auto, using(crate::proofs::ItemLemmas::no_room_for_pair))]
     pub fn decode(alloc: Global, buf: &mut BytesSlice<'_>) -> Result<KeyValue>
         ensures ok { IfOk result (λ kv. Reads IsKeyValue buf.old.now buf.new.now (pair_of kv)) }
         ensures err { OnErr result (buf.new.now ≡ buf.old.now) }
@@ -177,7 +155,6 @@ impl KeyValue {
         Ok(kv)
     }
 
-    /// Returns a put of this value, or a removal where there is none.
     #[inline(always)]
     pub(crate) fn copied(
         alloc: Global,
@@ -233,6 +210,7 @@ fn append_byte_string(buf: &mut Vec<u8>, text: &[u8]) -> AllocResult<()>
     buf.extend_from_slice(text)
 }
 
+#[tactic(auto, using(crate::proofs::ItemLemmas::text_read))]
 fn parse_byte_string(alloc: Global, bytes: &[u8]) -> Result<(&[u8], &[u8])>
     ensures ok { IfOk result (λ read. Reads IsByteString bytes.now read.1.now read.0.now) }
     ensures refused { OnErr result (HasNoFront IsByteString bytes.now) }

@@ -1,26 +1,10 @@
 //! Laws of log batches: what their bytes are read as. Each is a function with an empty body.
 
-ghost use Rattle.std.specs.Prelude.{◌≡◌, ◌≢◌, ◌↔◌, ℕ, ◌+◌, ◌%◌, ◌^◌, ◌<◌, List, [], ◌++◌, map, drop, Option, Some, None};
-ghost use Rattle.raft_base.specs.declared.pipe_log.Version.TheVariants.{V2};
-ghost use Rattle.raft_codec.specs.Reading.{HasNoFront, HasOneFront};
-ghost use Rattle.raft_base.specs.Signature.{signature_in};
-ghost use Rattle.raft_base.specs.declared.pipe_log.FileBlockHandle.{FileBlockHandle};
-ghost use Rattle.raft_base.specs.declared.compression_type.CompressionType.{CompressionType};
-ghost use Rattle.raft_base.specs.declared.entry_index.EntryIndex.{EntryIndex};
-ghost use Rattle.raft_base.specs.Runs.{IsConsecutive};
-ghost use Rattle.raft_base.specs.declared.compression_type.CompressionType.TheVariants as compressions;
-ghost use Rattle.raft_records.specs.declared.command.Command.{Command};
-ghost use Rattle.raft_records.specs.FilePart.{Part, IsNext, WrittenBatchStands};
-ghost use Rattle.raft_records.specs.Item.{Item, bare, Pair, bare_entry, bare_pair, entries, command, pair, AreInBytes};
-ghost use Rattle.raft_records.specs.ItemBatch.{placed_item, IsItemBatch};
-ghost use Rattle.raft_records.specs.LogBatch.{IsBatchOf, IsLogBatch, IsReadable, encoded_length, entry_place, log_batch_bytes};
-ghost use Rattle.raft_records.specs.Header.{IsHeader, IsEntryBlockOf};
-ghost use Rattle.raft_records.specs.Range.{AreInRange, IsContentInRange};
-ghost use Rattle.raft_records.specs.Framing.{IsFramed, IsFramedWith, LogBatchIsSpelled};
-ghost use Rattle.raft_records.specs.Grammar.{IsCommand, IsEntries, IsItem, IsKeyValue};
-ghost use Rattle.raft_records.specs.Entries.{Tile};
-ghost use Rattle.raft_records.specs.Spelling.{IsWritablePair, command_bytes, entries_bytes, pair_bytes};
-ghost use Rattle.raft_records.specs.Written.{ItemIsSpelled, ItemBatchIsSpelled};
+ghost use Rattle.std.specs.Prelude.{◌≡◌, ◌≢◌, ◌↔◌, ℕ, ◌+◌, ◌%◌, ◌^◌, ◌<◌, List, [], ◌++◌, map, drop, Option, Some};
+ghost use Rattle.raft_records.specs.Common.{V2, HasNoFront, HasOneFront, signature_in, FileBlockHandle, CompressionType, EntryIndex, IsConsecutive, Command, Part, IsNext, WrittenBatchStands, Item, bare, Pair, bare_entry, bare_pair};
+ghost use Rattle.raft_records.specs.Common.{entries, command, pair, AreInBytes, placed_item, IsItemBatch, IsBatchOf, IsLogBatch, IsReadable, encoded_length, entry_place, log_batch_bytes, IsHeader, IsEntryBlockOf, AreInRange};
+ghost use Rattle.raft_records.specs.Common.{IsContentInRange, IsFramed, IsFramedWith, LogBatchIsSpelled, IsCommand, IsEntries, IsItem, IsKeyValue, Tile, IsWritablePair, command_bytes, entries_bytes, pair_bytes, ItemIsSpelled};
+ghost use Rattle.raft_records.specs.Common.{ItemBatchIsSpelled, uncompressed};
 
 /// States that what is written of an item is a spelling of it, and that no spelling of an item begins another;
 /// so it is read again, whatever follows it. What is written and signed of a batch is an item batch of its
@@ -115,7 +99,7 @@ pub fn written_batches_are_next()
         ≡ log_batch_bytes (signature_in part.version part.id.seq) items entry_bytes ++ rest →
         IsNext part at answer →
         answer ≡ Some (
-          map (placed_item (entry_place handle entry_bytes) compressions.None) items,
+          map (placed_item (entry_place handle entry_bytes) uncompressed) items,
           at + encoded_length items entry_bytes,
         ) }
     ensures accepted { (part : Part) (at : ℕ) (items : List Item) (entry_bytes rest : List ℕ) →
@@ -129,7 +113,7 @@ pub fn written_batches_are_next()
 
 /// States that what is read of a written batch is what the batch holds once the write has given its items their
 /// places.
-#[tactic(auto, using(crate::proofs::ReadPlaceLemmas::items_read))]
+#[tactic(auto, using(crate::proofs::RangeLemmas::items_read))]
 pub fn placed_items_are_read()
     ensures { (handle : FileBlockHandle) (compression : CompressionType) (items : List Item) →
         AreInBytes items →

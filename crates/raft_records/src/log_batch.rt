@@ -1,18 +1,9 @@
 //! Batches of log items with the bytes of their entries.
 
 ghost use Rattle.std.specs.Prelude.{◌≡◌, ◌≢◌, ℕ, ◌+◌, ◌-◌, ◌^◌, ◌<◌, ◌≤◌, ◌↔◌, List, [], length, map, IfOk, IfErr, OnOk, OnErr, IsTrue, Option, Some, None};
-ghost use Rattle.raft_codec.specs.Reading.{Reads, HasNoFront};
-ghost use Rattle.raft_base.specs.Signature.{signature_of};
-ghost use Rattle.std.specs.Vec.Iter.{into_iter_items, into_iter_len};
-ghost use Rattle.raft_base.specs.declared.compression_type.CompressionType.TheVariants as compressions;
-ghost use Rattle.raft_records.specs.Item.{bare, command_item, item_of, pair_item, AreInBytes};
-ghost use Rattle.raft_records.specs.LogBatch.{is_open, encoded, sealed, IsSealedStage, empty_batch, with_item, IsBatchOf, encoded_length, log_batch_bytes, IsLogBatch, approximate_length, entry_place};
-ghost use Rattle.raft_records.specs.Sizes.{HaveSmallNumbers};
-ghost use Rattle.raft_records.specs.Range.{AreInRange};
-ghost use Rattle.raft_records.specs.Header.{IsHeader, IsHeaderFault, IsEntryBlockOf, IsEntryBlockFault};
-ghost use Rattle.raft_records.specs.declared.key_value.OpType.TheVariants.{Put, Del};
-ghost use Rattle.raft_records.specs.Group.{reserved_key, IsKeyRefusal, IsMessageRefusal};
-ghost use Rattle.raft_records.specs.ItemBatch.{placed_item};
+ghost use Rattle.raft_records.specs.Common.{Reads, HasNoFront, signature_of, into_iter_items, into_iter_len, bare, command_item, item_of, pair_item, AreInBytes, is_open, encoded, sealed, IsSealedStage, empty_batch, with_item, IsBatchOf};
+ghost use Rattle.raft_records.specs.Common.{encoded_length, log_batch_bytes, IsLogBatch, approximate_length, entry_place, HaveSmallNumbers, AreInRange, IsHeader, IsHeaderFault, IsEntryBlockOf, IsEntryBlockFault, Put, Del, reserved_key};
+ghost use Rattle.raft_records.specs.Common.{IsKeyRefusal, IsMessageRefusal, placed_item, stage_number, AreEqual, partial_equiv_from_equiv, uncompressed};
 
 use crate::checksum::LOG_BATCH_CHECKSUM_LEN;
 use crate::header::{
@@ -50,8 +41,6 @@ enum BufState {
 }
 
 impl BufState {
-    ghost use Rattle.std.specs.Prelude.{◌≡◌, ◌↔◌, IsTrue};
-    ghost use Rattle.raft_records.specs.LogBatch.{stage_number};
     ghost use Rattle.raft_records.specs.LogBatchModel.{stage_of};
 
     fn is_same_stage(self, other: BufState) -> bool
@@ -116,7 +105,6 @@ impl LogBatch {
         })
     }
 
-    /// Returns the allocator that the batch was made with.
     pub(crate) fn allocator(&self) -> Global {
         *self.buf.allocator()
     }
@@ -233,6 +221,7 @@ impl LogBatch {
 
     /// Signs the bytes of a batch that is no longer open for a file. It may be repeated for other
     /// files, and takes no memory.
+    #[tactic(auto, using(crate::proofs::StageLemmas::held_unsigned, crate::proofs::StageLemmas::made_of))]
     pub fn prepare_write(&mut self, context: &LogFileContext)
         requires { self.old.stage ≢ is_open }
         ensures { self.new ≡ record self.old { stage = sealed (signature_of context.now) } }
@@ -389,7 +378,7 @@ impl LogBatch {
         requires sealed { IsSealedStage self.old.stage }
         requires offset { handle.offset ≤ 2 ^ 64 - 17 }
         ensures placed { self.new ≡ record self.old {
-          items = map (placed_item (entry_place handle self.old.entry_bytes) compressions.None)
+          items = map (placed_item (entry_place handle self.old.entry_bytes) uncompressed)
               self.old.items;
         } }
         ensures bytes { (signature : Option ℕ) →
@@ -402,6 +391,29 @@ impl LogBatch {
             len: offset_behind(self.item_batch.entries_size()) - LOG_BATCH_HEADER_LEN,
         };
         self.item_batch.place(entry_place, CompressionType::None);
+    }
+
+    /// Returns a batch of the same items and entry bytes at the same stage.
+    ///
+    /// # Errors
+    ///
+    /// `Memory`.
+    pub fn clone(&self) -> Result<LogBatch>
+        ensures ok { IfOk result (λ copy. copy ≡ self.now) }
+        ensures memory { IfErr result (λ e. e ≡ Error.Memory) }
+    {
+        Ok(<LogBatch as Clone>::clone(self)?)
+    }
+
+    fn entry_bytes(&self) -> &[u8]
+        ensures { result.now ≡ self.now.entry_bytes }
+    {
+        let end = LOG_BATCH_HEADER_LEN + self.item_batch.entries_size() as usize;
+        if self.buf.len() < end {
+            &[]
+        } else {
+            &self.buf[LOG_BATCH_HEADER_LEN..end]
+        }
     }
 }
 
@@ -420,10 +432,6 @@ fn refuse_reserved(key: &Vec<u8>) -> Result<()>
 /// A batch is ready once it is no longer open. Its bytes are signed for the file that they are asked
 /// for.
 impl ReactiveBytes for LogBatch {
-    ghost use Rattle.std.specs.Prelude.{◌≢◌};
-    ghost use Rattle.raft_base.specs.Signature.{signature_of};
-    ghost use Rattle.raft_records.specs.LogBatch.{is_open, log_batch_bytes};
-
     ghost is_ready = { λ batch. batch.stage ≢ is_open };
 
     ghost bytes_in = { λ batch context.
@@ -440,9 +448,6 @@ impl ReactiveBytes for LogBatch {
 }
 
 impl PartialEq for LogBatch {
-    ghost use Rattle.std.specs.Prelude.{◌≡◌, ◌↔◌, IsTrue};
-    ghost use Rattle.std.specs.Cmp.{partial_equiv_from_equiv};
-    ghost use Rattle.raft_records.specs.LogBatch.{AreEqual};
     ghost use Rattle.raft_records.specs.Same.{same_batch};
     ghost use Rattle.raft_records.specs.SameLaws.{same_batch_is_equivalence};
 
@@ -469,8 +474,6 @@ impl Eq for LogBatch {
 }
 
 impl Clone for LogBatch {
-    ghost use Rattle.std.specs.Prelude.{◌≡◌};
-
     ghost is_clone = { λ batch copy. copy ≡ batch };
 
     /// Returns a batch of the same items and entry bytes at the same stage. There may be no memory for it.
@@ -480,30 +483,5 @@ impl Clone for LogBatch {
             state: self.state,
             buf: self.buf.clone()?,
         })
-    }
-}
-
-impl LogBatch {
-    /// Returns a batch of the same items and entry bytes at the same stage.
-    ///
-    /// # Errors
-    ///
-    /// `Memory`.
-    pub fn clone(&self) -> Result<LogBatch>
-        ensures ok { IfOk result (λ copy. copy ≡ self.now) }
-        ensures memory { IfErr result (λ e. e ≡ Error.Memory) }
-    {
-        Ok(<LogBatch as Clone>::clone(self)?)
-    }
-
-    fn entry_bytes(&self) -> &[u8]
-        ensures { result.now ≡ self.now.entry_bytes }
-    {
-        let end = LOG_BATCH_HEADER_LEN + self.item_batch.entries_size() as usize;
-        if self.buf.len() < end {
-            &[]
-        } else {
-            &self.buf[LOG_BATCH_HEADER_LEN..end]
-        }
     }
 }

@@ -1,23 +1,14 @@
 //! Items: what is said of one region.
 
 ghost use Rattle.std.specs.Prelude.{◌≡◌, ◌≢◌, ◌↔◌, ◌++◌, IsTrue, IfOk, IfErr, OnOk, OnErr};
-ghost use Rattle.std.specs.Option.{option_map};
-ghost use Rattle.raft_codec.specs.Reading.{Reads, HasNoFront};
-ghost use Rattle.raft_records.specs.Grammar.{IsItem, end_of_content};
-ghost use Rattle.raft_records.specs.Item.{item_of, content_of, entries_item, command_item, pair_item};
-ghost use Rattle.raft_records.specs.Faults.{IsItemFault, IsItemRefusal};
-ghost use Rattle.raft_records.specs.ItemBatch.{placed_item, raised_item, CanRaiseContent};
-ghost use Rattle.raft_records.specs.Range.{IsInRange};
-ghost use Rattle.raft_records.specs.ReadWords.{IsChange, content_made};
-ghost use Rattle.raft_records.specs.Sizes.{item_size, at_most_usize};
-ghost use Rattle.raft_records.specs.Spelling.{Keeps, item_bytes, content_bytes, IsWritable};
+ghost use Rattle.raft_records.specs.Common.{option_map, Reads, HasNoFront, IsItem, end_of_content, item_of, content_of, entries_item, command_item, pair_item, IsItemFault, IsItemRefusal, placed_item, raised_item, CanRaiseContent};
+ghost use Rattle.raft_records.specs.Common.{IsInRange, IsChange, content_made, item_size, at_most_usize, Keeps, item_bytes, content_bytes, IsWritable};
 
 use crate::number::append_number;
 use crate::read_batch::items::read_content;
 use crate::{Command, EntryIndexes, KeyValue, OpType, ReadContent};
 use raft_base::{AllocResult, CompressionType, EntryIndex, Error, FileBlockHandle, Result};
-use raft_codec::codec;
-use raft_codec::codec::BytesSlice;
+use raft_codec::codec::{self, BytesSlice};
 use std::alloc::Global;
 
 pub(crate) const TYPE_ENTRIES: u8 = 1;
@@ -138,7 +129,12 @@ impl LogItem {
             LogItemContent::Command(Command::Compact { index } | Command::Truncate { index }) => {
                 let _index = *index;
             }
-            LogItemContent::Kv(kv) => kv.lengths_fit(),
+            LogItemContent::Kv(kv) => {
+                let _key = kv.key.len();
+                if let Some(value) = &kv.value {
+                    let _value = value.len();
+                }
+            }
         }
     }
 
@@ -258,7 +254,6 @@ impl LogItemContent {
     }
 }
 
-/// Returns a content that says the same. A run has these entries.
 fn made_content(
     alloc: Global,
     content: ReadContent<'_>,

@@ -1,27 +1,14 @@
 //! Batches of log items, without entry bytes.
 
 ghost use Rattle.std.specs.Prelude.{◌≡◌, ◌≢◌, ℕ, ◌+◌, ◌^◌, ◌<◌, ◌≤◌, length, Option, List, [], ◌∷◌, ◌++◌, map, Some, None, IfOk, IfErr, IfSome, OnOk, OnErr, ◌↔◌, IsTrue};
-ghost use Rattle.std.specs.Vec.Iter.{into_iter_items, into_iter_len};
-ghost use Rattle.std.specs.Slice.Iter.{iter_rest};
-ghost use Rattle.raft_base.specs.Signature.{signature_of};
-ghost use Rattle.raft_base.specs.Runs.{IsConsecutive};
-ghost use Rattle.raft_records.specs.Grammar.{end_of_content};
-ghost use Rattle.raft_records.specs.DecodedIn.{AreDecodedIn};
-ghost use Rattle.raft_records.specs.Item.{Item, bare, entries, command, content_of, item_of, entries_item, command_item, pair_item, AreInBytes, IsInBytes};
-ghost use Rattle.raft_records.specs.ItemBatch.{IsItemBatch, IsDecoded, IsItemBatchFault, checksum_bytes, item_batch_bytes, placed_item, raised_item, with_offsets_from, entry_lengths, entry_bytes_of, FitsBehind, IsEncoded, no_checksum, FitTogether, first_entry};
-ghost use Rattle.raft_records.specs.Faults.{IsMemoryOrMessage};
-ghost use Rattle.raft_records.specs.Spelling.{Keeps};
-ghost use Rattle.raft_records.specs.Sizes.{item_batch_size, at_most_usize, HaveSmallNumbers};
-ghost use Rattle.raft_records.specs.Range.{AreInRange};
-ghost use Rattle.raft_records.specs.declared.key_value.OpType.TheVariants.{Put, Del};
-
-mod places;
+ghost use Rattle.raft_records.specs.Common.{into_iter_items, into_iter_len, iter_rest, signature_of, IsConsecutive, end_of_content, AreDecodedIn, Item, bare, entries, command, content_of, item_of, entries_item, command_item, pair_item};
+ghost use Rattle.raft_records.specs.Common.{AreInBytes, IsInBytes, IsItemBatch, IsDecoded, IsItemBatchFault, checksum_bytes, item_batch_bytes, placed_item, raised_item, with_offsets_from, entry_lengths, entry_bytes_of, FitsBehind};
+ghost use Rattle.raft_records.specs.Common.{IsEncoded, no_checksum, FitTogether, first_entry, IsMemoryOrMessage, Keeps, item_batch_size, at_most_usize, HaveSmallNumbers, AreInRange, Put, Del, partial_equiv_from_equiv};
 
 use crate::checksum::{LOG_BATCH_CHECKSUM_LEN, sign};
 use crate::number::append_number;
 use crate::{Command, LogItem, LogItemContent, OpType, ReadBatch};
 use byteorder::{ByteOrder, LittleEndian};
-use places::{place_items, raise_item_offsets, set_offsets};
 use raft_base::{
     AllocResult, CompressionType, EntryIndex, Error, FileBlockHandle, FileId, LogFileContext,
     Message, Result,
@@ -229,10 +216,8 @@ impl LogItemBatch {
         ensures memory { IfErr result (λ e. e ≡ Error.Memory) }
     {
         let entries_size = self.entries_size();
-        Ok(self.add(
-            LogItem::new_kv(region, OpType::Del, key, None),
-            entries_size,
-        )?)
+        let item = LogItem::new_kv(region, OpType::Del, key, None);
+        Ok(self.add(item, entries_size)?)
     }
 
     /// Adds a value of a region's key.
@@ -247,10 +232,8 @@ impl LogItemBatch {
         ensures memory { IfErr result (λ e. e ≡ Error.Memory) }
     {
         let entries_size = self.entries_size();
-        Ok(self.add(
-            LogItem::new_kv(region, OpType::Put, key, Some(value)),
-            entries_size,
-        )?)
+        let item = LogItem::new_kv(region, OpType::Put, key, Some(value));
+        Ok(self.add(item, entries_size)?)
     }
 
     /// Adds a message as the value of a region's key.
@@ -311,12 +294,8 @@ impl LogItemBatch {
         ensures emptied { self.new ≡ [] }
     {
         let alloc = *self.items.allocator();
-        let items = mem::replace(&mut self.items, Vec::new(alloc));
-        self.item_size = 0;
-        self.entries_size = 0;
-        self.checksum = None;
-        self.decoded_in = None;
-        items.into_iter()
+        let drained = mem::replace(self, LogItemBatch::default(alloc));
+        drained.into_items().into_iter()
     }
 
     pub(crate) fn place(&mut self, handle: FileBlockHandle, compression_type: CompressionType)
@@ -409,8 +388,6 @@ impl LogItemBatch {
         self
     }
 
-    /// Adds an item whose entries' bytes, if any, begin where those of the batch end, and end at
-    /// `entries_size`.
     #[inline(always)]
     pub(crate) fn add(&mut self, item: LogItem, entries_size: u32) -> AllocResult<()>
         requires fits { FitsBehind (entry_bytes_of self.old) (content_of item.content) }
@@ -429,11 +406,21 @@ impl LogItemBatch {
         self.decoded_in = None;
         Ok(())
     }
+
+    /// Returns a batch of the same items.
+    ///
+    /// # Errors
+    ///
+    /// `Memory`.
+    pub fn clone(&self) -> Result<LogItemBatch>
+        ensures ok { IfOk result (λ copy. copy ≡ self.now) }
+        ensures memory { IfErr result (λ e. e ≡ Error.Memory) }
+    {
+        Ok(<LogItemBatch as Clone>::clone(self)?)
+    }
 }
 
 impl PartialEq for LogItemBatch {
-    ghost use Rattle.std.specs.Prelude.{◌≡◌, ◌↔◌, IsTrue};
-    ghost use Rattle.std.specs.Cmp.{partial_equiv_from_equiv};
     ghost use Rattle.raft_records.specs.Same.{same_items};
     ghost use Rattle.raft_records.specs.SameLaws.{same_items_is_equivalence};
 
@@ -457,28 +444,12 @@ impl Eq for LogItemBatch {
 }
 
 impl Clone for LogItemBatch {
-    ghost use Rattle.std.specs.Prelude.{◌≡◌};
-
     ghost is_clone = { λ batch copy. copy ≡ batch };
 
     /// Returns a batch of the same items. There may be no memory for it.
     fn clone(&self) -> AllocResult<LogItemBatch> {
         let items = self.items.clone()?;
         Ok(LogItemBatch { items, ..*self })
-    }
-}
-
-impl LogItemBatch {
-    /// Returns a batch of the same items.
-    ///
-    /// # Errors
-    ///
-    /// `Memory`.
-    pub fn clone(&self) -> Result<LogItemBatch>
-        ensures ok { IfOk result (λ copy. copy ≡ self.now) }
-        ensures memory { IfErr result (λ e. e ≡ Error.Memory) }
-    {
-        Ok(<LogItemBatch as Clone>::clone(self)?)
     }
 }
 
@@ -494,4 +465,37 @@ fn write_items(buf: &mut Vec<u8>, items: &[LogItem]) -> AllocResult<()>
     }
     buf.extend_from_slice(&[0; LOG_BATCH_CHECKSUM_LEN])?;
     Ok(())
+}
+
+fn place_items(items: &mut Vec<LogItem>, handle: FileBlockHandle, compression_type: CompressionType)
+    ensures { map item_of items.new.items
+        ≡ map (placed_item handle compression_type) (map item_of items.old.items) }
+{
+    for item in items.iter_mut() {
+        item.place(handle, compression_type);
+    }
+}
+
+/// Lays the entries' bytes one after the other from `start` on, and returns where they end.
+fn set_offsets(entries: &mut Vec<EntryIndex>, start: u32) -> u32
+    requires { start + entry_lengths entries.old.items < 2 ^ 32 }
+    ensures offsets { entries.new.items ≡ with_offsets_from start entries.old.items }
+    ensures end { result ≡ start + entry_lengths entries.old.items }
+{
+    let mut offset = start;
+    for entry in entries.iter_mut() {
+        entry.entry_offset = offset;
+        offset += entry.entry_len;
+    }
+    offset
+}
+
+fn raise_item_offsets(items: &mut Vec<LogItem>, by: u32)
+    requires fit { FitTogether 0 (map item_of items.old.items) }
+    requires room { by + entry_bytes_of (map item_of items.old.items) < 2 ^ 32 }
+    ensures { map item_of items.new.items ≡ map (raised_item by) (map item_of items.old.items) }
+{
+    for item in items.iter_mut() {
+        item.raise_offsets(by);
+    }
 }

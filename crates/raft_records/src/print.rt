@@ -1,11 +1,9 @@
 //! Item batches as text.
 
 ghost use Rattle.std.specs.Prelude.{◌≡◌, ◌≢◌, ◌≤◌, ◌++◌, ◌⊎◌, length, take, IfOk, IfErr, IfSome, OnOk, OnErr, map, string_bytes};
+ghost use Rattle.raft_records.specs.Common.{flat_map, signature_of, item_of, content_of, pair_of, bytes_text, entries_text, pair_text, content_text, line_of, last_line, IsTextOf, Prints, IsNoItemBatch, IsPrintFault, IsWriteFailure};
+ghost use Rattle.raft_records.specs.Common.{IsIoError, AppendsFront};
 ghost use Rattle.std.specs.Io.KnownBytes.{Appends, IsAtEnd, Keeps};
-ghost use Rattle.std.specs.List.{flat_map};
-ghost use Rattle.raft_base.specs.Signature.{signature_of};
-ghost use Rattle.raft_records.specs.Item.{item_of, content_of, pair_of};
-ghost use Rattle.raft_records.specs.Lines.{bytes_text, entries_text, pair_text, content_text, line_of, last_line, IsTextOf, Prints, IsNoItemBatch, IsPrintFault, IsWriteFailure, IsIoError, AppendsFront};
 
 use crate::entry_indexes::tail_offset;
 use crate::{Command, KeyValue, LogItem, LogItemBatch, LogItemContent, OpType};
@@ -53,7 +51,7 @@ pub fn print_batch<R: Read, W: Write>(
 ///
 /// `Io` where the writer fails: a front of the bytes, and not all of them, was written then.
 #[doc(hidden)]
-#[tactic(auto, using(crate::proofs::WriteLemmas::written_on))]
+#[tactic(auto, using(crate::proofs::PrintLemmas::written_on))]
 pub fn write_whole<W: Write>(writer: &mut W, bytes: &[u8]) -> Result<()>
     ensures ok { OnOk result (Appends (W.contents writer.old) (W.contents writer.new) bytes.now) }
     ensures err { OnErr result (AppendsFront (W.contents writer.old) (W.contents writer.new)
@@ -76,7 +74,7 @@ pub fn write_whole<W: Write>(writer: &mut W, bytes: &[u8]) -> Result<()>
     }
 }
 
-/// Writes some of these bytes, and returns how many; none where the write was interrupted.
+/// Returns how many of the bytes were written: none where the write was interrupted.
 fn write_some<W: Write>(writer: &mut W, bytes: &[u8]) -> Result<usize>
     ensures bound { IfOk result (λ count. count ≤ length bytes.now) }
     ensures ok { IfOk result
@@ -158,6 +156,7 @@ fn append_content(alloc: Global, content: &LogItemContent, text: &mut String) ->
     }
 }
 
+#[tactic(auto, using(crate::proofs::PrintLemmas::text_by_ends))]
 fn append_entries(entries: &[EntryIndex], text: &mut String) -> AllocResult<()>
     ensures { OnOk result (string_bytes text.new
         ≡ string_bytes text.old ++ entries_text entries.now) }

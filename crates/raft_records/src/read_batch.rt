@@ -1,31 +1,18 @@
 //! Batches as they are read: items over the bytes that they were read of.
 
-ghost use Rattle.std.specs.Prelude.{◌≡◌, ◌≢◌, ℕ, ◌+◌, ◌^◌, ◌<◌, ◌≤◌, List, [], length, drop, IfOk, IfErr, IfNone, OnErr};
-ghost use Rattle.std.specs.Option.{option_map};
-ghost use Rattle.raft_codec.specs.Reading.{HasNoFront};
-ghost use Rattle.raft_base.specs.Signature.{signature_of};
-ghost use Rattle.raft_base.specs.declared.compression_type.CompressionType.TheVariants as compressions;
-ghost use Rattle.raft_records.specs.DecodedIn.{AreDecodedIn};
-ghost use Rattle.raft_records.specs.FilePart.{part_of, IsNext, IsNextFault};
-ghost use Rattle.raft_records.specs.Entries.{Tile};
-ghost use Rattle.raft_records.specs.Grammar.{end_behind};
-ghost use Rattle.raft_records.specs.Item.{Item};
-ghost use Rattle.raft_base.specs.Runs.{entries_of_block};
-ghost use Rattle.raft_base.specs.declared.pipe_log.FileBlockHandle.{FileBlockHandle};
-ghost use Rattle.raft_records.specs.ItemBatch.{IsDecoded, IsItemBatch, IsItemBatchFault};
-ghost use Rattle.raft_records.specs.LogBatch.{IsReadable};
-ghost use Rattle.raft_records.specs.ReadBatch.{items_shown, spans_of};
+ghost use Rattle.std.specs.Prelude.{◌≡◌, ◌≢◌, ℕ, ◌+◌, ◌^◌, ◌<◌, ◌≤◌, List, [], length, drop, IfOk, IfErr, IfNone, OnErr, ◌-◌};
+ghost use Rattle.raft_records.specs.Common.{option_map, HasNoFront, signature_of, AreDecodedIn, part_of, IsNext, IsNextFault, Tile, end_behind, Item, entries_of_block, FileBlockHandle, IsDecoded, IsItemBatch, IsItemBatchFault, IsReadable};
+ghost use Rattle.raft_records.specs.Common.{items_shown, spans_of, uncompressed, AllByRecursion, EntryIndex, IsDecodedIn, item_of, content_of, content_shown, item_shown, spans_taken};
 
 pub(crate) mod items;
-mod kept;
-mod own_items;
-mod short_items;
 
 use crate::checksum::verify_checksum;
 use crate::header::{LOG_BATCH_HEADER_LEN, parse_header};
 use crate::read_batch::items::read_items;
-use crate::{Command, LogItemBatch};
-use raft_base::{Error, FileBlockHandle, FileId, LogFileContext, Result};
+use crate::{Command, EntryIndexes, KeyValue, LogItem, LogItemBatch, LogItemContent};
+use raft_base::{
+    CompressionType, EntryIndex, Error, FileBlockHandle, FileId, LogFileContext, Result,
+};
 use raft_codec::codec;
 use std::alloc::Global;
 use std::marker::Model;
@@ -140,7 +127,6 @@ impl<'a> ReadBatch<'a> {
         Ok(Some(at + len))
     }
 
-    /// Holds no items any more, and keeps the memory.
     fn clear(&mut self)
         ensures { self.new ≡ [] }
     {
@@ -148,9 +134,7 @@ impl<'a> ReadBatch<'a> {
         self.spans.clear();
     }
 
-    /// Reads the item batch that the whole slice is, in the file of `context`, and returns the bytes between the
-    /// last item and the checksum, which are free. The entries are at `place`, the changes of keys in its file.
-    /// On `Err` no items are held.
+    /// Reads the item batch that the whole slice is, and returns the bytes between its last item and the checksum.
     pub(crate) fn read_item_batch(
         &mut self,
         bytes: &'a [u8],
@@ -158,7 +142,7 @@ impl<'a> ReadBatch<'a> {
         context: &LogFileContext,
     ) -> Result<&'a [u8]>
         ensures ok { IfOk result (λ rest. IsDecoded bytes.now (signature_of context.now) place
-            compressions.None self.new rest.now) }
+            uncompressed self.new rest.now) }
         ensures in_file { AreDecodedIn place.id self.new }
         ensures err { OnErr result (self.new ≡ []) }
         ensures refused { IfErr result (λ e. e ≢ Error.Memory → (items : List Item) (rest : List ℕ) →
@@ -183,6 +167,7 @@ impl<'a> ReadBatch<'a> {
 
     /// Returns the place of the entry bytes, the items, and the spans of their runs, those of the first run
     /// first. The entries and the changes of keys are as they may stand in the file of the place.
+    #[tactic(auto, using(crate::proofs::ReadBatchLemmas::shown_in_file))]
     pub fn parts(&self) -> (FileBlockHandle, &[ReadItem<'a>], &[(u32, u32)])
         ensures shown { items_shown result.0 result.1.now result.2.now ≡ self.now }
         ensures spans { spans_of result.1.now ≡ length result.2.now }
@@ -217,7 +202,6 @@ impl<'a> ReadBatch<'a> {
     }
 }
 
-/// Returns where the bytes of the entries in these spans end, which stand after `start` entry bytes.
 fn end_of_spans(spans: &[(u32, u32)], start: u32) -> u32
     requires { (first : ℕ) × (place : FileBlockHandle) × Tile start
         (entries_of_block first place spans.now) }
@@ -228,4 +212,92 @@ fn end_of_spans(spans: &[(u32, u32)], start: u32) -> u32
         Some((offset, len)) => *offset + *len,
         None => start,
     }
+}
+
+impl ReadItem<'_> {
+    /// Returns how many spans the item takes from the front of those that are left in its batch.
+    #[doc(hidden)]
+    pub fn span_count(&self) -> usize
+        ensures { result ≡ spans_taken self.now.content }
+    {
+        match &self.content {
+            ReadContent::Run { count, .. } => *count,
+            _ => 0,
+        }
+    }
+
+    /// Returns an item that says the same, with a key and a value of its own. A run has these spans.
+    ///
+    /// # Errors
+    ///
+    /// `Memory`.
+    #[doc(hidden)]
+    pub fn to_item(
+        &self,
+        alloc: Global,
+        place: FileBlockHandle,
+        spans: &[(u32, u32)],
+    ) -> Result<LogItem>
+        requires { IsDecodedIn place.id (content_shown place self.now.content spans.now) }
+        ensures ok { IfOk result (λ item. item_of item ≡ item_shown place self.now spans.now) }
+        ensures memory { IfErr result (λ e. e ≡ Error.Memory) }
+    {
+        Ok(LogItem {
+            raft_group_id: self.region,
+            content: own_content(alloc, place, &self.content, spans)?,
+        })
+    }
+}
+
+fn own_content(
+    alloc: Global,
+    place: FileBlockHandle,
+    content: &ReadContent<'_>,
+    spans: &[(u32, u32)],
+) -> Result<LogItemContent>
+    requires { IsDecodedIn place.id (content_shown place content.now spans.now) }
+    ensures ok { IfOk result (λ own. content_of own ≡ content_shown place content.now spans.now) }
+    ensures memory { IfErr result (λ e. e ≡ Error.Memory) }
+{
+    match content {
+        ReadContent::Run { first, .. } => {
+            let run = entries_at(alloc, *first, place, spans)?;
+            Ok(LogItemContent::EntryIndexes(EntryIndexes(run)))
+        }
+        ReadContent::Command(command) => Ok(LogItemContent::Command(command.clone()?)),
+        ReadContent::Put { key, value } => {
+            let kv = KeyValue::copied(alloc, key, Some(value), Some(place.id))?;
+            Ok(LogItemContent::Kv(kv))
+        }
+        ReadContent::Delete { key } => {
+            let kv = KeyValue::copied(alloc, key, None, Some(place.id))?;
+            Ok(LogItemContent::Kv(kv))
+        }
+    }
+}
+
+fn entries_at(
+    alloc: Global,
+    first: u64,
+    place: FileBlockHandle,
+    spans: &[(u32, u32)],
+) -> Result<Vec<EntryIndex>>
+    requires { AllByRecursion (λ (e : EntryIndex). e.index < 2 ^ 64 - 1)
+        (entries_of_block first place spans.now) }
+    ensures ok { IfOk result (λ run. run.items ≡ entries_of_block first place spans.now) }
+    ensures memory { IfErr result (λ e. e ≡ Error.Memory) }
+{
+    let mut run = Vec::with_capacity(alloc, spans.len())?;
+    let mut index = first;
+    for &(entry_offset, entry_len) in spans {
+        run.push_reserved(EntryIndex {
+            index,
+            entries: Some(place),
+            compression_type: CompressionType::None,
+            entry_offset,
+            entry_len,
+        });
+        index += 1;
+    }
+    Ok(run)
 }

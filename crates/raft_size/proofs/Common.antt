@@ -1,8 +1,7 @@
 -- What proofs of this crate import of std, of the definitions and of the crates below, in one place.
-pub use Rattle.std.proofs.Common.{Bool, Bor, Err, IfNone, IfSome, List, None, Ok, Option, Result, Some, [], ap, arith, codes, drop, false, get_or, if◌then◌else◌, inl, inr, le-leb, length, lit<}
-pub use Rattle.std.proofs.Common.{lit≤, min, not, refl, rules, subst, suc, sym, take, true, zero-add, ℕ, ◌%◌, ◌&&◌, ◌*◌, ◌++◌, ◌+◌, ◌-◌, ◌/◌, ◌<◌, ◌==◌, ◌^◌, ◌∙◌, ◌∷◌, ◌≡◌, ◌≢◌, ◌≤◌, ◌⊎◌}
-pub use Rattle.std.proofs.Math.Nat.{div-eq_of_lt, div-le_self, div-one, mod-one, mul-div-mul_right, mul-div_cancel, mul-le-mul_left, mul-le-mul_right, mul-one, mul_assoc, one-le-pow}
-pub use Rattle.std.proofs.Math.Nat.{pow-le-pow_right, pow-suc, zero-div, zero-mul}
+pub use Rattle.std.proofs.Common.{Bool, Bor, Err, IfNone, IfSome, List, None, Ok, Option, Result, Some, [], ap, arith, codes, drop, false, get_or, if◌then◌else◌, inl, inr, le-leb, length, lit<, lit≤, min, not, refl, rules, subst, suc, sym}
+pub use Rattle.std.proofs.Common.{take, true, zero-add, ℕ, ◌%◌, ◌&&◌, ◌*◌, ◌++◌, ◌+◌, ◌-◌, ◌/◌, ◌<◌, ◌==◌, ◌^◌, ◌∙◌, ◌∷◌, ◌≡◌, ◌≢◌, ◌≤◌, ◌⊎◌}
+pub use Rattle.std.proofs.Math.Nat.{div-eq_of_lt, div-le_self, div-one, mod-one, mul-div-mul_right, mul-div_cancel, mul-le-mul_left, mul-le-mul_right, mul-one, mul_assoc, one-le-pow, pow-le-pow_right, pow-suc, zero-div, zero-mul}
 pub use Rattle.std.proofs.lemmas.Bool.{and_parts, both_ways, cases_eq, cases_lt, eq-eqb, eqb-false, eqb-true, ne_eqb, not-true}
 pub use Rattle.std.proofs.lemmas.Bool.Decides.{nat_tests}
 pub use Rattle.std.proofs.lemmas.Fmt.{decimal_digit, decimal_is_IsNumeral}
@@ -15,9 +14,12 @@ pub use Rattle.std.proofs.lemmas.Str.Ascii.{IsAscii-cons, IsAscii-nil}
 pub use Rattle.std.proofs.lemmas.Str.Parse.{digit_at, digit_from_value}
 pub use Rattle.std.specs.Bool.{⊤}
 pub use Rattle.std.specs.Char.{digit_value, is_whitespace}
+pub use Rattle.std.specs.Cmp.{unsigned_Decides}
+pub use Rattle.std.specs.Cmp.Lexicographic.{pointwise, pointwise_decides}
 pub use Rattle.std.specs.Fmt.{decimal}
 unfoldable pub use Rattle.std.specs.Fmt.Cut.{cut_to}
 pub use Rattle.std.specs.Fmt.InlineText.{inline_text}
+pub use Rattle.std.specs.Prelude.{nat_eq}
 pub use Rattle.std.specs.Result.{OnOk}
 pub use Rattle.std.specs.Str.{IsAscii, IsNotAscii, drop_trailing_whitespace, encode_utf8_all, skip_leading_whitespace, trim}
 unfoldable pub use Rattle.std.specs.Str.{trim_end, trim_start}

@@ -1,7 +1,7 @@
 -- Lists of digits and the numbers that they make.
-use Rattle.raft_size.proofs.Common.{◌≡◌, ℕ, suc, ◌+◌, ◌-◌, ◌*◌, ◌^◌, ◌<◌, ◌≤◌, min, List, [], ◌∷◌, ◌++◌, length, get_or, take, refl, sym, ap, subst, ◌∙◌, inl, inr, lit≤, arith, digit_value}
-use Rattle.raft_size.proofs.Common.{AllDigits, IsNumeral, digits_value, digits_value_after, cases_lt, cases_eq, eq-eqb, ne_eqb, digits_value-lt, pow-suc, one-le-pow, mul-le-mul_left}
-use Rattle.raft_size.proofs.Common.{mul-le-mul_right, pow-le-pow_right, append-nil, take_more, digit_value_digit, digit_at, digit_from_value, significant, NoDigitFirst}
+use Rattle.raft_size.proofs.Common.{◌≡◌, ℕ, suc, ◌+◌, ◌-◌, ◌*◌, ◌^◌, ◌<◌, ◌≤◌, min, List, [], ◌∷◌, ◌++◌, length, get_or, take, refl, sym, ap, subst, ◌∙◌, inl, inr, lit≤, arith, digit_value, AllDigits, IsNumeral, digits_value}
+use Rattle.raft_size.proofs.Common.{digits_value_after, cases_lt, cases_eq, eq-eqb, ne_eqb, digits_value-lt, pow-suc, one-le-pow, mul-le-mul_left, mul-le-mul_right, pow-le-pow_right, append-nil, take_more, digit_value_digit, digit_at}
+use Rattle.raft_size.proofs.Common.{digit_from_value, significant, NoDigitFirst}
 
 -- one more digit
 value_after-push : (start : ℕ) (ds : List ℕ) (d : ℕ) → digits_value_after 10 start (ds ++ d ∷ []) ≡ digits_value_after 10 start ds * 10 + digit_value d

@@ -1,7 +1,6 @@
 -- The signs and exponents of numbers, as their reader finds them.
-use Rattle.raft_size.proofs.Common.{◌≡◌, ◌≢◌, ◌⊎◌, ℕ, ◌-◌, ◌<◌, ◌≤◌, Bool, true, false, Option, None, Some, IfSome, Bor, List, [], ◌∷◌, ◌++◌, length, get_or, take, drop, refl, sym, ap, subst, ◌∙◌}
-use Rattle.raft_size.proofs.Common.{inl, inr, arith, ⊤, digit_value, IsNumeral, cases_eq, ne_eqb, append_assoc, take_rest, digit_from_value, IsSign, IsPower, IsExponent, has_minus, behind_sign}
-use Rattle.raft_size.proofs.Common.{NoDigitFirst, NoPointFirst}
+use Rattle.raft_size.proofs.Common.{◌≡◌, ◌≢◌, ◌⊎◌, ℕ, ◌-◌, ◌<◌, ◌≤◌, Bool, true, false, Option, None, Some, IfSome, Bor, List, [], ◌∷◌, ◌++◌, length, get_or, take, drop, refl, sym, ap, subst, ◌∙◌, inl, inr, arith, ⊤, digit_value, IsNumeral}
+use Rattle.raft_size.proofs.Common.{cases_eq, ne_eqb, append_assoc, take_rest, digit_from_value, IsSign, IsPower, IsExponent, has_minus, behind_sign, NoDigitFirst, NoPointFirst}
 
 -- ---- signs
 

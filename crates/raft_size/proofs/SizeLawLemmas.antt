@@ -1,27 +1,17 @@
 -- A text stands for one size at most, and then it has no fault.
-use Rattle.raft_size.proofs.Common.{◌≡◌, ℕ, ◌^◌, ◌<◌, ◌==◌, ◌&&◌, Bool, true, false, not, List, [], ◌∷◌, length, get_or, Result, Ok, Err, refl, sym, ap, subst, ◌∙◌, inl, inr, arith, trim}
-use Rattle.raft_size.proofs.Common.{IsNotAscii, eq-eqb, and_parts, both_ways, not-true, ReadableSize, SizeError, Number, digits_of, significant, size_of, size_text, number_text, unit_text}
-use Rattle.raft_size.proofs.Common.{SpellsSize, LacksNumber, HasManyDigits, IsSpellingFault, get_or_past, units, IsAmong, IsUnit, IsReadAs}
+use Rattle.raft_size.proofs.Common.{◌≡◌, ℕ, ◌^◌, ◌<◌, ◌&&◌, Bool, true, not, List, [], ◌∷◌, length, get_or, Result, Ok, Err, refl, sym, ap, subst, ◌∙◌, inl, inr, arith, trim, IsNotAscii, and_parts, both_ways, not-true, ReadableSize}
+use Rattle.raft_size.proofs.Common.{SizeError, Number, digits_of, significant, size_of, size_text, number_text, unit_text, SpellsSize, LacksNumber, HasManyDigits, IsSpellingFault, get_or_past, units, IsAmong, IsUnit, IsReadAs, nat_eq}
+use Rattle.raft_size.proofs.Common.{pointwise, pointwise_decides, unsigned_Decides}
 use Rattle.raft_size.specs.declared.size_text.SizeError.TheVariants as faults
 use Rattle.raft_size.proofs.SizeNumberLemmas.{number_once}
 use Rattle.raft_size.proofs.SizePrintLemmas.{printed_is_size}
 
 -- ---- a unit has one factor
 
-abbrev same : List ℕ → List ℕ → Bool
-same [] [] = true
-same [] (y ∷ ys) = false
-same (x ∷ xs) [] = false
-same (x ∷ xs) (y ∷ ys) = x == y && same xs ys
-
-same_refl : (xs : List ℕ) → same xs xs ≡ true
-same_refl [] = refl
-same_refl (x ∷ xs) = rw (eq-eqb x x refl) (same_refl xs)
-
 -- no row has this key; no two rows have one key
 abbrev is_absent : List ℕ → List (List ℕ × ℕ) → Bool
 is_absent key [] = true
-is_absent key (row ∷ rows) = not (same key row.0) && is_absent key rows
+is_absent key (row ∷ rows) = not (pointwise nat_eq key row.0) && is_absent key rows
 
 abbrev are_apart : List (List ℕ × ℕ) → Bool
 are_apart [] = true
@@ -29,8 +19,10 @@ are_apart (row ∷ rows) = is_absent row.0 rows && are_apart rows
 
 absent : (rows : List (List ℕ × ℕ)) (key : List ℕ) (factor : ℕ) → is_absent key rows ≡ true → IsAmong rows key factor → ⊥
 absent [] key factor h among = among
-absent (row ∷ rows) key factor h (inl here) = both_ways (same key row.0) (not-true (same key row.0) (and_parts (not (same key row.0)) (is_absent key rows) h).0) (subst (λ (k : List ℕ). same key k ≡ true) here.0 (same_refl key))
-absent (row ∷ rows) key factor h (inr there) = absent rows key factor (and_parts (not (same key row.0)) (is_absent key rows) h).1 there
+absent (row ∷ rows) key factor h (inl here) =
+    let test = pointwise nat_eq key row.0 in
+    both_ways test (not-true test (and_parts (not test) (is_absent key rows) h).0) ((pointwise_decides unsigned_Decides key row.0).1 here.0)
+absent (row ∷ rows) key factor h (inr there) = absent rows key factor (and_parts (not (pointwise nat_eq key row.0)) (is_absent key rows) h).1 there
 
 among_once : (rows : List (List ℕ × ℕ)) (key : List ℕ) (f g : ℕ) → are_apart rows ≡ true → IsAmong rows key f → IsAmong rows key g → f ≡ g
 among_once [] key f g h a b = absurd a

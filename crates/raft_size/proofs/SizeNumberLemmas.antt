@@ -1,6 +1,6 @@
 -- A number is spelled in one way, and its reader finds it.
-use Rattle.raft_size.proofs.Common.{◌≡◌, ℕ, ◌+◌, ◌<◌, Bool, Option, None, Some, IfNone, List, [], ◌∷◌, ◌++◌, length, refl, sym, ap, subst, ◌∙◌, inl, inr, arith, AllDigits, append_assoc, Number}
-use Rattle.raft_size.proofs.Common.{IsSign, IsMantissa, IsExponent, IsNumber, has_minus, behind_sign, NoDigitFirst, NoPointFirst, TakesFraction}
+use Rattle.raft_size.proofs.Common.{◌≡◌, ℕ, ◌+◌, ◌<◌, Bool, Option, None, Some, IfNone, List, [], ◌∷◌, ◌++◌, length, refl, sym, ap, subst, ◌∙◌, inl, inr, arith, AllDigits, append_assoc, Number, IsSign, IsMantissa, IsExponent, IsNumber}
+use Rattle.raft_size.proofs.Common.{has_minus, behind_sign, NoDigitFirst, NoPointFirst, TakesFraction}
 use Rattle.raft_size.proofs.SizeDigitLemmas.{digits_front}
 use Rattle.raft_size.proofs.SizeExponentLemmas.{sign_split, NoSignFirst, sign_found, digit_no_sign, exponent_stops, exponent_once}
 

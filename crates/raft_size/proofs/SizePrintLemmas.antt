@@ -1,9 +1,8 @@
 -- What is printed of a size stands for that size.
-use Rattle.raft_size.proofs.Common.{◌≡◌, ◌≢◌, ℕ, ◌-◌, ◌*◌, ◌/◌, ◌%◌, ◌^◌, ◌<◌, ◌≤◌, ◌==◌, min, true, false, List, [], ◌∷◌, ◌++◌, length, take, drop, codes, if◌then◌else◌, refl, sym, ap, subst, ◌∙◌}
-use Rattle.raft_size.proofs.Common.{inl, inr, lit<, arith, rules, ⊤, digit_value, is_whitespace, decimal, IsAscii, encode_utf8_all, trim, trim_start, trim_end, skip_leading_whitespace}
-use Rattle.raft_size.proofs.Common.{drop_trailing_whitespace, AllDigits, digits_value, cases_eq, eq-eqb, ne_eqb, nat_tests, decimal_is_IsNumeral, decimal_digit, append-nil, length-append, take_at}
-use Rattle.raft_size.proofs.Common.{drop_at, div-add-mod', chars-IsAscii, encodes-IsAscii, IsAscii-nil, IsAscii-cons, digit_from_value, div-le_self, div-one, mul-one, mod-one, Number, IsNumber}
-use Rattle.raft_size.proofs.Common.{size_text, is_number_character, number_len, number_text, unit_text, SpellsSize, IsSizeText, IsUnit}
+use Rattle.raft_size.proofs.Common.{◌≡◌, ◌≢◌, ℕ, ◌-◌, ◌*◌, ◌/◌, ◌%◌, ◌^◌, ◌<◌, ◌≤◌, ◌==◌, min, true, false, List, [], ◌∷◌, ◌++◌, length, take, drop, codes, if◌then◌else◌, refl, sym, ap, subst, ◌∙◌, inl, inr, lit<, arith, rules, ⊤}
+use Rattle.raft_size.proofs.Common.{digit_value, is_whitespace, decimal, IsAscii, encode_utf8_all, trim, trim_start, trim_end, skip_leading_whitespace, drop_trailing_whitespace, AllDigits, digits_value, cases_eq, eq-eqb, ne_eqb, nat_tests}
+use Rattle.raft_size.proofs.Common.{decimal_is_IsNumeral, decimal_digit, append-nil, length-append, take_at, drop_at, div-add-mod', chars-IsAscii, encodes-IsAscii, IsAscii-nil, IsAscii-cons, digit_from_value, div-le_self, div-one, mul-one}
+use Rattle.raft_size.proofs.Common.{mod-one, Number, IsNumber, size_text, is_number_character, number_len, number_text, unit_text, SpellsSize, IsSizeText, IsUnit}
 use Rattle.raft_size.proofs.SizeDigitLemmas.{few_digits}
 
 -- ---- characters that show
@@ -59,25 +58,19 @@ number_len_digits : (ds unit : List ℕ) → AllDigits 10 ds → number_len unit
 number_len_digits [] unit h stops = stops
 number_len_digits (d ∷ ds) unit h stops = rw (digit_passes d h.0) (let more = number_len_digits ds unit h.1 stops in omega (arith, more))
 
--- a unit that may stand behind a printed number
-record IsPrintedUnit (unit : List ℕ) (factor : ℕ) : Type 0 where
-  is_unit : IsUnit unit factor
-  graphic : IsGraphic unit
-  stops : number_len unit ≡ 0
-
 printed_number : (digits : List ℕ) → Number
 printed_number digits = record { minus = false; whole = digits; fraction = []; exponent_minus = false; exponent = [] }
 
-printed_spells : (q factor : ℕ) (unit : List ℕ) → q < 2 ^ 64 → q * factor < 2 ^ 64 → IsPrintedUnit unit factor → SpellsSize (decimal q ++ unit) (q * factor)
+printed_spells : (q factor : ℕ) (unit : List ℕ) → q < 2 ^ 64 → q * factor < 2 ^ 64 → IsUnit unit factor → IsGraphic unit → number_len unit ≡ 0 → SpellsSize (decimal q ++ unit) (q * factor)
 unfolding printed_number
-printed_spells q factor unit small fits u =
+printed_spells q factor unit small fits is_unit visible stops =
     let numeral = decimal_is_IsNumeral q small in
     let digits = decimal q in
     let text = digits ++ unit in
-    let front : number_len text ≡ length digits = number_len_digits digits unit numeral.0.1 u.stops in
-    let graphic : IsGraphic text = graphic_append digits unit (graphic_digits digits numeral.0.1) u.graphic in
+    let front : number_len text ≡ length digits = number_len_digits digits unit numeral.0.1 stops in
+    let graphic : IsGraphic text = graphic_append digits unit (graphic_digits digits numeral.0.1) visible in
     let number : number_text text ≡ digits = ap (λ (n : ℕ). take n text) front ∙ take_at digits unit (length digits) refl in
-    let rest : unit_text text ≡ unit = ap (λ (n : ℕ). trim (drop n text)) front ∙ ap trim (drop_at digits unit (length digits) refl) ∙ trim_graphic unit u.graphic in
+    let rest : unit_text text ≡ unit = ap (λ (n : ℕ). trim (drop n text)) front ∙ ap trim (drop_at digits unit (length digits) refl) ∙ trim_graphic unit visible in
     let is_number : IsNumber digits (printed_number digits) = record {
       sign = [];
       mantissa = digits;
@@ -91,7 +84,7 @@ printed_spells q factor unit small fits u =
     record {
       factor = factor;
       number = printed_number digits;
-      has_unit = record { some_text = λ e. omega (arith, numeral.0.0, length-append digits unit, ap length e); ascii = graphic_ascii text graphic; unit = subst (λ (t : List ℕ). IsUnit t factor) (sym rest) u.is_unit };
+      has_unit = record { some_text = λ e. omega (arith, numeral.0.0, length-append digits unit, ap length e); ascii = graphic_ascii text graphic; unit = subst (λ (t : List ℕ). IsUnit t factor) (sym rest) is_unit };
       is_number = subst (λ (t : List ℕ). IsNumber t (printed_number digits)) (sym number) is_number;
       few_digits = few_digits (digits ++ []) (subst (λ (ds : List ℕ). AllDigits 10 ds) (sym (append-nil digits)) numeral.0.1) (omega (arith, value));
       value = rw (value, mul-one, div-one) (let held : min (2 ^ 64 - 1) (q * factor) ≡ q * factor = omega arith in sym held);
@@ -104,47 +97,32 @@ record Shows (text : List ℕ) (n : ℕ) : Type 0 where
   spells : SpellsSize text n
   graphic : IsGraphic text
 
-number_shows : (q factor : ℕ) (unit : List ℕ) → q < 2 ^ 64 → q * factor < 2 ^ 64 → IsPrintedUnit unit factor → Shows (decimal q ++ unit) (q * factor)
-number_shows q factor unit small fits u = record {
-  spells = printed_spells q factor unit small fits u;
-  graphic = graphic_append (decimal q) unit (graphic_digits (decimal q) (decimal_is_IsNumeral q small).0.1) u.graphic;
+number_shows : (q factor : ℕ) (unit : List ℕ) → q < 2 ^ 64 → q * factor < 2 ^ 64 → IsUnit unit factor → IsGraphic unit → number_len unit ≡ 0 → Shows (decimal q ++ unit) (q * factor)
+number_shows q factor unit small fits is_unit visible stops = record {
+  spells = printed_spells q factor unit small fits is_unit visible stops;
+  graphic = graphic_append (decimal q) unit (graphic_digits (decimal q) (decimal_is_IsNumeral q small).0.1) visible;
 }
 
-row_shows : (n factor : ℕ) (unit rest : List ℕ) → n < 2 ^ 64 → IsPrintedUnit unit factor → (n % factor ≢ 0 → Shows rest n) → Shows (if n % factor == 0 then decimal (n / factor) ++ unit else rest) n
-row_shows n factor unit rest small u other = elim (cases_eq (n % factor) 0) [
+row_shows : (n factor : ℕ) (unit rest : List ℕ) → n < 2 ^ 64 → IsUnit unit factor → IsGraphic unit → number_len unit ≡ 0 → (n % factor ≢ 0 → Shows rest n) →
+    Shows (if n % factor == 0 then decimal (n / factor) ++ unit else rest) n
+row_shows n factor unit rest small is_unit visible stops other = elim (cases_eq (n % factor) 0) [
   | inl divides ↦
       (let whole : n / factor * factor ≡ n = omega (arith, div-add-mod' n factor, divides) in
-      rw (eq-eqb (n % factor) 0 divides) (subst (Shows (decimal (n / factor) ++ unit)) whole (number_shows (n / factor) factor unit (omega (arith, div-le_self n factor)) (omega (arith, whole, small)) u)))
+      rw (eq-eqb (n % factor) 0 divides)
+      (subst (Shows (decimal (n / factor) ++ unit)) whole (number_shows (n / factor) factor unit (omega (arith, div-le_self n factor)) (omega (arith, whole, small)) is_unit visible stops)))
   | inr stays ↦ rw (ne_eqb (n % factor) 0 stays) (other stays)
 ]
 
-pib : IsPrintedUnit (codes "PiB") (2 ^ 50)
-pib = record { is_unit = search rules; graphic = search rules; stops = refl }
-
-tib : IsPrintedUnit (codes "TiB") (2 ^ 40)
-tib = record { is_unit = search rules; graphic = search rules; stops = refl }
-
-gib : IsPrintedUnit (codes "GiB") (2 ^ 30)
-gib = record { is_unit = search rules; graphic = search rules; stops = refl }
-
-mib : IsPrintedUnit (codes "MiB") (2 ^ 20)
-mib = record { is_unit = search rules; graphic = search rules; stops = refl }
-
-kib : IsPrintedUnit (codes "KiB") (2 ^ 10)
-kib = record { is_unit = search rules; graphic = search rules; stops = refl }
-
-byte : IsPrintedUnit (codes "B") 1
-byte = record { is_unit = search rules; graphic = search rules; stops = refl }
-
 zero_shows : Shows (codes "0KiB") 0
-zero_shows = subst (λ (digits : List ℕ). Shows (digits ++ codes "KiB") 0) (decimal_digit 0 (lit< tt)) (number_shows 0 (2 ^ 10) (codes "KiB") (lit< tt) (lit< tt) kib)
+zero_shows = subst (λ (digits : List ℕ). Shows (digits ++ codes "KiB") 0) (decimal_digit 0 (lit< tt)) (number_shows 0 (2 ^ 10) (codes "KiB") (lit< tt) (lit< tt) (search rules) (search rules) refl)
 
 size_text_shows : (n : ℕ) → n < 2 ^ 64 → Shows (size_text n) n
 size_text_shows n small = elim (cases_eq n 0) [
   | inl none ↦ rw none zero_shows
   | inr some ↦ rw (ne_eqb n 0 some)
-      (row_shows n (2 ^ 50) (codes "PiB") _ small pib (λ _. row_shows n (2 ^ 40) (codes "TiB") _ small tib (λ _. row_shows n (2 ^ 30) (codes "GiB") _ small gib
-      (λ _. row_shows n (2 ^ 20) (codes "MiB") _ small mib (λ _. row_shows n (2 ^ 10) (codes "KiB") _ small kib (λ _. row_shows n 1 (codes "B") _ small byte
+      (row_shows n (2 ^ 50) (codes "PiB") _ small (search rules) (search rules) refl (λ _. row_shows n (2 ^ 40) (codes "TiB") _ small (search rules) (search rules) refl
+      (λ _. row_shows n (2 ^ 30) (codes "GiB") _ small (search rules) (search rules) refl (λ _. row_shows n (2 ^ 20) (codes "MiB") _ small (search rules) (search rules) refl
+      (λ _. row_shows n (2 ^ 10) (codes "KiB") _ small (search rules) (search rules) refl (λ _. row_shows n 1 (codes "B") _ small (search rules) (search rules) refl
       (λ odd. absurd (odd (omega (arith, mod-one n))))))))))
 ]
 

@@ -1,7 +1,6 @@
 -- Products with powers of ten and quotients by them, held at the greatest size.
-use Rattle.raft_size.proofs.Common.{◌≡◌, ℕ, ◌+◌, ◌-◌, ◌*◌, ◌/◌, ◌^◌, ◌<◌, ◌≤◌, min, sym, ap, ◌∙◌, inl, inr, zero-add, true, false, length, lit≤, arith, digits_value, cases_lt, pow-add, le-div}
-use Rattle.raft_size.proofs.Common.{pow-le-pow_right, one-le-pow, mul-div-mul_right, mul-div_cancel, mul-le-mul_right, mul-le-mul_left, div-one, zero-div, mul-one, zero-mul, div-eq_of_lt}
-use Rattle.raft_size.proofs.Common.{mul_assoc, Number, digits_of, size_of, scaled_size}
+use Rattle.raft_size.proofs.Common.{◌≡◌, ℕ, ◌+◌, ◌-◌, ◌*◌, ◌/◌, ◌^◌, ◌<◌, ◌≤◌, min, sym, ap, ◌∙◌, inl, inr, zero-add, true, false, length, lit≤, arith, digits_value, cases_lt, pow-add, le-div, pow-le-pow_right, one-le-pow}
+use Rattle.raft_size.proofs.Common.{mul-div-mul_right, mul-div_cancel, mul-le-mul_right, mul-le-mul_left, div-one, zero-div, mul-one, zero-mul, div-eq_of_lt, mul_assoc, Number, digits_of, size_of, scaled_size}
 
 pub pow-le : (i j : ℕ) → i ≤ j → 10 ^ i ≤ 10 ^ j
 pow-le i j h = pow-le-pow_right (lit≤ tt) h

@@ -1,6 +1,5 @@
 -- The texts of sizes, as their reader takes them apart.
-use Rattle.raft_size.proofs.Common.{◌≡◌, ◌≢◌, ◌≤◌, ℕ, List, [], length, take, drop, ap, subst, ◌∙◌, trim, IsAscii, prefix_len-le-length, is_number_character, number_len, number_text, unit_text}
-use Rattle.raft_size.proofs.Common.{HasUnit, IsUnit}
+use Rattle.raft_size.proofs.Common.{◌≡◌, ◌≢◌, ◌≤◌, ℕ, List, [], length, take, drop, ap, subst, ◌∙◌, trim, IsAscii, prefix_len-le-length, is_number_character, number_len, number_text, unit_text, HasUnit, IsUnit}
 
 pub number_len-le : (text : List ℕ) → number_len text ≤ length text
 number_len-le text = prefix_len-le-length is_number_character text

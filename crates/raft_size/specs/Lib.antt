@@ -1,3 +1,4 @@
+pub mod Common
 pub mod SizeNumber
 pub mod SizePrint
 pub mod SizeReading

@@ -1,12 +1,7 @@
 //! Sizes with units, as settings give them.
 
-ghost use Rattle.serde.specs.Event.{Logs, text};
 ghost use Rattle.std.specs.Prelude.{◌≡◌, ◌<◌, ◌≤◌, ◌*◌, ◌/◌, ◌^◌, ◌++◌, ℕ, List, length, Result, Ok, Some, IfOk};
-ghost use Rattle.std.specs.Fmt.{decimal};
-ghost use Rattle.raft_size.specs.SizePrint.{size_text};
-ghost use Rattle.raft_size.specs.SizeText.{IsSizeText};
-ghost use Rattle.raft_size.specs.SizeValue.{IsReadAs, IsValueReadAs, ReadsSize};
-ghost use Rattle.toml.specs.View.{view};
+ghost use Rattle.raft_size.specs.Common.{Logs, text, decimal, size_text, IsSizeText, IsReadAs, IsValueReadAs, ReadsSize, view};
 
 use super::size_text::{SizeError, parse_size};
 use super::units::{GIB, KIB, MIB, PIB, TIB};

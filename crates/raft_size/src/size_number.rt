@@ -1,9 +1,8 @@
 //! The number of a size's text.
 
 ghost use Rattle.std.specs.Prelude.{◌≡◌, ◌≤◌, ◌<◌, ◌-◌, ◌*◌, ◌^◌, ◌++◌, IfSome, IfNone, ℕ, Bool, List, min, length};
-ghost use Rattle.std.specs.Str.Parse.{AllDigits, IsNumeral, digits_value, digits_value_after};
-ghost use Rattle.raft_size.specs.SizeNumber.{Number, IsNumber, IsExponent, digits_of, significant, size_of};
-ghost use Rattle.raft_size.specs.SizeReading.{has_minus, behind_sign, NoDigitFirst, TakesFraction, number_shown, HasDigitsAlone, scaled_size};
+ghost use Rattle.raft_size.specs.Common.{AllDigits, IsNumeral, digits_value, digits_value_after, Number, IsNumber, IsExponent, digits_of, significant, size_of, has_minus, behind_sign, NoDigitFirst, TakesFraction, number_shown};
+ghost use Rattle.raft_size.specs.Common.{HasDigitsAlone, scaled_size};
 
 /// A limit above every number of 20 digits.
 const SIGNIFICAND_LIMIT: u128 = 100_000_000_000_000_000_000;
@@ -42,7 +41,6 @@ impl<'a> SizeNumber<'a> {
         })
     }
 
-    /// Returns the number that the digits make with the point taken out, if they are few enough.
     pub(super) fn significand(&self) -> Option<u128>
         requires { HasDigitsAlone (number_shown self.now) }
         ensures value { IfSome result (λ value. value ≡ digits_value 10
@@ -62,7 +60,6 @@ impl<'a> SizeNumber<'a> {
         }
     }
 
-    /// Returns the size of so many units.
     pub(super) fn size(&self, significand: u128, factor: u64) -> u64
         requires digits { HasDigitsAlone (number_shown self.now) }
         requires significand { significand ≡ digits_value 10 (digits_of (number_shown self.now)) }
@@ -120,7 +117,6 @@ fn split_fraction(behind: &[u8]) -> (&[u8], &[u8])
     }
 }
 
-/// Returns whether an exponent's sign is a minus, and its digits.
 fn parse_exponent(text: &[u8]) -> Option<(bool, &[u8])>
     ensures exponent { IfSome result (λ exponent. IsExponent text.now exponent.0 exponent.1.now) }
     ensures none { IfNone result ((minus : Bool) (digits : List ℕ) →
@@ -148,7 +144,6 @@ fn parse_power(text: &[u8]) -> Option<(bool, &[u8])>
     Some((is_negative, digits))
 }
 
-/// Returns the number that the digits make after those of `start`, capped at the limit.
 fn value_up_to(limit: u128, start: u128, digits: &[u8]) -> u128
     requires limit { limit < 2 ^ 100 }
     requires start { start ≤ limit }
@@ -162,7 +157,6 @@ fn value_up_to(limit: u128, start: u128, digits: &[u8]) -> u128
     value
 }
 
-/// Returns the value times powers of ten and divided by others, rounded down and capped at the greatest size.
 fn scaled(value: u128, up: u128, down: u128) -> u64
     requires { value < 2 ^ 120 }
     ensures { result ≡ scaled_size value up down }

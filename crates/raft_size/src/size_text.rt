@@ -1,9 +1,7 @@
 //! Reading of sizes.
 
 ghost use Rattle.std.specs.Prelude.{◌≡◌, ◌≢◌, ◌≤◌, ◌^◌, [], IfSome, IfNone, IfOk, IfErr, ℕ};
-ghost use Rattle.std.specs.Str.{IsAscii};
-ghost use Rattle.raft_size.specs.SizeText.{is_number_character, number_len, SpellsSize, IsSpellingFault, IsSizeText, IsSizeFault};
-ghost use Rattle.raft_size.specs.SizeUnits.{IsUnit};
+ghost use Rattle.raft_size.specs.Common.{IsAscii, is_number_character, number_len, SpellsSize, IsSpellingFault, IsSizeText, IsSizeFault, IsUnit};
 
 use super::size_number::SizeNumber;
 use super::units::{B, GIB, KIB, MIB, PIB, TIB};
@@ -32,7 +30,6 @@ pub enum SizeError {
     Kind,
 }
 
-/// Returns the size that the text stands for, in bytes.
 pub(super) fn parse_size(text: &str) -> Result<u64, SizeError>
     ensures size { IfOk result (IsSizeText text.now) }
     ensures fault { IfErr result (IsSizeFault text.now) }

@@ -4,8 +4,7 @@
 //! look-up, and sixteen bytes of it can be found at once.
 
 ghost use Rattle.std.specs.Prelude.{◌≡◌, ◌+◌, ◌≤◌, length};
-ghost use Rattle.raft_checksum.specs.Checksum.{register_after};
-ghost use Rattle.raft_checksum.specs.SparseMultiple.{AreZeros, IsQuotient, IsRemainder, StartsAlike};
+ghost use Rattle.raft_checksum.specs.Common.{register_after, AreZeros, IsQuotient, IsRemainder, StartsAlike};
 
 use super::words::by_words;
 use byteorder::{ByteOrder, LittleEndian};
@@ -16,7 +15,6 @@ const REACH: usize = 300;
 /// The bytes that are divided at once.
 const CHUNK: usize = 2048;
 
-/// Writes the quotient of `bytes` after the 300 bytes of it that came before.
 fn divide(quotient: &mut [u8], bytes: &[u8])
     requires { length bytes.now + 300 ≤ length quotient.old }
     ensures quotient { IsQuotient bytes.now quotient.new }

@@ -4,8 +4,7 @@
 //! stay in registers.
 
 ghost use Rattle.std.specs.Prelude.{◌≡◌, ℕ, ◌≤◌, bit_xor, length};
-ghost use Rattle.raft_checksum.specs.Checksum.{crc_steps, register_after};
-ghost use Rattle.raft_checksum.specs.SparseMultiple.{StandFor};
+ghost use Rattle.raft_checksum.specs.Common.{crc_steps, register_after, StandFor};
 
 use super::{by_sixteens, first_eight_bytes, two_words, word_then_zeros};
 
@@ -25,7 +24,6 @@ fn divided(remainder: [u64; 5], word: u64) -> [u64; 5]
     ]
 }
 
-/// Returns the register after `bytes`, where the remainder stands for the register before them.
 #[inline(always)]
 fn settled(remainder: [u64; 5], bytes: &[u8]) -> u32
     requires { 40 ≤ length bytes.now }

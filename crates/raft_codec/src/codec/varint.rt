@@ -72,7 +72,6 @@ pub fn parse_short_var_u64(bytes: &[u8]) -> Option<(u64, &[u8])>
     }
 }
 
-/// Returns the low seven bits of two bytes, those of the second one above those of the first.
 #[inline(always)]
 fn two_septets(first: u8, second: u8) -> u64
     ensures { result ≡ first % 128 + 128 * (second % 128) }
@@ -100,7 +99,6 @@ fn parse_septets(bytes: &[u8]) -> Result<(u64, &[u8])>
     Err(Error::unexpected_eof())
 }
 
-/// Returns the value of a septet at its place.
 #[inline]
 fn at_place(bits: u8, place: usize) -> u64
     requires septet { bits < 128 }
@@ -111,7 +109,6 @@ fn at_place(bits: u8, place: usize) -> u64
     u64::from(bits) << (7 * place)
 }
 
-/// Writes the shortest spelling of `number` to the front of `bytes`, and returns its length.
 #[inline]
 pub(crate) fn put_var_u64(bytes: &mut [u8; 10], number: u64) -> usize
     ensures written { take result bytes.new ≡ varint number }
@@ -199,7 +196,6 @@ fn in_four_bytes(number: u64) -> [u8; 4]
     ]
 }
 
-/// Returns the byte of a number's lowest septet, which others follow.
 fn septet(number: u64) -> u8
     ensures { result ≡ number % 128 + 128 }
 {

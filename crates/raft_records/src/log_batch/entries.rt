@@ -1,14 +1,8 @@
 //! Entries with their bytes in batches, and batches put together.
 
 ghost use Rattle.std.specs.Prelude.{◌≡◌, ◌≢◌, ◌+◌, ◌-◌, ◌^◌, ◌<◌, ◌≤◌, [], ◌∷◌, ◌++◌, map, length, IfErr, OnOk, OnErr, drop, IsTrue, ◌↔◌, vec_len, vec_capacity};
-ghost use Rattle.std.specs.List.{concat};
-ghost use Rattle.raft_base.specs.Runs.{IsConsecutive};
-ghost use Rattle.raft_records.specs.Entries.{entry_with_index, with_lengths};
-ghost use Rattle.raft_records.specs.Faults.{OneRefuses};
-ghost use Rattle.raft_records.specs.Item.{entries_item};
-ghost use Rattle.raft_records.specs.ItemBatch.{entry_bytes_of, with_offsets_from};
-ghost use Rattle.raft_records.specs.LogBatch.{is_open, with_entries_added, IsBytesFault, IsAddFault, empty_batch, with_batch};
-ghost use Rattle.raft_records.specs.Spelling.{Keeps};
+ghost use Rattle.raft_records.specs.Common.{concat, IsConsecutive, entry_with_index, with_lengths, OneRefuses, entries_item, entry_bytes_of, with_offsets_from, is_open, with_entries_added, IsBytesFault, IsAddFault, empty_batch, with_batch};
+ghost use Rattle.raft_records.specs.Common.{Keeps};
 
 use super::{MAX_LOG_BATCH_BUFFER_CAP, MAX_LOG_ENTRIES_SIZE_PER_BATCH};
 use crate::header::{LOG_BATCH_HEADER_LEN, reserve_header};
@@ -136,8 +130,6 @@ impl LogBatch {
     }
 }
 
-/// Appends the bytes of entries, and adds their item to the items of the buffer's batch. On `Err` some bytes
-/// may follow those of the buffer.
 fn write_strings(
     buf: &mut Vec<u8>,
     item_batch: &mut LogItemBatch,
@@ -165,8 +157,6 @@ fn write_strings(
     item_batch.add_entry_indexes(region, entry_indexes)
 }
 
-/// Appends the bytes of entries, and sets their lengths. `Full` where an open batch's buffer may not have so
-/// many. On `Err` some bytes may follow those of the buffer.
 fn append_strings(
     buf: &mut Vec<u8>,
     entry_indexes: &mut Vec<EntryIndex>,
@@ -193,8 +183,6 @@ fn append_strings(
     Ok(())
 }
 
-/// Appends the bytes of messages, and adds their item to the items of the buffer's batch. On `Err` some bytes
-/// may follow those of the buffer.
 fn write_messages<M: MessageExt>(
     buf: &mut Vec<u8>,
     item_batch: &mut LogItemBatch,
@@ -246,9 +234,6 @@ fn have_consecutive_indexes<M: MessageExt>(entries: &[M::Entry]) -> bool
     true
 }
 
-/// Appends the bytes of messages, and the entries that they are to a list with room for them, each with index,
-/// offset and length. `Full` where an open batch's buffer may not have so many. On `Err` some bytes may follow
-/// those of the buffer.
 fn append_messages<M: MessageExt>(
     buf: &mut Vec<u8>,
     entry_indexes: &mut Vec<EntryIndex>,
@@ -286,7 +271,6 @@ fn append_messages<M: MessageExt>(
     Ok(())
 }
 
-/// Makes room after the entry bytes, if there are any, for those of a buffer of `len` bytes.
 fn reserve_behind(buf: &mut Vec<u8>, len: usize) -> AllocResult<()>
     ensures same { buf.new.items ≡ buf.old.items }
     ensures room { OnOk result (16 < length buf.old.items →
@@ -298,8 +282,6 @@ fn reserve_behind(buf: &mut Vec<u8>, len: usize) -> AllocResult<()>
     Ok(())
 }
 
-/// Moves the entry bytes of `others` after those of `buf`, which has room for them if it has any, and leaves
-/// `others` empty.
 fn move_entry_bytes(buf: &mut Vec<u8>, others: &mut Vec<u8>)
     requires { 16 < length buf.old.items →
         length buf.old.items + (length others.old.items - 16) ≤ vec_capacity buf.old }

@@ -1,26 +1,53 @@
 //! Reads items into a batch over the bytes that they stand in. On `Err` some of them may be added.
 
-ghost use Rattle.std.specs.Prelude.{◌≡◌, ◌≢◌, ◌⊎◌, List, [], IfOk, IfErr};
-ghost use Rattle.raft_codec.specs.Reading.{Reads, HasNoFront};
-ghost use Rattle.raft_records.specs.Faults.{IsContentFault, IsEntriesFault, IsItemFault, IsMemory, IsTailsFault};
-ghost use Rattle.raft_records.specs.Grammar.{AreTails, IsContent, IsEntries, IsItem};
-ghost use Rattle.raft_records.specs.Item.{Item};
-ghost use Rattle.raft_records.specs.ItemBatch.{AreItems, AreItemsFault};
-ghost use Rattle.raft_records.specs.ReadWords.{AreEntriesRead, AreHeldAs, AreTailsRead, IsContentRead, IsItemRead, reached};
+ghost use Rattle.std.specs.Prelude.{◌≡◌, ◌≢◌, ◌⊎◌, List, [], IfOk, IfErr, ◌≤◌, ◌<◌, ◌^◌, ℕ, ◌+◌, ◌∷◌, IfSome, IfNone};
+ghost use Rattle.raft_records.specs.Common.{Reads, HasNoFront, IsContentFault, IsEntriesFault, IsItemFault, IsMemory, IsTailsFault, AreTails, IsContent, IsEntries, IsItem, Item, AreItems, AreItemsFault, AreEntriesRead, AreHeldAs};
+ghost use Rattle.raft_records.specs.Common.{AreTailsRead, IsContentRead, IsItemRead, reached, EntryIndex, entry_between, span_of, vec_len, vec_capacity, IsByteString, IsKeyValue, Pair, pair, IsHeldAs};
 
 use crate::entry_indexes::{parse_tail, short_tail};
 use crate::key_value::parse_pair;
 use crate::log_item::{TYPE_COMMAND, TYPE_ENTRIES, TYPE_KV};
-use crate::read_batch::kept::Kept;
-use crate::read_batch::short_items::read_short_item;
 use crate::{Command, ReadContent, ReadItem};
-use raft_base::{Error, Result};
+use raft_base::{CompressionType, EntryIndex, Error, Result};
 use raft_codec::codec;
 use std::alloc::Global;
-use std::io;
-use std::io::ErrorKind;
+use std::io::{self, ErrorKind};
 
-/// Reads `count` items from the front of `bytes`, and returns what follows them.
+/// What a reader keeps of an entry.
+pub(crate) trait Kept: Sized {
+    /// What is kept of this entry.
+    ghost kept_of: { EntryIndex → Self };
+
+    fn from_tail(index: u64, offset: u32, tail: u32) -> Self
+        requires { offset ≤ tail }
+        ensures { result ≡ kept_of (entry_between index offset tail) };
+}
+
+impl Kept for EntryIndex {
+    ghost kept_of = { λ e. e };
+
+    #[inline(always)]
+    fn from_tail(index: u64, offset: u32, tail: u32) -> EntryIndex {
+        EntryIndex {
+            index,
+            entries: None,
+            compression_type: CompressionType::None,
+            entry_offset: offset,
+            entry_len: tail - offset,
+        }
+    }
+}
+
+/// Offset and length of the entry's bytes.
+impl Kept for (u32, u32) {
+    ghost kept_of = { span_of };
+
+    #[inline(always)]
+    fn from_tail(_index: u64, offset: u32, tail: u32) -> (u32, u32) {
+        (offset, tail - offset)
+    }
+}
+
 pub(super) fn read_items<'a>(
     alloc: Global,
     bytes: &'a [u8],
@@ -52,8 +79,7 @@ pub(super) fn read_items<'a>(
     Ok(rest)
 }
 
-/// Reads an item that stands after `start` entry bytes, and returns the end of its entries' bytes and what
-/// follows it.
+/// Returns the end of the entries' bytes of the item, and what follows it.
 #[inline(never)]
 #[tactic(auto, using(crate::proofs::ReadBatchLemmas::held_item))]
 fn read_item<'a>(
@@ -74,8 +100,8 @@ fn read_item<'a>(
     Ok((end, rest))
 }
 
-/// Reads a content that stands after `start` entry bytes, and returns it, the end of its entries' bytes and
-/// what follows it.
+/// Returns the content, the end of its entries' bytes, and what follows it.
+#[tactic(auto, using(crate::proofs::ReadBatchLemmas::entries_are_content, crate::proofs::ReadBatchLemmas::command_read, crate::proofs::ReadBatchLemmas::pair_read))]
 pub(crate) fn read_content<'a, T: Kept>(
     alloc: Global,
     bytes: &'a [u8],
@@ -111,8 +137,8 @@ pub(crate) fn read_content<'a, T: Kept>(
     }
 }
 
-/// Reads the entries of an item after its type byte, and returns the first one's index, how many they are, the
-/// end of their bytes and what follows them.
+/// Returns the first one's index, how many they are, the end of their bytes, and what follows them.
+#[tactic(auto, using(crate::proofs::ReadBatchLemmas::no_entries_read, crate::proofs::ReadBatchLemmas::run_read_of))]
 pub(crate) fn read_entries<'a, T: Kept>(
     alloc: Global,
     bytes: &'a [u8],
@@ -133,8 +159,6 @@ pub(crate) fn read_entries<'a, T: Kept>(
     Ok((first, count as usize, end, rest))
 }
 
-/// Reads the tail offsets of `count` entries from the index `first` on, and returns the end of their bytes
-/// and what follows them.
 #[inline(never)]
 fn read_tails<'a, T: Kept>(
     alloc: Global,
@@ -169,4 +193,126 @@ fn read_tails<'a, T: Kept>(
         offset = tail;
     }
     Ok((offset, rest))
+}
+
+/// The byte of [`OpType::Put`](crate::OpType::Put).
+const PUT: u8 = 1;
+
+#[inline(always)]
+fn read_short_item<'a>(
+    bytes: &'a [u8],
+    start: u32,
+    items: &mut Vec<ReadItem<'a>>,
+    spans: &mut Vec<(u32, u32)>,
+) -> Option<(u32, &'a [u8])>
+    ensures some { IfSome result (λ read. IsItemRead items.old.items items.new.items
+        (reached bytes.now start spans.old.items) (reached read.1.now read.0 spans.new.items)) }
+    ensures items { IfNone result (items.new.items ≡ items.old.items) }
+    ensures spans { IfNone result (spans.new.items ≡ spans.old.items) }
+{
+    if items.len() >= items.capacity() {
+        return None;
+    }
+    let (region, behind) = codec::parse_short_var_u64(bytes)?;
+    let (content, end, rest) = read_short_content(behind, start, spans)?;
+    items.push_reserved(ReadItem { region, content });
+    Some((end, rest))
+}
+
+#[inline(always)]
+fn read_short_content<'a>(
+    bytes: &'a [u8],
+    start: u32,
+    spans: &mut Vec<(u32, u32)>,
+) -> Option<(ReadContent<'a>, u32, &'a [u8])>
+    ensures some { IfSome result (λ read. IsContentRead span_of read.0
+        (reached bytes.now start spans.old.items) (reached read.2.now read.1 spans.new.items)) }
+    ensures none { IfNone result (spans.new.items ≡ spans.old.items) }
+{
+    let [kind, first, behind @ ..] = bytes else {
+        return None;
+    };
+    let kind = *kind;
+    let first = *first;
+    match kind {
+        TYPE_ENTRIES => read_short_run(first, behind, start, spans),
+        TYPE_KV if first == PUT => {
+            let (content, rest) = parse_short_put(behind)?;
+            Some((content, start, rest))
+        }
+        _ => None,
+    }
+}
+
+/// Reads the entries of an item, whose count was a byte in front of `bytes`.
+#[inline(always)]
+fn read_short_run<'a>(
+    count: u8,
+    bytes: &'a [u8],
+    start: u32,
+    spans: &mut Vec<(u32, u32)>,
+) -> Option<(ReadContent<'a>, u32, &'a [u8])>
+    ensures some { IfSome result (λ read. IsContentRead span_of read.0
+        (reached (1 ∷ count ∷ bytes.now) start spans.old.items)
+        (reached read.2.now read.1 spans.new.items)) }
+    ensures none { IfNone result (spans.new.items ≡ spans.old.items) }
+{
+    let count = usize::from(count);
+    if count == 0 || count >= 0x80 || spans.capacity() - spans.len() < count {
+        return None;
+    }
+    let (first, tails) = codec::parse_short_var_u64(bytes)?;
+    let (end, rest) = read_short_spans(tails, count, start, spans)?;
+    Some((ReadContent::Run { first, count }, end, rest))
+}
+
+/// Reads a put behind its op type byte.
+#[inline(always)]
+fn parse_short_put(bytes: &[u8]) -> Option<(ReadContent<'_>, &[u8])>
+    ensures { IfSome result (λ read. (p : Pair) ×
+        Reads IsKeyValue (1 ∷ bytes.now) read.1.now p × IsHeldAs read.0 [] (pair p)) }
+{
+    let (key, behind) = parse_short_byte_string(bytes)?;
+    let (value, rest) = parse_short_byte_string(behind)?;
+    Some((ReadContent::Put { key, value }, rest))
+}
+
+#[inline(always)]
+fn read_short_spans<'a>(
+    bytes: &'a [u8],
+    count: usize,
+    start: u32,
+    spans: &mut Vec<(u32, u32)>,
+) -> Option<(u32, &'a [u8])>
+    requires { vec_len spans.old + count ≤ vec_capacity spans.old }
+    ensures some { IfSome result (λ read. (first : ℕ) → first + count < 2 ^ 64 →
+        AreTailsRead span_of count first
+        (reached bytes.now start spans.old.items) (reached read.1.now read.0 spans.new.items)) }
+    ensures none { IfNone result (spans.new.items ≡ spans.old.items) }
+{
+    let len = spans.len();
+    let mut rest = bytes;
+    let mut offset = start;
+    for _ in 0..count {
+        let Some((tail, behind)) = short_tail(rest, offset, true) else {
+            spans.truncate(len);
+            return None;
+        };
+        spans.push_reserved((offset, tail - offset));
+        rest = behind;
+        offset = tail;
+    }
+    Some((offset, rest))
+}
+
+#[inline(always)]
+#[tactic(auto, using(crate::proofs::ItemLemmas::text_read, raft_codec::proofs::VarintLemmas::short_is_read))]
+fn parse_short_byte_string(bytes: &[u8]) -> Option<(&[u8], &[u8])>
+    ensures { IfSome result (λ read. Reads IsByteString bytes.now read.1.now read.0.now) }
+{
+    let (len, rest) = codec::parse_short_var_u64(bytes)?;
+    if len > rest.len() as u64 {
+        return None;
+    }
+    Some(rest.split_at(len as usize))
 }

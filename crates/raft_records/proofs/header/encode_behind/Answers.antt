@@ -1,16 +1,7 @@
-use Rattle.raft_records.proofs.Common.{◌≡◌, ◌∙◌, ◌<◌, ◌^◌, sym, ap, subst, length, arith, err_from_is_err_and}
-use Rattle.raft_records.proofs.BufferLemmas.{closed_keeps, behind_keeps, length_is}
+use Rattle.raft_records.proofs.Common.{◌≡◌, ◌∙◌, ◌<◌, ◌^◌, sym, ap, subst, length, arith}
+use Rattle.raft_records.proofs.BufferLemmas.{length_is}
 use Rattle.raft_records.proofs.StageLemmas.{encoded_whole}
 use Rattle.raft_records.proofs.header.encode_behind.Goals as goal
-
-pub returns-in_err-encode-clause-err : goal.returns-in_err-encode-clause-err
-returns-in_err-encode-clause-err c =
-    let p = err_from_is_err_and c.from_residual-in_err-encode.result c.from_residual-in_err-encode.ensures.1 in
-    rw (p.1) (closed_keeps c.args.buf.now.items c.encode.new.buf.items (c.in_err-encode.ensures.err ∙ c.in_ok-close_entry_block.ensures.ok))
-
-pub returns-then-len-ge-LENGTH_LIMIT-clause-err : goal.returns-then-len-ge-LENGTH_LIMIT-clause-err
-returns-then-len-ge-LENGTH_LIMIT-clause-err c =
-    behind_keeps c.args.buf.now.items c.close_entry_block.new.buf.items c.encode.new.buf.items _ c.in_ok-close_entry_block.ensures.ok c.in_ok-encode.ensures.ok
 
 pub returns-clause-ok : goal.returns-clause-ok
 returns-clause-ok c =

@@ -1,5 +1,4 @@
-use Rattle.raft_records.proofs.Common.{◌≡◌, ◌≢◌, ◌∙◌, ◌++◌, ◌≤◌, take, drop, length, ap, sym, subst, arith, common_steps, signature_of, IsEncoded, item_batch_bytes, checksum_bytes, item_offset}
-use Rattle.raft_records.proofs.Common.{entry_bytes_in}
+use Rattle.raft_records.proofs.Common.{◌≡◌, ◌≢◌, ◌∙◌, ◌++◌, ◌≤◌, take, drop, length, ap, sym, subst, arith, common_steps, signature_of, IsEncoded, item_batch_bytes, checksum_bytes, item_offset, entry_bytes_in}
 use Rattle.raft_records.proofs.BufferLemmas.{offset_within, encoded_at, sealed_at}
 use Rattle.raft_records.proofs.StageLemmas.{nothing_sealed, unsealed_of, written_back, sealed_len}
 use Rattle.raft_records.proofs.header.seal.Goals as goal

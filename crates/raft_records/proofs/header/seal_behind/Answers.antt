@@ -1,4 +1,4 @@
-use Rattle.std.proofs.Common.{◌∙◌, ◌++◌, ◌-◌, take, length, ap, refl}
+use Rattle.raft_records.proofs.Common.{◌∙◌, ◌++◌, ◌-◌, take, length, ap, refl}
 use Rattle.raft_records.proofs.StageLemmas.{to_the_end, part_written}
 use Rattle.raft_records.proofs.header.seal_behind.Goals as goal
 

@@ -1,4 +1,4 @@
-use Rattle.std.proofs.Common.{◌-◌, length, arith, refl}
+use Rattle.raft_records.proofs.Common.{◌-◌, length, arith, refl}
 use Rattle.raft_records.proofs.HeaderLemmas.{header_written}
 use Rattle.raft_records.proofs.header.write_header.Goals as goal
 

@@ -1,4 +1,4 @@
-use Rattle.raft_records.proofs.Common.{varint, septets_last}
+use Rattle.raft_records.proofs.Common.{septets_last, varint}
 use Rattle.raft_records.proofs.number.append_number.Goals as goal
 
 pub returns-then-number-lt128-clause-ok : goal.returns-then-number-lt128-clause-ok

@@ -1,11 +1,10 @@
-use Rattle.raft_records.proofs.Common.{◌∙◌, err_from_is_err_and}
+use Rattle.raft_records.proofs.Common.{◌∙◌, at_exit}
 use Rattle.raft_records.proofs.PrintLemmas.{decoded_text}
 use Rattle.raft_records.proofs.print.batch_text.Goals as goal
 
 pub returns-in_err-batch-clause-refused : goal.returns-in_err-batch-clause-refused
 returns-in_err-batch-clause-refused c =
-    let p = err_from_is_err_and c.from_residual.result c.from_residual.ensures.1 in
-    rw (p.1, p.2) c.in_err-batch.ensures.refused
+    at_exit c.from_residual.result c.from_residual.ensures.1 (λ _ is. rw is c.in_err-batch.ensures.refused)
 
 pub returns-clause-ok : goal.returns-clause-ok
 returns-clause-ok c =

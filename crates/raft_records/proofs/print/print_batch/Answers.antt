@@ -1,19 +1,17 @@
-use Rattle.raft_records.proofs.Common.{inr, string_bytes, subst, err_from_is_err_and, signature_of, IsNoItemBatch, IsPrintFault, IsTextOf, AppendsFront}
+use Rattle.raft_records.proofs.Common.{inr, string_bytes, subst, at_exit, signature_of, IsNoItemBatch, IsPrintFault, IsTextOf, AppendsFront}
 use Rattle.raft_records.proofs.PrintLemmas.{of_input, on_both}
 use Rattle.raft_records.proofs.print.print_batch.Goals as goal
 
 pub returns-in_err-text-clause-refused : goal.returns-in_err-text-clause-refused
 returns-in_err-text-clause-refused g c =
-    let p = err_from_is_err_and c.from_residual-in_err-text.result c.from_residual-in_err-text.ensures.1 in
-    rw (p.1, p.2) (λ io ne. of_input (λ input. IsNoItemBatch input (signature_of c.args.context.now)) (g.R.Read.remaining c.args.reader.now) _ _ _
-    c.in_ok-read_to_end.ensures.bytes c.new-input.ensures.items c.as_slice.ensures.value (c.in_err-text.ensures.refused ne))
+    at_exit c.from_residual-in_err-text.result c.from_residual-in_err-text.ensures.1 (λ _ is. rw is (λ io ne. of_input (λ input. IsNoItemBatch input (signature_of c.args.context.now)) (g.R.Read.remaining c.args.reader.now) _ _ _
+    c.in_ok-read_to_end.ensures.bytes c.new-input.ensures.items c.as_slice.ensures.value (c.in_err-text.ensures.refused ne)))
 
 pub returns-in_err-text-clause-fault : goal.returns-in_err-text-clause-fault
 returns-in_err-text-clause-fault g c =
-    let p = err_from_is_err_and c.from_residual-in_err-text.result c.from_residual-in_err-text.ensures.1 in
-    rw (p.1, p.2) (λ io. of_input (λ input. IsPrintFault input (signature_of c.args.context.now) c.in_err-text.field-0.0)
+    at_exit c.from_residual-in_err-text.result c.from_residual-in_err-text.ensures.1 (λ _ is. rw is (λ io. of_input (λ input. IsPrintFault input (signature_of c.args.context.now) c.in_err-text.field-0.0)
     (g.R.Read.remaining c.args.reader.now) _ _ _ c.in_ok-read_to_end.ensures.bytes c.new-input.ensures.items c.as_slice.ensures.value
-    c.in_err-text.ensures.fault)
+    c.in_err-text.ensures.fault))
 
 pub returns-clause-silent : goal.returns-clause-silent
 returns-clause-silent g c =

@@ -1,4 +1,4 @@
-use Rattle.raft_records.proofs.WriteLemmas.{IsHalfWritten}
+use Rattle.raft_records.proofs.PrintLemmas.{IsHalfWritten}
 use Rattle.raft_records.proofs.print.write_whole.Given as goal
 
 -- what was written and what is left make up the whole

@@ -1,5 +1,4 @@
-use Rattle.raft_records.proofs.Common.{arith, get_or_default, map_over_more}
-use Rattle.raft_records.proofs.Names.{placed_entry}
+use Rattle.raft_records.proofs.Common.{arith, get_or_default, map_over_more, placed_entry}
 use Rattle.raft_records.proofs.entry_indexes.EntryIndexes.place.Goals as goal
 
 pub loop-entry-preserved : goal.loop-entry-preserved

@@ -1,5 +1,4 @@
-use Rattle.std.proofs.Common.{◌≡◌, ◌++◌, map, take, drop}
-use Rattle.raft_records.proofs.Names.{placed_entry}
+use Rattle.raft_records.proofs.Common.{◌≡◌, ◌++◌, map, take, drop, placed_entry}
 use Rattle.raft_records.proofs.entry_indexes.EntryIndexes.place.Given as goal
 
 -- the entries so far have their place

@@ -1,5 +1,4 @@
-use Rattle.raft_records.proofs.Common.{◌≡◌, ◌≢◌, ◌+◌, ◌^◌, ◌<◌, ◌≤◌, ◌∙◌, List, [], length, ap, sym, subst, arith, rules, Item, item_batch_bytes, Batch, at_most_usize}
-use Rattle.raft_records.proofs.Common.{HaveSmallNumbers}
+use Rattle.raft_records.proofs.Common.{◌≡◌, ◌≢◌, ◌+◌, ◌^◌, ◌<◌, ◌≤◌, ◌∙◌, List, [], length, ap, sym, subst, arith, rules, Item, item_batch_bytes, Batch, at_most_usize, HaveSmallNumbers}
 use Rattle.raft_records.proofs.LengthLemmas.{open_covers}
 use Rattle.raft_records.proofs.StageLemmas.{encoded_length_at, length_at, not_open}
 use Rattle.raft_records.proofs.log_batch.LogBatch.approximate_size.Goals as goal

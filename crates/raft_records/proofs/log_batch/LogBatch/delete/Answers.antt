@@ -1,5 +1,4 @@
-use Rattle.raft_records.proofs.Common.{None, refl, pair_item}
-use Rattle.raft_records.specs.declared.key_value.OpType.TheVariants.{Del}
+use Rattle.raft_records.proofs.Common.{None, refl, pair_item, Del}
 use Rattle.raft_records.proofs.StageLemmas.{item_held, item_view}
 use Rattle.raft_records.proofs.log_batch.LogBatch.delete.Goals as goal
 

@@ -1,27 +1,25 @@
-use Rattle.raft_records.proofs.Common.{◌≡◌, ◌+◌, ◌-◌, ◌∙◌, map, ap, FileBlockHandle, placed_item, Batch, IsSealedStage, log_batch_bytes, stage_of, entry_bytes_in}
-use Rattle.raft_base.specs.declared.compression_type.CompressionType.TheVariants as compressions
-use Rattle.raft_records.proofs.PlaceLemmas.{place_is, placed_held, placed_view, log_bytes_placed}
-use Rattle.raft_records.proofs.StageLemmas.{batch_with}
+use Rattle.raft_records.proofs.Common.{◌≡◌, ◌+◌, ◌-◌, ◌∙◌, map, ap, FileBlockHandle, placed_item, Batch, IsSealedStage, log_batch_bytes, stage_of, entry_bytes_in, uncompressed}
+use Rattle.raft_records.proofs.StageLemmas.{place_is, placed_held, placed_view, log_bytes_placed, batch_with}
 use Rattle.raft_records.proofs.log_batch.LogBatch.finish_write.Goals as goal
 
 -- the place that the entries get
 place : (c : goal.After-place) → FileBlockHandle
 place c = record { id = c.args.handle.id; offset = c.args.handle.offset + 16; len = c.offset_behind.result - 16 }
 
-places : (c : goal.After-place) → c.place.new.self ≡ map (placed_item (place c) compressions.None) c.self.inside.item_batch
+places : (c : goal.After-place) → c.place.new.self ≡ map (placed_item (place c) uncompressed) c.self.inside.item_batch
 unfolding place
 places c = c.place.ensures
 
 pub invariant_of-self : goal.invariant_of-self
 invariant_of-self c =
     let is_sealed : IsSealedStage (stage_of c.self.inside.state) = rw (← c.self.view_is) at c.requires.sealed in
-    rw (places c) (placed_held (place c) compressions.None (stage_of c.self.inside.state) c.self.inside.item_batch c.self.inside.buf.items is_sealed c.self.invariant)
+    rw (places c) (placed_held (place c) uncompressed (stage_of c.self.inside.state) c.self.inside.item_batch c.self.inside.buf.items is_sealed c.self.invariant)
 
 viewed : (c : goal.After-place) → batch_with c.place.new.self (entry_bytes_in c.place.new.self c.self.inside.buf.items)
-    (stage_of c.self.inside.state) ≡ batch_with (map (placed_item (place c) compressions.None) c.args.self.now.items) c.args.self.now.entry_bytes
+    (stage_of c.self.inside.state) ≡ batch_with (map (placed_item (place c) uncompressed) c.args.self.now.items) c.args.self.now.entry_bytes
     c.args.self.now.stage
 viewed c =
-    placed_view (place c) compressions.None c.args.self.now (stage_of c.self.inside.state) c.self.inside.item_batch c.place.new.self c.self.inside.buf.items c.self.view_is (places c)
+    placed_view (place c) uncompressed c.args.self.now (stage_of c.self.inside.state) c.self.inside.item_batch c.place.new.self c.self.inside.buf.items c.self.view_is (places c)
 
 pub returns-clause-placed : goal.returns-clause-placed
 unfolding place
@@ -29,8 +27,8 @@ returns-clause-placed c =
     let is = place_is c.args.handle c.args.self.now (stage_of c.self.inside.state) c.self.inside.item_batch
     (entry_bytes_in c.self.inside.item_batch c.self.inside.buf.items) c.entries_size.result c.offset_behind.result c.self.view_is
     c.self.invariant.whole c.entries_size.ensures c.offset_behind.ensures in
-    viewed c ∙ ap (λ (handle : FileBlockHandle). batch_with (map (placed_item handle compressions.None) c.args.self.now.items) c.args.self.now.entry_bytes c.args.self.now.stage) is
+    viewed c ∙ ap (λ (handle : FileBlockHandle). batch_with (map (placed_item handle uncompressed) c.args.self.now.items) c.args.self.now.entry_bytes c.args.self.now.stage) is
 
 pub returns-clause-bytes : goal.returns-clause-bytes
 returns-clause-bytes c signature =
-    ap (λ (b : Batch). log_batch_bytes signature b.items b.entry_bytes) (viewed c) ∙ log_bytes_placed (place c) compressions.None signature c.args.self.now.items c.args.self.now.entry_bytes
+    ap (λ (b : Batch). log_batch_bytes signature b.items b.entry_bytes) (viewed c) ∙ log_bytes_placed (place c) uncompressed signature c.args.self.now.items c.args.self.now.entry_bytes

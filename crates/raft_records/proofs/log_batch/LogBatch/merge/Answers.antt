@@ -1,6 +1,5 @@
 use Rattle.raft_records.proofs.Common.{◌≡◌, ◌+◌, ◌^◌, ◌<◌, ◌++◌, arith, entry_bytes_of, stage_of, entry_bytes_in, IsHeld}
-use Rattle.raft_records.proofs.JoinLemmas.{joined_held, joined_view}
-use Rattle.raft_records.proofs.StageLemmas.{open_of}
+use Rattle.raft_records.proofs.StageLemmas.{joined_held, joined_view, open_of}
 use Rattle.raft_records.proofs.log_batch.LogBatch.merge.Goals as goal
 
 -- the batch holds the items and the entry bytes of both

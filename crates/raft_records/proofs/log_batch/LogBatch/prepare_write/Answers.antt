@@ -1,9 +1,6 @@
 use Rattle.raft_records.proofs.Common.{◌∙◌, ap, signature_of, Batch, sealed, entry_bytes_in}
-use Rattle.raft_records.proofs.StageLemmas.{batch_with, held_unsigned, made_of, signed_held}
+use Rattle.raft_records.proofs.StageLemmas.{batch_with, made_of, signed_held}
 use Rattle.raft_records.proofs.log_batch.LogBatch.prepare_write.Goals as goal
-
-pub seal-requires : goal.seal-requires
-seal-requires c = held_unsigned (made_of c.self.view_is c.requires) c.self.invariant
 
 pub invariant_of-self : goal.invariant_of-self
 invariant_of-self c =

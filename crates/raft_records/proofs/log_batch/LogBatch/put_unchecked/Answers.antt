@@ -1,5 +1,4 @@
-use Rattle.raft_records.proofs.Common.{Some, refl, pair_item}
-use Rattle.raft_records.specs.declared.key_value.OpType.TheVariants.{Put}
+use Rattle.raft_records.proofs.Common.{Some, refl, pair_item, Put}
 use Rattle.raft_records.proofs.StageLemmas.{item_held, item_view}
 use Rattle.raft_records.proofs.log_batch.LogBatch.put_unchecked.Goals as goal
 

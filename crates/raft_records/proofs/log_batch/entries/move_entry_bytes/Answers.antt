@@ -1,5 +1,5 @@
-use Rattle.std.proofs.Common.{◌≡◌, ◌<◌, ◌≤◌, ◌∙◌, ◌++◌, List, ℕ, length, drop, ap, arith}
-use Rattle.raft_records.proofs.JoinLemmas.{appended, taken_over}
+use Rattle.raft_records.proofs.Common.{◌≡◌, ◌<◌, ◌≤◌, ◌∙◌, ◌++◌, List, ℕ, length, drop, ap, arith}
+use Rattle.raft_records.proofs.StageLemmas.{appended, taken_over}
 use Rattle.raft_records.proofs.log_batch.entries.move_entry_bytes.Goals as goal
 use Rattle.raft_records.proofs.log_batch.entries.move_entry_bytes.Goals.{then-len-le-LOG_BATCH_HEADER_LEN, else-len-le-LOG_BATCH_HEADER_LEN}
 

@@ -1,4 +1,4 @@
-use Rattle.std.proofs.Common.{refl, arith}
+use Rattle.raft_records.proofs.Common.{refl, arith}
 use Rattle.raft_records.proofs.StringLemmas.{laid_messages_fit}
 use Rattle.raft_records.proofs.log_batch.entries.write_messages.Goals as goal
 

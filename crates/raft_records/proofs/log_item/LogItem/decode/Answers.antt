@@ -1,30 +1,28 @@
-use Rattle.raft_records.proofs.Common.{◌≡◌, ◌∙◌, inr, content_of, err_from_is_err_and}
+use Rattle.raft_records.proofs.Common.{◌≡◌, ◌∙◌, inr, content_of, at_exit}
 use Rattle.raft_records.proofs.ContentLemmas.{item_read, no_region, no_content}
 use Rattle.raft_records.proofs.ReadBatchLemmas.{content_is_made, no_room_for_change}
 use Rattle.raft_records.proofs.log_item.LogItem.decode.Goals as goal
 
 pub returns-in_err-raft_group_id-clause-refused : goal.returns-in_err-raft_group_id-clause-refused
 returns-in_err-raft_group_id-clause-refused c =
-    let p = err_from_is_err_and c.from_residual.result c.from_residual.ensures.1 in
-    rw (p.1) (λ ne. no_region c.args.entries_size.now c.args.buf.now.now c.in_err-raft_group_id.ensures.refused)
+    at_exit c.from_residual.result c.from_residual.ensures.1 (λ _ _ ne. no_region c.args.entries_size.now c.args.buf.now.now c.in_err-raft_group_id.ensures.refused)
 
 pub returns-in_err-read-clause-refused : goal.returns-in_err-read-clause-refused
 returns-in_err-read-clause-refused c =
-    let p = err_from_is_err_and c.from_residual-in_err-read.result c.from_residual-in_err-read.ensures.1 in
-    rw (p.1, p.2) (λ ne. no_content c.args.entries_size.now c.in_ok-raft_group_id.raft_group_id c.args.buf.now.now c.in_ok-raft_group_id.behind.now c.in_ok-raft_group_id.ensures.ok (c.in_err-read.ensures.refused ne))
+    at_exit c.from_residual-in_err-read.result c.from_residual-in_err-read.ensures.1 (λ _ is. rw is (λ ne. no_content c.args.entries_size.now c.in_ok-raft_group_id.raft_group_id c.args.buf.now.now c.in_ok-raft_group_id.behind.now
+    c.in_ok-raft_group_id.ensures.ok (c.in_err-read.ensures.refused ne)))
 
 pub returns-in_err-content-clause-fault : goal.returns-in_err-content-clause-fault
 returns-in_err-content-clause-fault c =
-    let p = err_from_is_err_and c.from_residual-in_err-content.result c.from_residual-in_err-content.ensures.1 in
     let region = c.in_ok-raft_group_id.ensures.ok in
-    rw (p.1, p.2) (inr (record {
+    at_exit c.from_residual-in_err-content.result c.from_residual-in_err-content.ensures.1 (λ _ is. rw is (inr (record {
       first = region.front;
       rest = c.in_ok-raft_group_id.behind.now;
       value = c.in_ok-raft_group_id.raft_group_id;
       first_spells = region.spells;
       split = region.split;
       fault = no_room_for_change c.in_err-content.field-0.0 c.in_err-content.ensures.change c.in_ok-read.ensures.ok (rw c.in_err-content.ensures.memory tt);
-    }))
+    })))
 
 pub returns-clause-ok : goal.returns-clause-ok
 returns-clause-ok c =

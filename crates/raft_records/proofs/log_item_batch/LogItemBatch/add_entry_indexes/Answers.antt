@@ -1,5 +1,4 @@
-use Rattle.raft_records.proofs.Common.{◌≡◌, ap, sym, subst, ◌∙◌, arith, Item, IsInBytes, entries_item, item_of, FitsBehind, with_offsets_from, entry_bytes_of}
-use Rattle.raft_records.proofs.Names.{behind_item}
+use Rattle.raft_records.proofs.Common.{◌≡◌, ap, sym, subst, ◌∙◌, arith, Item, IsInBytes, entries_item, item_of, FitsBehind, with_offsets_from, entry_bytes_of, behind_item}
 use Rattle.raft_records.proofs.LayLemmas.{laid_fits, end_of_laid}
 use Rattle.raft_records.proofs.log_item_batch.LogItemBatch.add_entry_indexes.Goals as goal
 

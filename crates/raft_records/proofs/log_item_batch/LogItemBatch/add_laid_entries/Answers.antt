@@ -1,5 +1,4 @@
-use Rattle.raft_records.proofs.Common.{sym, subst, ◌∙◌, ap, Item, IsInBytes, FitsBehind, entry_bytes_of}
-use Rattle.raft_records.proofs.Names.{behind_item}
+use Rattle.raft_records.proofs.Common.{sym, subst, ◌∙◌, ap, Item, IsInBytes, FitsBehind, entry_bytes_of, behind_item}
 use Rattle.raft_records.proofs.log_item_batch.LogItemBatch.add_laid_entries.Goals as goal
 
 pub add-requires-clause-fits : goal.add-requires-clause-fits

@@ -1,5 +1,4 @@
-use Rattle.std.specs.Prelude.{IfSome}
-use Rattle.raft_records.proofs.Common.{◌∙◌, sym, subst, IsKeptBeside, AreDecodedIn}
+use Rattle.raft_records.proofs.Common.{IfSome, ◌∙◌, sym, subst, IsKeptBeside, AreDecodedIn}
 use Rattle.raft_records.proofs.CloneLemmas.{items_clone}
 use Rattle.raft_records.proofs.log_item_batch.LogItemBatchClone.clone.Goals as goal
 

@@ -1,12 +1,12 @@
-use Rattle.raft_records.proofs.Common.{subst, sym, err_from_is_err_and, signature_of, FitTogether}
+use Rattle.raft_records.proofs.Common.{subst, sym, at_exit, signature_of, FitTogether}
 use Rattle.raft_records.proofs.BatchLemmas.{no_items_count, no_items, counted_read, batch_read}
 use Rattle.raft_records.proofs.ReadBatchLemmas.{items_fit, shown_in_file}
 use Rattle.raft_records.proofs.read_batch.ReadBatch.read_item_batch.Goals as goal
 
 pub returns-in_err-count-clause-refused : goal.returns-in_err-count-clause-refused
 returns-in_err-count-clause-refused c =
-    let p = err_from_is_err_and c.from_residual-in_err-count.result c.from_residual-in_err-count.ensures.1 in
-    rw (p.1) (λ ne. no_items_count (signature_of c.args.context.now) c.args.bytes.now c.in_ok-content.content.now (rw c.get_signature.ensures at c.in_ok-content.ensures.ok) c.in_err-count.ensures.refused)
+    at_exit c.from_residual-in_err-count.result c.from_residual-in_err-count.ensures.1 (λ _ _ ne. no_items_count (signature_of c.args.context.now) c.args.bytes.now c.in_ok-content.content.now
+    (rw c.get_signature.ensures at c.in_ok-content.ensures.ok) c.in_err-count.ensures.refused)
 
 pub returns-in-Err-clause-refused : goal.returns-in-Err-clause-refused
 returns-in-Err-clause-refused c =

@@ -1,4 +1,4 @@
-use Rattle.raft_records.proofs.Common.{◌-◌, arith, inl, inr, err_from_is_err_and}
+use Rattle.raft_records.proofs.Common.{◌-◌, arith, inl, inr, at_exit}
 use Rattle.raft_records.proofs.BatchLemmas.{no_more_items, item_fault}
 use Rattle.raft_records.proofs.ReadBatchLemmas.{one_more_held}
 use Rattle.raft_records.proofs.read_batch.items.read_items.Goals as goal
@@ -6,18 +6,17 @@ use Rattle.raft_records.proofs.read_batch.items.read_items.Goals.{in-Some, in-No
 
 pub returns-in_err-end-in-None-clause-refused : goal.returns-in_err-end-in-None-clause-refused
 returns-in_err-end-in-None-clause-refused c =
-    let p = err_from_is_err_and c.from_residual-in_err-end-in-None.result c.from_residual-in_err-end-in-None.ensures.1 in
     let so = c.loop.invariant in
-    rw (p.1, p.2) (λ ne. no_more_items c.args.bytes.now c.loop.rest.now so.read c.loop.offset c.args.count so.reads so.ends (omega (arith, so.counted)) (c.in_err-end-in-None.ensures.refused ne))
+    at_exit c.from_residual-in_err-end-in-None.result c.from_residual-in_err-end-in-None.ensures.1 (λ _ is. rw is (λ ne. no_more_items c.args.bytes.now c.loop.rest.now so.read c.loop.offset
+    c.args.count so.reads so.ends (omega (arith, so.counted)) (c.in_err-end-in-None.ensures.refused ne)))
 
 pub returns-in_err-end-in-None-clause-fault : goal.returns-in_err-end-in-None-clause-fault
 returns-in_err-end-in-None-clause-fault c =
-    let p = err_from_is_err_and c.from_residual-in_err-end-in-None.result c.from_residual-in_err-end-in-None.ensures.1 in
     let so = c.loop.invariant in
-    rw (p.1, p.2) (elim (c.in_err-end-in-None.ensures.fault) [
+    at_exit c.from_residual-in_err-end-in-None.result c.from_residual-in_err-end-in-None.ensures.1 (λ _ is. rw is (elim (c.in_err-end-in-None.ensures.fault) [
       | inl memory ↦ inl memory
       | inr fault ↦ item_fault c.args.bytes.now c.loop.rest.now so.read c.loop.offset c.args.count (c.args.count - c.loop.counter - 1) _ so.reads so.ends (omega (arith, so.counted)) fault
-    ])
+    ]))
 
 pub loop-preserved : goal.loop-preserved
 loop-preserved c =

@@ -1,4 +1,4 @@
-use Rattle.raft_records.proofs.Common.{◌-◌, ◌≤◌, ◌<◌, arith, inr, length, leb-true, err_from_is_err_and, Reads, IsTail, entry_between}
+use Rattle.raft_records.proofs.Common.{◌-◌, ◌≤◌, ◌<◌, arith, inr, length, leb-true, at_exit, Reads, IsTail, entry_between}
 use Rattle.raft_records.proofs.EntryLemmas.{no_more_tails, tail_fault}
 use Rattle.raft_records.proofs.ReadBatchLemmas.{one_more_kept, tails_read}
 use Rattle.raft_records.proofs.read_batch.items.read_tails.Goals as goal
@@ -6,15 +6,14 @@ use Rattle.raft_records.proofs.read_batch.items.read_tails.Goals.{in-Some, in-No
 
 pub returns-in_err-tail-in-None-clause-refused : goal.returns-in_err-tail-in-None-clause-refused
 returns-in_err-tail-in-None-clause-refused g c =
-    let p = err_from_is_err_and c.from_residual-in_err-tail-in-None.result c.from_residual-in_err-tail-in-None.ensures.1 in
     let so = c.loop.invariant.0 in
-    rw (p.1) (λ ne. no_more_tails c.args.count so.so_far (omega (arith, so.counted)) c.in_err-tail-in-None.ensures.refused)
+    at_exit c.from_residual-in_err-tail-in-None.result c.from_residual-in_err-tail-in-None.ensures.1 (λ _ _ ne. no_more_tails c.args.count so.so_far (omega (arith, so.counted)) c.in_err-tail-in-None.ensures.refused)
 
 pub returns-in_err-tail-in-None-clause-fault : goal.returns-in_err-tail-in-None-clause-fault
 returns-in_err-tail-in-None-clause-fault g c =
-    let p = err_from_is_err_and c.from_residual-in_err-tail-in-None.result c.from_residual-in_err-tail-in-None.ensures.1 in
     let so = c.loop.invariant.0 in
-    rw (p.1, p.2) (inr (tail_fault (c.args.count - c.loop.counter - 1) so.so_far (omega (arith, so.counted)) c.in_err-tail-in-None.ensures.fault))
+    at_exit c.from_residual-in_err-tail-in-None.result c.from_residual-in_err-tail-in-None.ensures.1 (λ _ is. rw is (inr (tail_fault (c.args.count - c.loop.counter - 1) so.so_far (omega (arith, so.counted))
+    c.in_err-tail-in-None.ensures.fault)))
 
 pub loop-preserved : goal.loop-preserved
 loop-preserved g c =

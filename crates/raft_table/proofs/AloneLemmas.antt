@@ -7,10 +7,10 @@ use Rattle.raft_table.proofs.Common.{All-weaker, All-contains_itself, prefix_len
 use Rattle.raft_table.proofs.RunLemmas.{below_take, RisesFrom-take, RisesFrom-drop, RisesFrom-append}
 use Rattle.raft_table.proofs.SoundLemmas.{sound_rising}
 use Rattle.raft_table.proofs.RewriteLemmas.{from_is, run_rising, meeting_is, below_zero, RewritesAt, places_of, moves_of}
-use Rattle.raft_table.proofs.StandLemmas.{entry_with_index-append, entry_with_index-below, entry_with_index-from}
+use Rattle.raft_table.proofs.LastWordLemmas.{entry_with_index-append, entry_with_index-below, entry_with_index-from}
 use Rattle.raft_table.proofs.MarkEntries.{accepted}
-use Rattle.std.specs.FinMap as finite
 use Rattle.raft_table.proofs.Shown.{equal}
+use Rattle.std.specs.FinMap as finite
 
 -- what stands where n places from i0 on are another run's
 at_places : (i i0 n : ℕ) (run es : List EntryIndex) → RisesFrom i0 (from i0 run) → entry_at i (with_places run i0 n es) ≡ cond (leb i0 i && ltb i (i0 + n)) (entry_at i run) (entry_at i es)
@@ -30,7 +30,6 @@ at_places i i0 n run es r =
     at false b false e f g = absurd (grind (arith, nat_tests))
     at false false true e f g = refl
 
--- a run without entries meets none
 meeting_none : (es : List EntryIndex) → overlap [] es ≡ []
 unfolding end_of from
 meeting_none es = rw (below_zero es) refl
@@ -45,7 +44,6 @@ run_from_met run es met e r h l m =
     let n : length front - (x - s) ≡ length (e ∷ met) = sym (length-drop (x - s) front) ∙ ap length is in
     let c = length-take (x + length run - s) es in
     let rise : RisesFrom (s + (x - s)) (e ∷ met) = subst (λ ys. RisesFrom (s + (x - s)) ys) is (RisesFrom-drop (x - s) s front (RisesFrom-take (x + length run - s) s es (sound_rising es h)) (omega arith)) in
-    let i0 : e.index ≡ s + (x - s) = rise.0 in
     let k : x + (e.index - x) ≡ e.index = omega arith in
     let rr = RisesFrom-drop (e.index - x) x run (run_rising Rewrite run r) (omega arith) in
     rw (from_is e.index x run (run_rising Rewrite run r)) (rw k at rr)
@@ -68,7 +66,6 @@ moved_by_index gate run es after met e i r h m f =
 pub unmoved : (gate : Option ℕ) (run es : List EntryIndex) → overlap run es ≡ [] → entries_after_rewrite gate run es ≡ Some es
 unmoved gate run es m = ap (rewritten_from gate run es) m
 
--- runs from one start that are equally long have the same indexes
 same_indexes : (s : ℕ) (a b : List EntryIndex) → RisesFrom s a → RisesFrom s b → length a ≡ length b → indexes_of a ≡ indexes_of b
 same_indexes s [] [] h k e = refl
 same_indexes s [] (y ∷ b) h k e = absurd (omega arith)
@@ -81,7 +78,6 @@ same_indexes s (x ∷ a) (y ∷ b) h k e =
 abbrev IsEither : List EntryIndex → List EntryIndex → EntryIndex → Type 0
 IsEither before run e = Contains before e ⊎ Contains run e
 
--- nothing is moved
 pub none_moved : (run es : List EntryIndex) → MovesPlacesAlone run es es
 none_moved run es = record {
   indexes = refl;
@@ -123,14 +119,12 @@ moved_alone gate run es at skipped count h f =
     some_moved run es at skipped count (moves_of gate run es at skipped count) (sound_rising es h) f.rising f.within
     (omega (arith, f.within, prefix_len-le-length (may_move gate) part, length-drop at (take (at + length places) es), length-take-le (at + length places) es f.within))
 
--- the same keys and files
 pub key_stays : (key : List ℕ) (keys : Keys) → MovesKeyAlone key keys keys
 key_stays key keys = record { values = λ k. refl; files = λ k d. refl }
 
 same_key : (k key : List ℕ) → eq_by_cmp (slice_cmp nat_cmp) k key ≡ true → k ≡ key
 same_key k key e = slice_cmp-IsAntisymmetric nat_cmp-IsAntisymmetric k key (equal _ e)
 
--- one key's pair moved to another file
 pub key_moves : (key : List ℕ) (keys : Keys) (file : FileId) → MovesKeyAlone key keys (with_moved keys key file)
 key_moves key keys file = at (finite.get keys key) refl
   where

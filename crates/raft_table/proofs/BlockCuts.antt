@@ -21,7 +21,6 @@ pub kept_facts : {i n : ℕ} {bs : List BlockSpans} {ss : List ℕ} {r : ℕ} �
 kept_facts {i} {n} {bs} {ss} {r} k =
     let l : length (entries_in_blocks i bs) ≡ n = length-expanded i bs ∙ sym k.len in
     let b = entries_in_both (entries_in_blocks i bs) k.table_entries.in_front in
-    let h = k.rewritten in
     let e : 0 < n → end_of (entries_in_blocks i bs) ≡ i + n = λ p. end_of-run i (entries_in_blocks i bs) (rises_expanded i bs) (omega arith) ∙ omega arith in
     record {
       length = l;
@@ -32,7 +31,6 @@ kept_facts {i} {n} {bs} {ss} {r} k =
       bounded = λ p. let q = e p in let s = end_bounded _ k.table_entries.consecutive.bounded in omega arith;
     }
 
--- what a search finds
 pub index_of : {i n x : ℕ} {bs : List BlockSpans} {ss : List ℕ} {r : ℕ} → AreKept i n bs ss r → (w : ℕ) → x ≡ i + w → w < n → IsIndexOf ss x
 index_of {i} {n} {x} {bs} h w e l = let k = h.len in (i, bs, h.starts, omega arith, omega arith)
 
@@ -44,18 +42,15 @@ found {i} {n} {x} {k} {o} {bs} h f w e l = let m = h.len in subst (λ z. IsAt z 
 pub kept_length : {i n : ℕ} {bs : List BlockSpans} {ss : List ℕ} {r : ℕ} → AreKept i n bs ss r → length ss ≡ length bs
 kept_length {i} {n} {bs} h = ap length h.starts ∙ length-starts i bs
 
--- what is kept, with these first indexes
 pub kept_with : {i n : ℕ} {bs : List BlockSpans} {ss us : List ℕ} {r : ℕ} → AreKept i n bs ss r → us ≡ starts_of i bs → AreKept i n bs us r
 kept_with h e = record { table_entries = h.table_entries; distinct = h.distinct; starts = e; len = h.len; rewritten = h.rewritten }
 
--- a table's blocks end below 2^64
 some_count : (bs : List BlockSpans) → AreDistinctBlocks bs → 0 < length bs → 0 < count bs
 some_count [] d l = l
 some_count (b ∷ bs) d l = let h = d.0 in omega arith
 
 pub kept_bounded : {i n : ℕ} {bs : List BlockSpans} {ss : List ℕ} {r : ℕ} → AreKept i n bs ss r → 0 < length bs → i + count bs < 2 ^ 64
 kept_bounded {i} {n} {bs} h l =
-    let k = h.len in
     let s = some_count bs h.distinct l in
     let b = (kept_facts h).bounded (omega arith) in
     omega arith
@@ -64,18 +59,15 @@ kept_bounded {i} {n} {bs} h l =
 pub shown_len : {i n : ℕ} {bs : List BlockSpans} {ss : List ℕ} {r : ℕ} {es : List EntryIndex} → AreKept i n bs ss r → entries_in_blocks i bs ≡ es → length es ≡ n
 shown_len h e = ap length (sym e) ∙ (kept_facts h).length
 
--- a cut by an index
 pub kept_cut : {i n : ℕ} {bs : List BlockSpans} {ss : List ℕ} {r : ℕ} → AreKept i n bs ss r → (x k : ℕ) → k ≡ min (x - i) n →
     (drop k (entries_in_blocks i bs) ≡ from x (entries_in_blocks i bs)) × (take k (entries_in_blocks i bs) ≡ below x (entries_in_blocks i bs))
 kept_cut {i} {n} {bs} h x k e =
     let l = (kept_facts h).length in
     (behind_from x i k (entries_in_blocks i bs) (rises_expanded i bs) (rw l e), front_below x i k (entries_in_blocks i bs) (rises_expanded i bs) (rw l e))
 
--- an entry that is kept can be found
 pub within_of : {i n : ℕ} {bs : List BlockSpans} {ss : List ℕ} {r : ℕ} → AreKept i n bs ss r → (w : ℕ) → w < n → (w < count bs) × (i + count bs < 2 ^ 64)
 within_of h w l = let k = h.len in (omega arith, (let b = (kept_facts h).bounded (omega arith) in omega arith))
 
--- .. and those from it on are a part
 pub part_of : {i n a e : ℕ} {bs : List BlockSpans} {ss : List ℕ} {r : ℕ} {spot : ℕ × ℕ} → AreKept i n bs ss r → IsAt a bs spot.0 spot.1 → a ≤ e → e ≤ n → IsPart bs spot a e
 part_of h s l m = let k = h.len in record { first = s; distinct = h.distinct; order = l; within = omega arith }
 
@@ -123,7 +115,6 @@ pub Differs-same : (b c : BlockSpans) (bs : List BlockSpans) → c.handle ≡ b.
 Differs-same b c [] e h = tt
 Differs-same b c (x ∷ bs) e h = λ f. h (sym e ∙ f)
 
--- the blocks from a spot on
 pub kept_drop : (i n p k o : ℕ) (bs : List BlockSpans) (ss : List ℕ) (r : ℕ) → AreKept i n bs ss r → IsAt p bs k o →
     AreKept (i + p) (n - p) (without_first_of_first o (drop k bs)) (set (drop k ss) 0 (i + p)) (r - min r p) ×
     (entries_in_blocks (i + p) (without_first_of_first o (drop k bs)) ≡ drop p (entries_in_blocks i bs))
@@ -139,17 +130,14 @@ kept_drop i n p k o bs ss r h a = at (drop k bs) refl
         let cc = count_cut k bs in
         let total : count (take k bs) + (length b.spans + count rest) ≡ count bs = ap (λ ys. count (take k bs) + count ys) (sym q) ∙ cc in
         let more : count (take (suc k) bs) ≡ count (take k bs) + length b.spans = let c2 = count_cut (suc k) bs in let c3 = ap count s.1 in omega arith in
-        let w = a.spot in
         let ln : length (drop o b.spans) ≡ length b.spans - o = length-drop o b.spans in
         let pos : i + p + length (drop o b.spans) ≡ i + count (take (suc k) bs) = omega arith in
         let whole : drop p es ≡ entries_of_block (i + p) b.handle (drop o b.spans) ++ entries_in_blocks (i + count (take (suc k) bs)) rest =
         subst (λ (ys : List BlockSpans). drop p es ≡ entries_of_block (i + p) b.handle (drop o b.spans) ++ entries_in_blocks (i + count (take (suc k) bs)) ys) s.1
         (subst (λ (y : BlockSpans). drop p es ≡ entries_of_block (i + p) y.handle (drop o y.spans) ++ entries_in_blocks (i + count (take (suc k) bs)) (drop (suc k) bs)) s.0 (at_spot i p k o bs b a)) in
         let cut : drop p es ≡ entries_in_blocks (i + p) (without_first_spans o b ∷ rest) = rw pos whole in
-        let kl = h.len in
         let le : p ≤ length es = rw (length-expanded i bs) (omega arith) in
         let counts = cut_counts p es h.table_entries le in
-        let kr = h.rewritten in
         let str : AreDistinctBlocks (b ∷ rest) = subst AreDistinctBlocks q (distinct-drop k bs h.distinct) in
         let ds : drop k ss ≡ (i + count (take k bs)) ∷ starts_of (i + count (take k bs) + length b.spans) rest =
         ap (drop k) h.starts ∙ starts_drop k i bs ∙ ap (starts_of (i + count (take k bs))) q in
@@ -197,7 +185,6 @@ front_at i p k o bs str a = at (drop k bs) refl
         let inside : o < length b.spans = subst (λ (y : BlockSpans). o < length y.spans) s.0 (a.inside b) in
         let lc : length (take (suc o) b.spans) ≡ suc o = length-take-le (suc o) b.spans (omega arith) in
         let front = take k bs in
-        let w = a.spot in
         let whole : front ++ b ∷ rest ≡ bs = ap (λ xs. front ++ xs) (sym q) ∙ take-append-drop k bs in
         let l = a.block in
         let lf : length front ≡ k = length-take-le k bs (omega arith) in
@@ -214,28 +201,6 @@ front_at i p k o bs str a = at (drop k bs) refl
           count = count-append front (c ∷ []) ∙ omega arith;
         })
 
--- the blocks up to a spot
-pub kept_take : (i n p k o : ℕ) (bs : List BlockSpans) (ss : List ℕ) (r : ℕ) → AreKept i n bs ss r → IsAt p bs k o →
-    AreKept i (suc p) (first_of_last (suc o) (take (suc k) bs)) (take (suc k) ss) (min r (suc p)) ×
-    (entries_in_blocks i (first_of_last (suc o) (take (suc k) bs)) ≡ take (suc p) (entries_in_blocks i bs))
-kept_take i n p k o bs ss r h a =
-    let f = front_at i p k o bs h.distinct a in
-    let es = entries_in_blocks i bs in
-    let c = f.count in
-    let le : suc p ≤ length es = rw (length-expanded i bs) (spot_within p k o bs a) in
-    let counts = cut_counts (suc p) es h.table_entries le in
-    let kr = h.rewritten in (
-      record {
-        table_entries = rw f.entries (AreTableEntries-take (suc p) es h.table_entries);
-        distinct = f.distinct;
-        starts = ap (take (suc k)) h.starts ∙ sym f.starts;
-        len = sym c;
-        rewritten = rw f.entries (omega arith);
-      },
-      f.entries,
-    )
-
--- the same, told by how many stay
 pub front_of : (i w k o : ℕ) (bs : List BlockSpans) → AreDistinctBlocks bs → 0 < w → IsAt (w - 1) bs k o → IsFront i w (k + 1) bs (first_of_last (o + 1) (take (k + 1) bs))
 front_of i w k o bs str l a =
     let e : suc (w - 1) ≡ w = omega arith in
@@ -247,8 +212,16 @@ pub kept_front : {n r : ℕ} {ss : List ℕ} (i w k o : ℕ) (bs : List BlockSpa
     AreKept i w (first_of_last (o + 1) (take (k + 1) bs)) (take (k + 1) ss) (min r w) ×
     (entries_in_blocks i (first_of_last (o + 1) (take (k + 1) bs)) ≡ take w (entries_in_blocks i bs))
 kept_front {n} {r} {ss} i w k o bs h l a =
-    let e : suc (w - 1) ≡ w = omega arith in
-    let f : k + 1 ≡ suc k = omega arith in
-    let g : o + 1 ≡ suc o = omega arith in
-    rw (f, g) (subst (λ m. AreKept i m (first_of_last (suc o) (take (suc k) bs)) (take (suc k) ss) (min r m) ×
-    (entries_in_blocks i (first_of_last (suc o) (take (suc k) bs)) ≡ take m (entries_in_blocks i bs))) e (kept_take i n (w - 1) k o bs ss r h a))
+    let f = front_of i w k o bs h.distinct l a in
+    let es = entries_in_blocks i bs in
+    let le : w ≤ length es = rw (length-expanded i bs) (omega (arith, spot_within (w - 1) k o bs a)) in
+    let counts = cut_counts w es h.table_entries le in (
+      record {
+        table_entries = rw f.entries (AreTableEntries-take w es h.table_entries);
+        distinct = f.distinct;
+        starts = ap (take (k + 1)) h.starts ∙ sym f.starts;
+        len = sym f.count;
+        rewritten = rw f.entries (omega arith);
+      },
+      f.entries,
+    )

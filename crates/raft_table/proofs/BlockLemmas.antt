@@ -1,7 +1,7 @@
 -- Blocks and their entries: how many, from which indexes on, one after the other, and where one stands.
-use Rattle.raft_table.proofs.Common.{◌≡◌, ℕ, zero, suc, ◌+◌, ◌-◌, ◌<◌, ◌≤◌, List, [], ◌∷◌, ◌++◌, length, get_or, take, drop, refl, sym, ap, ◌∙◌, arith, append_assoc, length-append, take_more, IsNonDecreasingBy}
-use Rattle.raft_table.proofs.Common.{FileBlockHandle, RisesFrom, entries_of_block, BlockSpans, entries_in_blocks, count, starts_of, start_of, false, true, eqb, subst, inl, inr, Some, cases_lt, drop-append-le}
-use Rattle.raft_table.proofs.Common.{take-append-le, take-append-drop, drop_more, take_all, length-take-le, get_or-drop, eq-or-lt_of_le, nat_tests, EntryIndex, IsIndexOf, IsAt, entry_at}
+use Rattle.raft_table.proofs.Common.{◌≡◌, ℕ, zero, suc, ◌+◌, ◌-◌, ◌<◌, ◌≤◌, List, [], ◌∷◌, ◌++◌, length, get_or, take, drop, refl, sym, ap, ◌∙◌, arith, append_assoc, length-append, take_more, IsNonDecreasingBy, FileBlockHandle, RisesFrom}
+use Rattle.raft_table.proofs.Common.{entries_of_block, BlockSpans, entries_in_blocks, count, starts_of, start_of, false, true, eqb, subst, inl, inr, Some, cases_lt, drop-append-le, take-append-le, take-append-drop, drop_more, take_all}
+use Rattle.raft_table.proofs.Common.{length-take-le, get_or-drop, eq-or-lt_of_le, nat_tests, EntryIndex, IsIndexOf, IsAt, entry_at}
 use Rattle.raft_table.proofs.RunLemmas.{RisesFrom-append, RisesFrom-take}
 use Rattle.std.proofs.Math.Seq.{drop-append-add, take-append-add}
 use Rattle.raft_base.specs.declared.compression_type.CompressionType.TheVariants as compression
@@ -105,7 +105,6 @@ count_take_more j [] d l = absurd (omega arith)
 count_take_more zero (b ∷ bs) d l = omega arith
 count_take_more (suc j) (b ∷ bs) d l = let h = count_take_more j bs d (omega arith) in omega arith
 
--- the first index of one more block
 pub starts_more : (i k : ℕ) (bs : List BlockSpans) (d : BlockSpans) → k < length bs
     → starts_of i (take (k + 1) bs) ≡ starts_of i (take k bs) ++ (i + count (take k bs)) ∷ []
 starts_more i k bs d l = ap (starts_of i) (take_more bs k d l) ∙ starts-append i (take k bs) (get_or bs k d ∷ [])
@@ -134,8 +133,6 @@ spot_within p k o [] a = absurd (let l = a.block in omega arith)
 spot_within p k o (b ∷ bs) a =
     let l = a.block in
     let m = count_take_more k (b ∷ bs) b l in
-    let w = a.spot in
-    let u = a.inside b in
     let f = count_front (suc k) (b ∷ bs) in
     omega arith
 
@@ -161,7 +158,6 @@ pub found_some : (ss : List ℕ) (x k : ℕ) → IsIndexOf ss x → ((j d : ℕ)
 found_some ss x zero h up = let a = up 0 0 (omega arith) (index_some ss x h) in let b = index_first ss x h 0 in absurd (omega arith)
 found_some ss x (suc k) h up = omega arith
 
--- what stands from a spot on
 pub at_spot : (i p k o : ℕ) (bs : List BlockSpans) (d : BlockSpans) → IsAt p bs k o →
     drop p (entries_in_blocks i bs) ≡ entries_of_block (i + p) (get_or bs k d).handle (drop o (get_or bs k d).spans) ++ entries_in_blocks
     (i + count (take (suc k) bs)) (drop (suc k) bs)
@@ -174,7 +170,6 @@ at_spot i p zero o (b ∷ bs) d a =
     ∙ ap (λ es. es ++ entries_in_blocks (i + length b.spans) bs) (spread_drop o i b.handle b.spans (omega arith)))
 at_spot i p (suc k) o (b ∷ bs) d a =
     let n = length b.spans in
-    let l = a.block in
     let q : p ≡ n + (count (take k bs) + o) = sym a.spot ∙ omega arith in
     let z : n + (count (take k bs) + o) ≡ length (entries_of_block i b.handle b.spans) + (count (take k bs) + o) = rw (length-spread i b.handle b.spans) refl in
     let u : i + n + (count (take k bs) + o) ≡ i + p = omega arith in
@@ -185,7 +180,6 @@ at_spot i p (suc k) o (b ∷ bs) d a =
     ∙ at_spot (i + n) (count (take k bs) + o) k o bs d rest
     ∙ rw (u, v) refl
 
--- what stands below it
 pub below_spot : (i p k o : ℕ) (bs : List BlockSpans) (d : BlockSpans) → k < length bs → count (take k bs) + o ≡ p →
     o ≤ length (get_or bs k d).spans → take p (entries_in_blocks i bs) ≡ entries_in_blocks i (take k bs) ++ entries_of_block (i + count (take k bs))
     (get_or bs k d).handle (take o (get_or bs k d).spans)
@@ -212,7 +206,6 @@ skip x s (e ∷ a) b h l =
     let t : eqb e.index x ≡ false = rw h.0 (grind (arith, nat_tests)) in
     rw t (skip x (suc s) a b h.1 (omega arith))
 
--- the entry of a span
 abbrev pub entry_of : ℕ → FileBlockHandle → ℕ × ℕ → EntryIndex
 entry_of x handle s = record { index = x; entries = Some handle; compression_type = compression.None; entry_offset = s.0; entry_len = s.1 }
 
@@ -226,7 +219,6 @@ pub entry_at_spot : (x i k o : ℕ) (bs : List BlockSpans) (b : BlockSpans) (s :
 entry_at_spot x i k o bs b s lo a e f =
     let es = entries_in_blocks i bs in
     let p = x - i in
-    let l = a.block in
     let inside : o < length b.spans = subst (λ (y : BlockSpans). o < length y.spans) (sym e) (a.inside b) in
     let tail : drop p es ≡ entries_of_block (i + p) b.handle (drop o b.spans) ++ entries_in_blocks (i + count (take (suc k) bs)) (drop (suc k) bs) =
     subst (λ (y : BlockSpans). drop p es ≡ entries_of_block (i + p) y.handle (drop o y.spans) ++ entries_in_blocks (i + count (take (suc k) bs)) (drop (suc k) bs)) (sym e) (at_spot i p k o bs b a) in
@@ -237,7 +229,6 @@ entry_at_spot x i k o bs b s lo a e f =
     ∙ skip x i (take p es) (drop p es) (RisesFrom-take p i es (rises_expanded i bs)) (omega arith)
     ∙ rw (tail, q) (head_of x o b.handle b.spans s (entries_in_blocks (i + count (take (suc k) bs)) (drop (suc k) bs)) inside f))
 
--- the entry at a spot
 pub entry_is : (i p k o : ℕ) (bs : List BlockSpans) (b : BlockSpans) (s : ℕ × ℕ) (d : EntryIndex) → IsAt p bs k o → b ≡ get_or bs k b → s ≡ get_or b.spans o s → entry_of (i + p) b.handle s ≡ get_or (entries_in_blocks i bs) p d
 entry_is i p k o bs b s d a e f =
     let es = entries_in_blocks i bs in

@@ -8,11 +8,11 @@ pub use Rattle.std.proofs.lemmas.Bool.{cases_lt, false≢true, leb-false, leb-tr
 pub use Rattle.std.proofs.lemmas.Bool.Decides.{nat_tests}
 pub use Rattle.std.proofs.lemmas.List.{append-nil, append_assoc, drop-append-le, drop-take, drop_all, drop_at, drop_min, drop_more, get_or-drop, get_or-take, get_or_default, length-append, length-drop, length-map}
 pub use Rattle.std.proofs.lemmas.List.{length-take, length-take-le, map-append, nil_from_length, reverse-append, take-append-drop, take-append-le, take-map, take-take, take_all, take_at, take_min, take_more}
-pub use Rattle.std.proofs.lemmas.List.Elements.{All-append, All-cons, All-contains_itself, All-drop, All-map, All-nil, All-take, All-weaker, filter-append}
+pub use Rattle.std.proofs.lemmas.List.Elements.{All-append, All-cons, All-contains_itself, All-drop, All-map, All-nil, All-take, All-weaker, filter-append, filter_passes, recursion_from_All}
 pub use Rattle.std.proofs.lemmas.List.Sorted.{IsPartitionPoint-from_clause, IsPartitionedBy-leb}
-pub use Rattle.std.proofs.lemmas.List.Sums.{prefix_len-le-length, sum_by_more}
+pub use Rattle.std.proofs.lemmas.List.Sums.{prefix_len-le-length, prefix_len_passes, sum_by_more}
 pub use Rattle.std.proofs.lemmas.Map.Keys.{sorted_head, sorted_tail}
-pub use Rattle.std.proofs.lemmas.Option.{slice_get_past}
+pub use Rattle.std.proofs.lemmas.Option.{option_and_then_some, slice_get_past}
 pub use Rattle.std.proofs.lemmas.Result.{IfErr-weaker, err_from_is_err_and, on_ok_weaker}
 pub use Rattle.std.specs.BTreeMap.{IsOrdered, insert_entry, is_at, values}
 pub use Rattle.std.specs.BTreeMap.Comparable.{le_lt_trans}

@@ -11,7 +11,6 @@ use Rattle.raft_table.proofs.RewriteLemmas.{below_is, from_is}
 pub part_is : {X : Type 0} (a b : ℕ) (xs : List X) → a ≤ b → drop a (take b xs) ≡ take (b - a) (drop a xs)
 part_is a b xs h = ap (λ k. drop a (take k xs)) (let e : b ≡ a + (b - a) = omega arith in e) ∙ drop-take a (b - a) xs
 
--- the total with one more length
 pub total_more : (xs : List EntryIndex) (n : ℕ) (d : EntryIndex) → n < length xs → total_len (suc n) xs ≡ total_len n xs + (get_or xs n d).entry_len
 total_more xs n d l = let e : n + 1 ≡ suc n = omega arith in rw e at (sum_by_more (λ y. y.entry_len) xs n d l)
 
@@ -78,7 +77,6 @@ between_is begin end es h =
     ap (from begin) (below_is end (start_of es) es (sound_rising es h))
     ∙ from_is begin (start_of es) (take (end - start_of es) es) (RisesFrom-take (end - start_of es) (start_of es) es (sound_rising es h))
 
--- so many of a part
 pub part_front : {X : Type 0} (a b n : ℕ) (xs : List X) → a ≤ b → n ≤ length (drop a (take b xs)) → drop a (take (a + n) xs) ≡ take n (drop a (take b xs))
 part_front a b n xs h l =
     let p = part_is a b xs h in

@@ -1,6 +1,6 @@
 -- Own entries that are not below the cut of their region mark.
-use Rattle.raft_table.proofs.Common.{◌≡◌, ℕ, ◌≤◌, ◌<◌, suc, min, Bool, true, false, cond, List, [], ◌∷◌, ◌++◌, filter, Option, Some, None, refl, sym, subst, arith, LogQueue, EntryIndex, RisesFrom, end_of, start_of}
-use Rattle.raft_table.proofs.Common.{lesser, Mark, entries_within, FitsCut, AreFromCut, Fits, fresh, joined_at}
+use Rattle.raft_table.proofs.Common.{◌≡◌, ℕ, ◌≤◌, ◌<◌, suc, min, Bool, true, false, cond, List, [], ◌∷◌, ◌++◌, filter, Option, Some, None, refl, sym, subst, arith, LogQueue, EntryIndex, RisesFrom, end_of, start_of, lesser, Mark}
+use Rattle.raft_table.proofs.Common.{entries_within, FitsCut, AreFromCut, Fits, fresh, joined_at}
 use Rattle.raft_table.proofs.StepMarkLemmas.{run_covered}
 
 from_less : (c d : ℕ) (es : List EntryIndex) → d ≤ c → AreFromCut (Some c) es → AreFromCut (Some d) es
@@ -27,14 +27,12 @@ pub from_none : (c : Option ℕ) → AreFromCut c []
 from_none None = tt
 from_none (Some c) = tt
 
--- behind an older mark without a run
 pub from_first : (a b reach : Option ℕ) (n : Mark) (u : List EntryIndex) → FitsCut reach b n u → AreFromCut b u → AreFromCut (lesser a b) u
 from_first a None None n u h k = subst (AreFromCut (lesser a None)) (sym h) (from_none (lesser a None))
 from_first a None (Some r) n u h k = absurd h
 from_first None (Some d) reach n u h k = k
 from_first (Some c) (Some d) reach n u h k = from_less d (min c d) u (omega arith) k
 
--- behind an older mark with a run
 pub from_later : (c floor : ℕ) (b reach : Option ℕ) (n : Mark) (t u w : List EntryIndex) (dropped : Bool) → AreFromCut (Some c) t →
     FitsCut reach b n u → AreFromCut b u → cond dropped u (entries_within floor b t ++ u) ≡ w → AreFromCut (lesser (Some c) b) w
 from_later c floor b reach n t u w dropped h k l is = subst (AreFromCut (lesser (Some c) b)) is (go dropped (from_first (Some c) b reach n u k l))
@@ -47,8 +45,6 @@ from_later c floor b reach n t u w dropped h k l is = subst (AreFromCut (lesser 
     go true y = y
     go false y = (elim b as (λ b. AreFromCut (lesser (Some c) b) (entries_within floor b t) → AreFromCut (lesser (Some c) b) u → AreFromCut (lesser (Some c) b) (entries_within floor b t ++ u))
         [ None ↦ λ x y. from_append c (entries_within floor None t) u x y | Some d ↦ λ x y. from_append (min c d) (entries_within floor (Some d) t) u x y ]) (older b) y
-
--- ---- what a run changes
 
 cut_low : (c : ℕ) (es : List EntryIndex) → 0 < end_of es → AreFromCut (Some c) es → c ≤ start_of es
 unfolding end_of

@@ -1,9 +1,9 @@
 -- What merged pairs hold at a key, and what the least of some numbers is.
-use Rattle.raft_table.proofs.Common.{◌≡◌, ℕ, suc, ◌≤◌, true, false, cond, List, [], ◌∷◌, length, min, Option, Some, None, Contains, All, refl, sym, ap, subst, ◌∙◌, arith, inl, inr, nat_cmp, eq_by_cmp, option_or}
-use Rattle.raft_table.proofs.Common.{slice_cmp, nat_list_cmp_total, find, is_sorted, cases_lt, All-cons, Keys, Stored, least, lesser, pairs_over, with_pairs}
-use Rattle.std.specs.FinMap as finite
+use Rattle.raft_table.proofs.Common.{◌≡◌, ℕ, suc, ◌≤◌, true, false, cond, List, [], ◌∷◌, length, min, Option, Some, None, Contains, All, refl, sym, ap, subst, ◌∙◌, arith, inl, inr, nat_cmp, eq_by_cmp, option_or, slice_cmp}
+use Rattle.raft_table.proofs.Common.{nat_list_cmp_total, find, is_sorted, cases_lt, All-cons, Keys, Stored, least, lesser, pairs_over, with_pairs}
 use lib.Dec.{T}
 use Rattle.raft_table.proofs.Shown.{find-below, below_all-equal, first_of_both, second_of_both, equal}
+use Rattle.std.specs.FinMap as finite
 
 get-with_pairs : (es : List (List ℕ × Stored)) (keys : Keys) (q : List ℕ) → T (is_sorted (slice_cmp nat_cmp) es) → finite.get (with_pairs keys es) q ≡ option_or (find (slice_cmp nat_cmp) q es) (finite.get keys q)
 get-with_pairs [] keys q h = refl
@@ -16,7 +16,6 @@ get-with_pairs (e ∷ es) keys q h =
       | false ↦ λ t r. r
     ] refl rest
 
--- the newer pairs win
 pub get-pairs_over : (newer older : Keys) (q : List ℕ) → finite.get (pairs_over newer older) q ≡ option_or (finite.get newer q) (finite.get older q)
 get-pairs_over newer older q = get-with_pairs (finite.entries newer) older q (finite.entries_sorted newer) ∙ ap (λ o. option_or o (finite.get older q)) (sym (finite.get-entries newer q))
 

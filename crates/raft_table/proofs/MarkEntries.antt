@@ -1,11 +1,10 @@
 -- Entries under two marks, one after the other, and under the joined one.
 use Rattle.std.proofs.lemmas.Bool.{or_parts}
-use Rattle.raft_table.proofs.Common.{◌≡◌, ◌⊎◌, ℕ, ◌≤◌, max, min, Bool, true, false, cond, ◌&&◌, ◌||◌, ltb, eqb, List, [], ◌++◌, Option, Some, None, refl, sym, ap, ◌∙◌, arith, is_some, Append, Rewrite, option_and_then}
-use Rattle.raft_table.proofs.Common.{append-nil, nat_tests, LogQueue, EntryIndex, RisesFrom, IsRun, end_of, lesser, Mark, entries_within, misses, is_missed, is_barred, entries_over, IsNotAbove, LiesWithin, FitsRun}
-use Rattle.raft_table.proofs.Common.{FitsCut, Fits, at_most_bound, narrowed_bars, is_detached, joined_first, joined_later, joined_uncleaned, joined_at, start_of}
+use Rattle.raft_table.proofs.Common.{◌≡◌, ◌⊎◌, ℕ, ◌≤◌, max, min, Bool, true, false, cond, ◌&&◌, ◌||◌, ltb, eqb, List, [], ◌++◌, Option, Some, None, refl, sym, ap, ◌∙◌, arith, is_some, Append, Rewrite, option_and_then, append-nil, nat_tests}
+use Rattle.raft_table.proofs.Common.{LogQueue, EntryIndex, RisesFrom, IsRun, end_of, lesser, Mark, entries_within, misses, is_missed, is_barred, entries_over, IsNotAbove, LiesWithin, FitsRun, FitsCut, Fits, at_most_bound, narrowed_bars}
+use Rattle.raft_table.proofs.Common.{is_detached, joined_first, joined_later, joined_uncleaned, joined_at, start_of}
 use Rattle.raft_table.proofs.RunLemmas.{rises}
-use Rattle.raft_table.proofs.MarkWords.{within-within, within-both, within-empty, within-nil, end_of-nil, nil_of_end, top, end_of-part_run}
-use Rattle.raft_table.proofs.MarkMeets.{barred_of, Settled, settled_list, met_list, at_cut_list, none_within, refuses_later}
+use Rattle.raft_table.proofs.MarkWords.{met_at, within-within, within-both, within-empty, within-nil, end_of-nil, nil_of_end, top, end_of-part_run, barred_of, Settled, settled_list, met_list, at_cut_list, none_within, refuses_later}
 
 pub same_some : {X : Type 0} (x y : X) → Some x ≡ Some y → x ≡ y
 same_some x y e = cc
@@ -57,7 +56,6 @@ later_append s s1 m n t u w o r c reach run run1 f f' is = rw reach (go (misses 
         (Some (max m.floor n.reach_floor, at_most_bound c n.reach_cut)) (narrowed_bars m.floor (Some c) n.barred) o k)
     go false false h k = rw (refuses_later s s1 o t r c m.reach_floor m.floor m.reach_cut m.barred n.reach n.reach_floor n.reach_cut n.barred run run1 f f' ok2.0 ok2.1 h k, content n.cleaned ok.1)
 
--- an older table without a run
 pub narrowed_bounds : (d : ℕ) (cut : Option ℕ) → lesser cut (Some d) ≡ Some (at_most_bound d cut)
 narrowed_bounds d None = refl
 narrowed_bounds d (Some c) = ap (λ x. Some x) (omega arith)
@@ -78,7 +76,6 @@ own_alone : (x : Bool) (l : ℕ) (d : Option ℕ) (u : List EntryIndex) → cond
 own_alone true l d u = refl
 own_alone false l d u = rw within-nil
 
--- over no entries stand the own ones
 over_none : (q : LogQueue) (n : Mark) (u : List EntryIndex) → over q n u [] ≡ Some u
 over_none Append n u = rw (misses_nil n.reach n.reach_floor n.reach_cut, barred_nil n.barred, own_alone n.cleaned n.floor n.cut u)
 over_none Rewrite n u = rw (misses_nil n.reach n.reach_floor n.reach_cut, own_alone n.cleaned n.floor n.cut u)
@@ -113,19 +110,16 @@ join_append : (m n : Mark) (t u w o : List EntryIndex) → IsRun o → IsRun t �
     → option_and_then (λ v. over Append n u v) (over Append m t o) ≡ over Append (joined_at Append (end_of (entries_within n.reach_floor n.reach_cut t)) m n) w o
 join_append m n t u w o run run1 f f' is = by_cleaned m.cleaned refl f.uncleaned
   where
-    X : ℕ
-    X = end_of (entries_within n.reach_floor n.reach_cut t)
-
     by_run : (x y : Option ℕ) → m.reach ≡ x → m.cut ≡ y → FitsCut x y m t
         → option_and_then (λ v. over Append n u v) (cond (misses x (end_of (entries_within m.reach_floor m.reach_cut o)) || is_barred m.barred o) None (Some (entries_within m.floor y o ++ t)))
-        ≡ over Append (joined_uncleaned x y Append X m n) w o
+        ≡ over Append (joined_uncleaned x y Append (met_at n t) m n) w o
     by_run None y r e h = let none : m.barred ≡ None = f.behind r in rw (ap (λ b. is_barred b o) none, ← e) (first_whole Append m n t u w o h (over_first Append m n u o none) is)
     by_run (Some r) None k e h = absurd h
     by_run (Some r) (Some c) k e h = later_append (start_of o) (start_of t) m n t u w o r c k (rises o run) (rises t run1) h f'.within is
 
     by_cleaned : (b : Bool) → m.cleaned ≡ b → (b ≡ false → FitsCut m.reach m.cut m t)
         → option_and_then (λ v. over Append n u v) (cond (misses m.reach (end_of (entries_within m.reach_floor m.reach_cut o)) || is_barred m.barred o) None (Some (cond b t (entries_within m.floor m.cut o ++ t))))
-        ≡ over Append (cond b m (joined_uncleaned m.reach m.cut Append X m n)) w o
+        ≡ over Append (cond b m (joined_uncleaned m.reach m.cut Append (met_at n t) m n)) w o
     by_cleaned true e h = rw e (alone Append (misses m.reach (end_of (entries_within m.reach_floor m.reach_cut o)) || is_barred m.barred o) true n t u w [] refl is)
     by_cleaned false e h = by_run m.reach m.cut refl refl (h refl)
 
@@ -171,45 +165,40 @@ later_rewrite : (s s1 : ℕ) (m n : Mark) (t u o : List EntryIndex) (r c : ℕ) 
     ≡ over Rewrite (joined_later Rewrite c (end_of (entries_within n.reach_floor n.reach_cut t)) m n) w o
 later_rewrite s s1 m n t u o r c reach run run1 f none f' w is = rw reach (ap (λ v. Some v) (by_cleaned n.cleaned refl is))
   where
-    X : ℕ
-    X = end_of (entries_within n.reach_floor n.reach_cut t)
-
-    by_cleaned : (b : Bool) → n.cleaned ≡ b → cond b u (cond (misses n.reach X) u (entries_within n.floor n.cut t ++ u)) ≡ w
+    by_cleaned : (b : Bool) → n.cleaned ≡ b → cond b u (cond (misses n.reach (met_at n t)) u (entries_within n.floor n.cut t ++ u)) ≡ w
         → cond b u (cond (misses n.reach
         (end_of (entries_within n.reach_floor n.reach_cut
         (cond (misses (Some r) (end_of (entries_within m.reach_floor m.reach_cut o))) t (entries_within m.floor (Some c) o ++ t))))) u
         (entries_within n.floor n.cut (cond (misses (Some r) (end_of (entries_within m.reach_floor m.reach_cut o))) t
         (entries_within m.floor (Some c) o ++ t)) ++ u))
         ≡ cond b w (cond (misses (Some r) (end_of (entries_within m.reach_floor m.reach_cut o))) w
-        (entries_within (cond (is_detached n.reach X (at_most_bound c n.reach_cut) || misses n.reach X) (max (max m.floor n.floor) c)
+        (entries_within (cond (is_detached n.reach (met_at n t) (at_most_bound c n.reach_cut) || misses n.reach (met_at n t)) (max (max m.floor n.floor) c)
         (max m.floor n.floor)) (lesser (Some c) n.cut) o ++ w))
     by_cleaned true e is = is
     by_cleaned false e is = by_missed (misses (Some r) (end_of (entries_within m.reach_floor m.reach_cut o))) refl
       where
         by_missed : (b : Bool) → misses (Some r) (end_of (entries_within m.reach_floor m.reach_cut o)) ≡ b
             → cond (misses n.reach (end_of (entries_within n.reach_floor n.reach_cut (cond b t (entries_within m.floor (Some c) o ++ t))))) u (entries_within n.floor n.cut (cond b t (entries_within m.floor (Some c) o ++ t)) ++ u)
-            ≡ cond b w (entries_within (cond (is_detached n.reach X (at_most_bound c n.reach_cut) || misses n.reach X) (max (max m.floor n.floor) c) (max m.floor n.floor)) (lesser (Some c) n.cut) o ++ w)
+            ≡ cond b w (entries_within (cond (is_detached n.reach (met_at n t) (at_most_bound c n.reach_cut) || misses n.reach (met_at n t)) (max (max m.floor n.floor) c) (max m.floor n.floor)) (lesser (Some c) n.cut) o ++ w)
         by_missed true h = is
         by_missed false h = not_missed s s1 o t u n c m.floor run run1
             (settled_list s o r c (end_of t) m.reach_floor m.floor m.reach_cut m.barred run f h (rw none)) n.reach n.cut (f'.uncleaned e)
-            ∙ ap (λ v. entries_within (cond (is_detached n.reach X (at_most_bound c n.reach_cut) || misses n.reach X) (max (max m.floor n.floor) c)
+            ∙ ap (λ v. entries_within (cond (is_detached n.reach (met_at n t) (at_most_bound c n.reach_cut) || misses n.reach (met_at n t)) (max (max m.floor n.floor) c)
             (max m.floor n.floor)) (lesser (Some c) n.cut) o ++ v) is
 
 join_rewrite : (m n : Mark) (t u w o : List EntryIndex) → IsRun o → IsRun t → Fits Rewrite m t → Fits Rewrite n u → over Rewrite n u t ≡ Some w
     → option_and_then (λ v. over Rewrite n u v) (over Rewrite m t o) ≡ over Rewrite (joined_at Rewrite (end_of (entries_within n.reach_floor n.reach_cut t)) m n) w o
 join_rewrite m n t u w o run run1 f f' is = by_cleaned m.cleaned refl f.uncleaned
   where
-    X : ℕ
-    X = end_of (entries_within n.reach_floor n.reach_cut t)
-
     by_run : (x y : Option ℕ) → m.reach ≡ x → m.cut ≡ y → FitsCut x y m t
-        → over Rewrite n u (cond (misses x (end_of (entries_within m.reach_floor m.reach_cut o))) t (entries_within m.floor y o ++ t)) ≡ over Rewrite (joined_uncleaned x y Rewrite X m n) w o
+        → over Rewrite n u (cond (misses x (end_of (entries_within m.reach_floor m.reach_cut o))) t (entries_within m.floor y o ++ t)) ≡ over Rewrite (joined_uncleaned x y Rewrite (met_at n t) m n) w o
     by_run None y r e h = rw (← e) (first_whole Rewrite m n t u w o h (over_first Rewrite m n u o (f.behind r)) is)
     by_run (Some r) None k e h = absurd h
     by_run (Some r) (Some c) k e h = later_rewrite (start_of o) (start_of t) m n t u o r c k (rises o run) (rises t run1) h f.bars f' w (same_some _ _ is)
 
     by_cleaned : (b : Bool) → m.cleaned ≡ b → (b ≡ false → FitsCut m.reach m.cut m t)
-        → over Rewrite n u (cond b t (cond (misses m.reach (end_of (entries_within m.reach_floor m.reach_cut o))) t (entries_within m.floor m.cut o ++ t))) ≡ over Rewrite (cond b m (joined_uncleaned m.reach m.cut Rewrite X m n)) w o
+        → over Rewrite n u (cond b t (cond (misses m.reach (end_of (entries_within m.reach_floor m.reach_cut o))) t (entries_within m.floor m.cut o ++ t)))
+        ≡ over Rewrite (cond b m (joined_uncleaned m.reach m.cut Rewrite (met_at n t) m n)) w o
     by_cleaned true e h = rw e is
     by_cleaned false e h = by_run m.reach m.cut refl refl (h refl)
 

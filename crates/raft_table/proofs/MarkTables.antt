@@ -1,21 +1,20 @@
 -- Tables under two marks, one after the other, and under the joined one; and one step as a mark.
-use Rattle.raft_table.proofs.Common.{◌≡◌, ℕ, Bool, true, false, cond, not, ◌||◌, List, [], ◌∷◌, ◌++◌, Option, Some, None, refl, sym, ap, ◌∙◌, is_some, option_and_then, option_map, option_or, nat_cmp, eq_by_cmp}
-use Rattle.raft_table.proofs.Common.{slice_cmp, nat_list_cmp_total, slice_cmp-IsAntisymmetric, nat_cmp-IsAntisymmetric, false≢true, append-nil, LogQueue, EntryIndex, IsRun, end_of, below, from, KeySet, without, Keys}
-use Rattle.raft_table.proofs.Common.{Stored, pairs_over, newer_atomic_group, leaves_hole, entries_after_replay, Step, Run, Compact, Truncate, Put, Del, AtomicGroup, Clean, table_of, after_step, IsTableOf, Table}
-use Rattle.raft_table.proofs.Common.{empty_table, Mark, entries_within, misses, is_refused_over, entries_over, keys_over, atomic_group_over, table_over, is_there_over, there_if, table_over_older, FitsCut, Fits}
-use Rattle.raft_table.proofs.Common.{joined_deleted, joined_uncleaned, joined_at, joined_mark, end_at_reach, fresh, mark_of, own_of, Append, Rewrite}
-use Rattle.std.specs.FinMap as finite
-use Rattle.std.specs.FinSet as finset
+use Rattle.raft_table.proofs.Common.{◌≡◌, ℕ, Bool, true, false, cond, not, ◌||◌, List, [], ◌∷◌, ◌++◌, Option, Some, None, refl, sym, ap, ◌∙◌, is_some, option_and_then, option_map, option_or, nat_cmp, eq_by_cmp, slice_cmp}
+use Rattle.raft_table.proofs.Common.{nat_list_cmp_total, slice_cmp-IsAntisymmetric, nat_cmp-IsAntisymmetric, false≢true, append-nil, LogQueue, EntryIndex, IsRun, end_of, below, from, KeySet, without, Keys, Stored, pairs_over}
+use Rattle.raft_table.proofs.Common.{newer_atomic_group, leaves_hole, entries_after_replay, Step, Run, Compact, Truncate, Put, Del, AtomicGroup, Clean, table_of, after_step, IsTableOf, Table, empty_table, Mark, entries_within, misses}
+use Rattle.raft_table.proofs.Common.{is_refused_over, entries_over, keys_over, atomic_group_over, table_over, is_there_over, there_if, table_over_older, FitsCut, Fits, joined_deleted, joined_uncleaned, joined_at, joined_mark, end_at_reach}
+use Rattle.raft_table.proofs.Common.{fresh, mark_of, own_of, Append, Rewrite}
 use Rattle.raft_table.proofs.KeyValueLaws.{get-pairs_over}
 use Rattle.raft_table.proofs.MarkWords.{within-whole, within-from, within-below}
 use Rattle.raft_table.proofs.MarkEntries.{same_some, join_entries, over_nil}
 use Rattle.raft_table.proofs.RunLemmas.{hole_end}
+use Rattle.std.specs.FinMap as finite
+use Rattle.std.specs.FinSet as finset
 
 pub get-without : (d : KeySet) (o : Keys) (q : List ℕ) → finite.get (without d o) q ≡ cond (not (finset.contains d q)) (finite.get o q) None
 unfolding without
 get-without d o q = finite.get-retain_keys o (λ k. not (finset.contains d k)) q (λ x tie. ap not (finset.contains_tied nat_list_cmp_total d q x tie))
 
--- two maps with the same pairs are the same
 pub same_keys : (a b : Keys) → ((q : List ℕ) → finite.get a q ≡ finite.get b q) → a ≡ b
 same_keys a b h = finite.same_map nat_list_cmp_total (slice_cmp-IsAntisymmetric nat_cmp-IsAntisymmetric) a b h
 
@@ -60,11 +59,9 @@ joined_parts q x m n t fits = (elim m.cleaned as
     by_run (Some r) None h = absurd h
     by_run (Some r) (Some c) h = (refl, refl)
 
--- the table with these parts
 abbrev rebuilt : Table → Keys → Option (ℕ × ℕ) → List EntryIndex → Table
 rebuilt o keys atomic_group es = record o { entries = es; keys = keys; atomic_group = atomic_group }
 
--- tables, one over the other
 pub join_tables : (q : LogQueue) (m n : Mark) (t u w o : Table) → IsRun o.entries → IsRun t.entries → Fits q m t.entries → Fits q n u.entries → table_over q n u t ≡ Some w
     → option_and_then (λ v. table_over q n u v) (table_over q m t o) ≡ table_over q (joined_at q (end_at_reach n t) m n) w o
 join_tables q m n t u w o run own fits newer is = by_own (entries_over q n u.entries t.entries) refl is
@@ -94,7 +91,6 @@ join_tables q m n t u w o run own fits newer is = by_own (entries_over q n u.ent
         rw (← same_some _ w k)
         (by_older we (entries_over q m t.entries o.entries) refl (join_entries q m n t.entries u.entries we o.entries run own fits newer e))
 
--- what isn't refused
 abbrev pub some_there : (b : Bool) (x : Table) → Option Table
 some_there true x = Some x
 some_there false x = None
@@ -139,7 +135,6 @@ none_over q id m t o x h none is = go m.cleaned refl t o h.region none is
     go false e None (Some o) r n is = absurd (false≢true (sym n ∙ (rw e refl)))
     go false e (Some t) o r n is = absurd (false≢true (sym n ∙ (rw e refl)))
 
--- what is applied, and its table
 pub applied-some : (q : LogQueue) (id : ℕ) (m : Mark) (t o : Option Table) (x : Table) → table_over q m (table_of id t) (table_of id o) ≡ Some x → table_over_older q id m t o ≡ Some (some_there (is_there_over m t o) x)
 applied-some q id m t o x is = rw is (there_if-some (is_there_over m t o) x)
 
@@ -154,7 +149,6 @@ table-applied q id m t o w h is = go (table_over q m (table_of id t) (table_of i
         let whole : table_of id w ≡ x = ap (table_of id) (sym same) ∙ table_of-there id (is_there_over m t o) x (λ n. none_over q id m t o x h n e) in
         (e ∙ ap (λ y. Some y) (sym whole), ap is_some (sym same) ∙ is_some-there (is_there_over m t o) x)
 
--- tables that may be absent, one over the other
 pub join_applied : (q : LogQueue) (id : ℕ) (m n : Mark) (t u w o : Option Table) → Fits q m (table_of id t).entries →
     Fits q n (table_of id u).entries → IsTableOf id (table_of id t) → IsTableOf id (table_of id o) → table_over_older q id n u t ≡ Some w
     → option_and_then (λ v. table_over_older q id n u v) (table_over_older q id m t o) ≡ table_over_older q id (joined_mark q id m t n) w o
@@ -183,7 +177,6 @@ join_applied q id m n t u w o fits fits' own h is = go (table_over q m (table_of
         let flag : is_there_over n u v ≡ is_there_over j w o = ap (λ b. cond n.cleaned (is_some u) (is_some u || b)) (is_some-there (is_there_over m t o) x) ∙ there in
         ap (option_and_then (λ v. table_over_older q id n u v)) (applied-some q id m t o x e) ∙ (rw (content, flag) refl)
 
--- one step's mark
 meets : (f : ℕ) (o : List EntryIndex) → misses (Some f) (end_of (entries_within 0 None o)) ≡ leaves_hole o f
 meets f o = ap (λ es. misses (Some f) (end_of es)) (within-whole o) ∙ sym (hole_end o f)
 
@@ -200,7 +193,6 @@ kept_over : (q : LogQueue) (floor : ℕ) (deleted : KeySet) (o : List EntryIndex
 kept_over Append floor deleted o = ap (λ x. Some x) (append-nil (entries_within floor None o) ∙ within-from floor o)
 kept_over Rewrite floor deleted o = ap (λ x. Some x) (append-nil (entries_within floor None o) ∙ within-from floor o)
 
--- one of a truncation
 cut_over : (q : LogQueue) (i : ℕ) (o : List EntryIndex) → entries_over q (record fresh { cut = Some i }) [] o ≡ Some (below i o)
 cut_over Append i o = ap (λ x. Some x) (append-nil (entries_within 0 (Some i) o) ∙ within-below i o)
 cut_over Rewrite i o = ap (λ x. Some x) (append-nil (entries_within 0 (Some i) o) ∙ within-below i o)
@@ -246,7 +238,6 @@ one_step q id (AtomicGroup first_seq last_seq) o = rw (untouched q finset.empty 
 one_step Append id Clean o = refl
 one_step Rewrite id Clean o = refl
 
--- over no table stands the own one
 pub own_keys : (b : Bool) (d : KeySet) (t : Keys) → cond b t (pairs_over t (without d finite.empty)) ≡ t
 own_keys true d t = refl
 own_keys false d t = same_keys _ _ (λ q. rw (get-pairs_over, get-without, finite.get-empty {X = Stored} (slice_cmp nat_cmp) q) (go (finite.get t q) (finset.contains d q)))

@@ -1,6 +1,6 @@
 -- Tables over older ones where their marks stand for steps.
-use Rattle.raft_table.proofs.Common.{◌≡◌, ℕ, Bool, true, false, cond, ◌||◌, List, Option, Some, refl, ap, subst, ◌∙◌, is_some, option_map, LogQueue, IsRunOver, Mark, keys_over, atomic_group_over, table_over}
-use Rattle.raft_table.proofs.Common.{is_there_over, table_over_older, Stands, Step, table_of, AreSteps, IsTableOf, Table}
+use Rattle.raft_table.proofs.Common.{◌≡◌, ℕ, Bool, true, false, cond, ◌||◌, List, Option, Some, refl, ap, subst, ◌∙◌, is_some, option_map, LogQueue, IsRunOver, Mark, keys_over, atomic_group_over, table_over, is_there_over, table_over_older}
+use Rattle.raft_table.proofs.Common.{Stands, Step, table_of, AreSteps, IsTableOf, Table}
 use Rattle.raft_table.proofs.MarkRuns.{table_after}
 use Rattle.raft_table.proofs.MarkTables.{applied-some, some_there, table_of-there, none_over}
 

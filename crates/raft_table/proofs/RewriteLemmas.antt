@@ -1,30 +1,25 @@
 -- Where a run meets a table's entries, what rewriting to its places gives, and what it leaves in each queue.
-use Rattle.raft_table.proofs.Common.{◌≡◌, ℕ, suc, ◌+◌, ◌≤◌, min, Bool, true, false, List, [], ◌∷◌, ◌++◌, length, take, drop, Option, Some, None, refl, sym, ap, ◌∙◌, subst, arith, prefix_len, append_assoc, length-take-le, length-append}
-use Rattle.raft_table.proofs.Common.{length-drop, drop-take, take-take, take_at, drop_at, prefix_len-le-length, nat_tests, LogQueue, EntryIndex, RisesFrom, end_of, run_of, end_bounded, bounded_of, AreTableEntries, RewrittenInFront}
-use Rattle.raft_table.proofs.Common.{start_of, placed_in, is_placed_in, entry_count, may_move, is_misplaced, newly_rewritten, Append, Rewrite, ◌-◌, ◌<◌, cond, ltb, inl, inr, nil_from_length, length-take, take_min, cases_lt, Overlap, Counts}
-use Rattle.raft_table.proofs.Common.{with_added, with_deleted, IsRunIn, below, from, IsOverlap, AreDisjoint, overlap, moved_count, with_places, rewritten_from, entries_after_rewrite, with_rewritten, counts_after_rewrite}
+use Rattle.raft_table.proofs.Common.{◌≡◌, ℕ, ◌+◌, ◌≤◌, min, true, false, List, [], ◌∷◌, ◌++◌, length, take, drop, Option, Some, None, refl, sym, ap, ◌∙◌, subst, arith, prefix_len, append_assoc, length-take-le, length-append, length-drop}
+use Rattle.raft_table.proofs.Common.{drop-take, take-take, take_at, drop_at, prefix_len-le-length, nat_tests, LogQueue, EntryIndex, RisesFrom, end_of, run_of, end_bounded, bounded_of, AreTableEntries, RewrittenInFront, start_of, placed_in}
+use Rattle.raft_table.proofs.Common.{is_placed_in, entry_count, may_move, is_misplaced, newly_rewritten, Append, Rewrite, ◌-◌, ◌<◌, cond, ltb, inl, inr, nil_from_length, length-take, take_min, cases_lt, Overlap, Counts, All, All-drop}
+use Rattle.raft_table.proofs.Common.{All-take, filter_passes, get_or-take, prefix_len_passes, with_added, with_deleted, IsRunIn, below, from, IsOverlap, AreDisjoint, overlap, moved_count, with_places, rewritten_from, entries_after_rewrite}
+use Rattle.raft_table.proofs.Common.{with_rewritten, counts_after_rewrite, drop_min, leaves_hole, counts_without, counts_with_run, ◌^◌, live, AreCounted, AreRecounted, count_in, of_queue, entries_after_replay, replaced_by, IsKeptUnder}
 use Rattle.raft_table.proofs.RunLemmas.{start-of_rising, RisesFrom-take, RisesFrom-append, RisesFrom-drop, end_of-run, placed_in-append, below_take, below_start, from_drop, from_start, rises}
-use Rattle.raft_table.proofs.PlaceLemmas.{AllTest, AllTest-filter, AllTest-take, AllTest-drop, filter_all, each_placed, entry_count-append, entries_in_one, placed_in_other}
+use Rattle.raft_table.proofs.PlaceLemmas.{filter_all, each_placed, entry_count-append, entries_in_one, placed_in_other, each_queue, entry_count-cut}
 use Rattle.raft_table.proofs.SoundLemmas.{sound_rising, AreTableEntries-take, AreTableEntries-drop, cut_counts}
-use Rattle.raft_table.proofs.StartLemmas.{run_alone}
-
-pub AllTest-prefix : {X : Type 0} (p : X → Bool) (xs : List X) → AllTest true p (take (prefix_len p xs) xs)
-unfolding AllTest
-AllTest-prefix p [] = tt
-AllTest-prefix p (x ∷ xs) = (elim (p x) as (λ b. p x ≡ b → AllTest true p (take (prefix_len p xs) xs) → AllTest true p (take (prefix_len p (x ∷ xs)) (x ∷ xs)))
-    [ true ↦ λ e h. let k : 1 + prefix_len p xs ≡ suc (prefix_len p xs) = omega arith in rw (e, k) (e, h) | false ↦ λ e h. rw e tt ]) refl (AllTest-prefix p xs)
+use Rattle.raft_table.proofs.StartLemmas.{run_alone, MayJoin, sound_joined, sound_run}
 
 pub placed_in-take : (q : LogQueue) (n : ℕ) (es : List EntryIndex) → placed_in q es ≡ es → placed_in q (take n es) ≡ take n es
 unfolding placed_in
 placed_in-take q n es h =
     filter_all (is_placed_in q) (take n es)
-    (AllTest-take true (is_placed_in q) n es (subst (AllTest true (is_placed_in q)) h (AllTest-filter (is_placed_in q) es)))
+    (All-take (λ e. is_placed_in q e ≡ true) n es (subst (All (λ e. is_placed_in q e ≡ true)) h (filter_passes (is_placed_in q) es)))
 
 pub placed_in-drop : (q : LogQueue) (n : ℕ) (es : List EntryIndex) → placed_in q es ≡ es → placed_in q (drop n es) ≡ drop n es
 unfolding placed_in
 placed_in-drop q n es h =
     filter_all (is_placed_in q) (drop n es)
-    (AllTest-drop true (is_placed_in q) n es (subst (AllTest true (is_placed_in q)) h (AllTest-filter (is_placed_in q) es)))
+    (All-drop (λ e. is_placed_in q e ≡ true) n es (subst (All (λ e. is_placed_in q e ≡ true)) h (filter_passes (is_placed_in q) es)))
 
 -- rewritten entries in front of what has them in front
 pub in_front_of : (a b : List EntryIndex) → placed_in Rewrite a ≡ a → RewrittenInFront b → RewrittenInFront (a ++ b)
@@ -40,7 +35,7 @@ end_of-same s (x ∷ a) [] h k e = absurd (omega arith)
 end_of-same s (x ∷ a) (y ∷ b) h k e =
     end_of-run s (x ∷ a) h (omega arith) ∙ ap (λ n. s + n) e ∙ sym (end_of-run s (y ∷ b) k (omega arith))
 
-pub whole_test : (q : LogQueue) (xs : List EntryIndex) → AllTest true (is_placed_in q) xs → entry_count q xs ≡ length xs
+pub whole_test : (q : LogQueue) (xs : List EntryIndex) → All (λ e. is_placed_in q e ≡ true) xs → entry_count q xs ≡ length xs
 unfolding placed_in
 whole_test q xs h = ap length (filter_all (is_placed_in q) xs h)
 
@@ -57,8 +52,10 @@ all_rewritten None at k es h l t m e =
     let len : length xs ≡ k = length-take-le k (drop at es) (omega (arith, length-drop at es)) in
     let mk : m ≤ k = omega (arith, prefix_len-le-length (is_placed_in Rewrite) xs) in
     let front : drop at (take (at + m) es) ≡ take m xs = drop-take at m es ∙ sym (take-take m k (drop at es) mk) in
-    let passes : AllTest true (is_placed_in Rewrite) (take m xs) = rw p (AllTest-prefix (is_placed_in Rewrite) xs) in
-    let whole : entry_count Rewrite (take m xs) ≡ m = whole_test Rewrite (take m xs) passes ∙ length-take-le m xs (omega arith) in
+    let long : length (take m xs) ≡ m = length-take-le m xs (omega arith) in
+    let passes : All (λ e. is_placed_in Rewrite e ≡ true) (take m xs) =
+    λ i d low. rw (get_or-take m xs i d (omega arith)) (prefix_len_passes (is_placed_in Rewrite) xs i d (omega arith)) in
+    let whole : entry_count Rewrite (take m xs) ≡ m = whole_test Rewrite (take m xs) passes ∙ long in
     let a = cut_counts at (take (at + m) es) (AreTableEntries-take (at + m) es h) (omega (arith, length-take-le (at + m) es (omega arith))) in
     let b = cut_counts (at + m) es h (omega arith) in
     let d : entry_count Rewrite (drop at (take (at + m) es)) ≡ m = rw front whole in
@@ -100,8 +97,6 @@ moves gate at m es places h l r q t e =
     let rb = entry_count-append Append ab (drop (at + m) es) in
     let ia = entries_in_one Rewrite Rewrite ab both in
     let ib = entries_in_one Append Rewrite ab both in
-    let w0 = w.0 in
-    let w1 = w.1 in
     record {
       within = mk;
       table_entries = record {
@@ -140,7 +135,6 @@ unfolding below
 below_zero [] = refl
 below_zero (e ∷ es) = let t : ltb e.index 0 ≡ false = grind (arith, nat_tests) in rw t (below_zero es)
 
--- a run without entries meets none
 pub rewritten_none : (gate : Option ℕ) (es : List EntryIndex) → entries_after_rewrite gate [] es ≡ Some es
 unfolding end_of from
 rewritten_none gate es = rw (below_zero es) refl
@@ -204,7 +198,6 @@ rewritten_at gate run es (x ∷ met) i l e = rw e refl
 abbrev pub places_of : List EntryIndex → ℕ → ℕ → List EntryIndex
 places_of run skipped count = take (skipped + count - skipped) (drop skipped run)
 
--- how many of those move
 abbrev pub moves_of : Option ℕ → List EntryIndex → List EntryIndex → ℕ → ℕ → ℕ → ℕ
 moves_of gate run es at skipped count = prefix_len (may_move gate) (drop at (take (at + length (places_of run skipped count)) es))
 
@@ -228,11 +221,6 @@ rewrites_at gate run es m h r l x =
     let at = m.at in
     let skipped = m.skipped in
     let count = m.count in
-    let ea = x.in_entries in
-    let eb = x.in_run in
-    let ec = x.end in
-    let ed = x.some in
-    let fits : skipped + count ≤ length run = omega arith in
     let inside : at + count ≤ length es = omega arith in
     let sub : skipped + count - skipped ≡ count = omega arith in
     let len : length (places_of run skipped count) ≡ count = rw sub (length-take-le count (drop skipped run) (omega (arith, length-drop skipped run))) in
@@ -266,3 +254,97 @@ rewrites_at gate run es m h r l x =
       ok = λ t. whole ∙ rw (underlen, t) (ap (λ z. Some z) (rw (← same) spelled));
       counts = same;
     }
+
+pub none_gone : (c : Counts) → c ≡ counts_without [] c
+unfolding placed_in
+none_gone c =
+    let a : c.append ≡ c.append - 0 = omega arith in
+    let d : c.deleted ≡ c.deleted + 0 = omega arith in
+    ap (λ n. record { append = n; written = c.written; deleted = c.deleted }) a ∙ ap (λ n. record { append = c.append - 0; written = c.written; deleted = n }) d
+
+-- where nothing stands below an index, nothing goes
+pub none_below : (c : Counts) (i : ℕ) (es : List EntryIndex) → below i es ≡ [] → c ≡ counts_without (below i es) c
+none_below c i es e = rw e (none_gone c)
+
+-- where nothing stands from an index on, nothing goes
+pub none_above : (c : Counts) (i : ℕ) (es : List EntryIndex) → from i es ≡ [] → c ≡ counts_without (from i es) c
+none_above c i es e = rw e (none_gone c)
+
+pub same_deleted : (c one new : Counts) (r a s b : ℕ) → one ≡ with_deleted Rewrite r c → new ≡ with_deleted Append a one → r ≡ s → a ≡ b → new ≡ with_deleted Rewrite s (with_deleted Append b c)
+same_deleted c one new r a s b e f g h = rw (← g, ← h) (f ∙ ap (with_deleted Append a) e)
+
+-- the entries from a start on are those behind the ones below it
+pub from_rest : (i n : ℕ) (es : List EntryIndex) → AreTableEntries es → below i es ≡ take n es → n ≤ length es → from i es ≡ drop n es
+from_rest i n es h e l =
+    let t = ap length (sym (below_is i (start_of es) es (sound_rising es h)) ∙ e) in
+    let m : min (i - start_of es) (length es) ≡ n = omega (arith, t, length-take (i - start_of es) es, length-take-le n es l) in
+    from_is i (start_of es) es (sound_rising es h) ∙ sym (drop_min (i - start_of es) es) ∙ ap (λ j. drop j es) m
+
+-- the counts with a run that joins the entries, stands in front of them, or behind a hole
+pub counts_joined : (q : LogQueue) (es run : List EntryIndex) (n : ℕ) (c new : Counts) → AreTableEntries es → 0 < length run →
+    leaves_hole es (start_of run) ≡ false → below (start_of run) es ≡ take n es → n ≤ length es →
+    new ≡ with_added q (length run) (counts_without (drop n es) c) → new ≡ counts_with_run q es run c
+counts_joined q es [] n c new h l f e k w = absurd (omega arith)
+counts_joined q es (x ∷ run) n c new h l f e k w = rw (f, from_rest x.index n es h e k) w
+
+-- a run behind so many entries that stay
+pub record IsReplay (rule : LogQueue) (es run : List EntryIndex) (n : ℕ) : Type 0 where
+  pub within : n ≤ length es
+  pub after : entries_after_replay rule es run ≡ Some (take n es ++ run)
+  pub gone : replaced_by es run ≡ drop n es
+
+pub is_replay : (rule : LogQueue) (es run : List EntryIndex) (n : ℕ) → AreTableEntries es → 0 < length run → IsKeptUnder rule es (start_of run) n → IsReplay rule es run n
+is_replay rule es [] n h l k = absurd (omega arith)
+is_replay rule es (e ∷ run) n h l (inl j) = record {
+  within = j.1;
+  after = by_rule rule;
+  gone = rw j.2 (from_rest e.index n es h j.0 j.1);
+}
+  where
+    by_rule : (rule : LogQueue) → entries_after_replay rule es (e ∷ run) ≡ Some (take n es ++ e ∷ run)
+    by_rule Append = rw (j.2, j.0) refl
+    by_rule Rewrite = rw (j.2, j.0) refl
+is_replay rule es (e ∷ run) n h l (inr (inl f)) = subst (IsReplay rule es (e ∷ run)) (sym f.0) (record {
+  within = omega arith;
+  after = by_rule rule;
+  gone = rw f.1.1 (from_rest e.index 0 es h f.1.0 (omega arith));
+})
+  where
+    by_rule : (rule : LogQueue) → entries_after_replay rule es (e ∷ run) ≡ Some (e ∷ run)
+    by_rule Append = rw (f.1.1, f.1.0) refl
+    by_rule Rewrite = rw (f.1.1, f.1.0) refl
+is_replay rule es (e ∷ run) n h l (inr (inr b)) = subst (IsReplay rule es (e ∷ run)) (sym b.0) (record {
+  within = omega arith;
+  after = ap (λ q. entries_after_replay q es (e ∷ run)) b.1 ∙ (rw b.2.0 refl);
+  gone = rw b.2.0 refl;
+})
+
+pub sound_under : (rule q : LogQueue) (es run : List EntryIndex) (n : ℕ) → AreTableEntries es → MayJoin q es → IsRunIn q run → 0 < length run → IsKeptUnder rule es (start_of run) n → AreTableEntries (take n es ++ run)
+sound_under rule q es run n h m r l (inl j) = sound_joined q n es run h m r l j
+sound_under rule q es run n h m r l (inr (inl f)) = subst (λ k. AreTableEntries (take k es ++ run)) (sym f.0) (sound_run q run r)
+sound_under rule q es run n h m r l (inr (inr b)) = subst (λ k. AreTableEntries (take k es ++ run)) (sym b.0) (sound_run q run r)
+
+pub counts_under : (rule q : LogQueue) (es run : List EntryIndex) (n : ℕ) (c new : Counts) → 0 < length run → IsReplay rule es run n → new ≡ with_added q (length run) (counts_without (drop n es) c) → new ≡ counts_with_run q es run c
+counts_under rule q es [] n c new l h w = absurd (omega arith)
+counts_under rule q es (e ∷ run) n c new l h w = w ∙ ap (λ xs. with_added q (length (e ∷ run)) (counts_without xs c)) (sym h.gone)
+
+-- those behind a front are counted with the others
+pub few_behind : (q : LogQueue) (n : ℕ) (es : List EntryIndex) (c : Counts) → AreCounted es c → entry_count q (drop n es) ≤ live q c
+few_behind q n es c h = omega (arith, h q, entry_count-cut q n es)
+
+-- a run of one queue in place of those behind a front, where there is no room for it
+pub full_behind : (q : LogQueue) (c : Counts) (n : ℕ) (es run : List EntryIndex) (a r m : ℕ) → 2 ^ 64 + of_queue q a r ≤ live q c + m →
+    r ≡ entry_count Rewrite (drop n es) → a ≡ entry_count Append (drop n es) → m ≡ length run → placed_in q run ≡ run →
+    2 ^ 64 + entry_count q es ≤ live q c + entry_count q (take n es ++ run)
+full_behind q c n es run a r m h e f l k =
+    let o : of_queue q a r ≡ entry_count q (drop n es) = each_queue (λ p. of_queue p a r ≡ entry_count p (drop n es)) f e q in
+    omega (arith, entry_count-append q (take n es) run, ap length k, entry_count-cut q n es)
+
+pub recounted_behind : (q : LogQueue) (c new : Counts) (n : ℕ) (es run after : List EntryIndex) (a r m : ℕ) →
+    ((p : LogQueue) → live p new + of_queue p a r ≡ live p c + count_in p q m) → r ≡ entry_count Rewrite (drop n es) →
+    a ≡ entry_count Append (drop n es) → m ≡ length run → placed_in q run ≡ run → after ≡ take n es ++ run → AreRecounted es after c new
+recounted_behind q c new n es run after a r m h e f l k w p =
+    let o : of_queue p a r ≡ entry_count p (drop n es) = each_queue (λ x. of_queue x a r ≡ entry_count x (drop n es)) f e p in
+    let t : entry_count p after ≡ entry_count p (take n es) + count_in p q m =
+    ap (entry_count p) w ∙ entry_count-append p (take n es) run ∙ ap (λ x. entry_count p (take n es) + x) (entries_in_one p q run k ∙ ap (count_in p q) (sym l)) in
+    omega (arith, h p, entry_count-cut p n es)

@@ -1,11 +1,11 @@
 -- How many entries of a queue a run leaves, and so when it is refused as `Full`.
-use Rattle.raft_table.proofs.Common.{◌≡◌, ℕ, ◌+◌, ◌≤◌, ◌^◌, ◌||◌, true, false, cond, List, [], ◌∷◌, ◌++◌, length, filter, Option, Some, None, refl, ap, subst, arith, length-append, LogQueue, EntryIndex, Counts, live}
-use Rattle.raft_table.proofs.Common.{below, placed_in, is_placed_in, entry_count, entries_after_append, entries_after_replay, leaves_hole, starts_in_front, IsTableRunFault}
-use Rattle.raft_base.specs.declared.errors.Error.TheVariants as errors
+use Rattle.raft_table.proofs.Common.{◌≡◌, ℕ, ◌+◌, ◌≤◌, ◌^◌, ◌||◌, true, false, cond, List, [], ◌∷◌, ◌++◌, length, filter, Option, Some, None, refl, ap, subst, arith, length-append, LogQueue, EntryIndex, Counts, live, below, placed_in}
+use Rattle.raft_table.proofs.Common.{is_placed_in, entry_count, entries_after_append, entries_after_replay, leaves_hole, starts_in_front, IsTableRunFault}
 use Rattle.raft_base.specs.declared.pipe_log.LogQueue.TheVariants.{Append, Rewrite}
 use Rattle.raft_table.proofs.RunLemmas.{placed_in-append, filter_comm}
 use Rattle.raft_table.proofs.MarkEntries.{same_some}
 use Rattle.raft_table.proofs.KeyValueCounts.{length-filter-le}
+use Rattle.raft_base.specs.declared.errors.Error.TheVariants as errors
 
 -- no more entries are in a queue than there are
 pub entry_count-le : (q : LogQueue) (es : List EntryIndex) → entry_count q es ≤ length es

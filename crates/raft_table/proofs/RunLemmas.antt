@@ -1,9 +1,8 @@
 -- Runs: cutting one at an index is taking or dropping its front, and what is looked up in it.
-use Rattle.raft_table.proofs.Common.{◌≡◌, ℕ, zero, suc, ◌+◌, ◌<◌, ◌≤◌, max, Bool, true, false, ltb, leb, List, [], ◌∷◌, ◌++◌, length, take, drop, filter, Some, refl, sym, ap, arith, filter-append, nat_lt, lt-ltb}
-use Rattle.raft_table.proofs.Common.{nat_tests, LogQueue, EntryIndex, RisesFrom, IsRun, end_of, run_of, start_of, below, from, placed_in, is_placed_in, misses, leaves_hole, eqb, get_or, None, ◌∙◌, entry_at, cond, ◌&&◌}
+use Rattle.raft_table.proofs.Common.{◌≡◌, ℕ, zero, suc, ◌+◌, ◌<◌, ◌≤◌, max, Bool, true, false, ltb, leb, List, [], ◌∷◌, ◌++◌, length, take, drop, filter, Some, refl, sym, ap, arith, filter-append, nat_lt, lt-ltb, nat_tests, LogQueue}
+use Rattle.raft_table.proofs.Common.{EntryIndex, RisesFrom, IsRun, end_of, run_of, start_of, below, from, placed_in, is_placed_in, misses, leaves_hole, eqb, get_or, None, ◌∙◌, entry_at, cond, ◌&&◌}
 use Rattle.std.proofs.Math.Bool.{and_comm}
 
--- two filters are one
 pub filter-filter : {X : Type 0} (p q r : X → Bool) → ((x : X) → (q x && p x) ≡ r x) → (xs : List X) → filter p (filter q xs) ≡ filter r xs
 filter-filter p q r same [] = refl
 filter-filter p q r same (x ∷ xs) = go (q x) (r x) (same x) (filter-filter p q r same xs)
@@ -12,7 +11,6 @@ filter-filter p q r same (x ∷ xs) = go (q x) (r x) (same x) (filter-filter p q
     go true c e ih = cc
     go false c e ih = cc
 
--- the order of two filters is free
 pub filter_comm : {X : Type 0} (p q : X → Bool) (xs : List X) → filter p (filter q xs) ≡ filter q (filter p xs)
 filter_comm p q xs =
     filter-filter p q (λ x. q x && p x) (λ x. refl) xs ∙ sym (filter-filter q p (λ x. q x && p x) (λ x. and_comm (p x) (q x)) xs)
@@ -75,7 +73,6 @@ from_drop i (suc n) s (e ∷ es) k h =
     let t : leb i e.index ≡ false = rw h.0 (grind (arith, nat_tests)) in
     rw t (from_drop i n (suc s) es (omega arith) h.1)
 
--- where a run ends
 pub end_of-run : (s : ℕ) (es : List EntryIndex) → RisesFrom s es → 0 < length es → end_of es ≡ s + length es
 unfolding end_of
 end_of-run s [] h l = absurd (omega arith)
@@ -137,7 +134,6 @@ end_of-drop zero es = omega arith
 end_of-drop (suc n) [] = omega arith
 end_of-drop (suc n) (e ∷ es) = let h = end_of-drop n es in omega arith
 
--- nothing stands below the start
 pub entry_at_low : (i s : ℕ) (es : List EntryIndex) → i < s → RisesFrom s es → entry_at i es ≡ None
 entry_at_low i s [] l h = refl
 entry_at_low i s (e ∷ es) l h =
@@ -151,7 +147,6 @@ entry_at_past i (suc k) s (x ∷ es) e l h =
     let t : eqb x.index i ≡ false = rw h.0 (grind (arith, nat_tests)) in
     rw t (entry_at_past i k (suc s) es (omega arith) (omega arith) h.1)
 
--- the index at a place
 pub index_at : (k s : ℕ) (es : List EntryIndex) (d : EntryIndex) → k < length es → RisesFrom s es → (get_or es k d).index ≡ s + k
 index_at k s [] d l h = absurd (omega arith)
 index_at zero s (x ∷ es) d l h = h.0 ∙ omega arith

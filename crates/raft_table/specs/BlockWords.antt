@@ -2,9 +2,15 @@
 use Rattle.std.specs.Prelude.{◌≡◌, ◌⊎◌, ℕ, ◌+◌, ◌<◌, ◌≤◌, List, [], ◌∷◌, ◌++◌, length, take, drop, map, slice_index_or, if◌then◌else◌}
 use Rattle.raft_base.specs.declared.pipe_log.LogQueue.TheVariants.{Rewrite}
 use Rattle.raft_base.specs.declared.entry_index.EntryIndex.{EntryIndex}
-use Rattle.raft_table.specs.Blocks.{BlockSpans, entries_in_blocks, AreDistinctBlocks}
+use Rattle.std.specs.declared.collections.VecDeque.{VecDeque}
+use Rattle.raft_table.specs.declared.memtable.block.Block.{Block}
+use Rattle.raft_table.specs.Blocks.{BlockSpans, blocks_shown, entries_in_blocks, AreDistinctBlocks}
 use Rattle.raft_table.specs.TableEntries.{AreTableEntries, entry_count}
 use Rattle.raft_table.specs.Fetches.{is_same_place}
+
+-- what each block of a deque holds
+abbrev pub shown : {Z : Type 0} → VecDeque Block Z → List BlockSpans
+shown q = blocks_shown q.items
 
 -- how many entries blocks have
 abbrev pub count : List BlockSpans → ℕ

@@ -13,7 +13,7 @@ pub use Rattle.raft_base.specs.declared.entry_index.EntryIndex.{EntryIndex}
 pub use Rattle.raft_base.specs.declared.errors.Error.{Error}
 pub use Rattle.raft_base.specs.declared.pipe_log.LogQueue.{LogQueue}
 pub use Rattle.raft_base.specs.declared.pipe_log.LogQueue.TheVariants.{Append, Rewrite}
-pub use Rattle.raft_table.specs.BlockWords.{AreStarts, IsAt, IsIndexOf, IsPart, count, first_of_last, joined_blocks, seam, spans_of, starts_of, with_spans, without_first_of_first, without_span}
+pub use Rattle.raft_table.specs.BlockWords.{AreStarts, IsAt, IsIndexOf, IsPart, count, first_of_last, joined_blocks, seam, shown, spans_of, starts_of, with_spans, without_first_of_first, without_span}
 pub use Rattle.raft_table.specs.Blocks.{AreDistinctBlocks, BlockSpans, block_spans, blocks_shown, entries_in_blocks}
 pub use Rattle.raft_table.specs.Change.{AreCountsAfter, IsAllowed, IsAnswer, IsChangeFault, IsListFault, after_change}
 pub use Rattle.raft_table.specs.Counts.{Counts, after_refusal, live, with_added, with_deleted, without_deleted}
@@ -44,3 +44,4 @@ pub use Rattle.raft_table.specs.Table.{with_pair_deleted, with_rewritten_key, wi
 pub use Rattle.raft_table.specs.TableEntries.{AreCounted, AreRecounted, AreTableEntries, IsRunIn, StandsBehind, below, entries_between, entry_at, entry_count, from, is_placed_in, placed_in, start_of}
 pub use Rattle.raft_table.specs.TakenSteps.{IsReplayFault, IsStepFault, IsStepOfQueue, IsUnmixed, LeavesTable, counts_after_step}
 pub use Rattle.raft_table.specs.Untruncated.{AreUntruncated, reaching_within}
+pub use Rattle.raft_table.specs.declared.memtable.block.Block.{Block}

@@ -60,8 +60,6 @@ impl GlobalStats {
         ensures live { OnOk result ((q : LogQueue) →
             live q self.new ≡ live q self.old + count_in q queue count) }
         ensures accepted { live queue self.old + count < 2 ^ 64 → IsOk result }
-
-        // The only refusal, and that it is right.
         ensures full { IfErr result (λ e. (e ≡ Error.Full) ×
             (2 ^ 64 ≤ live queue self.old + count)) }
         ensures err { OnErr result (self.new ≡ after_refusal queue self.old) }
@@ -145,8 +143,8 @@ impl GlobalStats {
         if !self.has_room(table) {
             return Err(Error::Full);
         }
-        self.add_records(table, LogQueue::Append);
-        self.add_records(table, LogQueue::Rewrite);
+        self.add_fitting(LogQueue::Append, table.records(LogQueue::Append) as usize);
+        self.add_fitting(LogQueue::Rewrite, table.records(LogQueue::Rewrite) as usize);
         Ok(())
     }
 
@@ -174,15 +172,6 @@ impl GlobalStats {
             (2 ^ 64 ≤ live queue self.now + live_of queue table.now) }
     {
         table.records(queue) <= (usize::MAX - self.live_entries(queue)) as u128
-    }
-
-    fn add_records(&mut self, table: &MemTable, queue: LogQueue)
-        requires { live queue self.old + live_of queue table.now < 2 ^ 64 }
-        ensures after { self.new ≡ with_added queue (live_of queue table.now) self.old }
-        ensures live { (q : LogQueue) → live q self.new
-            ≡ live q self.old + count_in q queue (live_of queue table.now) }
-    {
-        self.add_fitting(queue, table.records(queue) as usize);
     }
 
     fn delete_records(&mut self, table: &MemTable, queue: LogQueue)
@@ -237,8 +226,5 @@ fn sum(a: usize, b: usize) -> Result<usize>
     ensures accepted { a + b < 2 ^ 64 → IsOk result }
     ensures full { IfErr result (λ e. (e ≡ Error.Full) × (2 ^ 64 ≤ a + b)) }
 {
-    match a.checked_add(b) {
-        Some(s) => Ok(s),
-        None => Err(Error::Full),
-    }
+    a.checked_add(b).ok_or(Error::Full)
 }

@@ -2,15 +2,13 @@
 
 ghost use Rattle.std.specs.Prelude.{◌≡◌, ◌≢◌, ◌+◌, ◌≤◌, ◌^◌, false, length, MatchOption, OnOk, OnErr, IfErr, Some, [], MatchBool, option_map};
 ghost use Rattle.raft_table.specs.Common.{LogQueue, Append, Rewrite, end_of, IsRunIn, AreTableEntries, start_of, entry_at, entry_count, below, from, blocks_shown, entries_in_blocks, AreDistinctBlocks, Counts, live, with_added, block_count};
-ghost use Rattle.raft_table.specs.Common.{value_at, file_at, file_weight, empty_table, live_of, IsCounted, IsRecounted, after_append, after_replay, after_rewrite, after_rewrite_key, with_pair, with_pair_deleted, with_rewritten_key};
-ghost use Rattle.raft_table.specs.Common.{MovesKeyAlone, leaves_append, IsTablePutFault, IsKeyRewriteFault, entries_after_rewrite, counts_after_rewrite, IsRewriteFault, MovesPlacesAlone, count_in, other, run_shown, entries_after_append};
+ghost use Rattle.raft_table.specs.Common.{value_at, file_at, empty_table, live_of, IsCounted, IsRecounted, after_append, after_replay, after_rewrite, after_rewrite_key, with_pair, with_pair_deleted, with_rewritten_key, MovesKeyAlone};
+ghost use Rattle.raft_table.specs.Common.{leaves_append, IsTablePutFault, IsKeyRewriteFault, entries_after_rewrite, counts_after_rewrite, IsRewriteFault, MovesPlacesAlone, count_in, other, run_shown, entries_after_append};
 ghost use Rattle.raft_table.specs.Common.{entries_after_replay, counts_with_run, counts_without, IsTableRunFault};
 ghost use Rattle.std.specs.FinMap as finite;
 
 mod block;
-mod bounds;
 mod change;
-mod change_laws;
 mod deleted_keys;
 mod entries;
 mod hole;
@@ -19,16 +17,14 @@ mod key_values;
 mod mark;
 mod merge;
 mod queries;
-mod query_laws;
-mod region_mark_laws;
 mod run;
 mod steps;
 
 use crate::global_stats::GlobalStats;
 pub use block::Block;
-pub use change::{TableChange, is_run};
-pub use change_laws::{
-    entries_stand_by_index, last_words_stand, newer_pairs_win, rewriting_stands_by_index,
+pub use change::{
+    TableChange, entries_stand_by_index, is_run, last_words_stand, newer_pairs_win,
+    rewriting_stands_by_index,
 };
 pub use deleted_keys::DeletedKeys;
 use entries::Entries;
@@ -36,15 +32,12 @@ use entries::Entries;
 pub use hole::hole_error;
 use key_values::KeyValues;
 pub use mark::Mark;
-pub use query_laws::{
+pub use queries::{
     fetches_answer_ranges, full_runs_pass_the_limit, least_is_lowest, scans_visit_pairs,
     tables_add_up,
 };
 use raft_base::{EntryIndex, Error, FileId, FileSeq, LogQueue, Result};
-pub use region_mark_laws::{
-    marks_stand_for_steps, overlays_by_marks, overlays_reach_without_truncations,
-};
-pub use run::Run;
+pub use run::{Run, marks_stand_for_steps, overlays_by_marks, overlays_reach_without_truncations};
 use std::alloc::Global;
 use std::collections::VecDeque;
 use std::marker::Model;
@@ -55,7 +48,6 @@ pub struct MemTable {
     region_id: u64,
     entries: Entries,
     keys: KeyValues,
-    /// The first and the last file of the region's atomic group.
     atomic_group: Option<(FileSeq, FileSeq)>,
 }
 
@@ -353,7 +345,10 @@ impl MemTable {
         ensures region { self.new.region_id ≡ self.old.region_id }
     {
         if stats.live_entries(file_id.queue) == usize::MAX
-            && !self.has_pair_in(&key, file_id.queue)
+            && !self
+                .keys
+                .file_of(&key)
+                .is_some_and(|file| file.queue == file_id.queue)
         {
             return Err(Error::Full);
         }
@@ -433,16 +428,6 @@ impl MemTable {
                     .set_file(&key, FileId::new(LogQueue::Rewrite, seq));
                 Ok(())
             }
-        }
-    }
-
-    fn has_pair_in(&self, key: &[u8], queue: LogQueue) -> bool
-        ensures { MatchBool result (file_weight queue (file_at self.now.keys key.now)
-            ≡ 1) (file_weight queue (file_at self.now.keys key.now) ≡ 0) }
-    {
-        match self.keys.file_of(key) {
-            Some(file) => file.queue == queue,
-            None => false,
         }
     }
 

@@ -43,9 +43,6 @@ impl Step {
         ensures { MatchBool result (step_shown self.now ≡ Clean) (LeavesTable (step_shown
             self.now)) }
     {
-        match self {
-            Step::Clean => true,
-            _ => false,
-        }
+        matches!(self, Step::Clean)
     }
 }

@@ -81,8 +81,7 @@ impl DeletedKeys {
     {
         if self.len() < rhs.len() {
             mem::swap(self, rhs);
-            self.take_each(rhs)?;
-            return Ok(());
+            return self.take_each(rhs);
         }
         self.take_each(rhs)
     }

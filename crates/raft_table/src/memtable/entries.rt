@@ -1,7 +1,7 @@
 //! The entries of a region, in order of index.
 
 ghost use Rattle.std.specs.Prelude.{◌≡◌, ◌≢◌, ◌+◌, ◌<◌, [], length, MatchOption};
-ghost use Rattle.raft_table.specs.Common.{blocks_shown, entries_in_blocks, AreDistinctBlocks, block_count, end_of, AreTableEntries, start_of, entry_at, entry_count};
+ghost use Rattle.raft_table.specs.Common.{shown, entries_in_blocks, AreDistinctBlocks, block_count, end_of, AreTableEntries, start_of, entry_at, entry_count};
 
 mod block_deques;
 mod block_walks;
@@ -18,39 +18,37 @@ use std::alloc::Global;
 use std::collections::VecDeque;
 use std::marker::Model;
 
-/// The entries of a region's table: one run of indexes, rewritten places in front of appended
-/// ones.
+/// Blocks, the index of each block's first entry, the spans of a block; a block and an entry of it.
+type Blocks = VecDeque<Block>;
+
+type Starts = VecDeque<u64>;
+
+type Spans = VecDeque<(u32, u32)>;
+
+type Spot = (usize, usize);
+
+/// The entries of a region's table: one run of indexes, rewritten places in front of appended ones.
 #[derive(Drop)]
 pub struct Entries {
-    /// The index of the first entry.
     first: u64,
     len: usize,
-    blocks: VecDeque<Block>,
-    /// The index of each block's first entry, or none: few blocks are walked.
-    starts: VecDeque<u64>,
-    /// How many entries, from the front on, are rewritten.
+    blocks: Blocks,
+    starts: Starts,
     rewritten: usize,
 }
 
-/// Where a run meets the entries of a table.
 #[derive(Clone, Copy)]
 enum Start {
     /// It starts among them or right after them: so many stand below its start.
     Joins(usize),
-    /// It starts below all of them.
     InFront,
-    /// It starts after them, and indexes between are missing.
     BehindHole,
 }
 
-/// The indexes that a run and a table share.
 #[derive(Clone, Copy)]
 struct Overlap {
-    /// How many of the table's entries stand below the first of them.
     at: usize,
-    /// How many of the run's stand below it.
     skipped: usize,
-    /// How many there are.
     count: usize,
 }
 
@@ -83,7 +81,6 @@ impl Entries {
         }
     }
 
-    /// States that the entries are one run. This is a law: it computes nothing.
     pub fn holds_one_run(&self)
         ensures { AreTableEntries self.now }
     {
@@ -91,9 +88,8 @@ impl Entries {
     }
 
     pub fn blocks(&self) -> &VecDeque<Block>
-        ensures entries { entries_in_blocks (start_of self.now) (blocks_shown result.now.items)
-            ≡ self.now }
-        ensures distinct { AreDistinctBlocks (blocks_shown result.now.items) }
+        ensures entries { entries_in_blocks (start_of self.now) (shown result.now) ≡ self.now }
+        ensures distinct { AreDistinctBlocks (shown result.now) }
         ensures count { length result.now.items ≡ block_count self.now }
     {
         &self.blocks
@@ -118,6 +114,7 @@ impl Entries {
         Some(self.first + (self.len - 1) as u64)
     }
 
+    #[tactic(auto, using(crate::proofs::BlockCuts::kept_facts))]
     pub fn len(&self) -> usize
         ensures { result ≡ length self.now }
     {
@@ -143,17 +140,11 @@ impl Entries {
         if index < self.first {
             return None;
         }
-        let at = index - self.first;
-        if at >= self.len as u64 {
+        let at = (index - self.first) as usize;
+        if at >= self.len {
             return None;
         }
-        let (nth, below) = spot_of(
-            &self.blocks,
-            &self.starts,
-            self.first,
-            self.len,
-            at as usize,
-        );
+        let (nth, below) = spot_of(&self.blocks, &self.starts, self.first, self.len, at);
         let block = &self.blocks[nth];
         let span = block.spans[below];
         Some(EntryIndex {

@@ -1,6 +1,6 @@
 //! Joins of two tables of one region under the newer one's region mark.
 
-ghost use Rattle.std.specs.Prelude.{◌≡◌, ◌≢◌, ℕ, ◌+◌, ◌≤◌, false, [], if◌then◌else◌, MatchBool, OnOk, OnErr, IfOk, IfErr, Some, None, ◌^◌};
+ghost use Rattle.std.specs.Prelude.{◌≡◌, ◌≢◌, ℕ, ◌+◌, ◌≤◌, false, [], if◌then◌else◌, MatchBool, OnOk, IfOk, IfErr, Some, None, ◌^◌};
 ghost use Rattle.raft_table.specs.Common.{LogQueue, IsCorruption, IsRun, end_of, live, hole_text, hole_text_above, without, pair_count, IsMarkFault, IsFaultUnder, IsRunOver, left_by, entries_within, is_missed, is_barred, is_refused_over};
 ghost use Rattle.raft_table.specs.Common.{table_over, end_at_reach, newer_atomic_group, is_unjoined, overlay_under, IsOverlayFault, other, empty_table, live_of, IsCounted, IsRecounted, start_of, Append, Rewrite};
 ghost use Rattle.std.specs.FinMap as finite;
@@ -63,7 +63,8 @@ impl MemTable {
     {
         let end = self.end_at_reach(mark);
         if self.is_blank() {
-            self.take_whole(rhs, stats)?;
+            stats.add_table(rhs)?;
+            mem::swap(self, rhs);
             return Ok(end);
         }
         if !stats.has_room(rhs) {
@@ -125,21 +126,6 @@ impl MemTable {
         }
     }
 
-    fn take_whole(&mut self, rhs: &mut MemTable, stats: &mut GlobalStats) -> Result<()>
-        requires blank { self.old ≡ empty_table rhs.old.region_id }
-        ensures ok { OnOk result (self.new ≡ rhs.old) }
-        ensures emptied { OnOk result (rhs.new ≡ empty_table rhs.old.region_id) }
-        ensures fault { IfErr result (λ e. (e ≡ Error.Full)
-            × ((q : LogQueue) × (2 ^ 64 ≤ live q stats.old + live_of q rhs.old))) }
-        ensures err { OnErr result ((self.new ≡ self.old) × (rhs.new ≡ rhs.old) ×
-            (stats.new ≡ stats.old)) }
-        ensures recounted { IsRecounted self.old self.new stats.old stats.new }
-    {
-        stats.add_table(rhs)?;
-        mem::swap(self, rhs);
-        Ok(())
-    }
-
     fn is_unjoined(&self, rhs: &MemTable, mark: &Mark) -> bool
         ensures { result ≡ is_unjoined mark.now.cut (end_of self.now.entries) rhs.now.entries }
     {
@@ -184,10 +170,7 @@ impl MemTable {
     pub fn ends(&self) -> (u64, u64)
         ensures { result ≡ (start_of self.now.entries, end_of self.now.entries) }
     {
-        match self.first_index() {
-            Some(first) => (first, self.end()),
-            None => (0, 0),
-        }
+        (self.first_index().unwrap_or(0), self.end())
     }
 
     /// Refuses a newer region mark whose steps are refused over these entries. `end` is the end of those that its
@@ -212,8 +195,6 @@ impl MemTable {
         }
     }
 
-    /// Refuses a newer region mark whose first run leaves a hole after the entries that it meets, which
-    /// end at `end`.
     fn check_first_run(&self, mark: &Mark, end: u64) -> Result<()>
         requires { end ≡ end_at_reach mark.now self.now }
         ensures ok { OnOk result (is_missed mark.now self.now.entries ≡ false) }
@@ -230,7 +211,6 @@ impl MemTable {
         Err(hole_error(self.entries.allocator(), self.region_id, start, end))
     }
 
-    /// Refuses a newer region mark over an entry where it lets none stand: a later run leaves a hole after it.
     fn check_barred(&self, mark: &Mark) -> Result<()>
         ensures ok { OnOk result (is_barred mark.now.barred self.now.entries ≡ false) }
         ensures fault { IfErr result (IsMarkFault

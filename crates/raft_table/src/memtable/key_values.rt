@@ -7,7 +7,7 @@ ghost use Rattle.std.specs.FinMap as finite;
 
 mod scan;
 
-use crate::memtable::bounds::lesser;
+use crate::memtable::mark::lesser;
 use raft_base::{AllocResult, FileId, FileSeq, LogQueue};
 use scan::{divided, is_forward, sought, visit, visit_back};
 use std::alloc::Global;
@@ -15,7 +15,6 @@ use std::collections::BTreeMap;
 use std::marker::Model;
 use std::mem::swap;
 
-/// A value, and the file that it was written to with its key.
 #[derive(Debug, Drop)]
 struct StoredValue {
     value: Vec<u8>,
@@ -26,7 +25,6 @@ struct StoredValue {
 #[derive(Debug, Drop)]
 pub struct KeyValues {
     pairs: BTreeMap<Vec<u8>, StoredValue>,
-    /// How many of the pairs have their file in the rewrite queue.
     rewritten: usize,
     alloc: Global,
 }
@@ -88,19 +86,13 @@ impl KeyValues {
     pub fn get(&self, key: &[u8]) -> Option<&[u8]>
         ensures { option_map (λ v. v.now) result ≡ value_at self.now key.now }
     {
-        match self.pairs.get(key) {
-            Some(pair) => Some(pair.value.as_slice()),
-            None => None,
-        }
+        Some(self.pairs.get(key)?.value.as_slice())
     }
 
     pub fn file_of(&self, key: &[u8]) -> Option<FileId>
         ensures { result ≡ file_at self.now key.now }
     {
-        match self.pairs.get(key) {
-            Some(pair) => Some(pair.file),
-            None => None,
-        }
+        Some(self.pairs.get(key)?.file)
     }
 
     pub fn insert(
@@ -118,7 +110,8 @@ impl KeyValues {
         ensures err { OnErr result (self.new ≡ self.old) }
     {
         prove!(self.rewritten <= self.pairs.len());
-        let replaced = file_in(self.pairs.insert(key, StoredValue { value, file })?);
+        let replaced = self.pairs.insert(key, StoredValue { value, file })?;
+        let replaced = replaced.map(|pair| pair.file);
         self.rewritten = self.rewritten - rewritten(replaced) + rewritten(Some(file));
         Ok(replaced)
     }
@@ -204,8 +197,6 @@ impl KeyValues {
         }
     }
 
-    /// Puts the pairs of `rhs` over these, and leaves `rhs` empty. Where there is no memory for all, the first of them, in
-    /// the order of their keys, have been put, one is lost, and the others are left in `rhs`.
     pub fn absorb(&mut self, rhs: &mut KeyValues) -> AllocResult<()>
         ensures ok { OnOk result (self.new ≡ pairs_over rhs.old self.old) }
         ensures emptied { OnOk result (rhs.new ≡ finite.empty) }
@@ -264,24 +255,11 @@ fn copied(bytes: &Vec<u8>) -> AllocResult<Vec<u8>>
 fn is_up_to(file: FileId, queue: LogQueue, gate: Option<FileSeq>) -> bool
     ensures { result ≡ is_up_to queue gate file }
 {
-    file.queue == queue
-        && match gate {
-            Some(gate) => file.seq <= gate,
-            None => true,
-        }
-}
-
-fn file_in(pair: Option<StoredValue>) -> Option<FileId>
-    ensures { result ≡ option_map (λ s. s.file) pair }
-{
-    pair.map(|pair| pair.file)
+    file.queue == queue && gate.is_none_or(|gate| file.seq <= gate)
 }
 
 fn rewritten(file: Option<FileId>) -> usize
     ensures { result ≡ file_weight LogQueue.Rewrite file }
 {
-    match file {
-        Some(file) if file.queue == LogQueue::Rewrite => 1,
-        _ => 0,
-    }
+    usize::from(file.is_some_and(|file| file.queue == LogQueue::Rewrite))
 }

@@ -1,10 +1,10 @@
 //! Region marks of regions, and tables merged under them.
 
 ghost use Rattle.std.specs.Prelude.{◌≡◌, ◌<◌, ◌||◌, MatchBool, OnOk, OnErr, Some, None};
-ghost use Rattle.raft_table.specs.Common.{Append, Rewrite, misses, fresh, is_settled, mark_of, end_at_reach, joined_at, joined_barred, joined_deleted, joined_floor, is_detached, narrowed_bars, with_bounds, lesser, LogQueue, step_shown};
+ghost use Rattle.raft_table.specs.Common.{Append, Rewrite, misses, fresh, is_settled, mark_of, end_at_reach, joined_at, joined_barred, joined_deleted, joined_floor, is_detached, narrowed_bars, with_bounds, at_most_bound, lesser, LogQueue};
+ghost use Rattle.raft_table.specs.Common.{step_shown};
 ghost use Rattle.std.specs.FinSet as finset;
 
-use crate::memtable::bounds::{capped, lesser};
 use crate::memtable::deleted_keys::DeletedKeys;
 use crate::step::Step;
 use raft_base::{AllocResult, LogQueue};
@@ -12,43 +12,25 @@ use std::alloc::Global;
 use std::marker::Model;
 use std::mem;
 
+type Bars = Option<(u64, u64)>;
+
 /// What steps on a region do to every older table of it.
 #[derive(Debug, Drop)]
 pub struct Mark {
     bounds: Bounds,
-    /// Keys that were deleted.
     deleted: DeletedKeys,
 }
 
-/// All of a region mark but its deleted keys.
-#[derive(Debug, Clone, Copy)]
+#[derive(Debug, Clone, Copy, Default)]
 struct Bounds {
-    /// Whether the region was cleaned.
     cleaned: bool,
-    /// The start of the first run before any clean.
     reach: Option<u64>,
-    /// The greatest compaction before that run.
     reach_floor: u64,
-    /// The least truncation before that run.
     reach_cut: Option<u64>,
-    /// From the first of these indexes on and below the second no older entry may stand.
     barred: Option<(u64, u64)>,
-    /// Where older entries begin that stay.
     floor: u64,
-    /// The index that they stay below, if a run or a truncation came.
     cut: Option<u64>,
 }
-
-/// The bounds of no step.
-const NO_BOUNDS: Bounds = Bounds {
-    cleaned: false,
-    reach: None,
-    reach_floor: 0,
-    reach_cut: None,
-    barred: None,
-    floor: 0,
-    cut: None,
-};
 
 impl Bounds {
     fn of_step(step: &Step) -> Bounds
@@ -58,21 +40,21 @@ impl Bounds {
         match step {
             Step::Run(run) => match run.first() {
                 Some(first) => Bounds::of_start(first.index),
-                None => NO_BOUNDS,
+                None => Bounds::default(),
             },
             Step::Compact { index } => Bounds {
                 floor: *index,
-                ..NO_BOUNDS
+                ..Bounds::default()
             },
             Step::Truncate { index } => Bounds {
                 cut: Some(*index),
-                ..NO_BOUNDS
+                ..Bounds::default()
             },
             Step::Clean => Bounds {
                 cleaned: true,
-                ..NO_BOUNDS
+                ..Bounds::default()
             },
-            Step::Put { .. } | Step::Del { .. } | Step::AtomicGroup { .. } => NO_BOUNDS,
+            Step::Put { .. } | Step::Del { .. } | Step::AtomicGroup { .. } => Bounds::default(),
         }
     }
 
@@ -82,7 +64,7 @@ impl Bounds {
         Bounds {
             reach: Some(start),
             cut: Some(start),
-            ..NO_BOUNDS
+            ..Bounds::default()
         }
     }
 }
@@ -106,7 +88,7 @@ impl Mark {
         ensures { result ≡ fresh }
     {
         Mark {
-            bounds: NO_BOUNDS,
+            bounds: Bounds::default(),
             deleted: DeletedKeys::new(alloc),
         }
     }
@@ -239,7 +221,6 @@ impl Mark {
         Ok(())
     }
 
-    /// Adds the key that a step deletes. A clean deletes all, so that none has to be kept.
     #[tactic(auto, using(crate::proofs::MarkExact::union_empty, crate::proofs::MarkExact::union_one))]
     fn delete_keys(&mut self, step: &Step) -> AllocResult<()>
         ensures ok { OnOk result (self.new ≡ record self.old
@@ -256,8 +237,6 @@ impl Mark {
         }
     }
 
-    /// Tests whether a run that starts at `start`, where the own entries end at `end`, changes nothing: it
-    /// begins among them or right after them, and not below the cut.
     fn covers(&self, end: u64, start: u64) -> bool
         ensures { MatchBool result ((queue : LogQueue) → joined_at queue end self.now
             (record fresh { reach = Some start; cut = Some start }) ≡ self.now) (Unit {0}) }
@@ -265,10 +244,7 @@ impl Mark {
         let (Some(_), Some(cut)) = (self.bounds.reach, self.bounds.cut) else {
             return false;
         };
-        if start < cut {
-            return false;
-        }
-        if end < start {
+        if start < cut || end < start {
             return false;
         }
         0 < end
@@ -290,19 +266,13 @@ impl Mark {
         }
         let older = self.bounds;
         let floor = older.floor.max(newer.floor);
+        let newer_barred = narrowed(older.floor, older.cut, newer.barred);
         match (older.reach, older.cut) {
             (Some(_), Some(cut)) => {
                 let bound = capped(cut, newer.reach_cut);
                 let detached = is_detached(newer.reach, end, bound);
                 let met = (older.floor.max(newer.reach_floor), bound);
-                let newer_barred = narrowed(older.floor, older.cut, newer.barred);
-                self.bounds.barred = joined_barred(
-                    queue,
-                    detached,
-                    older.barred,
-                    met,
-                    newer_barred,
-                );
+                self.bounds.barred = joined_bars(queue, detached, older.barred, met, newer_barred);
                 let dropped = drops_below(newer.reach, end, bound);
                 self.bounds.floor = joined_floor(queue, dropped, floor, cut);
             }
@@ -312,9 +282,7 @@ impl Mark {
                     self.bounds.reach_floor = older.floor.max(newer.reach_floor);
                     self.bounds.reach_cut = lesser(older.cut, newer.reach_cut);
                 }
-                self.bounds.barred = older
-                    .barred
-                    .or(narrowed(older.floor, older.cut, newer.barred));
+                self.bounds.barred = older.barred.or(newer_barred);
                 self.bounds.floor = floor;
             }
         }
@@ -339,13 +307,10 @@ impl Mark {
 fn misses(reach: Option<u64>, end: u64) -> bool
     ensures { result ≡ misses reach end }
 {
-    match reach {
-        Some(start) => end > 0 && end < start,
-        None => false,
-    }
+    reach.is_some_and(|start| end > 0 && end < start)
 }
 
-fn narrowed(floor: u64, cut: Option<u64>, barred: Option<(u64, u64)>) -> Option<(u64, u64)>
+fn narrowed(floor: u64, cut: Option<u64>, barred: Bars) -> Bars
     ensures { result ≡ narrowed_bars floor cut barred }
 {
     let (from, below) = barred?;
@@ -355,10 +320,7 @@ fn narrowed(floor: u64, cut: Option<u64>, barred: Option<(u64, u64)>) -> Option<
 fn is_detached(reach: Option<u64>, end: u64, bound: u64) -> bool
     ensures { result ≡ is_detached reach end bound }
 {
-    match reach {
-        Some(start) => end == 0 && bound < start,
-        None => false,
-    }
+    reach.is_some_and(|start| end == 0 && bound < start)
 }
 
 fn drops_below(reach: Option<u64>, end: u64, bound: u64) -> bool
@@ -367,13 +329,7 @@ fn drops_below(reach: Option<u64>, end: u64, bound: u64) -> bool
     is_detached(reach, end, bound) || misses(reach, end)
 }
 
-fn joined_barred(
-    queue: LogQueue,
-    detached: bool,
-    older: Option<(u64, u64)>,
-    met: (u64, u64),
-    newer: Option<(u64, u64)>,
-) -> Option<(u64, u64)>
+fn joined_bars(queue: LogQueue, detached: bool, older: Bars, met: (u64, u64), newer: Bars) -> Bars
     ensures { result ≡ joined_barred queue detached older met newer }
 {
     match (queue, older) {
@@ -389,4 +345,19 @@ fn joined_floor(queue: LogQueue, dropped: bool, floor: u64, cut: u64) -> u64
         LogQueue::Append => floor,
         LogQueue::Rewrite => { if dropped { floor.max(cut) } else { floor } }
     }
+}
+
+pub(super) fn lesser(a: Option<u64>, b: Option<u64>) -> Option<u64>
+    ensures { result ≡ lesser a b }
+{
+    match (a, b) {
+        (Some(a), Some(b)) => Some(a.min(b)),
+        (a, b) => a.or(b),
+    }
+}
+
+pub(super) fn capped(bound: u64, other: Option<u64>) -> u64
+    ensures { result ≡ at_most_bound bound other }
+{
+    other.map_or(bound, |other| bound.min(other))
 }

@@ -159,29 +159,21 @@ fn absorb_keys(keys: &mut KeyValues, newer: &mut KeyValues, stats: &mut GlobalSt
     let appended = keys.count_in(LogQueue::Append);
     let rewritten = keys.count_in(LogQueue::Rewrite);
     let absorbed = keys.absorb(newer);
-    recount(
-        stats,
-        LogQueue::Append,
-        appended,
-        keys.count_in(LogQueue::Append),
-    );
-    recount(
-        stats,
-        LogQueue::Rewrite,
-        rewritten,
-        keys.count_in(LogQueue::Rewrite),
-    );
+    recount(stats, LogQueue::Append, appended, keys);
+    recount(stats, LogQueue::Rewrite, rewritten, keys);
     absorbed?;
     Ok(())
 }
 
-fn recount(stats: &mut GlobalStats, queue: LogQueue, before: usize, after: usize)
+fn recount(stats: &mut GlobalStats, queue: LogQueue, before: usize, keys: &KeyValues)
     requires counted { before ≤ live queue stats.old }
-    requires room { live queue stats.old + after < 2 ^ 64 + before }
-    ensures counts { stats.new ≡ counts_with_others queue before after stats.old }
-    ensures live { (q : LogQueue) →
-        live q stats.new + count_in q queue before ≡ live q stats.old + count_in q queue after }
+    requires room { live queue stats.old + pair_count queue keys.now < 2 ^ 64 + before }
+    ensures counts { stats.new
+        ≡ counts_with_others queue before (pair_count queue keys.now) stats.old }
+    ensures live { (q : LogQueue) → live q stats.new + count_in q queue before
+        ≡ live q stats.old + count_in q queue (pair_count queue keys.now) }
 {
+    let after = keys.count_in(queue);
     if after <= before {
         stats.delete(queue, before - after);
     } else {

@@ -1,7 +1,9 @@
 //! Runs, as tables are given them.
 
-ghost use Rattle.std.specs.Prelude.{◌≡◌, [], ◌<◌, length, MatchOption};
-ghost use Rattle.raft_table.specs.Common.{run_shown, start_of};
+ghost use Rattle.std.specs.Prelude.{◌≡◌, ◌<◌, ℕ, List, [], ◌∷◌, Option, Some, None, false, ◌+◌, ◌≤◌, ◌++◌, length, MatchOption};
+ghost use Rattle.raft_table.specs.Common.{LogQueue, EntryIndex, Append, below, Table, Step, AreSteps, table_of, after, least, IsRun, Mark, table_over_older, Stands, joined_mark, mark_of, own_of, HoldsDeleted, IsExactMark, has_clean};
+ghost use Rattle.raft_table.specs.Common.{greatest_compaction, least_cut, deleted_of, rewritten_within, overlay, overlay_under, AreUntruncated, reaching_within, IsStep, IsTableOf, run_shown, start_of};
+ghost use Rattle.std.specs.FinSet as finset;
 
 use raft_base::{EntryIndex, FileBlockHandle};
 
@@ -25,12 +27,7 @@ impl Run<'_> {
     {
         match self {
             Run::Entries(run) => run.first().map(|entry| entry.index),
-            Run::Block { first, spans, .. } => {
-                if spans.is_empty() {
-                    return None;
-                }
-                Some(*first)
-            }
+            Run::Block { first, spans, .. } => spans.first().map(|_| *first),
         }
     }
 
@@ -43,3 +40,49 @@ impl Run<'_> {
         }
     }
 }
+
+/// States that a region mark and an own table stand for the steps on a region: those of one step for it;
+/// those of two neighbors, joined, for the steps of both, or one reading refuses where the join does; and
+/// the own table is what one reading of the steps gives.
+pub fn marks_stand_for_steps()
+    ensures one { (q : LogQueue) (id : ℕ) (s : Step) → IsStep s →
+        Stands q id (mark_of s) (own_of id s) (s ∷ []) }
+    ensures joins { (q : LogQueue) (id : ℕ) (m n : Mark) (t u w : Option Table) (ss rs : List Step)
+        → AreSteps ss → AreSteps rs → Stands q id m t ss → Stands q id n u rs
+        → table_over_older q id n u t ≡ Some w
+        → Stands q id (joined_mark q id m t n) w (ss ++ rs) }
+    ensures refused { (q : LogQueue) (id : ℕ) (m n : Mark) (t u : Option Table) (ss rs : List Step)
+        → Stands q id m t ss → Stands q id n u rs → table_over_older q id n u t ≡ None
+        → after q id None (ss ++ rs) ≡ None }
+    ensures alone { (q : LogQueue) (id : ℕ) (m : Mark) (t : Option Table) (ss : List Step) →
+        Stands q id m t ss → after q id None ss ≡ Some t }
+    ensures deleted { (q : LogQueue) (id : ℕ) (m n : Mark) (t : Option Table) (ss rs : List Step) →
+        Stands q id m t ss
+        → HoldsDeleted m ss → HoldsDeleted n rs → HoldsDeleted (joined_mark q id m t n) (ss ++ rs) }
+    ensures few_deleted { (m : Mark) (ss : List Step) → HoldsDeleted m ss
+        → finset.len m.deleted ≤ finset.len (deleted_of finset.empty ss) }
+{}
+
+/// States that in the append queue a region mark that stands for steps holds what an overlay reads of
+/// them, so the overlay by the region mark is that by the steps, and its entries are a run.
+pub fn overlays_by_marks()
+    ensures one { (s : Step) → IsExactMark (mark_of s) (s ∷ []) }
+    ensures joins { (id : ℕ) (m n : Mark) (t : Option Table) (ss rs : List Step) →
+        Stands Append id m t ss → IsExactMark m ss → IsExactMark n rs
+        → IsExactMark (joined_mark Append id m t n) (ss ++ rs) }
+    ensures overlay { (m : Mark) (ss : List Step) (a r : Table) → IsExactMark m ss
+        → overlay_under m a r ≡ overlay ss a r }
+    ensures run { (id : ℕ) (m : Mark) (a : Option Table) (ss : List Step) (r : Table) → AreSteps ss
+        → Stands Append id m a ss → IsTableOf id r
+        → IsRun (overlay_under m (table_of id a) r).entries }
+{}
+
+/// States that where nothing truncates or cleans, the rewritten entries below the least start of a run
+/// stay exactly where they reach it: the appended ones begin there, or no rewritten one stays.
+pub fn overlays_reach_without_truncations()
+    ensures { (id : ℕ) (ss : List Step) (appended : Option Table) (es : List EntryIndex) →
+        AreSteps ss
+        → AreUntruncated ss → has_clean ss ≡ false → after Append id None ss ≡ Some appended
+        → rewritten_within (greatest_compaction ss) (least_cut ss) (table_of id appended).entries es
+        ≡ reaching_within (greatest_compaction ss) (least_cut ss) es }
+{}

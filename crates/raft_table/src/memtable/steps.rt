@@ -1,8 +1,8 @@
 //! Steps on a table.
 
-ghost use Rattle.std.specs.Prelude.{◌≡◌, ◌≢◌, [], MatchBool, OnOk, OnErr, IfErr, Some};
-ghost use Rattle.raft_table.specs.Common.{Append, Rewrite, with_added, file_at, other, counts_with_run, step_shown, after_step, after_replay, live_of, with_pair, with_pair_deleted, IsCounted, IsRecounted, IsRunIn, IsStepOfQueue};
-ghost use Rattle.raft_table.specs.Common.{LeavesTable, IsUnmixed, counts_after_step, IsReplayFault, IsStepFault};
+ghost use Rattle.std.specs.Prelude.{◌≡◌, ◌<◌, [], Some, false, if◌then◌else◌, ◌≢◌, MatchBool, OnOk, OnErr, IfErr};
+ghost use Rattle.raft_table.specs.Common.{LogQueue, Append, Rewrite, Step, Error, with_added, file_at, other, step_shown, after_step, with_pair, with_pair_deleted, IsCounted, IsRecounted, IsStepOfQueue, LeavesTable, IsUnmixed};
+ghost use Rattle.raft_table.specs.Common.{counts_after_step, IsStepFault};
 
 use crate::global_stats::GlobalStats;
 use crate::memtable::MemTable;
@@ -32,7 +32,16 @@ impl MemTable {
         ensures region { self.new.region_id ≡ self.old.region_id }
     {
         match step {
-            Step::Run(run) => self.replay(queue, run, stats),
+            Step::Run(run) => {
+                if self.records(queue.other()) > 0 {
+                    let text = match queue {
+                        LogQueue::Append => "the table has rewritten records",
+                        LogQueue::Rewrite => "the table has appended records",
+                    };
+                    return Err(Error::invalid_argument(self.entries.allocator(), text));
+                }
+                self.entries.replay_run(self.region_id, &run, queue, stats)
+            }
             Step::Compact { index } => {
                 self.compact_to(index, stats);
                 Ok(())
@@ -92,36 +101,6 @@ impl MemTable {
         let Ok(value) = Vec::from_slice(alloc, value) else {
             return false;
         };
-        match self.put(key, value, file_id, stats) {
-            Ok(()) => true,
-            Err(_) => false,
-        }
-    }
-
-    fn replay(
-        &mut self,
-        queue: LogQueue,
-        run: Vec<EntryIndex>,
-        stats: &mut GlobalStats,
-    ) -> Result<()>
-        requires run { IsRunIn queue run.items }
-        requires counted { IsCounted self.old stats.old }
-        ensures ok { OnOk result (after_replay queue self.old run.items ≡ Some self.new) }
-        ensures accepted { OnOk result (live_of (other queue) self.old ≡ 0) }
-        ensures counts { OnOk result
-            (stats.new ≡ counts_with_run queue self.old.entries run.items stats.old) }
-        ensures err { OnErr result ((self.new ≡ self.old) × (stats.new ≡ stats.old)) }
-        ensures fault { IfErr result (IsReplayFault queue run.items self.old stats.old) }
-        ensures region { self.new.region_id ≡ self.old.region_id }
-        ensures recounted { IsRecounted self.old self.new stats.old stats.new }
-    {
-        if self.records(queue.other()) > 0 {
-            let text = match queue {
-                LogQueue::Append => "the table has rewritten records",
-                LogQueue::Rewrite => "the table has appended records",
-            };
-            return Err(Error::invalid_argument(self.entries.allocator(), text));
-        }
-        self.entries.replay_run(self.region_id, &run, queue, stats)
+        self.put(key, value, file_id, stats).is_ok()
     }
 }

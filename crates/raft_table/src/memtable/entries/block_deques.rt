@@ -1,40 +1,23 @@
 //! Deques of blocks and of their first indexes.
 
 ghost use Rattle.std.specs.Prelude.{◌≡◌, ◌≢◌, ◌+◌, ◌⊎◌, ◌-◌, ◌≤◌, ◌<◌, ℕ, List, [], ◌∷◌, ◌++◌, length, take, drop, slice_index_or, ◌^◌, MatchBool, OnOk, OnErr, IfOk};
-ghost use Rattle.raft_table.specs.Common.{IsNonDecreasingBy, deque_len, deque_capacity, BlockSpans, block_spans, blocks_shown, count, starts_of, AreStarts, first_of_last, joined_blocks, seam, IsIndexOf, IsAt};
+ghost use Rattle.raft_table.specs.Common.{deque_len, deque_capacity, BlockSpans, block_spans, shown, count, starts_of, AreStarts, first_of_last, joined_blocks, seam, IsIndexOf, IsAt};
 
 use crate::memtable::block::Block;
+use crate::memtable::entries::{Blocks, Spans, Spot, Starts};
 use raft_base::{AllocResult, FileBlockHandle};
 use std::alloc::Global;
 use std::collections::VecDeque;
 use std::mem::swap;
 
-fn count_at_or_below(starts: &VecDeque<u64>, index: u64) -> usize
-    requires { IsNonDecreasingBy (λ (y : ℕ). y) starts.now.items }
-    ensures bound { result ≤ length starts.now.items }
-    ensures below { (j d : ℕ) → j < result → slice_index_or starts.now.items j d ≤ index }
-    ensures above { (j d : ℕ) → result ≤ j → j < length starts.now.items →
-        index < slice_index_or starts.now.items j d }
-{
-    starts.partition_point(|start: &u64| -> bool { *start <= index })
-}
-
 /// Up to so many blocks are walked: their first indexes aren't kept.
 pub(super) const FEW: usize = 3;
 
-/// Returns the block and the offset in it of the entry after the first `at`, among `len` entries from
-/// the index `first` on.
-pub(super) fn spot_of(
-    blocks: &VecDeque<Block>,
-    starts: &VecDeque<u64>,
-    first: u64,
-    len: usize,
-    at: usize,
-) -> (usize, usize)
-    requires starts { AreStarts first (blocks_shown blocks.now.items) starts.now.items }
-    requires within { (at < count (blocks_shown blocks.now.items))
-        × (first + count (blocks_shown blocks.now.items) < 2 ^ 64) }
-    ensures { IsAt at (blocks_shown blocks.now.items) result.0 result.1 }
+pub(super) fn spot_of(blocks: &Blocks, starts: &Starts, first: u64, len: usize, at: usize) -> Spot
+    requires starts { AreStarts first (shown blocks.now) starts.now.items }
+    requires within { (at < count (shown blocks.now))
+        × (first + count (shown blocks.now) < 2 ^ 64) }
+    ensures { IsAt at (shown blocks.now) result.0 result.1 }
 {
     if starts.is_empty() {
         return spot_among(blocks, at);
@@ -42,9 +25,9 @@ pub(super) fn spot_of(
     find(starts, first, len, first + at as u64)
 }
 
-fn spot_among(blocks: &VecDeque<Block>, behind: usize) -> (usize, usize)
-    requires { behind < count (blocks_shown blocks.now.items) }
-    ensures { IsAt behind (blocks_shown blocks.now.items) result.0 result.1 }
+fn spot_among(blocks: &Blocks, behind: usize) -> Spot
+    requires { behind < count (shown blocks.now) }
+    ensures { IsAt behind (shown blocks.now) result.0 result.1 }
 {
     let mut nth = 0;
     let mut rest = behind;
@@ -55,16 +38,16 @@ fn spot_among(blocks: &VecDeque<Block>, behind: usize) -> (usize, usize)
     (nth, rest)
 }
 
-/// Returns the block and the offset in it of the entry with an index, among `len` entries from the
-/// index `first` on. A block is guessed, as if all were of one length; where that isn't the one,
-/// they are searched.
-pub(super) fn find(starts: &VecDeque<u64>, first: u64, len: usize, index: u64) -> (usize, usize)
+/// Guesses the block, as if all were of one length, and searches where that isn't the one. Wrong
+/// numbers make a wrong guess, and no fault.
+pub(super) fn find(starts: &Starts, first: u64, len: usize, index: u64) -> Spot
     requires { IsIndexOf starts.now.items index }
     ensures { (i : ℕ) (bs : List BlockSpans) → starts.now.items ≡ starts_of i bs → i ≤ index →
         index < i + count bs → IsAt (index - i) bs result.0 result.1 }
 {
     let last = starts.len() - 1;
-    let guess = guess(first, len, starts.len(), index).min(last);
+    let behind = index.wrapping_sub(first).wrapping_mul(starts.len() as u64);
+    let guess = ((behind / (len as u64).max(1)) as usize).min(last);
     let low = starts[guess];
     if low <= index && (guess == last || index < starts[guess + 1]) {
         return (guess, (index - low) as usize);
@@ -72,9 +55,7 @@ pub(super) fn find(starts: &VecDeque<u64>, first: u64, len: usize, index: u64) -
     search(starts, index)
 }
 
-/// Returns what `find` returns, without a guess: the last block is looked at, and then all are
-/// searched.
-pub(super) fn search(starts: &VecDeque<u64>, index: u64) -> (usize, usize)
+pub(super) fn search(starts: &Starts, index: u64) -> Spot
     requires { IsIndexOf starts.now.items index }
     ensures { (i : ℕ) (bs : List BlockSpans) → starts.now.items ≡ starts_of i bs → i ≤ index →
         index < i + count bs → IsAt (index - i) bs result.0 result.1 }
@@ -84,21 +65,12 @@ pub(super) fn search(starts: &VecDeque<u64>, index: u64) -> (usize, usize)
     if start <= index {
         return (last, (index - start) as usize);
     }
-    let nth = count_at_or_below(starts, index) - 1;
+    let nth = starts.partition_point(|start: &u64| -> bool { *start <= index }) - 1;
     let start = starts[nth];
     (nth, (index - start) as usize)
 }
 
-/// Guesses in which of `count` blocks of one length an index is, if they have `len` entries from
-/// the index `first` on. Wrong numbers make a wrong guess, and no fault.
-fn guess(first: u64, len: usize, count: usize, index: u64) -> usize {
-    let behind = index.wrapping_sub(first);
-    (behind.wrapping_mul(count as u64) / (len as u64).max(1)) as usize
-}
-
-/// Returns the block in which the first so many entries end, and the offset in it. `first` is the
-/// index of the first of all.
-pub(super) fn spot_behind(starts: &VecDeque<u64>, first: u64, kept: usize) -> (usize, usize)
+pub(super) fn spot_behind(starts: &Starts, first: u64, kept: usize) -> Spot
     requires bounded { first + kept < 2 ^ 64 }
     requires within { 0 < kept → IsIndexOf starts.now.items (first + (kept - 1)) }
     ensures none { kept ≡ 0 → (result.0 ≡ 0) × (result.1 ≡ 0) }
@@ -113,11 +85,7 @@ pub(super) fn spot_behind(starts: &VecDeque<u64>, first: u64, kept: usize) -> (u
     (nth + 1, last + 1)
 }
 
-pub(super) fn spans_behind(
-    alloc: Global,
-    spans: &VecDeque<(u32, u32)>,
-    dropped: usize,
-) -> AllocResult<VecDeque<(u32, u32)>>
+pub(super) fn spans_behind(alloc: Global, spans: &Spans, dropped: usize) -> AllocResult<Spans>
     requires { dropped ≤ length spans.now.items }
     ensures ok { IfOk result (λ behind. behind.items ≡ drop dropped spans.now.items) }
 {
@@ -135,16 +103,13 @@ pub(super) fn is_same(a: &FileBlockHandle, b: &FileBlockHandle) -> bool
     a == b
 }
 
-/// Puts more blocks after so many first ones, of the last of which so many entries stay, and in
-/// front of those from `rest` on. Where the two at the first seam have the same place they are one
-/// block.
 pub(super) fn put_blocks(
-    blocks: &mut VecDeque<Block>,
-    starts: &mut VecDeque<u64>,
-    spot: (usize, usize),
+    blocks: &mut Blocks,
+    starts: &mut Starts,
+    spot: Spot,
     rest: usize,
-    more: &mut VecDeque<Block>,
-    more_starts: &mut VecDeque<u64>,
+    more: &mut Blocks,
+    more_starts: &mut Starts,
 ) -> AllocResult<()>
     requires order { spot.0 ≤ rest }
     requires within { rest ≤ length blocks.old.items }
@@ -153,19 +118,16 @@ pub(super) fn put_blocks(
     requires starts { length starts.old.items ≡ length blocks.old.items }
     requires more { (0 < length more.old.items) ×
         (length more_starts.old.items ≡ length more.old.items) }
-    ensures blocks { OnOk result (blocks_shown blocks.new.items
-        ≡ joined_blocks (first_of_last spot.1 (take spot.0 (blocks_shown blocks.old.items)))
-        (blocks_shown more.old.items)
-        ++ drop rest (blocks_shown blocks.old.items)) }
+    ensures blocks { OnOk result (shown blocks.new
+        ≡ joined_blocks (first_of_last spot.1 (take spot.0 (shown blocks.old))) (shown
+        more.old) ++ drop rest (shown blocks.old)) }
     ensures starts { OnOk result (starts.new.items ≡ take spot.0 starts.old.items
-        ++ drop (seam (take spot.0 (blocks_shown blocks.old.items)) (blocks_shown more.old.items))
-        more_starts.old.items
-        ++ drop rest starts.old.items) }
+        ++ drop (seam (take spot.0 (shown blocks.old))
+        (shown more.old)) more_starts.old.items ++ drop rest starts.old.items) }
     ensures emptied { OnOk result ((more.new.items ≡ []) × (more_starts.new.items ≡ [])) }
-    ensures err { OnErr result ((blocks_shown blocks.new.items ≡ blocks_shown blocks.old.items)
-        × (starts.new.items ≡ starts.old.items)
-        × (blocks_shown more.new.items ≡ blocks_shown more.old.items)
-        × (more_starts.new.items ≡ more_starts.old.items)) }
+    ensures err { OnErr result ((shown blocks.new ≡ shown blocks.old)
+        × (starts.new.items ≡ starts.old.items) × (shown more.new
+        ≡ shown more.old) × (more_starts.new.items ≡ more_starts.old.items)) }
 {
     make_room(blocks, more)?;
     make_room(starts, more_starts)?;
@@ -175,21 +137,16 @@ pub(super) fn put_blocks(
     Ok(())
 }
 
-pub(super) fn put_few_blocks(
-    blocks: &mut VecDeque<Block>,
-    spot: (usize, usize),
-    more: &mut VecDeque<Block>,
-) -> AllocResult<()>
+pub(super) fn put_few_blocks(blocks: &mut Blocks, spot: Spot, more: &mut Blocks) -> AllocResult<()>
     requires within { (0 < spot.0) × (spot.0 ≤ length blocks.old.items) }
     requires kept { (d : Block) → 0 < spot.0
         → spot.1 ≤ length (slice_index_or blocks.old.items (spot.0 - 1) d).spans.items }
     requires more { 0 < length more.old.items }
-    ensures ok { OnOk result (blocks_shown blocks.new.items
-        ≡ joined_blocks (first_of_last spot.1 (take spot.0 (blocks_shown blocks.old.items)))
-        (blocks_shown more.old.items)) }
+    ensures ok { OnOk result (shown blocks.new
+        ≡ joined_blocks (first_of_last spot.1 (take spot.0 (shown blocks.old))) (shown more.old)) }
     ensures emptied { OnOk result (more.new.items ≡ []) }
-    ensures err { OnErr result ((blocks_shown blocks.new.items ≡ blocks_shown blocks.old.items)
-        × (blocks_shown more.new.items ≡ blocks_shown more.old.items)) }
+    ensures err { OnErr result ((shown blocks.new ≡ shown blocks.old)
+        × (shown more.new ≡ shown more.old)) }
 {
     blocks.reserve(more.len())?;
     let mut no_starts = VecDeque::new(*blocks.allocator());
@@ -199,8 +156,6 @@ pub(super) fn put_few_blocks(
     Ok(())
 }
 
-/// Makes room for the elements of two deques in one of them: in the longer one where the first
-/// lacks it.
 fn make_room<T>(deque: &mut VecDeque<T>, more: &mut VecDeque<T>) -> AllocResult<()>
     ensures items { (deque.new.items ≡ deque.old.items) × (more.new.items ≡ more.old.items) }
     ensures len { (deque_len deque.new ≡ deque_len deque.old) ×
@@ -215,36 +170,30 @@ fn make_room<T>(deque: &mut VecDeque<T>, more: &mut VecDeque<T>) -> AllocResult<
     deque.reserve(more.len())
 }
 
-/// Keeps so many entries of the last of so many blocks, if there are any, and moves the entries of
-/// the first of more blocks after them where the two have the same place.
 fn meet(
-    blocks: &mut VecDeque<Block>,
-    spot: (usize, usize),
-    more: &mut VecDeque<Block>,
-    more_starts: &mut VecDeque<u64>,
+    blocks: &mut Blocks,
+    spot: Spot,
+    more: &mut Blocks,
+    more_starts: &mut Starts,
 ) -> AllocResult<()>
     requires within { spot.0 ≤ length blocks.old.items }
     requires kept { (d : Block) → 0 < spot.0
         → spot.1 ≤ length (slice_index_or blocks.old.items (spot.0 - 1) d).spans.items }
     requires more { 0 < length more.old.items }
-    ensures front { OnOk result (take spot.0 (blocks_shown blocks.new.items)
-        ++ blocks_shown more.new.items
-        ≡ joined_blocks (first_of_last spot.1 (take spot.0 (blocks_shown blocks.old.items)))
-        (blocks_shown more.old.items)) }
+    ensures front { OnOk result (take spot.0 (shown blocks.new) ++ shown more.new
+        ≡ joined_blocks (first_of_last spot.1 (take spot.0 (shown blocks.old))) (shown more.old)) }
     ensures behind { OnOk result ((n : ℕ) → spot.0 ≤ n
-        → drop n (blocks_shown blocks.new.items) ≡ drop n (blocks_shown blocks.old.items)) }
+        → drop n (shown blocks.new) ≡ drop n (shown blocks.old)) }
     ensures starts { OnOk result (more_starts.new.items
-        ≡ drop (seam (take spot.0 (blocks_shown blocks.old.items)) (blocks_shown more.old.items))
-        more_starts.old.items) }
+        ≡ drop (seam (take spot.0 (shown blocks.old)) (shown more.old)) more_starts.old.items) }
     ensures room { (deque_len blocks.new ≡ deque_len blocks.old)
         × (deque_capacity blocks.new ≡ deque_capacity blocks.old) }
     ensures fewer { (deque_len more.new ≤ deque_len more.old)
         × (deque_len more_starts.new ≤ deque_len more_starts.old) }
     ensures kept_room { (deque_capacity more.new ≡ deque_capacity more.old)
         × (deque_capacity more_starts.new ≡ deque_capacity more_starts.old) }
-    ensures err { OnErr result ((blocks_shown blocks.new.items ≡ blocks_shown blocks.old.items)
-        × (blocks_shown more.new.items ≡ blocks_shown more.old.items)
-        × (more_starts.new.items ≡ more_starts.old.items)) }
+    ensures err { OnErr result ((shown blocks.new ≡ shown blocks.old)
+        × (shown more.new ≡ shown more.old) × (more_starts.new.items ≡ more_starts.old.items)) }
 {
     let (nth, kept) = spot;
     if nth == 0 {
@@ -270,16 +219,10 @@ fn drop_front<T: Drop>(deque: &mut VecDeque<T>)
 }
 
 #[inline(always)]
-pub(super) fn keep_starts(
-    blocks: &VecDeque<Block>,
-    starts: &mut VecDeque<u64>,
-    first: u64,
-) -> AllocResult<()>
-    requires starts { AreStarts first (blocks_shown blocks.now.items) starts.old.items }
-    requires bounded { 0 < length blocks.now.items
-        → first + count (blocks_shown blocks.now.items) < 2 ^ 64 }
-    ensures ok { OnOk result
-        (starts.new.items ≡ starts_of first (blocks_shown blocks.now.items)) }
+pub(super) fn keep_starts(blocks: &Blocks, starts: &mut Starts, first: u64) -> AllocResult<()>
+    requires starts { AreStarts first (shown blocks.now) starts.old.items }
+    requires bounded { 0 < length blocks.now.items → first + count (shown blocks.now) < 2 ^ 64 }
+    ensures ok { OnOk result (starts.new.items ≡ starts_of first (shown blocks.now)) }
     ensures err { OnErr result (starts.new.items ≡ starts.old.items) }
 {
     if !starts.is_empty() {
@@ -291,12 +234,11 @@ pub(super) fn keep_starts(
 }
 
 #[inline(never)]
-fn push_starts(blocks: &VecDeque<Block>, starts: &mut VecDeque<u64>, first: u64)
+fn push_starts(blocks: &Blocks, starts: &mut Starts, first: u64)
     requires none { starts.old.items ≡ [] }
     requires room { length blocks.now.items ≤ deque_capacity starts.old }
-    requires bounded { 0 < length blocks.now.items
-        → first + count (blocks_shown blocks.now.items) < 2 ^ 64 }
-    ensures { starts.new.items ≡ starts_of first (blocks_shown blocks.now.items) }
+    requires bounded { 0 < length blocks.now.items → first + count (shown blocks.now) < 2 ^ 64 }
+    ensures { starts.new.items ≡ starts_of first (shown blocks.now) }
 {
     let mut index = first;
     for i in 0..blocks.len() {
@@ -307,17 +249,16 @@ fn push_starts(blocks: &VecDeque<Block>, starts: &mut VecDeque<u64>, first: u64)
 
 #[inline(always)]
 pub(super) fn push_with_start(
-    blocks: &mut VecDeque<Block>,
-    starts: &mut VecDeque<u64>,
+    blocks: &mut Blocks,
+    starts: &mut Starts,
     index: u64,
     block: Block,
 ) -> AllocResult<()>
-    ensures blocks { OnOk result (blocks_shown blocks.new.items
-        ≡ joined_blocks (blocks_shown blocks.old.items) (block_spans block ∷ [])) }
-    ensures starts { OnOk result (starts.new.items
-        ≡ starts.old.items
-        ++ drop (seam (blocks_shown blocks.old.items) (block_spans block ∷ [])) (index ∷ [])) }
-    ensures err { OnErr result ((blocks_shown blocks.new.items ≡ blocks_shown blocks.old.items)
+    ensures blocks { OnOk result (shown blocks.new
+        ≡ joined_blocks (shown blocks.old) (block_spans block ∷ [])) }
+    ensures starts { OnOk result (starts.new.items ≡ starts.old.items
+        ++ drop (seam (shown blocks.old) (block_spans block ∷ [])) (index ∷ [])) }
+    ensures err { OnErr result ((shown blocks.new ≡ shown blocks.old)
         × (starts.new.items ≡ starts.old.items)) }
 {
     starts.reserve(1)?;
@@ -330,13 +271,11 @@ pub(super) fn push_with_start(
     Ok(())
 }
 
-/// Puts a block after others. Where it has the place of the last of them its entries go after those
-/// of that one.
 #[inline(never)]
-pub(super) fn push_block(blocks: &mut VecDeque<Block>, mut block: Block) -> AllocResult<()>
-    ensures ok { OnOk result (blocks_shown blocks.new.items
-        ≡ joined_blocks (blocks_shown blocks.old.items) (block_spans block ∷ [])) }
-    ensures err { OnErr result (blocks_shown blocks.new.items ≡ blocks_shown blocks.old.items) }
+pub(super) fn push_block(blocks: &mut Blocks, mut block: Block) -> AllocResult<()>
+    ensures ok { OnOk result (shown blocks.new
+        ≡ joined_blocks (shown blocks.old) (block_spans block ∷ [])) }
+    ensures err { OnErr result (shown blocks.new ≡ shown blocks.old) }
 {
     let len = blocks.len();
     if len > 0 {
@@ -346,24 +285,15 @@ pub(super) fn push_block(blocks: &mut VecDeque<Block>, mut block: Block) -> Allo
             return lengthen(&mut blocks[last], kept, &mut block.spans);
         }
     }
-    make_first_room(blocks)?;
+    if blocks.capacity() == 0 {
+        blocks.reserve_exact(FEW)?;
+    }
     blocks.push_back(block)?;
     Ok(())
 }
 
-/// Makes room for few blocks where there is none: few regions with few entries have more.
-#[inline(always)]
-fn make_first_room(blocks: &mut VecDeque<Block>) -> AllocResult<()>
-    ensures { blocks.new.items ≡ blocks.old.items }
-{
-    if blocks.capacity() > 0 {
-        return Ok(());
-    }
-    blocks.reserve_exact(FEW)
-}
-
 #[inline(never)]
-fn lengthen(block: &mut Block, kept: usize, more: &mut VecDeque<(u32, u32)>) -> AllocResult<()>
+fn lengthen(block: &mut Block, kept: usize, more: &mut Spans) -> AllocResult<()>
     requires { kept ≤ length block.old.spans.items }
     ensures handle { block.new.handle ≡ block.old.handle }
     ensures ok { OnOk result (block.new.spans.items
@@ -380,8 +310,6 @@ fn lengthen(block: &mut Block, kept: usize, more: &mut VecDeque<(u32, u32)>) -> 
     Ok(())
 }
 
-/// Keeps the first `kept` elements and those from `rest` on, and puts more between them. The shorter
-/// end is moved where either deque has room.
 fn splice<T: Drop>(deque: &mut VecDeque<T>, kept: usize, rest: usize, more: &mut VecDeque<T>)
     requires order { kept ≤ rest }
     requires within { rest ≤ deque_len deque.old }

@@ -1,31 +1,28 @@
 //! Walks over entries in order, block by block.
 
 ghost use Rattle.std.specs.Prelude.{◌≡◌, ◌+◌, ◌-◌, ◌≤◌, ◌<◌, ◌^◌, ◌++◌, ℕ, List, map, take, drop, slice_index_or, length, Some};
-ghost use Rattle.raft_table.specs.Common.{prefix_len, vec_len, vec_capacity, EntryIndex, entries_of_block, BlockSpans, block_spans, blocks_shown, entries_in_blocks, AreDistinctBlocks, count, without_span, with_spans, IsAt, IsPart};
-ghost use Rattle.raft_table.specs.Common.{IsLimitCount, may_move};
+ghost use Rattle.raft_table.specs.Common.{prefix_len, vec_len, vec_capacity, EntryIndex, entries_of_block, BlockSpans, block_spans, shown, entries_in_blocks, AreDistinctBlocks, count, without_span, with_spans, IsAt, IsPart, IsLimitCount};
+ghost use Rattle.raft_table.specs.Common.{may_move};
 
 use crate::memtable::block::Block;
+use crate::memtable::entries::{Blocks, Spot};
 use raft_base::{EntryIndex, FileBlockHandle, FileSeq, LogQueue};
-use std::collections::VecDeque;
 
-/// Appends the entries after the first `start`, among the first `end`, to a vector with room for
-/// them. The first of them stands at `spot`, the first of all blocks has the index `first`.
-///
 /// The entries come first, and a second walk sets their spans: the spans of each block lie apart,
 /// and a walk that does little else can have those of several brought from memory at once.
 pub(super) fn push_entries(
     vec: &mut Vec<EntryIndex>,
     first: u64,
-    blocks: &VecDeque<Block>,
-    spot: (usize, usize),
+    blocks: &Blocks,
+    spot: Spot,
     start: usize,
     end: usize,
 )
-    requires part { IsPart (blocks_shown blocks.now.items) spot start end }
+    requires part { IsPart (shown blocks.now) spot start end }
     requires bounded { first + end < 2 ^ 64 }
     requires room { vec_len vec.old + (end - start) ≤ vec_capacity vec.old }
     ensures { vec.new.items ≡ vec.old.items ++ drop start
-        (take end (entries_in_blocks first (blocks_shown blocks.now.items))) }
+        (take end (entries_in_blocks first (shown blocks.now))) }
 {
     let len = vec.len();
     push_without_spans(vec, first, blocks, spot, start, end);
@@ -35,18 +32,16 @@ pub(super) fn push_entries(
 fn push_without_spans(
     vec: &mut Vec<EntryIndex>,
     first: u64,
-    blocks: &VecDeque<Block>,
-    spot: (usize, usize),
+    blocks: &Blocks,
+    spot: Spot,
     start: usize,
     end: usize,
 )
-    requires part { IsPart (blocks_shown blocks.now.items) spot start end }
+    requires part { IsPart (shown blocks.now) spot start end }
     requires bounded { first + end < 2 ^ 64 }
     requires room { vec_len vec.old + (end - start) ≤ vec_capacity vec.old }
-    ensures { vec.new.items
-        ≡ vec.old.items
-        ++ map without_span
-        (drop start (take end (entries_in_blocks first (blocks_shown blocks.now.items)))) }
+    ensures { vec.new.items ≡ vec.old.items
+        ++ map without_span (drop start (take end (entries_in_blocks first (shown blocks.now)))) }
 {
     let (mut nth, mut at) = spot;
     let mut done = start;
@@ -90,20 +85,18 @@ fn push_without_spans_of(
 fn set_spans(
     vec: &mut Vec<EntryIndex>,
     len: usize,
-    blocks: &VecDeque<Block>,
-    spot: (usize, usize),
+    blocks: &Blocks,
+    spot: Spot,
     start: usize,
     end: usize,
 )
-    requires part { IsPart (blocks_shown blocks.now.items) spot start end }
+    requires part { IsPart (shown blocks.now) spot start end }
     requires there { len + (end - start) ≤ length vec.old.items }
-    ensures { (i : ℕ) (front : List EntryIndex) → length front ≡ len
-        → vec.old.items
-        ≡ front
-        ++ map without_span
-        (drop start (take end (entries_in_blocks i (blocks_shown blocks.now.items))))
-        → vec.new.items
-        ≡ front ++ drop start (take end (entries_in_blocks i (blocks_shown blocks.now.items))) }
+    ensures { (i : ℕ) (front : List EntryIndex) → length front ≡ len → vec.old.items ≡ front
+        ++ map without_span (drop start
+        (take end (entries_in_blocks i
+        (shown blocks.now)))) → vec.new.items ≡ front
+        ++ drop start (take end (entries_in_blocks i (shown blocks.now))) }
 {
     let (mut nth, mut at) = spot;
     let mut done = start;
@@ -126,29 +119,23 @@ fn set_spans_of(vec: &mut Vec<EntryIndex>, len: usize, block: &Block, at: usize,
 {
     let mut i = len;
     for span in block.spans.range(at..at + count) {
-        set_span(&mut vec[i], *span);
+        let entry = &mut vec[i];
+        entry.entry_offset = span.0;
+        entry.entry_len = span.1;
         i += 1;
     }
 }
 
-fn set_span(entry: &mut EntryIndex, span: (u32, u32))
-    ensures { entry.new ≡ record entry.old { entry_offset = span.0; entry_len = span.1 } }
-{
-    entry.entry_offset = span.0;
-    entry.entry_len = span.1;
-}
-
 pub(super) fn movable_from(
-    blocks: &VecDeque<Block>,
-    spot: (usize, usize),
+    blocks: &Blocks,
+    spot: Spot,
     start: usize,
     end: usize,
     gate: Option<FileSeq>,
 ) -> usize
-    requires { IsPart (blocks_shown blocks.now.items) spot start end }
-    ensures { (i : ℕ)
-        → result ≡ prefix_len (may_move gate)
-        (drop start (take end (entries_in_blocks i (blocks_shown blocks.now.items)))) }
+    requires { IsPart (shown blocks.now) spot start end }
+    ensures { (i : ℕ) → result ≡ prefix_len (may_move gate)
+        (drop start (take end (entries_in_blocks i (shown blocks.now)))) }
 {
     let (mut nth, mut at) = spot;
     let mut done = start;
@@ -175,15 +162,15 @@ fn is_movable(handle: &FileBlockHandle, gate: Option<FileSeq>) -> bool
 }
 
 pub(super) fn count_from(
-    blocks: &VecDeque<Block>,
-    mut spot: (usize, usize),
+    blocks: &Blocks,
+    mut spot: Spot,
     start: usize,
     end: usize,
     limit: usize,
 ) -> usize
-    requires { IsPart (blocks_shown blocks.now.items) spot start end }
+    requires { IsPart (shown blocks.now) spot start end }
     ensures { (i : ℕ) → IsLimitCount (Some limit)
-        (drop start (take end (entries_in_blocks i (blocks_shown blocks.now.items)))) result }
+        (drop start (take end (entries_in_blocks i (shown blocks.now)))) result }
 {
     let mut total = 0u128;
     for i in start..end {
@@ -198,7 +185,7 @@ pub(super) fn count_from(
     end - start
 }
 
-fn next(block: &Block, spot: (usize, usize)) -> (usize, usize)
+fn next(block: &Block, spot: Spot) -> Spot
     requires within { spot.0 + 1 < 2 ^ 64 }
     requires inside { spot.1 < length block.now.spans.items }
     ensures { (p : ℕ) (bs : List BlockSpans) → IsAt p bs spot.0 spot.1 → AreDistinctBlocks bs

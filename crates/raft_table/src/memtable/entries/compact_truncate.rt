@@ -1,13 +1,12 @@
 //! Entries that go, from the front or from the back.
 
 ghost use Rattle.std.specs.Prelude.{◌≡◌, ◌≢◌, ◌+◌, ◌≤◌, ◌<◌, [], length, take, drop, set, slice_index_or};
-ghost use Rattle.raft_table.specs.Common.{blocks_shown, first_of_last, without_first_of_first, end_of, below, from, AreCounted, AreRecounted, counts_without, entries_within};
+ghost use Rattle.raft_table.specs.Common.{Block, shown, first_of_last, without_first_of_first, end_of, below, from, AreCounted, AreRecounted, counts_without, entries_within};
 
 use crate::global_stats::GlobalStats;
-use crate::memtable::block::Block;
-use crate::memtable::bounds::capped;
-use crate::memtable::entries::Entries;
 use crate::memtable::entries::block_deques::spot_of;
+use crate::memtable::entries::{Blocks, Entries, Starts};
+use crate::memtable::mark::capped;
 use raft_base::LogQueue;
 use std::collections::VecDeque;
 
@@ -123,27 +122,25 @@ impl Entries {
     }
 }
 
-fn keep_front_blocks(blocks: &mut VecDeque<Block>, nth: usize, kept: usize)
+fn keep_front_blocks(blocks: &mut Blocks, nth: usize, kept: usize)
     requires nth { nth < length blocks.old.items }
-    ensures { blocks_shown blocks.new.items
-        ≡ first_of_last kept (take (nth + 1) (blocks_shown blocks.old.items)) }
+    ensures { shown blocks.new ≡ first_of_last kept (take (nth + 1) (shown blocks.old)) }
 {
     blocks.truncate(nth + 1);
     blocks[nth].spans.truncate(kept);
 }
 
-fn drop_front_blocks(blocks: &mut VecDeque<Block>, nth: usize, dropped: usize)
+fn drop_front_blocks(blocks: &mut Blocks, nth: usize, dropped: usize)
     requires nth { nth < length blocks.old.items }
     requires dropped { (d : Block) → dropped
         ≤ length (slice_index_or blocks.old.items nth d).spans.items }
-    ensures { blocks_shown blocks.new.items
-        ≡ without_first_of_first dropped (drop nth (blocks_shown blocks.old.items)) }
+    ensures { shown blocks.new ≡ without_first_of_first dropped (drop nth (shown blocks.old)) }
 {
     drop_first(blocks, nth);
     drop_first(&mut blocks[0].spans, dropped);
 }
 
-fn drop_front_starts(starts: &mut VecDeque<u64>, nth: usize, index: u64)
+fn drop_front_starts(starts: &mut Starts, nth: usize, index: u64)
     requires { starts.old.items ≢ [] → nth < length starts.old.items }
     ensures none { starts.old.items ≡ [] → starts.new.items ≡ [] }
     ensures some { starts.old.items ≢ [] → starts.new.items

@@ -1,14 +1,14 @@
 //! Runs that become entries, and entries after or between others.
 
-ghost use Rattle.std.specs.Prelude.{◌≡◌, ◌≢◌, ◌+◌, ◌≤◌, ◌<◌, ℕ, [], ◌++◌, length, take, drop, slice_index_or, Some, MatchBool, OnOk, OnErr, IfOk};
+ghost use Rattle.std.specs.Prelude.{◌≢◌, MatchBool, ◌≡◌, ◌+◌, ◌≤◌, ◌<◌, ℕ, [], ◌++◌, length, take, drop, slice_index_or, Some, OnOk, OnErr, IfOk};
 ghost use Rattle.raft_table.specs.Common.{Rewrite, EntryIndex, entries_of_block, spans_of, run_shown, AreTableEntries, count_in};
 
 use crate::memtable::block::Block;
-use crate::memtable::entries::Entries;
 use crate::memtable::entries::block_deques::{
     FEW, find, is_same, keep_starts, push_block, push_with_start, put_blocks, put_few_blocks,
     search, spans_behind, spot_behind, spot_of,
 };
+use crate::memtable::entries::{Entries, Spans};
 use crate::memtable::run::Run;
 use raft_base::{AllocResult, EntryIndex, FileBlockHandle, LogQueue};
 use std::alloc::Global;
@@ -35,12 +35,7 @@ impl Entries {
     }
 
     #[inline(always)]
-    fn push(
-        &mut self,
-        index: u64,
-        handle: FileBlockHandle,
-        spans: VecDeque<(u32, u32)>,
-    ) -> AllocResult<()>
+    fn push(&mut self, index: u64, handle: FileBlockHandle, spans: Spans) -> AllocResult<()>
         requires filled { 0 < length spans.items }
         requires table_entries { AreTableEntries
             (self.old ++ entries_of_block index handle spans.items) }
@@ -112,7 +107,7 @@ impl Entries {
         keep: usize,
         index: u64,
         handle: FileBlockHandle,
-        spans: VecDeque<(u32, u32)>,
+        spans: Spans,
     ) -> AllocResult<()>
         requires keep { keep ≤ length self.old }
         requires filled { 0 < length spans.items }
@@ -152,7 +147,6 @@ impl Entries {
         self.blocks.len() <= FEW && run.blocks.len() <= FEW - self.blocks.len()
     }
 
-    /// Does what [`Entries::join`] does, and keeps no first indexes of blocks.
     fn join_few(&mut self, keep: usize, run: &mut Entries) -> AllocResult<()>
         requires keep { (0 < keep) × (keep ≤ length self.old) }
         requires run { 0 < length run.old }
@@ -270,13 +264,10 @@ fn has_place(entry: &EntryIndex, handle: &FileBlockHandle) -> bool
     ensures { MatchBool result (entry.now.entries ≡ Some handle.now)
         (entry.now.entries ≢ Some handle.now) }
 {
-    match entry.entries {
-        Some(own) => is_same(&own, handle),
-        None => false,
-    }
+    entry.entries.is_some_and(|own| is_same(&own, handle))
 }
 
-fn spans_of(alloc: Global, run: &[EntryIndex]) -> AllocResult<VecDeque<(u32, u32)>>
+fn spans_of(alloc: Global, run: &[EntryIndex]) -> AllocResult<Spans>
     ensures ok { IfOk result (λ spans. spans.items ≡ spans_of run.now) }
 {
     let mut spans = Vec::with_capacity(alloc, run.len())?;

@@ -69,7 +69,14 @@ impl Entries {
         let Some(keep) = self.kept_under(rule, first) else {
             return Err(self.hole_error(region_id, first));
         };
-        self.put_behind(keep, rhs, queue, stats)
+        let gone = self.count_behind(keep);
+        let added = rhs.len();
+        if !has_room(stats, gone, queue, added) {
+            return Err(Error::Full);
+        }
+        self.put_run(keep, rhs)?;
+        exchange(stats, gone, queue, added);
+        Ok(())
     }
 
     pub fn replay_run(
@@ -105,8 +112,6 @@ impl Entries {
         hole_error(self.allocator(), region_id, start, self.end())
     }
 
-    /// Returns how many entries, from the first on, stay under a run from `index` on, by the start rule of the
-    /// replays into `rule`; nothing where that refuses the run.
     pub fn kept_under(&self, rule: LogQueue, index: u64) -> Option<usize>
         ensures kept { MatchOption result (IsStart self.now index Start.BehindHole ×
             (rule ≡ Append)) (IsKeptUnder rule self.now index) }
@@ -120,37 +125,6 @@ impl Entries {
                 LogQueue::Rewrite => Some(0),
             },
         }
-    }
-
-    fn put_behind(
-        &mut self,
-        keep: usize,
-        run: &mut Entries,
-        queue: LogQueue,
-        stats: &mut GlobalStats,
-    ) -> Result<()>
-        requires keep { keep ≤ length self.old }
-        requires filled { 0 < length run.old }
-        requires table_entries { AreTableEntries (take keep self.old ++ run.old) }
-        requires queue { AllByRecursion (λ e. is_placed_in queue e ≡ true) run.old }
-        requires counted { AreCounted self.old stats.old }
-        ensures ok { OnOk result ((self.new ≡ take keep self.old ++ run.old) × (run.new ≡ [])) }
-        ensures err { OnErr result ((self.new ≡ self.old) × (run.new ≡ run.old) ×
-            (stats.new ≡ stats.old)) }
-        ensures counts { OnOk result (stats.new
-            ≡ with_added queue (length run.old) (counts_without (drop keep self.old) stats.old)) }
-        ensures recounted { AreRecounted self.old self.new stats.old stats.new }
-        ensures fault { IfErr result (IsTableRunFault queue stats.old self.old
-            (Some (take keep self.old ++ run.old))) }
-    {
-        let (rewritten, appended) = self.count_behind(keep);
-        let added = run.len();
-        if !has_room(stats, rewritten, appended, queue, added) {
-            return Err(Error::Full);
-        }
-        self.put_run(keep, run)?;
-        exchange(stats, rewritten, appended, queue, added);
-        Ok(())
     }
 
     #[inline(always)]
@@ -174,13 +148,13 @@ impl Entries {
         ensures fault { IfErr result (IsTableRunFault queue stats.old self.old
             (Some (take keep self.old ++ run_shown run.now))) }
     {
-        let (rewritten, appended) = self.count_behind(keep);
+        let gone = self.count_behind(keep);
         let added = run.len();
-        if !has_room(stats, rewritten, appended, queue, added) {
+        if !has_room(stats, gone, queue, added) {
             return Err(Error::Full);
         }
         self.lay(keep, run)?;
-        exchange(stats, rewritten, appended, queue, added);
+        exchange(stats, gone, queue, added);
         Ok(())
     }
 
@@ -212,47 +186,29 @@ impl Entries {
     }
 }
 
-/// Tests whether so many records of `queue` can be live in place of those that are gone from either
-/// queue.
-fn has_room(
-    stats: &GlobalStats,
-    rewritten: usize,
-    appended: usize,
-    queue: LogQueue,
-    added: usize,
-) -> bool
-    requires rewritten { rewritten ≤ live Rewrite stats.now }
-    requires appended { appended ≤ live Append stats.now }
-    ensures { MatchBool result (live queue stats.now + added < 2 ^ 64 + of_queue queue
-        appended rewritten)
-        (2 ^ 64 + of_queue queue appended rewritten ≤ live queue stats.now + added) }
+fn has_room(stats: &GlobalStats, gone: (usize, usize), queue: LogQueue, added: usize) -> bool
+    requires rewritten { gone.0 ≤ live Rewrite stats.now }
+    requires appended { gone.1 ≤ live Append stats.now }
+    ensures { MatchBool result (live queue stats.now + added < 2 ^ 64 + of_queue queue gone.1 gone.0)
+        (2 ^ 64 + of_queue queue gone.1 gone.0 ≤ live queue stats.now + added) }
 {
     let gone = match queue {
-        LogQueue::Append => appended,
-        LogQueue::Rewrite => rewritten,
+        LogQueue::Append => gone.1,
+        LogQueue::Rewrite => gone.0,
     };
     added <= usize::MAX - (stats.live_entries(queue) - gone)
 }
 
-fn exchange(
-    stats: &mut GlobalStats,
-    rewritten: usize,
-    appended: usize,
-    queue: LogQueue,
-    added: usize,
-)
-    requires rewritten { rewritten ≤ live Rewrite stats.old }
-    requires appended { appended ≤ live Append stats.old }
-    requires room { live queue stats.old + added
-        < 2 ^ 64 + of_queue queue appended rewritten }
-    ensures live { (q : LogQueue) →
-        live q stats.new + of_queue q appended rewritten
+fn exchange(stats: &mut GlobalStats, gone: (usize, usize), queue: LogQueue, added: usize)
+    requires rewritten { gone.0 ≤ live Rewrite stats.old }
+    requires appended { gone.1 ≤ live Append stats.old }
+    requires room { live queue stats.old + added < 2 ^ 64 + of_queue queue gone.1 gone.0 }
+    ensures live { (q : LogQueue) → live q stats.new + of_queue q gone.1 gone.0
         ≡ live q stats.old + count_in q queue added }
-    ensures counts { stats.new
-        ≡ with_added queue added
-        (with_deleted Rewrite rewritten (with_deleted Append appended stats.old)) }
+    ensures counts { stats.new ≡ with_added queue added
+        (with_deleted Rewrite gone.0 (with_deleted Append gone.1 stats.old)) }
 {
-    stats.delete(LogQueue::Append, appended);
-    stats.delete(LogQueue::Rewrite, rewritten);
+    stats.delete(LogQueue::Append, gone.1);
+    stats.delete(LogQueue::Rewrite, gone.0);
     stats.add_fitting(queue, added);
 }

@@ -1,14 +1,13 @@
 //! Walks over the key values between two keys.
 
 ghost use Rattle.std.specs.Prelude.{◌≡◌, IsTrue, filter, map, reverse};
-ghost use Rattle.raft_table.specs.Common.{option_copied, option_map, CalledAtTwo, is_from, is_below, is_between, is_forward, IsDivided, VisitsUntilFalse};
+ghost use Rattle.raft_table.specs.Common.{option_copied, option_map, CalledAtTwo, is_between, is_forward, IsDivided, VisitsUntilFalse};
 
 use super::StoredValue;
 use std::alloc::{AllocError, Global};
 use std::collections::BTreeMap;
 use std::collections::btree_map::Range;
 
-/// Returns a bound as a key to seek or, where that finds no memory, as a test of each pair.
 pub(super) fn divided(alloc: Global, bound: Option<&[u8]>) -> (Option<Vec<u8>>, Option<&[u8]>)
     ensures { IsDivided (option_copied bound.entry) (option_map (λ k. k.items) result.0)
         (option_copied result.1) }
@@ -92,23 +91,5 @@ pub(super) fn visit_back<F: FnMut(&[u8], &[u8]) -> bool>(
 fn is_between(key: &[u8], start: Option<&[u8]>, end: Option<&[u8]>) -> bool
     ensures { result ≡ is_between (option_copied start.entry) (option_copied end.entry) key.now }
 {
-    is_from(key, start) && is_below(key, end)
-}
-
-fn is_from(key: &[u8], start: Option<&[u8]>) -> bool
-    ensures { result ≡ is_from (option_copied start.entry) key.now }
-{
-    match start {
-        Some(start) => start.cmp(key).is_le(),
-        None => true,
-    }
-}
-
-fn is_below(key: &[u8], end: Option<&[u8]>) -> bool
-    ensures { result ≡ is_below (option_copied end.entry) key.now }
-{
-    match end {
-        Some(end) => key.cmp(end).is_lt(),
-        None => true,
-    }
+    start.is_none_or(|start| start.cmp(key).is_le()) && end.is_none_or(|end| key.cmp(end).is_lt())
 }

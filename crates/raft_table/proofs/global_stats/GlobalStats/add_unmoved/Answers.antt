@@ -1,4 +1,4 @@
-use Rattle.raft_table.proofs.Common.{arith, Rewrite}
+use Rattle.raft_table.proofs.Facts.{arith, Rewrite}
 use Rattle.raft_table.proofs.global_stats.GlobalStats.add_unmoved.Goals as goal
 
 pub delete-requires : goal.delete-requires

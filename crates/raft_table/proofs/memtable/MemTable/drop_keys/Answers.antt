@@ -1,6 +1,4 @@
-use Rattle.raft_table.proofs.Common.{arith, Append, Rewrite}
-use Rattle.raft_table.proofs.PlaceLemmas.{each_queue}
-use Rattle.raft_table.proofs.CutLemmas.{pair_count-empty}
+use Rattle.raft_table.proofs.Facts.{arith, Append, Rewrite, each_queue, pair_count-empty}
 use Rattle.raft_table.proofs.memtable.MemTable.drop_keys.Goals as goal
 
 pub returns-clause-recounted : goal.returns-clause-recounted

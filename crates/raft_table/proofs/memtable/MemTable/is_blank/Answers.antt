@@ -1,5 +1,4 @@
-use Rattle.raft_table.proofs.Common.{◌≡◌, ◌∙◌, sym, subst, MatchBool, Table, empty_table, table_shown}
-use Rattle.raft_table.proofs.UnderLemmas.{blank}
+use Rattle.raft_table.proofs.Facts.{◌≡◌, ◌∙◌, sym, subst, MatchBool, Table, empty_table, table_shown, blank}
 use Rattle.raft_table.proofs.memtable.MemTable.is_blank.Goals as goal
 
 pub returns-in-0-None : goal.returns-in-0-None

@@ -1,14 +1,31 @@
-use Rattle.raft_table.proofs.Common.{arith, refl, sym, ap, ◌+◌, ◌<◌, ◌^◌, ◌∙◌, Some, err_from_is_err_and, LogQueue, live, left_by, after_merge, newer_atomic_group, Table, live_of, misses, table_over}
-use Rattle.raft_table.proofs.MarkEntries.{same_some}
-use Rattle.raft_table.proofs.UnderLemmas.{over_left, join_memory, joined_uncleaned}
-use Rattle.raft_table.proofs.MarkTables.{own_alone}
+use Rattle.raft_table.proofs.Facts.{empty_table, live_of_empty, arith, refl, sym, ap, ◌+◌, ◌<◌, ◌^◌, ◌∙◌, Some, err_from_is_err_and}
+use Rattle.raft_table.proofs.Facts.{LogQueue, live, left_by, after_merge, newer_atomic_group, Table, live_of, misses, table_over, same_some, over_left, join_memory}
+use Rattle.raft_table.proofs.Facts.{joined_uncleaned, own_alone}
 use Rattle.raft_table.proofs.memtable.MemTable.join_under.Goals as goal
 
 pub returns-then-is_blank-clause-ok : goal.returns-then-is_blank-clause-ok
 returns-then-is_blank-clause-ok c = λ run.
     ap (table_over c.args.queue c.args.mark.now c.args.rhs.now) c.if-is_blank.ensures
     ∙ own_alone c.args.queue c.args.self.now.region_id c.args.mark.now c.args.rhs.now (sym c.requires.region)
-    ∙ ap (λ (t : Table). Some t) (sym c.in_ok-take_whole.ensures.ok)
+    ∙ ap (λ (t : Table). Some t) (sym c.swap.ensures.x_after)
+
+pub returns-then-is_blank-clause-emptied : goal.returns-then-is_blank-clause-emptied
+returns-then-is_blank-clause-emptied c = c.swap.ensures.y_after ∙ c.if-is_blank.ensures ∙ ap empty_table c.requires.region
+
+pub returns-then-is_blank-clause-few : goal.returns-then-is_blank-clause-few
+returns-then-is_blank-clause-few c = λ q. omega (arith, ap (live_of q) c.swap.ensures.x_after)
+
+pub returns-then-is_blank-clause-recounted : goal.returns-then-is_blank-clause-recounted
+returns-then-is_blank-clause-recounted c = λ q. omega (
+  arith,
+  c.in_ok-add_table.ensures.live q,
+  ap (live_of q) c.if-is_blank.ensures,
+  live_of_empty q c.args.self.now.region_id,
+  ap (live_of q) c.swap.ensures.x_after,
+)
+
+pub returns-then-is_blank-clause-regions : goal.returns-then-is_blank-clause-regions
+returns-then-is_blank-clause-regions c = (ap (λ (t : Table). t.region_id) c.swap.ensures.x_after ∙ sym c.requires.region, ap (λ (t : Table). t.region_id) c.swap.ensures.y_after ∙ c.requires.region)
 
 pub returns-in_err-merge_by_rule-clause-fault : goal.returns-in_err-merge_by_rule-clause-fault
 returns-in_err-merge_by_rule-clause-fault c = λ run.

@@ -1,8 +1,5 @@
-use Rattle.raft_table.proofs.Common.{arith, err_from_is_err_and, Append, Rewrite}
-use Rattle.raft_table.proofs.PlaceLemmas.{each_queue}
+use Rattle.raft_table.proofs.Facts.{arith, err_from_is_err_and, Append, Rewrite, each_queue, merge_refused, replayed-in}
 use Rattle.raft_table.proofs.memtable.MemTable.merge_by_rule.Goals as goal
-use Rattle.raft_table.proofs.UnderLemmas.{merge_refused}
-use Rattle.raft_table.proofs.RunCounts.{replayed-in}
 
 pub returns-in_err-absorb-clause-fault : goal.returns-in_err-absorb-clause-fault
 returns-in_err-absorb-clause-fault c =

@@ -1,5 +1,4 @@
-use Rattle.std.proofs.Common.{arith}
-use Rattle.raft_table.proofs.TableLemmas.{live_of_empty}
+use Rattle.raft_table.proofs.Facts.{arith, live_of_empty}
 use Rattle.raft_table.proofs.memtable.MemTable.new.Goals as goal
 
 pub returns-clause-counted : goal.returns-clause-counted

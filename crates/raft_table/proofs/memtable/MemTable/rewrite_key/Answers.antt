@@ -1,6 +1,4 @@
-use Rattle.raft_table.proofs.Common.{arith, Append}
-use Rattle.raft_table.proofs.TableLemmas.{pair_counted}
-use Rattle.raft_table.proofs.AloneLemmas.{key_moves}
+use Rattle.raft_table.proofs.Facts.{arith, Append, pair_counted, key_moves}
 use Rattle.raft_table.proofs.memtable.MemTable.rewrite_key.Goals as goal
 
 pub delete-requires : goal.delete-requires

@@ -1,10 +1,9 @@
-use Rattle.raft_table.proofs.Common.{ℕ, Bool, ◌≡◌, ◌≤◌, sym, arith, refl, LogQueue, Table, live_of, other, Result, OnOk, MatchBool, run_shown, start_of, EntryIndex, List, Some, ap, ◌∙◌, table_shown, Append, Rewrite}
+use Rattle.raft_table.proofs.Facts.{ℕ, Bool, ◌≡◌, ◌≤◌, sym, arith, refl, LogQueue, Table, live_of, other, Result, OnOk, MatchBool, run_shown, start_of, EntryIndex, List, Some, ap, ◌∙◌, table_shown, Append, Rewrite, IsReplay, is_replay}
+use Rattle.raft_table.proofs.Facts.{sound_under, counts_under, may_join}
 use Rattle.std.specs.Result.{OnErr, is_ok}
 use Rattle.std.specs.declared.result.Result.TheVariants.{Ok, Err}
-use Rattle.raft_table.proofs.KeptUnderLemmas.{IsReplay, is_replay, sound_under, counts_under}
-use Rattle.raft_table.proofs.StartLemmas.{may_join}
-use Rattle.raft_table.proofs.memtable.MemTable.try_replay.Goals as goal
 use Rattle.raft_table.proofs.memtable.MemTable.try_replay.Goals.{In-Some-kept_under}
+use Rattle.raft_table.proofs.memtable.MemTable.try_replay.Goals as goal
 
 replay : (c : In-Some-kept_under) → IsReplay c.args.queue c.self.inside.entries (run_shown c.args.run.now) c.in-Some-kept_under.keep
 replay c =

@@ -1,5 +1,5 @@
-use Rattle.std.proofs.Common.{ap, sym, ◌∙◌}
-use Rattle.raft_table.proofs.KeySetLemmas.{removed, removed-without, bytes_of}
+use Rattle.raft_table.proofs.Facts.{ap, sym, ◌∙◌, removed, removed-without}
+use Rattle.raft_table.proofs.MarkExact.{bytes_of}
 use Rattle.raft_table.proofs.memtable.deleted_keys.delete_all.Goals as goal
 
 pub returns-clause-after : goal.returns-clause-after

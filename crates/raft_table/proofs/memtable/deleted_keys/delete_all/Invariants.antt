@@ -1,5 +1,5 @@
-use Rattle.raft_table.proofs.Common.{◌≡◌, ◌≤◌, LogQueue, pair_count}
-use Rattle.raft_table.proofs.KeySetLemmas.{removed, bytes_of}
+use Rattle.raft_table.proofs.Facts.{◌≡◌, ◌≤◌, LogQueue, pair_count, removed}
+use Rattle.raft_table.proofs.MarkExact.{bytes_of}
 use Rattle.raft_table.proofs.memtable.deleted_keys.delete_all.Given as goal
 
 abbrev pub invariant-loop-key : goal.invariant-loop-key

@@ -1,4 +1,4 @@
-use Rattle.raft_table.proofs.Common.{◌≡◌, ◌≤◌, ◌++◌, filter, length, map, take, is_up_to, pairs_shown}
+use Rattle.raft_table.proofs.Facts.{◌≡◌, ◌≤◌, ◌++◌, filter, length, map, take, is_up_to, pairs_shown}
 use Rattle.raft_table.proofs.memtable.key_values.push_fetched.Given as goal
 
 abbrev pub invariant-loop-key : goal.invariant-loop-key

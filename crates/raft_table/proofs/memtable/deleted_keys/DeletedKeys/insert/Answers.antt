@@ -1,6 +1,5 @@
-use Rattle.std.proofs.Common.{ap, ◌∙◌}
+use Rattle.raft_table.proofs.Facts.{ap, ◌∙◌, set_of, set_of-insert_entry}
 use Rattle.std.specs.FinSet as finset
-use Rattle.raft_table.proofs.KeySetLemmas.{set_of, set_of-insert_entry}
 use Rattle.raft_table.proofs.memtable.deleted_keys.DeletedKeys.insert.Goals as goal
 
 pub returns-clause-ok : goal.returns-clause-ok

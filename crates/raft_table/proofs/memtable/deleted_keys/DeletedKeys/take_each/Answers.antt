@@ -1,7 +1,5 @@
-use Rattle.std.proofs.Common.{ap, sym, ◌∙◌}
+use Rattle.raft_table.proofs.Facts.{ap, sym, ◌∙◌, union-insert, union_empty}
 use Rattle.std.specs.FinSet as finset
-use Rattle.raft_table.proofs.KeySetLemmas.{union-insert}
-use Rattle.raft_table.proofs.MarkExact.{union_empty}
 use Rattle.raft_table.proofs.memtable.deleted_keys.DeletedKeys.take_each.Goals as goal
 
 pub loop-key-preserved : goal.loop-key-preserved

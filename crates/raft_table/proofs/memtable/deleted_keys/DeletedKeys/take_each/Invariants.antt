@@ -1,4 +1,4 @@
-use Rattle.std.proofs.Common.{◌≡◌}
+use Rattle.raft_table.proofs.Facts.{◌≡◌}
 use Rattle.std.specs.FinSet as finset
 use Rattle.raft_table.proofs.memtable.deleted_keys.DeletedKeys.take_each.Given as goal
 

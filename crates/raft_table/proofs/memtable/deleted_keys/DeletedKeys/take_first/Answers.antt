@@ -1,6 +1,5 @@
-use Rattle.std.proofs.Common.{ap, length, arith}
+use Rattle.raft_table.proofs.Facts.{ap, length, arith, len-set_of}
 use Rattle.std.specs.FinSet as finset
-use Rattle.raft_table.proofs.KeySetLemmas.{len-set_of}
 use Rattle.raft_table.proofs.memtable.deleted_keys.DeletedKeys.take_first.Goals as goal
 
 pub returns-clause-fewer : goal.returns-clause-fewer

@@ -1,9 +1,6 @@
-use Rattle.raft_table.proofs.Common.{◌≡◌, ◌<◌, length, start_of, IsStart, on_ok_weaker, Append}
-use Rattle.raft_table.proofs.SoundLemmas.{start_of_front}
+use Rattle.raft_table.proofs.Facts.{◌≡◌, ◌<◌, length, start_of, IsStart, on_ok_weaker, Append, start_of_front, sound_joined, counts_joined}
 use Rattle.raft_table.specs.declared.memtable.entries.Start.TheVariants.{Joins}
-use Rattle.raft_table.proofs.StartLemmas.{sound_joined}
 use Rattle.raft_table.proofs.memtable.entries.Entries.append.Goals as goal
-use Rattle.raft_table.proofs.KeptUnderLemmas.{counts_joined}
 
 pub put_run_behind-requires-clause-table_entries : goal.put_run_behind-requires-clause-table_entries
 put_run_behind-requires-clause-table_entries c =

@@ -1,5 +1,4 @@
-use Rattle.raft_table.proofs.Common.{arith, length-map, block_spans, blocks_shown}
-use Rattle.raft_table.proofs.BlockParts.{block_count_is, expanded_start}
+use Rattle.raft_table.proofs.Facts.{arith, length-map, block_spans, blocks_shown, block_count_is, expanded_start}
 use Rattle.raft_table.proofs.memtable.entries.Entries.blocks.Goals as goal
 
 pub returns-clause-entries : goal.returns-clause-entries

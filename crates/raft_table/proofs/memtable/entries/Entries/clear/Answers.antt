@@ -1,5 +1,4 @@
-use Rattle.raft_table.proofs.Common.{inl, [], refl, ap, blocks_shown}
-use Rattle.raft_table.proofs.BlockCuts.{kept_with, kept_nil}
+use Rattle.raft_table.proofs.Facts.{inl, [], refl, ap, blocks_shown, kept_with, kept_nil}
 use Rattle.raft_table.proofs.memtable.entries.Entries.clear.Goals as goal
 
 pub invariant_of-self : goal.invariant_of-self

@@ -1,12 +1,7 @@
-use Rattle.raft_table.proofs.Common.{◌≡◌, take, drop, arith, sym, ◌∙◌, length-drop, below, from, Append, Rewrite}
-use Rattle.raft_table.proofs.PlaceLemmas.{each_queue}
-use Rattle.raft_table.proofs.SoundLemmas.{CutCounts, cut_counts}
-use Rattle.raft_table.proofs.BlockCuts.{shown_len, kept_cut}
-use Rattle.raft_table.proofs.memtable.entries.Entries.compact_to.Goals as goal
+use Rattle.raft_table.proofs.Facts.{◌≡◌, take, drop, arith, sym, ◌∙◌, length-drop, below, from, Append, Rewrite, each_queue, CutCounts, cut_counts, shown_len, kept_cut, same_deleted, none_below}
 use Rattle.raft_table.proofs.memtable.entries.Entries.compact_to.Goals.{After-min-count}
-use Rattle.raft_table.proofs.KeptUnderLemmas.{same_deleted, none_below}
+use Rattle.raft_table.proofs.memtable.entries.Entries.compact_to.Goals as goal
 
--- what is cut off, and what stays
 gone : (c : After-min-count) → take c.min-count.result c.args.self.now ≡ below c.args.index c.args.self.now
 gone c = rw c.self.view_is at (kept_cut c.self.invariant.0 c.args.index c.min-count.result (rw c.saturating_sub.ensures at c.min-count.ensures)).1
 

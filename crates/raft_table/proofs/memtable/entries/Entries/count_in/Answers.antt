@@ -1,5 +1,4 @@
-use Rattle.std.proofs.Common.{arith}
-use Rattle.raft_table.proofs.BlockCuts.{kept_facts}
+use Rattle.raft_table.proofs.Facts.{arith, kept_facts}
 use Rattle.raft_table.proofs.memtable.entries.Entries.count_in.Goals as goal
 
 pub overflow_sub-result : goal.overflow_sub-result

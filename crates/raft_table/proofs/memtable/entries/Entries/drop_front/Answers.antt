@@ -1,6 +1,4 @@
-use Rattle.raft_table.proofs.Common.{◌+◌, arith, refl, ap, ◌∙◌, drop_all, blocks_shown, entries_in_blocks, starts_of}
-use Rattle.raft_table.proofs.BlockCuts.{kept_with, shown_len, within_of, starts_length, starts_dropped, kept_facts, kept_drop}
-use Rattle.raft_table.proofs.BlockQueues.{spot_inside}
+use Rattle.raft_table.proofs.Facts.{◌+◌, arith, refl, ap, ◌∙◌, drop_all, blocks_shown, entries_in_blocks, starts_of, kept_with, shown_len, within_of, starts_length, starts_dropped, kept_facts, kept_drop, spot_inside}
 use Rattle.raft_table.proofs.memtable.entries.Entries.drop_front.Goals as goal
 
 pub returns-then-count-self : goal.returns-then-count-self
@@ -17,7 +15,6 @@ drop_front_blocks-requires-clause-dropped c d = let w = spot_inside c.self.insid
 
 pub drop_front_starts-requires : goal.drop_front_starts-requires
 drop_front_starts-requires c d =
-    let w = c.spot_of-nth.ensures.block in
     let n = starts_length c.self.inside.first (blocks_shown c.self.inside.blocks.items) c.self.inside.starts.items c.self.invariant.1 d in
     omega arith
 

@@ -1,5 +1,4 @@
-use Rattle.raft_table.proofs.Common.{ap, sym, ◌∙◌, arith, end_of, end_bounded}
-use Rattle.raft_table.proofs.MarkWords.{end_of-nil}
+use Rattle.raft_table.proofs.Facts.{ap, sym, ◌∙◌, arith, end_of, end_bounded, end_of-nil}
 use Rattle.raft_table.proofs.memtable.entries.Entries.end.Goals as goal
 
 pub overflow_add-result : goal.overflow_add-result

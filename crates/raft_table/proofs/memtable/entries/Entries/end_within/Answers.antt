@@ -1,6 +1,4 @@
-use Rattle.raft_table.proofs.Common.{subst, blocks_shown, RisesFrom}
-use Rattle.raft_table.proofs.BlockLemmas.{rises_expanded}
-use Rattle.raft_table.proofs.CutLemmas.{end_met, end_unmet}
+use Rattle.raft_table.proofs.Facts.{subst, blocks_shown, RisesFrom, rises_expanded, end_met, end_unmet}
 use Rattle.raft_table.proofs.memtable.entries.Entries.end_within.Goals as goal
 
 pub returns-then-max-end : goal.returns-then-max-end

@@ -1,6 +1,4 @@
-use Rattle.raft_table.proofs.Common.{◌≡◌, ◌+◌, ◌≤◌, ◌++◌, drop, arith, sym, ap, ◌∙◌, length-drop, take_all, on_ok_weaker, blocks_shown, entries_in_blocks, prefix_len, prefix_len-le-length, is_placed_before}
-use Rattle.raft_table.proofs.BlockCuts.{kept_facts}
-use Rattle.raft_table.proofs.FetchLemmas.{appended_before_is}
+use Rattle.raft_table.proofs.Facts.{◌≡◌, ◌+◌, ◌≤◌, ◌++◌, drop, arith, sym, ap, ◌∙◌, length-drop, take_all, on_ok_weaker, blocks_shown, entries_in_blocks, prefix_len, prefix_len-le-length, is_placed_before, kept_facts, appended_before_is}
 use Rattle.raft_table.proofs.memtable.entries.Entries.fetch_before.Goals as goal
 
 pub movable-count-requires-clause-order : goal.movable-count-requires-clause-order

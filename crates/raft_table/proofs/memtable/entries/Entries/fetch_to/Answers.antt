@@ -1,7 +1,6 @@
-use Rattle.raft_table.proofs.Common.{◌≡◌, ◌-◌, length, take, arith, length-take, length-drop, on_ok_weaker, IfErr-weaker, blocks_shown, entries_in_blocks, start_of, Found, IsFetchFault, range_answer}
-use Rattle.raft_table.proofs.BlockCuts.{kept_facts}
+use Rattle.raft_table.proofs.Facts.{◌≡◌, ◌-◌, length, take, arith, length-take, length-drop, on_ok_weaker, IfErr-weaker, blocks_shown, entries_in_blocks, start_of, Found, IsFetchFault, range_answer, kept_facts, range_none, range_below}
+use Rattle.raft_table.proofs.Facts.{range_behind, range_found, fetched_part}
 use Rattle.raft_base.specs.declared.errors.Error.TheVariants as errors
-use Rattle.raft_table.proofs.FetchLemmas.{range_none, range_below, range_behind, range_found, fetched_part}
 use Rattle.raft_table.proofs.memtable.entries.Entries.fetch_to.Goals as goal
 
 pub returns-then-self-eq0-clause-fault : goal.returns-then-self-eq0-clause-fault
@@ -25,7 +24,6 @@ count_within-count-requires-clause-within c = let l = (kept_facts c.self.invaria
 pub extend-requires-clause-within : goal.extend-requires-clause-within
 extend-requires-clause-within c =
     let l = (kept_facts c.self.invariant.0).length in
-    let t = c.count_within-count.ensures.there in
     let n = length-drop (c.args.begin - c.self.inside.first) (take (c.args.end - c.self.inside.first) c.args.self.now) in
     let m = length-take (c.args.end - c.self.inside.first) c.args.self.now in
     let v : length c.args.self.now ≡ c.self.inside.len = rw (← c.self.view_is) l in
@@ -39,7 +37,6 @@ is_found c =
 
 pub returns-clause-ok : goal.returns-clause-ok
 returns-clause-ok c =
-    let l = (kept_facts c.self.invariant.0).length in
     let s : start_of (entries_in_blocks c.self.inside.first (blocks_shown c.self.inside.blocks.items)) ≡ c.self.inside.first = (kept_facts c.self.invariant.0).start (omega arith) in
     let w = rw (← c.self.view_is) at c.count_within-count.ensures in
     rw (is_found c, ← c.self.view_is)

@@ -1,5 +1,4 @@
-use Rattle.raft_table.proofs.Common.{◌≡◌, [], length, arith, sym, ap, blocks_shown, entries_in_blocks}
-use Rattle.raft_table.proofs.BlockCuts.{kept_facts}
+use Rattle.raft_table.proofs.Facts.{◌≡◌, [], length, arith, sym, ap, blocks_shown, entries_in_blocks, kept_facts}
 use Rattle.raft_table.proofs.memtable.entries.Entries.first_index.Goals as goal
 
 pub returns-then-self-eq0 : goal.returns-then-self-eq0

@@ -1,6 +1,4 @@
-use Rattle.std.proofs.Common.{◌+◌, ◌∙◌}
-use Rattle.raft_table.proofs.SoundLemmas.{AreTableEntries-take}
-use Rattle.raft_table.proofs.RunGroups.{has_place, group_of}
+use Rattle.raft_table.proofs.Facts.{◌+◌, ◌∙◌, AreTableEntries-take, has_place, group_of}
 use Rattle.raft_table.proofs.memtable.entries.Entries.from_run.Goals as goal
 
 pub unreachable-requires : goal.unreachable-requires

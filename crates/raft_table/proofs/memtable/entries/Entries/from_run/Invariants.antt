@@ -1,4 +1,4 @@
-use Rattle.std.proofs.Common.{◌≡◌, ◌-◌, ◌≤◌, length, take}
+use Rattle.raft_table.proofs.Facts.{◌≡◌, ◌-◌, ◌≤◌, length, take}
 use Rattle.raft_table.proofs.memtable.entries.Entries.from_run.Given as goal
 
 abbrev pub invariant-loop-at : goal.invariant-loop-at

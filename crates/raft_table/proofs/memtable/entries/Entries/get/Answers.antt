@@ -1,8 +1,4 @@
-use Rattle.raft_table.proofs.Common.{◌-◌, arith, sym, block_spans, blocks_shown, entries_in_blocks}
-use Rattle.raft_table.proofs.BlockLemmas.{rises_expanded, entry_at_spot}
-use Rattle.raft_table.proofs.BlockCuts.{within_of, kept_facts}
-use Rattle.raft_table.proofs.RunLemmas.{entry_at_low, entry_at_past}
-use Rattle.raft_table.proofs.BlockQueues.{block_at}
+use Rattle.raft_table.proofs.Facts.{◌-◌, arith, sym, block_spans, blocks_shown, entries_in_blocks, rises_expanded, entry_at_spot, within_of, kept_facts, entry_at_low, entry_at_past, block_at}
 use Rattle.raft_table.proofs.memtable.entries.Entries.get.Goals as goal
 
 pub returns-then-index-self : goal.returns-then-index-self

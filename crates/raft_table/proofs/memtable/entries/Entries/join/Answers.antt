@@ -1,10 +1,7 @@
-use Rattle.raft_table.proofs.Common.{◌≡◌, inl, inr, [], ◌+◌, ◌-◌, ◌<◌, ◌≤◌, min, ◌++◌, length, take, drop, get_or, arith, refl, ap, subst, ◌∙◌, length-map, block_spans, blocks_shown, entries_in_blocks, first_of_last}
-use Rattle.raft_table.proofs.Common.{joined_blocks, seam, AreTableEntries, ◌^◌, IsAt}
-use Rattle.raft_table.proofs.BlockKept.{IsKeptAs, kept_join, joined_fits, blocks_filled}
-use Rattle.raft_table.proofs.BlockCuts.{shown_len, kept_bounded, kept_with, found, index_of, kept_length, front_of, kept_facts, kept_nil}
-use Rattle.raft_table.proofs.BlockQueues.{block_within, spot_inside}
-use Rattle.raft_table.proofs.memtable.entries.Entries.join.Goals as goal
+use Rattle.raft_table.proofs.Facts.{◌≡◌, inl, inr, [], ◌+◌, ◌-◌, ◌<◌, ◌≤◌, min, ◌++◌, length, take, drop, get_or, arith, refl, ap, subst, ◌∙◌, length-map, block_spans, blocks_shown, entries_in_blocks, first_of_last, joined_blocks, seam}
+use Rattle.raft_table.proofs.Facts.{◌^◌, IsAt, IsKeptAs, kept_join, joined_fits, blocks_filled, shown_len, kept_bounded, kept_with, found, index_of, kept_length, front_of, kept_facts, kept_nil, block_within, spot_inside}
 use Rattle.raft_table.proofs.memtable.entries.Entries.join.Goals.{After-search-nth}
+use Rattle.raft_table.proofs.memtable.entries.Entries.join.Goals as goal
 
 pub keep_starts-requires-clause-bounded : goal.keep_starts-requires-clause-bounded
 keep_starts-requires-clause-bounded c l = kept_bounded c.self.invariant.0 (let n = length-map c.self.inside.blocks.items block_spans in omega arith)
@@ -15,8 +12,6 @@ keep_starts-requires-2-clause-bounded c l = kept_bounded c.run.invariant.0 (let 
 pub overflow_add-self-inside : goal.overflow_add-self-inside
 overflow_add-self-inside c =
     let l = shown_len c.self.invariant.0 c.self.view_is in
-    let p = c.requires.keep.0 in
-    let h = c.requires.keep.1 in
     let b = (kept_facts c.self.invariant.0).bounded (omega arith) in omega arith
 
 pub search-nth-requires : goal.search-nth-requires
@@ -77,8 +72,6 @@ put : (c : goal.After-run-2-1) → IsKeptAs c.self.inside.first (c.args.keep + c
     (take c.args.keep (entries_in_blocks c.self.inside.first (blocks_shown c.self.inside.blocks.items)) ++ entries_in_blocks c.run.inside.first
     (blocks_shown c.run.inside.blocks.items))
 put c =
-    let s : AreTableEntries (take c.args.keep (entries_in_blocks c.self.inside.first (blocks_shown c.self.inside.blocks.items)) ++ entries_in_blocks
-    c.run.inside.first (blocks_shown c.run.inside.blocks.items)) = rw (c.self.view_is, c.run.view_is) c.requires.table_entries in
     kept_join (kept_with c.self.invariant.0 c.in_ok-keep_starts.ensures.ok) (kept_with c.run.invariant.0 c.in_ok-keep_starts-2.ensures.ok) c.args.keep
     (c.search-nth.result.0 + 1) (c.search-nth.result.1 + 1) c.len-rest.result c.requires.keep.0
     (let l = (kept_facts c.self.invariant.0).length in let h = rw (← c.self.view_is) at c.requires.keep.1 in omega arith)
@@ -87,7 +80,7 @@ put c =
     (found (kept_with c.self.invariant.0 c.in_ok-keep_starts.ensures.ok) c.search-nth.ensures (c.args.keep - 1) refl
     (let l = shown_len c.self.invariant.0 c.self.view_is in let p = c.requires.keep.0 in let h = c.requires.keep.1 in omega arith)))
     (let m = (kept_facts c.run.invariant.0).length in let h = rw (← c.run.view_is) at c.requires.run in omega arith)
-    s (let n = length-map c.self.inside.blocks.items block_spans in omega (arith, c.self.inside.blocks.ok))
+    (rw (c.self.view_is, c.run.view_is) c.requires.table_entries) (let n = length-map c.self.inside.blocks.items block_spans in omega (arith, c.self.inside.blocks.ok))
 
 pub invariant_of-self-2 : goal.invariant_of-self-2
 invariant_of-self-2 c = rw (c.in_ok-put_blocks.ensures.blocks, c.min.ensures) (kept_with (put c).kept refl, inr (c.in_ok-put_blocks.ensures.starts ∙ (put c).kept.starts))

@@ -1,9 +1,7 @@
-use Rattle.raft_table.proofs.Common.{◌≡◌, inl, [], ◌+◌, ◌-◌, ◌<◌, ◌≤◌, min, ◌++◌, length, take, get_or, arith, refl, ap, subst, ◌∙◌, blocks_shown, entries_in_blocks, starts_of, first_of_last, joined_blocks, AreTableEntries, ◌^◌}
-use Rattle.raft_table.proofs.BlockKept.{IsKeptAs, kept_join_few, joined_fits}
-use Rattle.raft_table.proofs.BlockCuts.{kept_with, shown_len, within_of, front_of, kept_facts, kept_nil}
-use Rattle.raft_table.proofs.BlockQueues.{spot_inside}
-use Rattle.raft_table.proofs.memtable.entries.Entries.join_few.Goals as goal
+use Rattle.raft_table.proofs.Facts.{◌≡◌, inl, [], ◌+◌, ◌-◌, ◌<◌, ◌≤◌, min, ◌++◌, length, take, get_or, arith, refl, ap, subst, ◌∙◌, blocks_shown, entries_in_blocks, starts_of, first_of_last, joined_blocks, ◌^◌, IsKeptAs, kept_join_few}
+use Rattle.raft_table.proofs.Facts.{joined_fits, kept_with, shown_len, within_of, front_of, kept_facts, kept_nil, spot_inside}
 use Rattle.raft_table.proofs.memtable.entries.Entries.join_few.Goals.{In_ok-put_few_blocks}
+use Rattle.raft_table.proofs.memtable.entries.Entries.join_few.Goals as goal
 
 pub spot_of-nth-requires-clause-within : goal.spot_of-nth-requires-clause-within
 spot_of-nth-requires-clause-within c = within_of c.self.invariant.0 (c.args.keep - 1) (let l = shown_len c.self.invariant.0 c.self.view_is in let h = c.requires.keep in omega arith)
@@ -34,14 +32,12 @@ put : (c : goal.After-run-2-1) → IsKeptAs c.self.inside.first (c.args.keep + c
     (take c.args.keep (entries_in_blocks c.self.inside.first (blocks_shown c.self.inside.blocks.items)) ++ entries_in_blocks c.run.inside.first
     (blocks_shown c.run.inside.blocks.items))
 put c =
-    let s : AreTableEntries (take c.args.keep (entries_in_blocks c.self.inside.first (blocks_shown c.self.inside.blocks.items)) ++ entries_in_blocks
-    c.run.inside.first (blocks_shown c.run.inside.blocks.items)) = rw (c.self.view_is, c.run.view_is) c.requires.table_entries in
     kept_join_few c.self.invariant.0 c.run.invariant.0 c.args.keep (c.spot_of-nth.result.0 + 1) (c.spot_of-nth.result.1 + 1) c.requires.keep.0
     (let l = (kept_facts c.self.invariant.0).length in let h = rw (← c.self.view_is) at c.requires.keep.1 in omega arith)
     (front_of c.self.inside.first c.args.keep c.spot_of-nth.result.0 c.spot_of-nth.result.1 (blocks_shown c.self.inside.blocks.items)
     c.self.invariant.0.distinct c.requires.keep.0 c.spot_of-nth.ensures)
     (let m = (kept_facts c.run.invariant.0).length in let h = rw (← c.run.view_is) at c.requires.run in omega arith)
-    s
+    (rw (c.self.view_is, c.run.view_is) c.requires.table_entries)
 
 pub invariant_of-self-2 : goal.invariant_of-self-2
 invariant_of-self-2 c = rw (c.in_ok-put_few_blocks.ensures.ok, c.min.ensures) ((put c).kept, inl c.clear.ensures.items)

@@ -1,5 +1,4 @@
-use Rattle.raft_table.proofs.Common.{◌+◌, ◌-◌, arith, refl, ap, ◌∙◌, blocks_shown, entries_in_blocks}
-use Rattle.raft_table.proofs.BlockCuts.{kept_with, shown_len, within_of, starts_taken, kept_front}
+use Rattle.raft_table.proofs.Facts.{◌+◌, ◌-◌, arith, refl, ap, ◌∙◌, blocks_shown, entries_in_blocks, kept_with, shown_len, within_of, starts_taken, kept_front}
 use Rattle.raft_table.proofs.memtable.entries.Entries.keep_front.Goals as goal
 
 pub spot_of-nth-requires-clause-within : goal.spot_of-nth-requires-clause-within

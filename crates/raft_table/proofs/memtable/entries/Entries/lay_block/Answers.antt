@@ -1,20 +1,15 @@
-use Rattle.raft_table.proofs.Common.{◌≡◌, ◌++◌, length, take, arith, sym, ap, subst, ◌∙◌, take_all, on_ok_weaker, entries_of_block, AreTableEntries}
-use Rattle.raft_table.proofs.BlockCuts.{kept_facts}
-use Rattle.raft_table.proofs.BlockLemmas.{length-spread}
-use Rattle.raft_table.proofs.SoundLemmas.{sound_behind}
+use Rattle.raft_table.proofs.Facts.{◌≡◌, ◌++◌, length, take, arith, sym, ap, subst, ◌∙◌, take_all, on_ok_weaker, entries_of_block, AreTableEntries, kept_facts, length-spread, sound_behind}
 use Rattle.raft_table.proofs.memtable.entries.Entries.lay_block.Goals as goal
 
 pub push-requires-clause-table_entries : goal.push-requires-clause-table_entries
 push-requires-clause-table_entries c =
     let l : c.self.inside.len ≡ length c.args.self.now = sym (rw (← c.self.view_is) (kept_facts c.self.invariant.0).length) in
-    let k = c.if-keep-self.true in
     let t : take c.args.keep c.args.self.now ≡ c.args.self.now = take_all c.args.keep c.args.self.now (omega arith) in
     subst (λ es. AreTableEntries (es ++ entries_of_block c.args.index c.args.handle c.args.spans.items)) t c.requires.table_entries
 
 pub returns-then-keep-self-clause-ok : goal.returns-then-keep-self-clause-ok
 returns-then-keep-self-clause-ok c =
     let l : c.self.inside.len ≡ length c.args.self.now = sym (rw (← c.self.view_is) (kept_facts c.self.invariant.0).length) in
-    let k = c.if-keep-self.true in
     let t : take c.args.keep c.args.self.now ≡ c.args.self.now = take_all c.args.keep c.args.self.now (omega arith) in
     on_ok_weaker c.push.result (λ w. w ∙ sym (ap (λ es. es ++ entries_of_block c.args.index c.args.handle c.args.spans.items) t)) c.push.ensures.ok
 

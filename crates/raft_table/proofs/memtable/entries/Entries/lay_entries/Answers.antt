@@ -1,12 +1,10 @@
-use Rattle.raft_table.proofs.Common.{ℕ, ◌≡◌, ◌+◌, ◌-◌, ◌<◌, ◌≤◌, List, ◌++◌, length, take, get_or, arith, sym, ap, subst, ◌∙◌, Some, take_all, on_ok_weaker, FileBlockHandle, EntryIndex, entries_of_block, spans_of, AreTableEntries}
-use Rattle.raft_table.proofs.SoundLemmas.{sound_behind}
-use Rattle.raft_table.proofs.RunGroups.{group_of}
+use Rattle.raft_table.proofs.Facts.{ℕ, ◌≡◌, ◌+◌, ◌-◌, ◌<◌, ◌≤◌, List, ◌++◌, length, take, get_or, arith, sym, ap, subst, ◌∙◌, Some, take_all, on_ok_weaker, FileBlockHandle, EntryIndex, entries_of_block, spans_of, AreTableEntries}
+use Rattle.raft_table.proofs.Facts.{sound_behind, group_of}
 use Rattle.raft_table.proofs.memtable.entries.Entries.lay_entries.Goals as goal
 
 pub from_run-requires : goal.from_run-requires
 from_run-requires c = sound_behind c.args.keep c.args.self.now c.args.run.now c.requires.table_entries
 
--- the entries of the only block of a run
 only_block : (run : List EntryIndex) (h : FileBlockHandle) (d : EntryIndex) → AreTableEntries run → 0 < length run →
     ((j : ℕ) (e : EntryIndex) → 0 ≤ j → j < 0 + length run → (get_or run j e).entries ≡ Some h) →
     entries_of_block (get_or run 0 d).index h (spans_of run) ≡ run
@@ -17,7 +15,6 @@ only_block run h d s l a =
     let t : take (length run) run ≡ run = take_all (length run) run (omega arith) in
     rw (e, z, t) at g
 
--- .. behind others
 laid : (keep : ℕ) (es run : List EntryIndex) (h : FileBlockHandle) (ss : List (ℕ × ℕ)) (d : EntryIndex) → AreTableEntries (take keep es ++ run) →
     0 < length run → ss ≡ spans_of run → ((j : ℕ) (e : EntryIndex) → 0 ≤ j → j < 0 + length run → (get_or run j e).entries ≡ Some h) →
     take keep es ++ run ≡ take keep es ++ entries_of_block (get_or run 0 d).index h ss
@@ -27,12 +24,10 @@ laid keep es run h ss d s l q a =
 
 pub lay_block-requires-clause-table_entries : goal.lay_block-requires-clause-table_entries
 lay_block-requires-clause-table_entries c =
-    let n = c.if-count_of-run.true in
     let e = laid c.args.keep c.args.self.now c.args.run.now c.in-Some.handle c.in_ok-spans.spans.items _ c.requires.table_entries c.requires.run c.in_ok-spans.ensures.ok (λ j x z k. c.count_of.ensures.all j x z (omega (arith, k))) in
     subst AreTableEntries e c.requires.table_entries
 
 pub returns-clause-ok : goal.returns-clause-ok
 returns-clause-ok c =
-    let n = c.if-count_of-run.true in
     let e = laid c.args.keep c.args.self.now c.args.run.now c.in-Some.handle c.in_ok-spans.spans.items _ c.requires.table_entries c.requires.run c.in_ok-spans.ensures.ok (λ j x z k. c.count_of.ensures.all j x z (omega (arith, k))) in
     on_ok_weaker c.lay_block.result (λ w. w ∙ sym e) c.lay_block.ensures.ok

@@ -1,5 +1,4 @@
-use Rattle.std.proofs.Common.{arith}
-use Rattle.raft_table.proofs.BlockCuts.{shown_len, within_of, part_of}
+use Rattle.raft_table.proofs.Facts.{arith, shown_len, within_of, part_of}
 use Rattle.raft_table.proofs.memtable.entries.Entries.movable.Goals as goal
 
 pub spot_of-spot-requires-clause-within : goal.spot_of-spot-requires-clause-within

@@ -1,8 +1,6 @@
-use Rattle.raft_table.proofs.Common.{◌≡◌, ◌+◌, ◌++◌, take, drop, arith, sym, ap, subst, ◌∙◌, length-take-le, AreTableEntries, Append}
-use Rattle.raft_table.proofs.PlaceLemmas.{each_queue}
-use Rattle.raft_table.proofs.memtable.entries.Entries.move_places.Goals as goal
+use Rattle.raft_table.proofs.Facts.{◌≡◌, ◌+◌, ◌++◌, take, drop, arith, sym, ap, subst, ◌∙◌, length-take-le, AreTableEntries, Append, each_queue, Moves, moves}
 use Rattle.raft_table.proofs.memtable.entries.Entries.move_places.Goals.{After-movable-moved}
-use Rattle.raft_table.proofs.RewriteLemmas.{Moves, moves}
+use Rattle.raft_table.proofs.memtable.entries.Entries.move_places.Goals as goal
 
 moved : (c : After-movable-moved) → Moves c.args.gate c.args.at c.movable-moved.result c.args.self.now c.args.places.now
 moved c = moves c.args.gate c.args.at c.movable-moved.result c.args.self.now c.args.places.now c.holds_one_run.ensures c.requires.within c.requires.rising c.requires.placed c.requires.well_placed c.movable-moved.ensures
@@ -40,8 +38,6 @@ returns-clause-ok c = rw (← c.movable-moved.ensures) (new c, c.count_moved.ens
 pub returns-clause-recounted : goal.returns-clause-recounted
 returns-clause-recounted c =
     let f = (moved (goal.at.returns-clause-recounted c).After-movable-moved) in
-    let a = f.appended in
-    let r = f.rewritten in
     rw (new c)
     (each_queue _
     (omega (arith, c.count_moved.ensures.appended))

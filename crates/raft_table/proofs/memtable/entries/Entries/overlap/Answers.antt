@@ -1,5 +1,4 @@
-use Rattle.std.proofs.Common.{arith}
-use Rattle.raft_table.proofs.BlockCuts.{kept_facts}
+use Rattle.raft_table.proofs.Facts.{arith, kept_facts}
 use Rattle.raft_table.proofs.memtable.entries.Entries.overlap.Goals as goal
 
 pub returns-then-self-eq0-clause-meets : goal.returns-then-self-eq0-clause-meets

@@ -1,9 +1,7 @@
-use Rattle.raft_table.proofs.Common.{ℕ, ◌≡◌, inl, inr, refl, true, eqb, List, [], ◌∷◌, ◌++◌, drop, length, arith, ap, sym, ◌∙◌, length-map, nil_from_length, nat_tests, BlockSpans, block_spans, blocks_shown}
-use Rattle.raft_table.proofs.Common.{entries_in_blocks, joined_blocks, seam, starts_of, AreStarts}
-use Rattle.raft_table.proofs.BlockCuts.{kept_bounded, kept_with}
-use Rattle.raft_table.proofs.BlockKept.{IsPushed, pushed_fits, kept_push}
-use Rattle.raft_table.proofs.memtable.entries.Entries.push.Goals as goal
+use Rattle.raft_table.proofs.Facts.{ℕ, ◌≡◌, inl, inr, refl, true, eqb, List, [], ◌∷◌, ◌++◌, drop, length, arith, ap, sym, ◌∙◌, length-map, nil_from_length, nat_tests, BlockSpans, block_spans, blocks_shown, entries_in_blocks, joined_blocks}
+use Rattle.raft_table.proofs.Facts.{seam, starts_of, AreStarts, kept_bounded, kept_with, IsPushed, pushed_fits, kept_push}
 use Rattle.raft_table.proofs.memtable.entries.Entries.push.Goals.{then-is_empty+then-len-lt-FEW+in_ok-push_block, else-is_empty+in_ok-keep_starts+in_ok-push_with_start}
+use Rattle.raft_table.proofs.memtable.entries.Entries.push.Goals as goal
 
 pub keep_starts-requires-clause-bounded : goal.keep_starts-requires-clause-bounded
 keep_starts-requires-clause-bounded c l = kept_bounded c.self.invariant.0 (let n = length-map c.self.inside.blocks.items block_spans in omega arith)

@@ -1,10 +1,8 @@
-use Rattle.raft_table.proofs.Common.{ℕ, ◌≡◌, ◌+◌, ◌-◌, inl, inr, min, List, [], ◌∷◌, ◌++◌, length, take, drop, arith, refl, sym, ap, subst, ◌∙◌, length-map, cases_lt, BlockSpans, block_spans, blocks_shown}
-use Rattle.raft_table.proofs.Common.{entries_in_blocks, without_first_spans, first_of_last, joined_blocks, seam, AreTableEntries, IsAt, ◌<◌}
-use Rattle.raft_table.proofs.BlockCuts.{kept_bounded, kept_with, found, index_of, kept_length, kept_facts}
-use Rattle.raft_table.proofs.BlockQueues.{block_at, block_within, spot_inside}
-use Rattle.raft_table.proofs.BlockKept.{IsKeptAs, joined_some, pushed_length, between_fits, put_between, cut_order}
-use Rattle.raft_table.proofs.memtable.entries.Entries.put_between.Goals as goal
+use Rattle.raft_table.proofs.Facts.{ℕ, ◌≡◌, ◌+◌, ◌-◌, inl, inr, min, List, [], ◌∷◌, ◌++◌, length, take, drop, arith, refl, sym, ap, subst, ◌∙◌, length-map, cases_lt, BlockSpans, block_spans, blocks_shown, entries_in_blocks}
+use Rattle.raft_table.proofs.Facts.{without_first_spans, first_of_last, joined_blocks, seam, AreTableEntries, IsAt, ◌<◌, kept_bounded, kept_with, found, index_of, kept_length, kept_facts, block_at, block_within, spot_inside, IsKeptAs}
+use Rattle.raft_table.proofs.Facts.{joined_some, pushed_length, between_fits, put_between, cut_order}
 use Rattle.raft_table.proofs.memtable.entries.Entries.put_between.Goals.{After-find-nth, After-spot_behind-spot}
+use Rattle.raft_table.proofs.memtable.entries.Entries.put_between.Goals as goal
 
 pub keep_starts-requires-clause-bounded : goal.keep_starts-requires-clause-bounded
 keep_starts-requires-clause-bounded c l = kept_bounded c.self.invariant.0 (let n = length-map c.self.inside.blocks.items block_spans in omega arith)

@@ -1,7 +1,4 @@
-use Rattle.raft_table.proofs.Common.{◌≡◌, ◌<◌, length, start_of, on_ok_weaker}
-use Rattle.raft_table.proofs.SoundLemmas.{start_of_front}
-use Rattle.raft_table.proofs.KeptUnderLemmas.{IsReplay, is_replay, sound_under, counts_under}
-use Rattle.raft_table.proofs.StartLemmas.{may_join}
+use Rattle.raft_table.proofs.Facts.{◌≡◌, ◌<◌, length, start_of, on_ok_weaker, start_of_front, IsReplay, is_replay, sound_under, counts_under, may_join}
 use Rattle.raft_table.proofs.memtable.entries.Entries.replay_run.Goals as goal
 
 pub put_run_behind-requires-clause-table_entries : goal.put_run_behind-requires-clause-table_entries

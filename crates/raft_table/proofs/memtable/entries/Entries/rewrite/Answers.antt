@@ -1,11 +1,9 @@
-use Rattle.raft_table.proofs.Common.{ℕ, ◌⊎◌, inl, inr, arith, sym, subst, ◌≡◌, ◌+◌, ◌≤◌, ◌^◌, length, ap, ◌∙◌, Some, None, List, [], Option, on_ok_weaker, IfErr-weaker, Error, EntryIndex, Counts, live, IsCorruption}
-use Rattle.raft_table.proofs.Common.{end_bounded, start_of, entries_after_rewrite, with_rewritten, IsRewriteFault, MovesPlacesAlone, Rewrite}
-use Rattle.raft_base.specs.declared.errors.Error.TheVariants as errors
-use Rattle.raft_table.proofs.SoundLemmas.{start_of_front, no_first}
-use Rattle.raft_table.proofs.RewriteLemmas.{RewritesAt, rewrites_at, rewritten_none, rewritten_apart, recounted_apart, recounted_is, run_end}
-use Rattle.raft_table.proofs.AloneLemmas.{none_moved, moved_alone}
-use Rattle.raft_table.proofs.memtable.entries.Entries.rewrite.Goals as goal
+use Rattle.raft_table.proofs.Facts.{ℕ, ◌⊎◌, inl, inr, arith, sym, subst, ◌≡◌, ◌+◌, ◌≤◌, ◌^◌, length, ap, ◌∙◌, Some, None, List, [], Option, on_ok_weaker, IfErr-weaker, Error, EntryIndex, Counts, live, IsCorruption, end_bounded, start_of}
+use Rattle.raft_table.proofs.Facts.{entries_after_rewrite, with_rewritten, IsRewriteFault, MovesPlacesAlone, Rewrite, start_of_front, no_first, RewritesAt, rewrites_at, rewritten_none, rewritten_apart, recounted_apart, recounted_is}
+use Rattle.raft_table.proofs.Facts.{run_end, none_moved, moved_alone}
 use Rattle.raft_table.proofs.memtable.entries.Entries.rewrite.Goals.{In-Some, In-Some-overlap, In_default-overlap}
+use Rattle.raft_base.specs.declared.errors.Error.TheVariants as errors
+use Rattle.raft_table.proofs.memtable.entries.Entries.rewrite.Goals as goal
 
 pub returns-in_default-clause-ok : goal.returns-in_default-clause-ok
 returns-in_default-clause-ok c =
@@ -22,7 +20,6 @@ overlap-requires c =
     let b = end_bounded c.args.run.now c.requires.run.consecutive.bounded in
     omega arith
 
--- a refusal of the counts
 full_is : (n : ℕ) (counts : Counts) (gate : Option ℕ) (run es after : List EntryIndex) → entries_after_rewrite gate run es ≡ Some after →
     2 ^ 64 ≤ live Rewrite counts + n → IsRewriteFault n counts (entries_after_rewrite gate run es) errors.Full
 full_is n counts gate run es after e h = rw e h
@@ -80,7 +77,6 @@ returns-clause-counts c =
     on_ok_weaker c.move_places.result (λ h. h.1 ∙ ap (λ m. with_rewritten c.args.gate (length c.args.run.now) m c.args.stats.now) (sym f.counts)
     ∙ sym (recounted_is c.args.gate c.args.run.now c.args.self.now c.args.stats.now c.in-Some.ensures.item.3.0)) c.move_places.ensures.ok
 
--- want of memory, or of room
 either_is : (n : ℕ) (counts : Counts) (gate : Option ℕ) (run es after : List EntryIndex) (e : Error) →
     entries_after_rewrite gate run es ≡ Some after → (e ≡ errors.Memory) ⊎ ((e ≡ errors.Full) × (2 ^ 64 ≤ live Rewrite counts + n)) →
     IsRewriteFault n counts (entries_after_rewrite gate run es) e

@@ -1,7 +1,4 @@
-use Rattle.raft_table.proofs.Common.{arith, refl, block_spans, blocks_shown, entries_in_blocks, slice_get_past}
-use Rattle.raft_table.proofs.BlockCuts.{within_of, kept_facts}
-use Rattle.raft_table.proofs.BlockParts.{seq_at_spot}
-use Rattle.raft_table.proofs.BlockQueues.{block_at}
+use Rattle.raft_table.proofs.Facts.{arith, refl, block_spans, blocks_shown, entries_in_blocks, slice_get_past, within_of, kept_facts, seq_at_spot, block_at}
 use Rattle.raft_table.proofs.memtable.entries.Entries.seq_at.Goals as goal
 
 pub returns-then-at-self : goal.returns-then-at-self

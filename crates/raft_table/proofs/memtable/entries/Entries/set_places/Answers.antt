@@ -1,7 +1,5 @@
-use Rattle.raft_table.proofs.Common.{ℕ, ◌≡◌, ◌+◌, ◌≤◌, List, [], ◌++◌, length, take, drop, arith, sym, ap, subst, ◌∙◌, append-nil, drop_all, on_ok_weaker, blocks_shown, entries_in_blocks, AreTableEntries}
-use Rattle.raft_table.proofs.BlockCuts.{kept_facts}
+use Rattle.raft_table.proofs.Facts.{ℕ, ◌≡◌, ◌+◌, ◌≤◌, List, [], ◌++◌, length, take, drop, arith, sym, ap, subst, ◌∙◌, append-nil, drop_all, on_ok_weaker, blocks_shown, entries_in_blocks, AreTableEntries, kept_facts, middle_sound}
 use Rattle.raft_table.proofs.memtable.entries.Entries.set_places.Goals as goal
-use Rattle.raft_table.proofs.RewriteLemmas.{middle_sound}
 
 pub overflow_add-at : goal.overflow_add-at
 overflow_add-at c = let l = (kept_facts c.self.invariant.0).length in let h = rw (← c.self.view_is) at c.requires.within in let r = c.self.ranges in omega (arith, c.self.ranges)
@@ -12,7 +10,6 @@ from_run-requires c = middle_sound (take c.args.at c.args.self.now) c.args.place
 pub put_between-requires-clause-behind : goal.put_between-requires-clause-behind
 put_between-requires-clause-behind c =
     let l = (kept_facts c.self.invariant.0).length in
-    let t = c.if-at-places.true in
     rw (← c.self.view_is, c.in_ok-run.ensures.ok) (omega arith)
 
 behind : (at m n : ℕ) {X : Type 0} (xs : List X) → length xs ≡ n → n ≤ at + m → drop (at + m) xs ≡ []

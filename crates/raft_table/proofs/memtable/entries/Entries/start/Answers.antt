@@ -1,6 +1,4 @@
-use Rattle.raft_table.proofs.Common.{◌-◌, arith, blocks_shown, entries_in_blocks}
-use Rattle.raft_table.proofs.BlockCuts.{kept_facts}
-use Rattle.raft_table.proofs.StartLemmas.{start_none, start_in_front, start_behind, start_joins}
+use Rattle.raft_table.proofs.Facts.{◌-◌, arith, blocks_shown, entries_in_blocks, kept_facts, start_none, start_in_front, start_behind, start_joins}
 use Rattle.raft_table.proofs.memtable.entries.Entries.start.Goals as goal
 
 pub returns-then-self-eq0-clause-meets : goal.returns-then-self-eq0-clause-meets

@@ -1,7 +1,4 @@
-use Rattle.raft_table.proofs.Common.{◌≡◌, drop, arith, refl, ◌∙◌, length-take-le, below, from, Append, Rewrite}
-use Rattle.raft_table.proofs.PlaceLemmas.{each_queue, entry_count-cut}
-use Rattle.raft_table.proofs.BlockCuts.{shown_len, kept_facts, kept_cut}
-use Rattle.raft_table.proofs.KeptUnderLemmas.{none_above, same_deleted, few_behind}
+use Rattle.raft_table.proofs.Facts.{◌≡◌, drop, arith, refl, ◌∙◌, length-take-le, below, from, Append, Rewrite, each_queue, entry_count-cut, shown_len, kept_facts, kept_cut, none_above, same_deleted, few_behind}
 use Rattle.raft_table.proofs.memtable.entries.Entries.truncate_from.Goals as goal
 
 pub returns-then-self-eq0-clause-entries : goal.returns-then-self-eq0-clause-entries

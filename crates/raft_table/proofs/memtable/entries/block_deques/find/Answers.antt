@@ -1,5 +1,4 @@
-use Rattle.raft_table.proofs.Common.{suc, ◌≡◌, ◌+◌, ◌<◌, ltb, true, get_or, arith, sym, ap, ◌∙◌, get_or_default, nat_tests}
-use Rattle.raft_table.proofs.BlockLemmas.{at_start, index_some}
+use Rattle.raft_table.proofs.Facts.{suc, ◌≡◌, ◌+◌, ◌<◌, ltb, true, get_or, arith, sym, ap, ◌∙◌, get_or_default, nat_tests, at_start, index_some}
 use Rattle.raft_table.proofs.memtable.entries.block_deques.find.Goals.{then-guess-last, else-guess-last}
 use Rattle.raft_table.proofs.memtable.entries.block_deques.find.Goals as goal
 

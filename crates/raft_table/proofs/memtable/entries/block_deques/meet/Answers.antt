@@ -1,5 +1,4 @@
-use Rattle.raft_table.proofs.Common.{◌≡◌, ◌-◌, drop, set, arith, refl, ap, ◌∙◌, err_from_is_err_and, blocks_shown, Block}
-use Rattle.raft_table.proofs.BlockQueues.{AreMet, met_same, met_other, set_same, rest_set, one_block}
+use Rattle.raft_table.proofs.Facts.{◌≡◌, ◌-◌, drop, set, arith, refl, ap, ◌∙◌, err_from_is_err_and, blocks_shown, Block, AreMet, met_same, met_other, set_same, rest_set, one_block}
 use Rattle.raft_table.proofs.memtable.entries.block_deques.meet.Goals as goal
 
 other : (c : goal.After-blocks-1) → AreMet c.args.spot.0 c.args.spot.1 (blocks_shown c.args.blocks.now.items)
@@ -21,7 +20,6 @@ pub returns-in_err-lengthen-clause-err : goal.returns-in_err-lengthen-clause-err
 returns-in_err-lengthen-clause-err c =
     let p = err_from_is_err_and c.from_residual.result c.from_residual.ensures.1 in
     let h = c.in_err-lengthen.ensures.err in
-    let w = c.requires.within in
     rw p.1 (
       set_same c.args.blocks.now.items (c.args.spot.0 - 1) c.index_mut-2.result.now c.lengthen.new.block (omega arith) c.index_mut-2.ensures.value c.lengthen.ensures.handle h.0,
       set_same c.args.more.now.items 0 c.index_mut-3.result.now (record { handle = c.index_mut-3.result.now.handle; spans = c.lengthen.new.more }) c.requires.more c.index_mut-3.ensures.value refl h.1,

@@ -1,6 +1,6 @@
-use Rattle.raft_table.proofs.Common.{◌≡◌, ◌-◌, ◌<◌, List, [], ◌∷◌, ◌++◌, length, take, set, arith, refl, ap, ◌∙◌, take_all, on_ok_weaker, IfErr-weaker, block_spans, blocks_shown, joined_blocks, seam, Block}
-use Rattle.raft_table.proofs.BlockQueues.{pushed_same, pushed_other, set_same, one_block}
-use Rattle.raft_table.proofs.memtable.entries.block_deques.push_block.Goals.{then-len-gt0+else-is_same, else-len-gt0}
+use Rattle.raft_table.proofs.Facts.{◌≡◌, ◌-◌, ◌<◌, List, [], ◌∷◌, ◌++◌, length, take, set, arith, refl, ap, ◌∙◌, take_all, on_ok_weaker, IfErr-weaker, block_spans, blocks_shown, joined_blocks, seam, Block, pushed_same, pushed_other}
+use Rattle.raft_table.proofs.Facts.{set_same, one_block}
+use Rattle.raft_table.proofs.memtable.entries.block_deques.push_block.Goals.{then-len-gt0+else-is_same, else-len-gt0, then-capacity-eq0+in_ok-reserve_exact, else-capacity-eq0}
 use Rattle.raft_table.proofs.memtable.entries.block_deques.push_block.Goals as goal
 
 last : (c : goal.After-drop-block) → c.len-len.result - 1 < length c.args.blocks.now.items
@@ -35,7 +35,10 @@ returns-then-is_same-clause-err c =
 
 pub returns-clause-ok : goal.returns-clause-ok
 returns-clause-ok c =
-    ap blocks_shown (c.in_ok-push_back.ensures.items ∙ ap (λ bs. bs ++ c.args.block ∷ []) c.make_first_room.ensures)
+    ap blocks_shown (c.in_ok-push_back.ensures.items ∙ ap (λ bs. bs ++ c.args.block ∷ []) (elim c.if-capacity-eq0.branch [
+      | then-capacity-eq0+in_ok-reserve_exact w ↦ rw w.blocks-is w.reserve_exact.ensures.items
+      | else-capacity-eq0 w ↦ rw w.blocks-is refl
+    ]))
     ∙ elim c.if-len-gt0.branch [
       | then-len-gt0+else-is_same w ↦ (pushed_other (c.len-len.result - 1) c.args.blocks.now.items w.index.result.now c.args.block (omega (arith, w.if-len-gt0.true, c.args.blocks.now.ok)) w.index.ensures w.if-is_same.ensures).0
       | else-len-gt0 w ↦ first c.args.blocks.now.items (omega (arith, w.if-len-gt0.false, c.args.blocks.now.ok))

@@ -1,9 +1,6 @@
-use Rattle.raft_table.proofs.Common.{◌≡◌, ◌+◌, ◌<◌, suc, get_or, [], ◌∷◌, ◌++◌, length, take, arith, sym, ap, ◌∙◌, length-map, BlockSpans, block_spans, blocks_shown, count, starts_of}
-use Rattle.raft_table.proofs.BlockLemmas.{starts_more, count_take_more, count_front}
-use Rattle.raft_table.proofs.BlockQueues.{shown_at}
+use Rattle.raft_table.proofs.Facts.{◌≡◌, ◌+◌, ◌<◌, suc, get_or, [], ◌∷◌, ◌++◌, length, take, arith, sym, ap, ◌∙◌, length-map, BlockSpans, block_spans, blocks_shown, count, starts_of, starts_more, count_take_more, count_front, shown_at}
 use Rattle.raft_table.proofs.memtable.entries.block_deques.push_starts.Goals as goal
 
--- one more block has so many entries more
 more : (c : goal.After-len) → count (take (c.loop-i.i + 1) (blocks_shown c.args.blocks.now.items)) ≡ count (take c.loop-i.i (blocks_shown c.args.blocks.now.items)) + c.len.result
 more c =
     let bs = blocks_shown c.args.blocks.now.items in
@@ -19,11 +16,8 @@ more c =
 pub overflow_add-index : goal.overflow_add-index
 overflow_add-index c =
     let bs = blocks_shown c.args.blocks.now.items in
-    let l : c.loop-i.i < length c.args.blocks.now.items = omega (arith, c.loop-i-test.true, c.args.blocks.now.ok) in
-    let b = c.requires.bounded (omega arith) in
     let f = count_front (c.loop-i.i + 1) bs in
     let m = more c in
-    let i = c.loop-i.invariant.1 in
     omega arith
 
 pub loop-i-preserved : goal.loop-i-preserved

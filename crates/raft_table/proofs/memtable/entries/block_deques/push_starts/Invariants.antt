@@ -1,4 +1,4 @@
-use Rattle.raft_table.proofs.Common.{◌≡◌, ◌+◌, ◌≤◌, length, take, deque_len, deque_capacity, blocks_shown, count, starts_of}
+use Rattle.raft_table.proofs.Facts.{◌≡◌, ◌+◌, ◌≤◌, length, take, deque_len, deque_capacity, blocks_shown, count, starts_of}
 use Rattle.raft_table.proofs.memtable.entries.block_deques.push_starts.Given as goal
 
 abbrev pub invariant-loop-i : goal.invariant-loop-i

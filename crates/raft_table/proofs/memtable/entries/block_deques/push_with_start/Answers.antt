@@ -1,8 +1,7 @@
-use Rattle.raft_table.proofs.Common.{ℕ, ◌≡◌, ◌+◌, ◌<◌, List, [], ◌∷◌, ◌++◌, length, drop, arith, sym, ap, ◌∙◌, length-map, append-nil, Block, BlockSpans, block_spans, blocks_shown, joined_blocks, seam}
-use Rattle.raft_table.proofs.BlockKept.{pushed_count, none_left, one_left}
+use Rattle.raft_table.proofs.Facts.{ℕ, ◌≡◌, ◌+◌, ◌<◌, List, [], ◌∷◌, ◌++◌, length, drop, arith, sym, ap, ◌∙◌, length-map, append-nil, Block, BlockSpans, block_spans, blocks_shown, joined_blocks, seam, pushed_count, one_left}
+use Rattle.raft_table.proofs.BlockKept.{none_left}
 use Rattle.raft_table.proofs.memtable.entries.block_deques.push_with_start.Goals as goal
 
--- as many blocks more as first indexes
 added : (x : ℕ) (old new : List Block) (t : BlockSpans) → blocks_shown new ≡ joined_blocks (blocks_shown old) (t ∷ []) → length old + length (drop (seam (blocks_shown old) (t ∷ [])) (x ∷ [])) ≡ length new
 added x old new t e =
     let n = length-map old block_spans in

@@ -1,5 +1,4 @@
-use Rattle.raft_table.proofs.Common.{◌++◌, take, drop, ap, ◌∙◌, blocks_shown, first_of_last, joined_blocks}
-use Rattle.raft_table.proofs.BlockQueues.{shown_three}
+use Rattle.raft_table.proofs.Facts.{◌++◌, take, drop, ap, ◌∙◌, blocks_shown, first_of_last, joined_blocks, shown_three}
 use Rattle.raft_table.proofs.memtable.entries.block_deques.put_blocks.Goals as goal
 
 pub returns-clause-blocks : goal.returns-clause-blocks

@@ -1,4 +1,4 @@
-use Rattle.raft_table.proofs.Common.{◌++◌, take, sym, ap, ◌∙◌, take-map, map-append, block_spans, blocks_shown, first_of_last, joined_blocks}
+use Rattle.raft_table.proofs.Facts.{◌++◌, take, sym, ap, ◌∙◌, take-map, map-append, block_spans, blocks_shown, first_of_last, joined_blocks}
 use Rattle.raft_table.proofs.memtable.entries.block_deques.put_few_blocks.Goals as goal
 
 pub returns-clause-ok : goal.returns-clause-ok

@@ -1,4 +1,4 @@
-use Rattle.raft_table.proofs.Common.{◌≡◌, ◌-◌, ◌≤◌, length, take, drop, deque_len, deque_capacity}
+use Rattle.raft_table.proofs.Facts.{◌≡◌, ◌-◌, ◌≤◌, length, take, drop, deque_len, deque_capacity}
 use Rattle.raft_table.proofs.memtable.entries.block_deques.spans_behind.Given as goal
 
 abbrev pub invariant-loop-i : goal.invariant-loop-i

@@ -1,6 +1,4 @@
-use Rattle.raft_table.proofs.Common.{◌≡◌, ◌+◌, ◌-◌, ◌≤◌, ◌<◌, length, take, arith, ap, subst, length-map, Block, block_spans, blocks_shown, count}
-use Rattle.raft_table.proofs.BlockLemmas.{walked_within, walked_more}
-use Rattle.raft_table.proofs.BlockQueues.{shown_at, one_block}
+use Rattle.raft_table.proofs.Facts.{◌≡◌, ◌+◌, ◌-◌, ◌≤◌, ◌<◌, length, take, arith, ap, subst, length-map, Block, block_spans, blocks_shown, count, walked_within, walked_more, shown_at, one_block}
 use Rattle.raft_table.proofs.memtable.entries.block_deques.spot_among.Goals as goal
 
 pub loop-rest-preserved : goal.loop-rest-preserved

@@ -1,4 +1,4 @@
-use Rattle.raft_table.proofs.Common.{◌≡◌, ◌+◌, ◌-◌, length, take, blocks_shown, count}
+use Rattle.raft_table.proofs.Facts.{◌≡◌, ◌+◌, ◌-◌, length, take, blocks_shown, count}
 use Rattle.raft_table.proofs.memtable.entries.block_deques.spot_among.Given as goal
 
 -- the blocks that were walked have the entries that were counted off

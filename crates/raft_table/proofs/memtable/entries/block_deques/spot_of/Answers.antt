@@ -1,11 +1,9 @@
-use Rattle.raft_table.proofs.Common.{◌<◌, ◌+◌, ◌-◌, ◌≡◌, arith, subst, IsAt, blocks_shown, nat_tests, starts_of, deque_len}
-use Rattle.raft_table.proofs.BlockCuts.{starts_kept}
-use Rattle.raft_table.proofs.memtable.entries.block_deques.spot_of.Goals as goal
+use Rattle.raft_table.proofs.Facts.{◌<◌, ◌+◌, ◌-◌, ◌≡◌, arith, subst, IsAt, blocks_shown, nat_tests, starts_of, deque_len, starts_kept}
 use Rattle.raft_table.proofs.memtable.entries.block_deques.spot_of.Goals.{Else-is_empty}
+use Rattle.raft_table.proofs.memtable.entries.block_deques.spot_of.Goals as goal
 
 starts : (c : Else-is_empty) → c.args.starts.now.items ≡ starts_of c.args.first (blocks_shown c.args.blocks.now.items)
 starts c =
-    let t = c.if-is_empty.ensures in
     let p : 0 < deque_len c.args.starts.now = grind (arith, nat_tests) in
     starts_kept c.args.first (blocks_shown c.args.blocks.now.items) c.args.starts.now.items c.requires.starts (omega (arith, c.args.starts.now.ok))
 

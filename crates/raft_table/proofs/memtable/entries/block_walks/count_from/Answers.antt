@@ -1,8 +1,4 @@
-use Rattle.raft_table.proofs.Common.{ℕ, suc, ◌≡◌, ◌+◌, ◌-◌, take, drop, arith, length-drop, length-take, block_spans, blocks_shown, entries_in_blocks}
-use Rattle.raft_table.proofs.BlockLemmas.{length-expanded, entry_of}
-use Rattle.raft_table.proofs.BlockQueues.{block_at}
-use Rattle.raft_table.proofs.FetchLemmas.{limit_stops, limit_more}
-use Rattle.raft_table.proofs.WalkLemmas.{walk_len}
+use Rattle.raft_table.proofs.Facts.{ℕ, suc, ◌≡◌, ◌+◌, ◌-◌, take, drop, arith, length-drop, length-take, block_spans, blocks_shown, entries_in_blocks, length-expanded, entry_of, block_at, limit_stops, limit_more, walk_len}
 use Rattle.raft_table.proofs.memtable.entries.block_walks.count_from.Goals as goal
 
 pub index-requires : goal.index-requires
@@ -22,7 +18,6 @@ returns-then-total-gt0 c j =
     let xs = drop c.args.start (take c.args.end es) in
     let n = c.loop-i.i - c.args.start in
     let i = c.loop-i.auto.i in
-    let w = c.requires.within in
     let a = c.loop-i.invariant.0 c.loop-i-test.true in
     let b = block_at c.args.blocks.now.items c.index-block.result.now a c.index-block.ensures in
     let d = entry_of 0 c.index-block.result.now.handle c.index.result.now in
@@ -35,14 +30,12 @@ loop-i-preserved c =
     let bs = blocks_shown c.args.blocks.now.items in
     let n = c.loop-i.i - c.args.start in
     let i = c.loop-i.auto.i in
-    let w = c.requires.within in
     let a = c.loop-i.invariant.0 c.loop-i-test.true in
     let b = block_at c.args.blocks.now.items c.index-block.result.now a c.index-block.ensures in
     let d = entry_of 0 c.index-block.result.now.handle c.index.result.now in
     let len = λ (j : ℕ). walk_len j c.args.start c.loop-i.i c.loop-i.spot.0 c.loop-i.spot.1 c.args.end c.from.result bs
     (block_spans c.index-block.result.now) c.index.result.now d a b.same c.index.ensures c.from.ensures i c.loop-i-test.true in
     let k : c.loop-i.i + 1 - c.args.start ≡ suc n = omega arith in
-    let bound = c.loop-i.invariant.1 in
     let more = λ (j : ℕ). limit_more c.args.limit n c.loop-i.total c.from.result (drop c.args.start (take c.args.end (entries_in_blocks j bs))) d
     (omega (arith, length-drop c.args.start (take c.args.end (entries_in_blocks j bs)), length-take c.args.end (entries_in_blocks j bs), length-expanded j bs))
     (c.loop-i.invariant.2 j) (len j) c.else-sum-limit.either (c.loop-i.invariant.3 j) in
@@ -53,8 +46,6 @@ returns c j =
     let bs = blocks_shown c.args.blocks.now.items in
     let es = entries_in_blocks j bs in
     let i = c.loop-i.auto.i-end c.requires.order in
-    let e : c.loop-i.i ≡ c.args.end = let f = c.loop-i-test.false in omega arith in
-    let w = c.requires.within in
     let f = c.loop-i.invariant.3 j in
     record {
       there = omega (arith, length-drop c.args.start (take c.args.end es), length-take c.args.end es, length-expanded j bs);

@@ -1,4 +1,4 @@
-use Rattle.raft_table.proofs.Common.{◌≡◌, ◌-◌, ◌*◌, ◌^◌, ◌≤◌, ◌<◌, false, ℕ, take, drop, Some, blocks_shown, entries_in_blocks, IsAt, total_len, is_too_many}
+use Rattle.raft_table.proofs.Facts.{◌≡◌, ◌-◌, ◌*◌, ◌^◌, ◌≤◌, ◌<◌, false, ℕ, take, drop, Some, blocks_shown, entries_in_blocks, IsAt, total_len, is_too_many}
 use Rattle.raft_table.proofs.memtable.entries.block_walks.count_from.Given as goal
 
 abbrev pub invariant-loop-i : goal.invariant-loop-i

@@ -1,6 +1,4 @@
-use Rattle.raft_table.proofs.Common.{arith, sym, ◌∙◌, block_spans, blocks_shown}
-use Rattle.raft_table.proofs.BlockQueues.{block_at}
-use Rattle.raft_table.proofs.WalkLemmas.{IsStep, walk_step, walk_stops, walk_goes}
+use Rattle.raft_table.proofs.Facts.{arith, sym, ◌∙◌, block_spans, blocks_shown, block_at, IsStep, walk_step, walk_stops, walk_goes}
 use Rattle.raft_table.proofs.memtable.entries.block_walks.movable_from.Goals as goal
 
 pub returns-then-not-is_movable : goal.returns-then-not-is_movable
@@ -28,7 +26,6 @@ loop-done-smaller c = let s = step c in let p = s.some in let t = c.loop-done-te
 pub loop-done-preserved : goal.loop-done-preserved
 loop-done-preserved c =
     let s = step c in
-    let low = c.loop-done.invariant.0 in
     let a = c.loop-done.invariant.2 c.loop-done-test.true in
     let b = block_at c.args.blocks.now.items c.index-block.result.now a c.index-block.ensures in (
       omega arith,

@@ -1,4 +1,4 @@
-use Rattle.raft_table.proofs.Common.{◌≡◌, ◌+◌, ◌-◌, ◌≤◌, ◌<◌, ℕ, take, drop, prefix_len, blocks_shown, entries_in_blocks, IsAt, may_move}
+use Rattle.raft_table.proofs.Facts.{◌≡◌, ◌+◌, ◌-◌, ◌≤◌, ◌<◌, ℕ, take, drop, prefix_len, blocks_shown, entries_in_blocks, IsAt, may_move}
 use Rattle.raft_table.proofs.memtable.entries.block_walks.movable_from.Given as goal
 
 abbrev pub invariant-loop-done : goal.invariant-loop-done

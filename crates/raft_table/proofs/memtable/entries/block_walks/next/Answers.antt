@@ -1,5 +1,4 @@
-use Rattle.raft_table.proofs.Common.{arith, block_spans}
-use Rattle.raft_table.proofs.WalkLemmas.{walk_next_block}
+use Rattle.raft_table.proofs.Facts.{arith, block_spans, walk_next_block}
 use Rattle.raft_table.proofs.memtable.entries.block_walks.next.Goals as goal
 
 pub returns : goal.returns

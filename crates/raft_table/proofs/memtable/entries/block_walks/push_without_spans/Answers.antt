@@ -1,6 +1,4 @@
-use Rattle.raft_table.proofs.Common.{◌+◌, ◌++◌, map, take, drop, arith, sym, ap, ◌∙◌, append_assoc, map-append, entries_of_block, block_spans, blocks_shown, entries_in_blocks, without_span}
-use Rattle.raft_table.proofs.BlockQueues.{block_at}
-use Rattle.raft_table.proofs.WalkLemmas.{IsStep, walk_step, walk_more}
+use Rattle.raft_table.proofs.Facts.{◌+◌, ◌++◌, map, take, drop, arith, sym, ap, ◌∙◌, append_assoc, map-append, entries_of_block, block_spans, blocks_shown, entries_in_blocks, without_span, block_at, IsStep, walk_step, walk_more}
 use Rattle.raft_table.proofs.memtable.entries.block_walks.push_without_spans.Goals as goal
 
 pub overflow_sub-len : goal.overflow_sub-len
@@ -26,13 +24,11 @@ loop-done-smaller c = let s = step c in let p = s.some in let t = c.loop-done-te
 pub loop-done-preserved : goal.loop-done-preserved
 loop-done-preserved c =
     let s = step c in
-    let some = s.some in
     let order = s.order in
     let a = c.loop-done.invariant.2 c.loop-done-test.true in
     let b = block_at c.args.blocks.now.items c.index-block.result.now a c.index-block.ensures in
     let bs = blocks_shown c.args.blocks.now.items in
     let low = c.loop-done.invariant.0 in
-    let w = c.requires.part.within in
     let xs = drop c.args.start (take c.loop-done.done (entries_in_blocks c.args.first bs)) in
     let ys = entries_of_block (c.args.first + c.loop-done.done) c.index-block.result.now.handle (take c.min-count.result (drop c.loop-done.at c.index-block.result.now.spans.items)) in (
       omega arith,

@@ -1,4 +1,4 @@
-use Rattle.raft_table.proofs.Common.{◌≡◌, ◌+◌, ◌-◌, ◌≤◌, ◌<◌, ◌++◌, map, take, drop, vec_len, vec_capacity, blocks_shown, entries_in_blocks, without_span, IsAt}
+use Rattle.raft_table.proofs.Facts.{◌≡◌, ◌+◌, ◌-◌, ◌≤◌, ◌<◌, ◌++◌, map, take, drop, vec_len, vec_capacity, blocks_shown, entries_in_blocks, without_span, IsAt}
 use Rattle.raft_table.proofs.memtable.entries.block_walks.push_without_spans.Given as goal
 
 abbrev pub invariant-loop-done : goal.invariant-loop-done

@@ -1,6 +1,5 @@
-use Rattle.raft_table.proofs.Common.{◌≡◌, ◌+◌, ◌-◌, ◌++◌, length, map, take, drop, arith, ap, ◌∙◌, Some, length-drop, length-take-le, EntryIndex, entries_of_block, without_span}
+use Rattle.raft_table.proofs.Facts.{◌≡◌, ◌+◌, ◌-◌, ◌++◌, length, map, take, drop, arith, ap, ◌∙◌, Some, length-drop, length-take-le, EntryIndex, entries_of_block, without_span, unset_more}
 use Rattle.raft_table.proofs.memtable.entries.block_walks.push_without_spans_of.Goals as goal
-use Rattle.raft_table.proofs.WalkLemmas.{unset_more}
 
 pub loop-index-preserved : goal.loop-index-preserved
 loop-index-preserved c =
@@ -9,10 +8,7 @@ loop-index-preserved c =
     let h = c.args.block.now.handle in
     let i = c.loop-index.index in
     let k = i - c.args.first in
-    let w = c.requires.within in
-    let t = c.loop-index-test.true in
     let n : length ss ≡ c.args.count = length-take-le c.args.count (drop c.args.at spans) (omega (arith, length-drop c.args.at spans)) in
-    let a = c.loop-index.auto.index in
     let v = c.loop-index.invariant.1 in (
       ap (λ es. es ++ map without_span (entries_of_block (i + 1) h (drop (i + 1 - c.args.first) ss))) c.push_reserved.ensures.items
           ∙ unset_more i (i + 1) k (i + 1 - c.args.first) h ss c.loop-index.vec.items _ (ap (λ (d : EntryIndex). record d { index = i; entries = Some h }) c.default.ensures) (omega arith) (omega arith) (omega arith)

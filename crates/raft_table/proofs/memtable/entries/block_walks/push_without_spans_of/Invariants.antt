@@ -1,4 +1,4 @@
-use Rattle.raft_table.proofs.Common.{◌≡◌, ◌+◌, ◌-◌, ◌++◌, map, take, drop, vec_len, vec_capacity, entries_of_block, without_span}
+use Rattle.raft_table.proofs.Facts.{◌≡◌, ◌+◌, ◌-◌, ◌++◌, map, take, drop, vec_len, vec_capacity, entries_of_block, without_span}
 use Rattle.raft_table.proofs.memtable.entries.block_walks.push_without_spans_of.Given as goal
 
 abbrev pub invariant-loop-index : goal.invariant-loop-index

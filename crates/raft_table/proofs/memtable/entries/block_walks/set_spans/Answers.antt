@@ -1,8 +1,5 @@
-use Rattle.raft_table.proofs.Common.{◌≡◌, ◌+◌, ◌-◌, ◌++◌, length, map, take, drop, arith, sym, ap, ◌∙◌, append_assoc, length-append, length-drop, length-take-le, entries_of_block, block_spans, blocks_shown}
-use Rattle.raft_table.proofs.Common.{entries_in_blocks, without_span, with_spans}
-use Rattle.raft_table.proofs.BlockQueues.{block_at}
-use Rattle.raft_table.proofs.BlockLemmas.{length-expanded}
-use Rattle.raft_table.proofs.WalkLemmas.{IsStep, walk_step, walk_more, walk_part, part_set}
+use Rattle.raft_table.proofs.Facts.{◌≡◌, ◌+◌, ◌-◌, ◌++◌, length, map, take, drop, arith, sym, ap, ◌∙◌, append_assoc, length-append, length-drop, length-take-le, entries_of_block, block_spans, blocks_shown, entries_in_blocks, without_span}
+use Rattle.raft_table.proofs.Facts.{with_spans, block_at, length-expanded, IsStep, walk_step, walk_more, walk_part, part_set}
 use Rattle.raft_table.proofs.memtable.entries.block_walks.set_spans.Goals as goal
 
 pub overflow_sub-len : goal.overflow_sub-len
@@ -28,7 +25,6 @@ loop-done-smaller c = let s = step c in let p = s.some in let t = c.loop-done-te
 pub loop-done-preserved : goal.loop-done-preserved
 loop-done-preserved c =
     let s = step c in
-    let some = s.some in
     let order = s.order in
     let a = c.loop-done.invariant.2 c.loop-done-test.true in
     let b = block_at c.args.blocks.now.items c.index-block.result.now a c.index-block.ensures in

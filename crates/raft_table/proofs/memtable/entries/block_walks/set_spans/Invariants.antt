@@ -1,4 +1,4 @@
-use Rattle.raft_table.proofs.Common.{◌≡◌, ℕ, ◌-◌, ◌≤◌, ◌<◌, List, ◌++◌, length, map, take, drop, EntryIndex, blocks_shown, entries_in_blocks, without_span, IsAt}
+use Rattle.raft_table.proofs.Facts.{◌≡◌, ℕ, ◌-◌, ◌≤◌, ◌<◌, List, ◌++◌, length, map, take, drop, EntryIndex, blocks_shown, entries_in_blocks, without_span, IsAt}
 use Rattle.raft_table.proofs.memtable.entries.block_walks.set_spans.Given as goal
 
 abbrev pub invariant-loop-done : goal.invariant-loop-done

@@ -1,4 +1,4 @@
-use Rattle.raft_table.proofs.Common.{◌≡◌, ◌+◌, ◌++◌, length, take, drop, deque_iter_rest, with_spans}
+use Rattle.raft_table.proofs.Facts.{◌≡◌, ◌+◌, ◌++◌, length, take, drop, deque_iter_rest, with_spans}
 use Rattle.raft_table.proofs.memtable.entries.block_walks.set_spans_of.Given as goal
 
 abbrev pub invariant-loop-span : goal.invariant-loop-span

@@ -1,5 +1,4 @@
-use Rattle.std.proofs.Common.{refl}
-use Rattle.raft_table.proofs.BlockQueues.{drop_front_blocks_shown}
+use Rattle.raft_table.proofs.Facts.{refl, drop_front_blocks_shown}
 use Rattle.raft_table.proofs.memtable.entries.compact_truncate.drop_front_blocks.Goals as goal
 
 pub returns : goal.returns

@@ -1,4 +1,4 @@
-use Rattle.raft_table.proofs.Common.{arith, Rewrite}
+use Rattle.raft_table.proofs.Facts.{arith, Rewrite}
 use Rattle.raft_table.proofs.memtable.entries.places.count_moved.Goals as goal
 
 pub delete-requires-in-Some : goal.delete-requires-in-Some

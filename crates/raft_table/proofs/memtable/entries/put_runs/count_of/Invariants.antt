@@ -1,4 +1,4 @@
-use Rattle.raft_table.proofs.Common.{◌≡◌, ◌≤◌, ◌<◌, ℕ, slice_index_or, Some, EntryIndex}
+use Rattle.raft_table.proofs.Facts.{◌≡◌, ◌≤◌, ◌<◌, ℕ, slice_index_or, Some, EntryIndex}
 use Rattle.raft_table.proofs.memtable.entries.put_runs.count_of.Given as goal
 
 abbrev pub invariant-loop-i : goal.invariant-loop-i

@@ -1,4 +1,4 @@
-use Rattle.raft_table.proofs.Common.{◌≡◌, ◌≤◌, length, take, vec_len, vec_capacity, spans_of}
+use Rattle.raft_table.proofs.Facts.{◌≡◌, ◌≤◌, length, take, vec_len, vec_capacity, spans_of}
 use Rattle.raft_table.proofs.memtable.entries.put_runs.spans_of.Given as goal
 
 abbrev pub invariant-loop-entry : goal.invariant-loop-entry

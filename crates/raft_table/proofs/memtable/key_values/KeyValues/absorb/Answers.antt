@@ -1,6 +1,4 @@
-use Rattle.raft_table.proofs.Common.{arith, sym, ap, ◌∙◌, pairs_over, with_pairs}
-use Rattle.raft_table.proofs.UnderLemmas.{whole_keys}
-use Rattle.raft_table.proofs.KeyValueReads.{pairs_over-empty, len-first, pair_count-first, one_more_put}
+use Rattle.raft_table.proofs.Facts.{arith, sym, ap, ◌∙◌, pairs_over, with_pairs, whole_keys, pairs_over-empty, len-first, pair_count-first, one_more_put}
 use Rattle.raft_table.proofs.memtable.key_values.KeyValues.absorb.Goals as goal
 
 pub loop-key-smaller : goal.loop-key-smaller

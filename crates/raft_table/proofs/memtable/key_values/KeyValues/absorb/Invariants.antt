@@ -1,6 +1,5 @@
-use Rattle.raft_table.proofs.Common.{◌≡◌, ◌+◌, ◌≤◌, LogQueue, pairs_over, pair_count}
+use Rattle.raft_table.proofs.Facts.{◌≡◌, ◌+◌, ◌≤◌, LogQueue, pairs_over, pair_count, IsFrontPut}
 use Rattle.std.specs.FinMap as finite
-use Rattle.raft_table.proofs.KeyValueReads.{IsFrontPut}
 use Rattle.raft_table.proofs.memtable.key_values.KeyValues.absorb.Given as goal
 
 abbrev pub invariant-loop-key : goal.invariant-loop-key

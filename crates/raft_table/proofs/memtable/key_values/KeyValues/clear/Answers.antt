@@ -1,5 +1,4 @@
-use Rattle.std.proofs.Common.{refl}
-use Rattle.raft_table.proofs.KeyValuesShown.{shown-none, sound-none}
+use Rattle.raft_table.proofs.Facts.{refl, shown-none, sound-none}
 use Rattle.raft_table.proofs.memtable.key_values.KeyValues.clear.Goals as goal
 
 pub invariant_of-self : goal.invariant_of-self

@@ -1,5 +1,4 @@
-use Rattle.std.proofs.Common.{arith}
-use Rattle.raft_table.proofs.KeyValuesShown.{rewritten-le-len, appended-shown}
+use Rattle.raft_table.proofs.Facts.{arith, rewritten-le-len, appended-shown}
 use Rattle.raft_table.proofs.memtable.key_values.KeyValues.count_in.Goals as goal
 
 pub overflow_sub-result : goal.overflow_sub-result

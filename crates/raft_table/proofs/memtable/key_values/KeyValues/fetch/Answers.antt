@@ -1,4 +1,4 @@
-use Rattle.raft_table.proofs.KeyValueReads.{fetched-shown}
+use Rattle.raft_table.proofs.Facts.{fetched-shown}
 use Rattle.raft_table.proofs.memtable.key_values.KeyValues.fetch.Goals as goal
 
 pub returns-else-is_err-clause-ok : goal.returns-else-is_err-clause-ok

@@ -1,4 +1,4 @@
-use Rattle.raft_table.proofs.KeyValuesShown.{none-shown}
+use Rattle.raft_table.proofs.Facts.{none-shown}
 use Rattle.raft_table.proofs.memtable.key_values.KeyValues.is_empty.Goals as goal
 
 pub returns : goal.returns

@@ -1,5 +1,4 @@
-use Rattle.raft_table.proofs.Common.{filter, map, sym, ap, ◌∙◌, is_same, least}
-use Rattle.raft_table.proofs.KeyValueReads.{files-shown}
+use Rattle.raft_table.proofs.Facts.{filter, map, sym, ap, ◌∙◌, is_same, least, files-shown}
 use Rattle.raft_table.proofs.memtable.key_values.KeyValues.least_seq_in.Goals as goal
 
 pub loop-pair-init : goal.loop-pair-init

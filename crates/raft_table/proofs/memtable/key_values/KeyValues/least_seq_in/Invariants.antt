@@ -1,4 +1,4 @@
-use Rattle.raft_table.proofs.Common.{◌≡◌, filter, map, is_same, seqs_in, lesser, least}
+use Rattle.raft_table.proofs.Facts.{◌≡◌, filter, map, is_same, seqs_in, lesser, least}
 use Rattle.raft_table.proofs.memtable.key_values.KeyValues.least_seq_in.Given as goal
 
 abbrev pub invariant-loop-pair : goal.invariant-loop-pair

@@ -1,5 +1,4 @@
-use Rattle.std.proofs.Common.{sym, ◌∙◌}
-use Rattle.raft_table.proofs.KeyValuesShown.{len-shown}
+use Rattle.raft_table.proofs.Facts.{sym, ◌∙◌, len-shown}
 use Rattle.raft_table.proofs.memtable.key_values.KeyValues.len.Goals as goal
 
 pub returns : goal.returns

@@ -1,5 +1,4 @@
-use Rattle.std.proofs.Common.{refl}
-use Rattle.raft_table.proofs.KeyValuesShown.{shown-none, sound-none}
+use Rattle.raft_table.proofs.Facts.{refl, shown-none, sound-none}
 use Rattle.raft_table.proofs.memtable.key_values.KeyValues.new.Goals as goal
 
 pub invariant_of-result : goal.invariant_of-result

@@ -1,8 +1,6 @@
-use Rattle.raft_table.proofs.Common.{◌≡◌, ◌+◌, ◌-◌, Some, None, arith, sym, subst, ◌∙◌, LogQueue, keys_shown, pair_count, file_weight, file_at, Rewrite}
+use Rattle.raft_table.proofs.Facts.{◌≡◌, ◌+◌, ◌-◌, Some, None, arith, sym, subst, ◌∙◌, LogQueue, keys_shown, pair_count, file_weight, file_at, Rewrite, shown-remove, sound-changed, file-shown, counted-shown, pair_count-remove}
 use Rattle.raft_table.specs.declared.memtable.key_values.KeyValues.TheInside.{Inside}
 use Rattle.std.specs.FinMap as finite
-use Rattle.raft_table.proofs.KeyValuesShown.{shown-remove, sound-changed, file-shown, counted-shown}
-use Rattle.raft_table.proofs.KeyValueCounts.{pair_count-remove}
 use Rattle.raft_table.proofs.memtable.key_values.KeyValues.remove.Goals as goal
 
 pub returns-in_err-removed-clause-after : goal.returns-in_err-removed-clause-after
@@ -36,11 +34,5 @@ invariant_of-self-2 c =
     sound-changed c.self.inside (after c) c.args.self.now _ (file_weight Rewrite (Some c.in_ok-removed.removed.file)) 0 c.self.invariant
     c.self.view_is c.remove.ensures.ordered (gone c) (omega (arith, fits)) (omega (arith, counts c Rewrite))
 
-pub returns-clause-after : goal.returns-clause-after
-returns-clause-after c = gone c
-
-pub returns-clause-removed : goal.returns-clause-removed
-returns-clause-removed c = removed c
-
-pub returns-clause-counts : goal.returns-clause-counts
-returns-clause-counts c = λ q. rw (gone c) (counts c q)
+pub returns : goal.returns
+returns c = record { after = gone c; removed = removed c; counts = λ q. rw (gone c) (counts c q) }

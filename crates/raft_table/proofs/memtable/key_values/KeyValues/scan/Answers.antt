@@ -1,5 +1,5 @@
-use Rattle.raft_table.proofs.Common.{filter, map, reverse, refl, sym, ap, subst, ◌∙◌, option_copied, option_map, CalledAtTwo, VisitsUntilFalse, is_between}
-use Rattle.raft_table.proofs.KeyValueReads.{Entry, bytes_of, scanned-backwards, scanned-shown}
+use Rattle.raft_table.proofs.Facts.{filter, map, reverse, refl, sym, ap, subst, ◌∙◌, option_copied, option_map, CalledAtTwo, VisitsUntilFalse, is_between, Entry, scanned-backwards, scanned-shown}
+use Rattle.raft_table.proofs.KeyValueReads.{bytes_of}
 use Rattle.raft_table.proofs.memtable.key_values.KeyValues.scan.Goals as goal
 
 pub returns-then-not-is_forward : goal.returns-then-not-is_forward

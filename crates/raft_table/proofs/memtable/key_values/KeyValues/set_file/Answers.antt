@@ -1,7 +1,6 @@
-use Rattle.raft_table.proofs.Common.{◌≡◌, ◌+◌, ◌-◌, Some, None, arith, sym, ap, subst, ◌∙◌, refl, LogQueue, keys_shown, pair_count, file_weight, file_at, with_moved, option_map, option_copied_mut, IsOrdered, lookup, Rewrite}
+use Rattle.raft_table.proofs.Facts.{◌≡◌, ◌+◌, ◌-◌, Some, None, arith, sym, ap, subst, ◌∙◌, refl, LogQueue, keys_shown, pair_count, file_weight, file_at, with_moved, option_map, option_copied_mut, IsOrdered, lookup, Rewrite, has, key_cmp}
+use Rattle.raft_table.proofs.Facts.{shown-set_file, shown-unmoved, sound-changed, rewritten-le-len, file-shown, counted-shown, pair_count-with_moved}
 use Rattle.raft_table.specs.declared.memtable.key_values.KeyValues.TheInside.{Inside}
-use Rattle.raft_table.proofs.KeyValuesShown.{has, key_cmp, shown-set_file, shown-unmoved, sound-changed, rewritten-le-len, file-shown, counted-shown}
-use Rattle.raft_table.proofs.KeyValueCounts.{pair_count-with_moved}
 use Rattle.raft_table.proofs.memtable.key_values.KeyValues.set_file.Goals as goal
 
 pub prove-unreachable-requires : goal.prove-unreachable-requires
@@ -49,11 +48,5 @@ invariant_of-self-2 c =
     sound-changed c.self.inside (after c) c.args.self.now _ (file_weight Rewrite (Some c.in_ok-pair.pair.now.file))
     (file_weight Rewrite (Some c.args.file)) c.self.invariant c.self.view_is (ordered c) (moved c) (omega (arith, fits)) (counts c Rewrite)
 
-pub returns-clause-after : goal.returns-clause-after
-returns-clause-after c = moved c
-
-pub returns-clause-moved : goal.returns-clause-moved
-returns-clause-moved c = left c
-
-pub returns-clause-counts : goal.returns-clause-counts
-returns-clause-counts c = λ q. rw (moved c) (counts c q)
+pub returns : goal.returns
+returns c = record { after = moved c; moved = left c; counts = λ q. rw (moved c) (counts c q) }

@@ -1,8 +1,7 @@
-use Rattle.raft_table.proofs.Common.{◌≡◌, ◌∷◌, ◌-◌, arith, ap, ◌∙◌, refl, rules, pair_count, keys_shown, stored_of, Rewrite}
+use Rattle.raft_table.proofs.Facts.{◌≡◌, ◌∷◌, ◌-◌, arith, ap, ◌∙◌, refl, rules, pair_count, keys_shown, stored_of, Rewrite, len-shown, sound-changed, first-shown, pair_count-first}
+use Rattle.raft_table.proofs.KeyValueReads.{none_left}
 use Rattle.raft_table.specs.declared.memtable.key_values.KeyValues.TheInside.{Inside}
 use Rattle.std.specs.FinMap as finite
-use Rattle.raft_table.proofs.KeyValuesShown.{len-shown, sound-changed}
-use Rattle.raft_table.proofs.KeyValueReads.{first-shown, none_left, pair_count-first}
 use Rattle.raft_table.proofs.memtable.key_values.KeyValues.take_first.Goals as goal
 
 pub returns-in_err-key-clause-none : goal.returns-in_err-key-clause-none

@@ -1,6 +1,4 @@
-use Rattle.raft_table.proofs.Common.{◌&&◌, ap, ◌∙◌, true, nat_cmp, is_le, slice_cmp}
-use Rattle.raft_table.proofs.KeyValueReads.{Entry}
-use Rattle.raft_table.proofs.ScanLemmas.{filter-same, below-range}
+use Rattle.raft_table.proofs.Facts.{◌&&◌, ap, ◌∙◌, true, nat_cmp, is_le, slice_cmp, Entry, filter-same, below-range}
 use Rattle.raft_table.proofs.memtable.key_values.scan.sought.Goals as goal
 
 pub returns-in-Some-Some : goal.returns-in-Some-Some

@@ -1,6 +1,5 @@
-use Rattle.raft_table.proofs.Common.{sym, ap, ◌∙◌, option_copied, CalledAtTwo, is_between}
-use Rattle.raft_table.proofs.KeyValueReads.{Entry, bytes_of}
-use Rattle.raft_table.proofs.ScanLemmas.{visit-stops, chosen-yes}
+use Rattle.raft_table.proofs.Facts.{sym, ap, ◌∙◌, option_copied, CalledAtTwo, is_between, Entry, visit-stops, chosen-yes}
+use Rattle.raft_table.proofs.KeyValueReads.{bytes_of}
 use Rattle.raft_table.proofs.memtable.key_values.scan.visit.Goals as goal
 
 pub returns-then-not-f : goal.returns-then-not-f

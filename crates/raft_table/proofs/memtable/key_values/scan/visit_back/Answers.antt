@@ -1,8 +1,7 @@
-use Rattle.raft_table.proofs.Common.{Bool, of_calls, sym, ap, ◌∙◌, option_copied, CalledAtTwo, is_between}
-use Rattle.raft_table.proofs.KeyValueReads.{Entry, bytes_of}
-use Rattle.raft_table.proofs.ScanLemmas.{visit-stops, visit-goes, reverse-chosen-yes, reverse-chosen-no}
-use Rattle.raft_table.proofs.memtable.key_values.scan.visit_back.Goals as goal
+use Rattle.raft_table.proofs.Facts.{Bool, of_calls, sym, ap, ◌∙◌, option_copied, CalledAtTwo, is_between, Entry, visit-stops, visit-goes, reverse-chosen-yes, reverse-chosen-no}
+use Rattle.raft_table.proofs.KeyValueReads.{bytes_of}
 use Rattle.raft_table.proofs.memtable.key_values.scan.visit_back.Goals.{else-is_between-via-then-is_between+else-not-f, else-is_between-via-else-is_between}
+use Rattle.raft_table.proofs.memtable.key_values.scan.visit_back.Goals as goal
 
 pub returns-then-not-f : goal.returns-then-not-f
 returns-then-not-f g c =

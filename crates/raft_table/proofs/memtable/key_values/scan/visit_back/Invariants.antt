@@ -1,7 +1,6 @@
-use Rattle.raft_table.proofs.Common.{filter, length, map, reverse, CalledAtTwo, option_copied, is_between, VisitsUntilFalse}
+use Rattle.raft_table.proofs.Facts.{filter, length, map, reverse, CalledAtTwo, option_copied, is_between, VisitsUntilFalse}
 use Rattle.raft_table.proofs.memtable.key_values.scan.visit_back.Given as goal
 
--- what visits the pairs that are left has visited all
 abbrev pub invariant-loop-key : goal.invariant-loop-key
 invariant-loop-key g l =
     goal.F-IsAlwaysCallable g l.f

@@ -1,5 +1,4 @@
-use Rattle.raft_table.proofs.Common.{ap, ◌∙◌, Mark, joined_at}
-use Rattle.raft_table.proofs.StepMarkLemmas.{run_added}
+use Rattle.raft_table.proofs.Facts.{ap, ◌∙◌, Mark, joined_at, run_added}
 use Rattle.raft_table.proofs.memtable.mark.Mark.add_run.Goals as goal
 
 pub returns : goal.returns

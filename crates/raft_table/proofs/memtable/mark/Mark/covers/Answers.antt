@@ -1,6 +1,4 @@
-use Rattle.raft_table.proofs.Common.{◌≡◌, ℕ, ◌<◌, true, false, Some, sym, ap, refl, ◌∙◌, arith, MatchBool, nat_tests, LogQueue, Mark, fresh, joined_at}
-use Rattle.std.proofs.Common.{nat_lt}
-use Rattle.raft_table.proofs.StepMarkLemmas.{run_covered}
+use Rattle.raft_table.proofs.Facts.{◌≡◌, ℕ, ◌<◌, true, false, Some, sym, ap, refl, ◌∙◌, arith, MatchBool, nat_tests, LogQueue, Mark, fresh, joined_at, nat_lt, run_covered}
 use Rattle.raft_table.proofs.memtable.mark.Mark.covers.Goals as goal
 
 some : (n : ℕ) → nat_lt 0 n ≡ true → 0 < n

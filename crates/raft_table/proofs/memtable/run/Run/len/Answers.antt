@@ -1,5 +1,4 @@
-use Rattle.std.proofs.Common.{sym}
-use Rattle.raft_table.proofs.BlockLemmas.{length-spread}
+use Rattle.raft_table.proofs.Facts.{sym, length-spread}
 use Rattle.raft_table.proofs.memtable.run.Run.len.Goals as goal
 
 pub returns-in-Block : goal.returns-in-Block

@@ -3,6 +3,7 @@ pub mod AccessorCalls
 pub mod AccessorCode
 pub mod AccessorView
 pub mod AppendChecks
+pub mod Common
 pub mod Extents
 pub mod ItemWrites
 pub mod Merges

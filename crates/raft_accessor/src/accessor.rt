@@ -1,16 +1,10 @@
 //! The tables of all regions.
 
 ghost use Rattle.std.specs.Prelude.{◌≡◌, ◌≢◌, ◌≤◌, ◌<◌, ◌^◌, ◌+◌, ◌⊎◌, ◌↔◌, List, [], ◌∷◌, ◌++◌, map, replicate, IsPermutation, IsTrue, OnOk, OnErr, IfOk, IfErr, IfSome, Some, None, option_map, is_some, length, if◌then◌else◌};
+ghost use Rattle.raft_accessor.specs.Common.{FoldsTo, LogQueue, total, after_change, AreCountsAfter, IsAllowed, IsAnswer, IsChangeFault, Table, with_table_added, with_table_deleted, live_of, slot_of, table_in, live_in_all, AreCountsOf};
+ghost use Rattle.raft_accessor.specs.Common.{IsTableChanged, IsTableMade, lent_as, with_newer, with_appended, AreTablesMerged, AreTablesLeft, AreOthersLeft, AreMerged, IsMergedIn, IsNewerFault, IsAppendedFault, IsMergeRefusal, Collects};
+ghost use Rattle.raft_accessor.specs.Common.{Makes};
 ghost use Rattle.std.specs.FinMap as finite;
-ghost use Rattle.std.specs.List.{FoldsTo};
-ghost use Rattle.raft_base.specs.declared.pipe_log.LogQueue.{LogQueue};
-ghost use Rattle.raft_history.specs.Records.{total};
-ghost use Rattle.raft_table.specs.Change.{after_change, AreCountsAfter, IsAllowed, IsAnswer, IsChangeFault};
-ghost use Rattle.raft_table.specs.Table.{Table, with_table_added, with_table_deleted, live_of};
-ghost use Rattle.raft_accessor.specs.Accessor.{slot_of, table_in, live_in_all, AreCountsOf};
-ghost use Rattle.raft_accessor.specs.AccessorCalls.{IsTableChanged, IsTableMade, lent_as};
-ghost use Rattle.raft_accessor.specs.Merges.{with_newer, with_appended, AreTablesMerged, AreTablesLeft, AreOthersLeft, AreMerged, IsMergedIn, IsNewerFault, IsAppendedFault, IsMergeRefusal};
-ghost use Rattle.raft_accessor.specs.Walks.{Collects, Makes};
 
 mod cleaned;
 mod join;

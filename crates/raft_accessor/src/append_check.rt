@@ -1,13 +1,7 @@
 //! A test of new items: whether the tables would accept them.
 
 ghost use Rattle.std.specs.Prelude.{◌≡◌, ℕ, List, [], IfOk, IfErr, OnOk, option_map};
-ghost use Rattle.raft_base.specs.declared.entry_index.EntryIndex.{EntryIndex};
-ghost use Rattle.raft_records.specs.Item.{item_of, pair_of};
-ghost use Rattle.raft_table.specs.Steps.{table_of};
-ghost use Rattle.raft_table.specs.TableEntries.{below, from};
-ghost use Rattle.raft_history.specs.RegionSteps.{Tables};
-ghost use Rattle.raft_accessor.specs.Accessor.{table_in};
-ghost use Rattle.raft_accessor.specs.Extents.{IsExtentOf, commanded, TakesRun, IsRunCheckFault, AreBefore, TakesNext, IsNextFault, IsPairAccepted, IsPairCheckFault};
+ghost use Rattle.raft_accessor.specs.Common.{EntryIndex, item_of, pair_of, table_of, below, from, Tables, table_in, IsExtentOf, commanded, TakesRun, IsRunCheckFault, AreBefore, TakesNext, IsNextFault, IsPairAccepted, IsPairCheckFault};
 
 use raft_base::{EntryIndex, Error, Result, is_consecutive};
 use raft_records::{Command, KeyValue, LogItem, LogItemContent, OpType, is_reserved};

@@ -1,7 +1,7 @@
 //! A table as a slot keeps it.
 
 ghost use Rattle.std.specs.Prelude.{◌≡◌, IfOk};
-ghost use Rattle.raft_table.specs.Table.{empty_table};
+ghost use Rattle.raft_accessor.specs.Common.{empty_table};
 
 use raft_base::AllocResult;
 use raft_table::MemTable;

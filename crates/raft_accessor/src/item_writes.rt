@@ -1,14 +1,8 @@
 //! Log items written to the tables of their regions.
 
 ghost use Rattle.std.specs.Prelude.{◌≢◌, ℕ, List, map, Option, OnOk, IfErr};
-ghost use Rattle.raft_records.specs.Item.{item_of, content_of, entries_item, command_item, pair, pair_of};
-ghost use Rattle.raft_table.specs.Counts.{Counts};
-ghost use Rattle.raft_table.specs.Table.{Table, IsCounted};
-ghost use Rattle.raft_accessor.specs.Accessor.{table_in};
-ghost use Rattle.raft_accessor.specs.AppendChecks.{AreAcceptedOncePlaced, AreRefusedOncePlaced, IsAppendCheckFault};
-ghost use Rattle.raft_accessor.specs.ItemWrites.{IsItemWritten, IsReplayed, pair_change};
-ghost use Rattle.raft_accessor.specs.Writes.{Appending, Replaying, Rewriting, IsWriteFault};
-ghost use Rattle.raft_accessor.specs.WritingShown.{writing_shown};
+ghost use Rattle.raft_accessor.specs.Common.{item_of, content_of, entries_item, command_item, pair, pair_of, Counts, Table, IsCounted, table_in, AreAcceptedOncePlaced, AreRefusedOncePlaced, IsAppendCheckFault, IsItemWritten, IsReplayed};
+ghost use Rattle.raft_accessor.specs.Common.{pair_change, Appending, Replaying, Rewriting, IsWriteFault, writing_shown};
 
 use crate::append_check::AppendCheck;
 use crate::region_tables::RegionTables;

@@ -1,22 +1,9 @@
 //! The tables of some regions.
 
 ghost use Rattle.std.specs.Prelude.{◌≡◌, ◌≢◌, ◌≤◌, ◌+◌, ◌↔◌, ℕ, nat_eq, List, map, length, IsPermutation, IsTrue, OnOk, IfOk, IfErr, IfSome, Some, None, option_map};
+ghost use Rattle.raft_accessor.specs.Common.{IsDistinct, FoldsTo, keys_of, lookup, LogQueue, Append, Rewrite, total, Tables, after_change, AreCountsAfter, IsAllowed, IsAnswer, IsChangeFault, run_shown, Table, IsCounted, IsRecounted};
+ghost use Rattle.raft_accessor.specs.Common.{IsRunIn, table_in, live_in_all, with_neighbor, IsFaultBeside, MayAlter, IsAltered, IsTableMerged, IsRunTried, MayChange, IsUpdated, BecomesOutcome, Collects, KeepsId, Makes};
 ghost use Rattle.std.specs.FinMap as finite;
-ghost use Rattle.std.specs.List.{IsDistinct, FoldsTo};
-ghost use Rattle.std.specs.Map.{keys_of, lookup};
-ghost use Rattle.raft_base.specs.declared.pipe_log.LogQueue.{LogQueue};
-ghost use Rattle.raft_base.specs.declared.pipe_log.LogQueue.TheVariants.{Append, Rewrite};
-ghost use Rattle.raft_history.specs.Records.{total};
-ghost use Rattle.raft_history.specs.RegionSteps.{Tables};
-ghost use Rattle.raft_table.specs.Change.{after_change, AreCountsAfter, IsAllowed, IsAnswer, IsChangeFault};
-ghost use Rattle.raft_table.specs.RunShown.{run_shown};
-ghost use Rattle.raft_table.specs.Table.{Table, IsCounted, IsRecounted};
-ghost use Rattle.raft_table.specs.TableEntries.{IsRunIn};
-ghost use Rattle.raft_accessor.specs.Accessor.{table_in, live_in_all};
-ghost use Rattle.raft_accessor.specs.Merges.{with_neighbor, IsFaultBeside, MayAlter, IsAltered, IsTableMerged};
-ghost use Rattle.raft_accessor.specs.TableSteps.{IsRunTried};
-ghost use Rattle.raft_accessor.specs.Updates.{MayChange, IsUpdated, BecomesOutcome};
-ghost use Rattle.raft_accessor.specs.Walks.{Collects, KeepsId, Makes};
 
 mod counts;
 mod insert_remove;

@@ -1,4 +1,5 @@
 -- what steps, effects and histories are: what the promise of recovery rests on
+pub mod Common
 pub mod RegionSteps
 pub mod RegionStepShown
 pub mod Batches

@@ -1,17 +1,9 @@
 //! Laws of contexts, which hold what was read of a history.
 
 ghost use Rattle.std.specs.Prelude.{◌≡◌, ◌⊎◌, ◌↔◌, ◌+◌, ◌≤◌, ℕ, List, [], ◌∷◌, ◌++◌, Some, None, true, false};
-ghost use Rattle.std.specs.List.{AllByRecursion};
-ghost use Rattle.raft_base.specs.declared.pipe_log.LogQueue.{LogQueue};
-ghost use Rattle.raft_base.specs.declared.pipe_log.LogQueue.TheVariants.{Rewrite};
-ghost use Rattle.raft_history.specs.RegionSteps.{RegionStep, Tables};
-ghost use Rattle.raft_history.specs.Batches.{Event, batches};
-ghost use Rattle.raft_history.specs.Histories.{Sound, Apart, AreInFile, HaveStatus, FilesFrom, IsStepOfQueue, IsOneReading};
-ghost use Rattle.raft_history.specs.WaitingGroups.{WaitingGroups, groups_in, joined_groups, whole_groups};
-ghost use Rattle.raft_history.specs.Records.{waiting_records, records_in_wholes};
-ghost use Rattle.raft_history.specs.MarkedRegions.{MarkedRegions, region_steps_of_wholes};
-ghost use Rattle.raft_history.specs.Contexts.{Context, StandsFor, IsExactFor, Suits, files_of, follows, new_context, merged_context, taken_in, merged_with, AreMerged, AreRegionsRefused};
-ghost use Rattle.raft_history.specs.Kept.{kept_of, kept_by, IsAtMost};
+ghost use Rattle.raft_history.specs.Common.{AllByRecursion, LogQueue, Rewrite, RegionStep, Tables, Event, batches, Sound, Apart, AreInFile, HaveStatus, FilesFrom, IsStepOfQueue, IsOneReading, WaitingGroups, groups_in, joined_groups};
+ghost use Rattle.raft_history.specs.Common.{whole_groups, waiting_records, records_in_wholes, MarkedRegions, region_steps_of_wholes, Context, StandsFor, IsExactFor, Suits, files_of, follows, new_context, merged_context, taken_in};
+ghost use Rattle.raft_history.specs.Common.{merged_with, AreMerged, AreRegionsRefused, kept_of, kept_by, IsAtMost};
 
 /// States that a new context stands exactly for the empty history.
 pub fn new_contexts_stand_exactly()

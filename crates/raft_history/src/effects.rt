@@ -1,13 +1,8 @@
 //! Laws of the effects of a history.
 
 ghost use Rattle.std.specs.Prelude.{◌≡◌, ◌≢◌, ◌↔◌, ◌||◌, ℕ, List, [], ◌∷◌, ◌++◌, Some, None, true, false, flat_map};
-ghost use Rattle.std.specs.List.{AllByRecursion, list_any};
-ghost use Rattle.raft_history.specs.RegionSteps.{names, steps_on};
-ghost use Rattle.raft_history.specs.WaitingGroup.{WholeGroup, whole_group, group_in};
-ghost use Rattle.raft_history.specs.Batches.{BatchSteps};
-ghost use Rattle.raft_history.specs.Effects.{Effect, EachApart, effects, steps_of, is_named, EndsNoEffect, without_group};
-ghost use Rattle.raft_history.specs.Stretches.{AreEffects};
-ghost use Rattle.raft_history.specs.WaitingGroups.{groups_in, joined_groups, whole_groups, groups_after, steps_by_batch, names_by_batch, known_of, steps_of_wholes};
+ghost use Rattle.raft_history.specs.Common.{AllByRecursion, list_any, names, steps_on, WholeGroup, whole_group, group_in, BatchSteps, Effect, EachApart, effects, steps_of, is_named, EndsNoEffect, without_group, AreEffects, groups_in};
+ghost use Rattle.raft_history.specs.Common.{joined_groups, whole_groups, groups_after, steps_by_batch, names_by_batch, known_of, steps_of_wholes};
 
 /// States that the effects of a history are the batches without a group marker and the stretches of
 /// each group's group markers, in the order of their last batches.

@@ -1,22 +1,9 @@
 //! Laws of histories.
 
 ghost use Rattle.std.specs.Prelude.{◌≡◌, ℕ, List, ◌++◌, Some, None, flat_map};
+ghost use Rattle.raft_history.specs.Common.{FileId, LogQueue, Append, Rewrite, Item, AreDecodedIn, entry_at, last_entry, last_pair, after, table_of, RegionStep, Tables, steps_on, steps_of_items, tables_after, Event, IsReadingOfBoth};
+ghost use Rattle.raft_history.specs.Common.{PlacedItemsAreInFile, ReadingGoesOn, SoundHistoryGoesOn, AreLeastFiles, HasNoneBelow, AreRewrittenFrom, HaveSameRecords, IsSmall, Sound, IsSoundIn, Apart, AreInFile, IsOfQueue, IsOneReading};
 ghost use Rattle.std.specs.FinMap as finite;
-ghost use Rattle.raft_base.specs.declared.pipe_log.FileId.{FileId};
-ghost use Rattle.raft_base.specs.declared.pipe_log.LogQueue.{LogQueue};
-ghost use Rattle.raft_base.specs.declared.pipe_log.LogQueue.TheVariants.{Append, Rewrite};
-ghost use Rattle.raft_records.specs.Item.{Item};
-ghost use Rattle.raft_records.specs.DecodedIn.{AreDecodedIn};
-ghost use Rattle.raft_table.specs.TableEntries.{entry_at};
-ghost use Rattle.raft_table.specs.LastWord.{last_entry, last_pair};
-ghost use Rattle.raft_table.specs.Steps.{after, table_of};
-ghost use Rattle.raft_history.specs.RegionSteps.{RegionStep, Tables, steps_on, steps_of_items, tables_after};
-ghost use Rattle.raft_history.specs.Batches.{Event};
-ghost use Rattle.raft_history.specs.BothQueues.{IsReadingOfBoth};
-ghost use Rattle.raft_history.specs.GoingOn.{PlacedItemsAreInFile, ReadingGoesOn, SoundHistoryGoesOn};
-ghost use Rattle.raft_history.specs.LeastFiles.{AreLeastFiles, HasNoneBelow};
-ghost use Rattle.raft_history.specs.RewrittenRecords.{AreRewrittenFrom, HaveSameRecords};
-ghost use Rattle.raft_history.specs.Histories.{IsSmall, Sound, IsSoundIn, Apart, AreInFile, IsOfQueue, IsOneReading};
 
 /// States that if two histories, one after the other, are small, sound, apart or of one queue, each of them is so
 /// too.

@@ -1,11 +1,7 @@
 //! What a batch hands to tables.
 
 ghost use Rattle.std.specs.Prelude.{List};
-ghost use Rattle.raft_base.specs.declared.pipe_log.FileId.{FileId};
-ghost use Rattle.raft_base.specs.declared.entry_index.EntryIndex.{EntryIndex};
-ghost use Rattle.raft_records.specs.DecodedIn.{IsDecodedIn};
-ghost use Rattle.raft_records.specs.Item.{entries};
-ghost use Rattle.raft_table.specs.TableEntries.{IsRunIn};
+ghost use Rattle.raft_history.specs.Common.{FileId, EntryIndex, IsDecodedIn, entries, IsRunIn};
 
 /// States that the entries of an item that was read from a file are a run of the file's queue, as
 /// tables ask for: nobody tests it again.

@@ -1,10 +1,7 @@
 //! Steps on regions, and the step of an item.
 
 ghost use Rattle.std.specs.Prelude.{◌≡◌, option_map};
-ghost use Rattle.raft_records.specs.Item.{pair, item_of, content_of, pair_of};
-ghost use Rattle.raft_table.specs.StepShown.{step_shown};
-ghost use Rattle.raft_history.specs.RegionSteps.{content_step, command_step};
-ghost use Rattle.raft_history.specs.RegionStepShown.{region_step_shown, item_step};
+ghost use Rattle.raft_history.specs.Common.{pair, item_of, content_of, pair_of, step_shown, content_step, command_step, region_step_shown, item_step};
 
 use raft_records::{Command, KeyValue, LogItem, LogItemContent, OpType, is_reserved};
 use raft_table::Step;

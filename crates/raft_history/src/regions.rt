@@ -1,22 +1,9 @@
 //! Laws of the region marks and tables of all regions.
 
 ghost use Rattle.std.specs.Prelude.{◌≡◌, ℕ, List, Option, Some, if◌then◌else◌};
+ghost use Rattle.raft_history.specs.Common.{AllByRecursion, FileId, LogQueue, Append, Item, overlaid_table, Table, Event, BatchSteps, batches, AreExact, steps_of, is_named, AreInFile, IsStepOfQueue, StandForSteps, AreJoined};
+ghost use Rattle.raft_history.specs.Common.{overlaid_region, MarkedRegions, no_regions, regions_after, region_steps_of_whole, RegionStep, steps_of_items, WholeGroup};
 ghost use Rattle.std.specs.FinMap as finite;
-ghost use Rattle.std.specs.List.{AllByRecursion};
-ghost use Rattle.raft_base.specs.declared.pipe_log.FileId.{FileId};
-ghost use Rattle.raft_base.specs.declared.pipe_log.LogQueue.{LogQueue};
-ghost use Rattle.raft_base.specs.declared.pipe_log.LogQueue.TheVariants.{Append};
-ghost use Rattle.raft_records.specs.Item.{Item};
-ghost use Rattle.raft_table.specs.Overlay.{overlaid_table};
-ghost use Rattle.raft_table.specs.Table.{Table};
-ghost use Rattle.raft_history.specs.Batches.{Event, BatchSteps, batches};
-ghost use Rattle.raft_history.specs.Contexts.{AreExact};
-ghost use Rattle.raft_history.specs.Effects.{steps_of, is_named};
-ghost use Rattle.raft_history.specs.Histories.{AreInFile, IsStepOfQueue};
-ghost use Rattle.raft_history.specs.Joins.{StandForSteps, AreJoined, overlaid_region};
-ghost use Rattle.raft_history.specs.MarkedRegions.{MarkedRegions, no_regions, regions_after, region_steps_of_whole};
-ghost use Rattle.raft_history.specs.RegionSteps.{RegionStep, steps_of_items};
-ghost use Rattle.raft_history.specs.WaitingGroup.{WholeGroup};
 
 /// States that further steps and joins keep what region marks and tables stand for.
 pub fn regions_stand_for_steps()

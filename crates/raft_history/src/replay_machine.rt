@@ -1,10 +1,7 @@
 //! What batches of log items are replayed into.
 
 ghost use Rattle.std.specs.Prelude.{◌≢◌, List, [], ◌∷◌, ◌++◌, OnOk, IfErr};
-ghost use Rattle.raft_base.specs.declared.errors.Error.{Error};
-ghost use Rattle.raft_history.specs.Batches.{Event};
-ghost use Rattle.raft_history.specs.Histories.{IsSmall, Sound, Apart, IsOfQueue};
-ghost use Rattle.raft_history.specs.ReplayMachine.{event};
+ghost use Rattle.raft_history.specs.Common.{Error, Event, IsSmall, Sound, Apart, IsOfQueue, event};
 
 use raft_base::{FileId, LogQueue, Result};
 use raft_records::{LogItemBatch, ReadBatch};

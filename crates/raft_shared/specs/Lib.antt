@@ -1,3 +1,4 @@
+pub mod Common
 pub mod SharedCalls
 pub mod Slot
 pub mod SlotCode

@@ -1,22 +1,10 @@
 //! The tables of all regions, shared by threads.
 
 ghost use Rattle.std.specs.Prelude.{◌≡◌, ◌≢◌, ◌⊎◌, ◌≤◌, ◌<◌, ℕ, List, [], ◌++◌, length, map, Some, None, IsTrue, OnOk, IfOk, IfErr, IfSome};
+ghost use Rattle.raft_shared.specs.Common.{AllByRecursion, FoldsTo, FnOnceReturnsAt, Drains, Yields, IsFinite, write_guard_value, LogItem, item_of, is_open, TableChange, Table, slot_of, table_in, AreCountsOf, IsSlotTable, HaveShares};
+ghost use Rattle.raft_shared.specs.Common.{AreSlotTablesAdded, KeepsId, Makes, IsChangeAnswer, IsChangeRefusal, IsLockFault, IsNumberOf, IsRefusalOf, HasCleans, MayBeWritten, IsSharedItemFault, IsLastRefused, Appending, Rewriting};
+ghost use Rattle.raft_shared.specs.Common.{writing_shown};
 ghost use Rattle.std.specs.FinMap as finite;
-ghost use Rattle.std.specs.List.{AllByRecursion, FoldsTo};
-ghost use Rattle.std.specs.Fn.{FnOnceReturnsAt};
-ghost use Rattle.std.specs.Iterator.{Drains, Yields, IsFinite};
-ghost use Rattle.std.specs.Sync.RwLock.{write_guard_value};
-ghost use Rattle.raft_records.specs.declared.log_item.LogItem.{LogItem};
-ghost use Rattle.raft_records.specs.Item.{item_of};
-ghost use Rattle.raft_records.specs.LogBatch.{is_open};
-ghost use Rattle.raft_table.specs.declared.memtable.change.TableChange.{TableChange};
-ghost use Rattle.raft_table.specs.Table.{Table};
-ghost use Rattle.raft_accessor.specs.Accessor.{slot_of, table_in, AreCountsOf};
-ghost use Rattle.raft_shared.specs.Slot.{IsSlotTable, HaveShares, AreSlotTablesAdded};
-ghost use Rattle.raft_accessor.specs.Walks.{KeepsId, Makes};
-ghost use Rattle.raft_shared.specs.SharedCalls.{IsChangeAnswer, IsChangeRefusal, IsLockFault, IsNumberOf, IsRefusalOf, HasCleans, MayBeWritten, IsSharedItemFault, IsLastRefused};
-ghost use Rattle.raft_accessor.specs.Writes.{Appending, Rewriting};
-ghost use Rattle.raft_accessor.specs.WritingShown.{writing_shown};
 
 use crate::slot::Slot;
 use raft_accessor::{MemTableAccessor, Writing, slot_of};

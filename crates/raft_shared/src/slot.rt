@@ -1,21 +1,10 @@
 //! The tables of the regions of one slot.
 
 ghost use Rattle.std.specs.Prelude.{◌≡◌, ◌≢◌, ◌≤◌, ◌<◌, ◌^◌, ◌+◌, ◌⊎◌, ◌↔◌, List, [], ◌∷◌, ◌++◌, map, IsPermutation, IsTrue, OnOk, OnErr, IfOk, IfErr, IfSome, Some, option_map, if◌then◌else◌};
+ghost use Rattle.raft_shared.specs.Common.{FoldsTo, LogQueue, item_of, command_item, is_open, Clean, after_change, AreCountsAfter, IsAllowed, IsAnswer, IsChangeFault, Table, with_table_added, with_table_deleted, live_of, slot_of, table_in};
+ghost use Rattle.raft_shared.specs.Common.{live_in_all, IsTableChanged, IsWritten, AreAcceptedOncePlaced, AreRefusedOncePlaced, IsAppendCheckFault, IsSlotTable, HoldsOwnTables, AreTablesTaken, KeepsId, Makes, Appending, Rewriting};
+ghost use Rattle.raft_shared.specs.Common.{writing_shown};
 ghost use Rattle.std.specs.FinMap as finite;
-ghost use Rattle.std.specs.List.{FoldsTo};
-ghost use Rattle.raft_base.specs.declared.pipe_log.LogQueue.{LogQueue};
-ghost use Rattle.raft_records.specs.Item.{item_of, command_item};
-ghost use Rattle.raft_records.specs.LogBatch.{is_open};
-ghost use Rattle.raft_records.specs.declared.command.Command.TheVariants.{Clean};
-ghost use Rattle.raft_table.specs.Change.{after_change, AreCountsAfter, IsAllowed, IsAnswer, IsChangeFault};
-ghost use Rattle.raft_table.specs.Table.{Table, with_table_added, with_table_deleted, live_of};
-ghost use Rattle.raft_accessor.specs.Accessor.{slot_of, table_in, live_in_all};
-ghost use Rattle.raft_accessor.specs.AccessorCalls.{IsTableChanged, IsWritten};
-ghost use Rattle.raft_accessor.specs.AppendChecks.{AreAcceptedOncePlaced, AreRefusedOncePlaced, IsAppendCheckFault};
-ghost use Rattle.raft_shared.specs.Slot.{IsSlotTable, HoldsOwnTables, AreTablesTaken};
-ghost use Rattle.raft_accessor.specs.Walks.{KeepsId, Makes};
-ghost use Rattle.raft_accessor.specs.Writes.{Appending, Rewriting};
-ghost use Rattle.raft_accessor.specs.WritingShown.{writing_shown};
 
 use raft_accessor::accessor::clean_logs;
 use raft_accessor::{MemTableAccessor, RegionTables, Writing};

@@ -1,9 +1,7 @@
 //! The list of the regions that were cleaned.
 
 ghost use Rattle.std.specs.Prelude.{◌≡◌, [], ◌∷◌, ◌++◌, map, OnOk, OnErr, IfOk, IfErr};
-ghost use Rattle.raft_records.specs.Item.{command_item};
-ghost use Rattle.raft_records.specs.LogBatch.{empty_batch};
-ghost use Rattle.raft_records.specs.declared.command.Command.TheVariants.{Clean};
+ghost use Rattle.raft_accessor.specs.Common.{command_item, empty_batch, Clean};
 
 use crate::accessor::MemTableAccessor;
 use raft_base::{Error, Result};

@@ -1,10 +1,7 @@
 //! Tables of all regions joined with those of newer neighbors, each under its region mark.
 
 ghost use Rattle.std.specs.Prelude.{◌≡◌, ◌<◌, ◌++◌, IfErr, IfSome, OnErr, OnOk};
-ghost use Rattle.raft_base.specs.declared.pipe_log.LogQueue.TheVariants.{Append, Rewrite};
-ghost use Rattle.raft_table.specs.Queues.{other};
-ghost use Rattle.raft_accessor.specs.Accessor.{live_in, live_in_all, AreCountsOf};
-ghost use Rattle.raft_accessor.specs.TableJoins.{IsTableJoined};
+ghost use Rattle.raft_accessor.specs.Common.{Append, Rewrite, other, live_in, live_in_all, AreCountsOf, IsTableJoined};
 
 use crate::accessor::{MemTableAccessor, slot_of};
 use crate::boxed_table::BoxedTable;

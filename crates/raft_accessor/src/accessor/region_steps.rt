@@ -1,21 +1,8 @@
 //! Steps on one region's table, which is made where there is none; runs and files were tested before.
 
 ghost use Rattle.std.specs.Prelude.{◌≡◌, ◌≢◌, [], true, Ok, Err, OnSome, IfSome, ok_or, if◌then◌else◌};
-ghost use Rattle.raft_base.specs.declared.errors.Error.TheVariants.{Memory};
-ghost use Rattle.raft_base.specs.declared.pipe_log.LogQueue.{LogQueue};
-ghost use Rattle.raft_base.specs.declared.pipe_log.LogQueue.TheVariants.{Rewrite};
-ghost use Rattle.raft_base.specs.Runs.{end_of, entries_of_block};
-ghost use Rattle.raft_table.specs.Queues.{other};
-ghost use Rattle.raft_table.specs.Start.{counts_with_run};
-ghost use Rattle.raft_table.specs.StepShown.{step_shown};
-ghost use Rattle.raft_table.specs.Steps.{Put};
-ghost use Rattle.raft_table.specs.Table.{after_replay, live_of};
-ghost use Rattle.raft_table.specs.TableEntries.{IsRunIn, start_of};
-ghost use Rattle.raft_table.specs.TakenSteps.{IsStepOfQueue};
-ghost use Rattle.raft_accessor.specs.Accessor.{table_in, live_in, AreCountsOf};
-ghost use Rattle.raft_accessor.specs.AccessorCalls.{IsTableChanged};
-ghost use Rattle.raft_accessor.specs.TableOverlays.{IsTableOverlaid};
-ghost use Rattle.raft_accessor.specs.TableSteps.{IsStepTaken};
+ghost use Rattle.raft_accessor.specs.Common.{Memory, LogQueue, Rewrite, end_of, entries_of_block, other, counts_with_run, step_shown, Put, after_replay, live_of, IsRunIn, start_of, IsStepOfQueue, table_in, live_in, AreCountsOf};
+ghost use Rattle.raft_accessor.specs.Common.{IsTableChanged, IsTableOverlaid, IsStepTaken};
 
 use crate::accessor::{MemTableAccessor, slot_of};
 use crate::boxed_table::BoxedTable;

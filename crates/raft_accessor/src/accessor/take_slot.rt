@@ -1,9 +1,8 @@
 //! The tables of one slot, or of each, taken out of those of all regions.
 
 ghost use Rattle.std.specs.Prelude.{◌≡◌, ◌<◌, ◌^◌, length};
+ghost use Rattle.raft_accessor.specs.Common.{IsSlotTaken, counts_of, with_all_deleted, together, AreSlots};
 ghost use Rattle.std.specs.FinMap as finite;
-ghost use Rattle.raft_accessor.specs.SlotTables.{IsSlotTaken, counts_of, with_all_deleted};
-ghost use Rattle.raft_accessor.specs.Slots.{together, AreSlots};
 
 use crate::accessor::MemTableAccessor;
 use crate::region_tables::RegionTables;

@@ -1,17 +1,8 @@
 //! Items written to the tables of their regions.
 
 ghost use Rattle.std.specs.Prelude.{◌≡◌, ◌≢◌, ◌⊎◌, List, ◌++◌, map, OnOk, IfErr};
-ghost use Rattle.std.specs.Iterator.{Drains, Yields, IsFinite};
-ghost use Rattle.raft_base.specs.declared.pipe_log.LogQueue.{LogQueue};
-ghost use Rattle.raft_base.specs.declared.pipe_log.LogQueue.TheVariants.{Append, Rewrite};
-ghost use Rattle.raft_records.specs.declared.log_item.LogItem.{LogItem};
-ghost use Rattle.raft_base.specs.declared.errors.Error.{Error};
-ghost use Rattle.raft_records.specs.Item.{Item, item_of};
-ghost use Rattle.raft_accessor.specs.Accessor.{Accessor};
-ghost use Rattle.raft_accessor.specs.AccessorCalls.{IsWritten};
-ghost use Rattle.raft_accessor.specs.AppendChecks.{AreAccepted, AreAcceptedOncePlaced, AreRefusedOncePlaced, IsAppendCheckFault};
-ghost use Rattle.raft_accessor.specs.Writes.{Appending, Replaying, Rewriting, AreWritten, AreItemsRefused};
-ghost use Rattle.raft_accessor.specs.WritingShown.{writing_shown};
+ghost use Rattle.raft_accessor.specs.Common.{Drains, Yields, IsFinite, LogQueue, Append, Rewrite, LogItem, Error, Item, item_of, Accessor, IsWritten, AreAccepted, AreAcceptedOncePlaced, AreRefusedOncePlaced, IsAppendCheckFault, Appending};
+ghost use Rattle.raft_accessor.specs.Common.{Replaying, Rewriting, AreWritten, AreItemsRefused, writing_shown};
 
 use crate::accessor::{MemTableAccessor, slot_of};
 use crate::append_check::AppendCheck;

@@ -1,10 +1,7 @@
 //! The counts of the tables of some regions.
 
 ghost use Rattle.std.specs.Prelude.{◌≡◌, ◌≤◌};
-ghost use Rattle.raft_base.specs.declared.pipe_log.LogQueue.{LogQueue};
-ghost use Rattle.raft_table.specs.Counts.{live};
-ghost use Rattle.raft_accessor.specs.Accessor.{live_in_all};
-ghost use Rattle.raft_accessor.specs.SlotTables.{counts_of, with_all_deleted};
+ghost use Rattle.raft_accessor.specs.Common.{LogQueue, live, live_in_all, counts_of, with_all_deleted};
 
 use crate::region_tables::RegionTables;
 use raft_base::LogQueue;

@@ -1,13 +1,8 @@
 //! Tables put under their regions, and taken away.
 
 ghost use Rattle.std.specs.Prelude.{◌≡◌, ◌≤◌, ◌+◌, IfSome};
+ghost use Rattle.raft_accessor.specs.Common.{LogQueue, live, table_of, empty_table, live_of, with_table_deleted, IsCounted, IsRecounted, table_in, IsInserted};
 ghost use Rattle.std.specs.FinMap as finite;
-ghost use Rattle.raft_base.specs.declared.pipe_log.LogQueue.{LogQueue};
-ghost use Rattle.raft_table.specs.Counts.{live};
-ghost use Rattle.raft_table.specs.Steps.{table_of};
-ghost use Rattle.raft_table.specs.Table.{empty_table, live_of, with_table_deleted, IsCounted, IsRecounted};
-ghost use Rattle.raft_accessor.specs.Accessor.{table_in};
-ghost use Rattle.raft_accessor.specs.Updates.{IsInserted};
 
 use crate::boxed_table::{BoxedTable, unboxed};
 use crate::region_tables::RegionTables;

@@ -1,15 +1,8 @@
 //! Tables of some regions joined with those of newer neighbors, each under its region mark.
 
 ghost use Rattle.std.specs.Prelude.{◌≡◌, IfSome, Some, None};
+ghost use Rattle.raft_accessor.specs.Common.{LogQueue, Append, Rewrite, other, IsRun, live_of, IsCounted, IsRecounted, start_of, table_in, live_in, IsPut, IsTableJoined};
 ghost use Rattle.std.specs.FinMap as finite;
-ghost use Rattle.raft_base.specs.declared.pipe_log.LogQueue.{LogQueue};
-ghost use Rattle.raft_base.specs.declared.pipe_log.LogQueue.TheVariants.{Append, Rewrite};
-ghost use Rattle.raft_table.specs.Queues.{other};
-ghost use Rattle.raft_base.specs.Runs.{IsRun};
-ghost use Rattle.raft_table.specs.Table.{live_of, IsCounted, IsRecounted};
-ghost use Rattle.raft_table.specs.TableEntries.{start_of};
-ghost use Rattle.raft_accessor.specs.Accessor.{table_in, live_in};
-ghost use Rattle.raft_accessor.specs.TableJoins.{IsPut, IsTableJoined};
 
 use crate::boxed_table::BoxedTable;
 use crate::region_tables::RegionTables;

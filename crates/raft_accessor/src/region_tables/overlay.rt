@@ -1,10 +1,7 @@
 //! Tables of some regions under those of the append queue, each under its region mark.
 
 ghost use Rattle.std.specs.Prelude.{◌≡◌, IfSome, Some, None};
-ghost use Rattle.raft_base.specs.declared.pipe_log.LogQueue.TheVariants.{Rewrite};
-ghost use Rattle.raft_table.specs.Table.{live_of, IsCounted, IsRecounted};
-ghost use Rattle.raft_accessor.specs.Accessor.{table_in, live_in};
-ghost use Rattle.raft_accessor.specs.TableOverlays.{IsPutOver, IsTableOverlaid};
+ghost use Rattle.raft_accessor.specs.Common.{Rewrite, live_of, IsCounted, IsRecounted, table_in, live_in, IsPutOver, IsTableOverlaid};
 
 use crate::boxed_table::BoxedTable;
 use crate::region_tables::RegionTables;

@@ -2,20 +2,9 @@
 //! before.
 
 ghost use Rattle.std.specs.Prelude.{◌≡◌, ◌≢◌, [], List, ℕ, length, true, Ok, Err, OnOk, if◌then◌else◌};
-ghost use Rattle.raft_base.specs.declared.errors.Error.TheVariants.{Memory};
-ghost use Rattle.raft_base.specs.declared.pipe_log.LogQueue.{LogQueue};
-ghost use Rattle.raft_base.specs.declared.pipe_log.LogQueue.TheVariants.{Append, Rewrite};
-ghost use Rattle.raft_table.specs.KeyValues.{file_at};
-ghost use Rattle.raft_table.specs.Rewriting.{entries_after_rewrite, counts_after_rewrite, IsRewriteFault};
-ghost use Rattle.raft_table.specs.Start.{entries_after_append, counts_with_run, IsTableRunFault};
-ghost use Rattle.raft_table.specs.StepShown.{step_shown};
-ghost use Rattle.raft_table.specs.Steps.{Clean, Put};
-ghost use Rattle.raft_table.specs.Table.{after_append, after_rewrite, after_rewrite_key, with_rewritten_key, leaves_append, IsKeyRewriteFault, IsCounted};
-ghost use Rattle.raft_table.specs.TableEntries.{IsRunIn};
-ghost use Rattle.raft_table.specs.TakenSteps.{IsStepOfQueue};
-ghost use Rattle.raft_accessor.specs.Accessor.{table_in};
-ghost use Rattle.raft_accessor.specs.TableSteps.{IsStepTaken};
-ghost use Rattle.raft_accessor.specs.Updates.{BecomesOutcome};
+ghost use Rattle.raft_accessor.specs.Common.{Memory, LogQueue, Append, Rewrite, file_at, entries_after_rewrite, counts_after_rewrite, IsRewriteFault, entries_after_append, counts_with_run, IsTableRunFault, step_shown, Put, after_append};
+ghost use Rattle.raft_accessor.specs.Common.{after_rewrite, after_rewrite_key, with_rewritten_key, leaves_append, IsKeyRewriteFault, IsCounted, IsRunIn, IsStepOfQueue, table_in, IsStepTaken, BecomesOutcome};
+ghost use Rattle.raft_table.specs.Steps.{Clean};
 
 use crate::region_tables::RegionTables;
 use raft_base::{EntryIndex, FileId, FileSeq, LogQueue, Result};

@@ -1,9 +1,7 @@
 -- Merges of contexts that stand for histories.
-use Rattle.raft_history.proofs.Common.{IsBounded, FileRange, files_of, Suits, joined_files, follows, Context, RegionStandsFor, AreExact, StandsIn, StandsFor, IsExactFor, AreMerged, AreRegionsRefused}
-use Rattle.raft_history.proofs.Common.{merged_with, no_both, some_is, ◌≡◌, ◌⊎◌, ℕ, true, false, List, [], ◌∷◌, ◌++◌, Option, Some, None, refl, sym, ap, subst, ◌∙◌, inl, inr, is_some, unwrap_or}
-use Rattle.raft_history.proofs.Common.{false≢true, LogQueue, fresh, after, Table, stands_alone, BatchSteps, Event, batches, EachApart, effects, steps_of, FilesFrom, Sound, cleaned_in, MarkedRegions}
-use Rattle.raft_history.proofs.Common.{region_in, groups_in, joined_groups}
-use Rattle.std.specs.FinMap as finite
+use Rattle.raft_history.proofs.Common.{IsBounded, FileRange, files_of, Suits, joined_files, follows, Context, RegionStandsFor, AreExact, StandsIn, StandsFor, IsExactFor, AreMerged, AreRegionsRefused, merged_with, no_both, some_is, ◌≡◌, ◌⊎◌}
+use Rattle.raft_history.proofs.Common.{ℕ, true, false, List, [], ◌∷◌, ◌++◌, Option, Some, None, refl, sym, ap, subst, ◌∙◌, inl, inr, is_some, unwrap_or, false≢true, LogQueue, fresh, after, Table, stands_alone, BatchSteps, Event, batches}
+use Rattle.raft_history.proofs.Common.{EachApart, effects, steps_of, FilesFrom, Sound, cleaned_in, MarkedRegions, region_in, groups_in, joined_groups, nat_cmp_total, nat_cmp-IsAntisymmetric}
 use Rattle.raft_base.specs.declared.pipe_log.LogQueue.TheVariants.{Append, Rewrite}
 use Rattle.raft_history.proofs.Words.{records_in_history, all_steps}
 use Rattle.raft_history.proofs.EffectLemmas.{all_steps-none, effects_behind-none}
@@ -14,6 +12,7 @@ use Rattle.raft_history.proofs.RecordLemmas.{merged_bounded}
 use Rattle.raft_history.proofs.SoundLemmas.{batches-append, in_files-append, status-append, files_follow, follow_files, files_of-append, cleaned-append, append_apart}
 use Rattle.raft_history.proofs.StretchOfHistory.{size-append}
 use Rattle.raft_history.proofs.WithoutMarkers.{named-steps}
+use Rattle.std.specs.FinMap as finite
 
 -- ---- queues
 
@@ -194,3 +193,29 @@ regions_unsound q c d h k m refused sound = by_queue q m refused suits
 
 pub files_unsound : (q : LogQueue) (c d : Context) (h k : List Event) → Merges q c d h k → follows c.files d.files ≡ false → Sound (h ++ k) → ⊥
 files_unsound q c d h k m f sound = false≢true (sym f ∙ in_order q c d h k m sound)
+
+-- ---- contexts that are exact for one history agree
+
+some_queue : (p : Option FileRange) → (q : LogQueue) × Suits q p
+some_queue None = (Append, tt)
+some_queue (Some p) = (p.queue, refl)
+
+pub agree : (c d : Context) (h : List Event) → IsExactFor c h → IsExactFor d h → (c.regions.tables ≡ d.regions.tables) × (c.groups ≡ d.groups) × (c.cleaned ≡ d.cleaned) × (c.files ≡ d.files)
+agree c d h a b = (
+  finite.same_map nat_cmp_total nat_cmp-IsAntisymmetric c.regions.tables d.regions.tables (λ r. some_is (sym (exact_reading q c.regions (batches h) (a.regions q s.1) r) ∙ exact_reading q d.regions (batches h) (b.regions q t) r)),
+  a.stands.groups ∙ sym b.stands.groups,
+  (a.stands.stands q s.1).cleaned ∙ sym (b.stands.stands q t).cleaned,
+  same,
+)
+  where
+    s : (q : LogQueue) × Suits q c.files
+    s = some_queue c.files
+
+    q : LogQueue
+    q = s.0
+
+    same : c.files ≡ d.files
+    same = a.stands.files ∙ sym b.stands.files
+
+    t : Suits q d.files
+    t = subst (Suits s.0) same s.1

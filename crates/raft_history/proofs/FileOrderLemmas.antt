@@ -6,7 +6,7 @@ use Rattle.std.proofs.Common.{filter}
 use Rattle.std.specs.Option.{option_map}
 use Rattle.raft_base.specs.declared.pipe_log.LogQueue.TheVariants.{Append, Rewrite}
 use Rattle.raft_history.proofs.Words.{ArePlacesInFile}
-use Rattle.raft_history.proofs.ReadRunLemmas.{is_in_queue}
+use Rattle.raft_history.proofs.ReadItemLemmas.{is_in_queue}
 
 -- ---- entries in the order of their files
 

@@ -1,20 +1,81 @@
--- Marked regions that are exact for two histories give, merged, regions that are exact for both; and one more batch.
-use Rattle.raft_history.proofs.Common.{map_none, or_assoc, no_both, some_is, ◌≡◌, ℕ, Bool, true, false, ◌||◌, List, [], ◌∷◌, ◌++◌, Option, Some, None, refl, sym, ap, subst, ◌∙◌, inl, inr}
-use Rattle.raft_history.proofs.Common.{append_assoc, append-nil, is_some, option_map, list_any, unwrap_or, option_and_then, LogQueue, Mark, there_if, table_over_older, is_there_over, joined_mark}
-use Rattle.raft_history.proofs.Common.{fresh, mark_of, Step, Run, AreSteps, table_of, after_step, after, Table, refused_join, GroupMarker, BatchSteps, Event, batch_of, batches, Context}
-use Rattle.raft_history.proofs.Common.{RegionStandsFor, AreExact, AreMerged, AreRegionsRefused, region_steps_or, completed_steps, EachApart, effects, steps_of, is_named, MarkedRegions, MarkedRegion}
-use Rattle.raft_history.proofs.Common.{region_in, with_region, regions_after, region_steps_of_wholes, joined_marked, RegionStep, names, steps_on, WholeGroup, whole_group, one_marker, WaitingGroups}
-use Rattle.raft_history.proofs.Common.{groups_in, known_of, whole_groups, steps_by_batch, steps_or, names_by_batch, steps_of_wholes}
-use Rattle.std.specs.FinMap as finite
-use Rattle.raft_base.specs.declared.pipe_log.LogQueue.TheVariants.{Rewrite}
-use Rattle.raft_history.proofs.Words.{AreInFiles}
+-- The regions that joined histories name.
+use Rattle.raft_history.proofs.Common.{◌≡◌, ℕ, Bool, true, false, cond, ◌||◌, List, [], ◌∷◌, ◌++◌, Option, Some, None, refl, sym, ap, ◌∙◌, flat_map, list_any, BatchSteps, GroupMarker, whole_steps, steps_of, EachApart, effects, is_named}
+use Rattle.raft_history.proofs.Common.{RegionStep, names, steps_on, WholeGroup, whole_group, one_marker, WaitingGroups, groups_in, known_of, whole_groups, steps_or, steps_by_batch, names_by, names_by_batch, steps_of_wholes, Step}
+use Rattle.raft_history.proofs.Common.{AtomicGroup, map_none, or_assoc, no_both, some_is, subst, inl, inr, append_assoc, append-nil, is_some, option_map, unwrap_or, option_and_then, LogQueue, Mark, there_if, table_over_older, is_there_over}
+use Rattle.raft_history.proofs.Common.{joined_mark, fresh, mark_of, Run, AreSteps, table_of, after_step, after, Table, refused_join, Event, batch_of, batches, Context, RegionStandsFor, AreExact, AreMerged, AreRegionsRefused}
+use Rattle.raft_history.proofs.Common.{region_steps_or, completed_steps, MarkedRegions, MarkedRegion, region_in, with_region, regions_after, region_steps_of_wholes, joined_marked}
+use Rattle.raft_history.proofs.EffectLemmas.{steps_on-none}
 use Rattle.raft_history.proofs.KnownLemmas.{steps_across}
 use Rattle.raft_history.proofs.MoreLemmas.{steps-one}
-use Rattle.raft_history.proofs.NamedLemmas.{has_steps, has_steps-own, has_steps-wholes, named_across, named-one, by_batch}
+use Rattle.raft_history.proofs.WithoutMarkers.{named-steps, steps_on-some}
+use Rattle.raft_base.specs.declared.pipe_log.LogQueue.TheVariants.{Rewrite}
+use Rattle.raft_history.proofs.Words.{AreInFiles}
 use Rattle.raft_history.proofs.ReadLemmas.{own-whole_group, own-wholes, holds_joined, read_holds, read_refused, read_marked, refused_more}
 use Rattle.raft_history.proofs.SoundLemmas.{steps_good, batches-append}
 use Rattle.raft_history.proofs.StepListLemmas.{steps-append, steps_left, steps_right, own_none}
-use Rattle.raft_history.proofs.WithoutMarkers.{named-steps}
+use Rattle.std.specs.FinMap as finite
+
+abbrev pub has_steps : List Step → Bool
+has_steps [] = false
+has_steps (x ∷ xs) = true
+
+pub has_steps-append : (xs ys : List Step) → has_steps (xs ++ ys) ≡ (has_steps xs || has_steps ys)
+has_steps-append [] ys = refl
+has_steps-append (x ∷ xs) ys = refl
+
+no_steps : (xs : List Step) → has_steps xs ≡ false → xs ≡ []
+no_steps [] h = refl
+no_steps (x ∷ xs) h = cc
+
+-- two tests that are false together are equal
+same_test : (a b : Bool) → (a ≡ false → b ≡ false) → (b ≡ false → a ≡ false) → a ≡ b
+same_test true true f g = refl
+same_test true false f g = g refl
+same_test false true f g = sym (f refl)
+same_test false false f g = refl
+
+pub has_steps-of : (r : ℕ) (h : List BatchSteps) → has_steps (steps_of r h) ≡ is_named r h
+has_steps-of r h = same_test (has_steps (steps_of r h)) (is_named r h) (λ e. (named-steps r h).1 (no_steps (steps_of r h) e)) (λ e. ap has_steps ((named-steps r h).0 e))
+
+pub has_steps-own : (r : ℕ) (is : List RegionStep) → has_steps (steps_on r is) ≡ names r is
+has_steps-own r is = same_test (has_steps (steps_on r is)) (names r is) (λ e. steps_on-some r is (no_steps (steps_on r is) e)) (λ e. ap has_steps (steps_on-none r is e))
+
+pub has_steps-whole_group : (r : ℕ) (w : WholeGroup) → has_steps (whole_steps r w.steps w.first_seq w.last_seq) ≡ names r w.steps
+unfolding whole_steps
+has_steps-whole_group r w = has_steps-append (steps_on r w.steps) (cond (names r w.steps) (AtomicGroup w.first_seq w.last_seq ∷ []) [])
+    ∙ ap (λ b. b || has_steps (cond (names r w.steps) (AtomicGroup w.first_seq w.last_seq ∷ []) [])) (has_steps-own r w.steps) ∙ go (names r w.steps)
+  where
+    go : (b : Bool) → (b || has_steps (cond b (AtomicGroup w.first_seq w.last_seq ∷ []) [])) ≡ b
+    go true = refl
+    go false = refl
+
+pub has_steps-wholes : (r : ℕ) (ws : List WholeGroup) → has_steps (steps_of_wholes r ws) ≡ list_any (λ w. names r w.steps) ws
+unfolding steps_of_wholes
+has_steps-wholes r [] = refl
+has_steps-wholes r (w ∷ ws) = has_steps-append (group_steps w) (flat_map group_steps ws) ∙ ap (λ b. b || has_steps (flat_map group_steps ws)) (has_steps-whole_group r w) ∙ ap (λ b. names r w.steps || b) (has_steps-wholes r ws)
+  where
+    group_steps : WholeGroup → List Step
+    group_steps w = whole_steps r w.steps w.first_seq w.last_seq
+
+pub named_across : (r : ℕ) (h k : List BatchSteps) → EachApart (effects (h ++ k)) → is_named r (h ++ k) ≡ (is_named r h || (list_any (λ w. names r w.steps) (whole_groups (groups_in h) (groups_in k)) || is_named r k))
+named_across r h k apart =
+    let ws = whole_groups (groups_in h) (groups_in k) in
+    sym (has_steps-of r (h ++ k)) ∙ ap has_steps (steps_across r h k apart)
+    ∙ rw (has_steps-append (steps_of r h) (steps_of_wholes r ws ++ steps_of r k), has_steps-append (steps_of_wholes r ws) (steps_of r k), has_steps-of r h, has_steps-wholes r ws, has_steps-of r k) refl
+
+pub by_batch : (r : ℕ) (groups : WaitingGroups) (b : BatchSteps) (m : Option GroupMarker) → has_steps (steps_by_batch r groups b m) ≡ names_by_batch r groups b m
+by_batch r groups b None = has_steps-own r b.steps
+by_batch r groups b (Some m) = go (whole_group (known_of groups m.group) (one_marker m.status b.steps b.seq))
+  where
+    go : (o : Option WholeGroup) → has_steps (steps_or r o) ≡ names_by r o
+    go None = refl
+    go (Some w) = has_steps-whole_group r w
+
+pub named-one : (r : ℕ) (h : List BatchSteps) (b : BatchSteps) → is_named r (h ++ b ∷ []) ≡ (is_named r h || names_by_batch r (groups_in h) b b.marker)
+named-one r h b = sym (has_steps-of r (h ++ b ∷ [])) ∙ ap has_steps (steps-one r h b) ∙ has_steps-append (steps_of r h) (steps_by_batch r (groups_in h) b b.marker)
+    ∙ ap (λ x. x || has_steps (steps_by_batch r (groups_in h) b b.marker)) (has_steps-of r h) ∙ ap (λ x. is_named r h || x) (by_batch r (groups_in h) b b.marker)
+
+-- ---- marked regions that are exact for two histories give, merged, regions that are exact for both; and one more batch
 
 holds_marked : (q : LogQueue) (r : ℕ) (x y : MarkedRegion) (o : Option Mark) (t : Option Table) (ss rs : List Step) → AreSteps ss → AreSteps rs →
     RegionStandsFor q r x ss → RegionStandsFor q r record { mark = unwrap_or o fresh; table = t } rs → (o ≡ None → rs ≡ []) →

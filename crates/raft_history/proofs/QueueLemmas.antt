@@ -9,7 +9,7 @@ use Rattle.raft_records.specs.declared.atomic_group.AtomicGroupStatus.TheVariant
 use Rattle.raft_history.proofs.Words.{AreInFiles, region_steps_of}
 use Rattle.raft_history.proofs.EffectLemmas.{each-append, each_flat, each_markers, each_open, each_weaker}
 use Rattle.raft_history.proofs.KnownLemmas.{known-groups_in, each_known}
-use Rattle.raft_history.proofs.FileStepLemmas.{IsStepInFile, is_of_queue, steps_in_file}
+use Rattle.raft_history.proofs.ReadItemLemmas.{IsStepInFile, is_of_queue, steps_in_file}
 
 abbrev Are : LogQueue → List RegionStep → Type 0
 Are q is = AllByRecursion (λ (i : RegionStep). IsStepOfQueue q i.step) is

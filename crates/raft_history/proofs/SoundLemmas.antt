@@ -8,7 +8,7 @@ use Rattle.raft_records.specs.declared.key_value.OpType.TheVariants as operation
 use Rattle.raft_history.proofs.Words.{AreInFiles, AllHaveStatus}
 use Rattle.raft_history.proofs.EachStepLemmas.{each_step_of, own_steps}
 use Rattle.raft_history.proofs.EffectLemmas.{each-append, each_weaker}
-use Rattle.raft_history.proofs.FileStepLemmas.{IsStepInFile, is_step, steps_in_file}
+use Rattle.raft_history.proofs.ReadItemLemmas.{IsStepInFile, is_step, steps_in_file}
 use Rattle.raft_history.proofs.WithoutMarkers.{plain_apart}
 
 -- ---- good steps

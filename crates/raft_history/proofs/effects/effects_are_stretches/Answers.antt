@@ -1,5 +1,4 @@
-use Rattle.raft_history.proofs.StretchLemmas.{effects_are}
-use Rattle.raft_history.proofs.UniqueLemmas.{effects_unique}
+use Rattle.raft_history.proofs.StretchLemmas.{effects_are, effects_unique}
 use Rattle.raft_history.proofs.effects.effects_are_stretches.Goals as goal
 
 pub returns : goal.returns

@@ -1,4 +1,4 @@
-use Rattle.raft_history.proofs.IncompleteLemmas.{incomplete_changes_nothing}
+use Rattle.raft_history.proofs.ShiftLemmas.{incomplete_changes_nothing}
 use Rattle.raft_history.proofs.effects.incomplete_groups_change_nothing.Goals as goal
 
 pub returns : goal.returns

@@ -1,5 +1,5 @@
 use Rattle.raft_history.proofs.WithoutMarkers.{named-steps}
-use Rattle.raft_history.proofs.NamedLemmas.{named_across, named-one}
+use Rattle.raft_history.proofs.MergeLaws.{named_across, named-one}
 use Rattle.raft_history.proofs.effects.named_regions_have_steps.Goals as goal
 
 pub returns : goal.returns

@@ -1,4 +1,4 @@
-use Rattle.raft_history.proofs.DifferLemmas.{wholes_differ}
+use Rattle.raft_history.proofs.StretchLemmas.{wholes_differ}
 use Rattle.raft_history.proofs.effects.wholes_name_different_regions.Goals as goal
 
 pub returns : goal.returns

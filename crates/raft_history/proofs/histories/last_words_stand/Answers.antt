@@ -1,4 +1,4 @@
-use Rattle.raft_history.proofs.LastWords.{entry_stands, pair_stands}
+use Rattle.raft_history.proofs.ReadingLemmas.{entry_stands, pair_stands}
 use Rattle.raft_history.proofs.histories.last_words_stand.Goals as goal
 
 pub returns : goal.returns

@@ -1,4 +1,4 @@
-use Rattle.raft_history.proofs.LeastFileLemmas.{least_of_both, none_below}
+use Rattle.raft_history.proofs.EffectFileLemmas.{least_of_both, none_below}
 use Rattle.raft_history.proofs.histories.least_files_of_both_are_least.Goals as goal
 
 pub returns : goal.returns

@@ -1,4 +1,4 @@
-use Rattle.raft_history.proofs.PlacedItemLemmas.{items_in}
+use Rattle.raft_history.proofs.ReadItemLemmas.{items_in}
 use Rattle.raft_history.proofs.histories.placed_items_are_in_their_file.Goals as goal
 
 pub returns : goal.returns

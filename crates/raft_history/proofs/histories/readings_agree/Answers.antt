@@ -1,4 +1,4 @@
-use Rattle.raft_history.proofs.GoingOnLemmas.{same_tables, same_cleaned}
+use Rattle.raft_history.proofs.ReadingLemmas.{same_tables, same_cleaned}
 use Rattle.raft_history.proofs.histories.readings_agree.Goals as goal
 
 pub returns : goal.returns

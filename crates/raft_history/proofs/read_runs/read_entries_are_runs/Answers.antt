@@ -1,4 +1,4 @@
-use Rattle.raft_history.proofs.ReadRunLemmas.{read_run}
+use Rattle.raft_history.proofs.ReadItemLemmas.{read_run}
 use Rattle.raft_history.proofs.read_runs.read_entries_are_runs.Goals as goal
 
 pub returns : goal.returns

@@ -1,10 +1,9 @@
 -- Merges of contexts that stand for histories.
-use Rattle.raft_history.proofs.Common.{IsBounded, FileRange, files_of, Suits, joined_files, follows, Context, RegionStandsFor, AreExact, StandsIn, StandsFor, IsExactFor, AreMerged, AreRegionsRefused, merged_with, no_both, some_is, ◌≡◌, ◌⊎◌}
-use Rattle.raft_history.proofs.Common.{ℕ, true, false, List, [], ◌∷◌, ◌++◌, Option, Some, None, refl, sym, ap, subst, ◌∙◌, inl, inr, is_some, unwrap_or, false≢true, LogQueue, fresh, after, Table, stands_alone, BatchSteps, Event, batches}
-use Rattle.raft_history.proofs.Common.{EachApart, effects, steps_of, FilesFrom, Sound, cleaned_in, MarkedRegions, region_in, groups_in, joined_groups, nat_cmp_total, nat_cmp-IsAntisymmetric}
-use Rattle.raft_base.specs.declared.pipe_log.LogQueue.TheVariants.{Append, Rewrite}
+use Rattle.raft_history.proofs.Common.{Append, Rewrite, IsBounded, FileRange, files_of, Suits, joined_files, follows, Context, RegionStandsFor, AreExact, StandsIn, StandsFor, IsExactFor, AreMerged, AreRegionsRefused, merged_with, no_both}
+use Rattle.raft_history.proofs.Common.{some_is, ◌≡◌, ◌⊎◌, ℕ, true, false, List, [], ◌∷◌, ◌++◌, Option, Some, None, refl, sym, ap, subst, ◌∙◌, inl, inr, is_some, unwrap_or, false≢true, LogQueue, fresh, after, Table, stands_alone, BatchSteps}
+use Rattle.raft_history.proofs.Common.{Event, batches, EachApart, effects, steps_of, FilesFrom, Sound, cleaned_in, MarkedRegions, region_in, groups_in, joined_groups, nat_cmp_total, nat_cmp-IsAntisymmetric}
 use Rattle.raft_history.proofs.Words.{records_in_history, all_steps}
-use Rattle.raft_history.proofs.EffectLemmas.{all_steps-none, effects_behind-none}
+use Rattle.raft_history.proofs.EffectLemmas.{effects_behind-none}
 use Rattle.raft_history.proofs.MergeLaws.{Parts, regions_merged, regions_refused, rewrite_after, rewrite_refused}
 use Rattle.raft_history.proofs.MoreLemmas.{groups_in-append}
 use Rattle.raft_history.proofs.ReadLemmas.{holds_none}
@@ -31,7 +30,7 @@ sound_queue q s [] f u = inl refl
 sound_queue q s (e ∷ h) f u = inr (sym f.0 ∙ u)
 
 pub no_steps : (r : ℕ) → steps_of r [] ≡ []
-no_steps r = ap (all_steps r) (effects_behind-none []) ∙ all_steps-none r
+no_steps r = ap (all_steps r) (effects_behind-none [])
 
 -- ---- exact regions are one reading
 

@@ -1,6 +1,6 @@
 -- What holds of every step that batches have on a region holds of the steps of the history on it.
-use Rattle.raft_history.proofs.Common.{cond_both, effects, ◌≡◌, ℕ, suc, cond, List, [], ◌∷◌, ◌++◌, sym, map, filter, AllByRecursion, eqb-true, Step, AtomicGroup, BatchSteps, Numbered, completed_by}
-use Rattle.raft_history.proofs.Common.{numbered_from, steps_of, whole_steps, RegionStep, names, steps_on}
+use Rattle.raft_history.proofs.Common.{cond_both, effects, ◌≡◌, ℕ, suc, cond, List, [], ◌∷◌, ◌++◌, sym, map, filter, AllByRecursion, eqb-true, Step, AtomicGroup, BatchSteps, Numbered, completed_by, numbered_from, steps_of, whole_steps}
+use Rattle.raft_history.proofs.Common.{RegionStep, names, steps_on}
 use Rattle.raft_history.proofs.Words.{is_on, region_steps_of, steps_in}
 use Rattle.raft_history.proofs.EffectLemmas.{by_completed, each-append, each_effect, each_flat, open_among}
 

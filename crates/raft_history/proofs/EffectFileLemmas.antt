@@ -1,19 +1,17 @@
 -- Where effects are apart, a region's steps stand in files that never go down.
-use Rattle.raft_history.proofs.Common.{cond_both, Effect, completed_by, effects_behind, effects, whole_steps, region_steps_in, steps_by, steps_of, first_in, AreApart, EachApart, has_status, Numbered, numbered_from, markers_of, open_stretch}
-use Rattle.raft_history.proofs.Common.{◌≡◌, ℕ, suc, zero, ◌+◌, ◌<◌, ◌≤◌, Bool, true, false, cond, ◌&&◌, List, [], ◌∷◌, ◌++◌, refl, sym, ap, subst, ◌∙◌, inr, arith, append-nil, slice_index_or, lt_of_not-le, flat_map-append, AllByRecursion}
-use Rattle.raft_history.proofs.Common.{FileId, LogQueue, Item, Step, Run, AtomicGroup, Event, BatchSteps, batches, AreInFile, FilesFrom, IsSoundIn, Apart, RegionStep, names, steps_on, steps_of_items, RiseFrom, ◌||◌, min, Option, Some, None}
-use Rattle.raft_history.proofs.Common.{option_map_or, filter-append, filter_map, is_some, slice_get, cons_option, FileBlockHandle, EntryIndex, end_of, place_seq, entry_seq, lesser, least, seqs_in, entries_within, least_seq}
-use Rattle.raft_history.proofs.Common.{at_most_group_seq, has_clean, greatest_compaction, least_cut, is_unjoined, rewritten_within, overlay, kept_if, overlaid_table, is_same, other, table_of, Table, is_placed_in, placed_in, IsReadingOfBoth}
-use Rattle.raft_history.proofs.Common.{is_named, IsOneReading, record_seqs, AreLeastFiles, IsAtOrBelow, HasNoneBelow, Tables}
+use Rattle.raft_history.proofs.Common.{Append, Rewrite, Begin, cond_both, Effect, completed_by, effects_behind, effects, whole_steps, region_steps_in, steps_by, steps_of, first_in, AreApart, EachApart, has_status, Numbered, numbered_from}
+use Rattle.raft_history.proofs.Common.{markers_of, open_stretch, ◌≡◌, ℕ, suc, zero, ◌+◌, ◌<◌, ◌≤◌, Bool, true, false, cond, ◌&&◌, List, [], ◌∷◌, ◌++◌, refl, sym, ap, subst, ◌∙◌, inr, arith, append-nil, slice_index_or, lt_of_not-le}
+use Rattle.raft_history.proofs.Common.{flat_map-append, AllByRecursion, FileId, LogQueue, Item, Step, Run, AtomicGroup, Event, BatchSteps, batches, AreInFile, FilesFrom, IsSoundIn, Apart, RegionStep, names, steps_on, steps_of_items}
+use Rattle.raft_history.proofs.Common.{RiseFrom, ◌||◌, min, Option, Some, None, option_map_or, filter-append, filter_map, is_some, slice_get, cons_option, FileBlockHandle, EntryIndex, end_of, place_seq, entry_seq, lesser, least, seqs_in}
+use Rattle.raft_history.proofs.Common.{entries_within, least_seq, at_most_group_seq, has_clean, greatest_compaction, least_cut, is_unjoined, rewritten_within, overlay, kept_if, overlaid_table, is_same, other, table_of, Table, is_placed_in}
+use Rattle.raft_history.proofs.Common.{placed_in, IsReadingOfBoth, is_named, IsOneReading, record_seqs, AreLeastFiles, IsAtOrBelow, HasNoneBelow, Tables}
 use Rattle.std.proofs.Common.{filter, map, nat_le}
-use Rattle.raft_records.specs.declared.atomic_group.AtomicGroupStatus.TheVariants.{Begin}
 use Rattle.raft_history.proofs.Words.{AreInFiles, is_on, region_steps_of, all_steps, are_middles}
 use Rattle.raft_history.proofs.EffectLemmas.{by_completed, each-append, each_weaker, steps_in-none}
 use Rattle.raft_history.proofs.FileOrderLemmas.{StepRises, StepsRise, run_here, steps_lower, rise-append, seq_of, InOrder, lower, some_of, steps_order}
 use Rattle.raft_history.proofs.ReadItemLemmas.{IsStepInFile, steps_in_file}
 use Rattle.raft_history.proofs.StepListLemmas.{own-append}
 use Rattle.raft_history.proofs.StretchLemmas.{effects_are, later_from}
-use Rattle.raft_base.specs.declared.pipe_log.LogQueue.TheVariants.{Append, Rewrite}
 use Rattle.raft_history.proofs.SoundLemmas.{append_apart}
 use Rattle.std.specs.FinMap as finite
 
@@ -121,9 +119,6 @@ row_rises q seq_at r n m (p ∷ ps) up h = subst (StepsRise q (seq_at n) (seq_at
 abbrev HasRow : LogQueue → (ℕ → ℕ) → Effect → Type 0
 HasRow q seq_at e = IsRow q seq_at (first_in e) e.last.number (e.earlier ++ e.last ∷ [])
 
-effect_order : (q : LogQueue) (seq_at : ℕ → ℕ) (e : Effect) → HasRow q seq_at e → first_in e ≤ e.last.number
-effect_order q seq_at e h = row_order q seq_at (first_in e) e.last.number (e.earlier ++ e.last ∷ []) h
-
 effect_rises : (q : LogQueue) (seq_at : ℕ → ℕ) (r : ℕ) (e : Effect) → NeverFalls seq_at → HasRow q seq_at e → StepsRise q (seq_at (first_in e)) (seq_at e.last.number) (steps_by r e.earlier e.last)
 unfolding whole_steps
 effect_rises q seq_at r e up h = go e.earlier h
@@ -181,18 +176,12 @@ begins_behind r e f apart low l a b = go f.earlier refl
 all_follow : (seq_at : ℕ → ℕ) (r : ℕ) (e : Effect) (es : List Effect) → NeverFalls seq_at → first_in e ≤ e.last.number →
     AllByRecursion (AreApart e) es → AllByRecursion (λ f. suc e.last.number ≤ f.last.number) es → AllByRecursion (Follows seq_at r e) es
 all_follow seq_at r e [] up low a l = tt
-all_follow seq_at r e (f ∷ es) up low a l = (λ x y. up e.last.number (first_in f) (below (begins_behind r e f a.0 low (above l.0) x y)), all_follow seq_at r e es up low a.1 l.1)
-  where
-    above : {i j : ℕ} → suc i ≤ j → i < j
-    above h = omega (arith, h)
-
-    below : {i j : ℕ} → i < j → i ≤ j
-    below h = omega (arith, h)
+all_follow seq_at r e (f ∷ es) up low a l = (λ x y. up e.last.number (first_in f) (omega (arith, begins_behind r e f a.0 low (omega (arith, l.0)) x y)), all_follow seq_at r e es up low a.1 l.1)
 
 each_follows : (q : LogQueue) (seq_at : ℕ → ℕ) (r n : ℕ) (es : List Effect) → NeverFalls seq_at → RiseFrom n es → EachApart es → AllByRecursion (HasRow q seq_at) es → EachFollows seq_at r es
 each_follows q seq_at r n [] up rise apart rows = tt
 each_follows q seq_at r n (e ∷ es) up rise apart rows = (
-  all_follow seq_at r e es up (effect_order q seq_at e rows.0) apart.0 (later_from (suc e.last.number) es rise.1),
+  all_follow seq_at r e es up (row_order q seq_at (first_in e) e.last.number (e.earlier ++ e.last ∷ []) rows.0) apart.0 (later_from (suc e.last.number) es rise.1),
   each_follows q seq_at r (suc e.last.number) es up rise.1 apart.1 rows.1,
 )
 

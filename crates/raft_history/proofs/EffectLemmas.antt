@@ -1,10 +1,8 @@
 -- Words on effects: numbers, extents, names and steps.
-use Rattle.raft_history.proofs.Common.{IsMarkerOf, cond_both, false_from_ne_true, flat_map, or_parts, ◌≡◌, ◌≢◌, ℕ, suc, ◌+◌, ◌<◌, ◌≤◌, Bool, true, false, ◌&&◌, List, [], ◌∷◌, ◌++◌, length, Option}
-use Rattle.raft_history.proofs.Common.{Some, None, refl, sym, ap, subst, ◌∙◌, inr, append_assoc, arith, flat_map-append, filter, AllByRecursion, list_any, AtomicGroupStatus, GroupMarker, BatchSteps}
-use Rattle.raft_history.proofs.Common.{Effect, completed_as, completed_by, effects_behind, whole_steps, region_steps_in, steps_by, first_in, AreApart, EachApart, has_status, Numbered, numbered_from}
-use Rattle.raft_history.proofs.Common.{is_of, markers_of, open_stretch, RegionStep, names, steps_on}
+use Rattle.raft_history.proofs.Common.{Begin, Middle, End, IsMarkerOf, cond_both, false_from_ne_true, flat_map, or_parts, ◌≡◌, ◌≢◌, ℕ, suc, ◌+◌, ◌<◌, ◌≤◌, Bool, true, false, ◌&&◌, List, [], ◌∷◌, ◌++◌, length, Option, Some, None, refl, sym}
+use Rattle.raft_history.proofs.Common.{ap, subst, ◌∙◌, inr, append_assoc, arith, flat_map-append, filter, AllByRecursion, list_any, AtomicGroupStatus, GroupMarker, BatchSteps, Effect, completed_as, completed_by, effects_behind, whole_steps}
+use Rattle.raft_history.proofs.Common.{region_steps_in, steps_by, first_in, AreApart, EachApart, has_status, Numbered, numbered_from, is_of, markers_of, open_stretch, RegionStep, names, steps_on}
 use Rattle.std.proofs.lemmas.List.{append-nil}
-use Rattle.raft_records.specs.declared.atomic_group.AtomicGroupStatus.TheVariants.{Begin, Middle, End}
 use Rattle.raft_history.proofs.Words.{steps_in, is_on, region_steps_of, all_steps, are_middles}
 
 -- what holds of each
@@ -87,9 +85,6 @@ all_steps-append r es fs = flat_map-append (steps_in r) es fs
 
 pub all_steps-one : (r : ℕ) (e : Effect) → all_steps r (e ∷ []) ≡ steps_by r e.earlier e.last
 all_steps-one r e = append-nil (steps_by r e.earlier e.last)
-
-pub all_steps-none : (r : ℕ) → all_steps r [] ≡ []
-all_steps-none r = refl
 
 -- what isn't named has no steps
 pub steps_on-none : (r : ℕ) (is : List RegionStep) → names r is ≡ false → steps_on r is ≡ []

@@ -1,10 +1,9 @@
 -- Steps whose entries stand in files that never go down keep the entries of a table in the order of their files.
-use Rattle.raft_history.proofs.Common.{accepted_is, cond_both, some_is, option_and_then_some, ◌≡◌, ℕ, ◌≤◌, Bool, true, false, List, [], ◌∷◌, ◌++◌, Option, Some, None, refl, sym, ap, subst, arith}
-use Rattle.raft_history.proofs.Common.{option_map_or, FileBlockHandle, FileId, LogQueue, EntryIndex, IsPlaceInFile, is_same, entries_after_replay, leaves_hole, Step, Run, Compact, Truncate, Clean}
-use Rattle.raft_history.proofs.Common.{table_of, after_step, after, Table, below, from, is_placed_in, same_some}
+use Rattle.raft_history.proofs.Common.{Append, Rewrite, accepted_is, cond_both, some_is, option_and_then_some, ◌≡◌, ℕ, ◌≤◌, Bool, true, false, List, [], ◌∷◌, ◌++◌, Option, Some, None, refl, sym, ap, subst, arith, option_map_or}
+use Rattle.raft_history.proofs.Common.{FileBlockHandle, FileId, LogQueue, EntryIndex, IsPlaceInFile, is_same, entries_after_replay, leaves_hole, Step, Run, Compact, Truncate, Clean, table_of, after_step, after, Table, below, from}
+use Rattle.raft_history.proofs.Common.{is_placed_in, same_some}
 use Rattle.std.proofs.Common.{filter}
 use Rattle.std.specs.Option.{option_map}
-use Rattle.raft_base.specs.declared.pipe_log.LogQueue.TheVariants.{Append, Rewrite}
 use Rattle.raft_history.proofs.Words.{ArePlacesInFile}
 use Rattle.raft_history.proofs.ReadItemLemmas.{is_in_queue}
 

@@ -1,15 +1,14 @@
 -- The effects behind a cut: those of the newer batches alone, and the groups that become whole.
-use Rattle.raft_history.proofs.Common.{IsMarkerOf, cases_Bool, front_behind, steps_or, ◌≡◌, ◌≢◌, ℕ, ◌+◌, ◌<◌, ◌≤◌, ◌⊎◌, Bool, true, false, cond, ◌||◌, eqb, List, [], ◌∷◌, ◌++◌, length, Option, Some, None, refl, sym, ap, subst, ◌∙◌, inl}
-use Rattle.raft_history.proofs.Common.{inr, append_assoc, arith, flat_map-append, eqb-true, eq-eqb, flat_map, filter_map, AllByRecursion, list_any, IsDistinct, cons_option, AtomicGroupStatus, GroupMarker, BatchSteps, Effect, completed_by}
-use Rattle.raft_history.proofs.Common.{effects_behind, whole_steps, region_steps_in, steps_by, first_in, EachApart, Numbered, numbered_from, is_of, markers_of, open_stretch, steps_of_wholes, IsListed, ListsGroups, RegionStep, names}
-use Rattle.raft_history.proofs.Common.{GroupFront, Open, Ended, Begun, led_by, front_by, front_of, OpenStretch, stretch_of, group_of, WholeGroup, whole_of, whole_group, Step, completed_as, effects, steps_of, AreApart, wholes, joined_group}
-use Rattle.raft_history.proofs.Common.{group_in}
+use Rattle.raft_history.proofs.Common.{Begin, Middle, End, IsMarkerOf, cases_Bool, front_behind, steps_or, ◌≡◌, ◌≢◌, ℕ, ◌+◌, ◌<◌, ◌≤◌, ◌⊎◌, Bool, true, false, cond, ◌||◌, eqb, List, [], ◌∷◌, ◌++◌, length, Option, Some, None, refl, sym, ap}
+use Rattle.raft_history.proofs.Common.{subst, ◌∙◌, inl, inr, append_assoc, arith, flat_map-append, eqb-true, eq-eqb, flat_map, filter_map, AllByRecursion, list_any, IsDistinct, cons_option, AtomicGroupStatus, GroupMarker, BatchSteps}
+use Rattle.raft_history.proofs.Common.{Effect, completed_by, effects_behind, whole_steps, region_steps_in, steps_by, first_in, EachApart, Numbered, numbered_from, is_of, markers_of, open_stretch, steps_of_wholes, IsListed, ListsGroups}
+use Rattle.raft_history.proofs.Common.{RegionStep, names, GroupFront, Open, Ended, Begun, led_by, front_by, front_of, OpenStretch, stretch_of, group_of, WholeGroup, whole_of, whole_group, Step, completed_as, effects, steps_of, AreApart}
+use Rattle.raft_history.proofs.Common.{wholes, joined_group, group_in}
 use Rattle.std.proofs.lemmas.List.{append-nil}
-use Rattle.raft_records.specs.declared.atomic_group.AtomicGroupStatus.TheVariants.{Begin, Middle, End}
 use Rattle.raft_history.proofs.Words.{region_steps_of, all_steps, are_middles}
 use Rattle.raft_history.proofs.EffectLemmas.{each_weaker, each-append, each_left, each_right, numbered_from-append, from_on, up_to, effects_behind-append, effects_behind-one, effects_behind-none, all_steps-append, all_steps-one}
-use Rattle.raft_history.proofs.EffectLemmas.{all_steps-none, steps_in-none, all_steps-unnamed, within, apart_left, apart_last, unnamed_between, by_push, open_among, apart_right}
-use Rattle.raft_history.proofs.StepListLemmas.{head_none, tail_none}
+use Rattle.raft_history.proofs.EffectLemmas.{steps_in-none, all_steps-unnamed, within, apart_left, apart_last, unnamed_between, by_push, open_among, apart_right}
+use Rattle.raft_history.proofs.StepListLemmas.{eqb_flip, head_none, tail_none}
 use Rattle.raft_history.proofs.MarkerLemmas.{markers_of-append, open_stretch-append, middles_open_none, front_with, front_of-append, FitsFront, fits_front, with_more, whole_is, group_of-append}
 use Rattle.raft_history.proofs.ShiftLemmas.{group_of-placed, effects-placed, steps-placed, each_apart-moved}
 
@@ -42,12 +41,9 @@ unfolding IsDistinct
 changed_one f h k [] one listed same none = cc
 changed_one f h k (g ∷ ids) one listed same none = go (eqb g k) refl listed (changed_one f h k ids one.1)
   where
-    symmetric : (a b : ℕ) → eqb a b ≡ false → eqb b a ≡ false
-    symmetric a b e = grind (arith, e)
-
     others : (x : ℕ) (l : List ℕ) → x ≡ k → AllByRecursion (λ y. eqb x y ≡ false) l → flat_map f l ≡ [] → flat_map h l ≡ []
     others x [] e a n = refl
-    others x (y ∷ l) e a n = rw (same y (symmetric k y (subst (λ z. eqb z y ≡ false) e a.0)), head_none (f y) (flat_map f l) n) (others x l e a.1 (tail_none (f y) (flat_map f l) n))
+    others x (y ∷ l) e a n = rw (same y (eqb_flip y k ∙ subst (λ z. eqb z y ≡ false) e a.0), head_none (f y) (flat_map f l) n) (others x l e a.1 (tail_none (f y) (flat_map f l) n))
 
     go : (b : Bool) → eqb g k ≡ b → (b || list_any (λ g. eqb g k) ids) ≡ true → (list_any (λ g. eqb g k) ids ≡ true → ((g : ℕ) → eqb g k ≡ false → h g ≡ f g) → flat_map f ids ≡ [] → flat_map h ids ≡ h k) → h g ++ flat_map h ids ≡ h k
     go true e l ih = rw (others g ids (eqb-true g k e) one.0 (tail_none (f g) (flat_map f ids) none)) (append-nil (h g) ∙ ap h (eqb-true g k e))
@@ -172,7 +168,7 @@ grows_whole r ids olds news p k m js q qs e h o = go (names r (region_steps_in e
     }
     go false named =
         let unnamed : steps_by r (q ∷ (qs ++ markers_of k news)) p ≡ [] = steps_in-none r effect named in
-        unchanged r ids olds news p k End m (rw (completes, alone) (all_steps-one r effect ∙ unnamed ∙ sym (all_steps-none r))) (steps ∙ unnamed ∙ sym none)
+        unchanged r ids olds news p k End m (rw (completes, alone) (all_steps-one r effect ∙ unnamed)) (steps ∙ unnamed ∙ sym none)
 
 -- an End
 grows_end : (r : ℕ) (ids : List ℕ) (olds news : List Numbered) (p : Numbered) (k : ℕ) → IsMarkerOf k End p → Grows r ids olds news p
@@ -214,8 +210,7 @@ grow r n ids olds news p below from to one listed apart ih = go (grows r ids old
         ids olds (news ++ p ∷ []) ++ (all_steps r (effects_behind [] news) ++ all_steps r (completed_by p.batch.marker news p))
     go (inl same) = rw (same.steps, same.given, ih) (append_assoc (all_given r ids olds news) (all_steps r (effects_behind [] news)) (all_steps r (completed_by p.batch.marker news p)))
     go (inr d) = rw (none, d.completes, d.alone, rest_none, given_one)
-        (all_steps-one r d.effect ∙ sym (append-nil (steps_by r d.effect.earlier d.effect.last))
-        ∙ ap (λ l. steps_by r d.effect.earlier d.effect.last ++ l) (sym (all_steps-none r)))
+        (all_steps-one r d.effect ∙ sym (append-nil (steps_by r d.effect.earlier d.effect.last)))
       where
         unnamed : AllByRecursion (λ e. names r (region_steps_in e) ≡ false) (effects_behind olds news)
         unnamed = unnamed_between r n p.number (effects_behind olds news) d.effect
@@ -288,15 +283,11 @@ effects-append h k = ap (effects_behind []) (numbered_from-append 0 h k)
     ∙ effects_behind-append [] (numbered_from 0 h) (numbered_from (0 + length h) k)
     ∙ ap (λ x. effects h ++ effects_behind (numbered_from 0 h) (numbered_from x k)) (omega arith)
 
--- the same groups become whole, wherever the newer batches are numbered from
-wholes-placed : (ids : List ℕ) (h k : List BatchSteps) (n : ℕ) → wholes_at ids (numbered_from 0 h) (numbered_from n k) ≡ wholes ids h k
-wholes-placed ids h k n = ap (λ (f : ℕ → Option WholeGroup). filter_map f ids) (λ j g. whole_group (group_in g h) (group_of-placed n g k j))
-
 pub joined_steps : (r : ℕ) (ids : List ℕ) (h k : List BatchSteps) → IsDistinct eqb ids → ListsGroups ids k → EachApart (effects (h ++ k)) → steps_of r (h ++ k) ≡ steps_of r h ++ (steps_of_wholes r (wholes ids h k) ++ steps_of r k)
 joined_steps r ids h k one listed apart =
     ap (all_steps r) (effects-append h k) ∙ all_steps-append r (effects h) (effects_behind (numbered_from 0 h) (numbered_from (length h) k))
     ∙ ap (λ l. steps_of r h ++ l) (behind_cut r (length h) ids (numbered_from 0 h) (up_to 0 (length h) h (omega arith)) one k listed (apart_right (effects h) _ (subst EachApart (effects-append h k) apart))
-    ∙ ap (λ l. l ++ all_steps r (effects_behind [] (numbered_from (length h) k))) (sym (given_wholes r ids (numbered_from 0 h) (numbered_from (length h) k)) ∙ ap (steps_of_wholes r) (wholes-placed ids h k (length h)))
+    ∙ ap (λ l. l ++ all_steps r (effects_behind [] (numbered_from (length h) k))) (sym (given_wholes r ids (numbered_from 0 h) (numbered_from (length h) k)) ∙ ap (steps_of_wholes r) (ap (λ (f : ℕ → Option WholeGroup). filter_map f ids) (λ j g. whole_group (group_in g h) (group_of-placed (length h) g k j))))
     ∙ ap (λ l. steps_of_wholes r (wholes ids h k) ++ l) (steps-placed r (length h) k))
 
 -- stretches of an apart history are apart

@@ -1,8 +1,7 @@
 -- An exact context holds at most its history may hold.
-use Rattle.raft_history.proofs.Common.{cases_Bool, inl, inr, list_any-append, some_is, ◌≡◌, ℕ, ◌≤◌, true, eqb, ◌||◌, List, [], ◌∷◌, length, Some, refl, sym, ap, subst, ◌∙◌, arith, is_some, map}
-use Rattle.raft_history.proofs.Common.{list_any, eqb-true, unwrap_or, nat_cmp, nat_cmp_total, nat_cmp-IsAntisymmetric, find, LogQueue, KeySet, Mark, fresh, HoldsDeleted, deleted_of, Table}
-use Rattle.raft_history.proofs.Common.{deleted_count, BatchSteps, Event, batches, Context, Suits, AreExact, IsExactFor, Effect, effects, region_steps_in, is_named, steps_of, IsOneReading, named_by}
-use Rattle.raft_history.proofs.Common.{deleted_in, kept_of, kept_by, IsAtMost, MarkedRegions, total, RegionStep, names, Tables, waiting_steps}
+use Rattle.raft_history.proofs.Common.{cases_Bool, inl, inr, list_any-append, some_is, ◌≡◌, ℕ, ◌≤◌, true, eqb, ◌||◌, List, [], ◌∷◌, length, Some, refl, sym, ap, subst, ◌∙◌, arith, is_some, map, list_any, eqb-true, unwrap_or, nat_cmp}
+use Rattle.raft_history.proofs.Common.{nat_cmp_total, nat_cmp-IsAntisymmetric, find, LogQueue, KeySet, Mark, fresh, HoldsDeleted, deleted_of, Table, deleted_count, BatchSteps, Event, batches, Context, Suits, AreExact, IsExactFor, Effect}
+use Rattle.raft_history.proofs.Common.{effects, region_steps_in, is_named, steps_of, IsOneReading, named_by, deleted_in, kept_of, kept_by, IsAtMost, MarkedRegions, total, RegionStep, names, Tables, waiting_steps}
 use Rattle.std.specs.FinMap as finite
 use Rattle.std.specs.FinSet as finset
 use Rattle.raft_history.proofs.ContextLaws.{exact_reading}

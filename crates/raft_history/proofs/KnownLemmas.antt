@@ -1,15 +1,13 @@
 -- The map of groups: what it has at a group, of joined histories and of one more batch.
-use Rattle.raft_history.proofs.Common.{cond_some, ltb-true, ne_eqb, nil_from_length, ◌<◌, or_parts, or_right, ◌≡◌, ℕ, suc, Bool, true, false, cond, ◌||◌, eqb, ltb, List, [], ◌∷◌, ◌++◌, Option, Some}
-use Rattle.raft_history.proofs.Common.{None, refl, sym, ap, ◌∙◌, arith, eqb-true, eq-eqb, nat_tests, flat_map, map, is_some, AllByRecursion, list_any, IsDistinct, cons_option, unwrap_or, nat_cmp}
-use Rattle.raft_history.proofs.Common.{eq_by_cmp, is_lt, nat_cmp_total, unsigned_tied, find, below_all, GroupMarker, BatchSteps, steps_of, EachApart, effects, numbered_from, is_of, markers_of}
-use Rattle.raft_history.proofs.Common.{open_stretch, without_marker, front_of, WaitingGroup, whole_group, group_in, group_by, groups_in, known_of, whole_with, whole_groups, wholes, steps_of_wholes}
-use Rattle.raft_history.proofs.Common.{ListsGroups, IsListed, first_of_both, second_of_both}
-use lib.Dec.{T}
-use Rattle.std.specs.declared.cmp.Ordering.TheVariants.{Less, Equal, Greater}
+use Rattle.raft_history.proofs.Common.{Less, Equal, Greater, T, cond_some, ltb-true, ne_eqb, nil_from_length, ◌<◌, or_parts, or_right, ◌≡◌, ℕ, suc, Bool, true, false, cond, ◌||◌, eqb, ltb, List, [], ◌∷◌, ◌++◌, Option, Some, None, refl, sym}
+use Rattle.raft_history.proofs.Common.{ap, ◌∙◌, arith, eqb-true, eq-eqb, flat_map, map, is_some, AllByRecursion, list_any, IsDistinct, cons_option, unwrap_or, nat_cmp, eq_by_cmp, is_lt, nat_cmp_total, unsigned_tied, find, below_all}
+use Rattle.raft_history.proofs.Common.{GroupMarker, BatchSteps, steps_of, EachApart, effects, numbered_from, is_of, markers_of, open_stretch, without_marker, front_of, WaitingGroup, whole_group, group_in, group_by, groups_in, known_of}
+use Rattle.raft_history.proofs.Common.{whole_with, whole_groups, wholes, steps_of_wholes, ListsGroups, IsListed, first_of_both, second_of_both}
 use Rattle.std.specs.FinMap as finite
 use Rattle.std.specs.FinMap.Entries.{is_sorted}
 use Rattle.raft_history.proofs.EffectLemmas.{each_weaker}
 use Rattle.raft_history.proofs.JoinedLemmas.{joined_steps}
+use Rattle.raft_history.proofs.StepListLemmas.{eqb_flip}
 
 pub tied : (a b : ℕ) → eq_by_cmp nat_cmp a b ≡ eqb a b
 tied a b = unsigned_tied a b
@@ -63,16 +61,16 @@ below_is a b t = go (ltb a b) refl (eqb a b) t
     go false x true t = absurd t
     go false x false t = absurd t
 
+apart : (a b : ℕ) → T (is_lt (nat_cmp a b)) → eqb a b ≡ false
+apart a b t = ne_eqb a b (λ e. omega (arith, below_is a b t, e))
+
 each_found : {X : Type 0} (es : List (ℕ × X)) → T (is_sorted nat_cmp es) → AllByRecursion (λ e. find nat_cmp e.0 es ≡ Some e.1) es
 each_found [] h = tt
 each_found {X} (e ∷ es) h = (rw (tied e.0 e.0, eq-eqb e.0 e.0 refl) refl, later es (first_of_both _ _ h) (each_found es (second_of_both _ _ h)))
   where
-    apart : (a b : ℕ) → T (is_lt (nat_cmp a b)) → eqb b a ≡ false
-    apart a b t = ne_eqb b a (λ e. omega (arith, below_is a b t, e))
-
     later : (fs : List (ℕ × X)) → T (below_all nat_cmp e.0 fs) → AllByRecursion (λ x. find nat_cmp x.0 es ≡ Some x.1) fs → AllByRecursion (λ x. find nat_cmp x.0 (e ∷ es) ≡ Some x.1) fs
     later [] b k = tt
-    later (f ∷ fs) b k = (rw (tied f.0 e.0, apart e.0 f.0 (first_of_both _ _ b)) k.0, later fs (second_of_both _ _ b) k.1)
+    later (f ∷ fs) b k = (rw (tied f.0 e.0, eqb_flip f.0 e.0, apart e.0 f.0 (first_of_both _ _ b)) k.0, later fs (second_of_both _ _ b) k.1)
 
 -- each entry has what is known of its group
 pub each_known : (h : List BatchSteps) → AllByRecursion (λ e. (has_marker e.0 h ≡ true) × (e.1 ≡ group_in e.0 h)) (finite.entries (groups_in h))
@@ -86,9 +84,6 @@ unfolding IsDistinct
 keys_distinct [] h = tt
 keys_distinct {X} (e ∷ es) h = (first es (first_of_both _ _ h), keys_distinct es (second_of_both _ _ h))
   where
-    apart : (a b : ℕ) → T (is_lt (nat_cmp a b)) → eqb a b ≡ false
-    apart a b t = ne_eqb a b (λ e. omega (arith, below_is a b t, e))
-
     first : (fs : List (ℕ × X)) → T (below_all nat_cmp e.0 fs) → AllByRecursion (λ y. eqb e.0 y ≡ false) (map (λ x. x.0) fs)
     first [] b = tt
     first (f ∷ fs) b = (apart e.0 f.0 (first_of_both _ _ b), first fs (second_of_both _ _ b))
@@ -99,13 +94,7 @@ find_none k [] h = refl
 find_none k (e ∷ es) h = rw (tied k e.0, h.0) (find_none k es h.1)
 
 lists_marked : (g : ℕ) (h : List BatchSteps) → has_marker g h ≡ true → list_any (λ x. eqb x g) (finite.keys (groups_in h)) ≡ true
-lists_marked g h e = ap (λ (t : ℕ → Bool). list_any t (finite.keys (groups_in h))) (λ j x. turn x j) ∙ sym (finite.contains_key-keys (groups_in h) g) ∙ ap is_some (get-groups_in g h) ∙ ap (λ b. is_some (cond b (Some (group_in g h)) None)) e
-  where
-    turn : (x : ℕ) → eqb x g ≡ eq_by_cmp nat_cmp g x
-    turn x = flip x g ∙ sym (tied g x)
-      where
-        flip : (a b : ℕ) → eqb a b ≡ eqb b a
-        flip a b = grind (arith, nat_tests)
+lists_marked g h e = ap (λ (t : ℕ → Bool). list_any t (finite.keys (groups_in h))) (λ j x. (eqb_flip x g ∙ sym (tied g x)) j) ∙ sym (finite.contains_key-keys (groups_in h) g) ∙ ap is_some (get-groups_in g h) ∙ ap (λ b. is_some (cond b (Some (group_in g h)) None)) e
 
 lists_groups : (h all : List BatchSteps) → ((g : ℕ) → has_marker g h ≡ true → has_marker g all ≡ true) → ListsGroups (finite.keys (groups_in all)) h
 lists_groups [] all sub = tt

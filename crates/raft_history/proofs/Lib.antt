@@ -8,6 +8,7 @@ pub mod JoinLemmas
 pub mod JoinedLemmas
 pub mod KeptLaws
 pub mod KnownLemmas
+pub mod Laws
 pub mod MapLemmas
 pub mod MarkerLemmas
 pub mod MergeLaws

@@ -1,6 +1,6 @@
 -- Maps under numbers: one key written or taken away.
-use Rattle.raft_history.proofs.Common.{◌≡◌, ◌⊎◌, ℕ, Bool, true, false, cond, eqb, ◌||◌, Option, Some, None, refl, ap, ◌∙◌, inl, inr, is_some, unwrap_or, nat_cmp, eq_by_cmp, nat_cmp_total, eqb-true}
-use Rattle.raft_history.proofs.Common.{Mark, fresh, Table, MarkedRegions, MarkedRegion, region_in, with_region, Tables, with_table}
+use Rattle.raft_history.proofs.Common.{◌≡◌, ◌⊎◌, ℕ, Bool, true, false, cond, eqb, ◌||◌, Option, Some, None, refl, ap, ◌∙◌, inl, inr, is_some, unwrap_or, nat_cmp, eq_by_cmp, nat_cmp_total, eqb-true, Mark, fresh, Table, MarkedRegions}
+use Rattle.raft_history.proofs.Common.{MarkedRegion, region_in, with_region, Tables, with_table}
 use Rattle.std.specs.FinMap as finite
 use Rattle.raft_history.proofs.KnownLemmas.{tied}
 pub use Rattle.raft_history.proofs.StepListLemmas.{eqb_self}

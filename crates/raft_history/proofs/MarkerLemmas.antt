@@ -1,8 +1,7 @@
 -- The markers of a group, one more and joined.
-use Rattle.raft_history.proofs.Common.{and_parts, list_all-append, ◌≡◌, ℕ, Bool, true, false, cond, ◌&&◌, List, [], ◌∷◌, ◌++◌, Option, Some, None, refl, sym, ap, ◌∙◌, append_assoc, flat_map-append}
-use Rattle.raft_history.proofs.Common.{filter-append, AtomicGroupStatus, GroupMarker, RegionStep, has_status, Numbered, is_of, markers_of, is_same_status, open_stretch, GroupFront, Open, Ended, Begun}
-use Rattle.raft_history.proofs.Common.{led_by, front_by, front_behind, front_of, stretch_of, WaitingGroup, group_at, group_of, carried_stretch, joined_group_by, joined_group, whole_of, whole_group_by}
-use Rattle.raft_records.specs.declared.atomic_group.AtomicGroupStatus.TheVariants.{Begin, Middle, End}
+use Rattle.raft_history.proofs.Common.{Begin, Middle, End, and_parts, list_all-append, ◌≡◌, ℕ, Bool, true, false, cond, ◌&&◌, List, [], ◌∷◌, ◌++◌, Option, Some, None, refl, sym, ap, ◌∙◌, append_assoc, flat_map-append, filter-append}
+use Rattle.raft_history.proofs.Common.{AtomicGroupStatus, GroupMarker, RegionStep, has_status, Numbered, is_of, markers_of, is_same_status, open_stretch, GroupFront, Open, Ended, Begun, led_by, front_by, front_behind, front_of, stretch_of}
+use Rattle.raft_history.proofs.Common.{WaitingGroup, group_at, group_of, carried_stretch, joined_group_by, joined_group, whole_of, whole_group_by}
 use Rattle.raft_history.proofs.Words.{region_steps_of, are_middles}
 
 pub markers_of-append : (g : ℕ) (ps qs : List Numbered) → markers_of g (ps ++ qs) ≡ markers_of g ps ++ markers_of g qs

@@ -1,6 +1,6 @@
 -- The regions that joined histories name.
-use Rattle.raft_history.proofs.Common.{◌≡◌, ℕ, Bool, true, false, cond, ◌||◌, List, [], ◌∷◌, ◌++◌, Option, Some, None, refl, sym, ap, ◌∙◌, flat_map, list_any, BatchSteps, GroupMarker, whole_steps, steps_of, EachApart, effects, is_named}
-use Rattle.raft_history.proofs.Common.{RegionStep, names, steps_on, WholeGroup, whole_group, one_marker, WaitingGroups, groups_in, known_of, whole_groups, steps_or, steps_by_batch, names_by, names_by_batch, steps_of_wholes, Step}
+use Rattle.raft_history.proofs.Common.{Rewrite, ◌≡◌, ℕ, Bool, true, false, cond, ◌||◌, List, [], ◌∷◌, ◌++◌, Option, Some, None, refl, sym, ap, ◌∙◌, flat_map, list_any, BatchSteps, GroupMarker, whole_steps, steps_of, EachApart, effects}
+use Rattle.raft_history.proofs.Common.{is_named, RegionStep, names, steps_on, WholeGroup, whole_group, one_marker, WaitingGroups, groups_in, known_of, whole_groups, steps_or, steps_by_batch, names_by, names_by_batch, steps_of_wholes, Step}
 use Rattle.raft_history.proofs.Common.{AtomicGroup, map_none, or_assoc, no_both, some_is, subst, inl, inr, append_assoc, append-nil, is_some, option_map, unwrap_or, option_and_then, LogQueue, Mark, there_if, table_over_older, is_there_over}
 use Rattle.raft_history.proofs.Common.{joined_mark, fresh, mark_of, Run, AreSteps, table_of, after_step, after, Table, refused_join, Event, batch_of, batches, Context, RegionStandsFor, AreExact, AreMerged, AreRegionsRefused}
 use Rattle.raft_history.proofs.Common.{region_steps_or, completed_steps, MarkedRegions, MarkedRegion, region_in, with_region, regions_after, region_steps_of_wholes, joined_marked}
@@ -8,7 +8,6 @@ use Rattle.raft_history.proofs.EffectLemmas.{steps_on-none}
 use Rattle.raft_history.proofs.KnownLemmas.{steps_across}
 use Rattle.raft_history.proofs.MoreLemmas.{steps-one}
 use Rattle.raft_history.proofs.WithoutMarkers.{named-steps, steps_on-some}
-use Rattle.raft_base.specs.declared.pipe_log.LogQueue.TheVariants.{Rewrite}
 use Rattle.raft_history.proofs.Words.{AreInFiles}
 use Rattle.raft_history.proofs.ReadLemmas.{own-whole_group, own-wholes, holds_joined, read_holds, read_refused, read_marked, refused_more}
 use Rattle.raft_history.proofs.SoundLemmas.{steps_good, batches-append}
@@ -89,12 +88,6 @@ refused_marked q r x None t ss rs h k e = absurd cc
 refused_marked q r x (Some m) t ss rs h k e = refused_join q r x.mark m x.table t ss rs h.stands k.stands
     (map_none {B = MarkedRegion} (λ t. record { mark = joined_mark q r x.mark x.table m; table = t }) (table_over_older q r m t x.table) e)
 
-unnamed : (q : LogQueue) (rs : MarkedRegions) (bs : List BatchSteps) → AreExact q rs bs → (r : ℕ) → finite.get rs.marks r ≡ None → steps_of r bs ≡ []
-unnamed q rs bs ex r e = (named-steps r bs).0 (sym (ex.marked r) ∙ ap is_some e)
-
-names_wholes : (r : ℕ) (ws : List WholeGroup) → names r (region_steps_of_wholes ws) ≡ list_any (λ w. names r w.steps) ws
-names_wholes r ws = sym (has_steps-own r (region_steps_of_wholes ws)) ∙ ap has_steps (own-wholes r ws) ∙ has_steps-wholes r ws
-
 -- two contexts, by their regions and groups
 pub record Parts (q : LogQueue) (c d : Context) (h k : List Event) : Type 0 where
   pub older_groups : c.groups ≡ groups_in (batches h)
@@ -131,7 +124,7 @@ regions_merged q c d h k new p m = record { each = each; marked = marked }
     each r = subst (RegionStandsFor q r (region_in new r)) (append_assoc (steps_of r (batches h)) (W r) (steps_of r (batches k)) ∙ sym (across q c d h k p r))
         (holds_marked q r (region_in m.middle r) (region_in new r) (finite.get d.regions.marks r) (finite.get d.regions.tables r) (steps_of r (batches h) ++ W r) (steps_of r (batches k))
         (steps-append (steps_of r (batches h)) (W r) (steps_good r h p.older_files) (wholes_good q c d h k p r)) (steps_good r k p.newer_files)
-        (middle_holds q c d h k m.middle p m.wholes r) (p.newer.each r) (unnamed q d.regions (batches k) p.newer r) (m.regions r))
+        (middle_holds q c d h k m.middle p m.wholes r) (p.newer.each r) (λ e. (named-steps r (batches k)).0 (sym (p.newer.marked r) ∙ ap is_some e)) (m.regions r))
 
     marked : (r : ℕ) → is_some (finite.get new.marks r) ≡ is_named r (batches (h ++ k))
     marked r = m.marked r ∙ ap (λ b. b || is_some (finite.get d.regions.marks r)) (read_marked q c.regions m.middle (region_steps_of_wholes (whole_groups c.groups d.groups)) m.wholes r)
@@ -139,7 +132,8 @@ regions_merged q c d h k new p m = record { each = each; marked = marked }
         ∙ ap (λ b. b || (names r (region_steps_of_wholes (whole_groups c.groups d.groups)) || is_some (finite.get d.regions.marks r))) (p.older.marked r)
         ∙ ap (λ b. is_named r (batches h) || (names r (region_steps_of_wholes (whole_groups c.groups d.groups)) || b)) (p.newer.marked r)
         ∙ ap (λ b. is_named r (batches h) || (b || is_named r (batches k)))
-        (names_wholes r (whole_groups c.groups d.groups) ∙ ap (λ g. list_any (λ w. names r w.steps) (whole_groups g d.groups)) p.older_groups
+        (sym (has_steps-own r (region_steps_of_wholes (whole_groups c.groups d.groups))) ∙ ap has_steps (own-wholes r (whole_groups c.groups d.groups)) ∙ has_steps-wholes r (whole_groups c.groups d.groups)
+        ∙ ap (λ g. list_any (λ w. names r w.steps) (whole_groups g d.groups)) p.older_groups
         ∙ ap (λ g. list_any (λ w. names r w.steps) (whole_groups (groups_in (batches h)) g)) p.newer_groups)
         ∙ sym (named_across r (batches h) (batches k) (subst (λ l. EachApart (effects l)) (batches-append h k) p.apart)) ∙ ap (is_named r) (sym (batches-append h k))
 
@@ -170,14 +164,11 @@ own-completed r g b (Some m) = go (whole_group (known_of g m.group) (one_marker 
     go None = own_none r
     go (Some w) = own-whole_group r w
 
-batches-one : (h : List Event) (e : Event) → batches (h ++ e ∷ []) ≡ batches h ++ batch_of e ∷ []
-batches-one h e = batches-append h (e ∷ [])
-
 abbrev steps_taken : WaitingGroups → Event → List RegionStep
 steps_taken g e = completed_steps g (batch_of e) (batch_of e).marker
 
 one_more : (g : WaitingGroups) (h : List Event) (e : Event) (r : ℕ) → g ≡ groups_in (batches h) → steps_of r (batches (h ++ e ∷ [])) ≡ steps_of r (batches h) ++ steps_on r (steps_taken g e)
-one_more g h e r is = ap (steps_of r) (batches-one h e) ∙ steps-one r (batches h) (batch_of e)
+one_more g h e r is = ap (steps_of r) (batches-append h (e ∷ [])) ∙ steps-one r (batches h) (batch_of e)
     ∙ ap (λ l. steps_of r (batches h) ++ l)
     (sym (ap (λ g. steps_on r (steps_taken g e)) is ∙ own-completed r (groups_in (batches h)) (batch_of e) (batch_of e).marker))
 
@@ -195,7 +186,7 @@ regions_taken q c h e new is files files' ex m = record {
       ∙ ap (λ b. is_named r (batches h) || b)
       (sym (has_steps-own r (steps_taken c.groups e)) ∙ ap has_steps (own-completed r c.groups (batch_of e) (batch_of e).marker)
       ∙ by_batch r c.groups (batch_of e) (batch_of e).marker ∙ ap (λ g. names_by_batch r g (batch_of e) (batch_of e).marker) is)
-      ∙ sym (named-one r (batches h) (batch_of e)) ∙ ap (is_named r) (sym (batches-one h e));
+      ∙ sym (named-one r (batches h) (batch_of e)) ∙ ap (is_named r) (sym (batches-append h (e ∷ [])));
 }
 
 pub taken_refused : (q : LogQueue) (c : Context) (h : List Event) (e : Event) → c.groups ≡ groups_in (batches h) → AreInFiles h →
@@ -232,12 +223,9 @@ there_some : (b : Bool) (t : Table) → there_if b (Some t) ≡ None → ⊥
 there_some true t e = cc
 there_some false t e = cc
 
-rewrite_applied : (r : ℕ) (m : Mark) (t o : Option Table) → table_over_older Rewrite r m t o ≡ None → ⊥
-rewrite_applied r m t o e = there_some (is_there_over m t o) _ e
-
 rewrite_marked : (r : ℕ) (o : Option Mark) (t : Option Table) (x : MarkedRegion) → joined_marked Rewrite r o t x ≡ None → ⊥
 rewrite_marked r None t x e = cc
-rewrite_marked r (Some m) t x e = rewrite_applied r m t x.table (map_none {B = MarkedRegion} (λ t. record { mark = joined_mark Rewrite r x.mark x.table m; table = t }) (table_over_older Rewrite r m t x.table) e)
+rewrite_marked r (Some m) t x e = there_some (is_there_over m t x.table) _ (map_none {B = MarkedRegion} (λ t. record { mark = joined_mark Rewrite r x.mark x.table m; table = t }) (table_over_older Rewrite r m t x.table) e)
 
 pub rewrite_refused : (c d : Context) → AreRegionsRefused Rewrite c d → ⊥
 rewrite_refused c d (inl e) = let f = rewrite_read c.regions (region_steps_of_wholes (whole_groups c.groups d.groups)) in no_both e f.1

@@ -1,12 +1,10 @@
 -- The map of groups of joined histories and of one more batch, and one more batch's steps.
-use Rattle.raft_history.proofs.Common.{list_any-append, ◌≡◌, ℕ, Bool, true, false, cond, ◌||◌, eqb, List, [], ◌∷◌, ◌++◌, length, Option, Some, None, refl, sym, ap, ◌∙◌, eqb-true, eq-eqb, map}
-use Rattle.raft_history.proofs.Common.{IsDistinct, unwrap_or, nat_cmp, nat_cmp_total, nat_cmp-IsAntisymmetric, same_map, find, AtomicGroupStatus, GroupMarker, BatchSteps, completed_as, completed_by}
-use Rattle.raft_history.proofs.Common.{effects_behind, effects, steps_of, Numbered, numbered_from, is_of, markers_of, open_stretch, RegionStep, without_marker, front_of, Open, Begun, WaitingGroup}
-use Rattle.raft_history.proofs.Common.{joined_group, whole_group, whole_of, stretch_of, one_marker, group_of, group_in, WaitingGroups, groups_in, known_of, joined_with, joined_groups, groups_after}
-use Rattle.raft_history.proofs.Common.{steps_or, steps_by_batch}
+use Rattle.raft_history.proofs.Common.{Begin, Middle, End, list_any-append, ◌≡◌, ℕ, Bool, true, false, cond, ◌||◌, eqb, List, [], ◌∷◌, ◌++◌, length, Option, Some, None, refl, sym, ap, ◌∙◌, eqb-true, eq-eqb, map, IsDistinct, unwrap_or}
+use Rattle.raft_history.proofs.Common.{nat_cmp, nat_cmp_total, nat_cmp-IsAntisymmetric, same_map, find, AtomicGroupStatus, GroupMarker, BatchSteps, completed_as, completed_by, effects_behind, effects, steps_of, Numbered, numbered_from}
+use Rattle.raft_history.proofs.Common.{is_of, markers_of, open_stretch, RegionStep, without_marker, front_of, Open, Begun, WaitingGroup, joined_group, whole_group, whole_of, stretch_of, one_marker, group_of, group_in, WaitingGroups}
+use Rattle.raft_history.proofs.Common.{groups_in, known_of, joined_with, joined_groups, groups_after, steps_or, steps_by_batch}
 use Rattle.std.proofs.lemmas.List.{append-nil}
 use Rattle.std.specs.FinMap as finite
-use Rattle.raft_records.specs.declared.atomic_group.AtomicGroupStatus.TheVariants.{Begin, Middle, End}
 use Rattle.raft_history.proofs.Words.{all_steps}
 use Rattle.raft_history.proofs.EffectLemmas.{effects_behind-one, all_steps-append, all_steps-one}
 use Rattle.raft_history.proofs.JoinedLemmas.{group_in-append, effects-append}
@@ -28,9 +26,6 @@ get-joined_with older (e ∷ es) q one = get-joined_with (finite.insert older e.
     go true t = rw (ap (λ k. find nat_cmp k es) (eqb-true q e.0 t) ∙ find_none e.0 es one.0) (ap (λ x. Some (joined_group (known_of older x) e.1)) (sym (eqb-true q e.0 t)))
     go false t = refl
 
-has_marker-append : (g : ℕ) (h k : List BatchSteps) → has_marker g (h ++ k) ≡ (has_marker g h || has_marker g k)
-has_marker-append g h k = list_any-append (λ (b : BatchSteps). is_of g b.marker) h k
-
 -- no more markers
 joined_group-without_marker : (g : ℕ) (h k : List BatchSteps) → has_marker g k ≡ false → group_in g (h ++ k) ≡ group_in g h
 joined_group-without_marker g h k e = group_in-append g h k ∙ ap (joined_group (group_in g h)) (group_in-without_marker g k e ∙ sym (group_in-without_marker g [] refl)) ∙ sym (group_in-append g h []) ∙ ap (group_in g) (append-nil h)
@@ -45,7 +40,7 @@ groups_in-append h k = same_map nat_cmp_total nat_cmp-IsAntisymmetric (groups_in
     go q false a false b = refl
 
     both : (q : ℕ) → finite.get (groups_in (h ++ k)) q ≡ joined_at (cond (has_marker q h) (Some (group_in q h)) None) (cond (has_marker q k) (Some (group_in q k)) None)
-    both q = get-groups_in q (h ++ k) ∙ ap (λ x. cond x (Some (group_in q (h ++ k))) None) (has_marker-append q h k) ∙ go q (has_marker q h) refl (has_marker q k) refl
+    both q = get-groups_in q (h ++ k) ∙ ap (λ x. cond x (Some (group_in q (h ++ k))) None) (list_any-append (λ (b : BatchSteps). is_of q b.marker) h k) ∙ go q (has_marker q h) refl (has_marker q k) refl
 
     join : (q : ℕ) → finite.get (joined_groups (groups_in h) (groups_in k)) q ≡ joined_at (cond (has_marker q h) (Some (group_in q h)) None) (cond (has_marker q k) (Some (group_in q k)) None)
     join q = get-joined_with (groups_in h) (finite.entries (groups_in k)) q (keys_distinct (finite.entries (groups_in k)) (finite.entries_sorted (groups_in k)))

@@ -1,6 +1,6 @@
 -- A new context stands exactly for the empty history.
-use Rattle.raft_history.proofs.Common.{◌≡◌, ◌+◌, ◌≤◌, arith, [], refl, sym, ap, subst, ◌∙◌, is_some, unwrap_or, nat_cmp, LogQueue, fresh, new_context, RegionStandsFor, AreExact, IsExactFor}
-use Rattle.raft_history.proofs.Common.{records_in, no_regions, region_in, table_records, all_records, waiting_records, WaitingGroup, groups_in, held_steps}
+use Rattle.raft_history.proofs.Common.{◌≡◌, ◌+◌, ◌≤◌, arith, [], refl, sym, ap, subst, ◌∙◌, is_some, unwrap_or, nat_cmp, LogQueue, fresh, new_context, RegionStandsFor, AreExact, IsExactFor, records_in, no_regions, region_in, table_records}
+use Rattle.raft_history.proofs.Common.{all_records, waiting_records, WaitingGroup, groups_in, held_steps}
 use Rattle.std.specs.FinMap as finite
 use Rattle.raft_history.proofs.ContextLaws.{no_steps, exact_accepted}
 use Rattle.raft_history.proofs.ReadLemmas.{holds_none}

@@ -1,12 +1,10 @@
 -- What waits, and what becomes whole, is of the queue.
-use Rattle.raft_history.proofs.Common.{◌≡◌, ℕ, suc, List, [], ◌∷◌, ◌++◌, Option, Some, None, sym, subst, AllByRecursion, cons_option, FileId, LogQueue, AtomicGroup, AtomicGroupStatus, GroupMarker}
-use Rattle.raft_history.proofs.Common.{BatchSteps, Event, batches, AreInFile, FilesFrom, IsStepOfQueue, Numbered, numbered_from, markers_of, open_stretch, named_regions, on_each}
-use Rattle.raft_history.proofs.Common.{region_steps_of_whole, region_steps_of_wholes, RegionStep, steps_of_items, GroupFront, Open, Ended, Begun, led_by, front_by, front_behind, front_of, OpenStretch}
-use Rattle.raft_history.proofs.Common.{stretch_of, WaitingGroup, WholeGroup, whole_of, whole_group_by, whole_group, group_in, groups_in, known_of, whole_with, whole_groups, front_steps, stretch_steps}
-use Rattle.raft_history.proofs.Common.{Item}
+use Rattle.raft_history.proofs.Common.{Begin, Middle, End, ◌≡◌, ℕ, suc, List, [], ◌∷◌, ◌++◌, Option, Some, None, sym, subst, AllByRecursion, cons_option, FileId, LogQueue, AtomicGroup, AtomicGroupStatus, GroupMarker, BatchSteps, Event}
+use Rattle.raft_history.proofs.Common.{batches, AreInFile, FilesFrom, IsStepOfQueue, Numbered, numbered_from, markers_of, open_stretch, named_regions, on_each, region_steps_of_whole, region_steps_of_wholes, RegionStep, steps_of_items}
+use Rattle.raft_history.proofs.Common.{GroupFront, Open, Ended, Begun, led_by, front_by, front_behind, front_of, OpenStretch, stretch_of, WaitingGroup, WholeGroup, whole_of, whole_group_by, whole_group, group_in, groups_in, known_of}
+use Rattle.raft_history.proofs.Common.{whole_with, whole_groups, front_steps, stretch_steps, Item}
 use Rattle.std.specs.FinMap as finite
-use Rattle.raft_records.specs.declared.atomic_group.AtomicGroupStatus.TheVariants.{Begin, Middle, End}
-use Rattle.raft_history.proofs.Words.{AreInFiles, region_steps_of}
+use Rattle.raft_history.proofs.Words.{AreInFiles}
 use Rattle.raft_history.proofs.EffectLemmas.{each-append, each_flat, each_markers, each_open, each_weaker}
 use Rattle.raft_history.proofs.KnownLemmas.{known-groups_in, each_known}
 use Rattle.raft_history.proofs.ReadItemLemmas.{IsStepInFile, is_of_queue, steps_in_file}
@@ -19,9 +17,6 @@ are-append q is js a b = each-append (λ (i : RegionStep). IsStepOfQueue q i.ste
 
 abbrev IsOf : LogQueue → Numbered → Type 0
 IsOf q p = Are q p.batch.steps
-
-items_are : (q : LogQueue) (ps : List Numbered) → AllByRecursion (IsOf q) ps → Are q (region_steps_of ps)
-items_are q ps h = each_flat (λ (i : RegionStep). IsStepOfQueue q i.step) (λ (p : Numbered). p.batch.steps) ps h
 
 abbrev pub Holds : LogQueue → WaitingGroup → Type 0
 Holds q g = Are q (front_steps g.front) × Are q (stretch_steps g.stretch)
@@ -47,7 +42,7 @@ front_are q (p ∷ ps) h = go p.batch.marker (front_are q ps h.1)
 
 stretch_are : (q : LogQueue) (ps : List Numbered) → AllByRecursion (IsOf q) ps → Are q (stretch_steps (stretch_of ps))
 stretch_are q [] h = tt
-stretch_are q (p ∷ ps) h = items_are q (p ∷ ps) h
+stretch_are q (p ∷ ps) h = each_flat (λ (i : RegionStep). IsStepOfQueue q i.step) (λ (p : Numbered). p.batch.steps) (p ∷ ps) h
 
 group_holds : (q : LogQueue) (g : ℕ) (bs : List BatchSteps) → AllByRecursion (IsOf q) (numbered_from 0 bs) → Holds q (group_in g bs)
 group_holds q g bs h = (

@@ -1,9 +1,8 @@
 -- Items and entries that are read from a file, or placed in one.
-use Rattle.raft_history.proofs.Common.{◌≡◌, true, false, List, [], ◌∷◌, Option, Some, None, refl, ap, ◌∙◌, option_map_or, AllByRecursion, FileBlockHandle, FileId, LogQueue, EntryIndex, IsPlaceInFile, IsDecodedIn, entries, is_same, IsRunIn}
-use Rattle.raft_history.proofs.Common.{is_placed_in, ℕ, Bool, cond, same_some, OpType, is_reserved, Item, Content, command, pair, Step, Run, Compact, Truncate, Put, Del, Clean, IsStep, IsPairIn, IsInFile, AreInFile, IsStepOfQueue}
-use Rattle.raft_history.proofs.Common.{RegionStep, pair_step, content_step, steps_of_items, subst, sym, AreDecodedIn, IsWritableWith, suc, ◌-◌, ◌^◌, ◌<◌, CompressionType, RisesFrom, IsRun, end_of_content, placed_content, placed_item}
-use Rattle.raft_history.proofs.Common.{FitsBehind, FitTogether}
-use Rattle.raft_base.specs.declared.pipe_log.LogQueue.TheVariants.{Append, Rewrite}
+use Rattle.raft_history.proofs.Common.{Append, Rewrite, ◌≡◌, true, false, List, [], ◌∷◌, Option, Some, None, refl, ap, ◌∙◌, option_map_or, AllByRecursion, FileBlockHandle, FileId, LogQueue, EntryIndex, IsPlaceInFile, IsDecodedIn, entries}
+use Rattle.raft_history.proofs.Common.{is_same, IsRunIn, is_placed_in, ℕ, Bool, cond, same_some, OpType, is_reserved, Item, Content, command, pair, Step, Run, Compact, Truncate, Put, Del, Clean, IsStep, IsPairIn, IsInFile, AreInFile}
+use Rattle.raft_history.proofs.Common.{IsStepOfQueue, RegionStep, pair_step, content_step, steps_of_items, subst, sym, AreDecodedIn, IsWritableWith, suc, ◌-◌, ◌^◌, ◌<◌, CompressionType, RisesFrom, IsRun, end_of_content, placed_content}
+use Rattle.raft_history.proofs.Common.{placed_item, FitsBehind, FitTogether}
 use Rattle.raft_history.proofs.Words.{with_step}
 use Rattle.raft_records.specs.declared.key_value.OpType.TheVariants.{Put, Del}
 use Rattle.std.proofs.Common.{map}

@@ -1,10 +1,9 @@
 -- Items that are read into the marks and tables of all regions.
-use Rattle.raft_history.proofs.Common.{map_none, map_some, option_and_then_some, or-false, then_none, some_is, ◌≡◌, ◌⊎◌, ℕ, Bool, true, false, cond, eqb, ◌||◌, List, [], ◌∷◌, ◌++◌, Option, Some, None}
-use Rattle.raft_history.proofs.Common.{refl, sym, ap, subst, ◌∙◌, inl, inr, append_assoc, append-nil, is_some, option_map, option_and_then, LogQueue, table_over_older, joined_mark, end_at_reach}
-use Rattle.raft_history.proofs.Common.{fresh, mark_of, own_of, HoldsDeleted, IsExactMark, Step, AtomicGroup, IsStep, AreSteps, after_step, after, table_of, Table, after-append, stands_fresh}
-use Rattle.raft_history.proofs.Common.{stands_one, stands_join, refused_step, one_step, joined_parts, union_empty, holds_one, exact_one, holds_join, exact_join, RegionStandsFor, whole_steps}
-use Rattle.raft_history.proofs.Common.{steps_of_wholes, MarkedRegions, MarkedRegion, region_in, with_region, stepped_region, regions_after, named_regions, on_each, region_steps_of_whole}
-use Rattle.raft_history.proofs.Common.{region_steps_of_wholes, joined_region, RegionStep, names, steps_on, WholeGroup}
+use Rattle.raft_history.proofs.Common.{map_none, map_some, option_and_then_some, or-false, then_none, some_is, ◌≡◌, ◌⊎◌, ℕ, Bool, true, false, cond, eqb, ◌||◌, List, [], ◌∷◌, ◌++◌, Option, Some, None, refl, sym, ap, subst, ◌∙◌, inl, inr}
+use Rattle.raft_history.proofs.Common.{append_assoc, append-nil, is_some, option_map, option_and_then, LogQueue, table_over_older, joined_mark, end_at_reach, fresh, mark_of, own_of, HoldsDeleted, IsExactMark, Step, AtomicGroup, IsStep}
+use Rattle.raft_history.proofs.Common.{AreSteps, after_step, after, table_of, Table, after-append, stands_fresh, stands_one, stands_join, refused_step, one_step, joined_parts, union_empty, holds_one, exact_one, holds_join, exact_join}
+use Rattle.raft_history.proofs.Common.{RegionStandsFor, whole_steps, steps_of_wholes, MarkedRegions, MarkedRegion, region_in, with_region, stepped_region, regions_after, named_regions, on_each, region_steps_of_whole, region_steps_of_wholes}
+use Rattle.raft_history.proofs.Common.{joined_region, RegionStep, names, steps_on, WholeGroup}
 use Rattle.std.specs.FinMap as finite
 use Rattle.raft_history.proofs.MapLemmas.{IsOther, by_region, held_own, held_other, marked_with}
 use Rattle.raft_history.proofs.StepListLemmas.{eqb_self, names_cons, names_none, own-append, own_cons, own_first, own_head, own_none, own_nothing, own_other, steps-append, steps_left, steps_right}

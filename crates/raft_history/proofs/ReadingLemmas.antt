@@ -1,10 +1,9 @@
 -- Steps on the tables of all regions, seen from each region.
-use Rattle.raft_history.proofs.Common.{option_and_then_some, then_none, ◌≡◌, ◌⊎◌, ℕ, List, [], ◌∷◌, Option, Some, None, sym, ap, subst, ◌∙◌, inl, inr, option_and_then, LogQueue, table_of, after_step, after, Table, same_some, RegionStep}
-use Rattle.raft_history.proofs.Common.{Tables, with_table, steps_on, tables_after, flat_map-map, batch_of, flat_map, entry_at, last_entry, last_pair, last_entry_stands, last_pair_stands, Event, BatchSteps, batches, steps_of, IsSoundIn}
-use Rattle.raft_history.proofs.Common.{IsOneReading, steps_of_items, ◌++◌, arith, append-nil, nat_cmp_total, nat_cmp-IsAntisymmetric, Step, after-append, IsReadNext, FilesFrom, HaveStatus, cleaned_in, cleaned_by_steps}
+use Rattle.raft_history.proofs.Common.{Append, option_and_then_some, then_none, ◌≡◌, ◌⊎◌, ℕ, List, [], ◌∷◌, Option, Some, None, sym, ap, subst, ◌∙◌, inl, inr, option_and_then, LogQueue, table_of, after_step, after, Table, same_some}
+use Rattle.raft_history.proofs.Common.{RegionStep, Tables, with_table, steps_on, tables_after, flat_map-map, batch_of, flat_map, entry_at, last_entry, last_pair, last_entry_stands, last_pair_stands, Event, BatchSteps, batches, steps_of}
+use Rattle.raft_history.proofs.Common.{IsSoundIn, IsOneReading, steps_of_items, ◌++◌, arith, append-nil, nat_cmp_total, nat_cmp-IsAntisymmetric, Step, after-append, IsReadNext, FilesFrom, HaveStatus, cleaned_in, cleaned_by_steps}
 use Rattle.raft_history.proofs.MapLemmas.{IsOther, by_region, with_own, with_other}
 use Rattle.raft_history.proofs.StepListLemmas.{own_none, own_head, own_other}
-use Rattle.raft_base.specs.declared.pipe_log.LogQueue.TheVariants.{Append}
 use Rattle.raft_history.proofs.SoundLemmas.{steps_good, without_marker, files-append, in_files-append, status-append, cleaned-append}
 use Rattle.raft_history.proofs.WithoutMarkers.{plain_steps}
 use Rattle.raft_history.proofs.StretchOfHistory.{plain-append}

@@ -1,30 +1,18 @@
 -- Tables and waiting groups have no more records than the history names.
-use Rattle.raft_history.proofs.Common.{accepted_is, cond_both, map_some, option_and_then_some, subst, some_is, ◌≡◌, ℕ, ◌+◌, ◌-◌, ◌≤◌, Bool, true, false, cond, not, List, [], ◌∷◌, ◌++◌, length, Option}
-use Rattle.raft_history.proofs.Common.{Some, None, refl, sym, ap, ◌∙◌, arith, append-nil, Ordering, option_map, nat_lt, nat_le, nat_cmp, slice_cmp, nat_list_cmp_total, is_sorted}
-use Rattle.raft_history.proofs.Common.{slice_cmp-IsAntisymmetric, nat_cmp-IsAntisymmetric, where_key, is_sorted-where_key, find-where_key, length-append, LogQueue, EntryIndex, below, from, KeySet}
-use Rattle.raft_history.proofs.Common.{without, Keys, Stored, with_pairs, pairs_over, Mark, entries_within, older_entries, atomic_group_over, table_over, is_refused_over, is_missed, is_there_over}
-use Rattle.raft_history.proofs.Common.{there_if, table_over_older, joined_mark, mark_of, entries_after_replay, leaves_hole, Step, Run, Compact, Truncate, Put, Del, AtomicGroup, after_step, table_of}
-use Rattle.raft_history.proofs.Common.{Table, empty_table, AtomicGroupStatus, GroupMarker, Event, batch_of, Context, merged_with, completed_steps, region_steps_or, taken_with, IsBounded, AreMerged}
-use Rattle.raft_history.proofs.Common.{records_of, records_in, MarkedRegions, MarkedRegion, region_in, with_region, regions_after, named_regions, on_each, region_steps_of_whole}
-use Rattle.raft_history.proofs.Common.{region_steps_of_wholes, Marks, joined_marked, records_or, records_in_wholes, waiting_records, table_records, all_records, RegionStep, Tables, with_table}
-use Rattle.raft_history.proofs.Common.{steps_of_items, joined_group, WaitingGroup, WholeGroup, whole_group, one_marker, known_of, groups_after, whole_groups, held_steps}
-use Rattle.std.proofs.Common.{filter}
-use lib.Dec.{T}
-use Rattle.std.specs.declared.cmp.Ordering.TheVariants.{Equal}
+use Rattle.raft_history.proofs.Common.{Append, Rewrite, Begin, Middle, End, Equal, T, length-filter-le, accepted_is, cond_both, map_some, option_and_then_some, subst, some_is, ◌≡◌, ℕ, ◌+◌, ◌-◌, ◌≤◌, Bool, true, false, cond, not, List, []}
+use Rattle.raft_history.proofs.Common.{◌∷◌, ◌++◌, length, Option, Some, None, refl, sym, ap, ◌∙◌, arith, append-nil, Ordering, option_map, nat_lt, nat_le, nat_cmp, slice_cmp, nat_list_cmp_total, is_sorted, slice_cmp-IsAntisymmetric}
+use Rattle.raft_history.proofs.Common.{nat_cmp-IsAntisymmetric, where_key, is_sorted-where_key, find-where_key, length-append, LogQueue, EntryIndex, below, from, KeySet, without, Keys, Stored, with_pairs, pairs_over, Mark, entries_within}
+use Rattle.raft_history.proofs.Common.{older_entries, atomic_group_over, table_over, is_refused_over, is_missed, is_there_over, there_if, table_over_older, joined_mark, mark_of, entries_after_replay, leaves_hole, Step, Run, Compact}
+use Rattle.raft_history.proofs.Common.{Truncate, Put, Del, AtomicGroup, after_step, table_of, Table, empty_table, AtomicGroupStatus, GroupMarker, Event, batch_of, Context, merged_with, completed_steps, region_steps_or, taken_with}
+use Rattle.raft_history.proofs.Common.{IsBounded, AreMerged, records_of, records_in, MarkedRegions, MarkedRegion, region_in, with_region, regions_after, named_regions, on_each, region_steps_of_whole, region_steps_of_wholes, Marks}
+use Rattle.raft_history.proofs.Common.{joined_marked, records_or, records_in_wholes, waiting_records, table_records, all_records, RegionStep, Tables, with_table, steps_of_items, joined_group, WaitingGroup, WholeGroup, whole_group}
+use Rattle.raft_history.proofs.Common.{one_marker, known_of, groups_after, whole_groups, held_steps}
 use Rattle.std.specs.FinMap as finite
 use Rattle.std.specs.FinSet as finset
-use Rattle.raft_base.specs.declared.pipe_log.LogQueue.TheVariants.{Append, Rewrite}
-use Rattle.raft_records.specs.declared.atomic_group.AtomicGroupStatus.TheVariants.{Begin, Middle, End}
 use Rattle.raft_history.proofs.TotalLemmas.{found, total-insert, total-remove, total-both}
 use Rattle.raft_history.proofs.WaitingLemmas.{records-append, joined_weight, waiting_known, merged_waiting}
 
 -- ---- lists and keys
-
-filtered : {X : Type 0} (p : X → Bool) (xs : List X) → length (filter p xs) ≤ length xs
-filtered p [] = omega arith
-filtered p (x ∷ xs) =
-    let rest : length (filter p xs) ≤ length xs = filtered p xs in
-    cond_both (p x) (x ∷ filter p xs) (filter p xs) (λ l. length l ≤ length (x ∷ xs)) (λ t. omega (arith, rest)) (λ t. omega (arith, rest))
 
 where_shorter : {K X : Type 0} (R : K → K → Ordering) (p : K → Bool) (es : List (K × X)) → length (where_key R p es) ≤ length es
 where_shorter R p [] = omega arith
@@ -87,15 +75,15 @@ of_table r (Some t) = refl
 
 below_shorter : (i : ℕ) (es : List EntryIndex) → length (below i es) ≤ length es
 unfolding below
-below_shorter i es = filtered (λ e. nat_lt e.index i) es
+below_shorter i es = length-filter-le (λ e. nat_lt e.index i) es
 
 from_shorter : (i : ℕ) (es : List EntryIndex) → length (from i es) ≤ length es
 unfolding from
-from_shorter i es = filtered (λ e. nat_le i e.index) es
+from_shorter i es = length-filter-le (λ e. nat_le i e.index) es
 
 part_shorter : (floor : ℕ) (cut : Option ℕ) (es : List EntryIndex) → length (entries_within floor cut es) ≤ length es
 unfolding entries_within
-part_shorter floor cut es = filtered _ es
+part_shorter floor cut es = length-filter-le _ es
 
 run_records : (q : LogQueue) (es run after : List EntryIndex) → entries_after_replay q es run ≡ Some after → length after ≤ length es + length run
 run_records q es [] after e = omega (arith, ap length (some_is e))

@@ -1,10 +1,9 @@
 -- That marks and tables of regions stand for some steps, kept by steps and joins; and overlays by exact marks.
-use Rattle.raft_history.proofs.Common.{some_is, ◌≡◌, ℕ, cond, ◌||◌, List, [], ◌++◌, Option, Some, None, refl, sym, ap, subst, ◌∙◌, is_some, AllByRecursion, unwrap_or, nat_cmp, FileId, LogQueue, Item}
-use Rattle.raft_history.proofs.Common.{Mark, fresh, has_clean, kept_if, overlay_under, overlaid_table, IsExactMark, Step, Run, IsStep, AreSteps, table_of, Table, overlay_exact, Event, BatchSteps}
-use Rattle.raft_history.proofs.Common.{batches, RegionStandsFor, AreExact, steps_of, is_named, AreInFile, IsStepOfQueue, StandForSteps, AreJoined, overlaid_region, MarkedRegions, MarkedRegion}
-use Rattle.raft_history.proofs.Common.{no_regions, region_in, regions_after, region_steps_of_whole, joined_marked, RegionStep, steps_on, steps_of_items, WholeGroup}
+use Rattle.raft_history.proofs.Common.{Append, some_is, ◌≡◌, ℕ, cond, ◌||◌, List, [], ◌++◌, Option, Some, None, refl, sym, ap, subst, ◌∙◌, is_some, AllByRecursion, unwrap_or, nat_cmp, FileId, LogQueue, Item, Mark, fresh, has_clean, kept_if}
+use Rattle.raft_history.proofs.Common.{overlay_under, overlaid_table, IsExactMark, Step, Run, IsStep, AreSteps, table_of, Table, overlay_exact, Event, BatchSteps, batches, RegionStandsFor, AreExact, steps_of, is_named, AreInFile}
+use Rattle.raft_history.proofs.Common.{IsStepOfQueue, StandForSteps, AreJoined, overlaid_region, MarkedRegions, MarkedRegion, no_regions, region_in, regions_after, region_steps_of_whole, joined_marked, RegionStep, steps_on, steps_of_items}
+use Rattle.raft_history.proofs.Common.{WholeGroup}
 use Rattle.std.specs.FinMap as finite
-use Rattle.raft_base.specs.declared.pipe_log.LogQueue.TheVariants.{Append}
 use Rattle.raft_history.proofs.Words.{AreInFiles}
 use Rattle.raft_history.proofs.EffectLemmas.{each_weaker}
 use Rattle.raft_history.proofs.QueueLemmas.{items_in_queue, whole_in_queue}

@@ -1,11 +1,9 @@
 -- What both queues give together where the append queue had each rewritten record.
-use Rattle.raft_history.proofs.Common.{some_is, ◌≡◌, ℕ, Bool, true, false, cond, List, [], ◌∷◌, ◌++◌, Some, None, refl, sym, ap, subst, ◌∙◌, AllByRecursion, EntryIndex, Stored, overlaid_table, Step}
-use Rattle.raft_history.proofs.Common.{Run, Put, table_of, after, entry_at, last_entry_stands, last_pair_stands, Event, BatchSteps, batches, IsReadingOfBoth, is_named, steps_of, IsSoundIn}
-use Rattle.raft_history.proofs.Common.{IsOneReading, RegionStep, Tables, steps_of_items, AreRewrittenFrom, HadEntry, HadTables, HaveSameRecords, IsStepHad}
+use Rattle.raft_history.proofs.Common.{Append, Rewrite, some_is, ◌≡◌, ℕ, Bool, true, false, cond, List, [], ◌∷◌, ◌++◌, Some, None, refl, sym, ap, subst, ◌∙◌, AllByRecursion, EntryIndex, Stored, overlaid_table, Step, Run, Put, table_of}
+use Rattle.raft_history.proofs.Common.{after, entry_at, last_entry_stands, last_pair_stands, Event, BatchSteps, batches, IsReadingOfBoth, is_named, steps_of, IsSoundIn, IsOneReading, RegionStep, Tables, steps_of_items, AreRewrittenFrom}
+use Rattle.raft_history.proofs.Common.{HadEntry, HadTables, HaveSameRecords, IsStepHad}
 use Rattle.std.specs.FinMap as finite
-use Rattle.raft_base.specs.declared.pipe_log.LogQueue.TheVariants.{Append, Rewrite}
-use Rattle.raft_history.proofs.RewrittenLemmas.{HasSameRecords, Indexes, IsReached, IsSpoken, IsSpokenTable, IsStepWithin, any_front, entries_stay_within, entry_reached, overlay_same, pair_spoken}
-use Rattle.raft_history.proofs.RewrittenLemmas.{pairs_stay_within, unnamed_same}
+use Rattle.raft_history.proofs.RewrittenLemmas.{HasSameRecords, Indexes, IsReached, IsSpoken, IsSpokenTable, IsStepWithin, any_front, entries_stay_within, entry_reached, overlay_same, pair_spoken, pairs_stay_within, unnamed_same}
 use Rattle.raft_history.proofs.EachStepLemmas.{each_step_of}
 use Rattle.raft_history.proofs.EffectLemmas.{each_weaker}
 use Rattle.raft_history.proofs.SoundLemmas.{steps_good}

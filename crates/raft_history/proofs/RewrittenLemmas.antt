@@ -1,16 +1,13 @@
 -- Rewritten records that the append queue had, under the append queue's own tables.
-use Rattle.raft_history.proofs.Common.{or_parts, or_cases, leb-true, cond_both, and_right, list_any-append, option_and_then_some, or_left, or_right, ◌≡◌, ◌⊎◌, ℕ, ◌≤◌, Bool, true, false, cond, not}
-use Rattle.raft_history.proofs.Common.{◌||◌, List, [], ◌∷◌, ◌++◌, Option, Some, None, refl, sym, ap, subst, ◌∙◌, inl, inr, arith, nat_lt, nat_le, AllByRecursion, list_any, option_or, option_and_then}
-use Rattle.raft_history.proofs.Common.{nat_cmp, eq_by_cmp, slice_cmp, nat_list_cmp_total, slice_cmp-IsAntisymmetric, nat_cmp-IsAntisymmetric, false≢true, nat_tests, EntryIndex, end_of, KeySet}
-use Rattle.raft_history.proofs.Common.{without, Keys, Stored, pairs_over, lesser, last_that, speaks_of_index, said_of_index, last_entry, is_same_key, speaks_of_key, said_of_key, last_pair}
-use Rattle.raft_history.proofs.Common.{entries_within, has_clean, greatest_compaction, least_cut, deleted_of, is_unjoined, rewritten_within, overlay, overlaid_table, kept_if, entries_after_replay}
-use Rattle.raft_history.proofs.Common.{leaves_hole, Step, Run, Compact, Truncate, Put, Del, Clean, table_of, after_step, after, Table, below, from, get-pairs_over, same_some, get-without, same_keys}
-use Rattle.raft_history.proofs.Common.{equal}
+use Rattle.raft_history.proofs.Common.{Append, Rewrite, or_parts, or_cases, leb-true, cond_both, and_right, list_any-append, option_and_then_some, or_left, or_right, ◌≡◌, ◌⊎◌, ℕ, ◌≤◌, Bool, true, false, cond, not, ◌||◌, List, [], ◌∷◌, ◌++◌}
+use Rattle.raft_history.proofs.Common.{Option, Some, None, refl, sym, ap, subst, ◌∙◌, inl, inr, arith, nat_lt, nat_le, AllByRecursion, list_any, option_or, option_and_then, nat_cmp, eq_by_cmp, slice_cmp, nat_list_cmp_total}
+use Rattle.raft_history.proofs.Common.{slice_cmp-IsAntisymmetric, nat_cmp-IsAntisymmetric, false≢true, nat_tests, EntryIndex, end_of, KeySet, without, Keys, Stored, pairs_over, lesser, last_that, speaks_of_index, said_of_index, last_entry}
+use Rattle.raft_history.proofs.Common.{is_same_key, speaks_of_key, said_of_key, last_pair, entries_within, has_clean, greatest_compaction, least_cut, deleted_of, is_unjoined, rewritten_within, overlay, overlaid_table, kept_if}
+use Rattle.raft_history.proofs.Common.{entries_after_replay, leaves_hole, Step, Run, Compact, Truncate, Put, Del, Clean, table_of, after_step, after, Table, below, from, get-pairs_over, same_some, get-without, same_keys, equal}
 use Rattle.std.specs.Prelude.{◌&&◌}
 use Rattle.std.specs.Option.{option_map, is_some}
 use Rattle.std.specs.FinMap as finite
 use Rattle.std.specs.FinSet as finset
-use Rattle.raft_base.specs.declared.pipe_log.LogQueue.TheVariants.{Append, Rewrite}
 use Rattle.raft_history.proofs.EffectLemmas.{each-append, each_filter, each_weaker}
 
 -- ---- steps that speak of an index or of a key

@@ -1,9 +1,8 @@
 -- Numbers are read by extents alone: batches under other numbers have the same effects.
-use Rattle.raft_history.proofs.Common.{flat_map-map, list_all-map, ◌≡◌, ◌≢◌, ℕ, suc, ◌+◌, ◌⊎◌, Bool, true, false, cond, ◌&&◌, List, [], ◌∷◌, ◌++◌, Option, Some, None, refl, sym, ap, ◌∙◌, inl, inr, arith, slice_index_or, map-append, filter}
-use Rattle.raft_history.proofs.Common.{map, AllByRecursion, AtomicGroupStatus, GroupMarker, BatchSteps, Effect, completed_as, completed_by, effects_behind, effects, region_steps_in, steps_by, first_in, AreApart, EachApart, has_status}
-use Rattle.raft_history.proofs.Common.{Numbered, numbered_from, is_of, markers_of, open_stretch, names, front_of, front_behind, stretch_of, group_of, not, eqb, append-nil, false≢true, eqb-true, eq-eqb, filter-append, steps_of, EndsNoEffect}
-use Rattle.raft_history.proofs.Common.{without_group}
-use Rattle.raft_records.specs.declared.atomic_group.AtomicGroupStatus.TheVariants.{Begin, Middle, End}
+use Rattle.raft_history.proofs.Common.{Begin, Middle, End, flat_map-map, list_all-map, ◌≡◌, ◌≢◌, ℕ, suc, ◌+◌, ◌⊎◌, Bool, true, false, cond, ◌&&◌, List, [], ◌∷◌, ◌++◌, Option, Some, None, refl, sym, ap, ◌∙◌, inl, inr, arith, slice_index_or}
+use Rattle.raft_history.proofs.Common.{map-append, filter, map, AllByRecursion, AtomicGroupStatus, GroupMarker, BatchSteps, Effect, completed_as, completed_by, effects_behind, effects, region_steps_in, steps_by, first_in, AreApart}
+use Rattle.raft_history.proofs.Common.{EachApart, has_status, Numbered, numbered_from, is_of, markers_of, open_stretch, names, front_of, front_behind, stretch_of, group_of, not, eqb, append-nil, false≢true, eqb-true, eq-eqb, filter-append}
+use Rattle.raft_history.proofs.Common.{steps_of, EndsNoEffect, without_group}
 use Rattle.raft_history.proofs.Words.{region_steps_of, all_steps, are_middles}
 use Rattle.raft_history.proofs.EffectLemmas.{by_completed, each_left, each_right}
 

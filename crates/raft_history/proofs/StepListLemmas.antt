@@ -1,10 +1,12 @@
 -- Lists of steps, and the steps on one region.
-use Rattle.raft_history.proofs.Common.{filter-append, map-append, ◌≡◌, ℕ, true, false, cond, eqb, ◌||◌, List, [], ◌∷◌, ◌++◌, refl, ap, ◌∙◌, map, filter, eq-eqb, Step, AreSteps, RegionStep, names}
-use Rattle.raft_history.proofs.Common.{steps_on}
+use Rattle.raft_history.proofs.Common.{arith, nat_tests, filter-append, map-append, ◌≡◌, ℕ, true, false, cond, eqb, ◌||◌, List, [], ◌∷◌, ◌++◌, refl, ap, ◌∙◌, map, filter, eq-eqb, Step, AreSteps, RegionStep, names, steps_on}
 use Rattle.raft_history.proofs.Words.{is_on}
 
 pub eqb_self : (r : ℕ) → eqb r r ≡ true
 eqb_self r = eq-eqb r r refl
+
+pub eqb_flip : (a b : ℕ) → eqb a b ≡ eqb b a
+eqb_flip a b = grind (arith, nat_tests)
 
 pub steps-append : (ss rs : List Step) → AreSteps ss → AreSteps rs → AreSteps (ss ++ rs)
 steps-append [] rs a b = b

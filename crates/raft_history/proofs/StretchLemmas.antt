@@ -1,9 +1,8 @@
 -- The effects are those of the group markers' own words.
-use Rattle.raft_history.proofs.Common.{and_parts, cond_both, ◌≡◌, ℕ, suc, ◌≤◌, Bool, true, false, cond, ◌&&◌, List, [], ◌∷◌, ◌++◌, Option, Some, None, refl, sym, ap, subst, ◌∙◌, inl, inr, append_assoc, arith, eqb-true, eq-eqb, filter}
-use Rattle.raft_history.proofs.Common.{AllByRecursion, AtomicGroupStatus, GroupMarker, BatchSteps, Effect, completed_as, completed_by, effects_behind, effects, has_status, Numbered, numbered_from, is_of, markers_of, is_same_status}
-use Rattle.raft_history.proofs.Common.{open_stretch, IsIn, IsMarkerOf, IsStretch, IsAlone, IsEffect, RiseFrom, AreEffects, ◌≢◌, ◌+◌, ◌<◌, ◌⊎◌, length, flat_map-append, region_steps_in, first_in, AreApart, EachApart, RegionStep, names}
-use Rattle.raft_history.proofs.Common.{GroupFront, Open, Ended, Begun, front_of, front_by, front_behind, led_by, stretch_of, WholeGroup, whole_group, whole_of, group_in}
-use Rattle.raft_records.specs.declared.atomic_group.AtomicGroupStatus.TheVariants.{Begin, Middle, End}
+use Rattle.raft_history.proofs.Common.{Begin, Middle, End, and_parts, cond_both, ◌≡◌, ℕ, suc, ◌≤◌, Bool, true, false, cond, ◌&&◌, List, [], ◌∷◌, ◌++◌, Option, Some, None, refl, sym, ap, subst, ◌∙◌, inl, inr, append_assoc, arith, eqb-true}
+use Rattle.raft_history.proofs.Common.{eq-eqb, filter, AllByRecursion, AtomicGroupStatus, GroupMarker, BatchSteps, Effect, completed_as, completed_by, effects_behind, effects, has_status, Numbered, numbered_from, is_of, markers_of}
+use Rattle.raft_history.proofs.Common.{is_same_status, open_stretch, IsIn, IsMarkerOf, IsStretch, IsAlone, IsEffect, RiseFrom, AreEffects, ◌≢◌, ◌+◌, ◌<◌, ◌⊎◌, length, flat_map-append, region_steps_in, first_in, AreApart, EachApart}
+use Rattle.raft_history.proofs.Common.{RegionStep, names, GroupFront, Open, Ended, Begun, front_of, front_by, front_behind, led_by, stretch_of, WholeGroup, whole_group, whole_of, group_in}
 use Rattle.raft_history.proofs.Words.{are_middles, region_steps_of}
 use Rattle.raft_history.proofs.EffectLemmas.{by_completed, each-append, each_weaker, effects_behind-append, each_right, each_markers, numbered_from-append, from_on, up_to}
 use Rattle.raft_history.proofs.MarkerLemmas.{markers_of-append, open_stretch-append, whole_is}

@@ -1,9 +1,8 @@
 -- What holds of two histories, one behind the other, holds of each.
-use Rattle.raft_history.proofs.Common.{option_and_then_some, AreInFile, HaveStatus, ◌≡◌, ℕ, ◌+◌, List, [], ◌∷◌, ◌++◌, Option, Some, None, sym, ap, subst, ◌∙◌, arith, append-nil, flat_map}
-use Rattle.raft_history.proofs.Common.{flat_map-append, LogQueue, Step, after, Table, accepted_alone, steps_rewritten, after-append, Event, BatchSteps, batches, effects, effects_behind, steps_of}
-use Rattle.raft_history.proofs.Common.{EachApart, numbered_from, IsSmall, FilesFrom, last_from, IsSoundIn, Sound, Apart, AreOfQueue, IsOfQueue, records_in, steps_on, steps_of_items}
+use Rattle.raft_history.proofs.Common.{Append, Rewrite, option_and_then_some, AreInFile, HaveStatus, ◌≡◌, ℕ, ◌+◌, List, [], ◌∷◌, ◌++◌, Option, Some, None, sym, ap, subst, ◌∙◌, arith, append-nil, flat_map, flat_map-append, LogQueue, Step}
+use Rattle.raft_history.proofs.Common.{after, Table, accepted_alone, steps_rewritten, after-append, Event, BatchSteps, batches, effects, effects_behind, steps_of, EachApart, numbered_from, IsSmall, FilesFrom, last_from, IsSoundIn, Sound}
+use Rattle.raft_history.proofs.Common.{Apart, AreOfQueue, IsOfQueue, records_in, steps_on, steps_of_items}
 use Rattle.std.specs.Prelude.{length}
-use Rattle.raft_base.specs.declared.pipe_log.LogQueue.TheVariants.{Append, Rewrite}
 use Rattle.raft_history.proofs.Words.{AreInFiles, records_in_history, all_steps}
 use Rattle.raft_history.proofs.EffectLemmas.{all_steps-append, each_left, each_right}
 use Rattle.raft_history.proofs.JoinedLemmas.{effects-append}

@@ -1,9 +1,7 @@
 -- A context with one more batch.
-use Rattle.raft_history.proofs.Common.{map_none, map_some, no_both, ◌≡◌, ℕ, ◌≤◌, true, List, [], ◌∷◌, ◌++◌, Option, Some, None, refl, sym, ap, subst, ◌∙◌, append-nil, arith, LogQueue, after, Table}
-use Rattle.raft_history.proofs.Common.{Event, batch_of, batches, IsBounded, FileRange, files_of, Suits, joined_files, follows, Context, AreExact, StandsIn, StandsFor, IsExactFor, completed_steps}
-use Rattle.raft_history.proofs.Common.{taken_with, taken_in, steps_of, HaveStatus, AreInFile, FilesFrom, Sound, cleaned_in, MarkedRegions, regions_after, WaitingGroups, groups_in, groups_after}
-use Rattle.raft_history.proofs.Common.{cleaned_by_steps, steps_of_items}
-use Rattle.raft_base.specs.declared.pipe_log.LogQueue.TheVariants.{Append, Rewrite}
+use Rattle.raft_history.proofs.Common.{Append, Rewrite, map_none, map_some, no_both, ◌≡◌, ℕ, ◌≤◌, true, List, [], ◌∷◌, ◌++◌, Option, Some, None, refl, sym, ap, subst, ◌∙◌, append-nil, arith, LogQueue, after, Table, Event, batch_of, batches}
+use Rattle.raft_history.proofs.Common.{IsBounded, FileRange, files_of, Suits, joined_files, follows, Context, AreExact, StandsIn, StandsFor, IsExactFor, completed_steps, taken_with, taken_in, steps_of, HaveStatus, AreInFile, FilesFrom}
+use Rattle.raft_history.proofs.Common.{Sound, cleaned_in, MarkedRegions, regions_after, WaitingGroups, groups_in, groups_after, cleaned_by_steps, steps_of_items}
 use Rattle.raft_history.proofs.Words.{AllHaveStatus, AreInFiles, records_in_history}
 use Rattle.raft_history.proofs.EffectLemmas.{each_right}
 use Rattle.raft_history.proofs.ContextLaws.{exact_accepted}
@@ -43,9 +41,6 @@ one_queue q p (Some x) b s t u = sym s ∙ u
 groups_more : (h : List Event) (e : Event) (g : WaitingGroups) → g ≡ groups_in (batches h) → groups_after g (batch_of e) (batch_of e).marker ≡ groups_in (batches (h ++ e ∷ []))
 groups_more h e g is = ap (λ g. groups_after g (batch_of e) (batch_of e).marker) is ∙ sym (groups_in-one (batches h) (batch_of e)) ∙ ap groups_in (sym (batches-append h (e ∷ [])))
 
-cleaned_one : (q : LogQueue) (e : Event) → cleaned_in q (e ∷ []) ≡ cleaned_by_steps q (steps_of_items e.items)
-cleaned_one q e = append-nil (cleaned_by_steps q (steps_of_items e.items))
-
 pub taken_stands : (c d : Context) (h : List Event) (e : Event) → IsNextEvent c e → StandsFor c h → taken_in c e ≡ Some d → StandsFor d (h ++ e ∷ [])
 taken_stands c d h e n st is = subst (λ d. StandsFor d (h ++ e ∷ [])) s.2 record {
   files = ap (λ p. joined_files p (files_of (e ∷ []))) st.files ∙ sym (files_of-append h (e ∷ []));
@@ -71,21 +66,18 @@ taken_stands c d h e n st is = subst (λ d. StandsFor d (h ++ e ∷ [])) s.2 rec
     own : StandsIn e.file.queue (taken_with c e s.0) (h ++ e ∷ [])
     own = record {
       sound = record { files = files c h e st n; items = in_files c h e st n; markers = have_status c h e st n; accepted = accepted e.file.queue a s.1 };
-      cleaned = ap (λ l. l ++ cleaned_by_steps e.file.queue (steps_of_items e.items)) a.cleaned ∙ ap (λ l. cleaned_in e.file.queue h ++ l) (sym (cleaned_one e.file.queue e)) ∙ sym (cleaned-append e.file.queue h (e ∷ []));
+      cleaned = ap (λ l. l ++ cleaned_by_steps e.file.queue (steps_of_items e.items)) a.cleaned ∙ ap (λ l. cleaned_in e.file.queue h ++ l) (sym (append-nil (cleaned_by_steps e.file.queue (steps_of_items e.items)))) ∙ sym (cleaned-append e.file.queue h (e ∷ []));
       append = λ q. exact Append (a.append q) (subst (λ q. regions_after q c.regions (completed_steps c.groups (batch_of e) (batch_of e).marker) ≡ Some s.0) q s.1);
     }
 
 pub taken_exact : (c d : Context) (h : List Event) (e : Event) → IsNextEvent c e → IsExactFor c h → taken_in c e ≡ Some d → IsExactFor d (h ++ e ∷ [])
-taken_exact c d h e n ex is = record {
+taken_exact c d h e n ex is = let s = taken_some c d e is in record {
   stands = taken_stands c d h e n ex.stands is;
   regions = λ p u. subst (λ d. Suits p d.files → AreExact p d.regions (batches (h ++ e ∷ []))) s.2
       (λ u. subst (λ p. AreExact p s.0 (batches (h ++ e ∷ [])))
       (one_queue e.file.queue p c.files record { queue = e.file.queue; first_seq = e.file.seq; last_seq = e.file.seq } n.suits refl u)
       (regions_taken e.file.queue c h e s.0 ex.stands.groups (ex.stands.stands e.file.queue n.suits).sound.items (in_files c h e ex.stands n) (ex.regions e.file.queue n.suits) s.1)) u;
 }
-  where
-    s : (rs : MarkedRegions) × (regions_after e.file.queue c.regions (completed_steps c.groups (batch_of e) (batch_of e).marker) ≡ Some rs) × (taken_with c e rs ≡ d)
-    s = taken_some c d e is
 
 sound_is : (s : LogQueue) (h : List Event) (e : Event) (n : ℕ) → FilesFrom s n (h ++ e ∷ []) → e.file.queue ≡ s
 sound_is s [] e n f = f.0

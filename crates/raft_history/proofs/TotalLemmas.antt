@@ -1,9 +1,7 @@
 -- Numbers of the values of a map, together.
-use Rattle.raft_history.proofs.Common.{no_both, ◌≡◌, ◌⊎◌, ℕ, ◌+◌, ◌≤◌, true, false, cond, not, List, [], ◌∷◌, length, Option, Some, None, refl, sym, ap, ◌∙◌, inl, inr, arith, nat_cmp, eq_by_cmp}
-use Rattle.raft_history.proofs.Common.{is_eq, nat_cmp_total, put, is_sorted, nat_cmp-IsAntisymmetric, where_key, by_order, entries-remove, find-below, where_key-below, below_all-less, below_all-equal}
-use Rattle.raft_history.proofs.Common.{first_of_both, second_of_both, equal, total_of, total}
-use lib.Dec.{T}
-use Rattle.std.specs.declared.cmp.Ordering.TheVariants.{Less, Equal, Greater}
+use Rattle.raft_history.proofs.Common.{Less, Equal, Greater, T, no_both, ◌≡◌, ◌⊎◌, ℕ, ◌+◌, ◌≤◌, true, false, cond, not, List, [], ◌∷◌, length, Option, Some, None, refl, sym, ap, ◌∙◌, inl, inr, arith, nat_cmp, eq_by_cmp, is_eq}
+use Rattle.raft_history.proofs.Common.{nat_cmp_total, put, is_sorted, nat_cmp-IsAntisymmetric, where_key, by_order, entries-remove, find-below, where_key-below, below_all-less, below_all-equal, first_of_both, second_of_both, equal}
+use Rattle.raft_history.proofs.Common.{total_of, total}
 use Rattle.std.specs.FinMap as finite
 use Rattle.std.specs.FinMap.{find}
 use Rattle.raft_history.proofs.KnownLemmas.{entries-empty, tied}

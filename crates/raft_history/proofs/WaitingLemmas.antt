@@ -1,10 +1,11 @@
 -- What waits and what becomes whole, where groups are joined, has no more records than what waited before.
-use Rattle.raft_history.proofs.Common.{◌≡◌, ℕ, ◌+◌, ◌≤◌, false, eqb, List, [], ◌∷◌, ◌++◌, Option, Some, None, refl, ap, ◌∙◌, arith, nat_tests, map, AllByRecursion, IsDistinct, cons_option, unwrap_or}
-use Rattle.raft_history.proofs.Common.{records_in, total, total_of, records_or, records_in_wholes, waiting_records, RegionStep, without_marker, joined_group, GroupFront, Open, Ended, Begun}
-use Rattle.raft_history.proofs.Common.{OpenStretch, WaitingGroup, WholeGroup, whole_group, WaitingGroups, known_of, joined_with, joined_groups, whole_with, whole_groups, held_steps}
+use Rattle.raft_history.proofs.Common.{◌≡◌, ℕ, ◌+◌, ◌≤◌, false, eqb, List, [], ◌∷◌, ◌++◌, Option, Some, None, refl, ap, ◌∙◌, arith, map, AllByRecursion, IsDistinct, cons_option, unwrap_or, records_in, total, total_of, records_or}
+use Rattle.raft_history.proofs.Common.{records_in_wholes, waiting_records, RegionStep, without_marker, joined_group, GroupFront, Open, Ended, Begun, OpenStretch, WaitingGroup, WholeGroup, whole_group, WaitingGroups, known_of, joined_with}
+use Rattle.raft_history.proofs.Common.{joined_groups, whole_with, whole_groups, held_steps}
 use Rattle.std.specs.FinMap as finite
 use Rattle.raft_history.proofs.KnownLemmas.{tied, keys_distinct}
 use Rattle.raft_history.proofs.MapLemmas.{get_other}
+use Rattle.raft_history.proofs.StepListLemmas.{eqb_flip}
 use Rattle.raft_history.proofs.TotalLemmas.{found, total-insert}
 
 pub records-append : (is js : List RegionStep) → records_in (is ++ js) ≡ records_in is + records_in js
@@ -42,11 +43,8 @@ waiting_known m k = go (finite.get m k)
 known_other : (m : WaitingGroups) (k : ℕ) (x : WaitingGroup) (es : List (ℕ × WaitingGroup)) → AllByRecursion (λ y. eqb k y ≡ false) (map (λ (e : ℕ × WaitingGroup). e.0) es) → whole_with (finite.insert m k x) es ≡ whole_with m es
 known_other m k x [] h = refl
 known_other m k x (e ∷ es) h = ap (λ o. cons_option (whole_group o e.1) (whole_with (finite.insert m k x) es))
-    (ap (λ o. unwrap_or o without_marker) (get_other m k e.0 x (tied e.0 k ∙ flip e.0 k h.0)))
+    (ap (λ o. unwrap_or o without_marker) (get_other m k e.0 x (tied e.0 k ∙ eqb_flip e.0 k ∙ h.0)))
     ∙ ap (cons_option (whole_group (known_of m e.0) e.1)) (known_other m k x es h.1)
-  where
-    flip : (a b : ℕ) → eqb b a ≡ false → eqb a b ≡ false
-    flip a b e = grind (arith, nat_tests)
 
 wholes-cons : (o : Option WholeGroup) (ws : List WholeGroup) → records_in_wholes (cons_option o ws) ≡ records_or o + records_in_wholes ws
 wholes-cons None ws = omega arith

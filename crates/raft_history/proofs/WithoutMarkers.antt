@@ -1,7 +1,6 @@
 -- Which regions are named, histories without markers, and that the groups of one cut name different regions.
-use Rattle.raft_history.proofs.Common.{or_parts, ◌≡◌, ℕ, suc, Bool, true, false, cond, ◌↔◌, ◌||◌, List, [], ◌∷◌, ◌++◌, None, refl, sym, ap, subst, ◌∙◌, inl, inr, filter, flat_map, map, AllByRecursion}
-use Rattle.raft_history.proofs.Common.{list_any, BatchSteps, Effect, completed_by, effects_behind, effects, whole_steps, region_steps_in, steps_by, steps_of, AreApart, EachApart, is_named, Numbered}
-use Rattle.raft_history.proofs.Common.{numbered_from, RegionStep, names, steps_on}
+use Rattle.raft_history.proofs.Common.{or_parts, ◌≡◌, ℕ, suc, Bool, true, false, cond, ◌↔◌, ◌||◌, List, [], ◌∷◌, ◌++◌, None, refl, sym, ap, subst, ◌∙◌, inl, inr, filter, flat_map, map, AllByRecursion, list_any, BatchSteps, Effect}
+use Rattle.raft_history.proofs.Common.{completed_by, effects_behind, effects, whole_steps, region_steps_in, steps_by, steps_of, AreApart, EachApart, is_named, Numbered, numbered_from, RegionStep, names, steps_on}
 use Rattle.raft_history.proofs.Words.{is_on, region_steps_of, steps_in, all_steps}
 use Rattle.raft_history.proofs.EffectLemmas.{steps_in-none}
 use Rattle.raft_history.proofs.StepListLemmas.{head_none, tail_none}

@@ -1,8 +1,7 @@
 -- Words of proofs for what definitions spell out.
-use Rattle.raft_history.proofs.Common.{◌==◌, flat_map, option_map, AllByRecursion, cons_option, list_all, FileId, EntryIndex, IsPlaceInFile, Event, Numbered, has_status, Effect, steps_by, records_in}
-use Rattle.raft_history.proofs.Common.{AreInFile, HaveStatus, RegionStep, steps_of_items, Step}
+use Rattle.raft_history.proofs.Common.{Middle, ◌==◌, flat_map, option_map, AllByRecursion, cons_option, list_all, FileId, EntryIndex, IsPlaceInFile, Event, Numbered, has_status, Effect, steps_by, records_in, AreInFile, HaveStatus}
+use Rattle.raft_history.proofs.Common.{RegionStep, steps_of_items, Step}
 use Rattle.std.specs.Prelude.{ℕ, Bool, List, Option}
-use Rattle.raft_records.specs.declared.atomic_group.AtomicGroupStatus.TheVariants.{Middle}
 
 -- whether a step is on the region
 abbrev pub is_on : ℕ → RegionStep → Bool

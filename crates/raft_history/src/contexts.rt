@@ -1,4 +1,5 @@
 //! Laws of contexts, which hold what was read of a history.
+#![tactic(auto, using(crate::proofs::Laws::context_laws))]
 
 ghost use Rattle.std.specs.Prelude.{◌≡◌, ◌⊎◌, ◌↔◌, ◌+◌, ◌≤◌, ℕ, List, [], ◌∷◌, ◌++◌, Some, None, true, false};
 ghost use Rattle.raft_history.specs.Common.{AllByRecursion, LogQueue, Rewrite, RegionStep, Tables, Event, batches, Sound, Apart, AreInFile, HaveStatus, FilesFrom, IsStepOfQueue, IsOneReading, WaitingGroups, groups_in, joined_groups};

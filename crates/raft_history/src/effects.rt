@@ -1,4 +1,5 @@
 //! Laws of the effects of a history.
+#![tactic(auto, using(crate::proofs::Laws::effect_laws))]
 
 ghost use Rattle.std.specs.Prelude.{◌≡◌, ◌≢◌, ◌↔◌, ◌||◌, ℕ, List, [], ◌∷◌, ◌++◌, Some, None, true, false, flat_map};
 ghost use Rattle.raft_history.specs.Common.{AllByRecursion, list_any, names, steps_on, WholeGroup, whole_group, group_in, BatchSteps, Effect, EachApart, effects, steps_of, is_named, EndsNoEffect, without_group, AreEffects, groups_in};

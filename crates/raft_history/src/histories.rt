@@ -1,4 +1,5 @@
 //! Laws of histories.
+#![tactic(auto, using(crate::proofs::Laws::history_laws))]
 
 ghost use Rattle.std.specs.Prelude.{◌≡◌, ℕ, List, ◌++◌, Some, None, flat_map};
 ghost use Rattle.raft_history.specs.Common.{FileId, LogQueue, Append, Rewrite, Item, AreDecodedIn, entry_at, last_entry, last_pair, after, table_of, RegionStep, Tables, steps_on, steps_of_items, tables_after, Event, IsReadingOfBoth};

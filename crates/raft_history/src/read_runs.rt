@@ -5,6 +5,7 @@ ghost use Rattle.raft_history.specs.Common.{FileId, EntryIndex, IsDecodedIn, ent
 
 /// States that the entries of an item that was read from a file are a run of the file's queue, as
 /// tables ask for: nobody tests it again.
+#[tactic(auto, using(crate::proofs::ReadItemLemmas::read_run))]
 pub fn read_entries_are_runs()
     ensures { (file : FileId) (es : List EntryIndex) → IsDecodedIn file (entries es)
         → IsRunIn file.queue es }

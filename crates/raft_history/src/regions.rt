@@ -27,6 +27,7 @@ pub fn regions_stand_for_steps()
 
 /// States that over a rewritten table an exact region mark and table of the append queue give the overlay by
 /// its steps, for the regions that these name; the others keep their rewritten tables.
+#[tactic(auto, using(crate::proofs::RegionLaws::overlay_by_steps))]
 pub fn overlays_are_by_steps()
     ensures { (r : ℕ) (rs : MarkedRegions) (bs : List BatchSteps) (rewritten : Option Table)
         → AreExact Append rs bs

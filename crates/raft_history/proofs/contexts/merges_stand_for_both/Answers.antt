@@ -1,5 +1,4 @@
-use Rattle.raft_history.proofs.Common.{StandsFor, IsExactFor, ◌++◌, inl, inr, subst, sym, ◌∙◌, false≢true}
-use Rattle.raft_base.specs.declared.pipe_log.LogQueue.TheVariants.{Rewrite}
+use Rattle.raft_history.proofs.Common.{Rewrite, StandsFor, IsExactFor, ◌++◌, inl, inr, subst, sym, ◌∙◌, false≢true}
 use Rattle.raft_history.proofs.ContextLaws.{regions_stand, regions_exact, regions_unsound, files_unsound}
 use Rattle.raft_history.proofs.JoinLemmas.{fold_is, fold_refused}
 use Rattle.raft_history.proofs.MergeLaws.{rewrite_refused}

@@ -1,7 +1,7 @@
 -- The markers of a group, one more and joined.
 use Rattle.raft_history.proofs.Common.{Begin, Middle, End, and_parts, list_all-append, ◌≡◌, ℕ, Bool, true, false, cond, ◌&&◌, List, [], ◌∷◌, ◌++◌, Option, Some, None, refl, sym, ap, ◌∙◌, append_assoc, flat_map-append, filter-append}
 use Rattle.raft_history.proofs.Common.{AtomicGroupStatus, GroupMarker, RegionStep, has_status, Numbered, is_of, markers_of, is_same_status, open_stretch, GroupFront, Open, Ended, Begun, led_by, front_by, front_behind, front_of, stretch_of}
-use Rattle.raft_history.proofs.Common.{WaitingGroup, group_at, group_of, carried_stretch, joined_group_by, joined_group, whole_of, whole_group_by}
+use Rattle.raft_history.proofs.Common.{group_at, group_of, carried_stretch, joined_group_by, joined_group, whole_of, whole_group_by}
 use Rattle.raft_history.proofs.Words.{region_steps_of, are_middles}
 
 pub markers_of-append : (g : ℕ) (ps qs : List Numbered) → markers_of g (ps ++ qs) ≡ markers_of g ps ++ markers_of g qs
@@ -113,9 +113,6 @@ stretch_with (p ∷ ps) qs = ap (λ l. Some record { first_seq = p.batch.seq; st
 pub group_at-append : (ps qs : List Numbered) → group_at (ps ++ qs) ≡ joined_group (group_at ps) (group_at qs)
 group_at-append ps qs = rw (front_of-append, open_stretch-append) (go (front_of ps) (front_of qs) (are_middles qs) refl (fits_front ps) (fits_front qs))
   where
-    older : WaitingGroup
-    older = group_at ps
-
     go : (f g : GroupFront) (b : Bool) → are_middles qs ≡ b → FitsFront f ps → FitsFront g qs →
         record { front = front_with f g; stretch = stretch_of (cond b (with_more (open_stretch ps) qs) (open_stretch qs)) } ≡ joined_group_by f g
         record { front = f; stretch = stretch_of (open_stretch ps) } record { front = g; stretch = stretch_of (open_stretch qs) }

@@ -49,11 +49,8 @@ reading_refused q m (s ∷ steps) h = then_none (λ (t : Option Table). tables_a
 
 -- ---- the last word in one reading of the append queue
 
-in_order : (r : ℕ) (h : List Event) → flat_map (λ (b : BatchSteps). steps_on r b.steps) (batches h) ≡ flat_map (λ (e : Event). steps_on r (steps_of_items e.items)) h
-in_order r h = flat_map-map (λ (b : BatchSteps). steps_on r b.steps) batch_of h
-
 own_steps : (r : ℕ) (h : List Event) → IsSoundIn Append h → steps_of r (batches h) ≡ flat_map (λ (e : Event). steps_on r (steps_of_items e.items)) h
-own_steps r h s = plain_steps r (batches h) (without_marker 0 h s.files) ∙ in_order r h
+own_steps r h s = plain_steps r (batches h) (without_marker 0 h s.files) ∙ flat_map-map (λ (b : BatchSteps). steps_on r b.steps) batch_of h
 
 pub entry_stands : (h : List Event) (tables : Tables) (cleaned : List ℕ) → IsSoundIn Append h → IsOneReading Append h tables cleaned → (r i : ℕ) →
     entry_at i (table_of r (finite.get tables r)).entries ≡ last_entry i (flat_map (λ (e : Event). steps_on r (steps_of_items e.items)) h)
@@ -86,14 +83,11 @@ module _ (h : List Event) (e : Event) (tables later : Tables) (cleaned : List �
       ∙ ap (option_and_then (λ u. after Append r u (steps_on r (steps_of_items e.items)))) (one.tables_read r)
       ∙ reading_by_region Append tables later (steps_of_items e.items) next.accepted r
 
-  has_status : HaveStatus e.file.queue e.items
-  has_status = subst (λ (q : LogQueue). HaveStatus q e.items) (sym next.queue) tt
-
   pub goes_on_sound : IsSoundIn Append (h ++ e ∷ [])
   goes_on_sound = record {
     files = files;
     items = in_files-append h (e ∷ []) sound.items (next.in_file, tt);
-    markers = status-append h (e ∷ []) sound.markers (has_status, tt);
+    markers = status-append h (e ∷ []) sound.markers (subst (λ (q : LogQueue). HaveStatus q e.items) (sym next.queue) tt, tt);
     accepted = λ r. (finite.get later r, read r);
   }
 

@@ -40,19 +40,11 @@ len_without d o = omega (arith, finite.len-entries (without d o), finite.len-ent
         ∙ sym (finite.get-from_sorted (slice_cmp nat_cmp) (where_key (slice_cmp nat_cmp) p (finite.entries o)) q in_order)))
         ∙ finite.entries-from_sorted (slice_cmp nat_cmp) (where_key (slice_cmp nat_cmp) p (finite.entries o)) in_order
 
-more_or_same : (b : Bool) (n : ℕ) → cond b n (n + 1) ≤ n + 1
-more_or_same true n = omega arith
-more_or_same false n = omega arith
-
-less_or_same : (b : Bool) (n : ℕ) → cond b (n - 1) n ≤ n
-less_or_same true n = omega arith
-less_or_same false n = omega arith
-
 len_insert : {X : Type 0} (m : finite.FinMap (slice_cmp nat_cmp) X) (k : List ℕ) (x : X) → finite.len (finite.insert m k x) ≤ finite.len m + 1
-len_insert m k x = omega (arith, finite.len-insert nat_list_cmp_total m k x, more_or_same (finite.contains_key m k) (finite.len m))
+len_insert m k x = omega (arith, finite.len-insert nat_list_cmp_total m k x, (elim (finite.contains_key m k) as (λ b. cond b (finite.len m) (finite.len m + 1) ≤ finite.len m + 1) [ true ↦ omega arith | false ↦ omega arith ]))
 
 len_remove : {X : Type 0} (m : finite.FinMap (slice_cmp nat_cmp) X) (k : List ℕ) → finite.len (finite.remove m k) ≤ finite.len m
-len_remove m k = omega (arith, finite.len-remove nat_list_cmp_total m k, less_or_same (finite.contains_key m k) (finite.len m))
+len_remove m k = omega (arith, finite.len-remove nat_list_cmp_total m k, (elim (finite.contains_key m k) as (λ b. cond b (finite.len m - 1) (finite.len m) ≤ finite.len m) [ true ↦ omega arith | false ↦ omega arith ]))
 
 len_pairs : (m : Keys) (es : List (List ℕ × Stored)) → finite.len (with_pairs m es) ≤ finite.len m + length es
 len_pairs m [] = omega arith

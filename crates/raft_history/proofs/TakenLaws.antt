@@ -1,5 +1,5 @@
 -- A context with one more batch.
-use Rattle.raft_history.proofs.Common.{Append, Rewrite, map_none, map_some, no_both, ◌≡◌, ℕ, ◌≤◌, true, List, [], ◌∷◌, ◌++◌, Option, Some, None, refl, sym, ap, subst, ◌∙◌, append-nil, arith, LogQueue, after, Table, Event, batch_of, batches}
+use Rattle.raft_history.proofs.Common.{Append, Rewrite, map_none, map_some, no_both, ◌≡◌, ℕ, true, List, [], ◌∷◌, ◌++◌, Option, Some, None, refl, sym, ap, subst, ◌∙◌, append-nil, arith, LogQueue, after, Table, Event, batch_of, batches}
 use Rattle.raft_history.proofs.Common.{IsBounded, FileRange, files_of, Suits, joined_files, follows, Context, AreExact, StandsIn, StandsFor, IsExactFor, completed_steps, taken_with, taken_in, steps_of, HaveStatus, AreInFile, FilesFrom}
 use Rattle.raft_history.proofs.Common.{Sound, cleaned_in, MarkedRegions, regions_after, WaitingGroups, groups_in, groups_after, cleaned_by_steps, steps_of_items}
 use Rattle.raft_history.proofs.Words.{AllHaveStatus, AreInFiles, records_in_history}
@@ -25,10 +25,7 @@ in_files : (c : Context) (h : List Event) (e : Event) → StandsFor c h → IsNe
 in_files c h e st n = in_files-append h (e ∷ []) (st.stands e.file.queue n.suits).sound.items (n.in_file, tt)
 
 files : (c : Context) (h : List Event) (e : Event) → StandsFor c h → IsNextEvent c e → FilesFrom e.file.queue 0 (h ++ e ∷ [])
-files c h e st n = files_follow e.file.queue h (e ∷ []) (st.stands e.file.queue n.suits).sound.files (refl, zero_le _, tt) (ap (λ p. follows p (files_of (e ∷ []))) (sym st.files) ∙ n.follows)
-  where
-    zero_le : (n : ℕ) → 0 ≤ n
-    zero_le n = omega arith
+files c h e st n = files_follow e.file.queue h (e ∷ []) (st.stands e.file.queue n.suits).sound.files (refl, omega arith, tt) (ap (λ p. follows p (files_of (e ∷ []))) (sym st.files) ∙ n.follows)
 
 pub taken_some : (c d : Context) (e : Event) → taken_in c e ≡ Some d → (rs : MarkedRegions) × (regions_after e.file.queue c.regions (completed_steps c.groups (batch_of e) (batch_of e).marker) ≡ Some rs) × (taken_with c e rs ≡ d)
 taken_some c d e is = map_some (taken_with c e) (regions_after e.file.queue c.regions (completed_steps c.groups (batch_of e) (batch_of e).marker)) d is (λ rs r p. (rs, r, p))

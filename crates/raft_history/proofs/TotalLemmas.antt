@@ -88,9 +88,6 @@ module _ {X : Type 0} (f : X → ℕ) where
       rest r (inl p) = omega (arith, ap (found f) (ap (λ r. find nat_cmp r es) p ∙ find-below nat_cmp_total e.0 es (first_of_both _ _ s)))
       rest r (inr o) = omega (arith, h r, ap (λ t. found f (cond t (Some e.1) (find nat_cmp r es))) o.1, ap (found f) (get_left a e.0 r o.1), ap (found f) (get_left b e.0 r o.1))
 
-  total-is : (m : finite.FinMap nat_cmp X) → total f m ≡ total_of f (finite.entries m)
-  unfolding total
-  total-is m = refl
-
   pub total-both : (m a b : finite.FinMap nat_cmp X) → ((r : ℕ) → found f (finite.get m r) ≤ found f (finite.get a r) + found f (finite.get b r)) → total f m ≤ total f a + total f b
-  total-both m a b h = omega (arith, total-is m, of-both (finite.entries m) (finite.entries_sorted m) a b (λ r. omega (arith, h r, ap (found f) (finite.get-entries m r))))
+  unfolding total
+  total-both m a b h = of-both (finite.entries m) (finite.entries_sorted m) a b (λ r. omega (arith, h r, ap (found f) (finite.get-entries m r)))

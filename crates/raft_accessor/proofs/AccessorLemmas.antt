@@ -1,63 +1,39 @@
 -- Calls of one slot, seen as calls of the accessor.
-use Rattle.raft_accessor.proofs.Common.{◌≡◌, ◌⊎◌, ◌<◌, ◌++◌, ℕ, List, [], ◌∷◌, Option, Some, None, Result, Ok, Err, refl, sym, ap, subst, ◌∙◌, slice_index_or, slice_set, append_assoc, append-nil}
-use Rattle.raft_accessor.proofs.Common.{IsTrue, AllByRecursion, option_and_then, is_some, OnOk, OnErr, IfErr, Error, Item, LogQueue, Tables, with_table, cleaned_by_steps, Counts, live, Step, table_of}
-use Rattle.raft_accessor.proofs.Common.{after_step, IsUnmixed, counts_after_step, IsStepFault, Table, IsRecounted, Accessor, slot_of, table_in, live_in_all, IsTableChanged, IsWritten, together}
-use Rattle.raft_accessor.proofs.Common.{accessor_shown, IsAccessorKept, IsItemWritten, IsMergedAt, IsTableMerged, IsStepTaken, BecomesOutcome, Writing, queue_of, after_content, counts_after_content}
-use Rattle.raft_accessor.proofs.Common.{after_items, AreCountsAfterItems, listed_by, listed_by_items, IsFor, MixesQueues, NoneMixesQueues, IsWriteFault, AreWritten, AreItemsRefused, empty_table}
-use Rattle.raft_accessor.proofs.Common.{with_item}
-use Rattle.std.proofs.lemmas.Result.{on_ok_weaker, on_err_weaker}
+use Rattle.raft_accessor.proofs.Common.{on_ok_weaker, on_err_weaker, Memory, ◌≡◌, ◌⊎◌, ◌<◌, ◌++◌, ℕ, List, [], ◌∷◌, Option, Some, None, Result, Ok, Err, refl, sym, ap, subst, ◌∙◌, slice_index_or, slice_set, append_assoc, append-nil, IsTrue}
+use Rattle.raft_accessor.proofs.Common.{option_and_then, is_some, OnOk, OnErr, IfErr, Error, Item, LogQueue, Tables, with_table, cleaned_by_steps, Counts, live, Step, table_of, after_step, IsUnmixed, counts_after_step, IsStepFault, Table}
+use Rattle.raft_accessor.proofs.Common.{IsRecounted, Accessor, slot_of, table_in, live_in_all, IsTableChanged, IsWritten, together, accessor_shown, IsAccessorKept, IsItemWritten, IsMergedAt, IsTableMerged, IsStepTaken, BecomesOutcome}
+use Rattle.raft_accessor.proofs.Common.{Writing, queue_of, after_content, counts_after_content, after_items, AreCountsAfterItems, listed_by, listed_by_items, IsFor, MixesQueues, NoneMixesQueues, IsWriteFault, AreWritten, AreItemsRefused}
+use Rattle.raft_accessor.proofs.Common.{empty_table, with_item, IsCounted}
 use Rattle.std.specs.FinMap as finite
-use Rattle.raft_base.specs.declared.errors.Error.TheVariants.{Memory}
 use Rattle.raft_accessor.specs.declared.accessor.MemTableAccessor.TheInside.{Inside}
+use Rattle.raft_accessor.proofs.LiveLemmas.{table-counted}
+use Rattle.std.proofs.lemmas.List.Concat.{flat_map-append}
+use Rattle.raft_history.proofs.EffectLemmas.{each-append}
 use Rattle.raft_accessor.proofs.MapLemmas.{get_gone, with_own, with_same, some_is}
 use Rattle.raft_accessor.proofs.SlotLemmas.{get-shown, IsChanged, shown-changed, kept-changed}
 
-some_is_there : (t : Table) → IsTrue (is_some (Some t))
-some_is_there t = refl
-
--- a call of a region's slot changed that region alone
-pub record InSlot (a b : Inside) (id i : ℕ) (d slot : Tables) (after : Counts) : Type 0 where
-  pub at : i ≡ slot_of id
-  pub bound : i < 128
-  pub lent : d ≡ slice_index_or a.slots.items i d
-  pub slots : b.slots.items ≡ slice_set a.slots.items i slot
-  pub stats : b.stats ≡ after
-  pub one : slot ≡ with_table d id (finite.get slot id)
-  pub recounted : IsRecounted (table_in d id) (table_in slot id) a.stats after
-
-module _ (a b : Inside) (id i : ℕ) (d slot : Tables) (after : Counts) (kept : IsAccessorKept a) (h : InSlot a b id i d slot after) where
-  changed : IsChanged a b id i d (finite.get slot id)
-  changed = record { at = h.at; bound = h.bound; lent = h.lent; slots = h.slots ∙ ap (slice_set a.slots.items i) h.one; counts = subst (λ s. IsRecounted (table_in d id) (table_in slot id) a.stats s) (sym h.stats) h.recounted }
-
-  pub kept-in : IsAccessorKept b
-  kept-in = kept-changed a b id i d (finite.get slot id) kept changed
-
-  module _ (r : Accessor) (is : accessor_shown a ≡ r) where
-    pub was : finite.get r.tables id ≡ finite.get d id
-    was = get-shown a r id i d kept is h.at h.bound h.lent
-
-    pub tables-are : together b.slots.items ≡ with_table r.tables id (finite.get slot id)
-    tables-are = shown-changed a b r id i d (finite.get slot id) kept is changed
-
-    pub now : finite.get (together b.slots.items) id ≡ finite.get slot id
-    now = ap (λ m. finite.get m id) tables-are ∙ with_own r.tables id (finite.get slot id)
-
-    pub alone-in : together b.slots.items ≡ with_table r.tables id (finite.get (together b.slots.items) id)
-    alone-in = tables-are ∙ ap (with_table r.tables id) (sym now)
-
--- ---- the same, with what contracts see of the accessor
+-- a region's table in its slot, which was lent, is counted
+pub slot-counts : {a : Inside} {i : ℕ} {d : Tables} (id : ℕ) → IsAccessorKept a → i ≡ slot_of id → i < 128 → d ≡ slice_index_or a.slots.items i d → IsCounted (table_in d id) a.stats
+slot-counts {a} {i} {d} id kept e lt lent =
+    subst (λ t. IsCounted t a.stats) (ap (table_of id) (get-shown a (accessor_shown a) id i d kept refl e lt lent)) (table-counted (together a.slots.items) a.stats id kept.counted)
 
 abbrev pub with_slot : Inside → ℕ → Tables → Counts → Inside
 with_slot a i slot counts = record a { slots = with_item a.slots i slot; stats = counts }
 
+-- a call of a region's slot changed that region alone, in what contracts see of the accessor
 pub record AtSlot (a b : Inside) (r : Accessor) (id i : ℕ) (d slot : Tables) : Type 0 where
   pub kept : IsAccessorKept a
   pub is : accessor_shown a ≡ r
-  pub call : InSlot a b id i d slot b.stats
+  pub at : i ≡ slot_of id
+  pub bound : i < 128
+  pub lent : d ≡ slice_index_or a.slots.items i d
+  pub slots : b.slots.items ≡ slice_set a.slots.items i slot
+  pub one : slot ≡ with_table d id (finite.get slot id)
+  pub recounted : IsRecounted (table_in d id) (table_in slot id) a.stats b.stats
 
 pub at-slot : {a b : Inside} {r : Accessor} {id i : ℕ} {d slot : Tables} → IsAccessorKept a → accessor_shown a ≡ r → i ≡ slot_of id → i < 128 → d ≡ slice_index_or a.slots.items i d →
     b.slots.items ≡ slice_set a.slots.items i slot → slot ≡ with_table d id (finite.get slot id) → IsRecounted (table_in d id) (table_in slot id) a.stats b.stats → AtSlot a b r id i d slot
-at-slot kept is at bound lent slots one recounted = record { kept = kept; is = is; call = record { at = at; bound = bound; lent = lent; slots = slots; stats = refl; one = one; recounted = recounted } }
+at-slot kept is at bound lent slots one recounted = record { kept = kept; is = is; at = at; bound = bound; lent = lent; slots = slots; one = one; recounted = recounted }
 
 -- a call that took the region's table away
 pub at-gone : {a b : Inside} {r : Accessor} {id i : ℕ} {d slot : Tables} → IsAccessorKept a → accessor_shown a ≡ r → i ≡ slot_of id → i < 128 → d ≡ slice_index_or a.slots.items i d →
@@ -67,23 +43,32 @@ at-gone {a} {b} {r} {id} {i} {d} {slot} kept is at bound lent slots gone recount
     at-slot kept is at bound lent slots (gone ∙ ap (with_table d id) (sym none)) (subst (λ o. IsRecounted (table_in d id) (table_of id o) a.stats b.stats) (sym none) recounted)
 
 module _ {a b : Inside} {r : Accessor} {id i : ℕ} {d slot : Tables} (h : AtSlot a b r id i d slot) where
+  changed : IsChanged a b id i d (finite.get slot id)
+  changed = record { at = h.at; bound = h.bound; lent = h.lent; slots = h.slots ∙ ap (slice_set a.slots.items i) h.one; counts = h.recounted }
+
   pub kept-at : IsAccessorKept b
-  kept-at = kept-in a b id i d slot b.stats h.kept h.call
+  kept-at = kept-changed a b id i d (finite.get slot id) h.kept changed
+
+  was : finite.get r.tables id ≡ finite.get d id
+  was = get-shown a r id i d h.kept h.is h.at h.bound h.lent
 
   pub tables-at : together b.slots.items ≡ with_table r.tables id (finite.get slot id)
-  tables-at = tables-are a b id i d slot b.stats h.kept h.call r h.is
+  tables-at = shown-changed a b r id i d (finite.get slot id) h.kept h.is changed
+
+  now : finite.get (together b.slots.items) id ≡ finite.get slot id
+  now = ap (λ m. finite.get m id) tables-at ∙ with_own r.tables id (finite.get slot id)
 
   pub alone-at : together b.slots.items ≡ with_table r.tables id (finite.get (together b.slots.items) id)
-  alone-at = alone-in a b id i d slot b.stats h.kept h.call r h.is
+  alone-at = tables-at ∙ ap (with_table r.tables id) (sym now)
 
   -- what is so of the region's table before and after, and of the counts before
   pub moved-at : (P : Option Table → Option Table → Counts → Type 0) → P (finite.get d id) (finite.get slot id) a.stats → P (finite.get r.tables id) (finite.get (together b.slots.items) id) r.counts
   moved-at P p =
-      subst (λ o. P o (finite.get (together b.slots.items) id) r.counts) (sym (was a b id i d slot b.stats h.kept h.call r h.is))
-      (subst (λ o. P (finite.get d id) o r.counts) (sym (now a b id i d slot b.stats h.kept h.call r h.is)) (subst (P (finite.get d id) (finite.get slot id)) (ap (λ (x : Accessor). x.counts) h.is) p))
+      subst (λ o. P o (finite.get (together b.slots.items) id) r.counts) (sym was)
+      (subst (λ o. P (finite.get d id) o r.counts) (sym now) (subst (P (finite.get d id) (finite.get slot id)) (ap (λ (x : Accessor). x.counts) h.is) p))
 
   pub unchanged-at : slot ≡ d → together b.slots.items ≡ r.tables
-  unchanged-at e = tables-at ∙ ap (with_table r.tables id) (ap (λ m. finite.get m id) e ∙ sym (was a b id i d slot b.stats h.kept h.call r h.is)) ∙ with_same r.tables id
+  unchanged-at e = tables-at ∙ ap (with_table r.tables id) (ap (λ m. finite.get m id) e ∙ sym was) ∙ with_same r.tables id
 
   -- a change of a table
   pub changed-at : {R : Type 0} (outcome : Table → Option Table) (IsFault : Table → Counts → Error → Type 0) (res : Result R Error) → BecomesOutcome (outcome (table_in d id)) (IsFault (table_in d id) a.stats) d id a.stats res slot b.stats
@@ -112,14 +97,14 @@ module _ {a b : Inside} {r : Accessor} {id i : ℕ} {d slot : Tables} (h : AtSlo
         cleaned_err = subst (λ l. OnErr res (b.cleaned.items ≡ l)) list t.cleaned_err;
         fault = moved-at (λ o p k. IfErr res (λ e. (e ≡ Memory) ⊎ IsStepFault q (table_of id o) k s e)) t.fault;
         one = alone-at;
-        recounted = moved-at (λ o p k. IsRecounted (table_of id o) (table_of id p) k b.stats) h.call.recounted;
+        recounted = moved-at (λ o p k. IsRecounted (table_of id o) (table_of id p) k b.stats) h.recounted;
       }
 
   -- a merge of a table
   pub merged-at : {R : Type 0} {IsFault : Error → Type 0} (merge : Table → Table → Option Table) (newer : Table) (res : Result R Error) → IsTableMerged (merge (table_in d id) newer) IsFault d id a.stats res slot b.stats
       → OnOk res (IsMergedAt merge id (finite.get r.tables id) (Some newer) (finite.get (together b.slots.items) id))
   merged-at merge newer (Err x) t = tt
-  merged-at merge newer (Ok x) t = moved-at (λ o p k. IsMergedAt merge id o (Some newer) p) (t.ok ∙ sym t.there, subst (λ o. IsTrue (is_some o)) (sym t.there) (some_is_there (table_in slot id)))
+  merged-at merge newer (Ok x) t = moved-at (λ o p k. IsMergedAt merge id o (Some newer) p) (t.ok ∙ sym t.there, subst (λ o. IsTrue (is_some o)) (sym t.there) refl)
 
 -- an item written to its region's table
 pub written-at : {a b : Inside} {r : Accessor} {i : ℕ} {d slot : Tables} (item : Item) → AtSlot a b r item.raft_group_id i d slot → (w : Writing) (res : Result Unit Error) →
@@ -157,14 +142,6 @@ after_items-append w m (x ∷ xs) ys =
       | Some t ↦ after_items-append w (with_table m x.raft_group_id t) xs ys
     ]
 
-listed-append : (w : Writing) (xs ys : List Item) → listed_by_items w (xs ++ ys) ≡ listed_by_items w xs ++ listed_by_items w ys
-listed-append w [] ys = refl
-listed-append w (x ∷ xs) ys = ap (λ l. listed_by w x ++ l) (listed-append w xs ys) ∙ sym (append_assoc (listed_by w x) (listed_by_items w xs) (listed_by_items w ys))
-
-asked-append : (w : Writing) (xs ys : List Item) → AllByRecursion (λ (item : Item). IsFor w item.content) xs → AllByRecursion (λ (item : Item). IsFor w item.content) ys → AllByRecursion (λ (item : Item). IsFor w item.content) (xs ++ ys)
-asked-append w [] ys g h = h
-asked-append w (x ∷ xs) ys g h = (g.0, asked-append w xs ys g.1 h)
-
 none-append : (w : Writing) (xs ys : List Item) (m n : Tables) → NoneMixesQueues w m xs → after_items w m xs ≡ Some n → NoneMixesQueues w n ys → NoneMixesQueues w m (xs ++ ys)
 none-append w [] ys m n g e h = subst (λ k. NoneMixesQueues w k ys) (sym (some_is e)) h
 none-append w (x ∷ xs) ys m n g e h = (
@@ -180,10 +157,10 @@ counted-append w (x ∷ xs) ys m n i j k g e h =
 
 pub written_append : (w : Writing) (xs ys : List Item) (a b c : Accessor) → AreWritten w xs a b → AreWritten w ys b c → AreWritten w (xs ++ ys) a c
 written_append w xs ys a b c g h = record {
-  asked = asked-append w xs ys g.asked h.asked;
+  asked = each-append (λ (item : Item). IsFor w item.content) xs ys g.asked h.asked;
   accepted = none-append w xs ys a.tables b.tables g.accepted g.tables h.accepted;
   tables = after_items-append w a.tables xs ys ∙ ap (option_and_then (λ n. after_items w n ys)) g.tables ∙ h.tables;
-  cleaned = h.cleaned ∙ ap (λ l. l ++ listed_by_items w ys) g.cleaned ∙ append_assoc a.cleaned (listed_by_items w xs) (listed_by_items w ys) ∙ ap (λ l. a.cleaned ++ l) (sym (listed-append w xs ys));
+  cleaned = h.cleaned ∙ ap (λ l. l ++ listed_by_items w ys) g.cleaned ∙ append_assoc a.cleaned (listed_by_items w xs) (listed_by_items w ys) ∙ ap (λ l. a.cleaned ++ l) (sym (flat_map-append (listed_by w) xs ys));
   counts = counted-append w xs ys a.tables b.tables a.counts b.counts c.counts g.counts g.tables h.counts;
 }
 

@@ -1,8 +1,6 @@
 mod Common
 mod AccessorLemmas
 mod AppendCheckLemmas
-pub mod CleanLemmas
-mod ExtentLemmas
 pub mod LiveLemmas
 pub mod MapLemmas
 mod MergeLemmas
@@ -10,9 +8,7 @@ pub mod OrderLemmas
 pub mod RegionTablesLemmas
 pub mod SlotLemmas
 pub mod SlotTableLemmas
-pub mod StepLemmas
 mod TableJoinLemmas
-mod TableOverlayLemmas
 pub mod TotalSums
 mod UpdateLemmas
 pub mod WalkLemmas

@@ -1,15 +1,11 @@
 -- The live counts of all tables, when one is written or taken away.
-use Rattle.raft_accessor.proofs.Common.{◌≡◌, ℕ, ◌+◌, ◌-◌, ◌≤◌, List, [], ◌∷◌, map, sum_by, Option, Some, None, refl, ap, ◌∙◌, arith, sum_by-cons, LogQueue, Counts, live_of_empty, table_of, Table}
-use Rattle.raft_accessor.proofs.Common.{empty_table, live_of, with_table_deleted, IsCounted, IsRecounted, Tables, with_table, table_in, live_in, live_in_all, AreCountsOf, found, total, total_of}
-use Rattle.raft_accessor.proofs.Common.{total-insert, total-none}
+use Rattle.raft_accessor.proofs.Common.{total-remove, Append, Rewrite, ◌≡◌, ℕ, ◌+◌, ◌-◌, ◌≤◌, List, [], ◌∷◌, map, sum_by, Option, Some, None, refl, ap, ◌∙◌, arith, sum_by-cons, LogQueue, Counts, live_of_empty, table_of, Table, empty_table}
+use Rattle.raft_accessor.proofs.Common.{live_of, with_table_deleted, IsCounted, IsRecounted, Tables, with_table, table_in, live_in, live_in_all, AreCountsOf, found, total, total_of, total-insert, total-none}
 use Rattle.std.specs.FinMap as finite
-use Rattle.raft_history.proofs.TotalLemmas.{total-remove}
-use Rattle.raft_base.specs.declared.pipe_log.LogQueue.TheVariants.{Append, Rewrite}
 
 -- the live counts of some regions' tables together
 abbrev pub live_of_all : LogQueue → List (ℕ × Table) → ℕ
-live_of_all queue [] = 0
-live_of_all queue (e ∷ es) = live_of queue e.1 + live_of_all queue es
+live_of_all queue es = total_of (live_of queue) es
 
 pub live-all : (q : LogQueue) (m : Tables) → live_in_all q m ≡ live_of_all q (finite.entries m)
 unfolding live_in_all
@@ -19,20 +15,13 @@ live-all q m = go (finite.entries m)
     go [] = refl
     go (e ∷ es) = sum_by-cons (live_of q) e.1 (map (λ (e : ℕ × Table). e.1) es) ∙ ap (λ n. live_of q e.1 + n) (go es)
 
-live-total : (q : LogQueue) (m : Tables) → live_in_all q m ≡ total (live_of q) m
+pub live-total : (q : LogQueue) (m : Tables) → live_in_all q m ≡ total (live_of q) m
 unfolding total
-live-total q m = live-all q m ∙ go (finite.entries m)
-  where
-    go : (es : List (ℕ × Table)) → live_of_all q es ≡ total_of (live_of q) es
-    go [] = refl
-    go (e ∷ es) = ap (λ n. live_of q e.1 + n) (go es)
+live-total q m = live-all q m
 
 live-found : (q : LogQueue) (o : Option Table) → found (live_of q) o ≡ live_in q o
 live-found q None = refl
 live-found q (Some t) = refl
-
-pub live-insert : (q : LogQueue) (m : Tables) (k : ℕ) (t : Table) → live_in_all q (finite.insert m k t) + live_in q (finite.get m k) ≡ live_in_all q m + live_of q t
-live-insert q m k t = omega (arith, total-insert (live_of q) m k t, live-total q (finite.insert m k t), live-total q m, live-found q (finite.get m k))
 
 pub live-remove : (q : LogQueue) (m : Tables) (k : ℕ) → live_in_all q (finite.remove m k) + live_in q (finite.get m k) ≡ live_in_all q m
 live-remove q m k = omega (arith, total-remove (live_of q) m k, live-total q (finite.remove m k), live-total q m, live-found q (finite.get m k))
@@ -40,7 +29,7 @@ live-remove q m k = omega (arith, total-remove (live_of q) m k, live-total q (fi
 -- one region's table written, or taken away
 pub live-with : (q : LogQueue) (m : Tables) (k : ℕ) (t : Option Table) → live_in_all q (with_table m k t) + live_in q (finite.get m k) ≡ live_in_all q m + live_in q t
 live-with q m k None = omega (arith, live-remove q m k)
-live-with q m k (Some t) = live-insert q m k t
+live-with q m k (Some t) = omega (arith, total-insert (live_of q) m k t, live-total q (finite.insert m k t), live-total q m, live-found q (finite.get m k))
 
 pub live-table_of : (q : LogQueue) (k : ℕ) (o : Option Table) → live_of q (table_of k o) ≡ live_in q o
 live-table_of q k None = live_of_empty q k

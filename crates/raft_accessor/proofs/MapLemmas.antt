@@ -1,16 +1,13 @@
 -- Maps under numbers: one key written or taken away.
-use Rattle.raft_accessor.proofs.Common.{◌≡◌, ◌⊎◌, ℕ, ◌==◌, true, false, cond, Some, None, refl, sym, ap, subst, ◌∙◌, inl, inr, nat_cmp, is_eq, eq_by_cmp, nat_cmp_total, nat_cmp_is}
-use Rattle.raft_accessor.proofs.Common.{nat_cmp-IsAntisymmetric, equal, Table, Tables, with_table, false≢true, eqb-true, [], nil_from_length}
-use Rattle.std.specs.declared.cmp.Ordering.TheVariants.{Equal}
-use Rattle.std.proofs.lemmas.Bool.{eq-eqb}
+use Rattle.raft_accessor.proofs.Common.{Equal, ◌≡◌, ◌⊎◌, ℕ, ◌==◌, true, false, Some, None, refl, sym, ap, subst, ◌∙◌, inl, inr, nat_cmp, is_eq, eq_by_cmp, nat_cmp_total, nat_cmp_is, nat_cmp-IsAntisymmetric, equal, Table, Tables, with_table}
+use Rattle.raft_accessor.proofs.Common.{false≢true, eqb-true, [], nil_from_length}
 use Rattle.std.specs.FinMap as finite
-pub use Rattle.raft_history.proofs.MapLemmas.{get_left, get_other, with_other, with_own}
+pub use Rattle.raft_history.proofs.MapLemmas.{get_gone, get_left, get_other, get_own, with_other, with_own}
+pub use Rattle.raft_history.proofs.OptionLemmas.{some_is}
+pub use Rattle.raft_history.proofs.StepListLemmas.{eqb_self as self_same}
 
 pub eq_self : (n : ℕ) → eq_by_cmp nat_cmp n n ≡ true
 eq_self n = ap is_eq (sym (nat_cmp_is n n Equal refl))
-
-pub some_is : {X : Type 0} {x y : X} → Some x ≡ Some y → x ≡ y
-some_is e = cc
 
 pub none_some : {X : Type 0} {x : X} → None ≡ Some x → ⊥
 none_some e = cc
@@ -22,12 +19,6 @@ by_id q id = elim (eq_by_cmp nat_cmp q id) as (λ b. eq_by_cmp nat_cmp q id ≡ 
 module _ {X : Type 0} where
   pub same : (m n : finite.FinMap nat_cmp X) → ((q : ℕ) → finite.get m q ≡ finite.get n q) → m ≡ n
   same m n h = finite.same_map nat_cmp_total nat_cmp-IsAntisymmetric m n h
-
-  pub get_own : (m : finite.FinMap nat_cmp X) (id : ℕ) (x : X) → finite.get (finite.insert m id x) id ≡ Some x
-  get_own m id x = finite.get-insert nat_cmp_total m id x id ∙ ap (λ b. cond b (Some x) (finite.get m id)) (eq_self id)
-
-  pub get_gone : (m : finite.FinMap nat_cmp X) (id : ℕ) → finite.get (finite.remove m id) id ≡ None
-  get_gone m id = finite.get-remove nat_cmp_total m id id ∙ ap (λ b. cond b None (finite.get m id)) (eq_self id)
 
   -- what is there already written again
   pub insert_same : (m : finite.FinMap nat_cmp X) (id : ℕ) (x : X) → finite.get m id ≡ Some x → finite.insert m id x ≡ m
@@ -55,9 +46,6 @@ module _ {X : Type 0} where
 
 pub not_same : (a b : ℕ) → eq_by_cmp nat_cmp b a ≡ false → (a == b) ≡ false
 not_same a b f = elim (a == b) as (λ t. (a == b) ≡ t → t ≡ false) [ true ↦ λ e. absurd (false≢true (sym f ∙ ap (eq_by_cmp nat_cmp b) (eqb-true a b e) ∙ eq_self b)) | false ↦ λ e. refl ] refl
-
-pub self_same : (a : ℕ) → (a == a) ≡ true
-self_same a = eq-eqb a a refl
 
 -- ---- a table written, or taken away
 

@@ -1,12 +1,9 @@
 -- Tables merged into those of all regions, one after another.
-use Rattle.raft_accessor.proofs.Common.{◌≡◌, ◌≢◌, ◌⊎◌, ℕ, nat_eq, IsTrue, List, [], ◌∷◌, ◌++◌, cond, Option, Some, None, Result, Ok, Err, refl, sym, ap, subst, ◌∙◌, inl, inr, nat_cmp, nat_cmp_total}
-use Rattle.raft_accessor.proofs.Common.{is_some, option_or, find, OnOk, IfErr, Error, LogQueue, Tables, with_table, Counts, IsTableMergeFault, table_of, Table, IsRecounted, table_in, slot_entries}
-use Rattle.raft_accessor.proofs.Common.{together, AreSlots, IsMergedAt, AreTablesMerged, IsLeftAt, AreTablesLeft, AreOthersLeft, IsMergeRefusal, MayAlter, IsAltered, TableCall, TableCalls, lookup}
-use Rattle.raft_accessor.proofs.Common.{keys_of, IsDistinct, append-nil, append_assoc, Accessor, with_neighbor, IsFaultBeside}
+use Rattle.raft_accessor.proofs.Common.{AreMerged, Memory, ◌≡◌, ◌≢◌, ◌⊎◌, ℕ, nat_eq, IsTrue, List, [], ◌∷◌, ◌++◌, cond, Option, Some, None, Result, Ok, Err, refl, sym, ap, subst, ◌∙◌, inl, inr, nat_cmp, nat_cmp_total, is_some, option_or}
+use Rattle.raft_accessor.proofs.Common.{find, OnOk, IfErr, Error, LogQueue, Tables, with_table, Counts, IsTableMergeFault, table_of, Table, IsRecounted, table_in, slot_entries, together, AreSlots, IsMergedAt, AreTablesMerged, IsLeftAt}
+use Rattle.raft_accessor.proofs.Common.{AreTablesLeft, AreOthersLeft, IsMergeRefusal, MayAlter, IsAltered, TableCall, TableCalls, lookup, keys_of, IsDistinct, append-nil, append_assoc, Accessor, with_neighbor, IsFaultBeside}
 use Rattle.std.specs.FinMap as finite
-use Rattle.raft_accessor.specs.Merges.{AreMerged}
 use Rattle.raft_accessor.specs.declared.neighbor.Neighbor.{Neighbor}
-use Rattle.raft_base.specs.declared.errors.Error.TheVariants.{Memory}
 use Rattle.raft_accessor.proofs.MapLemmas.{none_some, by_id, eq_self, get_own, one_written, one_same, with_other}
 use Rattle.raft_accessor.proofs.OrderLemmas.{Once, once-distinct, once-slots}
 use Rattle.raft_accessor.proofs.RegionTablesLemmas.{found}
@@ -208,14 +205,11 @@ module _ (merge : Table → Table → Option Table) where
 -- ---- refusals
 
 -- want of memory is a fault of every merge
-with_memory : (rule : Option LogQueue) (counts : Counts) (older newer : Table) (e : Error) → (e ≡ Memory) ⊎ IsTableMergeFault counts older newer rule e → IsTableMergeFault counts older newer rule e
-with_memory rule counts older newer e (inr f) = f
-with_memory rule counts older newer e (inl is) = subst (IsTableMergeFault counts older newer rule) (sym is) (elim rule as (λ rule. IsTableMergeFault counts older newer rule Memory) [ None ↦ tt | Some q ↦ tt ])
-
 pub refused-with : {R : Type 0} (rule : Option LogQueue) (counts : Counts) (older newer : Table) (r : Result R Error) →
     IfErr r (λ e. (e ≡ Memory) ⊎ IsTableMergeFault counts older newer rule e) → IfErr r (IsTableMergeFault counts older newer rule)
 refused-with rule counts older newer (Ok x) f = tt
-refused-with rule counts older newer (Err e) f = with_memory rule counts older newer e f
+refused-with rule counts older newer (Err e) (inr f) = f
+refused-with rule counts older newer (Err e) (inl is) = subst (IsTableMergeFault counts older newer rule) (sym is) (elim rule as (λ rule. IsTableMergeFault counts older newer rule Memory) [ None ↦ tt | Some q ↦ tt ])
 
 module _ (IsFault : Table → Table → Error → Type 0) (m : Tables) where
   -- the first of some entries is refused

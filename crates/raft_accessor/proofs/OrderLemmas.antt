@@ -1,11 +1,9 @@
 -- The values of all slots, in no set order.
-use Rattle.raft_accessor.proofs.Common.{◌≡◌, ◌≢◌, ◌<◌, ◌+◌, ℕ, suc, true, false, cond, nat_eq, List, [], ◌∷◌, ◌++◌, length, drop, map, Some, None, IsPermutation, refl, sym, ap, subst, ◌∙◌, arith, inl}
-use Rattle.raft_accessor.proofs.Common.{inr, slice_index_or, append_assoc, nat_cmp, is_eq, nat_cmp_total, AllByRecursion, IsDistinct, option_or, find, put, is_sorted, by_order, keys_of, map-append}
-use Rattle.raft_accessor.proofs.Common.{IsPermutation-refl, IsPermutation-trans, IsPermutation-cons, IsPermutation-append_comm, IsPermutation-append_left, IsPermutation-append_right, IsPermutation-map}
-use Rattle.raft_accessor.proofs.Common.{find-below, first_of_both, second_of_both, slot_of, slot_entries, together, AreSlots, ◌≤◌, append-nil}
+use Rattle.raft_accessor.proofs.Common.{Less, Equal, Greater, at_drop_more, ◌≡◌, ◌≢◌, ◌<◌, ◌+◌, ℕ, suc, true, false, cond, nat_eq, List, [], ◌∷◌, ◌++◌, length, drop, map, Some, None, IsPermutation, refl, sym, ap, subst, ◌∙◌, arith, inl}
+use Rattle.raft_accessor.proofs.Common.{inr, slice_index_or, append_assoc, nat_cmp, is_eq, nat_cmp_total, AllByRecursion, IsDistinct, option_or, find, put, is_sorted, by_order, keys_of, map-append, IsPermutation-refl, IsPermutation-trans}
+use Rattle.raft_accessor.proofs.Common.{IsPermutation-cons, IsPermutation-append_comm, IsPermutation-append_left, IsPermutation-append_right, IsPermutation-map, find-below, first_of_both, second_of_both, slot_of, slot_entries, together}
+use Rattle.raft_accessor.proofs.Common.{AreSlots, ◌≤◌, append-nil}
 use lib.Dec.{T}
-use Rattle.std.specs.declared.cmp.Ordering.TheVariants.{Less, Equal, Greater}
-use Rattle.std.proofs.lemmas.List.{at_drop_more}
 use Rattle.std.specs.FinMap as finite
 use Rattle.raft_accessor.proofs.MapLemmas.{none_some, eq_self, entries-empty}
 use Rattle.raft_accessor.proofs.RegionTablesLemmas.{same_test}
@@ -53,16 +51,13 @@ module _ {V : Type 0} where
   once-sorted [] h = tt
   once-sorted (e ∷ es) h = (find-below nat_cmp_total e.0 es (first_of_both _ _ h), once-sorted es (second_of_both _ _ h))
 
-  own : (e : ℕ × V) (es : List (ℕ × V)) → find nat_cmp e.0 (e ∷ es) ≡ Some e.1
-  own e es = ap (λ b. cond b (Some e.1) (find nat_cmp e.0 es)) (eq_self e.0)
-
   behind : (k : ℕ) (e : ℕ × V) (es : List (ℕ × V)) → find nat_cmp k (e ∷ es) ≡ None → find nat_cmp k es ≡ None
   behind k e es h = elim (is_eq (nat_cmp k e.0)) as (λ b. cond b (Some e.1) (find nat_cmp k es) ≡ None → find nat_cmp k es ≡ None) [ true ↦ λ h. absurd (none_some (sym h)) | false ↦ λ h. h ] h
 
   once-both : (xs ys : List (ℕ × V)) → Once xs → Once ys → ((k : ℕ) → find nat_cmp k xs ≢ None → find nat_cmp k ys ≡ None) → Once (xs ++ ys)
   once-both [] ys g h apart = h
   once-both (x ∷ xs) ys g h apart = (
-    find-both x.0 xs ys ∙ ap (λ o. option_or o (find nat_cmp x.0 ys)) g.0 ∙ apart x.0 (λ e. none_some (sym e ∙ own x xs)),
+    find-both x.0 xs ys ∙ ap (λ o. option_or o (find nat_cmp x.0 ys)) g.0 ∙ apart x.0 (λ e. none_some (sym e ∙ ap (λ b. cond b (Some x.1) (find nat_cmp x.0 xs)) (eq_self x.0))),
     once-both xs ys g.1 h (λ k f. apart k (λ e. f (behind k x xs e))),
   )
 

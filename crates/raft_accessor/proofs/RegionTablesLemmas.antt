@@ -1,7 +1,6 @@
 -- The fields of `RegionTables` against what contracts see of them.
-use Rattle.raft_accessor.proofs.Common.{◌≡◌, ℕ, true, false, cond, nat_eq, List, [], ◌∷◌, length, Option, Some, None, refl, sym, ap, subst, ◌∙◌, inl, inr, MutBor, nat_cmp, is_eq, nat_cmp_total, lookup}
-use Rattle.raft_accessor.proofs.Common.{option_copied_mut, table_of, find, eqb-true, Table, tables_shown, AreTablesKept, Tables, with_table, table_in, nil_from_length, IfSome}
-use Rattle.std.specs.Cmp.{unsigned_tied}
+use Rattle.raft_accessor.proofs.Common.{unsigned_tied, ◌≡◌, ℕ, true, false, cond, nat_eq, List, [], ◌∷◌, length, Option, Some, None, refl, sym, ap, subst, ◌∙◌, inl, inr, MutBor, nat_cmp, is_eq, nat_cmp_total, lookup, option_copied_mut}
+use Rattle.raft_accessor.proofs.Common.{table_of, find, eqb-true, Table, tables_shown, AreTablesKept, Tables, with_table, table_in, nil_from_length, IfSome}
 use Rattle.std.specs.FinMap as finite
 use Rattle.raft_accessor.specs.declared.region_tables.RegionTables.TheInside.{Inside}
 use Rattle.raft_accessor.proofs.MapLemmas.{none_some, same, by_id, not_same, self_same, with_own, with_other}
@@ -45,13 +44,9 @@ shown-same a b m is h = same _ _ (λ q. get-of b.tables.entries q ∙ h q ∙ sy
 pub kept-same : (a b : Inside) → AreTablesKept a → ((q : ℕ) → lookup (nat_eq q) b.tables.entries ≡ lookup (nat_eq q) a.tables.entries) → AreTablesKept b
 kept-same a b kept h = λ q t e. kept q t (sym (h q) ∙ e)
 
--- what a look-up for writing found
-pub there : (a : Inside) (m : Tables) (k : ℕ) (o : Option (MutBor Table)) (t : MutBor Table) → tables_shown a ≡ m → option_copied_mut o ≡ lookup (nat_eq k) a.tables.entries → o ≡ Some t → finite.get m k ≡ Some t.now
-there a m k o t is v e = get-shown a m k is ∙ sym v ∙ ap option_copied_mut e
-
--- .. and what stands behind it
+-- what stands behind what a look-up for writing found
 pub lent : (a : Inside) (m : Tables) (k : ℕ) (o : Option (MutBor Table)) (t : MutBor Table) (d : Table) → tables_shown a ≡ m → option_copied_mut o ≡ lookup (nat_eq k) a.tables.entries → o ≡ Some t → d ≡ t.now → finite.get m k ≡ Some d
-lent a m k o t d is v e d_is = there a m k o t is v e ∙ ap Some (sym d_is)
+lent a m k o t d is v e d_is = get-shown a m k is ∙ sym v ∙ ap option_copied_mut e ∙ ap Some (sym d_is)
 
 pub absent : (a : Inside) (m : Tables) (k : ℕ) (o : Option (MutBor Table)) → tables_shown a ≡ m → option_copied_mut o ≡ lookup (nat_eq k) a.tables.entries → o ≡ None → finite.get m k ≡ None
 absent a m k o is v e = get-shown a m k is ∙ sym v ∙ ap option_copied_mut e

@@ -1,13 +1,13 @@
 -- Tables in slots against the one map of them.
-use Rattle.raft_accessor.proofs.Common.{◌≡◌, ◌≢◌, ◌<◌, ◌≤◌, ◌+◌, ◌⊎◌, ℕ, suc, zero, true, false, cond, List, [], ◌∷◌, ◌++◌, length, drop, replicate, slice_index_or, slice_set, Option, Some, None, refl}
-use Rattle.raft_accessor.proofs.Common.{sym, ap, subst, ◌∙◌, arith, inl, inr, nat_cmp, is_eq, eq_by_cmp, option_or, nat_cmp_total, find, cases_lt, table_of, Table, IsCounted, IsRecounted, Tables}
-use Rattle.raft_accessor.proofs.Common.{with_table, Accessor, slot_of, table_in, AreCountsOf, live_in_all, slot_entries, together, IsSlot, AreSlots, accessor_shown, IsAccessorKept, live}
-use Rattle.std.proofs.Math.ListN.{drop_of_length-le}
-use Rattle.std.proofs.lemmas.List.{length-set as set-length, at_drop_more}
+use Rattle.raft_accessor.proofs.Common.{drop_of_length-le, Append, Rewrite, ◌≡◌, ◌≢◌, ◌<◌, ◌≤◌, ◌+◌, ◌⊎◌, ℕ, suc, zero, true, false, cond, List, [], ◌∷◌, ◌++◌, length, drop, replicate, slice_index_or, slice_set, Option, Some, None, refl}
+use Rattle.raft_accessor.proofs.Common.{sym, ap, subst, ◌∙◌, arith, inl, inr, nat_cmp, is_eq, eq_by_cmp, option_or, nat_cmp_total, find, cases_lt, table_of, Table, IsRecounted, Tables, with_table, Accessor, slot_of, table_in, AreCountsOf}
+use Rattle.raft_accessor.proofs.Common.{live_in_all, slot_entries, together, IsSlot, AreSlots, accessor_shown, IsAccessorKept, live}
+pub use Rattle.std.proofs.lemmas.List.{length-set}
+use Rattle.std.proofs.lemmas.List.{at_drop_more, get_or-set_same}
+use Rattle.raft_table.proofs.MarkExact.{none_behind}
 use Rattle.std.specs.FinMap as finite
 use Rattle.raft_accessor.specs.declared.accessor.MemTableAccessor.TheInside.{Inside}
-use Rattle.raft_accessor.proofs.LiveLemmas.{counted-with, table-counted, live-none}
-use Rattle.raft_base.specs.declared.pipe_log.LogQueue.TheVariants.{Append, Rewrite}
+use Rattle.raft_accessor.proofs.LiveLemmas.{counted-with, live-none}
 use Rattle.raft_accessor.proofs.MapLemmas.{same, by_id, with_own, with_other, entries-empty}
 
 abbrev pub Map : Type 0 → Type 0
@@ -29,10 +29,6 @@ module _ {V : Type 0} where
         | false ↦ find-both q xs ys
       ]
 
-  or_none : (o : Option V) → option_or o None ≡ o
-  or_none None = refl
-  or_none (Some t) = refl
-
   -- in slots from k on no region of a lower slot is found
   pub find-later : (k : ℕ) (ms : List (Map V)) (q : ℕ) → AreSlots k ms → slot_of q < k → find nat_cmp q (slot_entries ms) ≡ None
   find-later k [] q s lt = refl
@@ -43,7 +39,7 @@ module _ {V : Type 0} where
   find-slots : (k : ℕ) (ms : List (Map V)) (q i : ℕ) (d : Map V) → AreSlots k ms → i < length ms → slot_of q ≡ k + i → find nat_cmp q (slot_entries ms) ≡ finite.get (slice_index_or ms i d) q
   find-slots k [] q i d s lt e = absurd (omega (arith, lt))
   find-slots k (m ∷ ms) q zero d s lt e =
-      find-both q (finite.entries m) (slot_entries ms) ∙ ap (option_or (find nat_cmp q (finite.entries m))) (find-later (suc k) ms q s.1 (omega (arith, e))) ∙ or_none _ ∙ sym (finite.get-entries m q)
+      find-both q (finite.entries m) (slot_entries ms) ∙ ap (option_or (find nat_cmp q (finite.entries m))) (find-later (suc k) ms q s.1 (omega (arith, e))) ∙ none_behind _ ∙ sym (finite.get-entries m q)
   find-slots k (m ∷ ms) q (suc i) d s lt e =
       find-both q (finite.entries m) (slot_entries ms) ∙ ap (λ o. option_or o (find nat_cmp q (slot_entries ms)))
       (sym (finite.get-entries m q) ∙ s.0 q (λ p. omega (arith, e, p))) ∙ find-slots (suc k) ms q i d s.1 (omega (arith, lt)) (omega (arith, e))
@@ -70,14 +66,6 @@ module _ {V : Type 0} where
   slot-at k [] i d s lt = absurd (omega (arith, lt))
   slot-at k (n ∷ ms) zero d s lt = λ id h. s.0 id (λ e. h (omega (arith, e)))
   slot-at k (n ∷ ms) (suc i) d s lt = λ id h. slot-at (suc k) ms i d s.1 (omega (arith, lt)) id (λ e. h (omega (arith, e)))
-
-  pub at-set : (ms : List (Map V)) (i : ℕ) (m d : Map V) → i < length ms → slice_index_or (slice_set ms i m) i d ≡ m
-  at-set [] i m d lt = absurd (omega (arith, lt))
-  at-set (n ∷ ms) zero m d lt = refl
-  at-set (n ∷ ms) (suc i) m d lt = at-set ms i m d (omega (arith, lt))
-
-  pub length-set : (ms : List (Map V)) (i : ℕ) (m : Map V) → length (slice_set ms i m) ≡ length ms
-  length-set ms i m = set-length ms i m
 
   -- the values of the other regions stay
   abbrev pub IsChangedAt : ℕ → Map V → Map V → Type 0
@@ -114,9 +102,9 @@ module _ {V : Type 0} where
       same _ _ (λ q. elim (by_id q id) [
         | inl p ↦ subst (λ q. finite.get (together (slice_set ms (slot_of id) n)) q ≡ finite.get w q) (sym p)
             (get-together (slice_set ms (slot_of id) n) id d after (omega (arith, lt, fits))
-            ∙ ap (λ r. finite.get r id) (at-set ms (slot_of id) n d lt) ∙ at)
+            ∙ ap (λ r. finite.get r id) (get_or-set_same ms (slot_of id) n d lt) ∙ at)
         | inr f ↦ elim (same_slot (slot_of q) (slot_of id)) [
-          | inl e ↦ get-together (slice_set ms (slot_of id) n) q d after (omega (arith, lt, fits, e)) ∙ ap (λ i. finite.get (slice_index_or (slice_set ms (slot_of id) n) i d) q) e ∙ ap (λ r. finite.get r q) (at-set ms (slot_of id) n d lt)
+          | inl e ↦ get-together (slice_set ms (slot_of id) n) q d after (omega (arith, lt, fits, e)) ∙ ap (λ i. finite.get (slice_index_or (slice_set ms (slot_of id) n) i d) q) e ∙ ap (λ r. finite.get r q) (get_or-set_same ms (slot_of id) n d lt)
               ∙ slot q f ∙ ap (λ i. finite.get (slice_index_or ms i d) q) (sym e) ∙ sym (get-together ms q d s (omega (arith, lt, e))) ∙ sym (map q f)
           | inr ne ↦ other-slot ms q (slot_of id) n s own ne ∙ sym (map q f)
         ]
@@ -138,7 +126,7 @@ module _ {V : Type 0} where
       → ((finite.get m q ≡ None) × (finite.get (together (m ∷ ms)) q ≡ finite.get (together ms) q)) ⊎ ((finite.get (together ms) q ≡ None) × (finite.get (together (m ∷ ms)) q ≡ finite.get m q))
   unfolding together
   front-or k m ms s q = elim (same_slot (slot_of q) k) [
-    | inl e ↦ let none = finite.get-from_entries nat_cmp_total (slot_entries ms) q ∙ find-later (suc k) ms q s.1 (omega (arith, e)) in inr (none, get-front m ms q ∙ ap (option_or (finite.get m q)) none ∙ or_none _)
+    | inl e ↦ let none = finite.get-from_entries nat_cmp_total (slot_entries ms) q ∙ find-later (suc k) ms q s.1 (omega (arith, e)) in inr (none, get-front m ms q ∙ ap (option_or (finite.get m q)) none ∙ none_behind _)
     | inr ne ↦ inl (s.0 q ne, get-front m ms q ∙ ap (λ o. option_or o (finite.get (together ms) q)) (s.0 q ne))
   ]
 
@@ -185,9 +173,6 @@ module _ {V : Type 0} where
 together-with : (ms : List Tables) (id : ℕ) (t : Option Table) (d : Tables) → AreSlots 0 ms → slot_of id < length ms → together (slice_set ms (slot_of id) (with_table (slice_index_or ms (slot_of id) d) id t)) ≡ with_table (together ms) id t
 together-with ms id t d s lt = together-at ms id d _ _ s lt (λ q f. with_other _ id q t f) (λ q f. with_other _ id q t f) (with_own _ id t ∙ sym (with_own _ id t))
 
-slots-with : (ms : List Tables) (id : ℕ) (t : Option Table) (d : Tables) → AreSlots 0 ms → slot_of id < length ms → AreSlots 0 (slice_set ms (slot_of id) (with_table (slice_index_or ms (slot_of id) d) id t))
-slots-with ms id t d s lt = slots-at ms id d _ s lt (λ q f. with_other _ id q t f)
-
 -- ---- the accessor
 
 -- the table of a region stands in its slot, which was lent
@@ -195,13 +180,6 @@ pub get-shown : (a : Inside) (r : Accessor) (id i : ℕ) (d : Tables) → IsAcce
 get-shown a r id i d kept is e lt lent =
     ap (λ (x : Accessor). finite.get x.tables id) (sym is) ∙ get-together a.slots.items id d kept.slots (omega (arith, kept.all, e, lt))
     ∙ ap (λ j. finite.get (slice_index_or a.slots.items j d) id) (sym e) ∙ ap (λ m. finite.get m id) (sym lent)
-
-pub slot-counted : (a : Inside) (id i : ℕ) (d : Tables) → IsAccessorKept a → i ≡ slot_of id → i < 128 → d ≡ slice_index_or a.slots.items i d → IsCounted (table_in d id) a.stats
-slot-counted a id i d kept e lt lent =
-    subst (λ t. IsCounted t a.stats) (ap (table_of id) (get-shown a (accessor_shown a) id i d kept refl e lt lent)) (table-counted (together a.slots.items) a.stats id kept.counted)
-
-pub slot-counts : {a : Inside} {i : ℕ} {d : Tables} (id : ℕ) → IsAccessorKept a → i ≡ slot_of id → i < 128 → d ≡ slice_index_or a.slots.items i d → IsCounted (table_in d id) a.stats
-slot-counts {a} {i} {d} id kept e lt lent = slot-counted a id i d kept e lt lent
 
 -- one region's table in its slot changed, and the counts with it
 pub record IsChanged (a b : Inside) (id i : ℕ) (d : Tables) (t : Option Table) : Type 0 where
@@ -224,7 +202,7 @@ kept-changed a b id i d t kept ch =
     let is = is-set a b id i d t ch in
     let same_table : table_in d id ≡ table_in (together a.slots.items) id = ap (table_of id) (sym (get-shown a (accessor_shown a) id i d kept refl ch.at ch.bound ch.lent)) in
     record {
-      slots = subst (AreSlots 0) (sym is) (slots-with a.slots.items id t d kept.slots lt);
+      slots = subst (AreSlots 0) (sym is) (slots-at a.slots.items id d _ kept.slots lt (λ q f. with_other _ id q t f));
       all = ap length is ∙ length-set a.slots.items (slot_of id) _ ∙ kept.all;
       counted = subst (λ m. AreCountsOf m b.stats) (sym (shown-changed a b (accessor_shown a) id i d t kept refl ch))
           (counted-with (together a.slots.items) a.stats b.stats id t kept.counted

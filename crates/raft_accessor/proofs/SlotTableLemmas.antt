@@ -1,15 +1,13 @@
 -- The tables of one slot taken out, and the counts after that.
-use Rattle.raft_accessor.proofs.Common.{◌≡◌, ◌<◌, ◌≤◌, ◌+◌, ◌-◌, ℕ, suc, zero, nat_eq, List, [], ◌∷◌, length, map, slice_index_or, slice_set, sym, ap, subst, ◌∙◌, arith, inl, inr, nat_cmp, IsDistinct}
-use Rattle.raft_accessor.proofs.Common.{keys_of, map-append, LogQueue, Tables, Counts, live, Table, live_of, Accessor, slot_of, live_in_all, accessor_shown, IsAccessorKept, slot_entries, together}
-use Rattle.raft_accessor.proofs.Common.{IsSlot, AreSlots, IsSlotTaken, with_all_deleted}
+use Rattle.raft_accessor.proofs.Common.{get_or-set_same, Append, Rewrite, ◌≡◌, ◌<◌, ◌≤◌, ◌+◌, ◌-◌, ℕ, suc, zero, nat_eq, List, [], ◌∷◌, length, map, slice_index_or, slice_set, sym, ap, subst, ◌∙◌, arith, inl, inr, nat_cmp, IsDistinct}
+use Rattle.raft_accessor.proofs.Common.{keys_of, map-append, LogQueue, Tables, Counts, live, Table, live_of, Accessor, slot_of, live_in_all, accessor_shown, IsAccessorKept, slot_entries, together, IsSlot, AreSlots, IsSlotTaken}
+use Rattle.raft_accessor.proofs.Common.{with_all_deleted}
 use Rattle.std.specs.FinMap as finite
-use Rattle.raft_base.specs.declared.pipe_log.LogQueue.TheVariants.{Append, Rewrite}
 use Rattle.raft_accessor.specs.declared.accessor.MemTableAccessor.TheInside.{Inside}
-use Rattle.raft_accessor.proofs.LiveLemmas.{live-none}
+use Rattle.raft_accessor.proofs.LiveLemmas.{live-none, live-total}
 use Rattle.raft_accessor.proofs.MapLemmas.{none_some}
-use Rattle.raft_accessor.proofs.OrderLemmas.{together-permuted, together-permuted-from, values-permuted}
-use Rattle.raft_accessor.proofs.SlotLemmas.{same_slot, get-together, other-slot, own-at, set-at, at-set, length-set}
-use Rattle.raft_accessor.proofs.TotalSums.{added, added-append, added-permuted, live-added}
+use Rattle.raft_accessor.proofs.SlotLemmas.{same_slot, get-together, other-slot, own-at, set-at, length-set}
+use Rattle.raft_accessor.proofs.TotalSums.{added, added-append, live-added, tables_of, slots-live, walked-total}
 
 empty-slot : (i : ℕ) → IsSlot {V = Table} i finite.empty
 empty-slot i = λ id h. finite.get-empty nat_cmp id
@@ -22,29 +20,19 @@ taken ms i m s lt lent =
       taken = λ id e. ap (λ x. finite.get x id) lent ∙ ap (λ j. finite.get (slice_index_or ms j m) id) (sym e) ∙ sym (get-together ms id m s (omega (arith, lt, e)));
       own = λ id t g. elim (same_slot (slot_of id) i) [ inl e ↦ e | inr ne ↦ absurd (none_some (sym (own-at ms i m s lt id ne) ∙ ap (λ x. finite.get x id) (sym lent) ∙ g)) ];
       gone = λ id e. get-together after id m (set-at ms i finite.empty s (empty-slot i)) (omega (arith, lt, e, fits))
-          ∙ ap (λ j. finite.get (slice_index_or after j m) id) e ∙ ap (λ x. finite.get x id) (at-set ms i finite.empty m lt)
+          ∙ ap (λ j. finite.get (slice_index_or after j m) id) e ∙ ap (λ x. finite.get x id) (get_or-set_same ms i finite.empty m lt)
           ∙ finite.get-empty nat_cmp id;
       others = λ id ne. other-slot ms id i finite.empty s (empty-slot i) ne;
     }
 
 -- ---- counts
 
-abbrev tables_of : List Tables → List Table
-tables_of ms = map (λ (e : ℕ × Table). e.1) (slot_entries ms)
-
-live-slots : (q : LogQueue) (ms : List Tables) → AreSlots 0 ms → live_in_all q (together ms) ≡ added (live_of q) (tables_of ms)
-live-slots q ms s = live-added q (together ms) ∙ sym (added-permuted (live_of q) (tables_of ms) (finite.values (together ms)) (together-permuted ms s))
-
 first : (f : Table → ℕ) (m : Tables) (ms : List Tables) → added f (tables_of (m ∷ ms)) ≡ added f (finite.values m) + added f (tables_of ms)
 first f m ms = ap (added f) (map-append (λ (e : ℕ × Table). e.1) (finite.entries m) (slot_entries ms)) ∙ added-append f (finite.values m) (tables_of ms)
 
--- of slots from k on
-live-from : (q : LogQueue) (k : ℕ) (ms : List Tables) → AreSlots k ms → live_in_all q (together ms) ≡ added (live_of q) (tables_of ms)
-live-from q k ms s = live-added q (together ms) ∙ sym (added-permuted (live_of q) (tables_of ms) (finite.values (together ms)) (together-permuted-from k ms s))
-
 -- one slot in front of others
 pub live-front : (q : LogQueue) (k : ℕ) (m : Tables) (ms : List Tables) → AreSlots k (m ∷ ms) → live_in_all q (together (m ∷ ms)) ≡ live_in_all q m + live_in_all q (together ms)
-live-front q k m ms s = omega (arith, live-from q k (m ∷ ms) s, live-from q (suc k) ms s.1, first (live_of q) m ms, live-added q m)
+live-front q k m ms s = omega (arith, slots-live q k (m ∷ ms) s, slots-live q (suc k) ms s.1, first (live_of q) m ms, live-added q m)
 
 -- other tables in one slot
 set-added : (f : Table → ℕ) (ms : List Tables) (i : ℕ) (m d : Tables) → i < length ms → added f (tables_of (slice_set ms i m)) + added f (finite.values (slice_index_or ms i d)) ≡ added f (tables_of ms) + added f (finite.values m)
@@ -56,8 +44,8 @@ taken-live : (q : LogQueue) (ms : List Tables) (i : ℕ) (m : Tables) → AreSlo
 taken-live q ms i m s lt lent =
     omega (
       arith,
-      live-slots q ms s,
-      live-slots q (slice_set ms i finite.empty) (set-at ms i finite.empty s (empty-slot i)),
+      slots-live q 0 ms s,
+      slots-live q 0 (slice_set ms i finite.empty) (set-at ms i finite.empty s (empty-slot i)),
       set-added (live_of q) ms i finite.empty m lt,
       ap (λ x. added (live_of q) (finite.values x)) lent,
       live-added q m,
@@ -67,7 +55,7 @@ taken-live q ms i m s lt lent =
 
 -- the tables that a walk of a hash map meets
 pub walked-live : (q : LogQueue) (es : List (ℕ × Table)) (m : Tables) (ts : List Table) → IsDistinct nat_eq (keys_of es) → finite.from_entries es ≡ m → ts ≡ map (λ e. e.1) es → added (live_of q) ts ≡ live_in_all q m
-walked-live q es m ts once is all = ap (added (live_of q)) all ∙ added-permuted (live_of q) _ _ (values-permuted es once) ∙ sym (live-added q (finite.from_entries es)) ∙ ap (live_in_all q) is
+walked-live q es m ts once is all = walked-total (live_of q) es m ts once is all ∙ sym (live-total q m)
 
 -- none of the tables that a walk met is left on the counts
 pub all-deleted : (old new : Counts) (m : Tables) (ts rest : List Table) → ((q : LogQueue) → added (live_of q) ts ≡ live_in_all q m) → rest ≡ []

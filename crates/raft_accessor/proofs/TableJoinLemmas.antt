@@ -1,15 +1,13 @@
--- A newer table of one region, or its absence, over the older one.
-use Rattle.raft_accessor.proofs.Common.{◌≡◌, ◌≤◌, ◌+◌, ◌^◌, ◌⊎◌, ℕ, Bool, true, false, cond, ◌||◌, Option, Some, None, Result, Ok, Err, refl, sym, ap, subst, ◌∙◌, inl, inr, arith, OnOk, IfOk, IfErr}
-use Rattle.raft_accessor.proofs.Common.{Error, LogQueue, end_of, Tables, with_table, Counts, live, end_at_reach, IsFaultUnder, IsMarkFault, IsRunOver, Mark, entries_within, is_refused_over, table_over}
-use Rattle.raft_accessor.proofs.Common.{there_if, table_over_older, table_of, Table, empty_table, live_of, with_table_deleted, IsRecounted, applied_none, own_alone, applied_own, live_of_empty}
-use Rattle.raft_accessor.proofs.Common.{table_in, live_in, false≢true, IsPut, IsTableJoined}
-use Rattle.std.specs.FinMap as finite
-use Rattle.raft_base.specs.declared.errors.Error.TheVariants as errors
+-- A table joined with one of a newer neighbor, or put over by an appended one, each under its region mark.
+use Rattle.raft_accessor.proofs.Common.{on_ok_weaker, start_of, IsRun, ◌≡◌, ◌≤◌, ◌+◌, ◌^◌, ◌⊎◌, ℕ, Bool, true, false, cond, ◌||◌, Option, Some, None, Result, Ok, Err, refl, sym, ap, subst, ◌∙◌, inl, inr, arith, OnOk, Error, LogQueue}
+use Rattle.raft_accessor.proofs.Common.{end_of, Tables, with_table, Counts, live, end_at_reach, IsFaultUnder, IsMarkFault, Mark, entries_within, is_refused_over, table_over, there_if, table_over_older, table_of, Table, empty_table, live_of}
+use Rattle.raft_accessor.proofs.Common.{with_table_deleted, IsRecounted, applied_none, own_alone, applied_own, live_of_empty, table_in, false≢true, IsPut, IsTableJoined, is_some, option_map, overlaid_region, kept_if, overlay_under}
+use Rattle.raft_accessor.proofs.Common.{IsPutOver, IsTableOverlaid}
 use Rattle.raft_accessor.proofs.LiveLemmas.{none_deleted}
 use Rattle.raft_accessor.proofs.MapLemmas.{get_own, get_gone, none_some, one_written, with_same}
-use Rattle.raft_base.specs.Runs.{IsRun}
-use Rattle.raft_table.specs.TableEntries.{start_of}
 use Rattle.raft_accessor.specs.TableJoins.{AreEndsMet}
+use Rattle.std.specs.FinMap as finite
+use Rattle.raft_base.specs.declared.errors.Error.TheVariants as errors
 
 pub ends_met : (m : Mark) (old : Table) (start end : ℕ) → start ≡ start_of old.entries → end ≡ end_at_reach m old → IsRun old.entries → AreEndsMet m old (start, end)
 ends_met m old start end from to run = subst (λ (s : ℕ). AreEndsMet m old (s, end)) (sym from) (subst (λ (e : ℕ). AreEndsMet m old (start_of old.entries, e)) (sym to) record { ends = refl; run = run })
@@ -27,14 +25,7 @@ put_joined queue m newer old id counts (Ok ends) new after p there one recounted
 }
 put_joined queue m newer old id counts (Err e) new after p there one recounted = record { ok = λ run. tt; answer = tt; fault = p.fault; few = tt; one = one; deleted = λ c n. tt; recounted = recounted }
 
--- the same told of a call
-pub put_by : (queue : LogQueue) (m : Mark) (newer : Table) (old : Tables) (id : ℕ) (counts : Counts) (r : Result (ℕ × ℕ) Error) (new : Tables)
-    (after : Counts) (t n : Table) (k : Counts) → t ≡ table_in old id → n ≡ table_in new id → k ≡ counts → IsPut queue m newer k r t n
-    → OnOk r (finite.get new id ≡ Some (table_in new id)) → new ≡ with_table old id (finite.get new id) → IsRecounted (table_in old id) (table_in new id) counts after → IsTableJoined queue m (Some newer) old id counts r new after
-put_by queue m newer old id counts r new after t n k e f g p =
-    put_joined queue m newer old id counts r new after (subst (λ t. IsPut queue m newer counts r t (table_in new id)) e (subst (λ n. IsPut queue m newer counts r t n) f (subst (λ k. IsPut queue m newer k r t n) g p)))
-
--- .. at a table that was there
+-- the same of a table that was there
 pub put_there : (queue : LogQueue) (m : Mark) (newer : Table) (old : Tables) (id : ℕ) (counts : Counts) (r : Result (ℕ × ℕ) Error) (new : Tables)
     (after : Counts) (t own n : Table) → finite.get old id ≡ Some t → own ≡ newer → new ≡ finite.insert old id n → IsPut queue m own counts r t n →
     IsRecounted t n counts after
@@ -43,7 +34,8 @@ put_there queue m newer old id counts r new after t own n was own_is put p recou
     let there : finite.get new id ≡ Some n = ap (λ n. finite.get n id) put ∙ get_own old id n in
     let now : n ≡ table_in new id = sym (ap (table_of id) there) in
     let before : t ≡ table_in old id = sym (ap (table_of id) was) in
-    put_by queue m newer old id counts r new after t n counts before now refl (subst (λ o. IsPut queue m o counts r t n) own_is p)
+    put_joined queue m newer old id counts r new after
+    (subst (λ t. IsPut queue m newer counts r t (table_in new id)) before (subst (λ n. IsPut queue m newer counts r t n) now (subst (λ o. IsPut queue m o counts r t n) own_is p)))
     (elim r as (λ r. OnOk r (finite.get new id ≡ Some (table_in new id))) [ Ok x ↦ there ∙ ap Some now | Err x ↦ tt ]) (one_written old new id n put)
     (subst (λ t. IsRecounted t (table_in new id) counts after) before (subst (λ n. IsRecounted t n counts after) now recounted))
 
@@ -94,9 +86,6 @@ first_refused queue m newer old id counts e new after fault one recounted = reco
 
 -- ---- a newer mark whose region has no table
 
-there_now : (old : Tables) (id : ℕ) (t : Table) → finite.get old id ≡ Some t → table_in old id ≡ t
-there_now old id t e = ap (table_of id) e
-
 -- nor is there an older one
 pub nothing_joined : (queue : LogQueue) (m : Mark) (old : Tables) (id : ℕ) (counts : Counts) → finite.get old id ≡ None → IsTableJoined queue m None old id counts (Ok (0, 0)) old counts
 nothing_joined queue m old id counts e = record {
@@ -109,6 +98,10 @@ nothing_joined queue m old id counts e = record {
   recounted = λ q. refl;
 }
 
+uncleaned : (b : Bool) → b ≡ false → cond b false (false || true) ≡ cond b true (true || true)
+uncleaned false e = refl
+uncleaned true e = absurd (false≢true (sym e))
+
 -- an empty newer table says the same, where the region was not cleaned
 pub empty_joined : (queue : LogQueue) (m : Mark) (old : Tables) (id : ℕ) (counts : Counts) (t : Table) (r : Result (ℕ × ℕ) Error) (new : Tables)
     (after : Counts) → finite.get old id ≡ Some t → m.cleaned ≡ false → IsTableJoined queue m (Some (empty_table id)) old id counts r new after →
@@ -117,22 +110,14 @@ empty_joined queue m old id counts t r new after e live p = record {
   ok = λ run. subst (λ x. OnOk r (x ≡ Some (finite.get new id))) (sym same) (p.ok run);
   answer = p.answer;
   fault = p.fault;
-  few = elim r as (λ r. OnOk r ((q : LogQueue) → live_of q (table_in new id) ≤ live_of q (table_in old id) + live_in q (Some (empty_table id))) →
-      OnOk r ((q : LogQueue) → live_of q (table_in new id) ≤ live_of q (table_in old id) + live_in q None)) [
-        | Ok x ↦ λ f q. omega (arith, f q, live_of_empty q id)
-        | Err x ↦ λ f. tt
-      ] p.few;
+  few = on_ok_weaker r (λ f q. omega (arith, f q, live_of_empty q id)) p.few;
   one = p.one;
   deleted = λ c n. absurd (false≢true (sym live ∙ c));
   recounted = p.recounted;
 }
   where
-    there : (b : Bool) → b ≡ false → cond b false (false || true) ≡ cond b true (true || true)
-    there false e = refl
-    there true e = absurd (false≢true (sym e))
-
     same : table_over_older queue id m None (finite.get old id) ≡ table_over_older queue id m (Some (empty_table id)) (finite.get old id)
-    same = subst (λ o. table_over_older queue id m None o ≡ table_over_older queue id m (Some (empty_table id)) o) (sym e) (ap (λ b. there_if b (table_over queue m (empty_table id) t)) (there m.cleaned live))
+    same = subst (λ o. table_over_older queue id m None o ≡ table_over_older queue id m (Some (empty_table id)) o) (sym e) (ap (λ b. there_if b (table_over queue m (empty_table id) t)) (uncleaned m.cleaned live))
 
 -- the older one goes
 pub cleaned_joined : (queue : LogQueue) (m : Mark) (old : Tables) (id : ℕ) (counts : Counts) (t : Table) (ends : ℕ × ℕ) (new : Tables) (after : Counts) →
@@ -142,7 +127,7 @@ cleaned_joined queue m old id counts t ends new after e cleaned accepted answer 
     let none : finite.get new id ≡ None = ap (λ n. finite.get n id) gone ∙ get_gone old id in
     record {
       ok = λ run. subst (λ o. table_over_older queue id m None o ≡ Some (finite.get new id)) (sym e) (rw (accepted, cleaned) (ap Some (sym none)));
-      answer = subst (λ x. AreEndsMet m x ends) (sym (there_now old id t e)) answer;
+      answer = subst (λ x. AreEndsMet m x ends) (sym (ap (table_of id) e)) answer;
       fault = λ run. tt;
       few = λ q. omega (arith, ap (λ o. live_of q (table_of id o)) none, live_of_empty q id);
       one = gone ∙ ap (with_table old id) (sym none);
@@ -156,28 +141,97 @@ pub mark_refused : (queue : LogQueue) (m : Mark) (old : Tables) (id : ℕ) (coun
 mark_refused queue m old id counts t x e f = record { ok = λ run. tt; answer = tt; fault = λ run. go x f; few = tt; one = sym (with_same old id); deleted = λ c n. tt; recounted = λ q. refl }
   where
     go : (x : Error) → IsMarkFault (is_refused_over queue m t.entries) x → IsFaultUnder queue counts m (empty_table id) (table_in old id) x
-    go (errors.Corruption text) f = ap (λ (u : Table). is_refused_over queue m u.entries) (there_now old id t e) ∙ f
+    go (errors.Corruption text) f = ap (λ (u : Table). is_refused_over queue m u.entries) (ap (table_of id) e) ∙ f
     go errors.Memory f = tt
     go _ f = absurd f
 
--- the same, where the region has these tables elsewhere
-pub joined_elsewhere : (queue : LogQueue) (m : Mark) (newer : Option Table) (old older : Tables) (id : ℕ) (counts before : Counts)
-    (r : Result (ℕ × ℕ) Error) (new next : Tables) (after : Counts) → finite.get older id ≡ finite.get old id → before ≡ counts →
-    finite.get next id ≡ finite.get new id → next ≡ with_table older id (finite.get next id)
-    → IsTableJoined queue m newer old id counts r new after → IsTableJoined queue m newer older id before r next after
-joined_elsewhere queue m newer old older id counts before r new next after e k f one p = record {
-  ok = λ run. subst (λ o. OnOk r (table_over_older queue id m newer o ≡ Some (finite.get next id))) (sym e)
-      (subst (λ n. OnOk r (table_over_older queue id m newer (finite.get old id) ≡ Some n)) (sym f)
-      (p.ok (subst (λ o. IsRunOver queue m (table_of id newer) (table_of id o)) e run)));
-  answer = subst (λ o. IfOk r (AreEndsMet m (table_of id o))) (sym e) p.answer;
-  fault = λ run. subst (λ c. IfErr r (IsFaultUnder queue c m (table_of id newer) (table_in older id))) (sym k)
-      (subst (λ o. IfErr r (IsFaultUnder queue counts m (table_of id newer) (table_of id o))) (sym e)
-      (p.fault (subst (λ o. IsRunOver queue m (table_of id newer) (table_of id o)) e run)));
-  few = subst (λ o. OnOk r ((q : LogQueue) → live_of q (table_in next id) ≤ live_of q (table_of id o) + live_in q newer)) (sym e)
-      (subst (λ n. OnOk r ((q : LogQueue) → live_of q (table_of id n) ≤ live_of q (table_in old id) + live_in q newer)) (sym f) p.few);
+-- ---- an appended table of one region, or its absence, over the rewritten one
+
+-- with an appended table there is one
+own_overlaid : (m : Mark) (t : Table) (id : ℕ) (o : Option Table) → overlaid_region id (Some m) (Some t) o ≡ Some (overlay_under m t (table_of id o))
+own_overlaid m t id o = ap (λ b. kept_if b (overlay_under m t (table_of id o))) (either m.cleaned)
+  where
+    either : (b : Bool) → cond b true true ≡ true
+    either true = refl
+    either false = refl
+
+put_overlaid : (m : Mark) (appended : Table) (old : Tables) (id : ℕ) (counts : Counts) (r : Result Unit Error) (new : Tables) (after : Counts) → IsPutOver m appended counts r (table_in old id) (table_in new id)
+    → OnOk r (finite.get new id ≡ Some (table_in new id)) → new ≡ with_table old id (finite.get new id) → IsRecounted (table_in old id) (table_in new id) counts after → IsTableOverlaid m (Some appended) old id counts r new after
+put_overlaid m appended old id counts (Ok x) new after p there one recounted = record {
+  ok = λ run. there ∙ ap Some (p.ok run) ∙ sym (own_overlaid m appended id (finite.get old id));
+  fault = tt;
+  few = p.few;
   one = one;
-  deleted = λ c n. subst (λ x. OnOk r (after ≡ with_table_deleted (table_in older id) x)) (sym k) (subst (λ o. OnOk r (after ≡ with_table_deleted (table_of id o) counts)) (sym e) (p.deleted c n));
-  recounted = subst (λ c. IsRecounted (table_in older id) (table_in next id) c after) (sym k)
-      (subst (λ o. IsRecounted (table_of id o) (table_in next id) counts after) (sym e)
-      (subst (λ n. IsRecounted (table_in old id) (table_of id n) counts after) (sym f) p.recounted));
+  deleted = λ c n. absurd (none_some (sym n));
+  recounted = recounted;
 }
+put_overlaid m appended old id counts (Err e) new after p there one recounted = record { ok = λ run. tt; fault = p.fault; few = tt; one = one; deleted = λ c n. tt; recounted = recounted }
+
+-- the same told of a call
+pub put_over_by : (m : Mark) (appended : Table) (old : Tables) (id : ℕ) (counts : Counts) (r : Result Unit Error) (new : Tables) (after : Counts)
+    (t n : Table) (k : Counts) → t ≡ table_in old id → n ≡ table_in new id → k ≡ counts → IsPutOver m appended k r t n
+    → OnOk r (finite.get new id ≡ Some (table_in new id)) → new ≡ with_table old id (finite.get new id) → IsRecounted (table_in old id) (table_in new id) counts after → IsTableOverlaid m (Some appended) old id counts r new after
+put_over_by m appended old id counts r new after t n k e f g p =
+    put_overlaid m appended old id counts r new after (subst (λ t. IsPutOver m appended counts r t (table_in new id)) e (subst (λ n. IsPutOver m appended counts r t n) f (subst (λ k. IsPutOver m appended k r t n) g p)))
+
+-- there was no memory for a table
+pub not_put : (m : Mark) (appended : Option Table) (old : Tables) (id : ℕ) (counts : Counts) (r : Result Unit Error) (new : Tables) (after : Counts) →
+    r ≡ Err errors.Memory → new ≡ with_table old id (finite.get new id) → IsRecounted (table_in old id) (table_in new id) counts after
+    → IsTableOverlaid m appended old id counts r new after
+not_put m appended old id counts r new after e one recounted = subst (λ r. IsTableOverlaid m appended old id counts r new after) (sym e) record { ok = λ run. tt; fault = tt; few = tt; one = one; deleted = λ c n. tt; recounted = recounted }
+
+-- ---- no appended table
+
+-- the region was cleaned: the rewritten table goes
+pub cleaned_dropped : (m : Mark) (old : Tables) (id : ℕ) (counts : Counts) (new : Tables) (after : Counts) → m.cleaned ≡ true →
+    new ≡ finite.remove old id → after ≡ with_table_deleted (table_in old id) counts → IsRecounted (table_in old id) (empty_table id) counts after →
+    IsTableOverlaid m None old id counts (Ok tt) new after
+cleaned_dropped m old id counts new after cleaned gone deleted recounted =
+    let none : finite.get new id ≡ None = ap (λ n. finite.get n id) gone ∙ get_gone old id in
+    record {
+      ok = λ run. none ∙ sym (ap (λ b. kept_if (cond b false (false || is_some (finite.get old id))) (overlay_under m (empty_table id) (table_in old id))) cleaned);
+      fault = tt;
+      few = λ q. omega (arith, ap (λ o. live_of q (table_of id o)) none, live_of_empty q id);
+      one = gone ∙ ap (with_table old id) (sym none);
+      deleted = λ c n. deleted;
+      recounted = subst (λ u. IsRecounted (table_in old id) u counts after) (sym (ap (table_of id) none)) recounted;
+    }
+
+-- nor is there a rewritten one
+pub nothing_dropped : (m : Mark) (old : Tables) (id : ℕ) (counts : Counts) → finite.get old id ≡ None → IsTableOverlaid m None old id counts (Ok tt) old counts
+nothing_dropped m old id counts e = record {
+  ok = λ run. subst (λ o. o ≡ overlaid_region id (Some m) None o) (sym e) (sym (ap (λ b. kept_if b (overlay_under m (empty_table id) (empty_table id))) (neither m.cleaned)));
+  fault = tt;
+  few = λ q. omega arith;
+  one = sym (with_same old id);
+  deleted = λ c n. sym (ap (λ o. with_table_deleted (table_of id o) counts) e ∙ none_deleted id counts);
+  recounted = λ q. refl;
+}
+  where
+    neither : (b : Bool) → cond b false (false || false) ≡ false
+    neither true = refl
+    neither false = refl
+
+pub absent : {X Y : Type 0} (f : X → Y) (o : Option X) → is_some o ≡ false → option_map f o ≡ None
+absent f None e = refl
+absent f (Some x) e = absurd (false≢true (sym e))
+
+pub present : {X Y : Type 0} (f : X → Y) (o : Option X) → is_some o ≡ true → (y : Y) × (option_map f o ≡ Some y)
+present f None e = absurd (false≢true e)
+present f (Some x) e = (f x, refl)
+
+-- an empty appended table says the same, where the region was not cleaned
+pub empty_put : (m : Mark) (old : Tables) (id : ℕ) (counts : Counts) (t : Table) (r : Result Unit Error) (new : Tables) (after : Counts) →
+    finite.get old id ≡ Some t → m.cleaned ≡ false → IsTableOverlaid m (Some (empty_table id)) old id counts r new after →
+    IsTableOverlaid m None old id counts r new after
+empty_put m old id counts t r new after e live p = record {
+  ok = λ run. subst (λ x. OnOk r (finite.get new id ≡ x)) (sym same) (p.ok run);
+  fault = p.fault;
+  few = on_ok_weaker r (λ f q. omega (arith, f q, live_of_empty q id)) p.few;
+  one = p.one;
+  deleted = λ c n. absurd (false≢true (sym live ∙ c));
+  recounted = p.recounted;
+}
+  where
+    same : overlaid_region id (Some m) None (finite.get old id) ≡ overlaid_region id (Some m) (Some (empty_table id)) (finite.get old id)
+    same = subst (λ o. overlaid_region id (Some m) None o ≡ overlaid_region id (Some m) (Some (empty_table id)) o) (sym e) (ap (λ b. kept_if b (overlay_under m (empty_table id) t)) (uncleaned m.cleaned live))

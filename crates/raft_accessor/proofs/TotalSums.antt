@@ -1,10 +1,9 @@
 -- Numbers of the values of a map, added in any order.
-use Rattle.raft_accessor.proofs.Common.{◌≡◌, ◌+◌, ℕ, nat_eq, List, [], ◌∷◌, ◌++◌, length, map, IsPermutation, refl, sym, ap, ◌∙◌, arith, nat_cmp, nat_cmp_total, IsDistinct, keys_of, sum_by-cons}
-use Rattle.raft_accessor.proofs.Common.{sum_by-IsPermutation, total_of, total, found, total-insert, total-none, total-ones, LogQueue, live_of, Tables, live_in_all, ◌<◌, ◌≤◌, drop, slice_index_or}
-use Rattle.raft_accessor.proofs.Common.{Table, slot_entries, together, AreSlots}
+use Rattle.raft_accessor.proofs.Common.{length-map, ◌≡◌, ◌+◌, ℕ, nat_eq, List, [], ◌∷◌, ◌++◌, length, map, IsPermutation, refl, sym, ap, ◌∙◌, arith, nat_cmp, nat_cmp_total, IsDistinct, keys_of, sum_by-cons, sum_by-IsPermutation, total_of}
+use Rattle.raft_accessor.proofs.Common.{total, found, total-insert, total-none, total-ones, LogQueue, live_of, Tables, live_in_all, ◌<◌, ◌≤◌, drop, slice_index_or, Table, slot_entries, together, AreSlots}
 use Rattle.std.specs.List.{sum_by}
 use Rattle.std.specs.FinMap as finite
-use Rattle.raft_accessor.proofs.OrderLemmas.{not-there, together-permuted, drop-step}
+use Rattle.raft_accessor.proofs.OrderLemmas.{not-there, together-permuted, together-permuted-from, drop-step}
 use Rattle.raft_accessor.proofs.SlotLemmas.{drop-none}
 
 module _ {X : Type 0} (f : X → ℕ) where
@@ -47,13 +46,9 @@ ones : {X : Type 0} (xs : List X) → added (λ x. 1) xs ≡ length xs
 ones [] = refl
 ones (x ∷ xs) = omega (arith, ones xs)
 
-length-values : {X : Type 0} (es : List (ℕ × X)) → length (map (λ e. e.1) es) ≡ length es
-length-values [] = refl
-length-values (e ∷ es) = omega (arith, length-values es)
-
 -- how many keys the map of some entries has
 pub len-from : {X : Type 0} (es : List (ℕ × X)) → IsDistinct nat_eq (keys_of es) → finite.len (finite.from_entries {R = nat_cmp} es) ≡ length es
-len-from {X} es once = sym (total-ones (finite.from_entries {R = nat_cmp} es)) ∙ total-from (λ (x : X). 1) es once ∙ ones (map (λ e. e.1) es) ∙ length-values es
+len-from {X} es once = sym (total-ones (finite.from_entries {R = nat_cmp} es)) ∙ total-from (λ (x : X). 1) es once ∙ ones (map (λ e. e.1) es) ∙ length-map es (λ e. e.1)
 
 -- what all tables have live in a queue
 pub live-added : (q : LogQueue) (m : Tables) → live_in_all q m ≡ added (live_of q) (finite.values m)
@@ -69,8 +64,9 @@ tables_of slots = map (λ e. e.1) (slot_entries slots)
 pub slots-all : (f : Table → ℕ) (ms : List Tables) → AreSlots 0 ms → added f (tables_of ms) ≡ total f (together ms)
 slots-all f ms are = added-permuted f (tables_of ms) (finite.values (together ms)) (together-permuted ms are) ∙ sym (total-values f (together ms))
 
-pub slots-live : (q : LogQueue) (ms : List Tables) → AreSlots 0 ms → added (live_of q) (tables_of ms) ≡ live_in_all q (together ms)
-slots-live q ms are = added-permuted (live_of q) (tables_of ms) (finite.values (together ms)) (together-permuted ms are) ∙ sym (live-added q (together ms))
+-- of slots from k on
+pub slots-live : (q : LogQueue) (k : ℕ) (ms : List Tables) → AreSlots k ms → added (live_of q) (tables_of ms) ≡ live_in_all q (together ms)
+slots-live q k ms are = added-permuted (live_of q) (tables_of ms) (finite.values (together ms)) (together-permuted-from k ms are) ∙ sym (live-added q (together ms))
 
 pub slots-left : (f : Table → ℕ) (ms : List Tables) (i : ℕ) → length ms ≤ i → added f (tables_of (drop i ms)) ≡ 0
 slots-left f ms i past = ap (λ es. added f (map (λ (e : ℕ × Table). e.1) es)) (drop-none ms i past)

@@ -1,18 +1,11 @@
 -- One item written to its region's table.
-use Rattle.raft_accessor.proofs.Common.{◌≡◌, ◌⊎◌, ℕ, true, false, cond, List, [], ◌++◌, append-nil, Option, Some, None, Result, Ok, Err, refl, sym, ap, subst, ◌∙◌, inl, inr, option_map, is_some}
-use Rattle.raft_accessor.proofs.Common.{Global, Vec, OnOk, OnErr, IfErr, false≢true, Error, LogQueue, EntryIndex, is_reserved, Item, Content, Pair, entries, pair, Tables, Counts, live, file_at}
-use Rattle.raft_accessor.proofs.Common.{entries_after_append, entries_after_replay, IsTableRunFault, table_of, Table, append_full, replay_full, table_in, IsItemWritten, IsCorruption, IsReplayFault}
-use Rattle.raft_accessor.proofs.Common.{BecomesOutcome, Writing, Appending, Replaying, queue_of, after_content, counts_after_content, counts_after_change, after_rewrite_put, with_change, lists}
-use Rattle.raft_accessor.proofs.Common.{listed_by, cleaned_by_content, IsFor, MixesQueues, IsWriteFault}
+use Rattle.raft_accessor.proofs.Common.{Append, ◌≡◌, ◌⊎◌, ℕ, true, false, cond, List, [], ◌++◌, append-nil, Option, Some, None, Result, Ok, Err, refl, sym, ap, subst, ◌∙◌, inl, inr, option_map, is_some, Global, Vec, OnOk, OnErr, IfErr}
+use Rattle.raft_accessor.proofs.Common.{false≢true, Error, LogQueue, EntryIndex, is_reserved, Item, Content, Pair, entries, pair, Tables, Counts, live, file_at, entries_after_append, entries_after_replay, IsTableRunFault, table_of, Table}
+use Rattle.raft_accessor.proofs.Common.{append_full, replay_full, table_in, IsItemWritten, IsCorruption, IsReplayFault, BecomesOutcome, Writing, Appending, Replaying, queue_of, after_content, counts_after_content, counts_after_change}
+use Rattle.raft_accessor.proofs.Common.{after_rewrite_put, with_change, lists, listed_by, cleaned_by_content, IsFor, MixesQueues, IsWriteFault}
 use Rattle.std.specs.FinMap as finite
 use Rattle.raft_base.specs.declared.errors.Error.TheVariants as errors
-use Rattle.raft_base.specs.declared.pipe_log.LogQueue.TheVariants.{Append}
 use Rattle.raft_accessor.proofs.MapLemmas.{one_same}
-
--- new items meet no records of the other queue
-pub none_met : {R : Type 0} (r : Result R Error) → OnOk r (⊥ → ⊥)
-none_met (Ok x) = λ m. m
-none_met (Err e) = tt
 
 -- what is done to the table is what the content asks for, and no region is listed
 pub written_by : (w : Writing) (item : Item) (outcome : Option Table) (IsFault : Error → Type 0) (old : Tables) (counts : Counts) (list : List ℕ)

@@ -1,11 +1,11 @@
 -- What the calls of an accessor do.
-use Rattle.std.specs.Prelude.{◌≡◌, ◌⊎◌, ℕ, [], ◌∷◌, Option, Some, Result, Ok, Err, IfErr}
+use Rattle.std.specs.Prelude.{◌≡◌, ◌⊎◌, ℕ, [], ◌∷◌, Option, Some, Result, Ok, Err, IfErr, IfSome}
 use Rattle.std.specs.FinMap as finite
 use Rattle.std.specs.Result.{OnOk, OnErr}
 use Rattle.raft_base.specs.declared.errors.Error.{Error}
 use Rattle.raft_base.specs.declared.errors.Error.TheVariants.{Memory}
 use Rattle.raft_records.specs.Item.{Item}
-use Rattle.raft_table.specs.Table.{Table}
+use Rattle.raft_table.specs.Table.{Table, with_table_deleted}
 use Rattle.raft_accessor.specs.Accessor.{Accessor, table_in, live_in_all}
 use Rattle.raft_accessor.specs.Writes.{Writing, queue_of, AreWritten, IsWriteFault}
 
@@ -37,3 +37,11 @@ pub record IsWritten (w : Writing) (item : Item) (r : Result Unit Error) (old ne
 abbrev pub lent_as : {X E : Type 0} → Result X E → Result X Error
 lent_as (Ok x) = Ok x
 lent_as (Err e) = Err Memory
+
+-- a region's table, if there is one, is taken away, handed out, and no longer counted
+pub record IsTableTaken (id : ℕ) (table : Option Table) (old new : Accessor) : Type 0 where
+  pub tables : new.tables ≡ finite.remove old.tables id
+  pub removed : table ≡ finite.get old.tables id
+  pub own : IfSome table (λ (t : Table). t.region_id ≡ id)
+  pub counts : new.counts ≡ with_table_deleted (table_in old.tables id) old.counts
+  pub cleaned : new.cleaned ≡ old.cleaned

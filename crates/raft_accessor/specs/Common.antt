@@ -2,6 +2,7 @@
 pub use Rattle.std.specs.Iterator.{Drains, IsFinite, Yields}
 pub use Rattle.std.specs.List.{FoldsTo, IsDistinct}
 pub use Rattle.std.specs.Map.{keys_of, lookup}
+pub use Rattle.raft_base.specs.Corruption.{IsCorruption}
 pub use Rattle.raft_base.specs.Runs.{IsRun, end_of, entries_of_block}
 pub use Rattle.raft_base.specs.declared.entry_index.EntryIndex.{EntryIndex}
 pub use Rattle.raft_base.specs.declared.errors.Error.{Error}
@@ -28,7 +29,7 @@ pub use Rattle.raft_table.specs.TakenSteps.{IsStepOfQueue}
 pub use Rattle.raft_history.specs.Records.{total}
 pub use Rattle.raft_history.specs.RegionSteps.{Tables}
 pub use Rattle.raft_accessor.specs.Accessor.{Accessor, AreCountsOf, live_in, live_in_all, slot_of, table_in}
-pub use Rattle.raft_accessor.specs.AccessorCalls.{IsTableChanged, IsTableMade, IsWritten, lent_as}
+pub use Rattle.raft_accessor.specs.AccessorCalls.{IsTableChanged, IsTableMade, IsTableTaken, IsWritten, lent_as}
 pub use Rattle.raft_accessor.specs.AppendChecks.{AreAccepted, AreAcceptedOncePlaced, AreRefusedOncePlaced, IsAppendCheckFault}
 pub use Rattle.raft_accessor.specs.Extents.{AreBefore, IsExtentOf, IsNextFault, IsPairAccepted, IsPairCheckFault, IsRunCheckFault, TakesNext, TakesRun, commanded}
 pub use Rattle.raft_accessor.specs.ItemWrites.{IsItemWritten, IsReplayed, pair_change}
@@ -38,8 +39,8 @@ pub use Rattle.raft_accessor.specs.SlotTables.{IsSlotTaken, counts_of, with_all_
 pub use Rattle.raft_accessor.specs.Slots.{AreSlots, together}
 pub use Rattle.raft_accessor.specs.TableJoins.{IsPut, IsTableJoined}
 pub use Rattle.raft_accessor.specs.TableOverlays.{IsPutOver, IsTableOverlaid}
-pub use Rattle.raft_accessor.specs.TableSteps.{IsRunTried, IsStepTaken}
-pub use Rattle.raft_accessor.specs.Updates.{BecomesOutcome, IsInserted, IsUpdated, MayChange}
+pub use Rattle.raft_accessor.specs.TableSteps.{IsChangeTried, IsRunPut, IsRunTried, IsStepTaken}
+pub use Rattle.raft_accessor.specs.Updates.{BecomesOutcome, IsInserted, IsRemoved, IsUpdated, MayChange}
 pub use Rattle.raft_accessor.specs.Walks.{Collects, KeepsId, Makes}
 pub use Rattle.raft_accessor.specs.Writes.{Appending, AreItemsRefused, AreWritten, IsWriteFault, Replaying, Rewriting}
 pub use Rattle.raft_accessor.specs.WritingShown.{writing_shown}

@@ -8,7 +8,7 @@ use Rattle.raft_base.specs.declared.errors.Error.{Error}
 use Rattle.raft_base.specs.declared.errors.Error.TheVariants.{Full, Memory}
 use Rattle.raft_base.specs.declared.pipe_log.LogQueue.{LogQueue}
 use Rattle.raft_table.specs.Counts.{Counts, live}
-use Rattle.raft_table.specs.Table.{Table, live_of, with_table_added, with_table_deleted, IsRecounted}
+use Rattle.raft_table.specs.Table.{Table, empty_table, live_of, with_table_added, with_table_deleted, IsRecounted}
 use Rattle.raft_history.specs.RegionSteps.{Tables, with_table}
 use Rattle.raft_accessor.specs.Accessor.{table_in}
 
@@ -69,3 +69,11 @@ pub record IsInserted (id : ℕ) (table : Table) (old : Tables) (before : Counts
   pub fault : IfErr r (λ e. (e ≡ Memory) ⊎ ((e ≡ Full) × ((q : LogQueue) × (2 ^ 64 ≤ live q before + live_of q table))))
   pub one : new ≡ with_table old id (finite.get new id)
   pub recounted : IsRecounted (table_in old id) (table_in new id) before after
+
+-- a region's table, if there is one, is taken away, handed out, and no longer counted
+pub record IsRemoved (id : ℕ) (table : Option Table) (old : Tables) (before : Counts) (new : Tables) (left : Counts) : Type 0 where
+  pub removed : table ≡ finite.get old id
+  pub own : IfSome table (λ (t : Table). t.region_id ≡ id)
+  pub after : new ≡ finite.remove old id
+  pub counts : left ≡ with_table_deleted (table_in old id) before
+  pub recounted : IsRecounted (table_in old id) (empty_table id) before left

@@ -2,8 +2,8 @@
 
 ghost use Rattle.std.specs.Prelude.{◌≡◌, ◌≢◌, ◌≤◌, ◌<◌, ◌^◌, ◌+◌, ◌⊎◌, ◌↔◌, List, [], ◌∷◌, ◌++◌, map, replicate, IsPermutation, IsTrue, OnOk, OnErr, IfOk, IfErr, IfSome, Some, None, option_map, is_some, length, if◌then◌else◌};
 ghost use Rattle.raft_accessor.specs.Common.{FoldsTo, LogQueue, total, after_change, AreCountsAfter, IsAllowed, IsAnswer, IsChangeFault, Table, with_table_added, with_table_deleted, live_of, slot_of, table_in, live_in_all, AreCountsOf};
-ghost use Rattle.raft_accessor.specs.Common.{IsTableChanged, IsTableMade, lent_as, with_newer, with_appended, AreTablesMerged, AreTablesLeft, AreOthersLeft, AreMerged, IsMergedIn, IsNewerFault, IsAppendedFault, IsMergeRefusal, Collects};
-ghost use Rattle.raft_accessor.specs.Common.{Makes};
+ghost use Rattle.raft_accessor.specs.Common.{IsTableChanged, IsTableMade, IsTableTaken, lent_as, with_newer, with_appended, AreTablesMerged, AreTablesLeft, AreOthersLeft, AreMerged, IsMergedIn, IsNewerFault, IsAppendedFault};
+ghost use Rattle.raft_accessor.specs.Common.{IsMergeRefusal, Collects, Makes};
 ghost use Rattle.std.specs.FinMap as finite;
 
 mod cleaned;
@@ -35,10 +35,7 @@ pub fn slot_of(id: u64) -> usize
 fn lent<'a>(table: AllocResult<&'a MemTable>) -> Result<&'a MemTable>
     ensures { result ≡ lent_as table.entry }
 {
-    match table {
-        Ok(table) => Ok(table),
-        Err(_) => Err(Error::Memory),
-    }
+    table.map_err(|_| Error::Memory)
 }
 
 /// The tables of all regions, how many of their records are live, and the regions that were cleaned.
@@ -139,10 +136,7 @@ impl MemTableAccessor {
     fn make_table(&mut self, id: u64) -> AllocResult<()>
         ensures { IsTableMade id result self.old self.new }
     {
-        match self.make(id) {
-            Ok(()) => Ok(()),
-            Err(_) => Err(AllocError),
-        }
+        self.make(id).map_err(|_| AllocError)
     }
 
     fn made(&self, id: u64) -> &MemTable
@@ -374,12 +368,7 @@ impl MemTableAccessor {
     /// Takes a region's table away in its box, and its records off the counts.
     #[doc(hidden)]
     pub fn take(&mut self, id: u64) -> Option<BoxedTable>
-        ensures tables { self.new.tables ≡ finite.remove self.old.tables id }
-        ensures removed { result ≡ finite.get self.old.tables id }
-        ensures own { IfSome result (λ t. t.region_id ≡ id) }
-        ensures counts { self.new.counts ≡ with_table_deleted (table_in self.old.tables id)
-            self.old.counts }
-        ensures cleaned { self.new.cleaned ≡ self.old.cleaned }
+        ensures { IsTableTaken id result self.old self.new }
     {
         self.slots[slot_of(id)].take(id, &mut self.stats)
     }

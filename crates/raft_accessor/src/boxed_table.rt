@@ -57,8 +57,5 @@ impl BoxedTable {
 pub(crate) fn unboxed(table: Option<BoxedTable>) -> Option<MemTable>
     ensures { result ≡ table }
 {
-    match table {
-        Some(table) => Some(table.into_table()),
-        None => None,
-    }
+    table.map(|table| table.into_table())
 }

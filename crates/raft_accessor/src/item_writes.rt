@@ -1,8 +1,8 @@
 //! Log items written to the tables of their regions.
 
 ghost use Rattle.std.specs.Prelude.{◌≢◌, ℕ, List, map, Option, OnOk, IfErr};
-ghost use Rattle.raft_accessor.specs.Common.{item_of, content_of, entries_item, command_item, pair, pair_of, Counts, Table, IsCounted, table_in, AreAcceptedOncePlaced, AreRefusedOncePlaced, IsAppendCheckFault, IsItemWritten, IsReplayed};
-ghost use Rattle.raft_accessor.specs.Common.{pair_change, Appending, Replaying, Rewriting, IsWriteFault, writing_shown};
+ghost use Rattle.raft_accessor.specs.Common.{IsCorruption, item_of, content_of, entries_item, command_item, pair, pair_of, Counts, Table, IsCounted, table_in, AreAcceptedOncePlaced, AreRefusedOncePlaced, IsAppendCheckFault, IsItemWritten};
+ghost use Rattle.raft_accessor.specs.Common.{IsReplayed, pair_change, Appending, Replaying, Rewriting, IsWriteFault, writing_shown};
 
 use crate::append_check::AppendCheck;
 use crate::region_tables::RegionTables;
@@ -24,12 +24,8 @@ pub enum Writing {
 }
 
 impl RegionTables {
-    /// Tests whether [`append_item`](RegionTables::append_item) would accept these items, one after another, once
-    /// their entries have a place and their key values a file in the append queue. It changes nothing.
-    ///
-    /// # Errors
-    ///
-    /// `Corruption` where it would refuse an item: the text names the region, the index and the reason. `Memory`.
+    /// Does what [`MemTableAccessor::check_append_writes`](crate::MemTableAccessor::check_append_writes) does, with
+    /// its errors.
     pub fn check_append_items(&self, items: &[LogItem]) -> Result<()>
         ensures ok { OnOk result (AreAcceptedOncePlaced self.now (map item_of items.now)) }
         ensures refused { IfErr result (λ e. e ≢ Error.Memory
@@ -161,6 +157,12 @@ impl RegionTables {
         }
     }
 
+    fn corruption(&self, text: &str) -> Error
+        ensures { IsCorruption text.now result }
+    {
+        Error::corruption(self.alloc, text)
+    }
+
     fn append_entries(
         &mut self,
         id: u64,
@@ -173,8 +175,7 @@ impl RegionTables {
             self.old stats.old list result self.new stats.new list }
     {
         if !is_run(&run, LogQueue::Append) {
-            return Err(Error::corruption(
-                self.alloc,
+            return Err(self.corruption(
                 "indexes don't rise by one, or a place is not in the append queue",
             ));
         }
@@ -195,8 +196,7 @@ impl RegionTables {
             self.old stats.old list result self.new stats.new list }
     {
         if !is_run(&run, LogQueue::Rewrite) {
-            return Err(Error::corruption(
-                self.alloc,
+            return Err(self.corruption(
                 "indexes don't rise by one, or a place is not in the rewrite queue",
             ));
         }
@@ -210,12 +210,8 @@ impl RegionTables {
     {
         match command {
             Command::Clean => Ok(()),
-            Command::Compact { index: _ } => {
-                Err(Error::corruption(self.alloc, "a compaction is rewritten"))
-            }
-            Command::Truncate { index: _ } => {
-                Err(Error::corruption(self.alloc, "a truncation is rewritten"))
-            }
+            Command::Compact { index: _ } => Err(self.corruption("a compaction is rewritten")),
+            Command::Truncate { index: _ } => Err(self.corruption("a truncation is rewritten")),
         }
     }
 
@@ -229,10 +225,7 @@ impl RegionTables {
                 if is_run(&entries.0, queue) {
                     return Ok(());
                 }
-                Err(Error::corruption(
-                    self.alloc,
-                    "indexes don't rise by one, or a place is in the other queue",
-                ))
+                Err(self.corruption("indexes don't rise by one, or a place is in the other queue"))
             }
             LogItemContent::Command(_) => Ok(()),
             LogItemContent::Kv(kv) => self.check_replayed_pair(queue, kv),
@@ -249,17 +242,13 @@ impl RegionTables {
         }
         match (kv.op_type, &kv.value, kv.file_id) {
             (OpType::Del, _, _) => Ok(()),
-            (OpType::Put, None, _) => {
-                Err(Error::corruption(self.alloc, "a key is put without value"))
-            }
-            (OpType::Put, Some(_), None) => {
-                Err(Error::corruption(self.alloc, "a key is put without file"))
-            }
+            (OpType::Put, None, _) => Err(self.corruption("a key is put without value")),
+            (OpType::Put, Some(_), None) => Err(self.corruption("a key is put without file")),
             (OpType::Put, Some(_), Some(file)) => {
                 if file.queue == queue {
                     return Ok(());
                 }
-                Err(Error::corruption(self.alloc, "a key is put in the other queue"))
+                Err(self.corruption("a key is put in the other queue"))
             }
         }
     }
@@ -283,11 +272,11 @@ impl RegionTables {
         match kv.op_type {
             OpType::Put => {
                 if kv.value.is_none() {
-                    return Err(Error::corruption(self.alloc, "a key is rewritten without value"));
+                    return Err(self.corruption("a key is rewritten without value"));
                 }
                 self.rewrite_key(id, kv.key, gate, seq, stats)
             }
-            OpType::Del => Err(Error::corruption(self.alloc, "a deletion is rewritten")),
+            OpType::Del => Err(self.corruption("a deletion is rewritten")),
         }
     }
 }

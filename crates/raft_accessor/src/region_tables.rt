@@ -1,8 +1,8 @@
 //! The tables of some regions.
 
-ghost use Rattle.std.specs.Prelude.{◌≡◌, ◌≢◌, ◌≤◌, ◌+◌, ◌↔◌, ℕ, nat_eq, List, map, length, IsPermutation, IsTrue, OnOk, IfOk, IfErr, IfSome, Some, None, option_map};
-ghost use Rattle.raft_accessor.specs.Common.{IsDistinct, FoldsTo, keys_of, lookup, LogQueue, Append, Rewrite, total, Tables, after_change, AreCountsAfter, IsAllowed, IsAnswer, IsChangeFault, run_shown, Table, IsCounted, IsRecounted};
-ghost use Rattle.raft_accessor.specs.Common.{IsRunIn, table_in, live_in_all, with_neighbor, IsFaultBeside, MayAlter, IsAltered, IsTableMerged, IsRunTried, MayChange, IsUpdated, BecomesOutcome, Collects, KeepsId, Makes};
+ghost use Rattle.std.specs.Prelude.{◌≡◌, ◌≢◌, ◌≤◌, ◌+◌, ◌↔◌, ℕ, nat_eq, List, map, length, IsPermutation, IsTrue, OnOk, IfErr, IfSome, Some, None, option_map};
+ghost use Rattle.raft_accessor.specs.Common.{IsChangeTried, IsDistinct, FoldsTo, keys_of, lookup, LogQueue, Append, Rewrite, total, Tables, run_shown, Table, IsCounted, IsRecounted, IsRunIn, table_in, live_in_all, with_neighbor};
+ghost use Rattle.raft_accessor.specs.Common.{IsFaultBeside, MayAlter, IsAltered, IsTableMerged, IsRunTried, MayChange, IsUpdated, BecomesOutcome, Collects, KeepsId, Makes};
 ghost use Rattle.std.specs.FinMap as finite;
 
 mod counts;
@@ -158,36 +158,18 @@ impl RegionTables {
             stats.old result self.new stats.new }
         ensures counts { stats.new ≡ stats.old }
     {
-        self.update(id, stats, |_: &mut MemTable, _: &mut GlobalStats| Ok(()))
+        self.update(id, stats, |_, _| Ok(()))
     }
 
-    /// Does what a change says to a region's table, which is made where there is none. The number is
-    /// how many entries a compaction or a truncation drops, else 0.
-    ///
-    /// # Errors
-    ///
-    /// Those of [`MemTable::change`], and `Memory`. The tables are then as they were.
+    /// Does what [`MemTableAccessor::change`](crate::MemTableAccessor::change) does, with its errors.
     pub fn change(&mut self, id: u64, change: TableChange, stats: &mut GlobalStats) -> Result<u64>
         requires { IsCounted (table_in self.old id) stats.old }
-        ensures outcome { BecomesOutcome (after_change (table_in self.old id) change)
-            (IsChangeFault (table_in self.old id) stats.old change) self.old id stats.old result
-            self.new stats.new }
-        ensures answer { IfOk result (IsAnswer change (table_in self.old id)
-            (table_in self.new id)) }
-        ensures allowed { OnOk result (IsAllowed change) }
-        ensures counts { OnOk result (AreCountsAfter change (table_in self.old id) stats.old
-            stats.new) }
+        ensures { IsChangeTried change id self.old stats.old result self.new stats.new }
     {
-        self.update(
-            id,
-            stats,
-            move |table: &mut MemTable, stats: &mut GlobalStats| table.change(change, stats),
-        )
+        self.update(id, stats, move |table, stats| table.change(change, stats))
     }
 
-    /// Puts a run that is read again into its region's table, which is made where there is none, and
-    /// returns where the entries of the table began and ended before. Where nothing is returned, tables
-    /// and counts are as they were.
+    /// Puts a run that is read again, and returns where the entries of its region's table began and ended before.
     #[inline(always)]
     pub(crate) fn try_replay(
         &mut self,
@@ -255,14 +237,10 @@ impl RegionTables {
             (λ e. ⊥) self.old id stats.old result self.new stats.new }
         ensures counts { stats.new ≡ stats.old }
     {
-        self.update(
-            id,
-            stats,
-            move |table: &mut MemTable, _: &mut GlobalStats| {
-                table.apply_rewrite_atomic_group(start, end);
-                Ok(())
-            },
-        )
+        self.update(id, stats, move |table, _| {
+            table.apply_rewrite_atomic_group(start, end);
+            Ok(())
+        })
     }
 
     /// Returns the tables, each with its region, in no set order.
@@ -287,15 +265,12 @@ impl RegionTables {
             (IsFaultBeside kind stats.new (table_in self.old id) newer) self.old id stats.old result
             self.new stats.new }
     {
-        self.alter(
-            id,
-            stats,
-            move |table: &mut MemTable, stats: &mut GlobalStats| merge(kind, table, newer, stats),
-        )
+        self.alter(id, stats, move |table, stats| {
+            merge(kind, table, newer, stats)
+        })
     }
 
-    /// Changes a region's table, which is made where there is none, and keeps what a refused change
-    /// leaves. It is looked up once.
+    /// Does what [`RegionTables::update`] does, and keeps what a refused change leaves.
     #[inline(always)]
     fn alter<R: Drop, F: FnOnce(&mut MemTable, &mut GlobalStats) -> Result<R>>(
         &mut self,

@@ -1,5 +1,2 @@
 mod Common
-mod MoveLemmas
-mod ShareLemmas
 mod SharedLemmas
-mod SlotKeeping

@@ -397,7 +397,6 @@ fn share_out(alloc: Global, core: MemTableAccessor) -> Result<Vec<Slot>>
     Ok(slots)
 }
 
-/// Takes the tables out of an accessor into 128 slots that list no cleaned region.
 fn share_tables(alloc: Global, core: &mut MemTableAccessor) -> Result<Vec<Slot>>
     ensures shares { IfOk result (λ slots. HaveShares core.old.tables [] 0 slots.items) }
     ensures all { IfOk result (λ slots. length slots.items ≡ 128) }
@@ -433,7 +432,6 @@ fn move_slot(slot: &mut Slot, alloc: Global, core: &mut MemTableAccessor) -> Res
     Ok(())
 }
 
-/// Lists regions of one slot as cleaned, before their tables are added.
 fn list_cleaned(number: usize, ids: &[u64], core: &mut MemTableAccessor) -> Result<()>
     requires { AllByRecursion (λ id. slot_of id ≡ number) ids.now }
     ensures ok { OnOk result (core.new.cleaned ≡ core.old.cleaned ++ ids.now) }

@@ -10,11 +10,8 @@ use raft_table::Mark;
 
 impl MemTableAccessor {
     /// Puts a newer neighbor's table of a region, or its absence, over the older one, as the newer region mark
-    /// says. Returns where the older entries begin, and the end of those that the region mark's first run meets.
-    ///
-    /// # Errors
-    ///
-    /// Those of [`MemTable::join_under`].
+    /// says, with the errors of [`MemTable::join_under`](raft_table::MemTable::join_under), after which the counts
+    /// agree with the tables. Returns where the older entries begin, and the end of those that the first run meets.
     #[doc(hidden)]
     pub fn join_table(
         &mut self,
@@ -34,11 +31,7 @@ impl MemTableAccessor {
         self.slots[slot_of(id)].join_table(queue, id, newer, mark, &mut self.stats)
     }
 
-    /// Makes room in a slot, up to `count` tables.
-    ///
-    /// # Errors
-    ///
-    /// `AllocError`.
+    /// Makes room in a slot, up to `count` tables, or changes nothing.
     #[doc(hidden)]
     pub fn make_room(&mut self, slot: usize, count: usize) -> AllocResult<()>
         requires { slot < 128 }
@@ -47,11 +40,7 @@ impl MemTableAccessor {
         self.slots[slot].make_room(count)
     }
 
-    /// Lists the cleaned regions of another accessor after the own ones.
-    ///
-    /// # Errors
-    ///
-    /// `Memory`. The lists are then as they were.
+    /// Lists the cleaned regions of another accessor after the own ones. The lists stay on `Memory`, the only error.
     #[doc(hidden)]
     pub fn append_cleaned(&mut self, rhs: &mut MemTableAccessor) -> Result<()>
         ensures ok { OnOk result (self.new.cleaned ≡ self.old.cleaned ++ rhs.old.cleaned) }

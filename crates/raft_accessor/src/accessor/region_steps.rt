@@ -1,7 +1,7 @@
 //! Steps on one region's table, which is made where there is none; runs and files were tested before.
 
 ghost use Rattle.std.specs.Prelude.{◌≡◌, ◌≢◌, [], true, Ok, Err, OnSome, IfSome, ok_or, if◌then◌else◌};
-ghost use Rattle.raft_accessor.specs.Common.{Memory, LogQueue, Rewrite, end_of, entries_of_block, other, counts_with_run, step_shown, Put, after_replay, live_of, IsRunIn, start_of, IsStepOfQueue, table_in, live_in, AreCountsOf};
+ghost use Rattle.raft_accessor.specs.Common.{Memory, LogQueue, Rewrite, end_of, entries_of_block, other, counts_with_run, step_shown, Put, after_replay, live_of, IsRunIn, IsRunPut, IsStepOfQueue, table_in, live_in, AreCountsOf};
 ghost use Rattle.raft_accessor.specs.Common.{IsTableChanged, IsTableOverlaid, IsStepTaken};
 
 use crate::accessor::{MemTableAccessor, slot_of};
@@ -58,18 +58,7 @@ impl MemTableAccessor {
         spans: &[(u32, u32)],
     ) -> Option<(u64, u64)>
         requires run { IsRunIn queue (entries_of_block first place spans.now) }
-        ensures changed { IsTableChanged (after_replay queue (table_in self.old.tables id)
-            (entries_of_block first place spans.now)) (λ e. ⊥) id (ok_or result Memory) self.old
-            self.new }
-        ensures accepted { OnSome result (live_of (other queue) (table_in self.old.tables id) ≡ 0) }
-        ensures counts { OnSome result (self.new.counts
-            ≡ counts_with_run queue (table_in self.old.tables id).entries
-            (entries_of_block first place spans.now) self.old.counts) }
-        ensures ends { IfSome result
-            (λ ends. ends ≡ (
-              start_of (table_in self.old.tables id).entries,
-              end_of (table_in self.old.tables id).entries,
-            )) }
+        ensures { IsRunPut queue id (entries_of_block first place spans.now) result self.old self.new }
     {
         let run = Run::Block {
             first,
@@ -94,11 +83,7 @@ impl MemTableAccessor {
     }
 
     /// Puts an appended table of a region, or its absence, over the rewritten one, as the region mark of the
-    /// append queue says.
-    ///
-    /// # Errors
-    ///
-    /// Those of [`MemTable::overlay`].
+    /// append queue says, with the errors of [`MemTable::overlay`](raft_table::MemTable::overlay).
     #[doc(hidden)]
     pub fn overlay_table(
         &mut self,

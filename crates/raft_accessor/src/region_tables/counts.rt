@@ -8,7 +8,6 @@ use raft_base::LogQueue;
 use raft_table::GlobalStats;
 
 impl RegionTables {
-    /// Takes the records of all tables off some counts, and returns counts of these records alone.
     pub(crate) fn take_counts(&self, stats: &mut GlobalStats) -> GlobalStats
         requires { (q : LogQueue) → live_in_all q self.now ≤ live q stats.old }
         ensures taken { result ≡ counts_of self.now }

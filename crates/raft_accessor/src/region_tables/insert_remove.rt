@@ -1,8 +1,7 @@
 //! Tables put under their regions, and taken away.
 
-ghost use Rattle.std.specs.Prelude.{◌≡◌, ◌≤◌, ◌+◌, IfSome};
-ghost use Rattle.raft_accessor.specs.Common.{LogQueue, live, table_of, empty_table, live_of, with_table_deleted, IsCounted, IsRecounted, table_in, IsInserted};
-ghost use Rattle.std.specs.FinMap as finite;
+ghost use Rattle.std.specs.Prelude.{◌≡◌, ◌≤◌, ◌+◌};
+ghost use Rattle.raft_accessor.specs.Common.{LogQueue, live, table_of, live_of, with_table_deleted, IsCounted, table_in, IsInserted, IsRemoved};
 
 use crate::boxed_table::{BoxedTable, unboxed};
 use crate::region_tables::RegionTables;
@@ -26,7 +25,6 @@ impl RegionTables {
         Ok(unboxed(self.put(id, table, stats)?))
     }
 
-    /// Does what [`RegionTables::insert`] does with a table in its box, and hands out the box that stood there.
     pub(crate) fn put(
         &mut self,
         id: u64,
@@ -51,25 +49,14 @@ impl RegionTables {
     /// Takes a region's table away, and its records off the counts.
     pub fn remove(&mut self, id: u64, stats: &mut GlobalStats) -> Option<MemTable>
         requires { IsCounted (table_in self.old id) stats.old }
-        ensures removed { result ≡ finite.get self.old id }
-        ensures own { IfSome result (λ t. t.region_id ≡ id) }
-        ensures after { self.new ≡ finite.remove self.old id }
-        ensures counts { stats.new ≡ with_table_deleted (table_in self.old id) stats.old }
-        ensures recounted { IsRecounted (table_in self.old id) (empty_table id) stats.old
-            stats.new }
+        ensures { IsRemoved id result self.old stats.old self.new stats.new }
     {
         unboxed(self.take(id, stats))
     }
 
-    /// Does what [`RegionTables::remove`] does, and hands the table out in its box.
     pub(crate) fn take(&mut self, id: u64, stats: &mut GlobalStats) -> Option<BoxedTable>
         requires { IsCounted (table_in self.old id) stats.old }
-        ensures removed { result ≡ finite.get self.old id }
-        ensures own { IfSome result (λ t. t.region_id ≡ id) }
-        ensures after { self.new ≡ finite.remove self.old id }
-        ensures counts { stats.new ≡ with_table_deleted (table_in self.old id) stats.old }
-        ensures recounted { IsRecounted (table_in self.old id) (empty_table id) stats.old
-            stats.new }
+        ensures { IsRemoved id result self.old stats.old self.new stats.new }
     {
         let removed = self.tables.remove(&id);
         delete_replaced(id, &removed, stats);

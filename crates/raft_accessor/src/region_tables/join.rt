@@ -10,12 +10,7 @@ use raft_base::{AllocResult, LogQueue, Result};
 use raft_table::{GlobalStats, Mark, MemTable};
 
 impl RegionTables {
-    /// Puts a newer neighbor's table of a region, or its absence, over the older one, as the newer region mark
-    /// says. Returns where the older entries begin, and the end of those that the region mark's first run meets.
-    ///
-    /// # Errors
-    ///
-    /// Those of [`MemTable::join_under`]. The counts then agree with the tables.
+    /// Does what [`MemTableAccessor::join_table`](crate::MemTableAccessor::join_table) does, with its errors.
     pub(crate) fn join_table(
         &mut self,
         queue: LogQueue,
@@ -44,18 +39,12 @@ impl RegionTables {
         self.tables.len()
     }
 
-    /// Makes room, up to `count` tables.
-    ///
-    /// # Errors
-    ///
-    /// `AllocError`.
     pub(crate) fn make_room(&mut self, count: usize) -> AllocResult<()>
         ensures { self.new ≡ self.old }
     {
         self.tables.reserve(count.saturating_sub(self.tables.len()))
     }
 
-    /// Puts a newer table over that of its region. Where there is none, it stands there as it is.
     fn put_newer(
         &mut self,
         queue: LogQueue,
@@ -106,7 +95,6 @@ impl RegionTables {
     }
 }
 
-/// Puts a newer table over that of its region.
 fn put_over(
     older: &mut MemTable,
     queue: LogQueue,
@@ -127,7 +115,6 @@ fn put_over(
     Ok((start, end))
 }
 
-/// Returns the first index of a table, 0 without entries.
 fn start_of(table: &MemTable) -> u64
     ensures start { result ≡ start_of table.now.entries }
     ensures run { IsRun table.now.entries }

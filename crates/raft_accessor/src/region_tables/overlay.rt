@@ -59,7 +59,6 @@ impl RegionTables {
         )
     }
 
-    /// Does what `overlay_table` does where the append queue has no table of the region.
     fn drop_rewritten(&mut self, id: u64, mark: &Mark, stats: &mut GlobalStats) -> Result<()>
         requires counted { IsCounted (table_in self.old id) stats.old }
         ensures { IsTableOverlaid mark.now None self.old id stats.old result self.new stats.new }

@@ -8,7 +8,7 @@ ghost use Rattle.raft_table.specs.Steps.{Clean};
 
 use crate::region_tables::RegionTables;
 use raft_base::{EntryIndex, FileId, FileSeq, LogQueue, Result};
-use raft_table::{GlobalStats, MemTable, Step};
+use raft_table::{GlobalStats, Step};
 
 impl RegionTables {
     pub(crate) fn append_run(
@@ -26,11 +26,7 @@ impl RegionTables {
         ensures counts { OnOk result (stats.new
             ≡ counts_with_run Append (table_in self.old id).entries run.items stats.old) }
     {
-        self.update(
-            id,
-            stats,
-            move |table: &mut MemTable, stats: &mut GlobalStats| table.append(run, stats),
-        )
+        self.update(id, stats, move |table, stats| table.append(run, stats))
     }
 
     pub(crate) fn take_step(
@@ -49,13 +45,9 @@ impl RegionTables {
         if step.is_clean() {
             return self.clean(queue, id, stats, cleaned);
         }
-        self.update(
-            id,
-            stats,
-            move |table: &mut MemTable, stats: &mut GlobalStats| {
-                table.take_step(queue, step, stats)
-            },
-        )
+        self.update(id, stats, move |table, stats| {
+            table.take_step(queue, step, stats)
+        })
     }
 
     pub(crate) fn try_put(
@@ -118,11 +110,9 @@ impl RegionTables {
         ensures counts { OnOk result (stats.new
             ≡ counts_after_rewrite gate run.items (table_in self.old id).entries stats.old) }
     {
-        self.update(
-            id,
-            stats,
-            move |table: &mut MemTable, stats: &mut GlobalStats| table.rewrite(run, gate, stats),
-        )
+        self.update(id, stats, move |table, stats| {
+            table.rewrite(run, gate, stats)
+        })
     }
 
     pub(crate) fn rewrite_key(
@@ -143,12 +133,8 @@ impl RegionTables {
             ≡ with_rewritten_key
             (leaves_append gate (file_at (table_in self.old id).keys key.items)) stats.old) }
     {
-        self.update(
-            id,
-            stats,
-            move |table: &mut MemTable, stats: &mut GlobalStats| {
-                table.rewrite_key(key, gate, seq, stats)
-            },
-        )
+        self.update(id, stats, move |table, stats| {
+            table.rewrite_key(key, gate, seq, stats)
+        })
     }
 }

@@ -1,5 +1,4 @@
-use Rattle.raft_shared.proofs.Common.{◌≡◌, Some, Ok, Err, inl, inr, OnOk, IfOk, after_change, IsAllowed, IsAnswer, table_in, IsChangeAnswer}
-use Rattle.std.proofs.lemmas.Result.{IfErr-weaker}
+use Rattle.raft_shared.proofs.Common.{IfErr-weaker, ◌≡◌, Some, Ok, Err, inl, inr, OnOk, IfOk, after_change, IsAllowed, IsAnswer, table_in, IsChangeAnswer}
 use Rattle.raft_shared.proofs.shared_accessor.change_by.Goals as goal
 
 pub returns-clause-number : goal.returns-clause-number

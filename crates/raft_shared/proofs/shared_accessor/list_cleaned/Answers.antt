@@ -1,5 +1,5 @@
 use Rattle.raft_shared.proofs.Common.{◌≡◌, ◌∷◌, [], ◌++◌, ◌+◌, drop, slice_index_or, append_assoc, refl, sym, ap, subst, ◌∙◌, AllByRecursion, at_drop_more, slot_of}
-use Rattle.raft_shared.proofs.MoveLemmas.{none-removed, other-removed}
+use Rattle.raft_shared.proofs.SharedLemmas.{none-removed, other-removed}
 use Rattle.raft_shared.proofs.shared_accessor.list_cleaned.Goals as goal
 
 pub loop-id-init : goal.loop-id-init

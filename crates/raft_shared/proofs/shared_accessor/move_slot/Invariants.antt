@@ -1,5 +1,5 @@
 use Rattle.std.proofs.Common.{◌≡◌, ℕ, ◌++◌, drop}
-use Rattle.raft_shared.proofs.MoveLemmas.{HasOnly, either}
+use Rattle.raft_shared.proofs.SharedLemmas.{HasOnly, either}
 use Rattle.raft_shared.proofs.shared_accessor.move_slot.Given as goal
 
 abbrev pub invariant-loop-id : goal.invariant-loop-id

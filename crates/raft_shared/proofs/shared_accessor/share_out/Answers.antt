@@ -1,5 +1,5 @@
-use Rattle.raft_shared.proofs.Common.{◌≡◌, ◌∷◌, [], ◌++◌, ◌+◌, drop, slice_index_or, append_assoc, append-nil, sym, ap, subst, ◌∙◌, arith, at_drop_more, drop_of_length-le, Slot, HaveShares}
-use Rattle.raft_shared.proofs.ShareLemmas.{share-at, shares-listed, length-listed}
+use Rattle.raft_shared.proofs.Common.{length-set, ◌≡◌, ◌∷◌, [], ◌++◌, ◌+◌, drop, slice_index_or, append_assoc, append-nil, sym, ap, subst, ◌∙◌, arith, at_drop_more, drop_of_length-le, Slot, HaveShares}
+use Rattle.raft_shared.proofs.SharedLemmas.{share-at, shares-listed}
 use Rattle.raft_shared.proofs.shared_accessor.share_out.Goals as goal
 
 pub loop-id-init : goal.loop-id-init
@@ -22,7 +22,7 @@ loop-id-preserved c =
       append_assoc at.0 (id ∷ []) rest ∙ ap (λ l. at.0 ++ l) (sym one) ∙ at.1,
       shares-listed c.args.core.tables at.0 id 0 c.loop-id.slots.items c.slot_of.result c.index_mut.result.now c.list.new.self at.2
           (omega (arith, c.slot_of.ensures.bound, at.3)) (omega (arith, c.slot_of.ensures.value)) c.index_mut.ensures.value c.in_ok-list.ensures.ok,
-      length-listed c.loop-id.slots.items c.slot_of.result c.list.new.self ∙ at.3,
+      length-set c.loop-id.slots.items c.slot_of.result c.list.new.self ∙ at.3,
     )
 
 pub returns-clause-shares : goal.returns-clause-shares

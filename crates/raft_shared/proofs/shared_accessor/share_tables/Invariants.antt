@@ -1,5 +1,5 @@
 use Rattle.raft_shared.proofs.Common.{◌≡◌, [], length, HaveShares}
-use Rattle.raft_shared.proofs.ShareLemmas.{AreLeft}
+use Rattle.raft_shared.proofs.SharedLemmas.{AreLeft}
 use Rattle.raft_shared.proofs.shared_accessor.share_tables.Given as goal
 
 abbrev pub invariant-loop-number : goal.invariant-loop-number

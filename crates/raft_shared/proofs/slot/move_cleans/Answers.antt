@@ -1,5 +1,5 @@
-use Rattle.raft_shared.proofs.Common.{◌∙◌, length, ap, arith, Batch, joined-cleans, only-memory}
-use Rattle.std.proofs.lemmas.Result.{IfErr-weaker, on_ok_weaker}
+use Rattle.raft_shared.proofs.Common.{IfErr-weaker, on_ok_weaker, ◌∙◌, length, ap, arith, Batch}
+use Rattle.raft_shared.proofs.SharedLemmas.{joined-cleans, only-memory}
 use Rattle.raft_shared.proofs.slot.move_cleans.Goals as goal
 
 pub returns-clause-ok : goal.returns-clause-ok

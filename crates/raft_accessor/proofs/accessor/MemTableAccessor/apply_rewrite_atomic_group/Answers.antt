@@ -1,6 +1,5 @@
 use Rattle.raft_accessor.proofs.Common.{◌≡◌, Some, refl}
-use Rattle.raft_accessor.proofs.AccessorLemmas.{AtSlot, at-slot, changed-at, kept-at, moved-at, with_slot}
-use Rattle.raft_accessor.proofs.SlotLemmas.{slot-counts}
+use Rattle.raft_accessor.proofs.AccessorLemmas.{AtSlot, at-slot, changed-at, kept-at, moved-at, with_slot, slot-counts}
 use Rattle.raft_accessor.proofs.accessor.MemTableAccessor.apply_rewrite_atomic_group.Goals as goal
 
 pub apply_rewrite_atomic_group-requires-clause-counted : goal.apply_rewrite_atomic_group-requires-clause-counted

@@ -1,6 +1,5 @@
 use Rattle.raft_accessor.proofs.Common.{OnOk, IfOk, after_change, AreCountsAfter, IsAnswer, IsChangeFault, table_of, refl}
-use Rattle.raft_accessor.proofs.AccessorLemmas.{AtSlot, at-slot, changed-at, kept-at, moved-at, with_slot}
-use Rattle.raft_accessor.proofs.SlotLemmas.{slot-counts}
+use Rattle.raft_accessor.proofs.AccessorLemmas.{AtSlot, at-slot, changed-at, kept-at, moved-at, with_slot, slot-counts}
 use Rattle.raft_accessor.proofs.accessor.MemTableAccessor.change.Goals as goal
 
 pub change-requires : goal.change-requires

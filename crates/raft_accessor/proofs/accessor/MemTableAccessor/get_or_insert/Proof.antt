@@ -1,6 +1,5 @@
 -- `get_or_insert` says of what `lend` lent that want of memory is the crate's error. Assumes `Logic`.
-use Rattle.raft_accessor.proofs.Common.{◌≡◌, ℕ, [], ◌∷◌, refl, sym, subst, ⊤, proved, leaves, Accessor, table_in, IsTableMade, lent_as, the_row}
-use Rattle.std.specs.Prelude.{IfOk, IfErr, Result, Ok, Err}
+use Rattle.raft_accessor.proofs.Common.{◌≡◌, ℕ, [], ◌∷◌, refl, sym, subst, ⊤, proved, leaves, Accessor, table_in, IsTableMade, lent_as, the_row, IfOk, IfErr, Result, Ok, Err, Memory}
 use mathlib.Core.Option.{none}
 use seplogic.Ra.Ura.{Ura}
 use base.Logic.{id⊢, ent, emp, ex_i, ex_e}
@@ -34,7 +33,6 @@ use Rattle.std.proofs.result.Result.TheLaws as result_laws
 use Rattle.std.specs.contracts.alloc.AllocError as refused
 use Rattle.raft_base.proofs.errors.Error.TheLaws as error_laws
 use Rattle.raft_base.specs.contracts.errors.Error as error
-use Rattle.raft_base.specs.declared.errors.Error.TheVariants.{Memory}
 use Rattle.raft_table.proofs.memtable.MemTable.TheLaws as table_laws
 use Rattle.raft_table.specs.contracts.memtable.MemTable as table
 use Rattle.raft_accessor.specs.contracts.accessor.MemTableAccessor.get_or_insert as f

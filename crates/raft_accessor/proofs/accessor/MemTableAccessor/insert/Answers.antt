@@ -1,9 +1,7 @@
-use Rattle.raft_accessor.proofs.Common.{◌≡◌, ◌≤◌, ◌+◌, ◌^◌, ap, subst, ◌∙◌, inl, inr, OnOk, IfOk, with_table, live_of, with_table_added, with_table_deleted, Accessor, live_in_all, table_of, refl}
-use Rattle.std.proofs.lemmas.Result.{IfErr-weaker, on_ok_weaker, on_err_weaker}
+use Rattle.raft_accessor.proofs.Common.{IfErr-weaker, on_ok_weaker, on_err_weaker, ◌≡◌, ◌≤◌, ◌+◌, ◌^◌, ap, subst, ◌∙◌, inl, inr, OnOk, IfOk, with_table, live_of, with_table_added, with_table_deleted, Accessor, live_in_all, table_of, refl}
 use Rattle.std.specs.FinMap as finite
 use Rattle.raft_accessor.proofs.MapLemmas.{get_own}
-use Rattle.raft_accessor.proofs.AccessorLemmas.{AtSlot, at-slot, kept-at, moved-at, tables-at, unchanged-at, with_slot}
-use Rattle.raft_accessor.proofs.SlotLemmas.{slot-counts}
+use Rattle.raft_accessor.proofs.AccessorLemmas.{AtSlot, at-slot, kept-at, moved-at, tables-at, unchanged-at, with_slot, slot-counts}
 use Rattle.raft_accessor.proofs.accessor.MemTableAccessor.insert.Goals as goal
 
 pub insert-requires-clause-counted : goal.insert-requires-clause-counted

@@ -1,6 +1,5 @@
 use Rattle.raft_accessor.proofs.Common.{◌≡◌, Some, refl}
-use Rattle.raft_accessor.proofs.AccessorLemmas.{AtSlot, at-slot, changed-at, kept-at, moved-at, with_slot}
-use Rattle.raft_accessor.proofs.SlotLemmas.{slot-counts}
+use Rattle.raft_accessor.proofs.AccessorLemmas.{AtSlot, at-slot, changed-at, kept-at, moved-at, with_slot, slot-counts}
 use Rattle.raft_accessor.proofs.accessor.MemTableAccessor.make.Goals as goal
 
 pub make-requires : goal.make-requires

@@ -1,8 +1,6 @@
-use Rattle.raft_accessor.proofs.Common.{ap, Accessor, ◌≡◌, ◌≢◌, IfErr, table_of, table_in, with_neighbor, IsFaultBeside, neighbor_rule, refl}
-use Rattle.raft_base.specs.declared.errors.Error.TheVariants.{Memory}
+use Rattle.raft_accessor.proofs.Common.{Memory, ap, Accessor, ◌≡◌, ◌≢◌, IfErr, table_of, table_in, with_neighbor, IsFaultBeside, neighbor_rule, refl}
 use Rattle.raft_accessor.proofs.MergeLemmas.{refused-with}
-use Rattle.raft_accessor.proofs.AccessorLemmas.{AtSlot, alone-at, at-slot, kept-at, merged-at, moved-at, with_slot}
-use Rattle.raft_accessor.proofs.SlotLemmas.{slot-counts}
+use Rattle.raft_accessor.proofs.AccessorLemmas.{AtSlot, alone-at, at-slot, kept-at, merged-at, moved-at, with_slot, slot-counts}
 use Rattle.raft_accessor.proofs.accessor.MemTableAccessor.merge_table.Goals as goal
 
 pub merge_neighbor-requires-clause-counted : goal.merge_neighbor-requires-clause-counted

@@ -1,6 +1,5 @@
 use Rattle.raft_accessor.proofs.Common.{◌≡◌, ◌+◌, ◌≤◌, true, None, Some, OnOk, IfErr, LogQueue, overlaid_region, IsOverlayFault, table_of, live_of, with_table_deleted, IsRecounted, live_in, IsRunOverlaid, refl}
-use Rattle.raft_accessor.proofs.AccessorLemmas.{AtSlot, alone-at, at-slot, kept-at, moved-at, with_slot}
-use Rattle.raft_accessor.proofs.SlotLemmas.{slot-counts}
+use Rattle.raft_accessor.proofs.AccessorLemmas.{AtSlot, alone-at, at-slot, kept-at, moved-at, with_slot, slot-counts}
 use Rattle.raft_accessor.proofs.accessor.MemTableAccessor.overlay_table.Goals as goal
 
 pub overlay_table-requires-clause-counted : goal.overlay_table-requires-clause-counted

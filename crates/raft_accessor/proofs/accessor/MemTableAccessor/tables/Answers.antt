@@ -1,5 +1,4 @@
-use Rattle.raft_accessor.proofs.Common.{sym, subst, IsPermutation}
-use Rattle.std.proofs.lemmas.Result.{IfOk-weaker}
+use Rattle.raft_accessor.proofs.Common.{IfOk-weaker, sym, subst, IsPermutation}
 use Rattle.std.specs.FinMap as finite
 use Rattle.raft_accessor.proofs.WalkLemmas.{all-kept}
 use Rattle.raft_accessor.proofs.accessor.MemTableAccessor.tables.Goals as goal

@@ -1,8 +1,7 @@
-use Rattle.raft_accessor.proofs.Common.{◌≡◌, ap, ◌∙◌, table_of, with_table, with_table_deleted, refl}
+use Rattle.raft_accessor.proofs.Common.{Accessor, ◌≡◌, ap, ◌∙◌, table_of, with_table, with_table_deleted, refl}
 use Rattle.std.specs.FinMap as finite
 use Rattle.raft_accessor.proofs.MapLemmas.{get_gone}
-use Rattle.raft_accessor.proofs.AccessorLemmas.{AtSlot, at-gone, kept-at, moved-at, tables-at, with_slot}
-use Rattle.raft_accessor.proofs.SlotLemmas.{slot-counts}
+use Rattle.raft_accessor.proofs.AccessorLemmas.{AtSlot, at-gone, kept-at, moved-at, tables-at, with_slot, slot-counts}
 use Rattle.raft_accessor.proofs.accessor.MemTableAccessor.take.Goals as goal
 
 pub take-requires : goal.take-requires
@@ -14,11 +13,11 @@ slotted c = at-gone c.self.invariant c.self.view_is c.slot_of.ensures.value c.sl
 pub invariant_of-self : goal.invariant_of-self
 invariant_of-self c = kept-at (slotted c)
 
-pub returns-clause-tables : goal.returns-clause-tables
-returns-clause-tables c = tables-at (slotted c) ∙ ap (with_table c.args.self.now.tables c.args.id) (ap (λ m. finite.get m c.args.id) c.take.ensures.after ∙ get_gone c.index_mut.result.now c.args.id)
-
-pub returns-clause-removed : goal.returns-clause-removed
-returns-clause-removed c = moved-at (slotted c) (λ o p k. c.take.result ≡ o) c.take.ensures.removed
-
-pub returns-clause-counts : goal.returns-clause-counts
-returns-clause-counts c = moved-at (slotted c) (λ o p k. c.take.new.stats ≡ with_table_deleted (table_of c.args.id o) k) c.take.ensures.counts
+pub returns : goal.returns
+returns c = record {
+  tables = tables-at (slotted c) ∙ ap (with_table c.args.self.now.tables c.args.id) (ap (λ m. finite.get m c.args.id) c.take.ensures.after ∙ get_gone c.index_mut.result.now c.args.id);
+  removed = moved-at (slotted c) (λ o p k. c.take.result ≡ o) c.take.ensures.removed;
+  own = c.take.ensures.own;
+  counts = moved-at (slotted c) (λ o p k. c.take.new.stats ≡ with_table_deleted (table_of c.args.id o) k) c.take.ensures.counts;
+  cleaned = ap (λ (x : Accessor). x.cleaned) c.self.view_is;
+}

@@ -1,6 +1,5 @@
 use Rattle.raft_accessor.proofs.Common.{subst, step_shown, Accessor, AreCountsOf, refl}
-use Rattle.raft_accessor.proofs.AccessorLemmas.{AtSlot, at-slot, kept-at, step-at, with_slot}
-use Rattle.raft_accessor.proofs.SlotLemmas.{slot-counts}
+use Rattle.raft_accessor.proofs.AccessorLemmas.{AtSlot, at-slot, kept-at, step-at, with_slot, slot-counts}
 use Rattle.raft_accessor.proofs.accessor.MemTableAccessor.take_step.Goals as goal
 
 pub take_step-requires-clause-counted : goal.take_step-requires-clause-counted

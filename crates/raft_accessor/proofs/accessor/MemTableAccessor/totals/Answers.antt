@@ -1,6 +1,5 @@
-use Rattle.raft_accessor.proofs.Common.{◌≡◌, ◌<◌, ◌≤◌, ℕ, length, sym, ap, subst, ◌∙◌, arith, LogQueue, live, Table, live_of, total, Accessor, live_in_all, together, AreSlots}
+use Rattle.raft_accessor.proofs.Common.{Append, Rewrite, ◌≡◌, ◌<◌, ◌≤◌, ℕ, length, sym, ap, subst, ◌∙◌, arith, LogQueue, live, Table, live_of, total, Accessor, live_in_all, together, AreSlots}
 use Rattle.std.specs.FinMap as finite
-use Rattle.raft_base.specs.declared.pipe_log.LogQueue.TheVariants.{Append, Rewrite}
 use Rattle.raft_accessor.proofs.TotalSums.{slots-all, slots-live, slots-left, slot-less, slot-less-live}
 use Rattle.raft_accessor.proofs.accessor.MemTableAccessor.totals.Goals as goal
 
@@ -8,7 +7,7 @@ pub loop-slot-init : goal.loop-slot-init
 loop-slot-init c =
     let slots = c.deref-slot-items.result.now in
     let are = subst (AreSlots 0) (sym c.deref-slot-items.ensures.value) c.self.invariant.slots in
-    let one = λ (q : LogQueue). slots-live q slots are
+    let one = λ (q : LogQueue). slots-live q 0 slots are
     ∙ sym (subst (λ s. live q c.self.inside.stats ≡ live_in_all q (together s)) (sym c.deref-slot-items.ensures.value)
     (c.self.invariant.counted q)) in
     (omega arith, omega arith, omega arith, omega (arith, one Append, one Rewrite, c.live_entries.ensures, c.live_entries-2.ensures))

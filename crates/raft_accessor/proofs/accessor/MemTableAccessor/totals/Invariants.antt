@@ -1,6 +1,5 @@
-use Rattle.raft_accessor.proofs.Common.{◌≡◌, ◌≤◌, ◌+◌, length, drop, Table, live_of}
+use Rattle.raft_accessor.proofs.Common.{Append, Rewrite, ◌≡◌, ◌≤◌, ◌+◌, length, drop, Table, live_of}
 use Rattle.std.specs.FinMap as finite
-use Rattle.raft_base.specs.declared.pipe_log.LogQueue.TheVariants.{Append, Rewrite}
 use Rattle.raft_accessor.proofs.TotalSums.{added, tables_of}
 use Rattle.raft_accessor.proofs.accessor.MemTableAccessor.totals.Given as goal
 

@@ -1,8 +1,5 @@
-use Rattle.raft_accessor.proofs.Common.{◌≡◌, ◌≢◌, [], true, Ok, Err, cond, Put, table_of, refl}
-use Rattle.raft_base.specs.declared.errors.Error.TheVariants.{Memory}
-use Rattle.raft_base.specs.declared.pipe_log.LogQueue.TheVariants.{Append}
-use Rattle.raft_accessor.proofs.AccessorLemmas.{AtSlot, at-slot, kept-at, moved-at, step-at, with_slot}
-use Rattle.raft_accessor.proofs.SlotLemmas.{slot-counts}
+use Rattle.raft_accessor.proofs.Common.{Memory, Append, ◌≡◌, ◌≢◌, [], true, Ok, Err, cond, Put, table_of, refl}
+use Rattle.raft_accessor.proofs.AccessorLemmas.{AtSlot, at-slot, kept-at, moved-at, step-at, with_slot, slot-counts}
 use Rattle.raft_accessor.proofs.accessor.MemTableAccessor.try_put.Goals as goal
 
 pub try_put-requires : goal.try_put-requires

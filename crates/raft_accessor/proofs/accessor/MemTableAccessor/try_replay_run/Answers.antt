@@ -1,6 +1,5 @@
 use Rattle.raft_accessor.proofs.Common.{◌≡◌, ℕ, Ok, refl, ap, end_of, other, counts_with_run, table_of, after_replay, live_of}
-use Rattle.raft_accessor.proofs.AccessorLemmas.{AtSlot, at-slot, with_slot, kept-at, changed-at, moved-at}
-use Rattle.raft_accessor.proofs.SlotLemmas.{slot-counts}
+use Rattle.raft_accessor.proofs.AccessorLemmas.{AtSlot, at-slot, with_slot, kept-at, changed-at, moved-at, slot-counts}
 use Rattle.raft_accessor.proofs.accessor.MemTableAccessor.try_replay_run.Goals as goal
 
 pub try_replay-requires-clause-counted : goal.try_replay-requires-clause-counted

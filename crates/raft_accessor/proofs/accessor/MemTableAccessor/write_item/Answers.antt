@@ -1,6 +1,5 @@
 use Rattle.raft_accessor.proofs.Common.{item_of, writing_shown, refl}
-use Rattle.raft_accessor.proofs.AccessorLemmas.{AtSlot, at-slot, kept-at, with_slot, written-at}
-use Rattle.raft_accessor.proofs.SlotLemmas.{slot-counts}
+use Rattle.raft_accessor.proofs.AccessorLemmas.{AtSlot, at-slot, kept-at, with_slot, written-at, slot-counts}
 use Rattle.raft_accessor.proofs.accessor.MemTableAccessor.write_item.Goals as goal
 
 pub write_item-requires : goal.write_item-requires

@@ -1,5 +1,5 @@
-use Rattle.raft_accessor.proofs.Common.{subst, option_map, pair_of, TakesRun}
-use Rattle.raft_accessor.proofs.AppendCheckLemmas.{command_next, pair_taken, run_next}
+use Rattle.raft_accessor.proofs.Common.{on_ok_weaker, subst, option_map, pair_of, TakesRun}
+use Rattle.raft_accessor.proofs.AppendCheckLemmas.{command_next, pair_next, run_next}
 use Rattle.raft_accessor.proofs.append_check.AppendCheck.take.Goals as goal
 
 pub returns-in_ok-insert-in-EntryIndexes-clause-ok : goal.returns-in_ok-insert-in-EntryIndexes-clause-ok
@@ -18,4 +18,4 @@ returns-in_ok-insert-in-Command-clause-ok c =
 
 pub returns-in-Kv-clause-ok : goal.returns-in-Kv-clause-ok
 returns-in-Kv-clause-ok c =
-    rw c.in-Kv.is (pair_taken c.args.self.now.extents.entries c.args.item.now.raft_group_id (option_map (λ t. t.now) c.args.table) (pair_of c.in-Kv.kv) c.check_pair.result c.check_pair.ensures.ok)
+    rw c.in-Kv.is (on_ok_weaker c.check_pair.result (pair_next c.args.self.now.extents.entries c.args.item.now.raft_group_id (option_map (λ t. t.now) c.args.table) (pair_of c.in-Kv.kv)) c.check_pair.ensures.ok)

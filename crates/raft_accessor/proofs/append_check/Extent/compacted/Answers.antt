@@ -1,5 +1,5 @@
 use Rattle.raft_accessor.proofs.Common.{refl, sym, subst, IsExtentOf}
-use Rattle.raft_accessor.proofs.ExtentLemmas.{compacted_none, compacted_some}
+use Rattle.raft_accessor.proofs.AppendCheckLemmas.{compacted_none, compacted_some}
 use Rattle.raft_accessor.proofs.append_check.Extent.compacted.Goals as goal
 
 pub returns-then-self-index : goal.returns-then-self-index

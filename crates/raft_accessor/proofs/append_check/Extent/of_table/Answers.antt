@@ -1,4 +1,4 @@
-use Rattle.raft_accessor.proofs.ExtentLemmas.{extent_table}
+use Rattle.raft_accessor.proofs.AppendCheckLemmas.{extent_table}
 use Rattle.raft_accessor.proofs.append_check.Extent.of_table.Goals as goal
 
 pub returns-in-Some-first_index : goal.returns-in-Some-first_index

@@ -1,5 +1,5 @@
 use Rattle.raft_accessor.proofs.Common.{refl, sym, subst, IsExtentOf}
-use Rattle.raft_accessor.proofs.ExtentLemmas.{truncated_none, truncated_some}
+use Rattle.raft_accessor.proofs.AppendCheckLemmas.{truncated_none, truncated_some}
 use Rattle.raft_accessor.proofs.append_check.Extent.truncated.Goals as goal
 
 pub returns-then-index-self : goal.returns-then-index-self

@@ -1,5 +1,5 @@
 use Rattle.raft_accessor.proofs.Common.{◌<◌, refl, inl, inr, sym, ◌∙◌, arith, false≢true}
-use Rattle.raft_accessor.proofs.ExtentLemmas.{hole_found, hole_refused_so, run_accepted, run_bare, run_fits}
+use Rattle.raft_accessor.proofs.AppendCheckLemmas.{hole_found, hole_refused_so, run_accepted, run_bare, run_fits}
 use Rattle.raft_accessor.proofs.append_check.Extent.with_run.Goals as goal
 use Rattle.raft_accessor.proofs.append_check.Extent.with_run.Goals.{then-end-eq0, else-end-eq0}
 

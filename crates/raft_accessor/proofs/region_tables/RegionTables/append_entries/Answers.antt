@@ -1,7 +1,6 @@
-use Rattle.raft_accessor.proofs.Common.{refl, subst, inl, entries, entries_item, IsRunIn, after_append, table_in, Appending}
+use Rattle.raft_accessor.proofs.Common.{OnOk, Ok, Err, Append, refl, subst, inl, entries, entries_item, IsRunIn, after_append, table_in, Appending}
 use Rattle.std.specs.FinMap as finite
-use Rattle.raft_base.specs.declared.pipe_log.LogQueue.TheVariants.{Append}
-use Rattle.raft_accessor.proofs.WriteLemmas.{written_by, refused_by, no_outcome, append_fault, none_listed, none_met}
+use Rattle.raft_accessor.proofs.WriteLemmas.{written_by, refused_by, no_outcome, append_fault, none_listed}
 use Rattle.raft_accessor.proofs.region_tables.RegionTables.append_entries.Goals as goal
 
 pub returns-then-not-is_run : goal.returns-then-not-is_run
@@ -14,5 +13,5 @@ pub returns : goal.returns
 returns c = λ list.
     written_by Appending (entries_item c.args.id c.args.run.items) (after_append (table_in c.args.self.now c.args.id) c.args.run.items) _
     c.args.self.now c.args.stats.now list c.append_run.result c.append_run.new.self c.append_run.new.stats c.append_run.ensures.outcome
-    (subst (IsRunIn Append) c.deref.ensures.value c.if-not-is_run.ensures) (none_met c.append_run.result) c.append_run.ensures.counts
+    (subst (IsRunIn Append) c.deref.ensures.value c.if-not-is_run.ensures) (elim c.append_run.result as (λ r. OnOk r (⊥ → ⊥)) [ Ok x ↦ λ m. m | Err e ↦ tt ]) c.append_run.ensures.counts
     (none_listed Appending (entries_item c.args.id c.args.run.items) refl) refl (λ e f. append_fault c.args.id (finite.get c.args.self.now c.args.id) c.args.run.items c.args.stats.now e f)

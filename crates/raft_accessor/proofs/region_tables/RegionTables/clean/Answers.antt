@@ -1,6 +1,5 @@
-use Rattle.raft_accessor.proofs.Common.{sym, append-nil, err_from_is_err_and, Clean}
-use Rattle.raft_base.specs.declared.pipe_log.LogQueue.TheVariants.{Append, Rewrite}
-use Rattle.raft_accessor.proofs.StepLemmas.{clean_taken, not_listed}
+use Rattle.raft_accessor.proofs.Common.{Append, Rewrite, sym, append-nil, err_from_is_err_and, Clean}
+use Rattle.raft_accessor.proofs.UpdateLemmas.{clean_taken, not_listed}
 use Rattle.raft_accessor.proofs.region_tables.RegionTables.clean.Goals as goal
 
 pub returns-in_err-push-in-Append : goal.returns-in_err-push-in-Append

@@ -1,5 +1,4 @@
-use Rattle.raft_accessor.proofs.Common.{◌≡◌, ◌≤◌, ◌+◌, LogQueue, live, live_of}
-use Rattle.raft_base.specs.declared.pipe_log.LogQueue.TheVariants.{Append, Rewrite}
+use Rattle.raft_accessor.proofs.Common.{Append, Rewrite, ◌≡◌, ◌≤◌, ◌+◌, LogQueue, live, live_of}
 use Rattle.raft_accessor.proofs.TotalSums.{added}
 use Rattle.raft_accessor.proofs.region_tables.RegionTables.delete_all.Given as goal
 

@@ -1,6 +1,5 @@
-use Rattle.raft_accessor.proofs.Common.{Some, not, sym, ap, subst, ◌∙◌, Table, live_of, live_of_empty, IsTableOverlaid}
-use Rattle.raft_base.specs.declared.pipe_log.LogQueue.TheVariants.{Rewrite}
-use Rattle.raft_accessor.proofs.TableOverlayLemmas.{cleaned_dropped, nothing_dropped, empty_put, absent, present}
+use Rattle.raft_accessor.proofs.Common.{Rewrite, Some, not, sym, ap, subst, ◌∙◌, Table, live_of, live_of_empty, IsTableOverlaid}
+use Rattle.raft_accessor.proofs.TableJoinLemmas.{cleaned_dropped, nothing_dropped, empty_put, absent, present}
 use Rattle.raft_accessor.proofs.region_tables.RegionTables.drop_rewritten.Goals as goal
 
 pub returns-then-is_cleaned : goal.returns-then-is_cleaned

@@ -1,6 +1,5 @@
-use Rattle.raft_accessor.proofs.Common.{ℕ, length, ap, ◌∙◌, arith, LogQueue, Table, live_of, records_of_both}
+use Rattle.raft_accessor.proofs.Common.{Append, Rewrite, ℕ, length, ap, ◌∙◌, arith, LogQueue, Table, live_of, records_of_both}
 use Rattle.std.specs.FinMap as finite
-use Rattle.raft_base.specs.declared.pipe_log.LogQueue.TheVariants.{Append, Rewrite}
 use Rattle.raft_accessor.proofs.SlotTableLemmas.{walked-live}
 use Rattle.raft_accessor.proofs.TotalSums.{added, walked-total}
 use Rattle.raft_accessor.proofs.region_tables.RegionTables.entries_count.Goals as goal

@@ -1,7 +1,5 @@
-use Rattle.raft_accessor.proofs.Common.{lookup, nat_eq, ◌≡◌, Some, None, Ok, Err, refl, sym, ap, subst, ◌∙◌, err_from_is_err_and, is_some, option_copied_mut, table_of, IsCounted, live_of, IsTableJoined}
-use Rattle.raft_accessor.proofs.Common.{tables_shown}
+use Rattle.raft_accessor.proofs.Common.{Append, lookup, nat_eq, ◌≡◌, Some, None, Ok, Err, refl, sym, ap, subst, ◌∙◌, err_from_is_err_and, is_some, option_copied_mut, table_of, IsCounted, live_of, IsTableJoined, tables_shown}
 use Rattle.std.specs.FinMap as finite
-use Rattle.raft_base.specs.declared.pipe_log.LogQueue.TheVariants.{Append}
 use Rattle.raft_accessor.specs.declared.region_tables.RegionTables.TheInside.{Inside}
 use Rattle.raft_accessor.proofs.RegionTablesLemmas.{shown-with, shown-same, lent, absent}
 use Rattle.raft_accessor.proofs.TableJoinLemmas.{put_there, first_joined, first_refused}

@@ -1,6 +1,6 @@
 use Rattle.raft_accessor.proofs.Common.{sym, ap, subst, ◌∙◌, option_map, err_from_is_err_and, item_of, content_of, live, step_shown, region_step_shown, IsStepTaken, Replaying}
 use Rattle.std.specs.FinMap as finite
-use Rattle.raft_accessor.proofs.StepLemmas.{by_step, without_step, step_is, no_step_is}
+use Rattle.raft_accessor.proofs.UpdateLemmas.{by_step, without_step, step_is, no_step_is}
 use Rattle.raft_accessor.proofs.WriteLemmas.{refused_by}
 use Rattle.raft_accessor.proofs.region_tables.RegionTables.replay_item.Goals as goal
 

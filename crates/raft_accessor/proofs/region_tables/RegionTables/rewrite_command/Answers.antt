@@ -1,6 +1,5 @@
-use Rattle.raft_accessor.proofs.Common.{refl, inr, command, command_item, live, Rewriting}
+use Rattle.raft_accessor.proofs.Common.{Rewrite, refl, inr, command, command_item, live, Rewriting}
 use Rattle.std.specs.FinMap as finite
-use Rattle.raft_base.specs.declared.pipe_log.LogQueue.TheVariants.{Rewrite}
 use Rattle.raft_records.specs.declared.command.Command.TheVariants as commands
 use Rattle.raft_accessor.proofs.WriteLemmas.{refused_by, skipped_by, no_outcome}
 use Rattle.raft_accessor.proofs.region_tables.RegionTables.rewrite_command.Goals as goal

@@ -1,6 +1,5 @@
-use Rattle.raft_accessor.proofs.Common.{subst, inl, entries, entries_item, IsRunIn, Rewriting}
+use Rattle.raft_accessor.proofs.Common.{Rewrite, subst, inl, entries, entries_item, IsRunIn, Rewriting}
 use Rattle.std.specs.FinMap as finite
-use Rattle.raft_base.specs.declared.pipe_log.LogQueue.TheVariants.{Rewrite}
 use Rattle.raft_accessor.proofs.WriteLemmas.{refused_by, no_outcome}
 use Rattle.raft_accessor.proofs.region_tables.RegionTables.rewrite_entries.Goals as goal
 

@@ -1,9 +1,8 @@
-use Rattle.raft_accessor.proofs.Common.{lookup, nat_eq, ◌≡◌, Some, Err, sym, ap, subst, ◌∙◌, is_some, option_copied_mut, Put, table_of, IsCounted, tables_shown, IsStepTaken}
+use Rattle.raft_accessor.proofs.Common.{Memory, lookup, nat_eq, ◌≡◌, Some, Err, sym, ap, subst, ◌∙◌, is_some, option_copied_mut, Put, table_of, IsCounted, tables_shown, IsStepTaken}
 use Rattle.std.specs.FinMap as finite
-use Rattle.raft_base.specs.declared.errors.Error.TheVariants.{Memory}
 use Rattle.raft_accessor.specs.declared.region_tables.RegionTables.TheInside.{Inside}
 use Rattle.raft_accessor.proofs.RegionTablesLemmas.{shown-with, shown-same, lent}
-use Rattle.raft_accessor.proofs.StepLemmas.{not_listed, put_tried}
+use Rattle.raft_accessor.proofs.UpdateLemmas.{not_listed, put_tried}
 use Rattle.raft_accessor.proofs.region_tables.RegionTables.try_put.Goals as goal
 
 -- ---- the region has no table

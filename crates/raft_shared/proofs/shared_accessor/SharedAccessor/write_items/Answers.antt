@@ -1,5 +1,4 @@
-use Rattle.raft_shared.proofs.Common.{◌∷◌, [], ◌++◌, map, sym, subst, AllByRecursion, Yields-more, map-append, err_from_is_err_and, item_of, MayBeWritten, writing_shown}
-use Rattle.raft_shared.proofs.SharedLemmas.{all_and_one}
+use Rattle.raft_shared.proofs.Common.{each-append, ◌∷◌, [], ◌++◌, map, sym, subst, AllByRecursion, Yields-more, map-append, err_from_is_err_and, item_of, MayBeWritten, writing_shown}
 use Rattle.raft_shared.proofs.shared_accessor.SharedAccessor.write_items.Goals as goal
 
 pub loop-item-preserved : goal.loop-item-preserved
@@ -7,7 +6,7 @@ loop-item-preserved g c =
     let at = c.loop-item in
     let x = c.in-Some.item in
     subst (AllByRecursion (MayBeWritten (writing_shown c.args.how))) (sym (map-append item_of at.yielded (x ∷ [])))
-    (all_and_one (writing_shown c.args.how) (map item_of at.yielded) (item_of x) at.invariant c.in_ok-write_item.ensures.ok)
+    (each-append (MayBeWritten (writing_shown c.args.how)) (map item_of at.yielded) (item_of x ∷ []) at.invariant (c.in_ok-write_item.ensures.ok, tt))
 
 pub returns-in_err-write_item-clause-refused : goal.returns-in_err-write_item-clause-refused
 returns-in_err-write_item-clause-refused g c =

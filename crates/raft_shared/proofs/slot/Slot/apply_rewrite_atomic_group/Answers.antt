@@ -1,5 +1,5 @@
 use Rattle.raft_shared.proofs.Common.{table-counted}
-use Rattle.raft_shared.proofs.SlotKeeping.{kept-by, slot-changed}
+use Rattle.raft_shared.proofs.SharedLemmas.{kept-by, slot-changed}
 use Rattle.raft_shared.proofs.slot.Slot.apply_rewrite_atomic_group.Goals as goal
 
 pub apply_rewrite_atomic_group-requires-clause-counted : goal.apply_rewrite_atomic_group-requires-clause-counted

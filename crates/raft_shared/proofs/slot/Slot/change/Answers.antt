@@ -1,5 +1,5 @@
 use Rattle.raft_shared.proofs.Common.{table-counted}
-use Rattle.raft_shared.proofs.SlotKeeping.{kept-by, slot-changed}
+use Rattle.raft_shared.proofs.SharedLemmas.{kept-by, slot-changed}
 use Rattle.raft_shared.proofs.slot.Slot.change.Goals as goal
 
 pub change-requires : goal.change-requires

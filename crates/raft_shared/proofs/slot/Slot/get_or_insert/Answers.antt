@@ -1,5 +1,5 @@
 use Rattle.raft_shared.proofs.Common.{table-counted}
-use Rattle.raft_shared.proofs.SlotKeeping.{kept-by, slot-changed}
+use Rattle.raft_shared.proofs.SharedLemmas.{kept-by, slot-changed}
 use Rattle.raft_shared.proofs.slot.Slot.get_or_insert.Goals as goal
 
 pub make-requires : goal.make-requires

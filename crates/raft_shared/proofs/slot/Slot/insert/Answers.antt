@@ -1,7 +1,6 @@
-use Rattle.raft_shared.proofs.Common.{◌≡◌, ◌+◌, ◌≤◌, ◌^◌, Ok, Err, Some, None, IfSome, sym, subst, inl, inr, IfOk, live_of, IsSlotTable, table-counted}
-use Rattle.std.proofs.lemmas.Result.{IfErr-weaker}
+use Rattle.raft_shared.proofs.Common.{IfErr-weaker, ◌≡◌, ◌+◌, ◌≤◌, ◌^◌, Ok, Err, Some, None, IfSome, sym, subst, inl, inr, IfOk, live_of, IsSlotTable, table-counted}
 use Rattle.std.specs.FinMap as finite
-use Rattle.raft_shared.proofs.SlotKeeping.{kept-by}
+use Rattle.raft_shared.proofs.SharedLemmas.{kept-by}
 use Rattle.raft_shared.proofs.slot.Slot.insert.Goals as goal
 
 pub insert-requires-clause-counted : goal.insert-requires-clause-counted

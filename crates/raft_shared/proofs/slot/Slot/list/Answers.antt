@@ -1,5 +1,5 @@
 use Rattle.std.proofs.Common.{refl}
-use Rattle.raft_shared.proofs.SlotKeeping.{kept-listed}
+use Rattle.raft_shared.proofs.SharedLemmas.{kept-listed}
 use Rattle.raft_shared.proofs.slot.Slot.list.Goals as goal
 
 pub invariant_of-self : goal.invariant_of-self

@@ -1,4 +1,4 @@
-use Rattle.raft_shared.proofs.SlotKeeping.{kept-none}
+use Rattle.raft_shared.proofs.SharedLemmas.{kept-none}
 use Rattle.raft_shared.proofs.slot.Slot.new.Goals as goal
 
 pub invariant_of-result : goal.invariant_of-result

@@ -1,6 +1,6 @@
 use Rattle.raft_shared.proofs.Common.{◌≡◌, Some, None, IfSome, refl, sym, ap, ◌∙◌, Slot, IsSlotTable, table-counted}
 use Rattle.std.specs.FinMap as finite
-use Rattle.raft_shared.proofs.SlotKeeping.{kept-taken}
+use Rattle.raft_shared.proofs.SharedLemmas.{kept-taken}
 use Rattle.raft_shared.proofs.slot.Slot.take.Goals as goal
 
 pub remove-requires : goal.remove-requires

@@ -1,6 +1,5 @@
-use Rattle.raft_shared.proofs.Common.{◌≡◌, refl, sym, ap, ◌∙◌, item_of, slot_of, Slot, writing_shown, table-counted}
-use Rattle.raft_shared.specs.declared.slot.Slot.TheInside.{Inside}
-use Rattle.raft_shared.proofs.SlotKeeping.{kept-with, all-after, slot-written}
+use Rattle.raft_shared.proofs.Common.{Inside, ◌≡◌, refl, sym, ap, ◌∙◌, item_of, slot_of, Slot, writing_shown, table-counted}
+use Rattle.raft_shared.proofs.SharedLemmas.{kept-with, all-after, slot-written}
 use Rattle.raft_shared.proofs.slot.Slot.write_item.Goals as goal
 
 pub write_item-requires : goal.write_item-requires

@@ -1,10 +1,8 @@
 -- New items of the append queue, as items that are read again.
-use Rattle.raft_contexts.proofs.Common.{◌≡◌, ℕ, true, false, ◌||◌, if◌then◌else◌, List, [], ◌∷◌, ◌++◌, Option, Some, None, refl, ap, ◌∙◌, option_and_then, none_some, some_is, EntryIndex, Item, Content, entries, command, pair}
-use Rattle.raft_contexts.proofs.Common.{Tables, with_table, starts_in_front, leaves_hole, entries_after_append, entries_after_replay, table_of, Table, below, Appending, Replaying, after_content, after_items, AppendedItemsAreRead}
-use Rattle.raft_contexts.proofs.Common.{option_map}
-use Rattle.std.proofs.lemmas.Option.{option_and_then_some}
+use Rattle.raft_contexts.proofs.Common.{◌≡◌, ℕ, true, false, ◌||◌, if◌then◌else◌, List, [], ◌∷◌, ◌++◌, Option, Some, None, refl, ap, ◌∙◌, option_and_then, none_some, some_is, EntryIndex, Item, Content, entries, command, pair, Tables}
+use Rattle.raft_contexts.proofs.Common.{with_table, starts_in_front, leaves_hole, entries_after_append, entries_after_replay, table_of, Table, below, Appending, Replaying, after_content, after_items, AppendedItemsAreRead, option_map}
+use Rattle.raft_contexts.proofs.Common.{option_and_then_some, Append}
 use Rattle.std.specs.FinMap as finite
-use Rattle.raft_base.specs.declared.pipe_log.LogQueue.TheVariants.{Append}
 use Rattle.raft_contexts.proofs.ReadingLemmas.{items_read}
 
 -- what a region's table was made of

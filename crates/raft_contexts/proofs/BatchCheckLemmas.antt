@@ -1,11 +1,8 @@
 -- Batches that are tested before they are taken in.
 use Rattle.raft_contexts.proofs.Common.{◌≡◌, true, false, ◌<◌, ◌≤◌, ◌+◌, ℕ, List, [], ◌∷◌, drop, length, map, get_or, Option, Some, None, refl, sym, ap, ◌∙◌, arith, IsTrue, AllByRecursion, AllWithin, HoldsAt, All-from_recursion}
 use Rattle.raft_contexts.proofs.Common.{recursion_from_All, option_and_then, option_map, option_or, FileBlockHandle, FileId, EntryIndex, no_entry, IsConsecutive, AtomicGroupStatus, status_byte, status_of, first_marker, marker_byte}
-use Rattle.raft_contexts.proofs.Common.{IsGroupMarkerRead, Item, item_of, content_of, LogItem, IsPlaceInFile, content_shown, items_shown, ReadItem, one_byte, marker_is, IsInFile, AreInFile, HaveStatus, ArePlacesInFile}
-use Rattle.raft_contexts.proofs.Common.{HaveNoMarker, drop_of_length-le, Bool, MatchBool}
-use Rattle.std.proofs.Common.{add-one, drop-cons}
-use Rattle.raft_base.specs.declared.pipe_log.LogQueue.TheVariants.{Rewrite}
-use Rattle.raft_records.specs.declared.atomic_group.AtomicGroupStatus.TheVariants.{Begin, Middle, End}
+use Rattle.raft_contexts.proofs.Common.{IsGroupMarkerRead, Item, item_of, content_of, LogItem, IsPlaceInFile, content_shown, items_shown, ReadItem, one_byte, marker_is, IsInFile, AreInFile, HaveStatus, ArePlacesInFile, HaveNoMarker, Bool}
+use Rattle.raft_contexts.proofs.Common.{MatchBool, add-one, drop-cons, Rewrite, Begin, Middle, End}
 
 or_or : (m n o : Option (ℕ × AtomicGroupStatus)) → option_or (option_or m n) o ≡ option_or m (option_or n o)
 or_or None n o = refl
@@ -27,15 +24,8 @@ read_status item (Some read) h = λ byte m. let same : status_byte read.1 ≡ by
     few End = omega arith
 
 -- the elements from an index on begin with the one there
-pub next_at : {X : Type 0} (xs : List X) (i : ℕ) (d : X) → i < length xs → drop i xs ≡ get_or xs i d ∷ drop (i + 1) xs
-next_at xs i d low = rw add-one (drop-cons xs i d low)
-
 pub next_item : {X : Type 0} (xs : List X) (i : ℕ) (x : X) → i < length xs → x ≡ get_or xs i x → drop i xs ≡ x ∷ drop (i + 1) xs
-next_item xs i x low is = next_at xs i x low ∙ ap (λ z. z ∷ drop (i + 1) xs) (sym is)
-
--- behind the last one there are none
-pub none_left : {X : Type 0} (xs : List X) (i : ℕ) → length xs ≤ i → drop i xs ≡ []
-none_left xs i past = drop_of_length-le xs past
+next_item xs i x low is = rw add-one (drop-cons xs i x low) ∙ ap (λ z. z ∷ drop (i + 1) xs) (sym is)
 
 -- what is known of items whose first are tested, beside the marker so far
 abbrev pub IsTested : List Item → List Item → Option (ℕ × AtomicGroupStatus) → Type 0

@@ -1,35 +1,20 @@
 -- What a recovery context shows of its fields, at each stage.
-use Rattle.std.proofs.Common.{◌≡◌, ◌∙◌, ◌+◌, ℕ, Some, sym, ap, subst, refl, arith}
-use Rattle.std.specs.Ordering.{nat_cmp}
+use Rattle.raft_contexts.proofs.Common.{◌≡◌, ◌∙◌, ◌+◌, ℕ, Some, sym, ap, subst, refl, Error, LogQueue, Event, taken_in, merged_with, AreMerged, AreOverlaid, kept_of, total, Mark, ContextStage, Reading, Overlaid, AreOfBothQueues}
+use Rattle.raft_contexts.proofs.Common.{overlaid_with, IsOverlaidWith, IsMergeAppendFault, context_in, shown_with, ReadState, RecoverContext, reading_on, MayFollow, IsBatchTaken, IsBatchFault, AreNeighbors, IsMergedWith, IsNeighborFault}
 use Rattle.std.specs.FinMap as finite
 use Rattle.std.specs.FinSet as finset
-use Rattle.raft_base.specs.declared.errors.Error.{Error}
-use Rattle.raft_base.specs.declared.pipe_log.LogQueue.{LogQueue}
-use Rattle.raft_history.specs.Batches.{Event}
-use Rattle.raft_history.specs.Contexts.{taken_in, merged_with, AreMerged}
-use Rattle.raft_history.specs.Joins.{AreOverlaid}
 use Rattle.raft_history.specs.Kept as numbers
-use Rattle.raft_history.specs.Kept.{kept_of}
-use Rattle.raft_history.specs.Records.{total}
-use Rattle.raft_table.specs.Marks.{Mark}
 use Rattle.raft_contexts.specs.declared.recover_context.MemTableRecoverContext.TheInside.{Inside}
-use Rattle.raft_contexts.specs.declared.context_stage.ContextStage.TheVariants.{Reading, Overlaid}
-use Rattle.raft_contexts.specs.OverlaidContext.{AreOfBothQueues, overlaid_with, IsOverlaidWith, IsMergeAppendFault}
-use Rattle.raft_contexts.specs.ReadStates.{context_in, shown_with}
-use Rattle.raft_contexts.specs.declared.read_state.ReadState.{ReadState}
-use Rattle.raft_contexts.specs.RecoverContext.{RecoverContext, reading_on, MayFollow, IsBatchTaken, IsBatchFault, AreNeighbors, IsMergedWith, IsNeighborFault}
 use Rattle.raft_contexts.specs.RecoverContextView.{marks_at, recover_context_shown}
 use Rattle.raft_contexts.proofs.ReadOverlayLemmas.{append_fault}
 use Rattle.raft_contexts.proofs.RecoverContextLemmas.{batch_fault, neighbor_fault}
 
--- a context that reads on shows all that was read
+-- a context at a stage shows the region marks of that stage
+shown_at : (t : ContextStage) (a : Inside) (s : RecoverContext) → recover_context_shown a ≡ s → a.stage ≡ t → record { stage = t; context = shown_with (marks_at t a.state) a.state; counts = a.state.regions.accessor.counts } ≡ s
+shown_at t a s is e = ap (λ t. record { stage = t; context = shown_with (marks_at t a.state) a.state; counts = a.state.regions.accessor.counts }) (sym e) ∙ is
+
 pub reading : (a : Inside) (s : RecoverContext) → recover_context_shown a ≡ s → a.stage ≡ Reading → record { stage = Reading; context = context_in a.state; counts = a.state.regions.accessor.counts } ≡ s
-reading a s is e = ap
-    (λ t. record {
-      stage = t;
-      context = record (context_in a.state) { regions = record { tables = a.state.regions.accessor.tables; marks = marks_at t a.state } };
-      counts = a.state.regions.accessor.counts;
-    }) (sym e) ∙ is
+reading = shown_at Reading
 
 pub batch_taken : (a : Inside) (old new : RecoverContext) (e : Event) → recover_context_shown a ≡ old → a.stage ≡ Reading → MayFollow (context_in a.state) e → taken_in (context_in a.state) e ≡ Some new.context →
     new.stage ≡ Reading → IsBatchTaken e old new
@@ -51,14 +36,8 @@ append_taken a b append old new is reads append_is append_reads q t o after =
     (subst (λ s. IsOverlaidWith s record { stage = Reading; context = context_in a.state; counts = a.state.regions.accessor.counts } new) (reading b append append_is append_reads)
     record { rewrite_before = refl; append_before = refl; queues = q; tables = t; overlaid = o; after = after })
 
--- one that has taken in the context of the append queue shows the kept region marks alone
 pub overlaid : (a : Inside) (s : RecoverContext) → recover_context_shown a ≡ s → a.stage ≡ Overlaid → record { stage = Overlaid; context = shown_with a.state.regions.marks a.state; counts = a.state.regions.accessor.counts } ≡ s
-overlaid a s is e = ap
-    (λ t. record {
-      stage = t;
-      context = record (context_in a.state) { regions = record { tables = a.state.regions.accessor.tables; marks = marks_at t a.state } };
-      counts = a.state.regions.accessor.counts;
-    }) (sym e) ∙ is
+overlaid = shown_at Overlaid
 
 -- ---- why a call is refused
 
@@ -78,8 +57,6 @@ append_refused a b old append x is reads append_is append_reads f =
     subst (λ s. IsMergeAppendFault s append x) (reading a old is reads)
     (subst (λ s. IsMergeAppendFault record { stage = Reading; context = context_in a.state; counts = a.state.regions.accessor.counts } s x) (reading b append append_is append_reads)
     (append_fault Reading Reading (context_in a.state) (context_in b.state) a.state.regions.accessor.counts b.state.regions.accessor.counts x f))
-
--- ---- numbers
 
 -- what is kept, of region marks the kept ones alone
 pub counted : (s : ReadState) (marks groups keys : ℕ) → marks ≡ finite.len s.regions.marks → groups ≡ finite.len s.groups → keys ≡ total (λ (m : Mark). finset.len m.deleted) s.regions.marks →

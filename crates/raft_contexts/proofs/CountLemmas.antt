@@ -1,32 +1,11 @@
 -- How many region marks there are, kept or implied, and how many deleted keys they hold.
-use Rattle.std.proofs.Common.{◌≡◌, ◌≤◌, ◌<◌, ◌+◌, ℕ, suc, zero, true, false, cond, List, [], ◌∷◌, ◌++◌, length, drop, Option, Some, None, refl, sym, ap, ◌∙◌, arith, slice_index_or}
-use lib.Dec.{T}
-use Rattle.std.specs.Ordering.{nat_cmp, eq_by_cmp}
-use Rattle.std.specs.Cmp.{nat_cmp_total}
+use Rattle.raft_contexts.proofs.Common.{at_drop_more, ◌≡◌, ◌≤◌, ◌<◌, ◌+◌, ℕ, true, false, cond, List, [], ◌∷◌, ◌++◌, length, drop, Option, Some, None, refl, sym, ap, ◌∙◌, arith, slice_index_or, T, nat_cmp, eq_by_cmp, nat_cmp_total, find}
+use Rattle.raft_contexts.proofs.Common.{is_sorted, keys_of, is_some, option_map, option_or, EntryIndex, mark_of, Mark, Run, Table, find-below, first_of_both, second_of_both, Marks, total, Tables, found, total-insert, total-none, total-ones}
+use Rattle.raft_contexts.proofs.Common.{total-at_most, total-both, slot_entries, together, AreSlots, same, none_some, Once, entries-permuted, once-slots, drop-none, added, added-append, added-permuted, implied_mark, implied_marks}
+use Rattle.raft_contexts.proofs.Common.{all_marks, absent_in, count_absent}
 use Rattle.std.specs.FinMap as finite
-use Rattle.std.specs.FinMap.{find, is_sorted}
 use Rattle.std.specs.FinSet as finset
-use Rattle.std.specs.Map.{keys_of}
-use Rattle.std.specs.Option.{is_some, option_map, option_or}
-use Rattle.raft_base.specs.declared.entry_index.EntryIndex.{EntryIndex}
-use Rattle.raft_table.specs.MarkJoins.{mark_of}
-use Rattle.raft_table.specs.Marks.{Mark}
-use Rattle.raft_table.specs.Steps.{Run}
-use Rattle.raft_table.specs.Table.{Table}
-use Rattle.raft_table.proofs.Shown.{find-below, first_of_both, second_of_both}
-use Rattle.raft_history.specs.MarkedRegions.{Marks}
-use Rattle.raft_history.specs.Records.{total}
-use Rattle.raft_history.specs.RegionSteps.{Tables}
-use Rattle.raft_history.proofs.TotalLemmas.{found, total-insert, total-none, total-ones, total-at_most, total-both}
-use Rattle.raft_accessor.specs.Slots.{slot_entries, together, AreSlots}
-use Rattle.raft_accessor.proofs.MapLemmas.{same, none_some}
-use Rattle.raft_accessor.proofs.OrderLemmas.{Once, entries-permuted, once-slots}
-use Rattle.raft_accessor.proofs.SlotLemmas.{drop-none}
-use Rattle.raft_accessor.proofs.TotalSums.{added, added-append, added-permuted}
-use Rattle.raft_contexts.specs.ImpliedMarks.{implied_mark, implied_marks, all_marks, absent_in, count_absent}
 use Rattle.raft_contexts.proofs.ImpliedMarkLemmas.{get_implied, get_all, get_kept}
-
--- ---- deleted keys
 
 abbrev deleted : Mark → ℕ
 deleted m = finset.len m.deleted
@@ -55,8 +34,6 @@ deleted_kept tables kept = omega (arith, least, most, none, total-none deleted)
 
     least : total deleted kept ≤ total deleted (all_marks tables kept)
     least = total-at_most deleted deleted kept (all_marks tables kept) (λ r x e. (x, get_kept tables kept r x e, omega arith))
-
--- ---- region marks
 
 -- kept region marks put over others one after another
 abbrev put_over : List (ℕ × Mark) → Marks → Marks
@@ -121,15 +98,6 @@ absent_one tables id = go (finite.get tables id)
     go (Some t) = omega arith
 
 -- one slot more
-drop-slot : (ms : List Marks) (i k : ℕ) (d : Marks) → k ≡ i + 1 → i < length ms → slot_entries (drop i ms) ≡ finite.entries (slice_index_or ms i d) ++ slot_entries (drop k ms)
-drop-slot [] i k d e lt = absurd (omega (arith, lt))
-drop-slot (m ∷ ms) i zero d e lt = absurd (omega (arith, e))
-drop-slot (m ∷ ms) zero (suc k) d e lt = ap (λ j. finite.entries m ++ slot_entries (drop j ms)) (back k (omega (arith, e)))
-  where
-    back : (k : ℕ) → k ≡ 0 → 0 ≡ k
-    back k e = sym e
-drop-slot (m ∷ ms) (suc i) (suc k) d e lt = drop-slot ms i k d (omega (arith, e)) (omega (arith, lt))
-
 pub absent_more : (tables : Tables) (ms : List Marks) (i k : ℕ) (d : Marks) → k ≡ i + 1 → i < length ms → d ≡ slice_index_or ms i d →
     count_absent tables (keys_of (slot_entries (drop i ms))) ≡ count_absent tables (keys_of (finite.entries d)) + count_absent tables (keys_of (slot_entries (drop k ms)))
 absent_more tables ms i k d e lt is =
@@ -139,7 +107,7 @@ absent_more tables ms i k d e lt is =
       absent_added tables (slot_entries (drop i ms)),
       absent_added tables (finite.entries d),
       absent_added tables (slot_entries (drop k ms)),
-      ap (added weight) (drop-slot ms i k d e lt ∙ ap (λ m. finite.entries m ++ slot_entries (drop k ms)) (sym is)),
+      ap (added weight) (at_drop_more (λ (l : List Marks). slot_entries l) ms i d lt ∙ ap (λ m. finite.entries m ++ slot_entries (drop (i + 1) ms)) (sym is) ∙ ap (λ n. finite.entries d ++ slot_entries (drop n ms)) (sym e)),
       added-append weight (finite.entries d) (slot_entries (drop k ms)),
     )
 

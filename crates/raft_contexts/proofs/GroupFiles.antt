@@ -1,13 +1,11 @@
 -- The files of a group, set for each region that it names: the order doesn't matter, nor whether a region comes twice.
-use Rattle.raft_contexts.proofs.Common.{◌≡◌, ℕ, ◌≤◌, Bool, true, false, cond, eqb, ◌||◌, List, [], ◌∷◌, ◌++◌, Option, Some, None, Result, Ok, refl, sym, ap, subst, ◌∙◌, inl, inr, arith, list_any, OnOk, IfErr, option_and_then}
-use Rattle.raft_contexts.proofs.Common.{unwrap_or, Error, LogQueue, Counts, joined_mark, end_at_reach, fresh, mark_of, AtomicGroup, table_of, Table, joined_fresh, eqb-true, records_in, Marks, MarkedRegions, MarkedRegion, region_in}
-use Rattle.raft_contexts.proofs.Common.{with_region, regions_after, named_regions, on_each, region_steps_of_whole, WholeGroup, RegionStep, Tables, names, with_table, by_region, eqb_self, names_none, names_cons, regions_in}
-use Rattle.raft_contexts.proofs.Common.{AreStepsOfQueue, IsStepsFault, one_step, AreStepsTaken, live_in_all, counts_after_step, AreCountsAfterSteps, MarkedTables, same, get_own, get_other, nat_cmp}
-use Rattle.std.proofs.lemmas.Result.{on_ok_weaker, IfErr-weaker}
+use Rattle.raft_contexts.proofs.Common.{each-append, IsStepOfQueue, ◌≡◌, ℕ, ◌≤◌, Bool, true, false, cond, eqb, ◌||◌, List, [], ◌∷◌, ◌++◌, Option, Some, None, Result, refl, sym, ap, subst, ◌∙◌, inl, inr, arith, list_any, OnOk, IfErr}
+use Rattle.raft_contexts.proofs.Common.{option_and_then, unwrap_or, Error, LogQueue, Counts, joined_mark, end_at_reach, fresh, mark_of, AtomicGroup, table_of, Table, joined_fresh, eqb-true, records_in, Marks, MarkedRegions, MarkedRegion}
+use Rattle.raft_contexts.proofs.Common.{region_in, with_region, regions_after, named_regions, on_each, region_steps_of_whole, WholeGroup, RegionStep, Tables, names, with_table, by_region, eqb_self, names_none, names_cons, regions_in}
+use Rattle.raft_contexts.proofs.Common.{AreStepsOfQueue, IsStepsFault, AreStepsTaken, live_in_all, counts_after_step, AreCountsAfterSteps, MarkedTables, same, get_own, get_other, nat_cmp, on_ok_weaker, IfErr-weaker, Append, Rewrite}
 use Rattle.std.specs.FinMap as finite
 use Rattle.raft_base.specs.declared.errors.Error.TheVariants as errors
-use Rattle.raft_base.specs.declared.pipe_log.LogQueue.TheVariants.{Append, Rewrite}
-use Rattle.raft_contexts.proofs.TakenLemmas.{after-append, records-append, taken_more, other_in}
+use Rattle.raft_contexts.proofs.TakenLemmas.{after-append, records-append, other_in}
 
 abbrev pub has : ℕ → List ℕ → Bool
 has r ids = list_any (λ id. eqb r id) ids
@@ -96,14 +94,6 @@ has_named r (s ∷ steps) = go (names s.region steps) refl (has_named r steps) �
     go true e ih = ih ∙ there e (eqb r s.region) refl
     go false e ih = ap (λ b. eqb r s.region || b) ih
 
--- one region more
-pub file_more : (q : LogQueue) (first_seq last_seq id : ℕ) (ids : List ℕ) (a b c : MarkedTables) (r : Result Unit Error) →
-    AreStepsTaken q (one_step id (AtomicGroup first_seq last_seq)) (Ok tt) a b →
-    AreStepsTaken q (on_each ids (AtomicGroup first_seq last_seq)) r b c → AreStepsTaken q (on_each (id ∷ ids) (AtomicGroup first_seq last_seq)) r a c
-file_more q first_seq last_seq id ids a b c r s t = taken_more q (one_step id (AtomicGroup first_seq last_seq)) (on_each ids (AtomicGroup first_seq last_seq)) a b c r (tt, tt) s t
-
--- ---- a whole group
-
 -- the files of its regions behind its items
 pub whole_same : (q : LogQueue) (w : WholeGroup) (ids : List ℕ) (rs : MarkedRegions) → ((r : ℕ) → has r ids ≡ names r w.steps) →
     regions_after q rs (w.steps ++ on_each ids (AtomicGroup w.first_seq w.last_seq)) ≡ regions_after q rs (region_steps_of_whole w)
@@ -113,11 +103,7 @@ pub whole_records : (w : WholeGroup) (ids : List ℕ) → records_in w.steps ≡
 whole_records w ids = omega (arith, records-append w.steps (on_each ids (AtomicGroup w.first_seq w.last_seq)), files-records Rewrite w.first_seq w.last_seq ids)
 
 pub whole_of_queue : (q : LogQueue) (w : WholeGroup) (ids : List ℕ) → AreStepsOfQueue q w.steps → AreStepsOfQueue q (w.steps ++ on_each ids (AtomicGroup w.first_seq w.last_seq))
-whole_of_queue q w ids h = go w.steps h
-  where
-    go : (steps : List RegionStep) → AreStepsOfQueue q steps → AreStepsOfQueue q (steps ++ on_each ids (AtomicGroup w.first_seq w.last_seq))
-    go [] h = files_of_queue q w.first_seq w.last_seq ids
-    go (s ∷ steps) h = (h.0, go steps h.1)
+whole_of_queue q w ids h = each-append (λ (s : RegionStep). IsStepOfQueue q s.step) w.steps (on_each ids (AtomicGroup w.first_seq w.last_seq)) h (files_of_queue q w.first_seq w.last_seq ids)
 
 -- the files change no counts
 filed_counts : (q : LogQueue) (first_seq last_seq : ℕ) (ids : List ℕ) (tables : Tables) (k n : Counts) → AreCountsAfterSteps q tables (on_each ids (AtomicGroup first_seq last_seq)) k n → n ≡ k

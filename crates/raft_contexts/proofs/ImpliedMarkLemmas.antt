@@ -1,41 +1,12 @@
 -- Region marks that are kept, and those that tables imply.
-use Rattle.std.proofs.Common.{◌≡◌, ℕ, zero, suc, ◌-◌, ◌<◌, ◌≤◌, ◌≢◌, ltb, true, false, cond, List, [], ◌∷◌, ◌++◌, map, take, Option, Some, None, Result, Ok, Err, refl, sym, ap, subst, ◌∙◌, inl, inr, arith}
-use Rattle.std.specs.Ordering.{nat_cmp, eq_by_cmp}
-use Rattle.std.specs.Cmp.{nat_cmp_total}
+use Rattle.raft_contexts.proofs.Common.{◌≡◌, ℕ, zero, suc, ◌-◌, ◌<◌, ◌≤◌, ◌≢◌, ltb, true, false, cond, List, [], ◌∷◌, ◌++◌, map, take, Option, Some, None, Result, Ok, Err, refl, sym, ap, subst, ◌∙◌, inl, inr, arith, nat_cmp, eq_by_cmp}
+use Rattle.raft_contexts.proofs.Common.{nat_cmp_total, find, is_some, option_map, option_or, unwrap_or, OnOk, OnErr, AllocError, false≢true, nat_tests, EntryIndex, LogQueue, Append, Rewrite, IsRun, end_of, FileId, fresh, joined_at}
+use Rattle.raft_contexts.proofs.Common.{joined_mark, end_at_reach, mark_of, Mark, leaves_hole, entries_after_replay, Run, Put, table_of, after_step, Table, with_pair, after_replay, start_of, below, joined_fresh, end_of-nil, run_covered}
+use Rattle.raft_contexts.proofs.Common.{Marks, MarkedRegions, no_regions, Tables, with_table, table_in, same, by_id, none_some, some_is, get_own, get_other, insert_same, insert_twice, with_other, one_same, one_written, find-both}
+use Rattle.raft_contexts.proofs.Common.{implied_mark, implied_marks, all_marks, first_index, mark_in, run_at, IsImpliedStill, IsRunKept, below_take}
 use Rattle.std.specs.FinMap as finite
-use Rattle.std.specs.FinMap.{find}
-use Rattle.std.specs.Option.{is_some, option_map, option_or, unwrap_or}
-use Rattle.std.specs.Result.{OnOk, OnErr}
-use Rattle.std.specs.declared.alloc.AllocError.{AllocError}
-use Rattle.std.proofs.lemmas.Bool.{false≢true}
-use Rattle.std.proofs.lemmas.Bool.Decides.{nat_tests}
-use Rattle.raft_base.specs.declared.entry_index.EntryIndex.{EntryIndex}
-use Rattle.raft_base.specs.declared.pipe_log.LogQueue.{LogQueue}
-use Rattle.raft_base.specs.declared.pipe_log.LogQueue.TheVariants.{Append, Rewrite}
-use Rattle.raft_base.specs.Runs.{IsRun, end_of}
-use Rattle.raft_base.specs.declared.pipe_log.FileId.{FileId}
-use Rattle.raft_table.specs.MarkJoins.{fresh, joined_at, joined_mark, end_at_reach, mark_of}
-use Rattle.raft_table.specs.Marks.{Mark}
-use Rattle.raft_table.specs.Start.{leaves_hole, entries_after_replay}
-use Rattle.raft_table.specs.Steps.{Run, Put, table_of, after_step}
-use Rattle.raft_table.specs.Table.{Table, with_pair, after_replay}
-use Rattle.raft_table.specs.TableEntries.{start_of, below}
-use Rattle.raft_table.proofs.MarkExact.{joined_fresh}
-use Rattle.raft_table.proofs.MarkWords.{end_of-nil}
-use Rattle.raft_table.proofs.StepMarkLemmas.{run_covered}
-use Rattle.raft_history.specs.MarkedRegions.{Marks, MarkedRegions, no_regions}
-use Rattle.raft_history.specs.RegionSteps.{Tables, with_table}
-use Rattle.raft_accessor.specs.Accessor.{table_in}
-use Rattle.raft_accessor.proofs.MapLemmas.{same, by_id, none_some, some_is, get_own, get_other, insert_same, insert_twice, with_other, one_same, one_written}
-use Rattle.raft_accessor.proofs.SlotLemmas.{find-both}
-use Rattle.raft_contexts.specs.ImpliedMarks.{implied_mark, implied_marks, all_marks}
-use Rattle.raft_contexts.specs.MarkedTables.{first_index}
-use Rattle.raft_contexts.specs.RegionMarks.{mark_in, run_at, IsImpliedStill, IsRunKept}
-use Rattle.raft_table.proofs.RunLemmas.{below_take}
 use Rattle.raft_contexts.proofs.SlotMarksLemmas.{first_run}
 use Rattle.raft_contexts.proofs.TakenLemmas.{run_mark}
-
--- ---- look-ups
 
 pub find-map : {X Y : Type 0} (f : X → Y) (r : ℕ) (es : List (ℕ × X)) → find nat_cmp r (map (λ e. (e.0, f e.1)) es) ≡ option_map f (find nat_cmp r es)
 find-map f r [] = refl
@@ -65,17 +36,14 @@ no_tables = finite.empty
 abbrev no_marks : Marks
 no_marks = finite.empty
 
-pub all_none : all_marks no_tables no_marks ≡ no_marks
+all_none : all_marks no_tables no_marks ≡ no_marks
 all_none =
     same _ _ (λ r. get_all no_tables no_marks r
     ∙ ap (λ (o : Option Mark). option_or o (option_map implied_mark (finite.get no_tables r))) (finite.get-empty nat_cmp r)
     ∙ ap (λ (o : Option Table). option_map implied_mark o) (finite.get-empty nat_cmp r) ∙ sym (finite.get-empty nat_cmp r))
 
-pub all_fresh : (tables : Tables) (kept : Marks) → tables ≡ no_tables → kept ≡ no_marks → all_marks tables kept ≡ no_marks
-all_fresh tables kept t k = ap (λ x. all_marks x kept) t ∙ ap (all_marks no_tables) k ∙ all_none
-
 pub regions_none : (tables : Tables) (kept : Marks) → tables ≡ no_tables → kept ≡ no_marks → ◌≡◌ {A = MarkedRegions} record { tables = tables; marks = all_marks tables kept } no_regions
-regions_none tables kept t k = ap (λ (x : Marks). record { tables = tables; marks = x }) (all_fresh tables kept t k) ∙ ap (λ (x : Tables). record { tables = x; marks = no_marks }) t
+regions_none tables kept t k = rw (t, k) (ap (λ (x : Marks). record { tables = no_tables; marks = x }) all_none)
 
 -- a region mark that is kept
 pub get_kept : (tables : Tables) (kept : Marks) (id : ℕ) (m : Mark) → finite.get kept id ≡ Some m → finite.get (all_marks tables kept) id ≡ Some m
@@ -128,17 +96,6 @@ module _ (tables next : Tables) (id : ℕ) (one : next ≡ with_table tables id 
         (get_unkept next kept id none ∙ ap (option_map implied_mark) is ∙ sym (get_own (all_marks tables kept) id (implied_mark t)))
     | inr f ↦ get_all next kept q ∙ ap (λ o. option_or (finite.get kept q) (option_map implied_mark o)) (elsewhere q f) ∙ sym (get_all tables kept q) ∙ sym (get_other (all_marks tables kept) id q (implied_mark t) f)
   ])
-
-  -- no region mark is another
-  pub all_same : (kept : Marks) → (finite.get kept id ≡ None → option_map implied_mark (finite.get next id) ≡ option_map implied_mark (finite.get tables id)) → all_marks next kept ≡ all_marks tables kept
-  all_same kept h = same _ _ (λ q. get_all next kept q ∙ elim (by_id q id) [
-    | inl p ↦ subst (λ q. option_or (finite.get kept q) (option_map implied_mark (finite.get next q)) ≡ option_or (finite.get kept q) (option_map implied_mark (finite.get tables q))) (sym p) (go (finite.get kept id) refl)
-    | inr f ↦ ap (λ o. option_or (finite.get kept q) (option_map implied_mark o)) (elsewhere q f)
-  ] ∙ sym (get_all tables kept q))
-    where
-      go : (o : Option Mark) → finite.get kept id ≡ o → option_or o (option_map implied_mark (finite.get next id)) ≡ option_or o (option_map implied_mark (finite.get tables id))
-      go None e = h e
-      go (Some m) e = refl
 
 -- what is implied is kept
 pub all_kept : (tables : Tables) (kept : Marks) (id : ℕ) (m : Mark) → finite.get (all_marks tables kept) id ≡ Some m → all_marks tables (finite.insert kept id m) ≡ all_marks tables kept

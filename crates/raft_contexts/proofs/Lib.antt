@@ -15,14 +15,12 @@ mod RegionJoinLemmas
 mod LiveSteps
 mod ImpliedMarkLemmas
 mod ImpliedJoinLemmas
-mod ImpliedSlotLemmas
 mod PartLemmas
 mod CountLemmas
 mod TakenLemmas
 mod GroupFiles
-mod RegionOverlayLemmas
-mod SlotJoinLemmas
-mod SlotOverlayLemmas
+mod OverlayingLemmas
+mod JoiningLemmas
 mod ContextShownLemmas
 mod ReadOverlayLemmas
 mod MovedEntryLemmas

@@ -1,15 +1,10 @@
 -- How many records are live after steps on all regions.
-use Rattle.raft_contexts.proofs.Common.{◌≡◌, ℕ, ◌+◌, ◌≤◌, true, false, cond, List, [], ◌∷◌, length, Option, Some, None, refl, ap, arith, option_map, option_and_then, FileId, LogQueue, EntryIndex, entry_count, from}
-use Rattle.raft_contexts.proofs.Common.{file_weight, joined_mark, mark_of, count_in, is_same, entries_after_replay, Step, Run, Compact, Truncate, Put, Del, AtomicGroup, Clean, table_of, after_step, Table, pair_count-insert}
-use Rattle.raft_contexts.proofs.Common.{pair_count-remove, pair_count-le-len, entries_in_one, each_placed, entry_count-le, replayed-in, records_of, records_in, IsStepOfQueue, MarkedRegions, MarkedRegion, region_in, with_region}
-use Rattle.raft_contexts.proofs.Common.{regions_after, total_of, total, table_records, all_records, RegionStep, Tables, with_table, live_in, live_in_all, AreStepsOfQueue, live_of_all, live-all, live-with, live-table_of, some_is}
-use Rattle.raft_contexts.proofs.Common.{subst}
+use Rattle.raft_contexts.proofs.Common.{◌≡◌, ℕ, ◌+◌, ◌≤◌, true, false, cond, List, [], ◌∷◌, length, Option, Some, None, refl, ap, arith, option_map, option_and_then, FileId, LogQueue, EntryIndex, entry_count, from, file_weight, joined_mark}
+use Rattle.raft_contexts.proofs.Common.{mark_of, count_in, is_same, entries_after_replay, Step, Run, Compact, Truncate, Put, Del, AtomicGroup, Clean, table_of, after_step, Table, pair_count-insert, pair_count-remove, pair_count-le-len}
+use Rattle.raft_contexts.proofs.Common.{entries_in_one, each_placed, entry_count-le, replayed-in, records_of, records_in, IsStepOfQueue, MarkedRegions, MarkedRegion, region_in, with_region, regions_after, total_of, total, table_records}
+use Rattle.raft_contexts.proofs.Common.{all_records, RegionStep, Tables, with_table, live_in, live_in_all, AreStepsOfQueue, live_of_all, live-all, live-with, live-table_of, some_is, subst, within-from, entry_count-below}
 use Rattle.std.specs.FinMap as finite
 use Rattle.raft_table.proofs.CutLemmas.{within-fewer}
-use Rattle.raft_table.proofs.MarkWords.{within-from}
-use Rattle.raft_table.proofs.RunCounts.{entry_count-below}
-
--- ---- one step
 
 entries-from : (q : LogQueue) (i : ℕ) (es : List EntryIndex) → entry_count q (from i es) ≤ entry_count q es
 entries-from q i es = subst (λ (l : List EntryIndex). entry_count q l ≤ entry_count q es) (within-from i es) (within-fewer q i None es)
@@ -32,8 +27,6 @@ step_live queue q id o u (Put key value file) e h = omega (arith, ap (live_in q)
 step_live queue q id o u (Del key) e h = omega (arith, ap (live_in q) (some_is e), pair_count-remove q (table_of id o).keys key, live-table_of q id o)
 step_live queue q id o u (AtomicGroup first_seq last_seq) e h = omega (arith, ap (live_in q) (some_is e), live-table_of q id o)
 step_live queue q id o u Clean e h = omega (arith, ap (live_in q) (some_is e))
-
--- ---- steps
 
 count_sum : (q queue : LogQueue) (a b : ℕ) → count_in q queue a + count_in q queue b ≡ count_in q queue (a + b)
 count_sum q queue a b = elim (is_same q queue) as (λ x. cond x a 0 + cond x b 0 ≡ cond x (a + b) 0) [ true ↦ refl | false ↦ refl ]

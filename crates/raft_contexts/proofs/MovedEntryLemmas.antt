@@ -1,20 +1,11 @@
 -- Tables whose places were rewritten.
-use Rattle.raft_contexts.proofs.Common.{◌≡◌, ℕ, zero, suc, ◌+◌, ◌-◌, ◌≤◌, ◌<◌, Bool, true, false, if◌then◌else◌, cond, List, [], ◌∷◌, ◌++◌, length, take, drop, filter, Some, inl, inr, refl, sym, ap, subst, ◌∙◌, arith}
-use Rattle.raft_contexts.proofs.Common.{append_assoc, length-drop, length-take-le, drop-drop, some_is, AllByRecursion, nat_lt, nat_le, EntryIndex, RisesFrom, IsRun, end_of, IsRunIn, is_placed_in, below, from, overlap, with_places}
-use Rattle.raft_contexts.proofs.Common.{moved_count, may_move, rewritten_from, entries_after_rewrite, leaves_hole, entries_after_append, entries_after_replay, AreMovedEntries}
-use Rattle.std.proofs.Common.{max, Option, None}
-use Rattle.std.proofs.lemmas.List.{length-take}
+use Rattle.raft_contexts.proofs.Common.{◌≡◌, ℕ, zero, suc, ◌+◌, ◌-◌, ◌≤◌, ◌<◌, Bool, true, false, if◌then◌else◌, cond, List, [], ◌∷◌, ◌++◌, length, take, drop, filter, Some, inl, inr, refl, sym, ap, subst, ◌∙◌, arith, append_assoc}
+use Rattle.raft_contexts.proofs.Common.{length-drop, length-take-le, drop-drop, some_is, AllByRecursion, nat_lt, nat_le, EntryIndex, RisesFrom, IsRun, end_of, IsRunIn, is_placed_in, below, from, overlap, with_places, moved_count, may_move}
+use Rattle.raft_contexts.proofs.Common.{rewritten_from, entries_after_rewrite, leaves_hole, entries_after_append, entries_after_replay, AreMovedEntries, max, Option, None, length-take, Append, Rewrite, misses, start_of, accepted}
+use Rattle.raft_contexts.proofs.Common.{below_take, from_drop, hole_end, rises, end_of-run, RisesFrom-take, RisesFrom-drop, IsMovedEntry}
 use Rattle.std.proofs.lemmas.List.Sums.{prefix_len-le-length}
-use Rattle.raft_base.specs.declared.pipe_log.LogQueue.TheVariants.{Append, Rewrite}
-use Rattle.raft_table.specs.Marks.{misses}
-use Rattle.raft_table.specs.TableEntries.{start_of}
-use Rattle.raft_table.proofs.MarkEntries.{accepted}
-use Rattle.raft_table.proofs.RunLemmas.{below_take, from_drop, hole_end, rises, end_of-run, RisesFrom-take, RisesFrom-drop}
 use Rattle.raft_table.proofs.RewriteLemmas.{below_is, from_is}
-use Rattle.raft_contexts.specs.MovedPlaces.{IsMovedEntry}
 use Rattle.raft_contexts.proofs.AppendedLemmas.{run_replays}
-
--- ---- lists of entries
 
 pub moved_self : (es : List EntryIndex) → AreMovedEntries es es
 moved_self [] = tt
@@ -59,8 +50,6 @@ pub moved_from : (i : ℕ) (ks es : List EntryIndex) → AreMovedEntries ks es �
 unfolding from
 moved_from i ks es h = moved_filter (λ n. nat_le i n) ks es h
 
--- ---- a new run
-
 pub moved_run : (ks es run new : List EntryIndex) → AreMovedEntries ks es → entries_after_append ks run ≡ Some new
     → (after : List EntryIndex) × (entries_after_replay Append es run ≡ Some after) × AreMovedEntries new after
 moved_run ks es [] new h a = (es, refl, subst (λ (l : List EntryIndex). AreMovedEntries l es) (some_is a) h)
@@ -71,8 +60,6 @@ moved_run ks es (e ∷ run) new h a =
       ap (λ (b : Bool). if b then None else Some (below e.index es ++ e ∷ run)) hole,
       subst (λ (l : List EntryIndex). AreMovedEntries l (below e.index es ++ e ∷ run)) k.1 (moved_front (e ∷ run) (below e.index ks) (below e.index es) (moved_below e.index ks es h)),
     )
-
--- ---- a rewriting
 
 -- rewritten entries in the place of as many in front
 in_front : (s : ℕ) (mid ks es : List EntryIndex) → AreMovedEntries ks es → RisesFrom s es → RisesFrom s mid → length mid ≤ length es

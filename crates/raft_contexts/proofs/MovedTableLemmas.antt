@@ -1,22 +1,15 @@
 -- Tables of all regions whose places were rewritten, through items that are appended and items that are rewritten.
-use Rattle.raft_contexts.proofs.Common.{◌≡◌, ℕ, Bool, true, false, if◌then◌else◌, cond, List, Option, Some, None, inl, inr, refl, sym, ap, subst, ◌∙◌, nat_list_cmp_total, AllByRecursion, nat_cmp, slice_cmp, nat_lt, [], ◌∷◌}
-use Rattle.raft_contexts.proofs.Common.{EntryIndex, FileId, LogQueue, IsRun, OpType, is_reserved, Item, Content, entries, command, pair, Stored, Keys, file_at, with_moved, moved_to, Tables, with_table, entries_after_rewrite}
-use Rattle.raft_contexts.proofs.Common.{entries_after_append, entries_after_replay, table_of, Table, with_pair, rewritten_in, rewritten_pair, passes_gate, below, from, Appending, Replaying, Rewriting, after_content}
-use Rattle.raft_contexts.proofs.Common.{after_items, after_pair, after_rewrite_pair, IsFor, batches, steps_of, steps_good, none_some, some_is, by_id, with_same, option_and_then, IsMovedPair, IsMovedTable, AreMovedTables, AreRuns}
-use Rattle.raft_contexts.proofs.Common.{ReadingLeavesRuns, option_map, eq_by_cmp}
-use Rattle.std.proofs.lemmas.Option.{option_and_then_some}
+use Rattle.raft_contexts.proofs.Common.{◌≡◌, ℕ, Bool, true, false, if◌then◌else◌, cond, List, Option, Some, None, inl, inr, refl, sym, ap, subst, ◌∙◌, nat_list_cmp_total, AllByRecursion, nat_cmp, slice_cmp, nat_lt, [], ◌∷◌, EntryIndex}
+use Rattle.raft_contexts.proofs.Common.{FileId, LogQueue, IsRun, OpType, is_reserved, Item, Content, entries, command, pair, Stored, Keys, file_at, with_moved, moved_to, Tables, with_table, entries_after_rewrite, entries_after_append}
+use Rattle.raft_contexts.proofs.Common.{entries_after_replay, table_of, Table, with_pair, rewritten_in, rewritten_pair, passes_gate, below, from, Appending, Replaying, Rewriting, after_content, after_items, after_pair, after_rewrite_pair}
+use Rattle.raft_contexts.proofs.Common.{IsFor, batches, steps_of, steps_good, none_some, some_is, by_id, with_same, option_and_then, IsMovedPair, IsMovedTable, AreMovedTables, AreRuns, ReadingLeavesRuns, option_map, eq_by_cmp}
+use Rattle.raft_contexts.proofs.Common.{option_and_then_some, Append, Rewrite, accepted, equal, with_own, with_other}
 use Rattle.std.specs.FinMap as finite
-use Rattle.raft_base.specs.declared.pipe_log.LogQueue.TheVariants.{Append, Rewrite}
 use Rattle.raft_records.specs.declared.command.Command.TheVariants as commands
 use Rattle.raft_records.specs.declared.key_value.OpType.TheVariants as operations
-use Rattle.raft_table.proofs.MarkEntries.{accepted}
 use Rattle.raft_table.proofs.MarkRuns.{run_from, run_below, run_replayed, no_table, table_after}
-use Rattle.raft_table.proofs.Shown.{equal}
-use Rattle.raft_accessor.proofs.MapLemmas.{with_own, with_other}
 use Rattle.raft_contexts.proofs.AppendedLemmas.{made_of}
 use Rattle.raft_contexts.proofs.MovedEntryLemmas.{moved_self, moved_below, moved_from, moved_run, entries_rewritten}
-
--- ---- key values
 
 abbrev AreMovedKeys : Keys → Keys → Type 0
 AreMovedKeys kept keys = (key : List ℕ) → IsMovedPair (finite.get kept key) (finite.get keys key)
@@ -149,8 +142,6 @@ content_stays gate seq id o u w (pair p) h own asked e = go (is_reserved p.key) 
     go : (b : Bool) → (if b then Some o else option_map Some (after_rewrite_pair gate seq k p.op_type p.key p.value)) ≡ Some w → IsKept id w u
     go true e = subst (λ (x : Option Table). IsKept id x u) (some_is e) h
     go false e = change p.op_type p.value e
-
--- ---- all regions
 
 pub all_moved_self : (m : Tables) → AreMovedTables m m
 all_moved_self m = record { each = λ r. (kept_self r (finite.get m r)).0; present = λ r none. none }

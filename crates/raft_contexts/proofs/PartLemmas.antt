@@ -1,187 +1,158 @@
--- The regions of a newer neighbor in two parts: those whose region mark is kept, and those whose table implies it.
-use Rattle.std.proofs.Common.{◌≡◌, ◌≤◌, ◌+◌, ℕ, Bool, true, false, ◌||◌, Option, Some, None, Result, Ok, Err, refl, sym, ap, subst, ◌∙◌, arith}
-use Rattle.std.specs.Option.{is_some, option_map}
+-- Region marks and tables in two parts, of which the first is joined or overlaid before the second.
+use Rattle.raft_contexts.proofs.Common.{map_none, ◌≡◌, ◌+◌, ◌⊎◌, ℕ, false, nat_eq, List, [], ◌∷◌, length, arith, find, together, together-empty, AreSlots, front-or, live-front, LogQueue, live_in_all, Option, Some, None, refl, sym, ap}
+use Rattle.raft_contexts.proofs.Common.{subst, ◌∙◌, inl, inr, nat_cmp, eq_by_cmp, nat_cmp_total, IsDistinct, keys_of, option_map, Mark, Marks, Table, Tables, AreTablesLeft, implied_mark, implied_marks, Map, once-distinct, same, by_id}
+use Rattle.raft_contexts.proofs.Common.{get_own, get_other, get_left, get_gone, none_some}
 use Rattle.std.specs.FinMap as finite
-use Rattle.std.specs.Result.{OnOk, IfErr}
-use Rattle.raft_base.specs.declared.errors.Error.{Error}
-use Rattle.raft_base.specs.declared.errors.Error.TheVariants as errors
-use Rattle.raft_base.specs.declared.pipe_log.LogQueue.{LogQueue}
-use Rattle.raft_table.specs.MarkedJoins.{IsRunOver}
-use Rattle.raft_table.specs.Marks.{Mark}
-use Rattle.raft_table.specs.Steps.{table_of}
-use Rattle.raft_table.specs.Table.{Table}
-use Rattle.raft_history.specs.Joins.{AreJoined, overlaid_region, AreOverlaid}
-use Rattle.raft_history.specs.MarkedRegions.{Marks, MarkedRegion, MarkedRegions, region_in, joined_marked}
-use Rattle.raft_history.specs.Records.{all_records}
-use Rattle.raft_history.specs.RegionSteps.{Tables}
-use Rattle.raft_accessor.specs.Accessor.{table_in, live_in_all}
-use Rattle.raft_accessor.specs.TableOverlays.{IsRunOverlaid}
-use Rattle.raft_contexts.specs.ImpliedMarks.{implied_mark, implied_marks, all_marks}
-use Rattle.raft_contexts.specs.RegionJoins.{AreRunsOver, AreTablesLeft, IsSlotFault, IsJoinFault}
-use Rattle.raft_contexts.specs.RegionOverlays.{AreRunsOverlaid, AreTooMany}
-use Rattle.raft_accessor.proofs.MapLemmas.{none_some, some_is}
-use Rattle.raft_contexts.proofs.ImpliedMarkLemmas.{get_implied, get_kept, get_unkept}
-use Rattle.raft_contexts.proofs.RegionJoinLemmas.{live-le-records, on_ok}
+use Rattle.raft_contexts.proofs.ImpliedMarkLemmas.{get_implied}
 
-or_false : (b : Bool) → (b || false) ≡ b
-or_false true = refl
-or_false false = refl
+-- each key is one of the first part, or of the second
+abbrev pub AreParts : {V : Type 0} → Map V → Map V → Map V → Type 0
+AreParts a b all = (r : ℕ) → ((finite.get a r ≡ None) × (finite.get all r ≡ finite.get b r)) ⊎ ((finite.get b r ≡ None) × (finite.get all r ≡ finite.get a r))
 
--- more region marks than these
-pub fault_of_all : (queue : LogQueue) (older : MarkedRegions) (newer : Tables) (kept : Marks) (e : Error) → IsSlotFault queue older record { tables = newer; marks = kept } e →
-    IsJoinFault queue older record { tables = newer; marks = all_marks newer kept } e
-fault_of_all queue older newer kept (errors.Corruption text) f = (f.0, go (finite.get kept f.0) refl)
+-- what some region marks have, all have
+abbrev pub AreAmong : Marks → Marks → Type 0
+AreAmong a all = (r : ℕ) (m : Mark) → finite.get a r ≡ Some m → finite.get all r ≡ Some m
+
+pub in_first : {V : Type 0} (a b all : Map V) → AreParts a b all → (r : ℕ) (x : V) → finite.get a r ≡ Some x → (finite.get b r ≡ None) × (finite.get all r ≡ finite.get a r)
+in_first a b all parts r x e = elim (parts r) [ inl p ↦ absurd (none_some (sym p.0 ∙ e)) | inr p ↦ p ]
+
+pub parts_among : (a b all : Marks) → AreParts a b all → AreAmong a all
+parts_among a b all parts r m e = (in_first a b all parts r m e).1 ∙ e
+
+-- ---- one entry in front of others
+
+abbrev pub one : {V : Type 0} → ℕ → V → Map V
+one id x = finite.insert finite.empty id x
+
+module _ {V : Type 0} (id : ℕ) (x : V) where
+  pub one_own : finite.get (one id x) id ≡ Some x
+  one_own = get_own finite.empty id x
+
+  pub one_other : (r : ℕ) → eq_by_cmp nat_cmp r id ≡ false → finite.get (one id x) r ≡ None
+  one_other r f = get_other finite.empty id r x f ∙ finite.get-empty nat_cmp r
+
+  one_parts : (m : Map V) → finite.get m id ≡ None → AreParts (one id x) m (finite.insert m id x)
+  one_parts m none r = elim (by_id r id) [ inl p ↦ rw p (inr (none, get_own m id x ∙ sym one_own)) | inr f ↦ inl (one_other r f, get_other m id r x f) ]
+
+  pub entry_parts : (rest es : List (ℕ × V)) → rest ≡ (id, x) ∷ es → IsDistinct nat_eq (keys_of rest) → AreParts (one id x) (finite.from_entries es) (finite.from_entries rest)
+  entry_parts rest es is once = subst (λ (l : List (ℕ × V)). AreParts (one id x) (finite.from_entries es) (finite.from_entries l)) (sym is)
+      (one_parts (finite.from_entries es) (finite.get-from_entries nat_cmp_total es id ∙ (once-distinct ((id, x) ∷ es) (subst (λ l. IsDistinct nat_eq (keys_of l)) is once)).0))
+
+  pub once_behind : (rest es : List (ℕ × V)) → rest ≡ (id, x) ∷ es → IsDistinct nat_eq (keys_of rest) → IsDistinct nat_eq (keys_of es)
+  unfolding IsDistinct
+  once_behind rest es is once = (subst (λ l. IsDistinct nat_eq (keys_of l)) is once).1
+
+  -- the others are what is left where it is taken away
+  pub parts_left : (m all : Map V) → AreParts (one id x) m all → m ≡ finite.remove all id
+  parts_left m all parts = same _ _ (λ r. elim (by_id r id) [
+    | inl p ↦ rw p ((in_first (one id x) m all parts id x one_own).0 ∙ sym (get_gone all id))
+    | inr f ↦ elim (parts r) [ inl q ↦ sym (get_left all id r f ∙ q.1) | inr q ↦ q.0 ∙ sym (get_left all id r f ∙ q.1 ∙ one_other r f) ]
+  ])
+
+pub one_left : (left : Tables) (id : ℕ) (m : Mark) → AreTablesLeft (one id m) left (finite.remove left id)
+one_left left id m = record {
+  gone = λ r x e. elim (by_id r id) [ inl p ↦ rw p (get_gone left id) | inr f ↦ absurd (none_some (sym (one_other id m r f) ∙ e)) ];
+  others = λ r e. elim (by_id r id) [ inl p ↦ absurd (none_some (sym e ∙ ap (finite.get (one id m)) p ∙ one_own id m)) | inr f ↦ get_left left id r f ];
+}
+
+-- ---- tables in two parts, under the region marks that they imply
+
+pub implied_one : (id : ℕ) (t : Table) → implied_marks (one id t) ≡ one id (implied_mark t)
+implied_one id t = same _ _ (λ r. get_implied (one id t) r ∙ elim (by_id r id) [
+  | inl p ↦ rw p (ap (option_map implied_mark) (one_own id t) ∙ sym (one_own id (implied_mark t)))
+  | inr f ↦ ap (option_map implied_mark) (one_other id t r f) ∙ sym (one_other id (implied_mark t) r f)
+])
+
+module _ (a b all : Tables) (parts : AreParts a b all) where
+  implied_none : (t : Tables) (r : ℕ) → finite.get t r ≡ None → finite.get (implied_marks t) r ≡ None
+  implied_none t r e = get_implied t r ∙ ap (option_map implied_mark) e
+
+  not_implied : (r : ℕ) → finite.get (implied_marks a) r ≡ None → finite.get a r ≡ None
+  not_implied r e = map_none implied_mark (finite.get a r) (sym (get_implied a r) ∙ e)
+
+  pub implied_parts : AreParts (implied_marks a) (implied_marks b) (implied_marks all)
+  implied_parts r = elim (parts r) [
+    | inl p ↦ inl (implied_none a r p.0, get_implied all r ∙ ap (option_map implied_mark) p.1 ∙ sym (get_implied b r))
+    | inr p ↦ inr (implied_none b r p.0, get_implied all r ∙ ap (option_map implied_mark) p.1 ∙ sym (get_implied a r))
+  ]
+
+  -- the tables of the first part are there
+  pub own_there : (r : ℕ) (m : Mark) → finite.get (implied_marks a) r ≡ Some m → finite.get all r ≡ finite.get a r
+  own_there r m e = elim (parts r) [ inl p ↦ absurd (none_some (sym (implied_none a r p.0) ∙ e)) | inr p ↦ p.1 ]
+
+  pub implied_left : AreTablesLeft (implied_marks a) all b
+  implied_left = record {
+    gone = λ r m e. elim (parts r) [ inl p ↦ absurd (none_some (sym (implied_none a r p.0) ∙ e)) | inr p ↦ p.0 ];
+    others = λ r e. elim (parts r) [ inl p ↦ sym p.1 | inr p ↦ p.0 ∙ sym (p.1 ∙ not_implied r e) ];
+  }
+
+-- ---- tables that are taken out part by part
+
+-- those of some region marks, all but the rest, are gone, and the others are as they were
+pub record AreTaken (newer left : Tables) (marks rest : Marks) : Type 0 where
+  pub gone : (r : ℕ) (m : Mark) → finite.get marks r ≡ Some m → finite.get rest r ≡ None → finite.get left r ≡ None
+  pub others : (r : ℕ) → finite.get marks r ≡ None → (finite.get rest r ≡ None) × (finite.get left r ≡ finite.get newer r)
+  pub held : (r : ℕ) (m : Mark) → finite.get rest r ≡ Some m → finite.get left r ≡ finite.get newer r
+
+pub taken_none : (newer : Tables) (marks : Marks) → AreTaken newer newer marks marks
+taken_none newer marks = record { gone = λ r m e f. absurd (none_some (sym f ∙ e)); others = λ r e. (e, refl); held = λ r m e. refl }
+
+pub taken_step : (newer left after : Tables) (marks a b all : Marks) → AreParts a b all → AreTaken newer left marks all → AreTablesLeft a left after → AreTaken newer after marks b
+taken_step newer left after marks a b all parts at l = record {
+  gone = λ r m e f. gone r m e f (finite.get a r) refl;
+  others = λ r e. let h = at.others r e in elim (parts r) [ inl p ↦ (sym p.1 ∙ h.0, l.others r p.0 ∙ h.1) | inr p ↦ (p.0, l.others r (sym p.1 ∙ h.0) ∙ h.1) ];
+  held = λ r m e. elim (parts r) [ inl p ↦ l.others r p.0 ∙ at.held r m (p.1 ∙ e) | inr p ↦ absurd (none_some (sym p.0 ∙ e)) ];
+}
   where
-    go : (o : Option Mark) → finite.get kept f.0 ≡ o → joined_marked queue f.0 (finite.get (all_marks newer kept) f.0) (finite.get newer f.0) (region_in older f.0) ≡ None
-    go None e = absurd (none_some (sym f.1 ∙ ap (λ o. joined_marked queue f.0 o (finite.get newer f.0) (region_in older f.0)) e))
-    go (Some m) e = ap (λ o. joined_marked queue f.0 o (finite.get newer f.0) (region_in older f.0)) (get_kept newer kept f.0 m e ∙ sym e) ∙ f.1
-fault_of_all queue older newer kept errors.Full f = omega (arith, f.1, live-le-records f.0 older.tables, live-le-records f.0 newer)
-fault_of_all queue older newer kept errors.Memory f = tt
-fault_of_all queue older newer kept _ f = absurd f
+    gone : (r : ℕ) (m : Mark) → finite.get marks r ≡ Some m → finite.get b r ≡ None → (o : Option Mark) → finite.get a r ≡ o → finite.get after r ≡ None
+    gone r m e f (Some y) is = l.gone r y is
+    gone r m e f None is = l.others r is ∙ at.gone r m e (elim (parts r) [ inl p ↦ p.1 ∙ f | inr p ↦ p.1 ∙ is ])
 
-pub kept_runs : (queue : LogQueue) (newer older : Tables) (kept : Marks) → AreRunsOver queue (all_marks newer kept) newer older → AreRunsOver queue kept newer older
-kept_runs queue newer older kept h r m is = h r m (get_kept newer kept r m is)
+pub all_taken : (newer left : Tables) (marks rest : Marks) → AreTaken newer left marks rest → ((r : ℕ) → finite.get rest r ≡ None) → AreTablesLeft marks newer left
+all_taken newer left marks rest at none = record { gone = λ r m e. at.gone r m e (none r); others = λ r e. (at.others r e).1 }
 
-pub kept_overlaid : (appended rewritten : Tables) (kept : Marks) → AreRunsOverlaid (all_marks appended kept) appended rewritten → AreRunsOverlaid kept appended rewritten
-kept_overlaid appended rewritten kept h r m is = h r m (get_kept appended kept r m is)
+pub none_of : {V : Type 0} (es : List (ℕ × V)) → es ≡ [] → (r : ℕ) → finite.get (finite.from_entries {R = nat_cmp} es) r ≡ None
+none_of es e r = finite.get-from_entries nat_cmp_total es r ∙ ap (find nat_cmp r) e
 
--- ---- what is left implies the other region marks
+pub none_together : {V : Type 0} (ms : List (Map V)) → length ms ≡ 0 → (r : ℕ) → finite.get (together ms) r ≡ None
+none_together [] e r = ap (λ x. finite.get x r) (together-empty [] refl) ∙ finite.get-empty nat_cmp r
+none_together (m ∷ ms) e r = absurd (omega (arith, e))
 
-module _ (newer left : Tables) (kept : Marks) (l : AreTablesLeft kept newer left) where
-  none_left : (r : ℕ) (m : Mark) → finite.get kept r ≡ Some m → finite.get (implied_marks left) r ≡ None
-  none_left r m e = get_implied left r ∙ ap (option_map implied_mark) (l.gone r m e)
+pub no_slots_implied : (ts : List Tables) → length ts ≡ 0 → (r : ℕ) → finite.get (implied_marks (together ts)) r ≡ None
+no_slots_implied ts e r = get_implied (together ts) r ∙ ap (option_map implied_mark) (none_together ts e r)
 
-  all_left : (r : ℕ) → finite.get kept r ≡ None → finite.get (all_marks newer kept) r ≡ finite.get (implied_marks left) r
-  all_left r e = get_unkept newer kept r e ∙ ap (option_map implied_mark) (sym (l.others r e)) ∙ sym (get_implied left r)
+-- ---- one slot in front of others
 
-  -- ---- joined
+pub slot_parts : {V : Type 0} (rest ms : List (Map V)) (m : Map V) (k : ℕ) → rest ≡ m ∷ ms → AreSlots k rest → AreParts m (together ms) (together rest)
+slot_parts {V} rest ms m k is s = subst (λ (l : List (Map V)). AreParts m (together ms) (together l)) (sym is) (front-or k m ms (subst (AreSlots k) is s))
 
-  module _ (queue : LogQueue) (older mid : MarkedRegions) (j : AreJoined queue older record { tables = newer; marks = kept } mid) where
-    same_here : (r : ℕ) → finite.get kept r ≡ None → region_in mid r ≡ region_in older r
-    same_here r e = sym (some_is (sym (ap (λ o. joined_marked queue r o (finite.get newer r) (region_in older r)) e) ∙ j.regions r))
+pub slot_live : (rest ts : List Tables) (t : Tables) (k : ℕ) → rest ≡ t ∷ ts → AreSlots k rest → (q : LogQueue) → live_in_all q (together rest) ≡ live_in_all q t + live_in_all q (together ts)
+slot_live rest ts t k is s q = ap (λ l. live_in_all q (together l)) is ∙ live-front q k t ts (subst (AreSlots k) is s)
 
-    pub rest_runs : AreRunsOver queue (all_marks newer kept) newer older.tables → AreRunsOver queue (implied_marks left) left mid.tables
-    rest_runs h r m is = go (finite.get kept r) refl
-      where
-        go : (o : Option Mark) → finite.get kept r ≡ o → IsRunOver queue m (table_in left r) (table_in mid.tables r)
-        go None e = subst (λ (o : Option Table). IsRunOver queue m (table_of r o) (table_in mid.tables r)) (sym (l.others r e))
-            (subst (λ (o : Option Table). IsRunOver queue m (table_in newer r) (table_of r o)) (ap (λ (x : MarkedRegion). x.table) (sym (same_here r e))) (h r m (all_left r e ∙ is)))
-        go (Some x) e = absurd (none_some (sym (none_left r x e) ∙ is))
+-- ---- the tables of a slot, one after another
 
-    rest_of : (r : ℕ) → finite.get kept r ≡ None →
-        joined_marked queue r (finite.get (all_marks newer kept) r) (finite.get newer r) (region_in older r) ≡ joined_marked queue r (finite.get (implied_marks left) r) (finite.get left r) (region_in mid r)
-    rest_of r e =
-        ap (λ o. joined_marked queue r o (finite.get newer r) (region_in older r)) (all_left r e)
-        ∙ ap (λ t. joined_marked queue r (finite.get (implied_marks left) r) t (region_in older r)) (sym (l.others r e))
-        ∙ ap (joined_marked queue r (finite.get (implied_marks left) r) (finite.get left r)) (sym (same_here r e))
+abbrev pub tables_of : List (ℕ × Table) → Tables
+tables_of es = finite.from_entries es
 
-    pub parts_joined : (z : MarkedRegions) → AreJoined queue mid record { tables = left; marks = implied_marks left } z → AreJoined queue older record { tables = newer; marks = all_marks newer kept } z
-    parts_joined z h = record { regions = λ r. regions r (finite.get kept r) refl; marked = λ r. marked r (finite.get kept r) refl }
-      where
-        regions : (r : ℕ) (o : Option Mark) → finite.get kept r ≡ o → joined_marked queue r (finite.get (all_marks newer kept) r) (finite.get newer r) (region_in older r) ≡ Some (region_in z r)
-        regions r None e = rest_of r e ∙ h.regions r
-        regions r (Some m) e =
-            ap (λ o. joined_marked queue r o (finite.get newer r) (region_in older r)) (get_kept newer kept r m e ∙ sym e) ∙ j.regions r
-            ∙ sym (ap (λ o. joined_marked queue r o (finite.get left r) (region_in mid r)) (none_left r m e)) ∙ h.regions r
+-- each table stands under its own region
+abbrev pub AreOwn : Tables → Type 0
+AreOwn tables = (id : ℕ) (t : Table) → finite.get tables id ≡ Some t → t.region_id ≡ id
 
-        marked : (r : ℕ) (o : Option Mark) → finite.get kept r ≡ o → is_some (finite.get z.marks r) ≡ (is_some (finite.get older.marks r) || is_some (finite.get (all_marks newer kept) r))
-        marked r None e =
-            h.marked r
-            ∙ ap (λ b. b || is_some (finite.get (implied_marks left) r)) (j.marked r ∙ ap (λ (o : Option Mark). is_some (finite.get older.marks r) || is_some o) e ∙ or_false _)
-            ∙ ap (λ (o : Option Mark). is_some (finite.get older.marks r) || is_some o) (sym (all_left r e))
-        marked r (Some m) e =
-            h.marked r ∙ ap (λ (o : Option Mark). is_some (finite.get mid.marks r) || is_some o) (none_left r m e) ∙ or_false _
-            ∙ j.marked r ∙ ap (λ (o : Option Mark). is_some (finite.get older.marks r) || is_some o) (e ∙ sym (get_kept newer kept r m e))
+module _ (rest es : List (ℕ × Table)) (id : ℕ) (t : Table) (is : rest ≡ (id, t) ∷ es) (once : IsDistinct nat_eq (keys_of rest)) where
+  parts : AreParts (one id t) (tables_of es) (tables_of rest)
+  parts = entry_parts id t rest es is once
 
-    pub rest_fault : ((q : LogQueue) → live_in_all q mid.tables + live_in_all q left ≤ live_in_all q older.tables + live_in_all q newer) → (e : Error) →
-        IsSlotFault queue mid record { tables = left; marks = implied_marks left } e → IsJoinFault queue older record { tables = newer; marks = all_marks newer kept } e
-    rest_fault few (errors.Corruption text) f = (f.0, go (finite.get kept f.0) refl)
-      where
-        go : (o : Option Mark) → finite.get kept f.0 ≡ o → joined_marked queue f.0 (finite.get (all_marks newer kept) f.0) (finite.get newer f.0) (region_in older f.0) ≡ None
-        go None e = rest_of f.0 e ∙ f.1
-        go (Some m) e = absurd (none_some (sym f.1 ∙ ap (λ o. joined_marked queue f.0 o (finite.get left f.0) (region_in mid f.0)) (none_left f.0 m e)))
-    rest_fault few errors.Full f = omega (arith, f.1, few f.0, live-le-records f.0 older.tables, live-le-records f.0 newer)
-    rest_fault few errors.Memory f = tt
-    rest_fault few _ f = absurd f
+  pub table_parts : AreParts (one id (implied_mark t)) (implied_marks (tables_of es)) (implied_marks (tables_of rest))
+  table_parts = subst (λ (m : Marks). AreParts m (implied_marks (tables_of es)) (implied_marks (tables_of rest))) (implied_one id t) (implied_parts (one id t) (tables_of es) (tables_of rest) parts)
 
-  -- ---- overlaid
+  pub table_first : Some t ≡ finite.get (tables_of rest) id
+  table_first = sym ((in_first (one id t) (tables_of es) (tables_of rest) parts id t (one_own id t)).1 ∙ one_own id t)
 
-  module _ (rewritten mid : Tables) (j : AreOverlaid record { tables = newer; marks = kept } rewritten mid) where
-    same_table : (r : ℕ) → finite.get kept r ≡ None → finite.get mid r ≡ finite.get rewritten r
-    same_table r e = j r ∙ ap (λ o. overlaid_region r o (finite.get newer r) (finite.get rewritten r)) e
+  pub tables_behind : tables_of es ≡ finite.remove (tables_of rest) id
+  tables_behind = parts_left id t (tables_of es) (tables_of rest) parts
 
-    pub rest_overlaid_runs : AreRunsOverlaid (all_marks newer kept) newer rewritten → AreRunsOverlaid (implied_marks left) left mid
-    rest_overlaid_runs h r m is = go (finite.get kept r) refl
-      where
-        go : (o : Option Mark) → finite.get kept r ≡ o → IsRunOverlaid m (table_in left r) (table_in mid r)
-        go None e = subst (λ (o : Option Table). IsRunOverlaid m (table_of r o) (table_in mid r)) (sym (l.others r e))
-            (subst (λ (o : Option Table). IsRunOverlaid m (table_in newer r) (table_of r o)) (sym (same_table r e)) (h r m (all_left r e ∙ is)))
-        go (Some x) e = absurd (none_some (sym (none_left r x e) ∙ is))
+  pub table_own : (newer : Tables) (marks : Marks) → AreTaken newer (tables_of rest) marks (implied_marks (tables_of rest)) → AreOwn newer → t.region_id ≡ id
+  table_own newer marks at own = own id t (sym (at.held id (implied_mark t) (get_implied (tables_of rest) id ∙ ap (option_map implied_mark) (sym table_first))) ∙ sym table_first)
 
-    pub parts_overlaid : (z : Tables) → AreOverlaid record { tables = left; marks = implied_marks left } mid z → AreOverlaid record { tables = newer; marks = all_marks newer kept } rewritten z
-    parts_overlaid z h r = h r ∙ go (finite.get kept r) refl
-      where
-        go : (o : Option Mark) → finite.get kept r ≡ o →
-            overlaid_region r (finite.get (implied_marks left) r) (finite.get left r) (finite.get mid r) ≡ overlaid_region r (finite.get (all_marks newer kept) r) (finite.get newer r) (finite.get rewritten r)
-        go None e =
-            ap (λ o. overlaid_region r o (finite.get left r) (finite.get mid r)) (sym (all_left r e))
-            ∙ ap (λ t. overlaid_region r (finite.get (all_marks newer kept) r) t (finite.get mid r)) (l.others r e)
-            ∙ ap (overlaid_region r (finite.get (all_marks newer kept) r) (finite.get newer r)) (same_table r e)
-        go (Some m) e =
-            ap (λ o. overlaid_region r o (finite.get left r) (finite.get mid r)) (none_left r m e)
-            ∙ j r ∙ ap (λ o. overlaid_region r o (finite.get newer r) (finite.get rewritten r)) (e ∙ sym (get_kept newer kept r m e))
-
--- ---- both parts of a join, one behind the other
-
-module _ (queue : LogQueue) (older : MarkedRegions) (newer left rest m next : Tables) (kept now : Marks) (same_left : rest ≡ left) (same_now : next ≡ m) (l : AreTablesLeft kept newer left)
-    (j : AreJoined queue older record { tables = newer; marks = kept } record { tables = m; marks = all_marks m now }) (runs : AreRunsOver queue (all_marks newer kept) newer older.tables) where
-  abbrev mid : Tables → MarkedRegions
-  mid t = record { tables = t; marks = all_marks t now }
-
-  abbrev implied : Tables → MarkedRegions
-  implied t = record { tables = t; marks = implied_marks t }
-
-  over_rest : AreRunsOver queue (implied_marks rest) rest next
-  over_rest = subst (λ x. AreRunsOver queue (implied_marks x) x next) (sym same_left) (subst (AreRunsOver queue (implied_marks left) left) (sym same_now) (rest_runs newer left kept l queue older (mid m) j runs))
-
-  pub both_ok : {R : Type 0} (r : Result R Error) (z : MarkedRegions) → (AreRunsOver queue (implied_marks rest) rest next → OnOk r (AreJoined queue (mid next) (implied rest) z)) →
-      OnOk r (AreJoined queue older record { tables = newer; marks = all_marks newer kept } z)
-  both_ok r z h = on_ok r (λ k. parts_joined newer left kept l queue older (mid m) j z (subst (λ x. AreJoined queue (mid m) (implied x) z) same_left (subst (λ x. AreJoined queue (mid x) (implied rest) z) same_now k))) (h over_rest)
-
-  pub both_fault : {R : Type 0} (r : Result R Error) → ((q : LogQueue) → live_in_all q m + live_in_all q left ≤ live_in_all q older.tables + live_in_all q newer) →
-      (AreRunsOver queue (implied_marks rest) rest next → IfErr r (IsSlotFault queue (mid next) (implied rest))) → IfErr r (IsJoinFault queue older record { tables = newer; marks = all_marks newer kept })
-  both_fault r few h = elim r as (λ r. IfErr r (IsSlotFault queue (mid next) (implied rest)) → IfErr r (IsJoinFault queue older record { tables = newer; marks = all_marks newer kept })) [
-    | Ok u ↦ λ f. tt
-    | Err e ↦ λ f. rest_fault newer left kept l queue older (mid m) j few e (subst (λ x. IsSlotFault queue (mid m) (implied x) e) same_left (subst (λ x. IsSlotFault queue (mid x) (implied rest) e) same_now f))
-  ] (h over_rest)
-
--- ---- both parts of an overlay
-
--- as many records
-pub too_many_in : (q : LogQueue) (c d : Tables) (e : Error) → AreTooMany (live_in_all q c + live_in_all q d) e → AreTooMany (all_records c + all_records d) e
-too_many_in q c d errors.Full f = omega (arith, f, live-le-records q c, live-le-records q d)
-too_many_in q c d errors.Memory f = tt
-too_many_in q c d _ f = absurd f
-
-too_many_by : (q : LogQueue) (a b c d : Tables) (e : Error) → live_in_all q a + live_in_all q b ≤ live_in_all q c + live_in_all q d → AreTooMany (live_in_all q a + live_in_all q b) e → AreTooMany (all_records c + all_records d) e
-too_many_by q a b c d errors.Full few f = omega (arith, f, few, live-le-records q c, live-le-records q d)
-too_many_by q a b c d errors.Memory few f = tt
-too_many_by q a b c d _ few f = absurd f
-
-module _ (newer left rest rewritten m next : Tables) where
-  abbrev left_implied : Tables → MarkedRegions
-  left_implied t = record { tables = t; marks = implied_marks t }
-
-  pub over_ok : (kept : Marks) → rest ≡ left → next ≡ m → AreTablesLeft kept newer left → AreOverlaid record { tables = newer; marks = kept } rewritten m → AreRunsOverlaid (all_marks newer kept) newer rewritten →
-      {R : Type 0} (r : Result R Error) (z : Tables) →
-      (AreRunsOverlaid (implied_marks rest) rest next → OnOk r (AreOverlaid (left_implied rest) next z)) → OnOk r (AreOverlaid record { tables = newer; marks = all_marks newer kept } rewritten z)
-  over_ok kept same_left same_now l j runs r z h = on_ok r
-      (λ k. parts_overlaid newer left kept l rewritten m j z (subst (λ x. AreOverlaid (left_implied x) m z) same_left (subst (λ x. AreOverlaid (left_implied rest) x z) same_now k)))
-      (h (subst (λ x. AreRunsOverlaid (implied_marks x) x next) (sym same_left) (subst (AreRunsOverlaid (implied_marks left) left) (sym same_now) (rest_overlaid_runs newer left kept l rewritten m j runs))))
-
-  pub over_fault : rest ≡ left → next ≡ m → ((q : LogQueue) → live_in_all q m + live_in_all q left ≤ live_in_all q rewritten + live_in_all q newer) → {R : Type 0} (r : Result R Error) →
-      IfErr r (λ e. (q : LogQueue) × AreTooMany (live_in_all q next + live_in_all q rest) e) → IfErr r (AreTooMany (all_records rewritten + all_records newer))
-  over_fault same_left same_now few r f = elim r as (λ r. IfErr r (λ e. (q : LogQueue) × AreTooMany (live_in_all q next + live_in_all q rest) e) → IfErr r (AreTooMany (all_records rewritten + all_records newer))) [
-    | Ok u ↦ λ f. tt
-    | Err e ↦ λ f. too_many_by f.0 next rest rewritten newer e (omega (arith, few f.0, ap (live_in_all f.0) same_left, ap (live_in_all f.0) same_now)) f.1
-  ] f
+pub none_implied : (es : List (ℕ × Table)) → es ≡ [] → (r : ℕ) → finite.get (implied_marks (tables_of es)) r ≡ None
+none_implied es e r = get_implied (tables_of es) r ∙ ap (option_map implied_mark) (none_of es e r)

@@ -1,11 +1,10 @@
 -- What was read of the append queue, taken in over what was read of the rewrite queue, and what both queues give.
-use Rattle.raft_contexts.proofs.Common.{◌≡◌, ◌+◌, ℕ, List, [], ◌∷◌, length, refl, sym, ap, subst, ◌∙◌, inl, inr, arith, flat_map, nat_cmp, Error, Event, batches, IsReadingOfBoth, Context, IsExactFor, cleaned_in, AreOverlaid}
+use Rattle.raft_contexts.proofs.Common.{entries-empty, ◌≡◌, ◌+◌, ℕ, List, [], ◌∷◌, length, refl, sym, ap, subst, ◌∙◌, inl, inr, arith, flat_map, nat_cmp, Error, Event, batches, IsReadingOfBoth, Context, IsExactFor, cleaned_in, AreOverlaid}
 use Rattle.raft_contexts.proofs.Common.{kept_of, all_records, total, Tables, WaitingGroup, held_steps, waiting_steps, exact_reading, overlay_by_steps, total-none, Counts, Mark, kept_shown, Kept, AreOfBothQueues, IsOverlaidWith}
-use Rattle.raft_contexts.proofs.Common.{IsOfBothExactly, IsMergeAppendFault, RecoverContext, reading_on, HasReadExactly, ContextStage, AreTooMany, nil_from_length}
+use Rattle.raft_contexts.proofs.Common.{IsOfBothExactly, IsMergeAppendFault, RecoverContext, reading_on, HasReadExactly, ContextStage, AreTooMany, Append, Rewrite}
 use Rattle.std.specs.FinMap as finite
 use Rattle.std.specs.FinSet as finset
 use Rattle.raft_base.specs.declared.errors.Error.TheVariants as errors
-use Rattle.raft_base.specs.declared.pipe_log.LogQueue.TheVariants.{Append, Rewrite}
 use Rattle.raft_history.specs.Kept as numbers
 
 -- ---- why it is refused
@@ -48,14 +47,9 @@ of_both c d new h g m a b = record {
   no_groups = ap (λ (x : Context). x.groups) m.overlaid;
 }
 
--- ---- what is kept
-
-nothing_in : {X : Type 0} → finite.entries (finite.empty {K = ℕ} {X = X} {R = nat_cmp}) ≡ []
-nothing_in {X} = nil_from_length (finite.entries (finite.empty {K = ℕ} {X = X} {R = nat_cmp})) (sym (finite.len-entries _) ∙ finite.len-empty nat_cmp X)
-
 pub nothing_kept : (c : RecoverContext) (h g : List Event) (k : Kept) → kept_shown k ≡ kept_of c.context → IsOfBothExactly c h g → (k.marks ≡ 0) × (k.deleted_keys ≡ 0) × (k.waiting_items ≡ 0)
 nothing_kept c h g k e b = (
   omega (arith, ap (λ (n : numbers.Kept). n.marks) e, ap finite.len b.no_marks, ap finite.len b.no_groups, finite.len-empty nat_cmp Mark, finite.len-empty nat_cmp WaitingGroup),
   ap (λ (n : numbers.Kept). n.deleted_keys) e ∙ ap (total (λ (m : Mark). finset.len m.deleted)) b.no_marks ∙ total-none (λ (m : Mark). finset.len m.deleted),
-  ap (λ (n : numbers.Kept). n.waiting_items) e ∙ ap waiting_steps b.no_groups ∙ ap (λ (es : List (ℕ × WaitingGroup)). length (flat_map (λ e. held_steps e.1) es)) nothing_in,
+  ap (λ (n : numbers.Kept). n.waiting_items) e ∙ ap waiting_steps b.no_groups ∙ ap (λ (es : List (ℕ × WaitingGroup)). length (flat_map (λ e. held_steps e.1) es)) (entries-empty finite.empty refl),
 )

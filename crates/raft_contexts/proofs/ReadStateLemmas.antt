@@ -1,19 +1,15 @@
 -- What was read, with one more batch or with a newer neighbor.
-use Rattle.raft_contexts.proofs.Common.{◌≡◌, ◌≢◌, ℕ, ◌+◌, ◌≤◌, true, false, List, [], ◌∷◌, ◌++◌, Option, Some, None, Ok, Err, refl, sym, ap, subst, ◌∙◌, inl, inr, arith, append-nil, nat_cmp, AllByRecursion, unwrap_or}
-use Rattle.raft_contexts.proofs.Common.{nat_cmp_total, nat_cmp-IsAntisymmetric, Error, LogQueue, Item, AtomicGroupStatus, fresh, other, after, Event, GroupMarker, batch_of, batches, marker_in, Context, FileRange, Suits}
-use Rattle.raft_contexts.proofs.Common.{files_of, follows, joined_files, AreExact, StandsFor, AreMerged, merged_with, completed_steps, region_steps_or, taken_in, AreInFile, HaveStatus, IsSoundIn, IsStepOfQueue, records_in}
-use Rattle.raft_contexts.proofs.Common.{StandForSteps, AreJoined, MarkedRegions, region_in, regions_after, region_steps_of_whole, region_steps_of_wholes, all_records, waiting_records, records_or, RegionStep, steps_of_items}
-use Rattle.raft_contexts.proofs.Common.{cleaned_by_steps, WholeGroup, without_marker, joined_group, whole_group, one_marker, WaitingGroups, known_of, groups_in, groups_after, whole_groups, joined_groups, exact_reading, no_steps}
-use Rattle.raft_contexts.proofs.Common.{regions_stand, each-append, items_in_queue, whole_in_queue, holds_none, read_records, whole_group-records, wholes-records, one_weight, stand_after, stand_joined, files-back, files_follow}
-use Rattle.raft_contexts.proofs.Common.{IsNextEvent, taken_stands, total-insert, named-steps, joined_weight, waiting_known, merged_waiting, weight, live_in_all, some_is, none_some, marker_found, AreStepsOfQueue, IsStepsFault}
-use Rattle.raft_contexts.proofs.Common.{AreAlone, AreOfSteps, IsOfHistory, CanTakeEffect, CanTakeEffectIfAny, reading_on, MayFollow, records_held, IsBatchFault, AreNeighbors, IsNeighborFault, AreCountsAfterSteps, IsJoinFault}
-use Rattle.raft_contexts.proofs.Common.{live-none, regions_in, context_in, ranges_shown, MarkedTables, is_some, option_map}
+use Rattle.raft_contexts.proofs.Common.{◌≡◌, ◌≢◌, ℕ, ◌+◌, ◌≤◌, true, false, List, [], ◌∷◌, ◌++◌, Option, Some, None, Ok, Err, refl, sym, ap, subst, ◌∙◌, inl, inr, arith, append-nil, nat_cmp, AllByRecursion, unwrap_or, nat_cmp_total}
+use Rattle.raft_contexts.proofs.Common.{nat_cmp-IsAntisymmetric, Error, LogQueue, Item, AtomicGroupStatus, fresh, other, after, Event, GroupMarker, batch_of, batches, marker_in, Context, FileRange, Suits, files_of, follows, joined_files}
+use Rattle.raft_contexts.proofs.Common.{AreExact, StandsFor, AreMerged, merged_with, completed_steps, region_steps_or, taken_in, AreInFile, HaveStatus, IsSoundIn, IsStepOfQueue, records_in, StandForSteps, AreJoined, MarkedRegions}
+use Rattle.raft_contexts.proofs.Common.{region_in, regions_after, region_steps_of_whole, region_steps_of_wholes, all_records, waiting_records, records_or, RegionStep, steps_of_items, cleaned_by_steps, WholeGroup, without_marker}
+use Rattle.raft_contexts.proofs.Common.{joined_group, whole_group, one_marker, WaitingGroups, known_of, groups_in, groups_after, whole_groups, joined_groups, exact_reading, no_steps, regions_stand, each-append, items_in_queue}
+use Rattle.raft_contexts.proofs.Common.{whole_in_queue, holds_none, read_records, whole_group-records, wholes-records, one_weight, stand_after, stand_joined, files-back, files_follow, IsNextEvent, taken_stands, total-insert, named-steps}
+use Rattle.raft_contexts.proofs.Common.{joined_weight, waiting_known, merged_waiting, weight, live_in_all, some_is, none_some, marker_found, AreStepsOfQueue, IsStepsFault, AreAlone, AreOfSteps, IsOfHistory, CanTakeEffect}
+use Rattle.raft_contexts.proofs.Common.{CanTakeEffectIfAny, reading_on, MayFollow, records_held, IsBatchFault, AreNeighbors, IsNeighborFault, AreCountsAfterSteps, IsJoinFault, live-none, regions_in, context_in, ranges_shown, MarkedTables}
+use Rattle.raft_contexts.proofs.Common.{is_some, option_map, Append, Rewrite, taken_with, IsTakenIn, AreWholesTaken, ReadState}
 use Rattle.std.specs.FinMap as finite
 use Rattle.raft_base.specs.declared.errors.Error.TheVariants as errors
-use Rattle.raft_base.specs.declared.pipe_log.LogQueue.TheVariants.{Append, Rewrite}
-use Rattle.raft_history.specs.Contexts.{taken_with}
-use Rattle.raft_contexts.specs.ReadStates.{IsTakenIn, AreWholesTaken}
-use Rattle.raft_contexts.specs.declared.read_state.ReadState.{ReadState}
 use Rattle.raft_contexts.proofs.LiveSteps.{live-le-all}
 use Rattle.raft_contexts.proofs.WholeFiles.{batch_takes, wholes_take, no_wholes}
 
@@ -59,13 +55,9 @@ steps_of_read q c r u = go c.files refl u r.steps
     go None e u a = blank q c r.history r.stands e
     go (Some f) e u a = subst (λ q. StandForSteps q c.regions) u a
 
--- ---- records
-
 -- what a batch makes whole waited before, or is its own
 pub whole_records : (groups : WaitingGroups) (g : ℕ) (s : AtomicGroupStatus) (is : List RegionStep) (f : ℕ) → records_or (whole_group (known_of groups g) (one_marker s is f)) ≤ waiting_records groups + records_in is
 whole_records groups g s is f = omega (arith, joined_weight (known_of groups g) (one_marker s is f), total-insert weight groups g without_marker, waiting_known groups g, one_weight s is f)
-
--- ---- one more batch
 
 found_none : (q : LogQueue) (items : List Item) → marker_found q items ≡ None → marker_in q items ≡ None
 found_none Append items e = refl
@@ -211,8 +203,6 @@ group_taken old new e id s is w r n m items whole after counts few cleaned group
     (by_fields (context_in new) _ _ _
     (groups ∙ ap (λ x. finite.insert old.groups id (joined_group (known_of old.groups id) (one_marker s x e.file.seq))) items ∙ sym (ap (groups_after old.groups (batch_of e)) f.1))
     (cleaned ∙ sym (append-nil old.regions.accessor.cleaned) ∙ ap (λ q. old.regions.accessor.cleaned ++ cleaned_by_steps q (batch_of e).steps) (sym f.0)) files)
-
--- ---- two neighbors
 
 -- what two neighbors make whole
 abbrev pub both_wholes : Context → Context → List WholeGroup

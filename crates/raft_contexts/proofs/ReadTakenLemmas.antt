@@ -1,29 +1,21 @@
 -- Items as they were read, taken in one after another.
-use Rattle.raft_contexts.proofs.Common.{◌≡◌, Bool, true, false, cond, MatchBool, ◌==◌, ℕ, ◌≤◌, ◌<◌, List, [], ◌∷◌, ◌++◌, length, take, drop, Some, Result, Ok, Err, refl, sym, ap, subst}
-use Rattle.raft_contexts.proofs.Common.{◌∙◌, arith, length-drop, Error, FileBlockHandle, FileId, LogQueue, EntryIndex, end_of, entries_of_block, IsDecodedIn, AreDecodedIn, spans_taken}
-use Rattle.raft_contexts.proofs.Common.{spans_of, content_shown, item_shown, items_shown, ReadItem, Counts, joined_mark, mark_of, Run, Put}
-use Rattle.raft_contexts.proofs.Common.{start_of, run_stays, StandForSteps, RegionStep, Tables, steps_of_items, stand_after, Accessor, table_in}
-use Rattle.raft_contexts.proofs.Common.{IsStepTaken, regions_in, one_step, AreStepsOfQueue, AreStepsTaken, first_index, mark_in, MarkedTables}
+use Rattle.raft_contexts.proofs.Common.{each_left, ◌≡◌, ◌+◌, get_or, at_drop_more, Bool, true, false, cond, MatchBool, ◌==◌, ℕ, ◌≤◌, ◌<◌, List, [], ◌∷◌, ◌++◌, length, take, drop, Some, Result, Ok, Err, refl, sym, ap, subst, ◌∙◌, arith}
+use Rattle.raft_contexts.proofs.Common.{length-drop, Error, FileBlockHandle, FileId, LogQueue, EntryIndex, end_of, entries_of_block, IsDecodedIn, AreDecodedIn, spans_taken, spans_of, content_shown, item_shown, items_shown, ReadItem, Counts}
+use Rattle.raft_contexts.proofs.Common.{joined_mark, mark_of, Run, Put, start_of, run_stays, StandForSteps, RegionStep, Tables, steps_of_items, stand_after, Accessor, table_in, IsStepTaken, regions_in, one_step, AreStepsOfQueue}
+use Rattle.raft_contexts.proofs.Common.{AreStepsTaken, first_index, mark_in, MarkedTables, false≢true, Step, entries_after_replay, IsStepOfQueue, Marks, AreCountsOf, get_own, one_written, all_marks, is_put}
 use Rattle.std.specs.FinMap as finite
 use Rattle.raft_base.specs.declared.errors.Error.TheVariants as errors
 use Rattle.raft_records.specs.declared.read_batch.ReadContent.TheVariants as contents
-use Rattle.raft_contexts.proofs.TakenLemmas.{run_mark, step_taken, taken_none, each_more, each_refused, rest_of_queue, of_queue_front}
+use Rattle.raft_contexts.proofs.TakenLemmas.{run_mark, step_taken, taken_none, each_more, each_refused, rest_of_queue, by_accessor}
 use Rattle.raft_contexts.proofs.WaitingItemLemmas.{items-append}
-use Rattle.std.proofs.lemmas.Bool.{false≢true}
-use Rattle.raft_table.specs.Steps.{Step}
-use Rattle.raft_table.specs.Start.{entries_after_replay}
-use Rattle.raft_history.specs.Histories.{IsStepOfQueue}
-use Rattle.raft_history.specs.MarkedRegions.{Marks}
-use Rattle.raft_accessor.specs.Accessor.{AreCountsOf}
-use Rattle.raft_accessor.proofs.MapLemmas.{get_own, one_written}
-use Rattle.raft_contexts.specs.ImpliedMarks.{all_marks}
-use Rattle.raft_contexts.specs.MarkedTables.{is_put}
 use Rattle.raft_contexts.proofs.ImpliedMarkLemmas.{replayed_within, unmarked_all, put_all}
-use Rattle.raft_contexts.proofs.TakenLemmas.{by_accessor}
 
 -- an item that stands in where there is none
-abbrev pub no_read_item : ReadItem
+abbrev no_read_item : ReadItem
 no_read_item = record { region = 0; content = contents.Run 0 0 }
+
+pub next_read : (items : List ReadItem) (i : ℕ) → i < length items → drop i items ≡ get_or items i no_read_item ∷ drop (i + 1) items
+next_read items i low = at_drop_more (λ l. l) items i no_read_item low
 
 -- the run of some spans begins at the first index
 pub first_of_spans : (first : ℕ) (place : FileBlockHandle) (spans : List (ℕ × ℕ)) → false ≡ (length spans == 0) → first_index (entries_of_block first place spans) ≡ Some first
@@ -76,27 +68,11 @@ put_taken q id key value file a mid true k =
 put_taken q id key value file a mid false k = ap (beside a) (same_accessor mid a.accessor k.err k.counts_err k.cleaned_err)
 
 -- a put that the accessor takes or refuses
-pub by_put : (q : LogQueue) (id : ℕ) (key value : List ℕ) (file : FileId) (a : MarkedTables) (mid : Accessor) (r : Result Unit Error) → IsStepOfQueue q (Put key value file) → AreCountsOf a.accessor.tables a.accessor.counts →
-    IsStepTaken q id (Put key value file) a.accessor.tables a.accessor.counts a.accessor.cleaned r mid.tables mid.counts mid.cleaned → AreStepsTaken q (one_step id (Put key value file)) r a (beside a mid)
-by_put q id key value file a mid (Ok u) h counted k = by_accessor q id (Put key value file) a (beside a mid) (Ok u) h counted (put_all q id a.accessor.tables mid.tables a.marks key value file k.ok k.one) k
-by_put q id key value file a mid (Err x) h counted k = by_accessor q id (Put key value file) a (beside a mid) (Err x) h counted tt k
-
 pub by_put_step : (q : LogQueue) (id : ℕ) (s : Step) (a : MarkedTables) (mid : Accessor) (r : Result Unit Error) → true ≡ is_put s → IsStepOfQueue q s → AreCountsOf a.accessor.tables a.accessor.counts →
     IsStepTaken q id s a.accessor.tables a.accessor.counts a.accessor.cleaned r mid.tables mid.counts mid.cleaned → AreStepsTaken q (one_step id s) r a (beside a mid)
-by_put_step q id (Put key value file) a mid r e h counted k = by_put q id key value file a mid r h counted k
+by_put_step q id (Put key value file) a mid (Ok u) e h counted k = by_accessor q id (Put key value file) a (beside a mid) (Ok u) h counted (put_all q id a.accessor.tables mid.tables a.marks key value file k.ok k.one) k
+by_put_step q id (Put key value file) a mid (Err x) e h counted k = by_accessor q id (Put key value file) a (beside a mid) (Err x) h counted tt k
 by_put_step q id _ a mid r e h counted k = absurd (false≢true (sym e))
-
--- an item that is no run which its table takes, and is tried as a pair then
-module _ (q : LogQueue) (steps : List RegionStep) (a b c : MarkedTables) (run put : Bool) (no : run ≡ false)
-    (tried : MatchBool run (AreStepsTaken q steps (Ok tt) a b) (b ≡ a)) (known : MatchBool put (AreStepsTaken q steps (Ok tt) b c) (c ≡ b)) where
-  still : b ≡ a
-  still = rw no at tried
-
-  pub put_then : put ≡ true → AreStepsTaken q steps (Ok tt) a c
-  put_then e = subst (λ x. AreStepsTaken q steps (Ok tt) x c) still (rw e at known)
-
-  pub none_then : put ≡ false → (r : Result Unit Error) (d : MarkedTables) → AreStepsTaken q steps r c d → AreStepsTaken q steps r a d
-  none_then e r d t = let same : c ≡ b = rw e at known in subst (λ x. AreStepsTaken q steps r x d) (same ∙ still) t
 
 -- the items are such as may be taken in, and these are their spans
 pub record AreTakeable (q : LogQueue) (place : FileBlockHandle) (items : List ReadItem) (spans : List (ℕ × ℕ)) : Type 0 where
@@ -122,7 +98,7 @@ module _ (q : LogQueue) (place : FileBlockHandle) (x : ReadItem) (xs left : List
   split = rw (e, front, back, is) (items-append (item_shown place x (take (spans_taken x.content) rest) ∷ []) (items_shown place xs (drop (spans_taken x.content) rest)))
 
   pub steps_in_front : AreTakeable q place left rest → AreStepsOfQueue q (steps_of_items (item_shown place x own ∷ []))
-  steps_in_front h = of_queue_front q (steps_of_items (item_shown place x own ∷ [])) (steps_of_items (items_shown place xs behind)) (subst (AreStepsOfQueue q) split h.steps)
+  steps_in_front h = each_left (λ (s : RegionStep). IsStepOfQueue q s.step) (steps_of_items (item_shown place x own ∷ [])) (steps_of_items (items_shown place xs behind)) (subst (AreStepsOfQueue q) split h.steps)
 
   both : AreTakeable q place left rest → IsDecodedIn place.id (content_shown place x.content own) × AreDecodedIn place.id (items_shown place xs behind)
   both h = rw (front, back, is) (subst (λ (l : List ReadItem). AreDecodedIn place.id (items_shown place l rest)) e h.decoded)

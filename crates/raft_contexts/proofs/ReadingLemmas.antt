@@ -1,9 +1,8 @@
 -- Items that are read again, as the steps of a history.
-use Rattle.raft_contexts.proofs.Common.{◌≡◌, ℕ, true, false, if◌then◌else◌, List, [], ◌∷◌, ◌++◌, Option, Some, None, refl, sym, ap, subst, ◌∙◌, option_and_then, FileId, LogQueue, OpType, is_reserved, Item, Content, entries}
-use Rattle.raft_contexts.proofs.Common.{command, pair, Tables, RegionStep, with_table, content_step, pair_step, steps_of_items, tables_after, cleaned_by_steps, with_step, table_of, after_replay, Replaying, after_content}
-use Rattle.raft_contexts.proofs.Common.{after_items, after_pair, with_change, listed_by, listed_by_items, none_some, with_same, option_map}
+use Rattle.raft_contexts.proofs.Common.{◌≡◌, ℕ, true, false, if◌then◌else◌, List, [], ◌∷◌, ◌++◌, Option, Some, None, refl, sym, ap, subst, ◌∙◌, option_and_then, FileId, LogQueue, OpType, is_reserved, Item, Content, entries, command, pair}
+use Rattle.raft_contexts.proofs.Common.{Tables, RegionStep, with_table, content_step, pair_step, steps_of_items, tables_after, cleaned_by_steps, with_step, table_of, after_replay, Replaying, after_content, after_items, after_pair}
+use Rattle.raft_contexts.proofs.Common.{with_change, listed_by, listed_by_items, none_some, with_same, option_map, Append}
 use Rattle.std.specs.FinMap as finite
-use Rattle.raft_base.specs.declared.pipe_log.LogQueue.TheVariants.{Append}
 use Rattle.raft_records.specs.declared.command.Command.TheVariants as commands
 use Rattle.raft_records.specs.declared.key_value.OpType.TheVariants as operations
 

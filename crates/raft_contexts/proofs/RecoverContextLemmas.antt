@@ -1,15 +1,11 @@
 -- Recovery contexts and the histories that they stand for.
-use Rattle.raft_contexts.proofs.Common.{◌≡◌, ◌≢◌, ℕ, List, [], ◌∷◌, ◌++◌, Result, refl, sym, ap, subst, ◌∙◌, inl, inr, arith, Error, LogQueue, Counts, false≢true, Event, batches, Context, new_context, Suits, files_of}
-use Rattle.raft_contexts.proofs.Common.{follows, StandsFor, IsExactFor, IsSmall, Sound, Apart, IsOfQueue, IsOneReading, Merges, exact_reading, regions_stand, regions_exact, regions_unsound, new_exact, follow_files, size-append}
-use Rattle.raft_contexts.proofs.Common.{size-one, of_front, of_back, IsNextEvent, taken_stands, taken_exact, taken_none, next_sound, kept_of, kept_by, IsAtMost, Tables, kept_at_most, IsOfHistory, RecoverContext, HasRead}
-use Rattle.raft_contexts.proofs.Common.{HasReadExactly, MayFollow, IsBatchTaken, reading_on, IsBatchFault, AreNeighbors, IsMergedWith, IsNeighborFault, ContextStage, IfErr, OnOk}
-use Rattle.std.proofs.lemmas.Result.{on_ok_weaker, IfErr-weaker}
+use Rattle.raft_contexts.proofs.Common.{◌≡◌, ◌≢◌, ℕ, List, [], ◌∷◌, ◌++◌, Result, refl, sym, ap, subst, ◌∙◌, inl, inr, arith, Error, LogQueue, Counts, false≢true, Event, batches, Context, new_context, Suits, files_of, follows, StandsFor}
+use Rattle.raft_contexts.proofs.Common.{IsExactFor, IsSmall, Sound, Apart, IsOfQueue, IsOneReading, Merges, exact_reading, regions_stand, regions_exact, regions_unsound, new_exact, follow_files, size-append, size-one, of_front, of_back}
+use Rattle.raft_contexts.proofs.Common.{taken_stands, taken_exact, taken_none, next_sound, kept_of, kept_by, IsAtMost, Tables, kept_at_most, IsOfHistory, RecoverContext, HasRead, HasReadExactly, IsBatchTaken, reading_on, IsBatchFault}
+use Rattle.raft_contexts.proofs.Common.{AreNeighbors, IsMergedWith, IsNeighborFault, ContextStage, IfErr, OnOk, on_ok_weaker, IfErr-weaker, Reading}
 use Rattle.raft_base.specs.declared.errors.Error.TheVariants as errors
 use Rattle.raft_contexts.proofs.LiveSteps.{live-le-all}
 use Rattle.raft_contexts.proofs.ReadStateLemmas.{completed_records, next_of}
-use Rattle.raft_contexts.specs.declared.context_stage.ContextStage.TheVariants.{Reading}
-
--- ---- results
 
 pub on_ok : {X E P Q : Type 0} (r : Result X E) → (P → Q) → OnOk r P → OnOk r Q
 on_ok r f p = on_ok_weaker r f p
@@ -17,18 +13,11 @@ on_ok r f p = on_ok_weaker r f p
 pub on_err : {X E : Type 0} {P Q : E → Type 0} (r : Result X E) → ((e : E) → P e → Q e) → IfErr r P → IfErr r Q
 on_err r f p = IfErr-weaker r _ _ f p
 
--- ---- a new context
-
 pub new_read : IsOfHistory new_context
 new_read = record { history = []; stands = new_exact.stands; alone = tt; steps = tt }
 
 pub new_reads_as : (c : Context) (k : Counts) → c ≡ new_context → HasReadExactly (record { stage = Reading; context = c; counts = k }) []
 new_reads_as c k e = record { stage = refl; exact = subst (λ c. IsExactFor c []) (sym e) new_exact }
-
--- ---- one more batch
-
-may_of : (c : Context) (e : Event) → IsNextEvent c e → MayFollow c e
-may_of c e n = record { queue = n.suits; files = n.follows; items = n.in_file; markers = n.status }
 
 pub replay_stands : (c d : RecoverContext) (h : List Event) (e : Event) → IsBatchTaken e c d → HasRead c h → HasRead d (h ++ e ∷ [])
 replay_stands c d h e t r = record { stage = t.after; stands = taken_stands c.context d.context h e (next_of c.context e t.next) r.stands t.taken }
@@ -37,7 +26,7 @@ pub replay_exact : (c d : RecoverContext) (h : List Event) (e : Event) → IsBat
 replay_exact c d h e t r = record { stage = t.after; exact = taken_exact c.context d.context h e (next_of c.context e t.next) r.exact t.taken }
 
 pub replay_unsound : (c : RecoverContext) (h : List Event) (e : Event) → IsSmall (h ++ e ∷ []) → HasRead c h → (x : Error) → x ≢ errors.Memory → IsBatchFault c e x → Sound (h ++ e ∷ []) → ⊥
-replay_unsound c h e small r (errors.Corruption text) k (inl unfit) sound = unfit (may_of c.context e (next_sound c.context h e r.stands sound))
+replay_unsound c h e small r (errors.Corruption text) k (inl unfit) sound = let n = next_sound c.context h e r.stands sound in unfit record { queue = n.suits; files = n.follows; items = n.in_file; markers = n.status }
 replay_unsound c h e small r (errors.Corruption text) k (inr none) sound = taken_none c.context h e (next_sound c.context h e r.stands sound) r.stands none sound
 replay_unsound c h e small r errors.Full k full sound = omega (arith, full.1, live-le-all e.file.queue c.context.regions.tables, completed_records c.context e, small.few, r.stands.few, size-append h (e ∷ []), size-one e)
 replay_unsound c h e small r errors.Failed k stage sound = stage r.stage
@@ -51,8 +40,6 @@ batch_fault s c k e errors.Full f = f
 batch_fault s c k e errors.Failed f = absurd (f refl)
 batch_fault s c k e errors.Memory f = f
 batch_fault s c k e _ f = absurd f
-
--- ---- two neighbors
 
 merges : (q : LogQueue) (c d : Context) (h g : List Event) → AreNeighbors q c d → StandsFor c h → StandsFor d g → Merges q c d h g
 merges q c d h g n a b = record { older_suits = n.older; newer_suits = n.newer; older = a; newer = b }
@@ -105,12 +92,8 @@ neighbor_fault q s t c d k l errors.Failed (inr f) = absurd (f refl)
 neighbor_fault q s t c d k l errors.Memory f = f
 neighbor_fault q s t c d k l _ f = absurd f
 
--- ---- what was read
-
 pub one_reading : (q : LogQueue) (c : RecoverContext) (h : List Event) → HasReadExactly c h → Suits q c.context.files → IsOneReading q h c.context.regions.tables c.context.cleaned
 one_reading q c h r u = record { tables_read = exact_reading q c.context.regions (batches h) (r.exact.regions q u); regions_cleaned = (r.exact.stands.stands q u).cleaned }
-
--- ---- numbers
 
 pub keeps_little : (q : LogQueue) (c : RecoverContext) (h : List Event) (tables : Tables) (cleaned : List ℕ) → HasReadExactly c h →
     Suits q c.context.files → IsOneReading q h tables cleaned → IsAtMost (kept_of c.context) (kept_by q h tables)

@@ -1,12 +1,10 @@
 -- The slots of `RegionMarks` against the one map of them.
-use Rattle.raft_contexts.proofs.Common.{◌≡◌, ◌≢◌, ◌<◌, ◌≤◌, ◌+◌, ◌⊎◌, ℕ, List, [], ◌∷◌, length, map, drop, replicate, slice_index_or, slice_set, Option, Result, Ok, Err, refl, sym, ap, subst, ◌∙◌}
-use Rattle.raft_contexts.proofs.Common.{arith, inl, inr, nat_cmp, eq_by_cmp, unwrap_or, OnOk, OnErr, AllocError, false≢true, set-get_or, Marks, fresh, Mark, slot_of, total, slot_entries, together}
-use Rattle.raft_contexts.proofs.Common.{AreSlots, eq_self, get_own, get_other, IsChangedAt, get-together, together-at, slots-at, length-set, together-none, together-empty, slots-none, drop-none}
-use Rattle.raft_contexts.proofs.Common.{together-permuted, drop-step, added, added-append, added-permuted, total-values, mark_in, with_slots, marks_shown, AreMarksKept}
+use Rattle.raft_contexts.proofs.Common.{◌≡◌, ◌≢◌, ◌<◌, ◌≤◌, ◌+◌, ◌⊎◌, ℕ, List, [], ◌∷◌, length, map, drop, replicate, slice_index_or, slice_set, Option, Result, Ok, Err, refl, sym, ap, subst, ◌∙◌, arith, inl, inr, nat_cmp, eq_by_cmp}
+use Rattle.raft_contexts.proofs.Common.{unwrap_or, OnOk, OnErr, AllocError, false≢true, set-get_or, Marks, fresh, Mark, slot_of, total, slot_entries, together, AreSlots, eq_self, get_own, get_other, IsChangedAt, get-together, together-at}
+use Rattle.raft_contexts.proofs.Common.{slots-at, length-set, together-none, together-empty, slots-none, drop-none, together-permuted, drop-step, added, added-append, added-permuted, total-values, mark_in, with_slots, marks_shown}
+use Rattle.raft_contexts.proofs.Common.{AreMarksKept, ◌==◌, true, false, None, eqb-true}
 use Rattle.std.specs.FinMap as finite
 use Rattle.raft_contexts.specs.declared.region_marks.RegionMarks.TheInside.{Inside}
-use Rattle.std.proofs.Common.{◌==◌, true, false, None}
-use Rattle.std.proofs.lemmas.Bool.{eqb-true}
 
 -- ---- slots are made where there are none
 

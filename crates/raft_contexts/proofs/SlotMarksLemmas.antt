@@ -1,7 +1,7 @@
 -- The fields of `SlotMarks` against what contracts see of them, and a mark changed by a call.
-use Rattle.raft_contexts.proofs.Common.{◌≡◌, ◌≢◌, ℕ, cond, nat_eq, List, [], ◌∷◌, Option, Some, None, Result, Ok, Err, refl, sym, ap, subst, ◌∙◌, inl, inr, MutBor, nat_cmp, nat_cmp_total, lookup}
-use Rattle.raft_contexts.proofs.Common.{option_copied_mut, unwrap_or, OnOk, OnErr, find, AllocError, Marks, LogQueue, fresh, joined_at, run_added, Mark, mark_in, MarkChange, ChangesMark, IsOneUpdated}
-use Rattle.raft_contexts.proofs.Common.{IsMarkUpdated, slot_shown, same, by_id, not_same, self_same, get_own, get_other, insert_same, same_test}
+use Rattle.raft_contexts.proofs.Common.{◌≡◌, ◌≢◌, ℕ, cond, nat_eq, List, [], ◌∷◌, Option, Some, None, Result, Ok, Err, refl, sym, ap, subst, ◌∙◌, inl, inr, MutBor, nat_cmp, nat_cmp_total, lookup, option_copied_mut, unwrap_or, OnOk, OnErr}
+use Rattle.raft_contexts.proofs.Common.{find, AllocError, Marks, LogQueue, fresh, joined_at, run_added, Mark, mark_in, MarkChange, ChangesMark, IsOneUpdated, IsMarkUpdated, slot_shown, same, by_id, not_same, self_same, get_own, get_other}
+use Rattle.raft_contexts.proofs.Common.{insert_same, same_test}
 use Rattle.std.specs.FinMap as finite
 use Rattle.raft_contexts.specs.declared.region_marks.slot.SlotMarks.TheInside.{Inside}
 

@@ -1,19 +1,13 @@
 -- Steps taken into the marks and tables of all regions, one after another.
-use Rattle.raft_contexts.proofs.Common.{◌≡◌, ℕ, ◌+◌, ◌≤◌, ◌<◌, get_or, List, [], ◌∷◌, ◌++◌, length, Bool, true, false, MatchBool, append-nil, append_assoc, Option, Some, None, Result, Ok, Err, refl}
-use Rattle.raft_contexts.proofs.Common.{sym, ap, subst, ◌∙◌, inl, inr, arith, option_map, option_and_then, OnOk, IfErr, flat_map-append, Error, FileId, LogQueue, EntryIndex, end_of, entries, Counts}
-use Rattle.raft_contexts.proofs.Common.{live, IsRunIn, file_at, joined_mark, joined_at, fresh, mark_of, Mark, other, count_in, Step, Run, Put, table_of, after_step, Table, after_replay}
-use Rattle.raft_contexts.proofs.Common.{IsTablePutFault, within-whole, count_in_own, IsStepOfQueue, records_in, Marks, MarkedRegions, MarkedRegion, region_in, with_region, stepped_region}
-use Rattle.raft_contexts.proofs.Common.{regions_after, RegionStep, Tables, with_table, cleaned_by, cleaned_by_steps, Accessor, table_in, live_in_all, AreCountsOf, regions_in, AreStepsOfQueue}
-use Rattle.raft_contexts.proofs.Common.{IsStepsFault, one_step, first_index, AreStepsTaken, mark_in, counts_after_step, AreCountsAfterSteps, IsStepFault, IsStepTaken, Replaying, IsWriteFault}
-use Rattle.raft_contexts.proofs.Common.{MarkedTables, table_live-le, some_is, none_some, replay_fault}
+use Rattle.raft_contexts.proofs.Common.{each_left, each_right, map_none, ◌≡◌, ℕ, ◌+◌, ◌≤◌, ◌<◌, get_or, List, [], ◌∷◌, ◌++◌, length, Bool, true, false, MatchBool, append-nil, append_assoc, Option, Some, None, Result, Ok, Err, refl, sym, ap}
+use Rattle.raft_contexts.proofs.Common.{subst, ◌∙◌, inl, inr, arith, option_map, option_and_then, OnOk, IfErr, flat_map-append, Error, FileId, LogQueue, EntryIndex, end_of, entries, Counts, live, IsRunIn, file_at, joined_mark, joined_at}
+use Rattle.raft_contexts.proofs.Common.{fresh, mark_of, Mark, other, count_in, Step, Run, Put, table_of, after_step, Table, IsTablePutFault, within-whole, count_in_own, IsStepOfQueue, records_in, Marks, MarkedRegions, MarkedRegion}
+use Rattle.raft_contexts.proofs.Common.{region_in, with_region, stepped_region, regions_after, RegionStep, Tables, with_table, cleaned_by, cleaned_by_steps, Accessor, table_in, live_in_all, AreCountsOf, regions_in, AreStepsOfQueue}
+use Rattle.raft_contexts.proofs.Common.{IsStepsFault, one_step, first_index, AreStepsTaken, mark_in, counts_after_step, AreCountsAfterSteps, IsStepFault, IsStepTaken, Replaying, IsWriteFault, MarkedTables, table_live-le, some_is, none_some}
+use Rattle.raft_contexts.proofs.Common.{replay_fault, Append, Rewrite, start_of, all_marks}
 use Rattle.std.specs.FinMap as finite
 use Rattle.raft_base.specs.declared.errors.Error.TheVariants as errors
-use Rattle.raft_base.specs.declared.pipe_log.LogQueue.TheVariants.{Append, Rewrite}
 use Rattle.raft_contexts.proofs.LiveSteps.{steps_live}
-use Rattle.raft_table.specs.TableEntries.{start_of}
-use Rattle.raft_contexts.specs.ImpliedMarks.{all_marks}
-
--- ---- steps behind steps
 
 pub after-append : (q : LogQueue) (rs : MarkedRegions) (xs ys : List RegionStep) → regions_after q rs (xs ++ ys) ≡ option_and_then (λ x. regions_after q x ys) (regions_after q rs xs)
 after-append q rs [] ys = refl
@@ -98,8 +92,6 @@ taken_more q xs ys a b c r h s t =
 pub taken_refused : (q : LogQueue) (xs ys : List RegionStep) (a b : MarkedTables) (e : Error) → AreStepsTaken q xs (Err e) a b → AreStepsTaken q (xs ++ ys) (Err e) a b
 taken_refused q xs ys a b e s = record { ok = tt; cleaned = tt; counts = tt; fault = fault-front q (regions_in a) xs ys e s.fault }
 
--- ---- one step
-
 module _ (q : LogQueue) (id : ℕ) (s : Step) (a b : MarkedTables) where
   abbrev made : Tables → Marks → MarkedRegions
   made tables marks = record { tables = tables; marks = marks }
@@ -146,15 +138,11 @@ module _ (q : LogQueue) (id : ℕ) (s : Step) (a : MarkedTables) (mid : Accessor
 
 -- ---- refusals of one step
 
-none_of : (o : Option Table) → option_map (λ t. Some t) o ≡ None → o ≡ None
-none_of None e = refl
-none_of (Some t) e = absurd cc
-
 run_by : (q : LogQueue) (id : ℕ) (run : List EntryIndex) (a b : MarkedTables) (n : ℕ) (e : Error) → IsRunIn q run →
     n ≡ live_in_all q a.accessor.tables → IsWriteFault (Replaying q) id (finite.get a.accessor.tables id) n (entries run) e →
     IsStepsFault q (regions_in a) (one_step id (Run run)) e
 run_by q id run a b n (errors.Corruption text) h is (inl f) = absurd (f h)
-run_by q id run a b n (errors.Corruption text) h is (inr f) = no_step q id (Run run) a b (ap (λ (t : Option Table). option_map Some t) (none_of _ f))
+run_by q id run a b n (errors.Corruption text) h is (inr f) = no_step q id (Run run) a b (ap (λ (t : Option Table). option_map Some t) (map_none (λ (t : Table). Some t) _ f))
 run_by q id run a b n (errors.InvalidArgument text) h is f = omega (arith, f, table_live-le (other q) a.accessor.tables id)
 run_by q id run a b n errors.Full h is f = omega (arith, f, is)
 run_by q id run a b n errors.Memory h is f = tt
@@ -212,9 +200,6 @@ pub first_of : (run : List EntryIndex) (x : EntryIndex) → 0 < length run → x
 first_of [] x l e = absurd (omega (arith, l))
 first_of (y ∷ run) x l e = ap (λ (z : EntryIndex). Some z.index) (sym e)
 
-pub run_step : (q : LogQueue) (id : ℕ) (o : Option Table) (run : List EntryIndex) → after_step q (table_of id o) (Run run) ≡ option_map (λ t. Some t) (after_replay q (table_of id o) run)
-run_step q id o run = refl
-
 -- ---- items, one after another
 
 -- what a run tried first tells: it is taken in, or all is as it was
@@ -227,20 +212,12 @@ not_tried q steps a b c r taken e h t =
     let k : b ≡ a = rw e at h in
     subst (λ x. AreStepsTaken q steps r x c) k t
 
-pub of_queue_front : (q : LogQueue) (xs ys : List RegionStep) → AreStepsOfQueue q (xs ++ ys) → AreStepsOfQueue q xs
-of_queue_front q [] ys h = tt
-of_queue_front q (x ∷ xs) ys h = (h.0, of_queue_front q xs ys h.1)
-
-of_queue_back : (q : LogQueue) (xs ys : List RegionStep) → AreStepsOfQueue q (xs ++ ys) → AreStepsOfQueue q ys
-of_queue_back q [] ys h = h
-of_queue_back q (x ∷ xs) ys h = of_queue_back q xs ys h.1
-
 pub rest_of_queue : (q : LogQueue) (one rest all : List RegionStep) → all ≡ one ++ rest → AreStepsOfQueue q all → AreStepsOfQueue q rest
-rest_of_queue q one rest all e h = of_queue_back q one rest (subst (AreStepsOfQueue q) e h)
+rest_of_queue q one rest all e h = each_right (λ (s : RegionStep). IsStepOfQueue q s.step) one rest (subst (AreStepsOfQueue q) e h)
 
 pub each_more : (q : LogQueue) (one rest all : List RegionStep) (a b c : MarkedTables) (r : Result Unit Error) → all ≡ one ++ rest →
     AreStepsOfQueue q all → AreStepsTaken q one (Ok tt) a b → AreStepsTaken q rest r b c → AreStepsTaken q all r a c
-each_more q one rest all a b c r e h s t = subst (λ l. AreStepsTaken q l r a c) (sym e) (taken_more q one rest a b c r (of_queue_front q one rest (subst (AreStepsOfQueue q) e h)) s t)
+each_more q one rest all a b c r e h s t = subst (λ l. AreStepsTaken q l r a c) (sym e) (taken_more q one rest a b c r (each_left (λ (s : RegionStep). IsStepOfQueue q s.step) one rest (subst (AreStepsOfQueue q) e h)) s t)
 
 pub each_refused : (q : LogQueue) (one rest all : List RegionStep) (a b : MarkedTables) (e : Error) → all ≡ one ++ rest → AreStepsTaken q one (Err e) a b → AreStepsTaken q all (Err e) a b
 each_refused q one rest all a b e is s = subst (λ l. AreStepsTaken q l (Err e) a b) (sym is) (taken_refused q one rest a b e s)

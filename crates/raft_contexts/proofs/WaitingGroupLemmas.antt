@@ -1,8 +1,7 @@
 -- One group after another is joined.
-use Rattle.raft_contexts.proofs.Common.{◌≡◌, ℕ, true, false, eqb, ◌<◌, List, [], ◌∷◌, ◌++◌, map, Option, Some, None, refl, sym, ap, subst, ◌∙◌, append_assoc, arith, option_to_list, zero, suc, false≢true, AllByRecursion}
-use Rattle.raft_contexts.proofs.Common.{cons_option, IsDistinct, nat_cmp_total, nat_tests, AtomicGroupStatus, RegionStep, BatchSteps, batch_with_marker, EachApart, effects, steps_of, WaitingGroup, joined_group, WholeGroup}
-use Rattle.raft_contexts.proofs.Common.{whole_group, one_marker, WaitingGroups, groups_in, steps_or, known_of, joined_groups, whole_with, whole_groups, steps_of_wholes, keys_distinct, tied, steps_across, groups_in-append}
-use Rattle.raft_contexts.proofs.Common.{groups_in-one, steps-one}
+use Rattle.raft_contexts.proofs.Common.{◌≡◌, ℕ, false, eqb, ◌<◌, List, [], ◌∷◌, ◌++◌, map, Option, Some, None, refl, sym, ap, subst, ◌∙◌, append_assoc, arith, option_to_list, AllByRecursion, cons_option, IsDistinct, nat_cmp_total}
+use Rattle.raft_contexts.proofs.Common.{nat_tests, AtomicGroupStatus, RegionStep, BatchSteps, batch_with_marker, EachApart, effects, steps_of, WaitingGroup, joined_group, WholeGroup, whole_group, one_marker, WaitingGroups, groups_in}
+use Rattle.raft_contexts.proofs.Common.{steps_or, known_of, joined_groups, whole_with, whole_groups, steps_of_wholes, keys_distinct, tied, steps_across, groups_in-append, groups_in-one, steps-one}
 use Rattle.std.specs.FinMap as finite
 
 pub joined-step : (m n a b : WaitingGroups) (id : ℕ) (g : WaitingGroup) → finite.entries a ≡ (id, g) ∷ finite.entries b → n ≡ finite.insert m id (joined_group (known_of m id) g) → joined_groups n b ≡ joined_groups m a
@@ -39,10 +38,6 @@ wholes-step m n a b id g ws w e k is = append_assoc ws (option_to_list w) (whole
 
 pub len-first : (a b : WaitingGroups) (p : ℕ × WaitingGroup) → finite.entries a ≡ p ∷ finite.entries b → finite.len b < finite.len a
 len-first a b p e = rw (finite.len-entries a, finite.len-entries b, e) (omega arith)
-
-pub none_left : (n : ℕ) → (false ≡ true → 0 < n) × (0 < n → false ≡ true) → n ≡ 0
-none_left zero h = refl
-none_left (suc n) h = absurd (false≢true (h.1 (omega arith)))
 
 -- one more batch with a marker, and a newer history, behind a history
 pub stands-one : (m n : WaitingGroups) (h : List BatchSteps) (is : List RegionStep) (g : ℕ) (s : AtomicGroupStatus) (f : ℕ) (x : WaitingGroup) →

@@ -1,6 +1,6 @@
 -- Steps of items, one after another.
-use Rattle.raft_contexts.proofs.Common.{◌≡◌, ℕ, Bool, eqb, ◌||◌, List, [], ◌∷◌, ◌++◌, map, Option, Some, None, refl, sym, ap, ◌∙◌, option_map, list_any, LogItem, Item, item_of, content_of, Step, region_step_shown, item_step}
-use Rattle.raft_contexts.proofs.Common.{RegionStep, content_step, steps_of_items, names, with_step, names_none, names_cons, none_some, some_is}
+use Rattle.raft_contexts.proofs.Common.{◌≡◌, ℕ, Bool, eqb, ◌||◌, List, [], ◌∷◌, ◌++◌, map, Option, Some, None, refl, sym, ap, ◌∙◌, option_map, list_any, LogItem, Item, item_of, content_of, Step, region_step_shown, item_step, RegionStep}
+use Rattle.raft_contexts.proofs.Common.{content_step, steps_of_items, names, with_step, names_none, names_cons, none_some, some_is}
 use Rattle.raft_history.specs.declared.region_step.RegionStep as code
 
 pub items-append : (xs ys : List Item) → steps_of_items (xs ++ ys) ≡ steps_of_items xs ++ steps_of_items ys

@@ -1,11 +1,8 @@
 -- The entries of the map of groups, as contracts see them.
-use Rattle.raft_contexts.proofs.Common.{◌≡◌, ℕ, Bool, true, false, cond, not, eqb, arith, List, [], ◌∷◌, ◌++◌, length, map, Option, Some, None, refl, sym, ap, subst, ◌∙◌, nil_from_length, length-map}
-use Rattle.raft_contexts.proofs.Common.{flat_map, nat_cmp, eq_by_cmp, is_eq, option_map, unwrap_or, IsStrictlySortedBy, insert_entry, is_at, keys_of, values_of, lookup, remove_entry, nat_cmp_total}
-use Rattle.raft_contexts.proofs.Common.{unsigned_tied, alike_right, nat_tests, nat_cmp-IsAntisymmetric, same_map, find-where_key, without_marker, joined_group, WaitingGroups, known_of, held_steps}
-use Rattle.raft_contexts.proofs.Common.{waiting_steps, shown, is_sorted-shown, find-shown, shown-insert_entry, shown-remove_entry, group_shown}
-use lib.Dec.{T}
+use Rattle.raft_contexts.proofs.Common.{◌≡◌, ℕ, Bool, true, false, cond, not, eqb, arith, List, [], ◌∷◌, ◌++◌, length, map, Option, Some, None, refl, sym, ap, subst, ◌∙◌, nil_from_length, length-map, flat_map, nat_cmp, eq_by_cmp, is_eq}
+use Rattle.raft_contexts.proofs.Common.{option_map, unwrap_or, IsStrictlySortedBy, insert_entry, is_at, keys_of, values_of, lookup, remove_entry, nat_cmp_total, unsigned_tied, alike_right, nat_tests, nat_cmp-IsAntisymmetric, same_map}
+use Rattle.raft_contexts.proofs.Common.{find-where_key, without_marker, joined_group, WaitingGroups, known_of, held_steps, waiting_steps, shown, is_sorted-shown, find-shown, shown-insert_entry, shown-remove_entry, group_shown, T, find}
 use Rattle.std.specs.FinMap as finite
-use Rattle.std.specs.FinMap.Entries.{find}
 use Rattle.raft_history.specs.WaitingGroup as groups
 use Rattle.raft_contexts.specs.declared.waiting_group.WaitingGroup.{WaitingGroup}
 

@@ -1,15 +1,11 @@
 -- Groups that become whole: their steps are of the queue, and their files in order.
-use Rattle.raft_contexts.proofs.Common.{◌≡◌, ℕ, suc, ◌≤◌, List, [], ◌∷◌, ◌++◌, Option, Some, None, refl, sym, ap, subst, ◌∙◌, arith, flat_map, nat_cmp, AllByRecursion, cons_option, LogQueue, AtomicGroupStatus, GroupMarker}
-use Rattle.raft_contexts.proofs.Common.{BatchSteps, Event, batches, Context, Suits, StandsFor, StandsIn, files_of, follows, AreInFiles, FilesFrom, last_from, IsStepOfQueue, Numbered, numbered_from, markers_of, open_stretch}
-use Rattle.raft_contexts.proofs.Common.{RegionStep, steps_of_items, GroupFront, Open, Ended, Begun, led_by, front_by, front_behind, front_of, OpenStretch, stretch_of, WaitingGroup, WholeGroup, whole_of, whole_group_by, whole_group}
-use Rattle.raft_contexts.proofs.Common.{one_marker, group_in, WaitingGroups, groups_in, known_of, whole_with, whole_groups, front_steps, stretch_steps, group_by, each-append, each_weaker, each_markers, each_open, known-groups_in}
-use Rattle.raft_contexts.proofs.Common.{each_known, Holds, items_in_queue, known_holds, files-back, files_follow, IsNextEvent, AreStepsOfQueue, CanTakeEffect, CanTakeEffectIfAny, nil_from_length}
+use Rattle.raft_contexts.proofs.Common.{entries-empty, ◌≡◌, ℕ, suc, ◌≤◌, List, [], ◌∷◌, ◌++◌, Option, Some, None, refl, sym, ap, subst, ◌∙◌, arith, flat_map, AllByRecursion, cons_option, LogQueue, AtomicGroupStatus, GroupMarker, BatchSteps}
+use Rattle.raft_contexts.proofs.Common.{Event, batches, Context, Suits, StandsFor, StandsIn, files_of, follows, AreInFiles, FilesFrom, last_from, IsStepOfQueue, Numbered, numbered_from, markers_of, open_stretch, RegionStep, steps_of_items}
+use Rattle.raft_contexts.proofs.Common.{GroupFront, Open, Ended, Begun, led_by, front_by, front_behind, front_of, OpenStretch, stretch_of, WaitingGroup, WholeGroup, whole_of, whole_group_by, whole_group, one_marker, group_in, WaitingGroups}
+use Rattle.raft_contexts.proofs.Common.{groups_in, known_of, whole_with, whole_groups, front_steps, stretch_steps, group_by, each-append, each_weaker, each_markers, each_open, known-groups_in, each_known, Holds, items_in_queue, known_holds}
+use Rattle.raft_contexts.proofs.Common.{files-back, files_follow, IsNextEvent, AreStepsOfQueue, CanTakeEffect, CanTakeEffectIfAny, Append, Rewrite, Begin, Middle, End}
 use Rattle.std.specs.FinMap as finite
-use Rattle.raft_base.specs.declared.pipe_log.LogQueue.TheVariants.{Append, Rewrite}
-use Rattle.raft_records.specs.declared.atomic_group.AtomicGroupStatus.TheVariants.{Begin, Middle, End}
 use Rattle.raft_history.proofs.SoundLemmas.{without_marker}
-
--- ---- files
 
 abbrev StretchUpTo : ℕ → Option OpenStretch → Type 0
 StretchUpTo n None = Unit {0}
@@ -69,8 +65,6 @@ known_up_to q g h f = subst (λ (w : WaitingGroup). StretchUpTo (last_from 0 h) 
 
 group_from : (q : LogQueue) (g n : ℕ) (h : List Event) → FilesFrom q n h → FrontFrom n (group_in g (batches h)).front
 group_from q g n h f = front_from n (markers_of g (numbered_from 0 (batches h))) (each_markers (FromOn n) g (numbered_from 0 (batches h)) (numbered_from_on q n 0 h f))
-
--- ---- what takes effect
 
 whole_takes : (n : ℕ) (a b : WaitingGroup) → Holds Rewrite a → Holds Rewrite b → StretchUpTo n a.stretch → FrontFrom n b.front → CanTakeEffectIfAny (whole_group a b)
 whole_takes n a b h k x y = go a.front a.stretch b.front h.1 k.0 x y
@@ -149,4 +143,4 @@ no_wholes older k f = ap (whole_with older) (none (batches k) (without_marker 0 
     is_empty bs u = ap (λ es. finite.from_entries es) (flat bs bs u)
 
     none : (bs : List BatchSteps) → AllByRecursion (λ (b : BatchSteps). b.marker ≡ None) bs → finite.entries (groups_in bs) ≡ []
-    none bs u = ap finite.entries (is_empty bs u) ∙ nil_from_length (finite.entries finite.empty) (sym (finite.len-entries {K = ℕ} {X = WaitingGroup} {R = nat_cmp} finite.empty) ∙ finite.len-empty nat_cmp WaitingGroup)
+    none bs u = entries-empty (groups_in bs) (is_empty bs u)

@@ -1,3 +1,4 @@
+pub mod Common
 pub mod WaitingGroupsCode
 pub mod WaitingGroupsView
 pub mod WaitingItemsView

@@ -1,15 +1,8 @@
 //! Tests of a batch before it is taken in.
 
 ghost use Rattle.std.specs.Prelude.{◌≡◌, ◌≢◌, ℕ, List, IsTrue, MatchBool, IfOk, IfErr, OnOk, None, map};
-ghost use Rattle.raft_base.specs.declared.pipe_log.FileBlockHandle.{FileBlockHandle};
-ghost use Rattle.raft_base.specs.declared.pipe_log.LogQueue.TheVariants.{Append, Rewrite};
-ghost use Rattle.raft_records.specs.Faults.{IsAnyCorruption};
-ghost use Rattle.raft_records.specs.Group.{first_marker, marker_byte};
-ghost use Rattle.raft_records.specs.Item.{item_of, content_of, entries as entries_of};
-ghost use Rattle.raft_records.specs.DecodedIn.{IsPlaceInFile};
-ghost use Rattle.raft_records.specs.ReadBatch.{content_shown, items_shown};
-ghost use Rattle.raft_history.specs.Histories.{IsInFile, AreInFile, HaveStatus};
-ghost use Rattle.raft_contexts.specs.BatchChecks.{marker_found, HaveNoMarker};
+ghost use Rattle.raft_contexts.specs.Common.{FileBlockHandle, Rewrite, IsAnyCorruption, first_marker, marker_byte, item_of, content_of, entries as entries_of, IsPlaceInFile, content_shown, items_shown, IsInFile, AreInFile, HaveStatus};
+ghost use Rattle.raft_contexts.specs.Common.{marker_found, HaveNoMarker};
 
 use raft_base::{EntryIndex, Error, FileId, LogQueue, Result, is_consecutive};
 use raft_records::{
@@ -18,13 +11,6 @@ use raft_records::{
 };
 use std::alloc::Global;
 
-/// Returns the group marker of a batch that was written to the file, if it has one and the queue knows
-/// groups.
-///
-/// # Errors
-///
-/// `Corruption` where an item can't stand in a batch of the file, or a group marker's status is unknown;
-/// `Memory` for the refusal's text.
 pub(crate) fn check_batch(
     alloc: Global,
     batch: &LogItemBatch,
@@ -47,8 +33,7 @@ pub(crate) fn check_batch(
     }
 }
 
-/// Tests whether a batch as it was read may take effect at once: it was read of this file, and no item of it can
-/// be a group marker that the queue knows. `false` says nothing of it.
+/// Tests whether a batch as it was read may take effect at once. `false` says nothing of it.
 pub(crate) fn is_lone_read(batch: &ReadBatch<'_>, file: FileId) -> bool
     ensures items { IsTrue result → AreInFile file batch.now }
     ensures markers { IsTrue result → HaveStatus file.queue batch.now }
@@ -71,7 +56,6 @@ fn have_no_marker(items: &[ReadItem<'_>]) -> bool
     items.iter().all(|item| is_no_marker(item))
 }
 
-/// Tests whether an item can't be a group marker: it puts no value under the key that is kept for them.
 fn is_no_marker(item: &ReadItem<'_>) -> bool
     ensures { IsTrue result → (place : FileBlockHandle) (spans : List (ℕ × ℕ))
         → marker_byte (content_shown place item.now.content spans) ≡ None }
@@ -82,8 +66,6 @@ fn is_no_marker(item: &ReadItem<'_>) -> bool
     }
 }
 
-/// Tests whether the batch says that it was decoded for this file: then its items may stand there.
-/// `false` says nothing of them.
 fn knows_file(batch: &LogItemBatch, file: FileId) -> bool
     ensures { IsTrue result → AreInFile file batch.now }
 {
@@ -93,7 +75,6 @@ fn knows_file(batch: &LogItemBatch, file: FileId) -> bool
     }
 }
 
-/// Returns the first group marker among items of the rewrite queue, if they have one.
 fn group_marker(alloc: Global, items: &[LogItem]) -> Result<Option<(u64, AtomicGroupStatus)>>
     ensures markers { OnOk result (HaveStatus Rewrite (map item_of items.now)) }
     ensures marker { IfOk result (λ marker. marker ≡ first_marker (map item_of items.now)) }
@@ -143,8 +124,5 @@ fn is_place_in_file(entry: &EntryIndex, file: FileId) -> bool
     ensures { MatchBool result (IsPlaceInFile file entry.now.entries)
         (IsPlaceInFile file entry.now.entries → ⊥) }
 {
-    match entry.entries {
-        Some(place) => place.id == file,
-        None => false,
-    }
+    entry.entries.is_some_and(|place| place.id == file)
 }

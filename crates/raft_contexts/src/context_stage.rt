@@ -17,10 +17,6 @@ pub enum ContextStage {
 
 impl ContextStage {
     /// Begins a call on a context that reads on: until the call has succeeded, the context is failed.
-    ///
-    /// # Errors
-    ///
-    /// `Failed` where it doesn't read on. It then stays as it is.
     pub(crate) fn begin(&mut self) -> Result<()>
         ensures ok { OnOk result ((self.old ≡ ContextStage.Reading) × (self.new ≡ ContextStage.Failed)) }
         ensures err { IfErr result (λ e. (e ≡ Error.Failed) × (self.old ≢ ContextStage.Reading)

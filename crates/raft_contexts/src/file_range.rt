@@ -1,8 +1,7 @@
 //! The files of batches that were read.
 
 ghost use Rattle.std.specs.Prelude.{◌≡◌, ◌↔◌, IsTrue};
-ghost use Rattle.raft_history.specs.Contexts.{Suits, follows, joined_files};
-ghost use Rattle.raft_contexts.specs.FileRanges.{range_shown, ranges_shown};
+ghost use Rattle.raft_contexts.specs.Common.{Suits, follows, joined_files, range_shown, ranges_shown};
 
 use raft_base::{FileId, FileSeq, LogQueue};
 
@@ -26,7 +25,6 @@ impl FileRange {
         }
     }
 
-    /// Tests whether the files, if there are any, are of the queue.
     pub(crate) fn suits(files: Option<FileRange>, queue: LogQueue) -> bool
         ensures { IsTrue result ↔ Suits queue (ranges_shown files) }
     {
@@ -36,8 +34,6 @@ impl FileRange {
         }
     }
 
-    /// Tests whether the newer files may follow the older ones: the first isn't below the
-    /// last.
     pub(crate) fn follows(older: Option<FileRange>, newer: Option<FileRange>) -> bool
         ensures { result ≡ follows (ranges_shown older) (ranges_shown newer) }
     {

@@ -1,27 +1,11 @@
 //! The tables of all regions beside their region marks.
 
 ghost use Rattle.std.specs.Prelude.{◌≡◌, ◌≤◌, ◌<◌, ◌^◌, ◌++◌, [], ◌∷◌, map, Ok, OnOk, IfOk, IfErr, MatchBool, Some};
+ghost use Rattle.raft_contexts.specs.Common.{IsRun, end_of, LogQueue, Append, Rewrite, item_of, AreInFile, IsStepOfQueue, no_regions, regions_after, on_each, region_steps_of_whole, total, region_step_shown, steps_of_items};
+ghost use Rattle.raft_contexts.specs.Common.{cleaned_by_steps, joined_at, joined_mark, mark_of, Mark, other, step_shown, AtomicGroup, start_of, live_in_all, table_in, regions_in, is_put, AreStepsOfQueue, IsStepsFault, one_step};
+ghost use Rattle.raft_contexts.specs.Common.{AreStepsTaken, no_counts, AreCountsAfterSteps, whole_shown};
 ghost use Rattle.std.specs.FinMap as finite;
 ghost use Rattle.std.specs.FinSet as finset;
-ghost use Rattle.raft_base.specs.Runs.{IsRun, end_of};
-ghost use Rattle.raft_base.specs.declared.pipe_log.LogQueue.{LogQueue};
-ghost use Rattle.raft_base.specs.declared.pipe_log.LogQueue.TheVariants.{Append, Rewrite};
-ghost use Rattle.raft_records.specs.Item.{item_of};
-ghost use Rattle.raft_history.specs.Histories.{AreInFile, IsStepOfQueue};
-ghost use Rattle.raft_history.specs.MarkedRegions.{no_regions, regions_after, on_each, region_steps_of_whole};
-ghost use Rattle.raft_history.specs.Records.{total};
-ghost use Rattle.raft_history.specs.RegionStepShown.{region_step_shown};
-ghost use Rattle.raft_history.specs.RegionSteps.{steps_of_items, cleaned_by_steps};
-ghost use Rattle.raft_table.specs.MarkJoins.{joined_at, joined_mark, mark_of};
-ghost use Rattle.raft_table.specs.Marks.{Mark};
-ghost use Rattle.raft_table.specs.Queues.{other};
-ghost use Rattle.raft_table.specs.StepShown.{step_shown};
-ghost use Rattle.raft_table.specs.Steps.{AtomicGroup};
-ghost use Rattle.raft_table.specs.TableEntries.{start_of};
-ghost use Rattle.raft_accessor.specs.Accessor.{live_in_all, table_in};
-ghost use Rattle.raft_contexts.specs.MarkedTables.{regions_in, is_put, AreStepsOfQueue, IsStepsFault, one_step, AreStepsTaken};
-ghost use Rattle.raft_contexts.specs.StepCounts.{no_counts, AreCountsAfterSteps};
-ghost use Rattle.raft_contexts.specs.WaitingShown.{whole_shown};
 
 mod join;
 mod overlay;
@@ -45,11 +29,6 @@ pub(crate) struct MarkedTables {
 }
 
 impl MarkedTables {
-    /// Makes one without tables and region marks.
-    ///
-    /// # Errors
-    ///
-    /// `Memory`.
     pub(crate) fn new(alloc: Global) -> Result<MarkedTables>
         ensures regions { IfOk result (λ tables. regions_in tables ≡ no_regions) }
         ensures cleaned { IfOk result (λ tables. tables.accessor.cleaned ≡ []) }
@@ -62,14 +41,7 @@ impl MarkedTables {
         })
     }
 
-    /// Takes in the items of a batch of this file, in order, and lists the regions that they clean in
-    /// the append queue.
-    ///
-    /// # Errors
-    ///
-    /// `Corruption` where the start rule refuses entries, `InvalidArgument` for entries where the table
-    /// has records of the other queue, `Full` where more than 2^64 - 1 records would be live, `Memory`.
-    /// Some items are then taken in.
+    /// After an `Err` some items are taken in.
     pub(crate) fn take_items(&mut self, file: FileId, items: LogItemBatch) -> Result<()>
         requires { AreInFile file items }
         ensures ok { OnOk result
@@ -88,13 +60,7 @@ impl MarkedTables {
         self.take_each(file.queue, items.into_items())
     }
 
-    /// Takes in the steps of a group of the rewrite queue that is whole, in order, and then the numbers
-    /// of its files for each region that they name.
-    ///
-    /// # Errors
-    ///
-    /// Those of [`MarkedTables::take_items`] in the rewrite queue, whose start rule refuses nothing.
-    /// Some steps are then taken in.
+    /// After an `Err` some steps are taken in.
     pub(crate) fn take_group(&mut self, whole: WholeGroup) -> Result<()>
         requires steps { AreStepsOfQueue Rewrite (whole_shown whole).steps }
         requires seqs { (whole_shown whole).first_seq ≤ (whole_shown whole).last_seq }
@@ -120,7 +86,6 @@ impl MarkedTables {
         self.take_seqs(&regions, first_seq, last_seq)
     }
 
-    /// Returns how many regions have a region mark: those with a table, and those without one whose region mark is kept.
     pub(crate) fn marks_count(&self) -> u128
         ensures value { result ≡ finite.len (regions_in self.now).marks }
         ensures few { result < 2 ^ 73 }
@@ -128,14 +93,12 @@ impl MarkedTables {
         self.accessor.tables_count() + self.marks.count_absent(&self.accessor) as u128
     }
 
-    /// Returns how many deleted keys all region marks hold together.
     pub(crate) fn deleted_keys(&self) -> u128
         ensures { result ≡ total (λ (m : Mark). finset.len m.deleted) (regions_in self.now).marks }
     {
         self.marks.deleted_keys()
     }
 
-    /// Takes in items, in order.
     fn take_each(&mut self, queue: LogQueue, items: Vec<LogItem>) -> Result<()>
         requires { AreStepsOfQueue queue (steps_of_items (map item_of items.items)) }
         ensures { AreStepsTaken queue (steps_of_items (map item_of items.items)) result self.old
@@ -149,12 +112,7 @@ impl MarkedTables {
         Ok(())
     }
 
-    /// Takes in an item that is a run, where its region has a table that takes it, and returns whether it
-    /// did. Where it did not, nothing has changed.
-    ///
-    /// # Errors
-    ///
-    /// `AllocError`. The run is then in its table, and not in the region mark.
+    /// After an `Err` the run is in its table, and not in the region mark.
     fn try_run(&mut self, queue: LogQueue, item: &LogItem) -> AllocResult<bool>
         requires { AreStepsOfQueue queue (steps_of_items (item_of item.now ∷ [])) }
         ensures { IfOk result (λ taken. MatchBool taken
@@ -176,7 +134,6 @@ impl MarkedTables {
         Ok(true)
     }
 
-    /// Takes in the files of a group for each of these regions.
     fn take_seqs(&mut self, regions: &[u64], first_seq: FileSeq, last_seq: FileSeq) -> Result<()>
         ensures { AreStepsTaken Rewrite (on_each regions.now (AtomicGroup first_seq last_seq))
             result self.old self.new }
@@ -191,7 +148,6 @@ impl MarkedTables {
         Ok(())
     }
 
-    /// Takes in the step of an item, if it has one.
     fn take_item(&mut self, queue: LogQueue, item: LogItem) -> Result<()>
         requires { AreStepsOfQueue queue (steps_of_items (item_of item ∷ [])) }
         ensures { AreStepsTaken queue (steps_of_items (item_of item ∷ [])) result self.old
@@ -203,7 +159,6 @@ impl MarkedTables {
         }
     }
 
-    /// Takes in steps, in order.
     fn take_steps(&mut self, queue: LogQueue, steps: Vec<RegionStep>) -> Result<()>
         requires { AreStepsOfQueue queue (map region_step_shown steps.items) }
         ensures { AreStepsTaken queue (map region_step_shown steps.items) result self.old self.new }
@@ -214,8 +169,6 @@ impl MarkedTables {
         Ok(())
     }
 
-    /// Takes in a step: into the region mark, which is kept from now on, and then into the table. A put leaves the
-    /// region mark as it is.
     fn take_step(&mut self, queue: LogQueue, id: u64, step: Step) -> Result<()>
         requires { IsStepOfQueue queue (step_shown step) }
         ensures { AreStepsTaken queue (one_step id (step_shown step)) result self.old self.new }
@@ -242,7 +195,6 @@ impl MarkedTables {
         }
     }
 
-    /// Returns the first index of a region, and the greatest one plus one; both are 0 without entries.
     fn ends_of(&self, id: u64) -> (u64, u64)
         ensures ends { result ≡ (
           start_of (table_in self.now.accessor.tables id).entries,
@@ -260,12 +212,8 @@ impl MarkedTables {
     }
 }
 
-/// Tests whether a step puts a key.
 fn is_put(step: &Step) -> bool
     ensures { result ≡ is_put (step_shown step.now) }
 {
-    match step {
-        Step::Put { .. } => true,
-        _ => false,
-    }
+    matches!(step, Step::Put { .. })
 }

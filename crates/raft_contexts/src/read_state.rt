@@ -1,20 +1,9 @@
 //! What was read of a queue's batches.
 
 ghost use Rattle.std.specs.Prelude.{◌≡◌, ◌≢◌, true, List, [], ◌∷◌, OnOk, OnErr, IfOk, IfErr, Some, None, map};
-ghost use Rattle.std.specs.List.{AllByRecursion};
-ghost use Rattle.std.specs.Option.{option_map};
-ghost use Rattle.raft_base.specs.declared.pipe_log.LogQueue.TheVariants.{Rewrite};
-ghost use Rattle.raft_records.specs.Item.{Item};
-ghost use Rattle.raft_history.specs.Contexts.{new_context, Suits, files_of, follows, merged_with, AreMerged, region_steps_or};
-ghost use Rattle.raft_history.specs.Kept.{kept_of};
-ghost use Rattle.raft_history.specs.MarkedRegions.{region_steps_of_wholes};
-ghost use Rattle.raft_history.specs.ReplayMachine.{event};
-ghost use Rattle.raft_contexts.specs.BatchChecks.{marker_found};
-ghost use Rattle.raft_contexts.specs.KeptShown.{kept_shown};
-ghost use Rattle.raft_contexts.specs.ReadStates.{context_in, shown_with, IsOfHistory, IsTakenIn, AreWholesTaken, CanTakeEffect, CanTakeEffectIfAny};
-ghost use Rattle.raft_contexts.specs.RecoverContext.{reading_on, MayFollow, IsBatchFault, AreNeighbors, IsNeighborFault};
-ghost use Rattle.raft_contexts.specs.StepCounts.{no_counts, AreCountsAfterSteps};
-ghost use Rattle.raft_contexts.specs.WaitingShown.{whole_shown};
+ghost use Rattle.raft_contexts.specs.Common.{AllByRecursion, option_map, Rewrite, Item, new_context, Suits, files_of, follows, merged_with, AreMerged, region_steps_or, kept_of, region_steps_of_wholes, event, marker_found, kept_shown};
+ghost use Rattle.raft_contexts.specs.Common.{context_in, shown_with, IsOfHistory, IsTakenIn, AreWholesTaken, CanTakeEffect, CanTakeEffectIfAny, reading_on, MayFollow, IsBatchFault, AreNeighbors, IsNeighborFault, no_counts};
+ghost use Rattle.raft_contexts.specs.Common.{AreCountsAfterSteps, whole_shown};
 
 mod overlay;
 
@@ -39,7 +28,6 @@ pub(crate) struct ReadState {
 }
 
 impl ReadState {
-    /// Makes the state in which nothing was read.
     pub(crate) fn new(alloc: Global) -> Result<ReadState>
         ensures ok { IfOk result (λ state. context_in state ≡ new_context) }
         ensures counts { IfOk result (λ state. state.regions.accessor.counts ≡ no_counts) }
@@ -53,7 +41,6 @@ impl ReadState {
         })
     }
 
-    /// Takes in one more batch, that was written to this file.
     pub(crate) fn replay(&mut self, batch: LogItemBatch, file: FileId) -> Result<()>
         requires { IsOfHistory (context_in self.old) }
         ensures { IsTakenIn (event batch file) result self.old self.new }
@@ -65,7 +52,6 @@ impl ReadState {
         }
     }
 
-    /// Does what [`ReadState::replay`] does, with a batch as it was read.
     pub(crate) fn replay_read(&mut self, batch: &ReadBatch<'_>, file: FileId) -> Result<()>
         requires { IsOfHistory (context_in self.old) }
         ensures { IsTakenIn (event batch.now file) result self.old self.new }
@@ -96,7 +82,6 @@ impl ReadState {
         Ok(())
     }
 
-    /// Takes in a batch without a group marker, which takes effect at once.
     fn take_lone_batch(&mut self, batch: LogItemBatch, file: FileId) -> Result<()>
         requires history { IsOfHistory (context_in self.old) }
         requires next { MayFollow (context_in self.old) (event batch file) }
@@ -108,7 +93,6 @@ impl ReadState {
         Ok(())
     }
 
-    /// Takes in a batch with a group marker: what it makes whole takes effect.
     fn take_group_batch(
         &mut self,
         id: u64,
@@ -128,7 +112,6 @@ impl ReadState {
         Ok(())
     }
 
-    /// Takes in what was read of the batches that follow, all of this queue.
     pub(crate) fn merge(&mut self, newer: ReadState, queue: LogQueue) -> Result<()>
         requires older { IsOfHistory (context_in self.old) }
         requires newer { IsOfHistory (context_in newer) }
@@ -171,7 +154,6 @@ impl ReadState {
         }
     }
 
-    /// Counts what it holds, of region marks the kept ones alone.
     pub(crate) fn kept_overlaid(&self) -> Kept
         ensures { kept_shown result ≡ kept_of (shown_with self.now.regions.marks self.now) }
     {
@@ -202,7 +184,6 @@ impl ReadState {
     }
 }
 
-/// Takes in a group that is whole, if there is one.
 fn take_whole(regions: &mut MarkedTables, whole: Option<WholeGroup>) -> Result<()>
     requires { CanTakeEffectIfAny (option_map whole_shown whole) }
     ensures wholes { AreWholesTaken (region_steps_or (option_map whole_shown whole)) result
@@ -217,7 +198,6 @@ fn take_whole(regions: &mut MarkedTables, whole: Option<WholeGroup>) -> Result<(
     }
 }
 
-/// Takes in groups that are whole, one after another.
 fn take_wholes(regions: &mut MarkedTables, wholes: Vec<WholeGroup>) -> Result<()>
     requires { AllByRecursion CanTakeEffect (map whole_shown wholes.items) }
     ensures wholes { AreWholesTaken (region_steps_of_wholes (map whole_shown wholes.items)) result

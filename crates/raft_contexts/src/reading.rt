@@ -2,13 +2,9 @@
 //! law is a function with an empty body.
 
 ghost use Rattle.std.specs.Prelude.{◌≡◌, List};
+ghost use Rattle.raft_contexts.specs.Common.{Append, Item, Tables, steps_of_items, cleaned_by_steps, Replaying, listed_by_items, AppendedItemsFollow, AreMovedTables, AreRuns, ReadItemsLeaveRuns, ReadingLeavesRuns, RewritingMovesPlaces};
+ghost use Rattle.raft_contexts.specs.Common.{AppendedItemsAreListed, AppendedItemsAreRead, ItemsAreRead};
 ghost use Rattle.std.specs.FinMap as finite;
-ghost use Rattle.raft_base.specs.declared.pipe_log.LogQueue.TheVariants.{Append};
-ghost use Rattle.raft_records.specs.Item.{Item};
-ghost use Rattle.raft_history.specs.RegionSteps.{Tables, steps_of_items, cleaned_by_steps};
-ghost use Rattle.raft_accessor.specs.Writes.{Replaying, listed_by_items};
-ghost use Rattle.raft_contexts.specs.MovedPlaces.{AppendedItemsFollow, AreMovedTables, AreRuns, ReadItemsLeaveRuns, ReadingLeavesRuns, RewritingMovesPlaces};
-ghost use Rattle.raft_contexts.specs.ReadItems.{AppendedItemsAreListed, AppendedItemsAreRead, ItemsAreRead};
 
 /// States that items that are read again leave the tables that their steps leave in a history, and
 /// list the regions that these clean. This is a law: it computes nothing.

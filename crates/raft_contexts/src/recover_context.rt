@@ -1,21 +1,8 @@
 //! Contexts, which rebuild the tables of all regions from the batches of a queue.
 
 ghost use Rattle.std.specs.Prelude.{ℕ, ◌≡◌, ◌≢◌, ◌⊎◌, ◌↔◌, [], List, IfOk, IfErr, OnOk, OnErr, IsTrue};
-ghost use Rattle.raft_base.specs.declared.errors.Error.{Error};
-ghost use Rattle.raft_base.specs.declared.pipe_log.LogQueue.{LogQueue};
-ghost use Rattle.raft_base.specs.declared.pipe_log.LogQueue.TheVariants.{Append, Rewrite};
-ghost use Rattle.raft_history.specs.Batches.{Event};
-ghost use Rattle.raft_history.specs.BothQueues.{IsReadingOfBoth};
-ghost use Rattle.raft_history.specs.Contexts.{Suits};
-ghost use Rattle.raft_history.specs.Histories.{IsSmall, IsOfQueue, IsOneReading};
-ghost use Rattle.raft_history.specs.Kept.{kept_of, kept_by, IsAtMost};
-ghost use Rattle.raft_history.specs.RegionSteps.{Tables};
-ghost use Rattle.raft_history.specs.ReplayMachine.{event};
-ghost use Rattle.raft_accessor.specs.Accessor.{AreCountsOf};
-ghost use Rattle.raft_contexts.specs.KeptShown.{kept_shown};
-ghost use Rattle.raft_contexts.specs.OverlaidContext.{IsOverlaidWith, IsOfBothExactly, IsMergeAppendFault};
-ghost use Rattle.raft_contexts.specs.RecoverContext.{blank_context, HasRead, HasReadExactly, IsBatchTaken, IsBatchCounted, IsBatchFault, IsMergedWith, IsNeighborFault, refused_stage};
-ghost use Rattle.raft_contexts.specs.declared.context_stage.ContextStage.TheVariants.{Reading, Overlaid, Failed};
+ghost use Rattle.raft_contexts.specs.Common.{Error, LogQueue, Append, Rewrite, Event, IsReadingOfBoth, Suits, IsSmall, IsOfQueue, IsOneReading, kept_of, kept_by, IsAtMost, Tables, event, AreCountsOf, kept_shown, IsOverlaidWith};
+ghost use Rattle.raft_contexts.specs.Common.{IsOfBothExactly, IsMergeAppendFault, blank_context, HasRead, HasReadExactly, IsBatchTaken, IsBatchCounted, IsBatchFault, IsMergedWith, IsNeighborFault, refused_stage, Reading, Failed};
 
 use crate::context_stage::ContextStage;
 use crate::kept::Kept;
@@ -251,10 +238,7 @@ impl ReplayMachine for MemTableRecoverContext {
     }
 
     fn replay_read(&mut self, batch: &ReadBatch<'_>, file_id: FileId) -> Result<()> {
-        self.stage.begin()?;
-        self.state.replay_read(batch, file_id)?;
-        self.stage = ContextStage::Reading;
-        Ok(())
+        self.replay_read(batch, file_id)
     }
 
     fn merge(&mut self, rhs: MemTableRecoverContext, queue: LogQueue) -> Result<()> {

@@ -1,16 +1,9 @@
 //! The region marks of some regions.
 
 ghost use Rattle.std.specs.Prelude.{◌≡◌, ◌≤◌, ◌<◌, length, replicate, IfOk, OnOk, OnErr, Some, is_some};
+ghost use Rattle.raft_contexts.specs.Common.{keys_of, total, Mark, fresh, mark_of, joined_at, step_shown, together, AreSlots, count_absent, implied_mark, all_marks, mark_in, run_at, with_slots, IsRunKept};
 ghost use Rattle.std.specs.FinMap as finite;
 ghost use Rattle.std.specs.FinSet as finset;
-ghost use Rattle.std.specs.Map.{keys_of};
-ghost use Rattle.raft_history.specs.Records.{total};
-ghost use Rattle.raft_table.specs.Marks.{Mark};
-ghost use Rattle.raft_table.specs.MarkJoins.{fresh, mark_of, joined_at};
-ghost use Rattle.raft_table.specs.StepShown.{step_shown};
-ghost use Rattle.raft_accessor.specs.Slots.{together, AreSlots};
-ghost use Rattle.raft_contexts.specs.ImpliedMarks.{count_absent, implied_mark, all_marks};
-ghost use Rattle.raft_contexts.specs.RegionMarks.{mark_in, run_at, with_slots, IsRunKept};
 
 mod slot;
 mod small_mark;
@@ -82,7 +75,6 @@ impl RegionMarks {
         count
     }
 
-    /// Returns how many region marks are those of regions without a table.
     pub(crate) fn count_absent(&self, tables: &MemTableAccessor) -> u64
         ensures { result ≡ count_absent tables.now.tables (keys_of (finite.entries self.now)) }
     {
@@ -146,7 +138,6 @@ impl RegionMarks {
         self.slots[slot_of(id)].join(id, queue, end_at_reach, newer)
     }
 
-    /// Tests whether the region mark of a region is kept here.
     fn has(&self, id: u64) -> bool
         ensures { result ≡ is_some (finite.get self.now id) }
     {
@@ -156,11 +147,6 @@ impl RegionMarks {
         self.slots[slot_of(id)].has(id)
     }
 
-    /// Keeps the region mark of a run that starts at `start`.
-    ///
-    /// # Errors
-    ///
-    /// `AllocError`. The region marks are then as they were.
     fn put_run(&mut self, id: u64, start: u64) -> AllocResult<()>
         ensures ok { OnOk result (self.new ≡ finite.insert self.old id (run_at start)) }
         ensures err { OnErr result (self.new ≡ self.old) }
@@ -170,10 +156,6 @@ impl RegionMarks {
     }
 
     /// Keeps the region mark of a region, if its table has implied it so far.
-    ///
-    /// # Errors
-    ///
-    /// `AllocError`.
     pub(crate) fn keep(&mut self, id: u64, tables: &MemTableAccessor) -> AllocResult<()>
         ensures same { all_marks tables.now.tables self.new ≡ all_marks tables.now.tables self.old }
         ensures kept { OnOk result (mark_in self.new id ≡ mark_in (all_marks tables.now.tables self.old) id) }
@@ -192,10 +174,6 @@ impl RegionMarks {
 
     /// Joins the region mark of a run from `first` on to that of its region, whose entries went from `start` to `end`
     /// in front of the run, where the table doesn't imply it still.
-    ///
-    /// # Errors
-    ///
-    /// `AllocError`.
     pub(crate) fn mark_run(
         &mut self,
         queue: LogQueue,
@@ -219,7 +197,6 @@ impl RegionMarks {
         self.add_run(id, queue, end, first)
     }
 
-    /// Returns the region mark that a table implies.
     pub(crate) fn implied_by(&self, table: &MemTable) -> Mark
         ensures { result ≡ implied_mark table.now }
     {
@@ -230,10 +207,6 @@ impl RegionMarks {
     }
 
     /// Makes room in a slot, up to `count` region marks.
-    ///
-    /// # Errors
-    ///
-    /// `AllocError`.
     pub(crate) fn make_room(&mut self, slot: usize, count: usize) -> AllocResult<()>
         requires { slot < 128 }
         ensures { self.new ≡ self.old }
@@ -242,7 +215,6 @@ impl RegionMarks {
         self.slots[slot].make_room(count)
     }
 
-    /// Returns the slots, in order.
     pub(crate) fn into_slots(self) -> Vec<SlotMarks>
         ensures marks { together result.items ≡ self }
         ensures slots { AreSlots 0 result.items }
@@ -252,11 +224,6 @@ impl RegionMarks {
     }
 }
 
-/// Makes 128 slots where there are none.
-///
-/// # Errors
-///
-/// `AllocError`. The slots are then as they were.
 fn make_slots(slots: &mut Vec<SlotMarks>, alloc: Global) -> AllocResult<()>
     ensures ok { OnOk result (slots.new.items ≡ with_slots slots.old.items) }
     ensures err { OnErr result (slots.new.items ≡ slots.old.items) }
@@ -267,11 +234,6 @@ fn make_slots(slots: &mut Vec<SlotMarks>, alloc: Global) -> AllocResult<()>
     Ok(())
 }
 
-/// Makes 128 slots without region marks.
-///
-/// # Errors
-///
-/// `AllocError`.
 fn empty_slots(alloc: Global) -> AllocResult<Vec<SlotMarks>>
     ensures { IfOk result (λ slots. slots.items ≡ replicate 128 finite.empty) }
 {

@@ -1,10 +1,7 @@
 //! What is known of one group from a history.
 
 ghost use Rattle.std.specs.Prelude.{◌≡◌, ◌<◌, ◌^◌, length, IfOk};
-ghost use Rattle.std.specs.Option.{option_map};
-ghost use Rattle.raft_history.specs.WaitingGroup.{Ended, joined_group, whole_group, whole_of, one_marker, led_by, carried_stretch, without_marker};
-ghost use Rattle.raft_history.specs.WaitingGroups.{held_steps, front_steps};
-ghost use Rattle.raft_contexts.specs.WaitingShown.{front_shown, stretch_shown, group_shown, whole_shown};
+ghost use Rattle.raft_contexts.specs.Common.{option_map, Ended, joined_group, whole_group, whole_of, one_marker, led_by, carried_stretch, without_marker, held_steps, front_steps, front_shown, stretch_shown, group_shown, whole_shown};
 
 use crate::waiting_items::WaitingItems;
 use raft_base::{AllocResult, FileSeq};
@@ -49,7 +46,6 @@ pub struct WholeGroup {
 }
 
 impl GroupFront {
-    /// Returns how many items there are.
     fn len(&self) -> usize
         ensures { result ≡ length (front_steps (front_shown self.now)) }
     {
@@ -60,7 +56,6 @@ impl GroupFront {
         }
     }
 
-    /// Returns the front with items that stand before it.
     fn led_by(self, mut items: WaitingItems) -> AllocResult<GroupFront>
         ensures { IfOk result (λ r. front_shown r ≡ led_by items (front_shown self)) }
     {
@@ -141,7 +136,6 @@ impl WaitingGroup {
     }
 }
 
-/// Returns a stretch, if one is open, with more items.
 fn going_on(stretch: Option<OpenStretch>, items: WaitingItems) -> AllocResult<Option<OpenStretch>>
     ensures { IfOk result (λ r. stretch_shown r ≡ carried_stretch (stretch_shown stretch) items) }
 {
@@ -152,7 +146,6 @@ fn going_on(stretch: Option<OpenStretch>, items: WaitingItems) -> AllocResult<Op
     Ok(Some(open))
 }
 
-/// Returns the group that an `End` makes whole, if a stretch is open.
 fn ended(
     stretch: Option<OpenStretch>,
     items: WaitingItems,
@@ -161,11 +154,8 @@ fn ended(
     ensures { IfOk result (λ r. option_map whole_shown r ≡ whole_of (stretch_shown stretch)
         (Ended items last_seq)) }
 {
-    let Some(mut open) = stretch else {
-        return Ok(None);
-    };
-    open.items.append(items)?;
-    Ok(Some(WholeGroup {
+    let open = going_on(stretch, items)?;
+    Ok(open.map(|open| WholeGroup {
         items: open.items,
         first_seq: open.first_seq,
         last_seq,

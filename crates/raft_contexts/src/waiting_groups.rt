@@ -1,16 +1,9 @@
 //! Groups that wait until they are whole.
 
 ghost use Rattle.std.specs.Prelude.{◌≡◌, ℕ, List, [], ◌∷◌, ◌++◌, IfOk, IfSome, IfNone, OnOk, map, option_to_list};
-ghost use Rattle.std.specs.Option.{option_map};
+ghost use Rattle.raft_contexts.specs.Common.{option_map, nat_cmp, IsOrdered, is_at, remove_entry, BatchSteps, batch_with_marker, EachApart, effects, steps_of, joined_group, whole_group, one_marker, groups_in, waiting_steps, steps_or};
+ghost use Rattle.raft_contexts.specs.Common.{known_of, joined_groups, whole_groups, steps_of_wholes, seen_entries, group_shown, whole_shown};
 ghost use Rattle.std.specs.FinMap as finite;
-ghost use Rattle.std.specs.Ordering.{nat_cmp};
-ghost use Rattle.std.specs.BTreeMap.{IsOrdered, is_at};
-ghost use Rattle.std.specs.Map.{remove_entry};
-ghost use Rattle.raft_history.specs.Batches.{BatchSteps, batch_with_marker};
-ghost use Rattle.raft_history.specs.Effects.{EachApart, effects, steps_of};
-ghost use Rattle.raft_history.specs.WaitingGroup.{joined_group, whole_group, one_marker};
-ghost use Rattle.raft_history.specs.WaitingGroups.{groups_in, waiting_steps, steps_or, known_of, joined_groups, whole_groups, steps_of_wholes};
-ghost use Rattle.raft_contexts.specs.WaitingShown.{seen_entries, group_shown, whole_shown};
 
 use crate::waiting_group::{WaitingGroup, WholeGroup};
 use crate::waiting_items::WaitingItems;
@@ -124,7 +117,6 @@ impl WaitingGroups {
         Ok(wholes)
     }
 
-    /// Joins what is known of one group with what is known of it from a newer history.
     fn join_one(&mut self, id: u64, newer: WaitingGroup) -> AllocResult<Option<WholeGroup>>
         ensures known { OnOk result (self.new
             ≡ finite.insert self.old id (joined_group (known_of self.old id) (group_shown newer))) }
@@ -137,7 +129,6 @@ impl WaitingGroups {
         Ok(whole)
     }
 
-    /// Takes the first group away, with what is known of it.
     fn take_first(&mut self) -> Option<(u64, WaitingGroup)>
         ensures first { IfSome result (λ p. finite.entries self.old
             ≡ (p.0, group_shown p.1) ∷ finite.entries self.new) }
@@ -149,7 +140,6 @@ impl WaitingGroups {
     }
 }
 
-/// Takes out what is known of a group.
 fn take_out(groups: &mut BTreeMap<u64, WaitingGroup>, alloc: Global, id: u64) -> WaitingGroup
     requires { IsOrdered nat_cmp groups.old }
     ensures known { group_shown result ≡ known_of (seen_entries groups.old.entries) id }
@@ -162,7 +152,6 @@ fn take_out(groups: &mut BTreeMap<u64, WaitingGroup>, alloc: Global, id: u64) ->
     }
 }
 
-/// Pushes a group, if there is one.
 fn push_some(wholes: &mut Vec<WholeGroup>, whole: Option<WholeGroup>) -> AllocResult<()>
     ensures { OnOk result (map whole_shown wholes.new.items
         ≡ map whole_shown wholes.old.items ++ option_to_list (option_map whole_shown whole)) }

@@ -1,10 +1,7 @@
 //! Steps of groups that are not whole yet.
 
 ghost use Rattle.std.specs.Prelude.{◌≡◌, ◌++◌, ℕ, ◌==◌, [], ◌∷◌, length, map, IsTrue, OnOk, IfOk};
-ghost use Rattle.std.specs.List.{list_any};
-ghost use Rattle.raft_records.specs.Item.{item_of};
-ghost use Rattle.raft_history.specs.RegionStepShown.{region_step_shown};
-ghost use Rattle.raft_history.specs.RegionSteps.{steps_of_items, names};
+ghost use Rattle.raft_contexts.specs.Common.{list_any, item_of, region_step_shown, steps_of_items, names};
 
 use raft_base::AllocResult;
 use raft_history::RegionStep;
@@ -105,13 +102,9 @@ impl WaitingItems {
     }
 }
 
-/// Tests whether a region is the last of these.
 fn is_last(ids: &[u64], id: u64) -> bool
     ensures { (r : ℕ) → IsTrue result → list_any (λ i. r == i) (ids.now ++ id ∷ []) ≡ list_any
         (λ i. r == i) ids.now }
 {
-    match ids.last() {
-        Some(last) => *last == id,
-        None => false,
-    }
+    ids.last().is_some_and(|last| *last == id)
 }

@@ -1,18 +1,8 @@
 //! The tables and region marks of all regions joined with those of a newer neighbor.
 
 ghost use Rattle.std.specs.Prelude.{◌≡◌, ◌+◌, ◌≤◌, ◌<◌, ◌++◌, IfErr, IfSome, OnOk, Some};
-ghost use Rattle.raft_base.specs.declared.pipe_log.LogQueue.{LogQueue};
-ghost use Rattle.raft_base.specs.declared.pipe_log.LogQueue.TheVariants.{Append, Rewrite};
-ghost use Rattle.raft_history.specs.Joins.{StandForSteps, AreJoined};
-ghost use Rattle.raft_history.specs.MarkedRegions.{region_in, with_region, joined_region};
-ghost use Rattle.raft_table.specs.MarkedJoins.{IsFaultUnder, IsRunOver};
-ghost use Rattle.raft_table.specs.Queues.{other};
-ghost use Rattle.raft_table.specs.Steps.{table_of};
-ghost use Rattle.raft_table.specs.Table.{live_of};
-ghost use Rattle.raft_accessor.specs.Accessor.{table_in, live_in, live_in_all, AreCountsOf};
-ghost use Rattle.raft_contexts.specs.ImpliedMarks.{implied_mark, implied_marks};
-ghost use Rattle.raft_contexts.specs.MarkedTables.{regions_in};
-ghost use Rattle.raft_contexts.specs.RegionJoins.{AreRunsOver, AreTablesLeft, IsSlotFault, IsJoinFault};
+ghost use Rattle.raft_contexts.specs.Common.{LogQueue, Append, Rewrite, StandForSteps, AreJoined, region_in, with_region, joined_region, IsFaultUnder, IsRunOver, other, table_of, live_of, table_in, live_in, live_in_all, AreCountsOf};
+ghost use Rattle.raft_contexts.specs.Common.{implied_mark, implied_marks, regions_in, AreRunsOver, AreMarksJoined, IsSlotFault, IsJoinFault};
 
 use crate::marked_tables::MarkedTables;
 use crate::region_marks::{RegionMarks, SlotMarks, SmallMark};
@@ -20,13 +10,7 @@ use raft_accessor::{BoxedTable, MemTableAccessor, RegionTables};
 use raft_base::{AllocResult, LogQueue, Result};
 
 impl MarkedTables {
-    /// Joins the tables and region marks of a newer neighbor in a queue, and lists its cleaned regions.
-    ///
-    /// # Errors
-    ///
-    /// `Corruption` where, in the append queue, a newer run of a region leaves a hole after the older
-    /// entries, `Full` where more than 2^64 - 1 records would be live, `Memory`. Some regions are then
-    /// joined.
+    /// After an `Err` some regions are joined.
     pub(crate) fn join(&mut self, queue: LogQueue, newer: MarkedTables) -> Result<()>
         requires older { live_in_all (other queue) self.old.accessor.tables ≡ 0 }
         requires newer { live_in_all (other queue) newer.accessor.tables ≡ 0 }
@@ -59,18 +43,7 @@ impl MarkedTables {
     ) -> Result<()>
         requires older { live_in_all (other queue) self.old.accessor.tables ≡ 0 }
         requires newer { live_in_all (other queue) tables.old.tables ≡ 0 }
-        ensures ok { AreRunsOver queue marks tables.old.tables self.old.accessor.tables
-            → OnOk result (AreJoined queue (regions_in self.old)
-            (record { tables = tables.old.tables; marks = marks }) (regions_in self.new)) }
-        ensures fault { AreRunsOver queue marks tables.old.tables self.old.accessor.tables
-            → IfErr result (IsSlotFault queue (regions_in self.old)
-            (record { tables = tables.old.tables; marks = marks })) }
-        ensures left { OnOk result (AreTablesLeft marks tables.old.tables tables.new.tables) }
-        ensures few { OnOk result ((q : LogQueue)
-            → live_in_all q self.new.accessor.tables + live_in_all q tables.new.tables
-            ≤ live_in_all q self.old.accessor.tables + live_in_all q tables.old.tables) }
-        ensures cleaned { (self.new.accessor.cleaned ≡ self.old.accessor.cleaned)
-            × (tables.new.cleaned ≡ tables.old.cleaned) }
+        ensures { AreMarksJoined queue marks result self.old self.new tables.old tables.new }
     {
         let mut number = 0;
         for slot in marks.into_slots() {
@@ -81,7 +54,6 @@ impl MarkedTables {
         Ok(())
     }
 
-    /// Makes room in a slot, up to so many regions.
     fn make_room(&mut self, slot: usize, count: usize) -> AllocResult<()>
         requires { slot < 128 }
         ensures { self.new ≡ self.old }
@@ -90,7 +62,6 @@ impl MarkedTables {
         self.accessor.make_room(slot, count)
     }
 
-    /// Joins the regions of a slot whose newer region mark is kept, and takes their tables out.
     fn join_slot(
         &mut self,
         queue: LogQueue,
@@ -99,18 +70,7 @@ impl MarkedTables {
     ) -> Result<()>
         requires older { live_in_all (other queue) self.old.accessor.tables ≡ 0 }
         requires newer { live_in_all (other queue) tables.old.tables ≡ 0 }
-        ensures ok { AreRunsOver queue marks tables.old.tables self.old.accessor.tables
-            → OnOk result (AreJoined queue (regions_in self.old)
-            (record { tables = tables.old.tables; marks = marks }) (regions_in self.new)) }
-        ensures fault { AreRunsOver queue marks tables.old.tables self.old.accessor.tables
-            → IfErr result (IsSlotFault queue (regions_in self.old)
-            (record { tables = tables.old.tables; marks = marks })) }
-        ensures left { OnOk result (AreTablesLeft marks tables.old.tables tables.new.tables) }
-        ensures few { OnOk result ((q : LogQueue)
-            → live_in_all q self.new.accessor.tables + live_in_all q tables.new.tables
-            ≤ live_in_all q self.old.accessor.tables + live_in_all q tables.old.tables) }
-        ensures cleaned { (self.new.accessor.cleaned ≡ self.old.accessor.cleaned)
-            × (tables.new.cleaned ≡ tables.old.cleaned) }
+        ensures { AreMarksJoined queue marks result self.old self.new tables.old tables.new }
     {
         for (id, mark) in marks.into_entries() {
             let table = tables.take(id);
@@ -119,7 +79,6 @@ impl MarkedTables {
         Ok(())
     }
 
-    /// Joins a region with a newer region mark and its table, or its absence.
     fn join_region(
         &mut self,
         queue: LogQueue,
@@ -182,7 +141,6 @@ impl MarkedTables {
         Ok(())
     }
 
-    /// Joins the newer tables of a slot, each under the region mark that it implies.
     fn join_tables(&mut self, queue: LogQueue, tables: RegionTables) -> Result<()>
         requires older { live_in_all (other queue) self.old.accessor.tables ≡ 0 }
         requires newer { live_in_all (other queue) tables ≡ 0 }
@@ -203,7 +161,6 @@ impl MarkedTables {
         Ok(())
     }
 
-    /// Joins a region with a newer table, under the region mark that it implies.
     fn join_implied(&mut self, queue: LogQueue, id: u64, newer: BoxedTable) -> Result<()>
         requires region { newer.region_id ≡ id }
         requires own { live_of (other queue) newer ≡ 0 }

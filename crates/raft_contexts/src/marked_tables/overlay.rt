@@ -1,15 +1,7 @@
 //! The tables of all regions under those of the append queue.
 
 ghost use Rattle.std.specs.Prelude.{◌≡◌, ◌+◌, ◌≤◌, IfErr, OnOk};
-ghost use Rattle.raft_base.specs.declared.pipe_log.LogQueue.{LogQueue};
-ghost use Rattle.raft_base.specs.declared.pipe_log.LogQueue.TheVariants.{Append, Rewrite};
-ghost use Rattle.raft_history.specs.Joins.{StandForSteps, AreOverlaid};
-ghost use Rattle.raft_history.specs.Records.{all_records};
-ghost use Rattle.raft_accessor.specs.Accessor.{live_in_all};
-ghost use Rattle.raft_contexts.specs.ImpliedMarks.{implied_marks};
-ghost use Rattle.raft_contexts.specs.MarkedTables.{regions_in};
-ghost use Rattle.raft_contexts.specs.RegionJoins.{AreTablesLeft};
-ghost use Rattle.raft_contexts.specs.RegionOverlays.{AreRunsOverlaid, AreTooMany};
+ghost use Rattle.raft_contexts.specs.Common.{LogQueue, Append, Rewrite, StandForSteps, AreOverlaid, all_records, live_in_all, implied_marks, regions_in, AreRunsOverlaid, AreTooMany, AreMarksOverlaid};
 
 use crate::marked_tables::MarkedTables;
 use crate::region_marks::{RegionMarks, SlotMarks};
@@ -17,12 +9,7 @@ use raft_accessor::{MemTableAccessor, RegionTables};
 use raft_base::Result;
 
 impl MarkedTables {
-    /// Puts the tables of the append queue over the rewritten ones, each under its region mark, and lists the
-    /// regions that were cleaned there.
-    ///
-    /// # Errors
-    ///
-    /// `Full` where more than 2^64 - 1 records would be live, `Memory`. Some regions are then overlaid.
+    /// After an `Err` some regions are overlaid.
     pub(crate) fn overlay(&mut self, appended: MarkedTables) -> Result<()>
         requires own { live_in_all Rewrite appended.accessor.tables ≡ 0 }
         ensures ok { StandForSteps Rewrite (regions_in self.old)
@@ -45,18 +32,8 @@ impl MarkedTables {
     /// Puts the regions of the append queue whose region mark is kept over the rewritten ones, and takes their tables out.
     fn overlay_regions(&mut self, marks: RegionMarks, appended: &mut MemTableAccessor) -> Result<()>
         requires own { live_in_all Rewrite appended.old.tables ≡ 0 }
-        ensures ok { AreRunsOverlaid marks appended.old.tables self.old.accessor.tables
-            → OnOk result (AreOverlaid (record { tables = appended.old.tables; marks = marks })
-            self.old.accessor.tables self.new.accessor.tables) }
-        ensures own_left { OnOk result (live_in_all Rewrite appended.new.tables ≡ 0) }
-        ensures left { OnOk result (AreTablesLeft marks appended.old.tables appended.new.tables) }
-        ensures few { OnOk result ((q : LogQueue)
-            → live_in_all q self.new.accessor.tables + live_in_all q appended.new.tables
-            ≤ live_in_all q self.old.accessor.tables + live_in_all q appended.old.tables) }
-        ensures cleaned { appended.new.cleaned ≡ appended.old.cleaned }
-        ensures fault { IfErr result (λ e. (q : LogQueue)
-            × AreTooMany (live_in_all q self.old.accessor.tables
-            + live_in_all q appended.old.tables) e) }
+        ensures { AreMarksOverlaid marks result self.old.accessor.tables self.new.accessor.tables
+            appended.old appended.new }
     {
         for slot in marks.into_slots() {
             self.overlay_slot(slot, appended)?;
@@ -64,21 +41,10 @@ impl MarkedTables {
         Ok(())
     }
 
-    /// Does what [`MarkedTables::overlay_regions`] does with the regions of a slot.
     fn overlay_slot(&mut self, marks: SlotMarks, appended: &mut MemTableAccessor) -> Result<()>
         requires own { live_in_all Rewrite appended.old.tables ≡ 0 }
-        ensures ok { AreRunsOverlaid marks appended.old.tables self.old.accessor.tables
-            → OnOk result (AreOverlaid (record { tables = appended.old.tables; marks = marks })
-            self.old.accessor.tables self.new.accessor.tables) }
-        ensures own_left { OnOk result (live_in_all Rewrite appended.new.tables ≡ 0) }
-        ensures left { OnOk result (AreTablesLeft marks appended.old.tables appended.new.tables) }
-        ensures few { OnOk result ((q : LogQueue)
-            → live_in_all q self.new.accessor.tables + live_in_all q appended.new.tables
-            ≤ live_in_all q self.old.accessor.tables + live_in_all q appended.old.tables) }
-        ensures cleaned { appended.new.cleaned ≡ appended.old.cleaned }
-        ensures fault { IfErr result (λ e. (q : LogQueue)
-            × AreTooMany (live_in_all q self.old.accessor.tables
-            + live_in_all q appended.old.tables) e) }
+        ensures { AreMarksOverlaid marks result self.old.accessor.tables self.new.accessor.tables
+            appended.old appended.new }
     {
         for (id, mark) in marks.into_entries() {
             let table = appended.take(id);
@@ -107,7 +73,6 @@ impl MarkedTables {
         Ok(())
     }
 
-    /// Does what [`MarkedTables::overlay_rest`] does with the tables of a slot.
     fn overlay_tables(&mut self, appended: RegionTables) -> Result<()>
         requires own { live_in_all Rewrite appended ≡ 0 }
         ensures ok { AreRunsOverlaid (implied_marks appended) appended self.old.accessor.tables

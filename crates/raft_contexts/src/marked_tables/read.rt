@@ -1,15 +1,7 @@
 //! Batches as they were read, taken into the tables and region marks.
 
 ghost use Rattle.std.specs.Prelude.{◌≡◌, ◌≤◌, ℕ, List, [], ◌∷◌, Ok, OnOk, IfOk, MatchBool};
-ghost use Rattle.raft_base.specs.declared.pipe_log.LogQueue.{LogQueue};
-ghost use Rattle.raft_records.specs.DecodedIn.{IsDecodedIn};
-ghost use Rattle.raft_records.specs.ReadBatch.{content_shown, item_shown};
-ghost use Rattle.raft_history.specs.Histories.{AreInFile};
-ghost use Rattle.raft_history.specs.Joins.{StandForSteps};
-ghost use Rattle.raft_history.specs.RegionSteps.{steps_of_items};
-ghost use Rattle.raft_table.specs.Queues.{other};
-ghost use Rattle.raft_accessor.specs.Accessor.{live_in_all};
-ghost use Rattle.raft_contexts.specs.MarkedTables.{regions_in, AreStepsOfQueue, AreStepsTaken};
+ghost use Rattle.raft_contexts.specs.Common.{LogQueue, IsDecodedIn, content_shown, item_shown, AreInFile, StandForSteps, steps_of_items, other, live_in_all, regions_in, AreStepsOfQueue, AreStepsTaken};
 
 use crate::marked_tables::MarkedTables;
 use raft_base::{AllocResult, FileBlockHandle, FileId, LogQueue, Result};
@@ -17,11 +9,7 @@ use raft_records::{ReadBatch, ReadContent, ReadItem, is_reserved};
 use std::alloc::Global;
 
 impl MarkedTables {
-    /// Does what [`MarkedTables::take_items`] does, with the items of a batch as it was read.
-    ///
-    /// # Errors
-    ///
-    /// Those of [`MarkedTables::take_items`]. Some items are then taken in.
+    /// After an `Err` some items are taken in.
     pub(crate) fn take_read(
         &mut self,
         alloc: Global,
@@ -46,7 +34,6 @@ impl MarkedTables {
         Ok(())
     }
 
-    /// Takes in an item as it was read. A run has these spans.
     fn take_read_item(
         &mut self,
         alloc: Global,
@@ -72,13 +59,8 @@ impl MarkedTables {
         self.take_item(queue, item)
     }
 
-    /// Does what [`MarkedTables::try_run`] does, with an item as it was read. A run has these spans. One that
-    /// begins among the entries of its region, or right after them, leaves the region mark as it is, which
-    /// then isn't looked up.
-    ///
-    /// # Errors
-    ///
-    /// `AllocError`. The run is then in its table, and not in the region mark.
+    /// A run that begins among the entries of its region, or right after them, leaves the region mark as it is, which
+    /// then isn't looked up. After an `Err` the run is in its table, and not in the region mark.
     fn try_spans(
         &mut self,
         queue: LogQueue,
@@ -115,8 +97,6 @@ impl MarkedTables {
         Ok(true)
     }
 
-    /// Takes in an item that puts a key, as it was read, where its region has entries. The region mark stays as it is.
-    /// Returns whether it did. Where it did not, nothing has changed.
     fn try_put(&mut self, place: FileBlockHandle, item: &ReadItem<'_>) -> bool
         ensures { (queue : LogQueue) (spans : List (ℕ × ℕ)) → MatchBool result
             (AreStepsTaken queue (steps_of_items (item_shown place item.now spans ∷ []))

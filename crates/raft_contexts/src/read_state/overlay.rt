@@ -1,10 +1,7 @@
 //! What was read of the append queue, taken in over what was read of the rewrite queue.
 
 ghost use Rattle.std.specs.Prelude.{◌≡◌, OnOk, IfErr};
-ghost use Rattle.raft_history.specs.Joins.{AreOverlaid};
-ghost use Rattle.raft_contexts.specs.OverlaidContext.{AreOfBothQueues, overlaid_with, IsMergeAppendFault};
-ghost use Rattle.raft_contexts.specs.ReadStates.{context_in, shown_with, IsOfHistory};
-ghost use Rattle.raft_contexts.specs.RecoverContext.{reading_on};
+ghost use Rattle.raft_contexts.specs.Common.{AreOverlaid, AreOfBothQueues, overlaid_with, IsMergeAppendFault, context_in, shown_with, IsOfHistory, reading_on};
 
 use crate::file_range::FileRange;
 use crate::read_state::ReadState;
@@ -13,8 +10,6 @@ use crate::waiting_groups::WaitingGroups;
 use raft_base::{Error, LogQueue, Result};
 
 impl ReadState {
-    /// Takes in what was read of the append queue over what was read of the rewrite queue. The region marks of
-    /// both and the groups that wait are then dropped.
     pub(crate) fn overlay(&mut self, append: ReadState) -> Result<()>
         requires rewritten { IsOfHistory (context_in self.old) }
         requires appended { IsOfHistory (context_in append) }
@@ -31,7 +26,6 @@ impl ReadState {
         self.put_append(append)
     }
 
-    /// Tests whether this was read of the rewrite queue, and the other of the append queue.
     fn check_append(&self, append: &ReadState) -> Result<()>
         ensures queues { OnOk result (AreOfBothQueues (context_in self.now)
             (context_in append.now)) }
@@ -46,7 +40,6 @@ impl ReadState {
         Ok(())
     }
 
-    /// Takes in what was read of the append queue.
     fn put_append(&mut self, append: ReadState) -> Result<()>
         requires rewritten { IsOfHistory (context_in self.old) }
         requires appended { IsOfHistory (context_in append) }

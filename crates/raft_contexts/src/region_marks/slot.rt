@@ -1,16 +1,9 @@
 //! The region marks of one slot.
 
 ghost use Rattle.std.specs.Prelude.{◌≡◌, ◌≢◌, ◌<◌, ◌^◌, ℕ, nat_eq, OnOk, OnErr, Some, is_some};
+ghost use Rattle.raft_contexts.specs.Common.{IsDistinct, keys_of, total, Mark, fresh, mark_of, joined_at, step_shown, absent_in, count_absent, mark_in, run_at, MayChangeMark, IsMarkUpdated};
 ghost use Rattle.std.specs.FinMap as finite;
 ghost use Rattle.std.specs.FinSet as finset;
-ghost use Rattle.std.specs.List.{IsDistinct};
-ghost use Rattle.std.specs.Map.{keys_of};
-ghost use Rattle.raft_history.specs.Records.{total};
-ghost use Rattle.raft_table.specs.Marks.{Mark};
-ghost use Rattle.raft_table.specs.MarkJoins.{fresh, mark_of, joined_at};
-ghost use Rattle.raft_table.specs.StepShown.{step_shown};
-ghost use Rattle.raft_contexts.specs.ImpliedMarks.{absent_in, count_absent};
-ghost use Rattle.raft_contexts.specs.RegionMarks.{mark_in, run_at, MayChangeMark, IsMarkUpdated};
 
 use crate::region_marks::small_mark::SmallMark;
 use raft_accessor::MemTableAccessor;
@@ -50,7 +43,6 @@ impl Model for SlotMarks {
 }
 
 impl SlotMarks {
-    /// Makes one without region marks.
     pub(crate) fn new(alloc: Global) -> SlotMarks
         ensures { result ≡ finite.empty }
     {
@@ -60,7 +52,6 @@ impl SlotMarks {
         }
     }
 
-    /// Returns how many regions have a region mark.
     pub(crate) fn len(&self) -> usize
         ensures value { result ≡ finite.len self.now }
         ensures few { result < 2 ^ 57 }
@@ -68,18 +59,12 @@ impl SlotMarks {
         self.marks.len()
     }
 
-    /// Tests whether a region has a region mark.
     pub(crate) fn has(&self, id: u64) -> bool
         ensures { result ≡ is_some (finite.get self.now id) }
     {
         self.marks.contains_key(&id)
     }
 
-    /// Puts in the region mark of a run that starts at `start`.
-    ///
-    /// # Errors
-    ///
-    /// `AllocError`. The region marks are then as they were.
     pub(crate) fn put_run(&mut self, id: u64, start: u64) -> AllocResult<()>
         ensures ok { OnOk result (self.new ≡ finite.insert self.old id (run_at start)) }
         ensures err { OnErr result (self.new ≡ self.old) }
@@ -87,7 +72,6 @@ impl SlotMarks {
         self.put(id, SmallMark::of_run(self.alloc, start))
     }
 
-    /// Returns how many deleted keys all region marks hold together.
     pub(crate) fn deleted_keys(&self) -> u128
         ensures value { result ≡ total (λ (m : Mark). finset.len m.deleted) self.now }
         ensures few { result < 2 ^ 121 }
@@ -99,7 +83,6 @@ impl SlotMarks {
         count
     }
 
-    /// Returns how many region marks are those of regions without a table.
     pub(crate) fn count_absent(&self, tables: &MemTableAccessor) -> u64
         ensures value { result ≡ count_absent tables.now.tables (keys_of (finite.entries self.now)) }
         ensures few { result < 2 ^ 57 }
@@ -111,12 +94,6 @@ impl SlotMarks {
         count
     }
 
-    /// Joins the region mark of a run that starts at `start` to the region mark of a region, where the region's
-    /// own entries end at `end`.
-    ///
-    /// # Errors
-    ///
-    /// `AllocError`. The region marks are then as they were.
     pub(crate) fn add_run(
         &mut self,
         id: u64,
@@ -135,12 +112,7 @@ impl SlotMarks {
         self.put(id, SmallMark::of_run(self.alloc, start))
     }
 
-    /// Joins the region mark of a step to the region mark of a region. Where the step is a run, the region's own
-    /// entries in front of it end at `end`. A deleted key is copied.
-    ///
-    /// # Errors
-    ///
-    /// `AllocError`. The region marks are then as they were.
+    /// A deleted key is copied.
     pub(crate) fn add_step(
         &mut self,
         id: u64,
@@ -156,12 +128,7 @@ impl SlotMarks {
         self.update(id, move |mark: &mut Mark| mark.add_step(queue, end, step))
     }
 
-    /// Joins the region mark of newer steps to the region mark of a region, whose first run meets own
-    /// entries of the region that end at `end_at_reach`.
-    ///
-    /// # Errors
-    ///
-    /// `AllocError`. The region mark of the region may then lack deleted keys, and serves no more.
+    /// After an `Err` the region mark of the region may lack deleted keys, and serves no more.
     pub(crate) fn join(
         &mut self,
         id: u64,
@@ -181,10 +148,6 @@ impl SlotMarks {
     }
 
     /// Makes room, up to `count` region marks.
-    ///
-    /// # Errors
-    ///
-    /// `AllocError`.
     pub(crate) fn make_room(&mut self, count: usize) -> AllocResult<()>
         ensures { self.new ≡ self.old }
     {
@@ -218,7 +181,6 @@ impl SlotMarks {
         self.put(id, mark)
     }
 
-    /// Puts in a region mark of a region that has none.
     fn put(&mut self, id: u64, mark: SmallMark) -> AllocResult<()>
         ensures ok { OnOk result (self.new ≡ finite.insert self.old id mark) }
         ensures err { OnErr result (self.new ≡ self.old) }
@@ -226,19 +188,13 @@ impl SlotMarks {
         if self.marks.len() >= MOST_MARKS {
             return Err(AllocError);
         }
-        match self.marks.insert(id, mark) {
-            Ok(_) => Ok(()),
-            Err(_) => Err(AllocError),
-        }
+        self.marks.insert(id, mark)?;
+        Ok(())
     }
 }
 
-/// Returns 1 for a region without a table, 0 for another.
 fn absent(tables: &MemTableAccessor, id: u64) -> u64
     ensures { result ≡ absent_in tables.now.tables id }
 {
-    match tables.get(id) {
-        Some(_) => 0,
-        None => 1,
-    }
+    u64::from(tables.get(id).is_none())
 }

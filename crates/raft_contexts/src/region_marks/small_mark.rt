@@ -1,10 +1,8 @@
 //! A region mark as a slot keeps it.
 
 ghost use Rattle.std.specs.Prelude.{◌≡◌, IfOk, IfSome, OnOk, OnErr, MatchBool, Ok, Some};
+ghost use Rattle.raft_contexts.specs.Common.{LogQueue, fresh, joined_at, MayChangeMark, ChangesMark, IsOneUpdated};
 ghost use Rattle.std.specs.FinSet as finset;
-ghost use Rattle.raft_base.specs.declared.pipe_log.LogQueue.{LogQueue};
-ghost use Rattle.raft_table.specs.MarkJoins.{fresh, joined_at};
-ghost use Rattle.raft_contexts.specs.RegionMarks.{MayChangeMark, ChangesMark, IsOneUpdated};
 
 use raft_base::{AllocResult, LogQueue};
 use raft_table::Mark;
@@ -43,7 +41,6 @@ impl Model for SmallMark {
 }
 
 impl SmallMark {
-    /// Makes the region mark of a run that starts at `start`.
     pub(crate) fn of_run(alloc: Global, start: u64) -> SmallMark
         ensures { result ≡ record fresh { reach = Some start; cut = Some start } }
     {
@@ -54,10 +51,6 @@ impl SmallMark {
     }
 
     /// Keeps a region mark. That of a run alone is kept as the run's start, which no clause says: it saves room alone.
-    ///
-    /// # Errors
-    ///
-    /// `AllocError`.
     fn of(alloc: Global, mark: Mark) -> AllocResult<SmallMark>
         ensures { IfOk result (λ kept. kept ≡ mark) }
     {
@@ -68,7 +61,6 @@ impl SmallMark {
         Ok(SmallMark { form, alloc })
     }
 
-    /// Returns the region mark.
     pub(crate) fn into_mark(self) -> Mark
         ensures { result ≡ self }
     {
@@ -78,7 +70,6 @@ impl SmallMark {
         }
     }
 
-    /// Returns where the run starts, only where this is the region mark of a run alone.
     pub(crate) fn run_alone(&self) -> Option<u64>
         ensures { IfSome result (λ start. self.now
             ≡ record fresh { reach = Some start; cut = Some start }) }
@@ -89,7 +80,6 @@ impl SmallMark {
         }
     }
 
-    /// Returns how many deleted keys it holds.
     pub(crate) fn deleted_keys(&self) -> usize
         ensures { result ≡ finset.len self.now.deleted }
     {
@@ -99,11 +89,6 @@ impl SmallMark {
         }
     }
 
-    /// Joins the region mark of a run that starts at `start`, where the own entries end at `end`.
-    ///
-    /// # Errors
-    ///
-    /// `AllocError`. The region mark is then as it was.
     pub(crate) fn add_run(&mut self, queue: LogQueue, end: u64, start: u64) -> AllocResult<()>
         ensures ok { OnOk result (self.new ≡ joined_at queue end self.old
             (record fresh { reach = Some start; cut = Some start })) }
@@ -118,11 +103,6 @@ impl SmallMark {
         })
     }
 
-    /// Changes the region mark.
-    ///
-    /// # Errors
-    ///
-    /// `AllocError`, of the change too. The region mark is then as it was, if the change leaves it so.
     #[inline(always)]
     pub(crate) fn update<F: FnOnce(&mut Mark) -> AllocResult<()>>(
         &mut self,
@@ -143,11 +123,6 @@ impl SmallMark {
         }
     }
 
-    /// Keeps what a change makes of a region mark.
-    ///
-    /// # Errors
-    ///
-    /// `AllocError`, of the change too.
     #[inline(always)]
     pub(crate) fn changed<F: FnOnce(&mut Mark) -> AllocResult<()>>(
         alloc: Global,
@@ -163,9 +138,6 @@ impl SmallMark {
         SmallMark::of(alloc, mark)
     }
 
-    /// Returns true only where a run that starts at `start`, where the own entries end at `end`, changes nothing:
-    /// this is the region mark of a run alone, and the other begins among the entries or right after them, and not
-    /// below that run.
     fn covers(&self, end: u64, start: u64) -> bool
         ensures { MatchBool result ((queue : LogQueue) → joined_at queue end self.now
             (record fresh { reach = Some start; cut = Some start }) ≡ self.now) (Unit {0}) }
@@ -177,7 +149,6 @@ impl SmallMark {
     }
 }
 
-/// Returns where the run starts, only where this is the region mark of a run alone.
 fn only_run(mark: &Mark) -> Option<u64>
     ensures { IfSome result (λ start. mark.now
         ≡ record fresh { reach = Some start; cut = Some start }) }

@@ -1,5 +1,5 @@
-use Rattle.raft_contexts.proofs.Common.{◌+◌, ap, subst, sym, ◌∙◌, map, drop, option_or, first_marker, item_of}
-use Rattle.raft_contexts.proofs.BatchCheckLemmas.{IsTested, next_item, none_left, one_more, or_none}
+use Rattle.raft_contexts.proofs.Common.{◌+◌, ap, subst, sym, ◌∙◌, map, drop, drop_of_length-le, option_or, first_marker, item_of}
+use Rattle.raft_contexts.proofs.BatchCheckLemmas.{IsTested, next_item, one_more, or_none}
 use Rattle.raft_contexts.proofs.batch_check.group_marker.Goals as goal
 
 pub loop-item-preserved : goal.loop-item-preserved
@@ -11,4 +11,4 @@ loop-item-preserved c =
 
 pub returns-clause-marker : goal.returns-clause-marker
 returns-clause-marker c = sym (or_none c.loop-item.marker) ∙ ap (λ rest. option_or c.loop-item.marker (first_marker (map item_of rest)))
-    (sym (none_left c.args.items.now c.loop-item.item-index c.loop-item-test.false)) ∙ c.loop-item.invariant.2
+    (sym (drop_of_length-le c.args.items.now c.loop-item-test.false)) ∙ c.loop-item.invariant.2

@@ -1,5 +1,4 @@
-use Rattle.raft_contexts.proofs.Common.{rules, ◌≡◌, None, subst, FileId, AreDecodedIn, first_marker, HaveStatus, items_in_file}
-use Rattle.raft_base.specs.declared.pipe_log.LogQueue.TheVariants.{Rewrite}
+use Rattle.raft_contexts.proofs.Common.{rules, ◌≡◌, None, subst, FileId, AreDecodedIn, first_marker, HaveStatus, items_in_file, Rewrite}
 use Rattle.raft_contexts.proofs.BatchCheckLemmas.{first_of_none, status_of_none}
 use Rattle.raft_contexts.proofs.batch_check.is_lone_read.Goals as goal
 

@@ -1,6 +1,5 @@
-use Rattle.raft_contexts.proofs.Common.{◌≡◌, List, [], ◌∷◌, Some, option_and_then, MarkedRegions, WholeGroup, map, sym, ap, subst, ◌∙◌, arith, err_from_is_err_and, AllByRecursion}
-use Rattle.raft_contexts.proofs.Common.{regions_after, region_steps_of_wholes, regions_in, IsStepsFault, CanTakeEffect, region_steps_of_whole, whole_in_queue, whole_shown}
-use Rattle.raft_base.specs.declared.pipe_log.LogQueue.TheVariants.{Rewrite}
+use Rattle.raft_contexts.proofs.Common.{◌≡◌, List, [], ◌∷◌, Some, option_and_then, MarkedRegions, WholeGroup, map, sym, ap, subst, ◌∙◌, arith, err_from_is_err_and, AllByRecursion, regions_after, region_steps_of_wholes, regions_in}
+use Rattle.raft_contexts.proofs.Common.{IsStepsFault, CanTakeEffect, region_steps_of_whole, whole_in_queue, whole_shown, Rewrite}
 use Rattle.raft_contexts.proofs.TakenLemmas.{after-append, fault-behind, fault-front}
 use Rattle.raft_contexts.proofs.read_state.take_wholes.Goals as goal
 

@@ -1,5 +1,4 @@
-use Rattle.raft_contexts.proofs.Common.{◌≡◌, ◌≤◌, [], map, AllByRecursion, Error, regions_after, region_steps_of_wholes, live_in_all, regions_in, IsStepsFault, CanTakeEffect, whole_shown}
-use Rattle.raft_base.specs.declared.pipe_log.LogQueue.TheVariants.{Append, Rewrite}
+use Rattle.raft_contexts.proofs.Common.{◌≡◌, ◌≤◌, [], map, AllByRecursion, Error, regions_after, region_steps_of_wholes, live_in_all, regions_in, IsStepsFault, CanTakeEffect, whole_shown, Append, Rewrite}
 use Rattle.raft_contexts.proofs.read_state.take_wholes.Given as goal
 
 -- behind the groups that were taken in, those that are left give what all give

@@ -1,4 +1,4 @@
-use Rattle.std.proofs.Common.{◌≡◌, replicate}
+use Rattle.raft_contexts.proofs.Common.{◌≡◌, replicate}
 use Rattle.std.specs.FinMap as finite
 use Rattle.raft_contexts.proofs.region_marks.empty_slots.Given as goal
 

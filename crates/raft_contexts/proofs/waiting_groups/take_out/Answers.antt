@@ -1,4 +1,4 @@
-use Rattle.std.proofs.Common.{Some, None, sym, ◌∙◌}
+use Rattle.raft_contexts.proofs.Common.{Some, None, sym, ◌∙◌}
 use Rattle.raft_contexts.proofs.WaitingSeen.{known-seen}
 use Rattle.raft_contexts.proofs.waiting_groups.take_out.Goals as goal
 

@@ -1,4 +1,4 @@
-use Rattle.std.proofs.Common.{◌∙◌}
+use Rattle.raft_contexts.proofs.Common.{◌∙◌}
 use Rattle.raft_contexts.proofs.CountLemmas.{deleted_kept}
 use Rattle.raft_contexts.proofs.marked_tables.MarkedTables.deleted_keys.Goals as goal
 

@@ -1,4 +1,4 @@
-use Rattle.std.proofs.Common.{ℕ, ap}
+use Rattle.raft_contexts.proofs.Common.{ℕ, ap}
 use Rattle.std.specs.FinMap as finite
 use Rattle.raft_contexts.proofs.TakenLemmas.{end_met}
 use Rattle.raft_contexts.proofs.marked_tables.MarkedTables.end_before.Goals as goal

@@ -1,5 +1,4 @@
-use Rattle.std.proofs.Common.{sym, ap, ◌∙◌}
-use Rattle.std.specs.Option.{option_map}
+use Rattle.raft_contexts.proofs.Common.{sym, ap, ◌∙◌, option_map}
 use Rattle.raft_contexts.proofs.TakenLemmas.{no_ends}
 use Rattle.raft_contexts.proofs.marked_tables.MarkedTables.ends_of.Goals as goal
 

@@ -1,7 +1,4 @@
-use Rattle.std.proofs.Common.{ℕ, Some, refl, ap}
-use Rattle.std.proofs.lemmas.Result.{err_from_is_err_and}
-use Rattle.raft_contexts.specs.MarkedTables.{regions_in}
-use Rattle.raft_contexts.specs.ImpliedMarks.{implied_mark}
+use Rattle.raft_contexts.proofs.Common.{ℕ, Some, refl, ap, err_from_is_err_and, regions_in, implied_mark}
 use Rattle.raft_contexts.proofs.ImpliedJoinLemmas.{joined_run, joined_blank, first_of_entries}
 use Rattle.raft_contexts.proofs.RegionJoinLemmas.{region_with, region_joined, live_joined}
 use Rattle.raft_contexts.proofs.marked_tables.MarkedTables.join_implied.Goals as goal
@@ -10,8 +7,6 @@ pub returns-in_err-ends-clause-fault : goal.returns-in_err-ends-clause-fault
 returns-in_err-ends-clause-fault c =
     let p = err_from_is_err_and c.from_residual.result c.from_residual.ensures.1 in
     λ run. rw (p.1, p.2) ((rw (c.implied_by-mark.ensures, c.get-table.ensures) at c.in_err-ends.ensures.joined.fault) run)
-
--- ---- a table with entries
 
 pub returns-in-Some-clause-ok : goal.returns-in-Some-clause-ok
 returns-in-Some-clause-ok c = λ run.
@@ -32,8 +27,6 @@ returns-in-Some-clause-others c = λ run.
 
 pub returns-in-Some-clause-few : goal.returns-in-Some-clause-few
 returns-in-Some-clause-few c = λ q. live_joined q c.args.self.now.accessor.tables c.join_table.new.self.tables c.args.id (Some c.args.newer) c.in_ok-ends.ensures.joined.one (c.in_ok-ends.ensures.joined.few q)
-
--- ---- one without
 
 pub returns-clause-ok : goal.returns-clause-ok
 returns-clause-ok c = λ run.

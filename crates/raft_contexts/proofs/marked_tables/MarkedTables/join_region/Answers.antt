@@ -1,12 +1,8 @@
-use Rattle.raft_contexts.proofs.Common.{◌≡◌, Some, sym, ap, subst, ◌∙◌, region_in, joined_region, IsRunOver, joined_at, Mark, table_of, table_in, regions_in, mark_in}
+use Rattle.raft_contexts.proofs.Common.{◌≡◌, Some, sym, ap, subst, ◌∙◌, region_in, joined_region, IsRunOver, joined_at, Mark, table_of, table_in, regions_in, mark_in, ℕ, refl, all_marks}
 use Rattle.std.specs.FinMap as finite
 use Rattle.raft_contexts.proofs.RegionJoinLemmas.{region_with, region_joined, live_joined}
-use Rattle.std.proofs.Common.{ℕ, refl}
-use Rattle.raft_contexts.specs.ImpliedMarks.{all_marks}
 use Rattle.raft_contexts.proofs.ImpliedMarkLemmas.{joined_all}
 use Rattle.raft_contexts.proofs.marked_tables.MarkedTables.join_region.Goals as goal
-
--- ---- the region mark of a run alone
 
 run_joined : (c : goal.After-drop-mark-inside-in-Some) →
     all_marks c.join_table.new.self.tables c.add_run.new.self ≡ finite.insert (regions_in c.args.self.now).marks c.args.id
@@ -28,8 +24,6 @@ returns-in-Some-clause-others c = region_with (regions_in c.args.self.now) (regi
 
 pub returns-in-Some-clause-few : goal.returns-in-Some-clause-few
 returns-in-Some-clause-few c = λ q. live_joined q c.args.self.now.accessor.tables c.join_table.new.self.tables c.args.id c.args.newer c.in_ok-ends.ensures.joined.one (c.in_ok-ends.ensures.joined.few q)
-
--- ---- any region mark
 
 pub returns-clause-ok : goal.returns-clause-ok
 returns-clause-ok c =

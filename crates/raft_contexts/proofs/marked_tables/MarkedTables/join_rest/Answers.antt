@@ -1,17 +1,12 @@
-use Rattle.std.proofs.Common.{◌≡◌, length, refl, sym, ap, subst, ◌∙◌, arith}
-use Rattle.std.proofs.lemmas.Result.{err_from_is_err_and}
-use Rattle.raft_table.specs.Queues.{other}
-use Rattle.raft_accessor.specs.Accessor.{Accessor, live_in_all}
-use Rattle.raft_accessor.specs.Slots.{together, AreSlots}
-use Rattle.raft_contexts.specs.MarkedTables.{regions_in}
-use Rattle.raft_contexts.proofs.ImpliedSlotLemmas.{AreTableSlotsJoining, table_slots_none, slot_alone, table_slots_step, table_slots_fault, table_slots_joined}
+use Rattle.raft_contexts.proofs.Common.{◌≡◌, length, refl, sym, ap, subst, ◌∙◌, arith, err_from_is_err_and, other, Accessor, live_in_all, together, AreSlots, implied_marks, regions_in}
+use Rattle.raft_contexts.proofs.JoiningLemmas.{AreJoining, all_joined, implied_joining_none, slot_alone, slot_fault, slot_step}
+use Rattle.raft_contexts.proofs.PartLemmas.{no_slots_implied, slot_live, slot_parts}
 use Rattle.raft_contexts.proofs.marked_tables.MarkedTables.join_rest.Goals as goal
 
 pub loop-slot-init : goal.loop-slot-init
 loop-slot-init c =
     let all = c.into_iter-slot-iterator.ensures.into_iter_gives.0 in (
-      table_slots_none c.args.queue c.args.tables.tables (regions_in c.args.self.now) _ (ap together all ∙ c.into_slots-slot-items.ensures.tables) (subst (AreSlots 0) (sym all) c.into_slots-slot-items.ensures.slots) c.requires.older
-          c.requires.newer,
+      implied_joining_none c.args.queue c.args.tables.tables _ (regions_in c.args.self.now) (ap together all ∙ c.into_slots-slot-items.ensures.tables) c.requires.older c.requires.newer,
       subst (AreSlots 0) (sym all) c.into_slots-slot-items.ensures.slots,
       omega (arith, ap length all, c.into_slots-slot-items.ensures.all),
       refl,
@@ -24,14 +19,19 @@ pub join_tables-requires-clause-older : goal.join_tables-requires-clause-older
 join_tables-requires-clause-older c = subst (λ (x : Accessor). live_in_all (other c.args.queue) x.tables ≡ 0) (sym c.make_room.ensures) c.loop-slot.invariant.0.alone
 
 pub join_tables-requires-clause-newer : goal.join_tables-requires-clause-newer
-join_tables-requires-clause-newer c = slot_alone c.args.queue c.args.tables.tables (regions_in c.args.self.now) (regions_in c.loop-slot.self) _ _ _ _ c.in-Some.ensures.steps.0 c.loop-slot.invariant.1 c.loop-slot.invariant.0
+join_tables-requires-clause-newer c =
+    let at = c.loop-slot.invariant in
+    let is = c.in-Some.ensures.steps.0 in
+    slot_alone _ _ _ _ _ _ _ (slot_parts _ _ _ _ is at.1) (slot_live _ _ _ _ is at.1) at.0
 
 pub loop-slot-preserved : goal.loop-slot-preserved
 loop-slot-preserved c =
     let at = c.loop-slot.invariant in
-    let is = c.in-Some.ensures.steps.0 in (
-      table_slots_step c.args.queue c.args.tables.tables (regions_in c.args.self.now) _ _ _ _ _ is at.1
-          (subst (λ (x : Accessor). AreTableSlotsJoining c.args.queue c.args.tables.tables (regions_in c.args.self.now) (regions_in (record { accessor = x; marks = c.loop-slot.self.marks })) c.loop-slot.slot-iterator.rest.items)
+    let is = c.in-Some.ensures.steps.0 in
+    let rest = together c.loop-slot.slot-iterator.rest.items in (
+      slot_step _ _ _ _ _ _ _ (slot_parts _ _ _ c.loop-slot.number is at.1) (slot_live _ _ _ c.loop-slot.number is at.1)
+          (subst (λ (x : Accessor). AreJoining c.args.queue c.args.tables.tables (regions_in c.args.self.now) (implied_marks c.args.tables.tables) (regions_in (record { accessor = x; marks = c.loop-slot.self.marks })) rest
+          (implied_marks rest))
           (sym c.make_room.ensures) at.0)
           (regions_in c.join_tables.new.self) c.in_ok-join_tables.ensures.ok c.in_ok-join_tables.ensures.few,
       subst (λ n. AreSlots n c.next.new.self.rest.items) (omega arith) (subst (AreSlots c.loop-slot.number) is at.1).1,
@@ -42,12 +42,12 @@ loop-slot-preserved c =
 pub returns-in_err-join_tables-clause-fault : goal.returns-in_err-join_tables-clause-fault
 returns-in_err-join_tables-clause-fault c =
     let at = c.loop-slot.invariant in
+    let is = c.in-Some.ensures.steps.0 in
     let p = err_from_is_err_and c.from_residual-in_err-join_tables.result c.from_residual-in_err-join_tables.ensures.1 in
-    λ runs. rw (p.1, p.2) (table_slots_fault c.args.queue c.args.tables.tables (regions_in c.args.self.now) _ _ _ _ _ c.in-Some.ensures.steps.0 at.1
-    (subst (λ (x : Accessor). AreTableSlotsJoining c.args.queue c.args.tables.tables (regions_in c.args.self.now) (regions_in (record { accessor = x; marks = c.loop-slot.self.marks })) c.loop-slot.slot-iterator.rest.items)
-    (sym c.make_room.ensures) at.0) _
-    c.in_err-join_tables.ensures.fault runs)
+    let rest = together c.loop-slot.slot-iterator.rest.items in
+    rw (p.1, p.2) (slot_fault _ _ _ _ _ _ _ (slot_parts _ _ _ c.loop-slot.number is at.1) (slot_live _ _ _ c.loop-slot.number is at.1)
+    (subst (λ (x : Accessor). AreJoining c.args.queue c.args.tables.tables (regions_in c.args.self.now) (implied_marks c.args.tables.tables) (regions_in (record { accessor = x; marks = c.loop-slot.self.marks })) rest (implied_marks rest))
+    (sym c.make_room.ensures) at.0) _ c.in_err-join_tables.ensures.fault)
 
 pub returns-clause-ok : goal.returns-clause-ok
-returns-clause-ok c =
-    λ runs. table_slots_joined c.args.queue c.args.tables.tables (regions_in c.args.self.now) (regions_in c.loop-slot.self) _ c.loop-slot.invariant.0 (omega (arith, c.in-None.ensures.steps.0, c.loop-slot.slot-iterator.rest.ok.0)) runs
+returns-clause-ok c = all_joined _ _ _ _ _ _ _ c.loop-slot.invariant.0 (no_slots_implied _ (omega (arith, c.in-None.ensures.steps.0, c.loop-slot.slot-iterator.rest.ok.0)))

@@ -1,46 +1,47 @@
-use Rattle.std.proofs.Common.{nat_eq, refl, sym, ap, subst, ◌∙◌}
-use Rattle.std.specs.FinMap as finite
-use Rattle.std.specs.List.{IsDistinct}
-use Rattle.std.specs.Map.{keys_of}
-use Rattle.std.proofs.lemmas.Result.{err_from_is_err_and}
-use Rattle.raft_contexts.specs.MarkedTables.{regions_in}
-use Rattle.raft_contexts.proofs.ImpliedSlotLemmas.{tables_joining_none, table_own, table_alone, table_step, table_fault, tables_joined, tables_few}
+use Rattle.raft_contexts.proofs.Common.{Some, nat_eq, refl, sym, ap, subst, ◌∙◌, arith, IsDistinct, keys_of, err_from_is_err_and, regions_in}
+use Rattle.raft_contexts.proofs.JoiningLemmas.{all_joined, implied_joining_none, region_alone, region_fault, region_step}
+use Rattle.raft_contexts.proofs.PartLemmas.{none_implied, once_behind, table_first, table_own, table_parts, tables_behind, tables_of}
 use Rattle.raft_contexts.proofs.marked_tables.MarkedTables.join_tables.Goals as goal
 
 pub loop-id-init : goal.loop-id-init
 loop-id-init c =
     let gives = c.into_iter-id-iterator.ensures.into_iter_gives in (
-      tables_joining_none c.args.queue c.args.tables (regions_in c.args.self.now) _ (ap (λ es. finite.from_entries es) gives ∙ c.into_entries-id-items.ensures.entries)
-          (subst (λ es. IsDistinct nat_eq (keys_of es)) (sym gives) c.into_entries-id-items.ensures.once) c.requires.older c.requires.newer,
+      implied_joining_none c.args.queue c.args.tables _ (regions_in c.args.self.now) (ap tables_of gives ∙ c.into_entries-id-items.ensures.entries) c.requires.older c.requires.newer,
+      subst (λ es. IsDistinct nat_eq (keys_of es)) (sym gives) c.into_entries-id-items.ensures.once,
       refl,
     )
 
 pub join_implied-requires-clause-region : goal.join_implied-requires-clause-region
-join_implied-requires-clause-region c = table_own c.args.queue c.args.tables (regions_in c.args.self.now) _ (regions_in c.loop-id.self) _ _ c.in-Some.id c.in-Some.table c.in-Some.ensures.steps c.loop-id.invariant.0 c.tables_are_own.ensures
+join_implied-requires-clause-region c =
+    let at = c.loop-id.invariant in
+    table_own _ _ _ _ c.in-Some.ensures.steps at.1 _ _ at.0.taken c.tables_are_own.ensures
 
 pub join_implied-requires-clause-own : goal.join_implied-requires-clause-own
-join_implied-requires-clause-own c = table_alone c.args.queue c.args.tables (regions_in c.args.self.now) _ (regions_in c.loop-id.self) _ _ c.in-Some.id c.in-Some.table c.in-Some.ensures.steps c.loop-id.invariant.0
+join_implied-requires-clause-own c =
+    let at = c.loop-id.invariant in
+    let is = c.in-Some.ensures.steps in
+    region_alone _ _ _ _ _ _ _ at.0 c.in-Some.id _ _ (table_parts _ _ _ _ is at.1) (Some c.in-Some.table) (table_first _ _ _ _ is at.1)
 
 pub loop-id-preserved : goal.loop-id-preserved
-loop-id-preserved c = (
-  table_step c.args.queue c.args.tables (regions_in c.args.self.now) _ (regions_in c.loop-id.self) _ _ c.in-Some.id c.in-Some.table c.in-Some.ensures.steps c.loop-id.invariant.0
-      (regions_in c.join_implied.new.self) c.in_ok-join_implied.ensures.ok c.in_ok-join_implied.ensures.others c.in_ok-join_implied.ensures.few,
-  c.join_implied.ensures.cleaned ∙ c.loop-id.invariant.1,
-)
+loop-id-preserved c =
+    let at = c.loop-id.invariant in
+    let is = c.in-Some.ensures.steps in (
+      region_step _ _ _ _ _ _ _ at.0 c.in-Some.id _ _ (table_parts _ _ _ _ is at.1) (Some c.in-Some.table) (table_first _ _ _ _ is at.1)
+          (regions_in c.join_implied.new.self) _ c.in_ok-join_implied.ensures.ok c.in_ok-join_implied.ensures.others c.in_ok-join_implied.ensures.few (tables_behind _ _ _ _ is at.1),
+      once_behind _ _ _ _ is at.1,
+      c.join_implied.ensures.cleaned ∙ at.2,
+    )
 
 pub returns-in_err-join_implied-clause-fault : goal.returns-in_err-join_implied-clause-fault
 returns-in_err-join_implied-clause-fault c =
+    let at = c.loop-id.invariant in
+    let is = c.in-Some.ensures.steps in
     let p = err_from_is_err_and c.from_residual.result c.from_residual.ensures.1 in
-    let gives = c.into_iter-id-iterator.ensures.into_iter_gives in
-    λ runs. rw (p.1, p.2) (table_fault c.args.queue c.args.tables (regions_in c.args.self.now) _ (regions_in c.loop-id.self) _ _ c.in-Some.id c.in-Some.table c.in-Some.ensures.steps c.loop-id.invariant.0
-    c.loop-id.self.accessor.counts _ c.join_implied.ensures.exact_counts (ap (λ es. finite.from_entries es) gives ∙ c.into_entries-id-items.ensures.entries)
-    (subst (λ es. IsDistinct nat_eq (keys_of es)) (sym gives) c.into_entries-id-items.ensures.once) runs c.in_err-join_implied.ensures.fault)
+    rw (p.1, p.2) (region_fault _ _ _ _ _ _ _ at.0 c.in-Some.id _ _ (table_parts _ _ _ _ is at.1) (Some c.in-Some.table)
+    (table_first _ _ _ _ is at.1) c.loop-id.self.accessor.counts _ c.join_implied.ensures.exact_counts c.in_err-join_implied.ensures.fault)
 
 pub returns-clause-ok : goal.returns-clause-ok
-returns-clause-ok c =
-    let gives = c.into_iter-id-iterator.ensures.into_iter_gives in
-    λ runs. tables_joined c.args.queue c.args.tables (regions_in c.args.self.now) (regions_in c.loop-id.self) _ _ (ap (λ es. finite.from_entries es) gives ∙ c.into_entries-id-items.ensures.entries)
-    (subst (λ es. IsDistinct nat_eq (keys_of es)) (sym gives) c.into_entries-id-items.ensures.once) c.loop-id.invariant.0 c.in-None.ensures.steps.0 runs
+returns-clause-ok c = all_joined _ _ _ _ _ _ _ c.loop-id.invariant.0 (none_implied _ c.in-None.ensures.steps.0)
 
 pub returns-clause-few : goal.returns-clause-few
-returns-clause-few c = tables_few c.args.queue c.args.tables (regions_in c.args.self.now) (regions_in c.loop-id.self) _ _ c.loop-id.invariant.0
+returns-clause-few c = λ q. omega (arith, c.loop-id.invariant.0.few q)

@@ -1,4 +1,4 @@
-use Rattle.std.proofs.Common.{arith}
+use Rattle.raft_contexts.proofs.Common.{arith}
 use Rattle.raft_contexts.proofs.CountLemmas.{len_all}
 use Rattle.raft_contexts.proofs.marked_tables.MarkedTables.marks_count.Goals as goal
 

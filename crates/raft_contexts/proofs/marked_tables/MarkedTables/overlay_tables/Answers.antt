@@ -1,43 +1,47 @@
-use Rattle.std.proofs.Common.{nat_eq, refl, sym, ap, subst, ◌∙◌}
-use Rattle.std.specs.FinMap as finite
-use Rattle.std.specs.List.{IsDistinct}
-use Rattle.std.specs.Map.{keys_of}
-use Rattle.std.proofs.lemmas.Result.{err_from_is_err_and}
-use Rattle.raft_contexts.proofs.ImpliedSlotLemmas.{tables_overlaying_none, over_own, over_alone, over_step, over_refused, tables_overlaid, over_few}
+use Rattle.raft_contexts.proofs.Common.{Some, nat_eq, refl, sym, ap, subst, ◌∙◌, arith, IsDistinct, keys_of, err_from_is_err_and}
+use Rattle.raft_contexts.proofs.OverlayingLemmas.{all_overlaid, implied_overlaying_none, over_fault, over_step, own_taken}
+use Rattle.raft_contexts.proofs.PartLemmas.{none_implied, once_behind, table_first, table_own, table_parts, tables_behind, tables_of}
 use Rattle.raft_contexts.proofs.marked_tables.MarkedTables.overlay_tables.Goals as goal
 
 pub loop-id-init : goal.loop-id-init
 loop-id-init c =
     let gives = c.into_iter-id-iterator.ensures.into_iter_gives in (
-      tables_overlaying_none c.args.appended c.args.self.now.accessor.tables _ (ap (λ es. finite.from_entries es) gives ∙ c.into_entries-id-items.ensures.entries)
-          (subst (λ es. IsDistinct nat_eq (keys_of es)) (sym gives) c.into_entries-id-items.ensures.once) c.requires.own,
+      implied_overlaying_none c.args.appended _ c.args.self.now.accessor.tables (ap tables_of gives ∙ c.into_entries-id-items.ensures.entries) c.requires.own,
+      subst (λ es. IsDistinct nat_eq (keys_of es)) (sym gives) c.into_entries-id-items.ensures.once,
       refl,
     )
 
 pub overlay_table-requires-clause-region : goal.overlay_table-requires-clause-region
-overlay_table-requires-clause-region c = over_own c.args.appended c.args.self.now.accessor.tables _ c.loop-id.self.accessor.tables _ _ c.in-Some.id c.in-Some.table c.in-Some.ensures.steps c.loop-id.invariant.0 c.tables_are_own.ensures
+overlay_table-requires-clause-region c =
+    let at = c.loop-id.invariant in
+    table_own _ _ _ _ c.in-Some.ensures.steps at.1 _ _ at.0.taken c.tables_are_own.ensures
 
 pub overlay_table-requires-clause-own : goal.overlay_table-requires-clause-own
-overlay_table-requires-clause-own c = over_alone c.args.appended c.args.self.now.accessor.tables _ c.loop-id.self.accessor.tables _ _ c.in-Some.id c.in-Some.table c.in-Some.ensures.steps c.loop-id.invariant.0
+overlay_table-requires-clause-own c =
+    let at = c.loop-id.invariant in
+    let is = c.in-Some.ensures.steps in
+    own_taken _ _ _ _ _ _ at.0 c.in-Some.id _ _ (table_parts _ _ _ _ is at.1) (Some c.in-Some.table) (table_first _ _ _ _ is at.1)
 
 pub loop-id-preserved : goal.loop-id-preserved
-loop-id-preserved c = (
-  over_step c.args.appended c.args.self.now.accessor.tables _ c.loop-id.self.accessor.tables _ _ c.in-Some.id c.in-Some.table c.in-Some.ensures.steps c.loop-id.invariant.0
-      c.overlay_table.new.self.tables (rw (c.implied_by-mark.ensures, c.get.ensures) at c.in_ok-overlay_table.ensures.overlaid.ok) c.in_ok-overlay_table.ensures.overlaid.one c.in_ok-overlay_table.ensures.overlaid.few,
-  c.overlay_table.ensures.cleaned ∙ c.loop-id.invariant.1,
-)
+loop-id-preserved c =
+    let at = c.loop-id.invariant in
+    let is = c.in-Some.ensures.steps in (
+      over_step _ _ _ _ _ _ at.0 c.in-Some.id _ _ (table_parts _ _ _ _ is at.1) (Some c.in-Some.table) (table_first _ _ _ _ is at.1) c.overlay_table.new.self.tables _
+          (rw (c.implied_by-mark.ensures, c.get.ensures) at c.in_ok-overlay_table.ensures.overlaid.ok) c.in_ok-overlay_table.ensures.overlaid.one c.in_ok-overlay_table.ensures.overlaid.few (tables_behind _ _ _ _ is at.1),
+      once_behind _ _ _ _ is at.1,
+      c.overlay_table.ensures.cleaned ∙ at.2,
+    )
 
 pub returns-in_err-overlay_table-clause-fault : goal.returns-in_err-overlay_table-clause-fault
 returns-in_err-overlay_table-clause-fault c =
+    let at = c.loop-id.invariant in
+    let is = c.in-Some.ensures.steps in
     let p = err_from_is_err_and c.from_residual.result c.from_residual.ensures.1 in
-    rw (p.1, p.2) (over_refused c.args.appended c.args.self.now.accessor.tables _ c.loop-id.self.accessor.tables _ _ c.in-Some.id c.in-Some.table c.in-Some.ensures.steps c.loop-id.invariant.0
-    c.loop-id.self.accessor.counts _ c.overlay_table.ensures.exact_counts c.in_err-overlay_table.ensures.overlaid.fault)
+    rw (p.1, p.2) (over_fault _ _ _ _ _ _ at.0 c.in-Some.id _ _ (table_parts _ _ _ _ is at.1) (Some c.in-Some.table)
+    (table_first _ _ _ _ is at.1) c.loop-id.self.accessor.counts _ c.overlay_table.ensures.exact_counts c.in_err-overlay_table.ensures.overlaid.fault)
 
 pub returns-clause-ok : goal.returns-clause-ok
-returns-clause-ok c =
-    let gives = c.into_iter-id-iterator.ensures.into_iter_gives in
-    λ runs. tables_overlaid c.args.appended c.args.self.now.accessor.tables c.loop-id.self.accessor.tables _ _ (ap (λ es. finite.from_entries es) gives ∙ c.into_entries-id-items.ensures.entries)
-    (subst (λ es. IsDistinct nat_eq (keys_of es)) (sym gives) c.into_entries-id-items.ensures.once) c.loop-id.invariant.0 c.in-None.ensures.steps.0 runs
+returns-clause-ok c = all_overlaid _ _ _ _ _ _ c.loop-id.invariant.0 (none_implied _ c.in-None.ensures.steps.0)
 
 pub returns-clause-few : goal.returns-clause-few
-returns-clause-few c = over_few c.args.appended c.args.self.now.accessor.tables c.loop-id.self.accessor.tables _ _ c.loop-id.invariant.0
+returns-clause-few c = λ q. omega (arith, c.loop-id.invariant.0.few q)

@@ -1,5 +1,4 @@
-use Rattle.raft_contexts.proofs.Common.{◌++◌, Err, Ok, List, ℕ, subst, err_from_is_err_and, AtomicGroup, on_each, RegionStep, AreStepsTaken, whole_shown}
-use Rattle.raft_base.specs.declared.pipe_log.LogQueue.TheVariants.{Rewrite}
+use Rattle.raft_contexts.proofs.Common.{◌++◌, Err, Ok, List, ℕ, subst, err_from_is_err_and, AtomicGroup, on_each, RegionStep, AreStepsTaken, whole_shown, Rewrite}
 use Rattle.raft_contexts.proofs.GroupFiles.{whole_ok, whole_counts, whole_fault, whole_other}
 use Rattle.raft_contexts.proofs.TakenLemmas.{taken_more, taken_refused}
 use Rattle.raft_contexts.proofs.marked_tables.MarkedTables.take_group.Goals as goal

@@ -1,6 +1,5 @@
-use Rattle.raft_contexts.proofs.Common.{◌+◌, Ok, drop, get_or, refl, sym, subst, err_from_is_err_and, AreDecodedIn, items_in_queue, steps_of_items, AreStepsOfQueue, AreStepsTaken}
-use Rattle.raft_contexts.proofs.BatchCheckLemmas.{next_at, none_left}
-use Rattle.raft_contexts.proofs.ReadTakenLemmas.{no_read_item, has_spans, steps_in_front, decoded_in_front, midway_more, midway_refused, midway_all}
+use Rattle.raft_contexts.proofs.Common.{Ok, drop_of_length-le, refl, sym, subst, err_from_is_err_and, AreDecodedIn, items_in_queue, steps_of_items, AreStepsOfQueue, AreStepsTaken}
+use Rattle.raft_contexts.proofs.ReadTakenLemmas.{next_read, has_spans, steps_in_front, decoded_in_front, midway_more, midway_refused, midway_all}
 use Rattle.raft_contexts.proofs.TakenLemmas.{other_in}
 use Rattle.raft_contexts.proofs.marked_tables.MarkedTables.take_read.Goals as goal
 
@@ -16,54 +15,31 @@ loop-item-init c = (
 )
 
 pub split_at-requires : goal.split_at-requires
-split_at-requires c =
-    let items = c.parts.result.1.now in
-    let i = c.loop-item.item-index in
-    has_spans c.args.file.queue c.parts.result.0 (get_or items i no_read_item) (drop (i + 1) items) _ c.loop-item.rest.now c.span_count.result (next_at items i no_read_item c.loop-item-test.true) c.span_count.ensures c.loop-item.invariant.0
+split_at-requires c = has_spans _ _ _ _ _ _ c.span_count.result (next_read _ _ c.loop-item-test.true) c.span_count.ensures c.loop-item.invariant.0
 
 pub take_read_item-requires-clause-steps : goal.take_read_item-requires-clause-steps
-take_read_item-requires-clause-steps c =
-    let items = c.parts.result.1.now in
-    let i = c.loop-item.item-index in
-    steps_in_front c.args.file.queue c.parts.result.0 (get_or items i no_read_item) (drop (i + 1) items) _ c.loop-item.rest.now c.split_at.result.0.now
-    c.split_at.result.1.now c.span_count.result (next_at items i no_read_item c.loop-item-test.true) c.span_count.ensures c.split_at.ensures.front
-    c.split_at.ensures.back c.loop-item.invariant.0
+take_read_item-requires-clause-steps c = steps_in_front _ _ _ _ _ _ _ _ _ (next_read _ _ c.loop-item-test.true) c.span_count.ensures c.split_at.ensures.front c.split_at.ensures.back c.loop-item.invariant.0
 
 pub take_read_item-requires-clause-decoded : goal.take_read_item-requires-clause-decoded
-take_read_item-requires-clause-decoded c =
-    let items = c.parts.result.1.now in
-    let i = c.loop-item.item-index in
-    decoded_in_front c.args.file.queue c.parts.result.0 (get_or items i no_read_item) (drop (i + 1) items) _ c.loop-item.rest.now c.split_at.result.0.now
-    c.split_at.result.1.now c.span_count.result (next_at items i no_read_item c.loop-item-test.true) c.span_count.ensures c.split_at.ensures.front
-    c.split_at.ensures.back c.loop-item.invariant.0
+take_read_item-requires-clause-decoded c = decoded_in_front _ _ _ _ _ _ _ _ _ (next_read _ _ c.loop-item-test.true) c.span_count.ensures c.split_at.ensures.front c.split_at.ensures.back c.loop-item.invariant.0
 
 pub take_read_item-requires-clause-stands : goal.take_read_item-requires-clause-stands
 take_read_item-requires-clause-stands c = c.loop-item.invariant.1
 
 pub loop-item-preserved : goal.loop-item-preserved
-loop-item-preserved c =
-    let items = c.parts.result.1.now in
-    let i = c.loop-item.item-index in
-    midway_more c.args.file.queue c.parts.result.0 (get_or items i no_read_item) (drop (i + 1) items) _ c.loop-item.rest.now c.split_at.result.0.now
-    c.split_at.result.1.now c.span_count.result (next_at items i no_read_item c.loop-item-test.true) c.span_count.ensures c.split_at.ensures.front
-    c.split_at.ensures.back
-    items c.parts.result.2.now c.args.self.now c.loop-item.self c.take_read_item.new.self c.loop-item.invariant c.in_ok-take_read_item.ensures
+loop-item-preserved c = midway_more _ _ _ _ _ _ _ _ _ (next_read _ _ c.loop-item-test.true) c.span_count.ensures c.split_at.ensures.front c.split_at.ensures.back
+    c.parts.result.1.now c.parts.result.2.now c.args.self.now c.loop-item.self c.take_read_item.new.self c.loop-item.invariant c.in_ok-take_read_item.ensures
 
 pub returns-in_err-take_read_item-clause-taken : goal.returns-in_err-take_read_item-clause-taken
 returns-in_err-take_read_item-clause-taken c =
-    let items = c.parts.result.1.now in
-    let i = c.loop-item.item-index in
     let p = err_from_is_err_and c.from_residual.result c.from_residual.ensures.1 in
-    rw (p.1, p.2, ← c.parts.ensures.shown) (midway_refused
-    c.args.file.queue c.parts.result.0 (get_or items i no_read_item) (drop (i + 1) items) _ c.loop-item.rest.now
-    c.split_at.result.0.now c.split_at.result.1.now c.span_count.result (next_at items i no_read_item c.loop-item-test.true) c.span_count.ensures
-    c.split_at.ensures.front c.split_at.ensures.back
-    items c.parts.result.2.now c.args.self.now c.loop-item.self c.take_read_item.new.self _ c.loop-item.invariant c.in_err-take_read_item.ensures)
+    rw (p.1, p.2, ← c.parts.ensures.shown) (midway_refused _ _ _ _ _ _ _ _ _ (next_read _ _ c.loop-item-test.true) c.span_count.ensures c.split_at.ensures.front c.split_at.ensures.back
+    c.parts.result.1.now c.parts.result.2.now c.args.self.now c.loop-item.self c.take_read_item.new.self _ c.loop-item.invariant c.in_err-take_read_item.ensures)
 
 pub returns-clause-taken : goal.returns-clause-taken
 returns-clause-taken c = subst (λ l. AreStepsTaken c.args.file.queue (steps_of_items l) (Ok tt) c.args.self.now c.loop-item.self) c.parts.ensures.shown
     (midway_all c.args.file.queue c.parts.result.0 c.parts.result.1.now _ c.parts.result.2.now c.loop-item.rest.now c.args.self.now c.loop-item.self
-    (none_left c.parts.result.1.now c.loop-item.item-index c.loop-item-test.false) c.loop-item.invariant)
+    (drop_of_length-le c.parts.result.1.now c.loop-item-test.false) c.loop-item.invariant)
 
 pub returns-clause-other : goal.returns-clause-other
 returns-clause-other c = other_in c.args.file.queue (steps_of_items c.args.batch.now) c.args.self.now c.loop-item.self (Ok tt)

@@ -1,4 +1,4 @@
-use Rattle.std.proofs.Common.{drop}
+use Rattle.raft_contexts.proofs.Common.{drop}
 use Rattle.raft_contexts.proofs.ReadTakenLemmas.{IsMidway}
 use Rattle.raft_contexts.proofs.marked_tables.MarkedTables.take_read.Given as goal
 

@@ -1,7 +1,5 @@
-use Rattle.raft_contexts.proofs.Common.{◌≡◌, [], ◌∷◌, ◌+◌, slice_index_or, drop, Ok, Err, sym, subst, at_drop_more, err_from_is_err_and, drop_of_length-le, on_each, AtomicGroup, AreStepsTaken}
-use Rattle.raft_base.specs.declared.pipe_log.LogQueue.TheVariants.{Rewrite}
-use Rattle.raft_contexts.proofs.GroupFiles.{file_more}
-use Rattle.raft_contexts.proofs.TakenLemmas.{taken_none, taken_refused}
+use Rattle.raft_contexts.proofs.Common.{one_step, ◌≡◌, [], ◌∷◌, ◌+◌, slice_index_or, drop, Ok, Err, sym, subst, at_drop_more, err_from_is_err_and, drop_of_length-le, on_each, AtomicGroup, AreStepsTaken, Rewrite}
+use Rattle.raft_contexts.proofs.TakenLemmas.{taken_more, taken_none, taken_refused}
 use Rattle.raft_contexts.proofs.marked_tables.MarkedTables.take_seqs.Goals as goal
 
 pub loop-id-preserved : goal.loop-id-preserved
@@ -10,7 +8,7 @@ loop-id-preserved c = λ r d t.
     let step = AtomicGroup c.args.first_seq c.args.last_seq in
     let one : drop c.loop-id.id-index c.args.regions.now ≡ id ∷ drop (c.loop-id.id-index + 1) c.args.regions.now = at_drop_more (λ l. l) c.args.regions.now c.loop-id.id-index 0 c.loop-id-test.true in
     c.loop-id.invariant r d (subst (λ l. AreStepsTaken Rewrite (on_each l step) r c.loop-id.self d) (sym one)
-    (file_more Rewrite c.args.first_seq c.args.last_seq id (drop (c.loop-id.id-index + 1) c.args.regions.now) c.loop-id.self c.take_step.new.self d r c.in_ok-take_step.ensures t))
+    (taken_more Rewrite (one_step id step) (on_each (drop (c.loop-id.id-index + 1) c.args.regions.now) step) c.loop-id.self c.take_step.new.self d r (tt, tt) c.in_ok-take_step.ensures t))
 
 pub returns-in_err-take_step : goal.returns-in_err-take_step
 returns-in_err-take_step c =

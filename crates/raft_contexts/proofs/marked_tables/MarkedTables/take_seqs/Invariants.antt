@@ -1,5 +1,4 @@
-use Rattle.raft_contexts.proofs.Common.{drop, Result, Error, on_each, AtomicGroup, AreStepsTaken, MarkedTables}
-use Rattle.raft_base.specs.declared.pipe_log.LogQueue.TheVariants.{Rewrite}
+use Rattle.raft_contexts.proofs.Common.{drop, Result, Error, on_each, AtomicGroup, AreStepsTaken, MarkedTables, Rewrite}
 use Rattle.raft_contexts.proofs.marked_tables.MarkedTables.take_seqs.Given as goal
 
 abbrev pub invariant-loop-id : goal.invariant-loop-id

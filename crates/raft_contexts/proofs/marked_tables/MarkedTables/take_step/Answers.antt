@@ -1,8 +1,5 @@
-use Rattle.raft_contexts.proofs.Common.{◌∙◌, ap, step_shown, mark_in}
+use Rattle.raft_contexts.proofs.Common.{◌∙◌, ap, step_shown, mark_in, refl, mark_of, regions_in}
 use Rattle.std.specs.FinMap as finite
-use Rattle.std.proofs.Common.{refl}
-use Rattle.raft_table.specs.MarkJoins.{mark_of}
-use Rattle.raft_contexts.specs.MarkedTables.{regions_in}
 use Rattle.raft_contexts.proofs.ImpliedMarkLemmas.{joined_all}
 use Rattle.raft_contexts.proofs.ReadTakenLemmas.{by_put_step}
 use Rattle.raft_contexts.proofs.TakenLemmas.{by_kept}

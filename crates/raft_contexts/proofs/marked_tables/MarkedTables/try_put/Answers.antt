@@ -1,4 +1,4 @@
-use Rattle.std.proofs.Common.{sym}
+use Rattle.raft_contexts.proofs.Common.{sym}
 use Rattle.raft_contexts.proofs.ReadTakenLemmas.{put_taken}
 use Rattle.raft_contexts.proofs.marked_tables.MarkedTables.try_put.Goals as goal
 

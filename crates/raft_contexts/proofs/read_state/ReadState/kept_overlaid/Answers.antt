@@ -1,4 +1,4 @@
-use Rattle.std.proofs.Common.{ap, ◌∙◌, ◌+◌}
+use Rattle.raft_contexts.proofs.Common.{ap, ◌∙◌, ◌+◌}
 use Rattle.raft_history.specs.Kept as numbers
 use Rattle.raft_contexts.proofs.ContextShownLemmas.{counted}
 use Rattle.raft_contexts.proofs.read_state.ReadState.kept_overlaid.Goals as goal

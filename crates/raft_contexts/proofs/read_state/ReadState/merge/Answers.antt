@@ -1,5 +1,4 @@
-use Rattle.raft_contexts.proofs.Common.{◌≢◌, ◌++◌, [], sym, ap, subst, ◌∙◌, err_from_is_err_and, AllByRecursion, region_steps_of_wholes, regions_in, IsStepsFault, context_in, CanTakeEffect}
-use Rattle.raft_base.specs.declared.pipe_log.LogQueue.TheVariants.{Rewrite}
+use Rattle.raft_contexts.proofs.Common.{◌≢◌, ◌++◌, [], sym, ap, subst, ◌∙◌, err_from_is_err_and, AllByRecursion, region_steps_of_wholes, regions_in, IsStepsFault, context_in, CanTakeEffect, Rewrite}
 use Rattle.raft_contexts.proofs.ReadStateLemmas.{alone_of, merge_takes, wholes_fault, middle_of, middle_alone, join_fault, join_merged, join_read, merged_by}
 use Rattle.raft_contexts.proofs.read_state.ReadState.merge.Goals as goal
 

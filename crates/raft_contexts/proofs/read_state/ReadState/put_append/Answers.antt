@@ -1,5 +1,4 @@
-use Rattle.raft_contexts.proofs.Common.{err_from_is_err_and, context_in}
-use Rattle.raft_base.specs.declared.pipe_log.LogQueue.TheVariants.{Append, Rewrite}
+use Rattle.raft_contexts.proofs.Common.{err_from_is_err_and, context_in, Append, Rewrite}
 use Rattle.raft_contexts.proofs.ReadStateLemmas.{alone_of, steps_of_read}
 use Rattle.raft_contexts.proofs.ReadOverlayLemmas.{too_many}
 use Rattle.raft_contexts.proofs.read_state.ReadState.put_append.Goals as goal

@@ -1,5 +1,4 @@
-use Rattle.raft_contexts.proofs.Common.{Some, ap, ◌∙◌, err_from_is_err_and, FileRange, region_steps_or, option_map, joined_files, steps_of_items, event, ranges_shown, context_in, whole_shown}
-use Rattle.raft_base.specs.declared.pipe_log.LogQueue.TheVariants.{Rewrite}
+use Rattle.raft_contexts.proofs.Common.{Some, ap, ◌∙◌, err_from_is_err_and, FileRange, region_steps_or, option_map, joined_files, steps_of_items, event, ranges_shown, context_in, whole_shown, Rewrite}
 use Rattle.raft_contexts.proofs.ReadStateLemmas.{group_effect, effect_fault, refused, group_takes, group_taken}
 use Rattle.raft_contexts.proofs.read_state.ReadState.take_group_batch.Goals as goal
 

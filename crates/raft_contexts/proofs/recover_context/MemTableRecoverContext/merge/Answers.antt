@@ -1,5 +1,4 @@
-use Rattle.std.proofs.Common.{refl}
-use Rattle.std.proofs.lemmas.Result.{err_from_is_err_and}
+use Rattle.raft_contexts.proofs.Common.{refl, err_from_is_err_and}
 use Rattle.raft_contexts.proofs.ContextShownLemmas.{neighbor_taken, neighbor_refused}
 use Rattle.raft_contexts.proofs.recover_context.MemTableRecoverContext.merge.Goals as goal
 

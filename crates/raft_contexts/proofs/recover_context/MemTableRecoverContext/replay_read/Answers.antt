@@ -1,5 +1,4 @@
-use Rattle.raft_contexts.proofs.Common.{err_from_is_err_and, event}
-use Rattle.std.proofs.Common.{refl}
+use Rattle.raft_contexts.proofs.Common.{err_from_is_err_and, event, refl}
 use Rattle.raft_contexts.proofs.ContextShownLemmas.{batch_taken, batch_refused}
 use Rattle.raft_contexts.proofs.recover_context.MemTableRecoverContext.replay_read.Goals as goal
 

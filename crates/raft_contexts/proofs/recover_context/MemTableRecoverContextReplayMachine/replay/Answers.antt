@@ -1,4 +1,4 @@
-use Rattle.raft_history.specs.ReplayMachine.{event}
+use Rattle.raft_contexts.proofs.Common.{event}
 use Rattle.raft_contexts.proofs.RecoverContextLemmas.{on_ok, on_err, replay_stands, replay_exact, replay_unsound}
 use Rattle.raft_contexts.proofs.recover_context.MemTableRecoverContextReplayMachine.replay.Goals as goal
 

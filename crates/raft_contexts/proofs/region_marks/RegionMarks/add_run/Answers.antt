@@ -16,14 +16,11 @@ pub invariant_of-self : goal.invariant_of-self
 invariant_of-self c = kept-same c.self.inside (record c.self.inside { slots = c.make_slots.new.slots }) c.self.invariant c.in_err-make_slots.ensures.err
 
 pub invariant_of-self-2 : goal.invariant_of-self-2
-invariant_of-self-2 c = kept-in c.self.inside (after c) c.make_slots.new.slots.items c.slot_of.result c.index_mut.result.now c.add_run.new.self
-    c.self.invariant (slotted c) c.args.id c.slot_of.ensures.value
-    (one_put c.add_run.result _ _ c.args.id _ c.add_run.ensures.ok c.add_run.ensures.err)
+invariant_of-self-2 c = kept-in c.self.inside (after c) _ _ _ _ c.self.invariant (slotted c) c.args.id c.slot_of.ensures.value (one_put c.add_run.result _ _ c.args.id _ c.add_run.ensures.ok c.add_run.ensures.err)
 
 pub returns-clause-ok : goal.returns-clause-ok
-returns-clause-ok c = ok-in c.self.inside (after c) c.make_slots.new.slots.items c.slot_of.result c.index_mut.result.now c.add_run.new.self
-    c.self.invariant (slotted c) c.args.id c.slot_of.ensures.value c.args.self.now c.self.view_is c.add_run.result
+returns-clause-ok c = ok-in c.self.inside (after c) _ _ _ _ c.self.invariant (slotted c) c.args.id c.slot_of.ensures.value c.args.self.now c.self.view_is c.add_run.result
     (λ m. joined_at c.args.queue c.args.end m (record fresh { reach = Some c.args.start; cut = Some c.args.start })) c.add_run.ensures.ok
 
 pub returns-clause-err : goal.returns-clause-err
-returns-clause-err c = err-in c.self.inside (after c) c.make_slots.new.slots.items c.slot_of.result c.index_mut.result.now c.add_run.new.self c.self.invariant (slotted c) c.args.self.now c.self.view_is c.add_run.result c.add_run.ensures.err
+returns-clause-err c = err-in c.self.inside (after c) _ _ _ _ c.self.invariant (slotted c) c.args.self.now c.self.view_is c.add_run.result c.add_run.ensures.err

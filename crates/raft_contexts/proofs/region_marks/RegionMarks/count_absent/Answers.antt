@@ -1,5 +1,4 @@
-use Rattle.std.proofs.Common.{refl, sym, ap, subst, ◌∙◌, arith}
-use Rattle.raft_accessor.specs.Slots.{together, AreSlots}
+use Rattle.raft_contexts.proofs.Common.{refl, sym, ap, subst, ◌∙◌, arith, together, AreSlots}
 use Rattle.raft_contexts.proofs.CountLemmas.{absent_more, absent_all, no_more}
 use Rattle.raft_contexts.proofs.RegionMarksLemmas.{few_slots}
 use Rattle.raft_contexts.proofs.region_marks.RegionMarks.count_absent.Goals as goal

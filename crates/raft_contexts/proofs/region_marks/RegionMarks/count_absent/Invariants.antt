@@ -1,7 +1,4 @@
-use Rattle.std.proofs.Common.{◌≡◌, ◌≤◌, ◌+◌, ◌*◌, ◌^◌, length, drop}
-use Rattle.std.specs.Map.{keys_of}
-use Rattle.raft_accessor.specs.Slots.{slot_entries}
-use Rattle.raft_contexts.specs.ImpliedMarks.{count_absent}
+use Rattle.raft_contexts.proofs.Common.{◌≡◌, ◌≤◌, ◌+◌, ◌*◌, ◌^◌, length, drop, keys_of, slot_entries, count_absent}
 use Rattle.raft_contexts.proofs.region_marks.RegionMarks.count_absent.Given as goal
 
 abbrev pub invariant-loop-slot : goal.invariant-loop-slot

@@ -1,7 +1,5 @@
-use Rattle.std.proofs.Common.{slice_index_or, sym, ap, ◌∙◌, arith}
+use Rattle.raft_contexts.proofs.Common.{slice_index_or, sym, ap, ◌∙◌, arith, is_some, get-together}
 use Rattle.std.specs.FinMap as finite
-use Rattle.std.specs.Option.{is_some}
-use Rattle.raft_accessor.proofs.SlotLemmas.{get-together}
 use Rattle.raft_contexts.proofs.RegionMarksLemmas.{full, none_without}
 use Rattle.raft_contexts.proofs.region_marks.RegionMarks.has.Goals as goal
 

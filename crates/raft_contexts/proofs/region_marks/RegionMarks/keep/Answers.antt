@@ -1,6 +1,4 @@
-use Rattle.std.proofs.Common.{sym, ap, ◌∙◌}
-use Rattle.std.specs.Option.{option_map}
-use Rattle.raft_table.specs.Steps.{table_of}
+use Rattle.raft_contexts.proofs.Common.{sym, ap, ◌∙◌, option_map, table_of}
 use Rattle.raft_contexts.proofs.ImpliedMarkLemmas.{mark_kept, kept_blank, kept_same, kept_now}
 use Rattle.raft_contexts.proofs.SlotMarksLemmas.{mark_of_some}
 use Rattle.raft_contexts.proofs.region_marks.RegionMarks.keep.Goals as goal

@@ -1,4 +1,4 @@
-use Rattle.std.proofs.Common.{sym, ◌∙◌, arith}
+use Rattle.raft_contexts.proofs.Common.{sym, ◌∙◌, arith}
 use Rattle.raft_contexts.proofs.ImpliedMarkLemmas.{run_joined, run_kept}
 use Rattle.raft_contexts.proofs.region_marks.RegionMarks.mark_run.Goals as goal
 

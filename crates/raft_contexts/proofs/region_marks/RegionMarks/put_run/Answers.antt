@@ -1,7 +1,5 @@
-use Rattle.std.proofs.Common.{length, refl, ap, arith}
-use Rattle.std.specs.Vec.{with_item}
+use Rattle.raft_contexts.proofs.Common.{length, refl, ap, arith, with_item, run_at}
 use Rattle.raft_contexts.specs.declared.region_marks.RegionMarks.TheInside.{Inside}
-use Rattle.raft_contexts.specs.RegionMarks.{run_at}
 use Rattle.raft_contexts.proofs.RegionMarksLemmas.{InSlot, all_slots, kept-same, kept-in, ok-in, err-in, one_put}
 use Rattle.raft_contexts.proofs.region_marks.RegionMarks.put_run.Goals as goal
 
@@ -18,14 +16,11 @@ pub invariant_of-self : goal.invariant_of-self
 invariant_of-self c = kept-same c.self.inside (record c.self.inside { slots = c.make_slots.new.slots }) c.self.invariant c.in_err-make_slots.ensures.err
 
 pub invariant_of-self-2 : goal.invariant_of-self-2
-invariant_of-self-2 c = kept-in c.self.inside (after c) c.make_slots.new.slots.items c.slot_of.result c.index_mut.result.now c.put_run.new.self
-    c.self.invariant (slotted c) c.args.id c.slot_of.ensures.value
-    (one_put c.put_run.result _ _ c.args.id _ c.put_run.ensures.ok c.put_run.ensures.err)
+invariant_of-self-2 c = kept-in c.self.inside (after c) _ _ _ _ c.self.invariant (slotted c) c.args.id c.slot_of.ensures.value (one_put c.put_run.result _ _ c.args.id _ c.put_run.ensures.ok c.put_run.ensures.err)
 
 pub returns-clause-ok : goal.returns-clause-ok
-returns-clause-ok c = ok-in c.self.inside (after c) c.make_slots.new.slots.items c.slot_of.result c.index_mut.result.now c.put_run.new.self
-    c.self.invariant (slotted c) c.args.id c.slot_of.ensures.value c.args.self.now c.self.view_is c.put_run.result
+returns-clause-ok c = ok-in c.self.inside (after c) _ _ _ _ c.self.invariant (slotted c) c.args.id c.slot_of.ensures.value c.args.self.now c.self.view_is c.put_run.result
     (λ _. run_at c.args.start) c.put_run.ensures.ok
 
 pub returns-clause-err : goal.returns-clause-err
-returns-clause-err c = err-in c.self.inside (after c) c.make_slots.new.slots.items c.slot_of.result c.index_mut.result.now c.put_run.new.self c.self.invariant (slotted c) c.args.self.now c.self.view_is c.put_run.result c.put_run.ensures.err
+returns-clause-err c = err-in c.self.inside (after c) _ _ _ _ c.self.invariant (slotted c) c.args.self.now c.self.view_is c.put_run.result c.put_run.ensures.err

@@ -1,4 +1,4 @@
-use Rattle.std.proofs.Common.{sym, ◌∙◌}
+use Rattle.raft_contexts.proofs.Common.{sym, ◌∙◌}
 use Rattle.raft_contexts.proofs.WaitingSeen.{len-seen}
 use Rattle.raft_contexts.proofs.waiting_groups.WaitingGroups.len.Goals as goal
 

@@ -1,6 +1,6 @@
-use Rattle.std.proofs.Common.{◌≡◌, rules, []}
+use Rattle.raft_contexts.proofs.Common.{◌≡◌, rules, []}
 use Rattle.std.specs.FinMap as finite
-use Rattle.raft_contexts.proofs.WaitingGroupLemmas.{none_left}
+use Rattle.raft_table.proofs.KeyValueReads.{none_left}
 use Rattle.raft_contexts.proofs.WaitingSeen.{first-seen, none-seen}
 use Rattle.raft_contexts.proofs.waiting_groups.WaitingGroups.take_first.Goals as goal
 

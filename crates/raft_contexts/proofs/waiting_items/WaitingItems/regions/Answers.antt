@@ -1,5 +1,4 @@
-use Rattle.raft_contexts.proofs.Common.{◌==◌, ◌||◌, sym, ap, ◌∙◌, list_any, drop_of_length-le, names}
-use Rattle.std.proofs.Math.Bool.{or-false}
+use Rattle.raft_contexts.proofs.Common.{◌==◌, ◌||◌, sym, ap, ◌∙◌, list_any, drop_of_length-le, names, or-false}
 use Rattle.raft_contexts.proofs.WaitingItemLemmas.{are_on, steps_named}
 use Rattle.raft_contexts.proofs.waiting_items.WaitingItems.regions.Goals as goal
 

@@ -1,5 +1,4 @@
-use Rattle.raft_contexts.proofs.Common.{nat_eq, ◌≡◌, Some, None, sym, ap, subst, ◌∙◌, on_ok_weaker, on_err_weaker, OnOk, OnErr, lookup, is_some, option_copied_mut, Mark, fresh, joined_at, mark_in}
-use Rattle.raft_contexts.proofs.Common.{slot_shown}
+use Rattle.raft_contexts.proofs.Common.{nat_eq, ◌≡◌, Some, None, sym, ap, subst, ◌∙◌, on_ok_weaker, on_err_weaker, OnOk, OnErr, lookup, is_some, option_copied_mut, Mark, fresh, joined_at, mark_in, slot_shown}
 use Rattle.std.specs.FinMap as finite
 use Rattle.raft_contexts.specs.declared.region_marks.slot.SlotMarks.TheInside.{Inside}
 use Rattle.raft_contexts.proofs.SlotMarksLemmas.{shown-with, shown-same, there, absent, put_back, mark_of_some, mark_of_none, first_run}

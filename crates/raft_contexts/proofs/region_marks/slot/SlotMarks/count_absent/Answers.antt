@@ -1,10 +1,5 @@
-use Rattle.std.proofs.Common.{◌≡◌, ℕ, length, ap, ◌∙◌, arith}
+use Rattle.raft_contexts.proofs.Common.{◌≡◌, ℕ, length, ap, ◌∙◌, arith, keys_of, length-map, Mark, count_absent, once-distinct}
 use Rattle.std.specs.FinMap as finite
-use Rattle.std.specs.Map.{keys_of}
-use Rattle.std.proofs.lemmas.List.{length-map}
-use Rattle.raft_table.specs.Marks.{Mark}
-use Rattle.raft_contexts.specs.ImpliedMarks.{count_absent}
-use Rattle.raft_accessor.proofs.OrderLemmas.{once-distinct}
 use Rattle.raft_contexts.proofs.CountLemmas.{absent_one, absent_permuted}
 use Rattle.raft_contexts.proofs.region_marks.slot.SlotMarks.count_absent.Goals as goal
 

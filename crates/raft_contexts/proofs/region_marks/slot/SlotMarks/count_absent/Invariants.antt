@@ -1,5 +1,4 @@
-use Rattle.std.proofs.Common.{◌≡◌, ◌≤◌, ◌+◌, length}
-use Rattle.raft_contexts.specs.ImpliedMarks.{count_absent}
+use Rattle.raft_contexts.proofs.Common.{◌≡◌, ◌≤◌, ◌+◌, length, count_absent}
 use Rattle.raft_contexts.proofs.region_marks.slot.SlotMarks.count_absent.Given as goal
 
 abbrev pub invariant-loop-id : goal.invariant-loop-id

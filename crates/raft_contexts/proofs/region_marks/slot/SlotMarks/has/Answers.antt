@@ -1,5 +1,4 @@
-use Rattle.std.proofs.Common.{sym, ap, ◌∙◌}
-use Rattle.std.specs.Option.{is_some}
+use Rattle.raft_contexts.proofs.Common.{sym, ap, ◌∙◌, is_some}
 use Rattle.raft_contexts.proofs.SlotMarksLemmas.{get-shown}
 use Rattle.raft_contexts.proofs.region_marks.slot.SlotMarks.has.Goals as goal
 

@@ -4,8 +4,6 @@ use Rattle.raft_contexts.specs.declared.region_marks.slot.SlotMarks.TheInside.{I
 use Rattle.raft_contexts.proofs.SlotMarksLemmas.{shown-with, shown-same, there, absent, mark_of_some, mark_of_none, updated, made, refused}
 use Rattle.raft_contexts.proofs.region_marks.slot.SlotMarks.update.Goals as goal
 
--- ---- the mark is there
-
 pub update-requires : goal.update-requires
 update-requires g c = subst (MayChangeMark g.F.FnOnce c.args.change) (mark_of_some c.args.self.now c.args.id _ (there c.self.inside c.args.self.now c.args.id _ _ c.self.view_is c.get_mut.ensures.value c.in-Some.is)) c.requires
 
@@ -15,8 +13,6 @@ returns-in-Some g c =
     (shown-with c.self.inside (record c.self.inside { marks = c.get_mut.follows.lender c.update.new.self }) c.args.self.now c.args.id
     c.update.new.self c.self.view_is
     ((c.get_mut.follows.holds c.update.new.self).3 (ap is_some (sym c.get_mut.ensures.value ∙ ap option_copied_mut c.in-Some.is))).0)
-
--- ---- the mark is made
 
 pub changed-requires : goal.changed-requires
 changed-requires g c = subst (MayChangeMark g.F.FnOnce c.args.change)

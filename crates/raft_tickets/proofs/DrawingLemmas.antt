@@ -1,6 +1,6 @@
 -- Each step on the word keeps the rule of drawing.
-use Rattle.std.proofs.Common.{◌≡◌, ℕ, zero, suc, ◌+◌, ◌-◌, ◌%◌, ◌^◌, ◌<◌, ◌≤◌, cond, Bool, true, false, List, [], ◌∷◌, ◌++◌, All, length, length-append, get_or, set, take, drop, replicate}
-use Rattle.std.proofs.Common.{sym, refl, ap, ◌∙◌, subst, arith, length-set, get_or-set_same, drop-drop, nat_le, ◌==◌}
+use Rattle.std.proofs.Common.{◌≡◌, ℕ, suc, ◌+◌, ◌-◌, ◌%◌, ◌^◌, ◌<◌, ◌≤◌, cond, Bool, true, false, List, [], ◌∷◌, ◌++◌, All, length, length-append, get_or, set, take, drop, replicate}
+use Rattle.std.proofs.Common.{sym, refl, ap, ◌∙◌, subst, arith, length-set, get_or-set_same, nat_le, ◌==◌}
 use Rattle.raft_tickets.proofs.Common.{nat_tests, drop-replicate, get_or_append_left, State, Me, keeps, Allows, Splits, Joins, weigh, occurrences, TicketSeat, AreBelow, AreAbove, Rises, once_below}
 use Rattle.raft_tickets.proofs.Common.{lists_in, occurrences_in, times_passed, times_passed_in, IsDrawn, HasDrawn, only, Continues, IsDrawer}
 use mathlib.Core.Option.{some, some-injective, some-ne-none}
@@ -23,7 +23,7 @@ times_itself x ys = grind (arith, nat_tests)
 once_more : (x n : ℕ) → once_below x (n + 1) ≡ once_below x n + cond (x == n) 1 0
 once_more x n = grind (arith, nat_tests)
 
-below_once : (x n : ℕ) → 0 < once_below x n → x < n
+pub below_once : (x n : ℕ) → 0 < once_below x n → x < n
 below_once x n h = grind (arith, nat_tests)
 
 once_none : (x : ℕ) → once_below x 0 ≡ 0
@@ -209,20 +209,10 @@ weigh_joined f view other after drawn joined one =
 
 -- the seats that are left to be cut
 pub first_left : (n k : ℕ) → k < n → take 1 (drop k (replicate n (nothing))) ≡ nothing ∷ []
-first_left n k small = rw (drop-replicate k n nothing) (take_one (n - k) (omega arith))
-  where
-    take_one : (m : ℕ) → 0 < m → take 1 (replicate m nothing) ≡ nothing ∷ []
-    take_one zero bad = absurd (omega arith)
-    take_one (suc m) some_left = refl
+first_left n k small = let more : n - k ≡ suc (n - k - 1) = omega arith in rw (drop-replicate k n nothing, more) refl
 
 pub last_left : (n k : ℕ) → k + 1 ≡ n → drop k (replicate n nothing) ≡ nothing ∷ []
-last_left n k is = rw (drop-replicate k n nothing) (ap (λ (m : ℕ). replicate m nothing) one)
-  where
-    one : n - k ≡ 1
-    one = omega arith
-
-pub fewer_left : (n k : ℕ) → drop 1 (drop k (replicate n nothing)) ≡ drop (k + 1) (replicate n nothing)
-fewer_left n k = drop-drop 1 k (replicate n nothing)
+last_left n k is = let one : n - k ≡ 1 = omega arith in rw (drop-replicate k n nothing, one) refl
 
 -- the last of the seats goes
 pub one_fewer : {A : Type 0} (f : A → ℕ) (xs ys : List A) (x : A) → xs ≡ ys ++ x ∷ [] → weigh f xs ≡ weigh f ys + f x

@@ -3,3 +3,4 @@ pub mod Drawing
 pub mod TicketModel
 pub mod TicketSeatModel
 pub mod Weights
+pub mod Common

@@ -1,8 +1,9 @@
 //! The rule of the word from which seats draw numbers.
 
 ghost use Rattle.std.specs.Prelude.{◌≡◌, [], ◌++◌, take, drop, replicate};
+ghost use Rattle.raft_tickets.specs.Drawing.{HasDrawn, IsDrawn};
 
-use atomic_table::{Join, Play, Split, TableRule};
+use atomic_table::{Join, Play, Shared, Split, TableRule};
 use std::collections::LinkedList;
 
 /// The numbers that seats drew, a list for each. No value of it is made.
@@ -15,13 +16,13 @@ pub(crate) struct Sizes {
     pub(crate) seats: u64,
 }
 
+/// The word that seats share.
+pub(crate) type Word = Shared<(), Lists, Sizes, Drawing>;
+
 /// The rule that the numbers below the word were drawn, each once.
 pub(crate) struct Drawing;
 
 impl TableRule<(), Lists, Sizes> for Drawing {
-    ghost use Rattle.std.specs.Prelude.{[], replicate};
-    ghost use Rattle.raft_tickets.specs.Drawing.{IsDrawn};
-
     ghost holds = { λ sizes s. IsDrawn sizes.total sizes.seats s.words s.views };
 
     ghost first = { λ sizes. replicate sizes.seats [] };
@@ -31,9 +32,6 @@ impl TableRule<(), Lists, Sizes> for Drawing {
 pub(crate) struct Draws;
 
 impl Play<(), Lists> for Draws {
-    ghost use Rattle.std.specs.Prelude.{◌≡◌};
-    ghost use Rattle.raft_tickets.specs.Drawing.{HasDrawn};
-
     ghost then = { λ _ me n after. HasDrawn me.0 n after.0 × (after.1 ≡ me.1) };
 }
 
@@ -41,8 +39,6 @@ impl Play<(), Lists> for Draws {
 pub(crate) struct First;
 
 impl Split<Lists> for First {
-    ghost use Rattle.std.specs.Prelude.{take, drop};
-
     ghost left = { λ view. drop 1 view };
 
     ghost right = { λ view. take 1 view };
@@ -52,8 +48,6 @@ impl Split<Lists> for First {
 pub(crate) struct Both;
 
 impl Join<Lists> for Both {
-    ghost use Rattle.std.specs.Prelude.{[], ◌++◌};
-
     ghost both = { λ view other. view ++ other };
 
     ghost spent = { [] };

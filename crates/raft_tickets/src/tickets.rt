@@ -5,8 +5,8 @@ ghost use Rattle.raft_tickets.specs.Draws.{IsSeatOf, IsNewSeatOf, Rises, Draw, o
 ghost use Rattle.raft_tickets.specs.Weights.{weigh, occurrences};
 
 use crate::TicketSeat;
-use crate::drawing::{Both, Drawing, Draws, First, Lists, Sizes};
-use atomic_table::{Seat, Shared, Table};
+use crate::drawing::{Both, Drawing, Draws, First, Lists, Sizes, Word};
+use atomic_table::{Seat, Table};
 use raft_base::{Error, Result};
 use std::alloc::Global;
 use std::marker::Model;
@@ -107,7 +107,7 @@ impl Tickets {
 
 fn split_seats(
     alloc: Global,
-    shared: &Shared<(), Lists, Sizes, Drawing>,
+    shared: &Word,
     mut root: Seat<(), Lists>,
     total: u64,
     count: usize,
@@ -139,11 +139,7 @@ fn new_seat(seat: Seat<(), Lists>, total: u64) -> TicketSeat
     }
 }
 
-fn join_seats(
-    shared: &Shared<(), Lists, Sizes, Drawing>,
-    seat: &mut Seat<(), Lists>,
-    mut seats: Vec<TicketSeat>,
-)
+fn join_seats(shared: &Word, seat: &mut Seat<(), Lists>, mut seats: Vec<TicketSeat>)
     requires word { 0 < shared.now.table_id.words }
     requires seat { seat.old.table_id ≡ shared.now.table_id }
     requires seats { All (λ s. s.table ≡ shared.now.table_id) seats.items }
@@ -156,11 +152,7 @@ fn join_seats(
     }
 }
 
-fn join_seat(
-    shared: &Shared<(), Lists, Sizes, Drawing>,
-    seat: &mut Seat<(), Lists>,
-    other: TicketSeat,
-)
+fn join_seat(shared: &Word, seat: &mut Seat<(), Lists>, other: TicketSeat)
     requires word { 0 < shared.now.table_id.words }
     requires seat { seat.old.table_id ≡ shared.now.table_id }
     requires other { other.table ≡ shared.now.table_id }

@@ -1,5 +1,5 @@
-use Rattle.raft_tickets.proofs.Common.{ℕ, ◌≡◌, ◌+◌, List, [], drop, take, length, replicate, sym, ap, ◌∙◌, arith, length_push, All-push, TicketSeat}
-use Rattle.raft_tickets.proofs.DrawingLemmas.{nothing, splits, first_left, last_left, fewer_left}
+use Rattle.raft_tickets.proofs.Common.{ℕ, ◌≡◌, ◌+◌, List, [], drop, drop-drop, take, length, replicate, sym, ap, ◌∙◌, arith, length_push, All-push, TicketSeat}
+use Rattle.raft_tickets.proofs.DrawingLemmas.{nothing, splits, first_left, last_left}
 use Rattle.raft_tickets.proofs.tickets.split_seats.Goals as goal
 
 pub split_seat-seat-requires : goal.split_seat-seat-requires
@@ -20,7 +20,7 @@ loop-preserved c =
       table = c.split_seat-seat.ensures.0 ∙ c.loop.invariant.table;
       lists =
           let lists = ap (λ (m : List (List ℕ) × List (ℕ × Unit {0})). (drop 1 m.0, m.1)) c.loop.invariant.lists in
-          let fewer = fewer_left c.args.count (length c.loop.seats.items) in
+          let fewer = drop-drop 1 (length c.loop.seats.items) (replicate c.args.count nothing) in
           let same = ap (λ (k : ℕ). drop k (replicate c.args.count nothing)) (sym more) in
           c.split_seat-seat.ensures.2 ∙ lists ∙ ap (λ (l : List (List ℕ)). (l, [])) (fewer ∙ same);
       made = let m = c.loop.invariant.made in omega arith;

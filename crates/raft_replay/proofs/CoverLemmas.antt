@@ -1,7 +1,7 @@
 -- What pieces cover: one more segment, all that a seat drew, and all pieces in order.
 use Rattle.raft_replay.proofs.Common.{◌≡◌, ℕ, ◌+◌, ◌<◌, ◌≤◌, inl, inr, max, cond, List, [], ◌∷◌, ◌++◌, None, Vec, length, get_or, take, drop, sym, ap, ◌∙◌, subst, arith, take-append-drop, drop-drop, get_or-drop, length-drop, ◌==◌, Global}
 use Rattle.raft_replay.proofs.Common.{nat_tests, take_more, drop_more, Part, Event, small_front, Piece, IsPiece, covers, cover_count, Draw, AreBelow, HasEnded, HasReplayed, CannotFollow, CannotBeRead, occurrences, weigh-append}
-use Rattle.raft_replay.proofs.Words.{PartsHold}
+use Rattle.raft_replay.proofs.Words.{PartsHold, SegmentReads}
 use Rattle.raft_replay.proofs.MachineOrderLemmas.{each_more, unread_behind, unread_after}
 
 -- ---- what one piece covers
@@ -21,9 +21,6 @@ covers_none from x = grind (arith, nat_tests)
 -- the next number is one more
 pub covers_more : (from count x : ℕ) → covers from (count + 1) x ≡ covers from count x + cond (x == from + count) 1 0
 covers_more from count x = grind (arith, nat_tests)
-
-abbrev SegmentReads : Vec Part Global → List Event → Type 0
-SegmentReads segment h = PartsHold segment.items h
 
 -- ---- one segment more
 

@@ -1,20 +1,11 @@
 -- A part that is cut where a batch ends.
-use Rattle.raft_replay.proofs.Common.{◌≡◌, ℕ, ◌≤◌, List, [], ◌∷◌, ◌++◌, length, drop, refl, sym, ap, ◌∙◌, subst, arith, length-take-le, Part, IsBatchAt, Item, Event, bytes_before, rest_of, BatchesMeet, HoldsFrom, AreCutFrom, with_bytes}
-use Rattle.raft_replay.proofs.Common.{batch_inside}
-use Rattle.std.proofs.lemmas.List.{take-append-drop}
-use Rattle.raft_replay.proofs.CutPartLemmas.{cut_in_two}
+use Rattle.raft_replay.proofs.Common.{◌≡◌, ℕ, ◌≤◌, List, [], ◌∷◌, ◌++◌, length, refl, sym, ap, ◌∙◌, subst, arith, length-take-le, Part, Event, bytes_before, rest_of, BatchesMeet, HoldsFrom, AreCutFrom, batch_inside}
+use Rattle.raft_replay.proofs.CutPartLemmas.{cut_in_two, of_front}
 use Rattle.raft_replay.proofs.SegmentLemmas.{batch_unique}
-use Rattle.raft_replay.proofs.WrittenPartLemmas.{longer_stands}
 
 module _ (part : Part) (at : ℕ) (inside : at ≤ length part.bytes) where
   abbrev front : Part
   front = bytes_before part at
-
-  whole : with_bytes front (drop at part.bytes) ≡ part
-  whole = ap (λ (l : List ℕ). record part { bytes = l }) (take-append-drop at part.bytes)
-
-  in_whole : (i next : ℕ) (items : List Item) → IsBatchAt front i items next → IsBatchAt part i items next
-  in_whole i next items b = subst (λ (p : Part). IsBatchAt p i items next) whole (longer_stands front (drop at part.bytes) i next items b)
 
   -- what stands before the byte is read first, and the rest from there on
   left : (i : ℕ) (first h : List Event) → HoldsFrom front i first → HoldsFrom part i h → (rest : List Event) × (h ≡ first ++ rest) × HoldsFrom part at rest
@@ -24,7 +15,7 @@ module _ (part : Part) (at : ℕ) (inside : at ≤ length part.bytes) where
       let n = length-take-le at part.bytes inside in
       absurd (omega (arith, b.0, b.1, n, ends, inside))
   left i (e ∷ first) (g ∷ h) f held =
-      let one = batch_unique part i g.items e.items held.1.0 f.1.0 held.1.1 (in_whole i f.1.0 e.items f.1.1) in
+      let one = batch_unique part i g.items e.items held.1.0 f.1.0 held.1.1 (of_front part at i f.1.0 e.items f.1.1) in
       let r = left f.1.0 first h f.1.2 (subst (λ (n : ℕ). HoldsFrom part n h) one.1 held.1.2) in
       let file : g.file ≡ e.file = held.0 ∙ sym f.0 in
       let same : g ≡ e = λ j. record { items = one.0 j; file = file j } in

@@ -1,6 +1,6 @@
 -- Which bytes the parts have that one is cut into.
 use Rattle.raft_replay.proofs.Common.{◌≡◌, ℕ, ◌+◌, ◌≤◌, List, [], ◌∷◌, ◌++◌, length, take, drop, refl, sym, ap, ◌∙◌, subst, arith, append_assoc, append-nil, length-append, length-take-le, FileId, Version, Part, bytes_before, rest_of}
-use Rattle.raft_replay.proofs.Common.{joined_bytes, StandInTurn, ArePartsOf, AreCutInTurn}
+use Rattle.raft_replay.proofs.Common.{joined_bytes, StandInTurn, ArePartsOf}
 use Rattle.std.proofs.lemmas.List.{take-append-drop}
 
 -- ---- parts behind others
@@ -23,14 +23,11 @@ module _ (id : FileId) (version : Version) where
     turn_append (offset + length x.bytes) xs ys front.3 (subst (λ (n : ℕ). StandInTurn id version n ys) (behind_one offset x xs) back),
   )
 
-  turn_front : (offset : ℕ) (xs ys : List Part) → StandInTurn id version offset (xs ++ ys) → StandInTurn id version offset xs
-  turn_front offset [] ys all = tt
-  turn_front offset (x ∷ xs) ys all = (all.0, all.1, all.2, turn_front (offset + length x.bytes) xs ys all.3)
-
-  turn_back : (offset : ℕ) (xs ys : List Part) → StandInTurn id version offset (xs ++ ys) → StandInTurn id version (offset + length (joined_bytes xs)) ys
-  turn_back offset [] ys all = subst (λ (n : ℕ). StandInTurn id version n ys) (omega arith) all
-  turn_back offset (x ∷ xs) ys all =
-      subst (λ (n : ℕ). StandInTurn id version n ys) (sym (behind_one offset x xs)) (turn_back (offset + length x.bytes) xs ys all.3)
+  turn_split : (offset : ℕ) (xs ys : List Part) → StandInTurn id version offset (xs ++ ys) → StandInTurn id version offset xs × StandInTurn id version (offset + length (joined_bytes xs)) ys
+  turn_split offset [] ys all = (tt, subst (λ (n : ℕ). StandInTurn id version n ys) (omega arith) all)
+  turn_split offset (x ∷ xs) ys all =
+      let rest = turn_split (offset + length x.bytes) xs ys all.3 in
+      ((all.0, all.1, all.2, rest.0), subst (λ (n : ℕ). StandInTurn id version n ys) (sym (behind_one offset x xs)) rest.1)
 
 -- ---- one part more
 
@@ -38,7 +35,8 @@ module _ (id : FileId) (version : Version) where
 last_cut : (whole left : Part) (old : List Part) (at : ℕ) → ArePartsOf whole (old ++ left ∷ []) → at ≤ length left.bytes
     → ArePartsOf whole (old ++ bytes_before left at ∷ rest_of left at ∷ [])
 last_cut whole left old at before inside =
-    let last = turn_back whole.id whole.version whole.offset old (left ∷ []) before.in_turn in
+    let turn = turn_split whole.id whole.version whole.offset old (left ∷ []) before.in_turn in
+    let last = turn.1 in
     let ends : left.offset + at ≡ whole.offset + length (joined_bytes old) + length (take at left.bytes) =
     let n = length-take-le at left.bytes inside in let o = last.2 in omega (arith, n, o) in
     let two : joined_bytes (bytes_before left at ∷ rest_of left at ∷ []) ≡ joined_bytes (left ∷ []) =
@@ -46,8 +44,7 @@ last_cut whole left old at before inside =
     record {
       in_turn =
           turn_append whole.id whole.version whole.offset old (bytes_before left at ∷ rest_of left at ∷ [])
-          (turn_front whole.id whole.version whole.offset old (left ∷ []) before.in_turn)
-          (last.0, last.1, last.2, (last.0, last.1, ends, tt));
+          turn.0 (last.0, last.1, last.2, (last.0, last.1, ends, tt));
       bytes =
           joined_append old (bytes_before left at ∷ rest_of left at ∷ [])
           ∙ ap (λ (t : List ℕ). joined_bytes old ++ t) two
@@ -64,14 +61,3 @@ parts_more whole left front rest old new at before inside front_is rest_is new_i
     ∙ ap (λ (l : List Part). l ++ rest_of left at ∷ []) (sym new_is)
     ∙ ap (λ (p : Part). new ++ p ∷ []) (sym rest_is))
     (last_cut whole left old at before inside)
-
--- one part more is cut
-pub cut_in_turn_more : (these those cut : List Part) (part : Part) → AreCutInTurn these those → ArePartsOf part cut → AreCutInTurn (these ++ part ∷ []) (those ++ cut)
-cut_in_turn_more [] those cut part none parts = (cut, [], ap (λ (l : List Part). l ++ cut) none ∙ sym (append-nil cut), parts, refl)
-cut_in_turn_more (this ∷ these) those cut part before parts = (
-  before.0,
-  before.1 ++ cut,
-  ap (λ (l : List Part). l ++ cut) before.2 ∙ append_assoc before.0 before.1 cut,
-  before.3,
-  cut_in_turn_more these before.1 cut part before.4 parts,
-)

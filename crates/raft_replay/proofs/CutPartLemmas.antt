@@ -1,73 +1,40 @@
 -- What is read of a part that is cut between two batches.
-use Rattle.raft_replay.proofs.Common.{◌≡◌, ◌↔◌, ℕ, ◌+◌, ◌-◌, ◌<◌, ◌≤◌, List, [], ◌∷◌, ◌++◌, length, map, take, drop, refl, sym, ap, ◌∙◌, subst, arith, append_assoc, append-nil, drop-take, take-take, length-take-le, drop-append-le}
+use Rattle.raft_replay.proofs.Common.{◌≡◌, ◌↔◌, ℕ, ◌+◌, ◌-◌, ◌<◌, ◌≤◌, List, [], ◌∷◌, ◌++◌, length, map, take, drop, refl, sym, ap, ◌∙◌, subst, arith, append_assoc, append-nil, drop-take, take-take, length-take-le}
 use Rattle.raft_replay.proofs.Common.{take-append-add, FileBlockHandle, CompressionType, Part, IsBatchAt, HasHeader, IsFramedAt, framed_at, place_between, Item, placed_item, header_one, Event, bytes_before, rest_of, BatchesMeet}
-use Rattle.raft_replay.proofs.Common.{AreHeldInTurn, HoldsFrom, AreCutFrom, batch_inside}
+use Rattle.raft_replay.proofs.Common.{AreHeldInTurn, HoldsFrom, AreCutFrom}
 use Rattle.std.proofs.lemmas.List.{drop-drop, length-drop, take-append-drop}
 use Rattle.raft_replay.proofs.Words.{PartHolds, PartsHold}
 use Rattle.raft_replay.proofs.MachineOrderLemmas.{each_join, each_cut, each_single}
+use Rattle.raft_replay.proofs.WrittenPartLemmas.{longer_stands}
 
 -- ---- one batch
 
 -- a batch that ends before a byte stands in the bytes before it
 in_front : (part : Part) (at i next : ℕ) (items : List Item) → next ≤ at → IsBatchAt part i items next → IsBatchAt (bytes_before part at) i items next
-in_front part at i next items before b = record {
-  bytes = b.bytes;
-  read = b.read;
-  between = b.between;
-  laid_out = b.laid_out;
-  stands = stands;
-  ends = b.ends;
-  places = b.places;
-}
-  where
-    xs : List ℕ
-    xs = part.bytes
-
-    more : ℕ
-    more = at - next
-
-    all : i + (length b.bytes + more) ≡ at
-    all = let e = b.ends in omega (arith, before)
-
-    rest : next + more ≡ at
-    rest = omega (arith, before)
-
-    stands : drop i (take at xs) ≡ b.bytes ++ drop next (take at xs)
-    stands =
-        ap (λ n. drop i (take n xs)) (sym all)
-        ∙ drop-take i (length b.bytes + more) xs
-        ∙ ap (take (length b.bytes + more)) b.stands
-        ∙ take-append-add b.bytes (drop next xs) more
-        ∙ ap (λ (t : List ℕ). b.bytes ++ t) (sym (drop-take next more xs) ∙ ap (λ n. drop next (take n xs)) rest)
+in_front part at i next items before b =
+    let xs = part.bytes in
+    let more : ℕ = at - next in
+    let all : i + (length b.bytes + more) ≡ at = let e = b.ends in omega (arith, before) in
+    let rest : next + more ≡ at = omega (arith, before) in
+    record {
+      bytes = b.bytes;
+      read = b.read;
+      between = b.between;
+      laid_out = b.laid_out;
+      stands = ap (λ (n : ℕ). drop i (take n xs)) (sym all)
+          ∙ drop-take i (length b.bytes + more) xs
+          ∙ ap (take (length b.bytes + more)) b.stands
+          ∙ take-append-add b.bytes (drop next xs) more
+          ∙ ap (λ (t : List ℕ). b.bytes ++ t) (sym (drop-take next more xs) ∙ ap (λ (n : ℕ). drop next (take n xs)) rest);
+      ends = b.ends;
+      places = b.places;
+    }
 
 -- a batch in the bytes before one stands in the part
-of_front : (part : Part) (at i next : ℕ) (items : List Item) → IsBatchAt (bytes_before part at) i items next → IsBatchAt part i items next
-of_front part at i next items b = record {
-  bytes = b.bytes;
-  read = b.read;
-  between = b.between;
-  laid_out = b.laid_out;
-  stands = stands;
-  ends = b.ends;
-  places = b.places;
-}
-  where
-    xs : List ℕ
-    xs = part.bytes
-
-    inside : next ≤ length (take at xs)
-    inside = (batch_inside (bytes_before part at) i items next b).1
-
-    begins : i ≤ length (take at xs)
-    begins = let e = batch_inside (bytes_before part at) i items next b in omega (arith, e.0, e.1)
-
-    stands : drop i xs ≡ b.bytes ++ drop next xs
-    stands =
-        ap (drop i) (sym (take-append-drop at xs))
-        ∙ drop-append-le i (take at xs) (drop at xs) begins
-        ∙ ap (λ (t : List ℕ). t ++ drop at xs) b.stands
-        ∙ append_assoc b.bytes (drop next (take at xs)) (drop at xs)
-        ∙ ap (λ (t : List ℕ). b.bytes ++ t) (sym (drop-append-le next (take at xs) (drop at xs) inside) ∙ ap (drop next) (take-append-drop at xs))
+pub of_front : (part : Part) (at i next : ℕ) (items : List Item) → IsBatchAt (bytes_before part at) i items next → IsBatchAt part i items next
+of_front part at i next items b =
+    subst (λ (xs : List ℕ). IsBatchAt (record part { bytes = xs }) i items next) (take-append-drop at part.bytes)
+    (longer_stands (bytes_before part at) (drop at part.bytes) i next items b)
 
 -- where the entries of a batch lie does not hang on where the part begins
 place_from : (part : Part) (at j len : ℕ) → place_between (rest_of part at) j len ≡ place_between part (at + j) len

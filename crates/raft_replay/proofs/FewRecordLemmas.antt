@@ -2,10 +2,10 @@
 use Rattle.raft_replay.proofs.Common.{◌≡◌, ℕ, ◌+◌, ◌-◌, ◌<◌, ◌≤◌, ◌^◌, Bool, true, false, if◌then◌else◌, List, [], ◌∷◌, ◌++◌, Vec, length, map, drop, Option, Some, None, option_map, refl, ap, ◌∙◌, arith, length-append, length-drop}
 use Rattle.raft_replay.proofs.Common.{length-map, Global, cons_option, flat_map, IsSequence, signature_in, IsVarint, CompressionType, EntryIndex, FileBlockHandle, FileId, OpType, Part, IsBatchAt, IsFramedAt, framed_at, IsTail}
 use Rattle.raft_replay.proofs.Common.{AreIndexAndTails, IsContent, IsItem, tail_of, end_of_content, is_reserved, Item, Content, entries, command, pair, placed_item, placed_content, checksum_bytes, Event, IsSmall, records_in, RegionStep}
-use Rattle.raft_replay.proofs.Common.{content_step, pair_step, steps_of_items, Step, size-append, records-append, records_in_history, HoldsFrom, SegmentsHold, bytes_of_parts, bytes_of_segments}
+use Rattle.raft_replay.proofs.Common.{content_step, pair_step, steps_of_items, Step, size-append, records-append, records_in_history, HoldsFrom, EachHolds, SegmentsHold, bytes_of_parts, bytes_of_segments}
 use Rattle.raft_records.specs.declared.command.Command.TheVariants as commands
 use Rattle.raft_records.specs.declared.key_value.OpType.TheVariants as operations
-use Rattle.raft_replay.proofs.Words.{PartsHold}
+use Rattle.raft_replay.proofs.Words.{PartHolds, PartsHold, SegmentReads}
 
 -- how many entries and key values a content names
 abbrev records_named : Content → ℕ
@@ -118,22 +118,21 @@ part_few part at (e ∷ h) held =
     let s = records-append (steps_of_items e.items) (flat_map (λ (e : Event). steps_of_items e.items) h) in
     omega (arith, a, b, s)
 
--- parts hold no more records than they have bytes
-pub parts_few : (parts : List Part) (h : List Event) → PartsHold parts h → records_in_history h ≤ bytes_of_parts parts
-parts_few [] h held = let n : records_in_history h ≡ 0 = ap records_in_history held in omega (arith, n)
-parts_few (part ∷ parts) h held =
-    let a = part_few part 0 held.first held.first_held in
-    let b = parts_few parts held.rest held.rest_held in
+-- what of each is no more than its size is no more than all sizes together
+pub each_few : {A : Type 0} (Holds : A → List Event → Type 0) (size : A → ℕ) (total : List A → ℕ) → ((x : A) (xs : List A) → total (x ∷ xs) ≡ size x + total xs)
+    → ((x : A) (h : List Event) → Holds x h → records_in_history h ≤ size x) → (xs : List A) (h : List Event) → EachHolds Holds xs h → records_in_history h ≤ total xs
+each_few Holds size total sum few [] h held = let n : records_in_history h ≡ 0 = ap records_in_history held in omega (arith, n)
+each_few Holds size total sum few (x ∷ xs) h held =
+    let a = few x held.first held.first_held in
+    let b = each_few Holds size total sum few xs held.rest held.rest_held in
     let s = ap records_in_history held.split ∙ size-append held.first held.rest in
-    omega (arith, a, b, s)
+    omega (arith, a, b, s, sum x xs)
+
+parts_few : (parts : List Part) (h : List Event) → PartsHold parts h → records_in_history h ≤ bytes_of_parts parts
+parts_few = each_few PartHolds (λ part. length part.bytes) bytes_of_parts (λ part parts. refl) (λ part h held. let a = part_few part 0 h held in omega (arith, a))
 
 segments_few : (segments : List (Vec Part Global)) (h : List Event) → SegmentsHold segments h → records_in_history h ≤ bytes_of_segments segments
-segments_few [] h held = let n : records_in_history h ≡ 0 = ap records_in_history held in omega (arith, n)
-segments_few (segment ∷ segments) h held =
-    let a = parts_few segment.items held.first held.first_held in
-    let b = segments_few segments held.rest held.rest_held in
-    let s = ap records_in_history held.split ∙ size-append held.first held.rest in
-    omega (arith, a, b, s)
+segments_few = each_few SegmentReads (λ segment. bytes_of_parts segment.items) bytes_of_segments (λ segment segments. refl) (λ segment. parts_few segment.items)
 
 pub small_segments : (segments : List (Vec Part Global)) (h : List Event) → SegmentsHold segments h → bytes_of_segments segments < 2 ^ 63 → IsSmall h
 small_segments segments h held few = let a = segments_few segments h held in record { few = omega (arith, a, few) }

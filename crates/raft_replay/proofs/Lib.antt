@@ -14,3 +14,4 @@ pub mod WalkLemmas
 pub mod Words
 pub mod WrittenPartLemmas
 pub mod WorkedLemmas
+pub mod Passed

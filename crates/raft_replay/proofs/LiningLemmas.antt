@@ -2,7 +2,7 @@
 use Rattle.raft_replay.proofs.Common.{◌≡◌, ℕ, suc, ◌+◌, ◌<◌, ◌≤◌, ◌⊎◌, inl, inr, List, [], ◌∷◌, ◌++◌, All, Vec, map, length, take, drop, sym, refl, ap, ◌∙◌, subst, arith, take-append-drop, drop-drop, IsPermutation, Global, AllByRecursion}
 use Rattle.raft_replay.proofs.Common.{IsNonDecreasingBy, cases_lt, drop_all, recursion_from_All, is_sum_by, sum_by-IsPermutation, All-permutation, Part, Event, small_front, small_back, Piece, IsPieceOf, covers, cover_count, CoverOnce}
 use Rattle.raft_replay.proofs.Common.{AreInOrder, histories_in_turn, SegmentsHold, weigh}
-use Rattle.raft_replay.proofs.Words.{PartsHold}
+use Rattle.raft_replay.proofs.Words.{SegmentReads}
 use Rattle.raft_replay.proofs.CoverLemmas.{covers_inside, covers_below, covers_behind, covers_none}
 use Rattle.raft_replay.proofs.MachineOrderLemmas.{each_join}
 
@@ -31,9 +31,6 @@ module _ {M : Type 0} where
       let low = all.0 in let one = covers_below p.from p.count x (omega arith) in let rest = above_none x n less ps all.1 in omega arith
 
   module _ (stands_exactly : M → List Event → Type 0) (segments : List (Vec Part Global)) where
-    abbrev SegmentReads : Vec Part Global → List Event → Type 0
-    SegmentReads segment h = PartsHold segment.items h
-
     -- they cover each segment from here on once, and none before
     pub record CoverFrom (low : ℕ) (ps : List (Piece M)) : Type 0 where
       pub inside : low ≤ length segments

@@ -5,7 +5,7 @@ use Rattle.raft_replay.proofs.Common.{histories_in_turn, StandForEach, IsMerged,
 use Rattle.raft_replay.proofs.Common.{count_below, pieces_in, AreInOrder, IsUnderway}
 use mir.Val.{bool_byte}
 use Rattle.raft_base.specs.declared.errors.Error.TheVariants.{Memory}
-use Rattle.raft_replay.proofs.Words.{PartHolds, PartsHold, PartsAreOf}
+use Rattle.raft_replay.proofs.Words.{PartHolds, PartsHold, PartsAreOf, SegmentReads}
 use Rattle.raft_replay.proofs.MergeLemmas.{joined-append, each-append}
 use Rattle.raft_replay.proofs.SegmentLemmas.{segments_unique}
 
@@ -41,9 +41,6 @@ module _ {A : Type 0} (Holds : A → List Event → Type 0) where
   -- one behind others
   pub each_more : (xs more : List A) (x : A) (g h : List Event) → more ≡ xs ++ x ∷ [] → EachHolds Holds xs g → Holds x h → EachHolds Holds more (g ++ h)
   each_more xs more x g h is held one = subst (λ (l : List A). EachHolds Holds l (g ++ h)) (sym is) (each_join xs (x ∷ []) g h held (each_single x h one))
-
-abbrev SegmentReads : Vec Part Global → List Event → Type 0
-SegmentReads segment h = PartsHold segment.items h
 
 -- ---- what is read of parts of a queue is of the queue
 
@@ -102,10 +99,6 @@ module _ {M : Type 0} (stands_for stands_exactly : M → List Event → Type 0) 
   each_stands [] (h ∷ hs) all = absurd all
   each_stands (m ∷ ms) [] all = absurd all
   each_stands (m ∷ ms) (h ∷ hs) all = (exact_stands m h all.0, each_stands ms hs all.1)
-
-  -- a machine that has replayed nothing
-  pub begun : (m : M) → stands_exactly m [] → IsUnderway stands_exactly [] [] m
-  begun m new = record { histories = []; last = []; held = refl; stand = λ small. tt; exact = λ small. new }
 
   module _ (segments : List (Vec Part Global)) (ms : List M) (m : M) (underway : IsUnderway stands_exactly segments ms m) where
     -- it goes on by one segment

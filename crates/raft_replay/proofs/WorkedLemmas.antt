@@ -2,6 +2,7 @@
 use Rattle.raft_replay.proofs.Common.{◌≡◌, ◌≢◌, ℕ, ◌^◌, ◌<◌, inl, inr, List, [], ◌∷◌, ◌++◌, All, Vec, Result, Ok, Err, IfOk, length, get_or, refl, ap, ◌∙◌, subst, arith, length-append, Global, nat_tests, get_or_at, All-push, All-append}
 use Rattle.raft_replay.proofs.Common.{recursion_from_All, Error, Part, Event, Piece, Worked, IsPieceOf, covers, IsDone, AreDone, Gives, Tickets, TicketSeat, IsSeatOf, HasEnded, once_below, IsOpenRefusal, CannotBeRead, weigh, occurrences}
 use Rattle.raft_replay.proofs.Common.{IsBack, IsWork, HasRefusal, weigh-append}
+use Rattle.raft_tickets.proofs.DrawingLemmas.{below_once}
 use Rattle.raft_base.specs.declared.errors.Error.TheVariants.{Memory}
 use Rattle.raft_base.specs.declared.errors.Error.TheVariants as errors
 
@@ -49,9 +50,6 @@ module _ {M : Type 0} (stands_exactly : M → List Event → Type 0) where
 times_last : (n : ℕ) (front : List ℕ) → 0 < occurrences n (front ++ n ∷ [])
 times_last n [] = grind (arith, nat_tests)
 times_last n (x ∷ front) = let r = times_last n front in omega arith
-
-below_once : (x n : ℕ) → 0 < once_below x n → x < n
-below_once x n h = grind (arith, nat_tests)
 
 once_of_below : (x n : ℕ) → x < n → once_below x n ≡ 1
 once_of_below x n h = grind (arith, nat_tests)

@@ -1,3 +1,4 @@
+pub mod Common
 pub mod Covers
 pub mod Cuts
 pub mod MachineOrder

@@ -1,10 +1,7 @@
 //! Parts of files, cut between batches, so that several workers read one file.
 
 ghost use Rattle.std.specs.Prelude.{◌≡◌, ◌<◌, ◌≤◌, ℕ, List, [], ◌∷◌, All, IfOk, IfErr, IfSome, IfNone, length};
-ghost use Rattle.raft_records.specs.FilePart.{HasHeader, Part};
-ghost use Rattle.raft_history.specs.Batches.{Event};
-ghost use Rattle.raft_replay.specs.Cuts.{ArePartsOf, BatchesMeet, bytes_before, rest_of};
-ghost use Rattle.raft_replay.specs.Segments.{AreCutFrom, HoldsFrom};
+ghost use Rattle.raft_replay.specs.Common.{HasHeader, Part, Event, ArePartsOf, BatchesMeet, bytes_before, rest_of, AreCutFrom, HoldsFrom};
 
 use raft_base::{Error, Result};
 use raft_records::{FilePart, LogBatch};
@@ -41,8 +38,6 @@ pub fn cut_part(alloc: Global, part: FilePart, count: usize) -> Result<Vec<FileP
     Ok(parts)
 }
 
-/// Returns where a batch ends, the first at `least` or past it, if headers lead there from the front on
-/// and more bytes follow.
 fn batch_end(alloc: Global, part: &FilePart, least: usize) -> Option<usize>
     ensures inside { IfSome result (λ at. at < length part.now.bytes) }
     ensures met { IfSome result (BatchesMeet part.now) }

@@ -1,10 +1,7 @@
 //! Pieces of a queue that workers make.
 
 ghost use Rattle.std.specs.Prelude.{◌≡◌, ◌≢◌, ℕ, ◌+◌, ◌<◌, ◌≤◌, List, [], length, All, IfOk, IfErr, Vec};
-ghost use Rattle.std.specs.Global.{Global};
-ghost use Rattle.raft_records.specs.FilePart.{Part};
-ghost use Rattle.raft_replay.specs.MachineOrder.{AreInOrder};
-ghost use Rattle.raft_replay.specs.Segments.{CannotBeRead};
+ghost use Rattle.raft_replay.specs.Common.{Global, Part, AreInOrder, CannotBeRead};
 
 use crate::{Segment, replay_segment};
 use raft_base::{Error, Factory, Result};
@@ -23,8 +20,6 @@ pub(crate) struct Piece<M> {
 impl<M: ReplayMachine> Piece<M> {
     ghost use Rattle.raft_replay.specs.Covers.{IsPieceOf, CoverOnce, covers, cover_count};
 
-    /// Returns the piece that goes on with this segment: the last one where it ends there, else a
-    /// new one.
     pub(crate) fn at<F: Factory<M>>(
         alloc: Global,
         factory: &F,

@@ -1,13 +1,8 @@
 //! Pieces of a queue, merged by a plan.
 
 ghost use Rattle.std.specs.Prelude.{◌≡◌, ◌≢◌, ◌+◌, ◌*◌, ◌<◌, ◌≤◌, List, ◌∷◌, ◌++◌, length, reverse, IfOk, IfErr, OnOk, vec_len};
-ghost use Rattle.std.specs.Thread.{IsSync};
+ghost use Rattle.raft_replay.specs.Common.{IsSync, IsInvalidArgument, IsMerged, CannotMerge, Merges, ArePlansNext, IsReached, cost, leaves, weigh};
 ghost use denote.Param.Send.{IsSend};
-ghost use Rattle.raft_base.specs.Errors.{IsInvalidArgument};
-ghost use Rattle.raft_replay.specs.PieceMerges.{IsMerged, CannotMerge, Merges};
-ghost use Rattle.raft_replay.specs.PlanWalks.{ArePlansNext, IsReached, cost};
-ghost use Rattle.raft_replay.specs.Plans.{leaves};
-ghost use Rattle.raft_tickets.specs.Weights.{weigh};
 
 use crate::Plan;
 use raft_base::{Error, LogQueue, Result};
@@ -40,10 +35,8 @@ pub fn merge_pieces<M: ReplayMachine, R: Threads + Sync>(
         → IfErr result (λ e. e ≢ Error.Memory → IsInvalidArgument e) }
 {
     if plan.leaves() != pieces.len() {
-        return Err(Error::invalid_argument(
-            *pieces.allocator(),
-            "the plan merges another number of pieces",
-        ));
+        let alloc = *pieces.allocator();
+        return Err(Error::invalid_argument(alloc, "the plan merges another number of pieces"));
     }
     merge_at_once(rt, pieces, plan, queue, MAX_LEVELS)
 }
@@ -76,8 +69,6 @@ pub(crate) fn merge_in_turn<M: ReplayMachine>(
     Ok(merged)
 }
 
-/// Takes the oldest piece of a plan; the plans after it wait. Of the pieces that are left the oldest stands
-/// last.
 fn oldest_of<'a, M: ReplayMachine>(
     mut plan: &'a Plan,
     waiting: &mut Vec<Waiting<'a, M>>,
@@ -102,7 +93,6 @@ fn oldest_of<'a, M: ReplayMachine>(
     Ok(piece)
 }
 
-/// Merges a machine with what waits next, if that is merged; else it waits itself, for the oldest piece of what is not.
 fn merge_next<'a, M: ReplayMachine>(
     next: Waiting<'a, M>,
     merged: M,
@@ -187,20 +177,16 @@ fn both<R: Threads, F: FnOnce() -> A + Send, G: FnOnce() -> B, A: Send, B>(
 }
 
 #[tactic(auto, using(crate::proofs::MergeLemmas::leaves_positive))]
-fn divide<M: ReplayMachine>(
-    mut pieces: Vec<M>,
-    left: &Plan,
-    right: &Plan,
-) -> Result<(Vec<M>, Vec<M>)>
-    requires { leaves left.now + leaves right.now ≡ vec_len pieces }
-    ensures ok { IfOk result (λ both. pieces.items ≡ both.0.items ++ both.1.items) }
+fn divide<M: ReplayMachine>(mut all: Vec<M>, left: &Plan, right: &Plan) -> Result<(Vec<M>, Vec<M>)>
+    requires { leaves left.now + leaves right.now ≡ vec_len all }
+    ensures ok { IfOk result (λ both. all.items ≡ both.0.items ++ both.1.items) }
     ensures lengths { IfOk result (λ both. (leaves left.entry.now ≡ vec_len both.0)
         × (leaves right.entry.now ≡ vec_len both.1)) }
     ensures some { (0 < leaves left.entry.now) × (0 < leaves right.entry.now) }
     ensures fault { IfErr result (λ e. e ≡ Error.Memory) }
 {
-    let rest = pieces.split_off(left.leaves())?;
-    Ok((pieces, rest))
+    let rest = all.split_off(left.leaves())?;
+    Ok((all, rest))
 }
 
 fn merge_both<M: ReplayMachine>(older: Result<M>, newer: Result<M>, queue: LogQueue) -> Result<M>

@@ -1,8 +1,7 @@
 //! Plans of merging pieces.
 
 ghost use Rattle.std.specs.Prelude.{◌≡◌, ◌+◌, ◌*◌, ◌-◌, ◌^◌, ◌<◌, min, IfOk, IfErr};
-ghost use Rattle.raft_replay.specs.Plans.{leaves, IsByHalves};
-ghost use Rattle.raft_replay.specs.PlanWalks.{heft};
+ghost use Rattle.raft_replay.specs.Common.{leaves, IsByHalves, heft};
 
 use raft_base::{Error, Result};
 use std::alloc::Global;

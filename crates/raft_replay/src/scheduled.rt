@@ -1,17 +1,10 @@
 //! Given schedules, on one thread.
 
 ghost use Rattle.std.specs.Prelude.{◌≡◌, ◌≢◌, ◌+◌, ◌^◌, ◌<◌, ◌↔◌, All, EachIndex, List, [], length, slice_index, IfOk, IfErr, IfNone, OnOk, OnSome, IsTrue, if◌then◌else◌, vec_len, Vec};
-ghost use Rattle.std.specs.Global.{Global};
-ghost use Rattle.raft_records.specs.FilePart.{Part};
-ghost use Rattle.raft_base.specs.Errors.{IsInvalidArgument};
-ghost use Rattle.raft_replay.specs.Plans.{leaves};
-ghost use Rattle.raft_replay.specs.MachineOrder.{IsUnderway};
-ghost use Rattle.raft_replay.specs.Segments.{CannotBeRead, SegmentsAreOf};
-ghost use Rattle.raft_replay.specs.Replays.{IsReplayed};
-ghost use Rattle.raft_replay.specs.Schedules.{IsSchedule, switches, count_below, pieces_in};
+ghost use Rattle.raft_replay.specs.Common.{Global, Part, IsInvalidArgument, leaves, IsUnderway, CannotBeRead, SegmentsAreOf, IsReplayed, IsSchedule, switches, count_below, pieces_in};
 
 use crate::pieces::merge_in_turn;
-use crate::workers::workers_fault;
+use crate::workers::misuse;
 use crate::{Plan, Segment, replay_segment};
 use raft_base::{Error, Factory, LogQueue, Result};
 use raft_history::ReplayMachine;
@@ -96,7 +89,7 @@ fn schedule_fault(
     ensures some { OnSome result (IsSchedule segments.entry.now queue workers draws.entry.now
         plan.entry.now → ⊥) }
 {
-    if let Some(fault) = workers_fault(segments, queue, workers) {
+    if let Some(fault) = misuse(segments, queue, workers) {
         return Some(fault);
     }
     if !are_known(draws, workers) {
@@ -133,7 +126,6 @@ fn parts_are_of(parts: &Vec<FilePart>, queue: LogQueue) -> bool
     parts.iter().all(|part| part.id().queue == queue)
 }
 
-/// Replays all segments; the machines in front of the last one are put into the list.
 fn replay_in_order<M: ReplayMachine, F: Factory<M>>(
     alloc: Global,
     factory: &F,

@@ -1,16 +1,8 @@
 //! Segments of a queue, and their replay into a machine.
 
 ghost use Rattle.std.specs.Prelude.{◌≡◌, ◌≢◌, ◌+◌, ◌^◌, ◌<◌, ◌++◌, List, Vec, length, string_bytes, IfOk, OnOk, IfErr};
-ghost use Rattle.std.specs.Global.{Global};
-ghost use Rattle.std.specs.IoError.{error_kind};
-ghost use Rattle.raft_base.specs.Corruption.{IsCorruption};
-ghost use Rattle.raft_records.specs.FilePart.{Part, part_of};
-ghost use Rattle.raft_history.specs.Batches.{Event};
-ghost use Rattle.raft_history.specs.Histories.{IsSmall};
-ghost use Rattle.raft_replay.specs.Replays.{HasReplayed, CannotFollow};
-ghost use Rattle.raft_replay.specs.Segments.{HoldsFrom, EachHolds, SegmentsHold};
-ghost use Rattle.raft_replay.specs.Stops.{queue_text, place_text, IsPlaced, IsStoodFor, IsWithPlace, StopsAmong, StopsByFault};
-ghost use Rattle.raft_replay.specs.WrittenParts.{bytes_of_segments, WrittenBatchIsHeld};
+ghost use Rattle.raft_replay.specs.Common.{Global, error_kind, IsCorruption, Part, part_of, Event, IsSmall, HasReplayed, CannotFollow, HoldsFrom, EachHolds, SegmentsHold, queue_text, place_text, IsPlaced, IsStoodFor, IsWithPlace};
+ghost use Rattle.raft_replay.specs.Common.{StopsAmong, StopsByFault, bytes_of_segments, WrittenBatchIsHeld};
 
 use raft_base::{AllocResult, Error, FileId, LogFileContext, LogQueue, Result};
 use raft_codec::codec;
@@ -41,14 +33,8 @@ pub fn replay_segment<M: ReplayMachine>(machine: &mut M, segment: &Segment) -> R
         segment.entry.now.items) }
 {
     for part in segment {
-        let file = LogFileContext::new(part.id(), part.version());
-        replay_bytes(
-            machine,
-            part.allocator(),
-            &file,
-            part.offset(),
-            part.bytes(),
-        )?;
+        let log = LogFileContext::new(part.id(), part.version());
+        replay_bytes(machine, part.allocator(), &log, part.offset(), part.bytes())?;
     }
     Ok(())
 }
@@ -90,8 +76,6 @@ pub fn replay_bytes<M: ReplayMachine>(
     }
 }
 
-/// Returns the refusal of a batch with its file and the offset in it in front of the text: of a `Corruption`, and of the
-/// io errors of `Io` and `Codec`, which stay of their kind. Other refusals have no text.
 fn placed(alloc: Global, error: Error, id: FileId, offset: u64) -> Error
     ensures placed { IsPlaced id offset result }
     ensures same { IsWithPlace id offset error result }
@@ -129,7 +113,9 @@ fn io_placed(alloc: Global, error: io::Error, id: FileId, offset: u64) -> AllocR
     Ok(io::Error::new(error.kind(), text.as_str()))
 }
 
-fn queue_name(queue: LogQueue) -> &'static str
+/// Returns the name of a queue in texts.
+#[doc(hidden)]
+pub fn queue_name(queue: LogQueue) -> &'static str
     ensures { result.now ≡ queue_text queue }
 {
     match queue {

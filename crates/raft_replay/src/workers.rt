@@ -1,14 +1,7 @@
 //! Segments that any number of workers replay, each the next one that is left.
 
 ghost use Rattle.std.specs.Prelude.{◌≡◌, ◌≢◌, ◌+◌, ◌^◌, ◌<◌, ◌≤◌, List, [], length, All, IfOk, IfErr, IfNone, OnOk, OnErr, OnSome, Vec, vec_len};
-ghost use Rattle.std.specs.Global.{Global};
-ghost use Rattle.raft_records.specs.FilePart.{Part};
-ghost use Rattle.raft_base.specs.Errors.{IsInvalidArgument};
-ghost use Rattle.raft_replay.specs.Covers.{IsPieceOf, CoverOnce, AreDone, Gives};
-ghost use Rattle.raft_tickets.specs.Draws.{Tickets, IsSeatOf, IsNewSeatOf};
-ghost use Rattle.raft_replay.specs.WorkedWords.{IsBack, IsWork, HasRefusal};
-ghost use Rattle.raft_replay.specs.Segments.{CannotBeRead, MayReplay, SegmentsAreOf};
-ghost use Rattle.raft_replay.specs.Replays.{IsReplayed};
+ghost use Rattle.raft_replay.specs.Common.{Global, Part, IsInvalidArgument, IsPieceOf, CoverOnce, AreDone, Gives, Tickets, IsSeatOf, IsNewSeatOf, IsBack, IsWork, HasRefusal, CannotBeRead, MayReplay, SegmentsAreOf, IsReplayed};
 
 use crate::piece::Piece;
 use crate::pieces::{MAX_LEVELS, merge_at_once};
@@ -108,7 +101,7 @@ pub fn check_arguments(
     ensures err { OnErr result (¬ (MayReplay queue workers segments.entry.now)) }
     ensures fault { IfErr result (λ e. e ≢ Error.Memory → IsInvalidArgument e) }
 {
-    if let Some(fault) = workers_fault(segments, queue, workers) {
+    if let Some(fault) = misuse(segments, queue, workers) {
         return Err(Error::invalid_argument(alloc, fault));
     }
     if segments.len() >= SEGMENT_LIMIT {
@@ -117,11 +110,7 @@ pub fn check_arguments(
     Ok(())
 }
 
-pub(crate) fn workers_fault(
-    segments: &[Segment],
-    queue: LogQueue,
-    workers: usize,
-) -> Option<&'static str>
+pub(crate) fn misuse(segments: &[Segment], queue: LogQueue, workers: usize) -> Option<&'static str>
     ensures none { IfNone result ((0 < workers) × (workers ≤ 256)
         × SegmentsAreOf queue segments.entry.now) }
     ensures some { OnSome result ((0 < workers) × (workers ≤ 256)
@@ -158,21 +147,19 @@ fn drawn_pieces<M: ReplayMachine, F: Factory<M>, G: Gate, R: Threads + Sync>(
     }
     let (tickets, seats) = Tickets::open(alloc, segments.len(), count)?;
     let worked = run_workers(rt, alloc, factory, segments, &tickets, gate, seats)?;
-    let (seats, pieces) = gather(alloc, worked)?;
+    let (seats, pieces) = gather(worked)?;
     tickets.close(seats);
     Ok(pieces)
 }
 
-fn gather<M: ReplayMachine>(
-    alloc: Global,
-    worked: Vec<Worked<M>>,
-) -> Result<(Vec<TicketSeat>, Vec<Piece<M>>)>
+fn gather<M: ReplayMachine>(worked: Vec<Worked<M>>) -> Result<(Vec<TicketSeat>, Vec<Piece<M>>)>
     ensures ok { (segments : List (Vec Part Global)) (tickets : Tickets)
         → All (IsBack M.stands_exactly segments tickets) worked.items
         → IfOk result (λ r. AreDone M.stands_exactly segments tickets r.0.items r.1.items) }
     ensures count { IfOk result (λ r. vec_len r.0 ≡ vec_len worked) }
     ensures refused { IfErr result (λ e. e ≢ Error.Memory → HasRefusal worked.items e) }
 {
+    let alloc = *worked.allocator();
     let mut seats = Vec::with_capacity(alloc, worked.len())?;
     let mut pieces = Vec::new(alloc);
     for Worked { seat, pieces: made } in worked {

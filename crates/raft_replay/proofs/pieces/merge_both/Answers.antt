@@ -1,27 +1,24 @@
-use Rattle.std.proofs.lemmas.Result.{err_from_is_err_and}
+use Rattle.raft_replay.proofs.Common.{or_passed}
 use Rattle.raft_replay.proofs.MergeLemmas.{front_refused, back_refused, merge_refused, both_merged}
 use Rattle.raft_replay.proofs.pieces.merge_both.Goals as goal
 
 pub returns-in_err-older : goal.returns-in_err-older
 returns-in_err-older g c xs ys zs is first second =
-    let p = err_from_is_err_and c.from_residual.result c.from_residual.ensures.1 in
     let refused = rw c.in_err-older.was at first in
-    rw (p.1, p.2)
+    or_passed _ _ _ c.from_residual.ensures.1
     (λ not_memory. front_refused g.M.ReplayMachine.stands_for g.M.ReplayMachine.stands_exactly xs ys zs is c.args.queue (refused not_memory))
 
 pub returns-in_err-newer : goal.returns-in_err-newer
 returns-in_err-newer g c xs ys zs is first second =
-    let p = err_from_is_err_and c.from_residual-in_err-newer.result c.from_residual-in_err-newer.ensures.1 in
     let refused = rw c.in_err-newer.was at second in
-    rw (p.1, p.2)
+    or_passed _ _ _ c.from_residual-in_err-newer.ensures.1
     (λ not_memory. back_refused g.M.ReplayMachine.stands_for g.M.ReplayMachine.stands_exactly xs ys zs is c.args.queue (refused not_memory))
 
 pub returns-in_err-merge : goal.returns-in_err-merge
 returns-in_err-merge g c xs ys zs is first second =
-    let p = err_from_is_err_and c.from_residual-in_err-merge.result c.from_residual-in_err-merge.ensures.1 in
     let older = rw c.in_ok-older.was at first in
     let newer = rw c.in_ok-newer.was at second in
-    rw (p.1, p.2)
+    or_passed _ _ _ c.from_residual-in_err-merge.ensures.1
     (λ not_memory. merge_refused g.M.ReplayMachine.stands_for g.M.ReplayMachine.stands_exactly xs ys zs is c.in_ok-older.older c.in_ok-newer.newer older newer
     c.args.queue (c.in_err-merge.ensures.refused not_memory))
 

@@ -1,4 +1,4 @@
-use Rattle.raft_replay.proofs.Common.{◌≡◌, List, [], reverse, subst, arith, nil_from_length, err_from_is_err_and, Waiting, IsReached, cost, one_fewer}
+use Rattle.raft_replay.proofs.Common.{or_passed, ◌≡◌, [], reverse, arith, nil_from_length, cost, one_fewer}
 use Rattle.raft_replay.proofs.WalkLemmas.{last_first, all_begun, reached_all}
 use Rattle.raft_replay.proofs.pieces.merge_in_turn.Goals as goal
 
@@ -11,8 +11,7 @@ loop-next-init g c =
 
 pub merge_next-requires : goal.merge_next-requires
 merge_next-requires g c =
-    let reached = subst (λ (l : List (Waiting g.row.M.Denot)). IsReached g.M.ReplayMachine.stands_for g.M.ReplayMachine.stands_exactly c.args.pieces.items l (reverse c.loop-next.pieces.items) c.loop-next.merged)
-    (last_first c.loop-next.waiting.items c.pop.new.self.items c.in-Some.next c.in-Some.ensures.items) c.loop-next.invariant in
+    let reached = rw (last_first c.loop-next.waiting.items c.pop.new.self.items c.in-Some.next c.in-Some.ensures.items) at c.loop-next.invariant in
     (c.type_bounds.send-M, (c.args.pieces.items, reached))
 
 pub loop-next-smaller : goal.loop-next-smaller
@@ -23,21 +22,17 @@ loop-next-smaller g c =
 pub loop-next-preserved : goal.loop-next-preserved
 loop-next-preserved g c =
     c.in_ok-merged-2.ensures.ok c.args.pieces.items
-    (subst (λ (l : List (Waiting g.row.M.Denot)). IsReached g.M.ReplayMachine.stands_for g.M.ReplayMachine.stands_exactly c.args.pieces.items l (reverse c.loop-next.pieces.items) c.loop-next.merged)
-    (last_first c.loop-next.waiting.items c.pop.new.self.items c.in-Some.next c.in-Some.ensures.items) c.loop-next.invariant)
+    (rw (last_first c.loop-next.waiting.items c.pop.new.self.items c.in-Some.next c.in-Some.ensures.items) at c.loop-next.invariant)
 
 pub returns-in_err-merged-2 : goal.returns-in_err-merged-2
 returns-in_err-merged-2 g c =
-    let p = err_from_is_err_and c.from_residual-in_err-merged-2.result c.from_residual-in_err-merged-2.ensures.1 in
-    rw (p.1, p.2)
+    or_passed _ _ _ c.from_residual-in_err-merged-2.ensures.1
     (λ not_memory. c.in_err-merged-2.ensures.refused not_memory c.args.pieces.items
-    (subst (λ (l : List (Waiting g.row.M.Denot)). IsReached g.M.ReplayMachine.stands_for g.M.ReplayMachine.stands_exactly c.args.pieces.items l (reverse c.loop-next.pieces.items) c.loop-next.merged)
-    (last_first c.loop-next.waiting.items c.pop.new.self.items c.in-Some.next c.in-Some.ensures.items) c.loop-next.invariant))
+    (rw (last_first c.loop-next.waiting.items c.pop.new.self.items c.in-Some.next c.in-Some.ensures.items) at c.loop-next.invariant))
 
 pub returns : goal.returns
 returns g c =
     let none : c.loop-next.waiting.items ≡ [] =
     let held = c.loop-next.waiting.ok.0 in let empty = c.in_default.ensures.cases.0 in nil_from_length c.loop-next.waiting.items (omega (arith, held, empty)) in
     reached_all g.M.ReplayMachine.stands_for g.M.ReplayMachine.stands_exactly c.args.pieces.items (reverse c.loop-next.pieces.items) c.loop-next.merged
-    (subst (λ (l : List (Waiting g.row.M.Denot)). IsReached g.M.ReplayMachine.stands_for g.M.ReplayMachine.stands_exactly c.args.pieces.items (reverse l) (reverse c.loop-next.pieces.items) c.loop-next.merged)
-    none c.loop-next.invariant)
+    (rw none at c.loop-next.invariant)

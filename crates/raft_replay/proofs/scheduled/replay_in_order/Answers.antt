@@ -1,4 +1,4 @@
-use Rattle.raft_replay.proofs.Common.{◌≡◌, ◌+◌, cond, List, [], ◌∷◌, ◌++◌, Vec, vec_len, take, drop, sym, ap, ◌∙◌, subst, arith, take-append-drop, Global, take_more, err_from_is_err_and, Part, IsUnderway, switches}
+use Rattle.raft_replay.proofs.Common.{on_passed, ◌≡◌, ◌+◌, cond, List, [], ◌∷◌, ◌++◌, Vec, vec_len, take, drop, sym, ap, ◌∙◌, subst, arith, take-append-drop, Global, take_more, Part, IsUnderway, switches}
 use Rattle.raft_replay.proofs.MachineOrderLemmas.{gone_on, stopped, count_more, one_same}
 use Rattle.raft_replay.proofs.SegmentLemmas.{left_from}
 use Rattle.raft_replay.proofs.scheduled.replay_in_order.Goals as goal
@@ -6,10 +6,9 @@ use Rattle.raft_replay.proofs.scheduled.replay_in_order.Goals as goal
 pub returns-in_err-replay_segment-clause-refused : goal.returns-in_err-replay_segment-clause-refused
 returns-in_err-replay_segment-clause-refused g c =
     let laws = g.met.M.ReplayMachine g.world.𝓛 g.world.𝓜 g.world.𝓡 ((λ s x. x), (λ x. x), (λ x. x), λ x. x) in
-    let p = err_from_is_err_and c.from_residual-in_err-replay_segment.result c.from_residual-in_err-replay_segment.ensures.1 in
     let all = c.args.segments.now in
     let n = c.loop-n.n in
-    rw (p.1, p.2)
+    on_passed _ _ c.from_residual-in_err-replay_segment.ensures.1
     (λ not_memory not_own.
     stopped g.M.ReplayMachine.stands_for g.M.ReplayMachine.stands_exactly laws.exact_stands (take n all) c.next_machine.new.machines.items c.in_ok-current-2.current
     (c.in_ok-current-2.ensures.ok (take n all) c.loop-n.invariant.line) all (drop (n + 1) all) c.index-segments-n.result

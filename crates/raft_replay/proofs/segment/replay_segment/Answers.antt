@@ -1,4 +1,4 @@
-use Rattle.raft_replay.proofs.Common.{◌≡◌, ◌<◌, refl, length, ap, ◌∙◌, subst, arith, IfErr-weaker, err_from_is_err_and, take_all, LogFileContext, Part, part_of, HasReplayed, IsStoodFor, StopsByFault}
+use Rattle.raft_replay.proofs.Common.{on_passed, ◌≡◌, ◌<◌, refl, length, ap, ◌∙◌, subst, arith, IfErr-weaker, take_all, LogFileContext, Part, part_of, HasReplayed, IsStoodFor, StopsByFault}
 use Rattle.raft_replay.proofs.Words.{PartHolds, PartsHold}
 use Rattle.raft_replay.proofs.MachineOrderLemmas.{each_more}
 use Rattle.raft_replay.proofs.ReplayedLemmas.{none_replayed, replayed_more, replayed_as}
@@ -16,7 +16,7 @@ loop-part-init g c = none_replayed g.M.ReplayMachine.stands_for g.M.ReplayMachin
 
 pub loop-part-preserved : goal.loop-part-preserved
 loop-part-preserved g c =
-    let read = same _ _ c.part-item.result _ _ c.new-file.ensures c.id.ensures c.version.ensures c.offset.ensures.value c.bytes.ensures in
+    let read = same _ _ c.part-item.result _ _ c.new-log.ensures c.id.ensures c.version.ensures c.offset.ensures.value c.bytes.ensures in
     let done = subst (λ (p : Part). HasReplayed (PartHolds p) g.M.ReplayMachine.stands_for g.M.ReplayMachine.stands_exactly c.loop-part.machine c.replay_bytes.new.machine) read c.in_ok-replay_bytes.ensures.ok in
     let inside : c.loop-part.part-index < length c.deref-part-items.result.now = let t = c.loop-part-test.true in omega arith in
     replayed_more g.M.ReplayMachine.stands_for g.M.ReplayMachine.stands_exactly _ _ _ c.args.machine.now c.loop-part.machine c.replay_bytes.new.machine c.loop-part.invariant done
@@ -29,11 +29,10 @@ returns-clause-ok g c =
 
 pub returns-in_err-replay_bytes-clause-place : goal.returns-in_err-replay_bytes-clause-place
 returns-in_err-replay_bytes-clause-place g c =
-    let p = err_from_is_err_and c.from_residual.result c.from_residual.ensures.1 in
     let e = c.in_err-replay_bytes.field-0.0 in
-    let read = same _ _ c.part-item.result _ _ c.new-file.ensures c.id.ensures c.version.ensures c.offset.ensures.value c.bytes.ensures in
+    let read = same _ _ c.part-item.result _ _ c.new-log.ensures c.id.ensures c.version.ensures c.offset.ensures.value c.bytes.ensures in
     let stops = subst (λ (p : Part). StopsByFault (g.M.ReplayMachine.stands_for c.loop-part.machine) (IsStoodFor g.M.ReplayMachine.stands_for) p e) read c.in_err-replay_bytes.ensures.place in
-    rw (p.1, p.2)
+    on_passed _ _ c.from_residual.ensures.1
     (stopped_among g.M.ReplayMachine.stands_for g.M.ReplayMachine.stands_exactly c.args.machine.now c.loop-part.machine (IsStoodFor g.M.ReplayMachine.stands_for) c.args.segment.now.items _ _ c.part-item.result e
     c.loop-part.invariant (item_between c.deref-part-items.ensures.value (let t = c.loop-part-test.true in omega arith) c.part-item.is) stops)
 

@@ -1,4 +1,4 @@
-use Rattle.raft_replay.proofs.Common.{length, sym, ◌∙◌, arith, err_from_is_err_and}
+use Rattle.raft_replay.proofs.Common.{on_passed, length, sym, ◌∙◌, arith}
 use Rattle.raft_replay.proofs.WorkedLemmas.{are_back, worker_refused, all_drawn, open_refused}
 use Rattle.raft_replay.proofs.workers.drawn_pieces.Goals as goal
 
@@ -7,15 +7,13 @@ returns-then-count-eq0-clause-tile g c x inside = let workers = c.requires.worke
 
 pub returns-in_err-tickets-clause-refused : goal.returns-in_err-tickets-clause-refused
 returns-in_err-tickets-clause-refused g c =
-    let p = err_from_is_err_and c.from_residual.result c.from_residual.ensures.1 in
     let workers = c.requires.workers in
-    rw (p.1, p.2)
+    on_passed _ _ c.from_residual.ensures.1
     (λ not_memory not_own. absurd (open_refused (length c.args.segments.now) c.min-count.result c.in_err-tickets.field-0.0 c.in_err-tickets.ensures.fault not_memory (omega arith) (omega arith) (omega arith)))
 
 pub returns-in_err-seats-clause-refused : goal.returns-in_err-seats-clause-refused
 returns-in_err-seats-clause-refused g c =
-    let p = err_from_is_err_and c.from_residual-in_err-seats.result c.from_residual-in_err-seats.ensures.1 in
-    rw (p.1, p.2)
+    on_passed _ _ c.from_residual-in_err-seats.ensures.1
     (λ not_memory not_own.
     worker_refused g.M.ReplayMachine.stands_exactly (g.F.Factory.may_refuse c.args.factory.now) c.args.segments.now c.in_ok-tickets.tickets c.in_ok-worked.worked.items
     c.in_err-seats.field-0.0 c.in_ok-worked.ensures.given (c.in_err-seats.ensures.refused not_memory) not_memory not_own)

@@ -1,11 +1,10 @@
-use Rattle.raft_replay.proofs.Common.{IfOk-weaker, ◌≡◌, List, [], vec_len, sym, ◌∙◌, subst, arith, Decides-eqb, nil_from_length, err_from_is_err_and, AreInOrder}
+use Rattle.raft_replay.proofs.Common.{on_passed, IfOk-weaker, ◌≡◌, List, [], vec_len, sym, ◌∙◌, subst, arith, Decides-eqb, nil_from_length, AreInOrder}
 use Rattle.raft_replay.proofs.MachineOrderLemmas.{merged_ok, merged_err, replayed_none}
 use Rattle.raft_replay.proofs.workers.replay_accepted.Goals as goal
 
 pub returns-in_err-pieces-clause-refused : goal.returns-in_err-pieces-clause-refused
 returns-in_err-pieces-clause-refused g c =
-    let p = err_from_is_err_and c.from_residual.result c.from_residual.ensures.1 in
-    rw (p.1, p.2) c.in_err-pieces.ensures.refused
+    on_passed _ _ c.from_residual.ensures.1 c.in_err-pieces.ensures.refused
 
 pub returns-then-is_empty-clause-ok : goal.returns-then-is_empty-clause-ok
 returns-then-is_empty-clause-ok g c =

@@ -1,11 +1,10 @@
-use Rattle.raft_replay.proofs.Common.{◌≡◌, ℕ, ◌<◌, List, [], ◌∷◌, ◌++◌, length, sym, ap, ◌∙◌, subst, arith, All-push, err_from_is_err_and, Piece, IsPieceOf, AreBelow, HasEnded, below_more}
+use Rattle.raft_replay.proofs.Common.{or_passed, ◌≡◌, ℕ, ◌<◌, List, [], ◌∷◌, ◌++◌, length, sym, ap, ◌∙◌, subst, arith, All-push, Piece, IsPieceOf, AreBelow, HasEnded, below_more}
 use Rattle.raft_replay.proofs.CoverLemmas.{bound, bound_below, bound_more, none_left, cover_step}
 use Rattle.raft_replay.proofs.workers.replay_drawn.Goals as goal
 
 pub returns-in_err-piece-clause-given : goal.returns-in_err-piece-clause-given
 returns-in_err-piece-clause-given g c =
-    let p = err_from_is_err_and c.from_residual.result c.from_residual.ensures.1 in
-    rw (p.1, p.2) (λ not_memory not_own. absurd (not_own (c.in_err-piece.ensures.err not_memory)))
+    or_passed _ _ _ c.from_residual.ensures.1 (λ not_memory not_own. absurd (not_own (c.in_err-piece.ensures.err not_memory)))
 
 pub loop-number-smaller : goal.loop-number-smaller
 loop-number-smaller g c =

@@ -1,4 +1,4 @@
-use Rattle.raft_replay.proofs.Common.{subst, err_from_is_err_and, HasReplayed, CannotFollow}
+use Rattle.raft_replay.proofs.Common.{on_passed, subst, HasReplayed, CannotFollow}
 use Rattle.raft_replay.proofs.Words.{PartsHold}
 use Rattle.raft_replay.proofs.CoverLemmas.{piece_more, piece_refused}
 use Rattle.raft_replay.proofs.piece.Piece.with_next.Goals as goal
@@ -6,8 +6,7 @@ use Rattle.raft_replay.proofs.piece.Piece.with_next.Goals as goal
 pub returns-in_err-replay_segment-clause-refused : goal.returns-in_err-replay_segment-clause-refused
 returns-in_err-replay_segment-clause-refused g c =
     let laws = g.met.M.ReplayMachine g.world.𝓛 g.world.𝓜 g.world.𝓡 ((λ s x. x), (λ x. x), (λ x. x), λ x. x) in
-    let p = err_from_is_err_and c.from_residual.result c.from_residual.ensures.1 in
-    rw (p.1, p.2)
+    on_passed _ _ c.from_residual.ensures.1
     (λ not_memory.
     piece_refused g.M.ReplayMachine.stands_for g.M.ReplayMachine.stands_exactly laws.exact_stands c.args.segments.now c.args.self.from c.args.self.count
     c.args.self.machine.value c.requires.piece c.index-segments-next.result c.requires.inside c.index-segments-next.is

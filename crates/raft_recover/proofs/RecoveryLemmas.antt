@@ -1,9 +1,10 @@
 -- What a context that has replayed all segments gives, and files as segments.
-use Rattle.raft_recover.proofs.Common.{◌≡◌, ◌≢◌, ◌⊎◌, ◌↔◌, ◌<◌, ◌^◌, inl, inr, ℕ, true, false, ltb, List, [], ◌∷◌, Option, Result, Ok, Err, IfOk, IfErr, OnOk, Vec, refl, sym, subst, ◌∙◌, arith, nat_tests, Global, Error, LogQueue, Version}
-use Rattle.raft_recover.proofs.Common.{Part, IsIoError, Event, Suits, files_of, IsReadingOfBoth, Apart, IsSmall, IsSoundIn, IsOneReading, IsOfQueue, records_in, Tables, steps_of_items, AreRewrittenFrom, HaveSameRecords, both_same}
+use Rattle.raft_recover.proofs.Common.{◌≡◌, ◌≢◌, ◌⊎◌, ◌↔◌, ◌<◌, ◌^◌, inl, inr, ℕ, List, [], ◌∷◌, Option, Result, Ok, Err, IfOk, IfErr, OnOk, Vec, sym, subst, ◌∙◌, arith, Global, Error, LogQueue, Version}
+use Rattle.raft_recover.proofs.Common.{Part, IsIoError, Event, Suits, files_of, IsReadingOfBoth, Apart, IsSmall, IsSoundIn, IsOneReading, IsOfQueue, Tables, AreRewrittenFrom, HaveSameRecords, both_same}
 use Rattle.raft_recover.proofs.Common.{append_apart, Accessor, AreCountsOf, IsOfBothExactly, RecoverContext, HasRead, HasReadExactly, ContextStage, IsReplayed, SegmentsHold, CannotBeRead, SegmentsAreOf, bytes_of_segments, small_segments}
 use Rattle.raft_recover.proofs.Common.{segments_read_of_queue, segments_unique, FilesHold, FilesCannotBeRead, IsPrintFailure, PrintsRecovered, AreBothRecovered, IsRecovered, NumberedBytes, PrintsTables, PrintsFrontOfTables}
-use Rattle.std.specs.Prelude.{flat_map}
+use Rattle.std.proofs.lemmas.Bool.{cases_lt}
+use Rattle.raft_history.proofs.Words.{records_in_history}
 use Rattle.raft_base.specs.declared.errors.Error.TheVariants as errors
 use Rattle.raft_base.specs.declared.pipe_log.LogQueue.TheVariants.{Append, Rewrite}
 use Rattle.raft_contexts.specs.declared.context_stage.ContextStage.TheVariants as stages
@@ -111,14 +112,10 @@ module _ (queue : LogQueue) (version : Version) (ss : List (Vec Part Global)) (f
 
 -- segments that hold no small history can't be read
 few_or_unread : (segments : List (Vec Part Global)) (h : List Event) → SegmentsHold segments h → IsSmall h ⊎ CannotBeRead segments
-few_or_unread segments h held = elim (ltb (records_in (flat_map (λ (e : Event). steps_of_items e.items) h)) (2 ^ 63))
-    as (λ b. ltb (records_in (flat_map (λ (e : Event). steps_of_items e.items) h)) (2 ^ 63) ≡ b → IsSmall h ⊎ CannotBeRead segments) [
-      | true ↦ λ t. inl (record { few = grind (arith, nat_tests) })
-      | false ↦ λ t. inr (record { unsound = λ g other small sound. not_few h (subst IsSmall (segments_unique segments g h other held) small) t })
-    ] refl
-  where
-    not_few : (h : List Event) → IsSmall h → ltb (records_in (flat_map (λ (e : Event). steps_of_items e.items) h)) (2 ^ 63) ≡ false → ⊥
-    not_few h small t = let k = small.few in grind (arith, nat_tests)
+few_or_unread segments h held = elim (cases_lt (records_in_history h) (2 ^ 63)) [
+  | inl few ↦ inl (record { few = few })
+  | inr many ↦ inr (record { unsound = λ g other small sound. let k = (subst IsSmall (segments_unique segments g h other held) small).few in absurd (omega (arith, many, k)) })
+]
 
 module _ (rewrite append : List (Vec Part Global)) (rewrite_of : SegmentsAreOf Rewrite rewrite) (append_of : SegmentsAreOf Append append) (old appended : RecoverContext)
     (older : IsReplayed HasRead HasReadExactly rewrite old) (newer : IsReplayed HasRead HasReadExactly append appended) where

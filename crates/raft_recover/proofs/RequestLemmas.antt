@@ -1,6 +1,7 @@
 -- What words ask for.
-use Rattle.raft_recover.proofs.Common.{◌≡◌, ◌≢◌, ℕ, zero, suc, ◌+◌, ◌-◌, ◌<◌, ◌≤◌, List, [], ◌∷◌, ◌++◌, length, get_or, take, drop, map, codes, Bool, true, false, not, Bor, Option, None, Some, IfNone, MatchOption, arith, refl, subst, ap}
+use Rattle.raft_recover.proofs.Common.{◌≡◌, ◌≢◌, ℕ, zero, suc, ◌+◌, ◌-◌, ◌<◌, ◌≤◌, List, [], ◌∷◌, ◌++◌, length, get_or, take, drop, map, codes, false, not, Bor, Option, None, Some, IfNone, MatchOption, arith, subst, ap}
 use Rattle.raft_recover.proofs.Common.{sym, ◌∙◌, append_assoc, append-nil, drop_more, drop_all, length-drop, left_from, take_all, map_push, map_more, digit_value, AllDigits, IsSplitOnceResult, split_after, bytes_eq, bytes_eq-Decides}
+use Rattle.std.proofs.lemmas.Bool.{not-false}
 use Rattle.raft_recover.proofs.Common.{AllByRecursion, LogFileContext, NamesContext, NamesPath, IsPathWord, AsksBatch, NumberedPath, ArePathsNamed}
 
 -- what is left behind so many items is all of it
@@ -45,13 +46,9 @@ asks_no_batch words command queue seq version split none context asked =
     let same_version : asked.version ≡ version = cc in
     none context (rw (← same_queue, ← same_seq, ← same_version) asked.file)
 
-not_false : (b : Bool) → false ≡ not b → b ≡ true
-not_false true h = refl
-not_false false h = cc
-
 -- texts that a test for difference found equal
 pub same_text : (xs ys : List ℕ) → false ≡ not (bytes_eq xs ys) → xs ≡ ys
-same_text xs ys h = (bytes_eq-Decides xs ys).0 (not_false (bytes_eq xs ys) h)
+same_text xs ys h = (bytes_eq-Decides xs ys).0 (not-false (bytes_eq xs ys) (sym h))
 
 -- what follows from what is known of a `None`
 pub none_then : {X : Type 0} (r : Option X) {P Q : Type 0} → IfNone r P → (P → Q) → IfNone r Q
@@ -72,10 +69,6 @@ no_equals (d ∷ ds) h (suc i) low = no_equals ds h.1 i (omega arith)
 -- the parts of a word that names a file stand round its first `=`
 pub path_parts : (word : List ℕ) (r : Option (Bor (List ℕ) × Bor (List ℕ))) → IsSplitOnceResult 61 word r → (p : IsPathWord word) → MatchOption r ⊥ (λ x. (x.0.now ≡ p.named.digits) × (x.1.now ≡ p.path))
 path_parts word r h p = split_after 61 word p.named.digits p.path r h (omega arith) p.named.form (no_equals p.named.digits p.named.number.digits.1)
-
--- the texts of four words and of those behind them
-pub four_texts : {X : Type 0} (f : X → List ℕ) (ws rest : List X) (a b c d : X) (ta tb tc td : List ℕ) → ws ≡ a ∷ b ∷ c ∷ d ∷ rest → ta ≡ f a → tb ≡ f b → tc ≡ f c → td ≡ f d → map f ws ≡ ta ∷ tb ∷ tc ∷ td ∷ map f rest
-four_texts f ws rest a b c d ta tb tc td split p q r s = rw (p, q, r, s) (ap (map f) split)
 
 -- the words behind four are the same, however the four are named
 pub same_rest : (words rest files : List (List ℕ)) (a b c d e f g h : List ℕ) → words ≡ a ∷ b ∷ c ∷ d ∷ rest → words ≡ e ∷ f ∷ g ∷ h ∷ files → files ≡ rest
@@ -119,8 +112,3 @@ number_more f g xs x ys i d low same before =
 -- all numbers stand where no file is left
 pub numbers_all : {X Y : Type 0} (f : X → ℕ) (g : Y → ℕ) (xs : List X) (ys : List Y) (i : ℕ) → length ys ≤ i → map f xs ++ map g (drop i ys) ≡ map g ys → map f xs ≡ map g ys
 numbers_all f g xs ys i past before = sym (ap (λ l. map f xs ++ map g l) (drop_all i ys past) ∙ append-nil (map f xs)) ∙ before
-
--- a map over a map
-pub map_of_map : {X Y Z : Type 0} (f : Y → Z) (g : X → Y) (xs : List X) → map f (map g xs) ≡ map (λ x. f (g x)) xs
-map_of_map f g [] = refl
-map_of_map f g (x ∷ xs) = ap (λ l. f (g x) ∷ l) (map_of_map f g xs)

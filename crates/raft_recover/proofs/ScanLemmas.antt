@@ -2,6 +2,7 @@
 use Rattle.raft_recover.proofs.Common.{◌≡◌, ℕ, ◌+◌, ◌<◌, ◌≤◌, Bool, true, false, ◌&&◌, List, [], ◌∷◌, ◌++◌, length, drop, Option, Some, None, MatchOption, refl, sym, ap, ◌∙◌, subst, append_assoc, append-nil, arith, length-drop, Part}
 use Rattle.raft_recover.proofs.Common.{IsBatchAt, HasHeader, Item, batch_inside, header_ends, block_place, IsBlockState, IsBatchFound, IsFound, EndsWithin, next_after, is_undamaged, are_undamaged, finding_line, end_line, IsScannedFrom}
 use Rattle.raft_recover.proofs.Common.{IsScanned, IsHeaderLength, IfSome, IfNone, BlockState, Finding}
+use Rattle.std.proofs.Math.Bool.{and_assoc, and-true}
 use Rattle.raft_recover.specs.declared.scan.Finding.TheVariants.{Batch, Damage}
 
 -- ---- what was found
@@ -56,14 +57,6 @@ next_inside past size at next (Damage reason None) ends is = absurd cc
 next_inside true size at next (Damage reason (Some len)) ends is = let same : at + len ≡ next = cc in omega (arith, ends)
 next_inside false size at next (Damage reason (Some len)) ends is = absurd cc
 
-pub and_assoc : (a b c : Bool) → ((a && b) && c) ≡ (a && (b && c))
-and_assoc true b c = refl
-and_assoc false b c = refl
-
-pub and_true : (a : Bool) → (a && true) ≡ a
-and_true true = refl
-and_true false = refl
-
 module _ (past : Bool) (part : Part) (old : List ℕ) where
   -- what was found before a byte has its lines behind the old text; with what is found from there on it is a scan
   pub record IsScanning (new : List ℕ) (at : ℕ) (undamaged : Bool) : Type 0 where
@@ -110,7 +103,7 @@ module _ (past : Bool) (part : Part) (old : List ℕ) where
         record {
           findings = all.0;
           found = subst (λ (t : List ℕ). IsScannedFrom past part 0 all.0 t) same all.1;
-          told = ap (λ (b : Bool). undamaged && b) (sym (and_true (is_undamaged f))) ∙ all.2;
+          told = ap (λ (b : Bool). undamaged && b) (sym (and-true (is_undamaged f))) ∙ all.2;
         },
       )
 
@@ -120,5 +113,5 @@ module _ (past : Bool) (part : Part) (old : List ℕ) where
       let all = before.joins [] (end_line part) (end, refl) in (
         before.front ++ end_line part,
         text ∙ ap (λ (t : List ℕ). t ++ end_line part) before.text ∙ append_assoc old before.front (end_line part),
-        record { findings = all.0; found = all.1; told = sym (and_true undamaged) ∙ all.2 },
+        record { findings = all.0; found = all.1; told = sym (and-true undamaged) ∙ all.2 },
       )

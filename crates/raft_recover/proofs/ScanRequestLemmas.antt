@@ -5,13 +5,9 @@ use Rattle.raft_recover.specs.Requests.{queue_word}
 use Rattle.raft_recover.specs.ScanRequests.{AsksNoScan}
 use Rattle.raft_base.specs.declared.pipe_log.LogQueue.TheVariants.{Append, Rewrite}
 use Rattle.raft_recover.specs.AskedRequests.{file_shown}
-use Rattle.raft_recover.proofs.ScanLemmas.{and_assoc, and_true}
+use Rattle.std.proofs.Math.Bool.{and_assoc, and-true}
 
 -- ---- words
-
--- the texts of two words and of those behind them
-pub two_texts : {X : Type 0} (f : X → List ℕ) (ws rest : List X) (a b : X) (ta tb : List ℕ) → ws ≡ a ∷ b ∷ rest → ta ≡ f a → tb ≡ f b → map f ws ≡ ta ∷ tb ∷ map f rest
-two_texts f ws rest a b ta tb split p q = rw (p, q) (ap (map f) split)
 
 -- the text of a word and of those behind it
 pub one_text : {X : Type 0} (f : X → List ℕ) (ws rest : List X) (a : X) (ta : List ℕ) → ws ≡ a ∷ rest → ta ≡ f a → map f ws ≡ ta ∷ map f rest
@@ -96,7 +92,7 @@ module _ (past : Bool) (queue : LogQueue) (version : Version) where
         done.front,
         done.text,
         subst (λ (t : List ℕ). AreScanned past queue version all undamaged t) (append-nil done.front)
-            (subst (λ (a : Bool). AreScanned past queue version all a (done.front ++ [])) (and_true undamaged) whole),
+            (subst (λ (a : Bool). AreScanned past queue version all a (done.front ++ [])) (and-true undamaged) whole),
       )
 
   -- the same where no file is left in a list of files

@@ -1,5 +1,6 @@
 -- Parts that are divided, and segments as the parts in them.
 use Rattle.raft_recover.proofs.Common.{◌≡◌, ◌↔◌, ℕ, ◌+◌, ◌<◌, List, [], ◌∷◌, ◌++◌, Vec, length, sym, refl, ap, ◌∙◌, subst, arith, append_assoc, append-nil, Global, AllByRecursion, All-from_recursion, recursion_from_All, FileId, LogQueue}
+use Rattle.raft_history.proofs.EffectLemmas.{each-append, each_weaker}
 use Rattle.raft_recover.proofs.Common.{Part, Event, AreCutInTurn, SegmentsHold, SegmentsAreOf, parts_within, PartHolds, PartsHold, PartsAreOf, each_join, each_cut, IsCutInto, AreDivided}
 
 abbrev IsOf : LogQueue → Part → Type 0
@@ -8,19 +9,9 @@ IsOf queue part = part.id.queue ≡ queue
 abbrev AreOf : LogQueue → List Part → Type 0
 AreOf queue parts = AllByRecursion (IsOf queue) parts
 
--- ---- all of two lists
-
-join_of : (queue : LogQueue) (xs ys : List Part) → AreOf queue xs → AreOf queue ys → AreOf queue (xs ++ ys)
-join_of queue [] ys p q = q
-join_of queue (x ∷ xs) ys p q = (p.0, join_of queue xs ys p.1 q)
-
-front_of : (queue : LogQueue) (xs ys : List Part) → AreOf queue (xs ++ ys) → AreOf queue xs
-front_of queue [] ys p = tt
-front_of queue (x ∷ xs) ys p = (p.0, front_of queue xs ys p.1)
-
-rest_of : (queue : LogQueue) (xs ys : List Part) → AreOf queue (xs ++ ys) → AreOf queue ys
-rest_of queue [] ys p = p
-rest_of queue (x ∷ xs) ys p = rest_of queue xs ys p.1
+split_of : (queue : LogQueue) (xs ys : List Part) → AreOf queue (xs ++ ys) → AreOf queue xs × AreOf queue ys
+split_of queue [] ys p = (tt, p)
+split_of queue (x ∷ xs) ys p = let r = split_of queue xs ys p.1 in ((p.0, r.0), r.1)
 
 -- ---- parts that are divided
 
@@ -38,37 +29,30 @@ pub divided_bytes : (xs ys : List Part) → AreDivided xs ys → AreCutInTurn xs
 divided_bytes [] ys none = none
 divided_bytes (x ∷ xs) ys d = (d.0, d.1, d.2, d.3.bytes, divided_bytes xs d.1 d.4)
 
-divided_read : (xs ys : List Part) → AreDivided xs ys → (h : List Event) → PartsHold xs h → PartsHold ys h
-divided_read [] ys none h held = subst (λ (l : List Part). PartsHold l h) (sym none) held
-divided_read (x ∷ xs) ys d h held =
-    let rest = divided_read xs d.1 d.4 held.rest held.rest_held in
-    subst (λ (l : List Part). PartsHold l h) (sym d.2)
-    (subst (PartsHold (d.0 ++ d.1)) (sym held.split) (each_join PartHolds d.0 d.1 held.first held.rest ((d.3.same held.first).0 held.first_held) rest))
-
-read_divided : (xs ys : List Part) → AreDivided xs ys → (h : List Event) → PartsHold ys h → PartsHold xs h
-read_divided [] ys none h held = subst (λ (l : List Part). PartsHold l h) none held
-read_divided (x ∷ xs) ys d h held =
-    let cut = each_cut PartHolds d.0 d.1 h (subst (λ (l : List Part). PartsHold l h) d.2 held) in
-    record { first = cut.first; rest = cut.rest; first_held = (d.3.same cut.first).1 cut.first_held; rest_held = read_divided xs d.1 d.4 cut.rest cut.rest_held; split = cut.split }
-
-cut_of : (queue : LogQueue) (part : Part) (cut : List Part) → AllByRecursion (λ (p : Part). p.id ≡ part.id) cut → IsOf queue part → AreOf queue cut
-cut_of queue part [] all is = tt
-cut_of queue part (p ∷ ps) all is = (ap (λ (id : FileId). id.queue) all.0 ∙ is, cut_of queue part ps all.1 is)
+divided_read : (xs ys : List Part) → AreDivided xs ys → (h : List Event) → PartsHold xs h ↔ PartsHold ys h
+divided_read [] ys none h = (subst (λ (l : List Part). PartsHold l h) (sym none), subst (λ (l : List Part). PartsHold l h) none)
+divided_read (x ∷ xs) ys d h = (
+  λ held. subst (λ (l : List Part). PartsHold l h) (sym d.2)
+      (subst (PartsHold (d.0 ++ d.1)) (sym held.split)
+      (each_join PartHolds d.0 d.1 held.first held.rest ((d.3.same held.first).0 held.first_held) ((divided_read xs d.1 d.4 held.rest).0 held.rest_held))),
+  λ held.
+      let cut = each_cut PartHolds d.0 d.1 h (subst (λ (l : List Part). PartsHold l h) d.2 held) in
+      record { first = cut.first; rest = cut.rest; first_held = (d.3.same cut.first).1 cut.first_held; rest_held = (divided_read xs d.1 d.4 cut.rest).1 cut.rest_held; split = cut.split },
+)
 
 whole_of : (queue : LogQueue) (part : Part) (cut : List Part) → AllByRecursion (λ (p : Part). p.id ≡ part.id) cut → 0 < length cut → AreOf queue cut → IsOf queue part
 whole_of queue part [] all some is = absurd (omega (arith, some))
 whole_of queue part (p ∷ ps) all some is = ap (λ (id : FileId). id.queue) (sym all.0) ∙ is.0
 
-divided_of : (queue : LogQueue) (xs ys : List Part) → AreDivided xs ys → AreOf queue xs → AreOf queue ys
-divided_of queue [] ys none of = subst (AreOf queue) (sym none) tt
-divided_of queue (x ∷ xs) ys d of =
-    subst (AreOf queue) (sym d.2) (join_of queue d.0 d.1 (cut_of queue x d.0 (recursion_from_All _ d.0 d.3.file) of.0) (divided_of queue xs d.1 d.4 of.1))
-
-of_divided : (queue : LogQueue) (xs ys : List Part) → AreDivided xs ys → AreOf queue ys → AreOf queue xs
-of_divided queue [] ys none of = tt
-of_divided queue (x ∷ xs) ys d of =
-    let all = subst (AreOf queue) d.2 of in
-    (whole_of queue x d.0 (recursion_from_All _ d.0 d.3.file) d.3.some (front_of queue d.0 d.1 all), of_divided queue xs d.1 d.4 (rest_of queue d.0 d.1 all))
+divided_of : (queue : LogQueue) (xs ys : List Part) → AreDivided xs ys → AreOf queue xs ↔ AreOf queue ys
+divided_of queue [] ys none = ((λ of. subst (AreOf queue) (sym none) tt), λ of. tt)
+divided_of queue (x ∷ xs) ys d =
+    let file = recursion_from_All (λ (p : Part). p.id ≡ x.id) d.0 d.3.file in
+    let rest = divided_of queue xs d.1 d.4 in (
+      λ of. subst (AreOf queue) (sym d.2)
+          (each-append (IsOf queue) d.0 d.1 (each_weaker (λ (p : Part). p.id ≡ x.id) (IsOf queue) (λ p is. ap (λ (id : FileId). id.queue) is ∙ of.0) d.0 file) (rest.0 of.1)),
+      λ of. let both = split_of queue d.0 d.1 (subst (AreOf queue) d.2 of) in (whole_of queue x d.0 file d.3.some both.0, rest.1 both.1),
+    )
 
 -- ---- segments as the parts in them
 
@@ -90,36 +74,26 @@ within_read (s ∷ ss) h r =
     let c = each_cut PartHolds s.items (parts_within ss) h r in
     record { first = c.first; rest = c.rest; first_held = c.first_held; rest_held = within_read ss c.rest c.rest_held; split = c.split }
 
-abbrev EachOf : LogQueue → List (Vec Part Global) → Type 0
-EachOf queue segments = AllByRecursion (λ (s : Vec Part Global). PartsAreOf queue s.items) segments
+each_within : (queue : LogQueue) (segments : List (Vec Part Global)) → AllByRecursion (λ (s : Vec Part Global). PartsAreOf queue s.items) segments ↔ AreOf queue (parts_within segments)
+each_within queue [] = ((λ p. p), λ p. p)
+each_within queue (s ∷ ss) = let rest = each_within queue ss in (
+  λ p. each-append (IsOf queue) s.items (parts_within ss) (recursion_from_All (IsOf queue) s.items p.0) (rest.0 p.1),
+  λ p. let both = split_of queue s.items (parts_within ss) p in (All-from_recursion (IsOf queue) s.items both.0, rest.1 both.1),
+)
 
-each_within : (queue : LogQueue) (segments : List (Vec Part Global)) → EachOf queue segments → AreOf queue (parts_within segments)
-each_within queue [] p = tt
-each_within queue (s ∷ ss) p = join_of queue s.items (parts_within ss) (recursion_from_All (IsOf queue) s.items p.0) (each_within queue ss p.1)
-
-within_each : (queue : LogQueue) (segments : List (Vec Part Global)) → AreOf queue (parts_within segments) → EachOf queue segments
-within_each queue [] p = tt
-within_each queue (s ∷ ss) p = (All-from_recursion (IsOf queue) s.items (front_of queue s.items (parts_within ss) p), within_each queue ss (rest_of queue s.items (parts_within ss) p))
-
-of_within : (queue : LogQueue) (segments : List (Vec Part Global)) → SegmentsAreOf queue segments → AreOf queue (parts_within segments)
-of_within queue segments p = each_within queue segments (recursion_from_All (λ s. PartsAreOf queue s.items) segments p)
-
-within_of : (queue : LogQueue) (segments : List (Vec Part Global)) → AreOf queue (parts_within segments) → SegmentsAreOf queue segments
-within_of queue segments p = All-from_recursion (λ s. PartsAreOf queue s.items) segments (within_each queue segments p)
+of_within : (queue : LogQueue) (segments : List (Vec Part Global)) → SegmentsAreOf queue segments ↔ AreOf queue (parts_within segments)
+of_within queue segments = let each = each_within queue segments in
+    ((λ p. each.0 (recursion_from_All (λ s. PartsAreOf queue s.items) segments p)), λ p. All-from_recursion (λ s. PartsAreOf queue s.items) segments (each.1 p))
 
 -- shares into whose parts those of segments are divided
 module _ (segments shares : List (Vec Part Global)) (divided : AreDivided (parts_within segments) (parts_within shares)) where
   pub shares_read : (h : List Event) → SegmentsHold segments h ↔ SegmentsHold shares h
-  shares_read h = (
-    λ r. within_read shares h (divided_read _ _ divided h (read_within segments h r)),
-    λ r. within_read segments h (read_divided _ _ divided h (read_within shares h r)),
-  )
+  shares_read h = let d = divided_read _ _ divided h in
+      ((λ r. within_read shares h (d.0 (read_within segments h r))), λ r. within_read segments h (d.1 (read_within shares h r)))
 
   pub shares_of_queue : (queue : LogQueue) → SegmentsAreOf queue segments ↔ SegmentsAreOf queue shares
-  shares_of_queue queue = (
-    λ r. within_of queue shares (divided_of queue _ _ divided (of_within queue segments r)),
-    λ r. within_of queue segments (of_divided queue _ _ divided (of_within queue shares r)),
-  )
+  shares_of_queue queue = let a = of_within queue segments in let b = of_within queue shares in let d = divided_of queue _ _ divided in
+      ((λ r. b.1 (d.0 (a.0 r))), λ r. a.1 (d.1 (b.0 r)))
 
 -- ---- parts as shares
 

@@ -22,3 +22,4 @@ pub use Rattle.raft_replay.specs.Segments
 pub use Rattle.raft_replay.specs.Stops
 pub use Rattle.raft_replay.specs.WrittenParts
 pub use Rattle.raft_replay.specs.declared.plan.Plan
+pub mod Common

@@ -5,14 +5,13 @@ use Rattle.raft_base.specs.declared.errors.Error.{Error}
 use Rattle.raft_base.specs.declared.errors.Error.TheVariants as errors
 use Rattle.raft_base.specs.declared.pipe_log.LogFileContext.{LogFileContext}
 use Rattle.raft_base.specs.declared.pipe_log.LogQueue.{LogQueue}
-use Rattle.raft_base.specs.declared.pipe_log.LogQueue.TheVariants.{Append, Rewrite}
 use Rattle.raft_base.specs.declared.pipe_log.Version.{Version}
 use Rattle.raft_base.specs.declared.pipe_log.Version.TheVariants.{V1, V2}
+use Rattle.raft_replay.specs.Stops.{queue_text}
 
 -- the word for a queue
 abbrev pub queue_word : LogQueue → List ℕ
-queue_word Append = codes "append"
-queue_word Rewrite = codes "rewrite"
+queue_word queue = queue_text queue
 
 -- the word for a version
 abbrev pub version_word : Version → List ℕ

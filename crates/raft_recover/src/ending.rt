@@ -1,8 +1,7 @@
 //! How a run of a program over log files ends: its status, the hint at its words, the word of a refusal.
 
 ghost use Rattle.std.specs.Prelude.{◌≡◌, ◌≢◌};
-ghost use Rattle.std.specs.IoError.{error_kind};
-ghost use Rattle.raft_recover.specs.Requests.{refusal_word};
+ghost use Rattle.raft_recover.specs.Common.{error_kind, refusal_word};
 
 use raft_base::Error;
 use std::io;

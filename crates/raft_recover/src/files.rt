@@ -1,13 +1,7 @@
 //! Files as segments.
 
 ghost use Rattle.std.specs.Prelude.{◌≡◌, ◌↔◌, ◌<◌, ◌^◌, List, IfOk, IfErr, length, map};
-ghost use Rattle.raft_base.specs.declared.pipe_log.LogQueue.{LogQueue};
-ghost use Rattle.raft_base.specs.declared.pipe_log.Version.{Version};
-ghost use Rattle.raft_history.specs.Batches.{Event};
-ghost use Rattle.raft_history.specs.Histories.{IsSmall};
-ghost use Rattle.raft_replay.specs.Segments.{SegmentsHold, SegmentsAreOf};
-ghost use Rattle.raft_recover.specs.Files.{AreWholeFiles, FilesHold, bytes_of_files, file_shown};
-ghost use Rattle.raft_recover.specs.Requests.{NumberedBytes};
+ghost use Rattle.raft_recover.specs.Common.{LogQueue, Version, Event, IsSmall, SegmentsHold, SegmentsAreOf, AreWholeFiles, FilesHold, bytes_of_files, NumberedBytes, file_shown};
 
 use raft_base::{Error, FileId, FileSeq, LogQueue, Result, Version};
 use raft_records::FilePart;

@@ -1,15 +1,11 @@
 //! What the program `raftlog` does, over any reader and writers.
 
 ghost use Rattle.std.specs.Prelude.{◌≡◌, ◌≢◌, ◌≤◌, ◌↔◌, ◌⊎◌, ℕ, List, OnOk, IfErr, map, string_bytes};
-ghost use Rattle.std.specs.Io.KnownBytes.{Keeps};
-ghost use Rattle.std.specs.IoError.{error_kind};
-ghost use Rattle.raft_recover.specs.Requests.{AsksRecovery, AsksNothing};
-ghost use Rattle.raft_recover.specs.AskedRequests.{IsAsked, asks_for};
-ghost use Rattle.raft_recover.specs.Programs.{IsRecoveryPrinted, IsRecoveryFrontPrinted, IsPrinted, IsFrontPrinted};
+ghost use Rattle.raft_recover.specs.Common.{Keeps, error_kind, AsksNothing, IsAsked, IsPrinted, IsFrontPrinted};
 
 use crate::ending::{Program, Status};
 use crate::recovery::recover_bytes;
-use crate::request::{RecoverWords, Request, read_files};
+use crate::request::{Request, read_files};
 use raft_base::Result;
 use raft_records::print_batch;
 use std::io::{ErrorKind, Read, Write};
@@ -104,29 +100,10 @@ fn answer<S: Files + AllocGlobal + Threads + Sync, R: Read, W: Write>(
 {
     match request {
         Request::Batch(context) => print_batch(rt.alloc(), input, out, &context),
-        Request::Recover(recovery) => print_files(rt, recovery, out),
+        Request::Recover(ask) => {
+            let files = read_files(rt, ask.paths.as_slice())?;
+            let alloc = rt.alloc();
+            recover_bytes(rt, alloc, ask.queue, ask.version, ask.workers, files, out)
+        }
     }
-}
-
-fn print_files<S: Files + AllocGlobal + Threads + Sync, W: Write>(
-    rt: &S,
-    recovery: RecoverWords<'_>,
-    out: &mut W,
-) -> Result<()>
-    ensures done { (words : List (List ℕ)) → AsksRecovery words (asks_for recovery.entry)
-        → OnOk result (IsRecoveryPrinted words (W.contents out.old) (W.contents out.new)) }
-    ensures silent { (words : List (List ℕ)) → AsksRecovery words (asks_for recovery.entry)
-        → IfErr result (λ _. Keeps (W.contents out.old) (W.contents out.new)
-        ⊎ IsRecoveryFrontPrinted words (W.contents out.old) (W.contents out.new)) }
-{
-    let files = read_files(rt, recovery.paths.as_slice())?;
-    recover_bytes(
-        rt,
-        rt.alloc(),
-        recovery.queue,
-        recovery.version,
-        recovery.workers,
-        files,
-        out,
-    )
 }

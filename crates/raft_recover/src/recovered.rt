@@ -1,11 +1,7 @@
 //! The tables of all regions as text.
 
-ghost use Rattle.std.specs.Prelude.{◌≡◌, ◌++◌, IfOk, IfErr, OnOk, map, string_bytes};
-ghost use Rattle.std.specs.List.Sorted.{IsPermutation, IsNonDecreasingBy};
-ghost use Rattle.std.specs.Io.KnownBytes.{Keeps};
-ghost use Rattle.std.specs.List.{flat_map};
-ghost use Rattle.raft_records.specs.Lines.{IsIoError};
-ghost use Rattle.raft_recover.specs.TableLines.{range_text, seq_text, table_line, cleaned_line, live_line, IsTextOfTables, PrintsTables, PrintsFrontOfTables};
+ghost use Rattle.std.specs.Prelude.{◌≡◌, ◌++◌, IfOk, IfErr, OnOk, map, string_bytes, IsPermutation, flat_map};
+ghost use Rattle.raft_recover.specs.Common.{IsNonDecreasingBy, Keeps, IsIoError, range_text, seq_text, table_line, cleaned_line, live_line, IsTextOfTables, PrintsTables, PrintsFrontOfTables};
 
 use raft_accessor::MemTableAccessor;
 use raft_base::{AllocResult, Error, FileSeq, LogQueue, Result};

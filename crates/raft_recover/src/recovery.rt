@@ -1,22 +1,9 @@
 //! From the bytes of files to the tables of all regions.
 
 ghost use Rattle.std.specs.Prelude.{◌≡◌, ◌≢◌, ◌↔◌, ℕ, ◌⊎◌, ◌^◌, ◌<◌, ◌≤◌, length, IfOk, IfErr, OnOk, List, map};
-ghost use Rattle.std.specs.Io.KnownBytes.{Keeps};
-ghost use Rattle.std.specs.Thread.{IsSync};
-ghost use Rattle.raft_base.specs.Errors.{IsInvalidArgument};
-ghost use Rattle.raft_base.specs.declared.pipe_log.LogQueue.TheVariants.{Append, Rewrite};
-ghost use Rattle.raft_history.specs.Batches.{Event};
-ghost use Rattle.raft_history.specs.Histories.{Apart, IsOneReading, IsSmall, Sound};
-ghost use Rattle.raft_history.specs.RegionSteps.{Tables};
-ghost use Rattle.raft_history.specs.RewrittenRecords.{AreRewrittenFrom, HaveSameRecords};
-ghost use Rattle.raft_contexts.specs.RecoverContext.{HasRead, HasReadExactly};
-ghost use Rattle.raft_replay.specs.Replays.{IsReplayed};
-ghost use Rattle.raft_replay.specs.Segments.{SegmentsHold, CannotBeRead, MayReplay, parts_within};
-ghost use Rattle.raft_replay.specs.Stops.{IsNothing, StopsAmong};
-ghost use Rattle.raft_replay.specs.WrittenParts.{bytes_of_segments};
-ghost use Rattle.raft_recover.specs.Files.{FilesCannotBeRead, IsPrintFailure, PrintsRecovered, file_shown};
-ghost use Rattle.raft_recover.specs.Recovery.{AreBothRecovered, IsRecovered, MayReplayBoth};
-ghost use Rattle.raft_recover.specs.Shares.{IsReplayedOrStopped};
+ghost use Rattle.raft_recover.specs.Common.{Keeps, IsSync, IsInvalidArgument, Append, Rewrite, Event, Apart, IsOneReading, IsSmall, Sound, Tables, AreRewrittenFrom, HaveSameRecords, HasRead, HasReadExactly, IsReplayed, SegmentsHold};
+ghost use Rattle.raft_recover.specs.Common.{CannotBeRead, MayReplay, parts_within, IsNothing, StopsAmong, bytes_of_segments, FilesCannotBeRead, IsPrintFailure, PrintsRecovered, AreBothRecovered, IsRecovered, MayReplayBoth};
+ghost use Rattle.raft_recover.specs.Common.{IsReplayedOrStopped, file_shown};
 
 use crate::files::file_segments;
 use crate::recovered::print_recovered;
@@ -120,8 +107,6 @@ pub fn recover_both<R: Threads + Sync>(
     both.finish()
 }
 
-/// Returns the contexts of the rewrite queue and of the append queue. Two workers or more read both queues
-/// at once.
 fn both_replayed<R: Threads + Sync>(
     rt: &R,
     alloc: Global,

@@ -1,13 +1,8 @@
 //! What the words of a command line ask for.
 
 ghost use Rattle.std.specs.Prelude.{◌≡◌, ℕ, List, [], ◌∷◌, ◌++◌, IfOk, IfErr, IfSome, IfNone, map, string_bytes};
-ghost use Rattle.std.specs.List.{AllByRecursion};
-ghost use Rattle.raft_base.specs.declared.pipe_log.LogFileContext.{LogFileContext};
-ghost use Rattle.raft_base.specs.declared.pipe_log.LogQueue.{LogQueue};
-ghost use Rattle.raft_base.specs.declared.pipe_log.Version.{Version};
-ghost use Rattle.raft_recover.specs.Requests.{queue_word, version_word, IsNumberWord, NamesContext, NamesPath, IsPathWord, ArePathsNamed, AreFilesOf, IsFilesFault, AskedRecovery, AsksBatch, AsksRecovery, AsksNothing};
-ghost use Rattle.raft_recover.specs.AskedRequests.{IsAsked, asks_for, path_shown};
-ghost use Rattle.raft_recover.specs.Files.{file_shown};
+ghost use Rattle.raft_recover.specs.Common.{AllByRecursion, LogFileContext, LogQueue, Version, queue_word, version_word, IsNumberWord, NamesContext, NamesPath, IsPathWord, ArePathsNamed, AreFilesOf, IsFilesFault, AskedRecovery, AsksBatch};
+ghost use Rattle.raft_recover.specs.Common.{AsksRecovery, AsksNothing, IsAsked, asks_for, path_shown, file_shown};
 
 use raft_base::{Error, FileId, FileSeq, LogFileContext, LogQueue, Result, Version};
 use std::alloc::Global;
@@ -114,10 +109,7 @@ fn recovery_request<'a>(alloc: Global, words: &'a [String]) -> Result<Option<Rec
     }))
 }
 
-pub(crate) fn paths_named<'a>(
-    alloc: Global,
-    words: &'a [String],
-) -> Result<Option<Vec<(FileSeq, &'a str)>>>
+pub(crate) fn paths_named(alloc: Global, words: &[String]) -> Result<Option<Vec<(FileSeq, &str)>>>
     ensures named { IfOk result (λ r. IfSome r (λ paths.
         ArePathsNamed (map string_bytes words.now) (map path_shown paths.items))) }
     ensures refused { IfOk result (λ r. IfNone r
@@ -202,7 +194,6 @@ pub(crate) fn version_named(word: &str) -> Option<Version>
     }
 }
 
-/// Returns the number that decimal digits without a sign spell, if it is below 2^64.
 fn number_named(word: &str) -> Option<u64>
     ensures named { IfSome result (IsNumberWord word.now) }
     ensures refused { IfNone result ((n : ℕ) → IsNumberWord word.now n → ⊥) }

@@ -1,16 +1,13 @@
 //! Scans of damaged files, batch by batch.
 
 ghost use Rattle.std.specs.Prelude.{◌≡◌, ◌+◌, ◌-◌, ◌^◌, ◌<◌, ◌≤◌, ◌++◌, ◌&&◌, ◌≢◌, ℕ, List, length, drop, IfOk, IfErr, OnOk, string_bytes};
-ghost use Rattle.raft_records.specs.FilePart.{IsBatchAt, IsNextFault};
-ghost use Rattle.raft_base.specs.Reading.{HasNoFront};
-ghost use Rattle.raft_base.specs.Signature.{signature_in};
-ghost use Rattle.raft_records.specs.LogBatch.{IsReadable};
-ghost use Rattle.raft_recover.specs.Requests.{queue_word};
-ghost use Rattle.raft_recover.specs.Scans.{IsBlockState, block_place, IsFound, EndsWithin, next_after, is_undamaged, place_words, block_word, reason_text, finding_line, end_line, IsScanned};
+ghost use Rattle.raft_recover.specs.Common.{IsBatchAt, IsNextFault, HasNoFront, signature_in, IsReadable, IsBlockState, block_place, IsFound, EndsWithin, next_after, is_undamaged, place_words, block_word, reason_text, finding_line};
+ghost use Rattle.raft_recover.specs.Common.{end_line, IsScanned};
 
-use raft_base::{AllocResult, Error, FileBlockHandle, LogQueue, Result};
+use raft_base::{AllocResult, Error, FileBlockHandle, Result};
 use raft_records::{FilePart, LogItemBatch, entries_block_in, next_batch};
 use raft_replay::cutting::{batch_length, header_in};
+use raft_replay::segment::queue_name;
 use std::alloc::Global;
 
 /// How many bytes a header has.
@@ -48,27 +45,19 @@ impl Finding {
         ensures { result ≡ is_undamaged self.now }
     {
         match self {
-            Finding::Batch { block, .. } => match block {
-                BlockState::Absent | BlockState::Whole => true,
-                BlockState::Broken => false,
-            },
+            Finding::Batch { block, .. } => !matches!(block, BlockState::Broken),
             Finding::Damage { .. } => false,
         }
     }
 
-    fn next_after(&self, at: usize, past_damage: bool) -> Option<usize>
-        requires { EndsWithin (2 ^ 64 - 1) at self.now }
-        ensures { result ≡ next_after past_damage at self.now }
+    fn next_after(self, at: usize, past_damage: bool) -> Option<usize>
+        requires { EndsWithin (2 ^ 64 - 1) at self }
+        ensures { result ≡ next_after past_damage at self }
     {
         match self {
-            Finding::Batch { len, .. } => Some(at + *len),
-            Finding::Damage { len, .. } => {
-                if past_damage {
-                    Some(at + (*len)?)
-                } else {
-                    None
-                }
-            }
+            Finding::Batch { len, .. } => Some(at + len),
+            Finding::Damage { len, .. } if past_damage => Some(at + len?),
+            Finding::Damage { .. } => None,
         }
     }
 }
@@ -119,19 +108,13 @@ fn found_at(alloc: Global, part: &FilePart, at: usize) -> Result<Finding>
     ensures memory { IfErr result (λ e. e ≡ Error.Memory) }
 {
     match next_batch(part, at) {
-        Ok(Some((batch, next))) => Ok(batch_found(alloc, part, at, &batch, next)),
+        Ok(Some((batch, next))) => Ok(batch_at(alloc, part, at, &batch, next)),
         Ok(None) => unreachable!(),
         Err(reason) => damage_found(alloc, part, at, reason),
     }
 }
 
-fn batch_found(
-    alloc: Global,
-    part: &FilePart,
-    at: usize,
-    batch: &LogItemBatch,
-    next: usize,
-) -> Finding
+fn batch_at(alloc: Global, part: &FilePart, at: usize, batch: &LogItemBatch, next: usize) -> Finding
     requires { IsBatchAt part.now at batch.now next }
     ensures { IsFound part.now at result }
 {
@@ -185,18 +168,13 @@ fn block_state(part: &FilePart, at: usize, items_at: usize) -> BlockState
     }
 }
 
-fn append_finding(
-    part: &FilePart,
-    at: usize,
-    finding: &Finding,
-    text: &mut String,
-) -> AllocResult<()>
+fn append_finding(part: &FilePart, at: usize, found: &Finding, text: &mut String) -> AllocResult<()>
     requires { at ≤ length part.now.bytes }
     ensures { OnOk result
-        (string_bytes text.new ≡ string_bytes text.old ++ finding_line part.now at finding.now) }
+        (string_bytes text.new ≡ string_bytes text.old ++ finding_line part.now at found.now) }
 {
     append_place(part, at, text)?;
-    match finding {
+    match found {
         Finding::Batch { len, items, block } => {
             let block = block_word(*block);
             writeln!(text, " length {len} items {items} entries {block}")
@@ -225,15 +203,6 @@ fn append_place(part: &FilePart, at: usize, text: &mut String) -> AllocResult<()
     let queue = queue_name(id.queue);
     let offset = part.offset() + at as u64;
     write!(text, "{queue} file {} offset {offset}", id.seq)
-}
-
-fn queue_name(queue: LogQueue) -> &'static str
-    ensures { result.now ≡ queue_word queue }
-{
-    match queue {
-        LogQueue::Append => "append",
-        LogQueue::Rewrite => "rewrite",
-    }
 }
 
 fn block_word(block: BlockState) -> &'static str

@@ -1,11 +1,7 @@
 //! What the program `raft_scan` does, over any writers.
 
 ghost use Rattle.std.specs.Prelude.{◌≡◌, ◌≢◌, ◌≤◌, ◌↔◌, ◌⊎◌, ◌++◌, true, false, List, ℕ, IfOk, IfErr, OnErr, IfSome, IfNone, map, string_bytes};
-ghost use Rattle.std.specs.Io.KnownBytes.{Keeps};
-ghost use Rattle.std.specs.IoError.{error_kind};
-ghost use Rattle.raft_recover.specs.AskedRequests.{file_shown};
-ghost use Rattle.raft_recover.specs.ScanRequests.{AskedScan, NamesFiles, AsksScan, AsksNoScan, AreScanned, IsScanPrinted, IsScanFrontPrinted};
-ghost use Rattle.raft_recover.specs.ScanWords.{scan_asked};
+ghost use Rattle.raft_recover.specs.Common.{Keeps, error_kind, AskedScan, NamesFiles, AsksScan, AsksNoScan, AreScanned, IsScanPrinted, IsScanFrontPrinted, scan_asked, file_shown};
 
 use crate::ending::{Program, Status};
 use crate::request::{paths_named, queue_named, read_files, version_named};
@@ -60,7 +56,7 @@ pub fn run_scan<S: Files + AllocGlobal, W: Write, E: Write>(
         Ok(None) => return SCAN.misused(err),
         Err(memory) => return SCAN.refused(&memory, err),
     };
-    match print_scan(rt, scan, out) {
+    match print(rt, scan, out) {
         Ok(true) => Status::Done as u8,
         Ok(false) => Status::Refused as u8,
         Err(error) => SCAN.refused(&error, err),
@@ -92,17 +88,13 @@ fn scan_request<'a>(alloc: Global, words: &'a [String]) -> Result<Option<ScanWor
     files_request(alloc, false, words)
 }
 
-fn files_request<'a>(
-    alloc: Global,
-    past_damage: bool,
-    words: &'a [String],
-) -> Result<Option<ScanWords<'a>>>
-    ensures asked { IfOk result (λ r. IfSome r (λ scan. (scan.past_damage ≡ past_damage)
+fn files_request(alloc: Global, past: bool, words: &[String]) -> Result<Option<ScanWords<'_>>>
+    ensures asked { IfOk result (λ r. IfSome r (λ scan. (scan.past_damage ≡ past)
         × NamesFiles (map string_bytes words.now) (scan_asked scan))) }
     ensures refused { IfOk result (λ r. IfNone r
         ((scan : AskedScan) → NamesFiles (map string_bytes words.now) scan → ⊥)) }
     ensures memory { IfErr result (λ e. (e ≡ Error.Memory)
-        × (scan : AskedScan) × (scan.past_damage ≡ past_damage)
+        × (scan : AskedScan) × (scan.past_damage ≡ past)
         × NamesFiles (map string_bytes words.now) scan) }
 {
     let [queue, version, path_words @ ..] = words else {
@@ -118,18 +110,14 @@ fn files_request<'a>(
         return Ok(None);
     };
     Ok(Some(ScanWords {
-        past_damage,
+        past_damage: past,
         queue,
         version,
         paths,
     }))
 }
 
-fn print_scan<S: Files + AllocGlobal, W: Write>(
-    rt: &S,
-    scan: ScanWords<'_>,
-    out: &mut W,
-) -> Result<bool>
+fn print<S: Files + AllocGlobal, W: Write>(rt: &S, scan: ScanWords<'_>, out: &mut W) -> Result<bool>
     ensures done { (words : List (List ℕ)) → AsksScan words (scan_asked scan.entry)
         → IfOk result
         (λ undamaged. IsScanPrinted undamaged words (W.contents out.old) (W.contents out.new)) }
@@ -139,36 +127,27 @@ fn print_scan<S: Files + AllocGlobal, W: Write>(
 {
     let files = read_files(rt, scan.paths.as_slice())?;
     let mut text = String::new(rt.alloc());
-    let undamaged = append_scans(
-        rt.alloc(),
-        scan.queue,
-        scan.version,
-        scan.past_damage,
-        files,
-        &mut text,
-    )?;
+    let undamaged = append_scans(rt.alloc(), &scan, files, &mut text)?;
     write_whole(out, text.as_bytes())?;
     Ok(undamaged)
 }
 
-/// Appends what scans of files find, one after the other, and returns whether all can be read.
 fn append_scans(
     alloc: Global,
-    queue: LogQueue,
-    version: Version,
-    past_damage: bool,
+    scan: &ScanWords<'_>,
     files: Vec<(FileSeq, Vec<u8>)>,
     text: &mut String,
 ) -> Result<bool>
     ensures ok { IfOk result (λ undamaged. (lines : List ℕ)
         × (string_bytes text.new ≡ string_bytes text.old ++ lines)
-        × AreScanned past_damage queue version (map file_shown files.items) undamaged lines) }
+        × AreScanned scan.entry.now.past_damage scan.entry.now.queue scan.entry.now.version
+        (map file_shown files.items) undamaged lines) }
     ensures memory { IfErr result (λ e. e ≡ Error.Memory) }
 {
     let mut all_undamaged = true;
     for (seq, bytes) in files {
-        let part = FilePart::new(FileId::new(queue, seq), version, 0, bytes)?;
-        let undamaged = append_scan(alloc, &part, past_damage, text)?;
+        let part = FilePart::new(FileId::new(scan.queue, seq), scan.version, 0, bytes)?;
+        let undamaged = append_scan(alloc, &part, scan.past_damage, text)?;
         all_undamaged = both(all_undamaged, undamaged);
     }
     Ok(all_undamaged)

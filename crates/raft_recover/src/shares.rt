@@ -1,12 +1,7 @@
 //! Segments as equal shares: neighbors put together and large parts cut, by bytes.
 
 ghost use Rattle.std.specs.Prelude.{◌≡◌, ◌↔◌, ◌<◌, ◌≤◌, ◌++◌, List, IfOk, IfErr, OnOk, length};
-ghost use Rattle.raft_base.specs.declared.pipe_log.LogQueue.{LogQueue};
-ghost use Rattle.raft_history.specs.Batches.{Event};
-ghost use Rattle.raft_records.specs.FilePart.{Part};
-ghost use Rattle.raft_replay.specs.Cuts.{AreCutInTurn};
-ghost use Rattle.raft_replay.specs.Segments.{SegmentsHold, SegmentsAreOf, parts_within};
-ghost use Rattle.raft_recover.specs.Shares.{AreDivided};
+ghost use Rattle.raft_recover.specs.Common.{LogQueue, Event, Part, AreCutInTurn, SegmentsHold, SegmentsAreOf, parts_within, AreDivided};
 
 use raft_base::{Error, Result};
 use raft_records::FilePart;
@@ -68,26 +63,20 @@ fn short_parts(alloc: Global, segments: &[Segment], share: usize) -> Result<Vec<
     Ok(parts)
 }
 
-fn append_short(
-    alloc: Global,
-    segment: &Segment,
-    share: usize,
-    parts: &mut Vec<FilePart>,
-) -> Result<()>
+fn append_short(alloc: Global, from: &Segment, share: usize, to: &mut Vec<FilePart>) -> Result<()>
     requires { 0 < share }
-    ensures cut { (these : List Part) → AreDivided these parts.old.items
-        → OnOk result (AreDivided (these ++ segment.now.items) parts.new.items) }
+    ensures cut { (these : List Part) → AreDivided these to.old.items
+        → OnOk result (AreDivided (these ++ from.now.items) to.new.items) }
     ensures memory { IfErr result (λ e. e ≡ Error.Memory) }
 {
-    for part in segment {
+    for part in from {
         let count = (part.bytes().len() / share).saturating_mul(PARTS_PER_SHARE);
-        parts.append(&mut cut_part(alloc, part.clone()?, count)?)?;
+        to.append(&mut cut_part(alloc, part.clone()?, count)?)?;
     }
     Ok(())
 }
 
-/// Divides parts into segments of about `share` bytes each, `count` at most: a part goes to the share in which its
-/// middle lies.
+/// Puts each part into the share in which its middle lies.
 fn shares_of(parts: Vec<FilePart>, share: usize, count: usize) -> Result<Vec<Segment>>
     requires { (0 < share) × (0 < count) }
     ensures same { IfOk result (λ shares. parts_within shares.items ≡ parts.items) }
@@ -102,7 +91,7 @@ fn shares_of(parts: Vec<FilePart>, share: usize, count: usize) -> Result<Vec<Seg
     for part in parts {
         let bytes = part.bytes().len();
         let number = before.saturating_add(bytes / 2) / share;
-        end_share(alloc, &mut shares, &mut last, number > current, count)?;
+        end_share(&mut shares, &mut last, number > current, count)?;
         current = number;
         before = before.saturating_add(bytes);
         last.push(part)?;
@@ -111,22 +100,16 @@ fn shares_of(parts: Vec<FilePart>, share: usize, count: usize) -> Result<Vec<Seg
     Ok(shares)
 }
 
-/// Ends the last share where that is wanted, it holds a part, and there is room for one more.
-fn end_share(
-    alloc: Global,
-    shares: &mut Vec<Segment>,
-    last: &mut Segment,
-    wanted: bool,
-    count: usize,
-) -> Result<()>
+fn end_share(shares: &mut Vec<Segment>, last: &mut Segment, ends: bool, count: usize) -> Result<()>
     ensures same { OnOk result (parts_within shares.new.items ++ last.new.items ≡ parts_within
         shares.old.items ++ last.old.items) }
     ensures few { length shares.old.items < count → OnOk result (length shares.new.items < count) }
     ensures memory { IfErr result (λ e. e ≡ Error.Memory) }
 {
-    if !wanted || last.is_empty() || shares.len() + 1 >= count {
+    if !ends || last.is_empty() || shares.len() + 1 >= count {
         return Ok(());
     }
+    let alloc = *shares.allocator();
     shares.push(mem::replace(last, Vec::new(alloc)))?;
     Ok(())
 }

@@ -1,4 +1,4 @@
-use Rattle.raft_recover.proofs.Common.{◌≢◌, err_from_is_err_and, Sound, parts_within, IsNothing, StopsAmong}
+use Rattle.raft_recover.proofs.Common.{on_passed, ◌≢◌, Sound, parts_within, IsNothing, StopsAmong}
 use Rattle.raft_base.specs.declared.errors.Error.TheVariants.{Memory}
 use Rattle.raft_recover.proofs.RecoveryLemmas.{recovered, unfinished, finished_few}
 use Rattle.raft_recover.proofs.TurnLemmas.{segments_refused}
@@ -18,10 +18,8 @@ returns-clause-place g c good few =
 
 pub returns-in_err-context-clause-refused : goal.returns-in_err-context-clause-refused
 returns-in_err-context-clause-refused g c good =
-    let p = err_from_is_err_and c.from_residual-in_err-context.result c.from_residual-in_err-context.ensures.1 in
-    rw (p.1, p.2) (segments_refused c.args.segments.now c.in_err-context.field-0.0 c.in_err-context.ensures)
+    on_passed _ _ c.from_residual-in_err-context.ensures.1 (segments_refused c.args.segments.now c.in_err-context.field-0.0 c.in_err-context.ensures)
 
 pub returns-in_err-context-clause-place : goal.returns-in_err-context-clause-place
 returns-in_err-context-clause-place g c good few =
-    let p = err_from_is_err_and c.from_residual-in_err-context.result c.from_residual-in_err-context.ensures.1 in
-    rw (p.1, p.2) c.in_err-context.ensures
+    on_passed _ _ c.from_residual-in_err-context.ensures.1 c.in_err-context.ensures

@@ -1,4 +1,4 @@
-use Rattle.raft_recover.proofs.Common.{◌⊎◌, inl, inr, Err, Sound, parts_within, IsNothing, StopsAmong, err_from_is_err_and}
+use Rattle.raft_recover.proofs.Common.{on_passed, ◌⊎◌, inl, inr, Err, Sound, parts_within, IsNothing, StopsAmong}
 use Rattle.raft_recover.proofs.RecoveryLemmas.{both_merged, both_merged_few, both_recovered, both_whole}
 use Rattle.raft_recover.proofs.TurnLemmas.{segments_refused}
 use Rattle.raft_recover.proofs.recovery.recover_both.Goals as goal
@@ -16,22 +16,19 @@ returns-clause-whole g c =
 
 pub returns-in_err-merge_append_context-clause-refused : goal.returns-in_err-merge_append_context-clause-refused
 returns-in_err-merge_append_context-clause-refused g c good =
-    let p = err_from_is_err_and c.from_residual-in_err-merge_append_context.result c.from_residual-in_err-merge_append_context.ensures.1 in
-    rw (p.1, p.2) (both_merged c.args.rewrite.now c.args.append.now good.0.3 good.1.3 c.in_ok-both.both c.in_ok-both.appended
+    on_passed _ _ c.from_residual-in_err-merge_append_context.ensures.1 (both_merged c.args.rewrite.now c.args.append.now good.0.3 good.1.3 c.in_ok-both.both c.in_ok-both.appended
     c.in_ok-both.ensures.rewritten c.in_ok-both.ensures.appended (Err c.in_err-merge_append_context.field-0.0)
     c.in_err-merge_append_context.ensures.memory)
 
 pub returns-in_err-merge_append_context-clause-place : goal.returns-in_err-merge_append_context-clause-place
 returns-in_err-merge_append_context-clause-place g c good few_rewrite few_append =
-    let p = err_from_is_err_and c.from_residual-in_err-merge_append_context.result c.from_residual-in_err-merge_append_context.ensures.1 in
-    rw (p.1, p.2)
+    on_passed _ _ c.from_residual-in_err-merge_append_context.ensures.1
     (both_merged_few c.args.rewrite.now c.args.append.now good.0.3 good.1.3 c.in_ok-both.both c.in_ok-both.appended c.in_ok-both.ensures.rewritten c.in_ok-both.ensures.appended (Err c.in_err-merge_append_context.field-0.0)
     (λ e. StopsAmong IsNothing Sound (parts_within c.args.rewrite.now) e ⊎ StopsAmong IsNothing Sound (parts_within c.args.append.now) e) few_rewrite few_append c.in_err-merge_append_context.ensures.memory)
 
 pub returns-in_err-both-clause-refused : goal.returns-in_err-both-clause-refused
 returns-in_err-both-clause-refused g c good =
-    let p = err_from_is_err_and c.from_residual-in_err-both.result c.from_residual-in_err-both.ensures.1 in
-    rw (p.1, p.2)
+    on_passed _ _ c.from_residual-in_err-both.ensures.1
     (λ not_memory. elim (c.in_err-both.ensures.place not_memory) [
       | inl stops ↦ inl (segments_refused c.args.rewrite.now c.in_err-both.field-0.0 (λ _. stops) not_memory)
       | inr stops ↦ inr (segments_refused c.args.append.now c.in_err-both.field-0.0 (λ _. stops) not_memory)

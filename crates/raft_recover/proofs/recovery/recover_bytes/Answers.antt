@@ -1,13 +1,12 @@
-use Rattle.raft_recover.proofs.Common.{map, inl, arith, err_from_is_err_and, file_shown}
+use Rattle.raft_recover.proofs.Common.{on_passed, map, inl, arith, file_shown}
 use Rattle.raft_recover.proofs.RecoveryLemmas.{files_refused, tables_printed, tables_found, print_failed}
 use Rattle.raft_recover.proofs.recovery.recover_bytes.Goals as goal
 
 pub returns-in_err-accessor-clause-refused : goal.returns-in_err-accessor-clause-refused
 returns-in_err-accessor-clause-refused g c good =
-    let p = err_from_is_err_and c.from_residual-in_err-accessor.result c.from_residual-in_err-accessor.ensures.1 in
     let made = c.in_ok-segments.ensures in
     let refused = rw (c.as_slice.ensures.value) at c.in_err-accessor.ensures.refused in
-    rw (p.1, p.2)
+    on_passed _ _ c.from_residual-in_err-accessor.ensures.1
     (λ not_memory. inl (files_refused c.args.queue c.args.version c.in_ok-segments.segments.items (map file_shown c.args.files.items) made.same
     (refused (good.0, good.1, omega (arith, made.count, good.2), made.of_queue) not_memory)))
 

@@ -1,4 +1,4 @@
-use Rattle.raft_recover.proofs.Common.{List, [], Vec, refl, subst, arith, Global, take_all, err_from_is_err_and, HasRead, HasReadExactly, SegmentsHold, PartsHold, each_more, item_taken, item_between, none_replayed, replayed_more}
+use Rattle.raft_recover.proofs.Common.{or_passed, List, [], Vec, refl, subst, arith, Global, take_all, HasRead, HasReadExactly, SegmentsHold, PartsHold, each_more, item_taken, item_between, none_replayed, replayed_more}
 use Rattle.raft_recover.proofs.TurnLemmas.{stopped_in_turn}
 use Rattle.raft_recover.proofs.recovery.replayed_in_turn.Goals as goal
 
@@ -27,10 +27,9 @@ returns c =
 
 pub returns-in_err-replay_segment : goal.returns-in_err-replay_segment
 returns-in_err-replay_segment c =
-    let p = err_from_is_err_and c.from_residual-in_err-replay_segment.result c.from_residual-in_err-replay_segment.ensures.1 in
     let begun = c.in_ok-context.ensures.exact in
     let split = item_between {xs = c.args.segments.now} {ys = c.args.segments.now} {i = c.loop-segment.segment-index} {x = c.segment-item.result} refl (let t = c.loop-segment-test.true in omega arith) c.segment-item.is in
-    rw (p.1, p.2)
+    or_passed _ _ _ c.from_residual-in_err-replay_segment.ensures.1
     (λ not_memory.
     stopped_in_turn c.args.segments.now _ _ c.segment-item.result c.in_ok-context.context c.loop-segment.context _ c.loop-segment.invariant
     (record { stage = begun.stage; stands = begun.exact.stands }) split c.in_err-replay_segment.ensures.place)

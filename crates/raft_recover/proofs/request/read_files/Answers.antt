@@ -1,5 +1,6 @@
 use Rattle.raft_recover.proofs.Common.{◌≡◌, ◌++◌, ◌+◌, map, drop, refl, sym, subst, ◌∙◌, path_shown, file_shown}
-use Rattle.raft_recover.proofs.RequestLemmas.{number_more, numbers_all, map_of_map}
+use Rattle.raft_recover.proofs.RequestLemmas.{number_more, numbers_all}
+use Rattle.std.proofs.lemmas.Simd.{map-map}
 use Rattle.raft_recover.proofs.request.read_files.Goals as goal
 
 pub loop-seq-preserved : goal.loop-seq-preserved
@@ -9,6 +10,6 @@ loop-seq-preserved g c =
 
 pub returns-clause-ok : goal.returns-clause-ok
 returns-clause-ok g c =
-    map_of_map (λ file. file.0) file_shown c.loop-seq.files.items
+    map-map (λ file. file.0) file_shown c.loop-seq.files.items
     ∙ numbers_all (λ file. file.0) (λ file. file.0) c.loop-seq.files.items c.args.named.now c.loop-seq.seq-index c.loop-seq-test.false c.loop-seq.invariant
-    ∙ sym (map_of_map (λ file. file.0) path_shown c.args.named.now)
+    ∙ sym (map-map (λ file. file.0) path_shown c.args.named.now)

@@ -1,5 +1,5 @@
-use Rattle.raft_recover.proofs.Common.{◌≡◌, ◌∷◌, List, ℕ, map, string_bytes, length, ◌-◌, take, drop, subst, err_from_is_err_and, ArePathsNamed, AsksRecovery}
-use Rattle.raft_recover.proofs.RequestLemmas.{four_and_more, four_texts, same_text, same_rest, recover_first, files_of_words, each_names}
+use Rattle.raft_recover.proofs.Common.{on_passed, ◌≡◌, ◌∷◌, List, ℕ, map, string_bytes, ap, length, ◌-◌, take, drop, subst, ArePathsNamed, AsksRecovery}
+use Rattle.raft_recover.proofs.RequestLemmas.{four_and_more, same_text, same_rest, recover_first, files_of_words, each_names}
 use Rattle.raft_recover.proofs.request.recovery_request.Goals.{In-Some-number_named}
 use Rattle.raft_recover.proofs.request.recovery_request.Goals.at as at
 use Rattle.raft_recover.proofs.request.recovery_request.Goals as goal
@@ -11,8 +11,7 @@ rest c = map string_bytes (take (length c.args.words.now - 4) (drop 4 c.args.wor
 words : (c : In-Some-number_named) → map string_bytes c.args.words.now ≡ c.as_str.result.now ∷ c.as_str-2.result.now ∷ c.as_str-3.result.now ∷ c.as_str-4.result.now ∷ rest c
 words c =
     let items = four_and_more c.args.words.now c.command-item.result c.queue-item.result c.version-item.result c.workers-item.result c.in-len4-up.len_at_least c.command-item.is c.queue-item.is c.version-item.is c.workers-item.is in
-    four_texts string_bytes c.args.words.now _ c.command-item.result c.queue-item.result c.version-item.result c.workers-item.result _ _ _ _ items
-    c.as_str.ensures.value c.as_str-2.ensures.value c.as_str-3.ensures.value c.as_str-4.ensures.value
+    rw (c.as_str.ensures.value, c.as_str-2.ensures.value, c.as_str-3.ensures.value, c.as_str-4.ensures.value) (ap (map string_bytes) items)
 
 -- what the words ask for, where those behind the first four name these paths
 asked : (c : In-Some-number_named) (paths : List (ℕ × List ℕ)) → ArePathsNamed (rest c) paths
@@ -41,7 +40,6 @@ returns-in_default-2-clause-refused c =
 
 pub returns-in_err-paths-clause-memory : goal.returns-in_err-paths-clause-memory
 returns-in_err-paths-clause-memory c =
-    let p = err_from_is_err_and c.from_residual.result c.from_residual.ensures.1 in
     let before = (at.returns-in_err-paths-clause-memory c).In-Some-number_named in
     let files = files_of_words (rest before) c.in_err-paths.ensures.memory.1 in
-    rw (p.1, p.2) (c.in_err-paths.ensures.memory.0, _, asked before files.0 files.1)
+    on_passed _ _ c.from_residual.ensures.1 (c.in_err-paths.ensures.memory.0, _, asked before files.0 files.1)

@@ -25,21 +25,6 @@ goes_on c =
 pub loop-at-preserved : goal.loop-at-preserved
 loop-at-preserved c = goes_on (at.loop-at-preserved c).In-Some
 
-pub loop-at-preserved-in-Some : goal.loop-at-preserved-in-Some
-loop-at-preserved-in-Some c = goes_on (at.loop-at-preserved-in-Some c).In-Some
-
-pub loop-at-preserved-in-Some-2 : goal.loop-at-preserved-in-Some-2
-loop-at-preserved-in-Some-2 c = goes_on (at.loop-at-preserved-in-Some-2 c).In-Some
-
-pub loop-at-preserved-in-Some-3 : goal.loop-at-preserved-in-Some-3
-loop-at-preserved-in-Some-3 c = goes_on (at.loop-at-preserved-in-Some-3 c).In-Some
-
-pub loop-at-preserved-in-Some-4 : goal.loop-at-preserved-in-Some-4
-loop-at-preserved-in-Some-4 c = goes_on (at.loop-at-preserved-in-Some-4 c).In-Some
-
-pub loop-at-preserved-in-Some-5 : goal.loop-at-preserved-in-Some-5
-loop-at-preserved-in-Some-5 c = goes_on (at.loop-at-preserved-in-Some-5 c).In-Some
-
 pub returns-in_default-clause-ok : goal.returns-in_default-clause-ok
 returns-in_default-clause-ok c =
     let part = c.args.part.now in

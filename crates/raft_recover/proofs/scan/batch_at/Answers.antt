@@ -1,6 +1,6 @@
 use Rattle.raft_recover.proofs.Common.{◌∙◌, ℕ, List, length, drop, ap, sym, subst, length-map, HasHeader, item_of, batch_header}
 use Rattle.raft_recover.proofs.ScanLemmas.{header_room, batch_is_found}
-use Rattle.raft_recover.proofs.scan.batch_found.Goals as goal
+use Rattle.raft_recover.proofs.scan.batch_at.Goals as goal
 
 pub unreachable-requires : goal.unreachable-requires
 unreachable-requires c =

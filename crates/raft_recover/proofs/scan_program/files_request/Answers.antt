@@ -1,6 +1,6 @@
-use Rattle.raft_recover.proofs.Common.{◌≡◌, ◌∷◌, List, ℕ, map, string_bytes, length, ◌-◌, take, drop, subst, refl, err_from_is_err_and, ArePathsNamed, AskedScan, NamesFiles}
+use Rattle.raft_recover.proofs.Common.{on_passed, ◌≡◌, ◌∷◌, List, ℕ, map, string_bytes, ap, length, ◌-◌, take, drop, subst, refl, ArePathsNamed, AskedScan, NamesFiles}
 use Rattle.raft_recover.proofs.RequestLemmas.{two_and_more, files_of_words, each_names}
-use Rattle.raft_recover.proofs.ScanRequestLemmas.{two_texts, same_behind_two}
+use Rattle.raft_recover.proofs.ScanRequestLemmas.{same_behind_two}
 use Rattle.raft_recover.proofs.scan_program.files_request.Goals.{In-Some-version_named}
 use Rattle.raft_recover.proofs.scan_program.files_request.Goals.at as at
 use Rattle.raft_recover.proofs.scan_program.files_request.Goals as goal
@@ -12,11 +12,11 @@ rest c = map string_bytes (take (length c.args.words.now - 2) (drop 2 c.args.wor
 words : (c : In-Some-version_named) → map string_bytes c.args.words.now ≡ c.as_str.result.now ∷ c.as_str-2.result.now ∷ rest c
 words c =
     let items = two_and_more c.args.words.now c.queue-item.result c.version-item.result c.in-len2-up.len_at_least c.queue-item.is c.version-item.is in
-    two_texts string_bytes c.args.words.now _ c.queue-item.result c.version-item.result _ _ items c.as_str.ensures.value c.as_str-2.ensures.value
+    rw (c.as_str.ensures.value, c.as_str-2.ensures.value) (ap (map string_bytes) items)
 
 -- the files that the words name, where those behind the first two name these paths
 abbrev pub scan_of : (c : In-Some-version_named) → List (ℕ × List ℕ) → AskedScan
-scan_of c paths = record { past_damage = c.args.past_damage; queue = c.in-Some.queue; version = c.in-Some-version_named.version; paths = paths }
+scan_of c paths = record { past_damage = c.args.past; queue = c.in-Some.queue; version = c.in-Some-version_named.version; paths = paths }
 
 named : (c : In-Some-version_named) (paths : List (ℕ × List ℕ)) → ArePathsNamed (rest c) paths → NamesFiles (map string_bytes c.args.words.now) (scan_of c paths)
 named c paths names = record {
@@ -41,7 +41,6 @@ returns-in_default-2-clause-refused c =
 
 pub returns-in_err-paths-clause-memory : goal.returns-in_err-paths-clause-memory
 returns-in_err-paths-clause-memory c =
-    let p = err_from_is_err_and c.from_residual.result c.from_residual.ensures.1 in
     let before = (at.returns-in_err-paths-clause-memory c).In-Some-version_named in
     let files = files_of_words (rest before) c.in_err-paths.ensures.memory.1 in
-    rw (p.1, p.2) (c.in_err-paths.ensures.memory.0, scan_of before files.0, refl, named before files.0 files.1)
+    on_passed _ _ c.from_residual.ensures.1 (c.in_err-paths.ensures.memory.0, scan_of before files.0, refl, named before files.0 files.1)

@@ -1,6 +1,6 @@
 use Rattle.raft_recover.proofs.Common.{◌++◌, ℕ, List, map, ap, ◌∙◌, subst, inr, err_from_is_err_and, Appends, AppendsFront, scan_asked}
 use Rattle.raft_recover.specs.AskedRequests.{file_shown}
-use Rattle.raft_recover.proofs.scan_program.print_scan.Goals as goal
+use Rattle.raft_recover.proofs.scan_program.print.Goals as goal
 
 pub returns-clause-done : goal.returns-clause-done
 returns-clause-done g c =

@@ -6,7 +6,7 @@ pub loop-segment-preserved : goal.loop-segment-preserved
 loop-segment-preserved c =
     let front = take c.loop-segment.segment-index c.args.segments.now in
     let taken = item_taken {xs = c.args.segments.now} {ys = c.args.segments.now} {i = c.loop-segment.segment-index} {x = c.segment-item.result} refl (let t = c.loop-segment-test.true in omega arith) c.segment-item.is in
-    subst (λ (l : List Part). AreDivided l c.append_short.new.parts.items) (sym (ap parts_within taken ∙ within_push front c.segment-item.result))
+    subst (λ (l : List Part). AreDivided l c.append_short.new.to.items) (sym (ap parts_within taken ∙ within_push front c.segment-item.result))
     (c.in_ok-append_short.ensures.cut (parts_within front) c.loop-segment.invariant)
 
 pub returns-clause-cut : goal.returns-clause-cut

@@ -13,56 +13,21 @@ pub use Rattle.std.proofs.lemmas.Iterator.Adapters.{YieldsList-from_vec}
 pub use Rattle.std.proofs.lemmas.List.{append_assoc, at_drop_more, drop_min, get_or-map, length-map, map-append, map-id, nil_from_length, take_all, take_at, take_min}
 pub use Rattle.std.proofs.lemmas.List.Sorted.{IsNonDecreasingBy-from_sort, IsPermutation-map, IsPermutation-sym, IsPermutation-trans, ranks_by}
 pub use Rattle.std.proofs.lemmas.Result.{err_from_is_err_and}
-pub use Rattle.std.specs.Box.Ownership.{box_owns}
-pub use Rattle.std.specs.Cmp.{IsStrictWeakOrder}
-pub use Rattle.std.specs.Cmp.Lexicographic.{slice_cmp}
-pub use Rattle.std.specs.Fn.{Called, ComparesAs}
-pub use Rattle.std.specs.Global.{Global}
-pub use Rattle.std.specs.Iterator.{Drains, Yields}
-pub use Rattle.std.specs.List.{AllByRecursion}
 pub use Rattle.std.specs.List.Sorted.{IsSortedBy}
-pub use Rattle.std.specs.Ordering.{is_lt, nat_cmp}
 pub use Rattle.std.specs.Prelude.{IsTrue, is_some, slice_index_or}
-pub use Rattle.std.specs.Vec.Iter.{into_iter_items, into_iter_len, into_iter_steps}
 pub use Rattle.std.specs.contracts.impls.GlobalAllocator.TheImpl.{dict, ghosts}
-pub use Rattle.std.specs.declared.cmp.Ordering.{Ordering}
-pub use Rattle.std.specs.declared.vec.IntoIter.{IntoIter}
-pub use Rattle.raft_ffi.specs.Words.{AllHold, Appending, AreAcceptedOncePlaced, AreBatchesUpTo, AreInKeyOrder, ArePairsIn, AreRewritesUnpurged, AreScanned, AreScannedIn, AreTablesOf, AreUnmovedAgain, AreWritten}
-pub use Rattle.raft_ffi.specs.Words.{BothHold, HasRead, HasReadExactly, HasStrings, HaveReadFound, Holds, IsCodeForBoth, IsCodeOf, IsCopied, IsMemoryOr, IsNeighborFault, IsNextFault, IsOpened, IsPermutation}
-pub use Rattle.raft_ffi.specs.Words.{IsShareRefused, IsStoppedAt, IsUnopenedAs, IsUnpurged, IsUnrewritten, Lasts, Rewriting, Sound, code_of, entries_from, entry_of, file_of, is_between, item_of, moving_entries, moving_pairs}
-pub use Rattle.raft_ffi.specs.Words.{number_in, option_copied, pairs_shown, part_of, queue_of, share_of, signature_of, strings_of, version_of}
-pub use Rattle.raft_accessor.specs.Accessor.{Accessor}
-pub use Rattle.raft_accessor.specs.Writes.{AreItemsRefused, Writing}
-pub use Rattle.raft_base.specs.Runs.{IsConsecutive, IsRun, RisesFrom}
-pub use Rattle.raft_base.specs.declared.entry_index.EntryIndex.{EntryIndex}
-pub use Rattle.raft_base.specs.declared.errors.Error.{Error}
-pub use Rattle.raft_base.specs.declared.pipe_log.Version.{Version}
 pub use Rattle.raft_contexts.proofs.RecoverContextLemmas.{merge_exact, merge_stands, merge_unsound, on_err, on_ok}
-pub use Rattle.raft_contexts.specs.OverlaidContext.{IsOfBothExactly}
-pub use Rattle.raft_contexts.specs.RecoverContext.{RecoverContext}
-pub use Rattle.raft_engine.specs.KeptEngine.{KeptEngine}
-pub use Rattle.raft_engine.specs.ReadContexts.{AreUnmergedAs}
-pub use Rattle.raft_engine.specs.StoredFound.{found_asks}
-pub use Rattle.raft_engine.specs.Unopened.{IsUnopened}
-pub use Rattle.raft_engine.specs.WrittenBatch.{IsUnwritten}
 unfoldable pub use Rattle.raft_ffi.specs.Batches.{AcceptsOncePlaced}
 unfoldable pub use Rattle.raft_ffi.specs.Contexts.{AreUnsound, HasBothRead, HasTablesRead, IsOverlaidExactly, StandsForBoth, StandsForBothExactly}
-pub use Rattle.raft_ffi.specs.FoundFiles.{FilesSeen}
-pub use Rattle.raft_ffi.specs.FoundFilesView.{files_seen}
-pub use Rattle.raft_ffi.specs.Handles.{handle_owned}
-pub use Rattle.raft_ffi.specs.Pairs.{bytes_of, lengths_of}
-pub use Rattle.raft_ffi.specs.Rooms.{copied_over}
 unfoldable pub use Rattle.raft_ffi.specs.Slots.{AcceptsShareOncePlaced}
-pub use Rattle.raft_files.specs.Asks.{Ask, Put}
-pub use Rattle.raft_history.specs.Batches.{Event}
-pub use Rattle.raft_orders.specs.Refusals.{IsUnordered}
+pub use Rattle.raft_files.specs.Asks.{Put}
 pub use Rattle.raft_records.proofs.PartLemmas.{batch_inside, one_batch_more}
-pub use Rattle.raft_records.specs.Entries.{entry_with_index}
-pub use Rattle.raft_records.specs.Item.{Item}
-pub use Rattle.raft_records.specs.LogBatch.{Batch}
-pub use Rattle.raft_records.specs.declared.log_item.LogItem.{LogItem}
 pub use Rattle.raft_replay.proofs.StopLemmas.{fault_after, stands_sound}
-pub use Rattle.raft_replay.specs.Stops.{IsStoodFor}
-pub use Rattle.raft_table.specs.KeyValues.{Keys, Stored}
-pub use Rattle.raft_table.specs.Steps.{table_of}
 unfoldable pub use Rattle.raft_table.specs.TableEntries.{placed_in}
+pub use Rattle.raft_ffi.specs.Words.{Accessor, AllByRecursion, AllHold, Appending, AreAcceptedOncePlaced, AreBatchesUpTo, AreInKeyOrder, AreItemsRefused, ArePairsIn, AreRewritesUnpurged, AreScanned, AreScannedIn, AreTablesOf, AreUnmergedAs}
+pub use Rattle.raft_ffi.specs.Words.{AreUnmovedAgain, AreWritten, Ask, Batch, BothHold, Called, ComparesAs, Drains, EntryIndex, Error, Event, FilesSeen, Global, HasRead, HasReadExactly, HasStrings, HaveReadFound, Holds, IntoIter}
+pub use Rattle.raft_ffi.specs.Words.{IsCodeForBoth, IsCodeOf, IsConsecutive, IsCopied, IsMemoryOr, IsNeighborFault, IsNextFault, IsOfBothExactly, IsOpened, IsPermutation, IsRun, IsShareRefused, IsStoodFor, IsStoppedAt, IsStrictWeakOrder}
+pub use Rattle.raft_ffi.specs.Words.{IsUnopened, IsUnopenedAs, IsUnordered, IsUnpurged, IsUnrewritten, IsUnwritten, Item, KeptEngine, Keys, Lasts, LogItem, Ordering, RecoverContext, Rewriting, RisesFrom, Sound, Stored, Version, Writing}
+pub use Rattle.raft_ffi.specs.Words.{Yields, box_owns, bytes_of, code_of, copied_over, entries_from, entry_of, entry_with_index, file_of, found_asks, handle_owned, into_iter_items, into_iter_len, into_iter_steps, is_between}
+pub use Rattle.raft_ffi.specs.Words.{is_lt, item_of, lengths_of, moving_entries, moving_pairs, nat_cmp, number_in, option_copied, pairs_shown, part_of, queue_of, share_of, signature_of, slice_cmp, strings_of, table_of, version_of}
+pub use Rattle.raft_ffi.specs.FoundFilesView.{files_seen}

@@ -1,11 +1,11 @@
 -- What calls put into the room that their caller has for it.
-use Rattle.std.specs.Prelude.{◌≡◌, ◌⊎◌, ℕ, List, [], ◌++◌, length, take, drop, map, codes, string_bytes}
+use Rattle.std.specs.Prelude.{◌≡◌, ◌⊎◌, ℕ, Bool, Option, List, [], ◌++◌, length, take, drop, map, codes, string_bytes}
 use Rattle.raft_base.specs.declared.errors.Error.{Error}
 use Rattle.raft_base.specs.declared.errors.Error.TheVariants as errors
 use Rattle.raft_base.specs.declared.entry_index.EntryIndex.{EntryIndex}
 use Rattle.raft_ffi.specs.declared.entries.Entry.{Entry}
 use Rattle.raft_ffi.specs.declared.status.Status.{Status}
-use Rattle.raft_ffi.specs.Calls.{code_of}
+use Rattle.raft_ffi.specs.Calls.{IsFound, code_of}
 use Rattle.raft_ffi.specs.EntryData.{entry_of}
 
 -- the first of what was found, as far as there is room, over what stood there
@@ -16,6 +16,10 @@ copied_over found room = take (length room) found ++ drop (length found) room
 pub record IsCopied {X : Type 0} (found old new : List X) (count : ℕ) : Type 0 where
   pub counted : count ≡ length found
   pub copied : new ≡ copied_over found old
+
+-- what there is was found, if the flag says so, and copied as far as there is room
+abbrev pub IsCopiedIfAny : {X : Type 0} → Option (List X) → List X → List X → ℕ → Bool → Type 0
+IsCopiedIfAny found old new count flag = IsFound (λ xs. IsCopied xs old new count) found flag
 
 -- how many entries were found, and the first of them, as far as there is room, over what stood there
 pub record AreEntriesIn (found : List EntryIndex) (old new : List Entry) (count : ℕ) : Type 0 where

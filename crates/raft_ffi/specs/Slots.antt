@@ -1,5 +1,5 @@
 -- Tables that are divided into slots: what of a batch concerns a slot, and a table that moves.
-use Rattle.std.specs.Prelude.{◌≡◌, ◌⊎◌, ℕ, ◌+◌, ◌^◌, ◌≤◌, ◌==◌, List, Option, Some, None, filter}
+use Rattle.std.specs.Prelude.{◌≡◌, ◌≢◌, ◌⊎◌, ℕ, ◌+◌, ◌^◌, ◌≤◌, ◌==◌, List, Option, Some, None, filter}
 use Rattle.std.specs.FinMap as finite
 use Rattle.raft_base.specs.declared.errors.Error.{Error}
 use Rattle.raft_base.specs.declared.errors.Error.TheVariants.{Full, Memory}
@@ -9,9 +9,10 @@ use Rattle.raft_records.specs.LogBatch.{Batch}
 use Rattle.raft_history.specs.RegionSteps.{Tables}
 use Rattle.raft_table.specs.Table.{Table}
 use Rattle.raft_accessor.specs.Accessor.{Accessor, AreCountsOf, live_in_all, slot_of, table_in}
-use Rattle.raft_accessor.specs.AppendChecks.{AreAcceptedOncePlaced}
+use Rattle.raft_accessor.specs.AppendChecks.{AreAcceptedOncePlaced, AreRefusedOncePlaced, IsAppendCheckFault}
 use Rattle.raft_accessor.specs.Writes.{Writing}
 use Rattle.raft_table.specs.Table.{live_of}
+use Rattle.raft_ffi.specs.Calls.{BothHold, IsCodeForBoth}
 use Rattle.raft_ffi.specs.Changes.{IsStoppedAt}
 
 -- the items whose regions are of the slot of this number, in order
@@ -40,3 +41,11 @@ pub record IsMoved (region : ℕ) (source old new : Accessor) : Type 0 where
 -- why a table doesn't move: want of memory, or too many records would be live in a queue
 abbrev pub IsMoveFault : ℕ → Accessor → Accessor → Error → Type 0
 IsMoveFault region source others e = (e ≡ Memory) ⊎ ((e ≡ Full) × ((q : LogQueue) × (2 ^ 64 ≤ live_in_all q others.tables + live_of q (table_in source.tables region))))
+
+-- tables would take these items of a batch where the number is 0; else the number is that of an error of the test, and but for want of memory they refuse them. Both stay
+pub record IsAppendTested (code : ℕ) (Accepts : Accessor → Batch → Type 0) (items_of : Batch → List Item) (tables left : Option Accessor) (batch left_batch : Option Batch) : Type 0 where
+  pub ok : code ≡ 0 → BothHold Accepts tables batch
+  pub refused : code ≢ 0 → code ≢ 11 → BothHold (λ a b. AreRefusedOncePlaced a.tables (items_of b)) tables batch
+  pub fault : code ≢ 0 → IsCodeForBoth (λ a b. IsAppendCheckFault a.tables (items_of b)) tables batch code
+  pub same : left ≡ tables
+  pub same_batch : left_batch ≡ batch

@@ -1,15 +1,13 @@
 //! Calls of batches that are written: items are added to one, its bytes are made, and signed for a file.
 
 ghost use Rattle.std.specs.Prelude.{◌≡◌, ◌≢◌, ℕ, ◌+◌, ◌-◌, ◌^◌, ◌<◌, ◌≤◌, [], IsTrue, IfErr, OnOk, OnErr, Option, Some, None, is_some, length, map, IfOk};
-ghost use Rattle.raft_ffi.specs.Words.{AllHold, BothHold, HasStrings, HasText, HaveSmallNumbers, Holds, IsChangedIfMemory, IsCodeOf, IsCopied, IsKeyRefusal, IsLogBatch, IsMadeIfMemory, IsRead};
-ghost use Rattle.raft_ffi.specs.Words.{IsSealedStage, approximate_length, at_stage, bare, command_item, concat, empty_batch, encoded, encoded_length, entries_from, file_of, is_open, log_batch_bytes};
-ghost use Rattle.raft_ffi.specs.Words.{pair_item, place_at, reserved_key, sealed, signature_of, stage_number, strings_of, with_batch, with_entries_added, with_item, written_to};
-ghost use Rattle.raft_records.specs.declared.command.Command.TheVariants.{Clean, Compact, Truncate};
-ghost use Rattle.raft_records.specs.declared.key_value.OpType.TheVariants.{Put, Del};
+ghost use Rattle.raft_ffi.specs.Words.{AllHold, BothHold, HasStrings, HasText, HaveSmallNumbers, Holds, IsChangedIfMemory, IsChangedOrRefused, IsCopied, IsKeyRefusal, IsLogBatch, IsMadeIfMemory, IsRead, IsSealedStage, approximate_length};
+ghost use Rattle.raft_ffi.specs.Words.{at_stage, bare, command_item, concat, empty_batch, encoded, encoded_length, entries_from, file_of, is_open, log_batch_bytes, pair_item, place_at, reserved_key, sealed, signature_of, stage_number};
+ghost use Rattle.raft_ffi.specs.Words.{strings_of, with_batch, with_entries_added, with_item, written_to, Clean, Compact, Truncate, Put, Del};
 
-use crate::handles::{Batch, Handle, Items, with};
+use crate::handles::{Batch, Handle, Items, told, with};
 use crate::item_list::items_of;
-use crate::status::{File, Status, answered, answered_with, copy_front, memory_code, queue};
+use crate::status::{File, Status, copy_front, memory_code, queue};
 use raft_base::{CompressionType, EntryIndex, Error, FileBlockHandle, FileId, Result};
 use raft_records::{Command, LogBatch};
 use std::alloc::Global;
@@ -74,9 +72,7 @@ pub extern "C" fn raft_ffi_batch_add_entries(
         old.entry_bytes + length (concat (strings_of lens.now bytes.now)))) batch.old.value }
     ensures text { HasText result text.old text.new }
 {
-    let answer =
-        with!(held in batch, alloc; add_entries(alloc, &mut *held, region, first, lens, bytes));
-    answered(alloc, &answer, text)
+    told!(held in batch, alloc, text; add_entries(alloc, &mut *held, region, first, lens, bytes))
 }
 
 fn add_entries(
@@ -115,8 +111,7 @@ pub extern "C" fn raft_ffi_batch_clean(alloc: Global, batch: &mut Batch, region:
     ensures changed { IsChangedIfMemory result (λ old new. new ≡ with_item old (command_item region Clean)) batch.old.value
         batch.new.value }
 {
-    let answer = with!(held in batch, alloc; held.add_command(region, Command::Clean));
-    memory_code(&answer)
+    told!(held in batch, alloc; held.add_command(region, Command::Clean))
 }
 
 /// Adds to an open batch that the entries of a region below an index go.
@@ -132,8 +127,7 @@ pub extern "C" fn raft_ffi_batch_compact(
     ensures changed { IsChangedIfMemory result (λ old new. new ≡ with_item old (command_item region (Compact index)))
         batch.old.value batch.new.value }
 {
-    let answer = with!(held in batch, alloc; held.add_command(region, Command::Compact { index }));
-    memory_code(&answer)
+    told!(held in batch, alloc; held.add_command(region, Command::Compact { index }))
 }
 
 /// Adds to an open batch that the entries of a region from an index on go.
@@ -149,8 +143,7 @@ pub extern "C" fn raft_ffi_batch_truncate(
     ensures changed { IsChangedIfMemory result (λ old new. new ≡ with_item old (command_item region (Truncate index)))
         batch.old.value batch.new.value }
 {
-    let answer = with!(held in batch, alloc; held.add_command(region, Command::Truncate { index }));
-    memory_code(&answer)
+    told!(held in batch, alloc; held.add_command(region, Command::Truncate { index }))
 }
 
 /// Adds to an open batch that a key of a region gets a value.
@@ -165,15 +158,12 @@ pub extern "C" fn raft_ffi_batch_put(
 ) -> Status
     requires held { IsTrue (is_some batch.old.value) }
     requires open { Holds (λ b. b.stage ≡ is_open) batch.old.value }
-    ensures ok { result.code ≡ 0 → BothHold (λ old new. new ≡ with_item old (pair_item region Put key.now (Some value.now)))
-        batch.old.value batch.new.value }
+    ensures changed { IsChangedOrRefused result.code (λ old new. new ≡ with_item old (pair_item region Put key.now (Some
+        value.now))) (λ _. IsKeyRefusal key.now) batch.old.value batch.new.value }
     ensures accepted { result.code ≡ 0 → key.now ≢ reserved_key }
-    ensures err { result.code ≢ 0 → batch.new.value ≡ batch.old.value }
-    ensures fault { result.code ≢ 0 → IsCodeOf (IsKeyRefusal key.now) result.code }
     ensures text { HasText result text.old text.new }
 {
-    let answer = with!(held in batch, alloc; put(alloc, &mut *held, region, key, value));
-    answered(alloc, &answer, text)
+    told!(held in batch, alloc, text; put(alloc, &mut *held, region, key, value))
 }
 
 fn put(alloc: Global, batch: &mut LogBatch, region: u64, key: &[u8], value: &[u8]) -> Result<()>
@@ -201,18 +191,10 @@ pub extern "C" fn raft_ffi_batch_delete(
     ensures changed { IsChangedIfMemory result (λ old new. new ≡ with_item old (pair_item region Del key.now None)) batch.old.value
         batch.new.value }
 {
-    let answer = with!(held in batch, alloc; delete(alloc, &mut *held, region, key));
-    memory_code(&answer)
-}
-
-fn delete(alloc: Global, batch: &mut LogBatch, region: u64, key: &[u8]) -> Result<()>
-    requires { batch.old.stage ≡ is_open }
-    ensures ok { OnOk result (batch.new ≡ with_item batch.old (pair_item region Del key.now None)) }
-    ensures err { OnErr result (batch.new ≡ batch.old) }
-    ensures memory { IfErr result (λ e. e ≡ Error.Memory) }
-{
-    let key = Vec::from_slice(alloc, key)?;
-    batch.delete(region, key)
+    match Vec::from_slice(alloc, key) {
+        Ok(key) => told!(held in batch, alloc; held.delete(region, key)),
+        Err(_) => 11,
+    }
 }
 
 /// Moves all items of another open batch to the end of an open one. The other one is then empty.
@@ -239,8 +221,7 @@ pub extern "C" fn raft_ffi_batch_merge(
         old.entry_bytes + length rhs.entry_bytes)) batch.old.value more.old.value }
     ensures text { HasText result text.old text.new }
 {
-    let answer = with!(held in batch, alloc; with!(rest in more, alloc; held.merge(&mut *rest)));
-    answered(alloc, &answer, text)
+    told!(held in batch, alloc, text; with!(rest in more, alloc; held.merge(&mut *rest)))
 }
 
 /// Makes the bytes of an open batch, to which nothing is added from then on, and says how many they are: none without items.
@@ -255,16 +236,14 @@ pub extern "C" fn raft_ffi_batch_finish(
     requires open { Holds (λ b. b.stage ≡ is_open) batch.old.value }
     ensures ok { result.code ≡ 0 → BothHold (λ old new. new ≡ at_stage encoded old) batch.old.value batch.new.value }
     ensures len { result.code ≡ 0 → Holds (λ old. len.new ≡ encoded_length old.items old.entry_bytes) batch.old.value }
-    ensures accepted { result.code ≡ 0 → Holds (λ old. encoded_length old.items old.entry_bytes
-        < 2 ^ 56) batch.old.value }
+    ensures accepted { result.code ≡ 0 → Holds (λ old. encoded_length old.items old.entry_bytes < 2 ^ 56) batch.old.value }
     ensures err { result.code ≢ 0 → batch.new.value ≡ batch.old.value }
     ensures refused { result.code ≢ 0 → Holds (λ old. old.items ≢ []) batch.old.value }
     ensures fault { result.code ≢ 0 → result.code ≢ 11 → Holds (λ old. (result.code ≡ 9)
         × (2 ^ 56 ≤ encoded_length old.items old.entry_bytes)) batch.old.value }
     ensures text { HasText result text.old text.new }
 {
-    let answer = with!(held in batch, alloc; held.finish_populate());
-    answered_with(alloc, answer, len, text)
+    told!(held in batch, alloc, len, text; held.finish_populate())
 }
 
 /// Signs the bytes of a batch that is no longer open for a file. It may be repeated for other files.
@@ -272,8 +251,7 @@ pub extern "C" fn raft_ffi_batch_finish(
 pub extern "C" fn raft_ffi_batch_sign(alloc: Global, batch: &mut Batch, file: File)
     requires held { IsTrue (is_some batch.old.value) }
     requires encoded { Holds (λ b. b.stage ≢ is_open) batch.old.value }
-    ensures { BothHold (λ old new. new ≡ at_stage (sealed (signature_of (file_of file))) old) batch.old.value
-        batch.new.value }
+    ensures { BothHold (λ old new. new ≡ at_stage (sealed (signature_of (file_of file))) old) batch.old.value batch.new.value }
 {
     with!(held in batch, alloc; held.prepare_write(&file.context()));
 }
@@ -310,12 +288,8 @@ pub extern "C" fn raft_ffi_batch_written(
     ensures bytes { BothHold (λ old new. (signature : Option ℕ) → log_batch_bytes signature new.items new.entry_bytes ≡
         log_batch_bytes signature old.items old.entry_bytes) batch.old.value batch.new.value }
 {
-    let place = FileBlockHandle {
-        id: FileId::new(queue(is_rewrite), seq),
-        offset,
-        len,
-    };
-    with!(held in batch, alloc; held.finish_write(place));
+    let id = FileId::new(queue(is_rewrite), seq);
+    with!(held in batch, alloc; held.finish_write(FileBlockHandle { id, offset, len }));
 }
 
 /// Takes the items out of a batch, at whatever stage. The batch is gone then.

@@ -1,8 +1,7 @@
 //! Calls that read bytes alone.
 
 ghost use Rattle.std.specs.Prelude.{◌≡◌, ◌≢◌, ◌+◌, ◌^◌, ◌<◌, ℕ, List, length, drop, take, IfOk, OnOk, OnErr, IfErr};
-ghost use Rattle.raft_ffi.specs.Words.{AreBatchesUpTo, HasLength, HasNoFront, HasText, IsAnyCorruption, IsCodeOf, IsEntryBlockOf, IsHeader, IsNextFault, crc32_of, file_of, little_bytes, part_of};
-ghost use Rattle.raft_ffi.specs.Words.{signature_of};
+ghost use Rattle.raft_ffi.specs.Words.{AreBatchesUpTo, HasLength, HasNoFront, HasText, IsAnyCorruption, IsCodeOf, IsEntryBlockOf, IsHeader, IsNextFault, crc32_of, file_of, little_bytes, part_of, signature_of};
 
 use crate::status::{File, Status, answered, answered_with};
 use raft_base::{Error, LogFileContext, Result, crc32};
@@ -42,22 +41,15 @@ pub extern "C" fn raft_ffi_readable_front(
     ensures readable { AreBatchesUpTo (part_of (file_of file) offset bytes.now) len.new }
     ensures whole { result.code ≡ 0 → len.new ≡ length bytes.now }
     ensures cut { result.code ≢ 0 → len.new < length bytes.now }
-    ensures fault { result.code ≢ 0 → IsCodeOf
-        (IsNextFault (signature_of (file_of file)) (drop len.new bytes.now)) result.code }
+    ensures fault { result.code ≢ 0 → IsCodeOf (IsNextFault (signature_of (file_of file)) (drop len.new bytes.now)) result.code }
     ensures text { HasText result text.old text.new }
 {
-    let (end, answer) = walk_front(alloc, &file.context(), offset, bytes);
+    let (end, answer) = walk(alloc, &file.context(), offset, bytes);
     *len = end;
     answered(alloc, &answer, text)
 }
 
-/// Returns where the readable batches end that the bytes begin with, and why the batch there can't be read.
-fn walk_front(
-    alloc: Global,
-    file: &LogFileContext,
-    offset: u64,
-    bytes: &[u8],
-) -> (usize, Result<()>)
+fn walk(alloc: Global, file: &LogFileContext, offset: u64, bytes: &[u8]) -> (usize, Result<()>)
     requires ends { offset + length bytes.now < 2 ^ 64 }
     ensures readable { AreBatchesUpTo (part_of file.now offset bytes.now) result.0 }
     ensures whole { OnOk result.1 (result.0 ≡ length bytes.now) }

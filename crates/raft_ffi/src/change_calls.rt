@@ -1,14 +1,12 @@
 //! Calls that change the table of a region.
 
 ghost use Rattle.std.specs.Prelude.{◌≡◌, IsTrue, is_some, map, OnOk, OnErr, IfOk, IfErr};
-ghost use Rattle.raft_base.specs.declared.pipe_log.LogQueue.TheVariants.{Append, Rewrite};
-ghost use Rattle.raft_ffi.specs.Words.{AreAppended, AreDropped, AreRewritten, AreUnappended, AreUnrewritten, BothHold, HasText, IsAllowed, IsAnswer, IsChangeFault, IsChangedIfMemory};
-ghost use Rattle.raft_ffi.specs.Words.{IsChangedOrRefused, IsChangedTo, IsCompacted, IsDeleted, IsKeyRewritten, IsKeyUnrewritten, IsMemoryOr, IsPut, IsRunIn, IsTruncated, IsUnput, after_change};
-ghost use Rattle.raft_ffi.specs.Words.{entry_of, id_of, number_in, table_in, IsChangeOr};
+ghost use Rattle.raft_ffi.specs.Words.{Append, Rewrite, AreAppended, AreDropped, AreRewritten, AreUnappended, AreUnrewritten, BothHold, HasText, IsAllowed, IsAnswer, IsChangeFault, IsChangedIfMemory, IsChangedOrRefused, IsChangedTo};
+ghost use Rattle.raft_ffi.specs.Words.{IsCompacted, IsDeleted, IsKeyRewritten, IsKeyUnrewritten, IsMemoryOr, IsPut, IsRunIn, IsTruncated, IsUnput, IsChangeOr, after_change, entry_of, id_of, number_in, table_in};
 
 use crate::entries::{Entry, entry_indexes};
-use crate::handles::{Handle, Tables, with};
-use crate::status::{Maybe, Status, answered, answered_with, queue};
+use crate::handles::{Handle, Tables, or_told, told, with};
+use crate::status::{Maybe, Status, queue};
 use raft_accessor::MemTableAccessor;
 use raft_base::{Error, FileId, Result};
 use raft_table::TableChange;
@@ -30,8 +28,8 @@ pub extern "C" fn raft_ffi_tables_append(
     ensures accepted { result.code ≡ 0 → IsRunIn Append (map entry_of entries.now) }
     ensures text { HasText result text.old text.new }
 {
-    let answer = with!(held in tables, alloc; append(alloc, &mut *held, region, entries));
-    answered(alloc, &answer, text)
+    let run = or_told!(entry_indexes(alloc, entries), alloc, text);
+    told!(held in tables, alloc, text; change_table(&mut *held, region, TableChange::Append(run)))
 }
 
 /// Drops the entries of a region below an index, and says how many those were.
@@ -49,9 +47,7 @@ pub extern "C" fn raft_ffi_tables_compact(
     ensures dropped { result.code ≡ 0 → BothHold (AreDropped dropped.new region) tables.old.value tables.new.value }
     ensures text { HasText result text.old text.new }
 {
-    let answer =
-        with!(held in tables, alloc; change_table(&mut *held, region, TableChange::Compact { index }));
-    answered_with(alloc, answer, dropped, text)
+    told!(held in tables, alloc, dropped, text; change_table(&mut *held, region, TableChange::Compact { index }))
 }
 
 /// Drops the entries of a region at or above an index, and says how many those were.
@@ -69,9 +65,7 @@ pub extern "C" fn raft_ffi_tables_truncate(
     ensures dropped { result.code ≡ 0 → BothHold (AreDropped dropped.new region) tables.old.value tables.new.value }
     ensures text { HasText result text.old text.new }
 {
-    let answer =
-        with!(held in tables, alloc; change_table(&mut *held, region, TableChange::Truncate { index }));
-    answered_with(alloc, answer, dropped, text)
+    told!(held in tables, alloc, dropped, text; change_table(&mut *held, region, TableChange::Truncate { index }))
 }
 
 /// Puts a key of a region with its value, which were written to the file of number `seq`.
@@ -92,8 +86,7 @@ pub extern "C" fn raft_ffi_tables_put(
     ensures text { HasText result text.old text.new }
 {
     let file = FileId::new(queue(is_rewrite), seq);
-    let answer = with!(held in tables, alloc; put(alloc, &mut *held, region, key, value, file));
-    answered(alloc, &answer, text)
+    told!(held in tables, alloc, text; put(alloc, &mut *held, region, key, value, file))
 }
 
 /// Deletes a key of a region and its value.
@@ -109,8 +102,8 @@ pub extern "C" fn raft_ffi_tables_delete(
     ensures changed { IsChangedIfMemory result.code (IsDeleted key.now region) tables.old.value tables.new.value }
     ensures text { HasText result text.old text.new }
 {
-    let answer = with!(held in tables, alloc; delete(alloc, &mut *held, region, key));
-    answered(alloc, &answer, text)
+    let key = or_told!(Vec::from_slice(alloc, key), alloc, text);
+    told!(held in tables, alloc, text; change_table(&mut *held, region, TableChange::Delete { key }))
 }
 
 /// Gives entries of a region the places of a run of the rewrite queue, as far as they may move: with a gate those in
@@ -130,9 +123,9 @@ pub extern "C" fn raft_ffi_tables_rewrite(
     ensures accepted { result.code ≡ 0 → IsRunIn Rewrite (map entry_of entries.now) }
     ensures text { HasText result text.old text.new }
 {
-    let answer =
-        with!(held in tables, alloc; rewrite(alloc, &mut *held, region, entries, gate.number()));
-    answered(alloc, &answer, text)
+    let entries = or_told!(entry_indexes(alloc, entries), alloc, text);
+    let gate = gate.number();
+    told!(held in tables, alloc, text; change_table(&mut *held, region, TableChange::Rewrite { entries, gate }))
 }
 
 /// Moves the pair of a region's key to the file of number `seq` of the rewrite queue: one in the append queue where there
@@ -152,39 +145,20 @@ pub extern "C" fn raft_ffi_tables_rewrite_key(
         (number_in gate) seq key.now region) tables.old.value tables.new.value }
     ensures text { HasText result text.old text.new }
 {
-    let answer =
-        with!(held in tables, alloc; rewrite_key(alloc, &mut *held, region, key, gate.number(), seq));
-    answered(alloc, &answer, text)
+    told!(held in tables, alloc, text; rewrite_key(alloc, &mut *held, region, key, gate.number(), seq))
 }
 
-/// Does what a change says to a region's table. The number is how many entries it drops by a compaction or a truncation.
 fn change_table(tables: &mut MemTableAccessor, region: u64, change: TableChange) -> Result<u64>
     ensures ok { OnOk result (IsChangedTo (after_change (table_in tables.old.tables region) change)
         region tables.old tables.new) }
-    ensures answer { IfOk result (IsAnswer change (table_in tables.old.tables region)
-        (table_in tables.new.tables region)) }
+    ensures answer { IfOk result (IsAnswer change (table_in tables.old.tables region) (table_in tables.new.tables region)) }
     ensures allowed { OnOk result (IsAllowed change) }
     ensures err { OnErr result (tables.new ≡ tables.old) }
-    ensures fault { IfErr result (IsMemoryOr
-        (IsChangeFault (table_in tables.old.tables region) tables.old.counts change)) }
+    ensures fault { IfErr result (IsMemoryOr (IsChangeFault (table_in tables.old.tables region) tables.old.counts change)) }
 {
     let answer = tables.change(region, change);
     tables.counts_are_exact();
     answer
-}
-
-fn append(
-    alloc: Global,
-    tables: &mut MemTableAccessor,
-    region: u64,
-    entries: &[Entry],
-) -> Result<u64>
-    ensures changed { IsChangeOr result (AreAppended (map entry_of entries.now) region)
-        (AreUnappended (map entry_of entries.now) region) tables.old tables.new }
-    ensures accepted { OnOk result (IsRunIn Append (map entry_of entries.now)) }
-{
-    let run = entry_indexes(alloc, entries)?;
-    change_table(tables, region, TableChange::Append(run))
 }
 
 fn put(
@@ -200,37 +174,15 @@ fn put(
 {
     let key = Vec::from_slice(alloc, key)?;
     let value = Vec::from_slice(alloc, value)?;
-    let put = TableChange::Put {
-        key,
-        value,
-        file_id,
-    };
-    change_table(tables, region, put)
-}
-
-fn delete(alloc: Global, tables: &mut MemTableAccessor, region: u64, key: &[u8]) -> Result<u64>
-    ensures ok { OnOk result (IsDeleted key.now region tables.old tables.new) }
-    ensures err { OnErr result (tables.new ≡ tables.old) }
-    ensures memory { IfErr result (λ e. e ≡ Error.Memory) }
-{
-    let key = Vec::from_slice(alloc, key)?;
-    change_table(tables, region, TableChange::Delete { key })
-}
-
-fn rewrite(
-    alloc: Global,
-    tables: &mut MemTableAccessor,
-    region: u64,
-    entries: &[Entry],
-    gate: Option<u64>,
-) -> Result<u64>
-    ensures changed { IsChangeOr result (AreRewritten gate (map entry_of entries.now) region)
-        (AreUnrewritten gate (map entry_of entries.now) region) tables.old tables.new }
-    ensures accepted { OnOk result (IsRunIn Rewrite (map entry_of entries.now)) }
-{
-    let run = entry_indexes(alloc, entries)?;
-    let moved = TableChange::Rewrite { entries: run, gate };
-    change_table(tables, region, moved)
+    change_table(
+        tables,
+        region,
+        TableChange::Put {
+            key,
+            value,
+            file_id,
+        },
+    )
 }
 
 fn rewrite_key(

@@ -1,12 +1,11 @@
 //! Calls of contexts, which rebuild the tables from log files.
 
 ghost use Rattle.std.specs.Prelude.{◌≡◌, ◌≢◌, ◌⊎◌, ◌+◌, ◌^◌, ◌<◌, [], IsTrue, IfOk, IfErr, OnOk, None, is_some, length};
-ghost use Rattle.raft_ffi.specs.Words.{AllHold, AreKept, AreOfTwoQueues, AreTablesOf, AreUnsound, BothHold, CannotFollow, HasBothRead, HasRead, HasReadExactly, HasReplayed, HasTablesRead, HasText};
-ghost use Rattle.raft_ffi.specs.Words.{Holds, HoldsFrom, IsCodeFor, IsCodeForBoth, IsMadeIfMemory, IsMemoryOr, IsMergeAppendFault, IsMergedWith, IsNeighborFault, IsOfFailed, IsOverlaidExactly};
-ghost use Rattle.raft_ffi.specs.Words.{IsOverlaidWith, IsRefusedFor, Sound, StandsForBoth, StandsForBothExactly, StopsByFault, blank_context, capped, file_of, kept_of, part_of, queue_of};
-ghost use Rattle.raft_contexts.specs.declared.context_stage.ContextStage.TheVariants.{Failed, Reading};
+ghost use Rattle.raft_ffi.specs.Words.{AllHold, AreKept, AreOfTwoQueues, AreTablesOf, AreUnsound, BothHold, CannotFollow, HasBothRead, HasRead, HasReadExactly, HasReplayed, HasTablesRead, HasText, Holds, HoldsFrom, IsCodeFor};
+ghost use Rattle.raft_ffi.specs.Words.{IsCodeForBoth, IsMadeIfMemory, IsMemoryOr, IsMergeAppendFault, IsMergedWith, IsNeighborFault, IsOfFailed, IsOverlaidExactly, IsOverlaidWith, IsRefusedFor, IsReadOrRefused, Sound, StandsForBoth};
+ghost use Rattle.raft_ffi.specs.Words.{StandsForBothExactly, StopsByFault, blank_context, capped, file_of, kept_of, part_of, queue_of, Failed, Reading};
 
-use crate::handles::{Context, Handle, Tables, with};
+use crate::handles::{Context, Handle, Tables, told, with};
 use crate::status::{File, Status, answered, memory_code, queue};
 use raft_accessor::MemTableAccessor;
 use raft_base::{Error, LogFileContext, LogQueue, Result};
@@ -74,7 +73,6 @@ pub extern "C" fn raft_ffi_context_replay(
     answered(alloc, &answer, text)
 }
 
-/// Replays the batches of bytes. A context that doesn't read on refuses, also where they hold none.
 fn replay(
     context: &mut MemTableRecoverContext,
     alloc: Global,
@@ -110,8 +108,7 @@ pub extern "C" fn raft_ffi_context_merge(
 ) -> Status
     requires held { IsTrue (is_some context.old.value) }
     requires newer { IsTrue (is_some newer.value) }
-    ensures ok { result.code ≡ 0 → AllHold (IsMergedWith (queue_of is_rewrite)) newer.value
-        context.old.value context.new.value }
+    ensures ok { result.code ≡ 0 → AllHold (IsMergedWith (queue_of is_rewrite)) newer.value context.old.value context.new.value }
     ensures stands { result.code ≡ 0 → AllHold StandsForBoth newer.value context.old.value context.new.value }
     ensures exact { result.code ≡ 0 → AllHold StandsForBothExactly newer.value context.old.value context.new.value }
     ensures err { result.code ≢ 0 → context.new.value ≡ None }
@@ -198,14 +195,11 @@ pub extern "C" fn raft_ffi_context_kept(
     text: &mut [u8],
 ) -> Status
     requires held { IsTrue (is_some context.old.value) }
-    ensures same { context.new.value ≡ context.old.value }
-    ensures ok { result.code ≡ 0 → Holds (λ c. AreKept (kept_of c.context) kept.new) context.old.value }
-    ensures accepted { result.code ≡ 0 → Holds (λ c. c.stage ≢ Failed) context.old.value }
-    ensures fault { result.code ≢ 0 → IsCodeFor IsOfFailed context.old.value result.code }
+    ensures kept { IsReadOrRefused result.code (λ c. AreKept (kept_of c.context) kept.new × (c.stage ≢ Failed)) IsOfFailed
+        context.old.value context.new.value }
     ensures text { HasText result text.old text.new }
 {
-    let answer = with!(held in context, alloc; count_kept(&*held, kept));
-    answered(alloc, &answer, text)
+    told!(held in context, alloc, text; count_kept(&*held, kept))
 }
 
 fn count_kept(context: &MemTableRecoverContext, kept: &mut KeptNumbers) -> Result<()>

@@ -1,14 +1,13 @@
 //! Calls of an engine whose files the caller keeps: what changes it leaves orders behind, which the caller carries out in turn.
 
 ghost use Rattle.std.specs.Prelude.{◌≡◌, ◌≢◌, true, false, Some, None, IsTrue, is_some, IfErr, OnErr, OnOk};
-ghost use Rattle.raft_ffi.specs.Words.{AllHold, AreAcceptedOncePlaced, AreBothAccepted, ArePurged, AreRewritesPurged, AreRewritesUnpurged, BothHold, HasText, HaveReadBoth, HaveReadFound, Holds};
-ghost use Rattle.raft_ffi.specs.Words.{IsCodeForBoth, IsOpened, IsRead, IsRotated, IsStopped, IsSynced, IsUnopenedAs, IsUnpurged, IsUnrotated, IsUnwrittenAs, IsWrittenOrNone, empty_batch, is_open};
-ghost use Rattle.raft_ffi.specs.Words.{version_of};
+ghost use Rattle.raft_ffi.specs.Words.{AllHold, AreAcceptedOncePlaced, AreBothAccepted, ArePurged, AreRewritesPurged, AreRewritesUnpurged, BothHold, HasText, HaveReadBoth, HaveReadFound, Holds, IsCodeForBoth, IsOpened, IsRead, IsRotated};
+ghost use Rattle.raft_ffi.specs.Words.{IsStopped, IsSynced, IsUnopenedAs, IsUnpurged, IsUnrotated, IsUnwrittenAs, IsWrittenOrNone, empty_batch, is_open, version_of};
 
 use crate::found_files::FoundFiles;
-use crate::handles::{Batch, Context, Engine, Found, Handle, with};
+use crate::handles::{Batch, Context, Engine, Found, Handle, told, with};
 use crate::held_engine::HeldEngine;
-use crate::status::{Status, answered, answered_with, version};
+use crate::status::{Status, answered, version};
 use raft_base::{Result, Version};
 use raft_contexts::MemTableRecoverContext;
 use raft_orders::HandedFiles;
@@ -30,24 +29,16 @@ pub extern "C" fn raft_ffi_engine_open(
     requires read { HaveReadBoth (version_of is_signed) found.value appended.value rewritten.value }
     ensures ok { result.code ≡ 0 → BothHold
         (λ f e. IsOpened (version_of is_signed) f.append f.rewrite e) found.value engine.new.value }
-    ensures accepted { result.code ≡ 0 → Holds
-        (λ f. AreBothAccepted (version_of is_signed) f.append f.rewrite) found.value }
+    ensures accepted { result.code ≡ 0 → Holds (λ f. AreBothAccepted (version_of is_signed) f.append f.rewrite) found.value }
     ensures err { result.code ≢ 0 → engine.new.value ≡ None }
     ensures fault { result.code ≢ 0 → Holds (λ f. IsCodeForBoth
         (IsUnopenedAs (version_of is_signed) f) appended.value rewritten.value result.code) found.value }
     ensures text { HasText result text.old text.new }
 {
     let files = found.into_held();
-    let rewritten = rewritten.into_held();
-    let appended = appended.into_held();
-    let answer = open_into(
-        engine,
-        alloc,
-        version(is_signed),
-        files,
-        rewritten,
-        appended,
-    );
+    let rewrite = rewritten.into_held();
+    let append = appended.into_held();
+    let answer = open_into(engine, alloc, version(is_signed), files, rewrite, append);
     answered(alloc, &answer, text)
 }
 
@@ -105,9 +96,7 @@ pub extern "C" fn raft_ffi_engine_write(
         old new) engine.old.value engine.new.value }
     ensures text { HasText result text.old text.new }
 {
-    let answer =
-        with!(held in engine, alloc; with!(written in batch, alloc; held.engine.write(&mut *written, sync)));
-    answered(alloc, &answer, text)
+    told!(held in engine, alloc, text; with!(written in batch, alloc; held.engine.write(&mut *written, sync)))
 }
 
 /// Orders that all that was written lasts.
@@ -124,8 +113,7 @@ pub extern "C" fn raft_ffi_engine_sync(
     ensures fault { result.code ≢ 0 → Holds (λ e. e.intact ≡ false → result.code ≡ 12) engine.old.value }
     ensures text { HasText result text.old text.new }
 {
-    let answer = with!(held in engine, alloc; held.engine.sync());
-    answered(alloc, &answer, text)
+    told!(held in engine, alloc, text; held.engine.sync())
 }
 
 /// Begins a new file of the append queue.
@@ -141,8 +129,7 @@ pub extern "C" fn raft_ffi_engine_rotate(
     ensures err { result.code ≢ 0 → IsCodeForBoth IsUnrotated engine.old.value engine.new.value result.code }
     ensures text { HasText result text.old text.new }
 {
-    let answer = with!(held in engine, alloc; held.engine.rotate());
-    answered(alloc, &answer, text)
+    told!(held in engine, alloc, text; held.engine.rotate())
 }
 
 /// Deletes the append files that no table needs, and says how many.
@@ -159,8 +146,7 @@ pub extern "C" fn raft_ffi_engine_purge_expired_files(
     ensures err { result.code ≢ 0 → IsCodeForBoth IsUnpurged engine.old.value engine.new.value result.code }
     ensures text { HasText result text.old text.new }
 {
-    let answer = with!(held in engine, alloc; held.engine.purge_expired_files());
-    answered_with(alloc, answer, count, text)
+    told!(held in engine, alloc, count, text; held.engine.purge_expired_files())
 }
 
 /// Deletes the rewrite files that no table needs, and says how many.
@@ -177,8 +163,7 @@ pub extern "C" fn raft_ffi_engine_purge_rewrite_files(
     ensures err { result.code ≢ 0 → IsCodeForBoth AreRewritesUnpurged engine.old.value engine.new.value result.code }
     ensures text { HasText result text.old text.new }
 {
-    let answer = with!(held in engine, alloc; held.engine.purge_rewrite_files());
-    answered_with(alloc, answer, count, text)
+    told!(held in engine, alloc, count, text; held.engine.purge_rewrite_files())
 }
 
 /// Frees the engine.

@@ -1,10 +1,9 @@
 //! Files that are found when an engine is opened, and their calls.
 
 ghost use Rattle.std.specs.Prelude.{◌≡◌, IfErr, OnErr, OnOk, None, IsTrue, is_some};
-ghost use Rattle.raft_ffi.specs.FoundFiles.{no_files, with_file};
-ghost use Rattle.raft_ffi.specs.Calls.{queue_of, IsMadeIfMemory, IsChangedIfMemory};
+ghost use Rattle.raft_ffi.specs.Words.{no_files, with_file, queue_of, IsMadeIfMemory, IsChangedIfMemory};
 
-use crate::handles::{Found, Handle, with};
+use crate::handles::{Found, Handle, told, with};
 use crate::status::{memory_code, queue};
 use raft_base::{Error, FileSeq, LogQueue, Result};
 use std::alloc::Global;
@@ -39,18 +38,12 @@ impl FoundFiles {
         }
     }
 
-    pub(crate) fn add(
-        &mut self,
-        alloc: Global,
-        queue: LogQueue,
-        seq: FileSeq,
-        bytes: &[u8],
-    ) -> Result<()>
+    pub(crate) fn add(&mut self, queue: LogQueue, seq: FileSeq, bytes: &[u8]) -> Result<()>
         ensures ok { OnOk result (self.new ≡ with_file queue (seq, bytes.now) self.old) }
         ensures err { OnErr result (self.new ≡ self.old) }
         ensures memory { IfErr result (λ e. e ≡ Error.Memory) }
     {
-        let file = (seq, Vec::from_slice(alloc, bytes)?);
+        let file = (seq, Vec::from_slice(*self.append.allocator(), bytes)?);
         match queue {
             LogQueue::Append => self.append.push(file)?,
             LogQueue::Rewrite => self.rewrite.push(file)?,
@@ -81,8 +74,7 @@ pub extern "C" fn raft_ffi_found_add(
     ensures changed { IsChangedIfMemory result (λ old new. new ≡ with_file (queue_of is_rewrite) (seq, bytes.now) old)
         found.old.value found.new.value }
 {
-    let answer = with!(held in found, alloc; held.add(alloc, queue(is_rewrite), seq, bytes));
-    memory_code(&answer)
+    told!(held in found, alloc; held.add(queue(is_rewrite), seq, bytes))
 }
 
 /// Frees the files.

@@ -1,24 +1,14 @@
 //! Values on the heap behind pointers that C keeps.
 
 ghost use Rattle.std.specs.Prelude.{◌≡◌, List, Option, Some, None, IsTrue, is_some, IfErr, OnErr, OnOk};
-ghost use Rattle.std.specs.Coded.{coded_option};
-ghost use Rattle.raft_accessor.specs.Accessor.{Accessor};
-ghost use Rattle.raft_accessor.specs.AccessorCode.{accessor_code};
+ghost use Rattle.raft_ffi.specs.Words.{coded_option, Accessor, accessor_code, RecoverContext, recover_context_code, KeptEngine, engine_code, Item, FilesSeen, files_code, handle_owned, box_owns};
 ghost use Rattle.raft_accessor.specs.contracts.accessor.MemTableAccessor.{the_row as tables_row};
-ghost use Rattle.raft_contexts.specs.RecoverContext.{RecoverContext};
-ghost use Rattle.raft_contexts.specs.RecoverContextCode.{recover_context_code};
 ghost use Rattle.raft_contexts.specs.contracts.recover_context.MemTableRecoverContext.{the_row as context_row};
-ghost use Rattle.raft_engine.specs.KeptEngine.{KeptEngine};
-ghost use Rattle.raft_engine.specs.KeptEngineCode.{engine_code};
-ghost use Rattle.raft_records.specs.Item.{Item};
 ghost use Rattle.raft_records.specs.LogBatch.{Batch as BatchSeen};
 ghost use Rattle.raft_records.specs.contracts.log_batch.LogBatch.{the_row as batch_row};
-ghost use Rattle.raft_ffi.specs.FoundFiles.{FilesSeen, files_code};
-ghost use Rattle.raft_ffi.specs.Handles.{handle_owned};
 ghost use Rattle.raft_ffi.specs.contracts.found_files.FoundFiles.{the_row as found_row};
 ghost use Rattle.raft_ffi.specs.contracts.held_engine.HeldEngine.{the_row as engine_row};
 ghost use Rattle.raft_ffi.specs.contracts.item_list.ItemList.{the_row as items_row};
-ghost use Rattle.std.specs.Box.Ownership.{box_owns};
 
 use crate::found_files::FoundFiles;
 use crate::held_engine::HeldEngine;
@@ -72,6 +62,34 @@ macro_rules! with {
     }};
 }
 
+/// Does the same, and says how it ended.
+macro_rules! told {
+    ($held:ident in $handle:ident, $alloc:ident; $body:expr) => {{
+        let answer = with!($held in $handle, $alloc; $body);
+        crate::status::memory_code(&answer)
+    }};
+    ($held:ident in $handle:ident, $alloc:ident, $text:ident; $body:expr) => {{
+        let answer = with!($held in $handle, $alloc; $body);
+        crate::status::answered($alloc, &answer, $text)
+    }};
+    ($held:ident in $handle:ident, $alloc:ident, $found:ident, $text:ident; $body:expr) => {{
+        let answer = with!($held in $handle, $alloc; $body);
+        crate::status::answered_with($alloc, answer, $found, $text)
+    }};
+}
+
+/// What is made of memory; the call that wants it ends where there is none.
+macro_rules! or_told {
+    ($made:expr, $alloc:ident, $text:ident) => {
+        match $made {
+            Ok(made) => made,
+            Err(_) => return crate::status::answered::<()>($alloc, &Err(Error::Memory), $text),
+        }
+    };
+}
+
+pub(crate) use or_told;
+pub(crate) use told;
 pub(crate) use with;
 
 /// A type of handles: each holds a value on the heap, or nothing. C keeps it as a pointer, null where it holds nothing.
@@ -120,7 +138,6 @@ pub(crate) trait Handle: Sized + Drop {
         *self = Self::of_parts(Parts::of(held));
     }
 
-    /// Puts a value in that isn't on the heap yet.
     final fn put_new(&mut self, alloc: Global, held: Self::Held) -> Result<()>
         ensures ok { OnOk result (value self.new ≡ Some held) }
         ensures err { OnErr result (value self.new ≡ value self.old) }

@@ -1,9 +1,7 @@
 //! An engine whose files the caller keeps.
 
 ghost use Rattle.std.specs.Prelude.{◌≡◌, true, IfErr, OnOk};
-ghost use Rattle.raft_engine.specs.Moved.{IsRewritten, IsUnrewritten};
-ghost use Rattle.raft_engine.specs.MovedAgain.{AreMovedAgain, AreUnmovedAgain};
-ghost use Rattle.raft_ffi.specs.Taking.{IsTaking};
+ghost use Rattle.raft_ffi.specs.Words.{IsRewritten, IsUnrewritten, AreMovedAgain, AreUnmovedAgain, IsTaking};
 
 use crate::order_calls::{Taking, take_within};
 use raft_base::{Error, FileId, FileSeq, Result};
@@ -41,11 +39,10 @@ impl HeldEngine {
         ensures taking { IsTaking self.old.asks room result }
         ensures same { self.new ≡ self.old }
     {
-        self.engine.with_files(
-            |files: &mut HandedFiles| -> Taking
-                ensures { IsTaking files.old.asks room result × (files.new.asks ≡ files.old.asks) }
-            { take_within(files, room) },
-        )
+        let take = |files: &mut HandedFiles| -> Taking
+            ensures { IsTaking files.old.asks room result × (files.new.asks ≡ files.old.asks) }
+        { take_within(files, room) };
+        self.engine.with_files(take)
     }
 
     /// Keeps a copy of the bytes that stand at a place, for the next call that moves records.
@@ -53,11 +50,10 @@ impl HeldEngine {
         ensures same { self.new ≡ self.old }
         ensures memory { IfErr result (λ e. e ≡ Error.Memory) }
     {
-        self.engine.with_files(
-            |files: &mut HandedFiles| -> Result<()>
-                ensures { IfErr result (λ e. e ≡ Error.Memory) × (files.new.asks ≡ files.old.asks) }
-            { files.lend(file, offset, bytes) },
-        )
+        let lend = |files: &mut HandedFiles| -> Result<()>
+            ensures { IfErr result (λ e. e ≡ Error.Memory) × (files.new.asks ≡ files.old.asks) }
+        { files.lend(file, offset, bytes) };
+        self.engine.with_files(lend)
     }
 
     /// Moves what the tables have in append files up to the gate, and lets go of all bytes that were lent.
@@ -85,10 +81,9 @@ impl HeldEngine {
     fn clear_lent(&mut self)
         ensures { self.new ≡ self.old }
     {
-        self.engine.with_files(
-            |files: &mut HandedFiles| -> ()
-                ensures { files.new.asks ≡ files.old.asks }
-            { files.clear_lent() },
-        );
+        let clear = |files: &mut HandedFiles| -> ()
+            ensures { files.new.asks ≡ files.old.asks }
+        { files.clear_lent() };
+        self.engine.with_files(clear);
     }
 }

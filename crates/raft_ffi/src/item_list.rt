@@ -1,14 +1,8 @@
 //! Items in a row: those of a batch that is read, and their calls.
 
 ghost use Rattle.std.specs.Prelude.{◌≡◌, map, length, IfOk, IfErr, ◌≢◌, ◌+◌, ◌^◌, ◌<◌, ◌≤◌, IsTrue, OnOk, OnErr, None, is_some, drop, slice_get, option_map};
-ghost use Rattle.std.specs.Vec.Iter.{into_iter_items, into_iter_len};
-ghost use Rattle.raft_records.specs.Item.{item_of, content_of};
-ghost use Rattle.raft_base.specs.Signature.{signature_of};
-ghost use Rattle.raft_records.specs.FilePart.{IsNext, IsNextFault, part_of};
-ghost use Rattle.raft_ffi.specs.Calls.{file_of, IsCodeOf, next_shown, IsFound, IsRead};
-ghost use Rattle.raft_ffi.specs.Changes.{IsMemoryOr};
-ghost use Rattle.raft_ffi.specs.ItemLists.{IsHeadOf, kind_of, number_of, entries_at, key_at, value_at};
-ghost use Rattle.raft_ffi.specs.Rooms.{AreEntriesIn, IsCopied, HasText};
+ghost use Rattle.raft_ffi.specs.Words.{into_iter_items, into_iter_len, item_of, content_of, signature_of, IsNext, IsNextFault, part_of, file_of, IsCodeOf, next_shown, IsFound, IsRead, IsMemoryOr, IsHeadOf, kind_of, number_of, entries_at};
+ghost use Rattle.raft_ffi.specs.Words.{key_at, value_at, AreEntriesIn, IsCopiedIfAny, HasText};
 
 use crate::entries::{Entry, copy_entries};
 use crate::handles::{Handle, Items, with};
@@ -96,8 +90,7 @@ pub extern "C" fn raft_ffi_items_next(
     requires empty { items.old.value ≡ None }
     requires inside { at ≤ length bytes.now }
     requires ends { offset + length bytes.now < 2 ^ 64 }
-    ensures ok { result.code ≡ 0 → IsNext (part_of (file_of file) offset bytes.now) at
-        (next_shown items.new.value next.new) }
+    ensures ok { result.code ≡ 0 → IsNext (part_of (file_of file) offset bytes.now) at (next_shown items.new.value next.new) }
     ensures err { result.code ≢ 0 → items.new.value ≡ None }
     ensures fault { result.code ≢ 0 → IsCodeOf
         (IsMemoryOr (IsNextFault (signature_of (file_of file)) (drop at bytes.now))) result.code }
@@ -179,8 +172,7 @@ pub extern "C" fn raft_ffi_items_key(
     len: &mut usize,
 ) -> bool
     requires held { IsTrue (is_some items.old.value) }
-    ensures found { IsRead (λ xs. IsFound (λ bytes. IsCopied bytes key.old key.new len.new) (key_at xs i) result) items.old.value
-        items.new.value }
+    ensures found { IsRead (λ xs. IsCopiedIfAny (key_at xs i) key.old key.new len.new result) items.old.value items.new.value }
 {
     with!(held in items, alloc; copy_found(key_of(&*held, i), key, len))
 }
@@ -195,8 +187,7 @@ pub extern "C" fn raft_ffi_items_value(
     len: &mut usize,
 ) -> bool
     requires held { IsTrue (is_some items.old.value) }
-    ensures found { IsRead (λ xs. IsFound (λ bytes. IsCopied bytes value.old value.new len.new) (value_at xs i) result)
-        items.old.value items.new.value }
+    ensures found { IsRead (λ xs. IsCopiedIfAny (value_at xs i) value.old value.new len.new result) items.old.value items.new.value }
 {
     with!(held in items, alloc; copy_found(value_of(&*held, i), value, len))
 }

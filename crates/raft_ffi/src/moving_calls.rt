@@ -3,10 +3,10 @@
 ghost use Rattle.std.specs.Prelude.{◌≡◌, ◌≢◌, true, IsTrue, is_some, List, IfErr};
 ghost use Rattle.raft_ffi.specs.Words.{AreMovedAgain, AreUnmovedAgain, BothHold, HasText, Holds, IsCodeForBoth, IsCopied, IsRewritten, IsUnrewritten};
 
-use crate::handles::{Engine, Handle, with};
-use crate::status::{Maybe, Status, answered, copy_front, is_rewrite, memory_code, queue};
+use crate::handles::{Engine, Handle, told, with};
+use crate::status::{Maybe, Status, copy_front, is_rewrite, queue};
 use raft_accessor::MemTableAccessor;
-use raft_base::{EntryIndex, Error, FileBlockHandle, FileId, FileSeq, Result};
+use raft_base::{Error, FileId, FileSeq, Result};
 use raft_engine::rewriting::entries_to_move;
 use std::alloc::Global;
 use std::collections::BTreeSet;
@@ -38,8 +38,7 @@ pub extern "C" fn raft_ffi_engine_rewrite(
     ensures err { result.code ≢ 0 → IsCodeForBoth (IsUnrewritten gate) engine.old.value engine.new.value result.code }
     ensures text { HasText result text.old text.new }
 {
-    let answer = with!(held in engine, alloc; held.rewrite(gate));
-    answered(alloc, &answer, text)
+    told!(held in engine, alloc, text; held.rewrite(gate))
 }
 
 /// Moves what the tables have in rewrite files to a new one of them. Where a block is to be read that isn't lent the number is 6;
@@ -56,8 +55,7 @@ pub extern "C" fn raft_ffi_engine_rewrite_again(
     ensures err { result.code ≢ 0 → IsCodeForBoth AreUnmovedAgain engine.old.value engine.new.value result.code }
     ensures text { HasText result text.old text.new }
 {
-    let answer = with!(held in engine, alloc; held.rewrite_again());
-    answered(alloc, &answer, text)
+    told!(held in engine, alloc, text; held.rewrite_again())
 }
 
 /// Lists the blocks that are read where what the tables have in append files up to the gate moves, or without a gate what they have
@@ -103,18 +101,7 @@ pub extern "C" fn raft_ffi_engine_lend(
     ensures same { engine.new.value ≡ engine.old.value }
     ensures fault { result ≢ 0 → result ≡ 11 }
 {
-    let answer =
-        with!(held in engine, alloc; held.lend(FileId::new(queue(is_rewrite), seq), offset, bytes));
-    memory_code(&answer)
-}
-
-/// Blocks, each once, and how many bytes they have together.
-#[derive(Drop)]
-struct Blocks {
-    places: Vec<Place>,
-    last: Option<FileBlockHandle>,
-    known: BTreeSet<(FileId, u64)>,
-    size: usize,
+    told!(held in engine, alloc; held.lend(FileId::new(queue(is_rewrite), seq), offset, bytes))
 }
 
 /// Returns the blocks that are read where records of tables move past a gate, those of one table after another, until they have
@@ -127,45 +114,32 @@ fn blocks_to_move(
 ) -> Result<Vec<Place>>
     ensures memory { IfErr result (λ e. e ≡ Error.Memory) }
 {
-    let mut blocks = Blocks {
-        places: Vec::new(alloc),
-        last: None,
-        known: BTreeSet::new(alloc),
-        size: 0,
-    };
+    let mut places = Vec::new(alloc);
+    let mut known = BTreeSet::new(alloc);
+    let mut last = None;
+    let mut size = 0usize;
     let tables = accessor.tables()?;
     for table in &tables {
-        if blocks.size >= max_size {
-            return Ok(blocks.places);
+        if size >= max_size {
+            return Ok(places);
         }
         let entries = entries_to_move(alloc, table, gate)?;
         for entry in &entries {
-            blocks.add(entry)?;
+            let Some(place) = entry.entries else { continue };
+            if last == Some(place) {
+                continue;
+            }
+            last = Some(place);
+            if known.insert((place.id, place.offset))? {
+                places.push(Place {
+                    seq: place.id.seq,
+                    offset: place.offset,
+                    len: place.len,
+                    is_rewrite: is_rewrite(place.id.queue),
+                })?;
+                size = size.saturating_add(place.len);
+            }
         }
     }
-    Ok(blocks.places)
-}
-
-impl Blocks {
-    fn add(&mut self, entry: &EntryIndex) -> Result<()>
-        ensures memory { IfErr result (λ e. e ≡ Error.Memory) }
-    {
-        let Some(place) = entry.entries else {
-            return Ok(());
-        };
-        if self.last == Some(place) {
-            return Ok(());
-        }
-        self.last = Some(place);
-        if self.known.insert((place.id, place.offset))? {
-            self.places.push(Place {
-                seq: place.id.seq,
-                offset: place.offset,
-                len: place.len,
-                is_rewrite: is_rewrite(place.id.queue),
-            })?;
-            self.size = self.size.saturating_add(place.len);
-        }
-        Ok(())
-    }
+    Ok(places)
 }

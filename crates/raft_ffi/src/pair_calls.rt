@@ -1,16 +1,17 @@
 //! Calls that list the keys of a region with their values.
 
-ghost use Rattle.std.specs.Prelude.{◌≡◌, IsTrue, Some, None, is_some, ℕ, List, filter, OnOk, IfOk, IfErr};
-ghost use Rattle.raft_base.specs.declared.pipe_log.LogQueue.TheVariants.{Append, Rewrite};
-ghost use Rattle.raft_ffi.specs.Words.{AreInKeyOrder, ArePairsIn, AreScanned, AreScannedIn, IsPermutation, IsReadIfMemory, bound_in, is_below, is_between, moving_pairs, option_copied, pairs_of_both};
-ghost use Rattle.raft_ffi.specs.Words.{pairs_shown, pairs_up_to, table_in};
+ghost use Rattle.std.specs.Prelude.{◌≡◌, IsTrue, Some, None, is_some, ℕ, List, filter, OnOk, IfOk, IfErr, IsPermutation, option_copied};
+ghost use Rattle.raft_ffi.specs.Words.{Append, Rewrite, AreInKeyOrder, ArePairsIn, AreScanned, AreScannedIn, IsReadIfMemory, bound_in, is_below, is_between, moving_pairs, pairs_of_both, pairs_shown, pairs_up_to, table_in};
 
-use crate::handles::{Engine, Handle, Tables, with};
-use crate::status::{copy_front, memory_code};
+use crate::handles::{Engine, Handle, Tables, told, with};
+use crate::status::copy_front;
 use raft_accessor::MemTableAccessor;
 use raft_base::{Error, Result};
 use raft_engine::rewriting::pairs_to_move;
 use std::alloc::Global;
+
+/// Keys with their values.
+type Pairs = Vec<(Vec<u8>, Vec<u8>)>;
 
 /// Lists the appended pairs of a region whose file is at or below a gate, in the order of the keys: the length of each key and of its
 /// value in turn, and the bytes of them, each as far as there is room, and how many these are. With a gate of 2^64 - 1 it lists all
@@ -30,9 +31,7 @@ pub extern "C" fn raft_ffi_tables_pairs_before(
     ensures found { IsReadIfMemory result (λ a. ArePairsIn (pairs_up_to Append (Some gate) (table_in a.tables region).keys) lens.old
         lens.new count.new bytes.old bytes.new len.new) tables.old.value tables.new.value }
 {
-    let answer = with!(held in tables, alloc;
-            find_moving_pairs(alloc, &*held, region, Some(gate), lens, count, bytes, len));
-    memory_code(&answer)
+    told!(held in tables, alloc; find_moving_pairs(alloc, &*held, region, Some(gate), lens, count, bytes, len))
 }
 
 /// Lists the rewritten pairs of a region, in the order of the keys, as [`raft_ffi_tables_pairs_before`] does the appended ones.
@@ -50,9 +49,7 @@ pub extern "C" fn raft_ffi_tables_rewritten_pairs(
     ensures found { IsReadIfMemory result (λ a. ArePairsIn (pairs_up_to Rewrite None (table_in a.tables region).keys) lens.old
         lens.new count.new bytes.old bytes.new len.new) tables.old.value tables.new.value }
 {
-    let answer =
-        with!(held in tables, alloc; find_moving_pairs(alloc, &*held, region, None, lens, count, bytes, len));
-    memory_code(&answer)
+    told!(held in tables, alloc; find_moving_pairs(alloc, &*held, region, None, lens, count, bytes, len))
 }
 
 /// Lists the pairs of a region whose key is at or above `start` and, where that is asked for, below `end`, in the order of the keys,
@@ -75,9 +72,7 @@ pub extern "C" fn raft_ffi_tables_scan(
         lens.old lens.new count.new bytes.old bytes.new len.new) tables.old.value tables.new.value }
 {
     let end = bound(is_bounded, end);
-    let answer =
-        with!(held in tables, alloc; scan_in(alloc, &*held, region, start, end, lens, count, bytes, len));
-    memory_code(&answer)
+    told!(held in tables, alloc; scan_in(alloc, &*held, region, start, end, lens, count, bytes, len))
 }
 
 /// Lists the pairs of a region whose key is at or above `start` and, where that is asked for, below `end`, in the order of the keys,
@@ -100,9 +95,7 @@ pub extern "C" fn raft_ffi_engine_scan(
         region).keys lens.old lens.new count.new bytes.old bytes.new len.new) engine.old.value engine.new.value }
 {
     let end = bound(is_bounded, end);
-    let answer = with!(held in engine, alloc;
-            scan_in(alloc, held.engine.accessor(), region, start, end, lens, count, bytes, len));
-    memory_code(&answer)
+    told!(held in engine, alloc; scan_in(alloc, held.engine.accessor(), region, start, end, lens, count, bytes, len))
 }
 
 fn bound(is_bounded: bool, key: &[u8]) -> Option<&[u8]>
@@ -154,7 +147,7 @@ fn scanned(
     region: u64,
     start: &[u8],
     end: Option<&[u8]>,
-) -> Result<Vec<(Vec<u8>, Vec<u8>)>>
+) -> Result<Pairs>
     ensures ok { IfOk result (λ v. AreScanned start.now (option_copied end.entry)
         (table_in accessor.now.tables region).keys (pairs_shown v.items)) }
     ensures memory { IfErr result (λ e. e ≡ Error.Memory) }
@@ -165,11 +158,7 @@ fn scanned(
     Ok(found)
 }
 
-fn pairs_of_both(
-    alloc: Global,
-    accessor: &MemTableAccessor,
-    region: u64,
-) -> Result<Vec<(Vec<u8>, Vec<u8>)>>
+fn pairs_of_both(alloc: Global, accessor: &MemTableAccessor, region: u64) -> Result<Pairs>
     ensures ok { IfOk result (λ v. pairs_shown v.items ≡ pairs_of_both (table_in accessor.now.tables region).keys) }
     ensures memory { IfErr result (λ e. e ≡ Error.Memory) }
 {
@@ -184,7 +173,7 @@ fn pairs_in(
     accessor: &MemTableAccessor,
     region: u64,
     gate: Option<u64>,
-) -> Result<Vec<(Vec<u8>, Vec<u8>)>>
+) -> Result<Pairs>
     ensures ok { IfOk result (λ v. pairs_shown v.items ≡ moving_pairs gate (table_in accessor.now.tables region).keys) }
     ensures memory { IfErr result (λ e. e ≡ Error.Memory) }
 {
@@ -194,7 +183,7 @@ fn pairs_in(
     }
 }
 
-fn keep_between(pairs: &mut Vec<(Vec<u8>, Vec<u8>)>, start: &[u8], end: Option<&[u8]>)
+fn keep_between(pairs: &mut Pairs, start: &[u8], end: Option<&[u8]>)
     ensures { pairs_shown pairs.new.items ≡ filter (λ (p : List ℕ × List ℕ). is_between (Some start.now) (option_copied
         end.entry) p.0) (pairs_shown pairs.old.items) }
 {
@@ -216,7 +205,7 @@ fn is_below(key: &[u8], end: Option<&[u8]>) -> bool
     }
 }
 
-fn sort_by_key(pairs: &mut Vec<(Vec<u8>, Vec<u8>)>)
+fn sort_by_key(pairs: &mut Pairs)
     ensures same { IsPermutation (pairs_shown pairs.old.items) (pairs_shown pairs.new.items) }
     ensures rising { AreInKeyOrder (pairs_shown pairs.new.items) }
 {
@@ -231,8 +220,7 @@ fn copy_pairs(
     bytes: &mut [u8],
     len: &mut usize,
 ) -> Result<()>
-    ensures ok { OnOk result (ArePairsIn (pairs_shown pairs.now) lens.old lens.new count.new
-        bytes.old bytes.new len.new) }
+    ensures ok { OnOk result (ArePairsIn (pairs_shown pairs.now) lens.old lens.new count.new bytes.old bytes.new len.new) }
     ensures memory { IfErr result (λ e. e ≡ Error.Memory) }
 {
     let mut all_lens = Vec::new(alloc);

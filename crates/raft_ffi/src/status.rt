@@ -109,7 +109,6 @@ pub(crate) fn code(e: &Error) -> u32
     }
 }
 
-/// Says how a call ended that fails only for want of memory: 0, or 11.
 pub(crate) fn memory_code(answer: &Result<()>) -> u32
     ensures ok { OnOk answer.now (result ≡ 0) }
     ensures err { OnErr answer.now (result ≡ 11) }
@@ -120,7 +119,6 @@ pub(crate) fn memory_code(answer: &Result<()>) -> u32
     }
 }
 
-/// Says how a call ended, and writes the text of its error as far as there is room.
 pub(crate) fn answered<T>(alloc: Global, answer: &Result<T>, text: &mut [u8]) -> Status
     ensures ok { OnOk answer.now (result.code ≡ 0) }
     ensures err { IfErr answer.now (λ e. result.code ≡ code_of e) }
@@ -139,7 +137,6 @@ pub(crate) fn answered<T>(alloc: Global, answer: &Result<T>, text: &mut [u8]) ->
     }
 }
 
-/// Says how a call ended that finds something, and hands out what it found.
 pub(crate) fn answered_with<T: Copy>(
     alloc: Global,
     answer: Result<T>,
@@ -151,13 +148,10 @@ pub(crate) fn answered_with<T: Copy>(
     ensures err { IfErr answer (λ e. result.code ≡ code_of e) }
     ensures text { HasText result text.old text.new }
 {
-    match answer {
-        Ok(value) => {
-            *found = value;
-            answered(alloc, &Ok(()), text)
-        }
-        Err(e) => answered::<()>(alloc, &Err(e), text),
+    if let Ok(value) = &answer {
+        *found = *value;
     }
+    answered(alloc, &answer, text)
 }
 
 fn write_text(alloc: Global, e: &Error, text: &mut [u8]) -> usize
@@ -174,7 +168,6 @@ fn write_text(alloc: Global, e: &Error, text: &mut [u8]) -> usize
     }
 }
 
-/// Copies what was found as far as there is room, and returns how much it is.
 pub(crate) fn copy_front<T: Copy>(found: &[T], room: &mut [T]) -> usize
     ensures { IsCopied found.now room.old room.new result }
 {

@@ -1,13 +1,12 @@
 //! Calls that read tables: those of all regions, and those of an engine.
 
 ghost use Rattle.std.specs.Prelude.{◌≡◌, ◌≢◌, IsTrue, is_some, ◌+◌, [], true, false, OnOk, IfOk, IfErr, option_map};
-ghost use Rattle.raft_base.specs.declared.pipe_log.LogQueue.TheVariants.{Rewrite};
-ghost use Rattle.raft_ffi.specs.Words.{AreEntriesIn, AreRegionsIn, HasText, Holds, IsCopied, IsEntryIn, IsFetchFault, IsFetched, IsFound, IsRead, IsReadIfMemory, IsReadOrRefused, IsSummaryIn};
-ghost use Rattle.raft_ffi.specs.Words.{IsValueIn, appended_before, end_of, entry_at, live, moving_entries, number_in, placed_in, queue_of, range_answer, start_of, table_in, value_in};
+ghost use Rattle.raft_ffi.specs.Words.{Rewrite, AreEntriesIn, AreRegionsIn, HasText, Holds, IsCopied, IsEntryIn, IsFetchFault, IsFetched, IsFound, IsRead, IsReadIfMemory, IsReadOrRefused, IsSummaryIn, IsValueIn, appended_before, end_of};
+ghost use Rattle.raft_ffi.specs.Words.{entry_at, live, moving_entries, number_in, placed_in, queue_of, range_answer, start_of, table_in, value_in};
 
 use crate::entries::{Entry, copy_entries, plain};
-use crate::handles::{Engine, Handle, Tables, with};
-use crate::status::{Maybe, Status, answered, copy_found, copy_front, memory_code, queue};
+use crate::handles::{Engine, Handle, Tables, told, with};
+use crate::status::{Maybe, Status, copy_found, copy_front, queue};
 use raft_accessor::MemTableAccessor;
 use raft_base::{EntryIndex, Error, LogQueue, Result};
 use raft_engine::rewriting::{entries_to_move, regions_of};
@@ -67,8 +66,7 @@ pub extern "C" fn raft_ffi_tables_regions(
     ensures found { IsReadIfMemory result (λ a. AreRegionsIn a.tables regions.old regions.new count.new) tables.old.value
         tables.new.value }
 {
-    let answer = with!(held in tables, alloc; find_regions(&*held, regions, count));
-    memory_code(&answer)
+    told!(held in tables, alloc; find_regions(&*held, regions, count))
 }
 
 /// Lists the regions that were cleaned, in order, as far as there is room, and returns how many they are.
@@ -121,9 +119,7 @@ pub extern "C" fn raft_ffi_tables_entries(
     ensures text { HasText result text.old text.new }
 {
     let range = (begin, end);
-    let answer =
-        with!(held in tables, alloc; entries_in(alloc, &*held, region, range, max_size.size(), entries, count));
-    answered(alloc, &answer, text)
+    told!(held in tables, alloc, text; entries_in(alloc, &*held, region, range, max_size.size(), entries, count))
 }
 
 /// Lists the appended entries of a region from the first on while their file is at or below a gate, as far as there is
@@ -141,9 +137,7 @@ pub extern "C" fn raft_ffi_tables_entries_before(
     ensures found { IsReadIfMemory result (λ a. AreEntriesIn (appended_before gate (table_in a.tables region).entries) entries.old
         entries.new count.new) tables.old.value tables.new.value }
 {
-    let answer =
-        with!(held in tables, alloc; find_moving(alloc, &*held, region, Some(gate), entries, count));
-    memory_code(&answer)
+    told!(held in tables, alloc; find_moving(alloc, &*held, region, Some(gate), entries, count))
 }
 
 /// Lists the rewritten entries of a region, as far as there is room, and says how many they are.
@@ -159,9 +153,7 @@ pub extern "C" fn raft_ffi_tables_rewritten_entries(
     ensures found { IsReadIfMemory result (λ a. AreEntriesIn (placed_in Rewrite (table_in a.tables region).entries) entries.old
         entries.new count.new) tables.old.value tables.new.value }
 {
-    let answer =
-        with!(held in tables, alloc; find_moving(alloc, &*held, region, None, entries, count));
-    memory_code(&answer)
+    told!(held in tables, alloc; find_moving(alloc, &*held, region, None, entries, count))
 }
 
 /// Finds the value of a region's key, if there is one: as much of it as there is room for, and how long it is.
@@ -227,8 +219,7 @@ pub extern "C" fn raft_ffi_engine_regions(
     ensures found { IsReadIfMemory result (λ e. AreRegionsIn e.accessor.tables regions.old regions.new count.new) engine.old.value
         engine.new.value }
 {
-    let answer = with!(held in engine, alloc; find_regions(held.engine.accessor(), regions, count));
-    memory_code(&answer)
+    told!(held in engine, alloc; find_regions(held.engine.accessor(), regions, count))
 }
 
 /// Finds an entry of a region, if there is one.
@@ -266,9 +257,7 @@ pub extern "C" fn raft_ffi_engine_entries(
     ensures text { HasText result text.old text.new }
 {
     let range = (begin, end);
-    let answer = with!(held in engine, alloc;
-            entries_in(alloc, held.engine.accessor(), region, range, max_size.size(), entries, count));
-    answered(alloc, &answer, text)
+    told!(held in engine, alloc, text; entries_in(alloc, held.engine.accessor(), region, range, max_size.size(), entries, count))
 }
 
 /// Finds the value of a region's key, if there is one: as much of it as there is room for, and how long it is.
@@ -392,8 +381,7 @@ fn entries_in(
 ) -> Result<()>
     ensures ok { OnOk result (IsFetched max_size range.0 range.1
         (table_in accessor.now.tables region).entries entries.old entries.new count.new) }
-    ensures fault { IfErr result (IsFetchFault
-        (range_answer range.0 range.1 (table_in accessor.now.tables region).entries)) }
+    ensures fault { IfErr result (IsFetchFault (range_answer range.0 range.1 (table_in accessor.now.tables region).entries)) }
 {
     let (begin, end) = range;
     let mut found = Vec::new(alloc);

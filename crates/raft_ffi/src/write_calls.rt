@@ -1,20 +1,29 @@
 //! Calls that make tables, change those of several regions, and test and hand out batches for them; also of tables that are divided into
 //! slots, each of which has the tables of the regions whose slot has its number.
 
-ghost use Rattle.std.specs.Prelude.{◌≡◌, ◌≢◌, ◌≤◌, IsTrue, IfErr, OnOk, OnErr, Some, None, is_some, ◌<◌, false, map, IfOk, IfSome};
-ghost use Rattle.raft_ffi.specs.Words.{AcceptsOncePlaced, AcceptsShareOncePlaced, AllHold, Appending, AreAllOrSomeWritten, AreMergedOrLeft, AreRefusedOncePlaced, AreWritten, BothHold, HasText, Holds};
-ghost use Rattle.raft_ffi.specs.Words.{IsAppendCheckFault, IsAppendedFault, IsChangedIfMemory, IsCodeForBoth, IsCodeOf, IsGroupSet, IsMadeIfMemory, IsMoveFault, IsMoved, IsNewerFault, IsRemoved};
-ghost use Rattle.raft_ffi.specs.Words.{IsShareRefused, IsStoppedAt, Rewriting, cleans_of, item_of, no_tables, number_in, share_of, slot_of, with_appended, with_newer, without_cleaned};
+ghost use Rattle.std.specs.Prelude.{◌≡◌, ◌≢◌, ◌≤◌, IsTrue, IfErr, OnOk, OnErr, Some, None, is_some, ◌<◌, false, map, IfOk};
+ghost use Rattle.raft_ffi.specs.Words.{AcceptsOncePlaced, AcceptsShareOncePlaced, AllHold, Appending, AreAllOrSomeWritten, AreMergedOrLeft, AreRefusedOncePlaced, AreWritten, BothHold, HasText, Holds, IsAppendCheckFault, IsAppendTested};
+ghost use Rattle.raft_ffi.specs.Words.{IsAppendedFault, IsChangedIfMemory, IsCodeForBoth, IsCodeOf, IsGroupSet, IsMadeIfMemory, IsMoveFault, IsMoved, IsNewerFault, IsRemoved, IsShareRefused, IsStoppedAt, Rewriting, cleans_of, item_of};
+ghost use Rattle.raft_ffi.specs.Words.{no_tables, number_in, share_of, slot_of, with_appended, with_newer, without_cleaned};
 ghost use Rattle.std.specs.FinMap as finite;
 
-use crate::handles::{Batch, Handle, Items, Tables, with};
+use crate::handles::{Batch, Handle, Items, Tables, told, with};
 use crate::item_list::ItemList;
-use crate::status::{Maybe, Status, answered, memory_code};
+use crate::status::{Maybe, Status, memory_code};
 use raft_accessor::{MemTableAccessor, slot_of};
 use raft_base::{Error, Result};
 use raft_records::{LogBatch, LogItem};
 use raft_table::MemTable;
 use std::alloc::Global;
+
+/// Changes tables, whose counts are exact then.
+macro_rules! counted {
+    ($tables:ident; $change:expr) => {{
+        let answer = $change;
+        $tables.counts_are_exact();
+        answer
+    }};
+}
 
 /// Makes no tables.
 #[unsafe(no_mangle)]
@@ -41,12 +50,7 @@ pub extern "C" fn raft_ffi_tables_atomic_group(
     requires range { start ≤ end }
     ensures changed { IsChangedIfMemory result (IsGroupSet start end region) tables.old.value tables.new.value }
 {
-    let answer = with!(held in tables, alloc; {
-        let answer = held.apply_rewrite_atomic_group(region, start, end);
-        held.counts_are_exact();
-        answer
-    });
-    memory_code(&answer)
+    told!(held in tables, alloc; counted!(held; held.apply_rewrite_atomic_group(region, start, end)))
 }
 
 /// Takes a region's table away, and lists the region as cleaned where that is asked for, also where it has no table.
@@ -64,11 +68,7 @@ pub extern "C" fn raft_ffi_tables_remove(
     ensures err { result ≢ 0 → tables.new.value ≡ tables.old.value }
     ensures fault { result ≢ 0 → (result ≡ 11) × IsTrue is_listed }
 {
-    let answer = with!(held in tables, alloc; {
-        let answer = held.remove(region, is_listed);
-        held.counts_are_exact();
-        answer
-    });
+    let answer = with!(held in tables, alloc; counted!(held; held.remove(region, is_listed)));
     match answer {
         Ok(table) => {
             *found = table.is_some();
@@ -91,12 +91,7 @@ pub extern "C" fn raft_ffi_tables_merge_newer(
     ensures merged { AreMergedOrLeft with_newer IsNewerFault result.code newer.value tables.old.value tables.new.value }
     ensures text { HasText result text.old text.new }
 {
-    let answer = with!(held in tables, alloc; {
-        let answer = held.merge_newer_neighbor(newer.into_held());
-        held.counts_are_exact();
-        answer
-    });
-    answered(alloc, &answer, text)
+    told!(held in tables, alloc, text; counted!(held; held.merge_newer_neighbor(newer.into_held())))
 }
 
 /// Merges appended tables, each into the rewritten table of its region. Those are gone then.
@@ -112,12 +107,7 @@ pub extern "C" fn raft_ffi_tables_merge_append(
     ensures merged { AreMergedOrLeft with_appended IsAppendedFault result.code append.value tables.old.value tables.new.value }
     ensures text { HasText result text.old text.new }
 {
-    let answer = with!(held in tables, alloc; {
-        let answer = held.merge_append_table(append.into_held());
-        held.counts_are_exact();
-        answer
-    });
-    answered(alloc, &answer, text)
+    told!(held in tables, alloc, text; counted!(held; held.merge_append_table(append.into_held())))
 }
 
 /// Writes items of the append queue to the tables, in order. They are gone then. Where an item is refused those in front
@@ -134,8 +124,7 @@ pub extern "C" fn raft_ffi_tables_apply_append(
     ensures written { AreAllOrSomeWritten Appending result.code items.value tables.old.value tables.new.value }
     ensures text { HasText result text.old text.new }
 {
-    let answer = with!(held in tables, alloc; apply_append(&mut *held, items.into_held()));
-    answered(alloc, &answer, text)
+    told!(held in tables, alloc, text; apply_append(&mut *held, items.into_held()))
 }
 
 pub(crate) fn apply_append(accessor: &mut MemTableAccessor, items: ItemList) -> Result<()>
@@ -161,9 +150,7 @@ pub extern "C" fn raft_ffi_tables_apply_rewrite(
     ensures written { AreAllOrSomeWritten (Rewriting (number_in gate) seq) result.code items.value tables.old.value tables.new.value }
     ensures text { HasText result text.old text.new }
 {
-    let answer =
-        with!(held in tables, alloc; apply_rewrite(&mut *held, items.into_held(), gate.number(), seq));
-    answered(alloc, &answer, text)
+    told!(held in tables, alloc, text; apply_rewrite(&mut *held, items.into_held(), gate.number(), seq))
 }
 
 pub(crate) fn apply_rewrite(
@@ -189,18 +176,11 @@ pub extern "C" fn raft_ffi_tables_check_append(
 ) -> Status
     requires held { IsTrue (is_some tables.old.value) }
     requires batch { IsTrue (is_some batch.old.value) }
-    ensures same { tables.new.value ≡ tables.old.value }
-    ensures same_batch { batch.new.value ≡ batch.old.value }
-    ensures ok { result.code ≡ 0 → BothHold AcceptsOncePlaced tables.old.value batch.old.value }
-    ensures refused { result.code ≢ 0 → result.code ≢ 11 → BothHold
-        (λ a b. AreRefusedOncePlaced a.tables b.items) tables.old.value batch.old.value }
-    ensures fault { result.code ≢ 0 → IsCodeForBoth
-        (λ a b. IsAppendCheckFault a.tables b.items) tables.old.value batch.old.value result.code }
+    ensures tested { IsAppendTested result.code AcceptsOncePlaced (λ b. b.items) tables.old.value tables.new.value
+        batch.old.value batch.new.value }
     ensures text { HasText result text.old text.new }
 {
-    let answer =
-        with!(held in tables, alloc; with!(logs in batch, alloc; check_append(&*held, &*logs)));
-    answered(alloc, &answer, text)
+    told!(held in tables, alloc, text; with!(logs in batch, alloc; check_append(&*held, &*logs)))
 }
 
 fn check_append(accessor: &MemTableAccessor, batch: &LogBatch) -> Result<()>
@@ -224,8 +204,7 @@ pub extern "C" fn raft_ffi_tables_cleaned_logs(
     ensures logs { result ≡ 0 → BothHold (λ old logs. logs ≡ cleans_of old.cleaned) tables.old.value batch.new.value }
     ensures batch_err { result ≢ 0 → batch.new.value ≡ None }
 {
-    let answer = with!(held in tables, alloc; cleaned_logs(alloc, &mut *held, batch));
-    memory_code(&answer)
+    told!(held in tables, alloc; cleaned_logs(alloc, &mut *held, batch))
 }
 
 /// Hands out the cleaned regions as an open batch. There is memory for the handle before the list is emptied.
@@ -270,9 +249,7 @@ pub extern "C" fn raft_ffi_tables_move_table(
     ensures fault { result.code ≢ 0 → IsCodeForBoth (IsMoveFault region) tables.old.value to.old.value result.code }
     ensures text { HasText result text.old text.new }
 {
-    let answer =
-        with!(held in tables, alloc; with!(others in to, alloc; move_table(&mut *held, &mut *others, region)));
-    answered(alloc, &answer, text)
+    told!(held in tables, alloc, text; with!(others in to, alloc; move_table(&mut *held, &mut *others, region)))
 }
 
 /// Tests whether tables would accept those items of a batch whose regions are of a slot, once it is written to the append queue,
@@ -287,18 +264,11 @@ pub extern "C" fn raft_ffi_slot_check_append(
 ) -> Status
     requires held { IsTrue (is_some tables.old.value) }
     requires batch { IsTrue (is_some batch.old.value) }
-    ensures same { tables.new.value ≡ tables.old.value }
-    ensures same_batch { batch.new.value ≡ batch.old.value }
-    ensures ok { result.code ≡ 0 → BothHold (AcceptsShareOncePlaced number) tables.old.value batch.old.value }
-    ensures refused { result.code ≢ 0 → result.code ≢ 11 → BothHold (λ a b. AreRefusedOncePlaced a.tables (share_of
-        number b.items)) tables.old.value batch.old.value }
-    ensures fault { result.code ≢ 0 → IsCodeForBoth (λ a b. IsAppendCheckFault a.tables (share_of number b.items))
-        tables.old.value batch.old.value result.code }
+    ensures tested { IsAppendTested result.code (AcceptsShareOncePlaced number) (λ b. share_of number b.items)
+        tables.old.value tables.new.value batch.old.value batch.new.value }
     ensures text { HasText result text.old text.new }
 {
-    let answer =
-        with!(held in tables, alloc; with!(logs in batch, alloc; check_share(alloc, &*held, number, &*logs)));
-    answered(alloc, &answer, text)
+    told!(held in tables, alloc, text; with!(logs in batch, alloc; check_share(alloc, &*held, number, &*logs)))
 }
 
 /// Writes those items of the append queue whose regions are of a slot to tables, in order. Where an item is refused those in front
@@ -320,9 +290,7 @@ pub extern "C" fn raft_ffi_slot_apply_append(
         old new) result.code) items.old.value tables.old.value tables.new.value }
     ensures text { HasText result text.old text.new }
 {
-    let answer = with!(held in tables, alloc;
-            with!(list in items, alloc; apply_share(alloc, &mut *held, number, &*list)));
-    answered(alloc, &answer, text)
+    told!(held in tables, alloc, text; with!(list in items, alloc; append(alloc, &mut *held, number, &*list)))
 }
 
 /// Writes those items whose regions are of a slot, and which were rewritten to the file of number `seq` of the rewrite queue, to
@@ -347,9 +315,7 @@ pub extern "C" fn raft_ffi_slot_apply_rewrite(
         (share_of number xs) old new) result.code) items.old.value tables.old.value tables.new.value }
     ensures text { HasText result text.old text.new }
 {
-    let answer = with!(held in tables, alloc;
-            with!(list in items, alloc; rewrite_share(alloc, &mut *held, number, &*list, gate.number(), seq)));
-    answered(alloc, &answer, text)
+    told!(held in tables, alloc, text; with!(list in items, alloc; rewrite(alloc, &mut *held, number, &*list, gate.number(), seq)))
 }
 
 fn move_table(from: &mut MemTableAccessor, to: &mut MemTableAccessor, region: u64) -> Result<()>
@@ -358,59 +324,39 @@ fn move_table(from: &mut MemTableAccessor, to: &mut MemTableAccessor, region: u6
     ensures err { OnErr result (to.new ≡ to.old) }
     ensures fault { IfErr result (IsMoveFault region from.old to.old) }
 {
-    let table = take_table(from, region);
-    to.counts_are_exact();
-    let Some(table) = table else {
-        return Ok(());
-    };
-    to.insert(region, table)?;
-    to.counts_are_exact();
-    Ok(())
-}
-
-fn take_table(from: &mut MemTableAccessor, region: u64) -> Option<MemTable>
-    ensures removed { IsRemoved region false from.old from.new }
-    ensures table { result ≡ finite.get from.old.tables region }
-    ensures own { IfSome result (λ t. t.region_id ≡ region) }
-{
     let _ = from.get(region);
-    let taken = from.remove(region, false);
-    from.counts_are_exact();
+    let taken = counted!(from; from.remove(region, false));
+    to.counts_are_exact();
     match taken {
-        Ok(table) => table,
+        Ok(Some(table)) => {
+            to.insert(region, table)?;
+            to.counts_are_exact();
+            Ok(())
+        }
+        Ok(None) => Ok(()),
         Err(_) => unreachable!(),
     }
 }
 
-fn check_share(
-    alloc: Global,
-    accessor: &MemTableAccessor,
-    number: usize,
-    batch: &LogBatch,
-) -> Result<()>
-    ensures ok { OnOk result (AcceptsShareOncePlaced number accessor.now batch.now) }
+fn check_share(alloc: Global, tables: &MemTableAccessor, slot: usize, logs: &LogBatch) -> Result<()>
+    ensures ok { OnOk result (AcceptsShareOncePlaced slot tables.now logs.now) }
     ensures refused { IfErr result (λ e. e ≢ Error.Memory
-        → AreRefusedOncePlaced accessor.now.tables (share_of number batch.now.items)) }
-    ensures fault { IfErr result (IsAppendCheckFault accessor.now.tables (share_of number batch.now.items)) }
+        → AreRefusedOncePlaced tables.now.tables (share_of slot logs.now.items)) }
+    ensures fault { IfErr result (IsAppendCheckFault tables.now.tables (share_of slot logs.now.items)) }
 {
-    let share = share_of(alloc, number, batch.items())?;
-    accessor.check_append_writes(share.as_slice())
+    let share = share_of(alloc, slot, logs.items())?;
+    tables.check_append_writes(share.as_slice())
 }
 
-fn apply_share(
-    alloc: Global,
-    accessor: &mut MemTableAccessor,
-    number: usize,
-    items: &ItemList,
-) -> Result<()>
-    ensures ok { OnOk result (AreWritten Appending (share_of number items.now) accessor.old accessor.new) }
-    ensures refused { IfErr result (IsShareRefused Appending (share_of number items.now) accessor.old accessor.new) }
+fn append(alloc: Global, tables: &mut MemTableAccessor, slot: usize, items: &ItemList) -> Result<()>
+    ensures ok { OnOk result (AreWritten Appending (share_of slot items.now) tables.old tables.new) }
+    ensures refused { IfErr result (IsShareRefused Appending (share_of slot items.now) tables.old tables.new) }
 {
-    let share = share_of(alloc, number, items.as_slice())?;
-    apply_append(accessor, ItemList::of(share))
+    let share = share_of(alloc, slot, items.as_slice())?;
+    apply_append(tables, ItemList::of(share))
 }
 
-fn rewrite_share(
+fn rewrite(
     alloc: Global,
     accessor: &mut MemTableAccessor,
     number: usize,
@@ -419,8 +365,7 @@ fn rewrite_share(
     seq: u64,
 ) -> Result<()>
     ensures ok { OnOk result (AreWritten (Rewriting gate seq) (share_of number items.now) accessor.old accessor.new) }
-    ensures refused { IfErr result (IsShareRefused (Rewriting gate seq) (share_of number items.now) accessor.old
-        accessor.new) }
+    ensures refused { IfErr result (IsShareRefused (Rewriting gate seq) (share_of number items.now) accessor.old accessor.new) }
 {
     let share = share_of(alloc, number, items.as_slice())?;
     apply_rewrite(accessor, ItemList::of(share), gate, seq)

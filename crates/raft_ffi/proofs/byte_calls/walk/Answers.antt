@@ -1,5 +1,5 @@
 use Rattle.raft_ffi.proofs.Common.{part_of, batch_inside, one_batch_more}
-use Rattle.raft_ffi.proofs.byte_calls.walk_front.Goals as goal
+use Rattle.raft_ffi.proofs.byte_calls.walk.Goals as goal
 
 pub loop-next-preserved-in-Ok-Some : goal.loop-next-preserved-in-Ok-Some
 loop-next-preserved-in-Ok-Some c =

@@ -1,5 +1,5 @@
 use Rattle.raft_ffi.proofs.Common.{◌-◌, ◌≤◌, length, AreBatchesUpTo, part_of}
-use Rattle.raft_ffi.proofs.byte_calls.walk_front.Given as goal
+use Rattle.raft_ffi.proofs.byte_calls.walk.Given as goal
 
 abbrev pub invariant-loop-next : goal.invariant-loop-next
 invariant-loop-next l = record {

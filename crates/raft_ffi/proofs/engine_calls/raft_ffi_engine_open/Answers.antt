@@ -4,7 +4,7 @@ use Rattle.raft_ffi.proofs.engine_calls.raft_ffi_engine_open.Goals as goal
 
 pub open_into-answer-requires-clause-read : goal.open_into-answer-requires-clause-read
 open_into-answer-requires-clause-read c =
-    rw (c.version.ensures) (rw (c.into_held-files.ensures, c.into_held-appended.ensures, c.into_held-rewritten.ensures) at c.requires.read)
+    rw (c.version.ensures) (rw (c.into_held-files.ensures, c.into_held-append.ensures, c.into_held-rewrite.ensures) at c.requires.read)
 
 pub returns-clause-ok : goal.returns-clause-ok
 returns-clause-ok c = λ zero.
@@ -24,5 +24,5 @@ returns-clause-err c = λ some. failed c.open_into-answer.result c.answered.resu
 pub returns-clause-fault : goal.returns-clause-fault
 returns-clause-fault c = λ some.
     let fault = rw (c.version.ensures) at c.open_into-answer.ensures.fault in
-    rw (c.into_held-files.ensures, c.into_held-appended.ensures, c.into_held-rewritten.ensures)
+    rw (c.into_held-files.ensures, c.into_held-append.ensures, c.into_held-rewrite.ensures)
     (refusal c.open_into-answer.result c.answered.result.code _ c.answered.ensures.ok c.answered.ensures.err fault some)

@@ -104,7 +104,8 @@ module _ {V : Type 0} where
             (get-together (slice_set ms (slot_of id) n) id d after (omega (arith, lt, fits))
             ∙ ap (λ r. finite.get r id) (get_or-set_same ms (slot_of id) n d lt) ∙ at)
         | inr f ↦ elim (same_slot (slot_of q) (slot_of id)) [
-          | inl e ↦ get-together (slice_set ms (slot_of id) n) q d after (omega (arith, lt, fits, e)) ∙ ap (λ i. finite.get (slice_index_or (slice_set ms (slot_of id) n) i d) q) e ∙ ap (λ r. finite.get r q) (get_or-set_same ms (slot_of id) n d lt)
+          | inl e ↦ get-together (slice_set ms (slot_of id) n) q d after (omega (arith, lt, fits, e)) ∙ ap (λ i. finite.get (slice_index_or (slice_set ms (slot_of id) n) i d) q) e
+              ∙ ap (λ r. finite.get r q) (get_or-set_same ms (slot_of id) n d lt)
               ∙ slot q f ∙ ap (λ i. finite.get (slice_index_or ms i d) q) (sym e) ∙ sym (get-together ms q d s (omega (arith, lt, e))) ∙ sym (map q f)
           | inr ne ↦ other-slot ms q (slot_of id) n s own ne ∙ sym (map q f)
         ]

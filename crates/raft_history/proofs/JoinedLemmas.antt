@@ -287,7 +287,8 @@ pub joined_steps : (r : ℕ) (ids : List ℕ) (h k : List BatchSteps) → IsDist
 joined_steps r ids h k one listed apart =
     ap (all_steps r) (effects-append h k) ∙ all_steps-append r (effects h) (effects_behind (numbered_from 0 h) (numbered_from (length h) k))
     ∙ ap (λ l. steps_of r h ++ l) (behind_cut r (length h) ids (numbered_from 0 h) (up_to 0 (length h) h (omega arith)) one k listed (apart_right (effects h) _ (subst EachApart (effects-append h k) apart))
-    ∙ ap (λ l. l ++ all_steps r (effects_behind [] (numbered_from (length h) k))) (sym (given_wholes r ids (numbered_from 0 h) (numbered_from (length h) k)) ∙ ap (steps_of_wholes r) (ap (λ (f : ℕ → Option WholeGroup). filter_map f ids) (λ j g. whole_group (group_in g h) (group_of-placed (length h) g k j))))
+    ∙ ap (λ l. l ++ all_steps r (effects_behind [] (numbered_from (length h) k))) (sym (given_wholes r ids (numbered_from 0 h) (numbered_from (length h) k))
+    ∙ ap (steps_of_wholes r) (ap (λ (f : ℕ → Option WholeGroup). filter_map f ids) (λ j g. whole_group (group_in g h) (group_of-placed (length h) g k j))))
     ∙ ap (λ l. steps_of_wholes r (wholes ids h k) ++ l) (steps-placed r (length h) k))
 
 -- stretches of an apart history are apart

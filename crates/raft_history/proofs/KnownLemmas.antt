@@ -94,7 +94,9 @@ find_none k [] h = refl
 find_none k (e ∷ es) h = rw (tied k e.0, h.0) (find_none k es h.1)
 
 lists_marked : (g : ℕ) (h : List BatchSteps) → has_marker g h ≡ true → list_any (λ x. eqb x g) (finite.keys (groups_in h)) ≡ true
-lists_marked g h e = ap (λ (t : ℕ → Bool). list_any t (finite.keys (groups_in h))) (λ j x. (eqb_flip x g ∙ sym (tied g x)) j) ∙ sym (finite.contains_key-keys (groups_in h) g) ∙ ap is_some (get-groups_in g h) ∙ ap (λ b. is_some (cond b (Some (group_in g h)) None)) e
+lists_marked g h e =
+    ap (λ (t : ℕ → Bool). list_any t (finite.keys (groups_in h))) (λ j x. (eqb_flip x g ∙ sym (tied g x)) j) ∙ sym (finite.contains_key-keys (groups_in h) g)
+    ∙ ap is_some (get-groups_in g h) ∙ ap (λ b. is_some (cond b (Some (group_in g h)) None)) e
 
 lists_groups : (h all : List BatchSteps) → ((g : ℕ) → has_marker g h ≡ true → has_marker g all ≡ true) → ListsGroups (finite.keys (groups_in all)) h
 lists_groups [] all sub = tt

@@ -63,7 +63,8 @@ taken_stands c d h e n st is = subst (λ d. StandsFor d (h ++ e ∷ [])) s.2 rec
     own : StandsIn e.file.queue (taken_with c e s.0) (h ++ e ∷ [])
     own = record {
       sound = record { files = files c h e st n; items = in_files c h e st n; markers = have_status c h e st n; accepted = accepted e.file.queue a s.1 };
-      cleaned = ap (λ l. l ++ cleaned_by_steps e.file.queue (steps_of_items e.items)) a.cleaned ∙ ap (λ l. cleaned_in e.file.queue h ++ l) (sym (append-nil (cleaned_by_steps e.file.queue (steps_of_items e.items)))) ∙ sym (cleaned-append e.file.queue h (e ∷ []));
+      cleaned = ap (λ l. l ++ cleaned_by_steps e.file.queue (steps_of_items e.items)) a.cleaned
+          ∙ ap (λ l. cleaned_in e.file.queue h ++ l) (sym (append-nil (cleaned_by_steps e.file.queue (steps_of_items e.items)))) ∙ sym (cleaned-append e.file.queue h (e ∷ []));
       append = λ q. exact Append (a.append q) (subst (λ q. regions_after q c.regions (completed_steps c.groups (batch_of e) (batch_of e).marker) ≡ Some s.0) q s.1);
     }
 

@@ -1,5 +1,6 @@
 -- Files as segments of one part.
-use Rattle.raft_recover.proofs.Common.{◌≡◌, ◌↔◌, ℕ, List, [], ◌∷◌, ◌++◌, Vec, length, map, refl, sym, ap, ◌∙◌, subst, arith, append_assoc, append-nil, Global, get_or-map, length-map, map-append, All-from_recursion, All-map, LogQueue, Version, Part}
+use Rattle.raft_recover.proofs.Common.{◌≡◌, ◌↔◌, ℕ, List, [], ◌∷◌, ◌++◌, Vec, length, map, refl, sym, ap, ◌∙◌, subst, arith, append_assoc, append-nil, Global, get_or-map, length-map, map-append, All-from_recursion, All-map}
+use Rattle.raft_recover.proofs.Common.{LogQueue, Version, Part}
 use Rattle.raft_recover.proofs.Common.{Event, EachHolds, SegmentsHold, SegmentsAreOf, SegmentReads, PartHolds, PartsHold, PartsAreOf, uncut, whole_file, segment_shown, AreWholeFiles, FilesHold, NumberedBytes, file_shown}
 use Rattle.std.specs.List.{All}
 

@@ -8,12 +8,14 @@ use Rattle.raft_recover.proofs.scan_program.append_scans.Goals as goal
 pub loop-seq-init : goal.loop-seq-init
 loop-seq-init c =
     let left_is : c.into_iter-seq-iterator.result.rest.items ≡ c.args.files.items = search in
-    subst (λ (l : List (ℕ × Vec ℕ Global)). AreBegun c.args.scan.now.past_damage c.args.scan.now.queue c.args.scan.now.version (map file_shown c.args.files.items) (map file_shown l) (string_bytes c.args.text.now) (string_bytes c.args.text.now) true) (sym left_is)
+    subst (λ (l : List (ℕ × Vec ℕ Global)). AreBegun c.args.scan.now.past_damage c.args.scan.now.queue c.args.scan.now.version (map file_shown c.args.files.items) (map file_shown l)
+    (string_bytes c.args.text.now) (string_bytes c.args.text.now) true) (sym left_is)
     (none_scanned c.args.scan.now.past_damage c.args.scan.now.queue c.args.scan.now.version (map file_shown c.args.files.items) (string_bytes c.args.text.now))
 
 -- with one file more the scans go on
 goes_on : (c : In_ok-undamaged) (all : Bool) → all ≡ (c.loop-seq.all_undamaged && c.in_ok-undamaged.undamaged)
-    → AreBegun c.args.scan.now.past_damage c.args.scan.now.queue c.args.scan.now.version (map file_shown c.args.files.items) (map file_shown c.next.new.self.rest.items) (string_bytes c.args.text.now) (string_bytes c.append_scan.new.text) all
+    → AreBegun c.args.scan.now.past_damage c.args.scan.now.queue c.args.scan.now.version (map file_shown c.args.files.items) (map file_shown c.next.new.self.rest.items)
+    (string_bytes c.args.text.now) (string_bytes c.append_scan.new.text) all
 goes_on c =
     let file : ℕ × Vec ℕ Global = (c.in-Some.seq, c.in-Some.bytes) in
     let is : c.in_ok-part.part ≡ whole_file c.args.scan.now.queue c.args.scan.now.version (file_shown file) =

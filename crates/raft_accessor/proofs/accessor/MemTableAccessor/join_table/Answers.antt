@@ -26,7 +26,8 @@ returns-clause-joined c =
     record {
       ok = moved-at (slotted c) (λ o p k. IsRunOver c.args.queue c.args.mark.now (table_of c.args.id c.args.newer) (table_of c.args.id o) → OnOk r (table_over_older c.args.queue c.args.id c.args.mark.now c.args.newer o ≡ Some p)) done.ok;
       answer = moved-at (slotted c) (λ o p k. IfOk r (AreEndsMet c.args.mark.now (table_of c.args.id o))) done.answer;
-      fault = moved-at (slotted c) (λ o p k. IsRunOver c.args.queue c.args.mark.now (table_of c.args.id c.args.newer) (table_of c.args.id o) → IfErr r (IsFaultUnder c.args.queue k c.args.mark.now (table_of c.args.id c.args.newer) (table_of c.args.id o))) done.fault;
+      fault = moved-at (slotted c) (λ o p k. IsRunOver c.args.queue c.args.mark.now (table_of c.args.id c.args.newer) (table_of c.args.id o)
+          → IfErr r (IsFaultUnder c.args.queue k c.args.mark.now (table_of c.args.id c.args.newer) (table_of c.args.id o))) done.fault;
       few = moved-at (slotted c) (λ o p k. OnOk r ((q : LogQueue) → live_of q (table_of c.args.id p) ≤ live_of q (table_of c.args.id o) + live_in q c.args.newer)) done.few;
       one = alone-at (slotted c);
       deleted = moved-at (slotted c) (λ o p k. c.args.mark.now.cleaned ≡ true → c.args.newer ≡ None → OnOk r (c.join_table.new.stats ≡ with_table_deleted (table_of c.args.id o) k)) done.deleted;

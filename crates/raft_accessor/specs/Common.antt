@@ -40,7 +40,7 @@ pub use Rattle.raft_accessor.specs.Slots.{AreSlots, together}
 pub use Rattle.raft_accessor.specs.TableJoins.{IsPut, IsTableJoined}
 pub use Rattle.raft_accessor.specs.TableOverlays.{IsPutOver, IsTableOverlaid}
 pub use Rattle.raft_accessor.specs.TableSteps.{IsChangeTried, IsRunPut, IsRunTried, IsStepTaken}
-pub use Rattle.raft_accessor.specs.Updates.{BecomesOutcome, IsInserted, IsRemoved, IsUpdated, MayChange}
+pub use Rattle.raft_accessor.specs.Updates.{BecomesOutcome, IsInserted, IsTakenOut, IsUpdated, MayChange}
 pub use Rattle.raft_accessor.specs.Walks.{Collects, KeepsId, Makes}
 pub use Rattle.raft_accessor.specs.Writes.{Appending, AreItemsRefused, AreWritten, IsWriteFault, Replaying, Rewriting}
 pub use Rattle.raft_accessor.specs.WritingShown.{writing_shown}

@@ -41,7 +41,7 @@ pub record IsRunTried (queue : LogQueue) (id : ℕ) (run : List EntryIndex) (old
   pub counts_ok : OnSome r (after ≡ counts_with_run queue (table_in old id).entries run counts)
   pub ends : IfSome r (λ ends. ends ≡ (start_of (table_in old id).entries, end_of (table_in old id).entries))
 
--- the same of an accessor's tables
+-- a run is put into an accessor's table of a region, with where its entries began and ended before, or nothing was changed
 pub record IsRunPut (queue : LogQueue) (id : ℕ) (run : List EntryIndex) (r : Option (ℕ × ℕ)) (old new : Accessor) : Type 0 where
   pub changed : IsTableChanged (after_replay queue (table_in old.tables id) run) (λ e. ⊥) id (ok_or r Memory) old new
   pub accepted : OnSome r (live_of (other queue) (table_in old.tables id) ≡ 0)

@@ -71,7 +71,7 @@ pub record IsInserted (id : ℕ) (table : Table) (old : Tables) (before : Counts
   pub recounted : IsRecounted (table_in old id) (table_in new id) before after
 
 -- a region's table, if there is one, is taken away, handed out, and no longer counted
-pub record IsRemoved (id : ℕ) (table : Option Table) (old : Tables) (before : Counts) (new : Tables) (left : Counts) : Type 0 where
+pub record IsTakenOut (id : ℕ) (table : Option Table) (old : Tables) (before : Counts) (new : Tables) (left : Counts) : Type 0 where
   pub removed : table ≡ finite.get old id
   pub own : IfSome table (λ (t : Table). t.region_id ≡ id)
   pub after : new ≡ finite.remove old id

@@ -35,7 +35,7 @@ IsSlotFault queue older newer errors.Full = (q : LogQueue) × (2 ^ 64 ≤ live_i
 IsSlotFault queue older newer errors.Memory = Unit {0}
 IsSlotFault queue older newer _ = ⊥
 
--- the regions of these region marks are joined, and their tables are taken out of the newer ones, or that is refused
+-- the regions of these region marks are joined, where what they make is a run, and their tables are taken out of the newer ones, or that is refused
 pub record AreMarksJoined (queue : LogQueue) (marks : Marks) (r : Result Unit Error) (old new : MarkedTables) (newer after : Accessor) : Type 0 where
   pub ok : AreRunsOver queue marks newer.tables old.accessor.tables → OnOk r (AreJoined queue (regions_in old) (record { tables = newer.tables; marks = marks }) (regions_in new))
   pub fault : AreRunsOver queue marks newer.tables old.accessor.tables → IfErr r (IsSlotFault queue (regions_in old) (record { tables = newer.tables; marks = marks }))

@@ -24,7 +24,7 @@ AreTooMany records errors.Full = 2 ^ 64 ≤ records
 AreTooMany records errors.Memory = Unit {0}
 AreTooMany records _ = ⊥
 
--- the regions of these region marks are overlaid, and their tables are taken out of the appended ones, or that is refused
+-- the regions of these region marks are overlaid, where what they make is a run, and their tables are taken out of the appended ones, or that is refused
 pub record AreMarksOverlaid (marks : Marks) (r : Result Unit Error) (old new : Tables) (appended after : Accessor) : Type 0 where
   pub ok : AreRunsOverlaid marks appended.tables old → OnOk r (AreOverlaid (record { tables = appended.tables; marks = marks }) old new)
   pub own_left : OnOk r (live_in_all Rewrite after.tables ≡ 0)

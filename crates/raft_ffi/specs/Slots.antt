@@ -42,7 +42,7 @@ pub record IsMoved (region : ℕ) (source old new : Accessor) : Type 0 where
 abbrev pub IsMoveFault : ℕ → Accessor → Accessor → Error → Type 0
 IsMoveFault region source others e = (e ≡ Memory) ⊎ ((e ≡ Full) × ((q : LogQueue) × (2 ^ 64 ≤ live_in_all q others.tables + live_of q (table_in source.tables region))))
 
--- tables would take these items of a batch where the number is 0; else the number is that of an error of the test, and but for want of memory they refuse them. Both stay
+-- tables pass this test of a batch where the number is 0; else it is that of an error, and but for want of memory, which has the number 11, they refuse these items. Both stay
 pub record IsAppendTested (code : ℕ) (Accepts : Accessor → Batch → Type 0) (items_of : Batch → List Item) (tables left : Option Accessor) (batch left_batch : Option Batch) : Type 0 where
   pub ok : code ≡ 0 → BothHold Accepts tables batch
   pub refused : code ≢ 0 → code ≢ 11 → BothHold (λ a b. AreRefusedOncePlaced a.tables (items_of b)) tables batch

@@ -1,4 +1,4 @@
--- What the contracts of this crate import of std, of the crates below and of the definitions, in one place.
+-- What the contracts and the proofs of this crate import of std, of the crates below and of the definitions, in one place.
 pub use Rattle.std.specs.Box.Ownership.{box_owns}
 pub use Rattle.std.specs.Cmp.{IsStrictWeakOrder}
 pub use Rattle.std.specs.Cmp.Lexicographic.{slice_cmp}

@@ -62,7 +62,7 @@ macro_rules! with {
     }};
 }
 
-/// Does the same, and says how it ended.
+/// Does what `with!` does, and says how it ended: by a number, with a text, or with what was found.
 macro_rules! told {
     ($held:ident in $handle:ident, $alloc:ident; $body:expr) => {{
         let answer = with!($held in $handle, $alloc; $body);
@@ -78,7 +78,7 @@ macro_rules! told {
     }};
 }
 
-/// What is made of memory; the call that wants it ends where there is none.
+/// Returns what was made; where there was no memory for it the call ends with `Memory`.
 macro_rules! or_told {
     ($made:expr, $alloc:ident, $text:ident) => {
         match $made {

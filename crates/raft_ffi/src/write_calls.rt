@@ -13,7 +13,6 @@ use crate::status::{Maybe, Status, memory_code};
 use raft_accessor::{MemTableAccessor, slot_of};
 use raft_base::{Error, Result};
 use raft_records::{LogBatch, LogItem};
-use raft_table::MemTable;
 use std::alloc::Global;
 
 /// Changes tables, whose counts are exact then.

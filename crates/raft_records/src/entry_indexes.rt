@@ -168,7 +168,7 @@ pub(crate) fn tail_offset(entry: &EntryIndex) -> u64
     u64::from(entry.entry_offset) + u64::from(entry.entry_len)
 }
 
-/// Returns nothing too where the offset takes more than four bytes, or an index may be 2^64 - 1: where not `bounded`.
+/// Returns nothing where the tail offset takes more than four bytes, or an index may be 2^64 - 1: `bounded` is false.
 #[inline(always)]
 #[tactic(auto, using(crate::proofs::EntryLemmas::tail_read, raft_codec::proofs::VarintLemmas::short_below, raft_codec::proofs::VarintLemmas::short_is_read))]
 pub(crate) fn short_tail(bytes: &[u8], offset: u32, bounded: bool) -> Option<(u32, &[u8])>

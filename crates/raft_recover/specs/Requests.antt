@@ -9,7 +9,7 @@ use Rattle.raft_base.specs.declared.pipe_log.Version.{Version}
 use Rattle.raft_base.specs.declared.pipe_log.Version.TheVariants.{V1, V2}
 use Rattle.raft_replay.specs.Stops.{queue_text}
 
--- the word for a queue
+-- the word for a queue, as in texts of refusals
 abbrev pub queue_word : LogQueue → List ℕ
 queue_word queue = queue_text queue
 

@@ -107,6 +107,7 @@ pub fn recover_both<R: Threads + Sync>(
     both.finish()
 }
 
+/// Reads both queues at once, by two workers or more.
 fn both_replayed<R: Threads + Sync>(
     rt: &R,
     alloc: Global,

@@ -42,6 +42,6 @@ pub use Rattle.raft_table.specs.Steps.{AreSteps, Clean, IsStep, IsTableOf, Run, 
 pub use Rattle.raft_table.specs.Table.{IsCounted, IsKeyRewriteFault, IsRecounted, IsTablePutFault, MovesKeyAlone, Table, after_append, after_replay, after_rewrite, after_rewrite_key, empty_table, leaves_append, live_of, with_pair}
 pub use Rattle.raft_table.specs.Table.{with_pair_deleted, with_rewritten_key, with_table_added, with_table_deleted}
 pub use Rattle.raft_table.specs.TableEntries.{AreCounted, AreRecounted, AreTableEntries, IsRunIn, StandsBehind, below, entries_between, entry_at, entry_count, from, is_placed_in, placed_in, start_of}
-pub use Rattle.raft_table.specs.TakenSteps.{IsReplayFault, IsStepFault, IsStepOfQueue, IsUnmixed, LeavesTable, counts_after_step}
+pub use Rattle.raft_table.specs.TakenSteps.{IsStepFault, IsStepOfQueue, IsUnmixed, LeavesTable, counts_after_step}
 pub use Rattle.raft_table.specs.Untruncated.{AreUntruncated, reaching_within}
 pub use Rattle.raft_table.specs.declared.memtable.block.Block.{Block}

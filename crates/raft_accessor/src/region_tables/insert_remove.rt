@@ -1,7 +1,7 @@
 //! Tables put under their regions, and taken away.
 
 ghost use Rattle.std.specs.Prelude.{◌≡◌, ◌≤◌, ◌+◌};
-ghost use Rattle.raft_accessor.specs.Common.{LogQueue, live, table_of, live_of, with_table_deleted, IsCounted, table_in, IsInserted, IsRemoved};
+ghost use Rattle.raft_accessor.specs.Common.{LogQueue, live, table_of, live_of, with_table_deleted, IsCounted, table_in, IsInserted, IsTakenOut};
 
 use crate::boxed_table::{BoxedTable, unboxed};
 use crate::region_tables::RegionTables;
@@ -49,14 +49,14 @@ impl RegionTables {
     /// Takes a region's table away, and its records off the counts.
     pub fn remove(&mut self, id: u64, stats: &mut GlobalStats) -> Option<MemTable>
         requires { IsCounted (table_in self.old id) stats.old }
-        ensures { IsRemoved id result self.old stats.old self.new stats.new }
+        ensures { IsTakenOut id result self.old stats.old self.new stats.new }
     {
         unboxed(self.take(id, stats))
     }
 
     pub(crate) fn take(&mut self, id: u64, stats: &mut GlobalStats) -> Option<BoxedTable>
         requires { IsCounted (table_in self.old id) stats.old }
-        ensures { IsRemoved id result self.old stats.old self.new stats.new }
+        ensures { IsTakenOut id result self.old stats.old self.new stats.new }
     {
         let removed = self.tables.remove(&id);
         delete_replaced(id, &removed, stats);

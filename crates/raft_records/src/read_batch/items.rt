@@ -198,6 +198,8 @@ fn read_tails<'a, T: Kept>(
 /// The byte of [`OpType::Put`](crate::OpType::Put).
 const PUT: u8 = 1;
 
+/// Reads a run or a put whose numbers are short, as most are, where there is room; else adds nothing,
+/// and `read_item` reads it.
 #[inline(always)]
 fn read_short_item<'a>(
     bytes: &'a [u8],

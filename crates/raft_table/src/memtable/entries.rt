@@ -18,13 +18,14 @@ use std::alloc::Global;
 use std::collections::VecDeque;
 use std::marker::Model;
 
-/// Blocks, the index of each block's first entry, the spans of a block; a block and an entry of it.
 type Blocks = VecDeque<Block>;
 
+/// The index of each block's first entry; none where blocks are few.
 type Starts = VecDeque<u64>;
 
 type Spans = VecDeque<(u32, u32)>;
 
+/// A block, and an entry of it.
 type Spot = (usize, usize);
 
 /// The entries of a region's table: one run of indexes, rewritten places in front of appended ones.

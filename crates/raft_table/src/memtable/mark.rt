@@ -12,6 +12,7 @@ use std::alloc::Global;
 use std::marker::Model;
 use std::mem;
 
+/// No older entry may stand from the first index on and below the second.
 type Bars = Option<(u64, u64)>;
 
 /// What steps on a region do to every older table of it.

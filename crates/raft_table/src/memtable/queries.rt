@@ -1,4 +1,4 @@
-//! What a table returns of its records.
+//! What a table returns of its records, and laws of ranges, sizes and refusals.
 
 ghost use Rattle.std.specs.Prelude.{◌≡◌, ◌<◌, ℕ, List, [], Option, Some, None, nat_lt, length, false, true, if◌then◌else◌, ◌+◌, ◌&&◌, nat_le, ◌≤◌, ◌++◌, ◌⊎◌, suc, ◌^◌, map, reverse, All, Contains, ◌-◌, IsOk, OnOk, OnErr, IfErr};
 ghost use Rattle.raft_table.specs.Common.{LogQueue, EntryIndex, Append, Rewrite, start_of, entry_at, below, from, AreTableEntries, Keys, Table, entries_after_append, entries_after_replay, nat_cmp, slice_cmp, IsStrictlySortedBy, Error};

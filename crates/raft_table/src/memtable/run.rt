@@ -1,4 +1,4 @@
-//! Runs, as tables are given them.
+//! Runs, as tables are given them, and laws of region marks.
 
 ghost use Rattle.std.specs.Prelude.{◌≡◌, ◌<◌, ℕ, List, [], ◌∷◌, Option, Some, None, false, ◌+◌, ◌≤◌, ◌++◌, length, MatchOption};
 ghost use Rattle.raft_table.specs.Common.{LogQueue, EntryIndex, Append, below, Table, Step, AreSteps, table_of, after, least, IsRun, Mark, table_over_older, Stands, joined_mark, mark_of, own_of, HoldsDeleted, IsExactMark, has_clean};

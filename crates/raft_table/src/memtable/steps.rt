@@ -7,7 +7,7 @@ ghost use Rattle.raft_table.specs.Common.{counts_after_step, IsStepFault};
 use crate::global_stats::GlobalStats;
 use crate::memtable::MemTable;
 use crate::step::Step;
-use raft_base::{EntryIndex, Error, FileId, LogQueue, Result};
+use raft_base::{Error, FileId, LogQueue, Result};
 
 impl MemTable {
     /// Does a step that is read again, any but a [`Step::Clean`], which leaves no table.

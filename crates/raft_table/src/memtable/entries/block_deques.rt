@@ -103,6 +103,7 @@ pub(super) fn is_same(a: &FileBlockHandle, b: &FileBlockHandle) -> bool
     a == b
 }
 
+/// Puts blocks in place of those from a spot up to `rest`; at the seam equal places make one block.
 pub(super) fn put_blocks(
     blocks: &mut Blocks,
     starts: &mut Starts,
@@ -119,15 +120,15 @@ pub(super) fn put_blocks(
     requires more { (0 < length more.old.items) ×
         (length more_starts.old.items ≡ length more.old.items) }
     ensures blocks { OnOk result (shown blocks.new
-        ≡ joined_blocks (first_of_last spot.1 (take spot.0 (shown blocks.old))) (shown
-        more.old) ++ drop rest (shown blocks.old)) }
+        ≡ joined_blocks (first_of_last spot.1 (take spot.0 (shown blocks.old)))
+        (shown more.old) ++ drop rest (shown blocks.old)) }
     ensures starts { OnOk result (starts.new.items ≡ take spot.0 starts.old.items
         ++ drop (seam (take spot.0 (shown blocks.old))
         (shown more.old)) more_starts.old.items ++ drop rest starts.old.items) }
     ensures emptied { OnOk result ((more.new.items ≡ []) × (more_starts.new.items ≡ [])) }
     ensures err { OnErr result ((shown blocks.new ≡ shown blocks.old)
-        × (starts.new.items ≡ starts.old.items) × (shown more.new
-        ≡ shown more.old) × (more_starts.new.items ≡ more_starts.old.items)) }
+        × (starts.new.items ≡ starts.old.items) × (shown more.new ≡ shown more.old)
+        × (more_starts.new.items ≡ more_starts.old.items)) }
 {
     make_room(blocks, more)?;
     make_room(starts, more_starts)?;
@@ -156,6 +157,7 @@ pub(super) fn put_few_blocks(blocks: &mut Blocks, spot: Spot, more: &mut Blocks)
     Ok(())
 }
 
+/// Makes room for both in the longer deque, if there is none.
 fn make_room<T>(deque: &mut VecDeque<T>, more: &mut VecDeque<T>) -> AllocResult<()>
     ensures items { (deque.new.items ≡ deque.old.items) × (more.new.items ≡ more.old.items) }
     ensures len { (deque_len deque.new ≡ deque_len deque.old) ×

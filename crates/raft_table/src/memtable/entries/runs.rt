@@ -186,6 +186,7 @@ impl Entries {
     }
 }
 
+/// Returns whether so many records more fit once `gone` ones, rewritten and appended, go.
 fn has_room(stats: &GlobalStats, gone: (usize, usize), queue: LogQueue, added: usize) -> bool
     requires rewritten { gone.0 ≤ live Rewrite stats.now }
     requires appended { gone.1 ≤ live Append stats.now }

@@ -368,7 +368,7 @@ impl MemTableAccessor {
     /// Takes a region's table away in its box, and its records off the counts.
     #[doc(hidden)]
     pub fn take(&mut self, id: u64) -> Option<BoxedTable>
-        ensures { IsTableTaken id result self.old self.new }
+        ensures taken { IsTableTaken id result self.old self.new }
     {
         self.slots[slot_of(id)].take(id, &mut self.stats)
     }

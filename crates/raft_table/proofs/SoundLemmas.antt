@@ -1,5 +1,5 @@
 -- What cuts and joins leave of a table's entries.
-use Rattle.raft_table.proofs.Common.{◌≡◌, ℕ, ◌+◌, ◌-◌, ◌<◌, ◌≤◌, min, List, [], ◌∷◌, ◌++◌, length, get_or, take, drop, refl, sym, ap, ◌∙◌, subst, arith, None, slice_get, length-take-le, drop-append_seam, EntryIndex, RisesFrom, end_of}
+use Rattle.raft_table.proofs.Common.{◌≡◌, ℕ, ◌+◌, ◌<◌, ◌≤◌, min, List, [], ◌∷◌, ◌++◌, length, get_or, take, drop, refl, sym, ap, ◌∙◌, subst, arith, None, slice_get, length-take-le, drop-append_seam, EntryIndex, RisesFrom, end_of}
 use Rattle.raft_table.proofs.Common.{run_of, end_bounded, bounded_of, AreTableEntries, RewrittenInFront, start_of, below, from, placed_in, entry_count, Append, Rewrite}
 use Rattle.raft_table.proofs.RunLemmas.{below-append, from-append, below-placed_in, from-placed_in, below_take, from_drop, RisesFrom-take, rises, IsRun-drop, end_of-take, end_of-drop}
 use Rattle.raft_table.proofs.PlaceLemmas.{entries_in_front, entries_in_both, entry_count-cut}

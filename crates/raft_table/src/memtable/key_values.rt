@@ -110,8 +110,7 @@ impl KeyValues {
         ensures err { OnErr result (self.new ≡ self.old) }
     {
         prove!(self.rewritten <= self.pairs.len());
-        let replaced = self.pairs.insert(key, StoredValue { value, file })?;
-        let replaced = replaced.map(|pair| pair.file);
+        let replaced = file_in(self.pairs.insert(key, StoredValue { value, file })?);
         self.rewritten = self.rewritten - rewritten(replaced) + rewritten(Some(file));
         Ok(replaced)
     }
@@ -197,6 +196,8 @@ impl KeyValues {
         }
     }
 
+    /// Puts the pairs of `rhs` over these, and leaves `rhs` empty. Where there is no memory for all, the first of them, in
+    /// the order of their keys, have been put, one is lost, and the others are left in `rhs`.
     pub fn absorb(&mut self, rhs: &mut KeyValues) -> AllocResult<()>
         ensures ok { OnOk result (self.new ≡ pairs_over rhs.old self.old) }
         ensures emptied { OnOk result (rhs.new ≡ finite.empty) }
@@ -258,8 +259,17 @@ fn is_up_to(file: FileId, queue: LogQueue, gate: Option<FileSeq>) -> bool
     file.queue == queue && gate.is_none_or(|gate| file.seq <= gate)
 }
 
+fn file_in(pair: Option<StoredValue>) -> Option<FileId>
+    ensures { result ≡ option_map (λ s. s.file) pair }
+{
+    pair.map(|pair| pair.file)
+}
+
 fn rewritten(file: Option<FileId>) -> usize
     ensures { result ≡ file_weight LogQueue.Rewrite file }
 {
-    usize::from(file.is_some_and(|file| file.queue == LogQueue::Rewrite))
+    match file {
+        Some(file) if file.queue == LogQueue::Rewrite => 1,
+        _ => 0,
+    }
 }

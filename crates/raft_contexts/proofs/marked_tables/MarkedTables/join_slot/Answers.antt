@@ -16,17 +16,17 @@ loop-id-init c =
 pub join_region-requires-clause-own : goal.join_region-requires-clause-own
 join_region-requires-clause-own c =
     let at = c.loop-id.invariant in
-    region_alone _ _ _ _ _ _ _ at.0 c.in-Some.id c.in-Some.mark _ (entry_parts _ _ _ _ c.in-Some.ensures.steps at.1) c.take-table.result c.take-table.ensures.removed
+    region_alone _ _ _ _ _ _ _ at.0 c.in-Some.id c.in-Some.mark _ (entry_parts _ _ _ _ c.in-Some.ensures.steps at.1) c.take-table.result c.take-table.ensures.taken.removed
 
 pub loop-id-preserved : goal.loop-id-preserved
 loop-id-preserved c =
     let at = c.loop-id.invariant in
     let is = c.in-Some.ensures.steps in (
-      region_step _ _ _ _ _ _ _ at.0 c.in-Some.id c.in-Some.mark _ (entry_parts _ _ _ _ is at.1) c.take-table.result c.take-table.ensures.removed
-          (regions_in c.join_region.new.self) c.take-table.new.self.tables c.in_ok-join_region.ensures.ok (λ _. c.in_ok-join_region.ensures.others) c.in_ok-join_region.ensures.few c.take-table.ensures.tables,
+      region_step _ _ _ _ _ _ _ at.0 c.in-Some.id c.in-Some.mark _ (entry_parts _ _ _ _ is at.1) c.take-table.result c.take-table.ensures.taken.removed
+          (regions_in c.join_region.new.self) c.take-table.new.self.tables c.in_ok-join_region.ensures.ok (λ _. c.in_ok-join_region.ensures.others) c.in_ok-join_region.ensures.few c.take-table.ensures.taken.tables,
       once_behind _ _ _ _ is at.1,
       c.join_region.ensures.cleaned ∙ at.2,
-      c.take-table.ensures.cleaned ∙ at.3,
+      c.take-table.ensures.taken.cleaned ∙ at.3,
     )
 
 pub returns-in_err-join_region : goal.returns-in_err-join_region
@@ -35,11 +35,11 @@ returns-in_err-join_region c =
     let p = err_from_is_err_and c.from_residual.result c.from_residual.ensures.1 in
     rw (p.1, p.2) record {
       ok = λ _. tt;
-      fault = region_fault _ _ _ _ _ _ _ at.0 c.in-Some.id c.in-Some.mark _ (entry_parts _ _ _ _ c.in-Some.ensures.steps at.1) c.take-table.result c.take-table.ensures.removed
+      fault = region_fault _ _ _ _ _ _ _ at.0 c.in-Some.id c.in-Some.mark _ (entry_parts _ _ _ _ c.in-Some.ensures.steps at.1) c.take-table.result c.take-table.ensures.taken.removed
           c.loop-id.self.accessor.counts _ c.join_region.ensures.exact_counts c.in_err-join_region.ensures.fault;
       left = tt;
       few = tt;
-      cleaned = (c.join_region.ensures.cleaned ∙ at.2, c.take-table.ensures.cleaned ∙ at.3);
+      cleaned = (c.join_region.ensures.cleaned ∙ at.2, c.take-table.ensures.taken.cleaned ∙ at.3);
     }
 
 pub returns : goal.returns

@@ -15,17 +15,17 @@ loop-id-init c =
 pub overlay_table-requires-clause-own : goal.overlay_table-requires-clause-own
 overlay_table-requires-clause-own c =
     let at = c.loop-id.invariant in
-    own_taken _ _ _ _ _ _ at.0 c.in-Some.id c.in-Some.mark _ (entry_parts _ _ _ _ c.in-Some.ensures.steps at.1) c.take-table.result c.take-table.ensures.removed
+    own_taken _ _ _ _ _ _ at.0 c.in-Some.id c.in-Some.mark _ (entry_parts _ _ _ _ c.in-Some.ensures.steps at.1) c.take-table.result c.take-table.ensures.taken.removed
 
 pub loop-id-preserved : goal.loop-id-preserved
 loop-id-preserved c =
     let at = c.loop-id.invariant in
     let is = c.in-Some.ensures.steps in (
-      over_step _ _ _ _ _ _ at.0 c.in-Some.id c.in-Some.mark _ (entry_parts _ _ _ _ is at.1) c.take-table.result c.take-table.ensures.removed
+      over_step _ _ _ _ _ _ at.0 c.in-Some.id c.in-Some.mark _ (entry_parts _ _ _ _ is at.1) c.take-table.result c.take-table.ensures.taken.removed
           c.overlay_table.new.self.tables c.take-table.new.self.tables (rw c.into_mark-mark.ensures at c.in_ok-overlay_table.ensures.overlaid.ok)
-          c.in_ok-overlay_table.ensures.overlaid.one c.in_ok-overlay_table.ensures.overlaid.few c.take-table.ensures.tables,
+          c.in_ok-overlay_table.ensures.overlaid.one c.in_ok-overlay_table.ensures.overlaid.few c.take-table.ensures.taken.tables,
       once_behind _ _ _ _ is at.1,
-      c.take-table.ensures.cleaned ∙ at.2,
+      c.take-table.ensures.taken.cleaned ∙ at.2,
     )
 
 pub returns-in_err-overlay_table : goal.returns-in_err-overlay_table
@@ -37,8 +37,8 @@ returns-in_err-overlay_table c =
       own_left = tt;
       left = tt;
       few = tt;
-      cleaned = c.take-table.ensures.cleaned ∙ at.2;
-      fault = over_fault _ _ _ _ _ _ at.0 c.in-Some.id c.in-Some.mark _ (entry_parts _ _ _ _ c.in-Some.ensures.steps at.1) c.take-table.result c.take-table.ensures.removed
+      cleaned = c.take-table.ensures.taken.cleaned ∙ at.2;
+      fault = over_fault _ _ _ _ _ _ at.0 c.in-Some.id c.in-Some.mark _ (entry_parts _ _ _ _ c.in-Some.ensures.steps at.1) c.take-table.result c.take-table.ensures.taken.removed
           c.loop-id.self.accessor.counts _ c.overlay_table.ensures.exact_counts c.in_err-overlay_table.ensures.overlaid.fault;
     }
 

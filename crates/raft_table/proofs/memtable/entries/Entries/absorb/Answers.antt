@@ -1,4 +1,4 @@
-use Rattle.raft_table.proofs.Facts.{◌≡◌, ◌<◌, sym, ◌∙◌, start_of, Append, Rewrite, IsRunIn, not_nil, may_join, run_alone, each_placed, IsReplay, is_replay, sound_under, counts_under, few_behind, full_behind, recounted_behind}
+use Rattle.raft_table.proofs.Facts.{◌≡◌, sym, start_of, Append, Rewrite, IsRunIn, not_nil, may_join, run_alone, each_placed, IsReplay, is_replay, sound_under, counts_under, few_behind, full_behind, recounted_behind}
 use Rattle.raft_table.proofs.memtable.entries.Entries.absorb.Goals.{In-Some-kept_under}
 use Rattle.raft_table.proofs.memtable.entries.Entries.absorb.Goals as goal
 

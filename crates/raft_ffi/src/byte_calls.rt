@@ -1,16 +1,12 @@
 //! Calls that read bytes alone.
 
 ghost use Rattle.std.specs.Prelude.{◌≡◌, ◌≢◌, ◌+◌, ◌^◌, ◌<◌, ℕ, List, length, drop, take, IfOk, OnOk, OnErr, IfErr};
-ghost use Rattle.raft_ffi.specs.Words.{AreBatchesUpTo, HasLength, HasNoFront, HasText, IsAnyCorruption, IsCodeOf, IsEntryBlockOf, IsHeader, IsNextFault, crc32_of, file_of, little_bytes, part_of, signature_of};
+ghost use Rattle.raft_ffi.specs.Words.{AreBatchesUpTo, HasLength, HasNoFront, HasText, IsAnyCorruption, IsCodeOf, IsEntryBlockOf, IsHeader, IsNextFault, crc32_of, file_of, part_of, signature_of};
 
 use crate::status::{File, Status, answered, answered_with};
-use raft_base::{Error, LogFileContext, Result, crc32};
-use raft_codec::codec;
-use raft_records::{LogBatch, next_in};
+use raft_base::{LogFileContext, Result, crc32};
+use raft_records::{LogBatch, lent_entry_block, next_in};
 use std::alloc::Global;
-
-/// How many bytes a checksum has.
-const CHECKSUM_LEN: usize = 4;
 
 /// Returns how long the log batch is whose header stands in front of the bytes; 0 where none does. So files can be cut
 /// between batches.
@@ -96,27 +92,5 @@ fn entries_len(alloc: Global, bytes: &[u8]) -> Result<usize>
     ensures refused { OnErr result ((entries : List ℕ) → IsEntryBlockOf (length bytes.now) bytes.now entries → ⊥) }
     ensures fault { IfErr result IsAnyCorruption }
 {
-    let len = bytes.len();
-    if len == 0 {
-        return Ok(0);
-    }
-    if len <= CHECKSUM_LEN {
-        return Err(Error::corruption(alloc, "an entry block is too short"));
-    }
-    let (entries, seal) = bytes.split_at(len - CHECKSUM_LEN);
-    if checksum_of(seal) != crc32(entries) {
-        return Err(Error::corruption(alloc, "an entry block has another checksum"));
-    }
-    Ok(entries.len())
-}
-
-fn checksum_of(seal: &[u8]) -> u32
-    requires { length seal.now ≡ CHECKSUM_LEN }
-    ensures { seal.now ≡ little_bytes 4 result }
-{
-    let mut rest = seal;
-    match codec::decode_u32_le(&mut rest) {
-        Ok(checksum) => checksum,
-        Err(_) => unreachable!(),
-    }
+    Ok(lent_entry_block(alloc, bytes, bytes.len())?.len())
 }

@@ -106,7 +106,8 @@ pub(crate) fn offset_behind(entries_size: u32) -> usize
     }
 }
 
-pub(crate) fn lent_entry_block(alloc: Global, bytes: &[u8], len: usize) -> Result<&[u8]>
+/// Returns the entry bytes of the entry block of `len` bytes in front of `bytes`, whose checksum it tests.
+pub fn lent_entry_block(alloc: Global, bytes: &[u8], len: usize) -> Result<&[u8]>
     ensures ok { IfOk result (λ entries. IsEntryBlockOf len bytes.now entries.now) }
     ensures refused { OnErr result ((entries : List ℕ) → IsEntryBlockOf len bytes.now entries → ⊥) }
     ensures fault { IfErr result (IsLentBlockFault len bytes.now) }

@@ -22,6 +22,8 @@ pub use command::Command;
 pub use entry_block::{entries_block_in, entry_bytes};
 pub use entry_indexes::EntryIndexes;
 pub use file_part::{FilePart, next_batch, next_in, readable_front};
+#[doc(hidden)]
+pub use header::lent_entry_block;
 pub use key_value::{KeyValue, OpType};
 pub use log_batch::LogBatch;
 pub use log_item::{LogItem, LogItemContent};

@@ -193,7 +193,7 @@ impl RegionTables {
         Some(ends)
     }
 
-    #[inline(never)]
+    #[inline(always)]
     fn try_replay_first(
         &mut self,
         queue: LogQueue,

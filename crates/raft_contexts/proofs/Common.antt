@@ -23,7 +23,7 @@ pub use Rattle.std.specs.List.Sorted.{IsStrictlySortedBy}
 pub use Rattle.std.specs.Map.{keys_of, lookup, remove_entry, values_of}
 pub use Rattle.std.specs.Option.{is_some, option_and_then, option_copied_mut, option_map, option_or, unwrap_or}
 pub use Rattle.std.specs.Ordering.{eq_by_cmp, is_eq, nat_cmp}
-pub use Rattle.std.specs.Prelude.{IsTrue, flat_map, nat_le, nat_lt, option_to_list}
+pub use Rattle.std.specs.Prelude.{IsTrue, flat_map, is_none, nat_le, nat_lt, option_to_list}
 pub use Rattle.std.specs.Result.{IfErr, OnErr, OnOk}
 pub use Rattle.std.specs.Vec.{with_item}
 pub use Rattle.std.specs.Vec.Iter.{into_iter_items, into_iter_len}

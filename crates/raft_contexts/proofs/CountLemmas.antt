@@ -1,5 +1,5 @@
 -- How many region marks there are, kept or implied, and how many deleted keys they hold.
-use Rattle.raft_contexts.proofs.Common.{at_drop_more, ◌≡◌, ◌≤◌, ◌<◌, ◌+◌, ℕ, true, false, cond, List, [], ◌∷◌, ◌++◌, length, drop, Option, Some, None, refl, sym, ap, ◌∙◌, arith, slice_index_or, T, nat_cmp, eq_by_cmp, nat_cmp_total, find}
+use Rattle.raft_contexts.proofs.Common.{at_drop_more, ◌≡◌, ◌≤◌, ◌<◌, ◌+◌, ℕ, true, false, filter, is_none, cond, List, [], ◌∷◌, ◌++◌, length, drop, Option, Some, None, refl, sym, ap, ◌∙◌, arith, slice_index_or, T, nat_cmp, eq_by_cmp, nat_cmp_total, find}
 use Rattle.raft_contexts.proofs.Common.{is_sorted, keys_of, is_some, option_map, option_or, EntryIndex, mark_of, Mark, Run, Table, find-below, first_of_both, second_of_both, Marks, total, Tables, found, total-insert, total-none, total-ones}
 use Rattle.raft_contexts.proofs.Common.{total-at_most, total-both, slot_entries, together, AreSlots, same, none_some, Once, entries-permuted, once-slots, drop-none, added, added-append, added-permuted, implied_mark, implied_marks}
 use Rattle.raft_contexts.proofs.Common.{all_marks, absent_in, count_absent}
@@ -50,10 +50,17 @@ all_over tables kept = same _ _
     (λ r. get_all tables kept r ∙ ap (λ o. option_or o (option_map implied_mark (finite.get tables r))) (finite.get-entries kept r) ∙ ap (option_or (find nat_cmp r (finite.entries kept))) (sym (get_implied tables r))
     ∙ sym (get_over (finite.entries kept) (implied_marks tables) r))
 
+pub absent_next : (tables : Tables) (id : ℕ) (ids : List ℕ) → count_absent tables (id ∷ ids) ≡ absent_in tables id + count_absent tables ids
+absent_next tables id ids = go (finite.get tables id) (filter (λ id. is_none (finite.get tables id)) ids)
+  where
+    go : (o : Option Table) (xs : List ℕ) → length (cond (is_none o) (id ∷ xs) xs) ≡ cond (is_some o) 0 1 + length xs
+    go None xs = omega arith
+    go (Some t) xs = omega arith
+
 len_over : (tables : Tables) (es : List (ℕ × Mark)) → T (is_sorted nat_cmp es) → finite.len (put_over es (implied_marks tables)) ≡ finite.len (implied_marks tables) + count_absent tables (keys_of es)
 len_over tables [] s = omega arith
 len_over tables (e ∷ es) s = omega
-    (arith, len_over tables es (second_of_both _ _ s), total-insert (λ (m : Mark). 1) over e.0 e.1, total-ones (finite.insert over e.0 e.1), total-ones over, ap (found (λ (m : Mark). 1)) here, one (finite.get tables e.0))
+    (arith, absent_next tables e.0 (keys_of es), len_over tables es (second_of_both _ _ s), total-insert (λ (m : Mark). 1) over e.0 e.1, total-ones (finite.insert over e.0 e.1), total-ones over, ap (found (λ (m : Mark). 1)) here, one (finite.get tables e.0))
   where
     over : Marks
     over = put_over es (implied_marks tables)
@@ -85,7 +92,7 @@ len_all tables kept = omega (arith, ap finite.len (all_over tables kept), len_ov
 
 absent_added : (tables : Tables) (es : List (ℕ × Mark)) → count_absent tables (keys_of es) ≡ added (λ (e : ℕ × Mark). absent_in tables e.0) es
 absent_added tables [] = refl
-absent_added tables (e ∷ es) = ap (λ n. absent_in tables e.0 + n) (absent_added tables es)
+absent_added tables (e ∷ es) = absent_next tables e.0 (keys_of es) ∙ ap (λ n. absent_in tables e.0 + n) (absent_added tables es)
 
 pub absent_permuted : (tables : Tables) (es : List (ℕ × Mark)) → Once es → count_absent tables (keys_of es) ≡ count_absent tables (keys_of (finite.entries (finite.from_entries {R = nat_cmp} es)))
 absent_permuted tables es once = absent_added tables es ∙ added-permuted (λ (e : ℕ × Mark). absent_in tables e.0) es _ (entries-permuted es once) ∙ sym (absent_added tables _)

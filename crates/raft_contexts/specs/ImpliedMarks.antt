@@ -1,5 +1,5 @@
 -- The region marks that tables imply, beside those that are kept.
-use Rattle.std.specs.Prelude.{ℕ, ◌+◌, List, [], ◌∷◌, ◌++◌, map, is_some, if◌then◌else◌}
+use Rattle.std.specs.Prelude.{ℕ, List, ◌++◌, filter, length, map, is_none, is_some, if◌then◌else◌}
 use Rattle.std.specs.FinMap as finite
 use Rattle.raft_history.specs.MarkedRegions.{Marks}
 use Rattle.raft_history.specs.RegionSteps.{Tables}
@@ -26,5 +26,4 @@ absent_in tables id = if is_some (finite.get tables id) then 0 else 1
 
 -- how many of these regions have no table
 abbrev pub count_absent : Tables → List ℕ → ℕ
-count_absent tables [] = 0
-count_absent tables (id ∷ ids) = absent_in tables id + count_absent tables ids
+count_absent tables ids = length (filter (λ id. is_none (finite.get tables id)) ids)

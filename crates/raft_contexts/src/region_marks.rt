@@ -174,6 +174,7 @@ impl RegionMarks {
 
     /// Joins the region mark of a run from `first` on to that of its region, whose entries went from `start` to `end`
     /// in front of the run, where the table doesn't imply it still.
+    #[inline(always)]
     pub(crate) fn mark_run(
         &mut self,
         queue: LogQueue,

@@ -326,6 +326,7 @@ impl MemTable {
     ///
     /// `Full` where more than 2^64 - 1 records would be live in the file's queue, `Memory`. The table and the
     /// counts are then as they were.
+    #[inline(always)]
     pub fn put(
         &mut self,
         key: Vec<u8>,

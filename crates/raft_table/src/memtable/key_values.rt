@@ -95,6 +95,7 @@ impl KeyValues {
         Some(self.pairs.get(key)?.file)
     }
 
+    #[inline(always)]
     pub fn insert(
         &mut self,
         key: Vec<u8>,

@@ -273,7 +273,7 @@ pub(super) fn push_with_start(
     Ok(())
 }
 
-#[inline(never)]
+#[inline(always)]
 pub(super) fn push_block(blocks: &mut Blocks, mut block: Block) -> AllocResult<()>
     ensures ok { OnOk result (shown blocks.new
         ≡ joined_blocks (shown blocks.old) (block_spans block ∷ [])) }

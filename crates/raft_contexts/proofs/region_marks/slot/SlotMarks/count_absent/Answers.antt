@@ -1,11 +1,11 @@
 use Rattle.raft_contexts.proofs.Common.{◌≡◌, ℕ, length, ap, ◌∙◌, arith, keys_of, length-map, Mark, count_absent, once-distinct}
 use Rattle.std.specs.FinMap as finite
-use Rattle.raft_contexts.proofs.CountLemmas.{absent_one, absent_permuted}
+use Rattle.raft_contexts.proofs.CountLemmas.{absent_next, absent_one, absent_permuted}
 use Rattle.raft_contexts.proofs.region_marks.slot.SlotMarks.count_absent.Goals as goal
 
 pub loop-id-preserved : goal.loop-id-preserved
 loop-id-preserved c = (
-  omega (arith, c.loop-id.invariant.0, ap (count_absent c.args.tables.now.tables) c.in-Some.ensures.steps, c.absent-count.ensures),
+  omega (arith, c.loop-id.invariant.0, ap (count_absent c.args.tables.now.tables) c.in-Some.ensures.steps, absent_next c.args.tables.now.tables c.in-Some.id.now _, c.absent-count.ensures),
   omega (arith, c.loop-id.invariant.1, ap length c.in-Some.ensures.steps, c.absent-count.ensures, absent_one c.args.tables.now.tables c.in-Some.id.now),
 )
 

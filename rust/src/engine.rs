@@ -128,7 +128,8 @@ pub struct Engine<F: Files = FolderFiles> {
 
 impl Engine {
     /// Opens a folder, or makes it. Its files are read on several threads ([`Options::recovery_threads`]). The torn tail of
-    /// a queue's last file, which a stop in the midst of a write leaves, is cut.
+    /// a queue's last file, which a stop in the midst of a write leaves, is cut. A damaged last batch there, and all from a
+    /// header with a damaged length on, counts as one.
     ///
     /// ```
     /// use raft_recover::{Engine, Options};

@@ -5,7 +5,7 @@ use Rattle.raft_contexts.proofs.region_marks.slot.SlotMarks.count_absent.Goals a
 
 pub loop-id-preserved : goal.loop-id-preserved
 loop-id-preserved c = (
-  omega (arith, c.loop-id.invariant.0, ap (count_absent c.args.tables.now.tables) c.in-Some.ensures.steps, absent_next c.args.tables.now.tables c.in-Some.id.now _, c.absent-count.ensures),
+  omega (arith, c.loop-id.invariant.0, ap (count_absent c.args.tables.now.tables) c.in-Some.ensures.steps ∙ absent_next c.args.tables.now.tables c.in-Some.id.now _, c.absent-count.ensures),
   omega (arith, c.loop-id.invariant.1, ap length c.in-Some.ensures.steps, c.absent-count.ensures, absent_one c.args.tables.now.tables c.in-Some.id.now),
 )
 

@@ -14,10 +14,12 @@ pub invariant_of-self : goal.invariant_of-self
 invariant_of-self c = kept-at (slotted c)
 
 pub returns : goal.returns
-returns c = record { taken = record {
-  tables = tables-at (slotted c) ∙ ap (with_table c.args.self.now.tables c.args.id) (ap (λ m. finite.get m c.args.id) c.take.ensures.after ∙ get_gone c.index_mut.result.now c.args.id);
-  removed = moved-at (slotted c) (λ o p k. c.take.result ≡ o) c.take.ensures.removed;
-  own = c.take.ensures.own;
-  counts = moved-at (slotted c) (λ o p k. c.take.new.stats ≡ with_table_deleted (table_of c.args.id o) k) c.take.ensures.counts;
-  cleaned = ap (λ (x : Accessor). x.cleaned) c.self.view_is;
-} }
+returns c = record {
+  taken = record {
+    tables = tables-at (slotted c) ∙ ap (with_table c.args.self.now.tables c.args.id) (ap (λ m. finite.get m c.args.id) c.take.ensures.after ∙ get_gone c.index_mut.result.now c.args.id);
+    removed = moved-at (slotted c) (λ o p k. c.take.result ≡ o) c.take.ensures.removed;
+    own = c.take.ensures.own;
+    counts = moved-at (slotted c) (λ o p k. c.take.new.stats ≡ with_table_deleted (table_of c.args.id o) k) c.take.ensures.counts;
+    cleaned = ap (λ (x : Accessor). x.cleaned) c.self.view_is;
+  };
+}

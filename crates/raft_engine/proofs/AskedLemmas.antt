@@ -20,6 +20,16 @@ pub record AreAskedInPart (wanted old new : List Ask) : Type 0 where
   pub split : wanted ≡ missing ++ made
   pub asked : new ≡ made ++ old
 
+-- of two
+pub asked_of_two : (P : List Ask → Type 0) (b a : Ask) (old new : List Ask) → AreAskedInPart (b ∷ a ∷ []) old new → P old → P (a ∷ old) → P (b ∷ a ∷ old) → P new
+asked_of_two P b a old new p none one two = subst P (sym p.asked) (go p.missing p.made p.split)
+  where
+    go : (missing made : List Ask) → b ∷ a ∷ [] ≡ missing ++ made → P (made ++ old)
+    go [] made e = subst (λ (l : List Ask). P (l ++ old)) e two
+    go (x ∷ []) made e = let is : a ∷ [] ≡ made = cc in subst (λ (l : List Ask). P (l ++ old)) is one
+    go (x ∷ y ∷ []) made e = let is : [] ≡ made = cc in subst (λ (l : List Ask). P (l ++ old)) is none
+    go (x ∷ y ∷ z ∷ missing) made e = absurd cc
+
 module _ (MayFail : Failures) where
   pub asked_part : (wanted old new : List Ask) (e : Error) → FailsAmong MayFail wanted old new e → AreAskedInPart wanted old new
   asked_part wanted old new e f = elim f.asked [

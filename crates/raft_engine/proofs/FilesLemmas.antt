@@ -59,14 +59,19 @@ module _ (asks : List Ask) (more : List ℕ) (files other : QueueFiles) (closed 
   }
 
 -- a new file behind it
-pub files_begun : (asks : List Ask) (files other : QueueFiles) → other.closed.items ≡ files.closed.items ++ files.seq ∷ [] → other.len ≡ 0
-    → AreFilesOf Append asks files → AreFilesOf Append (ask Append (Begin other.seq) ∷ asks) other
-files_begun asks files other closed len f = record {
+one_begun : (queue : LogQueue) (asks : List Ask) (seq : ℕ)
+    → (begun (acts_on queue (ask queue (Begin seq) ∷ asks)) ≡ begun (acts_on queue asks) ++ (seq, []) ∷ []) × (deletions (acts_on queue (ask queue (Begin seq) ∷ asks)) ≡ deletions (acts_on queue asks))
+one_begun Append asks seq = (refl, refl)
+one_begun Rewrite asks seq = (refl, refl)
+
+pub files_begun : (queue : LogQueue) (asks : List Ask) (files other : QueueFiles) → other.closed.items ≡ files.closed.items ++ files.seq ∷ [] → other.len ≡ 0
+    → AreFilesOf queue asks files → AreFilesOf queue (ask queue (Begin other.seq) ∷ asks) other
+files_begun queue asks files other closed len f = record {
   gone = f.gone;
   closed = f.closed ++ (files.seq, f.bytes) ∷ [];
   bytes = [];
-  are = ap (λ (l : List NumberedBytes). l ++ (other.seq, []) ∷ []) f.are ∙ append_assoc f.gone (f.closed ++ (files.seq, f.bytes) ∷ []) ((other.seq, []) ∷ []);
-  deleted = f.deleted;
+  are = (one_begun queue asks other.seq).0 ∙ ap (λ (l : List NumberedBytes). l ++ (other.seq, []) ∷ []) f.are ∙ append_assoc f.gone (f.closed ++ (files.seq, f.bytes) ∷ []) ((other.seq, []) ∷ []);
+  deleted = (one_begun queue asks other.seq).1 ∙ f.deleted;
   have = closed ∙ ap (λ (l : List ℕ). l ++ files.seq ∷ []) f.have ∙ sym (map-append (λ (file : NumberedBytes). file.0) f.closed ((files.seq, f.bytes) ∷ []));
   ends = len;
 }

@@ -1,5 +1,5 @@
 -- What an engine is made of when it is opened.
-use Rattle.std.proofs.Common.{◌≡◌, ◌≢◌, ◌⊎◌, inr, Result, Ok, Err, IfErr, OnOk, ℕ, ◌+◌, List, [], ◌∷◌, ◌++◌, true, refl, sym, ap, ◌∙◌, subst, append_assoc, arith}
+use Rattle.std.proofs.Common.{◌≡◌, ◌≢◌, Result, Ok, Err, OnOk, ℕ, ◌+◌, List, [], ◌∷◌, ◌++◌, true, refl, sym, ap, ◌∙◌, subst, append_assoc, arith}
 use Rattle.raft_base.specs.Signature.{signature_in}
 use Rattle.raft_base.specs.declared.errors.Error.{Error}
 use Rattle.raft_base.specs.declared.pipe_log.LogQueue.TheVariants.{Append, Rewrite}
@@ -15,7 +15,7 @@ use Rattle.raft_recover.specs.Files.{FilesHold}
 use Rattle.raft_engine.specs.BatchBytes.{bytes_for}
 use Rattle.raft_engine.specs.FoundRecords.{FoundRecordsLast, HaveEverRecords}
 use Rattle.raft_engine.specs.KeptEngineView.{AreFilesOf, IsKeptBy}
-use Rattle.raft_engine.specs.Opened.{AreOpened}
+use Rattle.raft_engine.specs.Opened.{AreRead}
 use Rattle.raft_engine.specs.OpeningAsks.{AreWanted, Failures, FailsAmong, asks_that_tell, missing_asks, opening_asks}
 use Rattle.raft_engine.specs.ReadFound.{AreReadFound, reading_asks}
 use Rattle.raft_engine.specs.Stored.{Bases}
@@ -27,6 +27,13 @@ use Rattle.raft_engine.proofs.FilesLemmas.{files_same, files_told}
 use Rattle.raft_engine.proofs.AloneLemmas.{opened_read_back}
 use Rattle.raft_engine.proofs.AskedLemmas.{AreAskedInPart, asked_part}
 use Rattle.raft_engine.proofs.ReadyLemmas.{both_ready, opening_split}
+
+-- what an engine is made of when it is opened
+pub record AreOpened (version : Version) (append rewrite : List NumberedBytes) (asks : List Ask) (append_files rewrite_files : QueueFiles) (accessor : Accessor) : Type 0 where
+  pub read : AreRead version append rewrite asks accessor
+  pub stored : AreStoredAlone version asks accessor.tables
+  pub append_known : AreFilesOf Append asks append_files
+  pub rewrite_known : AreFilesOf Rewrite asks rewrite_files
 
 -- a batch tells the same once it is encoded
 same_tell : (version : Version) (seq : ℕ) (told : Batch) (items : List Item) → asks_that_tell version seq (record told { stage = encoded }) items ≡ asks_that_tell version seq told items
@@ -148,8 +155,8 @@ module _ (ready : FoundFilesAreReady) (stored : FoundFilesAreStored) (lasting : 
     are = told_same;
   }
 
-  pub opened_so : AreOpened version append rewrite (reading_asks version r ++ first) r.append new_rewrite r.accessor
-  opened_so = record {
+  all_opened : AreOpened version append rewrite (reading_asks version r ++ first) r.append new_rewrite r.accessor
+  all_opened = record {
     read = record {
       wanted = reading_asks version r;
       are_wanted = are_wanted;
@@ -169,6 +176,13 @@ module _ (ready : FoundFilesAreReady) (stored : FoundFilesAreStored) (lasting : 
     rewrite_known = all_known.rewrite_known;
   }
 
+  -- once all of it was asked, of which the reading keeps all but the batch
+  pub opened_so : (left : Reading) (asks later : List Ask) → asks ≡ first → later ≡ reading_asks version r ++ asks → left ≡ record r { told = left.told }
+      → AreOpened version append rewrite later left.append (record left.rewrite { len = left.rewrite.len + left.told_len }) left.accessor
+  opened_so left asks later are all same =
+      subst (λ (x : Reading). AreOpened version append rewrite later x.append (record x.rewrite { len = x.rewrite.len + x.told_len }) x.accessor) (sym same)
+      (subst (λ (l : List Ask). AreOpened version append rewrite l r.append new_rewrite r.accessor) (sym (all ∙ ap (λ (l : List Ask). reading_asks version r ++ l) are)) all_opened)
+
   pub half_opened : (MayFail : Failures) (later : List Ask) (e : Error) → FailsAmong MayFail (reading_asks version r) first later e → IsHalfOpened MayFail version append rewrite later e
   half_opened MayFail later e failed = record {
     accessor = r.accessor;
@@ -187,16 +201,6 @@ module _ (ready : FoundFilesAreReady) (stored : FoundFilesAreStored) (lasting : 
 
       all : (records : Bases) × HaveEverRecords version (asks_that_tell version r.rewrite.seq f.told f.told.items ++ asked) records
       all = lasting version asked append rewrite f.append_left f.rewrite_left r.accessor f.told are_ready f.recovered f.rewrite_of.closed r.rewrite.seq f.rewrite_of.bytes f.rewrite_of.split f.writable
-
--- ---- in any case
-
-pub on_ok : {T : Type 0} {A : Type 0} (r : Result T Error) → A → OnOk r A
-on_ok (Ok t) a = a
-on_ok (Err e) a = tt
-
-pub unopened_half : {T : Type 0} (P Q : Error → Type 0) (r : Result T Error) → IfErr r Q → IfErr r (λ e. P e ⊎ Q e)
-unopened_half P Q (Ok t) half = tt
-unopened_half P Q (Err e) half = inr half
 
 -- an engine that was opened
 pub kept_opened : (version : Version) (append rewrite : List NumberedBytes) (asks : List Ask) (append_known rewrite_known : QueueFiles) (untold : Batch) (accessor : Accessor)

@@ -1,5 +1,5 @@
 -- Contexts that read the batches of files.
-use Rattle.std.proofs.Common.{◌≡◌, List, ◌++◌, Vec, sym, subst}
+use Rattle.std.proofs.Common.{List, ◌++◌, Vec}
 use Rattle.std.specs.Global.{Global}
 use Rattle.raft_base.specs.declared.pipe_log.LogQueue.TheVariants.{Append, Rewrite}
 use Rattle.raft_base.specs.declared.pipe_log.Version.{Version}
@@ -9,9 +9,8 @@ use Rattle.raft_contexts.specs.RecoverContext.{HasRead, HasReadExactly, RecoverC
 use Rattle.raft_files.specs.Asks.{Ask, NumberedBytes}
 use Rattle.raft_replay.specs.Replays.{IsReplayed}
 use Rattle.raft_replay.specs.Segments.{SegmentsHold}
-use Rattle.raft_recover.specs.Files.{FilesHold}
+use Rattle.raft_engine.specs.FileSegments.{AreSegmentsOfFiles}
 use Rattle.raft_engine.specs.FoundFiles.{AreReadyBy}
-use Rattle.raft_engine.specs.Markers.{NoneIsHeld}
 use Rattle.raft_engine.specs.ReadContexts.{HasReadAll, HaveReadFound, HaveReadReady}
 use Rattle.raft_engine.specs.StoredFound.{AreMadeReady, AreReady, FoundFilesAreReady, found_asks}
 
@@ -21,22 +20,16 @@ replayed context segments h held read = record { history = h; held = held; stand
 -- contexts that have read files have replayed the segments of these
 module _ (version : Version) (append rewrite : List NumberedBytes) (appended rewritten : RecoverContext) (have : HaveReadReady version append rewrite appended rewritten)
     (append_segments rewrite_segments : List (Vec Part Global))
-    (same_append : (h : List Event) → (FilesHold Append version append h → SegmentsHold append_segments h) × (SegmentsHold append_segments h → FilesHold Append version append h))
-    (same_rewrite : (h : List Event) → (FilesHold Rewrite version rewrite h → SegmentsHold rewrite_segments h) × (SegmentsHold rewrite_segments h → FilesHold Rewrite version rewrite h))
+    (a : AreSegmentsOfFiles Append version append append_segments) (r : AreSegmentsOfFiles Rewrite version rewrite rewrite_segments)
     (g h : List Event) (g_held : SegmentsHold append_segments g) (h_held : SegmentsHold rewrite_segments h) where
   both_read : HasReadAll appended g × HasReadAll rewritten h
-  both_read = have g h ((same_append g).1 g_held) ((same_rewrite h).1 h_held)
+  both_read = have g h ((a.same g).1 g_held) ((r.same h).1 h_held)
 
   pub append_replayed : IsReplayed HasRead HasReadExactly append_segments appended
   append_replayed = replayed appended append_segments g g_held both_read.0
 
   pub rewrite_replayed : IsReplayed HasRead HasReadExactly rewrite_segments rewritten
   rewrite_replayed = replayed rewritten rewrite_segments h h_held both_read.1
-
-pub none_of_files : (version : Version) (append : List NumberedBytes) (segments slice : List (Vec Part Global)) → slice ≡ segments
-    → ((h : List Event) → (FilesHold Append version append h → SegmentsHold segments h) × (SegmentsHold segments h → FilesHold Append version append h))
-    → NoneIsHeld (SegmentsHold slice) → NoneIsHeld (FilesHold Append version append)
-none_of_files version append segments slice same both none h held = none h (subst (λ (l : List (Vec Part Global)). SegmentsHold l h) (sym same) ((both h).0 held))
 
 -- contexts that have read found files have read them once they are ready
 pub read_ready : FoundFilesAreReady → (version : Version) (append rewrite append_left rewrite_left : List NumberedBytes) (append_missing rewrite_missing : List Ask) (appended rewritten : RecoverContext)

@@ -1,9 +1,10 @@
 -- What a recovery gives of the files that are found.
-use Rattle.std.proofs.Common.{◌≡◌, ◌⊎◌, inl, inr, ℕ, ◌<◌, ◌^◌, List, [], ◌∷◌, ◌++◌, length, map, Vec, refl, sym, ap, subst, ◌∙◌, arith}
+use Rattle.std.proofs.Common.{◌≡◌, ◌≢◌, ◌⊎◌, inl, inr, ℕ, ◌<◌, ◌^◌, List, [], ◌∷◌, ◌++◌, map, Vec, refl, sym, ap, subst, ◌∙◌, arith}
 use Rattle.std.specs.FinMap as finite
 use Rattle.std.specs.Global.{Global}
 use Rattle.raft_base.specs.Errors.{IsInvalidArgument}
 use Rattle.raft_base.specs.declared.errors.Error.{Error}
+use Rattle.raft_base.specs.declared.errors.Error.TheVariants as errors
 use Rattle.raft_base.specs.declared.pipe_log.LogQueue.{LogQueue}
 use Rattle.raft_base.specs.declared.pipe_log.LogQueue.TheVariants.{Append, Rewrite}
 use Rattle.raft_base.specs.declared.pipe_log.Version.{Version}
@@ -16,16 +17,18 @@ use Rattle.raft_history.specs.Effects.{steps_of}
 use Rattle.raft_history.specs.Histories.{Apart, IsSmall, IsSoundIn, Sound}
 use Rattle.raft_history.specs.RegionSteps.{steps_of_items, steps_on}
 use Rattle.raft_accessor.specs.Accessor.{Accessor}
-use Rattle.raft_files.specs.Asks.{NumberedBytes}
-use Rattle.raft_replay.specs.Segments.{SegmentsAreOf, SegmentsHold, parts_within}
+use Rattle.raft_files.specs.Asks.{Ask, NumberedBytes}
+use Rattle.raft_replay.specs.Segments.{SegmentsHold, parts_within}
 use Rattle.raft_replay.specs.Stops.{IsNothing, StopsAmong}
 use Rattle.raft_replay.specs.WrittenParts.{bytes_of_parts, bytes_of_segments}
 use Rattle.raft_recover.specs.Files.{AreWholeFiles, FilesHold, bytes_of_files, segment_shown, whole_file}
 use Rattle.raft_recover.specs.Recovery.{AreBothRecovered, MayReplayBoth}
 use Rattle.raft_engine_laws.specs.Telling.{SayAllAtOpening, SayTheSame, TakeAway, told_items}
+use Rattle.raft_engine.specs.FileSegments.{AreSegmentsOfFiles}
+use Rattle.raft_engine.specs.FoundFiles.{AreReadyBy}
 use Rattle.raft_engine.specs.Markers.{AreOutOfRows, NoneIsInRows}
 use Rattle.raft_engine.specs.Opening.{AreInRows, AreRecovered, IsToldAtOpening, fronts_of, items_in, with_items}
-use Rattle.raft_engine.specs.Unopened.{AreUnreadableAs, MayRecover}
+use Rattle.raft_engine.specs.Unopened.{AreUnreadableAs, IsOpeningRefusal, IsRecoveryFault, IsTooLongAs, MayRecover, Refusal}
 use Rattle.raft_engine.proofs.OpeningLemmas.{runs_found, says_all, take_away}
 use Rattle.raft_engine_laws.specs.GroupsInRows.{AreGroupsInRows}
 use Rattle.raft_engine_laws.proofs.InRows.{rows_apart}
@@ -35,23 +38,21 @@ module _
     (one : (segments : List (Vec Part Global)) (g h : List Event) → SegmentsHold segments g → SegmentsHold segments h → g ≡ h)
     (same : (items : List Item) (r : ℕ) → SayTheSame (steps_on r (steps_of_items (told_items items))) (steps_on r (steps_of_items items)))
     (away : (items : List Item) → TakeAway (told_items items))
-    (version : Version) (append rewrite : List NumberedBytes) (few_append : bytes_of_files append < 2 ^ 63) (few_rewrite : bytes_of_files rewrite < 2 ^ 63)
-    (append_segments rewrite_segments : List (Vec Part Global))
-    (same_append : (h : List Event) → (FilesHold Append version append h → SegmentsHold append_segments h) × (SegmentsHold append_segments h → FilesHold Append version append h))
-    (same_rewrite : (h : List Event) → (FilesHold Rewrite version rewrite h → SegmentsHold rewrite_segments h) × (SegmentsHold rewrite_segments h → FilesHold Rewrite version rewrite h))
+    (version : Version) (append rewrite : List NumberedBytes) (append_segments rewrite_segments : List (Vec Part Global))
+    (a : AreSegmentsOfFiles Append version append append_segments) (r : AreSegmentsOfFiles Rewrite version rewrite rewrite_segments)
     (rows : AreInRows (SegmentsHold rewrite_segments)) (accessor : Accessor) (both : AreBothRecovered (SegmentsHold rewrite_segments) (SegmentsHold append_segments) accessor)
     (told : Batch) (is_told : IsToldAtOpening (SegmentsHold append_segments) accessor.tables told) where
   append_held : FilesHold Append version append both.append
-  append_held = (same_append both.append).1 both.append_held
+  append_held = (a.same both.append).1 both.append_held
 
   rewrite_held : FilesHold Rewrite version rewrite both.rewrite
-  rewrite_held = (same_rewrite both.rewrite).1 both.rewrite_held
+  rewrite_held = (r.same both.rewrite).1 both.rewrite_held
 
   append_small : IsSmall both.append
-  append_small = few_records Append version append both.append append_held few_append
+  append_small = few_records Append version append both.append append_held a.few
 
   rewrite_small : IsSmall both.rewrite
-  rewrite_small = few_records Rewrite version rewrite both.rewrite rewrite_held few_rewrite
+  rewrite_small = few_records Rewrite version rewrite both.rewrite rewrite_held r.few
 
   in_rows : AreGroupsInRows both.rewrite
   in_rows = subst AreGroupsInRows (one rewrite_segments rows.batches both.rewrite rows.held both.rewrite_held) rows.rows
@@ -87,7 +88,7 @@ module _
       removals = is_told.removals;
       of_batches = record {
         batches = is_told.of_batches.batches;
-        held = (same_append is_told.of_batches.batches).1 is_told.of_batches.held;
+        held = (a.same is_told.of_batches.batches).1 is_told.of_batches.held;
         told = is_told.of_batches.told;
       };
       of_tables = is_told.of_tables;
@@ -132,14 +133,6 @@ whole_bytes queue version (f ∷ files) (s ∷ segments) e =
     let more = whole_bytes queue version files segments rest in
     omega (arith, one, more)
 
--- segments of whole files of a queue, as many as files
-pub record AreSegmentsOfFiles (queue : LogQueue) (version : Version) (files : List NumberedBytes) (segments : List (Vec Part Global)) : Type 0 where
-  pub same : (h : List Event) → (FilesHold queue version files h → SegmentsHold segments h) × (SegmentsHold segments h → FilesHold queue version files h)
-  pub whole : AreWholeFiles queue version files segments
-  pub of_queue : SegmentsAreOf queue segments
-  pub count : length segments ≡ length files
-  pub few : bytes_of_files files < 2 ^ 63
-
 -- the same of a slice of them
 pub of_slice : (queue : LogQueue) (version : Version) (files : List NumberedBytes) (segments slice : List (Vec Part Global)) → slice ≡ segments → AreSegmentsOfFiles queue version files segments
     → AreSegmentsOfFiles queue version files slice
@@ -179,3 +172,17 @@ pub out_of_rows : ((queue : LogQueue) (version : Version) (files : List Numbered
 out_of_rows few_records version rewrite h e held few sound none =
     let why = none h held (sound (few_records Rewrite version rewrite h held few)).markers in
     record { batches = h; held = held; out = why.0; invalid = why.1 }
+
+-- why a reading is refused, once the files of both queues are ready
+pub reading_refused : (IsRefused : Refusal) (version : Version) (append rewrite append_left rewrite_left : List NumberedBytes) (append_missing rewrite_missing : List Ask) (e : Error)
+    → AreReadyBy Append version append_missing append append_left → AreReadyBy Rewrite version rewrite_missing rewrite rewrite_left
+    → (e ≢ errors.Memory → IsRecoveryFault IsRefused append_left rewrite_left e ⊎ IsTooLongAs version append_left rewrite_left e) → IsOpeningRefusal IsRefused version append rewrite e
+reading_refused IsRefused version append rewrite append_left rewrite_left append_missing rewrite_missing e append_ready rewrite_ready fault other = inr (inr (record {
+  append_missing = append_missing;
+  rewrite_missing = rewrite_missing;
+  append_left = append_left;
+  rewrite_left = rewrite_left;
+  append_ready = append_ready;
+  rewrite_ready = rewrite_ready;
+  fault = fault other;
+}))

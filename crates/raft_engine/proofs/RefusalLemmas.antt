@@ -1,5 +1,5 @@
 -- Why nothing is asked for a batch.
-use Rattle.std.proofs.Common.{◌≡◌, ◌≢◌, ◌≤◌, ◌<◌, ◌-◌, ◌^◌, ℕ, Bool, true, List, inl, inr, subst}
+use Rattle.std.proofs.Common.{◌≡◌, ◌≢◌, ◌⊎◌, ◌≤◌, ◌<◌, ◌-◌, ◌^◌, ℕ, Bool, true, List, inl, inr, subst, sym}
 use Rattle.raft_base.specs.declared.errors.Error.{Error}
 use Rattle.raft_base.specs.declared.errors.Error.TheVariants as errors
 use Rattle.raft_base.specs.declared.pipe_log.LogQueue.TheVariants.{Append, Rewrite}
@@ -54,13 +54,16 @@ file_refusal version asks append rewrite untold accessor intact batch k is many 
     let w = k.whole is in
     (is, inr (record { seq = append.seq; bytes = w.append_files.bytes; last = files_last Append asks append w.append_files; many = subst (λ (n : ℕ). 2 ^ 63 < n) w.append_files.ends many }))
 
--- the last file has the greatest number
-pub number_refusal : (version : Version) (asks : List Ask) (append rewrite : QueueFiles) (untold : Batch) (accessor : Accessor) (intact : Bool)
-    → IsKeptBy version asks append rewrite untold accessor intact → intact ≡ true → append.seq ≡ 2 ^ 64 - 1
-    → IsRotationRefusal (record { version = version; asks = asks; untold = untold; accessor = accessor; intact = intact }) errors.Full
-number_refusal version asks append rewrite untold accessor intact k is great =
+-- the last file has the greatest number, or there is no memory
+pub unclosed_refusal : (version : Version) (asks : List Ask) (append rewrite : QueueFiles) (untold : Batch) (accessor : Accessor) (intact : Bool) (e : Error)
+    → IsKeptBy version asks append rewrite untold accessor intact → intact ≡ true → (e ≡ errors.Memory) ⊎ ((e ≡ errors.Full) × (append.seq ≡ 2 ^ 64 - 1))
+    → IsRotationRefusal (record { version = version; asks = asks; untold = untold; accessor = accessor; intact = intact }) e
+unclosed_refusal version asks append rewrite untold accessor intact e k is (inl memory) =
+    subst (IsRotationRefusal (record { version = version; asks = asks; untold = untold; accessor = accessor; intact = intact })) (sym memory) is
+unclosed_refusal version asks append rewrite untold accessor intact e k is (inr full) =
     let w = k.whole is in
-    (is, (w.append_files.bytes, subst (λ (n : ℕ). IsLastFile Append asks n w.append_files.bytes) great (files_last Append asks append w.append_files)))
+    subst (IsRotationRefusal (record { version = version; asks = asks; untold = untold; accessor = accessor; intact = intact })) (sym full.0)
+    (is, (w.append_files.bytes, subst (λ (n : ℕ). IsLastFile Append asks n w.append_files.bytes) full.1 (files_last Append asks append w.append_files)))
 
 -- the last rewrite file has too many bytes
 pub rewrite_full : (version : Version) (asks : List Ask) (append rewrite : QueueFiles) (untold : Batch) (accessor : Accessor) (intact : Bool)

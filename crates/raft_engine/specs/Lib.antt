@@ -33,6 +33,7 @@ pub mod MovingFaults
 -- opening
 pub mod FoundFiles
 pub mod QueueFilesOf
+pub mod FileSegments
 pub mod Opening
 pub mod StoredFound
 pub mod Opened

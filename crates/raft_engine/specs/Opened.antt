@@ -12,10 +12,8 @@ use Rattle.raft_files.specs.Disk.{begun}
 use Rattle.raft_recover.specs.Files.{FilesHold}
 use Rattle.raft_engine_fronts.specs.TornTails.{FilesHoldTorn}
 use Rattle.raft_engine.specs.KeptEngine.{KeptEngine}
-use Rattle.raft_engine.specs.KeptEngineView.{AreFilesOf}
 use Rattle.raft_engine.specs.OpeningAsks.{AreWanted}
-use Rattle.raft_engine.specs.StoredFound.{AreStoredAlone, found_asks}
-use Rattle.raft_engine.specs.declared.queue_files.QueueFiles.{QueueFiles}
+use Rattle.raft_engine.specs.StoredFound.{found_asks}
 
 -- The tables are a reading of the batches that found files hold, but for a torn tail of each queue; of these files is asked
 -- what an opening asks, and nothing else, and the append files hold the same batches still.
@@ -39,10 +37,3 @@ pub record IsOpened (version : Version) (append rewrite : List NumberedBytes) (e
   pub intact : engine.intact ≡ true
   pub none_untold : engine.untold ≡ empty_batch
   pub read : AreRead version append rewrite engine.asks engine.accessor
-
--- what an engine is made of when it is opened
-pub record AreOpened (version : Version) (append rewrite : List NumberedBytes) (asks : List Ask) (append_files rewrite_files : QueueFiles) (accessor : Accessor) : Type 0 where
-  pub read : AreRead version append rewrite asks accessor
-  pub stored : AreStoredAlone version asks accessor.tables
-  pub append_known : AreFilesOf Append asks append_files
-  pub rewrite_known : AreFilesOf Rewrite asks rewrite_files

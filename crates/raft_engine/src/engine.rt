@@ -7,7 +7,7 @@ ghost use Rattle.raft_base.specs.declared.pipe_log.LogQueue.TheVariants.{Append,
 ghost use Rattle.raft_records.specs.LogBatch.{empty_batch, is_open};
 ghost use Rattle.raft_accessor.specs.AppendChecks.{AreAccepted, AreAcceptedOncePlaced};
 ghost use Rattle.raft_accessor.specs.Writes.{Appending, AreWritten};
-ghost use Rattle.raft_files.specs.Asks.{Begin, Sync, ask};
+ghost use Rattle.raft_files.specs.Asks.{Begin, NumberedBytes, Sync, ask};
 ghost use Rattle.raft_table.specs.KeyValues.{value_at};
 ghost use Rattle.raft_base.specs.Runs.{end_of};
 ghost use Rattle.raft_table.specs.TableEntries.{start_of};
@@ -17,18 +17,21 @@ ghost use Rattle.raft_engine.specs.Faults.{Breaks, IsFirstFault, IsPurgeFault, I
 ghost use Rattle.raft_engine.specs.Lasting.{IsLasting};
 ghost use Rattle.raft_files.specs.HeldFiles.{file_shown};
 ghost use Rattle.raft_engine.specs.Opened.{IsOpened};
+ghost use Rattle.raft_engine.specs.ReadFound.{AreReadFound, IsToBeTold};
 ghost use Rattle.raft_engine.specs.StoredFound.{found_asks};
-ghost use Rattle.raft_engine.specs.Unopened.{AreBothAccepted, AreUnrecoveredAs, IsUnopened};
+ghost use Rattle.raft_engine.specs.Unopened.{AreBothAccepted, AreUnrecoveredAs, IsHalfOpened, IsUnopened};
 ghost use Rattle.raft_engine.specs.Purged.{ArePurged, IsUnpurged};
 ghost use Rattle.raft_engine.specs.WrittenBatch.{IsNextRefused, IsOneMore, IsOnlySynced, IsRotated, IsUnrotated, IsUnwritten, LacksRoom};
 
 use crate::limits::{FIRST_SEQ, LAST_OFFSET};
-use crate::opened::open_files;
+use crate::opened::complete;
 use crate::purge::{count_below, delete_oldest, least_needed};
 use crate::put::{put, sync_if};
 use crate::queue_files::QueueFiles;
 use crate::read_back::batches_are_read_back;
+use crate::reading::{Reading, read_found};
 use crate::stored::{asks_are_stored, what_is_done_lasts};
+use crate::stored_found::found_files_are_stored;
 use crate::unopened::Unopened;
 use crate::untold::taken_away;
 use raft_accessor::MemTableAccessor;
@@ -159,17 +162,49 @@ impl<F: EngineFiles> Engine<F> {
         ensures err { IfErr result (λ unopened. IsUnopened (AreUnrecoveredAs version workers) F.may_fail version
             (map file_shown append.items) (map file_shown rewrite.items) (F.asked unopened.files) unopened.error) }
     {
-        let mut files = files;
-        match open_files(rt, alloc, version, &mut files, append, rewrite, workers) {
-            Ok(opened) => Ok(Engine {
-                files,
-                version,
-                append: opened.append,
-                rewrite: opened.rewrite,
-                untold: LogBatch::default(alloc),
-                accessor: opened.accessor,
-                intact: true,
-            }),
+        match read_found(rt, alloc, version, append, rewrite, workers) {
+            Ok(reading) => Engine::of_reading(alloc, version, files, reading),
+            Err(error) => Err(Unopened { files, error }),
+        }
+    }
+
+    /// Asks of found files what their reading says, and makes an engine over them then, with the tables that they give.
+    ///
+    /// # Errors
+    ///
+    /// The files are handed back. Those of `EngineFiles`: some of it was asked then, and whatever is left of the files has the
+    /// records that were found.
+    fn of_reading(
+        alloc: Global,
+        version: Version,
+        files: F,
+        reading: Reading,
+    ) -> std::result::Result<Engine<F>, Unopened<F>>
+        requires to_be_told { IsToBeTold reading }
+        requires found { (append : List NumberedBytes) × (rewrite : List NumberedBytes)
+            × (F.asked files ≡ found_asks append rewrite) × AreReadFound version append rewrite reading }
+        ensures ok { (append rewrite : List NumberedBytes) → F.asked files ≡ found_asks append rewrite
+            → AreReadFound version append rewrite reading → IfOk result (IsOpened version append rewrite) }
+        ensures err { (append rewrite : List NumberedBytes) → F.asked files ≡ found_asks append rewrite
+            → AreReadFound version append rewrite reading
+            → IfErr result (λ unopened. IsHalfOpened F.may_fail version append rewrite
+            (F.asked unopened.files) unopened.error) }
+    {
+        found_files_are_stored();
+        let (mut files, mut reading) = (files, reading);
+        match complete(&mut files, version, &mut reading) {
+            Ok(()) => {
+                reading.rewrite.len += reading.told_len as u64;
+                Ok(Engine {
+                    files,
+                    version,
+                    append: reading.append,
+                    rewrite: reading.rewrite,
+                    untold: LogBatch::default(alloc),
+                    accessor: reading.accessor,
+                    intact: true,
+                })
+            }
             Err(error) => Err(Unopened { files, error }),
         }
     }
@@ -297,16 +332,9 @@ impl<F: EngineFiles> Engine<F> {
         if !self.intact {
             return Err(Error::Failed);
         }
-        if self.append.seq == FileSeq::MAX {
-            return Err(Error::Full);
-        }
         self.append.close_last()?;
         self.intact = false;
-        self.files.sync(LogQueue::Append)?;
-        let seq = self.append.seq + 1;
-        self.files.rotate(LogQueue::Append, seq)?;
-        self.append.seq = seq;
-        self.append.len = 0;
+        self.append.begin_next(&mut self.files, LogQueue::Append)?;
         self.intact = true;
         Ok(())
     }

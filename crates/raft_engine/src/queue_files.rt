@@ -1,9 +1,12 @@
 //! What an engine knows of the files of a queue.
 
-ghost use Rattle.std.specs.Prelude.{◌≡◌, ◌<◌, ◌^◌, [], ◌∷◌, ◌++◌, length, map, IfErr, IfOk, OnErr, OnOk};
+ghost use Rattle.std.specs.Prelude.{◌≡◌, ◌⊎◌, ◌<◌, ◌+◌, ◌-◌, ◌^◌, [], ◌∷◌, ◌++◌, length, map, IfErr, IfOk, OnErr, OnOk};
+ghost use Rattle.raft_files.specs.Asks.{Begin, Sync, ask};
 ghost use Rattle.raft_files.specs.HeldFiles.{file_shown};
+ghost use Rattle.raft_engine.specs.OpeningAsks.{FailsAmong};
 
-use raft_base::{Error, FileSeq, Result};
+use raft_base::{Error, FileSeq, LogQueue, Result};
+use raft_files::EngineFiles;
 use std::alloc::Global;
 
 /// The files of a queue that weren't deleted.
@@ -63,15 +66,42 @@ impl QueueFiles {
     ///
     /// # Errors
     ///
-    /// `Memory`. The list is then as it was.
+    /// `Full` where it has the greatest number, `Memory`. The list is then as it was.
     pub fn close_last(&mut self) -> Result<()>
         ensures ok { OnOk result (self.new.closed.items ≡ self.old.closed.items ++ self.old.seq ∷ []) }
+        ensures below { OnOk result (self.old.seq < 2 ^ 64 - 1) }
         ensures err { OnErr result (self.new.closed.items ≡ self.old.closed.items) }
         ensures seq { self.new.seq ≡ self.old.seq }
         ensures len { self.new.len ≡ self.old.len }
-        ensures memory { IfErr result (λ e. e ≡ Error.Memory) }
+        ensures fault { IfErr result (λ e. (e ≡ Error.Memory) ⊎ ((e ≡ Error.Full) × (self.old.seq ≡ 2 ^ 64 - 1))) }
     {
+        if self.seq == FileSeq::MAX {
+            return Err(Error::Full);
+        }
         self.closed.push(self.seq)?;
+        Ok(())
+    }
+
+    /// Syncs the queue, and begins a file of the next number in it, which is the last one then.
+    ///
+    /// # Errors
+    ///
+    /// Those of `EngineFiles::sync` and `EngineFiles::rotate`.
+    pub fn begin_next<F: EngineFiles>(&mut self, files: &mut F, queue: LogQueue) -> Result<()>
+        requires { self.old.seq < 2 ^ 64 - 1 }
+        ensures ok { OnOk result (F.asked files.new
+            ≡ ask queue (Begin (self.old.seq + 1)) ∷ ask queue Sync ∷ F.asked files.old) }
+        ensures closed { self.new.closed.items ≡ self.old.closed.items }
+        ensures seq { OnOk result (self.new.seq ≡ self.old.seq + 1) }
+        ensures len { OnOk result (self.new.len ≡ 0) }
+        ensures fault { IfErr result (FailsAmong F.may_fail
+            (ask queue (Begin (self.old.seq + 1)) ∷ ask queue Sync ∷ []) (F.asked files.old) (F.asked files.new)) }
+    {
+        files.sync(queue)?;
+        let seq = self.seq + 1;
+        files.rotate(queue, seq)?;
+        self.seq = seq;
+        self.len = 0;
         Ok(())
     }
 

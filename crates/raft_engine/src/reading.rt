@@ -1,9 +1,7 @@
 //! What the reading of found files gives.
 
-ghost use Rattle.std.specs.Prelude.{map, IfErr, IfOk, OnOk};
-ghost use Rattle.raft_base.specs.declared.pipe_log.LogQueue.TheVariants.{Append, Rewrite};
+ghost use Rattle.std.specs.Prelude.{map, IfErr, IfOk};
 ghost use Rattle.raft_files.specs.HeldFiles.{file_shown};
-ghost use Rattle.raft_engine.specs.FoundFiles.{AreAccepted};
 ghost use Rattle.raft_engine.specs.ReadContexts.{AreUnmergedAs, HaveReadFound};
 ghost use Rattle.raft_engine.specs.ReadFound.{AreReadFound};
 ghost use Rattle.raft_engine.specs.Unopened.{AreUnrecoveredAs, IsOpeningRefusal};
@@ -50,8 +48,6 @@ pub fn read_found<R: Threads + Sync>(
 ) -> Result<Reading>
     ensures ok { IfOk result (AreReadFound version (map file_shown append.items)
         (map file_shown rewrite.items)) }
-    ensures append_accepted { OnOk result (AreAccepted Append version (map file_shown append.items)) }
-    ensures rewrite_accepted { OnOk result (AreAccepted Rewrite version (map file_shown rewrite.items)) }
     ensures fault { IfErr result (IsOpeningRefusal (AreUnrecoveredAs version workers) version (map file_shown append.items)
         (map file_shown rewrite.items)) }
 {
@@ -90,8 +86,6 @@ pub fn read_over(
     requires { HaveReadFound version (map file_shown append.items) (map file_shown rewrite.items) appended rewritten }
     ensures ok { IfOk result (AreReadFound version (map file_shown append.items)
         (map file_shown rewrite.items)) }
-    ensures append_accepted { OnOk result (AreAccepted Append version (map file_shown append.items)) }
-    ensures rewrite_accepted { OnOk result (AreAccepted Rewrite version (map file_shown rewrite.items)) }
     ensures fault { IfErr result (IsOpeningRefusal (AreUnmergedAs version appended rewritten) version
         (map file_shown append.items) (map file_shown rewrite.items)) }
 {

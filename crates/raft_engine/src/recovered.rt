@@ -1,8 +1,10 @@
 //! What a recovery gives of the files that are found.
 
-ghost use Rattle.std.specs.Prelude.{◌≢◌, ◌↔◌, ◌<◌, ◌^◌, map, IfErr, IfOk, IsTrue, OnOk};
+ghost use Rattle.std.specs.Prelude.{◌≢◌, ◌⊎◌, ◌↔◌, ◌<◌, ◌^◌, map, IfErr, IfOk, IsTrue, OnOk};
+ghost use Rattle.raft_base.specs.declared.pipe_log.LogQueue.TheVariants.{Append, Rewrite};
 ghost use Rattle.raft_files.specs.HeldFiles.{file_shown};
 ghost use Rattle.raft_recover.specs.Files.{bytes_of_files};
+ghost use Rattle.raft_engine.specs.FileSegments.{AreSegmentsOfFiles};
 ghost use Rattle.raft_engine.specs.Opening.{AreRecovered};
 ghost use Rattle.raft_engine.specs.ReadContexts.{AreUnmergedAs, HaveReadReady};
 ghost use Rattle.raft_engine.specs.Unopened.{AreManyAs, AreUnrecoveredAs, IsRecoveryFault};
@@ -15,7 +17,7 @@ use raft_contexts::MemTableRecoverContext;
 use raft_engine_laws::telling::told_items_take_away_the_same;
 use raft_records::LogBatch;
 use raft_recover::{file_segments, files_hold_few_records, recover_both};
-use raft_replay::segments_read_as_one_history;
+use raft_replay::{Segment, segments_read_as_one_history};
 use std::alloc::Global;
 use std::thread::Threads;
 
@@ -41,10 +43,7 @@ pub fn recovered<R: Threads + Sync>(
     files_hold_few_records();
     segments_read_as_one_history();
     told_items_take_away_the_same();
-    check_few(&append)?;
-    check_few(&rewrite)?;
-    let appended = file_segments(LogQueue::Append, version, append)?;
-    let rewritten = file_segments(LogQueue::Rewrite, version, rewrite)?;
+    let (appended, rewritten) = segments_of_both(version, append, rewrite)?;
     let (append, rewrite) = (appended.as_slice(), rewritten.as_slice());
     let accessor = recover_both(rt, alloc, rewrite, append, workers)?;
     check_groups(alloc, rewrite)?;
@@ -75,16 +74,37 @@ pub fn recovered_over(
     files_hold_few_records();
     segments_read_as_one_history();
     told_items_take_away_the_same();
-    check_few(&append)?;
-    check_few(&rewrite)?;
-    let append_segments = file_segments(LogQueue::Append, version, append)?;
-    let rewrite_segments = file_segments(LogQueue::Rewrite, version, rewrite)?;
-    check_groups(alloc, rewrite_segments.as_slice())?;
+    let (append, rewrite) = segments_of_both(version, append, rewrite)?;
+    check_groups(alloc, rewrite.as_slice())?;
     let mut both = rewritten;
     both.merge_append_context(appended)?;
     let accessor = both.finish()?;
-    let told = told_at_opening(alloc, append_segments.as_slice(), &accessor)?;
+    let told = told_at_opening(alloc, append.as_slice(), &accessor)?;
     Ok((accessor, told))
+}
+
+/// Makes segments of the files of both queues.
+///
+/// # Errors
+///
+/// `Full` where the files of a queue have 2^63 bytes or more; `Memory`.
+fn segments_of_both(
+    version: Version,
+    append: Vec<(FileSeq, Vec<u8>)>,
+    rewrite: Vec<(FileSeq, Vec<u8>)>,
+) -> Result<(Vec<Segment>, Vec<Segment>)>
+    ensures appended { IfOk result (λ both. AreSegmentsOfFiles Append version (map file_shown append.items)
+        both.0.items) }
+    ensures rewritten { IfOk result (λ both. AreSegmentsOfFiles Rewrite version (map file_shown rewrite.items)
+        both.1.items) }
+    ensures fault { IfErr result (λ e. e ≢ Error.Memory → AreManyAs (map file_shown append.items) e
+        ⊎ AreManyAs (map file_shown rewrite.items) e) }
+{
+    check_few(&append)?;
+    check_few(&rewrite)?;
+    let appended = file_segments(LogQueue::Append, version, append)?;
+    let rewritten = file_segments(LogQueue::Rewrite, version, rewrite)?;
+    Ok((appended, rewritten))
 }
 
 /// Tests whether files have fewer than 2^63 bytes together.

@@ -16,7 +16,7 @@ use crate::purge::{count_below, delete_oldest, least_needed};
 use crate::purge_rewrites::rewrite_files_may_go;
 use crate::rewriting::regions_of;
 use crate::stored::asks_are_stored;
-use raft_base::{Error, FileSeq, LogQueue, Result};
+use raft_base::{Error, LogQueue, Result};
 use raft_files::EngineFiles;
 
 impl<F: EngineFiles> Engine<F> {
@@ -66,16 +66,9 @@ impl<F: EngineFiles> Engine<F> {
             → IsRewriteRotationFault F.may_fail self.old self.new e) }
     {
         asks_are_stored();
-        if self.rewrite.seq == FileSeq::MAX {
-            return Err(Error::Full);
-        }
         self.rewrite.close_last()?;
         self.intact = false;
-        self.files.sync(LogQueue::Rewrite)?;
-        let seq = self.rewrite.seq + 1;
-        self.files.rotate(LogQueue::Rewrite, seq)?;
-        self.rewrite.seq = seq;
-        self.rewrite.len = 0;
+        self.rewrite.begin_next(&mut self.files, LogQueue::Rewrite)?;
         self.intact = true;
         Ok(())
     }

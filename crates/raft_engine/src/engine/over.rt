@@ -8,12 +8,11 @@ ghost use Rattle.raft_engine.specs.StoredFound.{found_asks};
 ghost use Rattle.raft_engine.specs.Unopened.{AreBothAccepted, IsUnopened};
 
 use super::Engine;
-use crate::opened::open_over;
+use crate::reading::read_over;
 use crate::unopened::Unopened;
 use raft_base::{FileSeq, Version};
 use raft_contexts::MemTableRecoverContext;
 use raft_files::EngineFiles;
-use raft_records::LogBatch;
 use std::alloc::Global;
 
 impl<F: EngineFiles> Engine<F> {
@@ -47,19 +46,8 @@ impl<F: EngineFiles> Engine<F> {
         ensures err { IfErr result (λ unopened. IsUnopened (AreUnmergedAs version appended rewritten) F.may_fail version
             (map file_shown append.items) (map file_shown rewrite.items) (F.asked unopened.files) unopened.error) }
     {
-        let mut files = files;
-        match open_over(
-            alloc, version, &mut files, append, rewrite, appended, rewritten,
-        ) {
-            Ok(opened) => Ok(Engine {
-                files,
-                version,
-                append: opened.append,
-                rewrite: opened.rewrite,
-                untold: LogBatch::default(alloc),
-                accessor: opened.accessor,
-                intact: true,
-            }),
+        match read_over(alloc, version, append, rewrite, appended, rewritten) {
+            Ok(reading) => Engine::of_reading(alloc, version, files, reading),
             Err(error) => Err(Unopened { files, error }),
         }
     }

@@ -1,8 +1,8 @@
 use Rattle.std.proofs.lemmas.Result.{err_from_is_err_and}
-use Rattle.std.proofs.Common.{inl, inr, map}
+use Rattle.std.proofs.Common.{inl, inr}
 use Rattle.raft_base.specs.declared.pipe_log.LogQueue.TheVariants.{Append, Rewrite}
-use Rattle.raft_files.specs.HeldFiles.{file_shown}
 use Rattle.raft_engine.specs.OpeningAsks.{missing_asks}
+use Rattle.raft_engine.proofs.RecoveredLemmas.{reading_refused}
 use Rattle.raft_engine.proofs.reading.read_found.Goals as goal
 
 pub returns-in_err-append_missing-clause-fault : goal.returns-in_err-append_missing-clause-fault
@@ -19,32 +19,13 @@ pub returns-in_err-accessor-clause-fault : goal.returns-in_err-accessor-clause-f
 returns-in_err-accessor-clause-fault g c =
     let p = err_from_is_err_and c.from_residual-in_err-accessor.result c.from_residual-in_err-accessor.ensures.1 in
     rw (p.1, p.2)
-    (λ other. inr (inr (record {
-      append_missing = missing_asks Append c.in_ok-append_missing.append_missing;
-      rewrite_missing = missing_asks Rewrite c.in_ok-rewrite_missing.rewrite_missing;
-      append_left = map file_shown c.made_ready.new.found.items;
-      rewrite_left = map file_shown c.made_ready-2.new.found.items;
-      append_ready = c.in_ok-append_missing.ensures.ok;
-      rewrite_ready = c.in_ok-rewrite_missing.ensures.ok;
-      fault = inl (c.in_err-accessor.ensures.fault other);
-    })))
+    (reading_refused _ _ _ _ _ _ (missing_asks Append c.in_ok-append_missing.append_missing) (missing_asks Rewrite c.in_ok-rewrite_missing.rewrite_missing) _ c.in_ok-append_missing.ensures.ok c.in_ok-rewrite_missing.ensures.ok
+    (λ other. inl (c.in_err-accessor.ensures.fault other)))
 
 pub returns-in_err-told_len-clause-fault : goal.returns-in_err-told_len-clause-fault
 returns-in_err-told_len-clause-fault g c =
     let p = err_from_is_err_and c.from_residual-in_err-told_len.result c.from_residual-in_err-told_len.ensures.1 in
     rw (p.1, p.2)
-    (λ other. inr (inr (record {
-      append_missing = missing_asks Append c.in_ok-append_missing.append_missing;
-      rewrite_missing = missing_asks Rewrite c.in_ok-rewrite_missing.rewrite_missing;
-      append_left = map file_shown c.made_ready.new.found.items;
-      rewrite_left = map file_shown c.made_ready-2.new.found.items;
-      append_ready = c.in_ok-append_missing.ensures.ok;
-      rewrite_ready = c.in_ok-rewrite_missing.ensures.ok;
-      fault = inr (record {
-        accessor = c.in_ok-accessor.accessor;
-        told = c.in_ok-accessor.told;
-        recovered = c.in_ok-accessor.ensures.ok;
-        long = (c.in_err-told_len.ensures.fault other).1;
-        full = (c.in_err-told_len.ensures.fault other).0;
-      });
-    })))
+    (reading_refused _ _ _ _ _ _ (missing_asks Append c.in_ok-append_missing.append_missing) (missing_asks Rewrite c.in_ok-rewrite_missing.rewrite_missing) _ c.in_ok-append_missing.ensures.ok c.in_ok-rewrite_missing.ensures.ok
+    (λ other. let long = c.in_err-told_len.ensures.fault other in
+    inr (record { accessor = c.in_ok-accessor.accessor; told = c.in_ok-accessor.told; recovered = c.in_ok-accessor.ensures.ok; long = long.1; full = long.0 })))

@@ -5,7 +5,7 @@ ghost use Rattle.raft_ffi.specs.Words.{AllHold, AreKept, AreOfTwoQueues, AreTabl
 ghost use Rattle.raft_ffi.specs.Words.{IsCodeForBoth, IsMadeIfMemory, IsMemoryOr, IsMergeAppendFault, IsMergedWith, IsNeighborFault, IsOfFailed, IsOverlaidExactly, IsOverlaidWith, IsRefusedFor, IsReadOrRefused, Sound, StandsForBoth};
 ghost use Rattle.raft_ffi.specs.Words.{StandsForBothExactly, StopsByFault, blank_context, capped, file_of, kept_of, part_of, queue_of, Failed, Reading};
 
-use crate::handles::{Context, Handle, Tables, told, with};
+use crate::handles::{Context, Handle, Tables, told, told_or_gone, with};
 use crate::status::{File, Status, answered, memory_code, queue};
 use raft_accessor::MemTableAccessor;
 use raft_base::{Error, LogFileContext, LogQueue, Result};
@@ -64,13 +64,7 @@ pub extern "C" fn raft_ffi_context_replay(
         (part_of (file_of file) offset bytes.now)) result text.old text.new) context.old.value }
     ensures text { HasText result text.old text.new }
 {
-    let mut held = context.take(alloc);
-    let answer = replay(&mut *held, alloc, &file.context(), offset, bytes);
-    match &answer {
-        Ok(()) => context.put(held),
-        Err(_) => drop(held),
-    }
-    answered(alloc, &answer, text)
+    told_or_gone!(held in context, alloc, text; replay(&mut *held, alloc, &file.context(), offset, bytes))
 }
 
 fn replay(
@@ -120,14 +114,7 @@ pub extern "C" fn raft_ffi_context_merge(
         → result.code ≡ 12) context.old.value newer.value }
     ensures text { HasText result text.old text.new }
 {
-    let mut held = context.take(alloc);
-    let newer = newer.into_held();
-    let answer = merge(&mut *held, newer, queue(is_rewrite));
-    match &answer {
-        Ok(()) => context.put(held),
-        Err(_) => drop(held),
-    }
-    answered(alloc, &answer, text)
+    told_or_gone!(held in context, alloc, text; merge(&mut *held, newer.into_held(), queue(is_rewrite)))
 }
 
 fn merge(
@@ -166,14 +153,7 @@ pub extern "C" fn raft_ffi_context_overlay(
         → result.code ≡ 12) context.old.value append.value }
     ensures text { HasText result text.old text.new }
 {
-    let mut held = context.take(alloc);
-    let appended = append.into_held();
-    let answer = overlay(&mut *held, appended);
-    match &answer {
-        Ok(()) => context.put(held),
-        Err(_) => drop(held),
-    }
-    answered(alloc, &answer, text)
+    told_or_gone!(held in context, alloc, text; overlay(&mut *held, append.into_held()))
 }
 
 fn overlay(context: &mut MemTableRecoverContext, append: MemTableRecoverContext) -> Result<()>

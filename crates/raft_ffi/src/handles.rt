@@ -78,6 +78,19 @@ macro_rules! told {
     }};
 }
 
+/// Does what `told!` with a text does, but where that is refused, what the handle held is let go.
+macro_rules! told_or_gone {
+    ($held:ident in $handle:ident, $alloc:ident, $text:ident; $body:expr) => {{
+        let mut $held = $handle.take($alloc);
+        let answer = $body;
+        match &answer {
+            Ok(()) => $handle.put($held),
+            Err(_) => drop($held),
+        }
+        crate::status::answered($alloc, &answer, $text)
+    }};
+}
+
 /// Returns what was made; where there was no memory for it the call ends with `Memory`.
 macro_rules! or_told {
     ($made:expr, $alloc:ident, $text:ident) => {
@@ -90,6 +103,7 @@ macro_rules! or_told {
 
 pub(crate) use or_told;
 pub(crate) use told;
+pub(crate) use told_or_gone;
 pub(crate) use with;
 
 /// A type of handles: each holds a value on the heap, or nothing. C keeps it as a pointer, null where it holds nothing.

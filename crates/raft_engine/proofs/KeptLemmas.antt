@@ -125,7 +125,8 @@ module _ (version : Version) (asks : List Ask) (append rewrite : QueueFiles) (un
     }
 
     module _ (new : List Ask) (are_asked : new ≡ ask Append (Begin (append.seq + 1)) ∷ ask Append Sync ∷ asks) where
-      pub kept_rotated : SyncsAreStored → NewFilesAreStored → (append' : QueueFiles) → append'.closed.items ≡ append.closed.items ++ append.seq ∷ [] → append'.seq ≡ append.seq + 1 → append'.len ≡ 0 → IsKeptBy version new append' rewrite untold accessor true
+      pub kept_rotated : SyncsAreStored → NewFilesAreStored → (append' : QueueFiles)
+          → append'.closed.items ≡ append.closed.items ++ append.seq ∷ [] → append'.seq ≡ append.seq + 1 → append'.len ≡ 0 → IsKeptBy version new append' rewrite untold accessor true
       kept_rotated synced begun append' closed seq len =
           let w = k.whole is_intact in
           let between = files_same Append asks (ask Append Sync ∷ asks) append append refl refl refl refl refl w.append_files in

@@ -60,7 +60,8 @@ module _ (version : Version) (asks : List Ask) (append rewrite : QueueFiles) (un
     }
 
     module _ (new : List Ask) (are_asked : new ≡ ask Rewrite (Begin (rewrite.seq + 1)) ∷ ask Rewrite Sync ∷ asks) where
-      pub kept_rotated : SyncsAreStored → NewFilesAreStored → (rewrite' : QueueFiles) → rewrite'.closed.items ≡ rewrite.closed.items ++ rewrite.seq ∷ [] → rewrite'.seq ≡ rewrite.seq + 1 → rewrite'.len ≡ 0 → IsKeptBy version new append rewrite' untold accessor true
+      pub kept_rotated : SyncsAreStored → NewFilesAreStored → (rewrite' : QueueFiles)
+          → rewrite'.closed.items ≡ rewrite.closed.items ++ rewrite.seq ∷ [] → rewrite'.seq ≡ rewrite.seq + 1 → rewrite'.len ≡ 0 → IsKeptBy version new append rewrite' untold accessor true
       kept_rotated synced begun rewrite' closed seq len =
           let w = k.whole is_intact in
           let between = files_same Rewrite asks (ask Rewrite Sync ∷ asks) rewrite rewrite refl refl refl refl refl w.rewrite_files in

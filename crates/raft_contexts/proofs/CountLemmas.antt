@@ -1,8 +1,8 @@
 -- How many region marks there are, kept or implied, and how many deleted keys they hold.
-use Rattle.raft_contexts.proofs.Common.{at_drop_more, ◌≡◌, ◌≤◌, ◌<◌, ◌+◌, ℕ, true, false, filter, is_none, cond, List, [], ◌∷◌, ◌++◌, length, drop, Option, Some, None, refl, sym, ap, ◌∙◌, arith, slice_index_or, T, nat_cmp, eq_by_cmp, nat_cmp_total, find}
+use Rattle.raft_contexts.proofs.Common.{at_drop_more, ◌≡◌, ◌≤◌, ◌<◌, ◌+◌, ℕ, true, false, filter, is_none, cond, List, [], ◌∷◌, ◌++◌, length, drop, Option, Some, None, refl, sym, ap, ◌∙◌, arith, slice_index_or}
 use Rattle.raft_contexts.proofs.Common.{is_sorted, keys_of, is_some, option_map, option_or, EntryIndex, mark_of, Mark, Run, Table, find-below, first_of_both, second_of_both, Marks, total, Tables, found, total-insert, total-none, total-ones}
 use Rattle.raft_contexts.proofs.Common.{total-at_most, total-both, slot_entries, together, AreSlots, same, none_some, Once, entries-permuted, once-slots, drop-none, added, added-append, added-permuted, implied_mark, implied_marks}
-use Rattle.raft_contexts.proofs.Common.{all_marks, absent_in, count_absent}
+use Rattle.raft_contexts.proofs.Common.{T, nat_cmp, eq_by_cmp, nat_cmp_total, find, all_marks, absent_in, count_absent}
 use Rattle.std.specs.FinMap as finite
 use Rattle.std.specs.FinSet as finset
 use Rattle.raft_contexts.proofs.ImpliedMarkLemmas.{get_implied, get_all, get_kept}
@@ -59,8 +59,16 @@ absent_next tables id ids = go (finite.get tables id) (filter (λ id. is_none (f
 
 len_over : (tables : Tables) (es : List (ℕ × Mark)) → T (is_sorted nat_cmp es) → finite.len (put_over es (implied_marks tables)) ≡ finite.len (implied_marks tables) + count_absent tables (keys_of es)
 len_over tables [] s = omega arith
-len_over tables (e ∷ es) s = omega
-    (arith, absent_next tables e.0 (keys_of es), len_over tables es (second_of_both _ _ s), total-insert (λ (m : Mark). 1) over e.0 e.1, total-ones (finite.insert over e.0 e.1), total-ones over, ap (found (λ (m : Mark). 1)) here, one (finite.get tables e.0))
+len_over tables (e ∷ es) s = omega (
+  arith,
+  absent_next tables e.0 (keys_of es),
+  len_over tables es (second_of_both _ _ s),
+  total-insert (λ (m : Mark). 1) over e.0 e.1,
+  total-ones (finite.insert over e.0 e.1),
+  total-ones over,
+  ap (found (λ (m : Mark). 1)) here,
+  one (finite.get tables e.0),
+)
   where
     over : Marks
     over = put_over es (implied_marks tables)

@@ -14,10 +14,11 @@ mod tables;
 mod timing;
 
 use raft_records::Result;
-use std::{env, io};
+use raft_recover::command_words;
+use std::io;
 
 fn main(rt: HostRuntime) -> io::Result<()> {
-    let words = words_of(&rt)?;
+    let words = command_words(&rt)?;
     match words.as_slice().split_first() {
         Some((word, _)) if word.as_str() == "recover" => {
             print_recovery(&rt, recovery::time(&rt, words.as_slice()))
@@ -37,15 +38,6 @@ fn main(rt: HostRuntime) -> io::Result<()> {
             Ok(())
         }
     }
-}
-
-/// Returns the words after the program's name.
-fn words_of(rt: &HostRuntime) -> io::Result<Vec<String>> {
-    let mut words = Vec::new(rt.alloc());
-    for word in env::args(rt)?.skip(1) {
-        words.push(word)?;
-    }
-    Ok(words)
 }
 
 fn print_recovery(rt: &HostRuntime, timed: Result<Option<recovery::Timed>>) -> io::Result<()> {

@@ -233,14 +233,24 @@ fn take_all<R: Host>(
 ) -> Result<()> {
     let different = stops.different;
     let mut history = History::begin(stops, number, way, way.workers == 1)?;
+    take_each(stops, &mut history, steps, number, different)
+}
+
+fn take_each<R: Host>(
+    stops: &mut Stops<'_, R>,
+    history: &mut History,
+    steps: &[Step],
+    number: u64,
+    different: u64,
+) -> Result<()> {
     for (at, step) in steps.iter().enumerate() {
-        let taken = take(stops, &mut history, *step);
+        let taken = take(stops, history, *step);
         stops.succeeds(taken)?;
         if stops.different > different {
             return stops.differs_in("fault", number, at as u64);
         }
     }
-    lose_page(stops, &history)
+    lose_page(stops, history)
 }
 
 fn take<R: Host>(stops: &mut Stops<'_, R>, history: &mut History, step: Step) -> Result<()> {

@@ -6,7 +6,7 @@ use raft_base::{EntryIndex, Error, FileId, LogQueue, Result, Version};
 use raft_engine::Engine;
 use raft_files::MemoryFiles;
 use raft_records::{LogBatch, entry_bytes};
-use raft_recover::{MemTable, MemTableAccessor, file_segments, recover_both};
+use raft_recover::{MemTable, MemTableAccessor, Segment, file_segments, recover_both};
 use std::alloc::Global;
 use std::collections::BTreeMap;
 use std::thread::Threads;
@@ -38,23 +38,54 @@ pub(crate) fn open<R: Threads + Sync>(
 
 /// Reads all records of an engine.
 pub(crate) fn records_of(alloc: Global, engine: &mut Engine<NotedFiles>) -> Result<Contents> {
+    let regions = regions_of(alloc, engine.accessor())?;
     let mut contents = BTreeMap::new(alloc);
-    for region in regions_of(alloc, engine.accessor())? {
-        let mut records = Records::new(alloc);
-        if let (Some(first), Some(last)) = (engine.first_index(region), engine.last_index(region)) {
-            let (end, mut entries) = (last.saturating_add(1), Vec::new(alloc));
-            engine.fetch_entries_to(region, first, end, None, &mut entries)?;
-            records.write(alloc, first, &entries)?;
-        }
-        let mut kept = Ok(());
-        engine.scan(region, None, None, false, |key, value| {
-            kept = put(alloc, &mut records, key, value);
-            kept.is_ok()
-        })?;
-        kept?;
-        let _ = contents.insert(region, records)?;
+    for region in &regions {
+        let _ = contents.insert(*region, records_of_region(alloc, engine, *region)?)?;
     }
     Ok(contents)
+}
+
+/// Reads the records of a region.
+fn records_of_region(
+    alloc: Global,
+    engine: &mut Engine<NotedFiles>,
+    region: u64,
+) -> Result<Records> {
+    let mut records = Records::new(alloc);
+    read_entries(alloc, engine, region, &mut records)?;
+    let mut kept = Ok(());
+    engine.scan(region, None, None, false, |key, value| {
+        kept = put(alloc, &mut records, key, value);
+        kept.is_ok()
+    })?;
+    kept?;
+    Ok(records)
+}
+
+fn read_entries(
+    alloc: Global,
+    engine: &mut Engine<NotedFiles>,
+    region: u64,
+    records: &mut Records,
+) -> Result<()> {
+    if let (Some(first), Some(last)) = (engine.first_index(region), engine.last_index(region)) {
+        let entries = fetched(alloc, engine, region, first, last.saturating_add(1))?;
+        records.write(alloc, first, &entries)?;
+    }
+    Ok(())
+}
+
+fn fetched(
+    alloc: Global,
+    engine: &mut Engine<NotedFiles>,
+    region: u64,
+    first: u64,
+    end: u64,
+) -> Result<Vec<Vec<u8>>> {
+    let mut entries = Vec::new(alloc);
+    engine.fetch_entries_to(region, first, end, None, &mut entries)?;
+    Ok(entries)
 }
 
 /// Recovers the tables of both queues, and reads their records in the files.
@@ -66,27 +97,48 @@ pub(crate) fn recovered<R: Threads + Sync>(
     rewrite: LogFiles,
 ) -> Result<Contents> {
     let files = MemoryFiles::found(append, rewrite);
-    let append = file_segments(
-        LogQueue::Append,
-        way.version,
-        files.copies(LogQueue::Append)?,
-    )?;
-    let rewrite = file_segments(
-        LogQueue::Rewrite,
-        way.version,
-        files.copies(LogQueue::Rewrite)?,
-    )?;
-    let tables = recover_both(
+    recovered_from(rt, alloc, way, &files)
+}
+
+fn recovered_from<R: Threads + Sync>(
+    rt: &R,
+    alloc: Global,
+    way: Way,
+    files: &MemoryFiles,
+) -> Result<Contents> {
+    let tables = tables_of(rt, alloc, way, files)?;
+    contents_in(alloc, files, &tables)
+}
+
+/// Recovers the tables of both queues.
+fn tables_of<R: Threads + Sync>(
+    rt: &R,
+    alloc: Global,
+    way: Way,
+    files: &MemoryFiles,
+) -> Result<MemTableAccessor> {
+    let append = segments_of(way, files, LogQueue::Append)?;
+    let rewrite = segments_of(way, files, LogQueue::Rewrite)?;
+    recover_both(
         rt,
         alloc,
         rewrite.as_slice(),
         append.as_slice(),
         way.workers,
-    )?;
+    )
+}
+
+fn segments_of(way: Way, files: &MemoryFiles, queue: LogQueue) -> Result<Vec<Segment>> {
+    file_segments(queue, way.version, files.copies(queue)?)
+}
+
+/// Reads the records of all tables in these files.
+fn contents_in(alloc: Global, files: &MemoryFiles, tables: &MemTableAccessor) -> Result<Contents> {
+    let regions = regions_of(alloc, tables)?;
     let mut contents = BTreeMap::new(alloc);
-    for region in regions_of(alloc, &tables)? {
-        if let Some(table) = tables.get(region) {
-            let _ = contents.insert(region, records_in(alloc, &files, table)?)?;
+    for region in &regions {
+        if let Some(table) = tables.get(*region) {
+            let _ = contents.insert(*region, records_in(alloc, files, table)?)?;
         }
     }
     Ok(contents)
@@ -110,6 +162,29 @@ fn put(alloc: Global, records: &mut Records, key: &[u8], value: &[u8]) -> Result
 /// Reads the records of a table in these files.
 fn records_in(alloc: Global, files: &MemoryFiles, table: &MemTable) -> Result<Records> {
     let mut records = Records::new(alloc);
+    read_table(alloc, files, table, &mut records)?;
+    Ok(records)
+}
+
+fn read_table(
+    alloc: Global,
+    files: &MemoryFiles,
+    table: &MemTable,
+    records: &mut Records,
+) -> Result<()> {
+    let entries = entries_of(alloc, table)?;
+    for entry in &entries {
+        let _ = records
+            .entries
+            .insert(entry.index, bytes_of(alloc, files, entry)?)?;
+    }
+    for (key, value) in pairs_of(alloc, table)? {
+        let _ = records.pairs.insert(key, value)?;
+    }
+    Ok(())
+}
+
+fn entries_of(alloc: Global, table: &MemTable) -> Result<Vec<EntryIndex>> {
     let mut entries = Vec::new(alloc);
     table.fetch_entries_to(
         table.first_index().unwrap_or(0),
@@ -117,18 +192,14 @@ fn records_in(alloc: Global, files: &MemoryFiles, table: &MemTable) -> Result<Re
         None,
         &mut entries,
     )?;
-    for entry in &entries {
-        let _ = records
-            .entries
-            .insert(entry.index, bytes_of(alloc, files, entry)?)?;
-    }
+    Ok(entries)
+}
+
+fn pairs_of(alloc: Global, table: &MemTable) -> Result<Vec<(Vec<u8>, Vec<u8>)>> {
     let mut pairs = Vec::new(alloc);
     table.fetch_kvs_before(u64::MAX, &mut pairs)?;
     table.fetch_rewritten_kvs(&mut pairs)?;
-    for (key, value) in pairs {
-        let _ = records.pairs.insert(key, value)?;
-    }
-    Ok(records)
+    Ok(pairs)
 }
 
 /// Reads the bytes of an entry.

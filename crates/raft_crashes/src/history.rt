@@ -9,7 +9,7 @@ use crate::found::{Way, open, records_of};
 use crate::noted_files::NotedFiles;
 use crate::records::{Contents, Records, text_of};
 use crate::stops::{Host, Stops};
-use raft_base::{FileSeq, LogQueue, Result};
+use raft_base::{FileSeq, LogQueue, Result, Version};
 use raft_engine::Engine;
 use raft_files::MemoryFiles;
 use raft_records::LogBatch;
@@ -40,34 +40,43 @@ impl History {
         way: Way,
         by_bytes: bool,
     ) -> Result<History> {
-        let alloc = stops.rt.alloc();
-        let files = NotedFiles {
-            files: MemoryFiles::new(alloc),
-            asks: Vec::new(alloc),
-        };
-        let mut history = History {
+        let mut history = History::new(stops.rt.alloc(), seed, way, by_bytes)?;
+        history.follow(stops)?;
+        Ok(history)
+    }
+
+    fn new(alloc: Global, seed: u64, way: Way, by_bytes: bool) -> Result<History> {
+        let disk = Disk::new(alloc)?;
+        Ok(History {
             alloc,
             way,
             by_bytes,
-            engine: Engine::new(alloc, way.version, files)?,
+            engine: new_engine(alloc, way.version)?,
             taken: 0,
             kept: BTreeMap::new(alloc),
-            disk: Disk::new(alloc)?,
+            disk,
             dice: Dice::new(seed),
-        };
-        history.follow(stops)?;
-        Ok(history)
+        })
     }
 
     /// Looks whether the engine has the records that it has to have, lets the disk take in what was asked, and tries stops after
     /// each ask.
     fn follow<R: Host>(&mut self, stops: &mut Stops<'_, R>) -> Result<()> {
         let wanted = text_of(self.alloc, &self.kept)?;
-        let found = text_of(self.alloc, &records_of(self.alloc, &mut self.engine)?)?;
-        stops.compare(found.as_str(), wanted.as_str(), "kept")?;
+        self.compare(stops, wanted.as_str())?;
+        self.take_asks(stops, wanted.as_str())
+    }
+
+    fn compare<R: Host>(&mut self, stops: &mut Stops<'_, R>, wanted: &str) -> Result<()> {
+        let contents = records_of(self.alloc, &mut self.engine)?;
+        let found = text_of(self.alloc, &contents)?;
+        stops.compare(found.as_str(), wanted, "kept")
+    }
+
+    fn take_asks<R: Host>(&mut self, stops: &mut Stops<'_, R>, wanted: &str) -> Result<()> {
         let asks = &self.engine.files().asks;
         for ask in asks.iter().skip(self.taken) {
-            self.disk.take(ask, wanted.as_str())?;
+            self.disk.take(ask, wanted)?;
             let by_bytes = if self.by_bytes { Some(ask.queue) } else { None };
             stops.try_some(self.way, &self.disk, by_bytes, &mut self.dice)?;
         }
@@ -155,13 +164,22 @@ impl History {
 
     fn reopen<R: Host>(&mut self, stops: &mut Stops<'_, R>, stop: Stop) -> Result<()> {
         self.disk = self.disk.left_by(stop)?;
-        let (append, rewrite) = self.disk.files()?;
-        self.engine = open(stops.rt, self.alloc, self.way, append, rewrite)?;
+        self.open_disk(stops.rt)?;
         self.taken = 0;
         self.kept = records_of(self.alloc, &mut self.engine)?;
-        let found = text_of(self.alloc, &self.kept)?;
-        stops.compare(found.as_str(), self.disk.records(), "opened again")?;
+        self.compare_opened(stops)?;
         self.follow(stops)
+    }
+
+    fn open_disk<R: Host>(&mut self, rt: &R) -> Result<()> {
+        let (append, rewrite) = self.disk.files()?;
+        self.engine = open(rt, self.alloc, self.way, append, rewrite)?;
+        Ok(())
+    }
+
+    fn compare_opened<R: Host>(&self, stops: &mut Stops<'_, R>) -> Result<()> {
+        let found = text_of(self.alloc, &self.kept)?;
+        stops.compare(found.as_str(), self.disk.records(), "opened again")
     }
 
     /// Returns the number of the append file that is written to.
@@ -171,4 +189,13 @@ impl History {
             None => 0,
         }
     }
+}
+
+/// Makes an engine over files in memory.
+fn new_engine(alloc: Global, version: Version) -> Result<Engine<NotedFiles>> {
+    let files = NotedFiles {
+        files: MemoryFiles::new(alloc),
+        asks: Vec::new(alloc),
+    };
+    Engine::new(alloc, version, files)
 }

@@ -36,10 +36,21 @@ pub(crate) fn go_through<R: Host>(stops: &mut Stops<'_, R>, seed: u64) -> Result
     let by_bytes = long.is_none() && dice.hits(BY_BYTES);
     let different = stops.different;
     let mut history = History::begin(stops, seed, way, by_bytes)?;
+    take_steps(stops, &mut history, long, seed, different)
+}
+
+/// Takes steps, until more is different than this.
+fn take_steps<R: Host>(
+    stops: &mut Stops<'_, R>,
+    history: &mut History,
+    long: Option<usize>,
+    seed: u64,
+    different: u64,
+) -> Result<()> {
     for step in 0..STEPS {
         let taken = match long {
-            Some(len) => take_long_step(stops, &mut history, len),
-            None => take_step(stops, &mut history),
+            Some(len) => take_long_step(stops, history, len),
+            None => take_step(stops, history),
         };
         stops.succeeds(taken)?;
         if stops.different > different {

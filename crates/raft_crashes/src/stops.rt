@@ -2,8 +2,10 @@
 
 use crate::disk::{Disk, Stop};
 use crate::found::{Way, open, records_of, recovered};
-use crate::records::text_of;
-use raft_base::{LogQueue, Result};
+use crate::noted_files::NotedFiles;
+use crate::records::{Contents, text_of};
+use raft_base::{Error, LogQueue, Result};
+use raft_engine::Engine;
 use raft_samples::Dice;
 use std::alloc::Global;
 use std::thread::Threads;
@@ -54,7 +56,7 @@ impl<'a, R: Host> Stops<'a, R> {
         let mut left = disk.left_by(stop)?;
         self.recover(way, &left)?;
         for _ in 0..RESTARTS {
-            match self.open(way, left, dice)? {
+            match self.open(way, &mut left, dice)? {
                 Some(next) => left = next,
                 None => return Ok(()),
             }
@@ -64,52 +66,60 @@ impl<'a, R: Host> Stops<'a, R> {
 
     /// Recovers what a disk has without its torn batches.
     fn recover(&mut self, way: Way, disk: &Disk) -> Result<()> {
-        let alloc = self.alloc();
         self.recoveries = self.recoveries.saturating_add(1);
         let (append, rewrite) = disk.untorn_files()?;
-        match recovered(self.rt, alloc, way, append, rewrite) {
-            Ok(contents) => {
-                self.compare(
-                    text_of(alloc, &contents)?.as_str(),
-                    disk.records(),
-                    "recovered",
-                )
-            }
-            Err(e) => self.differs(format!(in alloc; "not recovered: {e}")?.as_str()),
+        match recovered(self.rt, self.alloc(), way, append, rewrite) {
+            Ok(contents) => self.compare_contents(&contents, disk.records(), "recovered"),
+            Err(e) => self.refused("not recovered", &e),
         }
     }
 
     /// Opens what a disk has, and returns what a stop of that leaves, if it asked anything, in half of the cases.
-    fn open(&mut self, way: Way, disk: Disk, dice: &mut Dice) -> Result<Option<Disk>> {
-        let alloc = self.alloc();
+    fn open(&mut self, way: Way, disk: &mut Disk, dice: &mut Dice) -> Result<Option<Disk>> {
         self.recoveries = self.recoveries.saturating_add(1);
         let (append, rewrite) = disk.files()?;
-        let mut engine = match open(self.rt, alloc, way, append, rewrite) {
-            Ok(engine) => engine,
+        match open(self.rt, self.alloc(), way, append, rewrite) {
+            Ok(mut engine) => self.stop_again(&mut engine, disk, dice),
             Err(e) => {
-                self.differs(format!(in alloc; "not opened: {e}")?.as_str())?;
-                return Ok(None);
+                self.refused("not opened", &e)?;
+                Ok(None)
             }
-        };
-        match records_of(alloc, &mut engine) {
-            Ok(contents) => self.compare(
-                text_of(alloc, &contents)?.as_str(),
-                disk.records(),
-                "opened",
-            )?,
-            Err(e) => self.differs(format!(in alloc; "not read: {e}")?.as_str())?,
+        }
+    }
+
+    /// Reads what an engine has that was opened over a disk, and returns what a stop of the opening leaves.
+    fn stop_again(
+        &mut self,
+        engine: &mut Engine<NotedFiles>,
+        disk: &mut Disk,
+        dice: &mut Dice,
+    ) -> Result<Option<Disk>> {
+        match records_of(self.alloc(), engine) {
+            Ok(contents) => self.compare_contents(&contents, disk.records(), "opened")?,
+            Err(e) => self.refused("not read", &e)?,
         }
         let asks = &engine.files().asks;
         if asks.is_empty() || dice.hits(2) {
             return Ok(None);
         }
         let count = dice.below(asks.len() as u64) as usize;
-        let mut disk = disk;
         for ask in asks.iter().take(count.saturating_add(1)) {
             disk.take(ask, "")?;
         }
         let stop = disk.draw(dice);
         Ok(Some(disk.left_by(stop)?))
+    }
+
+    /// Counts and prints contents that aren't those that there have to be.
+    fn compare_contents(&mut self, contents: &Contents, wanted: &str, how: &str) -> Result<()> {
+        let found = text_of(self.alloc(), contents)?;
+        self.compare(found.as_str(), wanted, how)
+    }
+
+    /// Counts and prints a refusal.
+    fn refused(&mut self, how: &str, error: &Error) -> Result<()> {
+        let text = format!(in self.alloc(); "{how}: {error}")?;
+        self.differs(text.as_str())
     }
 
     /// Counts and prints records that aren't those that there have to be.
@@ -125,7 +135,7 @@ impl<'a, R: Host> Stops<'a, R> {
     pub(crate) fn succeeds(&mut self, taken: Result<()>) -> Result<()> {
         match taken {
             Ok(()) => Ok(()),
-            Err(e) => self.differs(format!(in self.alloc(); "refused: {e}")?.as_str()),
+            Err(e) => self.refused("refused", &e),
         }
     }
 

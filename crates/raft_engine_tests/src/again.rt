@@ -3,9 +3,12 @@
 
 ghost use Rattle.std.specs.Prelude.{◌≡◌};
 
+use crate::batches::Part;
 use crate::batches::Part::{Clean, Compact, Delete, Entries, Large, Put, Truncate};
-use crate::batches::{Part, batch_of};
-use crate::reopened::{holds, is_found, moved, open, write};
+use crate::calls::{
+    count_files, ended, open, purge, purge_rewrites, rewrite, rewrite_again, rotate, write,
+};
+use crate::reopened::{holds, is_found, moved};
 use raft_base::{FileBlockHandle, FileSeq, LogQueue, Version};
 use raft_engine::Engine;
 use raft_files::{EngineFiles, MemoryFiles};
@@ -27,10 +30,7 @@ static CHANGES: [(&[Part], &str); 8] = [
 
 /// Tests whether a purge leaves one rewrite file, and deletes so many.
 fn leaves_one(engine: &mut Engine<MemoryFiles>, deleted: usize) -> Result<bool> {
-    Ok(
-        engine.purge_rewrite_files()? == deleted
-            && engine.files().files(LogQueue::Rewrite).len() == 1,
-    )
+    Ok(purge_rewrites(engine)? == deleted && count_files(engine, LogQueue::Rewrite) == 1)
 }
 
 /// Tests whether what an engine holds is found once it moved again, and once the older rewrite file went.
@@ -40,7 +40,7 @@ pub fn is_found_again<R: Threads + Sync>(
     engine: &mut Engine<MemoryFiles>,
     left: &str,
 ) -> Result<bool> {
-    engine.rewrite_again()?;
+    rewrite_again(engine)?;
     let moved = is_found(rt, alloc, engine, left)?;
     Ok(
         moved
@@ -53,10 +53,10 @@ pub fn is_found_again<R: Threads + Sync>(
 
 /// Moves what the append files hold, and deletes all of them but the last.
 pub fn empty_append_files(engine: &mut Engine<MemoryFiles>) -> Result<bool> {
-    engine.rotate()?;
-    engine.rewrite(FileSeq::MAX)?;
-    engine.purge_expired_files()?;
-    Ok(engine.files().files(LogQueue::Append).len() == 1)
+    rotate(engine)?;
+    rewrite(engine, FileSeq::MAX)?;
+    purge(engine)?;
+    Ok(count_files(engine, LogQueue::Append) == 1)
 }
 
 /// Tests it of a change that isn't told yet, and again once all was moved out of the append files.
@@ -67,22 +67,32 @@ fn change_stays<R: Threads + Sync>(
     left: &str,
 ) -> Result<bool> {
     let mut engine = moved(alloc)?;
-    write(alloc, &mut engine, parts, false)?;
+    change_stays_in(rt, alloc, &mut engine, parts, left)
+}
+
+fn change_stays_in<R: Threads + Sync>(
+    rt: &R,
+    alloc: Global,
+    engine: &mut Engine<MemoryFiles>,
+    parts: &[Part],
+    left: &str,
+) -> Result<bool> {
+    write(alloc, engine, parts, false)?;
     Ok(
-        is_found_again(rt, alloc, &mut engine, left)?
-            && empty_append_files(&mut engine)?
-            && is_found_again(rt, alloc, &mut engine, left)?,
+        is_found_again(rt, alloc, engine, left)?
+            && empty_append_files(engine)?
+            && is_found_again(rt, alloc, engine, left)?,
     )
 }
 
 #[test]
 fn records_move_again(rt: HostRuntime) {
     for (row, (parts, left)) in CHANGES.iter().enumerate() {
-        let mut held = change_stays(&rt, rt.alloc(), parts, left);
-        if matches!(held, Err(Error::Memory)) {
-            held = change_stays(&rt, rt.alloc(), parts, left);
+        let mut held = ended(change_stays(&rt, rt.alloc(), parts, left));
+        if held.is_none() {
+            held = ended(change_stays(&rt, rt.alloc(), parts, left));
         }
-        assert!(rt; matches!(held, Ok(true)), "row {row}");
+        assert!(rt; matches!(held, Some(true)), "row {row}");
     }
 }
 
@@ -140,25 +150,29 @@ impl EngineFiles for Failing {
     }
 }
 
-/// Makes an engine over files of which so many calls are left once it wrote these entries and `k=v`.
-fn started(alloc: Global, left: usize, entries: Part) -> Result<Engine<Failing>> {
+/// Makes an engine over files of which so many calls are left.
+fn new_failing(alloc: Global, left: usize) -> Result<Engine<Failing>> {
     let files = Failing {
         files: MemoryFiles::new(alloc),
-        left: left.saturating_add(4),
+        left,
     };
-    let mut engine = Engine::new(alloc, Version::V2, files)?;
-    let mut batch = batch_of(alloc, &[entries, Put("v")])?;
-    engine.write(&mut batch, true)?;
+    Engine::new(alloc, Version::V2, files)
+}
+
+/// Makes an engine over files of which so many calls are left once it wrote these entries and `k=v`.
+fn started(alloc: Global, left: usize, entries: Part) -> Result<Engine<Failing>> {
+    let mut engine = new_failing(alloc, left.saturating_add(4))?;
+    write(alloc, &mut engine, &[entries, Put("v")], true)?;
     Ok(engine)
 }
 
 /// Moves all out of the append files, and then to a new rewrite file.
 fn move_twice(engine: &mut Engine<Failing>) -> Result<usize> {
-    engine.rotate()?;
-    engine.rewrite(FileSeq::MAX)?;
-    engine.purge_expired_files()?;
-    engine.rewrite_again()?;
-    engine.purge_rewrite_files()
+    rotate(engine)?;
+    rewrite(engine, FileSeq::MAX)?;
+    purge(engine)?;
+    rewrite_again(engine)?;
+    purge_rewrites(engine)
 }
 
 /// Entries that move while files fail, what is found then, and how many calls of the files it takes.
@@ -190,15 +204,47 @@ fn finds_after<R: Threads + Sync>(
     moving: &Moving,
 ) -> Result<(bool, bool)> {
     let mut engine = started(alloc, left, moving.entries)?;
-    let failed = match move_twice(&mut engine) {
-        Ok(_) => false,
-        Err(Error::Failed) => true,
-        Err(e) => return Err(e),
-    };
-    let files = &engine.files().files;
+    finds_moved(rt, alloc, &mut engine, moving.text)
+}
+
+fn finds_moved<R: Threads + Sync>(
+    rt: &R,
+    alloc: Global,
+    engine: &mut Engine<Failing>,
+    text: &str,
+) -> Result<(bool, bool)> {
+    let failed = has_failed(move_twice(engine))?;
+    let found = is_found_in(rt, alloc, &engine.files().files, text)?;
+    Ok((failed, found))
+}
+
+/// Tests whether the files failed.
+fn has_failed(moved: Result<usize>) -> Result<bool> {
+    match moved {
+        Ok(_) => Ok(false),
+        Err(Error::Failed) => Ok(true),
+        Err(e) => Err(e),
+    }
+}
+
+/// Tests whether this is what an engine holds that is opened over copies of files.
+fn is_found_in<R: Threads + Sync>(
+    rt: &R,
+    alloc: Global,
+    files: &MemoryFiles,
+    text: &str,
+) -> Result<bool> {
+    let found = opened(rt, alloc, files)?;
+    holds(alloc, &found, text)
+}
+
+fn opened<R: Threads + Sync>(
+    rt: &R,
+    alloc: Global,
+    files: &MemoryFiles,
+) -> Result<Engine<MemoryFiles>> {
     let append = files.copies(LogQueue::Append)?;
-    let found = open(rt, alloc, append, files.copies(LogQueue::Rewrite)?)?;
-    Ok((failed, holds(alloc, &found, moving.text)?))
+    open(rt, alloc, append, files.copies(LogQueue::Rewrite)?)
 }
 
 /// Returns after how many calls no file fails any more, if all is found at each number of calls up to it.
@@ -219,17 +265,18 @@ fn calls_to_move<R: Threads + Sync>(
     Ok(None)
 }
 
+/// Tests whether it takes as many calls as it says.
+fn moves_in_calls<R: Threads + Sync>(rt: &R, alloc: Global, moving: &Moving) -> Result<bool> {
+    Ok(calls_to_move(rt, alloc, moving)? == Some(moving.calls))
+}
+
 #[test]
 fn files_that_fail_lose_nothing(rt: HostRuntime) {
     for moving in &MOVING {
-        let mut calls = calls_to_move(&rt, rt.alloc(), moving);
-        if matches!(calls, Err(Error::Memory)) {
-            calls = calls_to_move(&rt, rt.alloc(), moving);
+        let mut held = ended(moves_in_calls(&rt, rt.alloc(), moving));
+        if held.is_none() {
+            held = ended(moves_in_calls(&rt, rt.alloc(), moving));
         }
-        assert!(rt;
-            matches!(calls, Ok(Some(calls)) if calls == moving.calls),
-            "{}",
-            moving.text
-        );
+        assert!(rt; matches!(held, Some(true)), "{}", moving.text);
     }
 }

@@ -1,6 +1,6 @@
 //! An engine that keeps tables and writes files of both queues, all in memory.
 
-ghost use Rattle.std.specs.Prelude.{◌≡◌};
+ghost use Rattle.std.specs.Prelude.{◌≡◌, IfOk};
 ghost use Rattle.raft_records.specs.LogBatch.{is_open};
 
 use crate::batches::{Part, REGION, batch_of};
@@ -69,23 +69,10 @@ impl Engine {
 
     pub fn take(&mut self, step: &Step) -> Result<()> {
         match *step {
-            Step::Append(seq, parts) => {
-                let mut batch = self.write(LogQueue::Append, seq, batch_of(self.alloc, parts)?)?;
-                self.tables.apply_append_writes(batch.drain())
-            }
-            Step::Rewrite(seq, gate, parts) => {
-                let mut batch = self.write(LogQueue::Rewrite, seq, batch_of(self.alloc, parts)?)?;
-                self.tables.apply_rewrite_writes(batch.drain(), gate, seq)
-            }
-            Step::Tell(seq, parts) => {
-                let _ = self.write(LogQueue::Rewrite, seq, batch_of(self.alloc, parts)?)?;
-                Ok(())
-            }
-            Step::TellCleaned(seq) => {
-                let cleaned = self.tables.take_cleaned_region_logs()?;
-                let mut batch = self.write(LogQueue::Rewrite, seq, cleaned)?;
-                self.tables.apply_rewrite_writes(batch.drain(), None, seq)
-            }
+            Step::Append(seq, parts) => self.append_parts(seq, parts),
+            Step::Rewrite(seq, gate, parts) => self.rewrite_parts(seq, gate, parts),
+            Step::Tell(seq, parts) => self.tell(seq, parts),
+            Step::TellCleaned(seq) => self.tell_cleaned(seq),
             Step::ApplyGroup(first, last) => {
                 self.tables
                     .apply_rewrite_atomic_group(REGION, first.min(last), last)
@@ -106,15 +93,40 @@ impl Engine {
                 self.fail();
                 Ok(())
             }
-            Step::Restart => {
-                self.tables = self.reopened()?;
-                Ok(())
-            }
-            Step::Read(index) => {
-                let _ = self.entry(index)?;
-                Ok(())
-            }
+            Step::Restart => self.restart(),
+            Step::Read(index) => self.read(index),
         }
+    }
+
+    fn append_parts(&mut self, seq: FileSeq, parts: &[Part]) -> Result<()> {
+        let mut batch = self.write(LogQueue::Append, seq, batch_of(self.alloc, parts)?)?;
+        self.tables.apply_append_writes(batch.drain())
+    }
+
+    fn rewrite_parts(&mut self, seq: FileSeq, gate: Option<FileSeq>, parts: &[Part]) -> Result<()> {
+        let mut batch = self.write(LogQueue::Rewrite, seq, batch_of(self.alloc, parts)?)?;
+        self.tables.apply_rewrite_writes(batch.drain(), gate, seq)
+    }
+
+    fn tell(&mut self, seq: FileSeq, parts: &[Part]) -> Result<()> {
+        let _ = self.write(LogQueue::Rewrite, seq, batch_of(self.alloc, parts)?)?;
+        Ok(())
+    }
+
+    fn tell_cleaned(&mut self, seq: FileSeq) -> Result<()> {
+        let cleaned = self.tables.take_cleaned_region_logs()?;
+        let mut batch = self.write(LogQueue::Rewrite, seq, cleaned)?;
+        self.tables.apply_rewrite_writes(batch.drain(), None, seq)
+    }
+
+    fn restart(&mut self) -> Result<()> {
+        self.tables = self.reopened()?;
+        Ok(())
+    }
+
+    fn read(&self, index: u64) -> Result<()> {
+        let _ = self.entry(index)?;
+        Ok(())
     }
 
     /// Makes what all files of a queue hold last, or what the one of a number holds.
@@ -272,40 +284,32 @@ impl Engine {
 
     /// Writes an entry to append file 1 whose bytes are a batch that might stand in that file.
     pub fn append_batch_in_entry(&mut self, index: u64) -> Result<()> {
-        let context = LogFileContext::new(FileId::new(LogQueue::Append, 1), Version::V2);
-        let mut inner = batch_of(self.alloc, &[Part::Put("v")])?;
-        inner.finish_populate()?;
-        inner.prepare_write(&context);
-        let bytes = Vec::from_slice(self.alloc, inner.encoded_bytes())?;
-        let entry = EntryIndex {
-            index,
-            ..EntryIndex::default()
-        };
-        let entries = vec![in self.alloc; entry]?;
-        if !is_consecutive(&entries) {
-            return Err(Error::Failed);
-        }
-        let mut batch = LogBatch::default(self.alloc);
-        batch.add_raw_entries(REGION, entries, vec![in self.alloc; bytes]?)?;
+        let batch = batch_with(self.alloc, index, batch_bytes(self.alloc)?)?;
         let mut written = self.write(LogQueue::Append, 1, batch)?;
         self.tables.apply_append_writes(written.drain())
     }
 
     /// Reads an entry of the table out of its file.
     pub fn entry(&self, index: u64) -> Result<Vec<u8>> {
-        let table = self.tables.get(REGION).ok_or(Error::EntryNotFound)?;
-        let mut entries: Vec<EntryIndex> = Vec::new(self.alloc);
-        table.fetch_entries_to(index, index.saturating_add(1), None, &mut entries)?;
-        let entry = entries.first().ok_or(Error::EntryNotFound)?;
+        let entry = self.entry_index(index)?;
         let place = entry.entries.ok_or(Error::EntryNotFound)?;
         for file in &self.files {
             if file.id == place.id {
-                let part = part_of(file)?;
-                let block = entries_block_in(&part, place)?;
-                return Ok(Vec::from_slice(self.alloc, entry_bytes(self.alloc, block, entry)?)?);
+                return bytes_in(self.alloc, file, place, &entry);
             }
         }
         Err(Error::EntryNotFound)
+    }
+
+    /// Returns what the table has of an entry.
+    fn entry_index(&self, index: u64) -> Result<EntryIndex> {
+        let table = self.tables.get(REGION).ok_or(Error::EntryNotFound)?;
+        let mut entries: Vec<EntryIndex> = Vec::new(self.alloc);
+        table.fetch_entries_to(index, index.saturating_add(1), None, &mut entries)?;
+        match entries.first() {
+            Some(entry) => Ok(*entry),
+            None => Err(Error::EntryNotFound),
+        }
     }
 
     /// Returns what the tables hold.
@@ -326,16 +330,59 @@ impl Engine {
     }
 
     fn context(&self, queue: LogQueue) -> Result<MemTableRecoverContext> {
+        let segment = self.segment(queue)?;
+        let mut context = MemTableRecoverContext::new(self.alloc)?;
+        replay_segment(&mut context, &segment)?;
+        Ok(context)
+    }
+
+    fn segment(&self, queue: LogQueue) -> Result<Vec<FilePart>> {
         let mut segment = Vec::new(self.alloc);
         for file in &self.files {
             if file.id.queue == queue {
                 segment.push(part_of(file)?)?;
             }
         }
-        let mut context = MemTableRecoverContext::new(self.alloc)?;
-        replay_segment(&mut context, &segment)?;
-        Ok(context)
+        Ok(segment)
     }
+}
+
+/// Returns the bytes of a batch that might stand in append file 1.
+fn batch_bytes(alloc: Global) -> Result<Vec<u8>> {
+    let mut batch = batch_of(alloc, &[Part::Put("v")])?;
+    batch.finish_populate()?;
+    batch.prepare_write(&LogFileContext::new(FileId::new(LogQueue::Append, 1), Version::V2));
+    Ok(Vec::from_slice(alloc, batch.encoded_bytes())?)
+}
+
+/// Returns a batch of an entry of these bytes.
+fn batch_with(alloc: Global, index: u64, bytes: Vec<u8>) -> Result<LogBatch>
+    ensures { IfOk result (λ batch. batch.stage ≡ is_open) }
+{
+    let bytes = vec![in alloc; bytes]?;
+    let entry = EntryIndex {
+        index,
+        ..EntryIndex::default()
+    };
+    let entries = vec![in alloc; entry]?;
+    if !is_consecutive(&entries) {
+        return Err(Error::Failed);
+    }
+    let mut batch = LogBatch::default(alloc);
+    batch.add_raw_entries(REGION, entries, bytes)?;
+    Ok(batch)
+}
+
+/// Returns the bytes of an entry in its file.
+fn bytes_in(
+    alloc: Global,
+    file: &LogFile,
+    place: FileBlockHandle,
+    entry: &EntryIndex,
+) -> Result<Vec<u8>> {
+    let part = part_of(file)?;
+    let block = entries_block_in(&part, place)?;
+    Ok(Vec::from_slice(alloc, entry_bytes(alloc, block, entry)?)?)
 }
 
 /// Tests whether a readable batch stands where the header of the unreadable one says that it ends.

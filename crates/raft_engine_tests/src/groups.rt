@@ -4,15 +4,16 @@
 use crate::again::{empty_append_files, is_found_again};
 use crate::batches::Part::{Begin, Clean, Compact, End, Entries, Middle, Put};
 use crate::batches::{Part, batch_of};
-use crate::reopened::{holds, is_found, open, write};
+use crate::calls::{
+    LogFiles, count_files, ended, finds_invalid, open, purge_rewrites, rewrite_again, write,
+};
+use crate::reopened::{holds, is_found};
 use raft_base::{FileId, FileSeq, LogFileContext, LogQueue, Version};
 use raft_engine::Engine;
 use raft_files::MemoryFiles;
 use raft_records::{Error, LogBatch, Result};
 use std::alloc::Global;
 use std::thread::Threads;
-
-type LogFiles = Vec<(FileSeq, Vec<u8>)>;
 
 /// The batches of rewrite files, of each file those in one list.
 type Batches = &'static [&'static [&'static [Part]]];
@@ -39,14 +40,19 @@ fn files_of(alloc: Global, files: Batches) -> Result<LogFiles> {
     let mut made = Vec::new(alloc);
     let mut seq = 1;
     for batches in files {
-        let mut bytes = Vec::new(alloc);
-        for parts in *batches {
-            bytes.extend_from_slice(bytes_of(alloc, seq, parts)?.as_slice())?;
-        }
-        made.push((seq, bytes))?;
+        made.push((seq, file_of(alloc, seq, *batches)?))?;
         seq = seq.saturating_add(1);
     }
     Ok(made)
+}
+
+/// Returns the bytes of a rewrite file of these batches.
+fn file_of(alloc: Global, seq: FileSeq, batches: &[&[Part]]) -> Result<Vec<u8>> {
+    let mut bytes = Vec::new(alloc);
+    for parts in batches {
+        bytes.extend_from_slice(bytes_of(alloc, seq, *parts)?.as_slice())?;
+    }
+    Ok(bytes)
 }
 
 /// Rewrite files of at most 9 of which each group stands in a row, and what they hold.
@@ -128,53 +134,58 @@ fn opened<R: Threads + Sync>(rt: &R, alloc: Global, files: Batches) -> Result<En
 }
 
 /// Moves all to a new rewrite file, and deletes the older ones.
-fn purge(engine: &mut Engine<MemoryFiles>) -> Result<bool> {
-    engine.rewrite_again()?;
-    engine.purge_rewrite_files()?;
-    Ok(engine.files().files(LogQueue::Rewrite).len() == 1)
+fn move_and_purge(engine: &mut Engine<MemoryFiles>) -> Result<bool> {
+    rewrite_again(engine)?;
+    purge_rewrites(engine)?;
+    Ok(count_files(engine, LogQueue::Rewrite) == 1)
 }
 
 /// Tests whether rewrite files hold this, and still do after a restart, a purge and a change.
 fn are_held<R: Threads + Sync>(rt: &R, alloc: Global, files: Batches, left: &str) -> Result<bool> {
     let mut engine = opened(rt, alloc, files)?;
-    if !holds(alloc, &engine, left)? || !is_found(rt, alloc, &engine, left)? {
+    is_held(rt, alloc, &mut engine, left)
+}
+
+fn is_held<R: Threads + Sync>(
+    rt: &R,
+    alloc: Global,
+    engine: &mut Engine<MemoryFiles>,
+    left: &str,
+) -> Result<bool> {
+    if !holds(alloc, engine, left)? || !is_found(rt, alloc, engine, left)? {
         return Ok(false);
     }
-    if !purge(&mut engine)? || !is_found(rt, alloc, &engine, left)? {
+    if !move_and_purge(engine)? || !is_found(rt, alloc, engine, left)? {
         return Ok(false);
     }
-    write(alloc, &mut engine, &[Clean, Entries(2, 4)], false)?;
-    Ok(empty_append_files(&mut engine)? && is_found_again(rt, alloc, &mut engine, "[2,4)")?)
+    write(alloc, engine, &[Clean, Entries(2, 4)], false)?;
+    Ok(empty_append_files(engine)? && is_found_again(rt, alloc, engine, "[2,4)")?)
 }
 
 #[test]
 fn groups_in_rows_are_found(rt: HostRuntime) {
     for (row, (files, left)) in ROWS.iter().enumerate() {
-        let mut held = are_held(&rt, rt.alloc(), *files, left);
-        if matches!(held, Err(Error::Memory)) {
-            held = are_held(&rt, rt.alloc(), *files, left);
+        let mut held = ended(are_held(&rt, rt.alloc(), *files, left));
+        if held.is_none() {
+            held = ended(are_held(&rt, rt.alloc(), *files, left));
         }
-        assert!(rt; matches!(held, Ok(true)), "row {row}");
+        assert!(rt; matches!(held, Some(true)), "row {row}");
     }
 }
 
 /// Tests whether rewrite files are refused.
 fn are_refused<R: Threads + Sync>(rt: &R, alloc: Global, files: Batches) -> Result<bool> {
-    match opened(rt, alloc, files) {
-        Ok(_) => Ok(false),
-        Err(Error::InvalidArgument(_)) => Ok(true),
-        Err(e) => Err(e),
-    }
+    finds_invalid(opened(rt, alloc, files))
 }
 
 #[test]
 fn groups_out_of_rows_are_refused(rt: HostRuntime) {
     for (row, files) in OUT.iter().enumerate() {
-        let mut held = are_refused(&rt, rt.alloc(), *files);
-        if matches!(held, Err(Error::Memory)) {
-            held = are_refused(&rt, rt.alloc(), *files);
+        let mut held = ended(are_refused(&rt, rt.alloc(), *files));
+        if held.is_none() {
+            held = ended(are_refused(&rt, rt.alloc(), *files));
         }
-        assert!(rt; matches!(held, Ok(true)), "row {row}");
+        assert!(rt; matches!(held, Some(true)), "row {row}");
     }
 }
 
@@ -191,36 +202,70 @@ static FRONTS: [(&[Part], &str); 6] = [
 /// Tests whether an engine finds what so many of the batches leave, where the last file has that many and a part of the next
 /// one, and goes on.
 fn finds<R: Threads + Sync>(rt: &R, alloc: Global, bytes: &[u8], left: &str) -> Result<bool> {
-    let mut rewrite = Vec::new(alloc);
-    rewrite.push((1, Vec::from_slice(alloc, bytes)?))?;
-    let mut engine = open(rt, alloc, Vec::new(alloc), rewrite)?;
-    Ok(holds(alloc, &engine, left)? && purge(&mut engine)? && is_found(rt, alloc, &engine, left)?)
+    let mut engine = opened_bytes(rt, alloc, bytes)?;
+    goes_on(rt, alloc, &mut engine, left)
 }
 
-/// Tests it of each number of bytes.
-fn finds_fronts<R: Threads + Sync>(rt: &R, alloc: Global) -> Result<Option<usize>> {
-    let mut bytes = Vec::new(alloc);
+/// Opens an engine over a rewrite file of these bytes.
+fn opened_bytes<R: Threads + Sync>(
+    rt: &R,
+    alloc: Global,
+    bytes: &[u8],
+) -> Result<Engine<MemoryFiles>> {
+    let bytes = Vec::from_slice(alloc, bytes)?;
+    open(rt, alloc, Vec::new(alloc), vec![in alloc; (1, bytes)]?)
+}
+
+fn goes_on<R: Threads + Sync>(
+    rt: &R,
+    alloc: Global,
+    engine: &mut Engine<MemoryFiles>,
+    left: &str,
+) -> Result<bool> {
+    Ok(holds(alloc, engine, left)? && move_and_purge(engine)? && is_found(rt, alloc, engine, left)?)
+}
+
+/// Tests it of each number of bytes up to the end of one more batch, which is put behind those that there are.
+fn finds_to_next<R: Threads + Sync>(
+    rt: &R,
+    alloc: Global,
+    bytes: &mut Vec<u8>,
+    next: &[u8],
+    left: &str,
+) -> Result<bool> {
+    for byte in next {
+        if !finds(rt, alloc, bytes.as_slice(), left)? {
+            return Ok(false);
+        }
+        bytes.push(*byte)?;
+    }
+    Ok(true)
+}
+
+/// Puts the batches, one after another, and tests it of each number of bytes.
+fn finds_batches<R: Threads + Sync>(rt: &R, alloc: Global, bytes: &mut Vec<u8>) -> Result<bool> {
     let mut left = "";
     for (parts, next) in &FRONTS {
-        for byte in bytes_of(alloc, 1, parts)?.as_slice() {
-            if !finds(rt, alloc, bytes.as_slice(), left)? {
-                return Ok(Some(bytes.len()));
-            }
-            bytes.push(*byte)?;
+        let batch = bytes_of(alloc, 1, parts)?;
+        if !finds_to_next(rt, alloc, bytes, batch.as_slice(), left)? {
+            return Ok(false);
         }
         left = next;
     }
-    if !finds(rt, alloc, bytes.as_slice(), left)? {
-        return Ok(Some(bytes.len()));
-    }
-    Ok(None)
+    finds(rt, alloc, bytes.as_slice(), left)
+}
+
+/// Tests it of each number of bytes.
+fn finds_fronts<R: Threads + Sync>(rt: &R, alloc: Global) -> Result<bool> {
+    let mut bytes = Vec::new(alloc);
+    finds_batches(rt, alloc, &mut bytes)
 }
 
 #[test]
 fn fronts_of_groups_are_found(rt: HostRuntime) {
-    let mut failed = finds_fronts(&rt, rt.alloc());
-    if matches!(failed, Err(Error::Memory)) {
-        failed = finds_fronts(&rt, rt.alloc());
+    let mut held = ended(finds_fronts(&rt, rt.alloc()));
+    if held.is_none() {
+        held = ended(finds_fronts(&rt, rt.alloc()));
     }
-    assert!(rt; matches!(failed, Ok(None)));
+    assert!(rt; matches!(held, Some(true)));
 }

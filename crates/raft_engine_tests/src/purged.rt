@@ -1,14 +1,14 @@
 //! Append files that no table needs: an engine deletes them, and what is left gives its records.
 
 use crate::batches::Part::{Clean, Compact, Delete, Entries, Put};
-use crate::batches::{Part, REGION, batch_of};
+use crate::batches::{Part, REGION};
+use crate::calls::{count_files, ended, new_engine, purge, recovered, rotate, write};
 use crate::engine::text_of;
-use raft_base::{LogQueue, Version};
+use crate::reopened::holds;
+use raft_base::LogQueue;
 use raft_engine::Engine;
 use raft_files::MemoryFiles;
-use raft_memtable::MemTableAccessor;
-use raft_records::{Error, Result};
-use raft_recover::{file_segments, recover_both};
+use raft_records::Result;
 use std::alloc::Global;
 use std::thread::Threads;
 
@@ -59,58 +59,62 @@ static PURGES: [Purge; 7] = [
 
 /// Writes each batch and begins a new file behind it.
 fn written(alloc: Global, row: &Purge) -> Result<Engine<MemoryFiles>> {
-    let mut engine = Engine::new(alloc, Version::V2, MemoryFiles::new(alloc))?;
-    for parts in row.batches {
-        let mut batch = batch_of(alloc, parts)?;
-        engine.write(&mut batch, false)?;
-        engine.rotate()?;
-    }
+    let mut engine = new_engine(alloc)?;
+    write_all(alloc, &mut engine, row.batches)?;
     Ok(engine)
 }
 
-/// Returns the tables that the files of an engine give.
-fn recovered<R: Threads + Sync>(
+fn write_all(alloc: Global, engine: &mut Engine<MemoryFiles>, batches: &[&[Part]]) -> Result<()> {
+    for parts in batches {
+        write(alloc, engine, *parts, false)?;
+        rotate(engine)?;
+    }
+    Ok(())
+}
+
+/// Tests whether this is what the files of an engine give.
+fn is_recovered<R: Threads + Sync>(
     rt: &R,
     alloc: Global,
     files: &MemoryFiles,
-) -> Result<MemTableAccessor> {
-    let append = file_segments(
-        LogQueue::Append,
-        Version::V2,
-        files.copies(LogQueue::Append)?,
-    )?;
-    let rewrite = file_segments(
-        LogQueue::Rewrite,
-        Version::V2,
-        files.copies(LogQueue::Rewrite)?,
-    )?;
-    recover_both(rt, alloc, rewrite.as_slice(), append.as_slice(), 2)
+    left: &str,
+) -> Result<bool> {
+    let append = files.copies(LogQueue::Append)?;
+    let found = recovered(rt, alloc, append, files.copies(LogQueue::Rewrite)?)?;
+    Ok(text_of(alloc, found.get(REGION))?.as_str() == left)
 }
 
 /// Tests whether a purge deletes so many files, the second one none, and what is left stays.
 fn is_purged<R: Threads + Sync>(rt: &R, alloc: Global, row: &Purge) -> Result<bool> {
     let mut engine = written(alloc, row)?;
-    let deleted = engine.purge_expired_files()?;
-    let again = engine.purge_expired_files()?;
-    let files = engine.files().files(LogQueue::Append).len();
-    let kept = text_of(alloc, engine.accessor().get(REGION))?.as_str() == row.left;
-    let found = recovered(rt, alloc, engine.files())?;
+    is_purged_in(rt, alloc, &mut engine, row)
+}
+
+fn is_purged_in<R: Threads + Sync>(
+    rt: &R,
+    alloc: Global,
+    engine: &mut Engine<MemoryFiles>,
+    row: &Purge,
+) -> Result<bool> {
+    let deleted = purge(engine)?;
+    let again = purge(engine)?;
+    let files = count_files(engine, LogQueue::Append);
     Ok(
         deleted == row.deleted
             && again == 0
             && files.saturating_add(deleted) == row.batches.len().saturating_add(1)
-            && kept
-            && text_of(alloc, found.get(REGION))?.as_str() == row.left,
+            && holds(alloc, engine, row.left)?
+            && is_recovered(rt, alloc, engine.files(), row.left)?,
     )
 }
 
 #[test]
 fn files_that_no_table_needs_are_deleted(rt: HostRuntime) {
     for (row, purge) in PURGES.iter().enumerate() {
-        let mut held = is_purged(&rt, rt.alloc(), purge);
-        if matches!(held, Err(Error::Memory)) {
-            held = is_purged(&rt, rt.alloc(), purge);
+        let mut held = ended(is_purged(&rt, rt.alloc(), purge));
+        if held.is_none() {
+            held = ended(is_purged(&rt, rt.alloc(), purge));
         }
-        assert!(rt; matches!(held, Ok(true)), "row {row}");
+        assert!(rt; matches!(held, Some(true)), "row {row}");
     }
 }

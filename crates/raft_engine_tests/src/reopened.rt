@@ -1,50 +1,19 @@
 //! An engine that is opened over what a stop left: what it cuts, tells, moves and deletes, with ample memory.
 
 use crate::batches::Part::{Clean, Compact, Delete, Entries, Put, Truncate};
-use crate::batches::{Part, REGION, batch_of};
+use crate::batches::{Part, REGION};
+use crate::calls::{
+    LogFiles, copies, count_files, ended, is_corruption, new_engine, open, purge, reopened,
+    rewrite, rotate, write,
+};
 use crate::engine::Step::{Append, Purge, Rewrite};
 use crate::engine::{Engine as Histories, text_of};
-use raft_base::{FileSeq, LogQueue, Version};
+use raft_base::LogQueue;
 use raft_engine::Engine;
 use raft_files::MemoryFiles;
-use raft_records::{Error, Result};
+use raft_records::Result;
 use std::alloc::Global;
 use std::thread::Threads;
-
-type LogFiles = Vec<(FileSeq, Vec<u8>)>;
-
-/// Opens an engine over files, with two workers.
-pub fn open<R: Threads + Sync>(
-    rt: &R,
-    alloc: Global,
-    append: LogFiles,
-    rewrite: LogFiles,
-) -> Result<Engine<MemoryFiles>> {
-    let files = MemoryFiles::found(append, rewrite);
-    let append = files.copies(LogQueue::Append)?;
-    let rewrite = files.copies(LogQueue::Rewrite)?;
-    let engine = Engine::open(rt, alloc, Version::V2, files, append, rewrite, 2)?;
-    Ok(engine)
-}
-
-/// Opens an engine over copies of the files of another one.
-pub fn reopened<R: Threads + Sync>(
-    rt: &R,
-    alloc: Global,
-    engine: &Engine<MemoryFiles>,
-) -> Result<Engine<MemoryFiles>> {
-    Engine::open_copies(rt, alloc, Version::V2, engine.files(), 2)
-}
-
-pub fn write(
-    alloc: Global,
-    engine: &mut Engine<MemoryFiles>,
-    parts: &[Part],
-    sync: bool,
-) -> Result<()> {
-    let mut batch = batch_of(alloc, parts)?;
-    engine.write(&mut batch, sync)
-}
 
 /// Tests whether this is what an engine holds.
 pub fn holds(alloc: Global, engine: &Engine<MemoryFiles>, text: &str) -> Result<bool> {
@@ -115,15 +84,19 @@ static CHANGES: [Change; 10] = [
 /// Opens an engine over files of both queues, where [1,10) and `k=v` were rewritten and their append file deleted.
 fn found<R: Threads + Sync>(rt: &R, alloc: Global) -> Result<Engine<MemoryFiles>> {
     let mut store = Histories::new(alloc)?;
+    found_in(rt, alloc, &mut store)
+}
+
+fn found_in<R: Threads + Sync>(
+    rt: &R,
+    alloc: Global,
+    store: &mut Histories,
+) -> Result<Engine<MemoryFiles>> {
     store.take(&Append(1, &[Entries(1, 10), Put("v")]))?;
     store.take(&Rewrite(1, Some(1), &[Entries(1, 10), Put("v")]))?;
     store.take(&Purge(LogQueue::Append, 1))?;
-    open(
-        rt,
-        alloc,
-        store.copies(LogQueue::Append)?,
-        store.copies(LogQueue::Rewrite)?,
-    )
+    let append = store.copies(LogQueue::Append)?;
+    open(rt, alloc, append, store.copies(LogQueue::Rewrite)?)
 }
 
 /// Makes an engine that wrote [1,10) and `k=v`, moved them to the rewrite queue, and deleted their append file.
@@ -133,12 +106,17 @@ pub fn moved(alloc: Global) -> Result<Engine<MemoryFiles>> {
 
 /// Makes an engine that wrote a batch, moved its records to the rewrite queue, and deleted their append file.
 pub fn moved_parts(alloc: Global, parts: &[Part]) -> Result<Engine<MemoryFiles>> {
-    let mut engine = Engine::new(alloc, Version::V2, MemoryFiles::new(alloc))?;
-    write(alloc, &mut engine, parts, false)?;
-    engine.rotate()?;
-    engine.rewrite(1)?;
-    engine.purge_expired_files()?;
+    let mut engine = new_engine(alloc)?;
+    write_and_move(alloc, &mut engine, parts)?;
     Ok(engine)
+}
+
+fn write_and_move(alloc: Global, engine: &mut Engine<MemoryFiles>, parts: &[Part]) -> Result<()> {
+    write(alloc, engine, parts, false)?;
+    rotate(engine)?;
+    rewrite(engine, 1)?;
+    purge(engine)?;
+    Ok(())
 }
 
 /// Writes the batches of a change, each to the append queue's last file, and begins the next one.
@@ -146,11 +124,11 @@ fn make(alloc: Global, engine: &mut Engine<MemoryFiles>, change: &Change) -> Res
     for parts in change.batches {
         write(alloc, engine, parts, false)?;
     }
-    engine.rotate()
+    rotate(engine)
 }
 
 fn has_append_files(engine: &Engine<MemoryFiles>, count: usize) -> bool {
-    engine.files().files(LogQueue::Append).len() == count
+    count_files(engine, LogQueue::Append) == count
 }
 
 /// Tests whether this is what an engine holds that is opened over copies of the files of another one.
@@ -166,7 +144,7 @@ pub fn is_found<R: Threads + Sync>(
 
 /// Tests whether a purge leaves so many of two append files.
 fn leaves(engine: &mut Engine<MemoryFiles>, files: usize) -> Result<bool> {
-    let deleted = engine.purge_expired_files()?;
+    let deleted = purge(engine)?;
     Ok(deleted.saturating_add(files) == 2 && has_append_files(engine, files))
 }
 
@@ -205,11 +183,11 @@ fn all_stay<R: Threads + Sync>(rt: &R, alloc: Global, change: &Change) -> Result
 #[test]
 fn changes_stay(rt: HostRuntime) {
     for (row, change) in CHANGES.iter().enumerate() {
-        let mut held = all_stay(&rt, rt.alloc(), change);
-        if matches!(held, Err(Error::Memory)) {
-            held = all_stay(&rt, rt.alloc(), change);
+        let mut held = ended(all_stay(&rt, rt.alloc(), change));
+        if held.is_none() {
+            held = ended(all_stay(&rt, rt.alloc(), change));
         }
-        assert!(rt; matches!(held, Ok(true)), "row {row}");
+        assert!(rt; matches!(held, Some(true)), "row {row}");
     }
 }
 
@@ -229,13 +207,19 @@ struct Fronts {
 }
 
 fn made(alloc: Global) -> Result<Fronts> {
-    let mut engine = Engine::new(alloc, Version::V2, MemoryFiles::new(alloc))?;
+    let mut engine = new_engine(alloc)?;
+    let ends = write_all(alloc, &mut engine)?;
+    Ok(Fronts { engine, ends })
+}
+
+/// Writes these batches, and returns how many bytes the file has after each.
+fn write_all(alloc: Global, engine: &mut Engine<MemoryFiles>) -> Result<Vec<usize>> {
     let mut ends = Vec::new(alloc);
     for parts in &WRITES {
-        write(alloc, &mut engine, parts, false)?;
+        write(alloc, engine, parts, false)?;
         ends.push(last_len(engine.files().files(LogQueue::Append)))?;
     }
-    Ok(Fronts { engine, ends })
+    Ok(ends)
 }
 
 fn last_len(files: &LogFiles) -> usize {
@@ -274,24 +258,30 @@ fn opened_at<R: Threads + Sync>(
     fronts: &Fronts,
     len: usize,
 ) -> Result<Engine<MemoryFiles>> {
-    let mut append = fronts.engine.files().copies(LogQueue::Append)?;
-    if let Some(last) = append.last_mut() {
-        last.1.truncate(len);
-    }
+    let append = front_of(&fronts.engine, len)?;
     open(
         rt,
         alloc,
         append,
-        fronts.engine.files().copies(LogQueue::Rewrite)?,
+        copies(&fronts.engine, LogQueue::Rewrite)?,
     )
+}
+
+/// Returns the append files, of which the last one has so many bytes.
+fn front_of(engine: &Engine<MemoryFiles>, len: usize) -> Result<LogFiles> {
+    let mut append = copies(engine, LogQueue::Append)?;
+    if let Some(last) = append.last_mut() {
+        last.1.truncate(len);
+    }
+    Ok(append)
 }
 
 /// Replaces all that an engine holds, moves it, and deletes the file that it was in.
 fn replace(alloc: Global, engine: &mut Engine<MemoryFiles>) -> Result<usize> {
     write(alloc, engine, &[Clean, Put("x")], true)?;
-    engine.rotate()?;
-    engine.rewrite(u64::MAX)?;
-    engine.purge_expired_files()
+    rotate(engine)?;
+    rewrite(engine, u64::MAX)?;
+    purge(engine)
 }
 
 /// Tests whether an engine finds the batches that are whole where the append file has so many bytes, and goes on.
@@ -302,64 +292,82 @@ fn finds_front<R: Threads + Sync>(
     len: usize,
 ) -> Result<bool> {
     let mut engine = opened_at(rt, alloc, fronts, len)?;
-    if !holds(alloc, &engine, left_by(whole_in(fronts, len)))?
-        || replace(alloc, &mut engine)? != 1
-    {
+    goes_on(rt, alloc, &mut engine, left_by(whole_in(fronts, len)))
+}
+
+fn goes_on<R: Threads + Sync>(
+    rt: &R,
+    alloc: Global,
+    engine: &mut Engine<MemoryFiles>,
+    left: &str,
+) -> Result<bool> {
+    if !holds(alloc, engine, left)? || replace(alloc, engine)? != 1 {
         return Ok(false);
     }
-    is_found(rt, alloc, &engine, "k=x")
+    is_found(rt, alloc, engine, "k=x")
 }
 
 /// Tests it of each number of bytes.
-fn finds_fronts<R: Threads + Sync>(rt: &R, alloc: Global) -> Result<Option<usize>> {
-    let fronts = made(alloc)?;
+fn finds_all<R: Threads + Sync>(rt: &R, alloc: Global, fronts: &Fronts) -> Result<bool> {
     for len in 0..last_len(fronts.engine.files().files(LogQueue::Append)).saturating_add(1) {
-        if !finds_front(rt, alloc, &fronts, len)? {
-            return Ok(Some(len));
+        if !finds_front(rt, alloc, fronts, len)? {
+            return Ok(false);
         }
     }
-    Ok(None)
+    Ok(true)
+}
+
+fn finds_fronts<R: Threads + Sync>(rt: &R, alloc: Global) -> Result<bool> {
+    let fronts = made(alloc)?;
+    finds_all(rt, alloc, &fronts)
 }
 
 #[test]
 fn fronts_are_found(rt: HostRuntime) {
-    let mut failed = finds_fronts(&rt, rt.alloc());
-    if matches!(failed, Err(Error::Memory)) {
-        failed = finds_fronts(&rt, rt.alloc());
+    let mut held = ended(finds_fronts(&rt, rt.alloc()));
+    if held.is_none() {
+        held = ended(finds_fronts(&rt, rt.alloc()));
     }
-    assert!(rt; matches!(failed, Ok(None)));
+    assert!(rt; matches!(held, Some(true)));
 }
 
 /// Tests whether a file is refused whose first batch is damaged.
 fn refuses_damage<R: Threads + Sync>(rt: &R, alloc: Global, fronts: &Fronts) -> Result<bool> {
-    let mut append = fronts.engine.files().copies(LogQueue::Append)?;
+    let append = damaged_files(&fronts.engine)?;
+    Ok(is_corruption(open(rt, alloc, append, Vec::new(alloc))))
+}
+
+fn damaged_files(engine: &Engine<MemoryFiles>) -> Result<LogFiles> {
+    let mut append = copies(engine, LogQueue::Append)?;
     if let Some(last) = append.last_mut() {
         if let Some(byte) = last.1.get_mut(24) {
             *byte ^= 1;
         }
     }
-    let opened = open(rt, alloc, append, Vec::new(alloc));
-    Ok(matches!(opened, Err(Error::Corruption(_))))
+    Ok(append)
 }
 
 /// Tests whether files are refused whose numbers don't rise.
 fn refuses_numbers<R: Threads + Sync>(rt: &R, alloc: Global, fronts: &Fronts) -> Result<bool> {
-    let mut append = fronts.engine.files().copies(LogQueue::Append)?;
+    let mut append = copies(&fronts.engine, LogQueue::Append)?;
     append.push((1, Vec::new(alloc)))?;
-    let opened = open(rt, alloc, append, Vec::new(alloc));
-    Ok(matches!(opened, Err(Error::Corruption(_))))
+    Ok(is_corruption(open(rt, alloc, append, Vec::new(alloc))))
+}
+
+fn refuses_both<R: Threads + Sync>(rt: &R, alloc: Global, fronts: &Fronts) -> Result<bool> {
+    Ok(refuses_damage(rt, alloc, fronts)? && refuses_numbers(rt, alloc, fronts)?)
 }
 
 fn refuses<R: Threads + Sync>(rt: &R, alloc: Global) -> Result<bool> {
     let fronts = made(alloc)?;
-    Ok(refuses_damage(rt, alloc, &fronts)? && refuses_numbers(rt, alloc, &fronts)?)
+    refuses_both(rt, alloc, &fronts)
 }
 
 #[test]
 fn what_no_stop_leaves_is_refused(rt: HostRuntime) {
-    let mut held = refuses(&rt, rt.alloc());
-    if matches!(held, Err(Error::Memory)) {
-        held = refuses(&rt, rt.alloc());
+    let mut held = ended(refuses(&rt, rt.alloc()));
+    if held.is_none() {
+        held = ended(refuses(&rt, rt.alloc()));
     }
-    assert!(rt; matches!(held, Ok(true)));
+    assert!(rt; matches!(held, Some(true)));
 }

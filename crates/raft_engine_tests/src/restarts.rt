@@ -4,13 +4,17 @@
 use crate::again::empty_append_files;
 use crate::batches::Part;
 use crate::batches::Part::{Clean, Compact, Delete, Entries, Put, Truncate};
-use crate::reopened::{holds, is_found, moved_parts, reopened, write};
-use raft_base::Version;
+use crate::calls::{ended, new_engine, purge, reopened, rotate, write};
+use crate::reopened::{holds, is_found, moved_parts};
 use raft_engine::Engine;
 use raft_files::MemoryFiles;
-use raft_records::{Error, Result};
+use raft_records::Result;
 use std::alloc::Global;
 use std::thread::Threads;
+
+fn state_that_what_is_left_is_opened(engine: &Engine<MemoryFiles>) {
+    engine.what_is_left_is_opened();
+}
 
 /// Opens an engine over copies of the files of another one.
 fn restarted<R: Threads + Sync>(
@@ -18,28 +22,52 @@ fn restarted<R: Threads + Sync>(
     alloc: Global,
     engine: &Engine<MemoryFiles>,
 ) -> Result<Engine<MemoryFiles>> {
-    engine.what_is_left_is_opened();
+    state_that_what_is_left_is_opened(engine);
     reopened(rt, alloc, engine)
 }
 
 /// Tests whether each restart has what was written before it, and the last one what was written after the first.
 fn restarts_find_all<R: Threads + Sync>(rt: &R, alloc: Global) -> Result<bool> {
-    let mut engine = Engine::new(alloc, Version::V2, MemoryFiles::new(alloc))?;
+    let mut engine = new_engine(alloc)?;
     write(alloc, &mut engine, &[Entries(1, 6), Put("v")], true)?;
-    let mut second = restarted(rt, alloc, &engine)?;
+    finds_first(rt, alloc, &engine)
+}
+
+fn finds_first<R: Threads + Sync>(
+    rt: &R,
+    alloc: Global,
+    engine: &Engine<MemoryFiles>,
+) -> Result<bool> {
+    Ok(finds_second(rt, alloc, engine)? && holds(alloc, engine, "[1,6)k=v")?)
+}
+
+fn finds_second<R: Threads + Sync>(
+    rt: &R,
+    alloc: Global,
+    engine: &Engine<MemoryFiles>,
+) -> Result<bool> {
+    let mut second = restarted(rt, alloc, engine)?;
     write(alloc, &mut second, &[Compact(3), Put("w")], true)?;
-    let third = restarted(rt, alloc, &second)?;
-    third.what_is_left_is_opened();
-    Ok(holds(alloc, &engine, "[1,6)k=v")? && holds(alloc, &third, "[3,6)k=w")?)
+    finds_third(rt, alloc, &second)
+}
+
+fn finds_third<R: Threads + Sync>(
+    rt: &R,
+    alloc: Global,
+    second: &Engine<MemoryFiles>,
+) -> Result<bool> {
+    let third = restarted(rt, alloc, second)?;
+    state_that_what_is_left_is_opened(&third);
+    holds(alloc, &third, "[3,6)k=w")
 }
 
 #[test]
 fn each_restart_finds_all(rt: HostRuntime) {
-    let mut held = restarts_find_all(&rt, rt.alloc());
-    if matches!(held, Err(Error::Memory)) {
-        held = restarts_find_all(&rt, rt.alloc());
+    let mut held = ended(restarts_find_all(&rt, rt.alloc()));
+    if held.is_none() {
+        held = ended(restarts_find_all(&rt, rt.alloc()));
     }
-    assert!(rt; matches!(held, Ok(true)));
+    assert!(rt; matches!(held, Some(true)));
 }
 
 /// Records in a rewrite file, batches of the last append file that take something of them away, and what is left.
@@ -107,25 +135,58 @@ static REMOVALS: [Removal; 8] = [
 /// Makes an engine with a removal's records in its rewrite file, and its batches in the last append file.
 fn removed(alloc: Global, removal: &Removal) -> Result<Engine<MemoryFiles>> {
     let mut engine = moved_parts(alloc, removal.moved)?;
-    for parts in removal.batches {
-        write(alloc, &mut engine, parts, true)?;
-    }
+    write_all(alloc, &mut engine, removal.batches)?;
     Ok(engine)
+}
+
+fn write_all(alloc: Global, engine: &mut Engine<MemoryFiles>, batches: &[&[Part]]) -> Result<()> {
+    for parts in batches {
+        write(alloc, engine, *parts, true)?;
+    }
+    Ok(())
+}
+
+/// Opens an engine over the files of such an engine.
+fn removed_and_restarted<R: Threads + Sync>(
+    rt: &R,
+    alloc: Global,
+    removal: &Removal,
+) -> Result<Engine<MemoryFiles>> {
+    let engine = removed(alloc, removal)?;
+    restarted(rt, alloc, &engine)
 }
 
 /// Tests whether what was taken away stays away by a restart, a purge of the file that says so, and one more restart.
 fn stays_away<R: Threads + Sync>(rt: &R, alloc: Global, removal: &Removal) -> Result<bool> {
-    let mut engine = restarted(rt, alloc, &removed(alloc, removal)?)?;
-    let found = holds(alloc, &engine, removal.left)?;
-    engine.rotate()?;
-    let deleted = engine.purge_expired_files()?;
-    Ok(found && deleted == removal.deleted && is_found(rt, alloc, &engine, removal.left)?)
+    let mut engine = removed_and_restarted(rt, alloc, removal)?;
+    stays_away_in(rt, alloc, &mut engine, removal)
+}
+
+fn stays_away_in<R: Threads + Sync>(
+    rt: &R,
+    alloc: Global,
+    engine: &mut Engine<MemoryFiles>,
+    removal: &Removal,
+) -> Result<bool> {
+    let found = holds(alloc, engine, removal.left)?;
+    rotate(engine)?;
+    let deleted = purge(engine)?;
+    Ok(found && deleted == removal.deleted && is_found(rt, alloc, engine, removal.left)?)
 }
 
 /// Tests it where what is left moves before the purge, which deletes the file in any case then.
 fn stays_away_moved<R: Threads + Sync>(rt: &R, alloc: Global, removal: &Removal) -> Result<bool> {
-    let mut engine = restarted(rt, alloc, &removed(alloc, removal)?)?;
-    Ok(empty_append_files(&mut engine)? && is_found(rt, alloc, &engine, removal.left)?)
+    let mut engine = removed_and_restarted(rt, alloc, removal)?;
+    stays_away_moved_in(rt, alloc, &mut engine, removal)
+}
+
+fn stays_away_moved_in<R: Threads + Sync>(
+    rt: &R,
+    alloc: Global,
+    engine: &mut Engine<MemoryFiles>,
+    removal: &Removal,
+) -> Result<bool> {
+    Ok(empty_append_files(engine)? && is_found(rt, alloc, engine, removal.left)?)
 }
 
 fn both_stay_away<R: Threads + Sync>(rt: &R, alloc: Global, removal: &Removal) -> Result<bool> {
@@ -135,10 +196,10 @@ fn both_stay_away<R: Threads + Sync>(rt: &R, alloc: Global, removal: &Removal) -
 #[test]
 fn what_was_taken_away_stays_away(rt: HostRuntime) {
     for (row, removal) in REMOVALS.iter().enumerate() {
-        let mut held = both_stay_away(&rt, rt.alloc(), removal);
-        if matches!(held, Err(Error::Memory)) {
-            held = both_stay_away(&rt, rt.alloc(), removal);
+        let mut held = ended(both_stay_away(&rt, rt.alloc(), removal));
+        if held.is_none() {
+            held = ended(both_stay_away(&rt, rt.alloc(), removal));
         }
-        assert!(rt; matches!(held, Ok(true)), "row {row}");
+        assert!(rt; matches!(held, Some(true)), "row {row}");
     }
 }

@@ -1,6 +1,7 @@
 //! Whether the histories end as they say.
 
 use crate::batches::Part::Entries;
+use crate::calls::{ended, is_corruption, is_true};
 use crate::cases::groups::missed;
 use crate::cases::rewritings::refused;
 use crate::cases::{Case, failures, groups, removals, rewritings};
@@ -14,10 +15,29 @@ use std::process::Abort;
 /// Tests whether a history ends as it says.
 fn ends(alloc: Global, case: &Case) -> Result<bool> {
     let mut engine = Engine::new(alloc)?;
-    for step in case.steps {
+    ends_in(&mut engine, case)
+}
+
+fn ends_in(engine: &mut Engine, case: &Case) -> Result<bool> {
+    take_all(engine, case.steps)?;
+    Ok(keeps(engine, case.kept)? && recovers(engine, case.found)?)
+}
+
+fn take_all(engine: &mut Engine, steps: &[Step]) -> Result<()> {
+    for step in steps {
         engine.take(step)?;
     }
-    Ok(engine.kept()?.as_str() == case.kept && engine.recovered()?.as_str() == case.found)
+    Ok(())
+}
+
+/// Tests whether this is what the tables hold.
+fn keeps(engine: &Engine, text: &str) -> Result<bool> {
+    Ok(engine.kept()?.as_str() == text)
+}
+
+/// Tests whether this is what the files give.
+fn recovers(engine: &Engine, text: &str) -> Result<bool> {
+    Ok(engine.recovered()?.as_str() == text)
 }
 
 /// Takes the steps of a history but for the last, and returns what the engine answers to that.
@@ -26,9 +46,7 @@ fn last_answer(alloc: Global, steps: &[Step]) -> Result<Result<()>> {
         return Err(Error::Failed);
     };
     let mut engine = Engine::new(alloc)?;
-    for step in steps {
-        engine.take(step)?;
-    }
+    take_all(&mut engine, steps)?;
     Ok(engine.take(last))
 }
 
@@ -39,17 +57,21 @@ fn refuses_last(alloc: Global, steps: &[Step]) -> Result<bool> {
 
 /// Tests whether the last step of a history finds no file for its entry, and no other.
 fn misses_last(alloc: Global, steps: &[Step]) -> Result<bool> {
-    Ok(matches!(last_answer(alloc, steps)?, Err(Error::EntryNotFound)))
+    Ok(is_missing(last_answer(alloc, steps)?))
+}
+
+fn is_missing(answer: Result<()>) -> bool {
+    matches!(answer, Err(Error::EntryNotFound))
 }
 
 /// Runs each history of a table, once more where an allocation is refused: it has to find memory then.
 fn all_end(rt: &impl Abort, alloc: Global, table: &str, cases: &[Case]) {
     for (row, case) in cases.iter().enumerate() {
-        let mut ended = ends(alloc, case);
-        if matches!(ended, Err(Error::Memory)) {
-            ended = ends(alloc, case);
+        let mut held = ended(ends(alloc, case));
+        if held.is_none() {
+            held = ended(ends(alloc, case));
         }
-        assert!(rt; matches!(ended, Ok(true)), "{table}: row {row}");
+        assert!(rt; matches!(held, Some(true)), "{table}: row {row}");
     }
 }
 
@@ -65,11 +87,11 @@ fn histories_end_as_they_say(rt: HostRuntime) {
 #[test]
 fn replaced_entries_are_not_moved(rt: HostRuntime) {
     for (row, steps) in refused().iter().enumerate() {
-        let mut ended = refuses_last(rt.alloc(), steps);
-        if !matches!(ended, Ok(true)) {
-            ended = refuses_last(rt.alloc(), steps);
+        let mut held = is_true(refuses_last(rt.alloc(), steps));
+        if !held {
+            held = is_true(refuses_last(rt.alloc(), steps));
         }
-        assert!(rt; matches!(ended, Ok(true)), "row {row}");
+        assert!(rt; held, "row {row}");
     }
 }
 
@@ -77,11 +99,11 @@ fn replaced_entries_are_not_moved(rt: HostRuntime) {
 #[test]
 fn entries_of_deleted_files_are_missed(rt: HostRuntime) {
     for (row, steps) in missed().iter().enumerate() {
-        let mut ended = misses_last(rt.alloc(), steps);
-        if !matches!(ended, Ok(true)) {
-            ended = misses_last(rt.alloc(), steps);
+        let mut held = is_true(misses_last(rt.alloc(), steps));
+        if !held {
+            held = is_true(misses_last(rt.alloc(), steps));
         }
-        assert!(rt; matches!(ended, Ok(true)), "row {row}");
+        assert!(rt; held, "row {row}");
     }
 }
 
@@ -95,53 +117,72 @@ fn written(alloc: Global) -> Result<Engine> {
 /// Tests whether a batch that the table refuses makes the restart refuse too, once it is written without a test.
 fn refuses_again(alloc: Global) -> Result<bool> {
     let mut engine = written(alloc)?;
-    let tested = engine.write_tested(1, &[Entries(4, 6)]);
-    let found = engine.recovered()?.as_str() == "[1,3)";
-    let written = engine.take(&Append(1, &[Entries(4, 6)]));
-    let refused = is_corruption(written) && is_corruption(engine.recovered());
-    Ok(is_corruption(tested) && found && refused)
+    refuses_again_in(&mut engine)
+}
+
+fn refuses_again_in(engine: &mut Engine) -> Result<bool> {
+    let tested = is_corruption(engine.write_tested(1, &[Entries(4, 6)]));
+    let found = recovers(engine, "[1,3)")?;
+    let written = is_corruption(engine.take(&Append(1, &[Entries(4, 6)])));
+    Ok(tested && found && written && is_corruption(engine.recovered()))
 }
 
 /// Tests whether a torn tail is refused, and what is before it is found once it is cut off.
 fn finds_front(alloc: Global) -> Result<bool> {
     let mut engine = written(alloc)?;
+    finds_front_in(&mut engine)
+}
+
+fn finds_front_in(engine: &mut Engine) -> Result<bool> {
     engine.take(&Append(1, &[Entries(3, 4)]))?;
     engine.tear();
     let torn = is_corruption(engine.recovered());
     engine.cut_tail()?;
-    Ok(torn && engine.recovered()?.as_str() == "[1,3)")
+    Ok(torn && recovers(engine, "[1,3)")?)
 }
 
 /// Tests whether a changed entry byte is found when the entry is read, and not before.
 fn finds_byte(alloc: Global) -> Result<bool> {
     let mut engine = written(alloc)?;
+    finds_byte_in(&mut engine)
+}
+
+fn finds_byte_in(engine: &mut Engine) -> Result<bool> {
     let read = engine.entry(1)?.as_slice() == b"x".as_slice();
     engine.flip(16);
-    let found = engine.recovered()?.as_str() == "[1,3)";
+    let found = recovers(engine, "[1,3)")?;
     Ok(read && found && is_corruption(engine.entry(1)))
 }
 
 /// Tests whether a tail is cut that is torn behind an entry whose bytes are a readable batch.
 fn cuts_behind_entry(alloc: Global) -> Result<bool> {
     let mut engine = written(alloc)?;
+    cuts_behind_entry_in(&mut engine)
+}
+
+fn cuts_behind_entry_in(engine: &mut Engine) -> Result<bool> {
     engine.append_batch_in_entry(3)?;
-    let whole = engine.recovered()?.as_str() == "[1,4)";
+    let whole = recovers(engine, "[1,4)")?;
     engine.tear();
     let later = engine.has_batch_later()?;
     engine.cut_tail()?;
-    Ok(whole && later && engine.recovered()?.as_str() == "[1,3)")
+    Ok(whole && later && recovers(engine, "[1,3)")?)
 }
 
 /// Tests whether nothing is cut where the first of two batches can't be read: a byte of its items is changed.
 fn keeps_damaged(alloc: Global) -> Result<bool> {
     let mut engine = written(alloc)?;
+    keeps_damaged_in(&mut engine)
+}
+
+fn keeps_damaged_in(engine: &mut Engine) -> Result<bool> {
     engine.take(&Append(1, &[Entries(3, 4)]))?;
-    let whole = engine.recovered()?.as_str() == "[1,4)";
+    let whole = recovers(engine, "[1,4)")?;
     engine.flip(24);
     let cut = is_corruption(engine.cut_tail());
     let refused = is_corruption(engine.recovered());
     engine.flip(24);
-    Ok(whole && cut && refused && engine.recovered()?.as_str() == "[1,4)")
+    Ok(whole && cut && refused && recovers(engine, "[1,4)")?)
 }
 
 /// How many bytes stand before the entries of a batch.
@@ -150,12 +191,17 @@ const HEADER: usize = 16;
 /// Returns the entries 1 and 2, which are synced, and 3 and 4, each in a batch that isn't; and where these begin.
 fn unsynced(alloc: Global) -> Result<(Engine, usize, usize)> {
     let mut engine = written(alloc)?;
+    let (first, second) = write_unsynced(&mut engine)?;
+    Ok((engine, first, second))
+}
+
+fn write_unsynced(engine: &mut Engine) -> Result<(usize, usize)> {
     engine.take(&Sync(LogQueue::Append))?;
     let first = engine.len();
     engine.take(&Append(1, &[Entries(3, 4)]))?;
     let second = engine.len();
     engine.take(&Append(1, &[Entries(4, 5)]))?;
-    Ok((engine, first, second))
+    Ok((first, second))
 }
 
 /// Tests whether nothing is cut where a failure of power takes a page of the first of two unsynced batches, and leaves the
@@ -173,18 +219,25 @@ fn keeps_hole(alloc: Global) -> Result<bool> {
 fn cuts_lost_header(alloc: Global) -> Result<bool> {
     let (mut engine, first, second) = unsynced(alloc)?;
     engine.lose_page(first, second);
+    cuts_to(&mut engine, first, "[1,3)")
+}
+
+/// Tests whether a tail is cut where so many bytes are left, and this is found then.
+fn cuts_to(engine: &mut Engine, len: usize, text: &str) -> Result<bool> {
     engine.cut_tail()?;
-    Ok(engine.len() == first && engine.recovered()?.as_str() == "[1,3)")
+    Ok(engine.len() == len && recovers(engine, text)?)
+}
+
+/// Tests whether a tail is cut, and this is found then.
+fn cuts_and_finds(engine: &mut Engine, text: &str) -> Result<bool> {
+    engine.cut_tail()?;
+    recovers(engine, text)
 }
 
 /// Tests whether each front of two unsynced batches is opened, and gives the batches that are whole in it.
 fn opens_fronts(alloc: Global) -> Result<bool> {
-    let (engine, first, second) = unsynced(alloc)?;
-    let len = engine.len();
+    let (first, second, len) = unsynced_places(alloc)?;
     for end in first..=len {
-        let (mut engine, _, _) = unsynced(alloc)?;
-        engine.lose_from(end);
-        engine.cut_tail()?;
         let found = if end < second {
             "[1,3)"
         } else if end < len {
@@ -192,11 +245,23 @@ fn opens_fronts(alloc: Global) -> Result<bool> {
         } else {
             "[1,5)"
         };
-        if engine.recovered()?.as_str() != found {
+        if !opens_front(alloc, end, found)? {
             return Ok(false);
         }
     }
     Ok(true)
+}
+
+/// Returns where the two batches that aren't synced begin, and where the second one ends.
+fn unsynced_places(alloc: Global) -> Result<(usize, usize, usize)> {
+    let (engine, first, second) = unsynced(alloc)?;
+    Ok((first, second, engine.len()))
+}
+
+fn opens_front(alloc: Global, end: usize, found: &str) -> Result<bool> {
+    let (mut engine, _, _) = unsynced(alloc)?;
+    engine.lose_from(end);
+    cuts_and_finds(&mut engine, found)
 }
 
 /// Tests whether a batch that was synced before the next one was written is found where a page of that one is lost.
@@ -204,45 +269,32 @@ fn finds_synced(alloc: Global) -> Result<bool> {
     let (mut engine, _, second) = unsynced(alloc)?;
     let len = engine.len();
     engine.lose_page(second.saturating_add(HEADER), len);
-    engine.cut_tail()?;
-    Ok(engine.recovered()?.as_str() == "[1,4)")
-}
-
-fn is_corruption<T: Drop>(answer: Result<T>) -> bool {
-    matches!(answer, Err(Error::Corruption(_)))
+    cuts_and_finds(&mut engine, "[1,4)")
 }
 
 /// Runs each, once more where an allocation is refused: it has to find memory then.
 #[test]
 fn damage_is_found(rt: HostRuntime) {
     let alloc = rt.alloc();
-    assert!(rt;
-        matches!(refuses_again(alloc), Ok(true)) || matches!(refuses_again(alloc), Ok(true))
-    );
-    assert!(rt; matches!(finds_front(alloc), Ok(true)) || matches!(finds_front(alloc), Ok(true)));
-    assert!(rt; matches!(finds_byte(alloc), Ok(true)) || matches!(finds_byte(alloc), Ok(true)));
+    assert!(rt; is_true(refuses_again(alloc)) || is_true(refuses_again(alloc)));
+    assert!(rt; is_true(finds_front(alloc)) || is_true(finds_front(alloc)));
+    assert!(rt; is_true(finds_byte(alloc)) || is_true(finds_byte(alloc)));
 }
 
 /// Runs each, once more where an allocation is refused.
 #[test]
 fn torn_tails_are_told_from_damage(rt: HostRuntime) {
     let alloc = rt.alloc();
-    assert!(rt;
-        matches!(cuts_behind_entry(alloc), Ok(true)) || matches!(cuts_behind_entry(alloc), Ok(true))
-    );
-    assert!(rt;
-        matches!(keeps_damaged(alloc), Ok(true)) || matches!(keeps_damaged(alloc), Ok(true))
-    );
+    assert!(rt; is_true(cuts_behind_entry(alloc)) || is_true(cuts_behind_entry(alloc)));
+    assert!(rt; is_true(keeps_damaged(alloc)) || is_true(keeps_damaged(alloc)));
 }
 
 /// Runs each, once more where an allocation is refused.
 #[test]
 fn fronts_are_opened_and_holes_refused(rt: HostRuntime) {
     let alloc = rt.alloc();
-    assert!(rt; matches!(keeps_hole(alloc), Ok(true)) || matches!(keeps_hole(alloc), Ok(true)));
-    assert!(rt;
-        matches!(cuts_lost_header(alloc), Ok(true)) || matches!(cuts_lost_header(alloc), Ok(true))
-    );
-    assert!(rt; matches!(opens_fronts(alloc), Ok(true)) || matches!(opens_fronts(alloc), Ok(true)));
-    assert!(rt; matches!(finds_synced(alloc), Ok(true)) || matches!(finds_synced(alloc), Ok(true)));
+    assert!(rt; is_true(keeps_hole(alloc)) || is_true(keeps_hole(alloc)));
+    assert!(rt; is_true(cuts_lost_header(alloc)) || is_true(cuts_lost_header(alloc)));
+    assert!(rt; is_true(opens_fronts(alloc)) || is_true(opens_fronts(alloc)));
+    assert!(rt; is_true(finds_synced(alloc)) || is_true(finds_synced(alloc)));
 }

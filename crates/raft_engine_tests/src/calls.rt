@@ -1,0 +1,184 @@
+//! The calls of an engine, each in a function without a clause: goals of the functions that call these don't have the engine's
+//! clauses before them, and are cheap to prove. A function that drops an engine or an error is dear for each way out of it, so tests
+//! pass an engine on to a function that borrows it, mostly of the same name and `_in`, and ask here how that ended.
+
+use crate::batches::{Part, batch_of};
+use raft_base::{FileSeq, LogQueue, Version};
+use raft_engine::{Engine, Unopened};
+use raft_files::{EngineFiles, MemoryFiles};
+use raft_memtable::MemTableAccessor;
+use raft_records::{Error, LogBatch, Result};
+use raft_recover::{file_segments, recover_both};
+use std::alloc::Global;
+use std::thread::Threads;
+
+pub type LogFiles = Vec<(FileSeq, Vec<u8>)>;
+
+/// How files are opened.
+#[derive(Clone, Copy)]
+pub struct Way {
+    pub version: Version,
+    pub workers: usize,
+}
+
+pub const RIGHT: Way = Way {
+    version: Version::V2,
+    workers: 2,
+};
+
+pub type Opened = std::result::Result<Engine<MemoryFiles>, Unopened<MemoryFiles>>;
+
+/// Makes an engine over files in memory.
+pub fn new_engine(alloc: Global) -> Result<Engine<MemoryFiles>> {
+    Engine::new(alloc, Version::V2, MemoryFiles::new(alloc))
+}
+
+/// Opens an engine over files.
+pub fn open_as<R: Threads + Sync>(
+    rt: &R,
+    alloc: Global,
+    way: Way,
+    append: LogFiles,
+    rewrite: LogFiles,
+) -> Result<Opened> {
+    let files = MemoryFiles::found(append, rewrite);
+    let append = files.copies(LogQueue::Append)?;
+    let rewrite = files.copies(LogQueue::Rewrite)?;
+    Ok(Engine::open(rt, alloc, way.version, files, append, rewrite, way.workers))
+}
+
+/// Opens an engine over files, with two workers.
+pub fn open<R: Threads + Sync>(
+    rt: &R,
+    alloc: Global,
+    append: LogFiles,
+    rewrite: LogFiles,
+) -> Result<Engine<MemoryFiles>> {
+    let engine = open_as(rt, alloc, RIGHT, append, rewrite)??;
+    Ok(engine)
+}
+
+/// Opens an engine over copies of the files of another one.
+pub fn reopened<R: Threads + Sync>(
+    rt: &R,
+    alloc: Global,
+    engine: &Engine<MemoryFiles>,
+) -> Result<Engine<MemoryFiles>> {
+    Engine::open_copies(rt, alloc, Version::V2, engine.files(), 2)
+}
+
+/// Returns the tables that files give.
+pub fn recovered<R: Threads + Sync>(
+    rt: &R,
+    alloc: Global,
+    append: LogFiles,
+    rewrite: LogFiles,
+) -> Result<MemTableAccessor> {
+    let append = file_segments(LogQueue::Append, Version::V2, append)?;
+    let rewrite = file_segments(LogQueue::Rewrite, Version::V2, rewrite)?;
+    recover_both(rt, alloc, rewrite.as_slice(), append.as_slice(), 2)
+}
+
+pub fn copies(engine: &Engine<MemoryFiles>, queue: LogQueue) -> Result<LogFiles> {
+    engine.files().copies(queue)
+}
+
+/// Returns how many files of a queue an engine has.
+pub fn count_files(engine: &Engine<MemoryFiles>, queue: LogQueue) -> usize {
+    engine.files().files(queue).len()
+}
+
+pub fn write<F: EngineFiles>(
+    alloc: Global,
+    engine: &mut Engine<F>,
+    parts: &[Part],
+    sync: bool,
+) -> Result<()> {
+    let mut batch = batch_of(alloc, parts)?;
+    engine.write(&mut batch, sync)
+}
+
+pub fn write_batch<F: EngineFiles>(
+    engine: &mut Engine<F>,
+    mut batch: LogBatch,
+    sync: bool,
+) -> Result<()> {
+    if !batch.is_open() {
+        return Err(Error::Failed);
+    }
+    engine.write(&mut batch, sync)
+}
+
+pub fn rotate<F: EngineFiles>(engine: &mut Engine<F>) -> Result<()> {
+    engine.rotate()
+}
+
+pub fn rewrite<F: EngineFiles>(engine: &mut Engine<F>, gate: FileSeq) -> Result<()> {
+    engine.rewrite(gate)
+}
+
+pub fn rewrite_again<F: EngineFiles>(engine: &mut Engine<F>) -> Result<()> {
+    engine.rewrite_again()
+}
+
+pub fn purge<F: EngineFiles>(engine: &mut Engine<F>) -> Result<usize> {
+    engine.purge_expired_files()
+}
+
+pub fn purge_rewrites<F: EngineFiles>(engine: &mut Engine<F>) -> Result<usize> {
+    engine.purge_rewrite_files()
+}
+
+pub fn get_entry<F: EngineFiles>(
+    engine: &mut Engine<F>,
+    region: u64,
+    index: u64,
+) -> Result<Option<Vec<u8>>> {
+    engine.get_entry(region, index)
+}
+
+pub fn fetch<F: EngineFiles>(
+    engine: &mut Engine<F>,
+    region: u64,
+    range: (u64, u64),
+    max_size: Option<usize>,
+    entries: &mut Vec<Vec<u8>>,
+) -> Result<usize> {
+    engine.fetch_entries_to(region, range.0, range.1, max_size, entries)
+}
+
+/// Returns whether a test held; `None` where it found no memory, and is to run once more. Any other error counts as not held, so
+/// only `Some(true)` is to be asked for.
+pub fn ended(held: Result<bool>) -> Option<bool> {
+    match held {
+        Ok(held) => Some(held),
+        Err(Error::Memory) => None,
+        Err(_) => Some(false),
+    }
+}
+
+pub fn is_true(held: Result<bool>) -> bool {
+    matches!(held, Ok(true))
+}
+
+pub fn is_corruption<T: Drop>(answer: Result<T>) -> bool {
+    matches!(answer, Err(Error::Corruption(_)))
+}
+
+/// Tests whether a call is refused as damage. Another refusal is handed on.
+pub fn finds_damage<T: Drop>(answer: Result<T>) -> Result<bool> {
+    match answer {
+        Ok(_) => Ok(false),
+        Err(Error::Corruption(_)) => Ok(true),
+        Err(e) => Err(e),
+    }
+}
+
+/// Tests whether a call is refused as invalid. Another refusal is handed on.
+pub fn finds_invalid<T: Drop>(answer: Result<T>) -> Result<bool> {
+    match answer {
+        Ok(_) => Ok(false),
+        Err(Error::InvalidArgument(_)) => Ok(true),
+        Err(e) => Err(e),
+    }
+}

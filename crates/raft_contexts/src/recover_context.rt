@@ -237,7 +237,6 @@ impl ReplayMachine for MemTableRecoverContext {
         self.replay(batch, file_id)
     }
 
-    #[inline(always)]
     fn replay_read(&mut self, batch: &ReadBatch<'_>, file_id: FileId) -> Result<()> {
         self.replay_read(batch, file_id)
     }

@@ -1,11 +1,9 @@
 //! The files that are found when an engine is opened.
 
-ghost use Rattle.std.specs.Prelude.{◌≡◌, ◌≢◌, ◌∷◌, ◌++◌, ◌⊎◌, ◌↔◌, ◌≤◌, ◌<◌, [], length, map, IfOk, IfErr, IsTrue, OnOk};
-ghost use Rattle.raft_base.specs.Corruption.{IsCorruption};
+ghost use Rattle.std.specs.Prelude.{◌≡◌, ◌≢◌, ◌∷◌, ◌⊎◌, ◌↔◌, ◌≤◌, ◌<◌, [], length, map, IfOk, IfErr, IsTrue, OnOk};
 ghost use Rattle.raft_files.specs.HeldFiles.{file_shown};
 ghost use Rattle.raft_engine_fronts.specs.Done.{AreRisingFrom, numbers};
 ghost use Rattle.raft_files.specs.Disk.{cut_last};
-ghost use Rattle.raft_replay.specs.Stops.{place_text, queue_text};
 ghost use Rattle.raft_recover.specs.Files.{whole_file};
 ghost use Rattle.raft_engine.specs.FoundFiles.{AreAccepted, AreReadyBy, BeginsInOther, IsDamaged, IsDamagedAs, IsFoundFault, IsOfOther, IsOtherAs, IsTornFrom, other_version};
 ghost use Rattle.raft_engine.specs.OpeningAsks.{missing_asks};
@@ -16,6 +14,7 @@ use crate::missing::Missing;
 use raft_base::{Error, FileId, FileSeq, LogFileContext, LogQueue, Result, Version};
 use raft_records::laws::log_batches_are_read_again;
 use raft_records::{FilePart, LogBatch, next_batch, next_in, readable_front};
+use raft_replay::segment::corruption_at;
 use std::alloc::Global;
 
 /// Why a file is refused whose torn batch is followed by another one.
@@ -139,10 +138,10 @@ fn torn_from(file: &FilePart) -> Result<Option<usize>>
     };
     unless_memory(reason)?;
     if is_followed(file, at)? {
-        return Err(corruption_at(file.allocator(), file.id(), at, DAMAGED));
+        return Err(corruption_at(file.allocator(), file.id(), at as u64, DAMAGED));
     }
     if at == 0 && begins_in_other(file)? {
-        return Err(corruption_at(file.allocator(), file.id(), at, OF_OTHER_VERSION));
+        return Err(corruption_at(file.allocator(), file.id(), 0, OF_OTHER_VERSION));
     }
     Ok(Some(at))
 }
@@ -217,25 +216,4 @@ fn unless_memory(error: Error) -> Result<()>
         return Err(Error::Memory);
     }
     Ok(())
-}
-
-/// Returns the refusal of a file for a reason at a byte.
-fn corruption_at(alloc: Global, id: FileId, at: usize, reason: &str) -> Error
-    ensures { IsCorruption (place_text id at ++ reason.now) result }
-{
-    let queue = queue_name(id.queue);
-    match format!(in alloc; "{queue} file {}, offset {at}: {reason}", id.seq) {
-        Ok(text) => Error::Corruption(text),
-        Err(_) => Error::Memory,
-    }
-}
-
-/// Returns the name of a queue in texts.
-fn queue_name(queue: LogQueue) -> &'static str
-    ensures { result.now ≡ queue_text queue }
-{
-    match queue {
-        LogQueue::Append => "append",
-        LogQueue::Rewrite => "rewrite",
-    }
 }

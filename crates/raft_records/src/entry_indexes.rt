@@ -4,7 +4,7 @@ ghost use Rattle.std.specs.Prelude.{◌≡◌, ◌≢◌, ◌↔◌, ◌-◌, �
 ghost use Rattle.raft_records.specs.Common.{Reads, HasNoFront, IsEntries, IsTail, end_behind, tail_of, IsEntriesFault, IsTailFault, IsEntriesRefusal, RunOn, AreWritable, entry_between, varint, raised_entry, CanRaise, entries_size};
 ghost use Rattle.raft_records.specs.Common.{at_most_usize, Keeps, tails_bytes, entries_bytes};
 
-use crate::number::append_number;
+use crate::number::{append_number, append_whole};
 use crate::read_batch::items::read_entries;
 use raft_base::{
     AllocResult, CompressionType, EntryIndex, Error, FileBlockHandle, Result, is_consecutive,
@@ -100,12 +100,7 @@ impl EntryIndexes {
                 "the entries are not consecutive or don't run on",
             ));
         }
-        let len = buf.len();
-        if let Err(e) = self.write(buf) {
-            buf.truncate(len);
-            return Err(e.into());
-        }
-        Ok(())
+        append_whole!(buf, self.write(buf))
     }
 
     pub(crate) fn write(&self, buf: &mut Vec<u8>) -> AllocResult<()>

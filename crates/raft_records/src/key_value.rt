@@ -4,7 +4,7 @@ ghost use Rattle.std.specs.Prelude.{◌≡◌, ◌≢◌, ◌↔◌, ◌<◌, �
 ghost use Rattle.raft_records.specs.Common.{option_map, Reads, HasNoFront, IsByteString, IsKeyValue, pair_of, IsByteStringFault, IsKeyValueFault, IsOpTypeFault, IsPairRefusal, change_of, pair_size, at_most_usize, Keeps, byte_string};
 ghost use Rattle.raft_records.specs.Common.{pair_bytes, IsWritablePair, op_type_byte};
 
-use crate::number::append_number;
+use crate::number::{append_number, append_whole};
 use raft_base::{AllocResult, Error, FileId, Result};
 use raft_codec::codec::{self, BytesSlice};
 use std::alloc::Global;
@@ -115,12 +115,7 @@ impl KeyValue {
         if !self.is_writable() {
             return Err(Error::invalid_argument(*buf.allocator(), "a put has no value"));
         }
-        let len = buf.len();
-        if let Err(e) = self.write(buf) {
-            buf.truncate(len);
-            return Err(e.into());
-        }
-        Ok(())
+        append_whole!(buf, self.write(buf))
     }
 
     pub(crate) fn write(&self, buf: &mut Vec<u8>) -> AllocResult<()>

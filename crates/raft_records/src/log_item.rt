@@ -4,7 +4,7 @@ ghost use Rattle.std.specs.Prelude.{◌≡◌, ◌≢◌, ◌↔◌, ◌++◌, I
 ghost use Rattle.raft_records.specs.Common.{option_map, Reads, HasNoFront, IsItem, end_of_content, item_of, content_of, entries_item, command_item, pair_item, IsItemFault, IsItemRefusal, placed_item, raised_item, CanRaiseContent};
 ghost use Rattle.raft_records.specs.Common.{IsInRange, IsChange, content_made, item_size, at_most_usize, Keeps, item_bytes, content_bytes, IsWritable};
 
-use crate::number::append_number;
+use crate::number::{append_number, append_whole};
 use crate::read_batch::items::read_content;
 use crate::{Command, EntryIndexes, KeyValue, OpType, ReadContent};
 use raft_base::{AllocResult, CompressionType, EntryIndex, Error, FileBlockHandle, Result};
@@ -166,12 +166,7 @@ impl LogItem {
                 "an item's entries don't run on, or a put has no value",
             ));
         }
-        let len = buf.len();
-        if let Err(e) = self.write(buf) {
-            buf.truncate(len);
-            return Err(e.into());
-        }
-        Ok(())
+        append_whole!(buf, self.write(buf))
     }
 
     pub(crate) fn write(&self, buf: &mut Vec<u8>) -> AllocResult<()>

@@ -1,4 +1,4 @@
-//! Numbers that are written into items.
+//! What items' bytes are written with.
 
 ghost use Rattle.std.specs.Prelude.{◌≡◌, ◌<◌, ◌++◌, OnOk, OnErr};
 ghost use Rattle.raft_records.specs.Common.{varint};
@@ -21,3 +21,17 @@ pub(crate) fn append_number(buf: &mut Vec<u8>, number: u64) -> AllocResult<()>
     }
     codec::append_var_u64(buf, number)
 }
+
+/// Appends by a call that may leave a part of it, which is taken back where memory runs out.
+macro_rules! append_whole {
+    ($buf:ident, $write:expr) => {{
+        let len = $buf.len();
+        if let Err(e) = $write {
+            $buf.truncate(len);
+            return Err(e.into());
+        }
+        Ok(())
+    }};
+}
+
+pub(crate) use append_whole;

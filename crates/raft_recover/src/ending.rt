@@ -54,7 +54,9 @@ impl Program {
     }
 }
 
-pub(crate) fn refusal(error: &Error) -> &'static str
+/// Returns the word of a refusal.
+#[doc(hidden)]
+pub fn refusal(error: &Error) -> &'static str
     ensures { result.now ≡ refusal_word error.now }
 {
     match error {

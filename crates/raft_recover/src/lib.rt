@@ -11,6 +11,8 @@ pub mod scan;
 pub mod scan_program;
 pub mod shares;
 
+#[doc(hidden)]
+pub use ending::refusal;
 pub use files::{file_segments, files_hold_few_records};
 pub use program::{command_words, run, run_without_words};
 pub use raft_accessor::MemTableAccessor;

@@ -1,6 +1,6 @@
 //! Segments of a queue, and their replay into a machine.
 
-ghost use Rattle.std.specs.Prelude.{◌≡◌, ◌≢◌, ◌+◌, ◌^◌, ◌<◌, ◌++◌, List, Vec, length, string_bytes, IfOk, OnOk, IfErr};
+ghost use Rattle.std.specs.Prelude.{◌≡◌, ◌≢◌, ◌+◌, ◌^◌, ◌<◌, ◌++◌, List, Vec, length, IfOk, OnOk, IfErr};
 ghost use Rattle.raft_replay.specs.Common.{Global, error_kind, IsCorruption, Part, part_of, Event, IsSmall, HasReplayed, CannotFollow, HoldsFrom, EachHolds, SegmentsHold, queue_text, place_text, IsPlaced, IsStoodFor, IsWithPlace};
 ghost use Rattle.raft_replay.specs.Common.{StopsAmong, StopsByFault, bytes_of_segments, WrittenBatchIsHeld};
 
@@ -82,7 +82,7 @@ fn placed(alloc: Global, error: Error, id: FileId, offset: u64) -> Error
     ensures memory { result ≢ Error.Memory → error ≢ Error.Memory }
 {
     match error {
-        Error::Corruption(reason) => corruption_placed(alloc, reason, id, offset),
+        Error::Corruption(reason) => corruption_at(alloc, id, offset, reason.as_str()),
         Error::Io(error) => match io_placed(alloc, error, id, offset) {
             Ok(error) => Error::Io(error),
             Err(_) => Error::Memory,
@@ -95,8 +95,10 @@ fn placed(alloc: Global, error: Error, id: FileId, offset: u64) -> Error
     }
 }
 
-fn corruption_placed(alloc: Global, reason: String, id: FileId, offset: u64) -> Error
-    ensures { IsCorruption (place_text id offset ++ string_bytes reason) result }
+/// Returns the refusal of a file for a reason at a byte.
+#[doc(hidden)]
+pub fn corruption_at(alloc: Global, id: FileId, offset: u64, reason: &str) -> Error
+    ensures { IsCorruption (place_text id offset ++ reason.now) result }
 {
     let queue = queue_name(id.queue);
     match format!(in alloc; "{queue} file {}, offset {offset}: {reason}", id.seq) {

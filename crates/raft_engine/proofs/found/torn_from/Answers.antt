@@ -37,8 +37,7 @@ returns-then-branch-2-clause-refused c =
     let none : IsUnreadableAt c.args.file.now c.readable_front-at.result.0 = (rw c.in-Some.is at c.readable_front-at.ensures.refused) c.in_ok-unless_memory.ensures.ok in
     λ other. inr (record {
       other = record { unreadable = subst (IsUnreadableAt c.args.file.now) zero none; begins = c.in_ok-begins_in_other.ensures.ok.0 c.if-branch-2.true };
-      text = subst (λ (id : FileId). IsOtherText id 0 c.corruption_at-then-branch-2.result) c.id-then-branch-2.ensures
-          (subst (λ (n : ℕ). IsOtherText c.id-then-branch-2.result n c.corruption_at-then-branch-2.result) zero c.corruption_at-then-branch-2.ensures);
+      text = subst (λ (id : FileId). IsOtherText id 0 c.corruption_at-then-branch-2.result) c.id-then-branch-2.ensures c.corruption_at-then-branch-2.ensures;
     })
 
 pub returns-clause-ok : goal.returns-clause-ok

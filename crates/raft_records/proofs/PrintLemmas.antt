@@ -1,5 +1,5 @@
 -- The text of a batch that was decoded (no line shows a place), and what a writer holds that takes it part by part.
-use Rattle.raft_records.proofs.Common.{◌≡◌, ℕ, List, [], ◌∷◌, ◌++◌, length, map, Option, None, Some, IfSome, Result, Ok, Err, IfErr, OnErr, refl, ap, sym, subst, ◌∙◌, ◌+◌, length-map, flat_map, FileBlockHandle, CompressionType, LogItem}
+use Rattle.raft_records.proofs.Common.{◌≡◌, ℕ, List, [], ◌∷◌, ◌++◌, length, map, Option, None, Some, IfSome, Result, Ok, Err, IfErr, OnErr, refl, ap, sym, subst, ◌∙◌, length-map, flat_map, FileBlockHandle, CompressionType, LogItem}
 use Rattle.raft_records.proofs.Common.{Item, Content, entries, command, pair, item_of, IsDecoded, placed_item, placed_content, IsTextOf, line_of, last_line, content_text, placed_entry, zero, suc, ◌-◌, codes, arith, append_assoc, slice_get}
 use Rattle.raft_records.proofs.Common.{decimal, EntryIndex, end_behind, tail_of, entries_text, take, drop, Appends, Appends-trans, take_rest, take-append-drop}
 use Rattle.raft_records.proofs.BatchLemmas.{end_placed}

@@ -1,8 +1,6 @@
 -- The steps of a history whose items may stand in their files are steps; histories that are joined.
 use Rattle.raft_history.proofs.Common.{Append, le-leb, leb-true, HaveStatus, flat_map-append, map-append, ◌≡◌, ℕ, true, List, [], ◌∷◌, ◌++◌, Some, None, refl, ap, AllByRecursion, LogQueue, Step, IsStep, AreSteps, Event, BatchSteps}
 use Rattle.raft_history.proofs.Common.{marker_in, batch_of, batches, files_of, joined_files, follows, steps_of, EachApart, effects, AreInFile, FilesFrom, last_from, cleaned_in, RegionStep, steps_on, steps_of_items, cleaned_by_steps}
-use Rattle.raft_records.specs.declared.command.Command.TheVariants as commands
-use Rattle.raft_records.specs.declared.key_value.OpType.TheVariants as operations
 use Rattle.raft_history.proofs.Words.{AreInFiles, AllHaveStatus}
 use Rattle.raft_history.proofs.EachStepLemmas.{each_step_of, own_steps}
 use Rattle.raft_history.proofs.EffectLemmas.{each-append, each_weaker}

@@ -1,8 +1,8 @@
 //! Histories in which an engine loses records, or brings some back, that breaks one of the rules of docs/ENGINE.md: the same
 //! records, by the calls of an engine that can't break it. With one worker each byte of each batch is the last one that is left.
 
-use crate::change::Choice;
-use crate::change::Choice::{Clean, Compact, Delete, Entries, Put, SoundBatch, Truncate};
+use crate::choice::Choice;
+use crate::choice::Choice::{Clean, Compact, Delete, Entries, Put, SoundBatch, Truncate};
 use crate::faults::Step::{
     Again, Purge, PurgeRewrites, Restart, Rewrite, Rotate, Sync, Synced, Write,
 };

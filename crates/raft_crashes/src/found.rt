@@ -1,12 +1,12 @@
 //! The records that files have, as they are read.
 
 use crate::noted_files::{LogFiles, NotedFiles};
-use crate::records::{Contents, Records};
 use raft_base::{EntryIndex, Error, FileId, LogQueue, Result, Version};
 use raft_engine::Engine;
 use raft_files::MemoryFiles;
 use raft_records::{LogBatch, entry_bytes};
 use raft_recover::{MemTable, MemTableAccessor, Segment, file_segments, recover_both};
+use raft_samples::{Contents, Records, entries_of};
 use std::alloc::Global;
 use std::collections::BTreeMap;
 use std::thread::Threads;
@@ -71,7 +71,9 @@ fn read_entries(
 ) -> Result<()> {
     if let (Some(first), Some(last)) = (engine.first_index(region), engine.last_index(region)) {
         let entries = fetched(alloc, engine, region, first, last.saturating_add(1))?;
-        records.write(alloc, first, &entries)?;
+        for (index, text) in (first..).zip(entries) {
+            let _ = records.entries.insert(index, text)?;
+        }
     }
     Ok(())
 }
@@ -162,44 +164,12 @@ fn put(alloc: Global, records: &mut Records, key: &[u8], value: &[u8]) -> Result
 /// Reads the records of a table in these files.
 fn records_in(alloc: Global, files: &MemoryFiles, table: &MemTable) -> Result<Records> {
     let mut records = Records::new(alloc);
-    read_table(alloc, files, table, &mut records)?;
+    for entry in &entries_of(alloc, table)? {
+        let bytes = bytes_of(alloc, files, entry)?;
+        let _ = records.entries.insert(entry.index, bytes)?;
+    }
+    records.push_pairs(alloc, table)?;
     Ok(records)
-}
-
-fn read_table(
-    alloc: Global,
-    files: &MemoryFiles,
-    table: &MemTable,
-    records: &mut Records,
-) -> Result<()> {
-    let entries = entries_of(alloc, table)?;
-    for entry in &entries {
-        let _ = records
-            .entries
-            .insert(entry.index, bytes_of(alloc, files, entry)?)?;
-    }
-    for (key, value) in pairs_of(alloc, table)? {
-        let _ = records.pairs.insert(key, value)?;
-    }
-    Ok(())
-}
-
-fn entries_of(alloc: Global, table: &MemTable) -> Result<Vec<EntryIndex>> {
-    let mut entries = Vec::new(alloc);
-    table.fetch_entries_to(
-        table.first_index().unwrap_or(0),
-        table.end(),
-        None,
-        &mut entries,
-    )?;
-    Ok(entries)
-}
-
-fn pairs_of(alloc: Global, table: &MemTable) -> Result<Vec<(Vec<u8>, Vec<u8>)>> {
-    let mut pairs = Vec::new(alloc);
-    table.fetch_kvs_before(u64::MAX, &mut pairs)?;
-    table.fetch_rewritten_kvs(&mut pairs)?;
-    Ok(pairs)
 }
 
 /// Reads the bytes of an entry.

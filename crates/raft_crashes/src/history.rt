@@ -3,17 +3,16 @@
 ghost use Rattle.std.specs.Prelude.{◌≡◌, OnOk};
 ghost use Rattle.raft_records.specs.LogBatch.{is_open};
 
-use crate::change::{Change, Choice};
+use crate::choice::Choice;
 use crate::disk::{Disk, Stop};
 use crate::found::{Way, open, records_of};
 use crate::noted_files::NotedFiles;
-use crate::records::{Contents, Records, text_of};
 use crate::stops::{Host, Stops};
 use raft_base::{FileSeq, LogQueue, Result, Version};
 use raft_engine::Engine;
 use raft_files::MemoryFiles;
 use raft_records::LogBatch;
-use raft_samples::Dice;
+use raft_samples::{Contents, Dice, records_for, text_of};
 use std::alloc::Global;
 use std::collections::BTreeMap;
 
@@ -104,14 +103,9 @@ impl History {
         requires { batch.old.stage ≡ is_open }
         ensures { OnOk result (batch.new.stage ≡ is_open) }
     {
-        let mut records = match self.kept.remove(&region) {
-            Some(records) => records,
-            None => Records::new(self.alloc),
-        };
-        let change = Change::choose(self.alloc, &mut self.dice, &records, choice)?;
-        change.make(self.alloc, batch, region, &mut records)?;
-        let _ = self.kept.insert(region, records)?;
-        Ok(())
+        let records = records_for(self.alloc, &mut self.kept, region)?;
+        let change = choice.draw(self.alloc, &mut self.dice, records)?;
+        change.make(batch, region, records)
     }
 
     pub(crate) fn sync<R: Host>(&mut self, stops: &mut Stops<'_, R>) -> Result<()> {

@@ -7,7 +7,7 @@
 //! Its status is 1 where something else was read.
 #![tactic(auto)]
 
-mod change;
+mod choice;
 mod disk;
 mod faults;
 mod found;
@@ -15,7 +15,6 @@ mod history;
 mod noted_files;
 mod queue_disk;
 mod random;
-mod records;
 mod stops;
 
 use raft_base::{Error, Result};

@@ -1,6 +1,6 @@
 //! Random histories.
 
-use crate::change::Choice;
+use crate::choice::Choice;
 use crate::found::Way;
 use crate::history::History;
 use crate::stops::{Host, Stops};

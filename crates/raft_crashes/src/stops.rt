@@ -3,10 +3,9 @@
 use crate::disk::{Disk, Stop};
 use crate::found::{Way, open, records_of, recovered};
 use crate::noted_files::NotedFiles;
-use crate::records::{Contents, text_of};
 use raft_base::{Error, LogQueue, Result};
 use raft_engine::Engine;
-use raft_samples::Dice;
+use raft_samples::{Contents, Dice, text_of};
 use std::alloc::Global;
 use std::thread::Threads;
 

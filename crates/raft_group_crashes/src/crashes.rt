@@ -1,7 +1,6 @@
 //! Crashes of a store in random histories: after each batch and each deleted file, and in some histories after each
 //! byte, everything but the files is lost, and of these what wasn't synced from any batch or byte on.
 
-mod change;
 mod crash;
 mod disk;
 mod history;

@@ -4,7 +4,6 @@
 //! The store is written over the calls below `Engine`, which has no atomic groups.
 #![tactic(auto)]
 
-mod contents;
 mod crashes;
 mod folder_pipe;
 mod logs;

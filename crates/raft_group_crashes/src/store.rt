@@ -10,11 +10,12 @@ use crate::logs::{Logs, push_tombstones};
 use raft_base::{
     CompressionType, EntryIndex, Error, FileBlockHandle, FileId, FileSeq, LogQueue, PipeLog, Result,
 };
-use raft_memtable::MemTableAccessor;
+use raft_memtable::{MemTable, MemTableAccessor};
 use raft_records::{LogBatch, LogItem, entry_bytes};
 use raft_recover::recover_both;
-use raft_samples::Proposal;
+use raft_samples::{Contents, Proposal, Records, entries_of};
 use std::alloc::Global;
+use std::collections::BTreeMap;
 use std::thread::Threads;
 
 /// The last offset at which a batch may stand.
@@ -137,14 +138,22 @@ impl<'a, R: Host> Store<'a, R> {
         Ok(place.id.seq)
     }
 
-    /// Reads all entries of a region.
-    pub(crate) fn all_entries(&self, region: u64) -> Result<Vec<Proposal>> {
-        let mut entries = Vec::new(self.rt.alloc());
-        if let Some(table) = self.tables.get(region) {
-            let first = table.first_index().unwrap_or(0);
-            table.fetch_entries_to(first, table.end(), None, &mut entries)?;
+    /// Reads all records.
+    pub(crate) fn contents(&self) -> Result<Contents> {
+        let mut contents = BTreeMap::new(self.rt.alloc());
+        for table in self.tables.tables()? {
+            let _ = contents.insert(table.region_id(), self.records_in(table)?)?;
         }
-        self.read(entries.as_slice())
+        Ok(contents)
+    }
+
+    /// Reads the records of a table.
+    fn records_in(&self, table: &MemTable) -> Result<Records> {
+        let alloc = self.rt.alloc();
+        let mut records = Records::new(alloc);
+        records.push_entries(self.read(&entries_of(alloc, table)?)?)?;
+        records.push_pairs(alloc, table)?;
+        Ok(records)
     }
 
     /// Reads the bytes of entries. Neighbors in one entry block are read together.

@@ -33,4 +33,9 @@ impl Dice {
     {
         self.below(times) == 0
     }
+
+    /// Returns a letter.
+    pub fn letter(&mut self) -> u8 {
+        b'a' + self.below(26) as u8
+    }
 }

@@ -1,12 +1,12 @@
 //! Folders as a crash leaves them.
 
-use crate::contents::{contents_of, text_of};
 use crate::folder_pipe::FolderPipe;
 use crate::logs::Logs;
 use crate::store::{Host, Store};
 use raft_base::{LogQueue, Result};
 use raft_memtable::{MemTableAccessor, MemTableRecoverContextFactory};
 use raft_recover::{OpenGate, replay_segments};
+use raft_samples::text_of;
 
 /// The folder that holds what a crash leaves.
 pub(crate) const CRASHED: &str = "raft_group_crashes_crashed";
@@ -53,7 +53,7 @@ impl<'a, R: Host + Print> Crashes<'a, R> {
         if workers > 1 {
             store.tables = recover_files(self.rt, &store.pipe, workers)?;
         }
-        text_of(alloc, &contents_of(alloc, &store)?)
+        text_of(alloc, &store.contents()?)
     }
 }
 

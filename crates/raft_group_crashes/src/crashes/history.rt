@@ -3,15 +3,13 @@
 ghost use Rattle.std.specs.Prelude.{◌≡◌, OnOk};
 ghost use Rattle.raft_records.specs.LogBatch.{is_open};
 
-use crate::contents::{Contents, Records, contents_of, text_of};
-use crate::crashes::change::Change;
 use crate::crashes::crash::{CRASHED, Crashes, FILE_SIZE};
 use crate::crashes::disk::DiskNotes;
 use crate::folder_pipe::{clear, path_in};
 use crate::store::{Host, Store};
 use raft_base::{Error, FileId, FileSeq, LogQueue, Result};
 use raft_records::LogBatch;
-use raft_samples::Dice;
+use raft_samples::{Change, Contents, Dice, records_for, text_of};
 use std::collections::BTreeMap;
 use std::fs;
 
@@ -93,7 +91,7 @@ impl<'a, R: Host + Print> History<'a, R> {
 
     /// Moves the records of the append queue, in half of the steps all of them.
     fn rewrite(&mut self) -> Result<()> {
-        if self.dice.below(2) == 0 {
+        if self.dice.hits(2) {
             return self.rewrite_all();
         }
         let _ = self.store.rewrite_append_queue()?;
@@ -109,7 +107,7 @@ impl<'a, R: Host + Print> History<'a, R> {
 
     /// Deletes files, in half of the steps all append files that no table needs.
     fn purge(&mut self) -> Result<()> {
-        if self.dice.below(2) == 0 {
+        if self.dice.hits(2) {
             self.store.rotate(LogQueue::Append)?;
         }
         let _ = self.store.purge()?;
@@ -119,7 +117,7 @@ impl<'a, R: Host + Print> History<'a, R> {
     /// Deletes all files that no table needs, in half of the steps after the store was opened again and has moved what it
     /// found in the append queue.
     fn purge_all(&mut self) -> Result<()> {
-        if self.dice.below(2) == 0 {
+        if self.dice.hits(2) {
             self.store = open(self.rt, self.file_size)?;
             self.rewrite_all()?;
         }
@@ -132,7 +130,7 @@ impl<'a, R: Host + Print> History<'a, R> {
     fn follow(&mut self, crashes: &mut Crashes<'a, R>) -> Result<()> {
         let alloc = self.rt.alloc();
         let new = text_of(alloc, &self.kept)?;
-        let found = text_of(alloc, &contents_of(alloc, &self.store)?)?;
+        let found = text_of(alloc, &self.store.contents()?)?;
         crashes.compare(found.as_str(), new.as_str())?;
         if let Some(changes) = self.store.changes.replace(Vec::new(alloc)) {
             for change in changes {
@@ -150,7 +148,7 @@ impl<'a, R: Host + Print> History<'a, R> {
         self.store.pipe.cut(append.0, append.1 as u64)?;
         self.store.pipe.cut(rewrite.0, rewrite.1 as u64)?;
         self.store = open(self.rt, self.file_size)?;
-        self.kept = contents_of(alloc, &self.store)?;
+        self.kept = self.store.contents()?;
         crashes.compare(text_of(alloc, &self.kept)?.as_str(), front.as_str())
     }
 
@@ -160,7 +158,7 @@ impl<'a, R: Host + Print> History<'a, R> {
         for _ in 0..self.dice.below(3) + 1 {
             self.change(&mut batch)?;
         }
-        let sync = self.dice.below(4) == 0;
+        let sync = self.dice.hits(4);
         self.store.write(batch, sync)
     }
 
@@ -169,10 +167,9 @@ impl<'a, R: Host + Print> History<'a, R> {
         let alloc = self.rt.alloc();
         let mut batch = LogBatch::default(alloc);
         for region in 1..3u64 {
-            if let (Some(mut records), true) = (self.kept.remove(&region), batch.is_open()) {
-                let change = Change::draw_replacement(alloc, &mut self.dice, &records)?;
-                change.make(&mut batch, region, &mut records)?;
-                let _ = self.kept.insert(region, records)?;
+            if let (Some(records), true) = (self.kept.get_mut(&region), batch.is_open()) {
+                let change = Change::draw_replacement(alloc, &mut self.dice, records)?;
+                change.make(&mut batch, region, records)?;
             }
         }
         if !batch.is_open() {
@@ -188,14 +185,8 @@ impl<'a, R: Host + Print> History<'a, R> {
     {
         let alloc = self.rt.alloc();
         let region = self.dice.below(2) + 1;
-        let mut records = match self.kept.remove(&region) {
-            Some(records) => records,
-            None => Records::new(alloc),
-        };
-        let change = Change::draw(alloc, &mut self.dice, &records)?;
-        change.make(batch, region, &mut records)?;
-        let _ = self.kept.insert(region, records)?;
-        Ok(())
+        let records = records_for(alloc, &mut self.kept, region)?;
+        Change::draw(alloc, &mut self.dice, records)?.make(batch, region, records)
     }
 }
 

@@ -1,35 +1,58 @@
-//! The records of regions, in plain maps.
+//! The records of regions, in plain maps. Its calls fail for want of memory alone.
 
-use raft_base::{Result, crc32};
+use crate::proposal::Proposal;
+use raft_base::{EntryIndex, Error, Result, crc32};
+use raft_memtable::MemTable;
 use std::alloc::Global;
 use std::collections::BTreeMap;
 
 /// The records of regions, by their numbers.
-pub(crate) type Contents = BTreeMap<u64, Records>;
+pub type Contents = BTreeMap<u64, Records>;
 
 /// The entries and the key values of a region.
 #[derive(Drop)]
-pub(crate) struct Records {
-    pub(crate) entries: BTreeMap<u64, Vec<u8>>,
-    pub(crate) pairs: BTreeMap<Vec<u8>, Vec<u8>>,
+pub struct Records {
+    /// The text of each entry, by its index.
+    pub entries: BTreeMap<u64, Vec<u8>>,
+    /// The value of each key.
+    pub pairs: BTreeMap<Vec<u8>, Vec<u8>>,
 }
 
 /// The greatest length of bytes that stand in a line as they are.
 const SHORT: usize = 40;
 
 impl Records {
-    pub(crate) fn new(alloc: Global) -> Records {
+    /// Makes those of a region that has none.
+    pub fn new(alloc: Global) -> Records {
         Records {
             entries: BTreeMap::new(alloc),
             pairs: BTreeMap::new(alloc),
         }
     }
 
-    /// Puts entries in place of those from the first index on.
-    pub(crate) fn write(&mut self, alloc: Global, first: u64, texts: &[Vec<u8>]) -> Result<()> {
-        self.truncate(first);
-        for (index, text) in (first..).zip(texts) {
-            let _ = self.entries.insert(index, Vec::from_slice(alloc, text)?)?;
+    /// Adds entries.
+    pub fn push_entries(&mut self, proposals: Vec<Proposal>) -> Result<()> {
+        for proposal in proposals {
+            let _ = self.entries.insert(proposal.index, proposal.text)?;
+        }
+        Ok(())
+    }
+
+    /// Puts entries in place of those from the first one's index on.
+    pub(crate) fn replace_entries(&mut self, proposals: Vec<Proposal>) -> Result<()> {
+        if let Some(first) = proposals.first() {
+            self.truncate(first.index);
+        }
+        self.push_entries(proposals)
+    }
+
+    /// Adds the key values of a table.
+    pub fn push_pairs(&mut self, alloc: Global, table: &MemTable) -> Result<()> {
+        let mut pairs = Vec::new(alloc);
+        table.fetch_kvs_before(u64::MAX, &mut pairs)?;
+        table.fetch_rewritten_kvs(&mut pairs)?;
+        for (key, value) in pairs {
+            let _ = self.pairs.insert(key, value)?;
         }
         Ok(())
     }
@@ -40,7 +63,7 @@ impl Records {
     }
 
     /// Returns the greatest index plus one; without entries 0.
-    pub(crate) fn end(&self) -> u64 {
+    pub fn end(&self) -> u64 {
         match self.entries.last_key_value() {
             Some((last, _)) => last.saturating_add(1),
             None => 0,
@@ -84,9 +107,25 @@ impl Records {
     }
 }
 
+/// Returns the records of a region, which has none at first.
+pub fn records_for(alloc: Global, contents: &mut Contents, region: u64) -> Result<&mut Records> {
+    if !contents.contains_key(&region) {
+        let _ = contents.insert(region, Records::new(alloc))?;
+    }
+    contents.get_mut(&region).ok_or(Error::Failed)
+}
+
+/// Returns where the entries of a table are.
+pub fn entries_of(alloc: Global, table: &MemTable) -> Result<Vec<EntryIndex>> {
+    let mut entries = Vec::new(alloc);
+    let first = table.first_index().unwrap_or(0);
+    table.fetch_entries_to(first, table.end(), None, &mut entries)?;
+    Ok(entries)
+}
+
 /// Returns a line for each region that has records. It is the same for the same records alone, but for a checksum in place of long
 /// bytes.
-pub(crate) fn text_of(alloc: Global, contents: &Contents) -> Result<String> {
+pub fn text_of(alloc: Global, contents: &Contents) -> Result<String> {
     let mut text = String::new(alloc);
     for (region, records) in contents {
         records.push_line(*region, &mut text)?;

@@ -1,35 +1,42 @@
-//! Random changes of a region, made in a batch and in a map.
+//! Random changes of a region, made in a batch and in plain maps. Drawing one fails for want of memory alone, and making one as the
+//! batch does.
 
 ghost use Rattle.std.specs.Prelude.{◌≡◌, OnOk};
 ghost use Rattle.raft_records.specs.LogBatch.{is_open};
 
-use crate::contents::Records;
+use crate::dice::Dice;
+use crate::proposal::{Proposal, Proposals};
+use crate::records::Records;
 use raft_base::Result;
 use raft_records::{Command, LogBatch};
-use raft_samples::{Dice, Proposal, Proposals};
 use std::alloc::Global;
 
 /// A change of a region.
 #[derive(Drop)]
-pub(crate) enum Change {
+pub enum Change {
     /// Appends entries, in place of those that are there from the first one's index on.
     Append(Vec<Proposal>),
     /// Appends entries, and compacts the region to its new end.
     Replace(Vec<Proposal>),
+    /// Puts a key with a value.
     Put(Vec<u8>, Vec<u8>),
+    /// Deletes a key.
     Delete(Vec<u8>),
+    /// Drops the entries below an index.
     Compact(u64),
+    /// Drops the entries from an index on.
     Truncate(u64),
+    /// Drops all records.
     Clean,
 }
 
 impl Change {
     /// Draws a change that a region with these records may have.
-    pub(crate) fn draw(alloc: Global, dice: &mut Dice, records: &Records) -> Result<Change> {
+    pub fn draw(alloc: Global, dice: &mut Dice, records: &Records) -> Result<Change> {
         let index = draw_index(dice, records);
         Ok(match dice.below(16) {
-            0..=5 => Change::Append(draw_entries(alloc, dice, index)?),
-            6 | 7 => Change::Replace(draw_entries(alloc, dice, index)?),
+            0..=5 => Change::Append(draw_run(alloc, dice, index)?),
+            6 | 7 => Change::Replace(draw_run(alloc, dice, index)?),
             8 | 9 => Change::Put(draw_key(alloc, dice)?, draw_text(alloc, dice)?),
             10 | 11 => Change::Delete(draw_key(alloc, dice)?),
             12 | 13 => Change::Compact(index),
@@ -38,22 +45,14 @@ impl Change {
         })
     }
 
-    /// Draws the change that replaces the entries of a region from its first one or the next on.
-    pub(crate) fn draw_replacement(
-        alloc: Global,
-        dice: &mut Dice,
-        records: &Records,
-    ) -> Result<Change> {
-        let first = match records.entries.first_key_value() {
-            Some((first, _)) => *first,
-            None => 1,
-        };
-        let index = first.saturating_add(dice.below(2));
-        Ok(Change::Replace(draw_entries(alloc, dice, index)?))
+    /// Draws entries in place of all of a region or all but the first, and a compaction to their end.
+    pub fn draw_replacement(alloc: Global, dice: &mut Dice, records: &Records) -> Result<Change> {
+        let first = records.first().unwrap_or(1).saturating_add(dice.below(2));
+        Ok(Change::Replace(draw_run(alloc, dice, first)?))
     }
 
     /// Adds the change to a batch, and makes it in the records of its region.
-    pub(crate) fn make(self, batch: &mut LogBatch, region: u64, records: &mut Records) -> Result<()>
+    pub fn make(self, batch: &mut LogBatch, region: u64, records: &mut Records) -> Result<()>
         requires { batch.old.stage ≡ is_open }
         ensures { OnOk result (batch.new.stage ≡ is_open) }
     {
@@ -79,9 +78,7 @@ impl Change {
                 batch.delete(region, key)
             }
             Change::Compact(index) => {
-                records
-                    .entries
-                    .retain(|entry: &u64, _: &mut Vec<u8>| *entry >= index);
+                records.compact(index);
                 batch.add_command(region, Command::Compact { index })
             }
             Change::Truncate(index) => {
@@ -89,50 +86,55 @@ impl Change {
                 batch.add_command(region, Command::Truncate { index })
             }
             Change::Clean => {
-                records.entries.clear();
-                records.pairs.clear();
+                records.clear();
                 batch.add_command(region, Command::Clean)
             }
         }
     }
 }
 
+/// Draws an index of a region or the one past its last, often that; of a region without entries any.
+fn draw_index(dice: &mut Dice, records: &Records) -> u64 {
+    let (first, end) = match records.first() {
+        Some(first) => (first, records.end()),
+        None => {
+            let first = dice.below(20);
+            (first, first)
+        }
+    };
+    if dice.hits(4) {
+        return end;
+    }
+    first.saturating_add(dice.below(end.saturating_sub(first).saturating_add(1)))
+}
+
 /// Draws one to five entries from an index on.
-fn draw_entries(alloc: Global, dice: &mut Dice, first: u64) -> Result<Vec<Proposal>> {
+fn draw_run(alloc: Global, dice: &mut Dice, first: u64) -> Result<Vec<Proposal>> {
+    let end = first.saturating_add(dice.below(5)).saturating_add(1);
+    draw_entries(alloc, dice, first, end)
+}
+
+/// Draws the entries from an index on and below another one.
+pub fn draw_entries(alloc: Global, dice: &mut Dice, first: u64, end: u64) -> Result<Vec<Proposal>> {
     let mut entries = Vec::new(alloc);
-    for index in first..first.saturating_add(dice.below(5)).saturating_add(1) {
+    for index in first..end {
         let text = draw_text(alloc, dice)?;
         entries.push(Proposal { index, text })?;
     }
     Ok(entries)
 }
 
-/// Returns an index of a region or the one past its last, often that; of a region without entries any.
-fn draw_index(dice: &mut Dice, records: &Records) -> u64 {
-    let (first, end) = match records.entries.first_key_value() {
-        Some((first, _)) => (*first, records.end()),
-        None => {
-            let first = dice.below(20);
-            (first, first)
-        }
-    };
-    if dice.below(4) == 0 {
-        return end;
-    }
-    first.saturating_add(dice.below(end.saturating_sub(first).saturating_add(1)))
-}
-
-/// Returns one of four keys.
+/// Draws one of four keys.
 fn draw_key(alloc: Global, dice: &mut Dice) -> Result<Vec<u8>> {
     let text = format!(in alloc; "k{}", dice.below(4))?;
     Ok(Vec::from_slice(alloc, text.as_bytes())?)
 }
 
-/// Returns a text of up to 20 bytes.
+/// Draws a text of up to 20 letters, which may be empty.
 fn draw_text(alloc: Global, dice: &mut Dice) -> Result<Vec<u8>> {
     let mut text = Vec::new(alloc);
     for _ in 0..dice.below(21) {
-        text.push(b'a' + dice.below(26) as u8)?;
+        text.push(dice.letter())?;
     }
     Ok(text)
 }

@@ -1,18 +1,19 @@
--- Rewrite files that no table needs are the same ones once the rewrite queue is told what was untold.
+-- Files that no table needs are the same ones once the rewrite queue is told what was untold.
 use Rattle.std.proofs.Common.{◌≡◌, ℕ, zero, suc, List, [], ◌∷◌, ◌++◌, drop, refl, sym, ap, ◌∙◌, subst}
+use Rattle.raft_base.specs.declared.pipe_log.LogQueue.{LogQueue}
 use Rattle.raft_base.specs.declared.pipe_log.LogQueue.TheVariants.{Append, Rewrite}
 use Rattle.raft_base.specs.declared.pipe_log.Version.{Version}
 use Rattle.raft_records.specs.Item.{Item}
 use Rattle.raft_records.specs.LogBatch.{Batch}
-use Rattle.raft_files.specs.Asks.{Ask, NumberedBytes, Sync, acts_on, ask}
-use Rattle.raft_files.specs.Disk.{begun, deletions}
+use Rattle.raft_files.specs.Asks.{Act, Ask, NumberedBytes, Sync, acts_on, ask}
+use Rattle.raft_files.specs.Disk.{begun, deletions, files_of}
 use Rattle.raft_engine_fronts.specs.Done.{numbers}
 use Rattle.raft_engine_fronts.proofs.NumberLemmas.{numbers_on_last}
 use Rattle.raft_engine.specs.BatchBytes.{bytes_for}
 use Rattle.raft_engine.specs.KeptEngine.{KeptEngine}
 use Rattle.raft_engine.specs.Moved.{IsTold}
 use Rattle.raft_engine.specs.Purged.{AreExpired, asks_of_items}
-use Rattle.raft_engine.proofs.KeptPurges.{rewrite_file}
+use Rattle.raft_engine.proofs.KeptPurges.{items_others, rewrite_file}
 
 told_numbers : (version : Version) (seq : ℕ) (batch : Batch) (items : List Item) (asks : List Ask)
     → numbers (begun (acts_on Rewrite (asks_of_items (rewrite_file version seq) batch items ++ asks))) ≡ numbers (begun (acts_on Rewrite asks))
@@ -30,18 +31,20 @@ numbers_dropped (suc n) [] = refl
 numbers_dropped (suc n) (x ∷ files) = numbers_dropped n files
 
 -- the same files are expired
-pub told_expired : (old told : KeptEngine) (count : ℕ) → IsTold old told → AreExpired Rewrite old count → AreExpired Rewrite told count
-told_expired old told count t x = subst (λ (e : KeptEngine). AreExpired Rewrite e count) (sym t.told) (record {
-  expired = x.expired;
-  rest = x.rest;
-  split = numbers_dropped (deletions (acts_on Rewrite asks)) (begun (acts_on Rewrite asks))
-      ∙ ap (λ (n : ℕ). drop n (numbers (begun (acts_on Rewrite asks)))) (told_deletions old.version t.seq old.untold old.untold.items (ask Append Sync ∷ old.asks))
-      ∙ ap (drop (deletions (acts_on Rewrite old.asks))) (told_numbers old.version t.seq old.untold old.untold.items (ask Append Sync ∷ old.asks))
-      ∙ sym (numbers_dropped (deletions (acts_on Rewrite old.asks)) (begun (acts_on Rewrite old.asks))) ∙ x.split;
-  many = x.many;
-  are = x.are;
-  no_more = x.no_more;
-})
+pub told_expired : (queue : LogQueue) (old told : KeptEngine) (count : ℕ) → IsTold old told → AreExpired queue old count → AreExpired queue told count
+told_expired queue old told count t x =
+    subst (λ (e : KeptEngine). AreExpired queue e count) (sym t.told) (record { expired = x.expired; rest = x.rest; split = same queue ∙ x.split; many = x.many; are = x.are; no_more = x.no_more })
   where
+    synced : List Ask
+    synced = ask Append Sync ∷ old.asks
+
     asks : List Ask
-    asks = asks_of_items (rewrite_file old.version t.seq) old.untold old.untold.items ++ (ask Append Sync ∷ old.asks)
+    asks = asks_of_items (rewrite_file old.version t.seq) old.untold old.untold.items ++ synced
+
+    same : (q : LogQueue) → numbers (files_of q asks) ≡ numbers (files_of q old.asks)
+    same Append = ap (λ (acts : List Act). numbers (drop (deletions acts) (begun acts))) (items_others old.version t.seq old.untold old.untold.items synced)
+    same Rewrite =
+        numbers_dropped (deletions (acts_on Rewrite asks)) (begun (acts_on Rewrite asks))
+        ∙ ap (λ (n : ℕ). drop n (numbers (begun (acts_on Rewrite asks)))) (told_deletions old.version t.seq old.untold old.untold.items synced)
+        ∙ ap (drop (deletions (acts_on Rewrite old.asks))) (told_numbers old.version t.seq old.untold old.untold.items synced)
+        ∙ sym (numbers_dropped (deletions (acts_on Rewrite old.asks)) (begun (acts_on Rewrite old.asks)))

@@ -1,10 +1,10 @@
 -- What an engine keeps once it purges files.
-use Rattle.std.proofs.Common.{◌≡◌, ◌≢◌, inl, inr, ℕ, ◌+◌, ◌-◌, ◌≤◌, Bool, true, false, List, [], ◌∷◌, ◌++◌, length, take, drop, refl, sym, ap, ◌∙◌, subst, arith, append_assoc}
+use Rattle.std.proofs.Common.{◌≡◌, ◌≢◌, inl, inr, ℕ, ◌+◌, ◌-◌, ◌≤◌, Bool, true, false, List, [], ◌∷◌, ◌++◌, length, take, refl, sym, ap, ◌∙◌, subst, arith, append_assoc, append-nil}
 use Rattle.std.specs.List.{AllByRecursion}
-use Rattle.std.specs.Vec.{vec_len}
 use Rattle.raft_base.specs.Signature.{signature_in}
 use Rattle.raft_base.specs.declared.errors.Error.{Error}
 use Rattle.raft_base.specs.declared.pipe_log.LogFileContext.{LogFileContext}
+use Rattle.raft_base.specs.declared.pipe_log.LogQueue.{LogQueue}
 use Rattle.raft_base.specs.declared.pipe_log.LogQueue.TheVariants.{Append, Rewrite}
 use Rattle.raft_base.specs.declared.pipe_log.Version.{Version}
 use Rattle.raft_records.proofs.FrameLemmas.{log_batch_length}
@@ -14,22 +14,24 @@ use Rattle.raft_history.specs.RegionSteps.{Tables}
 use Rattle.raft_accessor.specs.Accessor.{Accessor}
 use Rattle.raft_files.specs.Asks.{Ask, Sync, acts_on, ask}
 use Rattle.raft_files.specs.Disk.{begun, deletions}
-use Rattle.raft_engine_fronts.specs.Done.{numbers}
+use Rattle.raft_engine_fronts.specs.Done.{AreRisingFrom, numbers}
 use Rattle.raft_engine_laws.specs.Telling.{TakeAway}
 use Rattle.raft_engine.specs.BatchBytes.{bytes_for}
 use Rattle.raft_engine.specs.KeptEngine.{IsLastFile, KeptEngine}
 use Rattle.raft_engine.specs.KeptEngineView.{AreFilesOf, IsKeptBy}
 use Rattle.raft_engine.specs.Lasting.{AreSynced}
-use Rattle.raft_engine.specs.Moved.{IsTold, IsUntold}
-use Rattle.raft_engine.specs.Purged.{AreExpired, ArePurged, AreSomeDeleted, IsExpired, IsHalfPurged, IsLeastNeeded, IsUnpurged, asks_of_items, delete_asks, front_below, purge_asks, put_asks}
+use Rattle.raft_engine.specs.Moved.{IsReady, IsTold, IsUntold}
+use Rattle.raft_engine.specs.Purged.{AreExpired, AreFilesPurged, AreFilesUnpurged, AreSomeDeleted, IsExpired, IsHalfPurged, IsLeastNeeded, asks_of_items, delete_asks, front_below, purge_asks, put_asks}
+use Rattle.raft_engine.specs.PurgedRewrites.{AreDeleted, AreHalfDeleted}
+use Rattle.raft_engine.specs.QueueFilesOf.{IsTakenOff, of_queue}
 use Rattle.raft_engine.specs.ReadBack.{IsReadBackAlone}
 use Rattle.raft_engine.specs.Stored.{AreKeptStored, Bases}
 use Rattle.raft_engine.specs.StoredAsks.{DeletionsAreStored, IsWritableBatch, SyncsAreStored, ToldBatchesAreStored}
-use Rattle.raft_engine.specs.WrittenBatch.{file_of}
+use Rattle.raft_engine.specs.WrittenBatch.{IsHalfDone, file_of}
 use Rattle.raft_engine.specs.declared.queue_files.QueueFiles.{QueueFiles}
 use Rattle.raft_engine.proofs.FilesLemmas.{files_same, files_told}
-use Rattle.raft_engine.proofs.ReadBackLemmas.{append_deletes_begun, same_read_back}
-use Rattle.raft_engine.proofs.PurgeLemmas.{all_deleted, append_deletes_others, are_expired, closed_expired, closed_few, delete_fewer, few_expired, files_deleted, take_fewer}
+use Rattle.raft_engine.proofs.ReadBackLemmas.{append_deletes_begun, rewrite_deletes_begun, same_read_back}
+use Rattle.raft_engine.proofs.PurgeLemmas.{all_deleted, append_deletes_others, are_expired, closed_expired, closed_few, delete_fewer, few_expired, files_deleted, rewrite_deletes_others, take_fewer}
 
 -- a file of the rewrite queue
 abbrev pub rewrite_file : Version → ℕ → LogFileContext
@@ -79,195 +81,226 @@ asked_parts deletes puts asks = sym (
 -- ---- what is deleted
 
 -- the files that are counted are expired
-pub its_expired : (version : Version) (asks : List Ask) (append rewrite : QueueFiles) (untold : Batch) (accessor : Accessor) (intact : Bool)
-    → IsKeptBy version asks append rewrite untold accessor intact → intact ≡ true → (least count : ℕ) (closed : List ℕ) → IsLeastNeeded Append accessor.tables append.seq least
-    → closed ≡ append.closed.items → count ≡ front_below least closed
-    → AreExpired Append (record { version = version; asks = asks; untold = untold; accessor = accessor; intact = intact }) count
-its_expired version asks append rewrite untold accessor intact k is_intact least count closed l are counted =
-    let d = k.stored.now.append_done.done.done in
-    are_expired Append (record { version = version; asks = asks; untold = untold; accessor = accessor; intact = intact }) append (k.whole is_intact).append_files
-    d.first least count d.rising l (counted ∙ ap (front_below least) are)
+pub its_expired : (queue : LogQueue) (version : Version) (asks : List Ask) (append rewrite : QueueFiles) (untold : Batch) (accessor : Accessor) (intact : Bool)
+    → IsKeptBy version asks append rewrite untold accessor intact → intact ≡ true → (files : QueueFiles) → files ≡ of_queue queue append rewrite
+    → (least count : ℕ) → IsLeastNeeded queue accessor.tables files.seq least → count ≡ front_below least files.closed.items
+    → AreExpired queue (record { version = version; asks = asks; untold = untold; accessor = accessor; intact = intact }) count
+its_expired queue version asks append rewrite untold accessor intact k is_intact files are least count l counted =
+    are_expired queue (record { version = version; asks = asks; untold = untold; accessor = accessor; intact = intact }) files (subst (AreFilesOf queue asks) (sym are) (its queue))
+    (first queue) least count (rising queue) l counted
+  where
+    its : (q : LogQueue) → AreFilesOf q asks (of_queue q append rewrite)
+    its Append = (k.whole is_intact).append_files
+    its Rewrite = (k.whole is_intact).rewrite_files
 
--- where telling fails, the purge does
-pub untold_unpurged : (count : ℕ) (old new : KeptEngine) (e : Error) → AreExpired Append old count → count ≢ 0 → IsUntold old new e → IsUnpurged old new e
-untold_unpurged count old new e expired some (inl h) = inl (h.0, h.1, λ full. (count, expired, omega (arith, some)))
-untold_unpurged count old new e expired some (inr h) =
-    let rest : List Ask = delete_asks Append count ++ ask Rewrite Sync ∷ [] in
-    let told : List Ask = put_asks (file_of Rewrite old h.seq) old.untold ++ ask Append Sync ∷ [] in
-    inr (record {
-      count = count;
-      some = omega (arith, some);
-      expired = expired;
-      seq = h.seq;
-      bytes = h.bytes;
-      last = h.last;
-      half = let half = h.half.half in record {
-        half = record {
-          was = half.was;
-          is = half.is;
-          same = half.same;
-          missing = rest ++ half.missing;
-          made = half.made;
-          split = sym (append_assoc (delete_asks Append count) (ask Rewrite Sync ∷ []) told) ∙ ap (λ (l : List Ask). rest ++ l) half.split ∙ sym (append_assoc rest half.missing half.made);
-          asked = half.asked;
-        };
-        tables = h.half.tables;
+    first : LogQueue → ℕ
+    first Append = k.stored.now.append_done.done.done.first
+    first Rewrite = k.stored.now.rewrite_done.done.done.first
+
+    rising : (q : LogQueue) → AreRisingFrom (first q) (numbers (begun (acts_on q asks)))
+    rising Append = k.stored.now.append_done.done.done.rising
+    rising Rewrite = k.stored.now.rewrite_done.done.done.rising
+
+-- so many asks of a purge that are half done go on from those of a telling, or stand in it
+module _ (queue : LogQueue) (count : ℕ) (old : KeptEngine) (expired : AreExpired queue old count) (some : count ≢ 0) where
+  abbrev rest : List Ask
+  rest = delete_asks queue count ++ ask Rewrite Sync ∷ []
+
+  abbrev telling : ℕ → List Ask
+  telling seq = put_asks (file_of Rewrite old seq) old.untold ++ ask Append Sync ∷ []
+
+  parts : (seq : ℕ) → purge_asks queue (file_of Rewrite old seq) old.untold count ≡ rest ++ telling seq
+  parts seq = sym (append_assoc (delete_asks queue count) (ask Rewrite Sync ∷ []) (telling seq))
+
+  half_by : (seq : ℕ) (bytes : List ℕ) → IsLastFile Rewrite old.asks seq bytes → (new : KeptEngine) → IsHalfDone (rest ++ telling seq) old new → IsHalfPurged queue old new
+  half_by seq bytes last new half = record {
+    count = count;
+    some = omega (arith, some);
+    expired = expired;
+    seq = seq;
+    bytes = bytes;
+    last = last;
+    half = subst (λ (l : List Ask). IsHalfDone l old new) (sym (parts seq)) half;
+  }
+
+  -- where telling fails, the purge does
+  pub untold_unpurged : (new : KeptEngine) (e : Error) → IsUntold old new e → AreFilesUnpurged queue old new e
+  untold_unpurged new e (inl h) = inl (h.0, h.1, λ full. (count, expired, omega (arith, some)))
+  untold_unpurged new e (inr h) = let half = h.half.half in inr (half_by h.seq h.bytes h.last new (record {
+    half = record {
+      was = half.was;
+      is = half.is;
+      same = half.same;
+      missing = rest ++ half.missing;
+      made = half.made;
+      split = ap (λ (l : List Ask). rest ++ l) half.split ∙ sym (append_assoc rest half.missing half.made);
+      asked = half.asked;
+    };
+    tables = h.half.tables;
+  }))
+
+  -- once all is told
+  module _ (told : KeptEngine) (t : IsTold old told) where
+    told_asks : told.asks ≡ telling t.seq ++ old.asks
+    told_asks = ap (λ (o : KeptEngine). o.asks) t.told ∙ sym (append_assoc (put_asks (file_of Rewrite old t.seq) old.untold) (ask Append Sync ∷ []) old.asks)
+
+    pub told_half : (new : KeptEngine) → AreHalfDeleted queue count told new → IsHalfPurged queue old new
+    told_half new h = let half = h.half in half_by t.seq t.bytes t.last new (record {
+      half = record {
+        was = ap (λ (o : KeptEngine). o.intact) (sym t.told) ∙ half.was;
+        is = half.is;
+        same = half.same ∙ ap (λ (o : KeptEngine). o.version) t.told;
+        missing = half.missing;
+        made = half.made ++ telling t.seq;
+        split = ap (λ (l : List Ask). l ++ telling t.seq) half.split ∙ append_assoc half.missing half.made (telling t.seq);
+        asked = half.asked ∙ ap (λ (l : List Ask). half.made ++ l) told_asks ∙ sym (append_assoc half.made (telling t.seq) old.asks);
       };
+      tables = h.tables ∙ ap (λ (o : KeptEngine). o.accessor) t.told;
     })
 
--- an engine that was told what was untold
+    pub told_purged : (new : KeptEngine) → AreDeleted queue count told new → AreFilesPurged queue count old new
+    told_purged new d = (
+      expired,
+      inr (record {
+        some = omega (arith, some);
+        seq = t.seq;
+        bytes = t.bytes;
+        last = t.last;
+        purged = d ∙ ap (λ (o : KeptEngine). record o { asks = delete_asks queue count ++ (ask Rewrite Sync ∷ o.asks) }) t.told
+            ∙ ap (λ (l : List Ask). record old { asks = l; untold = empty_batch }) (asked_parts (delete_asks queue count) (put_asks (file_of Rewrite old t.seq) old.untold) old.asks);
+      }),
+    )
+
+-- a sync of the rewrite queue begins and deletes no file
+sync_begun : (queue : LogQueue) (asks : List Ask)
+    → (begun (acts_on queue (ask Rewrite Sync ∷ asks)) ≡ begun (acts_on queue asks)) × (deletions (acts_on queue (ask Rewrite Sync ∷ asks)) ≡ deletions (acts_on queue asks))
+sync_begun Append asks = (refl, refl)
+sync_begun Rewrite asks = (refl, refl)
+
+-- nor do deletions begin one
+deletes_begun : (queue other : LogQueue) (count : ℕ) (asks : List Ask) → begun (acts_on other (delete_asks queue count ++ asks)) ≡ begun (acts_on other asks)
+deletes_begun Append Append count asks = append_deletes_begun count asks
+deletes_begun Append Rewrite count asks = ap begun (append_deletes_others count asks)
+deletes_begun Rewrite Append count asks = ap begun (rewrite_deletes_others count asks)
+deletes_begun Rewrite Rewrite count asks = rewrite_deletes_begun count asks
+
+-- the files of both queues that are left
+both_left : (queue : LogQueue) (count : ℕ) (asks : List Ask) (append rewrite append' rewrite' : QueueFiles) → AreFilesOf Append asks append → AreFilesOf Rewrite asks rewrite
+    → count ≤ length (of_queue queue append rewrite).closed.items → IsTakenOff queue count append rewrite append' rewrite'
+    → AreFilesOf Append (delete_asks queue count ++ asks) append' × AreFilesOf Rewrite (delete_asks queue count ++ asks) rewrite'
+both_left Append count asks append rewrite append' rewrite' a r few t = let none = append_deletes_others count asks in (
+  files_deleted Append count asks append append' a few t.0.0 t.0.1 t.0.2,
+  subst (AreFilesOf Rewrite (delete_asks Append count ++ asks)) (sym t.1) (files_same Rewrite asks (delete_asks Append count ++ asks) rewrite rewrite (ap begun none) (ap deletions none) refl refl refl r),
+)
+both_left Rewrite count asks append rewrite append' rewrite' a r few t = let none = rewrite_deletes_others count asks in (
+  subst (AreFilesOf Append (delete_asks Rewrite count ++ asks)) (sym t.0) (files_same Append asks (delete_asks Rewrite count ++ asks) append append (ap begun none) (ap deletions none) refl refl refl a),
+  files_deleted Rewrite count asks rewrite rewrite' r few t.1.0 t.1.1 t.1.2,
+)
+
 module _
-    (synced : SyncsAreStored) (deleted : DeletionsAreStored Append)
+    (queue : LogQueue) (synced : SyncsAreStored) (append_deleted : DeletionsAreStored Append) (rewrite_deleted : DeletionsAreStored Rewrite)
     (version : Version) (asks : List Ask) (append rewrite : QueueFiles) (untold : Batch) (accessor : Accessor) (intact : Bool)
-    (k : IsKeptBy version asks append rewrite untold accessor intact) (old : KeptEngine) (was : old.intact ≡ true)
-    (t : IsTold old (record { version = version; asks = asks; untold = untold; accessor = accessor; intact = intact }))
-    (count : ℕ) (x : AreExpired Append old count) where
+    (k : IsKeptBy version asks append rewrite untold accessor intact)
+    (ready : IsReady (record { version = version; asks = asks; untold = untold; accessor = accessor; intact = intact }))
+    (count : ℕ) (x : AreExpired queue (record { version = version; asks = asks; untold = untold; accessor = accessor; intact = intact }) count) where
   abbrev engine : KeptEngine
   engine = record { version = version; asks = asks; untold = untold; accessor = accessor; intact = intact }
 
-  abbrev told : List Ask
-  told = put_asks (file_of Rewrite old t.seq) old.untold
+  abbrev one : List Ask
+  one = ask Rewrite Sync ∷ asks
 
-  abbrev two : List Ask
-  two = ask Rewrite Sync ∷ asks
+  abbrev files : QueueFiles
+  files = of_queue queue append rewrite
 
-  is_intact : intact ≡ true
-  is_intact = ap (λ (o : KeptEngine). o.intact) t.told ∙ was
+  deleted : (q : LogQueue) → DeletionsAreStored q
+  deleted Append = append_deleted
+  deleted Rewrite = rewrite_deleted
 
-  same_version : version ≡ old.version
-  same_version = ap (λ (o : KeptEngine). o.version) t.told
+  both_files : (q : LogQueue) → AreFilesOf q asks (of_queue q append rewrite)
+  both_files Append = (k.whole ready.intact).append_files
+  both_files Rewrite = (k.whole ready.intact).rewrite_files
 
-  same_accessor : accessor ≡ old.accessor
-  same_accessor = ap (λ (o : KeptEngine). o.accessor) t.told
+  its_files : AreFilesOf queue asks files
+  its_files = both_files queue
 
-  are_asks : asks ≡ told ++ (ask Append Sync ∷ old.asks)
-  are_asks = ap (λ (o : KeptEngine). o.asks) t.told
-
-  is_empty : untold ≡ empty_batch
-  is_empty = ap (λ (o : KeptEngine). o.untold) t.told
+  pub few : count ≤ length files.closed.items
+  few = few_expired queue engine files its_files count x
 
   nothing : k.untold ≡ []
-  nothing = sym (ap (λ (b : Batch). b.items) (k.whole is_intact).are_untold) ∙ ap (λ (b : Batch). b.items) is_empty
+  nothing = sym (ap (λ (b : Batch). b.items) (k.whole ready.intact).are_untold) ∙ ready.told
 
-  append_acts : acts_on Append asks ≡ Sync ∷ acts_on Append old.asks
-  append_acts = ap (acts_on Append) are_asks ∙ items_others old.version t.seq old.untold old.untold.items (ask Append Sync ∷ old.asks)
+  stored_one : AreKeptStored version one k.base [] k.tables
+  stored_one = synced Rewrite version asks k.base [] k.tables (subst (λ (u : List Item). AreKeptStored version asks k.base u k.tables) nothing k.stored)
 
-  append_synced : AreSynced (acts_on Append asks)
-  append_synced = subst AreSynced (sym append_acts) tt
-
-  its_files : AreFilesOf Append asks append
-  its_files = (k.whole is_intact).append_files
-
-  old_files : AreFilesOf Append old.asks append
-  old_files = files_same Append asks old.asks append append (sym (ap begun append_acts)) (sym (ap deletions append_acts)) refl refl refl its_files
-
-  few : count ≤ length append.closed.items
-  few = few_expired Append old append old_files count x
-
-  -- so many files may be deleted
-  pub few_closed : count ≤ vec_len append.closed
-  few_closed = let low = few in let len = append.closed.ok.0 in omega (arith, low, len)
-
-  all_expired : AllByRecursion (IsExpired Append k.tables) (take count (numbers its_files.closed))
+  all_expired : AllByRecursion (IsExpired queue k.tables) (take count (numbers its_files.closed))
   all_expired =
-      subst (λ (ns : List ℕ). AllByRecursion (IsExpired Append k.tables) (take count ns)) its_files.have
-      (subst (λ (m : Tables). AllByRecursion (IsExpired Append m) (take count append.closed.items)) (sym (ap (λ (a : Accessor). a.tables) same_accessor) ∙ (k.whole is_intact).are_tables)
-      (closed_expired Append old append old_files count x))
+      subst (λ (ns : List ℕ). AllByRecursion (IsExpired queue k.tables) (take count ns)) its_files.have
+      (subst (λ (m : Tables). AllByRecursion (IsExpired queue m) (take count files.closed.items)) (k.whole ready.intact).are_tables (closed_expired queue engine files its_files count x))
 
-  stored_one : AreKeptStored version asks k.base [] k.tables
-  stored_one = subst (λ (u : List Item). AreKeptStored version asks k.base u k.tables) nothing k.stored
-
-  stored_two : AreKeptStored version two k.base [] k.tables
-  stored_two = synced Rewrite version asks k.base [] k.tables stored_one
-
-  stored_deleted : (made : ℕ) → made ≤ count → AreKeptStored version (delete_asks Append made ++ two) k.base [] k.tables
+  stored_deleted : (made : ℕ) → made ≤ count → AreKeptStored version (delete_asks queue made ++ one) k.base [] k.tables
   stored_deleted made low =
       let f = its_files in
-      let fits = closed_few count append f.closed f.have few in
-      all_deleted Append deleted version k.base k.tables made two f.gone f.closed (append.seq, f.bytes) append_synced tt f.are f.deleted
-      (take_fewer (IsExpired Append k.tables) made count (numbers f.closed) low all_expired) (omega (arith, low, fits)) stored_two
+      let same = sync_begun queue asks in
+      let fits = closed_few count files f.closed f.have few in
+      all_deleted queue (deleted queue) version k.base k.tables made one f.gone f.closed (files.seq, f.bytes) ready.synced tt (same.0 ∙ f.are) (same.1 ∙ f.deleted)
+      (take_fewer (IsExpired queue k.tables) made count (numbers f.closed) low all_expired) (omega (arith, low, fits)) stored_one
 
   -- ---- where it fails
 
-  broken : (new : List Ask) (append' rewrite' : QueueFiles) (untold' : Batch) (accessor' : Accessor) → AreKeptStored version new k.base [] k.tables → IsKeptBy version new append' rewrite' untold' accessor' false
-  broken new append' rewrite' untold' accessor' s = record { base = k.base; untold = []; tables = k.tables; stored = s; whole = λ no. absurd cc }
+  half_deleted : (new missing made : List Ask) → delete_asks queue count ++ (ask Rewrite Sync ∷ []) ≡ missing ++ made → new ≡ made ++ asks → AreHalfDeleted queue count engine (record engine { asks = new; intact = false })
+  half_deleted new missing made split asked = record { half = record { was = ready.intact; is = refl; same = refl; missing = missing; made = made; split = split; asked = asked }; tables = refl }
 
-  half_by : (new : List Ask) (missing made : List Ask) → count ≢ 0 → purge_asks (file_of Rewrite old t.seq) old.untold count ≡ missing ++ made → new ≡ made ++ old.asks
-      → IsHalfPurged old (record engine { asks = new; intact = false })
-  half_by new missing made some split asked = record {
-    count = count;
-    some = omega (arith, some);
-    expired = x;
-    seq = t.seq;
-    bytes = t.bytes;
-    last = t.last;
-    half = record { half = record { was = was; is = refl; same = same_version; missing = missing; made = made; split = split; asked = asked }; tables = same_accessor };
-  }
+  -- not even the sync was asked
+  pub none_half : (new : List Ask) → new ≡ asks → AreHalfDeleted queue count engine (record engine { asks = new; intact = false })
+  none_half new e = half_deleted new (delete_asks queue count ++ (ask Rewrite Sync ∷ [])) [] (sym (append-nil _)) e
 
-  -- the rewrite queue isn't synced
-  pub sync_broken : (new : List Ask) (append' rewrite' : QueueFiles) (untold' : Batch) (accessor' : Accessor) → new ≡ asks → IsKeptBy version new append' rewrite' untold' accessor' false
-  sync_broken new append' rewrite' untold' accessor' e = broken new append' rewrite' untold' accessor' (subst (λ (l : List Ask). AreKeptStored version l k.base [] k.tables) (sym e) stored_one)
-
-  pub sync_half : (new : List Ask) → count ≢ 0 → new ≡ asks → IsHalfPurged old (record engine { asks = new; intact = false })
-  sync_half new some e =
-      half_by new (delete_asks Append count ++ ask Rewrite Sync ∷ []) (told ++ ask Append Sync ∷ []) some (sym (append_assoc (delete_asks Append count) (ask Rewrite Sync ∷ []) (told ++ ask Append Sync ∷ [])))
-      (e ∙ are_asks ∙ sym (append_assoc told (ask Append Sync ∷ []) old.asks))
-
-  module _ (second : List Ask) (is_second : second ≡ two) where
+  module _ (first : List Ask) (is_first : first ≡ one) where
     -- some files were deleted
-    pub some_broken : (new : List Ask) (append' rewrite' : QueueFiles) (untold' : Batch) (accessor' : Accessor) → AreSomeDeleted Append count second new → IsKeptBy version new append' rewrite' untold' accessor' false
-    some_broken new append' rewrite' untold' accessor' d =
-        broken new append' rewrite' untold' accessor'
-        (subst (λ (l : List Ask). AreKeptStored version l k.base [] k.tables) (sym (d.asked ∙ ap (λ (l : List Ask). delete_asks Append d.made ++ l) is_second)) (stored_deleted d.made d.at_most))
+    pub some_broken : (new : List Ask) (append' rewrite' : QueueFiles) (untold' : Batch) (accessor' : Accessor) → AreSomeDeleted queue count first new → IsKeptBy version new append' rewrite' untold' accessor' false
+    some_broken new append' rewrite' untold' accessor' d = record {
+      base = k.base;
+      untold = [];
+      tables = k.tables;
+      stored = subst (λ (l : List Ask). AreKeptStored version l k.base [] k.tables) (sym (d.asked ∙ ap (λ (l : List Ask). delete_asks queue d.made ++ l) is_first)) (stored_deleted d.made d.at_most);
+      whole = λ no. absurd cc;
+    }
 
-    pub some_half : (new : List Ask) → count ≢ 0 → AreSomeDeleted Append count second new → IsHalfPurged old (record engine { asks = new; intact = false })
-    some_half new some d =
-        let rest : List Ask = ask Rewrite Sync ∷ (told ++ ask Append Sync ∷ []) in
-        half_by new (delete_asks Append (count - d.made)) (delete_asks Append d.made ++ rest) some
-        (ap (λ (l : List Ask). l ++ rest) (delete_fewer Append d.made count d.at_most) ∙ append_assoc (delete_asks Append (count - d.made)) (delete_asks Append d.made) rest)
-        (d.asked ∙ ap (λ (l : List Ask). delete_asks Append d.made ++ l) is_second ∙ ap (λ (l : List Ask). delete_asks Append d.made ++ (ask Rewrite Sync ∷ l)) are_asks ∙ asked_parts (delete_asks Append d.made) told old.asks)
+    pub some_half : (new : List Ask) → AreSomeDeleted queue count first new → AreHalfDeleted queue count engine (record engine { asks = new; intact = false })
+    some_half new d =
+        let last : List Ask = ask Rewrite Sync ∷ [] in
+        half_deleted new (delete_asks queue (count - d.made)) (delete_asks queue d.made ++ last)
+        (ap (λ (l : List Ask). l ++ last) (delete_fewer queue d.made count d.at_most) ∙ append_assoc (delete_asks queue (count - d.made)) (delete_asks queue d.made) last)
+        (d.asked ∙ ap (λ (l : List Ask). delete_asks queue d.made ++ l) is_first ∙ sym (append_assoc (delete_asks queue d.made) last asks))
 
     -- ---- where it succeeds
 
-    module _ (new : List Ask) (is_new : new ≡ delete_asks Append count ++ second) where
-      are_new : new ≡ delete_asks Append count ++ two
-      are_new = is_new ∙ ap (λ (l : List Ask). delete_asks Append count ++ l) is_second
+    module _ (new : List Ask) (is_new : new ≡ delete_asks queue count ++ first) where
+      are_new : new ≡ delete_asks queue count ++ one
+      are_new = is_new ∙ ap (λ (l : List Ask). delete_asks queue count ++ l) is_first
 
-      pub kept_purged : (append' : QueueFiles) → append'.closed.items ≡ drop count append.closed.items → append'.seq ≡ append.seq → append'.len ≡ append.len
-          → IsKeptBy version new append' rewrite untold accessor true
-      kept_purged append' closed seq len =
-          let w = k.whole is_intact in
-          let before = files_same Append asks two append append refl refl refl refl refl its_files in
-          let after = files_deleted Append count two append append' before few closed seq len in
-          let synced_files = files_same Rewrite asks two rewrite rewrite refl refl refl refl refl w.rewrite_files in
-          let others = files_same Rewrite two (delete_asks Append count ++ two) rewrite rewrite (ap begun (append_deletes_others count two)) (ap deletions (append_deletes_others count two)) refl refl refl synced_files in record {
+      pub kept_deleted : (append' rewrite' : QueueFiles) → IsTakenOff queue count append rewrite append' rewrite' → IsKeptBy version new append' rewrite' untold accessor true
+      kept_deleted append' rewrite' taken =
+          let w = k.whole ready.intact in
+          let left = both_left queue count one append rewrite append' rewrite'
+          (files_same Append asks one append append refl refl refl refl refl w.append_files) (files_same Rewrite asks one rewrite rewrite refl refl refl refl refl w.rewrite_files) few taken in
+          record {
             base = k.base;
             untold = [];
             tables = k.tables;
             stored = subst (λ (m : List Ask). AreKeptStored version m k.base [] k.tables) (sym are_new) (stored_deleted count (omega arith));
             whole = λ i. record {
               are_tables = w.are_tables;
-              are_untold = is_empty;
+              are_untold = w.are_untold ∙ ap (λ (items : List Item). record empty_batch { items = items }) nothing;
               take_away = tt;
-              append_files = subst (λ (m : List Ask). AreFilesOf Append m append') (sym are_new) after;
-              rewrite_files = subst (λ (m : List Ask). AreFilesOf Rewrite m rewrite) (sym are_new) others;
+              append_files = subst (λ (m : List Ask). AreFilesOf Append m append') (sym are_new) left.0;
+              rewrite_files = subst (λ (m : List Ask). AreFilesOf Rewrite m rewrite') (sym are_new) left.1;
               read_back = subst (λ (m : List Ask). IsReadBackAlone version m accessor) (sym are_new)
-                  (same_read_back version two (delete_asks Append count) accessor (append_deletes_begun count two) (ap begun (append_deletes_others count two))
+                  (same_read_back version one (delete_asks queue count) accessor (deletes_begun queue Append count one) (deletes_begun queue Rewrite count one)
                   (same_read_back version asks (ask Rewrite Sync ∷ []) accessor refl refl w.read_back));
             };
           }
 
-      pub is_purged : count ≢ 0 → ArePurged count old (record engine { asks = new; intact = true })
-      is_purged some = (
-        x,
-        inr (record {
-          some = omega (arith, some);
-          seq = t.seq;
-          bytes = t.bytes;
-          last = t.last;
-          purged = ap (λ (m : List Ask). record engine { asks = m; intact = true })
-              (are_new ∙ ap (λ (l : List Ask). delete_asks Append count ++ (ask Rewrite Sync ∷ l)) are_asks ∙ asked_parts (delete_asks Append count) told old.asks)
-              ∙ ap (λ (o : KeptEngine). record o { asks = purge_asks (file_of Rewrite old t.seq) old.untold count ++ old.asks; intact = true }) t.told
-              ∙ ap (λ (i : Bool). record old { asks = purge_asks (file_of Rewrite old t.seq) old.untold count ++ old.asks; untold = empty_batch; intact = i }) (sym was);
-        }),
-      )
+      pub is_deleted : AreDeleted queue count engine (record engine { asks = new; intact = true })
+      is_deleted =
+          ap (λ (m : List Ask). record engine { asks = m; intact = true }) are_new
+          ∙ ap (λ (b : Bool). record engine { asks = delete_asks queue count ++ one; intact = b }) (sym ready.intact)

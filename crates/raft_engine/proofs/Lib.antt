@@ -53,7 +53,6 @@ mod MovedRegions
 mod KeptTells
 mod ExpiredRewrites
 mod DeletedRewrites
-mod KeptRewritePurges
 mod RewrittenRegions
 mod UnmovedLemmas
 mod RegionIds

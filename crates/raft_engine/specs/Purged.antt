@@ -81,21 +81,25 @@ abbrev pub delete_asks : LogQueue → ℕ → List Ask
 delete_asks queue zero = []
 delete_asks queue (suc count) = ask queue Delete ∷ delete_asks queue count
 
--- newest first: append files are deleted once the rewrite queue is synced, which is told what is untold once the append queue is synced
-abbrev pub purge_asks : LogFileContext → Batch → ℕ → List Ask
-purge_asks file untold count = delete_asks Append count ++ (ask Rewrite Sync ∷ (put_asks file untold ++ ask Append Sync ∷ []))
+-- newest first: files of a queue are deleted once the rewrite queue is synced, which is told what is untold once the append queue is synced
+abbrev pub purge_asks : LogQueue → LogFileContext → Batch → ℕ → List Ask
+purge_asks queue file untold count = delete_asks queue count ++ (ask Rewrite Sync ∷ (put_asks file untold ++ ask Append Sync ∷ []))
 
--- so many append files, one at least, are deleted, and nothing is untold then; nothing else is asked or changed
-pub record IsPurged (count : ℕ) (old new : KeptEngine) : Type 0 where
+-- so many files of a queue, one at least, are deleted, and nothing is untold then; nothing else is asked or changed
+pub record IsPurged (queue : LogQueue) (count : ℕ) (old new : KeptEngine) : Type 0 where
   pub some : 0 < count
   pub seq : ℕ
   pub bytes : List ℕ
   pub last : IsLastFile Rewrite old.asks seq bytes
-  pub purged : new ≡ record old { asks = purge_asks (file_of Rewrite old seq) old.untold count ++ old.asks; untold = empty_batch }
+  pub purged : new ≡ record old { asks = purge_asks queue (file_of Rewrite old seq) old.untold count ++ old.asks; untold = empty_batch }
 
--- no append file is expired, and nothing is asked or changed; or all that are, are deleted
+-- no file of a queue is expired, and nothing is asked or changed; or all that are, are deleted
+abbrev pub AreFilesPurged : LogQueue → ℕ → KeptEngine → KeptEngine → Type 0
+AreFilesPurged queue count old new = AreExpired queue old count × (((count ≡ 0) × (new ≡ old)) ⊎ IsPurged queue count old new)
+
+-- the same of the append queue
 abbrev pub ArePurged : ℕ → KeptEngine → KeptEngine → Type 0
-ArePurged count old new = AreExpired Append old count × (((count ≡ 0) × (new ≡ old)) ⊎ IsPurged count old new)
+ArePurged count old new = AreFilesPurged Append count old new
 
 -- ---- where it fails
 
@@ -113,17 +117,21 @@ IsPurgeRefusal engine errors.Full = (engine.intact ≡ true) × ((2 ^ 56 ≤ enc
 IsPurgeRefusal engine errors.Memory = engine.intact ≡ true
 IsPurgeRefusal engine _ = ⊥
 
--- what is to be asked to delete the expired append files, one at least, is asked in part
-pub record IsHalfPurged (old new : KeptEngine) : Type 0 where
+-- what is to be asked to delete a queue's expired files, one at least, is asked in part
+pub record IsHalfPurged (queue : LogQueue) (old new : KeptEngine) : Type 0 where
   pub count : ℕ
   pub some : 0 < count
-  pub expired : AreExpired Append old count
+  pub expired : AreExpired queue old count
   pub seq : ℕ
   pub bytes : List ℕ
   pub last : IsLastFile Rewrite old.asks seq bytes
-  pub half : IsHalfDone (purge_asks (file_of Rewrite old seq) old.untold count) old new
+  pub half : IsHalfDone (purge_asks queue (file_of Rewrite old seq) old.untold count) old new
 
--- nothing was asked for one of these reasons, for too many bytes only if some append file is expired, and the engine is as it was; or it
+-- nothing was asked for one of these reasons, for too many bytes only if some file of the queue is expired, and the engine is as it was; or it
 -- is half done
+abbrev pub AreFilesUnpurged : LogQueue → KeptEngine → KeptEngine → Error → Type 0
+AreFilesUnpurged queue old new e = ((new ≡ old) × IsPurgeRefusal old e × (e ≡ errors.Full → AreSomeExpired queue old)) ⊎ IsHalfPurged queue old new
+
+-- the same of the append queue
 abbrev pub IsUnpurged : KeptEngine → KeptEngine → Error → Type 0
-IsUnpurged old new e = ((new ≡ old) × IsPurgeRefusal old e × (e ≡ errors.Full → AreSomeExpired Append old)) ⊎ IsHalfPurged old new
+IsUnpurged old new e = AreFilesUnpurged Append old new e

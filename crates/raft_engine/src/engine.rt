@@ -25,7 +25,6 @@ ghost use Rattle.raft_engine.specs.WrittenBatch.{IsNextRefused, IsOneMore, IsOnl
 
 use crate::limits::{FIRST_SEQ, LAST_OFFSET};
 use crate::opened::complete;
-use crate::purge::{count_below, delete_oldest, least_needed};
 use crate::put::{put, sync_if};
 use crate::queue_files::QueueFiles;
 use crate::read_back::batches_are_read_back;
@@ -408,26 +407,7 @@ impl<F: EngineFiles> Engine<F> {
         ensures fault { IfErr result (λ e. Breaks self.old self.new
             → IsPurgeFault F.may_fail Append self.old self.new e) }
     {
-        asks_are_stored();
-        if !self.intact {
-            return Err(Error::Failed);
-        }
-        let least = least_needed(&self.accessor, LogQueue::Append, self.append.seq)?;
-        let count = count_below(&self.append.closed, least);
-        if count == 0 {
-            return Ok(0);
-        }
-        self.tell()?;
-        self.intact = false;
-        self.files.sync(LogQueue::Rewrite)?;
-        delete_oldest(
-            &mut self.files,
-            LogQueue::Append,
-            &mut self.append.closed,
-            count,
-        )?;
-        self.intact = true;
-        Ok(count)
+        self.purge(LogQueue::Append)
     }
 }
 

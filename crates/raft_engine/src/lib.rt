@@ -15,7 +15,6 @@ pub mod of_version;
 mod opened;
 mod parts;
 mod purge;
-mod purge_rewrites;
 mod put;
 mod queue_files;
 mod read_back;

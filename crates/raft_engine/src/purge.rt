@@ -1,10 +1,12 @@
 //! Files that no table needs.
 
-ghost use Rattle.std.specs.Prelude.{◌≡◌, ◌≤◌, ◌++◌, drop, map, IfErr, IfOk, OnErr, OnOk};
+ghost use Rattle.std.specs.Prelude.{◌≡◌, ◌≤◌, ◌++◌, map, IfErr, IfOk, OnErr, OnOk};
 ghost use Rattle.std.specs.Vec.{vec_len};
 ghost use Rattle.raft_engine.specs.OpeningAsks.{FailsAmong};
+ghost use Rattle.raft_engine.specs.QueueFilesOf.{IsTakenOff, of_queue};
 ghost use Rattle.raft_engine.specs.Purged.{AreSomeDeleted, IsLeastNeeded, delete_asks, front_below, least_among};
 
+use crate::queue_files::QueueFiles;
 use raft_accessor::MemTableAccessor;
 use raft_base::{Error, FileSeq, LogQueue, Result};
 use raft_files::EngineFiles;
@@ -50,20 +52,21 @@ pub fn count_below(seqs: &[FileSeq], least: FileSeq) -> usize
     count
 }
 
-/// Deletes the oldest files of the queue, so many, and takes their numbers off the list.
+/// Deletes the oldest files of the queue, so many, and takes their numbers off its list.
 ///
 /// # Errors
 ///
-/// Those of `EngineFiles::delete_oldest`. Some were deleted then, and the list is as it was.
+/// Those of `EngineFiles::delete_oldest`. Some were deleted then.
 pub fn delete_oldest<F: EngineFiles>(
     files: &mut F,
     queue: LogQueue,
-    closed: &mut Vec<FileSeq>,
     count: usize,
+    append: &mut QueueFiles,
+    rewrite: &mut QueueFiles,
 ) -> Result<()>
-    requires { count ≤ vec_len closed.old }
+    requires { count ≤ vec_len (of_queue queue append.old rewrite.old).closed }
     ensures asked { OnOk result (F.asked files.new ≡ delete_asks queue count ++ F.asked files.old) }
-    ensures closed { OnOk result (closed.new.items ≡ drop count closed.old.items) }
+    ensures taken { OnOk result (IsTakenOff queue count append.old rewrite.old append.new rewrite.new) }
     ensures err { OnErr result (AreSomeDeleted queue count (F.asked files.old) (F.asked files.new)) }
     ensures fault { IfErr result (FailsAmong F.may_fail (delete_asks queue count) (F.asked files.old)
         (F.asked files.new)) }
@@ -71,6 +74,9 @@ pub fn delete_oldest<F: EngineFiles>(
     for _ in 0..count {
         files.delete_oldest(queue)?;
     }
-    closed.drain(..count);
+    match queue {
+        LogQueue::Append => append.closed.drain(..count),
+        LogQueue::Rewrite => rewrite.closed.drain(..count),
+    };
     Ok(())
 }

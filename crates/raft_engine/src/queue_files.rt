@@ -4,6 +4,7 @@ ghost use Rattle.std.specs.Prelude.{◌≡◌, ◌⊎◌, ◌<◌, ◌+◌, ◌-
 ghost use Rattle.raft_files.specs.Asks.{Begin, Sync, ask};
 ghost use Rattle.raft_files.specs.HeldFiles.{file_shown};
 ghost use Rattle.raft_engine.specs.OpeningAsks.{FailsAmong};
+ghost use Rattle.raft_engine.specs.QueueFilesOf.{of_queue};
 
 use raft_base::{Error, FileSeq, LogQueue, Result};
 use raft_files::EngineFiles;
@@ -18,6 +19,20 @@ pub struct QueueFiles {
     pub seq: FileSeq,
     /// How many bytes the last one has.
     pub len: u64,
+}
+
+/// Returns the files of one of both queues.
+pub fn of_queue<'a>(
+    queue: LogQueue,
+    append: &'a QueueFiles,
+    rewrite: &'a QueueFiles,
+) -> &'a QueueFiles
+    ensures { result.now ≡ of_queue queue append.now rewrite.now }
+{
+    match queue {
+        LogQueue::Append => append,
+        LogQueue::Rewrite => rewrite,
+    }
 }
 
 impl QueueFiles {

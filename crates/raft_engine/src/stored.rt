@@ -1,6 +1,6 @@
 //! Laws of what is stored of an engine.
 
-ghost use Rattle.raft_base.specs.declared.pipe_log.LogQueue.TheVariants.{Append};
+ghost use Rattle.raft_base.specs.declared.pipe_log.LogQueue.TheVariants.{Append, Rewrite};
 ghost use Rattle.raft_engine.specs.StoredAsks.{DeletionsAreStored, FirstFilesAreStored, NewFilesAreStored, SyncsAreStored, ToldBatchesAreStored, WhatIsDoneLasts, WrittenBatchesAreStored};
 
 use raft_engine_fronts::contents::told_contents_last;
@@ -28,7 +28,8 @@ pub fn what_is_done_lasts()
 /// States what each ask makes of what is stored: the first files are stored as no tables; a sync and a new file change
 /// nothing of it; a batch that is put behind the append queue's last file is stored as the tables that take it, and what
 /// it takes away is untold; once the append queue is synced, the rewrite queue may be told; and then, with both queues
-/// synced, append files may be deleted that no table needs.
+/// synced, files of either may be deleted that no table needs. No group of the rewrite queue ends in another file than that in
+/// which it begins, so none is torn by it.
 pub fn asks_are_stored()
     ensures first { FirstFilesAreStored }
     ensures synced { SyncsAreStored }
@@ -36,6 +37,7 @@ pub fn asks_are_stored()
     ensures written { WrittenBatchesAreStored }
     ensures told { ToldBatchesAreStored }
     ensures deleted { DeletionsAreStored Append }
+    ensures rewrite_deleted { DeletionsAreStored Rewrite }
 {
     what_is_done_lasts();
     nothing_is_lost();

@@ -1,4 +1,4 @@
-//! Rewritten records that move to a new file of the rewrite queue, and rewrite files that no table needs.
+//! Rewritten records that move to a new file of the rewrite queue, and files that no table needs.
 
 ghost use Rattle.std.specs.Prelude.{◌≡◌, [], ◌∷◌, ◌++◌, IfErr, IfOk, OnErr, OnOk, true};
 ghost use Rattle.raft_base.specs.declared.pipe_log.LogQueue.TheVariants.{Rewrite};
@@ -8,12 +8,12 @@ ghost use Rattle.raft_engine.specs.Moved.{IsReady};
 ghost use Rattle.raft_engine.specs.MovedAgain.{AreMovedAgain, AreUnmovedAgain, IsRewriteRotated, IsRewriteUnrotated};
 ghost use Rattle.raft_engine.specs.MovingFaults.{IsAgainFault, IsRewriteRotationFault};
 ghost use Rattle.raft_engine.specs.OpeningAsks.{FailsAmong};
-ghost use Rattle.raft_engine.specs.Purged.{AreExpired, delete_asks};
-ghost use Rattle.raft_engine.specs.PurgedRewrites.{AreRewritesDeleted, AreRewritesHalfDeleted, AreRewritesPurged, AreRewritesUnpurged};
+ghost use Rattle.raft_engine.specs.Purged.{AreExpired, AreFilesPurged, AreFilesUnpurged, delete_asks};
+ghost use Rattle.raft_engine.specs.PurgedRewrites.{AreDeleted, AreHalfDeleted, AreRewritesPurged, AreRewritesUnpurged};
 
 use super::Engine;
 use crate::purge::{count_below, delete_oldest, least_needed};
-use crate::purge_rewrites::rewrite_files_may_go;
+use crate::queue_files::of_queue;
 use crate::rewriting::regions_of;
 use crate::stored::asks_are_stored;
 use raft_base::{Error, LogQueue, Result};
@@ -89,41 +89,71 @@ impl<F: EngineFiles> Engine<F> {
         ensures fault { IfErr result (λ e. Breaks self.old self.new
             → IsPurgeFault F.may_fail Rewrite self.old self.new e) }
     {
+        self.purge(LogQueue::Rewrite)
+    }
+
+    /// Deletes the files of a queue that no table needs, the oldest first, but never the last one, and returns how many: once the
+    /// rewrite queue is told what it isn't told yet, and synced. If there is no such file nothing is asked.
+    ///
+    /// # Errors
+    ///
+    /// Those of [`Engine::purge_rewrite_files`].
+    pub(crate) fn purge(&mut self, queue: LogQueue) -> Result<usize>
+        ensures ok { IfOk result (λ count. AreFilesPurged queue count self.old self.new) }
+        ensures accepted { OnOk result (self.old.intact ≡ true) }
+        ensures err { IfErr result (AreFilesUnpurged queue self.old self.new) }
+        ensures fault { IfErr result (λ e. Breaks self.old self.new
+            → IsPurgeFault F.may_fail queue self.old self.new e) }
+    {
         if !self.intact {
             return Err(Error::Failed);
         }
-        let least = least_needed(&self.accessor, LogQueue::Rewrite, self.rewrite.seq)?;
-        let count = count_below(&self.rewrite.closed, least);
+        let count = self.count_expired(queue)?;
         if count == 0 {
             return Ok(0);
         }
         self.tell()?;
-        self.delete_rewrite_files(count)?;
+        self.delete_files(queue, count)?;
         Ok(count)
     }
 
-    /// Syncs the rewrite queue, and deletes so many of its files, which no table needs, the oldest first.
+    /// Counts the files of a queue that no table needs, the oldest first, but never the last one.
+    ///
+    /// # Errors
+    ///
+    /// `Memory`.
+    fn count_expired(&self, queue: LogQueue) -> Result<usize>
+        requires { self.now.intact ≡ true }
+        ensures ok { IfOk result (AreExpired queue self.now) }
+        ensures memory { IfErr result (λ e. e ≡ Error.Memory) }
+    {
+        let files = of_queue(queue, &self.append, &self.rewrite);
+        let least = least_needed(&self.accessor, queue, files.seq)?;
+        Ok(count_below(&files.closed, least))
+    }
+
+    /// Syncs the rewrite queue, and deletes so many files of a queue, which no table needs, the oldest first.
     ///
     /// # Errors
     ///
     /// Those of `EngineFiles`: the engine isn't intact any more.
-    fn delete_rewrite_files(&mut self, count: usize) -> Result<()>
+    fn delete_files(&mut self, queue: LogQueue, count: usize) -> Result<()>
         requires ready { IsReady self.old }
-        requires expired { AreExpired Rewrite self.old count }
-        ensures ok { OnOk result (AreRewritesDeleted count self.old self.new) }
-        ensures err { OnErr result (AreRewritesHalfDeleted count self.old self.new) }
-        ensures fault { IfErr result (FailsAmong F.may_fail (delete_asks Rewrite count ++ ask Rewrite Sync ∷ [])
+        requires expired { AreExpired queue self.old count }
+        ensures ok { OnOk result (AreDeleted queue count self.old self.new) }
+        ensures err { OnErr result (AreHalfDeleted queue count self.old self.new) }
+        ensures fault { IfErr result (FailsAmong F.may_fail (delete_asks queue count ++ ask Rewrite Sync ∷ [])
             self.old.asks self.new.asks) }
     {
-        rewrite_files_may_go();
         asks_are_stored();
         self.intact = false;
         self.files.sync(LogQueue::Rewrite)?;
         delete_oldest(
             &mut self.files,
-            LogQueue::Rewrite,
-            &mut self.rewrite.closed,
+            queue,
             count,
+            &mut self.append,
+            &mut self.rewrite,
         )?;
         self.intact = true;
         Ok(())

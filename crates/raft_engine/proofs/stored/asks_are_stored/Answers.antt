@@ -1,3 +1,4 @@
+use Rattle.raft_engine.proofs.DeletedRewrites.{rewrite_delete_stored}
 use Rattle.raft_engine.proofs.DoneLemmas.{begin_done, delete_done, first_done, none_done, put_done, sync_done}
 use Rattle.raft_engine.proofs.StoredLemmas.{begin_stored, delete_stored, first_stored, sync_stored, tell_stored, write_stored}
 use Rattle.raft_engine.proofs.UntoldLemmas.{untold_more}
@@ -41,3 +42,9 @@ returns-clause-deleted c =
     delete_stored c.what_is_done_lasts.ensures c.nothing_is_lost.ensures c.told_contents_last.ensures.both
     (delete_done c.asks_do_deeds.ensures.deleted c.asks_put_batches.ensures.deleted)
     c.deleting_is_safe.ensures.append
+
+pub returns-clause-rewrite_deleted : goal.returns-clause-rewrite_deleted
+returns-clause-rewrite_deleted c =
+    rewrite_delete_stored c.what_is_done_lasts.ensures c.nothing_is_lost.ensures c.told_contents_last.ensures.both
+    (delete_done c.asks_do_deeds.ensures.deleted c.asks_put_batches.ensures.deleted)
+    c.deleting_is_safe.ensures.rewrite

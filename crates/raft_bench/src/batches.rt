@@ -1,13 +1,12 @@
 //! Times log batches: their bytes are made and signed, and read again.
 
-use crate::timing::{Noise, TIMES, nanoseconds_since, print_line};
+use crate::timing::{Noise, best_of, print_line, timed};
 use raft_records::codec::BytesSlice;
 use raft_records::{
     Command, FileBlockHandle, FileId, LogBatch, LogFileContext, LogItemBatch, LogQueue, Message,
     MessageError, MessageExt, Result, Version,
 };
 use std::alloc::Global;
-use std::time::Instant;
 
 /// How many bytes an entry has.
 const ENTRY_SIZE: usize = 256;
@@ -88,48 +87,32 @@ fn context() -> LogFileContext {
 /// Times how the bytes of batches are made and signed, and returns them.
 fn time_writing(rt: &HostRuntime, shape: Shape) -> Result<Vec<Vec<u8>>> {
     let messages = messages(rt.alloc(), shape.entries)?;
-    let (mut best, mut encoded) = write(rt, shape, messages.as_slice())?;
-    for _ in 1..TIMES {
-        let (taken, bytes) = write(rt, shape, messages.as_slice())?;
-        best = best.min(taken);
-        encoded = bytes;
-    }
-    print_written(rt, best, encoded.as_slice())?;
-    Ok(encoded)
-}
-
-/// Returns how long it takes to make and sign the bytes of batches, and these bytes.
-fn write(rt: &HostRuntime, shape: Shape, messages: &[Entry]) -> Result<(u64, Vec<Vec<u8>>)> {
-    let mut batches = fill(rt.alloc(), shape, messages)?;
-    let start = Instant::now(rt)?;
-    seal(&mut batches)?;
-    let taken = nanoseconds_since(rt, &start)?;
-    Ok((taken, bytes_of(rt.alloc(), batches.as_slice())?))
-}
-
-/// Prints a line for the bytes of batches.
-fn print_written(rt: &HostRuntime, best: u64, encoded: &[Vec<u8>]) -> Result<()> {
+    let (best, encoded) = best_of(|| write(rt, shape, messages.as_slice()))?;
     print_line(
         rt,
         "finish_populate, prepare_write",
         best,
         "batch",
         encoded.len(),
-        length(encoded),
+        length(encoded.as_slice()),
     )?;
-    Ok(())
+    Ok(encoded)
+}
+
+/// Returns how long it takes to make and sign the bytes of batches, and these bytes.
+fn write(rt: &HostRuntime, shape: Shape, messages: &[Entry]) -> Result<(u64, Vec<Vec<u8>>)> {
+    let mut batches = fill(rt.alloc(), shape, messages)?;
+    let (taken, sealed) = timed(rt, || seal(&mut batches))?;
+    sealed?;
+    Ok((taken, bytes_of(rt.alloc(), batches.as_slice())?))
 }
 
 /// Times how items are read of the bytes of batches.
 fn time_reading(rt: &HostRuntime, encoded: &[Vec<u8>]) -> Result<()> {
-    let mut best = u64::MAX;
-    let mut read = (0, 0);
-    for _ in 0..TIMES {
-        let start = Instant::now(rt)?;
-        read = decode(rt.alloc(), encoded)?;
-        best = best.min(nanoseconds_since(rt, &start)?);
-    }
-    let (items, bytes) = read;
+    let (best, (items, bytes)) = best_of(|| -> Result<_> {
+        let (taken, decoded) = timed(rt, || decode(rt.alloc(), encoded))?;
+        Ok((taken, decoded?))
+    })?;
     print_line(
         rt,
         "decode_header, LogItemBatch::decode",

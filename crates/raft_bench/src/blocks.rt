@@ -1,12 +1,13 @@
 //! Times tables by how many entries each of their blocks has, and counts the bytes of what is kept.
 
-use crate::tables::{REGIONS, Region, append_all, empty_regions, found, print_each, run};
-use crate::timing::{Noise, TIMES, nanoseconds_since};
-use raft_memtable::{AllocResult, Block, EntryIndex, LogQueue};
+use crate::tables::{
+    APPENDED, REGIONS, REWRITTEN, Region, append_all, empty_regions, found, run, runs,
+};
+use crate::timing::{Noise, best_of, print_each, timed};
+use raft_memtable::{AllocResult, Block, EntryIndex};
 use std::alloc::Global;
 use std::io;
 use std::mem::size_of;
-use std::time::Instant;
 
 /// How many entries a region has.
 const ENTRIES: u64 = 2_048;
@@ -36,19 +37,6 @@ pub(crate) fn time(rt: &HostRuntime) -> io::Result<()> {
     time_merge(rt)
 }
 
-/// Returns runs of `len` entries for each of so many regions in turn, each after the last one of its region.
-fn runs_of(alloc: Global, regions: u64, len: u64) -> AllocResult<Vec<Vec<EntryIndex>>> {
-    let mut runs = Vec::new(alloc);
-    let mut first = 1u64;
-    for _ in 0..ENTRIES / len.max(1) {
-        for _ in 0..regions {
-            runs.push(run(alloc, first, len, LogQueue::Append, 1)?)?;
-        }
-        first = first.saturating_add(len);
-    }
-    Ok(runs)
-}
-
 /// Returns how many bytes the room of a region's blocks, of their first indexes and of their spans
 /// has.
 fn kept_bytes(region: &Region) -> usize {
@@ -66,13 +54,7 @@ fn kept_bytes(region: &Region) -> usize {
 }
 
 fn time_appends(rt: &HostRuntime, len: u64) -> io::Result<()> {
-    let mut best = u64::MAX;
-    let mut bytes = 0;
-    for _ in 0..TIMES {
-        let (taken, kept) = append(rt, len)?;
-        best = best.min(taken);
-        bytes = kept;
-    }
+    let (best, bytes) = best_of(|| append(rt, len))?;
     let entries = REGIONS * ENTRIES;
     println!(rt;
         "2,048,000 entries, {len} a call, {len} a block: {} bytes an entry",
@@ -85,10 +67,8 @@ fn time_appends(rt: &HostRuntime, len: u64) -> io::Result<()> {
 /// kept then.
 fn append(rt: &HostRuntime, len: u64) -> io::Result<(u64, usize)> {
     let mut regions = empty_regions(rt.alloc())?;
-    let runs = runs_of(rt.alloc(), REGIONS, len)?;
-    let start = Instant::now(rt)?;
-    append_all(&mut regions, runs);
-    let taken = nanoseconds_since(rt, &start)?;
+    let runs = runs(rt.alloc(), REGIONS, ENTRIES, len, APPENDED)?;
+    let (taken, _) = timed(rt, || append_all(&mut regions, runs))?;
     let mut bytes = 0usize;
     for region in &regions {
         bytes = bytes.saturating_add(kept_bytes(region));
@@ -101,7 +81,7 @@ fn long(alloc: Global, first: u64) -> AllocResult<Region> {
     let mut region = Region::new(alloc, 1);
     let mut next = first;
     for _ in 0..BLOCKS {
-        let run = run(alloc, next, SPANS, LogQueue::Append, 1)?;
+        let run = run(alloc, next, SPANS, APPENDED)?;
         if region.append(run).is_err() {
             return Ok(region);
         }
@@ -118,13 +98,7 @@ fn time_get(rt: &HostRuntime) -> io::Result<()> {
     for _ in 0..LOOKUPS {
         picks.push((0usize, 1 + noise.next_u64() % (BLOCKS * SPANS)))?;
     }
-    let mut best = u64::MAX;
-    let mut got = 0;
-    for _ in 0..TIMES {
-        let start = Instant::now(rt)?;
-        got = found(regions.as_slice(), picks.as_slice());
-        best = best.min(nanoseconds_since(rt, &start)?);
-    }
+    let (best, got) = best_of(|| timed(rt, || found(regions.as_slice(), picks.as_slice())))?;
     print_each(
         rt,
         "get_entry, one table of 1,000 blocks",
@@ -143,31 +117,12 @@ fn rewrite_by_steps(region: &mut Region, runs: Vec<Vec<EntryIndex>>) {
     }
 }
 
-/// Returns runs for the rewriting of a table of many blocks.
-fn steps(alloc: Global) -> AllocResult<Vec<Vec<EntryIndex>>> {
-    let mut runs = Vec::new(alloc);
-    let mut first = 1u64;
-    for _ in 0..BLOCKS * SPANS / STEP {
-        runs.push(run(alloc, first, STEP, LogQueue::Rewrite, 50)?)?;
-        first = first.saturating_add(STEP);
-    }
-    Ok(runs)
-}
-
-/// Returns how long it takes to rewrite a table of many blocks.
-fn rewrite(rt: &HostRuntime) -> io::Result<u64> {
-    let mut region = long(rt.alloc(), 1)?;
-    let runs = steps(rt.alloc())?;
-    let start = Instant::now(rt)?;
-    rewrite_by_steps(&mut region, runs);
-    nanoseconds_since(rt, &start)
-}
-
 fn time_rewrite(rt: &HostRuntime) -> io::Result<()> {
-    let mut best = u64::MAX;
-    for _ in 0..TIMES {
-        best = best.min(rewrite(rt)?);
-    }
+    let (best, ()) = best_of(|| {
+        let mut region = long(rt.alloc(), 1)?;
+        let runs = runs(rt.alloc(), 1, BLOCKS * SPANS, STEP, REWRITTEN)?;
+        timed(rt, || rewrite_by_steps(&mut region, runs))
+    })?;
     print_each(
         rt,
         "rewrite, 64 entries a call, one table of 1,000 blocks",
@@ -196,14 +151,11 @@ fn merge_all(older: &mut Vec<Region>, newer: Vec<Region>) {
 }
 
 fn time_merge(rt: &HostRuntime) -> io::Result<()> {
-    let mut best = u64::MAX;
-    for _ in 0..TIMES {
+    let (best, ()) = best_of(|| {
         let mut older = long_tables(rt.alloc(), 1)?;
         let newer = long_tables(rt.alloc(), 1 + BLOCKS * SPANS)?;
-        let start = Instant::now(rt)?;
-        merge_all(&mut older, newer);
-        best = best.min(nanoseconds_since(rt, &start)?);
-    }
+        timed(rt, || merge_all(&mut older, newer))
+    })?;
     print_each(
         rt,
         "merge_newer_neighbor, two tables of 1,000 blocks",

@@ -1,9 +1,8 @@
 //! Times checksums.
 
-use crate::timing::{Noise, TIMES, nanoseconds_since, print_line};
+use crate::timing::{Noise, best_of, print_line, timed};
 use raft_records::Result;
 use raft_records::util::crc32;
-use std::time::Instant;
 
 /// Times the checksums of 16 MiB, cut into these many bytes.
 pub(crate) fn time(rt: &HostRuntime) -> Result<()> {
@@ -16,12 +15,7 @@ pub(crate) fn time(rt: &HostRuntime) -> Result<()> {
 }
 
 fn time_size(rt: &HostRuntime, bytes: &[u8], size: usize) -> Result<()> {
-    let (mut best, mut last) = (u64::MAX, 0);
-    for _ in 0..TIMES {
-        let start = Instant::now(rt)?;
-        last = checksums(bytes, size);
-        best = best.min(nanoseconds_since(rt, &start)?);
-    }
+    let (best, last) = best_of(|| timed(rt, || checksums(bytes, size)))?;
     let count = bytes.len() / size.max(1);
     let name = format!(in rt.alloc(); "crc32 of {size} bytes ({last:08x})")?;
     print_line(rt, name.as_str(), best, "call", count, bytes.len())?;

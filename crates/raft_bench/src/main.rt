@@ -6,6 +6,7 @@
 mod batches;
 mod blocks;
 mod checksum;
+mod logs;
 mod merges;
 mod numbers;
 mod recovery;
@@ -13,6 +14,7 @@ mod shared;
 mod tables;
 mod timing;
 
+use logs::{Timed, print_times};
 use raft_records::Result;
 use raft_recover::command_words;
 use std::io;
@@ -21,10 +23,10 @@ fn main(rt: HostRuntime) -> io::Result<()> {
     let words = command_words(&rt)?;
     match words.as_slice().split_first() {
         Some((word, _)) if word.as_str() == "recover" => {
-            print_recovery(&rt, recovery::time(&rt, words.as_slice()))
+            print_timed(&rt, "", recovery::time(&rt, words.as_slice()))
         }
         Some((word, behind)) if word.as_str() == "merge" => {
-            print_merges(&rt, merges::time(&rt, behind))
+            print_timed(&rt, "merge ", merges::time(&rt, behind))
         }
         _ => {
             for word in &words {
@@ -40,16 +42,10 @@ fn main(rt: HostRuntime) -> io::Result<()> {
     }
 }
 
-fn print_recovery(rt: &HostRuntime, timed: Result<Option<recovery::Timed>>) -> io::Result<()> {
+/// Prints what was timed of a log, or why nothing was.
+fn print_timed(rt: &HostRuntime, before: &str, timed: Result<Option<Timed>>) -> io::Result<()> {
     match timed {
-        Ok(timed) => recovery::print(rt, timed),
-        Err(e) => print_error(rt, Err(e)),
-    }
-}
-
-fn print_merges(rt: &HostRuntime, timed: Result<Option<merges::Timed>>) -> io::Result<()> {
-    match timed {
-        Ok(timed) => merges::print(rt, timed),
+        Ok(timed) => print_times(rt, before, timed),
         Err(e) => print_error(rt, Err(e)),
     }
 }

@@ -1,9 +1,9 @@
 //! Times numbers in base 128.
 
-use crate::timing::{Noise, TIMES, nanoseconds_since, print_line};
+use crate::timing::{Noise, best_of, print_line, timed};
 use raft_records::Result;
 use raft_records::codec::{BytesSlice, NumberEncoder, decode_var_u64};
-use std::time::Instant;
+use std::io;
 
 /// How many numbers are written and read.
 const COUNT: usize = 1_000_000;
@@ -23,33 +23,18 @@ pub(crate) fn time(rt: &HostRuntime) -> Result<()> {
 
 fn time_length(rt: &HostRuntime, bits: u32, numbers: &[u64]) -> Result<()> {
     let mut bytes = Vec::with_capacity(rt.alloc(), 10 * COUNT)?;
-    let (write, read, sum) = write_and_read(rt, numbers, &mut bytes)?;
+    let ([writing, reading], sum) = best_of(|| -> io::Result<_> {
+        bytes.clear();
+        let (writing, ()) = timed(rt, || write(&mut bytes, numbers))?;
+        let (reading, sum) = timed(rt, || read(bytes.as_slice()))?;
+        Ok(([writing, reading], sum))
+    })?;
     let len = bytes.len();
     let name = format!(in rt.alloc(); "encode_var_u64, {bits} bits")?;
-    print_line(rt, name.as_str(), write, "number", COUNT, len)?;
+    print_line(rt, name.as_str(), writing, "number", COUNT, len)?;
     let name = format!(in rt.alloc(); "decode_var_u64, {bits} bits (sum {sum})")?;
-    print_line(rt, name.as_str(), read, "number", COUNT, len)?;
+    print_line(rt, name.as_str(), reading, "number", COUNT, len)?;
     Ok(())
-}
-
-/// Returns how long it takes to write and to read the numbers, and their sum.
-fn write_and_read(
-    rt: &HostRuntime,
-    numbers: &[u64],
-    bytes: &mut Vec<u8>,
-) -> Result<(u64, u64, u64)> {
-    let (mut best_write, mut best_read) = (u64::MAX, u64::MAX);
-    let mut sum = 0;
-    for _ in 0..TIMES {
-        bytes.clear();
-        let start = Instant::now(rt)?;
-        write(bytes, numbers);
-        best_write = best_write.min(nanoseconds_since(rt, &start)?);
-        let start = Instant::now(rt)?;
-        sum = read(bytes.as_slice());
-        best_read = best_read.min(nanoseconds_since(rt, &start)?);
-    }
-    Ok((best_write, best_read, sum))
 }
 
 fn write(bytes: &mut Vec<u8>, numbers: &[u64]) {

@@ -1,14 +1,14 @@
 //! Times tables that threads share.
 
-use crate::tables::{print_each, run};
-use crate::timing::{Noise, TIMES, nanoseconds_since};
-use raft_memtable::{AllocResult, LogQueue, MemTable, MemTableAccessor, Result, TableChange};
+use crate::tables::{APPENDED, run};
+use crate::timing::{Noise, best_of, print_each, timed};
+use raft_memtable::{AllocResult, MemTable, MemTableAccessor, Result, TableChange};
 use raft_recover::SharedAccessor;
 use std::alloc::Global;
 use std::sync::Wait;
 use std::thread;
 use std::thread::Threads;
-use std::time::{Clock, Instant};
+use std::time::Clock;
 
 /// How many regions there are.
 const REGIONS: u64 = 1_000;
@@ -25,7 +25,7 @@ const LOOKUPS: u64 = 1_000_000;
 /// Times appends of some threads, and look-ups beside those of an accessor.
 pub(crate) fn time<R: Threads + Wait + Clock + Print + Sync>(rt: &R, alloc: Global) -> Result<()> {
     for &threads in &[1, 2, 4] {
-        let best = appended(rt, alloc, threads)?;
+        let (best, ()) = best_of(|| append_once(rt, alloc, threads))?;
         let name = format!(in alloc;
             "append to shared tables by {threads} threads, 8 entries a call"
         )?;
@@ -34,29 +34,22 @@ pub(crate) fn time<R: Threads + Wait + Clock + Print + Sync>(rt: &R, alloc: Glob
     time_looks(rt, alloc)
 }
 
-/// Returns how long some threads take at best to append to all regions, each to its share of them.
-fn appended<R: Threads + Wait + Clock + Sync>(rt: &R, alloc: Global, threads: u64) -> Result<u64> {
-    let mut best = u64::MAX;
-    for _ in 0..TIMES {
-        best = best.min(append_once(rt, alloc, threads)?);
-    }
-    Ok(best)
-}
-
+/// Returns how long some threads take to append to all regions, each to its share of them.
 fn append_once<R: Threads + Wait + Clock + Sync>(
     rt: &R,
     alloc: Global,
     threads: u64,
-) -> Result<u64> {
+) -> Result<(u64, ())> {
     let shared = SharedAccessor::new(alloc);
     let append = |thread: usize| append_share(rt, alloc, &shared, thread as u64, threads);
-    let start = Instant::now(rt)?;
-    let all = thread::map_indices(rt, alloc, threads as usize, &append)?;
-    let taken = nanoseconds_since(rt, &start)?;
-    for appended in all {
+    let (taken, all) = timed(
+        rt,
+        || thread::map_indices(rt, alloc, threads as usize, &append),
+    )?;
+    for appended in all? {
         appended?;
     }
-    Ok(taken)
+    Ok((taken, ()))
 }
 
 /// Appends to every region whose number leaves this thread's when it is divided by how many there are.
@@ -70,7 +63,7 @@ fn append_share<R: Wait>(
     for number in 0..ROUNDS * REGIONS {
         let (round, region) = (number / REGIONS, number % REGIONS);
         if region % threads.max(1) == thread {
-            let run = run(alloc, 1 + round * RUN, RUN, LogQueue::Append, 1)?;
+            let run = run(alloc, 1 + round * RUN, RUN, APPENDED)?;
             shared.change(rt, region, TableChange::Append(run))?;
         }
     }
@@ -91,7 +84,7 @@ fn picks(alloc: Global) -> AllocResult<Vec<u64>> {
 fn full(alloc: Global) -> Result<MemTableAccessor> {
     let mut core = MemTableAccessor::new(alloc)?;
     for region in 0..REGIONS {
-        let run = run(alloc, 1, RUN, LogQueue::Append, 1)?;
+        let run = run(alloc, 1, RUN, APPENDED)?;
         core.change(region, TableChange::Append(run))?;
     }
     Ok(core)
@@ -138,23 +131,12 @@ fn look<R: Wait + Clock + Print>(
     shared: &SharedAccessor,
     picks: &[u64],
 ) -> Result<()> {
-    let (mut best_get, mut best_with) = (u64::MAX, u64::MAX);
-    let (mut got, mut seen) = (0, 0);
-    for _ in 0..TIMES {
-        let start = Instant::now(rt)?;
-        got = last_of_all(core, picks);
-        best_get = best_get.min(nanoseconds_since(rt, &start)?);
-        let start = Instant::now(rt)?;
-        seen = shared_last_of_all(rt, shared, picks);
-        best_with = best_with.min(nanoseconds_since(rt, &start)?);
-    }
+    let ([get, with], (got, seen)) = best_of(|| -> Result<_> {
+        let (get, got) = timed(rt, || last_of_all(core, picks))?;
+        let (with, seen) = timed(rt, || shared_last_of_all(rt, shared, picks))?;
+        Ok(([get, with], (got, seen)))
+    })?;
     let looked = LOOKUPS.min(got).min(seen);
-    print_each(
-        rt,
-        "get of an accessor, at random",
-        best_get,
-        "call",
-        looked,
-    )?;
-    Ok(print_each(rt, "with_table, at random", best_with, "call", looked)?)
+    print_each(rt, "get of an accessor, at random", get, "call", looked)?;
+    Ok(print_each(rt, "with_table, at random", with, "call", looked)?)
 }

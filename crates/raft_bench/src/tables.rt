@@ -2,27 +2,23 @@
 
 ghost use Rattle.raft_memtable.specs.Table.{IsCounted};
 
-use crate::timing::{Noise, TIMES, nanoseconds_since};
+use crate::timing::{Noise, best_of, print_each, timed};
 use raft_memtable::{
-    AllocResult, Block, EntryIndex, FileBlockHandle, FileId, FileSeq, GlobalStats, LogQueue,
-    MemTable, Result, is_run,
+    AllocResult, Block, EntryIndex, FileBlockHandle, FileId, GlobalStats, LogQueue, MemTable,
+    Result, is_run,
 };
 use std::alloc::Global;
 use std::collections::VecDeque;
 use std::io;
-use std::time::Instant;
 
 /// How many regions there are.
 pub(crate) const REGIONS: u64 = 1_000;
-
-/// How many runs are appended to each region.
-const ROUNDS: u64 = 100;
 
 /// How many entries a run has.
 const RUN: u64 = 8;
 
 /// How many entries a region has.
-const ENTRIES: u64 = ROUNDS * RUN;
+const ENTRIES: u64 = 100 * RUN;
 
 /// How many entries a fetch gives.
 const FETCH: u64 = 64;
@@ -32,6 +28,18 @@ const STEP: u64 = 32;
 
 /// How many keys a table has.
 const KEYS: usize = 100_000;
+
+/// The file of what is appended and put.
+pub(crate) const APPENDED: FileId = FileId {
+    queue: LogQueue::Append,
+    seq: 1,
+};
+
+/// The file that entries are rewritten to.
+pub(crate) const REWRITTEN: FileId = FileId {
+    queue: LogQueue::Rewrite,
+    seq: 50,
+};
 
 /// A region's table, and the counts of its records.
 #[derive(Drop)]
@@ -87,8 +95,7 @@ impl Region {
     }
 
     fn put(&mut self, pair: Pair) -> Result<()> {
-        let file = FileId::new(LogQueue::Append, 1);
-        self.table.put(pair.0, pair.1, file, &mut self.stats)
+        self.table.put(pair.0, pair.1, APPENDED, &mut self.stats)
     }
 
     fn delete(&mut self, key: &[u8]) {
@@ -106,33 +113,14 @@ pub(crate) fn time(rt: &HostRuntime) -> io::Result<()> {
     time_key_reads(rt)
 }
 
-/// Prints a line: how long each of `count` units took at best, in tenths of nanoseconds.
-pub(crate) fn print_each(
-    rt: &impl Print,
-    name: &str,
-    nanoseconds: u64,
-    unit: &str,
-    count: u64,
-) -> io::Result<()> {
-    let each = nanoseconds.saturating_mul(10) / count.max(1);
-    let (whole, tenths) = (each / 10, each % 10);
-    println!(rt; "{name}: {whole}.{tenths} ns a {unit}")
-}
-
 /// Returns the entries from `first` on, in one block of a file.
-pub(crate) fn run(
-    alloc: Global,
-    first: u64,
-    len: u64,
-    queue: LogQueue,
-    seq: FileSeq,
-) -> AllocResult<Vec<EntryIndex>> {
+pub(crate) fn run(alloc: Global, first: u64, len: u64, id: FileId) -> AllocResult<Vec<EntryIndex>> {
     let mut run = Vec::with_capacity(alloc, len as usize)?;
     for index in first..first.saturating_add(len) {
         run.push(EntryIndex {
             index,
             entries: Some(FileBlockHandle {
-                id: FileId::new(queue, seq),
+                id,
                 offset: first,
                 len: 2052,
             }),
@@ -152,13 +140,21 @@ pub(crate) fn empty_regions(alloc: Global) -> AllocResult<Vec<Region>> {
     Ok(regions)
 }
 
-/// Returns runs for all regions in turn, one after the other in each.
-fn runs(alloc: Global) -> AllocResult<Vec<Vec<EntryIndex>>> {
+/// Returns runs of `len` entries of a file for so many regions in turn, one after the other in each.
+pub(crate) fn runs(
+    alloc: Global,
+    regions: u64,
+    entries: u64,
+    len: u64,
+    file: FileId,
+) -> AllocResult<Vec<Vec<EntryIndex>>> {
     let mut runs = Vec::new(alloc);
-    for round in 0..ROUNDS {
-        for _ in 0..REGIONS {
-            runs.push(run(alloc, 1 + round * RUN, RUN, LogQueue::Append, 1)?)?;
+    let mut first = 1u64;
+    for _ in 0..entries / len.max(1) {
+        for _ in 0..regions {
+            runs.push(run(alloc, first, len, file)?)?;
         }
+        first = first.saturating_add(len);
     }
     Ok(runs)
 }
@@ -181,22 +177,24 @@ pub(crate) fn append_all(regions: &mut Vec<Region>, runs: Vec<Vec<EntryIndex>>) 
     accepted
 }
 
+/// Returns runs for all regions.
+fn all_runs(alloc: Global) -> AllocResult<Vec<Vec<EntryIndex>>> {
+    runs(alloc, REGIONS, ENTRIES, RUN, APPENDED)
+}
+
 /// Makes regions with all their entries.
 fn full_regions(alloc: Global) -> AllocResult<Vec<Region>> {
     let mut regions = empty_regions(alloc)?;
-    append_all(&mut regions, runs(alloc)?);
+    append_all(&mut regions, all_runs(alloc)?);
     Ok(regions)
 }
 
 fn time_append(rt: &HostRuntime) -> io::Result<()> {
-    let mut best = u64::MAX;
-    for _ in 0..TIMES {
+    let (best, _) = best_of(|| {
         let mut regions = empty_regions(rt.alloc())?;
-        let runs = runs(rt.alloc())?;
-        let start = Instant::now(rt)?;
-        append_all(&mut regions, runs);
-        best = best.min(nanoseconds_since(rt, &start)?);
-    }
+        let runs = all_runs(rt.alloc())?;
+        timed(rt, || append_all(&mut regions, runs))
+    })?;
     print_each(
         rt,
         "append, 8 entries a call",
@@ -225,14 +223,10 @@ fn compact_all(regions: &mut Vec<Region>) -> u64 {
 }
 
 fn time_compact_to(rt: &HostRuntime) -> io::Result<()> {
-    let mut best = u64::MAX;
-    let mut dropped = 0;
-    for _ in 0..TIMES {
+    let (best, dropped) = best_of(|| {
         let mut regions = full_regions(rt.alloc())?;
-        let start = Instant::now(rt)?;
-        dropped = compact_all(&mut regions);
-        best = best.min(nanoseconds_since(rt, &start)?);
-    }
+        timed(rt, || compact_all(&mut regions))
+    })?;
     print_each(
         rt,
         "compact_to, 32 entries a call",
@@ -312,24 +306,13 @@ fn read(
     fetches: &[(usize, u64)],
 ) -> io::Result<()> {
     let mut out = Vec::with_capacity(rt.alloc(), FETCH as usize)?;
-    let (mut best_get, mut best_fetch) = (u64::MAX, u64::MAX);
-    let (mut got, mut given) = (0, 0);
-    for _ in 0..TIMES {
-        let start = Instant::now(rt)?;
-        got = found(regions, entries);
-        best_get = best_get.min(nanoseconds_since(rt, &start)?);
-        let start = Instant::now(rt)?;
-        given = fetched(regions, fetches, &mut out);
-        best_fetch = best_fetch.min(nanoseconds_since(rt, &start)?);
-    }
-    print_each(rt, "get_entry, at random", best_get, "call", got)?;
-    print_each(
-        rt,
-        "fetch_entries_to, 64 a call",
-        best_fetch,
-        "entry",
-        given,
-    )
+    let ([get, fetch], (got, given)) = best_of(|| -> io::Result<_> {
+        let (get, got) = timed(rt, || found(regions, entries))?;
+        let (fetch, given) = timed(rt, || fetched(regions, fetches, &mut out))?;
+        Ok(([get, fetch], (got, given)))
+    })?;
+    print_each(rt, "get_entry, at random", get, "call", got)?;
+    print_each(rt, "fetch_entries_to, 64 a call", fetch, "entry", given)
 }
 
 /// Rewrites each region whole.
@@ -341,24 +324,12 @@ fn rewrite_all(regions: &mut Vec<Region>, runs: Vec<Vec<EntryIndex>>) {
     }
 }
 
-/// Returns all entries of each region.
-fn whole_runs(alloc: Global) -> AllocResult<Vec<Vec<EntryIndex>>> {
-    let mut runs = Vec::new(alloc);
-    for _ in 0..REGIONS {
-        runs.push(run(alloc, 1, ENTRIES, LogQueue::Rewrite, 50)?)?;
-    }
-    Ok(runs)
-}
-
 fn time_rewrite(rt: &HostRuntime) -> io::Result<()> {
-    let mut best = u64::MAX;
-    for _ in 0..TIMES {
+    let (best, ()) = best_of(|| {
         let mut regions = full_regions(rt.alloc())?;
-        let runs = whole_runs(rt.alloc())?;
-        let start = Instant::now(rt)?;
-        rewrite_all(&mut regions, runs);
-        best = best.min(nanoseconds_since(rt, &start)?);
-    }
+        let runs = runs(rt.alloc(), REGIONS, ENTRIES, ENTRIES, REWRITTEN)?;
+        timed(rt, || rewrite_all(&mut regions, runs))
+    })?;
     print_each(
         rt,
         "rewrite, whole tables",
@@ -397,44 +368,30 @@ fn delete_all(region: &mut Region, pairs: &[Pair]) {
 
 /// Returns how long it takes to put all pairs into a table, to put them once more, and to delete
 /// them.
-fn change_keys(rt: &HostRuntime) -> io::Result<(u64, u64, u64)> {
+fn change_keys(rt: &HostRuntime) -> io::Result<([u64; 3], ())> {
     let mut region = Region::new(rt.alloc(), 1);
     let new = put_pairs(rt, &mut region)?;
     let old = put_pairs(rt, &mut region)?;
-    Ok((new, old, delete_pairs(rt, &mut region)?))
+    Ok(([new, old, delete_pairs(rt, &mut region)?], ()))
 }
 
 fn put_pairs(rt: &HostRuntime, region: &mut Region) -> io::Result<u64> {
     let pairs = pairs(rt.alloc())?;
-    let start = Instant::now(rt)?;
-    put_all(region, pairs);
-    nanoseconds_since(rt, &start)
+    let (taken, ()) = timed(rt, || put_all(region, pairs))?;
+    Ok(taken)
 }
 
 fn delete_pairs(rt: &HostRuntime, region: &mut Region) -> io::Result<u64> {
     let pairs = pairs(rt.alloc())?;
-    let start = Instant::now(rt)?;
-    delete_all(region, pairs.as_slice());
-    nanoseconds_since(rt, &start)
+    let (taken, ()) = timed(rt, || delete_all(region, pairs.as_slice()))?;
+    Ok(taken)
 }
 
 fn time_puts(rt: &HostRuntime) -> io::Result<()> {
-    let (mut best_new, mut best_old, mut best_delete) = (u64::MAX, u64::MAX, u64::MAX);
-    for _ in 0..TIMES {
-        let (new, old, delete) = change_keys(rt)?;
-        best_new = best_new.min(new);
-        best_old = best_old.min(old);
-        best_delete = best_delete.min(delete);
-    }
-    print_each(
-        rt,
-        "put, new keys, one table",
-        best_new,
-        "call",
-        KEYS as u64,
-    )?;
-    print_each(rt, "put, keys that stand", best_old, "call", KEYS as u64)?;
-    print_each(rt, "delete", best_delete, "call", KEYS as u64)
+    let ([new, old, delete], ()) = best_of(|| change_keys(rt))?;
+    print_each(rt, "put, new keys, one table", new, "call", KEYS as u64)?;
+    print_each(rt, "put, keys that stand", old, "call", KEYS as u64)?;
+    print_each(rt, "delete", delete, "call", KEYS as u64)
 }
 
 /// Returns how many bytes the values of these keys have.
@@ -469,22 +426,12 @@ fn time_key_reads(rt: &HostRuntime) -> io::Result<()> {
 /// Times look-ups of keys.
 fn time_gets(rt: &HostRuntime, table: &MemTable) -> io::Result<()> {
     let keys = pairs(rt.alloc())?;
-    let (mut best, mut got) = (u64::MAX, 0);
-    for _ in 0..TIMES {
-        let start = Instant::now(rt)?;
-        got = value_bytes(table, keys.as_slice());
-        best = best.min(nanoseconds_since(rt, &start)?);
-    }
+    let (best, got) = best_of(|| timed(rt, || value_bytes(table, keys.as_slice())))?;
     print_each(rt, "get", best, "call", (got / 32) as u64)
 }
 
 /// Times a scan of all pairs.
 fn time_scans(rt: &HostRuntime, table: &MemTable) -> io::Result<()> {
-    let (mut best, mut scanned) = (u64::MAX, 0);
-    for _ in 0..TIMES {
-        let start = Instant::now(rt)?;
-        scanned = scanned_bytes(table);
-        best = best.min(nanoseconds_since(rt, &start)?);
-    }
+    let (best, scanned) = best_of(|| timed(rt, || scanned_bytes(table)))?;
     print_each(rt, "scan", best, "pair", (scanned / 40) as u64)
 }

@@ -1,0 +1,51 @@
+//! The logs that words name, and lines of two times of a log.
+
+use crate::timing::in_tenths;
+use raft_records::{LogQueue, Result};
+use raft_recover::Segment;
+use raft_recover::files::file_segments;
+use raft_recover::request::{Request, read_files};
+use std::io;
+use std::rt::Files;
+
+/// The files of a log, in memory, and how they are to be recovered.
+#[derive(Drop)]
+pub(crate) struct Log {
+    pub(crate) queue: LogQueue,
+    pub(crate) workers: usize,
+    pub(crate) segments: Vec<Segment>,
+}
+
+/// What was timed, and two times with their names, in nanoseconds.
+#[derive(Drop)]
+pub(crate) struct Timed {
+    pub(crate) name: String,
+    pub(crate) times: [(&'static str, u64); 2],
+}
+
+/// Reads the log that the words of `raftlog recover` name. Returns nothing where they are others.
+pub(crate) fn read_log<R: Files + AllocGlobal>(rt: &R, words: &[String]) -> Result<Option<Log>> {
+    let Some(Request::Recover(asked)) = Request::parse(rt.alloc(), words)? else {
+        return Ok(None);
+    };
+    let files = read_files(rt, asked.paths.as_slice())?;
+    Ok(Some(Log {
+        queue: asked.queue,
+        workers: asked.workers,
+        segments: file_segments(asked.queue, asked.version, files)?,
+    }))
+}
+
+/// Prints the times in milliseconds, or what the words have to be, which are those of `raftlog recover` behind
+/// `before`.
+pub(crate) fn print_times(rt: &HostRuntime, before: &str, timed: Option<Timed>) -> io::Result<()> {
+    let Some(Timed { name, times }) = timed else {
+        return eprintln!(rt;
+            "usage: raft_bench {before}recover <queue> <version> <workers> <seq>=<path>.."
+        );
+    };
+    let [(first, time), (second, other)] = times;
+    let (time, time_tenths) = in_tenths(time, 1_000_000);
+    let (other, other_tenths) = in_tenths(other, 1_000_000);
+    println!(rt; "{name}: {first} ms {time}.{time_tenths}, {second} ms {other}.{other_tenths}")
+}
